@@ -1,0 +1,127 @@
+-- Why an operation, operands, condition and written unit make no instruction: five tests in their order.
+use Rattle.std.specs.Prelude.{ℕ, Bool, true, false, ◌&&◌, ◌||◌, not, ◌==◌, nat_lt, if◌then◌else◌, List, [], ◌∷◌, Option, Some, None}
+use Rattle.std.specs.List.{list_any}
+use Rattle.c62_insn.specs.declared.register.Side.{Side}
+use Rattle.c62_insn.specs.declared.register.Side.TheVariants.{A, B}
+use Rattle.c62_insn.specs.declared.register.Letter.TheVariants.{L, S, M, D}
+use Rattle.c62_insn.specs.declared.register.Reg.{Reg}
+use Rattle.c62_insn.specs.declared.register.Cond.{Cond as Condition}
+use Rattle.c62_insn.specs.declared.register.Unit.{Unit as FunctionalUnit}
+use Rattle.c62_insn.specs.declared.operands.Op.{Op}
+use Rattle.c62_insn.specs.declared.operands.Op.TheVariants.{Shl, Shr, Shru, Ext, Extu, Sub2, Addab, Addah, Addaw, Ldb, Ldbu, Ldh, Ldhu, Ldw, Stb, Sth, Stw, B as Branch}
+use Rattle.c62_insn.specs.declared.operands.Offset.TheVariants.{Constant as ByConstant, Register as ByRegister}
+use Rattle.c62_insn.specs.declared.operands.Operands.{Operands}
+use Rattle.c62_insn.specs.declared.operands.Operands.TheVariants.{Three, ConstantFirst, ConstantSecond, Two, Field, Constant, Access, Block, Register}
+use Rattle.c62_insn.specs.declared.fault.FormFault.{FormFault}
+use Rattle.c62_insn.specs.declared.fault.FormFault.TheVariants.{NoUnit, ConstantRange, TwoCrossed, BadSide, BadCondition}
+use Rattle.c62_insn.specs.Table.{forms_of}
+use Rattle.c62_insn.specs.Takes.{same_side, same_kind, holds_constants, offset_on, takes}
+
+-- A1, A2, B0, B1 and B2 may be a condition
+abbrev pub may_condition : Side → ℕ → Bool
+may_condition A number = number == 1 || number == 2
+may_condition B number = nat_lt number 3
+
+abbrev pub bad_condition : Option Condition → Bool
+bad_condition None = false
+bad_condition (Some cond) = not (may_condition cond.reg.side cond.reg.number)
+
+-- whether some form of the operation has operands of this kind
+abbrev pub has_kind : Op → Operands → Bool
+has_kind op operands = list_any (λ form. same_kind form.pattern operands) (forms_of op)
+
+-- whether some form besides takes the constants
+abbrev pub in_some_range : Op → Operands → Bool
+in_some_range op operands = list_any (λ form. holds_constants form.pattern operands) (forms_of op)
+
+-- a constant lies outside all ranges that the table gives it
+abbrev pub constant_out_of_range : Op → Operands → Bool
+constant_out_of_range op operands = has_kind op operands && not (in_some_range op operands)
+
+-- a load, a store or a branch
+abbrev pub is_transfer : Op → Bool
+is_transfer Ldb = true
+is_transfer Ldbu = true
+is_transfer Ldh = true
+is_transfer Ldhu = true
+is_transfer Ldw = true
+is_transfer Stb = true
+is_transfer Sth = true
+is_transfer Stw = true
+is_transfer Branch = true
+is_transfer _ = false
+
+-- two sources, both on the side other than the destination's
+abbrev pub two_crossed : Op → Operands → Bool
+two_crossed op (Three a b d) = not (is_transfer op) && not (same_side a.side d.side) && not (same_side b.side d.side)
+two_crossed op _ = false
+
+-- the side of an instruction, where its operands decide it
+abbrev pub side_of : Operands → Option Side
+side_of (Three _ _ d) = Some d.side
+side_of (ConstantFirst _ _ d) = Some d.side
+side_of (ConstantSecond _ _ d) = Some d.side
+side_of (Two _ d) = Some d.side
+side_of (Field _ _ _ d) = Some d.side
+side_of (Constant _ d) = Some d.side
+side_of (Access _ base _ _) = Some base.side
+side_of (Block _) = None
+side_of (Register _) = Some B
+
+-- operations whose first source no form lets cross
+abbrev pub is_first_fixed : Op → Bool
+is_first_fixed Ext = true
+is_first_fixed Extu = true
+is_first_fixed Sub2 = true
+is_first_fixed Addab = true
+is_first_fixed Addah = true
+is_first_fixed Addaw = true
+is_first_fixed _ = false
+
+-- operations whose second source no form lets cross
+abbrev pub is_second_fixed : Op → Bool
+is_second_fixed Shl = true
+is_second_fixed Shr = true
+is_second_fixed Shru = true
+is_second_fixed Addab = true
+is_second_fixed Addah = true
+is_second_fixed Addaw = true
+is_second_fixed _ = false
+
+-- whether such a source, an offset register or a branch register lies on the other side
+abbrev pub strays : Op → Operands → Bool
+strays op (Three a b d) =
+    (is_first_fixed op && not (same_side a.side d.side)) || (is_second_fixed op && not (same_side b.side d.side))
+strays op (ConstantSecond a _ d) = is_first_fixed op && not (same_side a.side d.side)
+strays op (Field a _ _ d) = is_first_fixed op && not (same_side a.side d.side)
+strays op (Access _ base _ offset) = is_transfer op && not (offset_on base.side offset)
+strays op (Register target) = is_transfer op && same_side target.side A
+strays _ _ = false
+
+abbrev pub is_other_side : Option Side → Option FunctionalUnit → Bool
+is_other_side (Some side) (Some unit) = not (same_side unit.side side)
+is_other_side _ _ = false
+
+abbrev pub bad_side : Op → Operands → Option FunctionalUnit → Bool
+bad_side op operands unit = strays op operands || is_other_side (side_of operands) unit
+
+-- .L1 .S1 .M1 .D1 .L2 .S2 .M2 .D2
+abbrev pub all_units : List FunctionalUnit
+all_units =
+    record { letter = L; side = A } ∷ record { letter = S; side = A } ∷ record { letter = M; side = A } ∷ record { letter = D; side = A }
+    ∷ record { letter = L; side = B } ∷ record { letter = S; side = B } ∷ record { letter = M; side = B } ∷ record { letter = D; side = B } ∷ []
+
+-- no unit, or not the written one, takes the operands
+abbrev pub no_unit : Op → Operands → Option FunctionalUnit → Bool
+no_unit op operands None = not (list_any (takes op operands) all_units)
+no_unit op operands (Some unit) = not (takes op operands unit)
+
+-- the first fault that applies
+abbrev pub form_fault : Op → Operands → Option Condition → Option FunctionalUnit → Option FormFault
+form_fault op operands cond unit =
+    if bad_condition cond then Some BadCondition
+    else if constant_out_of_range op operands then Some ConstantRange
+    else if two_crossed op operands then Some TwoCrossed
+    else if bad_side op operands unit then Some BadSide
+    else if no_unit op operands unit then Some NoUnit
+    else None

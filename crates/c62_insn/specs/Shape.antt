@@ -1,0 +1,98 @@
+-- What an instruction reads and writes, and when, from its operation and operands.
+use Rattle.std.specs.Prelude.{ℕ, Bool, true, false, ◌||◌, not, if◌then◌else◌, List, [], ◌∷◌, ◌++◌, Option, Some, None}
+use Rattle.c62_insn.specs.declared.register.Side.{Side}
+use Rattle.c62_insn.specs.declared.register.Reg.{Reg}
+use Rattle.c62_insn.specs.declared.operands.Op.{Op}
+use Rattle.c62_insn.specs.declared.operands.Op.TheVariants.{Mvklh, Addk, Mpy, Mpyu, Mpyus, Mpysu, Mpyh, Mpyhu, Mpyhl, Mpylh, Ldb, Ldbu, Ldh, Ldhu, Ldw, Stb, Sth, Stw, B as Branch}
+use Rattle.c62_insn.specs.declared.operands.AddressForm.{AddressForm}
+use Rattle.c62_insn.specs.declared.operands.AddressForm.TheVariants.{Plus, Minus, PreIncrement, PreDecrement, PostIncrement, PostDecrement}
+use Rattle.c62_insn.specs.declared.operands.Offset.{Offset}
+use Rattle.c62_insn.specs.declared.operands.Offset.TheVariants.{Constant as ByConstant, Register as ByRegister}
+use Rattle.c62_insn.specs.declared.operands.Operands.{Operands}
+use Rattle.c62_insn.specs.declared.operands.Operands.TheVariants.{Three, ConstantFirst, ConstantSecond, Two, Field, Constant, Access, Block, Register}
+use Rattle.c62_insn.specs.Takes.{same_side}
+
+-- the delay slots of an operation's result
+abbrev pub delay_of : Op → ℕ
+delay_of Mpy = 1
+delay_of Mpyu = 1
+delay_of Mpyus = 1
+delay_of Mpysu = 1
+delay_of Mpyh = 1
+delay_of Mpyhu = 1
+delay_of Mpyhl = 1
+delay_of Mpylh = 1
+delay_of Ldb = 4
+delay_of Ldbu = 4
+delay_of Ldh = 4
+delay_of Ldhu = 4
+delay_of Ldw = 4
+delay_of Branch = 5
+delay_of _ = 0
+
+abbrev pub is_store : Op → Bool
+is_store Stb = true
+is_store Sth = true
+is_store Stw = true
+is_store _ = false
+
+abbrev pub is_load : Op → Bool
+is_load Ldb = true
+is_load Ldbu = true
+is_load Ldh = true
+is_load Ldhu = true
+is_load Ldw = true
+is_load _ = false
+
+-- whether the destination is a source too
+abbrev pub reads_destination : Op → Bool
+reads_destination Addk = true
+reads_destination Mvklh = true
+reads_destination _ = false
+
+abbrev pub offset_reads : Offset → List Reg
+offset_reads (ByConstant _) = []
+offset_reads (ByRegister reg) = reg ∷ []
+
+-- the register operands in the order of the text; for a store the source, the base, the offset
+abbrev pub reads_of : Op → Operands → List Reg
+reads_of op (Three a b _) = a ∷ b ∷ []
+reads_of op (ConstantFirst _ a _) = a ∷ []
+reads_of op (ConstantSecond a _ _) = a ∷ []
+reads_of op (Two a _) = a ∷ []
+reads_of op (Field a _ _ _) = a ∷ []
+reads_of op (Constant _ d) = if reads_destination op then d ∷ [] else []
+reads_of op (Access reg base _ offset) = (if is_store op then reg ∷ [] else []) ++ base ∷ offset_reads offset
+reads_of op (Block _) = []
+reads_of op (Register target) = target ∷ []
+
+abbrev pub changes_base : AddressForm → Bool
+changes_base Plus = false
+changes_base Minus = false
+changes_base _ = true
+
+-- each register that is written, with the delay of the write
+abbrev pub writes_of : Op → Operands → List (Reg × ℕ)
+writes_of op (Three _ _ d) = (d, delay_of op) ∷ []
+writes_of op (ConstantFirst _ _ d) = (d, delay_of op) ∷ []
+writes_of op (ConstantSecond _ _ d) = (d, delay_of op) ∷ []
+writes_of op (Two _ d) = (d, delay_of op) ∷ []
+writes_of op (Field _ _ _ d) = (d, delay_of op) ∷ []
+writes_of op (Constant _ d) = (d, delay_of op) ∷ []
+writes_of op (Access reg base form _) =
+    (if changes_base form then (base, 0) ∷ [] else []) ++ (if is_load op then (reg, delay_of op) ∷ [] else [])
+writes_of op (Block _) = []
+writes_of op (Register _) = []
+
+-- the data path of an access is that of the register that it loads or stores
+abbrev pub data_path_of : Operands → Option Side
+data_path_of (Access reg _ _ _) = Some reg.side
+data_path_of _ = None
+
+-- whether a source comes over the cross path to a unit of this side
+abbrev pub crosses_to : Side → Operands → Bool
+crosses_to side (Three a b _) = not (same_side a.side side) || not (same_side b.side side)
+crosses_to side (ConstantFirst _ a _) = not (same_side a.side side)
+crosses_to side (ConstantSecond a _ _) = not (same_side a.side side)
+crosses_to side (Two a _) = not (same_side a.side side)
+crosses_to side _ = false

@@ -1,0 +1,89 @@
+-- Which operands a form takes, and so which units an instruction may stand on.
+use Rattle.std.specs.Prelude.{Bool, true, false, ◌&&◌, not, ℤ, int_le, Option, Some, None}
+use Rattle.std.specs.List.{list_any}
+use Rattle.c62_insn.specs.declared.register.Side.{Side}
+use Rattle.c62_insn.specs.declared.register.Side.TheVariants.{A, B}
+use Rattle.c62_insn.specs.declared.register.Reg.{Reg}
+use Rattle.c62_insn.specs.declared.register.Letter.{Letter}
+use Rattle.c62_insn.specs.declared.register.Letter.TheVariants.{L, S, M, D}
+use Rattle.c62_insn.specs.declared.register.Unit.{Unit as FunctionalUnit}
+use Rattle.c62_insn.specs.declared.operands.Op.{Op}
+use Rattle.c62_insn.specs.declared.operands.Offset.{Offset}
+use Rattle.c62_insn.specs.declared.operands.Offset.TheVariants.{Constant as ByConstant, Register as ByRegister}
+use Rattle.c62_insn.specs.declared.operands.Operands.{Operands}
+use Rattle.c62_insn.specs.declared.operands.Operands.TheVariants.{Three, ConstantFirst, ConstantSecond, Two, Field, Constant, Access, Block, Register}
+use Rattle.c62_insn.specs.declared.form.Place.{Place}
+use Rattle.c62_insn.specs.declared.form.Place.TheVariants.{Own, Crossing}
+use Rattle.c62_insn.specs.declared.form.Range.{Range}
+use Rattle.c62_insn.specs.declared.form.Pattern.{Pattern}
+use Rattle.c62_insn.specs.declared.form.Pattern.TheVariants.{Three as three, ConstantFirst as constant_first, ConstantSecond as constant_second, Two as two, Field as field, Constant as constant, Access as access, Block as block, Register as register}
+use Rattle.c62_insn.specs.Table.{forms_of}
+
+abbrev pub same_side : Side → Side → Bool
+same_side A A = true
+same_side A B = false
+same_side B A = false
+same_side B B = true
+
+abbrev pub same_letter : Letter → Letter → Bool
+same_letter L L = true
+same_letter S S = true
+same_letter M M = true
+same_letter D D = true
+same_letter _ _ = false
+
+-- whether a source may lie there, for a unit of this side
+abbrev pub may_lie : Place → Side → Reg → Bool
+may_lie Own side reg = same_side reg.side side
+may_lie Crossing side reg = true
+
+abbrev pub in_range : Range → ℤ → Bool
+in_range range k = int_le range.low k && int_le k range.high
+
+-- whether the operands are of the pattern's kind and number
+abbrev pub same_kind : Pattern → Operands → Bool
+same_kind (three _ _) (Three _ _ _) = true
+same_kind (constant_first _ _) (ConstantFirst _ _ _) = true
+same_kind (constant_second _ _) (ConstantSecond _ _ _) = true
+same_kind (two _) (Two _ _) = true
+same_kind (field _) (Field _ _ _ _) = true
+same_kind (constant _) (Constant _ _) = true
+same_kind (access _) (Access _ _ _ _) = true
+same_kind block (Block _) = true
+same_kind register (Register _) = true
+same_kind _ _ = false
+
+abbrev pub offset_in_range : Range → Offset → Bool
+offset_in_range range (ByConstant k) = in_range range k
+offset_in_range range (ByRegister _) = true
+
+-- whether besides the constants lie in the pattern's ranges
+abbrev pub holds_constants : Pattern → Operands → Bool
+holds_constants (constant_first range _) (ConstantFirst k _ _) = in_range range k
+holds_constants (constant_second _ range) (ConstantSecond _ k _) = in_range range k
+holds_constants (field range) (Field _ k m _) = in_range range k && in_range range m
+holds_constants (constant range) (Constant k _) = in_range range k
+holds_constants (access range) (Access _ _ _ offset) = offset_in_range range offset
+holds_constants pattern operands = same_kind pattern operands
+
+abbrev pub offset_on : Side → Offset → Bool
+offset_on side (ByConstant _) = true
+offset_on side (ByRegister reg) = same_side reg.side side
+
+-- whether the registers lie as the pattern wants them on a unit of this side
+abbrev pub lie_well : Pattern → Side → Operands → Bool
+lie_well (three first second) side (Three a b d) = may_lie first side a && may_lie second side b && same_side d.side side
+lie_well (constant_first _ place) side (ConstantFirst _ a d) = may_lie place side a && same_side d.side side
+lie_well (constant_second place _) side (ConstantSecond a _ d) = may_lie place side a && same_side d.side side
+lie_well (two place) side (Two a d) = may_lie place side a && same_side d.side side
+lie_well (field _) side (Field a _ _ d) = same_side a.side side && same_side d.side side
+lie_well (constant _) side (Constant _ d) = same_side d.side side
+lie_well (access _) side (Access _ base _ offset) = same_side base.side side && offset_on side offset
+lie_well block side (Block _) = true
+lie_well register side (Register target) = same_side side B && same_side target.side B
+lie_well _ _ _ = false
+
+-- whether this unit takes the operands
+abbrev pub takes : Op → Operands → FunctionalUnit → Bool
+takes op operands unit =
+    list_any (λ form. holds_constants form.pattern operands && same_letter form.letter unit.letter && lie_well form.pattern unit.side operands) (forms_of op)

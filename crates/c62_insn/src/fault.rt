@@ -1,0 +1,189 @@
+//! Why operands make no instruction.
+
+ghost use Rattle.std.specs.Prelude.{◌≡◌};
+ghost use Rattle.c62_insn.specs.Fault.{form_fault, bad_condition, has_kind, in_some_range, constant_out_of_range, is_transfer, two_crossed, side_of, is_first_fixed, is_second_fixed, strays, is_other_side, bad_side, all_units, no_unit};
+ghost use Rattle.c62_insn.specs.Takes.{takes};
+ghost use Rattle.std.specs.List.{list_any};
+
+use crate::form::{forms, unit_takes};
+use crate::operands::{Offset, Op, Operands};
+use crate::register::{Cond, Side, Unit};
+use thiserror::Error;
+
+/// Why operands make no instruction.
+#[derive(Clone, Copy, PartialEq, Eq, Debug, Error)]
+pub enum FormFault {
+    /// No unit, or not the written one, takes these operands.
+    #[error("NoUnit")]
+    NoUnit,
+    /// A constant lies outside all its ranges.
+    #[error("ConstantRange")]
+    ConstantRange,
+    /// Two sources lie on the side other than the destination's.
+    #[error("TwoCrossed")]
+    TwoCrossed,
+    /// A register that may not cross, or the written unit, lies on the wrong side.
+    #[error("BadSide")]
+    BadSide,
+    /// The register of the condition can't be one.
+    #[error("BadCondition")]
+    BadCondition,
+}
+
+fn is_bad_condition(cond: Option<Cond>) -> bool
+    ensures { result ≡ bad_condition cond }
+{
+    match cond {
+        None => false,
+        Some(Cond { reg, .. }) => match reg.side {
+            Side::A => !(reg.number == 1 || reg.number == 2),
+            Side::B => !(reg.number < 3),
+        },
+    }
+}
+
+fn is_known_kind(op: Op, operands: Operands) -> bool
+    ensures { result ≡ has_kind op operands }
+{
+    forms(op).iter().any(|form| form.pattern.has_kind(operands))
+}
+
+fn is_in_some_range(op: Op, operands: Operands) -> bool
+    ensures { result ≡ in_some_range op operands }
+{
+    forms(op)
+        .iter()
+        .any(|form| form.pattern.holds_constants(operands))
+}
+
+fn is_out_of_range(op: Op, operands: Operands) -> bool
+    ensures { result ≡ constant_out_of_range op operands }
+{
+    is_known_kind(op, operands) && !is_in_some_range(op, operands)
+}
+
+impl Op {
+    /// Whether this is a load, a store or a branch.
+    pub fn is_transfer(self) -> bool
+        ensures { result ≡ is_transfer self }
+    {
+        self.is_load() || self.is_store() || matches!(self, Op::B)
+    }
+}
+
+fn is_two_crossed(op: Op, operands: Operands) -> bool
+    ensures { result ≡ two_crossed op operands }
+{
+    match operands {
+        Operands::Three(a, b, d) => !op.is_transfer() && a.side != d.side && b.side != d.side,
+        _ => false,
+    }
+}
+
+impl Operands {
+    /// The side of an instruction with these operands, where they decide it.
+    pub fn side(self) -> Option<Side>
+        ensures { result ≡ side_of self }
+    {
+        match self {
+            Operands::Three(_, _, d)
+            | Operands::ConstantFirst(_, _, d)
+            | Operands::ConstantSecond(_, _, d)
+            | Operands::Two(_, d)
+            | Operands::Field(_, _, _, d)
+            | Operands::Constant(_, d) => Some(d.side),
+            Operands::Access(_, base, _, _) => Some(base.side),
+            Operands::Block(_) => None,
+            Operands::Register(_) => Some(Side::B),
+        }
+    }
+}
+
+impl Op {
+    /// Whether no form lets the first source cross, so that a crossing one is on a bad side.
+    fn is_first_fixed(self) -> bool
+        ensures { result ≡ is_first_fixed self }
+    {
+        matches!(
+            self,
+            Op::Ext | Op::Extu | Op::Sub2 | Op::Addab | Op::Addah | Op::Addaw
+        )
+    }
+
+    /// The same of the second source.
+    fn is_second_fixed(self) -> bool
+        ensures { result ≡ is_second_fixed self }
+    {
+        matches!(
+            self,
+            Op::Shl | Op::Shr | Op::Shru | Op::Addab | Op::Addah | Op::Addaw
+        )
+    }
+}
+
+fn is_stray(op: Op, operands: Operands) -> bool
+    ensures { result ≡ strays op operands }
+{
+    match operands {
+        Operands::Three(a, b, d) => {
+            op.is_first_fixed() && a.side != d.side || op.is_second_fixed() && b.side != d.side
+        }
+        Operands::ConstantSecond(a, _, d) | Operands::Field(a, _, _, d) => {
+            op.is_first_fixed() && a.side != d.side
+        }
+        Operands::Access(_, base, _, Offset::Register(offset)) => {
+            op.is_transfer() && offset.side != base.side
+        }
+        Operands::Register(target) => op.is_transfer() && target.side == Side::A,
+        _ => false,
+    }
+}
+
+fn is_on_bad_side(op: Op, operands: Operands, unit: Option<Unit>) -> bool
+    ensures { result ≡ bad_side op operands unit }
+{
+    is_stray(op, operands)
+        || match (operands.side(), unit) {
+            (Some(side), Some(unit)) => unit.side != side,
+            _ => false,
+        }
+}
+
+fn is_taken(op: Op, operands: Operands) -> bool
+    ensures { result ≡ list_any (takes op operands) all_units }
+{
+    Unit::ALL.iter().any(|unit| unit_takes(op, operands, *unit))
+}
+
+fn has_no_unit(op: Op, operands: Operands, unit: Option<Unit>) -> bool
+    ensures { result ≡ no_unit op operands unit }
+{
+    match unit {
+        None => !is_taken(op, operands),
+        Some(unit) => !unit_takes(op, operands, unit),
+    }
+}
+
+/// The first fault of these parts of an instruction, if they have one.
+pub fn find_fault(
+    op: Op,
+    operands: Operands,
+    cond: Option<Cond>,
+    unit: Option<Unit>,
+) -> Option<FormFault>
+    ensures { result ≡ form_fault op operands cond unit }
+{
+    if is_bad_condition(cond) {
+        Some(FormFault::BadCondition)
+    } else if is_out_of_range(op, operands) {
+        Some(FormFault::ConstantRange)
+    } else if is_two_crossed(op, operands) {
+        Some(FormFault::TwoCrossed)
+    } else if is_on_bad_side(op, operands, unit) {
+        Some(FormFault::BadSide)
+    } else if has_no_unit(op, operands, unit) {
+        Some(FormFault::NoUnit)
+    } else {
+        None
+    }
+}
