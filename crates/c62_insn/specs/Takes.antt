@@ -1,5 +1,5 @@
 -- Which operands a form takes, and so which units an instruction may stand on.
-use Rattle.std.specs.Prelude.{Bool, true, false, ◌&&◌, not, ℤ, int_le, Option, Some, None}
+use Rattle.std.specs.Prelude.{Bool, true, false, ◌&&◌, ◌==◌, not, ℤ, int_le, Option, Some, None}
 use Rattle.std.specs.List.{list_any}
 use Rattle.c62_insn.specs.declared.register.Side.{Side}
 use Rattle.c62_insn.specs.declared.register.Side.TheVariants.{A, B}
@@ -31,6 +31,9 @@ same_letter S S = true
 same_letter M M = true
 same_letter D D = true
 same_letter _ _ = false
+
+abbrev pub same_reg : Reg → Reg → Bool
+same_reg a b = same_side a.side b.side && (a.number == b.number)
 
 -- whether a source may lie there, for a unit of this side
 abbrev pub may_lie : Place → Side → Reg → Bool
