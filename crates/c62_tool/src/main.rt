@@ -1,0 +1,8 @@
+//! The program c62.
+#![tactic(auto)]
+
+mod spot;
+
+fn main(rt: HostRuntime) {
+    let _ = rt;
+}
