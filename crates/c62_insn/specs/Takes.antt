@@ -35,6 +35,9 @@ same_letter _ _ = false
 abbrev pub same_reg : Reg → Reg → Bool
 same_reg a b = same_side a.side b.side && (a.number == b.number)
 
+abbrev pub same_unit : FunctionalUnit → FunctionalUnit → Bool
+same_unit a b = same_letter a.letter b.letter && same_side a.side b.side
+
 -- whether a source may lie there, for a unit of this side
 abbrev pub may_lie : Place → Side → Reg → Bool
 may_lie Own side reg = same_side reg.side side

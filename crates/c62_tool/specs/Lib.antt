@@ -1,1 +1,4 @@
 pub mod Spot
+pub mod Lawful
+pub mod Least
+pub mod Latency
