@@ -1,2 +1,4 @@
 pub mod Greatest
 pub mod Latencies
+pub mod IssuesOf
+pub mod Used

@@ -2,3 +2,4 @@ pub mod Spot
 pub mod Lawful
 pub mod Least
 pub mod Latency
+pub mod Packet

@@ -2,6 +2,8 @@
 #![tactic(auto)]
 
 mod depend;
+mod packet;
+mod resource;
 mod spot;
 
 fn main(rt: HostRuntime) {
