@@ -44,6 +44,10 @@ is_load Ldhu = true
 is_load Ldw = true
 is_load _ = false
 
+abbrev pub is_branch : Op → Bool
+is_branch Branch = true
+is_branch _ = false
+
 -- whether the destination is a source too
 abbrev pub reads_destination : Op → Bool
 reads_destination Addk = true

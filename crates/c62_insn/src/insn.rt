@@ -54,6 +54,34 @@ impl Insn {
         }
     }
 
+    /// The operation.
+    pub fn op(self) -> Op
+        ensures { result ≡ op_of self }
+    {
+        self.op
+    }
+
+    /// The operands.
+    pub fn operands(self) -> Operands
+        ensures { result ≡ operands_of self }
+    {
+        self.operands
+    }
+
+    /// The condition, if there is one.
+    pub fn cond(self) -> Option<Cond>
+        ensures { result ≡ cond_of self }
+    {
+        self.cond
+    }
+
+    /// The unit that was written, if one was.
+    pub fn unit(self) -> Option<Unit>
+        ensures { result ≡ unit_of self }
+    {
+        self.unit
+    }
+
     /// Whether an operand comes over the cross path to `unit`.
     pub fn crosses(self, unit: Unit) -> bool
         ensures { result ≡ crosses_to unit.side (operands_of self) }
@@ -99,13 +127,6 @@ impl Insn {
             Operands::Block(_) => {}
         }
         reads
-    }
-
-    /// The condition.
-    pub fn cond(self) -> Option<Cond>
-        ensures { result ≡ cond_of self }
-    {
-        self.cond
     }
 
     /// The registers that are written, each with the delay of the write.
@@ -230,13 +251,13 @@ impl Insn {
     }
 
     /// What the instruction does with these inputs.
-    pub fn apply(self, inputs: &Inputs) -> Effect
-        requires cond { is_some inputs.now.cond ≡ is_some (cond_of self) }
-        requires reads { array_vec_len inputs.now.reads ≡ length (reads_of (op_of self) (operands_of self)) }
-        ensures runs { result.runs ≡ runs_of (cond_of self) inputs.now.cond }
-        ensures values { result.values.items ≡ (if result.runs then values_of (op_of self) (operands_of self) inputs.now.reads.items else []) }
-        ensures access { result.access ≡ (if result.runs then access_of (op_of self) (operands_of self) inputs.now.reads.items else None) }
-        ensures target { result.target ≡ (if result.runs then target_of (operands_of self) inputs.now.reads.items else None) }
+    pub fn apply(&self, inputs: &Inputs) -> Effect
+        requires cond { is_some inputs.now.cond ≡ is_some (cond_of self.now) }
+        requires reads { array_vec_len inputs.now.reads ≡ length (reads_of (op_of self.now) (operands_of self.now)) }
+        ensures runs { result.runs ≡ runs_of (cond_of self.now) inputs.now.cond }
+        ensures values { result.values.items ≡ (if result.runs then values_of (op_of self.now) (operands_of self.now) inputs.now.reads.items else []) }
+        ensures access { result.access ≡ (if result.runs then access_of (op_of self.now) (operands_of self.now) inputs.now.reads.items else None) }
+        ensures target { result.target ≡ (if result.runs then target_of (operands_of self.now) inputs.now.reads.items else None) }
     {
         if self.runs(inputs.cond) {
             let reads = inputs.reads.as_slice();

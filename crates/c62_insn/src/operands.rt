@@ -98,9 +98,9 @@ pub enum Operands {
 }
 
 impl Op {
-    ghost use Rattle.c62_insn.specs.Shape.{delay_of, is_store, is_load, reads_destination};
+    ghost use Rattle.c62_insn.specs.Shape.{delay_of, is_store, is_load, is_branch, reads_destination};
 
-    /// The delay slots of the result.
+    /// The delay slots of the result (SPRU189, "Delay Slots").
     pub fn delay(self) -> u8
         ensures { result ≡ delay_of self }
     {
@@ -119,20 +119,29 @@ impl Op {
         }
     }
 
+    /// Whether this is `STB`, `STH` or `STW`.
     pub fn is_store(self) -> bool
         ensures { result ≡ is_store self }
     {
         matches!(self, Op::Stb | Op::Sth | Op::Stw)
     }
 
+    /// Whether this is `LDB`, `LDBU`, `LDH`, `LDHU` or `LDW`.
     pub fn is_load(self) -> bool
         ensures { result ≡ is_load self }
     {
         matches!(self, Op::Ldb | Op::Ldbu | Op::Ldh | Op::Ldhu | Op::Ldw)
     }
 
+    /// Whether this is `B`, to a block or to a register.
+    pub fn is_branch(self) -> bool
+        ensures { result ≡ is_branch self }
+    {
+        matches!(self, Op::B)
+    }
+
     /// Whether the destination is a source too.
-    pub fn reads_destination(self) -> bool
+    pub(crate) fn reads_destination(self) -> bool
         ensures { result ≡ reads_destination self }
     {
         matches!(self, Op::Addk | Op::Mvklh)
@@ -142,8 +151,8 @@ impl Op {
 impl AddressForm {
     ghost use Rattle.c62_insn.specs.Shape.{changes_base};
 
-    /// Whether the base is written.
-    pub fn changes_base(self) -> bool
+    /// Whether the access writes its base.
+    pub(crate) fn changes_base(self) -> bool
         ensures { result ≡ changes_base self }
     {
         !matches!(self, AddressForm::Plus | AddressForm::Minus)
