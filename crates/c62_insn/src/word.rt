@@ -59,7 +59,11 @@ pub(crate) fn shift_right(a: u32, count: u32) -> u32
     ensures { result ≡ shifted_right a count }
 {
     let signed = a.cast_signed();
-    word_of_signed(if count < 32 { signed >> count } else { signed >> 31 })
+    word_of_signed(if count < 32 {
+        signed >> count
+    } else {
+        signed >> 31
+    })
 }
 
 /// `a` shifted right by `count`.
