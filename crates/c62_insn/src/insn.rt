@@ -1,6 +1,6 @@
 //! Instructions.
 
-ghost use Rattle.std.specs.Prelude.{◌≡◌, ◌↔◌, IsOk, IfOk, IfErr, Some, None};
+ghost use Rattle.std.specs.Prelude.{◌≡◌, ◌↔◌, IsOk, IfOk, IfErr, IsTrue, Some, None};
 ghost use Rattle.c62_insn.specs.Fault.{form_fault};
 
 use crate::effect::{Access, Effect, Inputs, Target};
@@ -20,6 +20,26 @@ pub struct Insn {
     cond: Option<Cond>,
     unit: Option<Unit>,
     pub ghost well_formed: { form_fault op operands cond unit ≡ None },
+}
+
+fn is_same_condition(a: Option<Cond>, b: Option<Cond>) -> bool
+    ensures { IsTrue result ↔ (a ≡ b) }
+{
+    match (a, b) {
+        (Some(a), Some(b)) => a.is_same(&b),
+        (None, None) => true,
+        _ => false,
+    }
+}
+
+fn is_same_unit(a: Option<Unit>, b: Option<Unit>) -> bool
+    ensures { IsTrue result ↔ (a ≡ b) }
+{
+    match (a, b) {
+        (Some(a), Some(b)) => a == b,
+        (None, None) => true,
+        _ => false,
+    }
 }
 
 impl Insn {
@@ -80,6 +100,17 @@ impl Insn {
         ensures { result ≡ unit_of self }
     {
         self.unit
+    }
+
+    /// Whether both are one instruction: operation, operands, condition and written unit.
+    #[tactic(auto, using(crate::proofs::SameLemmas::same_parts))]
+    pub fn same(&self, other: &Insn) -> bool
+        ensures { IsTrue result ↔ (self.now ≡ other.now) }
+    {
+        self.op.is_same(other.op)
+            && self.operands.is_same(&other.operands)
+            && is_same_condition(self.cond, other.cond)
+            && is_same_unit(self.unit, other.unit)
     }
 
     /// Whether an operand comes over the cross path to `unit`.

@@ -1,6 +1,6 @@
 //! Operations and their operands.
 
-ghost use Rattle.std.specs.Prelude.{◌≡◌};
+ghost use Rattle.std.specs.Prelude.{◌≡◌, ◌↔◌, IsTrue};
 
 use crate::register::Reg;
 
@@ -140,6 +140,13 @@ impl Op {
         matches!(self, Op::B)
     }
 
+    /// Whether both are one operation.
+    pub(crate) fn is_same(self, other: Op) -> bool
+        ensures { IsTrue result ↔ (self ≡ other) }
+    {
+        self == other
+    }
+
     /// Whether the destination is a source too.
     pub(crate) fn reads_destination(self) -> bool
         ensures { result ≡ reads_destination self }
@@ -156,5 +163,48 @@ impl AddressForm {
         ensures { result ≡ changes_base self }
     {
         !matches!(self, AddressForm::Plus | AddressForm::Minus)
+    }
+}
+
+impl Offset {
+    /// Whether both are one constant or one register.
+    pub fn is_same(&self, other: &Offset) -> bool
+        ensures { IsTrue result ↔ (self.now ≡ other.now) }
+    {
+        match (*self, *other) {
+            (Offset::Constant(a), Offset::Constant(b)) => a == b,
+            (Offset::Register(a), Offset::Register(b)) => a.is_same(b),
+            _ => false,
+        }
+    }
+}
+
+impl Operands {
+    /// Whether both are of one kind and equal in all parts.
+    pub fn is_same(&self, other: &Operands) -> bool
+        ensures { IsTrue result ↔ (self.now ≡ other.now) }
+    {
+        match (*self, *other) {
+            (Operands::Three(a, b, d), Operands::Three(e, f, g)) => a.is_same(e)
+                && b.is_same(f)
+                && d.is_same(g),
+            (Operands::ConstantFirst(k, a, d), Operands::ConstantFirst(m, e, g)) => {
+                k == m && a.is_same(e) && d.is_same(g)
+            }
+            (Operands::ConstantSecond(a, k, d), Operands::ConstantSecond(e, m, g)) => {
+                a.is_same(e) && k == m && d.is_same(g)
+            }
+            (Operands::Two(a, d), Operands::Two(e, g)) => a.is_same(e) && d.is_same(g),
+            (Operands::Field(a, k, m, d), Operands::Field(e, l, n, g)) => {
+                a.is_same(e) && k == l && m == n && d.is_same(g)
+            }
+            (Operands::Constant(k, d), Operands::Constant(m, g)) => k == m && d.is_same(g),
+            (Operands::Access(r, b, f, o), Operands::Access(s, c, g, p)) => {
+                r.is_same(s) && b.is_same(c) && f == g && o.is_same(&p)
+            }
+            (Operands::Block(m), Operands::Block(n)) => m == n,
+            (Operands::Register(a), Operands::Register(e)) => a.is_same(e),
+            _ => false,
+        }
     }
 }
