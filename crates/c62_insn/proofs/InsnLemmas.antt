@@ -54,7 +54,7 @@ load_delay Ldw h = refl
 load_delay _ h = cc
 
 -- a write within four cycles, and within the instruction's delay
-abbrev IsTimely : Op → Reg × ℕ → Type 0
+abbrev pub IsTimely : Op → Reg × ℕ → Type 0
 IsTimely op write = (write.1 ≤ 4) × (write.1 ≤ delay_of op)
 
 timely_result : (op : Op) (d : Reg) → op ≢ Branch → All (IsTimely op) ((d, delay_of op) ∷ [])
@@ -80,10 +80,11 @@ timely op (Access reg base form offset) u h =
 timely op (Block number) u h = All-nil (IsTimely op)
 timely op (Register target) u h = All-nil (IsTimely op)
 
+pub timely_writes : (insn : Insn) → All (IsTimely (op_of insn)) (register_writes insn)
+timely_writes insn = let found = has_unit insn in timely (op_of insn) (operands_of insn) found.0 found.1
+
 timely_write : (insn : Insn) (reg : Reg) (d : ℕ) → Contains (register_writes insn) (reg, d) → IsTimely (op_of insn) (reg, d)
-timely_write insn reg d h =
-    let found = has_unit insn in
-    All-contains (IsTimely (op_of insn)) (register_writes insn) (reg, d) (timely (op_of insn) (operands_of insn) found.0 found.1) h
+timely_write insn reg d h = All-contains (IsTimely (op_of insn)) (register_writes insn) (reg, d) (timely_writes insn) h
 
 -- every write lands at most four cycles after the issue
 pub writes_delay : (insn : Insn) (reg : Reg) (d : ℕ) → Contains (register_writes insn) (reg, d) → d ≤ 4
