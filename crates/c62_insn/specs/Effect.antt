@@ -1,11 +1,11 @@
 -- What an instruction does, from the values of its condition and of its reads.
-use Rattle.std.specs.Prelude.{ℕ, ◌+◌, ◌-◌, ◌*◌, ◌/◌, ◌%◌, ◌^◌, min, ℤ, pos, ◌*ℤ◌, int_lt, unsigned_abs, bit_and, bit_or, bit_xor, nat_lt, Bool, true, false, not, ◌==◌, if◌then◌else◌, List, [], ◌∷◌, ◌++◌, Option, Some, None, slice_index}
+use Rattle.std.specs.Prelude.{ℕ, ◌+◌, ◌-◌, ◌*◌, ◌/◌, ◌%◌, ◌^◌, min, pos, ◌*ℤ◌, int_lt, unsigned_abs, bit_and, bit_or, bit_xor, nat_lt, Bool, true, not, ◌==◌, if◌then◌else◌, List, [], ◌∷◌, Option, Some, None, slice_index}
 use Rattle.std.specs.Int.{cast_signed, w8}
 use Rattle.c62_insn.specs.declared.register.Cond.{Cond as Condition}
 use Rattle.c62_insn.specs.declared.operands.Op.{Op}
-use Rattle.c62_insn.specs.declared.operands.Op.TheVariants.{Add, Sub, And, Or, Xor, Cmpeq, Cmpgt, Cmplt, Cmpgtu, Cmpltu, Abs, Shl, Shr, Shru, Ext, Extu, Add2, Sub2, Mvk, Mvklh, Addk, Mpy, Mpyu, Mpyus, Mpysu, Mpyh, Mpyhu, Mpyhl, Mpylh, Addab, Addah, Addaw, Ldb, Ldbu, Ldh, Ldhu, Ldw, Stb, Sth, Stw}
+use Rattle.c62_insn.specs.declared.operands.Op.TheVariants.{Add, Sub, And, Or, Xor, Cmpeq, Cmpgt, Cmplt, Cmpgtu, Cmpltu, Abs, Shl, Shr, Shru, Extu, Add2, Sub2, Mvk, Mvklh, Addk, Mpy, Mpyu, Mpyus, Mpysu, Mpyh, Mpyhu, Mpyhl, Mpylh, Addab, Addah, Addaw, Ldb, Ldbu, Ldh, Ldhu, Stb, Sth}
 use Rattle.c62_insn.specs.declared.operands.AddressForm.{AddressForm}
-use Rattle.c62_insn.specs.declared.operands.AddressForm.TheVariants.{Plus, Minus, PreIncrement, PreDecrement, PostIncrement, PostDecrement}
+use Rattle.c62_insn.specs.declared.operands.AddressForm.TheVariants.{Plus, PreIncrement, PostIncrement, PostDecrement}
 use Rattle.c62_insn.specs.declared.operands.Offset.{Offset}
 use Rattle.c62_insn.specs.declared.operands.Offset.TheVariants.{Constant as ByConstant, Register as ByRegister}
 use Rattle.c62_insn.specs.declared.operands.Operands.{Operands}

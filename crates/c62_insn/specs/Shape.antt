@@ -5,7 +5,7 @@ use Rattle.c62_insn.specs.declared.register.Reg.{Reg}
 use Rattle.c62_insn.specs.declared.operands.Op.{Op}
 use Rattle.c62_insn.specs.declared.operands.Op.TheVariants.{Mvklh, Addk, Mpy, Mpyu, Mpyus, Mpysu, Mpyh, Mpyhu, Mpyhl, Mpylh, Ldb, Ldbu, Ldh, Ldhu, Ldw, Stb, Sth, Stw, B as Branch}
 use Rattle.c62_insn.specs.declared.operands.AddressForm.{AddressForm}
-use Rattle.c62_insn.specs.declared.operands.AddressForm.TheVariants.{Plus, Minus, PreIncrement, PreDecrement, PostIncrement, PostDecrement}
+use Rattle.c62_insn.specs.declared.operands.AddressForm.TheVariants.{Plus, Minus}
 use Rattle.c62_insn.specs.declared.operands.Offset.{Offset}
 use Rattle.c62_insn.specs.declared.operands.Offset.TheVariants.{Constant as ByConstant, Register as ByRegister}
 use Rattle.c62_insn.specs.declared.operands.Operands.{Operands}
@@ -43,6 +43,10 @@ is_load Ldh = true
 is_load Ldhu = true
 is_load Ldw = true
 is_load _ = false
+
+abbrev pub is_branch : Op → Bool
+is_branch Branch = true
+is_branch _ = false
 
 -- whether the destination is a source too
 abbrev pub reads_destination : Op → Bool

@@ -1,6 +1,6 @@
 //! Instructions.
 
-ghost use Rattle.std.specs.Prelude.{◌≡◌, ◌↔◌, IsOk, IfOk, IfErr, Some, None};
+ghost use Rattle.std.specs.Prelude.{◌≡◌, ◌↔◌, IsOk, IfOk, IfErr, IsTrue, Some, None};
 ghost use Rattle.c62_insn.specs.Fault.{form_fault};
 
 use crate::effect::{Access, Effect, Inputs, Target};
@@ -20,6 +20,26 @@ pub struct Insn {
     cond: Option<Cond>,
     unit: Option<Unit>,
     pub ghost well_formed: { form_fault op operands cond unit ≡ None },
+}
+
+fn is_same_condition(a: Option<Cond>, b: Option<Cond>) -> bool
+    ensures { IsTrue result ↔ (a ≡ b) }
+{
+    match (a, b) {
+        (Some(a), Some(b)) => a.is_same(&b),
+        (None, None) => true,
+        _ => false,
+    }
+}
+
+fn is_same_unit(a: Option<Unit>, b: Option<Unit>) -> bool
+    ensures { IsTrue result ↔ (a ≡ b) }
+{
+    match (a, b) {
+        (Some(a), Some(b)) => a == b,
+        (None, None) => true,
+        _ => false,
+    }
 }
 
 impl Insn {
@@ -68,11 +88,29 @@ impl Insn {
         self.operands
     }
 
-    /// The written unit.
+    /// The condition, if there is one.
+    pub fn cond(self) -> Option<Cond>
+        ensures { result ≡ cond_of self }
+    {
+        self.cond
+    }
+
+    /// The unit that was written, if one was.
     pub fn unit(self) -> Option<Unit>
         ensures { result ≡ unit_of self }
     {
         self.unit
+    }
+
+    /// Whether both are one instruction: operation, operands, condition and written unit.
+    #[tactic(auto, using(crate::proofs::SameLemmas::same_parts))]
+    pub fn same(&self, other: &Insn) -> bool
+        ensures { IsTrue result ↔ (self.now ≡ other.now) }
+    {
+        self.op.is_same(other.op)
+            && self.operands.is_same(&other.operands)
+            && is_same_condition(self.cond, other.cond)
+            && is_same_unit(self.unit, other.unit)
     }
 
     /// Whether an operand comes over the cross path to `unit`.
@@ -120,13 +158,6 @@ impl Insn {
             Operands::Block(_) => {}
         }
         reads
-    }
-
-    /// The condition.
-    pub fn cond(self) -> Option<Cond>
-        ensures { result ≡ cond_of self }
-    {
-        self.cond
     }
 
     /// The registers that are written, each with the delay of the write.
@@ -251,13 +282,13 @@ impl Insn {
     }
 
     /// What the instruction does with these inputs.
-    pub fn apply(self, inputs: &Inputs) -> Effect
-        requires cond { is_some inputs.now.cond ≡ is_some (cond_of self) }
-        requires reads { array_vec_len inputs.now.reads ≡ length (reads_of (op_of self) (operands_of self)) }
-        ensures runs { result.runs ≡ runs_of (cond_of self) inputs.now.cond }
-        ensures values { result.values.items ≡ (if result.runs then values_of (op_of self) (operands_of self) inputs.now.reads.items else []) }
-        ensures access { result.access ≡ (if result.runs then access_of (op_of self) (operands_of self) inputs.now.reads.items else None) }
-        ensures target { result.target ≡ (if result.runs then target_of (operands_of self) inputs.now.reads.items else None) }
+    pub fn apply(&self, inputs: &Inputs) -> Effect
+        requires cond { is_some inputs.now.cond ≡ is_some (cond_of self.now) }
+        requires reads { array_vec_len inputs.now.reads ≡ length (reads_of (op_of self.now) (operands_of self.now)) }
+        ensures runs { result.runs ≡ runs_of (cond_of self.now) inputs.now.cond }
+        ensures values { result.values.items ≡ (if result.runs then values_of (op_of self.now) (operands_of self.now) inputs.now.reads.items else []) }
+        ensures access { result.access ≡ (if result.runs then access_of (op_of self.now) (operands_of self.now) inputs.now.reads.items else None) }
+        ensures target { result.target ≡ (if result.runs then target_of (operands_of self.now) inputs.now.reads.items else None) }
     {
         if self.runs(inputs.cond) {
             let reads = inputs.reads.as_slice();

@@ -1,6 +1,6 @@
 //! Operations and their operands.
 
-ghost use Rattle.std.specs.Prelude.{◌≡◌};
+ghost use Rattle.std.specs.Prelude.{◌≡◌, ◌↔◌, IsTrue};
 
 use crate::register::Reg;
 
@@ -98,9 +98,9 @@ pub enum Operands {
 }
 
 impl Op {
-    ghost use Rattle.c62_insn.specs.Shape.{delay_of, is_store, is_load, reads_destination};
+    ghost use Rattle.c62_insn.specs.Shape.{delay_of, is_store, is_load, is_branch, reads_destination};
 
-    /// The delay slots of the result.
+    /// The delay slots of the result (SPRU189, "Delay Slots").
     pub fn delay(self) -> u8
         ensures { result ≡ delay_of self }
     {
@@ -119,20 +119,36 @@ impl Op {
         }
     }
 
+    /// Whether this is `STB`, `STH` or `STW`.
     pub fn is_store(self) -> bool
         ensures { result ≡ is_store self }
     {
         matches!(self, Op::Stb | Op::Sth | Op::Stw)
     }
 
+    /// Whether this is `LDB`, `LDBU`, `LDH`, `LDHU` or `LDW`.
     pub fn is_load(self) -> bool
         ensures { result ≡ is_load self }
     {
         matches!(self, Op::Ldb | Op::Ldbu | Op::Ldh | Op::Ldhu | Op::Ldw)
     }
 
+    /// Whether this is `B`, to a block or to a register.
+    pub fn is_branch(self) -> bool
+        ensures { result ≡ is_branch self }
+    {
+        matches!(self, Op::B)
+    }
+
+    /// Whether both are one operation.
+    pub(crate) fn is_same(self, other: Op) -> bool
+        ensures { IsTrue result ↔ (self ≡ other) }
+    {
+        self == other
+    }
+
     /// Whether the destination is a source too.
-    pub fn reads_destination(self) -> bool
+    pub(crate) fn reads_destination(self) -> bool
         ensures { result ≡ reads_destination self }
     {
         matches!(self, Op::Addk | Op::Mvklh)
@@ -142,10 +158,53 @@ impl Op {
 impl AddressForm {
     ghost use Rattle.c62_insn.specs.Shape.{changes_base};
 
-    /// Whether the base is written.
-    pub fn changes_base(self) -> bool
+    /// Whether the access writes its base.
+    pub(crate) fn changes_base(self) -> bool
         ensures { result ≡ changes_base self }
     {
         !matches!(self, AddressForm::Plus | AddressForm::Minus)
+    }
+}
+
+impl Offset {
+    /// Whether both are one constant or one register.
+    pub fn is_same(&self, other: &Offset) -> bool
+        ensures { IsTrue result ↔ (self.now ≡ other.now) }
+    {
+        match (*self, *other) {
+            (Offset::Constant(a), Offset::Constant(b)) => a == b,
+            (Offset::Register(a), Offset::Register(b)) => a.is_same(b),
+            _ => false,
+        }
+    }
+}
+
+impl Operands {
+    /// Whether both are of one kind and equal in all parts.
+    pub fn is_same(&self, other: &Operands) -> bool
+        ensures { IsTrue result ↔ (self.now ≡ other.now) }
+    {
+        match (*self, *other) {
+            (Operands::Three(a, b, d), Operands::Three(e, f, g)) => a.is_same(e)
+                && b.is_same(f)
+                && d.is_same(g),
+            (Operands::ConstantFirst(k, a, d), Operands::ConstantFirst(m, e, g)) => {
+                k == m && a.is_same(e) && d.is_same(g)
+            }
+            (Operands::ConstantSecond(a, k, d), Operands::ConstantSecond(e, m, g)) => {
+                a.is_same(e) && k == m && d.is_same(g)
+            }
+            (Operands::Two(a, d), Operands::Two(e, g)) => a.is_same(e) && d.is_same(g),
+            (Operands::Field(a, k, m, d), Operands::Field(e, l, n, g)) => {
+                a.is_same(e) && k == l && m == n && d.is_same(g)
+            }
+            (Operands::Constant(k, d), Operands::Constant(m, g)) => k == m && d.is_same(g),
+            (Operands::Access(r, b, f, o), Operands::Access(s, c, g, p)) => {
+                r.is_same(s) && b.is_same(c) && f == g && o.is_same(&p)
+            }
+            (Operands::Block(m), Operands::Block(n)) => m == n,
+            (Operands::Register(a), Operands::Register(e)) => a.is_same(e),
+            _ => false,
+        }
     }
 }
