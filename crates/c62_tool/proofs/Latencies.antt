@@ -1,14 +1,16 @@
 -- The latency from one instruction to another is the greatest of the bounds between them.
 use Rattle.std.proofs.lemmas.Option.{same_Some, slice_get_read}
-use Rattle.std.proofs.Common.{length, get_or, rules, arith, ◌≡◌, ℕ, ◌+◌, ◌<◌, ℤ, pos, ◌-ℤ◌, ◌≤ℤ◌, Bool, true, false, List, Option, Some, None, refl, sym, ap, ◌∙◌, subst, inl, inr, ◌⊎◌, cond}
-use Rattle.std.specs.Prelude.{Contains, IsTrue, slice_get, ◌&&◌, ◌||◌, ◌==◌}
+use Rattle.std.proofs.Common.{length, get_or, rules, arith, ◌≡◌, ℕ, ◌+◌, ◌<◌, ℤ, pos, negsuc, ◌≤◌, ◌-ℤ◌, ◌≤ℤ◌, Bool, true, false, List, Option, Some, None, refl, sym, ap, ◌∙◌, subst, inl, inr, ◌⊎◌, cond}
+use Rattle.std.specs.Prelude.{IfSome, Contains, IsTrue, slice_get, ◌&&◌, ◌||◌, ◌==◌}
 use Rattle.std.proofs.lemmas.Bool.{and_parts}
 use Rattle.std.proofs.lemmas.Bool.Decides.{nat_tests}
 use Rattle.c62_insn.specs.declared.register.Reg.{Reg}
 use Rattle.c62_insn.specs.declared.operands.Op.{Op}
-use Rattle.c62_insn.specs.declared.operands.Op.TheVariants.{Ldb, Ldbu, Ldh, Ldhu, Ldw, B as Branch}
+use Rattle.c62_insn.specs.declared.operands.Op.TheVariants.{Mpy, Mpyu, Mpyus, Mpysu, Mpyh, Mpyhu, Mpyhl, Mpylh, Ldb, Ldbu, Ldh, Ldhu, Ldw, B as Branch}
 use Rattle.c62_insn.specs.declared.insn.Insn.{Insn}
 use Rattle.c62_insn.specs.Takes.{same_reg}
+use Rattle.std.proofs.lemmas.Int.{ints}
+use Rattle.c62_insn.proofs.InsnLemmas.{writes_delay}
 use Rattle.c62_insn.proofs.Registers.{same_reg-is, same_reg-refl}
 use Rattle.c62_insn.specs.Shape.{delay_of, is_load, is_store}
 use Rattle.c62_insn.specs.Insn.{op_of, register_writes, reads_register}
@@ -124,3 +126,41 @@ pub latency-is : (block : List Insn) (i j : ℕ) (p q : Insn) (o : Option ℤ) �
 latency-is block i j p q o before within at_i at_j e =
     latency-from block i j p q o (slice_get_read block (length block) i p refl (omega arith) at_i) (slice_get_read block (length block) j q refl within at_j) before
     (subst (IsGreatest (IsBound block i j p q)) (sym e) (latency_of-greatest block i j p q))
+
+-- every bound is small
+pub bounds-small : (block : List Insn) (i j : ℕ) (b : ℤ) → Bounds block i j b → (negsuc 4 ≤ℤ b) × (b ≤ℤ pos 5)
+bounds-small block i j b w = of_case w.first w.second w.applies
+  where
+    delay_of-small : (op : Op) → delay_of op ≤ 5
+    delay_of-small Mpy = omega arith
+    delay_of-small Mpyu = omega arith
+    delay_of-small Mpyus = omega arith
+    delay_of-small Mpysu = omega arith
+    delay_of-small Mpyh = omega arith
+    delay_of-small Mpyhu = omega arith
+    delay_of-small Mpyhl = omega arith
+    delay_of-small Mpylh = omega arith
+    delay_of-small Ldb = omega arith
+    delay_of-small Ldbu = omega arith
+    delay_of-small Ldh = omega arith
+    delay_of-small Ldhu = omega arith
+    delay_of-small Ldw = omega arith
+    delay_of-small Branch = omega arith
+    delay_of-small _ = omega arith
+    of_case : (p q : Insn) → IsBound block i j p q b → (negsuc 4 ≤ℤ b) × (b ≤ℤ pos 5)
+    of_case p q (ReadAfterWrite reg delay writes reads e) =
+        let few : delay ≤ 4 = writes_delay p reg delay writes in (omega (arith, ints), omega (arith, ints))
+    of_case p q (WriteAfterRead reg delay writes reads e) =
+        let few : delay ≤ 4 = writes_delay q reg delay writes in (omega (arith, ints), omega (arith, ints))
+    of_case p q (WriteAfterWrite reg first second one other free e) =
+        let few : first ≤ 4 = writes_delay p reg first one in
+        let few_too : second ≤ 4 = writes_delay q reg second other in
+        (omega (arith, ints), omega (arith, ints))
+    of_case p q (AfterStore store access free e) = (omega (arith, ints), omega (arith, ints))
+    of_case p q (StoreAfterLoad load store free e) = (omega (arith, ints), omega (arith, ints))
+    of_case p q (BeforeBranch is e) =
+        let few : delay_of (op_of p) ≤ 5 = delay_of-small (op_of p) in (omega (arith, ints), omega (arith, ints))
+
+pub latency-small : (block : List Insn) (i j : ℕ) (o : Option ℤ) → IsLatency block i j o → IfSome o (λ m. (negsuc 4 ≤ℤ m) × (m ≤ℤ pos 5))
+latency-small block i j None h = tt
+latency-small block i j (Some m) h = bounds-small block i j m h.applies

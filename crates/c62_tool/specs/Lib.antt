@@ -3,3 +3,4 @@ pub mod Lawful
 pub mod Least
 pub mod Latency
 pub mod Packet
+pub mod Early

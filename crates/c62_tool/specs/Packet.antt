@@ -6,12 +6,13 @@ use Rattle.c62_insn.specs.declared.register.Unit.{Unit as FunctionalUnit}
 use Rattle.c62_insn.specs.declared.insn.Insn.{Insn}
 use Rattle.c62_insn.specs.Takes.{same_side, same_unit}
 use Rattle.c62_insn.specs.Shape.{crosses_to, data_path_of}
-use Rattle.c62_insn.specs.Insn.{operands_of}
+use Rattle.std.specs.List.{list_all}
+use Rattle.c62_insn.specs.Insn.{operands_of, operand_reads}
 use Rattle.c62_insn.specs.PacketRules.{Issues, reads_count, reads_in}
 use Rattle.c62_tool.specs.declared.resource.Resource.{Resource}
 use Rattle.c62_tool.specs.declared.resource.Resource.TheVariants.{OnUnit, CrossPath, DataPath}
 use Rattle.c62_tool.specs.declared.spot.Spot.{Spot}
-use Rattle.c62_tool.specs.Lawful.{Spots, spot_at}
+use Rattle.c62_tool.specs.Lawful.{Spots, spot_at, issues, may_stand}
 
 abbrev pub is_path : Side → Option Side → Bool
 is_path side None = false
@@ -40,3 +41,13 @@ reads_at cycle reg insn (Some spot) = if spot.cycle == cycle then reads_count re
 -- whether a register can be read in a cycle as often as one more instruction does
 abbrev pub has_read_left : Issues → Insn → ℕ → Reg → Bool
 has_read_left issues insn cycle reg = nat_le (sum_by (reads_in cycle reg) issues + reads_count reg insn) 4
+
+-- no placed instruction uses what an instruction at a spot uses
+abbrev pub IsFree : List Insn → Spots → Insn → Spot → Type 0
+IsFree block set insn spot = (resource : Resource) → IsTrue (uses_on resource insn spot.unit) → IsUsed block set spot.cycle resource → ⊥
+
+-- an instruction may stand at a spot beside what is placed there
+pub record Suits (block : List Insn) (set : Spots) (insn : Insn) (spot : Spot) : Type 0 where
+  pub stands : IsTrue (may_stand insn spot.unit)
+  pub free : IsFree block set insn spot
+  pub reads : IsTrue (list_all (has_read_left (issues block set) insn spot.cycle) (operand_reads insn))

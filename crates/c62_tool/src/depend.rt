@@ -1,6 +1,6 @@
 //! How far two instructions of a block must stand apart.
 
-ghost use Rattle.std.specs.Prelude.{◌≡◌, ◌<◌, length, pos, ◌+◌};
+ghost use Rattle.std.specs.Prelude.{◌≡◌, ◌<◌, ◌≤ℤ◌, length, pos, negsuc, ◌+◌, IfSome};
 ghost use Rattle.std.specs.List.{list_any};
 ghost use Rattle.c62_insn.specs.Takes.{same_reg};
 ghost use Rattle.c62_insn.specs.Insn.{op_of, is_condition_on, reads_register, register_writes};
@@ -175,7 +175,8 @@ fn latency_between(first: &Insn, second: &Insn) -> Option<i32>
 pub fn latency(block: &[Insn], i: usize, j: usize) -> Option<i32>
     requires before { i < j }
     requires within { j < length block.now }
-    ensures { IsLatency block.now i j result }
+    ensures latency { IsLatency block.now i j result }
+    ensures small { IfSome result (λ latency. (negsuc 4 ≤ℤ latency) × (latency ≤ℤ pos 5)) }
 {
     latency_between(&block[i], &block[j])
 }

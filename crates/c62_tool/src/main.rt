@@ -3,6 +3,7 @@
 
 mod depend;
 mod packet;
+mod place;
 mod resource;
 mod spot;
 
