@@ -2,3 +2,5 @@ pub mod Greatest
 pub mod Latencies
 pub mod IssuesOf
 pub mod Used
+pub mod Adding
+pub mod EarlyCycles
