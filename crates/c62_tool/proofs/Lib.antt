@@ -4,3 +4,5 @@ pub mod IssuesOf
 pub mod Used
 pub mod Adding
 pub mod EarlyCycles
+pub mod Placing
+pub mod Search
