@@ -6,3 +6,4 @@ pub mod Adding
 pub mod EarlyCycles
 pub mod Placing
 pub mod Search
+pub mod Room

@@ -45,7 +45,7 @@ some_is (Some y) x e = refl
 none_not_some : {A : Type 0} (o : Option A) → o ≡ None → IsSome o → ⊥
 none_not_some o e h = let v = value_of_some o h in none-some v.0 (sym e ∙ v.1)
 
-spot_in : (resource : Resource) (cycle : ℕ) (insn : Insn) (o : Option Spot) → IsTrue (uses_in resource cycle insn o)
+pub spot_in : (resource : Resource) (cycle : ℕ) (insn : Insn) (o : Option Spot) → IsTrue (uses_in resource cycle insn o)
     → (t : Spot) × (o ≡ Some t) × (t.cycle ≡ cycle) × IsTrue (uses_on resource insn t.unit)
 spot_in resource cycle insn None h = absurd (false≢true h)
 spot_in resource cycle insn (Some t) h =
