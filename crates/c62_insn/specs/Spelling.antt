@@ -130,11 +130,20 @@ address_spelling base form offset =
     if is_base_alone form offset then codes "*" ++ register_name base
     else codes "*" ++ sign_of form ++ register_name base ++ step_of form ++ codes "[" ++ offset_spelling offset ++ codes "]"
 
--- one operand behind the other
+-- operands one behind the other
 abbrev pub with_commas : List (List ℕ) → List ℕ
 with_commas [] = []
 with_commas (text ∷ []) = text
 with_commas (text ∷ next ∷ rest) = text ++ codes "," ++ with_commas (next ∷ rest)
+
+-- a source, the two constants of a field and the destination
+abbrev pub field_spelling : Reg → ℤ → ℤ → Reg → List ℕ
+field_spelling a k m d = with_commas (register_name a ∷ signed_decimal k ∷ signed_decimal m ∷ register_name d ∷ [])
+
+-- a store's register stands before the address, a load's after it
+abbrev pub access_spelling : Op → Reg → List ℕ → List ℕ
+access_spelling op reg address =
+    if is_store op then with_commas (register_name reg ∷ address ∷ []) else with_commas (address ∷ register_name reg ∷ [])
 
 -- The operands in the order of the form that a unit of this letter has: .D takes the constant of ADD second. A branch
 -- goes to the block of this name.
@@ -145,12 +154,9 @@ operands_spelling name op letter (ConstantFirst k a d) =
     else with_commas (signed_decimal k ∷ register_name a ∷ register_name d ∷ [])
 operands_spelling name op letter (ConstantSecond a k d) = with_commas (register_name a ∷ signed_decimal k ∷ register_name d ∷ [])
 operands_spelling name op letter (Two a d) = with_commas (register_name a ∷ register_name d ∷ [])
-operands_spelling name op letter (Field a k m d) =
-    with_commas (register_name a ∷ signed_decimal k ∷ signed_decimal m ∷ register_name d ∷ [])
+operands_spelling name op letter (Field a k m d) = field_spelling a k m d
 operands_spelling name op letter (Constant k d) = with_commas (signed_decimal k ∷ register_name d ∷ [])
-operands_spelling name op letter (Access reg base form offset) =
-    if is_store op then with_commas (register_name reg ∷ address_spelling base form offset ∷ [])
-    else with_commas (address_spelling base form offset ∷ register_name reg ∷ [])
+operands_spelling name op letter (Access reg base form offset) = access_spelling op reg (address_spelling base form offset)
 operands_spelling name op letter (Block number) = name number
 operands_spelling name op letter (Register target) = register_name target
 

@@ -1,6 +1,7 @@
 //! The program c62.
 #![tactic(auto)]
 
+mod spelling;
 mod spot;
 
 fn main(rt: HostRuntime) {
