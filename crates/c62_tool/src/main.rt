@@ -1,6 +1,7 @@
 //! The program c62.
 #![tactic(auto)]
 
+mod listing;
 mod spelling;
 mod spot;
 
