@@ -1,6 +1,8 @@
 //! The program c62.
 #![tactic(auto)]
 
+#[cfg(test)]
+mod fixtures;
 mod listing;
 mod spelling;
 mod spot;

@@ -261,3 +261,6 @@ pub fn push_spelling(
     out.extend_from_slice(b" ")?;
     push_operands(out, insn, unit.letter, label)
 }
+
+#[cfg(test)]
+mod tests;
