@@ -3,6 +3,7 @@
 
 #[cfg(test)]
 mod fixtures;
+mod laws;
 mod listing;
 mod spelling;
 mod spot;
