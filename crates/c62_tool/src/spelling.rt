@@ -1,6 +1,6 @@
 //! Writes instructions.
 
-ghost use Rattle.std.specs.Prelude.{◌≡◌, ◌++◌, ℤ, OnOk, IsTrue, codes};
+ghost use Rattle.std.specs.Prelude.{◌≡◌, ◌++◌, OnOk, codes};
 ghost use Rattle.std.specs.Fmt.{signed_decimal};
 ghost use Rattle.c62_insn.specs.Insn.{op_of, operands_of};
 ghost use Rattle.c62_insn.specs.Spelling.{file_letter, side_digit, unit_letter, register_name, condition_spelling, unit_spelling, offset_spelling, sign_of, step_of, is_base_alone, address_spelling, access_spelling, field_spelling, operands_spelling, spelling};
