@@ -101,4 +101,5 @@ crosses_to side (Three a b _) = not (same_side a.side side) || not (same_side b.
 crosses_to side (ConstantFirst _ a _) = not (same_side a.side side)
 crosses_to side (ConstantSecond a _ _) = not (same_side a.side side)
 crosses_to side (Two a _) = not (same_side a.side side)
+crosses_to side (Field a _ _ _) = not (same_side a.side side)
 crosses_to side _ = false

@@ -132,7 +132,8 @@ impl Insn {
             Operands::Three(a, b, _) => a.side != unit.side || b.side != unit.side,
             Operands::ConstantFirst(_, a, _)
             | Operands::ConstantSecond(a, _, _)
-            | Operands::Two(a, _) => a.side != unit.side,
+            | Operands::Two(a, _)
+            | Operands::Field(a, _, _, _) => a.side != unit.side,
             _ => false,
         }
     }
