@@ -1,4 +1,5 @@
--- Why an operation, operands, condition and written unit make no instruction: five tests in their order.
+-- Why an operation, operands, condition and written unit make no instruction: five tests in their order (docs/MACHINE.md,
+-- "Form faults"). The order is this project's own.
 use Rattle.std.specs.Prelude.{ℕ, Bool, true, false, ◌&&◌, ◌||◌, not, ◌==◌, nat_lt, if◌then◌else◌, List, [], ◌∷◌, Option, Some, None}
 use Rattle.std.specs.List.{list_any}
 use Rattle.c62_insn.specs.declared.register.Side.{Side}
@@ -17,7 +18,7 @@ use Rattle.c62_insn.specs.Table.{forms_of}
 use Rattle.c62_insn.specs.Takes.{same_side, same_kind, holds_constants, offset_on, takes}
 use Rattle.c62_insn.specs.Shape.{is_load, is_store, is_branch}
 
--- A1, A2, B0, B1 and B2 may be a condition
+-- A1, A2, B0, B1 and B2 may be a condition (SPRU189, "Conditional Operations")
 abbrev pub may_condition : Side → ℕ → Bool
 may_condition A number = number == 1 || number == 2
 may_condition B number = nat_lt number 3

@@ -1,4 +1,6 @@
--- The instruction table: which units take which operands.
+-- The instruction table: the forms of each operation, a form being a unit's letter and what its operands are
+-- (docs/MACHINE.md, "Instruction table"; SPRU189, "Mapping Between Instructions and Functional Units" and "Individual
+-- Instruction Descriptions").
 use Rattle.std.specs.Prelude.{List, [], ◌∷◌, ◌++◌, pos, negsuc}
 use Rattle.c62_insn.specs.declared.register.Letter.{Letter}
 use Rattle.c62_insn.specs.declared.register.Letter.TheVariants.{L, S, M, D}
@@ -10,7 +12,7 @@ use Rattle.c62_insn.specs.declared.form.Pattern.{Pattern}
 use Rattle.c62_insn.specs.declared.form.Pattern.TheVariants.{Three as three, ConstantFirst as constant_first, ConstantSecond as constant_second, Two as two, Field as field, Constant as constant, Access as access, Block as block, Register as register}
 use Rattle.c62_insn.specs.declared.form.Form.{Form}
 
--- -16..15, -15..16, 0..31, -32768..32767 and 0..65535
+-- the ranges of constants: -16..15, -15..16, 0..31, -32768..32767 and 0..65535
 abbrev pub short : Range
 short = record { low = negsuc 15; high = pos 15 }
 

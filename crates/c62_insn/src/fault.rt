@@ -10,13 +10,14 @@ use crate::operands::{Op, Operands};
 use crate::register::{Cond, Side, Unit};
 use thiserror::Error;
 
-/// Why operands make no instruction.
+/// Why parts make no instruction (`docs/MACHINE.md`, "Form faults"). Where several faults apply,
+/// [`Insn::new`](crate::Insn::new) says which one it gives.
 #[derive(Clone, Copy, PartialEq, Eq, Debug, Error)]
 pub enum FormFault {
     /// No unit, or not the written one, takes these operands.
     #[error("NoUnit")]
     NoUnit,
-    /// A constant lies outside all its ranges.
+    /// A constant lies outside all ranges that the instruction table gives it.
     #[error("ConstantRange")]
     ConstantRange,
     /// Two sources lie on the side other than the destination's.
@@ -25,7 +26,7 @@ pub enum FormFault {
     /// A register that may not cross, or the written unit, lies on the wrong side.
     #[error("BadSide")]
     BadSide,
-    /// The register of the condition can't be one.
+    /// The register of the condition is not A1, A2, B0, B1 or B2.
     #[error("BadCondition")]
     BadCondition,
 }

@@ -7,3 +7,5 @@ pub mod EarlyCycles
 pub mod Placing
 pub mod Search
 pub mod Room
+pub mod ListingLemmas
+pub mod OneListing

@@ -4,3 +4,4 @@ pub mod Least
 pub mod Latency
 pub mod Packet
 pub mod Early
+pub mod Listing
