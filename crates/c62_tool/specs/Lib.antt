@@ -1,1 +1,3 @@
 pub mod Spot
+pub mod Text
+pub mod Number

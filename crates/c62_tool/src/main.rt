@@ -1,7 +1,9 @@
 //! The program c62.
 #![tactic(auto)]
 
+mod number;
 mod spot;
+mod token;
 
 fn main(rt: HostRuntime) {
     let _ = rt;
