@@ -1,3 +1,4 @@
 pub mod Pieces
 pub mod Tokens
 pub mod Numbers
+pub mod ReadingLemmas

@@ -1,3 +1,4 @@
 pub mod Spot
 pub mod Text
 pub mod Number
+pub mod Reading

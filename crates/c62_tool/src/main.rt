@@ -1,6 +1,8 @@
 //! The program c62.
 #![tactic(auto)]
 
+mod fault;
+mod line;
 mod number;
 mod spot;
 mod token;
