@@ -2,3 +2,5 @@ pub mod Pieces
 pub mod Tokens
 pub mod Numbers
 pub mod ReadingLemmas
+pub mod Lines
+pub mod Programs

@@ -20,10 +20,15 @@ use Rattle.c62_insn.specs.declared.register.Reg.{Reg}
 use Rattle.c62_insn.specs.declared.register.Side.{Side}
 use Rattle.c62_insn.specs.declared.register.Side.TheVariants.{A, B}
 use Rattle.c62_insn.specs.declared.register.Unit.{Unit as FunctionalUnit}
-use Rattle.c62_tool.specs.Text.{begins, code_of, is_allowed, skip_blanks, tokens}
+use Rattle.c62_tool.specs.Text.{begins, code_of, is_allowed, lines_of, skip_blanks, tokens}
 use Rattle.c62_tool.specs.Number.{spells, number_of, register_of}
 use Rattle.c62_tool.specs.declared.fault.LineFault.{LineFault}
-use Rattle.c62_tool.specs.declared.fault.LineFault.TheVariants.{NotAscii, LineTooLong, ParallelBar, BadLabel, Directive, UnknownMnemonic, BadUnit, BadOperand, Form}
+use Rattle.c62_tool.specs.declared.fault.LineFault.TheVariants.{NotAscii, LineTooLong, ParallelBar, BadLabel, Directive, UnknownMnemonic, BadUnit, BadOperand, Form, TooManyInstructions}
+use Rattle.c62_tool.specs.declared.fault.Refusal.{Refusal}
+use Rattle.c62_tool.specs.declared.fault.Refusal.TheVariants.{TextTooLong, At}
+use Rattle.c62_tool.specs.declared.fault.ReadError.{ReadError}
+use Rattle.c62_tool.specs.declared.fault.ReadError.TheVariants.{Memory, Refused}
+use Rattle.std.specs.Global.{Vec}
 use Rattle.c62_tool.specs.declared.line.Mnemonic.{Mnemonic}
 use Rattle.c62_tool.specs.declared.line.Mnemonic.TheVariants.{Add, Sub, Mvk}
 use Rattle.c62_tool.specs.declared.line.Operand.{Operand}
@@ -244,6 +249,47 @@ line_of line =
     if list_all is_allowed line then (if nat_lt 255 (length line) then Err LineTooLong else statement_of (code_of line))
     else Err NotAscii
 
+-- ---- texts
+
+abbrev pub most_instructions : ℕ
+most_instructions = 256
+
+-- what a line says behind so many instructions: the 257th is one too many
+abbrev pub said_after : ℕ → Result (Option Parts) LineFault → Result (Option Parts) LineFault
+said_after count (Ok (Some parts)) = if nat_lt count most_instructions then Ok (Some parts) else Err TooManyInstructions
+said_after count (Ok None) = Ok None
+said_after count (Err fault) = Err fault
+
+-- how many instructions stand before the next line
+abbrev pub count_after : ℕ → Result (Option Parts) LineFault → ℕ
+count_after count (Ok (Some parts)) = count + 1
+count_after count (Ok None) = count
+count_after count (Err fault) = count
+
+-- what line n says, and then what the others say: each instruction, or the first fault
+abbrev pub before : ℕ → Result (Option Parts) LineFault → Result (List Parts) Refusal → Result (List Parts) Refusal
+before n (Err fault) others = Err (At n fault)
+before n (Ok None) others = others
+before n (Ok (Some parts)) (Ok more) = Ok (parts ∷ more)
+before n (Ok (Some parts)) (Err refusal) = Err refusal
+
+-- what these lines say, of which the first has the number n and stands behind so many instructions
+unfoldable pub program_from : ℕ → ℕ → List (List ℕ) → Result (List Parts) Refusal
+program_from n count [] = Ok []
+program_from n count (line ∷ lines) =
+    let said = said_after count (line_of line) in before n said (program_from (n + 1) (count_after count said) lines)
+
+abbrev pub most_bytes : ℕ
+most_bytes = 1048576
+
+-- the instructions that a text says, or why it says none
+unfoldable pub program_of : List ℕ → Result (List Parts) Refusal
+program_of text = if nat_lt most_bytes (length text) then Err TextTooLong else program_from 1 0 (lines_of text)
+
+-- the text says this block
+abbrev pub IsProgram : List ℕ → List Insn → Type 0
+IsProgram text block = program_of text ≡ Ok (map parts_of block)
+
 -- ---- what a function read is what the definition gives
 
 abbrev pub Makes : Result Insn LineFault → Result Parts LineFault → Type 0
@@ -254,3 +300,18 @@ abbrev pub Says : Result (Option Insn) LineFault → Result (Option Parts) LineF
 Says (Ok (Some insn)) says = says ≡ Ok (Some (parts_of insn))
 Says (Ok None) says = says ≡ Ok None
 Says (Err fault) says = says ≡ Err fault
+
+-- new is old with what a line says, if it says something
+abbrev pub Adds : Result (Option Parts) LineFault → List Insn → List Insn → Type 0
+Adds (Ok (Some parts)) old new = map parts_of new ≡ map parts_of old ++ parts ∷ []
+Adds (Ok None) old new = new ≡ old
+Adds (Err fault) old new = ⊥
+
+-- unless memory ran out
+abbrev pub Fails : ReadError → Result (List Parts) Refusal → Type 0
+Fails Memory says = Unit {0}
+Fails (Refused refusal) says = says ≡ Err refusal
+
+abbrev pub Gives : Result (Vec Insn) ReadError → Result (List Parts) Refusal → Type 0
+Gives (Ok block) says = says ≡ Ok (map parts_of block.items)
+Gives (Err error) says = Fails error says

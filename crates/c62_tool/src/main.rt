@@ -4,6 +4,7 @@
 mod fault;
 mod line;
 mod number;
+mod program;
 mod spot;
 mod token;
 
