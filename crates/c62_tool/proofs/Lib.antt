@@ -4,3 +4,5 @@ pub mod Numbers
 pub mod ReadingLemmas
 pub mod Lines
 pub mod Programs
+pub mod Known
+pub mod Runs
