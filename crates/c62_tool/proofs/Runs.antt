@@ -49,7 +49,7 @@ refuses known old text (failures.Refused r) read gives = (refused known read, Ke
     refused None e = tt
     refused (Some all) e =
         let says : Err r ≡ program_of all = sym gives ∙ ap program_of e ∙ program_of-take all in
-        subst (λ (p : Result (List Parts) Refusal). IsErr p) says tt
+        subst (λ (p : Result (List Parts) Refusal). IsErr p) says refl
 refuses known old text failures.Memory read gives = Keeps-same old
 refuses known old text failures.Input read gives = absurd gives
 refuses known old text failures.Output read gives = absurd gives

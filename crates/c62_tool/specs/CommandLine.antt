@@ -1,8 +1,8 @@
 -- The command line, as clap reads it.
-use Rattle.std.specs.Prelude.{◌≡◌, ◌≢◌, ◌<◌, length, Bool, true, false, List, [], Option, Some, None, codes}
+use Rattle.std.specs.Prelude.{◌≡◌, ◌≢◌, ◌⊎◌, ℕ, ◌<◌, length, Bool, true, false, List, [], Option, Some, None, codes}
 use Rattle.std.specs.Str.{bytes_eq}
 use Rattle.std.specs.Option.{option_map_or}
-use Rattle.clap.specs.Words.{App, Row, Rule, Text, first_of, new_app, new_rule, with_rule, with_subcommand, takes}
+use Rattle.clap.specs.Words.{App, Row, Rule, Text, first_of, new_app, new_rule, with_rule, with_subcommand, fault_of}
 use Rattle.clap.specs.declared.builder.action.ArgAction.TheVariants.{SetTrue}
 use Rattle.c62_tool.specs.declared.command.Request.{Request}
 use Rattle.c62_tool.specs.declared.command.Request.TheVariants.{Pack}
@@ -31,6 +31,10 @@ abbrev pub AsksFor : Option (Text × List Row) → Request → Type 0
 AsksFor None r = r ≡ Pack true
 AsksFor (Some p) (Pack turns) = turns ≡ is_set (codes "turns") p.1
 
+-- clap takes the words, or there are none
+abbrev pub IsTaken : List Text → Type 0
+IsTaken words = (length words ≡ 0) ⊎ (fault_of tool_app words ≡ [])
+
 -- there are words, and clap doesn't take them
 abbrev pub IsUnknown : List Text → Type 0
-IsUnknown words = (0 < length words) × (takes tool_app words ≢ true)
+IsUnknown words = (0 < length words) × (fault_of tool_app words ≢ [])

@@ -10,6 +10,7 @@ use Rattle.c62_tool.specs.declared.failure.Failure.{Failure}
 use Rattle.c62_tool.specs.declared.failure.Failure.TheVariants.{Refused, Words, Memory, Input, Output}
 use Rattle.c62_tool.specs.Reading.{IsProgram, program_of}
 use Rattle.c62_tool.specs.Packed.{IsPacked}
+use Rattle.c62_tool.specs.CommandLine.{IsTaken, IsUnknown}
 
 abbrev pub status_of : Failure → ℕ
 status_of (Refused _) = 1
@@ -51,6 +52,12 @@ abbrev pub Leaves : Failure → Option (List ℕ) → Option (List ℕ) → Opti
 Leaves Output text old new = Unit {0}
 Leaves (Refused r) text old new = IsRefused text × Keeps old new
 Leaves _ text old new = Keeps old new
+
+-- the words are blamed where they aren't taken, and a text only where they are
+abbrev pub IsBlamed : Failure → List (List ℕ) → Type 0
+IsBlamed (Words _) words = IsUnknown words
+IsBlamed (Refused _) words = IsTaken words
+IsBlamed _ words = Unit {0}
 
 -- the listing of what a text says, or that it says nothing, unless memory ran out
 abbrev pub GivesListing : List ℕ → Result (Vec ℕ) Failure → Type 0

@@ -1,9 +1,9 @@
 //! What the words of the command line ask for.
 
-ghost use Rattle.std.specs.Prelude.{◌≡◌, ◌<◌, IfOk, IfErr, IsOkAnd, false, true, map, length};
-ghost use Rattle.clap.specs.Words.{app_of, found_of, kind_of, rows_of, rule_of, subcommand_of, subcommand_rows_of, takes};
+ghost use Rattle.std.specs.Prelude.{◌≡◌, ◌≢◌, ◌<◌, IfOk, IfErr, IsOkAnd, false, true, map, length, []};
+ghost use Rattle.clap.specs.Words.{app_of, found_of, kind_of, rows_of, rule_of, subcommand_of, subcommand_rows_of, fault_of};
 ghost use Rattle.clap.specs.declared.builder.command.Command.TheViews.{out-Command as fields_of};
-ghost use Rattle.c62_tool.specs.CommandLine.{turns_rule, pack_app, tool_app, is_set, AsksFor};
+ghost use Rattle.c62_tool.specs.CommandLine.{turns_rule, pack_app, tool_app, is_set, AsksFor, IsTaken, IsUnknown};
 
 use clap::error::ErrorKind;
 use clap::{Arg, ArgAction, ArgMatches, Command, Error};
@@ -45,7 +45,8 @@ fn tool_command<'a>(alloc: Global) -> Result<Command<'a>, AllocError>
 /// What clap reads of the words.
 fn matches_of<'a, S: AsStr>(alloc: Global, words: &'a [S]) -> Result<ArgMatches<'a>, Error>
     ensures ok { IfOk result (λ m. subcommand_rows_of m ≡ subcommand_of tool_app (map S.text words.entry.now)) }
-    ensures err { IfErr result (λ e. takes tool_app (map S.text words.entry.now) ≡ true → kind_of e ≡ ErrorKind.OutOfMemory) }
+    ensures taken { IfOk result (λ _. fault_of tool_app (map S.text words.entry.now) ≡ []) }
+    ensures err { IfErr result (λ e. kind_of e ≢ ErrorKind.OutOfMemory → fault_of tool_app (map S.text words.entry.now) ≢ []) }
 {
     let command = tool_command(alloc)?;
     command.try_get_matches_from(words)
@@ -78,7 +79,8 @@ fn request_in(matches: &ArgMatches<'_>) -> Request
 pub fn command_of<'a, S: AsStr>(alloc: Global, words: &'a [S]) -> Result<Request, Error>
     ensures none { length words.entry.now ≡ 0 → IsOkAnd result (λ r. r ≡ Request.Pack true) }
     ensures asked { 0 < length words.entry.now → IfOk result (AsksFor (subcommand_of tool_app (map S.text words.entry.now))) }
-    ensures refused { 0 < length words.entry.now → IfErr result (λ e. takes tool_app (map S.text words.entry.now) ≡ true → kind_of e ≡ ErrorKind.OutOfMemory) }
+    ensures taken { IfOk result (λ _. IsTaken (map S.text words.entry.now)) }
+    ensures refused { IfErr result (λ e. kind_of e ≢ ErrorKind.OutOfMemory → IsUnknown (map S.text words.entry.now)) }
 {
     if words.is_empty() {
         return Ok(Request::Pack { turns: true });

@@ -3,8 +3,8 @@
 ghost use Rattle.std.specs.Prelude.{◌≡◌, ◌≢◌, ◌≤◌, ◌<◌, ◌+◌, IfErr, OnOk, map};
 ghost use Rattle.std.specs.Io.KnownBytes.{Appends, Keeps};
 ghost use Rattle.c62_tool.specs.Reading.{most_bytes};
-ghost use Rattle.c62_tool.specs.Run.{TakesAtMost, ListsText, IsRefused, Leaves, GivesListing, status_of};
-ghost use Rattle.c62_tool.specs.CommandLine.{IsUnknown};
+ghost use Rattle.c62_tool.specs.Run.{TakesAtMost, ListsText, IsRefused, Leaves, GivesListing, IsBlamed, status_of};
+ghost use Rattle.c62_tool.specs.CommandLine.{IsTaken, IsUnknown};
 
 use crate::command::command_of;
 use crate::failure::Failure;
@@ -69,7 +69,9 @@ fn run<S: AsStr, R: Read, W: Write>(
 ) -> Result<(), Failure>
     ensures ok { OnOk result (ListsText (R.remaining reader.old) (W.contents output.old) (W.contents output.new)) }
     ensures err { IfErr result (λ f. Leaves f (R.remaining reader.old) (W.contents output.old) (W.contents output.new)) }
-    ensures words { IfErr result (λ f. status_of f ≡ 2 → IsUnknown (map S.text words.now)) }
+    ensures taken { OnOk result (IsTaken (map S.text words.now)) }
+    ensures words { IfErr result (λ f. IsBlamed f (map S.text words.now)) }
+    ensures unread { IfErr result (λ f. status_of f ≡ 2 → Keeps (R.remaining reader.old) (R.remaining reader.new)) }
     ensures most { TakesAtMost (most_bytes + 1) (R.remaining reader.old) (R.remaining reader.new) }
 {
     match command_of(alloc, words) {
@@ -94,8 +96,10 @@ pub fn run_tool<H: AllocGlobal + Threads + Wait, S: AsStr, R: Read, W: Write, E:
     // A 1 means that the text says no program.
     ensures refused { result ≡ 1 → IsRefused (R.remaining reader.old) }
 
-    // A 2 means that there are words, and that clap doesn't take them.
+    // Words are judged first. A 2 means that there are some, and that clap doesn't take them.
+    ensures taken { result < 2 → IsTaken (map S.text words.now) }
     ensures words { result ≡ 2 → IsUnknown (map S.text words.now) }
+    ensures unread { result ≡ 2 → Keeps (R.remaining reader.old) (R.remaining reader.new) }
 
     // Nothing is written under 1, 2 and 3.
     ensures quiet { 0 < result → result < 4 → Keeps (W.contents output.old) (W.contents output.new) }
