@@ -214,7 +214,7 @@ unfoldable pub rest_of : Mnemonic → List (List ℕ) → Result Parts LineFault
 rest_of mnemonic [] = Err BadOperand
 rest_of mnemonic (word ∷ words) =
     if begins is_dot word then
-      (let n = unit_length word in after_unit mnemonic (unit_for mnemonic (unit_named (take n word))) (put_back (drop n word) words))
+    (let n = unit_length word in after_unit mnemonic (unit_for mnemonic (unit_named (take n word))) (put_back (drop n word) words))
     else said_with mnemonic None (word ∷ words)
 
 abbrev pub some_of : Result Parts LineFault → Result (Option Parts) LineFault

@@ -238,7 +238,12 @@ fn three_operands(mnemonic: Mnemonic, first: &[u8], rest: &[u8]) -> Option<Opera
     if first_token(rest).is_some() || !spells(b",", comma) || !spells(b",", other_comma) {
         return None;
     }
-    three_of(mnemonic, Operand::from_word(first), Operand::from_word(second), Operand::from_word(last))
+    three_of(
+        mnemonic,
+        Operand::from_word(first),
+        Operand::from_word(second),
+        Operand::from_word(last),
+    )
 }
 
 fn operands(mnemonic: Mnemonic, first: &[u8], rest: &[u8]) -> Option<Operands>

@@ -1,8 +1,8 @@
 //! What a text says.
 
-ghost use Rattle.std.specs.Prelude.{◌≡◌, ◌<◌, ◌≤◌, ◌+◌, ◌∷◌, [], length, take, drop, MatchOption, IfOk, IfSome, OnOk, IfErr, Ok};
+ghost use Rattle.std.specs.Prelude.{◌≡◌, ◌<◌, ◌≤◌, ◌+◌, ◌∷◌, [], nat_lt, length, take, drop, MatchOption, IfOk, IfSome, OnOk, IfErr, Ok};
 ghost use Rattle.c62_tool.specs.Text.{line_end, lines_of};
-ghost use Rattle.c62_tool.specs.Reading.{Adds, Fails, Gives, Says, before, line_of, most_instructions, program_of, said_after};
+ghost use Rattle.c62_tool.specs.Reading.{Adds, Fails, Gives, Says, before, line_of, most_bytes, most_instructions, program_of, said_after};
 
 use crate::fault::{LineFault, ReadError, Refusal};
 use crate::line::read_line;
@@ -79,12 +79,19 @@ fn add_line(block: &mut Vec<Insn>, number: usize, line: &[u8]) -> Result<(), Rea
     Ok(())
 }
 
+/// Whether a text has more bytes than it may.
+fn is_too_long(text: &[u8]) -> bool
+    ensures { result ≡ nat_lt most_bytes (length text.now) }
+{
+    text.len() > MOST_BYTES
+}
+
 /// The instructions that a text says.
 pub fn read_program(alloc: Global, text: &[u8]) -> Result<Vec<Insn>, ReadError>
     ensures program { Gives result (program_of text.now) }
     ensures few { IfOk result (λ block. length block.items ≤ most_instructions) }
 {
-    if text.len() > MOST_BYTES {
+    if is_too_long(text) {
         return Err(ReadError::Refused(Refusal::TextTooLong));
     }
     let mut block = Vec::new(alloc);

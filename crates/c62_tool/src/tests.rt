@@ -146,7 +146,12 @@ const REFUSED: [(&[u8], &str); 70] = [
 
 /// A line, how often it stands, what follows it, and the answer.
 const REFUSED_TEXTS: [(&[u8], usize, &[u8], &str); 13] = [
-    (b"MVK 1,A1\r\n", 1, b"\n* L:\nFOO\n.x", "line 4: UnknownMnemonic\n"),
+    (
+        b"MVK 1,A1\r\n",
+        1,
+        b"\n* L:\nFOO\n.x",
+        "line 4: UnknownMnemonic\n",
+    ),
     (b"MVK 1,A1\n", 2, b"\r\n;\n .x\r\n", "line 5: Directive\n"),
     (b" ", 255, b"\r\nFOO", "line 2: UnknownMnemonic\n"),
     (b" ", 256, b"\nFOO", "line 1: LineTooLong\n"),
@@ -155,9 +160,19 @@ const REFUSED_TEXTS: [(&[u8], usize, &[u8], &str); 13] = [
     (b" ", 300, b"\x7f", "line 1: NotAscii\n"),
     (b"|", 256, b"", "line 1: LineTooLong\n"),
     (b"MVK 1,A1\n", 257, b"", "line 257: TooManyInstructions\n"),
-    (b"MVK 1,A1\n", 256, b"\n; c\n* c\nADD A1,A2,A3\nFOO", "line 260: TooManyInstructions\n"),
+    (
+        b"MVK 1,A1\n",
+        256,
+        b"\n; c\n* c\nADD A1,A2,A3\nFOO",
+        "line 260: TooManyInstructions\n",
+    ),
     (b"MVK 1,A1\n", 256, b"FOO", "line 257: UnknownMnemonic\n"),
-    (b"MVK 1,A1\n", 256, b"MVK 32768,A1", "line 257: ConstantRange\n"),
+    (
+        b"MVK 1,A1\n",
+        256,
+        b"MVK 32768,A1",
+        "line 257: ConstantRange\n",
+    ),
     (b"\n", 1_048_577, b"", "line 0: TextTooLong\n"),
 ];
 

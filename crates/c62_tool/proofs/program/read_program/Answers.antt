@@ -1,20 +1,22 @@
-use Rattle.std.proofs.Common.{arith, refl, length}
-use Rattle.std.proofs.lemmas.Bool.{lt-ltb, le-ltb}
+use Rattle.std.proofs.Common.{◌≡◌, arith, refl, sym, length, ltb, true, false}
 use Rattle.std.proofs.lemmas.Result.{err_from_is_err_and}
 use Rattle.c62_tool.specs.Text.{lines_of}
-use Rattle.c62_tool.specs.Reading.{line_of, program_of, program_from}
+use Rattle.c62_tool.specs.Reading.{line_of, most_bytes, program_of, program_from}
 use Rattle.c62_tool.proofs.Programs.{few_more, goes_on, stops, is_done}
 use Rattle.c62_tool.proofs.program.read_program.Goals as goal
 
-pub returns-then-text-gt-MOST_BYTES-clause-program : goal.returns-then-text-gt-MOST_BYTES-clause-program
+pub returns-then-is_too_long-clause-program : goal.returns-then-is_too_long-clause-program
 unfolding program_of
-returns-then-text-gt-MOST_BYTES-clause-program c = rw (lt-ltb 1048576 (length c.args.text.now) c.if-text-gt-MOST_BYTES.true) refl
+returns-then-is_too_long-clause-program c =
+    let long : ltb most_bytes (length c.args.text.now) ≡ true = sym c.if-is_too_long.ensures in
+    rw long refl
 
 pub returns-in_err-add_line-clause-program : goal.returns-in_err-add_line-clause-program
 unfolding program_of
 returns-in_err-add_line-clause-program c =
+    let fits : ltb most_bytes (length c.args.text.now) ≡ false = sym c.if-is_too_long.ensures in
     let p = err_from_is_err_and c.from_residual.result c.from_residual.ensures.1 in
-    rw (p.1, p.2, le-ltb 1048576 (length c.args.text.now) c.if-text-gt-MOST_BYTES.false)
+    rw (p.1, p.2, fits)
     (stops c.loop-line.number c.loop-line.block.items (lines_of c.loop-line.rest.now) (program_from 1 0 (lines_of c.args.text.now)) c.loop-line.invariant.so_far
     c.in-Some.line.now (lines_of c.in-Some.after.now) c.in_err-add_line.field-0.0 c.in-Some.ensures.found c.in_err-add_line.ensures.err)
 
@@ -29,5 +31,6 @@ loop-line-preserved c = record {
 pub returns-clause-program : goal.returns-clause-program
 unfolding program_of
 returns-clause-program c =
-    rw (le-ltb 1048576 (length c.args.text.now) c.if-text-gt-MOST_BYTES.false)
+    let fits : ltb most_bytes (length c.args.text.now) ≡ false = sym c.if-is_too_long.ensures in
+    rw fits
     (is_done c.loop-line.number c.loop-line.block.items (lines_of c.loop-line.rest.now) (program_from 1 0 (lines_of c.args.text.now)) c.loop-line.invariant.so_far c.in_default.ensures.found)
