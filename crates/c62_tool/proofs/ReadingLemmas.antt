@@ -1,5 +1,5 @@
 -- What a line without operands says.
-use Rattle.std.proofs.Common.{◌≡◌, List, [], Option, Err, refl}
+use Rattle.std.proofs.Common.{◌≡◌, [], Option, Err, refl}
 use Rattle.c62_tool.specs.declared.fault.LineFault.TheVariants.{BadOperand}
 use Rattle.c62_tool.specs.declared.line.Mnemonic.{Mnemonic}
 use Rattle.c62_tool.specs.declared.line.Mnemonic.TheVariants.{Add, Sub, Mvk}

@@ -1,5 +1,5 @@
 -- What a line says, and what a text says.
-use Rattle.std.specs.Prelude.{◌≡◌, ℕ, ◌+◌, ℤ, Bool, true, false, not, ◌==◌, ◌&&◌, ◌||◌, nat_eq, nat_lt, List, [], ◌∷◌, ◌++◌, length, map, take, drop, Option, Some, None, Result, Ok, Err, codes, if◌then◌else◌}
+use Rattle.std.specs.Prelude.{◌≡◌, ℕ, ◌+◌, ℤ, Bool, true, false, ◌==◌, ◌&&◌, ◌||◌, nat_eq, nat_lt, List, [], ◌∷◌, ◌++◌, length, map, take, drop, Option, Some, None, Result, Ok, Err, codes, if◌then◌else◌}
 use Rattle.std.specs.List.{list_all, list_any, starts_with}
 use Rattle.std.specs.Char.{is_ascii_digit, is_ascii_alphabetic}
 use Rattle.c62_insn.specs.Insn.{op_of, operands_of, cond_of, unit_of}
@@ -8,7 +8,7 @@ use Rattle.c62_insn.specs.Table.{forms_of}
 use Rattle.c62_insn.specs.Takes.{same_letter, same_side}
 use Rattle.c62_insn.specs.declared.insn.Insn.{Insn}
 use Rattle.c62_insn.specs.declared.fault.FormFault.{FormFault}
-use Rattle.c62_insn.specs.declared.fault.FormFault.TheVariants.{NoUnit, ConstantRange, TwoCrossed, BadSide, BadCondition}
+use Rattle.c62_insn.specs.declared.fault.FormFault.TheVariants.{ConstantRange, TwoCrossed, BadSide, BadCondition}
 use Rattle.c62_insn.specs.declared.operands.Op.{Op}
 use Rattle.c62_insn.specs.declared.operands.Op.TheVariants as op
 use Rattle.c62_insn.specs.declared.operands.Operands.{Operands}

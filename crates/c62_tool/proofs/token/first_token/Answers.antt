@@ -1,7 +1,7 @@
-use Rattle.std.proofs.Common.{◌≡◌, ◌<◌, ℕ, false, eqb, List, ap, sym, ◌∙◌, [], arith, length, eqb-true}
+use Rattle.std.proofs.Common.{◌≡◌, ◌<◌, ℕ, false, eqb, ap, sym, ◌∙◌, [], arith, length, eqb-true}
 use Rattle.std.proofs.lemmas.List.{nil_from_length}
 use Rattle.std.proofs.lemmas.Bool.Decides.{nat_tests}
-use Rattle.c62_tool.specs.Text.{tokens, skip_blanks}
+use Rattle.c62_tool.specs.Text.{tokens}
 use Rattle.c62_tool.proofs.Tokens.{tokens-skip_blanks, skipped_solid}
 use Rattle.c62_tool.proofs.token.first_token.Goals as goal
 
