@@ -9,3 +9,11 @@ pub mod Search
 pub mod Room
 pub mod ListingLemmas
 pub mod OneListing
+pub mod Pieces
+pub mod Tokens
+pub mod Numbers
+pub mod ReadingLemmas
+pub mod Lines
+pub mod Programs
+pub mod Known
+pub mod Runs

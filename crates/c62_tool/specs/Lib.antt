@@ -5,3 +5,9 @@ pub mod Latency
 pub mod Packet
 pub mod Early
 pub mod Listing
+pub mod Text
+pub mod Number
+pub mod Reading
+pub mod Packed
+pub mod CommandLine
+pub mod Run

@@ -1,17 +1,56 @@
-//! The program c62.
+//! The program c62: packs a block of instructions into execute packets.
 #![tactic(auto)]
 
+mod command;
 mod depend;
-mod packet;
-mod place;
-mod resource;
+mod failure;
+mod fault;
 #[cfg(test)]
 mod fixtures;
+mod input;
 mod laws;
+mod line;
 mod listing;
+mod number;
+mod pack;
+mod packet;
+mod place;
+mod program;
+mod resource;
 mod spelling;
 mod spot;
+mod token;
+mod tool;
 
-fn main(rt: HostRuntime) {
-    let _ = rt;
+use std::process::ExitCode;
+use std::{env, io};
+use tool::run_tool;
+
+/// The words after the program's name.
+fn words_of(rt: &(impl std::rt::Env + AllocGlobal)) -> io::Result<Vec<String>> {
+    Ok(env::args(rt)?.skip(1).collect(rt.alloc())?)
 }
+
+fn main(rt: HostRuntime) -> ExitCode {
+    let words = match words_of(&rt) {
+        Ok(words) => words,
+        Err(error) if error.kind() == io::ErrorKind::OutOfMemory => {
+            let _ = eprintln!(rt; "memory");
+            return ExitCode::from(3);
+        }
+        Err(_) => {
+            let _ = eprintln!(rt; "error: an argument is not UTF-8");
+            return ExitCode::from(2);
+        }
+    };
+    ExitCode::from(run_tool(
+        &rt,
+        words.as_slice(),
+        &mut rt.stdin(),
+        &mut rt.stdout(),
+        &mut rt.stderr(),
+    ))
+}
+
+#[cfg(test)]
+mod tests;

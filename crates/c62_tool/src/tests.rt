@@ -1,0 +1,315 @@
+//! Runs over streams in memory, and over streams that fail.
+
+use crate::tool::run_tool;
+use std::io;
+use std::io::{Read, Write};
+use std::test::Fail;
+
+/// Gives these bytes in so many reads, and then fails.
+#[derive(Drop)]
+struct Torn<'a> {
+    reads: usize,
+    bytes: &'a [u8],
+}
+
+impl Read for Torn<'_> {
+    fn read(&mut self, buf: &mut [u8]) -> io::Result<usize> {
+        if self.reads == 0 {
+            return Err(io::Error::from(io::ErrorKind::Other));
+        }
+        self.reads -= 1;
+        let most = buf.len().min(1);
+        self.bytes.read(&mut buf[..most])
+    }
+}
+
+/// Gives line feeds for ever.
+#[derive(Drop)]
+struct Endless;
+
+impl Read for Endless {
+    fn read(&mut self, buf: &mut [u8]) -> io::Result<usize> {
+        buf.fill(b'\n');
+        Ok(buf.len())
+    }
+}
+
+/// Takes a byte in each of so many writes, and then fails, or takes nothing more.
+#[derive(Drop)]
+struct Full {
+    writes: usize,
+    fails: bool,
+}
+
+impl Write for Full {
+    fn write(&mut self, buf: &[u8]) -> io::Result<usize> {
+        if self.writes > 0 {
+            self.writes -= 1;
+            Ok(buf.len().min(1))
+        } else if self.fails {
+            Err(io::Error::from(io::ErrorKind::Other))
+        } else {
+            Ok(0)
+        }
+    }
+
+    fn flush(&mut self) -> io::Result<()> {
+        if self.fails && self.writes == 0 {
+            Err(io::Error::from(io::ErrorKind::Other))
+        } else {
+            Ok(())
+        }
+    }
+}
+
+/// Words and a text, and the listing of the text.
+const LISTED: [(&[&str], &[u8], &str); 1] = [(&[], b"", "")];
+
+/// A text of one line, and what is wrong with it.
+const REFUSED: [(&[u8], &str); 70] = [
+    // bytes and length
+    (b"MVK 1,A1\r", "NotAscii"),
+    (b"MVK 1,A1\r\r\n", "NotAscii"),
+    (b"MVK 1,\rA1\n", "NotAscii"),
+    (b"MVK 1,A1 ; \x7f", "NotAscii"),
+    (b"* \x00", "NotAscii"),
+    (b"|| L: .\x80", "NotAscii"),
+    // what stands first
+    (b"|| ADD A1,A2,A3", "ParallelBar"),
+    (b"\t||| L:", "ParallelBar"),
+    (b"| ADD A1,A2,A3", "UnknownMnemonic"),
+    (b"| | ADD A1,A2,A3", "UnknownMnemonic"),
+    (b"L: MVK 1,A1", "BadLabel"),
+    (b"A1: MVK 1,A2", "BadLabel"),
+    (b".text:", "BadLabel"),
+    (b"MVK 1:2,A1", "BadLabel"),
+    (b" .text", "Directive"),
+    (b". x", "Directive"),
+    (b"[A1] MVK 1,A2", "BadOperand"),
+    (b"[A1 MVK 1,A2", "BadOperand"),
+    (b"MPY A1,A2,A3", "UnknownMnemonic"),
+    (b"FOO .L3 A1", "UnknownMnemonic"),
+    (b"MVK5,A1", "UnknownMnemonic"),
+    (b" * x", "UnknownMnemonic"),
+    (b"5 MVK 1,A1", "UnknownMnemonic"),
+    // units
+    (b"MVK .M1 1,A1", "BadUnit"),
+    (b"MVK .L1 1,A1", "BadUnit"),
+    (b"SUB .M1 A1,A2,A3", "BadUnit"),
+    (b"ADD .L3 A1", "BadUnit"),
+    (b"ADD .L A1,A2,A3", "BadUnit"),
+    (b"ADD . L1 A1,A2,A3", "BadUnit"),
+    (b"ADD .X1 A1,A2,A3", "BadUnit"),
+    (b"ADD .D1X A1,A2,A3", "BadUnit"),
+    (b"ADD .D1T1 A1,A2,A3", "BadUnit"),
+    (b"ADD .D1T3 A1,A2,A3", "BadUnit"),
+    (b"ADD .S1T1 A1,A2,A3", "BadUnit"),
+    (b"ADD .L12 A1,A2,A3", "BadOperand"),
+    (b"ADD .L1Y A1,A2,A3", "BadOperand"),
+    (b"ADD .D1T A1,A2,A3", "BadOperand"),
+    (b"MVK .S1", "BadOperand"),
+    // operands
+    (b"MVK", "BadOperand"),
+    (b"ADD A1,A2", "BadOperand"),
+    (b"ADD A1,A2,A3,A4", "BadOperand"),
+    (b"ADD A1 A2,A3", "BadOperand"),
+    (b"ADD A1,A2,5", "BadOperand"),
+    (b"ADD 5,5,A1", "BadOperand"),
+    (b"ADD A1,B1,A2", "BadOperand"),
+    (b"ADD A1,A2,b15", "BadOperand"),
+    (b"MVK A1,A2", "BadOperand"),
+    (b"MVK 1,A1,", "BadOperand"),
+    (b"MVK 1,A16", "BadOperand"),
+    (b"MVK 1,A01", "BadOperand"),
+    (b"MVK - 5,A1", "BadOperand"),
+    (b"MVK ++5,A1", "BadOperand"),
+    (b"MVK 010,A1", "BadOperand"),
+    (b"MVK 0X10,A1", "BadOperand"),
+    (b"MVK 0x,A1", "BadOperand"),
+    (b"MVK 0x123456789,A1", "BadOperand"),
+    (b"MVK 4294967296,A1", "BadOperand"),
+    (b"MVK 12345678901,A1", "BadOperand"),
+    (b"MVK -2147483649,A1", "BadOperand"),
+    (b"MVK -0xffffffff,A1", "BadOperand"),
+    // forms
+    (b"MVK 4294967295,A1", "ConstantRange"),
+    (b"MVK -2147483648,A1", "ConstantRange"),
+    (b"MVK 0xFFFF8000,A1", "ConstantRange"),
+    (b"ADD 40,A2,A3", "ConstantRange"),
+    (b"SUB 20,A2,A3", "ConstantRange"),
+    (b"ADD .L1X 40,A2,A3", "ConstantRange"),
+    (b"ADD .L1X 20,A2,A3", "BadSide"),
+    (b"MVK .S1X 1,A1", "BadSide"),
+    (b"ADD .L2 A1,A2,A3", "BadSide"),
+    (b"SUB .D1 5,A1,A2", "NoUnit"),
+];
+
+/// A line, how often it stands, what follows it, and the answer.
+const REFUSED_TEXTS: [(&[u8], usize, &[u8], &str); 13] = [
+    (
+        b"MVK 1,A1\r\n",
+        1,
+        b"\n* L:\nFOO\n.x",
+        "line 4: UnknownMnemonic\n",
+    ),
+    (b"MVK 1,A1\n", 2, b"\r\n;\n .x\r\n", "line 5: Directive\n"),
+    (b" ", 255, b"\r\nFOO", "line 2: UnknownMnemonic\n"),
+    (b" ", 256, b"\nFOO", "line 1: LineTooLong\n"),
+    (b";", 255, b"FOO", "line 1: LineTooLong\n"),
+    (b"*", 256, b"", "line 1: LineTooLong\n"),
+    (b" ", 300, b"\x7f", "line 1: NotAscii\n"),
+    (b"|", 256, b"", "line 1: LineTooLong\n"),
+    (b"MVK 1,A1\n", 257, b"", "line 257: TooManyInstructions\n"),
+    (
+        b"MVK 1,A1\n",
+        256,
+        b"\n; c\n* c\nADD A1,A2,A3\nFOO",
+        "line 260: TooManyInstructions\n",
+    ),
+    (b"MVK 1,A1\n", 256, b"FOO", "line 257: UnknownMnemonic\n"),
+    (
+        b"MVK 1,A1\n",
+        256,
+        b"MVK 32768,A1",
+        "line 257: ConstantRange\n",
+    ),
+    (b"\n", 1_048_577, b"", "line 0: TextTooLong\n"),
+];
+
+/// Words that are no command line.
+const REFUSED_WORDS: [&[&str]; 17] = [
+    &["--help"],
+    &["-h"],
+    &["help"],
+    &["help", "pack"],
+    &["pack", "--help"],
+    &["--version"],
+    &["--"],
+    &[""],
+    &["--turns"],
+    &["frob"],
+    &["run"],
+    &["--eject", "1"],
+    &["pack", "--eject", "1"],
+    &["pack", "extra"],
+    &["pack", "--turns", "--turns"],
+    &["pack", "--turns=yes"],
+    &["pack", "pack"],
+];
+
+#[test]
+fn listings(rt: HostRuntime) -> Result<(), Fail> {
+    for (words, text, listing) in &LISTED {
+        let mut input = *text;
+        let mut output = Vec::new(rt.alloc());
+        let mut errors = Vec::new(rt.alloc());
+        let status = run_tool(&rt, *words, &mut input, &mut output, &mut errors);
+        assert_eq!(rt; status, 0);
+        assert_eq!(rt; output.as_slice(), listing.as_bytes());
+        assert!(rt; errors.is_empty());
+    }
+    Ok(())
+}
+
+#[test]
+fn refused_lines(rt: HostRuntime) -> Result<(), Fail> {
+    for (text, fault) in &REFUSED {
+        let mut input = *text;
+        let mut output = Vec::new(rt.alloc());
+        let mut errors = Vec::new(rt.alloc());
+        let status = run_tool(&rt, &["pack"], &mut input, &mut output, &mut errors);
+        let expected = format!(in rt.alloc(); "line 1: {fault}\n")?;
+        assert_eq!(rt; errors.as_slice(), expected.as_bytes());
+        assert_eq!(rt; status, 1);
+        assert!(rt; output.is_empty());
+    }
+    Ok(())
+}
+
+#[test]
+fn refused_texts(rt: HostRuntime) -> Result<(), Fail> {
+    for (line, count, rest, expected) in &REFUSED_TEXTS {
+        let mut text = Vec::new(rt.alloc());
+        for _ in 0..*count {
+            text.extend_from_slice(line)?;
+        }
+        text.extend_from_slice(rest)?;
+        let mut input = text.as_slice();
+        let mut output = Vec::new(rt.alloc());
+        let mut errors = Vec::new(rt.alloc());
+        let status = run_tool(&rt, &["pack"], &mut input, &mut output, &mut errors);
+        assert_eq!(rt; errors.as_slice(), expected.as_bytes());
+        assert_eq!(rt; status, 1);
+        assert!(rt; output.is_empty());
+    }
+    Ok(())
+}
+
+/// Words are judged before any input is read, so that this reader isn't asked.
+#[test]
+fn refused_words(rt: HostRuntime) -> Result<(), Fail> {
+    for words in &REFUSED_WORDS {
+        let mut input = Torn {
+            reads: 0,
+            bytes: b"",
+        };
+        let mut output = Vec::new(rt.alloc());
+        let mut errors = Vec::new(rt.alloc());
+        let status = run_tool(&rt, *words, &mut input, &mut output, &mut errors);
+        assert_eq!(rt; status, 2);
+        assert!(rt; output.is_empty());
+        assert_eq!(rt; errors.last().copied(), Some(b'\n'));
+    }
+    Ok(())
+}
+
+#[test]
+fn readers_that_fail(rt: HostRuntime) -> Result<(), Fail> {
+    for reads in 0..12 {
+        let mut input = Torn {
+            reads,
+            bytes: b"FOO\nMVK 5,A1",
+        };
+        let mut output = Vec::new(rt.alloc());
+        let mut errors = Vec::new(rt.alloc());
+        let status = run_tool(&rt, &["pack"], &mut input, &mut output, &mut errors);
+        assert_eq!(rt; status, 4);
+        assert!(rt; output.is_empty());
+        assert_eq!(rt; errors.as_slice(), b"input\n".as_slice());
+    }
+
+    let mut output = Vec::new(rt.alloc());
+    let mut errors = Vec::new(rt.alloc());
+    let status = run_tool(&rt, &["pack"], &mut Endless, &mut output, &mut errors);
+    assert_eq!(rt; status, 1);
+    assert!(rt; output.is_empty());
+    assert_eq!(rt; errors.as_slice(), b"line 0: TextTooLong\n".as_slice());
+    Ok(())
+}
+
+#[test]
+fn writers_that_fail(rt: HostRuntime) -> Result<(), Fail> {
+    let mut input: &[u8] = b"MVK 5,A1\n";
+    let mut errors = Vec::new(rt.alloc());
+    let mut full = Full {
+        writes: 0,
+        fails: true,
+    };
+    let status = run_tool(&rt, &["pack"], &mut input, &mut full, &mut errors);
+    assert_eq!(rt; status, 4);
+    assert_eq!(rt; errors.as_slice(), b"output\n".as_slice());
+
+    // A failure of the error stream changes no status.
+    let rows: [(&[&str], u8); 2] = [(&["pack"], 1), (&["frob"], 2)];
+    for (words, expected) in &rows {
+        let mut input: &[u8] = b"FOO";
+        let mut output = Vec::new(rt.alloc());
+        let mut errors = Full {
+            writes: 3,
+            fails: true,
+        };
+        let status = run_tool(&rt, *words, &mut input, &mut output, &mut errors);
+        assert_eq!(rt; status, *expected);
+    }
+    Ok(())
+}
