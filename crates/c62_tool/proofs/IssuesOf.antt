@@ -1,14 +1,15 @@
 -- What is issued by a block and the spots of its numbers.
-use Rattle.std.proofs.Common.{arith, ◌≡◌, ℕ, zero, suc, ◌+◌, ◌<◌, ◌≤◌, ◌≢◌, List, [], ◌∷◌, length, take, get_or, Option, Some, None, refl, sym, ap, ◌∙◌, inl, inr}
+use Rattle.std.proofs.Common.{arith, ◌≡◌, ℕ, zero, suc, ◌+◌, ◌<◌, ◌≤◌, ◌≢◌, List, [], ◌∷◌, ◌++◌, length, take, map, get_or, Option, Some, None, refl, sym, ap, ◌∙◌, inl, inr}
 use Rattle.std.specs.Prelude.{slice_get, slice_set, slice_index_or, option_map, sum_by}
-use Rattle.std.proofs.lemmas.List.{get_or_default, get_or_past, take_all}
+use Rattle.std.proofs.lemmas.List.{get_or_default, get_or_past, take_all, take_more, map-append}
 use Rattle.std.proofs.lemmas.List.Sums.{sum_by_more}
 use Rattle.std.proofs.lemmas.Option.{same_Some, none-some, slice_get_read, slice_get_cases}
 use Rattle.c62_insn.specs.declared.register.Reg.{Reg}
 use Rattle.c62_insn.specs.declared.insn.Insn.{Insn}
 use Rattle.c62_insn.specs.PacketRules.{Issue, Issues, IsIssued, reads_in}
 use Rattle.c62_tool.specs.declared.spot.Spot.{Spot}
-use Rattle.c62_tool.specs.Spot.{issue_at}
+use Rattle.c62_tool.specs.declared.spot.Issued.{Issued}
+use Rattle.c62_tool.specs.Spot.{issue_at, issue_of}
 use Rattle.c62_tool.specs.Lawful.{Spots, IsAt, spot_at, placed, issues}
 use Rattle.c62_tool.specs.Packet.{reads_at}
 
@@ -82,3 +83,22 @@ pub reads-all : (block : List Insn) (set : Spots) (cycle : ℕ) (reg : Reg) (k c
 reads-all block set cycle reg k count h le e =
     let whole = take_all k (issues block set) (omega (arith, length-issues block set h)) in
     e ∙ ap (sum_by (reads_in cycle reg)) whole
+
+-- a list of what is issued goes on by one number
+pub issued-more : (block : List Insn) (set : Spots) (k : ℕ) (insn : Insn) (s : Spot) (d : Option Spot) (issued : List Issued)
+    → length set ≡ length block → k < length block → insn ≡ get_or block k insn → get_or set k d ≡ Some s
+    → take k (issues block set) ≡ map Some (map issue_of issued)
+    → take (k + 1) (issues block set) ≡ map Some (map issue_of (issued ++ record { insn = insn; spot = s } ∷ []))
+issued-more block set k insn s d issued h lt read is so_far =
+    let at = slice_get_read block (length block) k insn refl lt read in
+    let within : k < length (issues block set) = omega (arith, length-issues block set h) in
+    let here : get_or (issues block set) k None ≡ Some (issue_at insn s) =
+      issue-at block set k insn h at ∙ ap (option_map (issue_at insn)) (sym (get_or_default set k d None (omega (arith, h))) ∙ is) in
+    let new : Issued = record { insn = insn; spot = s } in
+    take_more (issues block set) k None within
+    ∙ ap (λ (xs : Issues). xs ++ get_or (issues block set) k None ∷ []) so_far ∙ ap (λ (o : Option Issue). map Some (map issue_of issued) ++ o ∷ []) here
+    ∙ sym (ap (map Some) (map-append issue_of issued (new ∷ [])) ∙ map-append Some (map issue_of issued) (issue_of new ∷ []))
+
+pub issued-all : (block : List Insn) (set : Spots) (k : ℕ) (issued : List Issued) → length set ≡ length block → length block ≤ k
+    → take k (issues block set) ≡ map Some (map issue_of issued) → issues block set ≡ map Some (map issue_of issued)
+issued-all block set k issued h le e = sym (take_all k (issues block set) (omega (arith, length-issues block set h))) ∙ e

@@ -12,10 +12,10 @@ use Rattle.c62_insn.specs.Takes.{same_reg}
 use Rattle.std.proofs.lemmas.Int.{ints}
 use Rattle.c62_insn.proofs.InsnLemmas.{writes_delay}
 use Rattle.c62_insn.proofs.Registers.{same_reg-is, same_reg-refl}
-use Rattle.c62_insn.specs.Shape.{delay_of, is_load, is_store}
+use Rattle.c62_insn.specs.Shape.{delay_of, is_load, is_store, is_branch}
 use Rattle.c62_insn.specs.Insn.{op_of, register_writes, reads_register}
 use Rattle.c62_insn.specs.Dependence.{IsBound, ReadAfterWrite, WriteAfterRead, WriteAfterWrite, AfterStore, StoreAfterLoad, BeforeBranch, Bounds, Depends, IsLatency}
-use Rattle.c62_tool.specs.Latency.{greater, greatest_by, read_after, write_after_read, write_after, access_after, branch_after, reads_after, writes_after_reads, writes_after, is_branch, latency_of}
+use Rattle.c62_tool.specs.Latency.{greater, greatest_by, read_after, write_after_read, write_after, access_after, branch_after, reads_after, writes_after_reads, writes_after, latency_of}
 use Rattle.c62_tool.proofs.Greatest.{IsGreatest, IsGiven, IsGreatest-is, IsGreatest-same, IsGreatest-greater, IsGreatest-greatest_by, IsGreatest-pairs}
 
 -- a number that is given under a test
@@ -25,10 +25,6 @@ some_under false x y e = cc
 
 under : {A : Type 0} (t : Bool) (x y : A) → t ≡ true → y ≡ x → cond t (Some x) None ≡ Some y
 under t x y h e = rw (h, e) refl
-
-IsBranch-is : (op : Op) → is_branch op ≡ true → op ≡ Branch
-IsBranch-is Branch h = refl
-IsBranch-is _ h = cc
 
 module _ (block : List Insn) (i j : ℕ) (p q : Insn) where
   ByReads : ℤ → Type 0
@@ -92,7 +88,7 @@ module _ (block : List Insn) (i j : ℕ) (p q : Insn) where
       WriteAfterWrite w.0.0 w.0.1 other.1 w.1 (subst (λ (r : Reg). Contains (register_writes q) (r, other.1)) same w.2.1) refl u.1
   from_cases b (inl (inr (inr e))) = from_access b e
   from_cases b (inr e) =
-      let u = some_under (is_branch (op_of q)) (pos (delay_of (op_of p)) -ℤ pos 5) b e in BeforeBranch (IsBranch-is (op_of q) u.0) u.1
+      let u = some_under (is_branch (op_of q)) (pos (delay_of (op_of p)) -ℤ pos 5) b e in BeforeBranch u.0 u.1
 
   by_all : IsGreatest By (latency_of p q)
   unfolding latency_of By ByReads ByWrites

@@ -2,11 +2,9 @@
 use Rattle.std.specs.Int.{int_max}
 use Rattle.std.specs.Prelude.{ℕ, ◌+◌, ℤ, pos, ◌-ℤ◌, Bool, true, false, ◌&&◌, ◌||◌, if◌then◌else◌, List, Option, Some, None, fold}
 use Rattle.c62_insn.specs.declared.register.Reg.{Reg}
-use Rattle.c62_insn.specs.declared.operands.Op.{Op}
-use Rattle.c62_insn.specs.declared.operands.Op.TheVariants.{B as Branch}
 use Rattle.c62_insn.specs.declared.insn.Insn.{Insn}
 use Rattle.c62_insn.specs.Takes.{same_reg}
-use Rattle.c62_insn.specs.Shape.{delay_of, is_load, is_store}
+use Rattle.c62_insn.specs.Shape.{delay_of, is_load, is_store, is_branch}
 use Rattle.c62_insn.specs.Insn.{op_of, register_writes, reads_register}
 
 abbrev pub greater : Option ℤ → Option ℤ → Option ℤ
@@ -35,10 +33,6 @@ access_after p q =
     if is_store (op_of p) && (is_load (op_of q) || is_store (op_of q)) then Some (pos 1)
     else if is_load (op_of p) && is_store (op_of q) then Some (pos 0)
     else None
-
-abbrev pub is_branch : Op → Bool
-is_branch Branch = true
-is_branch _ = false
 
 abbrev pub branch_after : Insn → Insn → Option ℤ
 branch_after p q = if is_branch (op_of q) then Some (pos (delay_of (op_of p)) -ℤ pos 5) else None

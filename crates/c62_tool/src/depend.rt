@@ -5,9 +5,9 @@ ghost use Rattle.std.specs.List.{list_any};
 ghost use Rattle.c62_insn.specs.Takes.{same_reg};
 ghost use Rattle.c62_insn.specs.Insn.{op_of, is_condition_on, reads_register, register_writes};
 ghost use Rattle.c62_insn.specs.Dependence.{IsLatency};
-ghost use Rattle.c62_tool.specs.Latency.{greater, greatest_by, read_after, write_after_read, write_after, access_after, branch_after, reads_after, writes_after_reads, writes_after, is_branch, latency_of};
+ghost use Rattle.c62_tool.specs.Latency.{greater, greatest_by, read_after, write_after_read, write_after, access_after, branch_after, reads_after, writes_after_reads, writes_after, latency_of};
 
-use c62_insn::{Cond, Insn, Op, Reg};
+use c62_insn::{Cond, Insn, Reg};
 
 fn is_among(regs: &[Reg], reg: Reg) -> bool
     ensures { result ≡ list_any (λ read. same_reg read reg) regs.now }
@@ -140,17 +140,11 @@ fn access_after(first: &Insn, second: &Insn) -> Option<i32>
     }
 }
 
-fn is_branch(op: Op) -> bool
-    ensures { result ≡ is_branch op }
-{
-    matches!(op, Op::B)
-}
-
 /// All has landed when a branch takes effect.
 fn branch_after(first: &Insn, second: &Insn) -> Option<i32>
     ensures { result ≡ branch_after first.now second.now }
 {
-    if is_branch(second.op()) {
+    if second.op().is_branch() {
         Some(i32::from(first.delay()) - 5)
     } else {
         None
