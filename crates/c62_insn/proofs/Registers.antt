@@ -1,6 +1,6 @@
 -- The tests of registers and units tell equality.
-use Rattle.std.proofs.Common.{arith, ◌≡◌, ℕ, ◌<◌, Bool, true, refl, ap, ◌∙◌, subst}
-use Rattle.std.specs.Prelude.{◌&&◌, ◌==◌}
+use Rattle.std.proofs.Common.{arith, ◌≡◌, ℕ, ◌<◌, true, refl, ap, ◌∙◌, subst}
+use Rattle.std.specs.Prelude.{◌==◌}
 use Rattle.std.proofs.Math.Bridge.{le_prop}
 use Rattle.std.proofs.lemmas.Bool.{and_parts}
 use Rattle.std.proofs.lemmas.Bool.Decides.{nat_tests}
@@ -41,8 +41,10 @@ reg-is a b e f = subst SameNumber f by_prop b.in_range ∙ ap (λ (side : Side).
   where
     made : (side : Side) (number : ℕ) → number < 16 → Reg
     made side number h = record { side = side; number = number; in_range = h }
+
     SameNumber : ℕ → Type 0
     SameNumber n = (h : n < 16) → made a.side a.number a.in_range ≡ made a.side n h
+
     by_prop : SameNumber a.number
     by_prop h = ap (made a.side a.number) (le_prop a.in_range h)
 

@@ -1,5 +1,5 @@
 -- The order of the eight units.
-use Rattle.std.proofs.Common.{arith, ◌≡◌, ℕ, zero, suc, ◌<◌, List, length, get_or, sym, ap, refl, ◌∙◌}
+use Rattle.std.proofs.Common.{arith, ◌≡◌, ℕ, zero, suc, ◌<◌, get_or, sym, ap, refl, ◌∙◌}
 use Rattle.c62_insn.specs.declared.register.Letter.{Letter}
 use Rattle.c62_insn.specs.declared.register.Letter.TheVariants.{L, S, M, D}
 use Rattle.c62_insn.specs.declared.register.Side.{Side}

@@ -1,16 +1,14 @@
 -- The packet rules, with one more instruction issued.
 use Rattle.std.proofs.Common.{arith, ◌≡◌, ◌≢◌, ℕ, zero, suc, ◌+◌, ◌<◌, ◌≤◌, List, [], ◌∷◌, length, get_or, Option, Some, None, Bool, true, false, refl, sym, ap, ◌∙◌, subst, inl, inr, ◌⊎◌, cond, get_or-set_same, get_or-set_other}
-use Rattle.std.specs.Prelude.{Contains, IsTrue, slice_set, slice_index_or, sum_by, count_by, nat_le, ◌==◌, ◌&&◌, fold}
+use Rattle.std.specs.Prelude.{slice_set, slice_index_or, sum_by, count_by, ◌&&◌}
 use Rattle.std.specs.List.{list_all}
-use Rattle.std.proofs.lemmas.Bool.{cases_eq, and_parts, false≢true}
+use Rattle.std.proofs.lemmas.Bool.{cases_eq, and_parts}
 use Rattle.std.proofs.lemmas.Bool.Decides.{nat_tests}
 use Rattle.std.proofs.lemmas.List.Sums.{sum_by-set, sum_by-cons}
-use Rattle.std.proofs.lemmas.Option.{same_Some, none-some}
+use Rattle.std.proofs.lemmas.Option.{same_Some}
 use Rattle.c62_insn.specs.declared.register.Side.{Side}
 use Rattle.c62_insn.specs.declared.register.Reg.{Reg}
-use Rattle.c62_insn.specs.declared.register.Unit.{Unit as FunctionalUnit}
-use Rattle.c62_insn.specs.declared.insn.Insn.{Insn}
-use Rattle.c62_insn.specs.Takes.{same_reg, same_side, same_unit}
+use Rattle.c62_insn.specs.Takes.{same_reg, same_side}
 use Rattle.c62_insn.specs.Shape.{crosses_to, data_path_of}
 use Rattle.c62_insn.specs.Insn.{operands_of, operand_reads}
 use Rattle.c62_insn.specs.PacketRules.{Issue, Issues, IsIssued, AtMostOne, UsesCrossPath, UsesDataPath, HasFourReads, HasOneLanding, LandsIn, KeepsPacketRules, reads_count, reads_in}
@@ -109,10 +107,12 @@ HasFourReads-added issues i p lt free old left cycle reg =
   where
     changed : (c : ℕ) → sum_by (reads_in c reg) (slice_set issues i (Some p)) + 0 ≡ sum_by (reads_in c reg) issues + reads_in c reg (Some p)
     changed c = ap (λ (o : Option Issue). sum_by (reads_in c reg) (slice_set issues i (Some p)) + reads_in c reg o) (sym free) ∙ sum_by-set (reads_in c reg) issues i (Some p) None lt
+
     elsewhere : (p.cycle ≡ cycle → ⊥) → sum_by (reads_in cycle reg) (slice_set issues i (Some p)) ≤ 4
     elsewhere ne =
         let none : reads_in cycle reg (Some p) ≡ 0 = grind (arith, nat_tests) in
         omega (arith, changed cycle, old cycle reg, none)
+
     in_cycle : sum_by (reads_in p.cycle reg) (slice_set issues i (Some p)) ≤ 4
     in_cycle =
         let own : reads_in p.cycle reg (Some p) ≡ reads_count reg p.insn = grind (arith, nat_tests) in
@@ -120,7 +120,7 @@ HasFourReads-added issues i p lt free old left cycle reg =
           | inl none ↦ omega (arith, changed p.cycle, old p.cycle reg, own, none)
           | inr w ↦
               let fits : sum_by (reads_in p.cycle reg) issues + reads_count reg p.insn ≤ 4 =
-                (let test = all-at (has_read_left issues p.insn p.cycle) reg (operand_reads p.insn) left w.0 w.1 w.2 in grind (arith, nat_tests)) in
+              (let test = all-at (has_read_left issues p.insn p.cycle) reg (operand_reads p.insn) left w.0 w.1 w.2 in grind (arith, nat_tests)) in
               omega (arith, changed p.cycle, own, fits)
         ]
 
@@ -133,8 +133,8 @@ HasFourReads-left issues i p lt free new = all-from (has_read_left issues p.insn
     left reg =
         let own : reads_in p.cycle reg (Some p) ≡ reads_count reg p.insn = grind (arith, nat_tests) in
         let changed =
-          ap (λ (o : Option Issue). sum_by (reads_in p.cycle reg) (slice_set issues i (Some p)) + reads_in p.cycle reg o) (sym free)
-          ∙ sum_by-set (reads_in p.cycle reg) issues i (Some p) None lt in
+        ap (λ (o : Option Issue). sum_by (reads_in p.cycle reg) (slice_set issues i (Some p)) + reads_in p.cycle reg o) (sym free)
+        ∙ sum_by-set (reads_in p.cycle reg) issues i (Some p) None lt in
         let fits : sum_by (reads_in p.cycle reg) issues + reads_count reg p.insn ≤ 4 = omega (arith, changed, own, new p.cycle reg) in
         grind (arith, nat_tests)
 

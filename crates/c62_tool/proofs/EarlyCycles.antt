@@ -1,13 +1,13 @@
 -- The first cycle in which all bounds are kept, as far as a walk has come.
-use Rattle.std.proofs.Common.{arith, ◌≡◌, ℕ, max, ◌+◌, ◌<◌, ◌≤◌, ℤ, pos, ◌≤ℤ◌, ◌+ℤ◌, List, length, get_or, Option, Some, None, inl, inr, sym, subst, ap, ◌∙◌}
+use Rattle.std.proofs.Common.{arith, ◌≡◌, ℕ, max, ◌+◌, ◌<◌, ◌≤◌, ℤ, pos, ◌≤ℤ◌, ◌+ℤ◌, List, length, get_or, Option, Some, None, inl, inr, sym, subst, ◌∙◌}
 use Rattle.std.proofs.lemmas.Bool.{cases_eq}
 use Rattle.std.proofs.lemmas.Int.{ints}
 use Rattle.std.proofs.lemmas.List.{get_or_default}
 use Rattle.std.proofs.lemmas.Option.{same_Some, none-some}
 use Rattle.c62_insn.specs.declared.insn.Insn.{Insn}
-use Rattle.c62_insn.specs.Dependence.{Bounds, Depends, IsGreatestBound}
+use Rattle.c62_insn.specs.Dependence.{Depends, IsGreatestBound}
 use Rattle.c62_tool.specs.declared.spot.Spot.{Spot}
-use Rattle.c62_tool.specs.Lawful.{Spots, IsAt, spot_at}
+use Rattle.c62_tool.specs.Lawful.{Spots}
 use Rattle.c62_tool.specs.Least.{IsEarly}
 use Rattle.c62_tool.specs.Early.{IsAfterOne, IsBoundBy}
 

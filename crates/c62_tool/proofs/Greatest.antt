@@ -1,5 +1,5 @@
 -- The greatest of some bounds.
-use Rattle.std.proofs.Common.{◌≡◌, ℕ, zero, suc, ◌+◌, ◌<◌, ℤ, pos, ◌-ℤ◌, ◌≤ℤ◌, Bool, true, false, List, [], ◌∷◌, length, Option, Some, None, refl, sym, ap, ◌∙◌, subst, arith, inl, inr, ◌⊎◌, cond}
+use Rattle.std.proofs.Common.{◌≡◌, ℕ, zero, suc, ◌<◌, ℤ, ◌≤ℤ◌, Bool, true, false, List, [], ◌∷◌, length, Option, Some, None, refl, sym, ap, ◌∙◌, subst, arith, inl, inr, ◌⊎◌, cond}
 use Rattle.std.specs.Prelude.{Contains, MatchOption, fold, int_lt, slice_index_or}
 use Rattle.std.specs.Int.{int_max}
 use Rattle.std.proofs.lemmas.Int.{ints, clamps}
@@ -93,11 +93,14 @@ IsGreatest-pairs {X} {Y} f vs ws = by_outer (greatest_by inner vs) (IsGreatest-g
   where
     inner : X → Option ℤ
     inner v = greatest_by (f v) ws
+
     given_by : (v : X) (o : Option ℤ) → inner v ≡ o → IsGreatest (IsGiven (f v) ws) o
     given_by v o e = subst (IsGreatest (IsGiven (f v) ws)) e (IsGreatest-greatest_by (f v) ws)
+
     given_below : (v : X) (b : ℤ) (o : Option ℤ) → inner v ≡ o → IsGiven (f v) ws b → (m : ℤ) × (inner v ≡ Some m) × (b ≤ℤ m)
     given_below v b None e w = absurd (given_by v None e b w)
     given_below v b (Some m) e w = (m, e, (given_by v (Some m) e).1 b w)
+
     by_outer : (o : Option ℤ) → IsGreatest (IsGiven inner vs) o → IsGreatest (λ b. (v : X) × Contains vs v × IsGiven (f v) ws b) o
     by_outer None g = λ b w. let below = given_below w.0 b (inner w.0) refl w.2 in g below.0 (w.0, w.1, below.1)
     by_outer (Some m) g = (

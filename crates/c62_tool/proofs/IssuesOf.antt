@@ -1,6 +1,6 @@
 -- What is issued by a block and the spots of its numbers.
-use Rattle.std.proofs.Common.{arith, ◌≡◌, ℕ, zero, suc, ◌+◌, ◌<◌, ◌≤◌, ◌≢◌, List, [], ◌∷◌, ◌++◌, length, take, map, get_or, Option, Some, None, refl, sym, ap, ◌∙◌, inl, inr}
-use Rattle.std.specs.Prelude.{slice_get, slice_set, slice_index_or, option_map, sum_by}
+use Rattle.std.proofs.Common.{arith, ◌≡◌, ℕ, zero, suc, ◌+◌, ◌<◌, ◌≤◌, List, [], ◌∷◌, ◌++◌, length, take, map, get_or, Option, Some, None, refl, sym, ap, ◌∙◌, inl, inr}
+use Rattle.std.specs.Prelude.{slice_get, slice_set, option_map, sum_by}
 use Rattle.std.proofs.lemmas.List.{get_or_default, get_or_past, take_all, take_more, map-append}
 use Rattle.std.proofs.lemmas.List.Sums.{sum_by_more}
 use Rattle.std.proofs.lemmas.Option.{same_Some, none-some, slice_get_read, slice_get_cases}
@@ -93,7 +93,7 @@ issued-more block set k insn s d issued h lt read is so_far =
     let at = slice_get_read block (length block) k insn refl lt read in
     let within : k < length (issues block set) = omega (arith, length-issues block set h) in
     let here : get_or (issues block set) k None ≡ Some (issue_at insn s) =
-      issue-at block set k insn h at ∙ ap (option_map (issue_at insn)) (sym (get_or_default set k d None (omega (arith, h))) ∙ is) in
+    issue-at block set k insn h at ∙ ap (option_map (issue_at insn)) (sym (get_or_default set k d None (omega (arith, h))) ∙ is) in
     let new : Issued = record { insn = insn; spot = s } in
     take_more (issues block set) k None within
     ∙ ap (λ (xs : Issues). xs ++ get_or (issues block set) k None ∷ []) so_far ∙ ap (λ (o : Option Issue). map Some (map issue_of issued) ++ o ∷ []) here

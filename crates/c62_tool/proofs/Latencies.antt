@@ -1,9 +1,7 @@
 -- The latency from one instruction to another is the greatest of the bounds between them.
 use Rattle.std.proofs.lemmas.Option.{same_Some, slice_get_read}
-use Rattle.std.proofs.Common.{length, get_or, rules, arith, ◌≡◌, ℕ, ◌+◌, ◌<◌, ℤ, pos, negsuc, ◌≤◌, ◌-ℤ◌, ◌≤ℤ◌, Bool, true, false, List, Option, Some, None, refl, sym, ap, ◌∙◌, subst, inl, inr, ◌⊎◌, cond}
-use Rattle.std.specs.Prelude.{IfSome, Contains, IsTrue, slice_get, ◌&&◌, ◌||◌, ◌==◌}
-use Rattle.std.proofs.lemmas.Bool.{and_parts}
-use Rattle.std.proofs.lemmas.Bool.Decides.{nat_tests}
+use Rattle.std.proofs.Common.{length, get_or, arith, ◌≡◌, ℕ, ◌+◌, ◌<◌, ℤ, pos, negsuc, ◌≤◌, ◌-ℤ◌, ◌≤ℤ◌, Bool, true, false, List, Option, Some, None, refl, sym, ◌∙◌, subst, inl, inr, ◌⊎◌, cond}
+use Rattle.std.specs.Prelude.{IfSome, Contains, slice_get, ◌&&◌, ◌||◌}
 use Rattle.c62_insn.specs.declared.register.Reg.{Reg}
 use Rattle.c62_insn.specs.declared.operands.Op.{Op}
 use Rattle.c62_insn.specs.declared.operands.Op.TheVariants.{Mpy, Mpyu, Mpyus, Mpysu, Mpyh, Mpyhu, Mpyhl, Mpylh, Ldb, Ldbu, Ldh, Ldhu, Ldw, B as Branch}
@@ -14,8 +12,8 @@ use Rattle.c62_insn.proofs.InsnLemmas.{writes_delay}
 use Rattle.c62_insn.proofs.Registers.{same_reg-is, same_reg-refl}
 use Rattle.c62_insn.specs.Shape.{delay_of, is_load, is_store, is_branch}
 use Rattle.c62_insn.specs.Insn.{op_of, register_writes, reads_register}
-use Rattle.c62_insn.specs.Dependence.{IsBound, ReadAfterWrite, WriteAfterRead, WriteAfterWrite, AfterStore, StoreAfterLoad, BeforeBranch, Bounds, Depends, IsLatency}
-use Rattle.c62_tool.specs.Latency.{greater, greatest_by, read_after, write_after_read, write_after, access_after, branch_after, reads_after, writes_after_reads, writes_after, latency_of}
+use Rattle.c62_insn.specs.Dependence.{IsBound, ReadAfterWrite, WriteAfterRead, WriteAfterWrite, AfterStore, StoreAfterLoad, BeforeBranch, Bounds, IsLatency}
+use Rattle.c62_tool.specs.Latency.{read_after, write_after_read, write_after, access_after, branch_after, latency_of}
 use Rattle.c62_tool.proofs.Greatest.{IsGreatest, IsGiven, IsGreatest-is, IsGreatest-same, IsGreatest-greater, IsGreatest-greatest_by, IsGreatest-pairs}
 
 -- a number that is given under a test
@@ -95,8 +93,8 @@ module _ (block : List Insn) (i j : ℕ) (p q : Insn) where
   by_all =
       IsGreatest-greater _ _ _ _
       (IsGreatest-greater _ _ _ _
-        (IsGreatest-greater _ _ _ _ (IsGreatest-greatest_by (read_after q) (register_writes p)) (IsGreatest-greatest_by (write_after_read p) (register_writes q)))
-        (IsGreatest-greater _ _ _ _ (IsGreatest-pairs write_after (register_writes p) (register_writes q)) (IsGreatest-is (access_after p q))))
+      (IsGreatest-greater _ _ _ _ (IsGreatest-greatest_by (read_after q) (register_writes p)) (IsGreatest-greatest_by (write_after_read p) (register_writes q)))
+      (IsGreatest-greater _ _ _ _ (IsGreatest-pairs write_after (register_writes p) (register_writes q)) (IsGreatest-is (access_after p q))))
       (IsGreatest-is (branch_after p q))
 
   latency_of-greatest : IsGreatest (IsBound block i j p q) (latency_of p q)
@@ -143,6 +141,7 @@ bounds-small block i j b w = of_case w.first w.second w.applies
     delay_of-small Ldw = omega arith
     delay_of-small Branch = omega arith
     delay_of-small _ = omega arith
+
     of_case : (p q : Insn) → IsBound block i j p q b → (negsuc 4 ≤ℤ b) × (b ≤ℤ pos 5)
     of_case p q (ReadAfterWrite reg delay writes reads e) =
         let few : delay ≤ 4 = writes_delay p reg delay writes in (omega (arith, ints), omega (arith, ints))

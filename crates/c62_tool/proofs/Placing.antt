@@ -1,23 +1,21 @@
 -- What adding one triple to a lawful set asks.
-use Rattle.std.proofs.Common.{arith, ◌≡◌, ◌≢◌, ℕ, ◌+◌, ◌*◌, ◌<◌, ◌≤◌, ℤ, pos, ◌-ℤ◌, ◌≤ℤ◌, ◌+ℤ◌, List, length, get_or, Option, Some, None, Bool, true, false, refl, sym, ap, ◌∙◌, subst, inl, inr, ◌⊎◌, get_or-set_same, get_or-set_other, length-set}
-use Rattle.std.specs.Prelude.{Contains, IsTrue, IsSome, slice_get, slice_set, slice_index_or, option_map, ◌&&◌, ◌==◌}
-use Rattle.std.specs.List.{list_all}
+use Rattle.std.proofs.Common.{arith, ◌≡◌, ◌≢◌, ℕ, ◌+◌, ◌*◌, ◌<◌, pos, ◌-ℤ◌, List, length, Option, Some, None, true, refl, sym, ap, ◌∙◌, subst, inl, inr, ◌⊎◌, get_or-set_same, get_or-set_other, length-set}
+use Rattle.std.specs.Prelude.{Contains, IsTrue, IsSome, slice_get, slice_set, slice_index_or, option_map, ◌==◌}
 use Rattle.std.proofs.lemmas.Bool.{cases_eq, cases_lt, false≢true, and_parts}
 use Rattle.std.proofs.lemmas.Bool.Decides.{nat_tests}
 use Rattle.std.proofs.lemmas.Int.{ints}
 use Rattle.std.proofs.lemmas.Option.{same_Some, none-some}
-use Rattle.c62_insn.specs.declared.register.Reg.{Reg}
 use Rattle.c62_insn.specs.declared.insn.Insn.{Insn}
-use Rattle.c62_insn.specs.Insn.{register_writes, operand_reads}
-use Rattle.c62_insn.specs.PacketRules.{Issue, Issues, IsIssued, KeepsPacketRules, LandsIn}
-use Rattle.c62_insn.specs.Dependence.{IsBound, WriteAfterWrite, Bounds, Depends}
+use Rattle.c62_insn.specs.Insn.{register_writes}
+use Rattle.c62_insn.specs.PacketRules.{Issue, KeepsPacketRules}
+use Rattle.c62_insn.specs.Dependence.{WriteAfterWrite, Bounds, Depends}
 use Rattle.c62_tool.specs.declared.resource.Resource.{Resource}
 use Rattle.c62_tool.specs.declared.spot.Spot.{Spot}
 use Rattle.c62_tool.specs.Spot.{issue_at}
-use Rattle.c62_tool.specs.Lawful.{Spots, IsAt, spot_at, placed, issues, may_stand, IsLawful}
+use Rattle.c62_tool.specs.Lawful.{Spots, IsAt, spot_at, placed, issues, IsLawful}
 use Rattle.c62_tool.specs.Least.{IsReady, IsAfter}
-use Rattle.c62_tool.specs.Packet.{uses_on, uses_in, IsUsed, IsFree, Suits, has_read_left}
-use Rattle.c62_tool.proofs.IssuesOf.{IsPlacement, issued-placement, placement-issued, issues-placed, length-issues, issue-at}
+use Rattle.c62_tool.specs.Packet.{uses_on, uses_in, IsFree, Suits}
+use Rattle.c62_tool.proofs.IssuesOf.{issued-placement, placement-issued, issues-placed, length-issues, issue-at}
 use Rattle.c62_tool.proofs.Adding.{Uses, uses-is, is-use, one-each, IsAlone, LandsAlone, rules-added, HasFourReads-left}
 
 pub spot_at-placed_same : (set : Spots) (i : ℕ) (s : Spot) → i < length set → spot_at (placed set i s) i ≡ Some s
@@ -96,14 +94,15 @@ module _ (block : List Insn) (set : Spots) (i : ℕ) (insn : Insn) (s : Spot) (l
       elim (cases_lt k i) [
         | inl lt ↦
             (let bound = after k (pos (lands_q.0 + 1) -ℤ pos lands.0) w.spot
-              (record { first = w.insn; second = insn; is_first = w.is_insn; is_second = at; before = lt; applies = WriteAfterWrite reg lands_q.0 lands.0 writes lands.1 refl refl })
-              w.is_at in
+            (record { first = w.insn; second = insn; is_first = w.is_insn; is_second = at; before = lt; applies = WriteAfterWrite reg lands_q.0 lands.0 writes lands.1 refl refl })
+            w.is_at in
             let own : s.cycle + lands.0 ≡ cycle = lands.2 in
             absurd (omega (arith, ints, bound, own, landing)))
         | inr ge ↦
-            no_dependent k w.spot
-            ((pos (lands.0 + 1) -ℤ pos lands_q.0),
-              record { first = insn; second = w.insn; is_first = at; is_second = w.is_insn; before = omega arith; applies = WriteAfterWrite reg lands.0 lands_q.0 lands.1 writes refl refl })
+            no_dependent k w.spot (
+              (pos (lands.0 + 1) -ℤ pos lands_q.0),
+              record { first = insn; second = w.insn; is_first = at; is_second = w.is_insn; before = omega arith; applies = WriteAfterWrite reg lands.0 lands_q.0 lands.1 writes refl refl },
+            )
             w.is_at
       ]
 
@@ -155,6 +154,6 @@ module _ (block : List Insn) (set : Spots) (i : ℕ) (insn : Insn) (s : Spot) (l
         let there = placement-issued block (placed set i s) used.0 used.1 w.0 new.sized used.2 (spot_at-placed_other set i used.0 s other ∙ w.1) in
         let here = placement-issued block (placed set i s) i insn s new.sized at (spot_at-placed_same set i s in_set) in
         other (one-each (issues block (placed set i s)) new.rules resource used.0 i (issue_at used.1 w.0) (issue_at insn s) there here w.2
-          (uses-is resource (issue_at used.1 w.0) w.3) (uses-is resource (issue_at insn s) uses));
+        (uses-is resource (issue_at used.1 w.0) w.3) (uses-is resource (issue_at insn s) uses));
     reads = HasFourReads-left (issues block set) i (issue_at insn s) in_issues not_issued (subst KeepsPacketRules added new.rules).p4;
   }

@@ -1,28 +1,26 @@
 -- Every instruction finds room: the one of number i by cycle 5 i, when those before it were placed in order.
-use Rattle.std.proofs.Common.{arith, ◌≡◌, ◌≢◌, ℕ, ◌+◌, ◌-◌, ◌*◌, ◌<◌, ◌≤◌, ℤ, pos, ◌≤ℤ◌, ◌+ℤ◌, List, ◌++◌, length, take, get_or, replicate, Option, Some, None, Bool, true, false, inl, inr, ◌⊎◌, sym, ap, subst, refl, ◌∙◌, length-set}
-use Rattle.std.specs.Prelude.{slice_get, slice_set, IsTrue, IsSome, sum_by, nat_le, ◌==◌, ◌&&◌}
-use Rattle.std.specs.List.{list_all, All}
-use Rattle.std.proofs.lemmas.Bool.{cases_lt, cases_eq, false≢true}
+use Rattle.std.proofs.Common.{arith, ◌≡◌, ◌≢◌, ℕ, ◌+◌, ◌-◌, ◌*◌, ◌<◌, ◌≤◌, List, ◌++◌, length, take, get_or, replicate, Option, Some, None, Bool, true, inl, inr, ◌⊎◌, sym, ap, subst, refl, ◌∙◌, length-set}
+use Rattle.std.specs.Prelude.{slice_get, IsTrue, IsSome, sum_by, ◌&&◌}
+use Rattle.std.specs.List.{All}
+use Rattle.std.proofs.lemmas.Bool.{cases_lt, cases_eq}
 use Rattle.std.proofs.lemmas.Bool.Decides.{nat_tests}
 use Rattle.std.proofs.lemmas.Int.{ints}
-use Rattle.std.proofs.lemmas.List.{take-set, take-set-le, get_or_append_left, get_or-append_right, get_or-take, get_or-replicate, get_or_past, length-take, length-replicate, length-append, ext_get_or}
+use Rattle.std.proofs.lemmas.List.{take-set-le, get_or_append_left, get_or-append_right, get_or-take, get_or-replicate, get_or_past, length-take, length-replicate, length-append, ext_get_or}
 use Rattle.std.proofs.lemmas.List.Sums.{sum_by-le}
 use Rattle.std.proofs.lemmas.List.Elements.{All-from_get_or}
-use Rattle.std.proofs.lemmas.Option.{slice_get_read, slice_get_cases, none-some}
+use Rattle.std.proofs.lemmas.Option.{slice_get_cases, none-some}
 use Rattle.c62_insn.specs.declared.register.Reg.{Reg}
 use Rattle.c62_insn.specs.declared.register.Unit.{Unit as FunctionalUnit}
 use Rattle.c62_insn.specs.declared.insn.Insn.{Insn}
-use Rattle.c62_insn.specs.Insn.{op_of, operands_of, unit_of, operand_reads}
-use Rattle.c62_insn.specs.Takes.{takes}
+use Rattle.c62_insn.specs.Insn.{unit_of, operand_reads}
 use Rattle.c62_insn.specs.PacketRules.{Issue, Issues, reads_in, reads_count}
-use Rattle.c62_insn.specs.Dependence.{Bounds, Depends}
 use Rattle.c62_insn.proofs.InsnLemmas.{has_written_unit, reads_count_at_most_three}
 use Rattle.c62_insn.proofs.Registers.{same_unit-refl}
 use Rattle.c62_tool.specs.declared.spot.Spot.{Spot}
 use Rattle.c62_tool.specs.Lawful.{Spots, IsAt, spot_at, placed, issues, is_written, may_stand, IsLawful}
 use Rattle.c62_tool.specs.Least.{IsReady, IsAfter, IsLeast, HasNoSpot, placed_below, IsComplete, IsPlacedInOrder}
-use Rattle.c62_tool.specs.Packet.{uses_on, IsUsed, IsFree, Suits, has_read_left}
-use Rattle.c62_tool.proofs.IssuesOf.{IsPlacement, issued-placement}
+use Rattle.c62_tool.specs.Packet.{Suits, has_read_left}
+use Rattle.c62_tool.proofs.IssuesOf.{issued-placement}
 use Rattle.c62_tool.proofs.Latencies.{bounds-small}
 use Rattle.c62_tool.proofs.Adding.{all-from}
 use Rattle.c62_tool.proofs.Placing.{spot_at-placed_same, spot_at-placed_other, IsAt-placed, spot_in, lawful_from_suits}
@@ -43,6 +41,7 @@ may_stand_there insn = let found = has_written_unit insn in (found.0, both (is_w
   where
     both : (a b : Bool) → a ≡ true → b ≡ true → (a && b) ≡ true
     both a b x y = rw (x, y) refl
+
     written : (o : Option FunctionalUnit) (u : FunctionalUnit) → (o ≡ None) ⊎ (o ≡ Some u) → is_written o u ≡ true
     written o u (inl e) = rw e refl
     written o u (inr e) = rw e (same_unit-refl u)
@@ -55,7 +54,7 @@ none_read cycle reg (Some q) none = elim (cases_eq q.cycle cycle) [ inl e ↦ ab
 nothing_read : (issues : Issues) (cycle : ℕ) (reg : Reg) → ((k : ℕ) (q : Issue) → get_or issues k None ≡ Some q → q.cycle ≡ cycle → ⊥) → sum_by (reads_in cycle reg) issues ≤ 0
 nothing_read issues cycle reg none =
     let each : All (λ o. reads_in cycle reg o ≤ 0) issues =
-      All-from_get_or (λ o. reads_in cycle reg o ≤ 0) issues None (λ k lt. none_read cycle reg (get_or issues k None) (none k)) in
+    All-from_get_or (λ o. reads_in cycle reg o ≤ 0) issues None (λ k lt. none_read cycle reg (get_or issues k None) (none k)) in
     omega (arith, sum_by-le (reads_in cycle reg) 0 issues each)
 
 no_spot : (n k : ℕ) (s : Spot) → get_or (replicate n None) k None ≡ Some s → ⊥
@@ -90,8 +89,10 @@ placed_none block = record {
   where
     set : Spots
     set = replicate (length block) None
+
     none : (k : ℕ) (q : Issue) → get_or (issues block (replicate (length block) None)) k None ≡ Some q → ⊥
     none k q is = (let w = issued-placement block (replicate (length block) None) k q (length-replicate _ _) is in no_spot (length block) k w.spot w.is_at)
+
     nothing : (k : ℕ) → spot_at (replicate (length block) None) k ≡ None
     nothing k = elim (cases_lt k (length block)) [
       | inl lt ↦ get_or-replicate (length block) k None None lt
@@ -138,8 +139,10 @@ same_below set i le above = ext_get_or None (placed_below i set) set lengths at
   where
     front : length (take i set) ≡ i
     front = omega (arith, length-take i set)
+
     lengths : length (take i set ++ replicate (length set - i) None) ≡ length set
     lengths = omega (arith, length-append (take i set) (replicate (length set - i) None), front, length-replicate {A = Option Spot} (length set - i) None)
+
     at : (k : ℕ) → k < length (take i set ++ replicate (length set - i) None) → get_or (take i set ++ replicate (length set - i) None) k None ≡ get_or set k None
     at k lt =
         elim (cases_lt k i) [
@@ -177,6 +180,7 @@ placed_more block set i insn s to in_block at least = record {
   where
     in_set : i < length set
     in_set = omega (arith, to.lawful.sized)
+
     by_room : s.cycle ≤ 5 * i
     by_room = elim (least.first _ (room block set i to in_block insn at)) [ inl lt ↦ omega (arith, lt) | inr w ↦ omega (arith, w.0) ]
 

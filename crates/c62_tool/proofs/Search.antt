@@ -1,7 +1,7 @@
 -- A search through the cycles, and in each through the units.
-use Rattle.std.proofs.Common.{arith, ◌≡◌, ℕ, ◌+◌, ◌*◌, ◌<◌, ◌≤◌, ℤ, pos, ◌≤ℤ◌, ◌+ℤ◌, List, length, get_or, Option, Some, None, Bool, true, false, inl, inr, ◌⊎◌, sym, ap, subst, refl, ◌∙◌}
-use Rattle.std.specs.Prelude.{slice_get, IsTrue}
-use Rattle.std.proofs.lemmas.Bool.{cases_lt, cases_eq, false≢true}
+use Rattle.std.proofs.Common.{arith, ◌≡◌, ℕ, ◌+◌, ◌*◌, ◌<◌, ◌≤◌, List, length, get_or, Some, inl, inr, ◌⊎◌, sym, ap, subst, refl, ◌∙◌}
+use Rattle.std.specs.Prelude.{slice_get}
+use Rattle.std.proofs.lemmas.Bool.{cases_lt, cases_eq}
 use Rattle.std.proofs.lemmas.Int.{ints}
 use Rattle.std.proofs.lemmas.Option.{slice_get_read}
 use Rattle.c62_insn.specs.declared.register.Unit.{Unit as FunctionalUnit}
@@ -10,8 +10,8 @@ use Rattle.c62_insn.specs.Units.{index_of}
 use Rattle.c62_insn.specs.Fault.{all_units}
 use Rattle.c62_insn.proofs.UnitOrder.{same_index, index_of-below, index_of-listed}
 use Rattle.c62_tool.specs.declared.spot.Spot.{Spot}
-use Rattle.c62_tool.specs.Lawful.{Spots, IsAt, spot_at, placed, IsLawful}
-use Rattle.c62_tool.specs.Least.{IsReady, IsAfter, IsEarly, IsLeast, HasNoSpot, Precedes}
+use Rattle.c62_tool.specs.Lawful.{Spots, placed, IsLawful}
+use Rattle.c62_tool.specs.Least.{IsReady, IsAfter, IsEarly, IsLeast, HasNoSpot}
 use Rattle.c62_tool.specs.Packet.{Suits}
 use Rattle.c62_tool.proofs.Placing.{spot_at-placed_same, lawful_from_suits, after_from_lawful, suits_from_lawful}
 

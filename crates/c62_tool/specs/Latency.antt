@@ -1,6 +1,6 @@
 -- The greatest of the bounds from one instruction to another, case by case.
 use Rattle.std.specs.Int.{int_max}
-use Rattle.std.specs.Prelude.{ℕ, ◌+◌, ℤ, pos, ◌-ℤ◌, Bool, true, false, ◌&&◌, ◌||◌, if◌then◌else◌, List, Option, Some, None, fold}
+use Rattle.std.specs.Prelude.{ℕ, ◌+◌, ℤ, pos, ◌-ℤ◌, ◌&&◌, ◌||◌, if◌then◌else◌, List, Option, Some, None, fold}
 use Rattle.c62_insn.specs.declared.register.Reg.{Reg}
 use Rattle.c62_insn.specs.declared.insn.Insn.{Insn}
 use Rattle.c62_insn.specs.Takes.{same_reg}

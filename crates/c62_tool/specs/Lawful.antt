@@ -1,5 +1,5 @@
 -- Sets of placements, and which are lawful (docs/SCHEDULING.md, "Lawful").
-use Rattle.std.specs.Prelude.{◌≡◌, ℕ, ◌+◌, ◌-◌, ◌*◌, ◌<◌, ℤ, pos, ◌≤ℤ◌, ◌+ℤ◌, Bool, true, ◌&&◌, ◌==◌, List, [], ◌∷◌, ◌++◌, length, take, Option, Some, None, option_map, slice_index_or, slice_get, slice_set, replicate, IsTrue, IsSome}
+use Rattle.std.specs.Prelude.{◌≡◌, ℕ, ◌*◌, ◌<◌, ℤ, pos, ◌≤ℤ◌, ◌+ℤ◌, Bool, true, ◌&&◌, List, [], ◌∷◌, length, Option, Some, None, option_map, slice_index_or, slice_get, slice_set, replicate, IsTrue, IsSome}
 use Rattle.c62_insn.specs.declared.insn.Insn.{Insn}
 use Rattle.c62_insn.specs.declared.register.Unit.{Unit as FunctionalUnit}
 use Rattle.c62_insn.specs.Takes.{same_unit, takes}

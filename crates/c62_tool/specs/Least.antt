@@ -1,5 +1,5 @@
 -- The least spot of an instruction, and a block placed in order (docs/SCHEDULING.md, "Least spot").
-use Rattle.std.specs.Prelude.{◌≡◌, ℕ, ◌+◌, ◌-◌, ◌<◌, ◌≤◌, ◌⊎◌, ℤ, pos, ◌≤ℤ◌, ◌+ℤ◌, List, ◌++◌, length, take, None, replicate, IsSome}
+use Rattle.std.specs.Prelude.{◌≡◌, ℕ, ◌-◌, ◌<◌, ◌≤◌, ◌⊎◌, ℤ, pos, ◌≤ℤ◌, ◌+ℤ◌, List, ◌++◌, length, take, None, replicate, IsSome}
 use Rattle.c62_insn.specs.declared.insn.Insn.{Insn}
 use Rattle.c62_insn.specs.Units.{index_of}
 use Rattle.c62_insn.specs.Dependence.{Bounds, Depends}

@@ -1,5 +1,5 @@
 -- What the placed instructions of a block use in a cycle.
-use Rattle.std.specs.Prelude.{◌≡◌, ℕ, ◌+◌, Bool, true, false, ◌&&◌, ◌==◌, nat_le, List, Option, Some, None, slice_get, sum_by, IsTrue, if◌then◌else◌}
+use Rattle.std.specs.Prelude.{◌≡◌, ℕ, ◌+◌, Bool, false, ◌&&◌, ◌==◌, nat_le, List, Option, Some, None, slice_get, sum_by, IsTrue, if◌then◌else◌}
 use Rattle.c62_insn.specs.declared.register.Side.{Side}
 use Rattle.c62_insn.specs.declared.register.Reg.{Reg}
 use Rattle.c62_insn.specs.declared.register.Unit.{Unit as FunctionalUnit}

@@ -76,11 +76,7 @@ fn count_own(insn: &Insn, reg: Reg) -> usize
     ensures few { result ≤ 3 }
 {
     let reads = insn.reads();
-    reads
-        .as_slice()
-        .iter()
-        .filter(|read| **read == reg)
-        .count()
+    reads.as_slice().iter().filter(|read| **read == reg).count()
 }
 
 /// The same of one that is placed so, or not at all, in a cycle.
@@ -109,13 +105,7 @@ fn count_reads(block: &[Insn], spots: &[Option<Spot>], cycle: u16, reg: Reg) -> 
 }
 
 /// Whether a register can be read in a cycle as often as an instruction does.
-fn has_read_left(
-    block: &[Insn],
-    spots: &[Option<Spot>],
-    insn: &Insn,
-    cycle: u16,
-    reg: Reg,
-) -> bool
+fn has_read_left(block: &[Insn], spots: &[Option<Spot>], insn: &Insn, cycle: u16, reg: Reg) -> bool
     requires sized { length spots.now ≡ length block.now }
     requires few { length block.now ≤ 256 }
     ensures { result ≡ has_read_left (issues block.now spots.now) insn.now cycle reg }
@@ -144,7 +134,13 @@ fn is_free(block: &[Insn], spots: &[Option<Spot>], insn: &Insn, spot: Spot) -> b
     if clashes(block, spots, insn, spot, Resource::OnUnit(spot.unit)) {
         return false;
     }
-    if clashes(block, spots, insn, spot, Resource::CrossPath(spot.unit.side)) {
+    if clashes(
+        block,
+        spots,
+        insn,
+        spot,
+        Resource::CrossPath(spot.unit.side),
+    ) {
         return false;
     }
     if clashes(block, spots, insn, spot, Resource::DataPath(Side::A)) {

@@ -1,4 +1,4 @@
-use Rattle.std.proofs.Common.{◌≡◌, ◌+◌, ◌∙◌, ap, sym, arith, ℕ, List, ℤ, Option, None, take, get_or}
+use Rattle.std.proofs.Common.{◌∙◌, ap, sym, arith, ℕ, ℤ, Option, None, take}
 use Rattle.std.specs.Prelude.{fold}
 use Rattle.std.proofs.lemmas.List.Sums.{fold_more}
 use Rattle.c62_insn.specs.declared.register.Reg.{Reg}

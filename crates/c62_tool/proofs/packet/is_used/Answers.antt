@@ -1,4 +1,4 @@
-use Rattle.std.proofs.Common.{arith, refl}
+use Rattle.std.proofs.Common.{refl}
 use Rattle.c62_tool.proofs.Used.{used-here, unused-more}
 use Rattle.c62_tool.proofs.packet.is_used.Goals as goal
 

@@ -1,4 +1,3 @@
-use Rattle.c62_tool.proofs.Adding.{uses-is}
 use Rattle.c62_tool.proofs.EarlyCycles.{IsEarlyBelow}
 use Rattle.c62_tool.proofs.place.early.Given as goal
 

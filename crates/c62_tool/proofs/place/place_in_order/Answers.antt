@@ -1,5 +1,5 @@
-use Rattle.std.proofs.Common.{rules, arith, ◌≡◌, length, replicate, None, refl}
-use Rattle.c62_tool.proofs.Room.{placed_none, placed_next, no_spot_left, complete}
+use Rattle.std.proofs.Common.{rules, ◌≡◌, length, replicate, None}
+use Rattle.c62_tool.proofs.Room.{placed_none, placed_next, no_spot_left}
 use Rattle.c62_tool.proofs.place.place_in_order.Goals as goal
 
 pub loop-i-init : goal.loop-i-init
