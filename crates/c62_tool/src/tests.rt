@@ -63,7 +63,51 @@ impl Write for Full {
 }
 
 /// Words and a text, and the listing of the text.
-const LISTED: [(&[&str], &[u8], &str); 1] = [(&[], b"", "")];
+const LISTED: [(&[&str], &[u8], &str); 9] = [
+    (&[], b"", ""),
+    (&["pack"], b"\n; nothing\n* nothing\r\n", ""),
+    (
+        &[],
+        b"MVK 5,A1\nMVK 7,A2\nADD A1,A2,A3",
+        "   MVK .S1 5,A1\n   MVK .S1 7,A2\n   ADD .L1 A1,A2,A3\n",
+    ),
+    // the constant of ADD: the units whose range holds it
+    (
+        &["pack", "--turns"],
+        b"ADD 20,A2,A3\nadd a2 , -16 , a4\nADD .s1 A2,15,A5",
+        "   ADD .L1 -16,A2,A4\n|| ADD .S1 15,A2,A5\n|| ADD .D1 A2,20,A3\n",
+    ),
+    // a later number in an earlier cycle
+    (
+        &["pack"],
+        b"MVK 1,A1\nADD A1,A1,A2\nSUB A2,A1,A1\nADD A3,A4,A5",
+        "   ADD .L1 A3,A4,A5\n|| MVK .S1 1,A1\n   ADD .L1 A1,A1,A2\n   SUB .L1 A2,A1,A1\n",
+    ),
+    // a fifth read of A1
+    (
+        &["pack"],
+        b"ADD A1,A1,A2\nADD A1,A1,A3\nADD A1,A4,A5",
+        "   ADD .L1 A1,A1,A2\n|| ADD .S1 A1,A1,A3\n   ADD .L1 A1,A4,A5\n",
+    ),
+    // each unit once, and the written one alone
+    (
+        &["pack"],
+        b"ADD A1,A2,A3\nSUB A1,A2,A4\nADD A5,A6,A7\nSUB .L1 A8,A9,A10",
+        "   ADD .L1 A1,A2,A3\n|| SUB .S1 A1,A2,A4\n|| ADD .D1 A5,A6,A7\n   SUB .L1 A8,A9,A10\n",
+    ),
+    // the two constant places of SUB
+    (
+        &["pack"],
+        b"SUB 3,A1,A2\nSUB A3,16,A4\nSUB A5,31,A6",
+        "   SUB .L1 3,A1,A2\n|| SUB .S1 A3,16,A4\n|| SUB .D1 A5,31,A6\n",
+    ),
+    // a unit's token ends where its grammar ends
+    (
+        &["pack"],
+        b"\tmvk.S15,A1;c\r\nMVK-5,a2\r\n",
+        "   MVK .S1 5,A1\n   MVK .S1 -5,A2\n",
+    ),
+];
 
 /// A text of one line, and what is wrong with it.
 const REFUSED: [(&[u8], &str); 70] = [
@@ -208,6 +252,24 @@ fn listings(rt: HostRuntime) -> Result<(), Fail> {
         assert_eq!(rt; output.as_slice(), listing.as_bytes());
         assert!(rt; errors.is_empty());
     }
+    Ok(())
+}
+
+/// As many instructions as a block may have.
+#[test]
+fn a_full_block(rt: HostRuntime) -> Result<(), Fail> {
+    let mut text = Vec::new(rt.alloc());
+    let mut listing = Vec::new(rt.alloc());
+    for _ in 0..256 {
+        text.extend_from_slice(b"MVK 1,A1\n")?;
+        listing.extend_from_slice(b"   MVK .S1 1,A1\n")?;
+    }
+    let mut input = text.as_slice();
+    let mut output = Vec::new(rt.alloc());
+    let mut errors = Vec::new(rt.alloc());
+    let status = run_tool(&rt, &["pack"], &mut input, &mut output, &mut errors);
+    assert_eq!(rt; status, 0);
+    assert_eq!(rt; output.as_slice(), listing.as_slice());
     Ok(())
 }
 
