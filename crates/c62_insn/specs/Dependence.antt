@@ -1,9 +1,8 @@
 -- How far two instructions of a block must stand apart (docs/MACHINE.md, "Dependences"; SPRU189, "Delay Slots").
 use Rattle.std.specs.Prelude.{◌≡◌, ℕ, ◌+◌, ◌<◌, ◌⊎◌, ℤ, pos, ◌-ℤ◌, ◌≤ℤ◌, Bool, false, List, Contains, Option, Some, MatchOption, slice_get, IsTrue}
 use Rattle.c62_insn.specs.declared.register.Reg.{Reg}
-use Rattle.c62_insn.specs.declared.operands.Op.TheVariants.{B as Branch}
 use Rattle.c62_insn.specs.declared.insn.Insn.{Insn}
-use Rattle.c62_insn.specs.Shape.{delay_of, is_load, is_store}
+use Rattle.c62_insn.specs.Shape.{delay_of, is_load, is_store, is_branch}
 use Rattle.c62_insn.specs.Insn.{op_of, register_writes, reads_register}
 
 -- whether of two writers of one register at most one can run, so that they need no order: never
@@ -33,7 +32,7 @@ pub data IsBound (block : List Insn) (i j : ℕ) (p q : Insn) (bound : ℤ) : Ty
   StoreAfterLoad : IsTrue (is_load (op_of p)) → IsTrue (is_store (op_of q)) → are_disjoint block i j ≡ false → bound ≡ pos 0
       → IsBound block i j p q bound
   -- all has landed when a branch takes effect, six cycles after its issue
-  BeforeBranch : op_of q ≡ Branch → bound ≡ pos (delay_of (op_of p)) -ℤ pos 5
+  BeforeBranch : IsTrue (is_branch (op_of q)) → bound ≡ pos (delay_of (op_of p)) -ℤ pos 5
       → IsBound block i j p q bound
 
 -- what the cycle of number j must at least exceed that of number i by

@@ -1,11 +1,12 @@
--- What an instruction does, from the values of its condition and of its reads.
-use Rattle.std.specs.Prelude.{ℕ, ◌+◌, ◌-◌, ◌*◌, ◌/◌, ◌%◌, ◌^◌, min, ℤ, pos, ◌*ℤ◌, int_lt, unsigned_abs, bit_and, bit_or, bit_xor, nat_lt, Bool, true, false, not, ◌==◌, if◌then◌else◌, List, [], ◌∷◌, ◌++◌, Option, Some, None, slice_index}
+-- What an instruction does, from the values of its condition and of its reads (docs/MACHINE.md, "Instruction table",
+-- "Addresses" and "Conditions"; SPRU189, "Individual Instruction Descriptions").
+use Rattle.std.specs.Prelude.{ℕ, ◌+◌, ◌-◌, ◌*◌, ◌/◌, ◌%◌, ◌^◌, min, pos, ◌*ℤ◌, int_lt, unsigned_abs, bit_and, bit_or, bit_xor, nat_lt, Bool, true, not, ◌==◌, if◌then◌else◌, List, [], ◌∷◌, Option, Some, None, slice_index}
 use Rattle.std.specs.Int.{cast_signed, w8}
 use Rattle.c62_insn.specs.declared.register.Cond.{Cond as Condition}
 use Rattle.c62_insn.specs.declared.operands.Op.{Op}
-use Rattle.c62_insn.specs.declared.operands.Op.TheVariants.{Add, Sub, And, Or, Xor, Cmpeq, Cmpgt, Cmplt, Cmpgtu, Cmpltu, Abs, Shl, Shr, Shru, Ext, Extu, Add2, Sub2, Mvk, Mvklh, Addk, Mpy, Mpyu, Mpyus, Mpysu, Mpyh, Mpyhu, Mpyhl, Mpylh, Addab, Addah, Addaw, Ldb, Ldbu, Ldh, Ldhu, Ldw, Stb, Sth, Stw}
+use Rattle.c62_insn.specs.declared.operands.Op.TheVariants.{Add, Sub, And, Or, Xor, Cmpeq, Cmpgt, Cmplt, Cmpgtu, Cmpltu, Abs, Shl, Shr, Shru, Extu, Add2, Sub2, Mvk, Mvklh, Addk, Mpy, Mpyu, Mpyus, Mpysu, Mpyh, Mpyhu, Mpyhl, Mpylh, Addab, Addah, Addaw, Ldb, Ldbu, Ldh, Ldhu, Stb, Sth}
 use Rattle.c62_insn.specs.declared.operands.AddressForm.{AddressForm}
-use Rattle.c62_insn.specs.declared.operands.AddressForm.TheVariants.{Plus, Minus, PreIncrement, PreDecrement, PostIncrement, PostDecrement}
+use Rattle.c62_insn.specs.declared.operands.AddressForm.TheVariants.{Plus, PreIncrement, PostIncrement, PostDecrement}
 use Rattle.c62_insn.specs.declared.operands.Offset.{Offset}
 use Rattle.c62_insn.specs.declared.operands.Offset.TheVariants.{Constant as ByConstant, Register as ByRegister}
 use Rattle.c62_insn.specs.declared.operands.Operands.{Operands}
@@ -50,7 +51,7 @@ result_of Addah a b = (a + b * 2) % 2 ^ 32
 result_of Addaw a b = (a + b * 4) % 2 ^ 32
 result_of _ _ _ = 0
 
--- left by k, then right by m
+-- the result of EXT and EXTU: left by k, then right by m, with the sign for EXT
 abbrev pub field_of : Op → ℕ → ℕ → ℕ → ℕ
 field_of Extu a k m = shifted_left a k / 2 ^ m
 field_of _ a k m = shifted_right (shifted_left a k) m
@@ -65,7 +66,7 @@ size_of Ldhu = 2
 size_of Sth = 2
 size_of _ = 4
 
--- whether it runs, its condition's register having this value
+-- whether it runs, its condition's register having this value (SPRU189, "Conditional Operations")
 abbrev pub runs_of : Option Condition → Option ℕ → Bool
 runs_of (Some cond) (Some value) = if cond.negated then value == 0 else not (value == 0)
 runs_of _ _ = true
@@ -75,7 +76,7 @@ abbrev pub offset_value : Offset → ℕ → ℕ
 offset_value (ByConstant k) _ = word k
 offset_value (ByRegister _) value = value
 
--- the base moved by a distance
+-- the base moved by a distance (SPRU189, "Addressing Modes")
 abbrev pub moved : AddressForm → ℕ → ℕ → ℕ
 moved Plus base distance = sum base distance
 moved PreIncrement base distance = sum base distance
@@ -92,6 +93,7 @@ address_of _ base after = after
 abbrev pub base_place : Op → ℕ
 base_place op = if is_store op then 1 else 0
 
+-- the base moved by the offset times the size
 abbrev pub base_after : Op → AddressForm → Offset → List ℕ → ℕ
 base_after op form offset reads =
     moved form (slice_index reads (base_place op)) ((offset_value offset (slice_index reads (base_place op + 1)) * size_of op) % 2 ^ 32)
@@ -115,11 +117,13 @@ low_bytes_of op v = v % 2 ^ (8 * size_of op)
 abbrev pub stored : Op → List ℕ → Option ℕ
 stored op reads = if is_store op then Some (low_bytes_of op (slice_index reads 0)) else None
 
+-- the access of a load or store
 abbrev pub access_of : Op → Operands → List ℕ → Option MemoryAccess
 access_of op (Access _ _ form offset) reads =
     Some (record { address = address_of form (slice_index reads (base_place op)) (base_after op form offset reads); size = size_of op; value = stored op reads })
 access_of op _ reads = None
 
+-- where a branch goes
 abbrev pub target_of : Operands → List ℕ → Option Target
 target_of (Block number) reads = Some (ToBlock number)
 target_of (Register _) reads = Some (ToRegister (slice_index reads 0))

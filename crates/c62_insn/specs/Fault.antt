@@ -1,4 +1,5 @@
--- Why an operation, operands, condition and written unit make no instruction: five tests in their order.
+-- Why an operation, operands, condition and written unit make no instruction: five tests in their order (docs/MACHINE.md,
+-- "Form faults"). The order is this project's own.
 use Rattle.std.specs.Prelude.{ℕ, Bool, true, false, ◌&&◌, ◌||◌, not, ◌==◌, nat_lt, if◌then◌else◌, List, [], ◌∷◌, Option, Some, None}
 use Rattle.std.specs.List.{list_any}
 use Rattle.c62_insn.specs.declared.register.Side.{Side}
@@ -8,16 +9,16 @@ use Rattle.c62_insn.specs.declared.register.Reg.{Reg}
 use Rattle.c62_insn.specs.declared.register.Cond.{Cond as Condition}
 use Rattle.c62_insn.specs.declared.register.Unit.{Unit as FunctionalUnit}
 use Rattle.c62_insn.specs.declared.operands.Op.{Op}
-use Rattle.c62_insn.specs.declared.operands.Op.TheVariants.{Shl, Shr, Shru, Ext, Extu, Sub2, Addab, Addah, Addaw, Ldb, Ldbu, Ldh, Ldhu, Ldw, Stb, Sth, Stw, B as Branch}
-use Rattle.c62_insn.specs.declared.operands.Offset.TheVariants.{Constant as ByConstant, Register as ByRegister}
+use Rattle.c62_insn.specs.declared.operands.Op.TheVariants.{Shl, Shr, Shru, Ext, Extu, Sub2, Addab, Addah, Addaw}
 use Rattle.c62_insn.specs.declared.operands.Operands.{Operands}
 use Rattle.c62_insn.specs.declared.operands.Operands.TheVariants.{Three, ConstantFirst, ConstantSecond, Two, Field, Constant, Access, Block, Register}
 use Rattle.c62_insn.specs.declared.fault.FormFault.{FormFault}
 use Rattle.c62_insn.specs.declared.fault.FormFault.TheVariants.{NoUnit, ConstantRange, TwoCrossed, BadSide, BadCondition}
 use Rattle.c62_insn.specs.Table.{forms_of}
 use Rattle.c62_insn.specs.Takes.{same_side, same_kind, holds_constants, offset_on, takes}
+use Rattle.c62_insn.specs.Shape.{is_load, is_store, is_branch}
 
--- A1, A2, B0, B1 and B2 may be a condition
+-- A1, A2, B0, B1 and B2 may be a condition (SPRU189, "Conditional Operations")
 abbrev pub may_condition : Side → ℕ → Bool
 may_condition A number = number == 1 || number == 2
 may_condition B number = nat_lt number 3
@@ -40,21 +41,7 @@ constant_out_of_range op operands = has_kind op operands && not (in_some_range o
 
 -- a load, a store or a branch
 abbrev pub is_transfer : Op → Bool
-is_transfer Ldb = true
-is_transfer Ldbu = true
-is_transfer Ldh = true
-is_transfer Ldhu = true
-is_transfer Ldw = true
-is_transfer Stb = true
-is_transfer Sth = true
-is_transfer Stw = true
-is_transfer Branch = true
-is_transfer _ = false
-
--- two sources, both on the side other than the destination's
-abbrev pub two_crossed : Op → Operands → Bool
-two_crossed op (Three a b d) = not (is_transfer op) && not (same_side a.side d.side) && not (same_side b.side d.side)
-two_crossed op _ = false
+is_transfer op = is_load op || is_store op || is_branch op
 
 -- the side of an instruction, where its operands decide it
 abbrev pub side_of : Operands → Option Side
@@ -68,6 +55,29 @@ side_of (Access _ base _ _) = Some base.side
 side_of (Block _) = None
 side_of (Register _) = Some B
 
+-- the register in the place of the first source, and of the second
+abbrev pub first_source : Operands → Option Reg
+first_source (Three a _ _) = Some a
+first_source (ConstantSecond a _ _) = Some a
+first_source (Two a _) = Some a
+first_source (Field a _ _ _) = Some a
+first_source _ = None
+
+abbrev pub second_source : Operands → Option Reg
+second_source (Three _ b _) = Some b
+second_source (ConstantFirst _ a _) = Some a
+second_source _ = None
+
+-- whether there is such a register, on the other side than the instruction
+abbrev pub lies_across : Option Side → Option Reg → Bool
+lies_across (Some side) (Some reg) = not (same_side reg.side side)
+lies_across _ _ = false
+
+-- two sources, both on the side other than the destination's
+abbrev pub two_crossed : Op → Operands → Bool
+two_crossed op operands =
+    not (is_transfer op) && lies_across (side_of operands) (first_source operands) && lies_across (side_of operands) (second_source operands)
+
 -- operations whose first source no form lets cross
 abbrev pub is_first_fixed : Op → Bool
 is_first_fixed Ext = true
@@ -78,7 +88,7 @@ is_first_fixed Addah = true
 is_first_fixed Addaw = true
 is_first_fixed _ = false
 
--- operations whose second source no form lets cross
+-- operations whose second source no form lets cross: the count of a shift, and a source of ADDAB, ADDAH and ADDAW
 abbrev pub is_second_fixed : Op → Bool
 is_second_fixed Shl = true
 is_second_fixed Shr = true
@@ -88,16 +98,15 @@ is_second_fixed Addah = true
 is_second_fixed Addaw = true
 is_second_fixed _ = false
 
--- whether such a source, an offset register or a branch register lies on the other side
+-- whether such a source lies across, an offset register on the other side than its base, or a branch register in file A
 abbrev pub strays : Op → Operands → Bool
-strays op (Three a b d) =
-    (is_first_fixed op && not (same_side a.side d.side)) || (is_second_fixed op && not (same_side b.side d.side))
-strays op (ConstantSecond a _ d) = is_first_fixed op && not (same_side a.side d.side)
-strays op (Field a _ _ d) = is_first_fixed op && not (same_side a.side d.side)
-strays op (Access _ base _ offset) = is_transfer op && not (offset_on base.side offset)
-strays op (Register target) = is_transfer op && same_side target.side A
-strays _ _ = false
+strays op (Access _ base _ offset) = not (offset_on base.side offset)
+strays op (Register target) = same_side target.side A
+strays op operands =
+    (is_first_fixed op && lies_across (side_of operands) (first_source operands))
+    || (is_second_fixed op && lies_across (side_of operands) (second_source operands))
 
+-- the written unit lies on the other side than the instruction
 abbrev pub is_other_side : Option Side → Option FunctionalUnit → Bool
 is_other_side (Some side) (Some unit) = not (same_side unit.side side)
 is_other_side _ _ = false

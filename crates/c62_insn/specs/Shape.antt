@@ -1,18 +1,19 @@
--- What an instruction reads and writes, and when, from its operation and operands.
+-- What an instruction reads and writes, and when, from its operation and operands (docs/MACHINE.md, "Reads and writes",
+-- "Cycles and delays", "Cross paths" and "Data paths").
 use Rattle.std.specs.Prelude.{ℕ, Bool, true, false, ◌||◌, not, if◌then◌else◌, List, [], ◌∷◌, ◌++◌, Option, Some, None}
 use Rattle.c62_insn.specs.declared.register.Side.{Side}
 use Rattle.c62_insn.specs.declared.register.Reg.{Reg}
 use Rattle.c62_insn.specs.declared.operands.Op.{Op}
 use Rattle.c62_insn.specs.declared.operands.Op.TheVariants.{Mvklh, Addk, Mpy, Mpyu, Mpyus, Mpysu, Mpyh, Mpyhu, Mpyhl, Mpylh, Ldb, Ldbu, Ldh, Ldhu, Ldw, Stb, Sth, Stw, B as Branch}
 use Rattle.c62_insn.specs.declared.operands.AddressForm.{AddressForm}
-use Rattle.c62_insn.specs.declared.operands.AddressForm.TheVariants.{Plus, Minus, PreIncrement, PreDecrement, PostIncrement, PostDecrement}
+use Rattle.c62_insn.specs.declared.operands.AddressForm.TheVariants.{Plus, Minus}
 use Rattle.c62_insn.specs.declared.operands.Offset.{Offset}
 use Rattle.c62_insn.specs.declared.operands.Offset.TheVariants.{Constant as ByConstant, Register as ByRegister}
 use Rattle.c62_insn.specs.declared.operands.Operands.{Operands}
 use Rattle.c62_insn.specs.declared.operands.Operands.TheVariants.{Three, ConstantFirst, ConstantSecond, Two, Field, Constant, Access, Block, Register}
 use Rattle.c62_insn.specs.Takes.{same_side}
 
--- the delay slots of an operation's result
+-- the delay slots of an operation's result (SPRU189, "Delay Slots")
 abbrev pub delay_of : Op → ℕ
 delay_of Mpy = 1
 delay_of Mpyu = 1
@@ -44,6 +45,10 @@ is_load Ldhu = true
 is_load Ldw = true
 is_load _ = false
 
+abbrev pub is_branch : Op → Bool
+is_branch Branch = true
+is_branch _ = false
+
 -- whether the destination is a source too
 abbrev pub reads_destination : Op → Bool
 reads_destination Addk = true
@@ -66,12 +71,13 @@ reads_of op (Access reg base _ offset) = (if is_store op then reg ∷ [] else []
 reads_of op (Block _) = []
 reads_of op (Register target) = target ∷ []
 
+-- whether the base is written: all forms but *+R[k] and *-R[k] (SPRU189, "Addressing Modes")
 abbrev pub changes_base : AddressForm → Bool
 changes_base Plus = false
 changes_base Minus = false
 changes_base _ = true
 
--- each register that is written, with the delay of the write
+-- each register that is written, with the delay of the write; for a load the base before the destination
 abbrev pub writes_of : Op → Operands → List (Reg × ℕ)
 writes_of op (Three _ _ d) = (d, delay_of op) ∷ []
 writes_of op (ConstantFirst _ _ d) = (d, delay_of op) ∷ []
@@ -84,15 +90,16 @@ writes_of op (Access reg base form _) =
 writes_of op (Block _) = []
 writes_of op (Register _) = []
 
--- the data path of an access is that of the register that it loads or stores
+-- the data path of an access is that of the register that it loads or stores (SPRU189, "Memory, Load, and Store Paths")
 abbrev pub data_path_of : Operands → Option Side
 data_path_of (Access reg _ _ _) = Some reg.side
 data_path_of _ = None
 
--- whether a source comes over the cross path to a unit of this side
+-- whether a source comes over the cross path to a unit of this side (SPRU189, "Register File Cross Paths")
 abbrev pub crosses_to : Side → Operands → Bool
 crosses_to side (Three a b _) = not (same_side a.side side) || not (same_side b.side side)
 crosses_to side (ConstantFirst _ a _) = not (same_side a.side side)
 crosses_to side (ConstantSecond a _ _) = not (same_side a.side side)
 crosses_to side (Two a _) = not (same_side a.side side)
+crosses_to side (Field a _ _ _) = not (same_side a.side side)
 crosses_to side _ = false

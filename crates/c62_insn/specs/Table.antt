@@ -1,17 +1,18 @@
--- The instruction table: which units take which operands.
-use Rattle.std.specs.Prelude.{List, [], ◌∷◌, ◌++◌, ℤ, pos, negsuc}
+-- The instruction table: the forms of each operation, a form being a unit's letter and what its operands are
+-- (docs/MACHINE.md, "Instruction table"; SPRU189, "Mapping Between Instructions and Functional Units" and "Individual
+-- Instruction Descriptions").
+use Rattle.std.specs.Prelude.{List, [], ◌∷◌, ◌++◌, pos, negsuc}
 use Rattle.c62_insn.specs.declared.register.Letter.{Letter}
 use Rattle.c62_insn.specs.declared.register.Letter.TheVariants.{L, S, M, D}
 use Rattle.c62_insn.specs.declared.operands.Op.{Op}
 use Rattle.c62_insn.specs.declared.operands.Op.TheVariants.{Add, Sub, And, Or, Xor, Cmpeq, Cmpgt, Cmplt, Cmpgtu, Cmpltu, Abs, Shl, Shr, Shru, Ext, Extu, Add2, Sub2, Mvk, Mvklh, Addk, Mpy, Mpyu, Mpyus, Mpysu, Mpyh, Mpyhu, Mpyhl, Mpylh, Addab, Addah, Addaw, Ldb, Ldbu, Ldh, Ldhu, Ldw, Stb, Sth, Stw, B}
-use Rattle.c62_insn.specs.declared.form.Place.{Place}
 use Rattle.c62_insn.specs.declared.form.Place.TheVariants.{Own, Crossing}
 use Rattle.c62_insn.specs.declared.form.Range.{Range}
 use Rattle.c62_insn.specs.declared.form.Pattern.{Pattern}
 use Rattle.c62_insn.specs.declared.form.Pattern.TheVariants.{Three as three, ConstantFirst as constant_first, ConstantSecond as constant_second, Two as two, Field as field, Constant as constant, Access as access, Block as block, Register as register}
 use Rattle.c62_insn.specs.declared.form.Form.{Form}
 
--- -16..15, -15..16, 0..31, -32768..32767 and 0..65535
+-- the ranges of constants: -16..15, -15..16, 0..31, -32768..32767 and 0..65535
 abbrev pub short : Range
 short = record { low = negsuc 15; high = pos 15 }
 

@@ -1,5 +1,6 @@
--- Which operands a form takes, and so which units an instruction may stand on.
-use Rattle.std.specs.Prelude.{Bool, true, false, ◌&&◌, ◌==◌, not, ℤ, int_le, Option, Some, None}
+-- Which operands a form takes, and so which units an instruction may stand on (docs/MACHINE.md, "Instruction table" and
+-- "Cross paths"; SPRU189, "Register File Cross Paths" and "Mapping Between Instructions and Functional Units").
+use Rattle.std.specs.Prelude.{Bool, true, false, ◌&&◌, ◌==◌, ℤ, int_le}
 use Rattle.std.specs.List.{list_any}
 use Rattle.c62_insn.specs.declared.register.Side.{Side}
 use Rattle.c62_insn.specs.declared.register.Side.TheVariants.{A, B}
@@ -35,7 +36,10 @@ same_letter _ _ = false
 abbrev pub same_reg : Reg → Reg → Bool
 same_reg a b = same_side a.side b.side && (a.number == b.number)
 
--- whether a source may lie there, for a unit of this side
+abbrev pub same_unit : FunctionalUnit → FunctionalUnit → Bool
+same_unit a b = same_letter a.letter b.letter && same_side a.side b.side
+
+-- whether a source may lie there: on the unit's own side, or on either, over the cross path
 abbrev pub may_lie : Place → Side → Reg → Bool
 may_lie Own side reg = same_side reg.side side
 may_lie Crossing side reg = true
@@ -69,6 +73,7 @@ holds_constants (constant range) (Constant k _) = in_range range k
 holds_constants (access range) (Access _ _ _ offset) = offset_in_range range offset
 holds_constants pattern operands = same_kind pattern operands
 
+-- an offset register lies on the side of its unit ("Memory, Load, and Store Paths")
 abbrev pub offset_on : Side → Offset → Bool
 offset_on side (ByConstant _) = true
 offset_on side (ByRegister reg) = same_side reg.side side

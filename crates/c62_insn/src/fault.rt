@@ -1,22 +1,23 @@
 //! Why operands make no instruction.
 
 ghost use Rattle.std.specs.Prelude.{◌≡◌};
-ghost use Rattle.c62_insn.specs.Fault.{form_fault, bad_condition, has_kind, in_some_range, constant_out_of_range, is_transfer, two_crossed, side_of, is_first_fixed, is_second_fixed, strays, is_other_side, bad_side, all_units, no_unit};
+ghost use Rattle.c62_insn.specs.Fault.{form_fault, bad_condition, has_kind, in_some_range, constant_out_of_range, is_transfer, side_of, first_source, second_source, lies_across, two_crossed, is_first_fixed, is_second_fixed, strays, is_other_side, bad_side, all_units, no_unit};
 ghost use Rattle.c62_insn.specs.Takes.{takes};
 ghost use Rattle.std.specs.List.{list_any};
 
 use crate::form::{forms, unit_takes};
-use crate::operands::{Offset, Op, Operands};
+use crate::operands::{Op, Operands};
 use crate::register::{Cond, Side, Unit};
 use thiserror::Error;
 
-/// Why operands make no instruction.
+/// Why parts make no instruction (`docs/MACHINE.md`, "Form faults"). Where several faults apply,
+/// [`Insn::new`](crate::Insn::new) says which one it gives.
 #[derive(Clone, Copy, PartialEq, Eq, Debug, Error)]
 pub enum FormFault {
     /// No unit, or not the written one, takes these operands.
     #[error("NoUnit")]
     NoUnit,
-    /// A constant lies outside all its ranges.
+    /// A constant lies outside all ranges that the instruction table gives it.
     #[error("ConstantRange")]
     ConstantRange,
     /// Two sources lie on the side other than the destination's.
@@ -25,7 +26,7 @@ pub enum FormFault {
     /// A register that may not cross, or the written unit, lies on the wrong side.
     #[error("BadSide")]
     BadSide,
-    /// The register of the condition can't be one.
+    /// The register of the condition is not A1, A2, B0, B1 or B2.
     #[error("BadCondition")]
     BadCondition,
 }
@@ -64,24 +65,37 @@ fn is_out_of_range(op: Op, operands: Operands) -> bool
 
 impl Op {
     /// Whether this is a load, a store or a branch.
-    pub fn is_transfer(self) -> bool
+    fn is_transfer(self) -> bool
         ensures { result ≡ is_transfer self }
     {
-        self.is_load() || self.is_store() || matches!(self, Op::B)
+        self.is_load() || self.is_store() || self.is_branch()
     }
-}
 
-fn is_two_crossed(op: Op, operands: Operands) -> bool
-    ensures { result ≡ two_crossed op operands }
-{
-    match operands {
-        Operands::Three(a, b, d) => !op.is_transfer() && a.side != d.side && b.side != d.side,
-        _ => false,
+    /// Whether no form lets the first source cross.
+    fn is_first_fixed(self) -> bool
+        ensures { result ≡ is_first_fixed self }
+    {
+        matches!(
+            self,
+            Op::Ext | Op::Extu | Op::Sub2 | Op::Addab | Op::Addah | Op::Addaw
+        )
+    }
+
+    /// Whether no form lets the second source cross.
+    fn is_second_fixed(self) -> bool
+        ensures { result ≡ is_second_fixed self }
+    {
+        matches!(
+            self,
+            Op::Shl | Op::Shr | Op::Shru | Op::Addab | Op::Addah | Op::Addaw
+        )
     }
 }
 
 impl Operands {
-    /// The side of an instruction with these operands, where they decide it.
+    /// The side of the instructions that have these operands, where the operands decide it: the
+    /// side of an access's base, side B for a branch to a register, and for others the
+    /// destination's. `None` for a branch to a block, which a unit of either side takes.
     pub fn side(self) -> Option<Side>
         ensures { result ≡ side_of self }
     {
@@ -97,45 +111,47 @@ impl Operands {
             Operands::Register(_) => Some(Side::B),
         }
     }
+
+    /// Whether the first source is a register on the other side.
+    fn is_first_across(self) -> bool
+        ensures { result ≡ lies_across (side_of self) (first_source self) }
+    {
+        match self {
+            Operands::Three(a, _, d)
+            | Operands::ConstantSecond(a, _, d)
+            | Operands::Two(a, d)
+            | Operands::Field(a, _, _, d) => a.side != d.side,
+            _ => false,
+        }
+    }
+
+    /// Whether the second source is a register on the other side.
+    fn is_second_across(self) -> bool
+        ensures { result ≡ lies_across (side_of self) (second_source self) }
+    {
+        match self {
+            Operands::Three(_, b, d) | Operands::ConstantFirst(_, b, d) => b.side != d.side,
+            _ => false,
+        }
+    }
 }
 
-impl Op {
-    /// Whether no form lets the first source cross, so that a crossing one is on a bad side.
-    fn is_first_fixed(self) -> bool
-        ensures { result ≡ is_first_fixed self }
-    {
-        matches!(
-            self,
-            Op::Ext | Op::Extu | Op::Sub2 | Op::Addab | Op::Addah | Op::Addaw
-        )
-    }
-
-    /// The same of the second source.
-    fn is_second_fixed(self) -> bool
-        ensures { result ≡ is_second_fixed self }
-    {
-        matches!(
-            self,
-            Op::Shl | Op::Shr | Op::Shru | Op::Addab | Op::Addah | Op::Addaw
-        )
-    }
+fn is_two_crossed(op: Op, operands: Operands) -> bool
+    ensures { result ≡ two_crossed op operands }
+{
+    !op.is_transfer() && operands.is_first_across() && operands.is_second_across()
 }
 
 fn is_stray(op: Op, operands: Operands) -> bool
     ensures { result ≡ strays op operands }
 {
     match operands {
-        Operands::Three(a, b, d) => {
-            op.is_first_fixed() && a.side != d.side || op.is_second_fixed() && b.side != d.side
+        Operands::Access(_, base, _, offset) => !offset.lies_on(base.side),
+        Operands::Register(target) => target.side == Side::A,
+        _ => {
+            op.is_first_fixed() && operands.is_first_across()
+                || op.is_second_fixed() && operands.is_second_across()
         }
-        Operands::ConstantSecond(a, _, d) | Operands::Field(a, _, _, d) => {
-            op.is_first_fixed() && a.side != d.side
-        }
-        Operands::Access(_, base, _, Offset::Register(offset)) => {
-            op.is_transfer() && offset.side != base.side
-        }
-        Operands::Register(target) => op.is_transfer() && target.side == Side::A,
-        _ => false,
     }
 }
 
@@ -165,7 +181,7 @@ fn has_no_unit(op: Op, operands: Operands, unit: Option<Unit>) -> bool
 }
 
 /// The first fault of these parts of an instruction, if they have one.
-pub fn find_fault(
+pub(crate) fn find_fault(
     op: Op,
     operands: Operands,
     cond: Option<Cond>,

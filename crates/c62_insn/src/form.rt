@@ -7,7 +7,7 @@ use bitflags::Flags;
 
 /// Which registers a source may be.
 #[derive(Clone, Copy, PartialEq, Eq, Debug)]
-pub enum Place {
+pub(crate) enum Place {
     /// A register of the unit's own side.
     Own,
     /// A register of either side, over the cross path where it lies on the other one.
@@ -16,14 +16,14 @@ pub enum Place {
 
 /// The constants from `low` to `high`, both among them.
 #[derive(Clone, Copy, PartialEq, Eq, Debug)]
-pub struct Range {
+pub(crate) struct Range {
     pub low: i64,
     pub high: i64,
 }
 
 /// The operands of a form. A destination lies on the unit's side.
 #[derive(Clone, Copy, PartialEq, Eq, Debug)]
-pub enum Pattern {
+pub(crate) enum Pattern {
     /// Two sources and the destination.
     Three(Place, Place),
     /// A constant, a source and the destination.
@@ -46,7 +46,7 @@ pub enum Pattern {
 
 /// One form of an operation.
 #[derive(Clone, Copy, PartialEq, Eq, Debug)]
-pub struct Form {
+pub(crate) struct Form {
     pub letter: Letter,
     pub pattern: Pattern,
 }
@@ -177,7 +177,7 @@ const S_REGISTER: Form = Form {
 };
 
 /// The forms of `op`.
-pub fn forms(op: Op) -> &'static [Form]
+pub(crate) fn forms(op: Op) -> &'static [Form]
     ensures { result.now ≡ forms_of op }
 {
     match op {
@@ -225,7 +225,7 @@ impl Place {
     ghost use Rattle.c62_insn.specs.Takes.{may_lie};
 
     /// Whether `reg` may be this source on a unit of `side`.
-    pub fn admits(self, side: Side, reg: Reg) -> bool
+    pub(crate) fn admits(self, side: Side, reg: Reg) -> bool
         ensures { result ≡ may_lie self side reg }
     {
         match self {
@@ -239,10 +239,24 @@ impl Range {
     ghost use Rattle.c62_insn.specs.Takes.{in_range};
 
     /// Whether `constant` is in the range.
-    pub fn contains(self, constant: i64) -> bool
+    pub(crate) fn contains(self, constant: i64) -> bool
         ensures { result ≡ in_range self constant }
     {
         self.low <= constant && constant <= self.high
+    }
+}
+
+impl Offset {
+    ghost use Rattle.c62_insn.specs.Takes.{offset_on};
+
+    /// Whether the offset is a constant, or a register of `side`.
+    pub(crate) fn lies_on(self, side: Side) -> bool
+        ensures { result ≡ offset_on side self }
+    {
+        match self {
+            Offset::Constant(_) => true,
+            Offset::Register(reg) => reg.side == side,
+        }
     }
 }
 
@@ -250,7 +264,7 @@ impl Pattern {
     ghost use Rattle.c62_insn.specs.Takes.{same_kind, holds_constants, lie_well};
 
     /// Whether `operands` are of this kind and number.
-    pub fn has_kind(self, operands: Operands) -> bool
+    pub(crate) fn has_kind(self, operands: Operands) -> bool
         ensures { result ≡ same_kind self operands }
     {
         match (self, operands) {
@@ -268,7 +282,7 @@ impl Pattern {
     }
 
     /// Whether besides the constants lie in the ranges.
-    pub fn holds_constants(self, operands: Operands) -> bool
+    pub(crate) fn holds_constants(self, operands: Operands) -> bool
         ensures { result ≡ holds_constants self operands }
     {
         match (self, operands) {
@@ -288,7 +302,7 @@ impl Pattern {
     }
 
     /// Whether the registers lie where a unit of `side` takes them.
-    pub fn lie_well(self, side: Side, operands: Operands) -> bool
+    pub(crate) fn lie_well(self, side: Side, operands: Operands) -> bool
         ensures { result ≡ lie_well self side operands }
     {
         match (self, operands) {
@@ -305,11 +319,7 @@ impl Pattern {
             (Pattern::Field(_), Operands::Field(a, _, _, d)) => a.side == side && d.side == side,
             (Pattern::Constant(_), Operands::Constant(_, d)) => d.side == side,
             (Pattern::Access(_), Operands::Access(_, base, _, offset)) => {
-                base.side == side
-                    && match offset {
-                        Offset::Constant(_) => true,
-                        Offset::Register(reg) => reg.side == side,
-                    }
+                base.side == side && offset.lies_on(side)
             }
             (Pattern::Block, Operands::Block(_)) => true,
             (Pattern::Register, Operands::Register(target)) => side == Side::B
@@ -322,7 +332,7 @@ impl Pattern {
 ghost use Rattle.c62_insn.specs.Takes.{takes};
 
 /// Whether `unit` takes these operands of `op`.
-pub fn unit_takes(op: Op, operands: Operands, unit: Unit) -> bool
+pub(crate) fn unit_takes(op: Op, operands: Operands, unit: Unit) -> bool
     ensures { result ≡ takes op operands unit }
 {
     forms(op).iter().any(|form| {
@@ -336,7 +346,7 @@ ghost use Rattle.c62_insn.specs.Units.{unit_in};
 ghost use Rattle.c62_insn.specs.declared.register.Unit.{Unit as FunctionalUnit};
 
 /// The units that take these operands of `op`.
-pub fn units_of(op: Op, operands: Operands) -> UnitSet
+pub(crate) fn units_of(op: Op, operands: Operands) -> UnitSet
     ensures { (unit : FunctionalUnit) → unit_in result unit ≡ takes op operands unit }
 {
     let mut units = UnitSet::empty();

@@ -1,6 +1,6 @@
 //! Instructions.
 
-ghost use Rattle.std.specs.Prelude.{◌≡◌, ◌↔◌, IsOk, IfOk, IfErr, Some, None};
+ghost use Rattle.std.specs.Prelude.{◌≡◌, ◌↔◌, IsOk, IfOk, IfErr, IsTrue, Some, None};
 ghost use Rattle.c62_insn.specs.Fault.{form_fault};
 
 use crate::effect::{Access, Effect, Inputs, Target};
@@ -12,7 +12,8 @@ use crate::unit_set::UnitSet;
 use crate::word::word_of;
 use arrayvec::ArrayVec;
 
-/// An instruction of which each part fits the others.
+/// An instruction: an operation with operands that some unit takes, a condition or none, and the
+/// unit that was written, or none. It has no form fault.
 #[derive(Clone, Copy, PartialEq, Eq, Debug)]
 pub struct Insn {
     op: Op,
@@ -20,6 +21,26 @@ pub struct Insn {
     cond: Option<Cond>,
     unit: Option<Unit>,
     pub ghost well_formed: { form_fault op operands cond unit ≡ None },
+}
+
+fn is_same_condition(a: Option<Cond>, b: Option<Cond>) -> bool
+    ensures { IsTrue result ↔ (a ≡ b) }
+{
+    match (a, b) {
+        (Some(a), Some(b)) => a.is_same(&b),
+        (None, None) => true,
+        _ => false,
+    }
+}
+
+fn is_same_unit(a: Option<Unit>, b: Option<Unit>) -> bool
+    ensures { IsTrue result ↔ (a ≡ b) }
+{
+    match (a, b) {
+        (Some(a), Some(b)) => a == b,
+        (None, None) => true,
+        _ => false,
+    }
 }
 
 impl Insn {
@@ -32,7 +53,16 @@ impl Insn {
     ghost use Rattle.c62_insn.specs.Effect.{runs_of, values_of, access_of, target_of, loaded_of};
     ghost use Rattle.c62_insn.specs.Shape.{reads_of, writes_of, delay_of, data_path_of, crosses_to};
 
-    /// The instruction of these parts, or the first of its faults.
+    /// The instruction of these parts.
+    ///
+    /// # Errors
+    ///
+    /// The first of its form faults, in this order: `BadCondition` where the condition's register
+    /// may be none; `ConstantRange` where a constant lies outside all ranges that the instruction
+    /// table gives it; `TwoCrossed` where two sources lie on the side other than the destination's;
+    /// `BadSide` where a register that no form lets cross, or the written unit, lies on the wrong
+    /// side; `NoUnit` where no unit, or not the written one, takes the operands (`docs/MACHINE.md`,
+    /// "Form faults").
     pub fn new(
         op: Op,
         operands: Operands,
@@ -54,7 +84,47 @@ impl Insn {
         }
     }
 
-    /// Whether an operand comes over the cross path to `unit`.
+    /// The operation.
+    pub fn op(self) -> Op
+        ensures { result ≡ op_of self }
+    {
+        self.op
+    }
+
+    /// The operands.
+    pub fn operands(self) -> Operands
+        ensures { result ≡ operands_of self }
+    {
+        self.operands
+    }
+
+    /// The condition, if there is one.
+    pub fn cond(self) -> Option<Cond>
+        ensures { result ≡ cond_of self }
+    {
+        self.cond
+    }
+
+    /// The unit that was written, if one was.
+    pub fn unit(self) -> Option<Unit>
+        ensures { result ≡ unit_of self }
+    {
+        self.unit
+    }
+
+    /// Whether both are one instruction: operation, operands, condition and written unit.
+    #[tactic(auto, using(crate::proofs::SameLemmas::same_parts))]
+    pub fn same(&self, other: &Insn) -> bool
+        ensures { IsTrue result ↔ (self.now ≡ other.now) }
+    {
+        self.op.is_same(other.op)
+            && self.operands.is_same(&other.operands)
+            && is_same_condition(self.cond, other.cond)
+            && is_same_unit(self.unit, other.unit)
+    }
+
+    /// Whether a source lies on the side other than `unit`'s, and so comes to it over the cross path
+    /// (SPRU189, "Register File Cross Paths"). Never so of a load, store or branch.
     pub fn crosses(self, unit: Unit) -> bool
         ensures { result ≡ crosses_to unit.side (operands_of self) }
     {
@@ -62,12 +132,15 @@ impl Insn {
             Operands::Three(a, b, _) => a.side != unit.side || b.side != unit.side,
             Operands::ConstantFirst(_, a, _)
             | Operands::ConstantSecond(a, _, _)
-            | Operands::Two(a, _) => a.side != unit.side,
+            | Operands::Two(a, _)
+            | Operands::Field(a, _, _, _) => a.side != unit.side,
             _ => false,
         }
     }
 
-    /// The registers that the operands read, with repeats.
+    /// The registers that the operands read in the issue cycle, in the order of the text and a
+    /// repeated one as often as it stands: for a store the source, the base, the offset; for MVKLH
+    /// and ADDK the destination. The condition's register is none of them.
     pub fn reads(self) -> ArrayVec<Reg, 3>
         ensures { result.items ≡ reads_of (op_of self) (operands_of self) }
     {
@@ -101,14 +174,9 @@ impl Insn {
         reads
     }
 
-    /// The condition.
-    pub fn cond(self) -> Option<Cond>
-        ensures { result ≡ cond_of self }
-    {
-        self.cond
-    }
-
-    /// The registers that are written, each with the delay of the write.
+    /// The registers that are written, each with the delay of the write in cycles: a base that is
+    /// changed, with delay 0, before a load's destination. The writes of an instruction that does
+    /// not run are listed too.
     pub fn writes(self) -> ArrayVec<(Reg, u8), 2>
         ensures { result.items ≡ writes_of (op_of self) (operands_of self) }
     {
@@ -133,7 +201,9 @@ impl Insn {
         writes
     }
 
-    /// The data path of a load or store, by the file of its register.
+    /// The data path of a load or store, T1 as side A and T2 as side B: that of the file of the
+    /// register that is loaded or stored (SPRU189, "Memory, Load, and Store Paths"). `None` for
+    /// others.
     pub fn data_path(self) -> Option<Side>
         ensures { result ≡ data_path_of (operands_of self) }
     {
@@ -143,14 +213,15 @@ impl Insn {
         }
     }
 
-    /// The delay slots of the result.
+    /// The delay slots of the result, in cycles (SPRU189, "Delay Slots").
     pub fn delay(self) -> u8
         ensures { result ≡ delay_of (op_of self) }
     {
         self.op.delay()
     }
 
-    /// The units that take the instruction, whichever unit was written.
+    /// The units that take the operands, whichever unit was written (SPRU189, "Mapping Between
+    /// Instructions and Functional Units").
     pub fn units(self) -> UnitSet
         ensures { (unit : FunctionalUnit) → unit_in result unit ≡ takes (op_of self) (operands_of self) unit }
     {
@@ -229,14 +300,17 @@ impl Insn {
         }
     }
 
-    /// What the instruction does with these inputs.
-    pub fn apply(self, inputs: &Inputs) -> Effect
-        requires cond { is_some inputs.now.cond ≡ is_some (cond_of self) }
-        requires reads { array_vec_len inputs.now.reads ≡ length (reads_of (op_of self) (operands_of self)) }
-        ensures runs { result.runs ≡ runs_of (cond_of self) inputs.now.cond }
-        ensures values { result.values.items ≡ (if result.runs then values_of (op_of self) (operands_of self) inputs.now.reads.items else []) }
-        ensures access { result.access ≡ (if result.runs then access_of (op_of self) (operands_of self) inputs.now.reads.items else None) }
-        ensures target { result.target ≡ (if result.runs then target_of (operands_of self) inputs.now.reads.items else None) }
+    /// What the instruction does with these inputs, which hold a value for each of
+    /// [`Insn::reads`], and one for the condition exactly where there is a condition. Where the
+    /// condition does not hold the effect is empty. Words are modulo 2^32 (SPRU189, "Individual
+    /// Instruction Descriptions").
+    pub fn apply(&self, inputs: &Inputs) -> Effect
+        requires cond { is_some inputs.now.cond ≡ is_some (cond_of self.now) }
+        requires reads { array_vec_len inputs.now.reads ≡ length (reads_of (op_of self.now) (operands_of self.now)) }
+        ensures runs { result.runs ≡ runs_of (cond_of self.now) inputs.now.cond }
+        ensures values { result.values.items ≡ (if result.runs then values_of (op_of self.now) (operands_of self.now) inputs.now.reads.items else []) }
+        ensures access { result.access ≡ (if result.runs then access_of (op_of self.now) (operands_of self.now) inputs.now.reads.items else None) }
+        ensures target { result.target ≡ (if result.runs then target_of (operands_of self.now) inputs.now.reads.items else None) }
     {
         if self.runs(inputs.cond) {
             let reads = inputs.reads.as_slice();
@@ -256,7 +330,8 @@ impl Insn {
         }
     }
 
-    /// What a load writes, of the bytes that it read.
+    /// What a load writes to its destination, of the bytes that it read as a number: extended by
+    /// the sign for LDB and LDH, and by zeros for the others.
     pub fn loaded(self, raw: u32) -> u32
         ensures { result ≡ loaded_of (op_of self) raw }
     {

@@ -13,7 +13,7 @@ use crate::word::{
 
 impl Op {
     /// The result, of the words of the two operands in their order.
-    pub fn result(self, a: u32, b: u32) -> u32
+    pub(crate) fn result(self, a: u32, b: u32) -> u32
         ensures { result ≡ result_of self a b }
     {
         match self {
@@ -51,7 +51,7 @@ impl Op {
     }
 
     /// The field of `a` that is `k` from the left, shifted right by `m`.
-    pub fn field(self, a: u32, k: u32, m: u32) -> u32
+    pub(crate) fn field(self, a: u32, k: u32, m: u32) -> u32
         ensures { result ≡ field_of self a k m }
     {
         let top = shift_left(a, k);
@@ -62,7 +62,7 @@ impl Op {
     }
 
     /// The low bytes that an access covers.
-    pub fn low_bytes(self, v: u32) -> u32
+    pub(crate) fn low_bytes(self, v: u32) -> u32
         ensures { result ≡ low_bytes_of self v }
     {
         match self {
@@ -73,7 +73,7 @@ impl Op {
     }
 
     /// The number of bytes of an access.
-    pub fn size(self) -> u8
+    pub(crate) fn size(self) -> u8
         ensures { result ≡ size_of self }
     {
         match self {
@@ -84,14 +84,14 @@ impl Op {
     }
 
     /// The place of the base among the reads.
-    pub fn base_place(self) -> usize
+    pub(crate) fn base_place(self) -> usize
         ensures { result ≡ base_place self }
     {
         if self.is_store() { 1 } else { 0 }
     }
 
     /// The base after the access, of the values read.
-    pub fn base_after(self, form: AddressForm, offset: Offset, reads: &[u32]) -> u32
+    pub(crate) fn base_after(self, form: AddressForm, offset: Offset, reads: &[u32]) -> u32
         requires { base_place self + 1 + length (offset_reads offset) ≤ length reads.now }
         ensures { result ≡ base_after self form offset reads.now }
     {
@@ -104,7 +104,7 @@ impl Op {
     }
 
     /// What a load writes, of the bytes that it read.
-    pub fn loaded(self, raw: u32) -> u32
+    pub(crate) fn loaded(self, raw: u32) -> u32
         ensures { result ≡ loaded_of self raw }
     {
         match self {
@@ -117,7 +117,7 @@ impl Op {
 
 impl AddressForm {
     /// The base moved by `distance`.
-    pub fn moved(self, base: u32, distance: u32) -> u32
+    pub(crate) fn moved(self, base: u32, distance: u32) -> u32
         ensures { result ≡ moved self base distance }
     {
         match self {
@@ -131,7 +131,7 @@ impl AddressForm {
     }
 
     /// The address, of the base before and after the move.
-    pub fn address(self, base: u32, after: u32) -> u32
+    pub(crate) fn address(self, base: u32, after: u32) -> u32
         ensures { result ≡ address_of self base after }
     {
         match self {

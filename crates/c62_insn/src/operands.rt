@@ -1,80 +1,126 @@
 //! Operations and their operands.
 
-ghost use Rattle.std.specs.Prelude.{◌≡◌};
+ghost use Rattle.std.specs.Prelude.{◌≡◌, ◌↔◌, IsTrue};
 
 use crate::register::Reg;
 
-/// An operation.
+/// An operation, with what it gives modulo 2^32 (`docs/MACHINE.md`, "Instruction table"; SPRU189,
+/// "Individual Instruction Descriptions").
 #[derive(Clone, Copy, PartialEq, Eq, Debug)]
 pub enum Op {
+    /// `ADD`: the sum of the sources.
     Add,
+    /// `SUB`: the first source minus the second.
     Sub,
+    /// `AND`: the bits that both sources have.
     And,
+    /// `OR`: the bits that a source has.
     Or,
+    /// `XOR`: the bits that one source alone has.
     Xor,
+    /// `CMPEQ`: 1 where the sources are equal, else 0.
     Cmpeq,
+    /// `CMPGT`: 1 where the first source is above the second as a signed number, else 0.
     Cmpgt,
+    /// `CMPLT`: 1 where the first source is below the second as a signed number, else 0.
     Cmplt,
+    /// `CMPGTU`: 1 where the first source is above the second as an unsigned number, else 0.
     Cmpgtu,
+    /// `CMPLTU`: 1 where the first source is below the second as an unsigned number, else 0.
     Cmpltu,
+    /// `ABS`: the absolute value; 2^31 - 1 of -2^31.
     Abs,
+    /// `SHL`: the first source, shifted left by the low six bits of the second.
     Shl,
+    /// `SHR`: the first source, shifted right with its sign by the low six bits of the second.
     Shr,
+    /// `SHRU`: the first source, shifted right by the low six bits of the second.
     Shru,
+    /// `EXT`: shifted left by the first constant, then right with the sign by the second.
     Ext,
+    /// `EXTU`: shifted left by the first constant, then right by the second.
     Extu,
+    /// `ADD2`: the sums of the halves, without carry between them.
     Add2,
+    /// `SUB2`: the differences of the halves, without borrow between them.
     Sub2,
+    /// `MVK`: the constant.
     Mvk,
+    /// `MVKLH`: the constant as the upper half; the destination keeps its lower one.
     Mvklh,
+    /// `ADDK`: the destination plus the constant.
     Addk,
+    /// `MPY`: the product of the low halves, both signed. A constant is taken as it is.
     Mpy,
+    /// `MPYU`: the product of the low halves, both unsigned.
     Mpyu,
+    /// `MPYUS`: the product of the low halves, the first unsigned, the second signed.
     Mpyus,
+    /// `MPYSU`: the product of the low halves, the first signed, the second unsigned.
     Mpysu,
+    /// `MPYH`: the product of the high halves, both signed.
     Mpyh,
+    /// `MPYHU`: the product of the high halves, both unsigned.
     Mpyhu,
+    /// `MPYHL`: the product of the first's high half and the second's low half, both signed.
     Mpyhl,
+    /// `MPYLH`: the product of the first's low half and the second's high half, both signed.
     Mpylh,
+    /// `ADDAB`: the first source plus the second.
     Addab,
+    /// `ADDAH`: the first source plus twice the second.
     Addah,
+    /// `ADDAW`: the first source plus four times the second.
     Addaw,
+    /// `LDB`: loads a byte, with its sign.
     Ldb,
+    /// `LDBU`: loads a byte.
     Ldbu,
+    /// `LDH`: loads two bytes, with their sign.
     Ldh,
+    /// `LDHU`: loads two bytes.
     Ldhu,
+    /// `LDW`: loads a word.
     Ldw,
+    /// `STB`: stores the low byte.
     Stb,
+    /// `STH`: stores the low two bytes.
     Sth,
+    /// `STW`: stores a word.
     Stw,
+    /// `B`: a branch to a block or to the address in a register.
     B,
 }
 
-/// How an access forms its address from the base and the offset.
+/// How an access forms its address from the base R and the offset k, which counts in units of the
+/// access's size (`docs/MACHINE.md`, "Addresses"; SPRU189, "Addressing Modes").
 #[derive(Clone, Copy, PartialEq, Eq, Debug)]
 pub enum AddressForm {
-    /// `*+R[k]`
+    /// `*+R[k]`: above the base.
     Plus,
-    /// `*-R[k]`
+    /// `*-R[k]`: below the base.
     Minus,
-    /// `*++R[k]`
+    /// `*++R[k]`: above the base, which becomes the address.
     PreIncrement,
-    /// `*--R[k]`
+    /// `*--R[k]`: below the base, which becomes the address.
     PreDecrement,
-    /// `*R++[k]`
+    /// `*R++[k]`: at the base, which moves up.
     PostIncrement,
-    /// `*R--[k]`
+    /// `*R--[k]`: at the base, which moves down.
     PostDecrement,
 }
 
-/// The offset of an access, in units of its size.
+/// The offset of an access, in units of the access's size.
 #[derive(Clone, Copy, PartialEq, Eq, Debug)]
 pub enum Offset {
+    /// A constant, 0 to 31 in an instruction.
     Constant(i64),
+    /// The value of a register, which lies on the base's side in an instruction.
     Register(Reg),
 }
 
-/// The operands of an instruction, in the order of its text.
+/// The operands of an instruction: registers and constants in the order of its text. Any may be
+/// written down; [`Insn::new`](crate::Insn::new) tells which an operation takes.
 #[derive(Clone, Copy, PartialEq, Eq, Debug)]
 pub enum Operands {
     /// Two sources and the destination.
@@ -91,16 +137,17 @@ pub enum Operands {
     Constant(i64, Reg),
     /// The register that is loaded or stored, then base, address form and offset.
     Access(Reg, Reg, AddressForm, Offset),
-    /// The block that a branch goes to.
+    /// The number of the block that a branch goes to.
     Block(u8),
     /// The register that holds a branch's target.
     Register(Reg),
 }
 
 impl Op {
-    ghost use Rattle.c62_insn.specs.Shape.{delay_of, is_store, is_load, reads_destination};
+    ghost use Rattle.c62_insn.specs.Shape.{delay_of, is_store, is_load, is_branch, reads_destination};
 
-    /// The delay slots of the result.
+    /// The delay slots of the result, in cycles: 1 for a multiply, 4 for a load, 5 for a branch, else
+    /// 0 (SPRU189, "Delay Slots").
     pub fn delay(self) -> u8
         ensures { result ≡ delay_of self }
     {
@@ -119,20 +166,36 @@ impl Op {
         }
     }
 
+    /// Whether this is `STB`, `STH` or `STW`.
     pub fn is_store(self) -> bool
         ensures { result ≡ is_store self }
     {
         matches!(self, Op::Stb | Op::Sth | Op::Stw)
     }
 
+    /// Whether this is `LDB`, `LDBU`, `LDH`, `LDHU` or `LDW`.
     pub fn is_load(self) -> bool
         ensures { result ≡ is_load self }
     {
         matches!(self, Op::Ldb | Op::Ldbu | Op::Ldh | Op::Ldhu | Op::Ldw)
     }
 
+    /// Whether this is `B`, to a block or to a register.
+    pub fn is_branch(self) -> bool
+        ensures { result ≡ is_branch self }
+    {
+        matches!(self, Op::B)
+    }
+
+    /// Whether both are one operation.
+    pub(crate) fn is_same(self, other: Op) -> bool
+        ensures { IsTrue result ↔ (self ≡ other) }
+    {
+        self == other
+    }
+
     /// Whether the destination is a source too.
-    pub fn reads_destination(self) -> bool
+    pub(crate) fn reads_destination(self) -> bool
         ensures { result ≡ reads_destination self }
     {
         matches!(self, Op::Addk | Op::Mvklh)
@@ -142,10 +205,53 @@ impl Op {
 impl AddressForm {
     ghost use Rattle.c62_insn.specs.Shape.{changes_base};
 
-    /// Whether the base is written.
-    pub fn changes_base(self) -> bool
+    /// Whether the access writes its base.
+    pub(crate) fn changes_base(self) -> bool
         ensures { result ≡ changes_base self }
     {
         !matches!(self, AddressForm::Plus | AddressForm::Minus)
+    }
+}
+
+impl Offset {
+    /// Whether both are one constant or one register.
+    pub fn is_same(&self, other: &Offset) -> bool
+        ensures { IsTrue result ↔ (self.now ≡ other.now) }
+    {
+        match (*self, *other) {
+            (Offset::Constant(a), Offset::Constant(b)) => a == b,
+            (Offset::Register(a), Offset::Register(b)) => a.is_same(b),
+            _ => false,
+        }
+    }
+}
+
+impl Operands {
+    /// Whether both are of one kind and equal in all parts.
+    pub fn is_same(&self, other: &Operands) -> bool
+        ensures { IsTrue result ↔ (self.now ≡ other.now) }
+    {
+        match (*self, *other) {
+            (Operands::Three(a, b, d), Operands::Three(e, f, g)) => a.is_same(e)
+                && b.is_same(f)
+                && d.is_same(g),
+            (Operands::ConstantFirst(k, a, d), Operands::ConstantFirst(m, e, g)) => {
+                k == m && a.is_same(e) && d.is_same(g)
+            }
+            (Operands::ConstantSecond(a, k, d), Operands::ConstantSecond(e, m, g)) => {
+                a.is_same(e) && k == m && d.is_same(g)
+            }
+            (Operands::Two(a, d), Operands::Two(e, g)) => a.is_same(e) && d.is_same(g),
+            (Operands::Field(a, k, m, d), Operands::Field(e, l, n, g)) => {
+                a.is_same(e) && k == l && m == n && d.is_same(g)
+            }
+            (Operands::Constant(k, d), Operands::Constant(m, g)) => k == m && d.is_same(g),
+            (Operands::Access(r, b, f, o), Operands::Access(s, c, g, p)) => {
+                r.is_same(s) && b.is_same(c) && f == g && o.is_same(&p)
+            }
+            (Operands::Block(m), Operands::Block(n)) => m == n,
+            (Operands::Register(a), Operands::Register(e)) => a.is_same(e),
+            _ => false,
+        }
     }
 }

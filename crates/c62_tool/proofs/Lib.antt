@@ -1,3 +1,14 @@
+pub mod Greatest
+pub mod Latencies
+pub mod IssuesOf
+pub mod Used
+pub mod Adding
+pub mod EarlyCycles
+pub mod Placing
+pub mod Search
+pub mod Room
+pub mod ListingLemmas
+pub mod OneListing
 pub mod Pieces
 pub mod Tokens
 pub mod Numbers

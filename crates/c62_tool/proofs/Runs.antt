@@ -8,7 +8,7 @@ use Rattle.std.proofs.lemmas.List.{take_all, length-take}
 use Rattle.c62_tool.specs.declared.fault.Refusal.{Refusal}
 use Rattle.c62_tool.specs.declared.fault.Refusal.TheVariants.{TextTooLong}
 use Rattle.c62_tool.specs.Reading.{Parts, program_of}
-use Rattle.c62_tool.specs.Run.{IsListing, ListsText, IsRefused, Leaves, GivesListing}
+use Rattle.c62_tool.specs.Run.{IsPackedText, ListsText, IsRefused, Leaves, GivesListing}
 use Rattle.c62_tool.specs.declared.failure.Failure.{Failure}
 use Rattle.c62_tool.specs.declared.failure.Failure.TheVariants as failures
 
@@ -25,7 +25,7 @@ program_of-take all =
     ]
 
 -- the listing of what was read is the listing of all
-listed : (all text listing : List ℕ) → text ≡ take 1048577 all → IsListing text listing → IsListing all listing
+listed : (all text listing : List ℕ) → text ≡ take 1048577 all → IsPackedText text listing → IsPackedText all listing
 listed all text listing read is = record {
   block = is.block;
   says = sym (ap program_of read ∙ program_of-take all) ∙ is.says;

@@ -1,4 +1,10 @@
 pub mod Spot
+pub mod Lawful
+pub mod Least
+pub mod Latency
+pub mod Packet
+pub mod Early
+pub mod Listing
 pub mod Text
 pub mod Number
 pub mod Reading

@@ -28,7 +28,7 @@ abbrev pub TakesAtMost : ℕ → Option (List ℕ) → Option (List ℕ) → Typ
 TakesAtMost n old new = (bytes : List ℕ) × Consumes old new bytes × (length bytes ≤ n)
 
 -- the text says a block, of which this is the packed listing
-pub record IsListing (text listing : List ℕ) : Type 0 where
+pub record IsPackedText (text listing : List ℕ) : Type 0 where
   pub block : List Insn
   pub says : IsProgram text block
   pub packed : IsPacked block listing
@@ -36,7 +36,7 @@ pub record IsListing (text listing : List ℕ) : Type 0 where
 -- the listing of the text was written
 pub record Lists (text : List ℕ) (old new : Option (List ℕ)) : Type 0 where
   pub listing : List ℕ
-  pub is : IsListing text listing
+  pub is : IsPackedText text listing
   pub written : Appends old new listing
 
 -- where the text is known, its listing was written
@@ -61,7 +61,7 @@ IsBlamed _ words = Unit {0}
 
 -- the listing of what a text says, or that it says nothing, unless memory ran out
 abbrev pub GivesListing : List ℕ → Result (Vec ℕ) Failure → Type 0
-GivesListing text (Ok v) = IsListing text v.items
+GivesListing text (Ok v) = IsPackedText text v.items
 GivesListing text (Err (Refused r)) = program_of text ≡ Err r
 GivesListing text (Err Memory) = Unit {0}
 GivesListing text (Err _) = ⊥

@@ -2,13 +2,22 @@
 #![tactic(auto)]
 
 mod command;
+mod depend;
 mod failure;
 mod fault;
+#[cfg(test)]
+mod fixtures;
 mod input;
+mod laws;
 mod line;
+mod listing;
 mod number;
 mod pack;
+mod packet;
+mod place;
 mod program;
+mod resource;
+mod spelling;
 mod spot;
 mod token;
 mod tool;

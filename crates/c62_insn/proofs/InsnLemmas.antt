@@ -1,0 +1,170 @@
+-- What holds of every instruction: the units that take it, its reads and its writes.
+use Rattle.std.proofs.Common.{◌≡◌, ◌≢◌, ℕ, zero, suc, ◌≤◌, arith, Bool, true, false, refl, [], ◌∷◌, ◌++◌, length, Some, None, ◌⊎◌}
+use Rattle.std.specs.Prelude.{if◌then◌else◌, slice_get, Contains, All}
+use Rattle.std.proofs.lemmas.Bool.{both_ways, cond_both}
+use Rattle.std.proofs.lemmas.List.Elements.{All-nil, All-cons, All-append, All-contains}
+use Rattle.std.proofs.lemmas.List.Sums.{count_by-le-length}
+use Rattle.c62_insn.specs.declared.register.Reg.{Reg}
+use Rattle.c62_insn.specs.declared.register.Unit.{Unit as FunctionalUnit}
+use Rattle.c62_insn.specs.declared.operands.Op.{Op}
+use Rattle.c62_insn.specs.declared.operands.Op.TheVariants.{Ldb, Ldbu, Ldh, Ldhu, Ldw, B as Branch}
+use Rattle.c62_insn.specs.declared.operands.Offset.{Offset}
+use Rattle.c62_insn.specs.declared.operands.Offset.TheVariants.{Constant as ByConstant, Register as ByRegister}
+use Rattle.c62_insn.specs.declared.operands.Operands.{Operands}
+use Rattle.c62_insn.specs.declared.operands.Operands.TheVariants.{Three, ConstantFirst, ConstantSecond, Two, Field, Constant, Access, Block, Register}
+use Rattle.c62_insn.specs.declared.insn.Insn.{Insn}
+use Rattle.c62_insn.specs.Takes.{takes, same_reg}
+use Rattle.c62_insn.specs.Shape.{delay_of, is_load, is_store, reads_destination, changes_base, offset_reads, reads_of, writes_of}
+use Rattle.c62_insn.specs.Insn.{op_of, operands_of, unit_of, operand_reads, register_writes}
+use Rattle.c62_insn.specs.PacketRules.{reads_count}
+use Rattle.c62_insn.proofs.FaultLemmas.{faultless, some_unit}
+
+-- some unit takes an instruction: the written one, where one is written
+pub has_written_unit : (insn : Insn)
+    → (u : FunctionalUnit) × (takes (op_of insn) (operands_of insn) u ≡ true) × ((unit_of insn ≡ None) ⊎ (unit_of insn ≡ Some u))
+has_written_unit insn = some_unit insn.op insn.operands insn.unit (faultless insn.op insn.operands insn.cond insn.unit insn.well_formed).taken
+
+pub has_unit : (insn : Insn) → (u : FunctionalUnit) × (takes (op_of insn) (operands_of insn) u ≡ true)
+has_unit insn = let found = has_written_unit insn in (found.0, found.1)
+
+-- operands of a branch
+abbrev is_target : Operands → Bool
+is_target (Block _) = true
+is_target (Register _) = true
+is_target _ = false
+
+branch_target : (operands : Operands) (u : FunctionalUnit) → takes Branch operands u ≡ true → is_target operands ≡ true
+branch_target (Block number) u h = refl
+branch_target (Register target) u h = refl
+branch_target _ u h = cc
+
+no_branch : (op : Op) (operands : Operands) (u : FunctionalUnit) → takes op operands u ≡ true → is_target operands ≡ false → op ≢ Branch
+no_branch op operands u h t e = both_ways (is_target operands) t (branch_target operands u (rw e at h))
+
+small_delay : (op : Op) → op ≢ Branch → delay_of op ≤ 4
+small_delay Branch h = absurd (h refl)
+small_delay _ h = omega arith
+
+load_delay : (op : Op) → is_load op ≡ true → delay_of op ≡ 4
+load_delay Ldb h = refl
+load_delay Ldbu h = refl
+load_delay Ldh h = refl
+load_delay Ldhu h = refl
+load_delay Ldw h = refl
+load_delay _ h = cc
+
+-- a write within four cycles, and within the instruction's delay
+abbrev pub IsTimely : Op → Reg × ℕ → Type 0
+IsTimely op write = (write.1 ≤ 4) × (write.1 ≤ delay_of op)
+
+timely_result : (op : Op) (d : Reg) → op ≢ Branch → All (IsTimely op) ((d, delay_of op) ∷ [])
+timely_result op d h = All-cons (IsTimely op) (d, delay_of op) [] (small_delay op h, omega arith) (All-nil (IsTimely op))
+
+timely_base : (op : Op) (base : Reg) → All (IsTimely op) ((base, 0) ∷ [])
+timely_base op base = All-cons (IsTimely op) (base, 0) [] (omega arith, omega arith) (All-nil (IsTimely op))
+
+timely_load : (op : Op) (reg : Reg) → is_load op ≡ true → All (IsTimely op) ((reg, delay_of op) ∷ [])
+timely_load op reg h = All-cons (IsTimely op) (reg, delay_of op) [] (omega (arith, load_delay op h), omega arith) (All-nil (IsTimely op))
+
+timely : (op : Op) (operands : Operands) (u : FunctionalUnit) → takes op operands u ≡ true → All (IsTimely op) (writes_of op operands)
+timely op (Three a b d) u h = timely_result op d (no_branch op (Three a b d) u h refl)
+timely op (ConstantFirst k a d) u h = timely_result op d (no_branch op (ConstantFirst k a d) u h refl)
+timely op (ConstantSecond a k d) u h = timely_result op d (no_branch op (ConstantSecond a k d) u h refl)
+timely op (Two a d) u h = timely_result op d (no_branch op (Two a d) u h refl)
+timely op (Field a k m d) u h = timely_result op d (no_branch op (Field a k m d) u h refl)
+timely op (Constant k d) u h = timely_result op d (no_branch op (Constant k d) u h refl)
+timely op (Access reg base form offset) u h =
+    All-append (IsTimely op) _ _
+    (cond_both (changes_base form) ((base, 0) ∷ []) [] (All (IsTimely op)) (λ _. timely_base op base) (λ _. All-nil (IsTimely op)))
+    (cond_both (is_load op) ((reg, delay_of op) ∷ []) [] (All (IsTimely op)) (timely_load op reg) (λ _. All-nil (IsTimely op)))
+timely op (Block number) u h = All-nil (IsTimely op)
+timely op (Register target) u h = All-nil (IsTimely op)
+
+pub timely_writes : (insn : Insn) → All (IsTimely (op_of insn)) (register_writes insn)
+timely_writes insn = let found = has_unit insn in timely (op_of insn) (operands_of insn) found.0 found.1
+
+timely_write : (insn : Insn) (reg : Reg) (d : ℕ) → Contains (register_writes insn) (reg, d) → IsTimely (op_of insn) (reg, d)
+timely_write insn reg d h = All-contains (IsTimely (op_of insn)) (register_writes insn) (reg, d) (timely_writes insn) h
+
+-- every write lands at most four cycles after the issue
+pub writes_delay : (insn : Insn) (reg : Reg) (d : ℕ) → Contains (register_writes insn) (reg, d) → d ≤ 4
+writes_delay insn reg d h = (timely_write insn reg d h).0
+
+-- and within the delay of the instruction
+pub writes_delay_of : (insn : Insn) (reg : Reg) (d : ℕ) → Contains (register_writes insn) (reg, d) → d ≤ delay_of (op_of insn)
+writes_delay_of insn reg d h = (timely_write insn reg d h).1
+
+get_one : (x v : Reg × ℕ) (i : ℕ) → slice_get (x ∷ []) i ≡ Some v → i ≡ 0
+get_one x v zero h = refl
+get_one x v (suc i) h = cc
+
+apart_one : (x v w : Reg × ℕ) (i j : ℕ) → slice_get (x ∷ []) i ≡ Some v → slice_get (x ∷ []) j ≡ Some w → i ≢ j → v.1 ≢ w.1
+apart_one x v w i j a b ne = absurd (ne (cc (get_one x v i a, get_one x w j b)))
+
+apart_two : (x y v w : Reg × ℕ) (i j : ℕ) → x.1 ≢ y.1
+    → slice_get (x ∷ y ∷ []) i ≡ Some v → slice_get (x ∷ y ∷ []) j ≡ Some w → i ≢ j → v.1 ≢ w.1
+apart_two x y v w zero zero d a b ne = absurd (ne refl)
+apart_two x y v w zero (suc zero) d a b ne = λ e. d (cc)
+apart_two x y v w (suc zero) zero d a b ne = λ e. d (cc)
+apart_two x y v w (suc zero) (suc zero) d a b ne = absurd (ne refl)
+apart_two x y v w (suc (suc i)) j d a b ne = cc
+apart_two x y v w i (suc (suc j)) d a b ne = cc
+
+apart_some : (c l : Bool) (x y v w : Reg × ℕ) (i j : ℕ) → (l ≡ true → x.1 ≢ y.1)
+    → slice_get ((if c then x ∷ [] else []) ++ (if l then y ∷ [] else [])) i ≡ Some v
+    → slice_get ((if c then x ∷ [] else []) ++ (if l then y ∷ [] else [])) j ≡ Some w → i ≢ j → v.1 ≢ w.1
+apart_some true true x y v w i j d a b ne = apart_two x y v w i j (d refl) a b ne
+apart_some true false x y v w i j d a b ne = apart_one x v w i j a b ne
+apart_some false true x y v w i j d a b ne = apart_one y v w i j a b ne
+apart_some false false x y v w i j d a b ne = cc
+
+load_is_later : (op : Op) (reg base : Reg) → is_load op ≡ true → 0 ≢ delay_of op
+load_is_later op reg base h = omega (arith, load_delay op h)
+
+apart : (op : Op) (operands : Operands) (v w : Reg × ℕ) (i j : ℕ)
+    → slice_get (writes_of op operands) i ≡ Some v → slice_get (writes_of op operands) j ≡ Some w → i ≢ j → v.1 ≢ w.1
+apart op (Three x y d) v w i j a b ne = apart_one (d, delay_of op) v w i j a b ne
+apart op (ConstantFirst k x d) v w i j a b ne = apart_one (d, delay_of op) v w i j a b ne
+apart op (ConstantSecond x k d) v w i j a b ne = apart_one (d, delay_of op) v w i j a b ne
+apart op (Two x d) v w i j a b ne = apart_one (d, delay_of op) v w i j a b ne
+apart op (Field x k m d) v w i j a b ne = apart_one (d, delay_of op) v w i j a b ne
+apart op (Constant k d) v w i j a b ne = apart_one (d, delay_of op) v w i j a b ne
+apart op (Access reg base form offset) v w i j a b ne =
+    apart_some (changes_base form) (is_load op) (base, 0) (reg, delay_of op) v w i j (load_is_later op reg base) a b ne
+apart op (Block number) v w i j a b ne = cc
+apart op (Register target) v w i j a b ne = cc
+
+-- two writes of one instruction have different delays, so they never land in one cycle
+pub writes_distinct : (insn : Insn) (reg other : Reg) (i j d e : ℕ)
+    → slice_get (register_writes insn) i ≡ Some (reg, d) → slice_get (register_writes insn) j ≡ Some (other, e) → i ≢ j → d ≢ e
+writes_distinct insn reg other i j d e a b ne = apart (op_of insn) (operands_of insn) (reg, d) (other, e) i j a b ne
+
+few_access_reads : (s : Bool) (reg base : Reg) (offset : Offset) → length ((if s then reg ∷ [] else []) ++ base ∷ offset_reads offset) ≤ 3
+few_access_reads true reg base (ByConstant k) = omega arith
+few_access_reads true reg base (ByRegister r) = omega arith
+few_access_reads false reg base (ByConstant k) = omega arith
+few_access_reads false reg base (ByRegister r) = omega arith
+
+few_destination_reads : (b : Bool) (d : Reg) → length (if b then d ∷ [] else []) ≤ 3
+few_destination_reads true d = omega arith
+few_destination_reads false d = omega arith
+
+few_reads : (op : Op) (operands : Operands) → length (reads_of op operands) ≤ 3
+few_reads op (Three a b d) = omega arith
+few_reads op (ConstantFirst k a d) = omega arith
+few_reads op (ConstantSecond a k d) = omega arith
+few_reads op (Two a d) = omega arith
+few_reads op (Field a k m d) = omega arith
+few_reads op (Constant k d) = few_destination_reads (reads_destination op) d
+few_reads op (Access reg base form offset) = few_access_reads (is_store op) reg base offset
+few_reads op (Block number) = omega arith
+few_reads op (Register target) = omega arith
+
+-- the operands read at most three registers, repeats counted
+pub reads_at_most_three : (insn : Insn) → length (operand_reads insn) ≤ 3
+reads_at_most_three insn = few_reads (op_of insn) (operands_of insn)
+
+-- and so one register at most three times
+pub reads_count_at_most_three : (reg : Reg) (insn : Insn) → reads_count reg insn ≤ 3
+reads_count_at_most_three reg insn =
+    omega (arith, count_by-le-length (λ read. same_reg read reg) (operand_reads insn), reads_at_most_three insn)

@@ -1,0 +1,86 @@
+-- A search through the cycles, and in each through the units.
+use Rattle.std.proofs.Common.{arith, ◌≡◌, ℕ, ◌+◌, ◌*◌, ◌<◌, ◌≤◌, ℤ, pos, ◌≤ℤ◌, ◌+ℤ◌, List, length, get_or, Option, Some, None, Bool, true, false, inl, inr, ◌⊎◌, sym, ap, subst, refl, ◌∙◌}
+use Rattle.std.specs.Prelude.{slice_get, IsTrue}
+use Rattle.std.proofs.lemmas.Bool.{cases_lt, cases_eq, false≢true}
+use Rattle.std.proofs.lemmas.Int.{ints}
+use Rattle.std.proofs.lemmas.Option.{slice_get_read}
+use Rattle.c62_insn.specs.declared.register.Unit.{Unit as FunctionalUnit}
+use Rattle.c62_insn.specs.declared.insn.Insn.{Insn}
+use Rattle.c62_insn.specs.Units.{index_of}
+use Rattle.c62_insn.specs.Fault.{all_units}
+use Rattle.c62_insn.proofs.UnitOrder.{same_index, index_of-below, index_of-listed}
+use Rattle.c62_tool.specs.declared.spot.Spot.{Spot}
+use Rattle.c62_tool.specs.Lawful.{Spots, IsAt, spot_at, placed, IsLawful}
+use Rattle.c62_tool.specs.Least.{IsReady, IsAfter, IsEarly, IsLeast, HasNoSpot, Precedes}
+use Rattle.c62_tool.specs.Packet.{Suits}
+use Rattle.c62_tool.proofs.Placing.{spot_at-placed_same, lawful_from_suits, after_from_lawful, suits_from_lawful}
+
+-- all bounds are kept in this cycle, and no spot is lawful in an earlier one, or in this one on an earlier unit
+pub record IsSearched (block : List Insn) (set : Spots) (i cycle k : ℕ) : Type 0 where
+  pub after : IsAfter block set i cycle
+  pub none_there : (t : Spot) → (t.cycle < cycle) ⊎ ((t.cycle ≡ cycle) × (index_of t.unit < k)) → IsLawful block (placed set i t) → ⊥
+
+abbrev spot_on : ℕ → FunctionalUnit → Spot
+spot_on cycle unit = record { cycle = cycle; unit = unit }
+
+module _ (block : List Insn) (set : Spots) (i : ℕ) (insn : Insn) (lawful : IsLawful block set) (in_block : i < length block) (read : insn ≡ get_or block i insn) (ready : IsReady block set i) where
+  at : slice_get block i ≡ Some insn
+  at = slice_get_read block (length block) i insn refl in_block read
+
+  pub searched_none : (cycle : ℕ) → IsEarly block set i cycle → IsSearched block set i cycle 0
+  searched_none cycle early = record {
+    after = early.after;
+    none_there = λ t there new. elim there [
+      | inl lt ↦ (let least = early.least t.cycle (after_from_lawful block set i insn t lawful at in_block ready.free new) in absurd (omega arith))
+      | inr w ↦ absurd (omega (arith, w.1))
+    ];
+  }
+
+  pub searched_unit : (cycle k : ℕ) (unit d : FunctionalUnit) → k < 8 → unit ≡ get_or all_units k d
+      → (Suits block set insn (record { cycle = cycle; unit = unit }) → ⊥) → IsSearched block set i cycle k → IsSearched block set i cycle (k + 1)
+  searched_unit cycle k unit d lt is unsuited before = record {
+    after = before.after;
+    none_there = λ t there new. elim there [
+      | inl earlier ↦ before.none_there t (inl earlier) new
+      | inr w ↦ elim (cases_eq (index_of t.unit) k) [
+        | inr ne ↦ before.none_there t (inr (w.0, omega (arith, w.1, ne))) new
+        | inl e ↦
+            (let place : index_of unit ≡ k = ap index_of is ∙ index_of-listed k d lt in
+            let same : t.unit ≡ unit = same_index t.unit unit (e ∙ sym place) in
+            let spot : t ≡ record { cycle = cycle; unit = unit } = ap (λ (c : ℕ). spot_on c t.unit) w.0 ∙ ap (spot_on cycle) same in
+            unsuited (subst (Suits block set insn) spot (suits_from_lawful block set i insn t lawful at in_block ready.free new)))
+      ]
+    ];
+  }
+
+  pub searched_cycle : (cycle k : ℕ) → 8 ≤ k → IsSearched block set i cycle k → IsSearched block set i (cycle + 1) 0
+  searched_cycle cycle k all before = record {
+    after = λ h bound s w is. (let kept = before.after h bound s w is in omega (arith, ints, kept));
+    none_there = λ t there new. elim there [
+      | inl lt ↦ elim (cases_eq t.cycle cycle) [
+        | inl e ↦ before.none_there t (inr (e, omega (arith, index_of-below t.unit))) new
+        | inr ne ↦ before.none_there t (inl (omega arith)) new
+      ]
+      | inr w ↦ absurd (omega (arith, w.1))
+    ];
+  }
+
+  pub searched_found : (cycle k : ℕ) (unit d : FunctionalUnit) → k < 8 → unit ≡ get_or all_units k d → cycle < 5 * length block
+      → Suits block set insn (record { cycle = cycle; unit = unit }) → IsSearched block set i cycle k → IsLeast block set i (record { cycle = cycle; unit = unit })
+  searched_found cycle k unit d lt is below suits before = record {
+    lawful = lawful_from_suits block set i insn (record { cycle = cycle; unit = unit }) lawful at in_block ready.free ready before.after below suits;
+    first = λ t new. elim (cases_lt t.cycle cycle) [
+      | inl earlier ↦ absurd (before.none_there t (inl earlier) new)
+      | inr ge ↦ elim (cases_lt cycle t.cycle) [
+        | inl later ↦ inl later
+        | inr le ↦ elim (cases_lt (index_of t.unit) k) [
+          | inl low ↦ absurd (before.none_there t (inr (omega arith, low)) new)
+          | inr high ↦ (let place : index_of unit ≡ k = ap index_of is ∙ index_of-listed k d lt in inr (omega arith, omega arith))
+        ]
+      ]
+    ];
+  }
+
+  pub searched_all : (cycle : ℕ) → 5 * length block ≤ cycle → IsSearched block set i cycle 0 → HasNoSpot block set i
+  searched_all cycle all before t new =
+      before.none_there t (inl (omega (arith, new.within i t (spot_at-placed_same set i t (omega (arith, lawful.sized)))))) new

@@ -1,0 +1,3 @@
+MVK 5,A1
+MVK 7,A2
+ADD A1,A2,A3
