@@ -34,13 +34,14 @@ hexadecimal_of (d ∷ ds) =
     if nat_le (length ds) 7 && are_digits 16 (d ∷ ds) then Some (digits_value 16 (d ∷ ds))
     else None
 
+-- a hexadecimal number behind `0x`, or a decimal one
 unfoldable pub magnitude_of : List ℕ → Option ℕ
 magnitude_of word = if starts_with nat_eq word (codes "0x") then hexadecimal_of (drop 2 word) else decimal_of word
 
 abbrev pub negative : ℕ → ℤ
 negative n = neg_ℤ (pos n)
 
--- a magnitude, behind one sign or none
+-- a magnitude, behind one `-` or `+` or none
 unfoldable pub signed_of : List ℕ → Option ℤ
 signed_of [] = None
 signed_of (b ∷ ds) =
@@ -55,7 +56,7 @@ in_range z = if int_le (negative 2147483648) z && int_le z (pos 4294967295) then
 unfoldable pub number_of : List ℕ → Option ℤ
 number_of word = option_and_then in_range (signed_of word)
 
--- the file that a letter names
+-- the file that `A` or `B` names, in either case
 abbrev pub file_of : ℕ → Option Side
 file_of b = if b == 65 || b == 97 then Some A else (if b == 66 || b == 98 then Some B else None)
 

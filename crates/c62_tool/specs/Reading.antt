@@ -20,7 +20,7 @@ use Rattle.c62_insn.specs.declared.register.Reg.{Reg}
 use Rattle.c62_insn.specs.declared.register.Side.{Side}
 use Rattle.c62_insn.specs.declared.register.Side.TheVariants.{A, B}
 use Rattle.c62_insn.specs.declared.register.Unit.{Unit as FunctionalUnit}
-use Rattle.c62_tool.specs.Text.{begins, code_of, is_allowed, lines_of, skip_blanks, tokens}
+use Rattle.c62_tool.specs.Text.{begins, code_of, is_allowed, is_dot, lines_of, skip_blanks, tokens}
 use Rattle.c62_tool.specs.Number.{spells, number_of, register_of}
 use Rattle.c62_tool.specs.declared.fault.LineFault.{LineFault}
 use Rattle.c62_tool.specs.declared.fault.LineFault.TheVariants.{NotAscii, LineTooLong, ParallelBar, BadLabel, Directive, UnknownMnemonic, BadUnit, BadOperand, Form, TooManyInstructions}
@@ -47,6 +47,7 @@ parts_of insn = record { op = op_of insn; operands = operands_of insn; cond = co
 
 -- ---- mnemonics
 
+-- ADD, SUB and MVK, in either case
 unfoldable pub mnemonic_of : List ℕ → Option Mnemonic
 mnemonic_of word =
     if spells (codes "ADD") word then Some Add
@@ -65,9 +66,11 @@ has_letter mnemonic letter = list_any (λ form. same_letter form.letter letter) 
 
 -- ---- units
 
+-- `X` in either case
 abbrev pub is_x : ℕ → Bool
 is_x b = b == 88 || b == 120
 
+-- `T` in either case
 abbrev pub is_t : ℕ → Bool
 is_t b = b == 84 || b == 116
 
@@ -83,6 +86,7 @@ unit_length (dot ∷ []) = 0
 unit_length (dot ∷ letter ∷ []) = 0
 unit_length (dot ∷ letter ∷ digit ∷ rest) = if is_ascii_alphabetic letter && is_ascii_digit digit then 3 + suffix_length rest else 0
 
+-- `L`, `S`, `M` and `D` in either case
 abbrev pub letter_of : ℕ → Option Letter
 letter_of b =
     if b == 76 || b == 108 then Some L
@@ -91,7 +95,7 @@ letter_of b =
     else if b == 68 || b == 100 then Some D
     else None
 
--- the side that a digit names
+-- the digits `1` and `2`
 abbrev pub side_of : ℕ → Option Side
 side_of b = if b == 49 then Some A else (if b == 50 then Some B else None)
 
@@ -202,9 +206,6 @@ abbrev pub put_back : List ℕ → List (List ℕ) → List (List ℕ)
 put_back [] words = words
 put_back (b ∷ left) words = (b ∷ left) ∷ words
 
-abbrev pub is_dot : ℕ → Bool
-is_dot b = b == 46
-
 abbrev pub after_unit : Mnemonic → Option WrittenUnit → List (List ℕ) → Result Parts LineFault
 after_unit mnemonic (Some written) words = said_with mnemonic (Some written) words
 after_unit mnemonic None words = Err BadUnit
@@ -233,6 +234,7 @@ instruction_of (word ∷ words) =
     else if spells (codes "[") word then Err BadOperand
     else after_mnemonic (mnemonic_of word) words
 
+-- `:`
 abbrev pub is_colon : ℕ → Bool
 is_colon b = b == 58
 

@@ -24,19 +24,23 @@ fn turns_flag<'a>(alloc: Global) -> Arg<'a>
     Arg::new(alloc, "turns")
         .long("turns")
         .action(ArgAction::SetTrue)
+        .help("Packs on one thread, one side after the other")
 }
 
 fn pack_command<'a>(alloc: Global) -> Result<Command<'a>, AllocError>
     ensures app { IfOk result (λ c. app_of c ≡ pack_app) }
     ensures local { IfOk result (λ c. (fields_of c).has_globals ≡ false) }
 {
-    Command::new(alloc, "pack").arg(turns_flag(alloc))
+    Command::new(alloc, "pack")
+        .about("Reads serial text and writes its listing")
+        .arg(turns_flag(alloc))
 }
 
 fn tool_command<'a>(alloc: Global) -> Result<Command<'a>, AllocError>
     ensures { IfOk result (λ c. app_of c ≡ tool_app) }
 {
     Command::new(alloc, "c62")
+        .about("Packs TMS320C62x instructions into execute packets")
         .no_binary_name(true)
         .subcommand_required(true)
         .subcommand(pack_command(alloc)?)

@@ -1,4 +1,4 @@
-//! Why a text is refused.
+//! Why a text is refused (docs/SERIAL_TEXT.md).
 
 ghost use Rattle.std.specs.Prelude.{◌≡◌};
 ghost use Rattle.c62_tool.specs.declared.fault.ReadError.TheVariants.{Memory};

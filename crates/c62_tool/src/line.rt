@@ -1,4 +1,4 @@
-//! What a line says.
+//! What a line says (docs/SERIAL_TEXT.md).
 
 ghost use Rattle.std.specs.Prelude.{◌≡◌, ◌==◌, ◌≤◌, ◌∷◌, [], length, Option, ℤ, ℕ, MatchOption};
 ghost use Rattle.std.specs.List.{list_all, list_any};

@@ -1,4 +1,4 @@
-//! What a text says.
+//! What a text says (docs/SERIAL_TEXT.md).
 
 ghost use Rattle.std.specs.Prelude.{◌≡◌, ◌<◌, ◌≤◌, ◌+◌, ◌∷◌, [], nat_lt, length, take, drop, MatchOption, IfOk, IfSome, OnOk, IfErr, Ok};
 ghost use Rattle.c62_tool.specs.Text.{line_end, lines_of};

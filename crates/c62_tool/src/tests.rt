@@ -63,25 +63,47 @@ impl Write for Full {
 }
 
 /// Words and a text, and the listing of the text.
-const LISTED: [(&[&str], &[u8], &str); 9] = [
+const LISTED: [(&[&str], &[u8], &str); 22] = [
     (&[], b"", ""),
-    (&["pack"], b"\n; nothing\n* nothing\r\n", ""),
+    (&["pack"], b"\r\n* \n", ""),
     (
         &[],
-        b"MVK 5,A1\nMVK 7,A2\nADD A1,A2,A3",
+        b"MVK 5,A1\nMVK 7,A2\nADD A1,A2,A3\n",
         "   MVK .S1 5,A1\n   MVK .S1 7,A2\n   ADD .L1 A1,A2,A3\n",
     ),
-    // the constant of ADD: the units whose range holds it
     (
         &["pack", "--turns"],
+        b"MVK 1,A1\nADD A1,A1,A2\nSUB A2,A1,A1\nADD A3,A4,A5\n",
+        "   ADD .L1 A3,A4,A5\n|| MVK .S1 1,A1\n   ADD .L1 A1,A1,A2\n   SUB .L1 A2,A1,A1\n",
+    ),
+    (
+        &["pack"],
+        b" mvk\t-0x8000 , a15 ; least\r\n* L: no line\n\nMVK .s1 +32767,A0",
+        "   MVK .S1 -32768,A15\n   MVK .S1 32767,A0\n",
+    ),
+    (&["pack", "--"], b"ADD 20,A2,A3", "   ADD .D1 A2,20,A3\n"),
+    (&["pack"], b"ADD A2,20,A3", "   ADD .D1 A2,20,A3\n"),
+    (&["pack"], b"ADD A2,0xf,A3", "   ADD .L1 15,A2,A3\n"),
+    (&["pack"], b"ADD -16,A2,A3", "   ADD .L1 -16,A2,A3\n"),
+    (&["pack"], b"SUB A2,16,A3", "   SUB .L1 A2,16,A3\n"),
+    (&["pack"], b"SUB A2,17,A3", "   SUB .D1 A2,17,A3\n"),
+    (&["pack"], b"SUB -0,A2,A3", "   SUB .L1 0,A2,A3\n"),
+    (&["pack"], b"MVK .S15,A1", "   MVK .S1 5,A1\n"),
+    (&["pack"], b"MVK .s1-5,A1", "   MVK .S1 -5,A1\n"),
+    (&["pack"], b"MVK-5,A1", "   MVK .S1 -5,A1\n"),
+    (&["pack"], b"ADD.S1 A1,A2,A3", "   ADD .S1 A1,A2,A3\n"),
+    (&["pack"], b"ADD .D1A1,A2,A3", "   ADD .D1 A1,A2,A3\n"),
+    (&["pack"], b"sub.l1a1,a2,a3;a:b", "   SUB .L1 A1,A2,A3\n"),
+    // the units whose range holds the constant
+    (
+        &["pack"],
         b"ADD 20,A2,A3\nadd a2 , -16 , a4\nADD .s1 A2,15,A5",
         "   ADD .L1 -16,A2,A4\n|| ADD .S1 15,A2,A5\n|| ADD .D1 A2,20,A3\n",
     ),
-    // a later number in an earlier cycle
     (
         &["pack"],
-        b"MVK 1,A1\nADD A1,A1,A2\nSUB A2,A1,A1\nADD A3,A4,A5",
-        "   ADD .L1 A3,A4,A5\n|| MVK .S1 1,A1\n   ADD .L1 A1,A1,A2\n   SUB .L1 A2,A1,A1\n",
+        b"SUB 3,A1,A2\nSUB A3,16,A4\nSUB A5,31,A6",
+        "   SUB .L1 3,A1,A2\n|| SUB .S1 A3,16,A4\n|| SUB .D1 A5,31,A6\n",
     ),
     // a fifth read of A1
     (
@@ -94,18 +116,6 @@ const LISTED: [(&[&str], &[u8], &str); 9] = [
         &["pack"],
         b"ADD A1,A2,A3\nSUB A1,A2,A4\nADD A5,A6,A7\nSUB .L1 A8,A9,A10",
         "   ADD .L1 A1,A2,A3\n|| SUB .S1 A1,A2,A4\n|| ADD .D1 A5,A6,A7\n   SUB .L1 A8,A9,A10\n",
-    ),
-    // the two constant places of SUB
-    (
-        &["pack"],
-        b"SUB 3,A1,A2\nSUB A3,16,A4\nSUB A5,31,A6",
-        "   SUB .L1 3,A1,A2\n|| SUB .S1 A3,16,A4\n|| SUB .D1 A5,31,A6\n",
-    ),
-    // a unit's token ends where its grammar ends
-    (
-        &["pack"],
-        b"\tmvk.S15,A1;c\r\nMVK-5,a2\r\n",
-        "   MVK .S1 5,A1\n   MVK .S1 -5,A2\n",
     ),
 ];
 
@@ -257,7 +267,7 @@ fn listings(rt: HostRuntime) -> Result<(), Fail> {
 
 /// As many instructions as a block may have.
 #[test]
-fn a_full_block(rt: HostRuntime) -> Result<(), Fail> {
+fn longest_block(rt: HostRuntime) -> Result<(), Fail> {
     let mut text = Vec::new(rt.alloc());
     let mut listing = Vec::new(rt.alloc());
     for _ in 0..256 {
@@ -270,6 +280,7 @@ fn a_full_block(rt: HostRuntime) -> Result<(), Fail> {
     let status = run_tool(&rt, &["pack"], &mut input, &mut output, &mut errors);
     assert_eq!(rt; status, 0);
     assert_eq!(rt; output.as_slice(), listing.as_slice());
+    assert!(rt; errors.is_empty());
     Ok(())
 }
 
@@ -351,15 +362,17 @@ fn readers_that_fail(rt: HostRuntime) -> Result<(), Fail> {
 
 #[test]
 fn writers_that_fail(rt: HostRuntime) -> Result<(), Fail> {
-    let mut input: &[u8] = b"MVK 5,A1\n";
-    let mut errors = Vec::new(rt.alloc());
-    let mut full = Full {
-        writes: 0,
-        fails: true,
-    };
-    let status = run_tool(&rt, &["pack"], &mut input, &mut full, &mut errors);
-    assert_eq!(rt; status, 4);
-    assert_eq!(rt; errors.as_slice(), b"output\n".as_slice());
+    // The listing has 16 bytes.
+    for writes in 0..16 {
+        for fails in [true, false] {
+            let mut input: &[u8] = b"MVK 5,A1\n";
+            let mut errors = Vec::new(rt.alloc());
+            let mut full = Full { writes, fails };
+            let status = run_tool(&rt, &["pack"], &mut input, &mut full, &mut errors);
+            assert_eq!(rt; status, 4);
+            assert_eq!(rt; errors.as_slice(), b"output\n".as_slice());
+        }
+    }
 
     // A failure of the error stream changes no status.
     let rows: [(&[&str], u8); 2] = [(&["pack"], 1), (&["frob"], 2)];
