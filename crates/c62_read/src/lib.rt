@@ -1,0 +1,5 @@
+//! Reads serial assembly text.
+#![tactic(auto)]
+
+mod number;
+mod token;
