@@ -54,6 +54,27 @@ impl Insn {
         }
     }
 
+    /// The operation.
+    pub fn op(self) -> Op
+        ensures { result ≡ op_of self }
+    {
+        self.op
+    }
+
+    /// The operands.
+    pub fn operands(self) -> Operands
+        ensures { result ≡ operands_of self }
+    {
+        self.operands
+    }
+
+    /// The unit that was written, if one was.
+    pub fn unit(self) -> Option<Unit>
+        ensures { result ≡ unit_of self }
+    {
+        self.unit
+    }
+
     /// Whether an operand comes over the cross path to `unit`.
     pub fn crosses(self, unit: Unit) -> bool
         ensures { result ≡ crosses_to unit.side (operands_of self) }

@@ -1,6 +1,8 @@
 //! The program c62.
 #![tactic(auto)]
 
+mod listing;
+mod spelling;
 mod spot;
 
 fn main(rt: HostRuntime) {

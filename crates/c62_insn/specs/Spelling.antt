@@ -1,0 +1,167 @@
+-- The one spelling of an instruction on a unit (docs/LISTING.md, "Instructions").
+use Rattle.std.specs.Prelude.{ℕ, Bool, true, false, if◌then◌else◌, List, [], ◌∷◌, ◌++◌, ℤ, pos, Option, Some, None, codes, decimal}
+use Rattle.std.specs.Fmt.{signed_decimal}
+use Rattle.std.specs.Ordering.{int_eq}
+use Rattle.c62_insn.specs.declared.register.Side.{Side}
+use Rattle.c62_insn.specs.declared.register.Side.TheVariants.{A, B}
+use Rattle.c62_insn.specs.declared.register.Letter.{Letter}
+use Rattle.c62_insn.specs.declared.register.Letter.TheVariants.{L, S, M, D}
+use Rattle.c62_insn.specs.declared.register.Reg.{Reg}
+use Rattle.c62_insn.specs.declared.register.Cond.{Cond as Condition}
+use Rattle.c62_insn.specs.declared.register.Unit.{Unit as FunctionalUnit}
+use Rattle.c62_insn.specs.declared.operands.Op.{Op}
+use Rattle.c62_insn.specs.declared.operands.Op.TheVariants.{Add, Sub, And, Or, Xor, Cmpeq, Cmpgt, Cmplt, Cmpgtu, Cmpltu, Abs, Shl, Shr, Shru, Ext, Extu, Add2, Sub2, Mvk, Mvklh, Addk, Mpy, Mpyu, Mpyus, Mpysu, Mpyh, Mpyhu, Mpyhl, Mpylh, Addab, Addah, Addaw, Ldb, Ldbu, Ldh, Ldhu, Ldw, Stb, Sth, Stw, B as Branch}
+use Rattle.c62_insn.specs.declared.operands.AddressForm.{AddressForm}
+use Rattle.c62_insn.specs.declared.operands.AddressForm.TheVariants.{Plus, Minus, PreIncrement, PreDecrement, PostIncrement, PostDecrement}
+use Rattle.c62_insn.specs.declared.operands.Offset.{Offset}
+use Rattle.c62_insn.specs.declared.operands.Offset.TheVariants.{Constant as ByConstant, Register as ByRegister}
+use Rattle.c62_insn.specs.declared.operands.Operands.{Operands}
+use Rattle.c62_insn.specs.declared.operands.Operands.TheVariants.{Three, ConstantFirst, ConstantSecond, Two, Field, Constant, Access, Block, Register}
+use Rattle.c62_insn.specs.declared.insn.Insn.{Insn}
+use Rattle.c62_insn.specs.Takes.{same_letter}
+use Rattle.c62_insn.specs.Shape.{is_store, data_path_of, crosses_to}
+use Rattle.c62_insn.specs.Insn.{op_of, operands_of, cond_of}
+
+-- the name of an operation
+abbrev pub mnemonic_of : Op → List ℕ
+mnemonic_of Add = codes "ADD"
+mnemonic_of Sub = codes "SUB"
+mnemonic_of And = codes "AND"
+mnemonic_of Or = codes "OR"
+mnemonic_of Xor = codes "XOR"
+mnemonic_of Cmpeq = codes "CMPEQ"
+mnemonic_of Cmpgt = codes "CMPGT"
+mnemonic_of Cmplt = codes "CMPLT"
+mnemonic_of Cmpgtu = codes "CMPGTU"
+mnemonic_of Cmpltu = codes "CMPLTU"
+mnemonic_of Abs = codes "ABS"
+mnemonic_of Shl = codes "SHL"
+mnemonic_of Shr = codes "SHR"
+mnemonic_of Shru = codes "SHRU"
+mnemonic_of Ext = codes "EXT"
+mnemonic_of Extu = codes "EXTU"
+mnemonic_of Add2 = codes "ADD2"
+mnemonic_of Sub2 = codes "SUB2"
+mnemonic_of Mvk = codes "MVK"
+mnemonic_of Mvklh = codes "MVKLH"
+mnemonic_of Addk = codes "ADDK"
+mnemonic_of Mpy = codes "MPY"
+mnemonic_of Mpyu = codes "MPYU"
+mnemonic_of Mpyus = codes "MPYUS"
+mnemonic_of Mpysu = codes "MPYSU"
+mnemonic_of Mpyh = codes "MPYH"
+mnemonic_of Mpyhu = codes "MPYHU"
+mnemonic_of Mpyhl = codes "MPYHL"
+mnemonic_of Mpylh = codes "MPYLH"
+mnemonic_of Addab = codes "ADDAB"
+mnemonic_of Addah = codes "ADDAH"
+mnemonic_of Addaw = codes "ADDAW"
+mnemonic_of Ldb = codes "LDB"
+mnemonic_of Ldbu = codes "LDBU"
+mnemonic_of Ldh = codes "LDH"
+mnemonic_of Ldhu = codes "LDHU"
+mnemonic_of Ldw = codes "LDW"
+mnemonic_of Stb = codes "STB"
+mnemonic_of Sth = codes "STH"
+mnemonic_of Stw = codes "STW"
+mnemonic_of Branch = codes "B"
+
+-- a register file, and the number of its units and of its data path
+abbrev pub file_letter : Side → List ℕ
+file_letter A = codes "A"
+file_letter B = codes "B"
+
+abbrev pub side_digit : Side → List ℕ
+side_digit A = codes "1"
+side_digit B = codes "2"
+
+abbrev pub unit_letter : Letter → List ℕ
+unit_letter L = codes "L"
+unit_letter S = codes "S"
+unit_letter M = codes "M"
+unit_letter D = codes "D"
+
+-- `A4`
+abbrev pub register_name : Reg → List ℕ
+register_name reg = file_letter reg.side ++ decimal reg.number
+
+-- `[A1] ` or `[!A1] `
+abbrev pub condition_spelling : Option Condition → List ℕ
+condition_spelling None = []
+condition_spelling (Some cond) = codes "[" ++ (if cond.negated then codes "!" else []) ++ register_name cond.reg ++ codes "] "
+
+-- of a unit, X where an operand crosses on it, and T with the number of the data path of a load or store
+abbrev pub data_path_spelling : Option Side → List ℕ
+data_path_spelling None = []
+data_path_spelling (Some path) = codes "T" ++ side_digit path
+
+abbrev pub path_spelling : Side → Operands → List ℕ
+path_spelling side operands = (if crosses_to side operands then codes "X" else []) ++ data_path_spelling (data_path_of operands)
+
+-- `.L1`, `.S2X` or `.D1T2`
+abbrev pub unit_spelling : Operands → FunctionalUnit → List ℕ
+unit_spelling operands unit = codes "." ++ unit_letter unit.letter ++ side_digit unit.side ++ path_spelling unit.side operands
+
+abbrev pub offset_spelling : Offset → List ℕ
+offset_spelling (ByConstant k) = signed_decimal k
+offset_spelling (ByRegister reg) = register_name reg
+
+-- what stands before the base, and what after it
+abbrev pub sign_of : AddressForm → List ℕ
+sign_of Plus = codes "+"
+sign_of Minus = codes "-"
+sign_of PreIncrement = codes "++"
+sign_of PreDecrement = codes "--"
+sign_of _ = []
+
+abbrev pub step_of : AddressForm → List ℕ
+step_of PostIncrement = codes "++"
+step_of PostDecrement = codes "--"
+step_of _ = []
+
+-- `*+R[0]`, which is written `*R`
+abbrev pub is_base_alone : AddressForm → Offset → Bool
+is_base_alone Plus (ByConstant k) = int_eq k (pos 0)
+is_base_alone _ _ = false
+
+-- `*A4`, `*+A4[1]` or `*A4++[A2]`
+abbrev pub address_spelling : Reg → AddressForm → Offset → List ℕ
+address_spelling base form offset =
+    if is_base_alone form offset then codes "*" ++ register_name base
+    else codes "*" ++ sign_of form ++ register_name base ++ step_of form ++ codes "[" ++ offset_spelling offset ++ codes "]"
+
+-- operands one behind the other
+abbrev pub with_commas : List (List ℕ) → List ℕ
+with_commas [] = []
+with_commas (text ∷ []) = text
+with_commas (text ∷ next ∷ rest) = text ++ codes "," ++ with_commas (next ∷ rest)
+
+-- a source, the two constants of a field and the destination
+abbrev pub field_spelling : Reg → ℤ → ℤ → Reg → List ℕ
+field_spelling a k m d = with_commas (register_name a ∷ signed_decimal k ∷ signed_decimal m ∷ register_name d ∷ [])
+
+-- a store's register stands before the address, a load's after it
+abbrev pub access_spelling : Op → Reg → List ℕ → List ℕ
+access_spelling op reg address =
+    if is_store op then with_commas (register_name reg ∷ address ∷ []) else with_commas (address ∷ register_name reg ∷ [])
+
+-- The operands in the order of the form that a unit of this letter has: .D takes the constant of ADD second. A branch
+-- goes to the block of this name.
+abbrev pub operands_spelling : (ℕ → List ℕ) → Op → Letter → Operands → List ℕ
+operands_spelling name op letter (Three a b d) = with_commas (register_name a ∷ register_name b ∷ register_name d ∷ [])
+operands_spelling name op letter (ConstantFirst k a d) =
+    if same_letter letter D then with_commas (register_name a ∷ signed_decimal k ∷ register_name d ∷ [])
+    else with_commas (signed_decimal k ∷ register_name a ∷ register_name d ∷ [])
+operands_spelling name op letter (ConstantSecond a k d) = with_commas (register_name a ∷ signed_decimal k ∷ register_name d ∷ [])
+operands_spelling name op letter (Two a d) = with_commas (register_name a ∷ register_name d ∷ [])
+operands_spelling name op letter (Field a k m d) = field_spelling a k m d
+operands_spelling name op letter (Constant k d) = with_commas (signed_decimal k ∷ register_name d ∷ [])
+operands_spelling name op letter (Access reg base form offset) = access_spelling op reg (address_spelling base form offset)
+operands_spelling name op letter (Block number) = name number
+operands_spelling name op letter (Register target) = register_name target
+
+-- an instruction on a unit: its condition, its mnemonic, the unit and the operands
+abbrev pub spelling : (ℕ → List ℕ) → Insn → FunctionalUnit → List ℕ
+spelling name insn unit =
+    condition_spelling (cond_of insn) ++ mnemonic_of (op_of insn) ++ codes " " ++ unit_spelling (operands_of insn) unit ++ codes " "
+    ++ operands_spelling name (op_of insn) unit.letter (operands_of insn)
