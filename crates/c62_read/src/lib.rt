@@ -3,3 +3,4 @@
 
 mod number;
 mod token;
+mod operand;
