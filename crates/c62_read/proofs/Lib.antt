@@ -1,3 +1,4 @@
 pub mod Registers
 pub mod TokenLemmas
 pub mod NumberLemmas
+pub mod SourceLemmas

@@ -137,6 +137,11 @@ sources_of [] = None
 sources_of (word ∷ []) = before_sources (source_of word) (Some [])
 sources_of (word ∷ comma ∷ rest) = if spells (codes ",") comma then before_sources (source_of word) (sources_of rest) else None
 
+-- the sources behind a comma, where one was read
+abbrev pub more_sources : Option (Bor (List ℕ)) → Option (List Source)
+more_sources None = Some []
+more_sources (Some rest) = sources_of (tokens rest.now)
+
 -- the kinds of operands without an address or a label
 abbrev pub operands_from : List Source → Option Operands
 operands_from (FromRegister a ∷ []) = Some (Register a)

@@ -1,6 +1,6 @@
 //! Operands as they are written, labels aside.
 
-ghost use Rattle.std.specs.Prelude.{◌≡◌, [], ◌∷◌, IsTrue, ◌↔◌};
+ghost use Rattle.std.specs.Prelude.{◌≡◌, [], ◌∷◌, Some, None, MatchOption};
 ghost use Rattle.c62_read.specs.Text.{tokens};
 
 use crate::number::{number, register, spells};
@@ -22,7 +22,7 @@ pub(crate) enum Source {
     Constant(i64),
 }
 
-ghost use Rattle.c62_read.specs.Operand.{Finds, sign_form, step_form, usual_offset, offset_of, bracketed, with_offset, signed_address, stepped_address, address_of, access, loaded_of, stored_of, source_of, operands_from, plain_of, operands_of};
+ghost use Rattle.c62_read.specs.Operand.{Finds, sign_form, step_form, usual_offset, offset_of, bracketed, with_offset, signed_address, stepped_address, address_of, access, loaded_of, stored_of, source_of, before_sources, sources_of, more_sources, operands_from, plain_of, operands_of};
 
 /// The form of an address that a sign before the base gives.
 #[tactic(auto, unfolding(crate::specs::Operand::sign_form))]
@@ -190,5 +190,104 @@ fn read_source(word: &[u8]) -> Option<Source>
     match register(word) {
         Some(reg) => Some(Source::Register(reg)),
         None => Some(Source::Constant(number(word)?)),
+    }
+}
+
+/// The first source, and what follows the comma behind it, where one is there
+fn first_source(rest: &[u8]) -> Option<(Source, Option<&[u8]>)>
+    ensures { MatchOption result (sources_of (tokens rest.now) ≡ None) (λ found. sources_of (tokens rest.now) ≡ before_sources (Some found.0) (more_sources found.1)) }
+{
+    let (word, rest) = first_token(rest)?;
+    let Some((comma, rest)) = first_token(rest) else {
+        return Some((read_source(word)?, None));
+    };
+    if spells(b",", comma) {
+        Some((read_source(word)?, Some(rest)))
+    } else {
+        None
+    }
+}
+
+fn one_operand(a: Source) -> Option<Operands>
+    ensures { result ≡ operands_from (a ∷ []) }
+{
+    match a {
+        Source::Register(a) => Some(Operands::Register(a)),
+        Source::Constant(_) => None,
+    }
+}
+
+fn two_operands(a: Source, d: Source) -> Option<Operands>
+    ensures { result ≡ operands_from (a ∷ d ∷ []) }
+{
+    match (a, d) {
+        (Source::Register(a), Source::Register(d)) => Some(Operands::Two(a, d)),
+        (Source::Constant(k), Source::Register(d)) => Some(Operands::Constant(k, d)),
+        (_, Source::Constant(_)) => None,
+    }
+}
+
+fn three_operands(a: Source, b: Source, d: Source) -> Option<Operands>
+    ensures { result ≡ operands_from (a ∷ b ∷ d ∷ []) }
+{
+    let Source::Register(d) = d else {
+        return None;
+    };
+    match (a, b) {
+        (Source::Register(a), Source::Register(b)) => Some(Operands::Three(a, b, d)),
+        (Source::Constant(k), Source::Register(a)) => Some(Operands::ConstantFirst(k, a, d)),
+        (Source::Register(a), Source::Constant(k)) => Some(Operands::ConstantSecond(a, k, d)),
+        (Source::Constant(_), Source::Constant(_)) => None,
+    }
+}
+
+fn four_operands(a: Source, k: Source, m: Source, d: Source) -> Option<Operands>
+    ensures { result ≡ operands_from (a ∷ k ∷ m ∷ d ∷ []) }
+{
+    let (Source::Register(a), Source::Register(d)) = (a, d) else {
+        return None;
+    };
+    match (k, m) {
+        (Source::Constant(k), Source::Constant(m)) => Some(Operands::Field(a, k, m, d)),
+        _ => None,
+    }
+}
+
+/// One to four registers and numbers, with commas between
+#[tactic(auto, using(crate::proofs::SourceLemmas::too_many), unfolding(crate::specs::Operand::plain_of))]
+fn plain(rest: &[u8]) -> Option<Operands>
+    ensures { result ≡ plain_of (tokens rest.now) }
+{
+    let (a, more) = first_source(rest)?;
+    let Some(rest) = more else {
+        return one_operand(a);
+    };
+    let (b, more) = first_source(rest)?;
+    let Some(rest) = more else {
+        return two_operands(a, b);
+    };
+    let (c, more) = first_source(rest)?;
+    let Some(rest) = more else {
+        return three_operands(a, b, c);
+    };
+    let (d, more) = first_source(rest)?;
+    match more {
+        None => four_operands(a, b, c, d),
+        Some(_) => None,
+    }
+}
+
+/// All operands but labels; those of a store begin with its register.
+#[tactic(auto, unfolding(crate::specs::Operand::operands_of))]
+pub(crate) fn read_operands(store: bool, rest: &[u8]) -> Option<Operands>
+    ensures { result ≡ operands_of store (tokens rest.now) }
+{
+    let (first, behind) = first_token(rest)?;
+    if spells(b"*", first) {
+        if store { None } else { loaded(behind) }
+    } else if store {
+        stored(rest)
+    } else {
+        plain(rest)
     }
 }
