@@ -2,3 +2,4 @@ pub mod Registers
 pub mod TokenLemmas
 pub mod NumberLemmas
 pub mod SourceLemmas
+pub mod UnitLemmas

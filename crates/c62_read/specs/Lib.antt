@@ -1,3 +1,5 @@
 pub mod Text
 pub mod Number
 pub mod Operand
+pub mod Mnemonic
+pub mod Unit

@@ -4,3 +4,5 @@
 mod number;
 mod token;
 mod operand;
+mod mnemonic;
+mod unit;
