@@ -3,3 +3,4 @@ pub mod Number
 pub mod Operand
 pub mod Mnemonic
 pub mod Unit
+pub mod Line

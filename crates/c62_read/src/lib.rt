@@ -6,3 +6,7 @@ mod token;
 mod operand;
 mod mnemonic;
 mod unit;
+mod fault;
+mod label;
+mod reading;
+mod form;
