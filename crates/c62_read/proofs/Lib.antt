@@ -3,3 +3,4 @@ pub mod TokenLemmas
 pub mod NumberLemmas
 pub mod SourceLemmas
 pub mod UnitLemmas
+pub mod ColonLemmas

@@ -10,7 +10,7 @@ use Rattle.c62_insn.specs.declared.register.Side.{Side}
 use Rattle.c62_read.specs.declared.unit.Mark.{Mark}
 use Rattle.c62_read.specs.declared.unit.WrittenUnit.{WrittenUnit}
 use Rattle.c62_read.specs.Text.{grow, put_back, begins, is_solid, is_word_byte, is_double, joins, tokens}
-use Rattle.c62_read.specs.Unit.{letter_of, side_numbered, is_x, is_t, mark_of, unit_of, unit_split, is_dot, behind_unit, unit_front}
+use Rattle.c62_read.specs.Unit.{letter_of, side_numbered, is_x, is_t, mark_of, unit_of, unit_split, is_dot, with_left, unit_front}
 use Rattle.c62_read.proofs.TokenLemmas.{tokens_word, tokens_joined, tokens_alone, tokens_double, tokens_last}
 
 -- ---- where no dot stands
@@ -132,7 +132,7 @@ abbrev Split : Type 0
 Split = Option (WrittenUnit × List ℕ)
 
 same_left : (letter : Option Letter) (side : Option Side) (mark : Option Mark) (w rest : List ℕ) → list_all is_word_byte w ≡ true → begins is_word_byte rest ≡ false
-    → option_map (behind_unit (tokens rest)) (unit_of letter side (mark, w)) ≡ option_map with_tokens (unit_of letter side (mark, w ++ rest))
+    → option_map (with_left (tokens rest)) (unit_of letter side (mark, w)) ≡ option_map with_tokens (unit_of letter side (mark, w ++ rest))
 same_left None side mark w rest words ends = refl
 same_left (Some letter) None mark w rest words ends = refl
 same_left (Some letter) (Some side) None w rest words ends = refl
@@ -159,7 +159,7 @@ split_number : (dot letter number : ℕ) (rest : List ℕ) → is_word_byte numb
 unfolding unit_split
 split_number dot letter number rest other = rw (no_side number other) (no_number (letter_of letter) (mark_of rest))
 
-front_word : (w : List ℕ) (words : List (List ℕ)) → unit_front ((46 ∷ w) ∷ words) ≡ option_map (behind_unit words) (unit_split (46 ∷ w))
+front_word : (w : List ℕ) (words : List (List ℕ)) → unit_front ((46 ∷ w) ∷ words) ≡ option_map (with_left words) (unit_split (46 ∷ w))
 unfolding unit_front
 front_word w words = refl
 
@@ -187,19 +187,19 @@ front_unit l n more letter number =
     rw (parts.2.whole, first) (front_word (l ∷ n ∷ w) (tokens rest) ∙ left ∙ ap (λ (m : Option Mark × List ℕ). option_map with_tokens (unit_of (letter_of l) (side_numbered n) m)) (sym is.mark))
 
 front_dot : (start : List ℕ) → begins is_dot (46 ∷ start) ≡ true → unit_front (tokens (46 ∷ start)) ≡ option_map with_tokens (unit_split (46 ∷ start))
-front_dot [] dot = rw (split_alone 46) (front_word [] [] ∙ ap (option_map (behind_unit [])) (split_alone 46))
+front_dot [] dot = rw (split_alone 46) (front_word [] [] ∙ ap (option_map (with_left [])) (split_alone 46))
 front_dot (l ∷ []) dot =
     elim (cases_Bool (is_word_byte l)) [
-      | inl letter ↦ rw (tokens_joined 46 l [] refl (dot_joins l letter), tokens_word (l ∷ []) [] (and_from (is_word_byte l) true letter refl) refl, split_short 46 l) (front_word (l ∷ []) [] ∙ ap (option_map (behind_unit [])) (split_short 46 l))
-      | inr other ↦ rw (tokens_alone 46 l [] refl (dot_single l) (dot_alone l other), split_letter 46 l [] other) (front_word [] (tokens (l ∷ [])) ∙ ap (option_map (behind_unit (tokens (l ∷ [])))) (split_alone 46))
+      | inl letter ↦ rw (tokens_joined 46 l [] refl (dot_joins l letter), tokens_word (l ∷ []) [] (and_from (is_word_byte l) true letter refl) refl, split_short 46 l) (front_word (l ∷ []) [] ∙ ap (option_map (with_left [])) (split_short 46 l))
+      | inr other ↦ rw (tokens_alone 46 l [] refl (dot_single l) (dot_alone l other), split_letter 46 l [] other) (front_word [] (tokens (l ∷ [])) ∙ ap (option_map (with_left (tokens (l ∷ [])))) (split_alone 46))
     ]
 front_dot (l ∷ n ∷ more) dot =
     elim (cases_Bool (is_word_byte l)) [
       | inl letter ↦ elim (cases_Bool (is_word_byte n)) [
         | inl number ↦ front_unit l n more letter number
-        | inr other ↦ rw (tokens_joined 46 l (n ∷ more) refl (dot_joins l letter), tokens_word (l ∷ []) (n ∷ more) (and_from (is_word_byte l) true letter refl) other, split_number 46 l n more other) (front_word (l ∷ []) (tokens (n ∷ more)) ∙ ap (option_map (behind_unit (tokens (n ∷ more)))) (split_short 46 l))
+        | inr other ↦ rw (tokens_joined 46 l (n ∷ more) refl (dot_joins l letter), tokens_word (l ∷ []) (n ∷ more) (and_from (is_word_byte l) true letter refl) other, split_number 46 l n more other) (front_word (l ∷ []) (tokens (n ∷ more)) ∙ ap (option_map (with_left (tokens (n ∷ more)))) (split_short 46 l))
       ]
-      | inr other ↦ rw (tokens_alone 46 l (n ∷ more) refl (dot_single l) (dot_alone l other), split_letter 46 l (n ∷ more) other) (front_word [] (tokens (l ∷ n ∷ more)) ∙ ap (option_map (behind_unit (tokens (l ∷ n ∷ more)))) (split_alone 46))
+      | inr other ↦ rw (tokens_alone 46 l (n ∷ more) refl (dot_single l) (dot_alone l other), split_letter 46 l (n ∷ more) other) (front_word [] (tokens (l ∷ n ∷ more)) ∙ ap (option_map (with_left (tokens (l ∷ n ∷ more)))) (split_alone 46))
     ]
 
 -- where a dot begins the next token, the unit ends where its spelling ends

@@ -55,15 +55,15 @@ unit_split _ = None
 abbrev pub is_dot : ℕ → Bool
 is_dot b = b == 46
 
-abbrev pub behind_unit : List (List ℕ) → WrittenUnit × List ℕ → Option WrittenUnit × List (List ℕ)
-behind_unit rest (unit, left) = (Some unit, put_back left rest)
+abbrev pub with_left : List (List ℕ) → WrittenUnit × List ℕ → Option WrittenUnit × List (List ℕ)
+with_left rest (unit, left) = (Some unit, put_back left rest)
 
 -- The unit behind a mnemonic, where one is written, and the tokens behind it: the unit's token ends where its spelling
 -- ends. There is no answer where a dot begins no unit.
 unfoldable pub unit_front : List (List ℕ) → Option (Option WrittenUnit × List (List ℕ))
 unit_front [] = Some (None, [])
 unit_front (word ∷ rest) =
-    if begins is_dot word then option_map (behind_unit rest) (unit_split word)
+    if begins is_dot word then option_map (with_left rest) (unit_split word)
     else Some (None, word ∷ rest)
 
 -- whether a mark goes with the letter of its unit: X with all but D, T with D on a load or store

@@ -1,6 +1,6 @@
 //! Labels.
 
-ghost use Rattle.std.specs.Prelude.{◌≡◌, ◌≤◌, ℕ, List, take, true, IsTrue, length};
+ghost use Rattle.std.specs.Prelude.{◌≡◌, ◌≤◌, ℕ, List, take, true, IsTrue};
 ghost use Rattle.c62_read.specs.Number.{is_label};
 
 use std::marker::Model;
@@ -23,8 +23,7 @@ impl Model for Label {
 impl Label {
     /// The label that this word is.
     pub(crate) fn new(word: &[u8]) -> Label
-        requires few { length word.now ≤ 32 }
-        requires label { IsTrue (is_label word.now) }
+        requires { IsTrue (is_label word.now) }
         ensures { result ≡ word.now }
     {
         let mut bytes = [0; 32];

@@ -1,12 +1,18 @@
 //! Reads serial assembly text.
 #![tactic(auto)]
 
-mod number;
-mod token;
-mod operand;
-mod mnemonic;
-mod unit;
 mod fault;
-mod label;
-mod reading;
 mod form;
+mod label;
+mod line;
+mod mnemonic;
+mod number;
+mod operand;
+mod reading;
+mod token;
+mod unit;
+
+pub use fault::{Cause, ReadFault};
+pub use label::Label;
+pub use line::read_insn;
+pub use reading::{Reading, What};
