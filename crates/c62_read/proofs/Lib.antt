@@ -4,3 +4,5 @@ pub mod NumberLemmas
 pub mod SourceLemmas
 pub mod UnitLemmas
 pub mod ColonLemmas
+pub mod Pieces
+pub mod LineLemmas

@@ -4,3 +4,4 @@ pub mod Operand
 pub mod Mnemonic
 pub mod Unit
 pub mod Line
+pub mod Program

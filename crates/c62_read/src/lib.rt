@@ -8,6 +8,7 @@ mod line;
 mod mnemonic;
 mod number;
 mod operand;
+mod program;
 mod reading;
 mod token;
 mod unit;
