@@ -5,8 +5,11 @@ use Rattle.std.specs.Option.{option_to_list}
 use Rattle.std.specs.Str.{bytes_eq}
 use Rattle.c62_read.specs.declared.fault.Cause.{Cause}
 use Rattle.c62_read.specs.declared.fault.Cause.TheVariants.{DuplicateLabel, UnknownTarget, TooManyInstructions, TooManyBlocks, TextTooLong}
+use Rattle.c62_read.specs.declared.program.SerialInsn.{SerialInsn}
+use Rattle.c62_read.specs.declared.program.BlockReader.{BlockReader}
+use Rattle.c62_read.specs.declared.program.TextReader.{TextReader}
 use Rattle.c62_read.specs.Text.{lines_of, tokens}
-use Rattle.c62_read.specs.Line.{Parts, Says, Nothing, Pause, Does, Jumps, is_branch, label_front, head_of, rest_says}
+use Rattle.c62_read.specs.Line.{Parts, parts_of, Says, Nothing, Pause, Does, Jumps, is_branch, label_front, head_of, rest_says}
 
 abbrev pub Name : Type 0
 Name = List ℕ
@@ -71,6 +74,17 @@ with_says line Nothing drafts = drafts
 with_says line (Pause n) drafts = drafts
 with_says line (Does parts) drafts = closed (is_branch parts.op) drafts.done (with_insn parts line None (opened drafts.current))
 with_says line (Jumps parts label) drafts = closed true drafts.done (with_insn parts line (Some label) (opened drafts.current))
+
+-- ---- the same blocks in the reader
+
+abbrev pub numbered_of : SerialInsn → Numbered
+numbered_of entry = record { parts = parts_of entry.insn; line = entry.line }
+
+abbrev pub draft_of : BlockReader → Draft
+draft_of block = record { label = block.label; insns = map numbered_of block.insns.items; target = block.target }
+
+abbrev pub drafts_of : TextReader → Drafts
+drafts_of text = record { done = map draft_of text.done.items; current = option_map draft_of text.current }
 
 -- ---- the faults that need other lines
 
