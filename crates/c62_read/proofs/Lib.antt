@@ -6,3 +6,4 @@ pub mod UnitLemmas
 pub mod ColonLemmas
 pub mod Pieces
 pub mod LineLemmas
+pub mod BlockLemmas

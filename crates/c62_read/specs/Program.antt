@@ -1,5 +1,6 @@
 -- What a text says: its blocks, or its first fault.
 use Rattle.std.specs.Prelude.{◌≡◌, ℕ, ◌+◌, Bool, true, false, not, ◌&&◌, ◌||◌, nat_le, nat_lt, List, [], ◌∷◌, ◌++◌, length, map, Option, Some, None, is_some, is_none, option_map, Result, Ok, Err, if◌then◌else◌}
+use Rattle.std.specs.Borrow.{Bor}
 use Rattle.std.specs.List.{list_any}
 use Rattle.std.specs.Option.{option_to_list}
 use Rattle.std.specs.Str.{bytes_eq}
@@ -73,7 +74,7 @@ unfoldable pub with_says : ℕ → Says → Drafts → Drafts
 with_says line Nothing drafts = drafts
 with_says line (Pause n) drafts = drafts
 with_says line (Does parts) drafts = closed (is_branch parts.op) drafts.done (with_insn parts line None (opened drafts.current))
-with_says line (Jumps parts label) drafts = closed true drafts.done (with_insn parts line (Some label) (opened drafts.current))
+with_says line (Jumps parts label) drafts = closed (is_branch parts.op) drafts.done (with_insn parts line (Some label) (opened drafts.current))
 
 -- ---- the same blocks in the reader
 
@@ -85,6 +86,9 @@ draft_of block = record { label = block.label; insns = map numbered_of block.ins
 
 abbrev pub drafts_of : TextReader → Drafts
 drafts_of text = record { done = map draft_of text.done.items; current = option_map draft_of text.current }
+
+abbrev pub names : List (Bor (List ℕ)) → List Name
+names labels = map (λ label. label.now) labels
 
 -- ---- the faults that need other lines
 

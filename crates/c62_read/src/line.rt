@@ -240,7 +240,7 @@ pub(crate) fn read_rest(rest: &[u8]) -> Result<What, Cause>
 
 /// The label that stands first, and what follows its colon.
 #[tactic(auto, unfolding(crate::specs::Line::label_front))]
-fn first_label(rest: &[u8]) -> (Option<&[u8]>, &[u8])
+pub(crate) fn first_label(rest: &[u8]) -> (Option<&[u8]>, &[u8])
     ensures value { label_front (tokens rest.now) ≡ (option_copied result.0, tokens result.1.now) }
     ensures label { IfSome result.0 (λ word. IsTrue (is_label word.now)) }
 {
@@ -334,7 +334,7 @@ pub fn read_insn(line: &[u8]) -> Result<Reading, ReadFault>
     }
 }
 
-fn owned(label: Option<&[u8]>) -> Option<Label>
+pub(crate) fn owned(label: Option<&[u8]>) -> Option<Label>
     requires { IfSome label (λ word. IsTrue (is_label word.now)) }
     ensures { result ≡ option_copied label.entry }
 {

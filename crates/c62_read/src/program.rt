@@ -1,11 +1,18 @@
 //! What a text says.
 
-ghost use Rattle.std.specs.Prelude.{◌≡◌, ◌≤◌, ◌<◌, ◌+◌, ◌∷◌, ◌++◌, [], length, take, drop, map, Some, None, MatchOption, MatchResult, IfSome, IfOk, OnOk, IsTrue};
-ghost use Rattle.std.specs.Option.{option_copied};
+ghost use Rattle.std.specs.Prelude.{◌≡◌, ℕ, Ok, Err, ◌≤◌, ◌<◌, ◌+◌, ◌^◌, ◌∷◌, ◌++◌, [], length, take, drop, map, Some, None, MatchOption, MatchResult, IfSome, IfOk, OnOk, IsTrue};
+ghost use Rattle.std.specs.List.{list_any};
+ghost use Rattle.std.specs.Option.{option_copied, option_to_list};
+ghost use Rattle.std.specs.Str.{bytes_eq};
+ghost use Rattle.c62_insn.specs.Insn.{op_of};
+ghost use Rattle.c62_read.specs.Number.{is_label};
 ghost use Rattle.c62_read.specs.Text.{line_end, lines_of};
 
+use crate::fault::Cause;
 use crate::label::Label;
-use c62_insn::Insn;
+use crate::line::{first_label, read_head, read_rest};
+use crate::reading::What;
+use c62_insn::{Insn, Op};
 use std::alloc::{AllocError, Global};
 
 /// The longest text, in bytes.
@@ -34,7 +41,7 @@ pub(crate) struct TextReader {
 }
 
 ghost use Rattle.c62_read.specs.Line.{said_of, parts_of, is_branch};
-ghost use Rattle.c62_read.specs.Program.{draft_of, drafts_of, new_draft, all_drafts, with_label, opened, with_insn, closed, with_says};
+ghost use Rattle.c62_read.specs.Program.{draft_of, drafts_of, new_draft, all_drafts, with_label, opened, with_insn, closed, with_says, label_is, is_taken, is_full, is_unknown, is_instruction, begins_block, hindrance, is_among, names, place_of, add_line};
 
 impl BlockReader {
     fn new(alloc: Global, label: Option<Label>) -> BlockReader
@@ -107,6 +114,165 @@ impl TextReader {
             self.current = Some(block);
         }
         Ok(())
+    }
+
+    fn add_insn(
+        &mut self,
+        alloc: Global,
+        insn: Insn,
+        line: u32,
+        target: Option<Label>,
+    ) -> Result<(), AllocError>
+        ensures { OnOk result (drafts_of self.new ≡ closed (is_branch (op_of insn)) (drafts_of self.old).done (with_insn (parts_of insn) line target (opened (drafts_of self.old).current))) }
+    {
+        let mut block = self.take_block(alloc);
+        block.add(insn, line, target)?;
+        self.put_block(matches!(insn.op(), Op::B), block)
+    }
+
+    #[tactic(auto, unfolding(crate::specs::Program::with_says))]
+    fn add_what(&mut self, alloc: Global, line: u32, what: What) -> Result<(), AllocError>
+        ensures { OnOk result (drafts_of self.new ≡ with_says line (said_of what) (drafts_of self.old)) }
+    {
+        match what {
+            What::Empty | What::Nop(_) => Ok(()),
+            What::Insn(insn) => self.add_insn(alloc, insn, line, None),
+            What::Jump(insn, label) => self.add_insn(alloc, insn, line, Some(label)),
+        }
+    }
+
+    fn is_done(&self, label: &[u8]) -> bool
+        ensures { result ≡ list_any (λ draft. label_is label.now draft.label) (drafts_of self.now).done }
+    {
+        any_labelled(&self.done, label)
+    }
+
+    fn is_current(&self, label: &[u8]) -> bool
+        ensures { result ≡ list_any (λ draft. label_is label.now draft.label) (option_to_list (drafts_of self.now).current) }
+    {
+        match &self.current {
+            Some(block) => label_is(label, &block.label),
+            None => false,
+        }
+    }
+
+    /// Whether an earlier line has the label.
+    #[tactic(auto, unfolding(crate::specs::Program::is_taken))]
+    fn is_taken(&self, label: Option<&[u8]>) -> bool
+        ensures { result ≡ is_taken (option_copied label.entry) (drafts_of self.now) }
+    {
+        match label {
+            Some(label) => self.is_done(label) || self.is_current(label),
+            None => false,
+        }
+    }
+
+    fn is_full(&self) -> bool
+        ensures { result ≡ is_full (drafts_of self.now).current }
+    {
+        match &self.current {
+            Some(block) => block.insns.len() >= 256,
+            None => false,
+        }
+    }
+
+    /// How many blocks were begun.
+    fn blocks(&self) -> usize
+        ensures { result ≡ length (all_drafts (drafts_of self.now)) }
+    {
+        self.done.len() + usize::from(self.current.is_some())
+    }
+
+    /// What stands against a line that says something by itself.
+    #[tactic(auto, unfolding(crate::specs::Program::hindrance))]
+    fn hindrance(&self, labels: &[&[u8]], label: Option<&[u8]>, what: &What) -> Option<Cause>
+        ensures { result ≡ hindrance (names labels.now) (option_copied label.entry) (said_of what.now) (drafts_of self.now) }
+    {
+        let is_instruction = is_instruction(what);
+        if is_unknown(labels, what) {
+            Some(Cause::UnknownTarget)
+        } else if is_instruction && label.is_none() && self.is_full() {
+            Some(Cause::TooManyInstructions)
+        } else if (label.is_some() || is_instruction && self.current.is_none())
+            && self.blocks() >= 64
+        {
+            Some(Cause::TooManyBlocks)
+        } else {
+            None
+        }
+    }
+}
+
+fn is_instruction(what: &What) -> bool
+    ensures { result ≡ is_instruction (said_of what.now) }
+{
+    matches!(what, What::Insn(_) | What::Jump(_, _))
+}
+
+/// Whether the line branches to a label that is not among these.
+fn is_unknown(labels: &[&[u8]], what: &What) -> bool
+    ensures { result ≡ is_unknown (names labels.now) (said_of what.now) }
+{
+    match what {
+        What::Jump(_, label) => !is_among(label.as_bytes(), labels),
+        _ => false,
+    }
+}
+
+fn any_is(label: &[u8], labels: &[&[u8]]) -> bool
+    ensures { result ≡ list_any (λ other. bytes_eq other.now label.now) labels.now }
+{
+    labels.iter().any(|other| *other == label)
+}
+
+#[tactic(auto, using(crate::proofs::BlockLemmas::any_name))]
+fn is_among(label: &[u8], labels: &[&[u8]]) -> bool
+    ensures { result ≡ is_among label.now (names labels.now) }
+{
+    any_is(label, labels)
+}
+
+/// The label in a line's label place.
+#[tactic(auto, unfolding(crate::specs::Program::place_of))]
+fn place(line: &[u8]) -> Option<&[u8]>
+    ensures { option_copied result ≡ place_of line.now }
+{
+    first_label(line).0
+}
+
+impl TextReader {
+    /// What a line of the text says, where nothing stands against it.
+    #[tactic(auto, unfolding(crate::specs::Program::add_line))]
+    fn judge<'a>(&self, labels: &[&[u8]], line: &'a [u8]) -> Result<(Option<&'a [u8]>, What), Cause>
+        ensures said { (number : ℕ) → MatchResult result
+            (λ found. add_line (names labels.now) number line.now (drafts_of self.now) ≡ Ok (with_says number (said_of found.1) (with_label (option_copied found.0) (drafts_of self.now))))
+            (λ cause. add_line (names labels.now) number line.now (drafts_of self.now) ≡ Err cause) }
+        ensures label { IfOk result (λ found. IfSome found.0 (λ word. IsTrue (is_label word.now))) }
+    {
+        let (label, rest) = read_head(line)?;
+        if self.is_taken(label) {
+            return Err(Cause::DuplicateLabel);
+        }
+        let what = read_rest(rest)?;
+        match self.hindrance(labels, label, &what) {
+            Some(cause) => Err(cause),
+            None => Ok((label, what)),
+        }
+    }
+}
+
+fn any_labelled(blocks: &[BlockReader], label: &[u8]) -> bool
+    ensures { result ≡ list_any (λ block. label_is label.now block.label) blocks.now }
+{
+    blocks.iter().any(|block| label_is(label, &block.label))
+}
+
+fn label_is(label: &[u8], other: &Option<Label>) -> bool
+    ensures { result ≡ label_is label.now other.now }
+{
+    match other {
+        Some(other) => other.as_bytes() == label,
+        None => false,
     }
 }
 
