@@ -7,3 +7,4 @@ pub mod ColonLemmas
 pub mod Pieces
 pub mod LineLemmas
 pub mod BlockLemmas
+pub mod ReadingLemmas

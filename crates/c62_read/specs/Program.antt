@@ -1,11 +1,12 @@
 -- What a text says: its blocks, or its first fault.
-use Rattle.std.specs.Prelude.{◌≡◌, ℕ, ◌+◌, Bool, true, false, not, ◌&&◌, ◌||◌, nat_le, nat_lt, List, [], ◌∷◌, ◌++◌, length, map, Option, Some, None, is_some, is_none, option_map, Result, Ok, Err, if◌then◌else◌}
+use Rattle.std.specs.Prelude.{◌≡◌, ◌⊎◌, ℕ, ◌+◌, Bool, true, false, not, ◌&&◌, ◌||◌, nat_le, nat_lt, List, [], ◌∷◌, ◌++◌, length, map, Option, Some, None, is_some, is_none, option_map, Result, Ok, Err, if◌then◌else◌}
 use Rattle.std.specs.Borrow.{Bor}
 use Rattle.std.specs.List.{list_any}
 use Rattle.std.specs.Option.{option_to_list}
 use Rattle.std.specs.Str.{bytes_eq}
 use Rattle.c62_read.specs.declared.fault.Cause.{Cause}
-use Rattle.c62_read.specs.declared.fault.Cause.TheVariants.{DuplicateLabel, UnknownTarget, TooManyInstructions, TooManyBlocks, TextTooLong}
+use Rattle.c62_read.specs.declared.fault.Cause.TheVariants.{DuplicateLabel, UnknownTarget, TooManyInstructions, TooManyBlocks, TextTooLong, Memory}
+use Rattle.c62_read.specs.declared.fault.ReadFault.{ReadFault}
 use Rattle.c62_read.specs.declared.program.SerialInsn.{SerialInsn}
 use Rattle.c62_read.specs.declared.program.BlockReader.{BlockReader}
 use Rattle.c62_read.specs.declared.program.TextReader.{TextReader}
@@ -152,3 +153,30 @@ Refusal = ℕ × Cause
 abbrev pub at_line : {T : Type 0} → ℕ → Result T Cause → Result T Refusal
 at_line number (Ok value) = Ok value
 at_line number (Err cause) = Err (number, cause)
+
+abbrev pub and_then : {T S : Type 0} → Result T Refusal → (T → Result S Refusal) → Result S Refusal
+and_then (Ok value) next = next value
+and_then (Err refusal) next = Err refusal
+
+-- the blocks with what these lines say, of which the first has this number, or the first faulty line with its fault
+unfoldable pub add_lines : List Name → ℕ → List (List ℕ) → Drafts → Result Drafts Refusal
+add_lines labels number [] drafts = Ok drafts
+add_lines labels number (line ∷ lines) drafts =
+    and_then (at_line number (add_line labels number line drafts)) (λ more. add_lines labels (number + 1) lines more)
+
+abbrev pub no_drafts : Drafts
+no_drafts = record { done = []; current = None }
+
+abbrev pub most_bytes : ℕ
+most_bytes = 1048576
+
+-- the blocks as they are read
+unfoldable pub drafts_in : List ℕ → Result (List Draft) Refusal
+drafts_in text =
+    if nat_lt most_bytes (length text) then Err (0, TextTooLong)
+    else and_then (add_lines (labels_of (lines_of text)) 1 (lines_of text) no_drafts) (λ drafts. Ok (all_drafts drafts))
+
+-- ---- what a call answers: memory may run out in place of any answer
+
+abbrev pub Fails : {T : Type 0} → ReadFault → Result T Refusal → Type 0
+Fails fault says = (fault ≡ record { line = 0; cause = Memory }) ⊎ (says ≡ Err (fault.line, fault.cause))

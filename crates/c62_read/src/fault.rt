@@ -1,7 +1,10 @@
 //! Why a text is refused.
 
+ghost use Rattle.std.specs.Prelude.{◌≡◌};
+ghost use Rattle.c62_read.specs.declared.fault.Cause.TheVariants.{Memory};
+
 use c62_insn::FormFault;
-use std::alloc::AllocError;
+use std::alloc::{AllocError, AllocFailed};
 use thiserror::Error;
 
 /// What is wrong with a text, or with one of its lines.
@@ -60,4 +63,26 @@ pub enum Cause {
 pub struct ReadFault {
     pub line: u32,
     pub cause: Cause,
+}
+
+impl From<AllocError> for ReadFault {
+    ghost from_gives = { λ _ fault. fault ≡ record { line = 0; cause = Memory } };
+
+    fn from(_error: AllocError) -> ReadFault {
+        ReadFault {
+            line: 0,
+            cause: Cause::Memory,
+        }
+    }
+}
+
+impl<T: Drop> From<AllocFailed<T>> for ReadFault {
+    ghost from_gives = { λ _ fault. fault ≡ record { line = 0; cause = Memory } };
+
+    fn from(_error: AllocFailed<T>) -> ReadFault {
+        ReadFault {
+            line: 0,
+            cause: Cause::Memory,
+        }
+    }
 }

@@ -1,6 +1,6 @@
 //! What a text says.
 
-ghost use Rattle.std.specs.Prelude.{◌≡◌, ℕ, Ok, Err, ◌≤◌, ◌<◌, ◌+◌, ◌^◌, ◌∷◌, ◌++◌, [], length, take, drop, map, Some, None, MatchOption, MatchResult, IfSome, IfOk, OnOk, IsTrue};
+ghost use Rattle.std.specs.Prelude.{◌≡◌, ℕ, Ok, Err, ◌≤◌, ◌<◌, ◌+◌, ◌^◌, ◌∷◌, ◌++◌, [], length, take, drop, map, Some, None, MatchOption, MatchResult, IfSome, IfOk, IfErr, OnOk, IsTrue};
 ghost use Rattle.std.specs.List.{list_any};
 ghost use Rattle.std.specs.Option.{option_copied, option_to_list};
 ghost use Rattle.std.specs.Str.{bytes_eq};
@@ -8,9 +8,9 @@ ghost use Rattle.c62_insn.specs.Insn.{op_of};
 ghost use Rattle.c62_read.specs.Number.{is_label};
 ghost use Rattle.c62_read.specs.Text.{line_end, lines_of};
 
-use crate::fault::Cause;
+use crate::fault::{Cause, ReadFault};
 use crate::label::Label;
-use crate::line::{first_label, read_head, read_rest};
+use crate::line::{first_label, owned, read_head, read_rest};
 use crate::reading::What;
 use c62_insn::{Insn, Op};
 use std::alloc::{AllocError, Global};
@@ -41,7 +41,7 @@ pub(crate) struct TextReader {
 }
 
 ghost use Rattle.c62_read.specs.Line.{said_of, parts_of, is_branch};
-ghost use Rattle.c62_read.specs.Program.{draft_of, drafts_of, new_draft, all_drafts, with_label, opened, with_insn, closed, with_says, label_is, is_taken, is_full, is_unknown, is_instruction, begins_block, hindrance, is_among, names, place_of, add_line};
+ghost use Rattle.c62_read.specs.Program.{draft_of, drafts_of, new_draft, all_drafts, with_label, opened, with_insn, closed, with_says, label_is, is_taken, is_full, is_unknown, is_instruction, begins_block, hindrance, is_among, names, place_of, labels_of, add_line, at_line, Fails, add_lines, no_drafts};
 
 impl BlockReader {
     fn new(alloc: Global, label: Option<Label>) -> BlockReader
@@ -259,6 +259,44 @@ impl TextReader {
             None => Ok((label, what)),
         }
     }
+
+    fn add_line(
+        &mut self,
+        alloc: Global,
+        labels: &[&[u8]],
+        number: u32,
+        line: &[u8],
+    ) -> Result<(), ReadFault>
+        ensures ok { OnOk result (add_line (names labels.now) number line.now (drafts_of self.old) ≡ Ok (drafts_of self.new)) }
+        ensures err { IfErr result (λ fault. Fails fault (at_line number (add_line (names labels.now) number line.now (drafts_of self.old)))) }
+    {
+        match self.judge(labels, line) {
+            Ok((label, what)) => {
+                self.add_label(alloc, owned(label))?;
+                self.add_what(alloc, number, what)?;
+                Ok(())
+            }
+            Err(cause) => Err(ReadFault {
+                line: number,
+                cause,
+            }),
+        }
+    }
+}
+
+/// The labels of all lines of a text.
+fn all_labels<'a>(alloc: Global, text: &'a [u8]) -> Result<Vec<&'a [u8]>, AllocError>
+    ensures { IfOk result (λ labels. names labels.items ≡ labels_of (lines_of text.now)) }
+{
+    let mut labels = Vec::new(alloc);
+    let mut rest = text;
+    while let Some((line, after)) = first_line(rest) {
+        if let Some(label) = place(line) {
+            labels.push(label)?;
+        }
+        rest = after;
+    }
+    Ok(labels)
 }
 
 fn any_labelled(blocks: &[BlockReader], label: &[u8]) -> bool
@@ -313,4 +351,22 @@ fn first_line(text: &[u8]) -> Option<(&[u8], &[u8])>
     }
     let (line, tail) = text.split_at(line_len(text));
     Some((line, &tail[line_end(tail)..]))
+}
+
+/// The blocks of a text as they are read.
+fn read_drafts(alloc: Global, text: &[u8]) -> Result<TextReader, ReadFault>
+    requires { length text.now ≤ 1048576 }
+    ensures ok { IfOk result (λ reader. add_lines (labels_of (lines_of text.now)) 1 (lines_of text.now) no_drafts ≡ Ok (drafts_of reader)) }
+    ensures err { IfErr result (λ fault. Fails fault (add_lines (labels_of (lines_of text.now)) 1 (lines_of text.now) no_drafts)) }
+{
+    let labels = all_labels(alloc, text)?;
+    let mut reader = TextReader::new(alloc);
+    let mut rest = text;
+    let mut number = 1;
+    while let Some((line, after)) = first_line(rest) {
+        reader.add_line(alloc, &labels, number, line)?;
+        number += 1;
+        rest = after;
+    }
+    Ok(reader)
 }
