@@ -4,4 +4,5 @@ pub mod Operand
 pub mod Mnemonic
 pub mod Unit
 pub mod Line
+pub mod Block
 pub mod Program

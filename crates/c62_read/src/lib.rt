@@ -1,6 +1,7 @@
 //! Reads serial assembly text.
 #![tactic(auto)]
 
+mod block;
 mod fault;
 mod form;
 mod label;
@@ -13,6 +14,7 @@ mod reading;
 mod token;
 mod unit;
 
+pub use block::{Block, Program, SerialInsn};
 pub use fault::{Cause, ReadFault};
 pub use label::Label;
 pub use line::read_insn;

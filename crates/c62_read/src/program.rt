@@ -8,6 +8,7 @@ ghost use Rattle.c62_insn.specs.Insn.{op_of};
 ghost use Rattle.c62_read.specs.Number.{is_label};
 ghost use Rattle.c62_read.specs.Text.{line_end, lines_of};
 
+use crate::block::SerialInsn;
 use crate::fault::{Cause, ReadFault};
 use crate::label::Label;
 use crate::line::{first_label, owned, read_head, read_rest};
@@ -17,13 +18,6 @@ use std::alloc::{AllocError, Global};
 
 /// The longest text, in bytes.
 pub const MOST_BYTES: usize = 1_048_576;
-
-/// An instruction of a text, and its line from 1.
-#[derive(Clone, Copy)]
-pub struct SerialInsn {
-    pub insn: Insn,
-    pub line: u32,
-}
 
 /// A block as it is read, and the label that its last instruction branches to.
 #[derive(Drop)]
