@@ -8,3 +8,4 @@ pub mod Pieces
 pub mod LineLemmas
 pub mod BlockLemmas
 pub mod ReadingLemmas
+pub mod AddedLemmas

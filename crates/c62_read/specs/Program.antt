@@ -1,15 +1,18 @@
 -- What a text says: its blocks, or its first fault.
-use Rattle.std.specs.Prelude.{◌≡◌, ◌⊎◌, ℕ, ◌+◌, Bool, true, false, not, ◌&&◌, ◌||◌, nat_le, nat_lt, List, [], ◌∷◌, ◌++◌, length, map, Option, Some, None, is_some, is_none, option_map, Result, Ok, Err, if◌then◌else◌}
+use Rattle.std.specs.Prelude.{◌≡◌, ◌⊎◌, ℕ, ◌+◌, Bool, true, false, not, ◌&&◌, ◌||◌, nat_le, nat_lt, List, [], ◌∷◌, ◌++◌, length, map, Option, Some, None, is_some, is_none, unwrap_or, position, option_map, Result, Ok, Err, if◌then◌else◌}
 use Rattle.std.specs.Borrow.{Bor}
 use Rattle.std.specs.List.{list_any}
 use Rattle.std.specs.Option.{option_to_list}
 use Rattle.std.specs.Str.{bytes_eq}
+use Rattle.c62_insn.specs.declared.operands.Operands.{Operands}
+use Rattle.c62_insn.specs.declared.operands.Operands.TheVariants.{Block}
 use Rattle.c62_read.specs.declared.fault.Cause.{Cause}
 use Rattle.c62_read.specs.declared.fault.Cause.TheVariants.{DuplicateLabel, UnknownTarget, TooManyInstructions, TooManyBlocks, TextTooLong, Memory}
 use Rattle.c62_read.specs.declared.fault.ReadFault.{ReadFault}
 use Rattle.c62_read.specs.declared.block.SerialInsn.{SerialInsn}
 use Rattle.c62_read.specs.declared.program.BlockReader.{BlockReader}
 use Rattle.c62_read.specs.declared.program.TextReader.{TextReader}
+use Rattle.c62_read.specs.Block.{Serial}
 use Rattle.c62_read.specs.Text.{lines_of, tokens}
 use Rattle.c62_read.specs.Line.{Parts, parts_of, Says, Nothing, Pause, Does, Jumps, is_branch, label_front, head_of, rest_says}
 
@@ -175,6 +178,36 @@ unfoldable pub drafts_in : List ℕ → Result (List Draft) Refusal
 drafts_in text =
     if nat_lt most_bytes (length text) then Err (0, TextTooLong)
     else and_then (add_lines (labels_of (lines_of text)) 1 (lines_of text) no_drafts) (λ drafts. Ok (all_drafts drafts))
+
+-- ---- targets by number
+
+abbrev pub target_number : List Draft → Option Name → ℕ
+target_number drafts None = 0
+target_number drafts (Some label) = unwrap_or (position (λ draft. label_is label draft.label) drafts) 0
+
+abbrev pub aimed_operands : ℕ → Operands → Operands
+aimed_operands number (Block old) = Block number
+aimed_operands number operands = operands
+
+-- a branch to a label goes to the block of this number
+abbrev pub aimed : ℕ → Numbered → Numbered
+aimed number entry =
+    record { parts = record { op = entry.parts.op; operands = aimed_operands number entry.parts.operands; cond = entry.parts.cond; unit = entry.parts.unit }; line = entry.line }
+
+-- a block as a program has it, by its parts
+pub record BlockParts : Type 0 where
+  pub label : Option Name
+  pub insns : List Numbered
+
+abbrev pub block_in : List Draft → Draft → BlockParts
+block_in drafts draft = record { label = draft.label; insns = map (aimed (target_number drafts draft.target)) draft.insns }
+
+abbrev pub block_parts : Serial → BlockParts
+block_parts block = record { label = block.label; insns = map numbered_of block.insns }
+
+-- what a text says: its blocks, or its first fault
+unfoldable pub program_in : List ℕ → Result (List BlockParts) Refusal
+program_in text = and_then (drafts_in text) (λ drafts. Ok (map (block_in drafts) drafts))
 
 -- ---- what a call answers: memory may run out in place of any answer
 

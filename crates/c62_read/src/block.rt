@@ -16,6 +16,33 @@ pub struct SerialInsn {
     pub line: u32,
 }
 
+impl SerialInsn {
+    ghost use Rattle.c62_read.specs.Program.{aimed, numbered_of};
+
+    /// A branch to a label goes to the block of this number.
+    pub(crate) fn aimed(self, number: u8) -> SerialInsn
+        ensures { numbered_of result ≡ aimed number (numbered_of self) }
+    {
+        match self.insn.operands() {
+            Operands::Block(_) => {
+                let Ok(insn) = Insn::new(
+                    self.insn.op(),
+                    Operands::Block(number),
+                    self.insn.cond(),
+                    self.insn.unit(),
+                ) else {
+                    unreachable!()
+                };
+                SerialInsn {
+                    insn,
+                    line: self.line,
+                }
+            }
+            _ => self,
+        }
+    }
+}
+
 /// A block: its label, where it has one, and its instructions with their lines.
 #[derive(Drop)]
 pub struct Block {
