@@ -57,6 +57,12 @@ impl Model for Block {
 }
 
 impl Block {
+    pub(crate) fn new(label: Option<Label>, insns: Vec<SerialInsn>) -> Block
+        ensures { result ≡ record { label = label; insns = insns.items } }
+    {
+        Block { label, insns }
+    }
+
     /// The label, where the block has one.
     pub fn label(&self) -> Option<&Label>
         ensures { option_copied result ≡ self.now.label }
@@ -97,6 +103,12 @@ impl Model for Program {
 }
 
 impl Program {
+    pub(crate) fn new(blocks: Vec<Block>) -> Program
+        ensures { result ≡ blocks.items }
+    {
+        Program { blocks }
+    }
+
     /// The blocks in their order.
     pub fn blocks(&self) -> &[Block]
         ensures { result.now ≡ self.now }

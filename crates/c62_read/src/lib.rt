@@ -18,4 +18,5 @@ pub use block::{Block, Program, SerialInsn};
 pub use fault::{Cause, ReadFault};
 pub use label::Label;
 pub use line::read_insn;
+pub use program::{MOST_BYTES, read_program};
 pub use reading::{Reading, What};

@@ -1,6 +1,6 @@
 //! What a text says.
 
-ghost use Rattle.std.specs.Prelude.{◌≡◌, ℕ, Ok, Err, ◌≤◌, ◌<◌, ◌+◌, ◌^◌, ◌∷◌, ◌++◌, [], length, take, drop, map, Some, None, MatchOption, MatchResult, IfSome, IfOk, IfErr, OnOk, IsTrue};
+ghost use Rattle.std.specs.Prelude.{◌≡◌, ℕ, Ok, Err, ◌≤◌, ◌<◌, ◌+◌, ◌^◌, ◌∷◌, ◌++◌, [], length, take, drop, map, position, Some, None, MatchOption, MatchResult, IfSome, IfOk, IfErr, OnOk, IsTrue};
 ghost use Rattle.std.specs.List.{list_any};
 ghost use Rattle.std.specs.Option.{option_copied, option_to_list};
 ghost use Rattle.std.specs.Str.{bytes_eq};
@@ -8,7 +8,7 @@ ghost use Rattle.c62_insn.specs.Insn.{op_of};
 ghost use Rattle.c62_read.specs.Number.{is_label};
 ghost use Rattle.c62_read.specs.Text.{line_end, lines_of};
 
-use crate::block::SerialInsn;
+use crate::block::{Block, Program, SerialInsn};
 use crate::fault::{Cause, ReadFault};
 use crate::label::Label;
 use crate::line::{first_label, owned, read_head, read_rest};
@@ -35,7 +35,7 @@ pub(crate) struct TextReader {
 }
 
 ghost use Rattle.c62_read.specs.Line.{said_of, parts_of, is_branch};
-ghost use Rattle.c62_read.specs.Program.{draft_of, drafts_of, new_draft, all_drafts, with_label, opened, with_insn, closed, with_says, label_is, is_taken, is_full, is_unknown, is_instruction, begins_block, hindrance, is_among, names, place_of, labels_of, add_line, at_line, Fails, add_lines, no_drafts};
+ghost use Rattle.c62_read.specs.Program.{draft_of, drafts_of, new_draft, all_drafts, with_label, opened, with_insn, closed, with_says, label_is, is_taken, is_full, is_unknown, is_instruction, begins_block, hindrance, is_among, names, place_of, labels_of, add_line, at_line, Fails, add_lines, no_drafts, target_number, aimed, numbered_of, block_parts, block_in, program_in};
 
 impl BlockReader {
     fn new(alloc: Global, label: Option<Label>) -> BlockReader
@@ -55,6 +55,28 @@ impl BlockReader {
         self.insns.push(SerialInsn { insn, line })?;
         self.target = target;
         Ok(())
+    }
+}
+
+impl BlockReader {
+    /// The block, with its branch aimed at the block of this number.
+    fn block(&self, alloc: Global, number: u8) -> Result<Block, AllocError>
+        ensures { IfOk result (λ block. block_parts block ≡ record { label = self.now.label; insns = map (aimed number) (draft_of self.now).insns }) }
+    {
+        let mut insns = Vec::with_capacity(alloc, self.insns.len())?;
+        for entry in &self.insns {
+            insns.push(entry.aimed(number))?;
+        }
+        Ok(Block::new(copied(&self.label), insns))
+    }
+}
+
+fn copied(label: &Option<Label>) -> Option<Label>
+    ensures { result ≡ label.now }
+{
+    match label {
+        Some(label) => Some(label.copy()),
+        None => None,
     }
 }
 
@@ -350,6 +372,7 @@ fn first_line(text: &[u8]) -> Option<(&[u8], &[u8])>
 /// The blocks of a text as they are read.
 fn read_drafts(alloc: Global, text: &[u8]) -> Result<TextReader, ReadFault>
     requires { length text.now ≤ 1048576 }
+    ensures few { IfOk result (λ reader. length (all_drafts (drafts_of reader)) ≤ 64) }
     ensures ok { IfOk result (λ reader. add_lines (labels_of (lines_of text.now)) 1 (lines_of text.now) no_drafts ≡ Ok (drafts_of reader)) }
     ensures err { IfErr result (λ fault. Fails fault (add_lines (labels_of (lines_of text.now)) 1 (lines_of text.now) no_drafts)) }
 {
@@ -363,4 +386,58 @@ fn read_drafts(alloc: Global, text: &[u8]) -> Result<TextReader, ReadFault>
         rest = after;
     }
     Ok(reader)
+}
+
+/// The place among the blocks of the one with this label.
+fn place_among(blocks: &[BlockReader], label: &[u8]) -> Option<usize>
+    ensures value { result ≡ position (λ block. label_is label.now block.label) blocks.now }
+    ensures bound { IfSome result (λ place. place < length blocks.now) }
+{
+    blocks
+        .iter()
+        .position(|block| label_is(label, &block.label))
+}
+
+/// The number of the block with this label.
+#[tactic(auto, using(crate::proofs::BlockLemmas::position_draft))]
+fn target_number(blocks: &[BlockReader], target: &Option<Label>) -> u8
+    requires { length blocks.now ≤ 64 }
+    ensures { result ≡ target_number (map draft_of blocks.now) target.now }
+{
+    match target {
+        Some(label) => match place_among(blocks, label.as_bytes()) {
+            Some(place) => place as u8,
+            None => 0,
+        },
+        None => 0,
+    }
+}
+
+/// The blocks of a program.
+fn all_blocks(alloc: Global, blocks: &[BlockReader]) -> Result<Vec<Block>, AllocError>
+    requires { length blocks.now ≤ 64 }
+    ensures { let drafts = map draft_of blocks.now in IfOk result (λ made. map block_parts made.items ≡ map (block_in drafts) drafts) }
+{
+    let mut made = Vec::with_capacity(alloc, blocks.len())?;
+    for block in blocks {
+        let number = target_number(blocks, &block.target);
+        made.push(block.block(alloc, number)?)?;
+    }
+    Ok(made)
+}
+
+/// The program of a text, or the fault of its first faulty line.
+pub fn read_program(alloc: Global, text: &[u8]) -> Result<Program, ReadFault>
+    ensures ok { IfOk result (λ program. program_in text.now ≡ Ok (map block_parts program)) }
+    ensures err { IfErr result (λ fault. Fails fault (program_in text.now)) }
+{
+    if text.len() > MOST_BYTES {
+        return Err(ReadFault {
+            line: 0,
+            cause: Cause::TextTooLong,
+        });
+    }
+    let mut reader = read_drafts(alloc, text)?;
+    reader.end_block()?;
+    Ok(Program::new(all_blocks(alloc, &reader.done)?))
 }
