@@ -20,3 +20,6 @@ pub use label::Label;
 pub use line::read_insn;
 pub use program::{MOST_BYTES, read_program};
 pub use reading::{Reading, What};
+
+#[cfg(test)]
+mod tests;
