@@ -36,7 +36,8 @@ impl Operands {
             Operands::Three(a, b, _) => a.side != side || b.side != side,
             Operands::ConstantFirst(_, a, _)
             | Operands::ConstantSecond(a, _, _)
-            | Operands::Two(a, _) => a.side != side,
+            | Operands::Two(a, _)
+            | Operands::Field(a, _, _, _) => a.side != side,
             _ => false,
         }
     }
