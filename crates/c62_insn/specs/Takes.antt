@@ -95,3 +95,7 @@ lie_well _ _ _ = false
 abbrev pub takes : Op → Operands → FunctionalUnit → Bool
 takes op operands unit =
     list_any (λ form. holds_constants form.pattern operands && same_letter form.letter unit.letter && lie_well form.pattern unit.side operands) (forms_of op)
+
+-- whether some form stands on units of this letter
+abbrev pub has_letter : Op → Letter → Bool
+has_letter op letter = list_any (λ form. same_letter form.letter letter) (forms_of op)

@@ -128,14 +128,7 @@ impl Insn {
     pub fn crosses(self, unit: Unit) -> bool
         ensures { result ≡ crosses_to unit.side (operands_of self) }
     {
-        match self.operands {
-            Operands::Three(a, b, _) => a.side != unit.side || b.side != unit.side,
-            Operands::ConstantFirst(_, a, _)
-            | Operands::ConstantSecond(a, _, _)
-            | Operands::Two(a, _)
-            | Operands::Field(a, _, _, _) => a.side != unit.side,
-            _ => false,
-        }
+        self.operands.crosses_to(unit.side)
     }
 
     /// The registers that the operands read in the issue cycle, in the order of the text and a

@@ -1,0 +1,93 @@
+-- How the bytes of a token come together.
+use Rattle.std.proofs.Common.{◌≡◌, ℕ, zero, suc, ◌+◌, ◌<◌, ◌≤◌, Bool, true, false, eqb, ◌&&◌, ◌||◌, List, [], ◌∷◌, ◌++◌, length, get_or, take, drop, refl, sym, ap, ◌∙◌, add-one, arith, inl, inr}
+use Rattle.std.specs.Char.{is_ascii_digit}
+use Rattle.std.specs.List.{list_all}
+use Rattle.std.proofs.lemmas.List.{nil_from_length, length-drop, take-append-drop}
+use Rattle.std.proofs.lemmas.List.Folds.{list_all-append}
+use Rattle.std.proofs.Math.Seq.{drop-cons, take-suc}
+use Rattle.std.proofs.lemmas.Bool.{and_from, and_parts, or_cases, not-true, cases_lt}
+use Rattle.std.proofs.lemmas.Bool.Decides.{nat_tests}
+use Rattle.c62_read.specs.Text.{grow, put_back, begins, is_blank, is_solid, is_word_byte, is_sign, is_double, joins, tokens}
+
+pub word_solid : (c : ℕ) → is_word_byte c ≡ true → is_solid c ≡ true
+word_solid c word = grind (arith, nat_tests)
+
+pub word_no_double : (b c : ℕ) → is_word_byte b ≡ true → is_double b c ≡ false
+word_no_double b c word = grind (arith, nat_tests)
+
+pub joined_no_double : (b c : ℕ) → joins b c ≡ true → is_double b c ≡ false
+joined_no_double b c joined = grind (arith, nat_tests)
+
+-- what joins is followed by a byte of a word
+pub joined_word : (b c : ℕ) → joins b c ≡ true → is_word_byte c ≡ true
+joined_word b c joined = grind (arith, nat_tests)
+
+pub solid_parts : (b : ℕ) → is_solid b ≡ true → (eqb b 59 ≡ false) × (is_blank b ≡ false)
+solid_parts b solid = let both = and_parts _ _ solid in (not-true _ both.0, not-true _ both.1)
+
+pub tokens_double : (b c : ℕ) (rest : List ℕ) → is_solid b ≡ true → is_double b c ≡ true → tokens (b ∷ c ∷ rest) ≡ (b ∷ c ∷ []) ∷ tokens rest
+tokens_double b c rest solid double = let parts = solid_parts b solid in rw (parts.0, parts.1, double) refl
+
+pub tokens_joined : (b c : ℕ) (rest : List ℕ) → is_solid b ≡ true → joins b c ≡ true → tokens (b ∷ c ∷ rest) ≡ grow b (tokens (c ∷ rest))
+tokens_joined b c rest solid joined =
+    let parts = solid_parts b solid in
+    let single = joined_no_double b c joined in
+    rw (parts.0, parts.1, single, joined) refl
+
+pub tokens_alone : (b c : ℕ) (rest : List ℕ) → is_solid b ≡ true → is_double b c ≡ false → joins b c ≡ false → tokens (b ∷ c ∷ rest) ≡ (b ∷ []) ∷ tokens (c ∷ rest)
+tokens_alone b c rest solid single alone = let parts = solid_parts b solid in rw (parts.0, parts.1, single, alone) refl
+
+pub tokens_last : (b : ℕ) → is_solid b ≡ true → tokens (b ∷ []) ≡ (b ∷ []) ∷ []
+tokens_last b solid = rw solid refl
+
+-- a blank is no token's, and a comment has none
+pub tokens_blank : (b : ℕ) (rest : List ℕ) → eqb b 59 ≡ false → is_blank b ≡ true → tokens (b ∷ rest) ≡ tokens rest
+tokens_blank b [] text blank = rw (text, blank) refl
+tokens_blank b (c ∷ rest) text blank = rw (text, blank) refl
+
+pub tokens_comment : (b : ℕ) (rest : List ℕ) → eqb b 59 ≡ true → tokens (b ∷ rest) ≡ []
+tokens_comment b [] comment = rw comment refl
+tokens_comment b (c ∷ rest) comment = rw comment refl
+
+-- one more byte of a word
+pub words_more : (bytes : List ℕ) (n : ℕ) → n < length bytes → list_all is_word_byte (take n bytes) ≡ true → is_word_byte (get_or bytes n 0) ≡ true → list_all is_word_byte (take (n + 1) bytes) ≡ true
+words_more bytes n in_range so_far word =
+    rw (add-one, take-suc bytes n 0 in_range) (list_all-append is_word_byte (take n bytes) (get_or bytes n 0 ∷ []) ∙ and_from _ _ so_far (and_from _ true word refl))
+
+pub word_ends : (bytes : List ℕ) (n : ℕ) → n < length bytes → is_word_byte (get_or bytes n 0) ≡ false → begins is_word_byte (drop n bytes) ≡ false
+word_ends bytes n in_range other = rw (drop-cons bytes n 0 in_range) other
+
+pub word_is_all : (bytes : List ℕ) (n : ℕ) → length bytes ≤ n → begins is_word_byte (drop n bytes) ≡ false
+word_is_all bytes n all = let none : drop n bytes ≡ [] = nil_from_length (drop n bytes) (omega (arith, length-drop n bytes)) in rw none refl
+
+no_word_joins : (b c : ℕ) → is_word_byte b ≡ true → is_word_byte c ≡ false → joins b c ≡ false
+no_word_joins b c word other = grind (arith, nat_tests)
+
+-- a word where no byte of a word follows
+pub tokens_word : (w rest : List ℕ) → list_all is_word_byte w ≡ true → begins is_word_byte rest ≡ false → tokens (w ++ rest) ≡ put_back w (tokens rest)
+tokens_word [] rest words ends = refl
+tokens_word (b ∷ []) [] words ends = tokens_last b (word_solid b (and_parts (is_word_byte b) true words).0)
+tokens_word (b ∷ []) (c ∷ rest) words ends =
+    let word = (and_parts (is_word_byte b) true words).0 in
+    tokens_alone b c rest (word_solid b word) (word_no_double b c word) (no_word_joins b c word ends)
+tokens_word (b ∷ c ∷ w) rest words ends =
+    let first = and_parts (is_word_byte b) (is_word_byte c && list_all is_word_byte w) words in
+    let second = and_parts (is_word_byte c) (list_all is_word_byte w) first.1 in
+    let joined : joins b c ≡ true = rw (first.0, second.0) refl in
+    tokens_joined b c (w ++ rest) (word_solid b first.0) joined ∙ ap (grow b) (tokens_word (c ∷ w) rest first.1 ends)
+
+-- a first byte that joins a word
+tokens_joined_word : (b c : ℕ) (more : List ℕ) (n : ℕ) → is_solid b ≡ true → joins b c ≡ true → list_all is_word_byte (take n (c ∷ more)) ≡ true → begins is_word_byte (drop n (c ∷ more)) ≡ false
+    → tokens (b ∷ c ∷ more) ≡ (b ∷ take n (c ∷ more)) ∷ tokens (drop n (c ∷ more))
+tokens_joined_word b c more zero solid joined words ends = let word : is_word_byte c ≡ true = joined_word b c joined in absurd cc
+tokens_joined_word b c more (suc n) solid joined words ends =
+    let whole : (c ∷ take n more) ++ drop n more ≡ c ∷ more = ap (λ (bs : List ℕ). c ∷ bs) (take-append-drop n more) in
+    tokens_joined b c more solid joined ∙ ap (λ (bs : List ℕ). grow b (tokens bs)) (sym whole) ∙ ap (grow b) (tokens_word (c ∷ take n more) (drop n more) words ends)
+
+pub joined_token : (bytes : List ℕ) (n : ℕ) → 2 ≤ length bytes → begins is_solid bytes ≡ true → joins (get_or bytes 0 0) (get_or bytes 1 0) ≡ true
+    → list_all is_word_byte (take n (drop 1 bytes)) ≡ true → begins is_word_byte (drop n (drop 1 bytes)) ≡ false → tokens bytes ≡ take (1 + n) bytes ∷ tokens (drop (1 + n) bytes)
+joined_token [] n long solid joined words ends = absurd (omega arith)
+joined_token (b ∷ []) n long solid joined words ends = absurd (omega arith)
+joined_token (b ∷ c ∷ more) n long solid joined words ends =
+    let one_more : 1 + n ≡ suc n = omega arith in
+    rw one_more (tokens_joined_word b c more n solid joined words ends)

@@ -1,0 +1,243 @@
+-- What a line says, and its first fault.
+use Rattle.std.specs.Prelude.{◌≡◌, ℕ, ℤ, pos, negsuc, Bool, true, false, not, ◌==◌, ◌&&◌, nat_le, nat_lt, List, [], ◌∷◌, length, Option, Some, None, option_map, Result, Ok, Err, codes, if◌then◌else◌}
+use Rattle.std.specs.Borrow.{Bor}
+use Rattle.std.specs.List.{list_all, list_any}
+use Rattle.std.specs.Option.{option_copied}
+use Rattle.c62_insn.specs.declared.register.Side.{Side}
+use Rattle.c62_insn.specs.declared.register.Reg.{Reg}
+use Rattle.c62_insn.specs.declared.register.Cond.{Cond as Condition}
+use Rattle.c62_insn.specs.declared.register.Letter.{Letter}
+use Rattle.c62_insn.specs.declared.register.Unit.{Unit as FunctionalUnit}
+use Rattle.c62_insn.specs.declared.operands.Op.{Op}
+use Rattle.c62_insn.specs.declared.operands.Op.TheVariants.{B as Branch}
+use Rattle.c62_insn.specs.declared.operands.Operands.{Operands}
+use Rattle.c62_insn.specs.declared.operands.Operands.TheVariants.{Block}
+use Rattle.c62_insn.specs.declared.insn.Insn.{Insn}
+use Rattle.c62_insn.specs.declared.fault.FormFault.{FormFault}
+use Rattle.c62_insn.specs.declared.fault.FormFault.TheVariants.{NoUnit, BadSide}
+use Rattle.c62_insn.specs.Fault.{form_fault}
+use Rattle.c62_insn.specs.Insn.{op_of, operands_of as written_operands, cond_of, unit_of}
+use Rattle.c62_insn.specs.Shape.{crosses_to, data_path_of, is_store}
+use Rattle.c62_insn.specs.Takes.{same_side}
+use Rattle.c62_read.specs.declared.fault.Cause.{Cause}
+use Rattle.c62_read.specs.declared.fault.Cause.TheVariants.{NotAscii, LineTooLong, BadLabel, UnknownMnemonic, BadUnit, BadOperand, Form, ParallelBar, Directive}
+use Rattle.c62_read.specs.declared.mnemonic.Mnemonic.{Mnemonic}
+use Rattle.c62_read.specs.declared.mnemonic.Mnemonic.TheVariants.{Operation, Nop as NopName}
+use Rattle.c62_read.specs.declared.unit.Mark.{Mark}
+use Rattle.c62_read.specs.declared.unit.Mark.TheVariants.{Plain, Cross, Path}
+use Rattle.c62_read.specs.declared.unit.WrittenUnit.{WrittenUnit}
+use Rattle.c62_read.specs.declared.reading.What.{What}
+use Rattle.c62_read.specs.declared.reading.What.TheVariants as what
+use Rattle.c62_read.specs.Text.{begins, is_allowed, tokens}
+use Rattle.c62_read.specs.Number.{spells, number_of, register_of, is_label}
+use Rattle.c62_read.specs.Operand.{Word, operands_of}
+use Rattle.c62_read.specs.Mnemonic.{mnemonic_named, read_as}
+use Rattle.c62_read.specs.Unit.{is_dot, unit_front, unit_fits}
+
+-- an instruction by its parts
+pub record Parts : Type 0 where
+  pub op : Op
+  pub operands : Operands
+  pub cond : Option Condition
+  pub unit : Option FunctionalUnit
+
+abbrev pub parts_of : Insn → Parts
+parts_of insn = record { op = op_of insn; operands = written_operands insn; cond = cond_of insn; unit = unit_of insn }
+
+-- what a line says behind its label: nothing, cycles without an instruction, an instruction, or a branch to a label
+pub data Says : Type 0 where
+  Nothing : Says
+  Pause : ℕ → Says
+  Does : Parts → Says
+  Jumps : Parts → List ℕ → Says
+
+abbrev pub said_of : What → Says
+said_of what.Empty = Nothing
+said_of (what.Nop n) = Pause n
+said_of (what.Insn insn) = Does (parts_of insn)
+said_of (what.Jump insn label) = Jumps (parts_of insn) label
+
+abbrev pub said : Result What Cause → Result Says Cause
+said (Ok read) = Ok (said_of read)
+said (Err cause) = Err cause
+
+-- ---- the form of an instruction
+
+abbrev pub unit_written : Option WrittenUnit → Option FunctionalUnit
+unit_written written = option_map (λ w. w.unit) written
+
+abbrev pub is_path : Side → Option Side → Bool
+is_path side None = false
+is_path side (Some path) = same_side path side
+
+abbrev pub misses : Mark → Side → Operands → Bool
+misses Plain side operands = false
+misses Cross side operands = not (crosses_to side operands)
+misses (Path path) side operands = not (is_path path (data_path_of operands))
+
+-- X where nothing crosses, or T with the other file's number
+abbrev pub is_mismarked : Option WrittenUnit → Operands → Bool
+is_mismarked None operands = false
+is_mismarked (Some written) operands = misses written.mark written.unit.side operands
+
+-- a wrong mark is a bad side, which comes before a lack of units
+abbrev pub with_mark : Option FormFault → Bool → Option FormFault
+with_mark None mismarked = if mismarked then Some BadSide else None
+with_mark (Some NoUnit) mismarked = if mismarked then Some BadSide else Some NoUnit
+with_mark (Some fault) mismarked = Some fault
+
+unfoldable pub text_fault : Op → Operands → Option Condition → Option WrittenUnit → Option FormFault
+text_fault op operands cond written =
+    with_mark (form_fault op operands cond (unit_written written)) (is_mismarked written operands)
+
+abbrev pub parts_read : Op → Operands → Option Condition → Option WrittenUnit → Parts
+parts_read op operands cond written = record { op = op; operands = operands; cond = cond; unit = unit_written written }
+
+abbrev pub formed : Option FormFault → Says → Result Says Cause
+formed None says = Ok says
+formed (Some fault) says = Err (Form fault)
+
+-- ---- behind the unit
+
+abbrev pub is_branch : Op → Bool
+is_branch Branch = true
+is_branch _ = false
+
+-- a label alone, where the mnemonic is a branch
+abbrev pub label_alone : List Word → Option Word
+label_alone (word ∷ []) = if is_label word then Some word else None
+label_alone _ = None
+
+abbrev pub target_of : Mnemonic → List Word → Option Word
+target_of (Operation op) words = if is_branch op then label_alone words else None
+target_of _ words = None
+
+abbrev pub is_storing : Mnemonic → Bool
+is_storing (Operation op) = is_store op
+is_storing _ = false
+
+abbrev pub letter_written : Option WrittenUnit → Option Letter
+letter_written written = option_map (λ w. w.unit.letter) written
+
+abbrev pub operands_written : Mnemonic → Option WrittenUnit → Option Operands → Option (Op × Operands)
+operands_written mnemonic written None = None
+operands_written mnemonic written (Some operands) = read_as mnemonic (letter_written written) operands
+
+abbrev pub does : Option Condition → Option WrittenUnit → Option (Op × Operands) → Result Says Cause
+does cond written None = Err BadOperand
+does cond written (Some (op, operands)) = formed (text_fault op operands cond written) (Does (parts_read op operands cond written))
+
+abbrev pub jumps : Option Condition → Option WrittenUnit → Word → Result Says Cause
+jumps cond written label = formed (text_fault Branch (Block 0) cond written) (Jumps (parts_read Branch (Block 0) cond written) label)
+
+abbrev pub jumps_or_does : Option Word → Mnemonic → Option Condition → Option WrittenUnit → List Word → Result Says Cause
+jumps_or_does (Some label) mnemonic cond written words = jumps cond written label
+jumps_or_does None mnemonic cond written words =
+    does cond written (operands_written mnemonic written (operands_of (is_storing mnemonic) words))
+
+abbrev pub cycles_of : Option ℤ → Result Says Cause
+cycles_of (Some (pos n)) = if nat_le 1 n && nat_le n 9 then Ok (Pause n) else Err BadOperand
+cycles_of (Some (negsuc n)) = Err BadOperand
+cycles_of None = Err BadOperand
+
+-- the number of cycles behind NOP, which takes no condition
+unfoldable pub pause_of : Option Condition → List Word → Result Says Cause
+pause_of (Some cond) words = Err BadOperand
+pause_of None [] = Ok (Pause 1)
+pause_of None (word ∷ []) = cycles_of (number_of word)
+pause_of None (word ∷ next ∷ words) = Err BadOperand
+
+unfoldable pub behind_unit : Mnemonic → Option Condition → Option WrittenUnit → List Word → Result Says Cause
+behind_unit NopName cond written words = pause_of cond words
+behind_unit mnemonic cond written words = jumps_or_does (target_of mnemonic words) mnemonic cond written words
+
+-- ---- the steps in their order
+
+abbrev pub with_unit : Mnemonic → Option Condition → Option (Option WrittenUnit × List Word) → Result Says Cause
+with_unit mnemonic cond None = Err BadUnit
+with_unit mnemonic cond (Some (None, words)) = behind_unit mnemonic cond None words
+with_unit mnemonic cond (Some (Some written, words)) =
+    if unit_fits mnemonic written then behind_unit mnemonic cond (Some written) words else Err BadUnit
+
+abbrev pub with_mnemonic : Option Condition → Option Mnemonic → List Word → Result Says Cause
+with_mnemonic cond None words = Err UnknownMnemonic
+with_mnemonic cond (Some mnemonic) words = with_unit mnemonic cond (unit_front words)
+
+-- behind the condition
+unfoldable pub instruction_of : Option Condition → List Word → Result Says Cause
+instruction_of None [] = Ok Nothing
+instruction_of (Some cond) [] = Err UnknownMnemonic
+instruction_of cond (name ∷ words) = with_mnemonic cond (mnemonic_named name) words
+
+abbrev pub conditional : Bool → Option Reg → List Word → Option (Option Condition × List Word)
+conditional negated None words = None
+conditional negated (Some reg) words = Some (Some (record { reg = reg; negated = negated }), words)
+
+-- `register ]`
+unfoldable pub closed_condition : Bool → List Word → Option (Option Condition × List Word)
+closed_condition negated (name ∷ close ∷ words) = if spells (codes "]") close then conditional negated (register_of name) words else None
+closed_condition negated _ = None
+
+-- `[!] register ]`
+unfoldable pub bracketed_condition : List Word → Option (Option Condition × List Word)
+bracketed_condition [] = None
+bracketed_condition (first ∷ words) =
+    if spells (codes "!") first then closed_condition true words else closed_condition false (first ∷ words)
+
+-- The condition, where a bracket stands first, and the tokens behind it. There is no answer where the bracket begins no
+-- condition.
+unfoldable pub condition_front : List Word → Option (Option Condition × List Word)
+condition_front [] = Some (None, [])
+condition_front (first ∷ words) = if spells (codes "[") first then bracketed_condition words else Some (None, first ∷ words)
+
+abbrev pub with_condition : Option (Option Condition × List Word) → Result Says Cause
+with_condition None = Err BadOperand
+with_condition (Some (cond, words)) = instruction_of cond words
+
+abbrev pub first_begins : (ℕ → Bool) → List Word → Bool
+first_begins test [] = false
+first_begins test (word ∷ words) = begins test word
+
+-- behind the label
+unfoldable pub rest_says : List Word → Result Says Cause
+rest_says words = if first_begins is_dot words then Err Directive else with_condition (condition_front words)
+
+-- the label that stands first, and the tokens behind its colon
+unfoldable pub label_front : List Word → Option Word × List Word
+label_front (name ∷ colon ∷ words) =
+    if spells (codes ":") colon && is_label name then (Some name, words) else (None, name ∷ colon ∷ words)
+label_front words = (None, words)
+
+abbrev pub has_colon : List Word → Bool
+has_colon words = list_any (λ word. spells (codes ":") word) words
+
+abbrev pub without_colon : Option Word × List Word → Result (Option Word × List Word) Cause
+without_colon (label, words) = if has_colon words then Err BadLabel else Ok (label, words)
+
+abbrev pub is_bars : List Word → Bool
+is_bars [] = false
+is_bars (word ∷ words) = spells (codes "||") word
+
+abbrev pub is_star : ℕ → Bool
+is_star b = b == 42
+
+-- The label of a line and the tokens behind it. A line that begins with `*` is a comment.
+unfoldable pub head_of : List ℕ → Result (Option Word × List Word) Cause
+head_of line =
+    if list_all is_allowed line then (if nat_lt 255 (length line) then Err LineTooLong
+    else (if begins is_star line then Ok (None, [])
+    else (if is_bars (tokens line) then Err ParallelBar
+    else without_colon (label_front (tokens line)))))
+    else Err NotAscii
+
+abbrev pub with_rest : Option Word → Result Says Cause → Result (Option Word × Says) Cause
+with_rest label (Ok says) = Ok (label, says)
+with_rest label (Err cause) = Err cause
+
+abbrev pub with_head : Result (Option Word × List Word) Cause → Result (Option Word × Says) Cause
+with_head (Ok (label, words)) = with_rest label (rest_says words)
+with_head (Err cause) = Err cause
+
+-- what a line says by itself: its label and what stands behind it, or its first fault
+unfoldable pub line_of : List ℕ → Result (Option Word × Says) Cause
+line_of line = with_head (head_of line)

@@ -1,0 +1,125 @@
+//! Blocks of serial text, and the programs that they make.
+
+ghost use Rattle.std.specs.Prelude.{◌≡◌, ℕ, Some, None, List, map, IfOk, MatchOption};
+ghost use Rattle.std.specs.Option.{option_copied};
+ghost use Rattle.c62_read.specs.Block.{Serial};
+
+use crate::label::Label;
+use c62_insn::{Insn, Operands};
+use std::alloc::{AllocError, Global};
+use std::marker::Model;
+
+/// An instruction of a text, and its line from 1.
+#[derive(Clone, Copy)]
+pub struct SerialInsn {
+    pub insn: Insn,
+    pub line: u32,
+}
+
+impl SerialInsn {
+    ghost use Rattle.c62_read.specs.Program.{aimed, numbered_of};
+
+    /// A branch to a label goes to the block of this number.
+    pub(crate) fn aimed(self, number: u8) -> SerialInsn
+        ensures { numbered_of result ≡ aimed number (numbered_of self) }
+    {
+        match self.insn.operands() {
+            Operands::Block(_) => {
+                let Ok(insn) = Insn::new(
+                    self.insn.op(),
+                    Operands::Block(number),
+                    self.insn.cond(),
+                    self.insn.unit(),
+                ) else {
+                    unreachable!()
+                };
+                SerialInsn {
+                    insn,
+                    line: self.line,
+                }
+            }
+            _ => self,
+        }
+    }
+}
+
+/// A block: its label, where it has one, and its instructions with their lines.
+#[derive(Drop)]
+pub struct Block {
+    label: Option<Label>,
+    insns: Vec<SerialInsn>,
+}
+
+impl Model for Block {
+    ghost Value = { Serial };
+
+    ghost view = { λ block. record { label = block.label; insns = block.insns.items } };
+}
+
+impl Block {
+    pub(crate) fn new(label: Option<Label>, insns: Vec<SerialInsn>) -> Block
+        ensures { result ≡ record { label = label; insns = insns.items } }
+    {
+        Block { label, insns }
+    }
+
+    /// The label, where the block has one.
+    pub fn label(&self) -> Option<&Label>
+        ensures { option_copied result ≡ self.now.label }
+    {
+        self.label.as_ref()
+    }
+
+    /// The instructions in their order, each with its line.
+    pub fn insns(&self) -> &[SerialInsn]
+        ensures { result.now ≡ self.now.insns }
+    {
+        &self.insns
+    }
+
+    /// An equal block.
+    pub fn copy(&self, alloc: Global) -> Result<Block, AllocError>
+        ensures { IfOk result (λ block. block ≡ self.now) }
+    {
+        let label = match &self.label {
+            Some(label) => Some(label.copy()),
+            None => None,
+        };
+        let insns = Vec::from_slice(alloc, &self.insns)?;
+        Ok(Block { label, insns })
+    }
+}
+
+/// The blocks of a text, in their order.
+#[derive(Drop)]
+pub struct Program {
+    blocks: Vec<Block>,
+}
+
+impl Model for Program {
+    ghost Value = { List Serial };
+
+    ghost view = { λ program. program.blocks.items };
+}
+
+impl Program {
+    pub(crate) fn new(blocks: Vec<Block>) -> Program
+        ensures { result ≡ blocks.items }
+    {
+        Program { blocks }
+    }
+
+    /// The blocks in their order.
+    pub fn blocks(&self) -> &[Block]
+        ensures { result.now ≡ self.now }
+    {
+        &self.blocks
+    }
+
+    /// Hands over the blocks in their order. It takes no memory.
+    pub fn into_blocks(self) -> Vec<Block>
+        ensures { result.items ≡ self }
+    {
+        self.blocks
+    }
+}

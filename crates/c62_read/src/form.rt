@@ -1,0 +1,60 @@
+//! From the parts of an instruction, as a text has them, to the instruction.
+
+ghost use Rattle.std.specs.Prelude.{◌≡◌, Some, None, MatchResult, IfOk};
+ghost use Rattle.c62_read.specs.Line.{unit_written, is_mismarked, with_mark, text_fault, parts_of, parts_read};
+
+use crate::unit::{Mark, WrittenUnit};
+use c62_insn::{Cond, FormFault, Insn, Op, Operands, Unit};
+
+/// Whether X is written where nothing crosses, or T with the other file's number.
+fn is_mismarked(written: Option<WrittenUnit>, operands: Operands) -> bool
+    ensures { result ≡ is_mismarked written operands }
+{
+    match written {
+        None => false,
+        Some(written) => match written.mark {
+            Mark::Plain => false,
+            Mark::Cross => !operands.crosses_to(written.unit.side),
+            Mark::Path(side) => match operands {
+                Operands::Access(reg, _, _, _) => reg.side != side,
+                _ => true,
+            },
+        },
+    }
+}
+
+fn unit_written(written: Option<WrittenUnit>) -> Option<Unit>
+    ensures { result ≡ unit_written written }
+{
+    Some(written?.unit)
+}
+
+/// The instruction of these parts, or the first fault of its form.
+#[tactic(auto, unfolding(crate::specs::Line::text_fault))]
+pub(crate) fn make(
+    op: Op,
+    operands: Operands,
+    cond: Option<Cond>,
+    written: Option<WrittenUnit>,
+) -> Result<Insn, FormFault>
+    ensures fault { MatchResult result (λ insn. text_fault op operands cond written ≡ None) (λ fault. text_fault op operands cond written ≡ Some fault) }
+    ensures parts { IfOk result (λ insn. parts_of insn ≡ parts_read op operands cond written) }
+{
+    match Insn::new(op, operands, cond, unit_written(written)) {
+        Ok(insn) => {
+            if is_mismarked(written, operands) {
+                Err(FormFault::BadSide)
+            } else {
+                Ok(insn)
+            }
+        }
+        Err(FormFault::NoUnit) => {
+            if is_mismarked(written, operands) {
+                Err(FormFault::BadSide)
+            } else {
+                Err(FormFault::NoUnit)
+            }
+        }
+        Err(fault) => Err(fault),
+    }
+}

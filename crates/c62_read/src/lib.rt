@@ -1,0 +1,25 @@
+//! Reads serial assembly text.
+#![tactic(auto)]
+
+mod block;
+mod fault;
+mod form;
+mod label;
+mod line;
+mod mnemonic;
+mod number;
+mod operand;
+mod program;
+mod reading;
+mod token;
+mod unit;
+
+pub use block::{Block, Program, SerialInsn};
+pub use fault::{Cause, ReadFault};
+pub use label::Label;
+pub use line::read_insn;
+pub use program::{MOST_BYTES, read_program};
+pub use reading::{Reading, What};
+
+#[cfg(test)]
+mod tests;

@@ -1,0 +1,345 @@
+//! What a line says, and its first fault.
+
+ghost use Rattle.std.specs.Prelude.{◌≡◌, ◌==◌, Ok, Err, Some, None, MatchResult, IsTrue, IfSome, IfOk, IfErr, not, take_while};
+ghost use Rattle.std.specs.List.{list_all, list_any};
+ghost use Rattle.std.specs.Option.{option_copied};
+ghost use Rattle.c62_read.specs.Text.{begins, tokens, is_allowed};
+ghost use Rattle.c62_read.specs.Number.{is_label};
+ghost use Rattle.c62_read.specs.Operand.{Finds};
+ghost use Rattle.c62_read.specs.Line.{said, is_branch, label_alone, target_of, is_storing, letter_written, does, jumps, pause_of, behind_unit, instruction_of, conditional, closed_condition, bracketed_condition, condition_front, first_begins, rest_says, label_front, has_colon, is_bars, is_star, head_of, line_of, said_of};
+ghost use Rattle.c62_read.specs.Unit.{is_dot};
+
+use crate::fault::{Cause, ReadFault};
+use crate::form::make;
+use crate::label::Label;
+use crate::mnemonic::{Mnemonic, mnemonic_named};
+use crate::number::{is_label, number, register, spells};
+use crate::operand::read_operands;
+use crate::reading::{Reading, What};
+use crate::token::{first_token, is_allowed};
+use crate::unit::{WrittenUnit, first_unit};
+use c62_insn::{Cond, Letter, Op, Operands};
+
+/// The number of cycles behind NOP, which takes no condition.
+#[tactic(auto, unfolding(crate::specs::Line::pause_of))]
+fn pause(cond: Option<Cond>, rest: &[u8]) -> Result<What, Cause>
+    ensures { said result ≡ pause_of cond (tokens rest.now) }
+{
+    if cond.is_some() {
+        return Err(Cause::BadOperand);
+    }
+    let Some((word, rest)) = first_token(rest) else {
+        return Ok(What::Nop(1));
+    };
+    if first_token(rest).is_some() {
+        return Err(Cause::BadOperand);
+    }
+    let cycles = number(word).ok_or(Cause::BadOperand)?;
+    if 1 <= cycles && cycles <= 9 {
+        Ok(What::Nop(cycles as u8))
+    } else {
+        Err(Cause::BadOperand)
+    }
+}
+
+/// A label, and nothing else.
+fn label_alone(rest: &[u8]) -> Option<&[u8]>
+    ensures value { option_copied result ≡ label_alone (tokens rest.now) }
+    ensures label { IfSome result (λ word. IsTrue (is_label word.now)) }
+{
+    let (word, rest) = first_token(rest)?;
+    if first_token(rest).is_some() || !is_label(word) {
+        None
+    } else {
+        Some(word)
+    }
+}
+
+/// The label that a branch goes to, where a label is all that is written.
+fn target(mnemonic: Mnemonic, rest: &[u8]) -> Option<&[u8]>
+    ensures value { option_copied result ≡ target_of mnemonic (tokens rest.now) }
+    ensures label { IfSome result (λ word. IsTrue (is_label word.now)) }
+{
+    match mnemonic {
+        Mnemonic::Operation(Op::B) => label_alone(rest),
+        _ => None,
+    }
+}
+
+fn is_storing(mnemonic: Mnemonic) -> bool
+    ensures { result ≡ is_storing mnemonic }
+{
+    match mnemonic {
+        Mnemonic::Operation(op) => op.is_store(),
+        _ => false,
+    }
+}
+
+fn letter_written(written: Option<WrittenUnit>) -> Option<Letter>
+    ensures { result ≡ letter_written written }
+{
+    Some(written?.unit.letter)
+}
+
+fn does(
+    cond: Option<Cond>,
+    written: Option<WrittenUnit>,
+    read: Option<(Op, Operands)>,
+) -> Result<What, Cause>
+    ensures { said result ≡ does cond written read }
+{
+    let Some(read) = read else {
+        return Err(Cause::BadOperand);
+    };
+    let (op, operands) = read;
+    match make(op, operands, cond, written) {
+        Ok(insn) => Ok(What::Insn(insn)),
+        Err(fault) => Err(Cause::Form(fault)),
+    }
+}
+
+fn jumps(
+    cond: Option<Cond>,
+    written: Option<WrittenUnit>,
+    label: &[u8],
+) -> Result<What, Cause>
+    requires { IsTrue (is_label label.now) }
+    ensures { said result ≡ jumps cond written label.now }
+{
+    match make(Op::B, Operands::Block(0), cond, written) {
+        Ok(insn) => Ok(What::Jump(insn, Label::new(label))),
+        Err(fault) => Err(Cause::Form(fault)),
+    }
+}
+
+/// What stands behind the unit.
+#[tactic(auto, unfolding(crate::specs::Line::behind_unit))]
+fn behind_unit(
+    mnemonic: Mnemonic,
+    cond: Option<Cond>,
+    written: Option<WrittenUnit>,
+    rest: &[u8],
+) -> Result<What, Cause>
+    ensures { said result ≡ behind_unit mnemonic cond written (tokens rest.now) }
+{
+    if matches!(mnemonic, Mnemonic::Nop) {
+        return pause(cond, rest);
+    }
+    if let Some(label) = target(mnemonic, rest) {
+        return jumps(cond, written, label);
+    }
+    match read_operands(is_storing(mnemonic), rest) {
+        Some(operands) => {
+            does(cond, written, mnemonic.read_as(letter_written(written), operands))
+        }
+        None => Err(Cause::BadOperand),
+    }
+}
+
+/// The instruction behind the condition.
+#[tactic(auto, unfolding(crate::specs::Line::instruction_of))]
+fn instruction(cond: Option<Cond>, rest: &[u8]) -> Result<What, Cause>
+    ensures { said result ≡ instruction_of cond (tokens rest.now) }
+{
+    let Some((name, rest)) = first_token(rest) else {
+        return if cond.is_some() {
+            Err(Cause::UnknownMnemonic)
+        } else {
+            Ok(What::Empty)
+        };
+    };
+    let Some(mnemonic) = mnemonic_named(name) else {
+        return Err(Cause::UnknownMnemonic);
+    };
+    match first_unit(rest) {
+        None => Err(Cause::BadUnit),
+        Some((None, rest)) => behind_unit(mnemonic, cond, None, rest),
+        Some((Some(written), rest)) => {
+            if written.fits(mnemonic) {
+                behind_unit(mnemonic, cond, Some(written), rest)
+            } else {
+                Err(Cause::BadUnit)
+            }
+        }
+    }
+}
+
+/// `register ]`
+#[tactic(auto, unfolding(crate::specs::Line::closed_condition))]
+fn closed_condition(negated: bool, rest: &[u8]) -> Option<(Option<Cond>, &[u8])>
+    ensures { Finds result (closed_condition negated (tokens rest.now)) }
+{
+    let (name, rest) = first_token(rest)?;
+    let (close, rest) = first_token(rest)?;
+    if !spells(b"]", close) {
+        return None;
+    }
+    let reg = register(name)?;
+    Some((Some(Cond { reg, negated }), rest))
+}
+
+/// `[!] register ]`
+#[tactic(auto, unfolding(crate::specs::Line::bracketed_condition))]
+fn bracketed_condition(rest: &[u8]) -> Option<(Option<Cond>, &[u8])>
+    ensures { Finds result (bracketed_condition (tokens rest.now)) }
+{
+    let (first, behind) = first_token(rest)?;
+    if spells(b"!", first) {
+        closed_condition(true, behind)
+    } else {
+        closed_condition(false, rest)
+    }
+}
+
+/// The condition, where a bracket stands first, and what follows it. There is none where the bracket begins no condition.
+#[tactic(auto, unfolding(crate::specs::Line::condition_front))]
+fn first_condition(rest: &[u8]) -> Option<(Option<Cond>, &[u8])>
+    ensures { Finds result (condition_front (tokens rest.now)) }
+{
+    let Some((first, behind)) = first_token(rest) else {
+        return Some((None, rest));
+    };
+    if spells(b"[", first) {
+        bracketed_condition(behind)
+    } else {
+        Some((None, rest))
+    }
+}
+
+fn begins_with_dot(rest: &[u8]) -> bool
+    ensures { result ≡ first_begins is_dot (tokens rest.now) }
+{
+    match first_token(rest) {
+        Some((word, _)) => begins_with(b'.', word),
+        None => false,
+    }
+}
+
+fn begins_with(byte: u8, bytes: &[u8]) -> bool
+    ensures { result ≡ begins (λ b. b == byte) bytes.now }
+{
+    match bytes {
+        [] => false,
+        [first, ..] => *first == byte,
+    }
+}
+
+/// What stands behind the label.
+#[tactic(auto, unfolding(crate::specs::Line::rest_says))]
+pub(crate) fn read_rest(rest: &[u8]) -> Result<What, Cause>
+    ensures { said result ≡ rest_says (tokens rest.now) }
+{
+    if begins_with_dot(rest) {
+        return Err(Cause::Directive);
+    }
+    match first_condition(rest) {
+        None => Err(Cause::BadOperand),
+        Some((cond, rest)) => instruction(cond, rest),
+    }
+}
+
+/// The label that stands first, and what follows its colon.
+#[tactic(auto, unfolding(crate::specs::Line::label_front))]
+pub(crate) fn first_label(rest: &[u8]) -> (Option<&[u8]>, &[u8])
+    ensures value { label_front (tokens rest.now) ≡ (option_copied result.0, tokens result.1.now) }
+    ensures label { IfSome result.0 (λ word. IsTrue (is_label word.now)) }
+{
+    let Some((name, behind)) = first_token(rest) else {
+        return (None, rest);
+    };
+    let Some((colon, behind)) = first_token(behind) else {
+        return (None, rest);
+    };
+    if spells(b":", colon) && is_label(name) {
+        (Some(name), behind)
+    } else {
+        (None, rest)
+    }
+}
+
+/// Whether parallel bars stand first.
+fn begins_with_bars(rest: &[u8]) -> bool
+    ensures { result ≡ is_bars (tokens rest.now) }
+{
+    match first_token(rest) {
+        Some((word, _)) => spells(b"||", word),
+        None => false,
+    }
+}
+
+fn all_allowed(line: &[u8]) -> bool
+    ensures { result ≡ list_all is_allowed line.now }
+{
+    line.iter().all(|b| is_allowed(*b))
+}
+
+fn colon_before_comment(rest: &[u8]) -> bool
+    ensures { result ≡ list_any (λ b. b == 58) (take_while (λ b. not (b == 59)) rest.now) }
+{
+    rest.iter()
+        .take_while(|b| **b != b';')
+        .any(|b| *b == b':')
+}
+
+/// Whether a colon is left.
+#[tactic(auto, using(crate::proofs::ColonLemmas::colons))]
+fn has_colon(rest: &[u8]) -> bool
+    ensures { result ≡ has_colon (tokens rest.now) }
+{
+    colon_before_comment(rest)
+}
+
+/// The label of a line and what follows it.
+#[tactic(auto, unfolding(crate::specs::Line::head_of))]
+pub(crate) fn read_head(line: &[u8]) -> Result<(Option<&[u8]>, &[u8]), Cause>
+    ensures value { MatchResult result (λ head. head_of line.now ≡ Ok (option_copied head.0, tokens head.1.now)) (λ cause. head_of line.now ≡ Err cause) }
+    ensures label { IfOk result (λ head. IfSome head.0 (λ word. IsTrue (is_label word.now))) }
+{
+    if !all_allowed(line) {
+        return Err(Cause::NotAscii);
+    }
+    if line.len() > 255 {
+        return Err(Cause::LineTooLong);
+    }
+    if begins_with(b'*', line) {
+        return Ok((None, &[]));
+    }
+    if begins_with_bars(line) {
+        return Err(Cause::ParallelBar);
+    }
+    let (label, rest) = first_label(line);
+    if has_colon(rest) {
+        return Err(Cause::BadLabel);
+    }
+    Ok((label, rest))
+}
+
+/// The reading of one line, which takes no memory. The line is without its end; its fault carries the line 1.
+///
+/// All is judged but what needs other lines: whether an earlier line has the label, whether some line has the label that a
+/// branch goes to, and how many instructions and blocks there are (docs/SERIAL_TEXT.md, "Faults of a line").
+#[tactic(auto, unfolding(crate::specs::Line::line_of))]
+pub fn read_insn(line: &[u8]) -> Result<Reading, ReadFault>
+    ensures reading { IfOk result (λ reading. line_of line.now ≡ Ok (reading.label, said_of reading.what)) }
+    ensures cause { IfErr result (λ fault. line_of line.now ≡ Err fault.cause) }
+    ensures line { IfErr result (λ fault. fault.line ≡ 1) }
+{
+    let (label, rest) = match read_head(line) {
+        Ok(head) => head,
+        Err(cause) => return Err(ReadFault { line: 1, cause }),
+    };
+    match read_rest(rest) {
+        Ok(what) => Ok(Reading { label: owned(label), what }),
+        Err(cause) => Err(ReadFault { line: 1, cause }),
+    }
+}
+
+pub(crate) fn owned(label: Option<&[u8]>) -> Option<Label>
+    requires { IfSome label (λ word. IsTrue (is_label word.now)) }
+    ensures { result ≡ option_copied label.entry }
+{
+    match label {
+        Some(word) => Some(Label::new(word)),
+        None => None,
+    }
+}

@@ -1,0 +1,281 @@
+//! Mnemonics, and what the reader makes of them.
+
+ghost use Rattle.std.specs.Prelude.{◌≡◌, pos};
+ghost use Rattle.c62_insn.specs.Word.{word, lo};
+
+use crate::number::spells;
+use c62_insn::{Letter, Op, Operands, Reg};
+
+/// What may stand first in an instruction.
+#[derive(Clone, Copy)]
+pub(crate) enum Mnemonic {
+    Operation(Op),
+    Mv,
+    Neg,
+    Not,
+    Zero,
+    Mvkl,
+    Mvkh,
+    Nop,
+}
+
+ghost use Rattle.c62_read.specs.Mnemonic.{operation_named, pseudo_named, mnemonic_named, stands_on, exchanged, low_half, signed_low_half, high_half, constant_to_front, crossed_to_back, in_order, with_kind, zero_in, read_as};
+
+const OPERATIONS: [Op; 41] = [
+    Op::Add,
+    Op::Sub,
+    Op::And,
+    Op::Or,
+    Op::Xor,
+    Op::Cmpeq,
+    Op::Cmpgt,
+    Op::Cmplt,
+    Op::Cmpgtu,
+    Op::Cmpltu,
+    Op::Abs,
+    Op::Shl,
+    Op::Shr,
+    Op::Shru,
+    Op::Ext,
+    Op::Extu,
+    Op::Add2,
+    Op::Sub2,
+    Op::Mvk,
+    Op::Mvklh,
+    Op::Addk,
+    Op::Mpy,
+    Op::Mpyu,
+    Op::Mpyus,
+    Op::Mpysu,
+    Op::Mpyh,
+    Op::Mpyhu,
+    Op::Mpyhl,
+    Op::Mpylh,
+    Op::Addab,
+    Op::Addah,
+    Op::Addaw,
+    Op::Ldb,
+    Op::Ldbu,
+    Op::Ldh,
+    Op::Ldhu,
+    Op::Ldw,
+    Op::Stb,
+    Op::Sth,
+    Op::Stw,
+    Op::B,
+];
+
+/// The operation of this name.
+#[tactic(auto, unfolding(crate::specs::Mnemonic::operation_named))]
+fn operation_named(name: &[u8]) -> Option<Op>
+    ensures { result ≡ operation_named name.now }
+{
+    OPERATIONS
+        .iter()
+        .copied()
+        .find(|op| spells(op.mnemonic().as_bytes(), name))
+}
+
+/// The mnemonic of this name that is no operation's.
+#[tactic(auto, unfolding(crate::specs::Mnemonic::pseudo_named))]
+fn pseudo_named(name: &[u8]) -> Option<Mnemonic>
+    ensures { result ≡ pseudo_named name.now }
+{
+    if spells(b"MV", name) {
+        Some(Mnemonic::Mv)
+    } else if spells(b"NEG", name) {
+        Some(Mnemonic::Neg)
+    } else if spells(b"NOT", name) {
+        Some(Mnemonic::Not)
+    } else if spells(b"ZERO", name) {
+        Some(Mnemonic::Zero)
+    } else if spells(b"MVKL", name) {
+        Some(Mnemonic::Mvkl)
+    } else if spells(b"MVKH", name) {
+        Some(Mnemonic::Mvkh)
+    } else if spells(b"NOP", name) {
+        Some(Mnemonic::Nop)
+    } else {
+        None
+    }
+}
+
+/// The mnemonic of this name.
+#[tactic(auto, unfolding(crate::specs::Mnemonic::mnemonic_named))]
+pub(crate) fn mnemonic_named(name: &[u8]) -> Option<Mnemonic>
+    ensures { result ≡ mnemonic_named name.now }
+{
+    match operation_named(name) {
+        Some(op) => Some(Mnemonic::Operation(op)),
+        None => pseudo_named(name),
+    }
+}
+
+/// The operation that does the same with its two sources exchanged.
+fn exchanged(op: Op) -> Option<Op>
+    ensures { result ≡ exchanged op }
+{
+    match op {
+        Op::Add
+        | Op::And
+        | Op::Or
+        | Op::Xor
+        | Op::Add2
+        | Op::Cmpeq
+        | Op::Mpy
+        | Op::Mpyu
+        | Op::Mpyh
+        | Op::Mpyhu => Some(op),
+        Op::Cmpgt => Some(Op::Cmplt),
+        Op::Cmplt => Some(Op::Cmpgt),
+        Op::Cmpgtu => Some(Op::Cmpltu),
+        Op::Cmpltu => Some(Op::Cmpgtu),
+        Op::Mpyhl => Some(Op::Mpylh),
+        Op::Mpylh => Some(Op::Mpyhl),
+        Op::Mpyus => Some(Op::Mpysu),
+        Op::Mpysu => Some(Op::Mpyus),
+        _ => None,
+    }
+}
+
+/// A constant modulo 2^32.
+fn word_of(k: i64) -> u32
+    ensures { result ≡ word k }
+{
+    k.rem_euclid(1 << 32) as u32
+}
+
+/// The lower half of a constant's word.
+fn low(k: i64) -> u16
+    ensures { result ≡ lo (word k) }
+{
+    (word_of(k) & 0xffff) as u16
+}
+
+fn low_half(k: i64) -> i64
+    ensures { result ≡ low_half k }
+{
+    i64::from(low(k))
+}
+
+fn signed_low_half(k: i64) -> i64
+    ensures { result ≡ signed_low_half k }
+{
+    i64::from(low(k).cast_signed())
+}
+
+fn high_half(k: i64) -> i64
+    ensures { result ≡ high_half k }
+{
+    i64::from(word_of(k) >> 16)
+}
+
+fn constant_to_front(op: Op, a: Reg, k: i64, d: Reg) -> (Op, Operands)
+    ensures { result ≡ constant_to_front (exchanged op) op a k d }
+{
+    match exchanged(op) {
+        Some(turned) => (turned, Operands::ConstantFirst(k, a, d)),
+        None => (op, Operands::ConstantSecond(a, k, d)),
+    }
+}
+
+fn crossed_to_back(op: Op, a: Reg, b: Reg, d: Reg) -> (Op, Operands)
+    ensures { result ≡ crossed_to_back (exchanged op) op a b d }
+{
+    match exchanged(op) {
+        Some(turned) => {
+            if a.side != d.side && b.side == d.side {
+                (turned, Operands::Three(b, a, d))
+            } else {
+                (op, Operands::Three(a, b, d))
+            }
+        }
+        None => (op, Operands::Three(a, b, d)),
+    }
+}
+
+#[tactic(auto, unfolding(crate::specs::Mnemonic::in_order))]
+fn in_order(op: Op, operands: Operands) -> (Op, Operands)
+    ensures { result ≡ in_order op operands }
+{
+    match operands {
+        Operands::Three(a, b, d) => crossed_to_back(op, a, b, d),
+        Operands::ConstantSecond(a, k, d) => constant_to_front(op, a, k, d),
+        Operands::Constant(k, d) => {
+            let constant = if matches!(op, Op::Mvklh) { low_half(k) } else { k };
+            (op, Operands::Constant(constant, d))
+        }
+        _ => (op, operands),
+    }
+}
+
+fn with_kind(read: (Op, Operands)) -> Option<(Op, Operands)>
+    ensures { result ≡ with_kind read }
+{
+    let (op, operands) = read;
+    if op.has_kind(operands) {
+        Some((op, operands))
+    } else {
+        None
+    }
+}
+
+fn zero_in(letter: Option<Letter>, d: Reg) -> (Op, Operands)
+    ensures { result ≡ zero_in letter d }
+{
+    match letter {
+        Some(Letter::L | Letter::D) => (Op::Sub, Operands::Three(d, d, d)),
+        _ => (Op::Mvk, Operands::Constant(0, d)),
+    }
+}
+
+impl Mnemonic {
+    /// Whether a unit of this letter may be written behind the mnemonic.
+    #[tactic(auto, unfolding(crate::specs::Mnemonic::stands_on))]
+    pub(crate) fn stands_on(self, letter: Letter) -> bool
+        ensures { result ≡ stands_on self letter }
+    {
+        match self {
+            Mnemonic::Operation(op) => op.has_letter(letter),
+            Mnemonic::Mv => Op::Add.has_letter(letter),
+            Mnemonic::Neg => letter == Letter::L || letter == Letter::S,
+            Mnemonic::Not => Op::Xor.has_letter(letter),
+            Mnemonic::Zero => Op::Sub.has_letter(letter),
+            Mnemonic::Mvkl => Op::Mvk.has_letter(letter),
+            Mnemonic::Mvkh => Op::Mvklh.has_letter(letter),
+            Mnemonic::Nop => false,
+        }
+    }
+
+    /// The operation and operands that the mnemonic with these operands stands for, where it may have them. `letter`
+    /// is that of the written unit.
+    #[tactic(auto, unfolding(crate::specs::Mnemonic::read_as))]
+    pub(crate) fn read_as(
+        self,
+        letter: Option<Letter>,
+        operands: Operands,
+    ) -> Option<(Op, Operands)>
+        ensures { result ≡ read_as self letter operands }
+    {
+        match (self, operands) {
+            (Mnemonic::Operation(op), _) => with_kind(in_order(op, operands)),
+            (Mnemonic::Mv, Operands::Two(x, d)) => {
+                Some((Op::Add, Operands::ConstantFirst(0, x, d)))
+            }
+            (Mnemonic::Neg, Operands::Two(x, d)) => {
+                Some((Op::Sub, Operands::ConstantFirst(0, x, d)))
+            }
+            (Mnemonic::Not, Operands::Two(x, d)) => {
+                Some((Op::Xor, Operands::ConstantFirst(-1, x, d)))
+            }
+            (Mnemonic::Zero, Operands::Register(d)) => Some(zero_in(letter, d)),
+            (Mnemonic::Mvkl, Operands::Constant(k, d)) => {
+                Some((Op::Mvk, Operands::Constant(signed_low_half(k), d)))
+            }
+            (Mnemonic::Mvkh, Operands::Constant(k, d)) => {
+                Some((Op::Mvklh, Operands::Constant(high_half(k), d)))
+            }
+            _ => None,
+        }
+    }
+}

@@ -1,0 +1,443 @@
+//! What a text says.
+
+ghost use Rattle.std.specs.Prelude.{◌≡◌, ℕ, Ok, Err, ◌≤◌, ◌<◌, ◌+◌, ◌^◌, ◌∷◌, ◌++◌, [], length, take, drop, map, position, Some, None, MatchOption, MatchResult, IfSome, IfOk, IfErr, OnOk, IsTrue};
+ghost use Rattle.std.specs.List.{list_any};
+ghost use Rattle.std.specs.Option.{option_copied, option_to_list};
+ghost use Rattle.std.specs.Str.{bytes_eq};
+ghost use Rattle.c62_insn.specs.Insn.{op_of};
+ghost use Rattle.c62_read.specs.Number.{is_label};
+ghost use Rattle.c62_read.specs.Text.{line_end, lines_of};
+
+use crate::block::{Block, Program, SerialInsn};
+use crate::fault::{Cause, ReadFault};
+use crate::label::Label;
+use crate::line::{first_label, owned, read_head, read_rest};
+use crate::reading::What;
+use c62_insn::{Insn, Op};
+use std::alloc::{AllocError, Global};
+
+/// The longest text, in bytes.
+pub const MOST_BYTES: usize = 1_048_576;
+
+/// A block as it is read, and the label that its last instruction branches to.
+#[derive(Drop)]
+pub(crate) struct BlockReader {
+    pub label: Option<Label>,
+    pub insns: Vec<SerialInsn>,
+    pub target: Option<Label>,
+}
+
+/// The blocks that are whole, and the one that the next instruction goes into.
+#[derive(Drop)]
+pub(crate) struct TextReader {
+    pub done: Vec<BlockReader>,
+    pub current: Option<BlockReader>,
+}
+
+ghost use Rattle.c62_read.specs.Line.{said_of, parts_of, is_branch};
+ghost use Rattle.c62_read.specs.Program.{draft_of, drafts_of, new_draft, all_drafts, with_label, opened, with_insn, closed, with_says, label_is, is_taken, is_full, is_unknown, is_instruction, begins_block, hindrance, is_among, names, place_of, labels_of, add_line, at_line, Fails, add_lines, no_drafts, target_number, aimed, numbered_of, block_parts, block_in, program_in};
+
+impl BlockReader {
+    fn new(alloc: Global, label: Option<Label>) -> BlockReader
+        ensures { draft_of result ≡ new_draft label }
+    {
+        BlockReader {
+            label,
+            insns: Vec::new(alloc),
+            target: None,
+        }
+    }
+
+    #[tactic(auto, using(std::proofs::lemmas::Grind::common_steps))]
+    fn add(&mut self, insn: Insn, line: u32, target: Option<Label>) -> Result<(), AllocError>
+        ensures { OnOk result (draft_of self.new ≡ with_insn (parts_of insn) line target (draft_of self.old)) }
+    {
+        self.insns.push(SerialInsn { insn, line })?;
+        self.target = target;
+        Ok(())
+    }
+}
+
+impl BlockReader {
+    /// The block, with its branch aimed at the block of this number.
+    fn block(&self, alloc: Global, number: u8) -> Result<Block, AllocError>
+        ensures { IfOk result (λ block. block_parts block ≡ record { label = self.now.label; insns = map (aimed number) (draft_of self.now).insns }) }
+    {
+        let mut insns = Vec::with_capacity(alloc, self.insns.len())?;
+        for entry in &self.insns {
+            insns.push(entry.aimed(number))?;
+        }
+        Ok(Block::new(copied(&self.label), insns))
+    }
+}
+
+fn copied(label: &Option<Label>) -> Option<Label>
+    ensures { result ≡ label.now }
+{
+    match label {
+        Some(label) => Some(label.copy()),
+        None => None,
+    }
+}
+
+impl TextReader {
+    fn new(alloc: Global) -> TextReader
+        ensures { drafts_of result ≡ record { done = []; current = None } }
+    {
+        TextReader {
+            done: Vec::new(alloc),
+            current: None,
+        }
+    }
+
+    /// Ends the block that is open.
+    fn end_block(&mut self) -> Result<(), AllocError>
+        ensures { OnOk result (drafts_of self.new ≡ record { done = all_drafts (drafts_of self.old); current = None }) }
+    {
+        if let Some(block) = self.current.take() {
+            self.done.push(block)?;
+        }
+        Ok(())
+    }
+
+    fn add_label(&mut self, alloc: Global, label: Option<Label>) -> Result<(), AllocError>
+        ensures { OnOk result (drafts_of self.new ≡ with_label label (drafts_of self.old)) }
+    {
+        if label.is_some() {
+            self.end_block()?;
+            self.current = Some(BlockReader::new(alloc, label));
+        }
+        Ok(())
+    }
+
+    fn take_block(&mut self, alloc: Global) -> BlockReader
+        ensures block { draft_of result ≡ opened (drafts_of self.old).current }
+        ensures rest { drafts_of self.new ≡ record (drafts_of self.old) { current = None } }
+    {
+        match self.current.take() {
+            Some(block) => block,
+            None => BlockReader::new(alloc, None),
+        }
+    }
+
+    fn put_block(&mut self, last: bool, block: BlockReader) -> Result<(), AllocError>
+        ensures { OnOk result (drafts_of self.new ≡ closed last (drafts_of self.old).done (draft_of block)) }
+    {
+        if last {
+            self.current = None;
+            self.done.push(block)?;
+        } else {
+            self.current = Some(block);
+        }
+        Ok(())
+    }
+
+    fn add_insn(
+        &mut self,
+        alloc: Global,
+        insn: Insn,
+        line: u32,
+        target: Option<Label>,
+    ) -> Result<(), AllocError>
+        ensures { OnOk result (drafts_of self.new ≡ closed (is_branch (op_of insn)) (drafts_of self.old).done (with_insn (parts_of insn) line target (opened (drafts_of self.old).current))) }
+    {
+        let mut block = self.take_block(alloc);
+        block.add(insn, line, target)?;
+        self.put_block(matches!(insn.op(), Op::B), block)
+    }
+
+    #[tactic(auto, unfolding(crate::specs::Program::with_says))]
+    fn add_what(&mut self, alloc: Global, line: u32, what: What) -> Result<(), AllocError>
+        ensures { OnOk result (drafts_of self.new ≡ with_says line (said_of what) (drafts_of self.old)) }
+    {
+        match what {
+            What::Empty | What::Nop(_) => Ok(()),
+            What::Insn(insn) => self.add_insn(alloc, insn, line, None),
+            What::Jump(insn, label) => self.add_insn(alloc, insn, line, Some(label)),
+        }
+    }
+
+    fn is_done(&self, label: &[u8]) -> bool
+        ensures { result ≡ list_any (λ draft. label_is label.now draft.label) (drafts_of self.now).done }
+    {
+        any_labelled(&self.done, label)
+    }
+
+    fn is_current(&self, label: &[u8]) -> bool
+        ensures { result ≡ list_any (λ draft. label_is label.now draft.label) (option_to_list (drafts_of self.now).current) }
+    {
+        match &self.current {
+            Some(block) => label_is(label, &block.label),
+            None => false,
+        }
+    }
+
+    /// Whether an earlier line has the label.
+    #[tactic(auto, unfolding(crate::specs::Program::is_taken))]
+    fn is_taken(&self, label: Option<&[u8]>) -> bool
+        ensures { result ≡ is_taken (option_copied label.entry) (drafts_of self.now) }
+    {
+        match label {
+            Some(label) => self.is_done(label) || self.is_current(label),
+            None => false,
+        }
+    }
+
+    fn is_full(&self) -> bool
+        ensures { result ≡ is_full (drafts_of self.now).current }
+    {
+        match &self.current {
+            Some(block) => block.insns.len() >= 256,
+            None => false,
+        }
+    }
+
+    /// How many blocks were begun.
+    fn blocks(&self) -> usize
+        ensures { result ≡ length (all_drafts (drafts_of self.now)) }
+    {
+        self.done.len() + usize::from(self.current.is_some())
+    }
+
+    /// What stands against a line that says something by itself.
+    #[tactic(auto, unfolding(crate::specs::Program::hindrance))]
+    fn hindrance(&self, labels: &[&[u8]], label: Option<&[u8]>, what: &What) -> Option<Cause>
+        ensures { result ≡ hindrance (names labels.now) (option_copied label.entry) (said_of what.now) (drafts_of self.now) }
+    {
+        let is_instruction = is_instruction(what);
+        if is_unknown(labels, what) {
+            Some(Cause::UnknownTarget)
+        } else if is_instruction && label.is_none() && self.is_full() {
+            Some(Cause::TooManyInstructions)
+        } else if (label.is_some() || is_instruction && self.current.is_none())
+            && self.blocks() >= 64
+        {
+            Some(Cause::TooManyBlocks)
+        } else {
+            None
+        }
+    }
+}
+
+fn is_instruction(what: &What) -> bool
+    ensures { result ≡ is_instruction (said_of what.now) }
+{
+    matches!(what, What::Insn(_) | What::Jump(_, _))
+}
+
+/// Whether the line branches to a label that is not among these.
+fn is_unknown(labels: &[&[u8]], what: &What) -> bool
+    ensures { result ≡ is_unknown (names labels.now) (said_of what.now) }
+{
+    match what {
+        What::Jump(_, label) => !is_among(label.as_bytes(), labels),
+        _ => false,
+    }
+}
+
+fn any_is(label: &[u8], labels: &[&[u8]]) -> bool
+    ensures { result ≡ list_any (λ other. bytes_eq other.now label.now) labels.now }
+{
+    labels.iter().any(|other| *other == label)
+}
+
+#[tactic(auto, using(crate::proofs::BlockLemmas::any_name))]
+fn is_among(label: &[u8], labels: &[&[u8]]) -> bool
+    ensures { result ≡ is_among label.now (names labels.now) }
+{
+    any_is(label, labels)
+}
+
+/// The label in a line's label place.
+#[tactic(auto, unfolding(crate::specs::Program::place_of))]
+fn place(line: &[u8]) -> Option<&[u8]>
+    ensures { option_copied result ≡ place_of line.now }
+{
+    first_label(line).0
+}
+
+impl TextReader {
+    /// What a line of the text says, where nothing stands against it.
+    #[tactic(auto, unfolding(crate::specs::Program::add_line))]
+    fn judge<'a>(&self, labels: &[&[u8]], line: &'a [u8]) -> Result<(Option<&'a [u8]>, What), Cause>
+        ensures said { (number : ℕ) → MatchResult result
+            (λ found. add_line (names labels.now) number line.now (drafts_of self.now) ≡ Ok (with_says number (said_of found.1) (with_label (option_copied found.0) (drafts_of self.now))))
+            (λ cause. add_line (names labels.now) number line.now (drafts_of self.now) ≡ Err cause) }
+        ensures label { IfOk result (λ found. IfSome found.0 (λ word. IsTrue (is_label word.now))) }
+    {
+        let (label, rest) = read_head(line)?;
+        if self.is_taken(label) {
+            return Err(Cause::DuplicateLabel);
+        }
+        let what = read_rest(rest)?;
+        match self.hindrance(labels, label, &what) {
+            Some(cause) => Err(cause),
+            None => Ok((label, what)),
+        }
+    }
+
+    fn add_line(
+        &mut self,
+        alloc: Global,
+        labels: &[&[u8]],
+        number: u32,
+        line: &[u8],
+    ) -> Result<(), ReadFault>
+        ensures ok { OnOk result (add_line (names labels.now) number line.now (drafts_of self.old) ≡ Ok (drafts_of self.new)) }
+        ensures err { IfErr result (λ fault. Fails fault (at_line number (add_line (names labels.now) number line.now (drafts_of self.old)))) }
+    {
+        match self.judge(labels, line) {
+            Ok((label, what)) => {
+                self.add_label(alloc, owned(label))?;
+                self.add_what(alloc, number, what)?;
+                Ok(())
+            }
+            Err(cause) => Err(ReadFault {
+                line: number,
+                cause,
+            }),
+        }
+    }
+}
+
+/// The labels of all lines of a text.
+fn all_labels<'a>(alloc: Global, text: &'a [u8]) -> Result<Vec<&'a [u8]>, AllocError>
+    ensures { IfOk result (λ labels. names labels.items ≡ labels_of (lines_of text.now)) }
+{
+    let mut labels = Vec::new(alloc);
+    let mut rest = text;
+    while let Some((line, after)) = first_line(rest) {
+        if let Some(label) = place(line) {
+            labels.push(label)?;
+        }
+        rest = after;
+    }
+    Ok(labels)
+}
+
+fn any_labelled(blocks: &[BlockReader], label: &[u8]) -> bool
+    ensures { result ≡ list_any (λ block. label_is label.now block.label) blocks.now }
+{
+    blocks.iter().any(|block| label_is(label, &block.label))
+}
+
+fn label_is(label: &[u8], other: &Option<Label>) -> bool
+    ensures { result ≡ label_is label.now other.now }
+{
+    match other {
+        Some(other) => other.as_bytes() == label,
+        None => false,
+    }
+}
+
+fn line_end(text: &[u8]) -> usize
+    ensures value { result ≡ line_end text.now }
+    ensures within { result ≤ length text.now }
+{
+    match text {
+        [] => 0,
+        [b'\n', ..] => 1,
+        [b'\r', b'\n', ..] => 2,
+        [_, ..] => 0,
+    }
+}
+
+/// How many bytes the first line has, without its end.
+fn line_len(text: &[u8]) -> usize
+    requires { 0 < length text.now }
+    ensures within { result ≤ length text.now }
+    ensures progress { 0 < result + line_end (drop result text.now) }
+    ensures line { let tail = drop result text.now in
+        lines_of text.now ≡ take result text.now ∷ lines_of (drop (line_end tail) tail) }
+{
+    let mut len = 0;
+    while len < text.len() && line_end(&text[len..]) == 0 {
+        len += 1;
+    }
+    len
+}
+
+/// The first line of a text, without its end, and the text after it.
+fn first_line(text: &[u8]) -> Option<(&[u8], &[u8])>
+    ensures found { MatchOption result (lines_of text.now ≡ []) (λ found. lines_of text.now ≡ found.0.now ∷ lines_of found.1.now) }
+    ensures shorter { IfSome result (λ found. length found.1.now < length text.now) }
+{
+    if text.is_empty() {
+        return None;
+    }
+    let (line, tail) = text.split_at(line_len(text));
+    Some((line, &tail[line_end(tail)..]))
+}
+
+/// The blocks of a text as they are read.
+fn read_drafts(alloc: Global, text: &[u8]) -> Result<TextReader, ReadFault>
+    requires { length text.now ≤ 1048576 }
+    ensures few { IfOk result (λ reader. length (all_drafts (drafts_of reader)) ≤ 64) }
+    ensures ok { IfOk result (λ reader. add_lines (labels_of (lines_of text.now)) 1 (lines_of text.now) no_drafts ≡ Ok (drafts_of reader)) }
+    ensures err { IfErr result (λ fault. Fails fault (add_lines (labels_of (lines_of text.now)) 1 (lines_of text.now) no_drafts)) }
+{
+    let labels = all_labels(alloc, text)?;
+    let mut reader = TextReader::new(alloc);
+    let mut rest = text;
+    let mut number = 1;
+    while let Some((line, after)) = first_line(rest) {
+        reader.add_line(alloc, &labels, number, line)?;
+        number += 1;
+        rest = after;
+    }
+    Ok(reader)
+}
+
+/// The place among the blocks of the one with this label.
+fn place_among(blocks: &[BlockReader], label: &[u8]) -> Option<usize>
+    ensures value { result ≡ position (λ block. label_is label.now block.label) blocks.now }
+    ensures bound { IfSome result (λ place. place < length blocks.now) }
+{
+    blocks
+        .iter()
+        .position(|block| label_is(label, &block.label))
+}
+
+/// The number of the block with this label.
+#[tactic(auto, using(crate::proofs::BlockLemmas::position_draft))]
+fn target_number(blocks: &[BlockReader], target: &Option<Label>) -> u8
+    requires { length blocks.now ≤ 64 }
+    ensures { result ≡ target_number (map draft_of blocks.now) target.now }
+{
+    match target {
+        Some(label) => match place_among(blocks, label.as_bytes()) {
+            Some(place) => place as u8,
+            None => 0,
+        },
+        None => 0,
+    }
+}
+
+/// The blocks of a program.
+fn all_blocks(alloc: Global, blocks: &[BlockReader]) -> Result<Vec<Block>, AllocError>
+    requires { length blocks.now ≤ 64 }
+    ensures { let drafts = map draft_of blocks.now in IfOk result (λ made. map block_parts made.items ≡ map (block_in drafts) drafts) }
+{
+    let mut made = Vec::with_capacity(alloc, blocks.len())?;
+    for block in blocks {
+        let number = target_number(blocks, &block.target);
+        made.push(block.block(alloc, number)?)?;
+    }
+    Ok(made)
+}
+
+/// The program of a text, or the fault of its first faulty line.
+pub fn read_program(alloc: Global, text: &[u8]) -> Result<Program, ReadFault>
+    ensures ok { IfOk result (λ program. program_in text.now ≡ Ok (map block_parts program)) }
+    ensures err { IfErr result (λ fault. Fails fault (program_in text.now)) }
+{
+    if text.len() > MOST_BYTES {
+        return Err(ReadFault {
+            line: 0,
+            cause: Cause::TextTooLong,
+        });
+    }
+    let mut reader = read_drafts(alloc, text)?;
+    reader.end_block()?;
+    Ok(Program::new(all_blocks(alloc, &reader.done)?))
+}
