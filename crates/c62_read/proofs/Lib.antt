@@ -9,3 +9,4 @@ pub mod LineLemmas
 pub mod BlockLemmas
 pub mod ReadingLemmas
 pub mod AddedLemmas
+pub mod SoundLemmas

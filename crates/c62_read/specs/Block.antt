@@ -12,3 +12,16 @@ use Rattle.c62_read.specs.Line.{Parts, parts_of, is_branch}
 pub record Serial : Type 0 where
   pub label : Option (List ℕ)
   pub insns : List SerialInsn
+
+-- only the last may be a branch
+abbrev pub branch_last : List Op → Bool
+branch_last [] = true
+branch_last (op ∷ []) = true
+branch_last (op ∷ next ∷ ops) = not (is_branch op) && branch_last (next ∷ ops)
+
+abbrev pub operations : List SerialInsn → List Op
+operations insns = map (λ entry. op_of entry.insn) insns
+
+-- at most 256 instructions, and a branch only as the last
+abbrev pub is_block : List SerialInsn → Bool
+is_block insns = nat_le (length insns) 256 && branch_last (operations insns)
