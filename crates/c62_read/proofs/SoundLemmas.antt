@@ -1,9 +1,9 @@
 -- Blocks that are read have at most 256 instructions, and a branch only as their last.
-use Rattle.std.proofs.Common.{◌≡◌, ◌≤◌, ◌<◌, ℕ, zero, suc, ◌+◌, Bool, true, false, not, ◌&&◌, List, [], ◌∷◌, ◌++◌, length, Option, Some, None, Result, Ok, refl, sym, ap, subst, ◌∙◌, arith, inl, inr, length-append, leb, get_or}
+use Rattle.std.proofs.Common.{◌≡◌, ◌<◌, ℕ, zero, suc, Bool, true, false, not, ◌&&◌, List, [], ◌∷◌, ◌++◌, length, Option, Some, None, Ok, refl, sym, ap, subst, ◌∙◌, arith, length-append, leb, get_or}
 use Rattle.std.specs.Prelude.{map, is_none}
 use Rattle.std.specs.List.{list_all}
 use Rattle.std.specs.Option.{option_to_list}
-use Rattle.std.proofs.lemmas.Bool.{cases_Bool, and_from, and_parts, leb-true, leb-false, le-leb}
+use Rattle.std.proofs.lemmas.Bool.{and_from, and_parts, leb-false, le-leb}
 use Rattle.std.proofs.lemmas.List.{length-map, map-append}
 use Rattle.std.proofs.lemmas.List.Folds.{list_all-append}
 use Rattle.c62_insn.specs.declared.operands.Op.{Op}
@@ -13,7 +13,7 @@ use Rattle.c62_read.specs.declared.program.BlockReader.{BlockReader}
 use Rattle.c62_read.specs.Block.{branch_last, is_block, operations}
 use Rattle.c62_read.specs.Line.{Parts, Says, Nothing, Pause, Does, Jumps, is_branch}
 use Rattle.c62_read.specs.Program.{Name, Draft, Drafts, Numbered, add_lines, aimed, all_drafts, closed, draft_of, draft_operations, is_full, is_instruction, is_whole, no_drafts, numbered_of, opened, with_insn, with_label, with_says}
-use Rattle.c62_read.proofs.AddedLemmas.{IsAdded, IsClear, clear_parts, kept}
+use Rattle.c62_read.proofs.AddedLemmas.{IsAdded, clear_parts, kept}
 
 abbrev pub no_branch : List Op → Bool
 no_branch ops = list_all (λ op. not (is_branch op)) ops

@@ -1,12 +1,9 @@
 -- Blocks of serial text.
-use Rattle.std.specs.Prelude.{◌≡◌, ℕ, Bool, true, false, not, ◌&&◌, nat_le, List, [], ◌∷◌, length, map, Option, Some, None, slice_get, is_some}
-use Rattle.std.specs.List.{list_all}
+use Rattle.std.specs.Prelude.{ℕ, Bool, true, not, ◌&&◌, nat_le, List, [], ◌∷◌, length, map, Option}
 use Rattle.c62_insn.specs.declared.operands.Op.{Op}
-use Rattle.c62_insn.specs.declared.operands.Operands.{Operands}
-use Rattle.c62_insn.specs.declared.operands.Operands.TheVariants.{Block}
-use Rattle.c62_insn.specs.Insn.{op_of, operands_of}
+use Rattle.c62_insn.specs.Insn.{op_of}
 use Rattle.c62_read.specs.declared.block.SerialInsn.{SerialInsn}
-use Rattle.c62_read.specs.Line.{Parts, parts_of, is_branch}
+use Rattle.c62_read.specs.Line.{is_branch}
 
 -- a block's label, and its instructions with their lines
 pub record Serial : Type 0 where

@@ -1,4 +1,4 @@
-use Rattle.std.proofs.Common.{◌≡◌, sym, ap, subst, true, arith}
+use Rattle.std.proofs.Common.{◌≡◌, sym, subst, true}
 use Rattle.c62_read.specs.declared.program.BlockReader.{BlockReader}
 use Rattle.c62_read.specs.Program.{draft_of, is_whole}
 use Rattle.c62_read.proofs.SoundLemmas.{whole_at}

@@ -1,8 +1,7 @@
-use Rattle.std.proofs.Common.{◌≡◌, List, ℕ, Ok, sym, ap, subst, arith, ◌∙◌}
+use Rattle.std.proofs.Common.{◌≡◌, List, Ok, sym, ap, subst, arith, ◌∙◌}
 use Rattle.std.proofs.lemmas.Result.{err_from_is_err_and}
-use Rattle.c62_read.specs.declared.fault.ReadFault.{ReadFault}
 use Rattle.c62_read.specs.Text.{lines_of}
-use Rattle.c62_read.specs.Program.{Name, Fails, add_line, add_lines, at_line, drafts_of, labels_of, names, no_drafts}
+use Rattle.c62_read.specs.Program.{Name, Fails, add_line, at_line, drafts_of, labels_of, names}
 use Rattle.c62_read.proofs.ReadingLemmas.{goes_on, stops, is_done}
 use Rattle.c62_read.proofs.AddedLemmas.{few_blocks}
 use Rattle.c62_read.proofs.SoundLemmas.{whole_blocks}
