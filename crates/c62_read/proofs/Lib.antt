@@ -10,3 +10,4 @@ pub mod BlockLemmas
 pub mod ReadingLemmas
 pub mod AddedLemmas
 pub mod SoundLemmas
+pub mod BytesLemmas
