@@ -11,3 +11,4 @@ pub mod ReadingLemmas
 pub mod AddedLemmas
 pub mod SoundLemmas
 pub mod BytesLemmas
+pub mod CommentLemmas
