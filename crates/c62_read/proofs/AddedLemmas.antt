@@ -1,12 +1,12 @@
 -- What a line that is added owes.
-use Rattle.std.proofs.Common.{◌≡◌, ◌≤◌, ◌<◌, ℕ, ◌+◌, Bool, true, false, cond, not, ◌&&◌, ◌||◌, List, [], ◌∷◌, ◌++◌, length, Option, Some, None, Result, Ok, Err, refl, sym, ap, subst, ◌∙◌, arith, inl, inr, length-append, leb}
-use Rattle.std.specs.Prelude.{is_some, is_none}
+use Rattle.std.proofs.Common.{◌≡◌, ◌≤◌, ◌<◌, ℕ, ◌+◌, Bool, true, false, cond, ◌&&◌, List, [], ◌∷◌, ◌++◌, length, Option, Some, None, Result, Ok, Err, refl, sym, subst, arith, length-append, leb}
+use Rattle.std.specs.Prelude.{is_none}
 use Rattle.std.specs.Option.{option_to_list}
 use Rattle.std.proofs.lemmas.Bool.{leb-false}
 use Rattle.c62_read.specs.declared.fault.Cause.{Cause}
 use Rattle.c62_read.specs.declared.fault.Cause.TheVariants.{DuplicateLabel, UnknownTarget, TooManyInstructions, TooManyBlocks}
 use Rattle.c62_read.specs.Line.{Parts, Says, Nothing, Pause, Does, Jumps, is_branch, head_of, rest_says}
-use Rattle.c62_read.specs.Program.{Name, Draft, Drafts, Refusal, add_line, add_lines, add_head, add_says, and_then, at_line, all_drafts, begins_block, closed, hindrance, is_full, is_instruction, is_taken, is_unknown, no_drafts, opened, unless_hindered, with_insn, with_label, with_says}
+use Rattle.c62_read.specs.Program.{Name, Draft, Drafts, add_line, add_lines, add_head, add_says, and_then, at_line, all_drafts, begins_block, closed, hindrance, is_full, is_instruction, is_taken, is_unknown, no_drafts, opened, unless_hindered, with_insn, with_label, with_says}
 
 -- the line says this, and nothing stands against it
 pub record IsAdded (labels : List Name) (number : ℕ) (line : List ℕ) (old new : Drafts) : Type 0 where

@@ -1,5 +1,5 @@
 -- A colon is a token of its own.
-use Rattle.std.proofs.Common.{◌≡◌, ℕ, Bool, true, false, not, cond, eqb, ◌&&◌, ◌||◌, List, [], ◌∷◌, refl, sym, ap, ◌∙◌, arith, inl, inr}
+use Rattle.std.proofs.Common.{◌≡◌, ℕ, Bool, true, false, not, eqb, ◌||◌, List, [], ◌∷◌, refl, sym, ap, ◌∙◌, arith, inl, inr}
 use Rattle.std.specs.Prelude.{codes, take_while}
 use Rattle.std.specs.Char.{to_ascii_lowercase}
 use Rattle.std.specs.List.{list_any}
@@ -96,8 +96,8 @@ colons (b ∷ []) =
       | inr text ↦ elim (cases_Bool (is_blank b)) [
         | inl blank ↦ let none : in_bytes (b ∷ []) ≡ false = bytes_more b [] text ∙ ap (λ (x : Bool). x || false) (no_colon_blank b blank) in ap has_colon (tokens_blank b [] text blank) ∙ sym none
         | inr dark ↦ let solid : is_solid b ≡ true = rw (text, dark) refl in
-          let here : has_colon ((b ∷ []) ∷ []) ≡ (eqb b 58 || false) = ap (λ (x : Bool). x || false) (one_byte b) in
-          ap has_colon (tokens_last b solid) ∙ here ∙ sym (bytes_more b [] text)
+            let here : has_colon ((b ∷ []) ∷ []) ≡ (eqb b 58 || false) = ap (λ (x : Bool). x || false) (one_byte b) in
+            ap has_colon (tokens_last b solid) ∙ here ∙ sym (bytes_more b [] text)
       ]
     ]
 colons (b ∷ c ∷ rest) =
@@ -105,19 +105,19 @@ colons (b ∷ c ∷ rest) =
       | inl comment ↦ rw (tokens_comment b (c ∷ rest) comment) (sym (bytes_comment b (c ∷ rest) comment))
       | inr text ↦ elim (cases_Bool (is_blank b)) [
         | inl blank ↦
-          let first : in_bytes (b ∷ c ∷ rest) ≡ in_bytes (c ∷ rest) = bytes_more b (c ∷ rest) text ∙ ap (λ (x : Bool). x || in_bytes (c ∷ rest)) (no_colon_blank b blank) in
-          ap has_colon (tokens_blank b (c ∷ rest) text blank) ∙ colons (c ∷ rest) ∙ sym first
+            let first : in_bytes (b ∷ c ∷ rest) ≡ in_bytes (c ∷ rest) = bytes_more b (c ∷ rest) text ∙ ap (λ (x : Bool). x || in_bytes (c ∷ rest)) (no_colon_blank b blank) in
+            ap has_colon (tokens_blank b (c ∷ rest) text blank) ∙ colons (c ∷ rest) ∙ sym first
         | inr dark ↦ let solid : is_solid b ≡ true = rw (text, dark) refl in elim (cases_Bool (is_double b c)) [
           | inl double ↦ let parts = no_colon_double b c double in
-            let here : has_colon ((b ∷ c ∷ []) ∷ tokens rest) ≡ has_colon (tokens rest) = ap (λ (x : Bool). x || has_colon (tokens rest)) (two_bytes b c []) in
-            let second : in_bytes (c ∷ rest) ≡ in_bytes rest = bytes_more c rest parts.2 ∙ ap (λ (x : Bool). x || in_bytes rest) parts.1 in
-            let first : in_bytes (b ∷ c ∷ rest) ≡ in_bytes (c ∷ rest) = bytes_more b (c ∷ rest) text ∙ ap (λ (x : Bool). x || in_bytes (c ∷ rest)) parts.0 in
-            ap has_colon (tokens_double b c rest solid double) ∙ here ∙ colons rest ∙ sym second ∙ sym first
+              let here : has_colon ((b ∷ c ∷ []) ∷ tokens rest) ≡ has_colon (tokens rest) = ap (λ (x : Bool). x || has_colon (tokens rest)) (two_bytes b c []) in
+              let second : in_bytes (c ∷ rest) ≡ in_bytes rest = bytes_more c rest parts.2 ∙ ap (λ (x : Bool). x || in_bytes rest) parts.1 in
+              let first : in_bytes (b ∷ c ∷ rest) ≡ in_bytes (c ∷ rest) = bytes_more b (c ∷ rest) text ∙ ap (λ (x : Bool). x || in_bytes (c ∷ rest)) parts.0 in
+              ap has_colon (tokens_double b c rest solid double) ∙ here ∙ colons rest ∙ sym second ∙ sym first
           | inr single ↦ elim (cases_Bool (joins b c)) [
             | inl joined ↦ joined_case b c rest joined (colons (c ∷ rest))
             | inr alone ↦
-              let here : has_colon ((b ∷ []) ∷ tokens (c ∷ rest)) ≡ (eqb b 58 || has_colon (tokens (c ∷ rest))) = ap (λ (x : Bool). x || has_colon (tokens (c ∷ rest))) (one_byte b) in
-              ap has_colon (tokens_alone b c rest solid single alone) ∙ here ∙ ap (λ (x : Bool). eqb b 58 || x) (colons (c ∷ rest)) ∙ sym (bytes_more b (c ∷ rest) text)
+                let here : has_colon ((b ∷ []) ∷ tokens (c ∷ rest)) ≡ (eqb b 58 || has_colon (tokens (c ∷ rest))) = ap (λ (x : Bool). x || has_colon (tokens (c ∷ rest))) (one_byte b) in
+                ap has_colon (tokens_alone b c rest solid single alone) ∙ here ∙ ap (λ (x : Bool). eqb b 58 || x) (colons (c ∷ rest)) ∙ sym (bytes_more b (c ∷ rest) text)
           ]
         ]
       ]

@@ -9,3 +9,6 @@ pub mod LineLemmas
 pub mod BlockLemmas
 pub mod ReadingLemmas
 pub mod AddedLemmas
+pub mod SoundLemmas
+pub mod BytesLemmas
+pub mod CommentLemmas

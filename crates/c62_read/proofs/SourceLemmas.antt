@@ -1,5 +1,5 @@
 -- Sources with commas between.
-use Rattle.std.proofs.Common.{◌≡◌, ℕ, Bool, true, false, cond, List, [], ◌∷◌, Option, Some, None, refl, sym, ap, ◌∙◌}
+use Rattle.std.proofs.Common.{◌≡◌, Bool, true, false, cond, List, [], ◌∷◌, Option, Some, None, refl}
 use Rattle.std.specs.Prelude.{option_and_then, codes}
 use Rattle.c62_read.specs.declared.operand.Source.{Source}
 use Rattle.c62_read.specs.declared.operand.Source.TheVariants.{Register, Constant}

@@ -1,5 +1,5 @@
 -- Where a unit's token ends.
-use Rattle.std.proofs.Common.{◌≡◌, ℕ, Bool, true, false, not, eqb, ◌&&◌, ◌||◌, ◌⊎◌, List, [], ◌∷◌, ◌++◌, Option, Some, None, refl, sym, ap, subst, ◌∙◌, arith, inl, inr}
+use Rattle.std.proofs.Common.{◌≡◌, ℕ, true, false, eqb, ◌&&◌, ◌||◌, List, [], ◌∷◌, ◌++◌, Option, Some, None, refl, sym, ap, subst, ◌∙◌, arith, inl, inr}
 use Rattle.std.specs.Prelude.{option_map}
 use Rattle.std.specs.Char.{is_ascii_digit}
 use Rattle.std.specs.List.{list_all}
@@ -9,7 +9,7 @@ use Rattle.c62_insn.specs.declared.register.Letter.{Letter}
 use Rattle.c62_insn.specs.declared.register.Side.{Side}
 use Rattle.c62_read.specs.declared.unit.Mark.{Mark}
 use Rattle.c62_read.specs.declared.unit.WrittenUnit.{WrittenUnit}
-use Rattle.c62_read.specs.Text.{grow, put_back, begins, is_solid, is_word_byte, is_double, joins, tokens}
+use Rattle.c62_read.specs.Text.{grow, begins, is_solid, is_word_byte, is_double, joins, tokens}
 use Rattle.c62_read.specs.Unit.{letter_of, side_numbered, is_x, is_t, mark_of, unit_of, unit_split, is_dot, with_left, unit_front}
 use Rattle.c62_read.proofs.TokenLemmas.{tokens_word, tokens_joined, tokens_alone, tokens_double, tokens_last}
 
@@ -51,7 +51,7 @@ cut [] = ([], [], record { whole = refl; words = refl; ends = refl })
 cut (b ∷ bytes) =
     elim (cases_Bool (is_word_byte b)) [
       | inl word ↦ let behind = cut bytes in
-        (b ∷ behind.0, behind.1, record { whole = ap (λ (bs : List ℕ). b ∷ bs) behind.2.whole; words = and_from (is_word_byte b) (list_all is_word_byte behind.0) word behind.2.words; ends = behind.2.ends })
+          (b ∷ behind.0, behind.1, record { whole = ap (λ (bs : List ℕ). b ∷ bs) behind.2.whole; words = and_from (is_word_byte b) (list_all is_word_byte behind.0) word behind.2.words; ends = behind.2.ends })
       | inr other ↦ ([], b ∷ bytes, record { whole = refl; words = refl; ends = other })
     ]
 

@@ -4,6 +4,7 @@ use Rattle.std.specs.Borrow.{Bor}
 use Rattle.std.specs.List.{list_any}
 use Rattle.std.specs.Option.{option_to_list}
 use Rattle.std.specs.Str.{bytes_eq}
+use Rattle.c62_insn.specs.declared.operands.Op.{Op}
 use Rattle.c62_insn.specs.declared.operands.Operands.{Operands}
 use Rattle.c62_insn.specs.declared.operands.Operands.TheVariants.{Block}
 use Rattle.c62_read.specs.declared.fault.Cause.{Cause}
@@ -12,7 +13,7 @@ use Rattle.c62_read.specs.declared.fault.ReadFault.{ReadFault}
 use Rattle.c62_read.specs.declared.block.SerialInsn.{SerialInsn}
 use Rattle.c62_read.specs.declared.program.BlockReader.{BlockReader}
 use Rattle.c62_read.specs.declared.program.TextReader.{TextReader}
-use Rattle.c62_read.specs.Block.{Serial}
+use Rattle.c62_read.specs.Block.{Serial, branch_last}
 use Rattle.c62_read.specs.Text.{lines_of, tokens}
 use Rattle.c62_read.specs.Line.{Parts, parts_of, Says, Nothing, Pause, Does, Jumps, is_branch, label_front, head_of, rest_says}
 
@@ -43,6 +44,13 @@ pub record Draft : Type 0 where
   pub label : Option Name
   pub insns : List Numbered
   pub target : Option Name
+
+abbrev pub draft_operations : Draft → List Op
+draft_operations draft = map (λ entry. entry.parts.op) draft.insns
+
+-- at most 256 instructions, and a branch only as the last
+abbrev pub is_whole : Draft → Bool
+is_whole draft = nat_le (length draft.insns) 256 && branch_last (draft_operations draft)
 
 -- the blocks that are whole, and the one that the next instruction goes into
 pub record Drafts : Type 0 where

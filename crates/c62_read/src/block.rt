@@ -1,8 +1,8 @@
 //! Blocks of serial text, and the programs that they make.
 
-ghost use Rattle.std.specs.Prelude.{◌≡◌, ℕ, Some, None, List, map, IfOk, MatchOption};
+ghost use Rattle.std.specs.Prelude.{◌≡◌, ◌≤◌, length, Some, None, List, map, true, IfOk, IsTrue};
 ghost use Rattle.std.specs.Option.{option_copied};
-ghost use Rattle.c62_read.specs.Block.{Serial};
+ghost use Rattle.c62_read.specs.Block.{Serial, is_block};
 
 use crate::label::Label;
 use c62_insn::{Insn, Operands};
@@ -54,10 +54,13 @@ impl Model for Block {
     ghost Value = { Serial };
 
     ghost view = { λ block. record { label = block.label; insns = block.insns.items } };
+
+    ghost invariant = { λ block. is_block block.insns.items ≡ true };
 }
 
 impl Block {
     pub(crate) fn new(label: Option<Label>, insns: Vec<SerialInsn>) -> Block
+        requires { IsTrue (is_block insns.items) }
         ensures { result ≡ record { label = label; insns = insns.items } }
     {
         Block { label, insns }
@@ -70,9 +73,10 @@ impl Block {
         self.label.as_ref()
     }
 
-    /// The instructions in their order, each with its line.
+    /// The instructions in their order, each with its line: at most 256, with a branch only as the last.
     pub fn insns(&self) -> &[SerialInsn]
-        ensures { result.now ≡ self.now.insns }
+        ensures same { result.now ≡ self.now.insns }
+        ensures sound { IsTrue (is_block self.now.insns) }
     {
         &self.insns
     }
@@ -100,18 +104,22 @@ impl Model for Program {
     ghost Value = { List Serial };
 
     ghost view = { λ program. program.blocks.items };
+
+    ghost invariant = { λ program. length program.blocks.items ≤ 64 };
 }
 
 impl Program {
     pub(crate) fn new(blocks: Vec<Block>) -> Program
+        requires { length blocks.items ≤ 64 }
         ensures { result ≡ blocks.items }
     {
         Program { blocks }
     }
 
-    /// The blocks in their order.
+    /// The blocks in their order, at most 64.
     pub fn blocks(&self) -> &[Block]
-        ensures { result.now ≡ self.now }
+        ensures same { result.now ≡ self.now }
+        ensures few { length self.now ≤ 64 }
     {
         &self.blocks
     }

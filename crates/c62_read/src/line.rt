@@ -98,11 +98,7 @@ fn does(
     }
 }
 
-fn jumps(
-    cond: Option<Cond>,
-    written: Option<WrittenUnit>,
-    label: &[u8],
-) -> Result<What, Cause>
+fn jumps(cond: Option<Cond>, written: Option<WrittenUnit>, label: &[u8]) -> Result<What, Cause>
     requires { IsTrue (is_label label.now) }
     ensures { said result ≡ jumps cond written label.now }
 {
@@ -130,7 +126,11 @@ fn behind_unit(
     }
     match read_operands(is_storing(mnemonic), rest) {
         Some(operands) => {
-            does(cond, written, mnemonic.read_as(letter_written(written), operands))
+            does(
+                cond,
+                written,
+                mnemonic.read_as(letter_written(written), operands),
+            )
         }
         None => Err(Cause::BadOperand),
     }
@@ -276,9 +276,7 @@ fn all_allowed(line: &[u8]) -> bool
 fn colon_before_comment(rest: &[u8]) -> bool
     ensures { result ≡ list_any (λ b. b == 58) (take_while (λ b. not (b == 59)) rest.now) }
 {
-    rest.iter()
-        .take_while(|b| **b != b';')
-        .any(|b| *b == b':')
+    rest.iter().take_while(|b| **b != b';').any(|b| *b == b':')
 }
 
 /// Whether a colon is left.
@@ -329,7 +327,10 @@ pub fn read_insn(line: &[u8]) -> Result<Reading, ReadFault>
         Err(cause) => return Err(ReadFault { line: 1, cause }),
     };
     match read_rest(rest) {
-        Ok(what) => Ok(Reading { label: owned(label), what }),
+        Ok(what) => Ok(Reading {
+            label: owned(label),
+            what,
+        }),
         Err(cause) => Err(ReadFault { line: 1, cause }),
     }
 }

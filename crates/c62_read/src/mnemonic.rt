@@ -202,7 +202,11 @@ fn in_order(op: Op, operands: Operands) -> (Op, Operands)
         Operands::Three(a, b, d) => crossed_to_back(op, a, b, d),
         Operands::ConstantSecond(a, k, d) => constant_to_front(op, a, k, d),
         Operands::Constant(k, d) => {
-            let constant = if matches!(op, Op::Mvklh) { low_half(k) } else { k };
+            let constant = if matches!(op, Op::Mvklh) {
+                low_half(k)
+            } else {
+                k
+            };
             (op, Operands::Constant(constant, d))
         }
         _ => (op, operands),

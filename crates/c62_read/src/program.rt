@@ -1,7 +1,7 @@
 //! What a text says.
 
 ghost use Rattle.std.specs.Prelude.{◌≡◌, ℕ, Ok, Err, ◌≤◌, ◌<◌, ◌+◌, ◌^◌, ◌∷◌, ◌++◌, [], length, take, drop, map, position, Some, None, MatchOption, MatchResult, IfSome, IfOk, IfErr, OnOk, IsTrue};
-ghost use Rattle.std.specs.List.{list_any};
+ghost use Rattle.std.specs.List.{list_any, list_all};
 ghost use Rattle.std.specs.Option.{option_copied, option_to_list};
 ghost use Rattle.std.specs.Str.{bytes_eq};
 ghost use Rattle.c62_insn.specs.Insn.{op_of};
@@ -35,7 +35,7 @@ pub(crate) struct TextReader {
 }
 
 ghost use Rattle.c62_read.specs.Line.{said_of, parts_of, is_branch};
-ghost use Rattle.c62_read.specs.Program.{draft_of, drafts_of, new_draft, all_drafts, with_label, opened, with_insn, closed, with_says, label_is, is_taken, is_full, is_unknown, is_instruction, begins_block, hindrance, is_among, names, place_of, labels_of, add_line, at_line, Fails, add_lines, no_drafts, target_number, aimed, numbered_of, block_parts, block_in, program_in};
+ghost use Rattle.c62_read.specs.Program.{draft_of, drafts_of, new_draft, all_drafts, with_label, opened, with_insn, closed, with_says, label_is, is_taken, is_full, is_unknown, is_instruction, begins_block, hindrance, is_among, names, place_of, labels_of, add_line, at_line, Fails, add_lines, no_drafts, target_number, aimed, numbered_of, block_parts, block_in, program_in, is_whole};
 
 impl BlockReader {
     fn new(alloc: Global, label: Option<Label>) -> BlockReader
@@ -61,6 +61,7 @@ impl BlockReader {
 impl BlockReader {
     /// The block, with its branch aimed at the block of this number.
     fn block(&self, alloc: Global, number: u8) -> Result<Block, AllocError>
+        requires { IsTrue (is_whole (draft_of self.now)) }
         ensures { IfOk result (λ block. block_parts block ≡ record { label = self.now.label; insns = map (aimed number) (draft_of self.now).insns }) }
     {
         let mut insns = Vec::with_capacity(alloc, self.insns.len())?;
@@ -373,6 +374,7 @@ fn first_line(text: &[u8]) -> Option<(&[u8], &[u8])>
 fn read_drafts(alloc: Global, text: &[u8]) -> Result<TextReader, ReadFault>
     requires { length text.now ≤ 1048576 }
     ensures few { IfOk result (λ reader. length (all_drafts (drafts_of reader)) ≤ 64) }
+    ensures whole { IfOk result (λ reader. IsTrue (list_all is_whole (all_drafts (drafts_of reader)))) }
     ensures ok { IfOk result (λ reader. add_lines (labels_of (lines_of text.now)) 1 (lines_of text.now) no_drafts ≡ Ok (drafts_of reader)) }
     ensures err { IfErr result (λ fault. Fails fault (add_lines (labels_of (lines_of text.now)) 1 (lines_of text.now) no_drafts)) }
 {
@@ -415,8 +417,10 @@ fn target_number(blocks: &[BlockReader], target: &Option<Label>) -> u8
 
 /// The blocks of a program.
 fn all_blocks(alloc: Global, blocks: &[BlockReader]) -> Result<Vec<Block>, AllocError>
-    requires { length blocks.now ≤ 64 }
-    ensures { let drafts = map draft_of blocks.now in IfOk result (λ made. map block_parts made.items ≡ map (block_in drafts) drafts) }
+    requires few { length blocks.now ≤ 64 }
+    requires whole { IsTrue (list_all is_whole (map draft_of blocks.now)) }
+    ensures few { IfOk result (λ made. length made.items ≡ length blocks.now) }
+    ensures made { let drafts = map draft_of blocks.now in IfOk result (λ made. map block_parts made.items ≡ map (block_in drafts) drafts) }
 {
     let mut made = Vec::with_capacity(alloc, blocks.len())?;
     for block in blocks {

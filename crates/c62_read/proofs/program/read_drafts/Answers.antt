@@ -1,10 +1,10 @@
-use Rattle.std.proofs.Common.{◌≡◌, List, ℕ, Ok, sym, ap, subst, arith, ◌∙◌}
+use Rattle.std.proofs.Common.{◌≡◌, List, Ok, sym, ap, subst, arith, ◌∙◌}
 use Rattle.std.proofs.lemmas.Result.{err_from_is_err_and}
-use Rattle.c62_read.specs.declared.fault.ReadFault.{ReadFault}
 use Rattle.c62_read.specs.Text.{lines_of}
-use Rattle.c62_read.specs.Program.{Name, Fails, add_line, add_lines, at_line, drafts_of, labels_of, names, no_drafts}
+use Rattle.c62_read.specs.Program.{Name, Fails, add_line, at_line, drafts_of, labels_of, names}
 use Rattle.c62_read.proofs.ReadingLemmas.{goes_on, stops, is_done}
 use Rattle.c62_read.proofs.AddedLemmas.{few_blocks}
+use Rattle.c62_read.proofs.SoundLemmas.{whole_blocks}
 use Rattle.c62_read.proofs.program.read_drafts.Goals as goal
 
 pub returns-in_err-add_line-clause-err : goal.returns-in_err-add_line-clause-err
@@ -42,4 +42,9 @@ returns-clause-ok c =
 pub returns-clause-few : goal.returns-clause-few
 returns-clause-few c =
     few_blocks (labels_of (lines_of c.args.text.now)) (lines_of c.args.text.now) (drafts_of c.loop-line.reader)
+    (sym c.loop-line.invariant.so_far ∙ is_done (labels_of (lines_of c.args.text.now)) c.loop-line.number (lines_of c.loop-line.rest.now) (drafts_of c.loop-line.reader) c.in_default.ensures.found)
+
+pub returns-clause-whole : goal.returns-clause-whole
+returns-clause-whole c =
+    whole_blocks (labels_of (lines_of c.args.text.now)) (lines_of c.args.text.now) (drafts_of c.loop-line.reader)
     (sym c.loop-line.invariant.so_far ∙ is_done (labels_of (lines_of c.args.text.now)) c.loop-line.number (lines_of c.loop-line.rest.now) (drafts_of c.loop-line.reader) c.in_default.ensures.found)

@@ -1,6 +1,6 @@
 use Rattle.std.proofs.Common.{◌≡◌, ◌+◌, ◌≤◌, length}
 use Rattle.c62_read.specs.Text.{lines_of}
-use Rattle.c62_read.specs.Program.{names, labels_of, add_lines, drafts_of, no_drafts}
+use Rattle.c62_read.specs.Program.{labels_of, add_lines, drafts_of, no_drafts}
 use Rattle.c62_read.proofs.program.read_drafts.Given as goal
 
 abbrev pub invariant-loop-line : goal.invariant-loop-line

@@ -1,4 +1,4 @@
-use Rattle.std.proofs.Common.{◌≡◌, ◌≤◌, List, length, Ok, sym, ap, subst, inr, ◌∙◌}
+use Rattle.std.proofs.Common.{◌≡◌, List, Ok, sym, ap, subst, inr, ◌∙◌}
 use Rattle.std.specs.Prelude.{map}
 use Rattle.std.proofs.lemmas.Result.{err_from_is_err_and}
 use Rattle.c62_read.specs.Program.{Draft, Drafts, BlockParts, all_drafts, block_in, block_parts, draft_of, drafts_of}
@@ -19,6 +19,6 @@ returns-clause-ok c =
     let ended = c.in_ok-end_block.ensures in
     let done : map draft_of c.deref.result.now ≡ all_drafts drafts = ap (map draft_of) c.deref.ensures.value ∙ ap (λ (d : Drafts). d.done) ended in
     let made : map block_parts c.in_ok-all_blocks.field-0.items ≡ map (block_in (all_drafts drafts)) (all_drafts drafts) =
-    subst (λ (ds : List Draft). map block_parts c.in_ok-all_blocks.field-0.items ≡ map (block_in ds) ds) done c.in_ok-all_blocks.ensures in
+    subst (λ (ds : List Draft). map block_parts c.in_ok-all_blocks.field-0.items ≡ map (block_in ds) ds) done c.in_ok-all_blocks.ensures.made in
     program_read c.args.text.now c.if-text-gt-MOST_BYTES.false drafts c.in_ok-reader.ensures.ok
     ∙ ap (λ (blocks : List BlockParts). Ok blocks) (sym (ap (map block_parts) c.new.ensures ∙ made))

@@ -1,4 +1,4 @@
-use Rattle.std.proofs.Common.{◌≡◌, true, false, drop, take, sym, ap, arith, ◌∙◌}
+use Rattle.std.proofs.Common.{◌≡◌, true, false, drop, take, sym, arith, ◌∙◌}
 use Rattle.std.specs.List.{list_all}
 use Rattle.std.proofs.lemmas.List.{take_rest}
 use Rattle.c62_read.specs.Text.{begins, is_word_byte}

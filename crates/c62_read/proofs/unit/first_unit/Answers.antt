@@ -1,4 +1,4 @@
-use Rattle.std.proofs.Common.{◌≡◌, ◌<◌, ◌⊎◌, List, ℕ, [], ◌∷◌, length, Option, Some, None, true, false, sym, ap, refl, ◌∙◌, arith}
+use Rattle.std.proofs.Common.{◌≡◌, ◌<◌, List, ℕ, [], ◌∷◌, length, Some, None, true, false, sym, ap, ◌∙◌, arith}
 use Rattle.std.specs.Prelude.{option_map}
 use Rattle.c62_read.specs.Text.{begins, is_solid, tokens}
 use Rattle.c62_read.specs.Unit.{is_dot, unit_front, unit_split}

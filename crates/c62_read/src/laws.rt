@@ -1,0 +1,16 @@
+//! Laws of the definitions.
+
+ghost use Rattle.std.specs.Prelude.{◌≡◌, ◌==◌, ◌∷◌, ◌++◌, ℕ, List, not, filter, take_while};
+ghost use Rattle.std.specs.List.{flat_map};
+ghost use Rattle.c62_read.specs.Text.{is_blank, tokens};
+
+/// The tokens of a line are its bytes in their order, less blanks and what follows a `;`.
+pub fn tokens_are_the_bytes()
+    ensures { (line : List ℕ) → flat_map (λ t. t) (tokens line)
+        ≡ filter (λ b. not (is_blank b)) (take_while (λ b. not (b == 59)) line) }
+{}
+
+/// What stands behind a `;` says nothing.
+pub fn comments_say_nothing()
+    ensures { (line rest : List ℕ) → tokens (line ++ 59 ∷ rest) ≡ tokens line }
+{}
