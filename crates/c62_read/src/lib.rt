@@ -8,7 +8,7 @@ mod label;
 mod laws;
 mod line;
 mod mnemonic;
-mod number;
+pub mod number;
 mod operand;
 mod program;
 mod reading;

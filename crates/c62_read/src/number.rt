@@ -11,7 +11,7 @@ use crate::token::is_word_byte;
 use c62_insn::{Reg, Side};
 
 /// Whether the word is this name, in either case.
-pub(crate) fn spells(name: &[u8], word: &[u8]) -> bool
+pub fn spells(name: &[u8], word: &[u8]) -> bool
     ensures { result ≡ spells name.now word.now }
 {
     word.eq_ignore_ascii_case(name)
@@ -90,9 +90,10 @@ fn signed(word: &[u8]) -> Option<i64>
     }
 }
 
-/// The number that a word says, with or without a sign.
+/// The number that a word says, with or without a sign: a decimal one of at most ten digits without leading zeros, or `0x`
+/// and at most eight hexadecimal digits, from -2,147,483,648 to 4,294,967,295. None for any other word.
 #[tactic(auto, unfolding(crate::specs::Number::number_of))]
-pub(crate) fn number(word: &[u8]) -> Option<i64>
+pub fn number(word: &[u8]) -> Option<i64>
     ensures { result ≡ number_of word.now }
 {
     let number = signed(word)?;
@@ -127,9 +128,9 @@ fn file(letter: u8) -> Option<Side>
     }
 }
 
-/// The register that a word names.
+/// The register that a word names, in either case: `A` or `B`, and a number from 0 to 15 without leading zeros.
 #[tactic(auto, unfolding(crate::specs::Number::register_of))]
-pub(crate) fn register(word: &[u8]) -> Option<Reg>
+pub fn register(word: &[u8]) -> Option<Reg>
     ensures { result ≡ register_of word.now }
 {
     match word {

@@ -11,7 +11,6 @@ pub mod ListingLemmas
 pub mod OneListing
 pub mod Pieces
 pub mod Tokens
-pub mod Numbers
 pub mod ReadingLemmas
 pub mod Lines
 pub mod Programs

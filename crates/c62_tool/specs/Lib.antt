@@ -6,7 +6,6 @@ pub mod Packet
 pub mod Early
 pub mod Listing
 pub mod Text
-pub mod Number
 pub mod Reading
 pub mod Packed
 pub mod CommandLine

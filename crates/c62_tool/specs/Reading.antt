@@ -21,7 +21,7 @@ use Rattle.c62_insn.specs.declared.register.Side.{Side}
 use Rattle.c62_insn.specs.declared.register.Side.TheVariants.{A, B}
 use Rattle.c62_insn.specs.declared.register.Unit.{Unit as FunctionalUnit}
 use Rattle.c62_tool.specs.Text.{begins, code_of, is_allowed, is_dot, lines_of, skip_blanks, tokens}
-use Rattle.c62_tool.specs.Number.{spells, number_of, register_of}
+use Rattle.c62_read.specs.Number.{spells, number_of, register_of}
 use Rattle.c62_tool.specs.declared.fault.LineFault.{LineFault}
 use Rattle.c62_tool.specs.declared.fault.LineFault.TheVariants.{NotAscii, LineTooLong, ParallelBar, BadLabel, Directive, UnknownMnemonic, BadUnit, BadOperand, Form, TooManyInstructions}
 use Rattle.c62_tool.specs.declared.fault.Refusal.{Refusal}

@@ -11,7 +11,6 @@ mod input;
 mod laws;
 mod line;
 mod listing;
-mod number;
 mod pack;
 mod packet;
 mod place;

@@ -1,9 +1,0 @@
-use Rattle.std.proofs.Common.{◌≡◌, ◌<◌, ◌*◌, ◌^◌, take}
-use Rattle.std.specs.Str.Parse.{digits_value}
-use Rattle.c62_tool.proofs.number.digits_value.Given as goal
-
-abbrev pub invariant-loop-d : goal.invariant-loop-d
-invariant-loop-d l = record {
-  so_far : l.value ≡ digits_value l.radix (take l.d-index l.digits);
-  bound : l.value < 2 ^ (4 * l.d-index);
-}
