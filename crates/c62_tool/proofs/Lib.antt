@@ -15,4 +15,5 @@ pub mod ReadingLemmas
 pub mod Lines
 pub mod Programs
 pub mod Known
+pub mod SettingLemmas
 pub mod Runs

@@ -9,4 +9,5 @@ pub mod Text
 pub mod Reading
 pub mod Packed
 pub mod CommandLine
+pub mod Settings
 pub mod Run

@@ -6,9 +6,9 @@ ghost use Rattle.c62_tool.specs.Text.{is_allowed, tokens};
 ghost use Rattle.c62_tool.specs.Reading.{Makes, Says, constant_of, crossing_unit, has_letter, has_x, instruction_of, is_colon, letter_of, line_of, made_of, mnemonic_of, op_named, operand_of, operands_in, put_back, rest_of, said_with, side_of, statement_of, suffix_length, three_of, three_operands, two_operands, unit_for, unit_in, unit_length, unit_named, unit_with};
 
 use crate::fault::LineFault;
-use c62_read::number::{number, register, spells};
 use crate::token::{begins_with, code, first_token, is_allowed, skip_blanks};
 use c62_insn::{FormFault, Insn, Letter, Op, Operands, Reg, Side, Unit};
+use c62_read::number::{number, register, spells};
 
 /// A mnemonic.
 #[derive(Clone, Copy, Debug, PartialEq, Eq)]

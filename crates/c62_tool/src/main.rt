@@ -16,6 +16,7 @@ mod packet;
 mod place;
 mod program;
 mod resource;
+mod setting;
 mod spelling;
 mod spot;
 mod token;
