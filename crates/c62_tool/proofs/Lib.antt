@@ -16,4 +16,6 @@ pub mod Lines
 pub mod Programs
 pub mod Known
 pub mod SettingLemmas
+pub mod ParsedNumber
+pub mod Asking
 pub mod Runs

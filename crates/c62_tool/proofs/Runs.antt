@@ -1,5 +1,5 @@
 -- What a run did, from what each of its steps did.
-use Rattle.std.proofs.Common.{◌≡◌, ℕ, ◌<◌, List, length, take, Option, Some, None, Result, Ok, Err, refl, sym, ap, subst, ◌∙◌, arith, inl, inr}
+use Rattle.std.proofs.Common.{◌≡◌, ℕ, ◌<◌, Bool, List, length, take, Option, Some, None, Result, Ok, Err, refl, sym, ap, subst, ◌∙◌, arith, inl, inr}
 use Rattle.std.specs.Prelude.{IfSome, IsErr}
 use Rattle.std.specs.Global.{Vec}
 use Rattle.std.specs.Io.KnownBytes.{Appends, Keeps}
@@ -8,7 +8,10 @@ use Rattle.std.proofs.lemmas.List.{take_all, length-take}
 use Rattle.c62_tool.specs.declared.fault.Refusal.{Refusal}
 use Rattle.c62_tool.specs.declared.fault.Refusal.TheVariants.{TextTooLong}
 use Rattle.c62_tool.specs.Reading.{Parts, program_of}
-use Rattle.c62_tool.specs.Run.{IsPackedText, ListsText, IsRefused, Leaves, GivesListing}
+use Rattle.c62_tool.specs.Run.{IsPackedText, ListsText, IsRefused, IsFailure, Blames, Leaves, GivesListing}
+use Rattle.c62_tool.specs.CommandLine.{Listing, asked}
+use Rattle.c62_tool.proofs.Asking.{asked-unknown, asked-bad}
+use Rattle.clap.specs.Words.{Text}
 use Rattle.c62_tool.specs.declared.failure.Failure.{Failure}
 use Rattle.c62_tool.specs.declared.failure.Failure.TheVariants as failures
 
@@ -41,16 +44,30 @@ Keeps-same : (known : Option (List ℕ)) → Keeps known known
 Keeps-same None = tt
 Keeps-same (Some xs) = refl
 
+refused : (known : Option (List ℕ)) (text : List ℕ) (turns : Bool) (r : Refusal) → IfSome known (λ all. text ≡ take 1048577 all) → program_of text ≡ Err r
+    → IsRefused (Listing turns) known
+refused None text turns r read gives = tt
+refused (Some all) text turns r read gives =
+    let says : Err r ≡ program_of all = sym gives ∙ ap program_of read ∙ program_of-take all in
+    subst (λ (p : Result (List Parts) Refusal). IsErr p) says refl
+
 -- no listing came of what was read
-pub refuses : (known old : Option (List ℕ)) (text : List ℕ) (f : Failure) → IfSome known (λ all. text ≡ take 1048577 all) → GivesListing text (Err f) → Leaves f known old old
-refuses known old text (failures.Refused r) read gives = (refused known read, Keeps-same old)
-  where
-    refused : (k : Option (List ℕ)) → IfSome k (λ all. text ≡ take 1048577 all) → IsRefused k
-    refused None e = tt
-    refused (Some all) e =
-        let says : Err r ≡ program_of all = sym gives ∙ ap program_of e ∙ program_of-take all in
-        subst (λ (p : Result (List Parts) Refusal). IsErr p) says refl
-refuses known old text failures.Memory read gives = Keeps-same old
-refuses known old text failures.Input read gives = absurd gives
-refuses known old text failures.Output read gives = absurd gives
-refuses known old text (failures.Words e) read gives = absurd gives
+pub refuses : (known old : Option (List ℕ)) (text : List ℕ) (turns : Bool) (f : Failure) → IfSome known (λ all. text ≡ take 1048577 all) → GivesListing text (Err f)
+    → Leaves f (Listing turns) known old old
+refuses known old text turns (failures.Refused r) read gives = (refused known text turns r read gives, Keeps-same old)
+refuses known old text turns failures.Memory read gives = Keeps-same old
+refuses known old text turns (failures.Unread r) read gives = absurd gives
+refuses known old text turns failures.Input read gives = absurd gives
+refuses known old text turns failures.Output read gives = absurd gives
+refuses known old text turns (failures.Words e) read gives = absurd gives
+refuses known old text turns (failures.Setting k) read gives = absurd gives
+
+-- the words are blamed where they ask for nothing
+pub blamed : (f : Failure) (words : List Text) (known old : Option (List ℕ)) → Blames f words → IsFailure f (asked words) known old old
+blamed (failures.Words e) words known old blames = (asked-unknown words blames, Keeps-same old)
+blamed (failures.Setting k) words known old blames = (asked-bad words k blames, Keeps-same old)
+blamed failures.Memory words known old blames = Keeps-same old
+blamed (failures.Refused r) words known old blames = absurd blames
+blamed (failures.Unread r) words known old blames = absurd blames
+blamed failures.Input words known old blames = absurd blames
+blamed failures.Output words known old blames = absurd blames

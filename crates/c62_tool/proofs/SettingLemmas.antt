@@ -52,3 +52,12 @@ first_bad texts k d all within so_far none =
       good = ap is_some so_far;
       bad = ap setting_of (word_at texts k d within) ∙ none;
     }
+
+-- where one word is no setting, the words are none
+pub none_of : (before : List (List ℕ)) (text : List ℕ) (after : List (List ℕ)) → setting_of text ≡ None → settings_of (before ++ text ∷ after) ≡ None
+none_of [] text after none = rw none refl
+none_of (first ∷ before) text after none = rw (none_of before text after none) (nothing (setting_of first))
+  where
+    nothing : (a : Option Setting) → and_setting a None ≡ None
+    nothing None = refl
+    nothing (Some a) = refl

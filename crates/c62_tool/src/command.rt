@@ -1,20 +1,30 @@
 //! What the words of the command line ask for.
 
-ghost use Rattle.std.specs.Prelude.{◌≡◌, ◌≢◌, ◌<◌, IfOk, IfErr, IsOkAnd, false, true, map, length, []};
+ghost use Rattle.std.specs.Prelude.{◌≡◌, ◌≢◌, ℕ, IfOk, IfErr, IsOkAnd, Some, None, false, true, map, option_map, length, [], codes};
 ghost use Rattle.clap.specs.Words.{app_of, found_of, kind_of, rows_of, rule_of, subcommand_of, subcommand_rows_of, fault_of};
 ghost use Rattle.clap.specs.declared.builder.command.Command.TheViews.{out-Command as fields_of};
-ghost use Rattle.c62_tool.specs.CommandLine.{turns_rule, pack_app, tool_app, is_set, AsksFor, IsTaken, IsUnknown};
+ghost use Rattle.clap.specs.declared.error.kind.ErrorKind.TheVariants.{OutOfMemory};
+ghost use Rattle.c62_tool.specs.CommandLine.{turns_rule, blocks_rule, settings_rule, pack_app, serial_app, tool_app, is_set, blocks_of, setting_words, ask_in, ask_of, asked, HasFirstBad};
+ghost use Rattle.c62_tool.specs.Settings.{settings_of, IsFirstBad};
+ghost use Rattle.c62_tool.specs.declared.setting.SettingError.TheVariants.{Bad};
+ghost use Rattle.c62_tool.specs.Run.{Blames};
 
-use clap::error::ErrorKind;
-use clap::{Arg, ArgAction, ArgMatches, Command, Error};
+use crate::failure::Failure;
+use crate::setting::{Setting, SettingError, read_settings};
+use clap::{Arg, ArgAction, ArgMatches, Command, Error, value_parser};
 use std::alloc::{AllocError, Global};
 use std::convert::AsStr;
 
+/// How many blocks a run has at most, where nothing is said.
+const DEFAULT_BLOCKS: u32 = 1000;
+
 /// What was asked for.
-#[derive(Clone, Copy, Debug, PartialEq, Eq)]
+#[derive(Debug, Drop)]
 pub enum Request {
     /// The listing of a text, packed by one thread where `turns` is set.
     Pack { turns: bool },
+    /// The report of a serial run of at most so many blocks, from a state with these settings.
+    Serial { blocks: u32, settings: Vec<Setting> },
 }
 
 fn turns_flag<'a>(alloc: Global) -> Arg<'a>
@@ -36,21 +46,53 @@ fn pack_command<'a>(alloc: Global) -> Result<Command<'a>, AllocError>
         .arg(turns_flag(alloc))
 }
 
+fn blocks_option<'a>(alloc: Global) -> Arg<'a>
+    ensures rule { rule_of result ≡ blocks_rule }
+    ensures local { result.global ≡ false }
+{
+    Arg::new(alloc, "blocks")
+        .long("blocks")
+        .value_name("N")
+        .value_parser(value_parser!(u32).range(1..=1_000_000))
+        .help("Runs at most N blocks, 1 to 1000000; 1000 where none is given")
+}
+
+fn settings_words<'a>(alloc: Global) -> Arg<'a>
+    ensures rule { rule_of result ≡ settings_rule }
+    ensures local { result.global ≡ false }
+{
+    Arg::new(alloc, "settings")
+        .value_name("SETTING")
+        .action(ArgAction::Append)
+        .help("REG=NUMBER sets a register, @ADDRESS=NUMBER a word of memory")
+}
+
+fn serial_command<'a>(alloc: Global) -> Result<Command<'a>, AllocError>
+    ensures app { IfOk result (λ c. app_of c ≡ serial_app) }
+    ensures local { IfOk result (λ c. (fields_of c).has_globals ≡ false) }
+{
+    Command::new(alloc, "serial")
+        .about("Runs serial text, one instruction after the other, and reports the end")
+        .arg(blocks_option(alloc))?
+        .arg(settings_words(alloc))
+}
+
 fn tool_command<'a>(alloc: Global) -> Result<Command<'a>, AllocError>
     ensures { IfOk result (λ c. app_of c ≡ tool_app) }
 {
     Command::new(alloc, "c62")
-        .about("Packs TMS320C62x instructions into execute packets")
+        .about("Packs and runs TMS320C62x instructions")
         .no_binary_name(true)
         .subcommand_required(true)
-        .subcommand(pack_command(alloc)?)
+        .subcommand(pack_command(alloc)?)?
+        .subcommand(serial_command(alloc)?)
 }
 
 /// What clap reads of the words.
 fn matches_of<'a, S: AsStr>(alloc: Global, words: &'a [S]) -> Result<ArgMatches<'a>, Error>
     ensures ok { IfOk result (λ m. subcommand_rows_of m ≡ subcommand_of tool_app (map S.text words.entry.now)) }
     ensures taken { IfOk result (λ _. fault_of tool_app (map S.text words.entry.now) ≡ []) }
-    ensures err { IfErr result (λ e. kind_of e ≢ ErrorKind.OutOfMemory → fault_of tool_app (map S.text words.entry.now) ≢ []) }
+    ensures err { IfErr result (λ e. kind_of e ≢ OutOfMemory → fault_of tool_app (map S.text words.entry.now) ≢ []) }
 {
     let command = tool_command(alloc)?;
     command.try_get_matches_from(words)
@@ -66,31 +108,60 @@ fn is_set(matches: &ArgMatches<'_>, flag: &str) -> bool
     }
 }
 
+/// The limit of blocks.
+fn blocks_in(matches: &ArgMatches<'_>) -> u32
+    ensures { result ≡ blocks_of (rows_of (found_of matches.now)) }
+{
+    match matches.get_str("blocks") {
+        Some(text) => text.parse().unwrap_or(DEFAULT_BLOCKS),
+        None => DEFAULT_BLOCKS,
+    }
+}
+
+/// The settings, in their order.
+fn settings_in(alloc: Global, matches: &ArgMatches<'_>) -> Result<Vec<Setting>, SettingError>
+    ensures ok { IfOk result (λ settings. settings_of (setting_words (rows_of (found_of matches.now))) ≡ Some settings.items) }
+    ensures err { IfErr result (λ error. (k : ℕ) → error ≡ Bad k → IsFirstBad (setting_words (rows_of (found_of matches.now))) k) }
+{
+    match matches.get_strs("settings") {
+        Some(texts) => read_settings(alloc, texts),
+        None => Ok(Vec::new(alloc)),
+    }
+}
+
 /// What the subcommand that was read asks for.
-fn request_in(matches: &ArgMatches<'_>) -> Request
-    ensures { AsksFor (subcommand_rows_of matches.now) result }
+fn request_in(alloc: Global, matches: &ArgMatches<'_>) -> Result<Request, SettingError>
+    ensures ok { IfOk result (λ request. ask_in (subcommand_rows_of matches.now) ≡ Some (ask_of request)) }
+    ensures err { IfErr result (λ error. (k : ℕ) → error ≡ Bad k → HasFirstBad (subcommand_rows_of matches.now) k) }
 {
     match matches.subcommand() {
-        None => Request::Pack { turns: true },
-        Some((_, found)) => Request::Pack {
-            turns: is_set(found, "turns"),
-        },
+        None => Ok(Request::Pack { turns: true }),
+        Some((name, found)) => {
+            if name == "serial" {
+                Ok(Request::Serial {
+                    blocks: blocks_in(found),
+                    settings: settings_in(alloc, found)?,
+                })
+            } else {
+                Ok(Request::Pack {
+                    turns: is_set(found, "turns"),
+                })
+            }
+        }
     }
 }
 
 /// Reads the words after the program's name. None at all ask for `pack --turns`.
-/// An error of the kind `OutOfMemory` may come whatever the words are.
-pub fn command_of<'a, S: AsStr>(alloc: Global, words: &'a [S]) -> Result<Request, Error>
-    ensures none { length words.entry.now ≡ 0 → IsOkAnd result (λ r. r ≡ Request.Pack true) }
-    ensures asked { 0 < length words.entry.now → IfOk result (AsksFor (subcommand_of tool_app (map S.text words.entry.now))) }
-    ensures taken { IfOk result (λ _. IsTaken (map S.text words.entry.now)) }
-    ensures refused { IfErr result (λ e. kind_of e ≢ ErrorKind.OutOfMemory → IsUnknown (map S.text words.entry.now)) }
+///
+/// The words are blamed where clap doesn't take them, and a setting where it is the first bad one. Want of memory may come
+/// whatever the words are.
+pub fn command_of<'a, S: AsStr>(alloc: Global, words: &'a [S]) -> Result<Request, Failure>
+    ensures asked { IfOk result (λ request. asked (map S.text words.entry.now) ≡ Some (ask_of request)) }
+    ensures refused { IfErr result (λ failure. Blames failure (map S.text words.entry.now)) }
 {
     if words.is_empty() {
         return Ok(Request::Pack { turns: true });
     }
-    match matches_of(alloc, words) {
-        Ok(matches) => Ok(request_in(&matches)),
-        Err(error) => Err(error),
-    }
+    let matches = matches_of(alloc, words)?;
+    Ok(request_in(alloc, &matches)?)
 }

@@ -2,10 +2,12 @@
 
 ghost use Rattle.std.specs.Prelude.{◌≡◌, ◌⊎◌};
 ghost use Rattle.c62_tool.specs.declared.failure.Failure.TheVariants.{Memory, Input};
-ghost use Rattle.c62_tool.specs.Run.{status_of, IsWordsFailure};
+ghost use Rattle.c62_tool.specs.Run.{status_of, IsWordsFailure, IsSettingFailure};
 
 use crate::fault::Refusal;
 use crate::input::InputError;
+use crate::setting::SettingError;
+use c62_read::ReadFault;
 use clap::error::ErrorKind;
 use std::alloc::AllocError;
 use std::fmt;
@@ -13,10 +15,14 @@ use std::fmt;
 /// Why a run fails.
 #[derive(Debug, Drop)]
 pub enum Failure {
-    /// The text says no program.
+    /// The text says no block to pack.
     Refused(Refusal),
+    /// The text has a fault.
+    Unread(ReadFault),
     /// The words ask for nothing that there is.
     Words(clap::Error),
+    /// The setting with this number, from 1, is none.
+    Setting(usize),
     /// Memory ran out.
     Memory,
     /// The reader failed.
@@ -31,8 +37,8 @@ impl Failure {
         ensures { result ≡ status_of self.now }
     {
         match self {
-            Failure::Refused(_) => 1,
-            Failure::Words(_) => 2,
+            Failure::Refused(_) | Failure::Unread(_) => 1,
+            Failure::Words(_) | Failure::Setting(_) => 2,
             Failure::Memory => 3,
             Failure::Input | Failure::Output => 4,
         }
@@ -44,7 +50,9 @@ impl fmt::Display for Failure {
     fn fmt<W: fmt::Write>(&self, f: &mut fmt::Formatter<W>) -> fmt::Result {
         match self {
             Failure::Refused(refusal) => writeln!(f, "{refusal}"),
+            Failure::Unread(fault) => writeln!(f, "{fault}"),
             Failure::Words(error) => write!(f, "{error}"),
+            Failure::Setting(number) => writeln!(f, "setting {number}: bad"),
             Failure::Memory => writeln!(f, "memory"),
             Failure::Input => writeln!(f, "input"),
             Failure::Output => writeln!(f, "output"),
@@ -67,6 +75,17 @@ impl From<InputError> for Failure {
         match error {
             InputError::Memory => Failure::Memory,
             InputError::Input => Failure::Input,
+        }
+    }
+}
+
+impl From<SettingError> for Failure {
+    ghost from_gives = { λ error f. IsSettingFailure error f };
+
+    fn from(error: SettingError) -> Failure {
+        match error {
+            SettingError::Memory => Failure::Memory,
+            SettingError::Bad(number) => Failure::Setting(number),
         }
     }
 }

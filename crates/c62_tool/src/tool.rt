@@ -1,17 +1,19 @@
 //! The run over a reader and writers.
 
-ghost use Rattle.std.specs.Prelude.{◌≡◌, ◌≢◌, ◌≤◌, ◌<◌, ◌+◌, IfErr, OnOk, map};
+ghost use Rattle.std.specs.Prelude.{◌≡◌, ◌≢◌, ◌≤◌, ◌<◌, ◌+◌, Bool, None, IfErr, OnOk, map};
 ghost use Rattle.std.specs.Io.KnownBytes.{Appends, Keeps};
+ghost use Rattle.std.specs.Option.{IsSomeAnd};
 ghost use Rattle.c62_tool.specs.Reading.{most_bytes};
-ghost use Rattle.c62_tool.specs.Run.{TakesAtMost, ListsText, IsRefused, Leaves, GivesListing, IsBlamed, status_of};
-ghost use Rattle.c62_tool.specs.CommandLine.{IsTaken, IsUnknown};
+ghost use Rattle.c62_tool.specs.Run.{TakesAtMost, ListsText, ReportsText, Does, IsRefused, IsFailure, Leaves, GivesListing, status_of};
+ghost use Rattle.c62_tool.specs.CommandLine.{Listing, SerialReport, ask_of, asked};
 
-use crate::command::command_of;
+use crate::command::{Request, command_of};
 use crate::failure::Failure;
 use crate::fault::ReadError;
 use crate::input::read_text;
 use crate::pack::pack_block;
 use crate::program::read_program;
+use crate::setting::Setting;
 use std::alloc::Global;
 use std::convert::AsStr;
 use std::io::{Read, Write};
@@ -51,13 +53,47 @@ fn write_out<W: Write>(output: &mut W, bytes: &[u8]) -> Result<(), Failure>
 /// Reads a text and writes its listing.
 fn pack<R: Read, W: Write>(alloc: Global, reader: &mut R, output: &mut W) -> Result<(), Failure>
     ensures ok { OnOk result (ListsText (R.remaining reader.old) (W.contents output.old) (W.contents output.new)) }
-    ensures err { IfErr result (λ f. Leaves f (R.remaining reader.old) (W.contents output.old) (W.contents output.new)) }
+    ensures err { (turns : Bool) → IfErr result (λ f. Leaves f (Listing turns) (R.remaining reader.old) (W.contents output.old) (W.contents output.new)) }
     ensures words { IfErr result (λ f. status_of f ≢ 2) }
     ensures most { TakesAtMost (most_bytes + 1) (R.remaining reader.old) (R.remaining reader.new) }
 {
     let text = read_text(alloc, reader)?;
     let listing = listing_of(alloc, &text)?;
     write_out(output, &listing)
+}
+
+/// Reads a text and writes the report of its serial run.
+fn report<R: Read, W: Write>(
+    alloc: Global,
+    blocks: u32,
+    settings: &[Setting],
+    reader: &mut R,
+    output: &mut W,
+) -> Result<(), Failure>
+    ensures ok { OnOk result (ReportsText blocks settings.now (R.remaining reader.old) (W.contents output.old) (W.contents output.new)) }
+    ensures err { IfErr result (λ f. Leaves f (SerialReport blocks settings.now) (R.remaining reader.old) (W.contents output.old) (W.contents output.new)) }
+    ensures words { IfErr result (λ f. status_of f ≢ 2) }
+    ensures most { TakesAtMost (most_bytes + 1) (R.remaining reader.old) (R.remaining reader.new) }
+{
+    Err(Failure::Memory)
+}
+
+/// Does what was asked for.
+fn perform<R: Read, W: Write>(
+    alloc: Global,
+    request: &Request,
+    reader: &mut R,
+    output: &mut W,
+) -> Result<(), Failure>
+    ensures ok { OnOk result (Does (ask_of request.now) (R.remaining reader.old) (W.contents output.old) (W.contents output.new)) }
+    ensures err { IfErr result (λ f. Leaves f (ask_of request.now) (R.remaining reader.old) (W.contents output.old) (W.contents output.new)) }
+    ensures words { IfErr result (λ f. status_of f ≢ 2) }
+    ensures most { TakesAtMost (most_bytes + 1) (R.remaining reader.old) (R.remaining reader.new) }
+{
+    match request {
+        Request::Pack { .. } => pack(alloc, reader, output),
+        Request::Serial { blocks, settings } => report(alloc, *blocks, settings, reader, output),
+    }
 }
 
 /// Does what the words ask for.
@@ -67,17 +103,13 @@ fn run<S: AsStr, R: Read, W: Write>(
     reader: &mut R,
     output: &mut W,
 ) -> Result<(), Failure>
-    ensures ok { OnOk result (ListsText (R.remaining reader.old) (W.contents output.old) (W.contents output.new)) }
-    ensures err { IfErr result (λ f. Leaves f (R.remaining reader.old) (W.contents output.old) (W.contents output.new)) }
-    ensures taken { OnOk result (IsTaken (map S.text words.now)) }
-    ensures words { IfErr result (λ f. IsBlamed f (map S.text words.now)) }
+    ensures ok { OnOk result (IsSomeAnd (asked (map S.text words.now)) (λ ask. Does ask (R.remaining reader.old) (W.contents output.old) (W.contents output.new))) }
+    ensures err { IfErr result (λ f. IsFailure f (asked (map S.text words.now)) (R.remaining reader.old) (W.contents output.old) (W.contents output.new)) }
     ensures unread { IfErr result (λ f. status_of f ≡ 2 → Keeps (R.remaining reader.old) (R.remaining reader.new)) }
     ensures most { TakesAtMost (most_bytes + 1) (R.remaining reader.old) (R.remaining reader.new) }
 {
-    match command_of(alloc, words) {
-        Ok(_) => pack(alloc, reader, output),
-        Err(error) => Err(Failure::from(error)),
-    }
+    let request = command_of(alloc, words)?;
+    perform(alloc, &request, reader, output)
 }
 
 /// Runs the program on these words, which are those after its name, and answers its status.
@@ -90,15 +122,15 @@ pub fn run_tool<H: AllocGlobal + Threads + Wait, S: AsStr, R: Read, W: Write, E:
 ) -> u8
     ensures status { result ≤ 4 }
 
-    // Where the reader and the output tell their bytes, a 0 means that the text's listing was written.
-    ensures done { result ≡ 0 → ListsText (R.remaining reader.old) (W.contents output.old) (W.contents output.new) }
+    // Where the reader and the output tell their bytes, a 0 means that what the words ask for was written: the text's
+    // listing, or the report of its serial run.
+    ensures done { result ≡ 0 → IsSomeAnd (asked (map S.text words.now)) (λ ask. Does ask (R.remaining reader.old) (W.contents output.old) (W.contents output.new)) }
 
-    // A 1 means that the text says no program.
-    ensures refused { result ≡ 1 → IsRefused (R.remaining reader.old) }
+    // A 1 means that the text says nothing that could be packed or run.
+    ensures refused { result ≡ 1 → IsSomeAnd (asked (map S.text words.now)) (λ ask. IsRefused ask (R.remaining reader.old)) }
 
-    // Words are judged first. A 2 means that there are some, and that clap doesn't take them.
-    ensures taken { result < 2 → IsTaken (map S.text words.now) }
-    ensures words { result ≡ 2 → IsUnknown (map S.text words.now) }
+    // Words and settings are judged first. A 2 means that clap doesn't take the words, or that a setting is bad.
+    ensures words { result ≡ 2 → asked (map S.text words.now) ≡ None }
     ensures unread { result ≡ 2 → Keeps (R.remaining reader.old) (R.remaining reader.new) }
 
     // Nothing is written under 1, 2 and 3.
