@@ -1,0 +1,10 @@
+-- The set of lines whose accesses faulted, as a rising list (docs/MACHINE.md, "Memory").
+use Rattle.std.specs.Prelude.{ℕ, nat_lt, List, ◌∷◌, ◌++◌, filter}
+use Rattle.c62_serial.specs.State.{Machine}
+
+-- the lines with this one among them: those below it, itself, those above it
+abbrev pub joined : ℕ → List ℕ → List ℕ
+joined line lines = filter (λ other. nat_lt other line) lines ++ line ∷ filter (λ other. nat_lt line other) lines
+
+abbrev pub with_fault : ℕ → Machine → Machine
+with_fault line machine = record machine { faults = joined line machine.faults }

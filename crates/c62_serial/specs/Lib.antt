@@ -1,0 +1,5 @@
+pub mod State
+pub mod Memory
+pub mod Faults
+pub mod Effect
+pub mod Serial

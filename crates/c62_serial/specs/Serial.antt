@@ -1,0 +1,61 @@
+-- The serial meaning of a block: the effects of its instructions one after the other, each on what the one before left.
+use Rattle.std.specs.Prelude.{ℕ, Bool, List, Option, Some, None, fold, slice_set, if◌then◌else◌}
+use Rattle.c62_insn.specs.declared.register.Reg.{Reg}
+use Rattle.c62_insn.specs.declared.effect.Access.{Access as MemoryAccess}
+use Rattle.c62_insn.specs.declared.effect.Target.{Target}
+use Rattle.c62_insn.specs.declared.effect.Target.TheVariants.{Block as ToBlock, Register as ToRegister}
+use Rattle.c62_read.specs.declared.block.SerialInsn.{SerialInsn}
+use Rattle.c62_serial.specs.declared.serial.Exit.{Exit}
+use Rattle.c62_serial.specs.declared.serial.Exit.TheVariants.{Next, Block, Register}
+use Rattle.c62_serial.specs.State.{Machine, index_of, word_in, byte_in}
+use Rattle.c62_serial.specs.Memory.{written}
+use Rattle.c62_serial.specs.Faults.{joined}
+use Rattle.c62_serial.specs.Effect.{Act, act_of, is_fault}
+
+-- what a run leaves: the machine, and where it goes on
+pub record Ran : Type 0 where
+  pub machine : Machine
+  pub exit : Exit
+
+-- registers after a write
+abbrev pub after_write : List ℕ → (Reg × ℕ) × ℕ → List ℕ
+after_write registers write = slice_set registers (index_of write.0.0) write.1
+
+-- memory after an access
+abbrev pub after_store : List ℕ → Option ℕ → ℕ → ℕ → List ℕ
+after_store memory None address size = memory
+after_store memory (Some value) address size = written address size value memory
+
+abbrev pub after_access : List ℕ → Option MemoryAccess → List ℕ
+after_access memory None = memory
+after_access memory (Some access) = after_store memory access.value access.address access.size
+
+-- lines after an access of this one, which may fault
+abbrev pub after_fault : List ℕ → ℕ → Bool → List ℕ
+after_fault lines line fault = if fault then joined line lines else lines
+
+-- the machine after what an instruction of this line did
+abbrev pub after_act : ℕ → Act → Machine → Machine
+after_act line act machine = record {
+  registers = fold after_write machine.registers act.writes;
+  memory = after_access machine.memory act.access;
+  faults = after_fault machine.faults line (is_fault act.access);
+}
+
+-- the exit is that of a branch that ran
+abbrev pub exit_of : Exit → Option Target → Exit
+exit_of exit None = exit
+exit_of exit (Some (ToBlock number)) = Block number
+exit_of exit (Some (ToRegister value)) = Register value
+
+-- an instruction acts on what a run left
+abbrev pub act_in : Machine → SerialInsn → Act
+act_in machine entry = act_of entry.insn (word_in machine) (byte_in machine)
+
+abbrev pub after_insn : Ran → SerialInsn → Ran
+after_insn ran entry = let act = act_in ran.machine entry in
+    record { machine = after_act entry.line act ran.machine; exit = exit_of ran.exit act.target }
+
+-- the serial meaning
+abbrev pub serial : List SerialInsn → Machine → Ran
+serial insns machine = fold after_insn (record { machine = machine; exit = Next }) insns

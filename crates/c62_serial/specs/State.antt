@@ -1,0 +1,48 @@
+-- What the machine holds (docs/MACHINE.md, "Register files and units" and "Memory").
+use Rattle.std.specs.Prelude.{◌≡◌, ℕ, ◌+◌, List, [], length, slice_index, slice_set, All}
+use Rattle.std.specs.List.Sorted.{IsStrictlyIncreasing}
+use Rattle.c62_insn.specs.declared.register.Side.{Side}
+use Rattle.c62_insn.specs.declared.register.Side.TheVariants.{A, B}
+use Rattle.c62_insn.specs.declared.register.Reg.{Reg}
+
+-- the words of A0 to A15 and B0 to B15, the bytes of memory, and the lines whose accesses faulted
+pub record Machine : Type 0 where
+  pub registers : List ℕ
+  pub memory : List ℕ
+  pub faults : List ℕ
+
+-- a machine, and for how many more faulted lines there is room
+pub record Contents : Type 0 where
+  pub machine : Machine
+  pub room : ℕ
+
+-- what holds of every state: each line that faulted stands once
+pub record IsSound (machine : Machine) : Type 0 where
+  pub registers : length machine.registers ≡ 32
+  pub memory : length machine.memory ≡ 65536
+  pub rising : IsStrictlyIncreasing machine.faults
+
+-- the machine before anything was set
+pub record IsZero (machine : Machine) : Type 0 where
+  pub sound : IsSound machine
+  pub words : All (λ word. word ≡ 0) machine.registers
+  pub bytes : All (λ byte. byte ≡ 0) machine.memory
+  pub faults : machine.faults ≡ []
+
+abbrev pub first_of : Side → ℕ
+first_of A = 0
+first_of B = 16
+
+-- the place of a register among A0 to A15 and B0 to B15
+abbrev pub index_of : Reg → ℕ
+index_of reg = first_of reg.side + reg.number
+
+abbrev pub word_in : Machine → Reg → ℕ
+word_in machine reg = slice_index machine.registers (index_of reg)
+
+abbrev pub byte_in : Machine → ℕ → ℕ
+byte_in machine address = slice_index machine.memory address
+
+-- the machine with this word in a register
+abbrev pub with_word : Reg → ℕ → Machine → Machine
+with_word reg value machine = record machine { registers = slice_set machine.registers (index_of reg) value }

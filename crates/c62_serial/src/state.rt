@@ -1,0 +1,203 @@
+//! The state of the machine.
+
+ghost use Rattle.std.specs.Prelude.{◌≡◌, ◌+◌, ◌<◌, ◌≤◌, length, slice_index, insert, IsTrue, IsOk, IfOk, OnOk, OnErr, MatchOption};
+ghost use Rattle.std.specs.List.Sorted.{IsStrictlyIncreasing};
+
+use c62_insn::{Reg, Side};
+use std::alloc::{AllocError, Global};
+use std::marker::Model;
+
+const WORD: u8 = 4;
+
+const MEMORY: usize = 65_536;
+
+/// Thirty-two registers, 65,536 bytes of memory, and the lines whose accesses faulted, each once and
+/// rising. It has room for some more such lines (`docs/MACHINE.md`, "Memory").
+#[derive(Drop)]
+pub struct State {
+    registers: [u32; 32],
+    memory: Vec<u8>,
+    faults: Vec<u32>,
+}
+
+impl Model for State {
+    ghost use Rattle.std.specs.Prelude.{◌-◌};
+    ghost use Rattle.std.specs.Vec.{vec_len, vec_capacity};
+    ghost use Rattle.c62_serial.specs.State.{Contents, IsSound};
+
+    ghost Value = { Contents };
+
+    ghost view = { λ state. record {
+      machine = record { registers = state.registers; memory = state.memory.items; faults = state.faults.items };
+      room = vec_capacity state.faults - vec_len state.faults;
+    } };
+
+    ghost invariant = { λ state. IsSound (record { registers = state.registers; memory = state.memory.items; faults = state.faults.items }) };
+}
+
+ghost use Rattle.c62_serial.specs.State.{Machine, IsSound, IsZero, index_of, word_in, byte_in, with_word};
+ghost use Rattle.c62_serial.specs.Memory.{is_size, is_good, number_of, bytes_from, bytes_of, read, put, with_bytes};
+ghost use Rattle.c62_serial.specs.Faults.{joined, with_fault};
+
+/// The place of a register among A0 to A15 and B0 to B15.
+fn index(reg: Reg) -> usize
+    ensures place { result ≡ index_of reg }
+    ensures within { result < 32 }
+{
+    match reg.side {
+        Side::A => usize::from(reg.number),
+        Side::B => 16 + usize::from(reg.number),
+    }
+}
+
+/// Whether the access lies on its size and within memory.
+fn is_good(address: u32, size: u8) -> bool
+    requires { IsTrue (is_size size) }
+    ensures { result ≡ is_good address size }
+{
+    let size = u32::from(size);
+    address % size == 0 && address <= MEMORY as u32 - size
+}
+
+/// The bytes from a place on as a number, the lowest first.
+fn number_at(memory: &[u8], at: usize, size: u8) -> u32
+    requires size { IsTrue (is_size size) }
+    requires within { at + size ≤ length memory.now }
+    ensures { result ≡ number_of (bytes_from (λ place. slice_index memory.now place) at size) }
+{
+    match size {
+        1 => u32::from(memory[at]),
+        2 => u32::from(u16::from_le_bytes([memory[at], memory[at + 1]])),
+        _ => u32::from_le_bytes([memory[at], memory[at + 1], memory[at + 2], memory[at + 3]]),
+    }
+}
+
+/// Puts the low bytes of a value from a place on, the lowest first.
+fn put(memory: &mut [u8], at: usize, size: u8, value: u32)
+    requires size { IsTrue (is_size size) }
+    requires within { at + size ≤ length memory.old }
+    ensures { memory.new ≡ put at (bytes_of size value) size memory.old }
+{
+    let end = at + usize::from(size);
+    memory[at..end].copy_from_slice(&value.to_le_bytes()[..usize::from(size)]);
+}
+
+/// The place for a line among rising lines, where it is not among them.
+fn new_place(lines: &[u32], line: u32) -> Option<usize>
+    requires { IsStrictlyIncreasing lines.now }
+    ensures { MatchOption result (joined line lines.now ≡ lines.now) (λ place. (place ≤ length lines.now) × (joined line lines.now ≡ insert lines.now place line)) }
+{
+    lines.binary_search(&line).err()
+}
+
+impl State {
+    /// A state in which all registers and bytes are 0 and no line has faulted.
+    ///
+    /// # Errors
+    ///
+    /// `AllocError` where memory runs out.
+    pub fn new(alloc: Global) -> Result<State, AllocError>
+        ensures { IfOk result (λ state. IsZero state.machine) }
+    {
+        Ok(State {
+            registers: [0; 32],
+            memory: vec![in alloc; 0; MEMORY]?,
+            faults: Vec::new(alloc),
+        })
+    }
+
+    /// The word in a register.
+    pub fn reg(&self, reg: Reg) -> u32
+        ensures { result ≡ word_in self.now.machine reg }
+    {
+        self.registers[index(reg)]
+    }
+
+    /// Puts a word into a register.
+    pub fn set(&mut self, reg: Reg, value: u32)
+        ensures { self.new ≡ record self.old { machine = with_word reg value self.old.machine } }
+    {
+        self.registers[index(reg)] = value;
+    }
+
+    /// The byte at an address.
+    pub fn byte(&self, address: u16) -> u8
+        ensures { result ≡ byte_in self.now.machine address }
+    {
+        self.memory[usize::from(address)]
+    }
+
+    /// What a load of this many bytes reads, the lowest byte first; `None` where the address is no
+    /// multiple of the size, or the access reaches past the end of memory.
+    pub fn load(&self, address: u32, size: u8) -> Option<u32>
+        requires { IsTrue (is_size size) }
+        ensures { result ≡ read (byte_in self.now.machine) address size }
+    {
+        if is_good(address, size) {
+            Some(number_at(&self.memory, address as usize, size))
+        } else {
+            None
+        }
+    }
+
+    /// Stores the low bytes of a value, the lowest first. Answers whether it did: where the address
+    /// is no multiple of the size, or the access reaches past the end of memory, nothing changes.
+    pub fn store(&mut self, address: u32, size: u8, value: u32) -> bool
+        requires { IsTrue (is_size size) }
+        ensures done { result ≡ is_good address size }
+        ensures after { self.new ≡ record self.old { machine = with_bytes address size value self.old.machine } }
+    {
+        if is_good(address, size) {
+            put(&mut self.memory, address as usize, size, value);
+            true
+        } else {
+            false
+        }
+    }
+
+    /// Stores a word, as [`State::store`] does.
+    pub fn poke(&mut self, address: u32, value: u32) -> bool
+        ensures done { result ≡ is_good address 4 }
+        ensures after { self.new ≡ record self.old { machine = with_bytes address 4 value self.old.machine } }
+    {
+        self.store(address, WORD, value)
+    }
+
+    /// Makes room for so many more faulted lines. All else stays as it was.
+    ///
+    /// # Errors
+    ///
+    /// `AllocError` where that room was missing and memory runs out. The state is then as before.
+    pub fn room(&mut self, lines: usize) -> Result<(), AllocError>
+        ensures machine { self.new.machine ≡ self.old.machine }
+        ensures ok { OnOk result (lines ≤ self.new.room) }
+        ensures kept { self.old.room ≤ self.new.room }
+        ensures full { OnErr result (self.old.room < lines) }
+        ensures err { OnErr result (self.new ≡ self.old) }
+    {
+        self.faults.reserve(lines)
+    }
+
+    /// Puts a line among those that faulted, where it is not yet. It takes room for one at most.
+    #[tactic(auto, using(crate::proofs::FaultLemmas::joined_rises))]
+    pub fn fault(&mut self, line: u32)
+        requires { 0 < self.old.room }
+        ensures machine { self.new.machine ≡ with_fault line self.old.machine }
+        ensures room { length self.new.machine.faults + self.new.room ≡ length self.old.machine.faults + self.old.room }
+        ensures one_at_most { self.old.room ≤ self.new.room + 1 }
+    {
+        if let Some(place) = new_place(&self.faults, line) {
+            let Ok(()) = self.faults.insert(place, line) else {
+                unreachable!()
+            };
+        }
+    }
+
+    /// The lines whose accesses faulted, rising and each once.
+    pub fn faults(&self) -> &[u32]
+        ensures same { result.now ≡ self.now.machine.faults }
+        ensures sound { IsSound self.now.machine }
+    {
+        &self.faults
+    }
+}
