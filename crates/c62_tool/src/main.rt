@@ -15,6 +15,7 @@ mod pack;
 mod packet;
 mod place;
 mod program;
+mod report;
 mod resource;
 mod setting;
 mod spelling;

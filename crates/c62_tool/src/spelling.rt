@@ -38,7 +38,7 @@ fn unit_letter(letter: Letter) -> &'static [u8]
     }
 }
 
-fn push_register(out: &mut Vec<u8>, reg: Reg) -> Result<(), AllocError>
+pub(crate) fn push_register(out: &mut Vec<u8>, reg: Reg) -> Result<(), AllocError>
     ensures { OnOk result (out.new.items ≡ out.old.items ++ register_name reg) }
 {
     let mut buffer = Buffer::new();

@@ -1,0 +1,63 @@
+-- The report of a run (docs/REPORT.md, "The report").
+use Rattle.std.specs.Prelude.{ℕ, zero, suc, ◌+◌, ◌*◌, ◌/◌, ◌%◌, nat_lt, ◌==◌, List, [], ◌∷◌, ◌++◌, slice_index, decimal, codes, if◌then◌else◌}
+use Rattle.std.specs.List.{flat_map, range_with_len}
+use Rattle.c62_insn.specs.declared.register.Side.{Side}
+use Rattle.c62_insn.specs.declared.register.Side.TheVariants.{A, B}
+use Rattle.c62_insn.specs.Spelling.{file_letter}
+use Rattle.c62_serial.specs.declared.chain.Chain.{Chain}
+use Rattle.c62_serial.specs.declared.chain.End.{End}
+use Rattle.c62_serial.specs.declared.chain.End.TheVariants.{End as FellThrough, Register as ToRegister, Limit}
+use Rattle.c62_serial.specs.State.{Machine, first_of, byte_in}
+use Rattle.c62_serial.specs.Memory.{bytes_from, number_of}
+
+-- a hexadecimal digit, in lower case
+abbrev pub hex_digit : ℕ → ℕ
+hex_digit digit = if nat_lt digit 10 then 48 + digit else 87 + digit
+
+-- the low hexadecimal digits of a value, so many of them
+unfoldable pub hex : ℕ → ℕ → List ℕ
+hex zero value = []
+hex (suc more) value = hex more (value / 16) ++ hex_digit (value % 16) ∷ []
+
+-- a line that ends
+abbrev pub line : List ℕ → List ℕ
+line text = text ++ codes "\n"
+
+-- `NAME V`, where the value isn't 0
+unfoldable pub value_line : List ℕ → ℕ → List ℕ
+value_line name value = if value == 0 then [] else line (name ++ codes " " ++ hex 8 value)
+
+-- the registers of a file, rising
+abbrev pub register_line : Machine → Side → ℕ → List ℕ
+register_line machine side number = value_line (file_letter side ++ decimal number) (slice_index machine.registers (first_of side + number))
+
+unfoldable pub file_lines : Machine → Side → List ℕ
+file_lines machine side = flat_map (register_line machine side) (range_with_len 0 16)
+
+-- word k of memory, little endian: `@AAAA V`
+abbrev pub word_line : Machine → ℕ → List ℕ
+word_line machine k = value_line (codes "@" ++ hex 4 (4 * k)) (number_of (bytes_from (byte_in machine) (4 * k) 4))
+
+-- the first words of memory, rising
+unfoldable pub word_lines : Machine → ℕ → List ℕ
+word_lines machine count = flat_map (word_line machine) (range_with_len 0 count)
+
+abbrev pub memory_words : ℕ
+memory_words = 16384
+
+abbrev pub fault_line : ℕ → List ℕ
+fault_line number = line (codes "fault " ++ decimal number)
+
+unfoldable pub exit_line : End → List ℕ
+exit_line FellThrough = line (codes "exit end")
+exit_line (ToRegister value) = line (codes "exit register " ++ hex 8 value)
+exit_line Limit = line (codes "exit limit")
+
+-- what the machine holds at the end: registers and words of memory that aren't 0, and the lines that faulted
+unfoldable pub machine_lines : Machine → List ℕ
+machine_lines machine =
+    file_lines machine A ++ file_lines machine B ++ word_lines machine memory_words ++ flat_map fault_line machine.faults
+
+-- the report of a serial run
+unfoldable pub serial_report : Chain → Machine → List ℕ
+serial_report chain machine = line (codes "blocks " ++ decimal chain.blocks) ++ exit_line chain.stop ++ machine_lines machine
