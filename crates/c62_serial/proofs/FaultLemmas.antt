@@ -1,13 +1,13 @@
 -- A line joins rising lines.
 use Rattle.std.proofs.Common.{◌≡◌, ℕ, zero, suc, ◌+◌, ◌<◌, ◌≤◌, Bool, true, false, List, [], ◌∷◌, ◌++◌, length, take, drop, refl, ap, arith, Result, Ok, Err, get_or, add-one}
-use Rattle.std.specs.Prelude.{All, filter, nat_lt, insert, MatchOption, slice_index}
+use Rattle.std.specs.Prelude.{All, filter, nat_lt, insert, MatchOption}
 use Rattle.std.specs.Result.{result_err}
 use Rattle.std.specs.Ordering.{nat_cmp}
 use Rattle.std.specs.List.Sorted.{IsStrictlyIncreasing, IsBinarySearchResult}
 use Rattle.std.proofs.lemmas.Bool.Decides.{nat_tests}
 use Rattle.std.proofs.lemmas.Grind.{common_steps}
-use Rattle.std.proofs.lemmas.List.{take-append-drop, get_or-take, get_or-drop, length-take, length-drop, length-append, get_or_append_left, get_or-append_right, drop_more}
-use Rattle.std.proofs.lemmas.List.Elements.{All-head, All-tail, All-from_get_or, All-get_or, All-filter, filter_passes, All-weaker, filter-append}
+use Rattle.std.proofs.lemmas.List.{take-append-drop, get_or-take, get_or-drop, length-take, length-drop, drop_more}
+use Rattle.std.proofs.lemmas.List.Elements.{All-head, All-tail, All-from_get_or, filter_passes, filter-append}
 use Rattle.std.proofs.lemmas.List.Kept.{IsStrictlyIncreasing-filter, AllPairs-from_increasing}
 use Rattle.std.proofs.lemmas.List.Sorted.{searched}
 use Rattle.c62_serial.specs.Faults.{joined}

@@ -3,3 +3,4 @@ pub mod Memory
 pub mod Faults
 pub mod Effect
 pub mod Serial
+pub mod Chain

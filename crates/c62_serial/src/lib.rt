@@ -2,8 +2,10 @@
 //! instruction after the other.
 #![tactic(auto)]
 
+mod chain;
 mod serial;
 mod state;
 
+pub use chain::{Chain, End, run_program};
 pub use serial::{Exit, run_block};
 pub use state::State;
