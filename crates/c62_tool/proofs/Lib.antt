@@ -18,4 +18,5 @@ pub mod Known
 pub mod SettingLemmas
 pub mod ParsedNumber
 pub mod Asking
+pub mod ReportLemmas
 pub mod Runs
