@@ -8,8 +8,10 @@ use Rattle.std.proofs.lemmas.List.{take_all, length-take}
 use Rattle.c62_tool.specs.declared.fault.Refusal.{Refusal}
 use Rattle.c62_tool.specs.declared.fault.Refusal.TheVariants.{TextTooLong}
 use Rattle.c62_tool.specs.Reading.{Parts, program_of}
-use Rattle.c62_tool.specs.Run.{IsPackedText, ListsText, IsRefused, IsFailure, Blames, Leaves, GivesListing}
-use Rattle.c62_tool.specs.CommandLine.{Listing, asked}
+use Rattle.c62_read.specs.Program.{BlockParts, Refusal as Refused, drafts_in, program_in}
+use Rattle.c62_read.specs.declared.fault.Cause.TheVariants.{TextTooLong as OverLong}
+use Rattle.c62_tool.specs.Run.{IsAnswer, IsRefusedText, Answers, Does, IsRefused, IsFailure, Blames, Leaves, Gives}
+use Rattle.c62_tool.specs.CommandLine.{Ask, Listing, SerialReport, asked}
 use Rattle.c62_tool.proofs.Asking.{asked-unknown, asked-bad}
 use Rattle.clap.specs.Words.{Text}
 use Rattle.c62_tool.specs.declared.failure.Failure.{Failure}
@@ -27,40 +29,59 @@ program_of-take all =
       | inr short ↦ ap program_of (take_all 1048577 all (omega arith))
     ]
 
--- the listing of what was read is the listing of all
-listed : (all text listing : List ℕ) → text ≡ take 1048577 all → IsPackedText text listing → IsPackedText all listing
-listed all text listing read is = record {
+too_long_program : (text : List ℕ) → 1048576 < length text → program_in text ≡ Err (0, OverLong)
+unfolding program_in drafts_in
+too_long_program text long = rw (lt-ltb 1048576 (length text) long) refl
+
+pub program_in-take : (all : List ℕ) → program_in (take 1048577 all) ≡ program_in all
+program_in-take all =
+    elim (cases_lt 1048576 (length all)) [
+      | inl long ↦ too_long_program (take 1048577 all) (omega (arith, length-take 1048577 all)) ∙ sym (too_long_program all long)
+      | inr short ↦ ap program_in (take_all 1048577 all (omega arith))
+    ]
+
+-- the answer to what was read is the answer to all
+answered : (ask : Ask) (all text answer : List ℕ) → text ≡ take 1048577 all → IsAnswer ask text answer → IsAnswer ask all answer
+answered (Listing turns) all text answer read is = record {
   block = is.block;
   says = sym (ap program_of read ∙ program_of-take all) ∙ is.says;
   packed = is.packed;
 }
+answered (SerialReport blocks settings) all text answer read is = record {
+  program = is.program;
+  says = sym (ap program_in read ∙ program_in-take all) ∙ is.says;
+  reported = is.reported;
+}
 
--- the listing of what was read, written
-pub lists : (known old new : Option (List ℕ)) (text : List ℕ) (v : Vec ℕ) → IfSome known (λ all. text ≡ take 1048577 all) → GivesListing text (Ok v) → Appends old new v.items → ListsText known old new
-lists None old new text v read gives written = tt
-lists (Some all) old new text v read gives written = record { listing = v.items; is = listed all text v.items read gives; written = written }
+-- the answer to what was read, written
+pub answers : (ask : Ask) (known old new : Option (List ℕ)) (text : List ℕ) (v : Vec ℕ) → IfSome known (λ all. text ≡ take 1048577 all) → Gives ask text (Ok v)
+    → Appends old new v.items → Does ask known old new
+answers ask None old new text v read gives written = tt
+answers ask (Some all) old new text v read gives written = record { answer = v.items; is = answered ask all text v.items read gives; written = written }
 
 Keeps-same : (known : Option (List ℕ)) → Keeps known known
 Keeps-same None = tt
 Keeps-same (Some xs) = refl
 
-refused : (known : Option (List ℕ)) (text : List ℕ) (turns : Bool) (r : Refusal) → IfSome known (λ all. text ≡ take 1048577 all) → program_of text ≡ Err r
-    → IsRefused (Listing turns) known
-refused None text turns r read gives = tt
-refused (Some all) text turns r read gives =
-    let says : Err r ≡ program_of all = sym gives ∙ ap program_of read ∙ program_of-take all in
-    subst (λ (p : Result (List Parts) Refusal). IsErr p) says refl
+refused_all : (ask : Ask) (all text : List ℕ) → text ≡ take 1048577 all → IsRefusedText ask text → IsRefusedText ask all
+refused_all (Listing turns) all text read is = subst (λ (p : Result (List Parts) Refusal). IsErr p) (ap program_of read ∙ program_of-take all) is
+refused_all (SerialReport blocks settings) all text read is =
+    subst (λ (p : Result (List BlockParts) Refused). IsErr p) (ap program_in read ∙ program_in-take all) is
 
--- no listing came of what was read
-pub refuses : (known old : Option (List ℕ)) (text : List ℕ) (turns : Bool) (f : Failure) → IfSome known (λ all. text ≡ take 1048577 all) → GivesListing text (Err f)
-    → Leaves f (Listing turns) known old old
-refuses known old text turns (failures.Refused r) read gives = (refused known text turns r read gives, Keeps-same old)
-refuses known old text turns failures.Memory read gives = Keeps-same old
-refuses known old text turns (failures.Unread r) read gives = absurd gives
-refuses known old text turns failures.Input read gives = absurd gives
-refuses known old text turns failures.Output read gives = absurd gives
-refuses known old text turns (failures.Words e) read gives = absurd gives
-refuses known old text turns (failures.Setting k) read gives = absurd gives
+refused : (ask : Ask) (known : Option (List ℕ)) (text : List ℕ) → IfSome known (λ all. text ≡ take 1048577 all) → IsRefusedText ask text → IsRefused ask known
+refused ask None text read is = tt
+refused ask (Some all) text read is = refused_all ask all text read is
+
+-- no answer came to what was read
+pub refuses : (ask : Ask) (known old : Option (List ℕ)) (text : List ℕ) (f : Failure) → IfSome known (λ all. text ≡ take 1048577 all) → Gives ask text (Err f)
+    → Leaves f ask known old old
+refuses ask known old text (failures.Refused r) read gives = (refused ask known text read gives, Keeps-same old)
+refuses ask known old text (failures.Unread r) read gives = (refused ask known text read gives, Keeps-same old)
+refuses ask known old text failures.Memory read gives = Keeps-same old
+refuses ask known old text failures.Input read gives = absurd gives
+refuses ask known old text failures.Output read gives = absurd gives
+refuses ask known old text (failures.Words e) read gives = absurd gives
+refuses ask known old text (failures.Setting k) read gives = absurd gives
 
 -- the words are blamed where they ask for nothing
 pub blamed : (f : Failure) (words : List Text) (known old : Option (List ℕ)) → Blames f words → IsFailure f (asked words) known old old

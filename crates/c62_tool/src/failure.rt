@@ -2,12 +2,12 @@
 
 ghost use Rattle.std.specs.Prelude.{◌≡◌, ◌⊎◌};
 ghost use Rattle.c62_tool.specs.declared.failure.Failure.TheVariants.{Memory, Input};
-ghost use Rattle.c62_tool.specs.Run.{status_of, IsWordsFailure, IsSettingFailure};
+ghost use Rattle.c62_tool.specs.Run.{status_of, IsWordsFailure, IsSettingFailure, IsReadFailure};
 
 use crate::fault::Refusal;
 use crate::input::InputError;
 use crate::setting::SettingError;
-use c62_read::ReadFault;
+use c62_read::{Cause, ReadFault};
 use clap::error::ErrorKind;
 use std::alloc::AllocError;
 use std::fmt;
@@ -75,6 +75,17 @@ impl From<InputError> for Failure {
         match error {
             InputError::Memory => Failure::Memory,
             InputError::Input => Failure::Input,
+        }
+    }
+}
+
+impl From<ReadFault> for Failure {
+    ghost from_gives = { λ fault f. IsReadFailure fault f };
+
+    fn from(fault: ReadFault) -> Failure {
+        match fault.cause {
+            Cause::Memory => Failure::Memory,
+            _ => Failure::Unread(fault),
         }
     }
 }

@@ -17,6 +17,7 @@ mod place;
 mod program;
 mod report;
 mod resource;
+mod serial;
 mod setting;
 mod spelling;
 mod spot;

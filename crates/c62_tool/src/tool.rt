@@ -4,8 +4,8 @@ ghost use Rattle.std.specs.Prelude.{◌≡◌, ◌≢◌, ◌≤◌, ◌<◌, �
 ghost use Rattle.std.specs.Io.KnownBytes.{Appends, Keeps};
 ghost use Rattle.std.specs.Option.{IsSomeAnd};
 ghost use Rattle.c62_tool.specs.Reading.{most_bytes};
-ghost use Rattle.c62_tool.specs.Run.{TakesAtMost, ListsText, ReportsText, Does, IsRefused, IsFailure, Leaves, GivesListing, status_of};
-ghost use Rattle.c62_tool.specs.CommandLine.{Listing, SerialReport, ask_of, asked};
+ghost use Rattle.c62_tool.specs.Run.{TakesAtMost, Does, IsRefused, IsFailure, Leaves, Gives, status_of};
+ghost use Rattle.c62_tool.specs.CommandLine.{Listing, ask_of, asked};
 
 use crate::command::{Request, command_of};
 use crate::failure::Failure;
@@ -13,7 +13,7 @@ use crate::fault::ReadError;
 use crate::input::read_text;
 use crate::pack::pack_block;
 use crate::program::read_program;
-use crate::setting::Setting;
+use crate::serial::report_of;
 use std::alloc::Global;
 use std::convert::AsStr;
 use std::io::{Read, Write};
@@ -22,7 +22,7 @@ use std::thread::Threads;
 
 /// The listing of the block that a text says, packed.
 fn listing_of(alloc: Global, text: &[u8]) -> Result<Vec<u8>, Failure>
-    ensures { GivesListing text.now result }
+    ensures { (turns : Bool) → Gives (Listing turns) text.now result }
 {
     let block = match read_program(alloc, text) {
         Ok(block) => block,
@@ -32,6 +32,16 @@ fn listing_of(alloc: Global, text: &[u8]) -> Result<Vec<u8>, Failure>
     match pack_block(alloc, &block) {
         Ok(listing) => Ok(listing),
         Err(_) => Err(Failure::Memory),
+    }
+}
+
+/// The answer to a text.
+fn answer(alloc: Global, request: &Request, text: &[u8]) -> Result<Vec<u8>, Failure>
+    ensures { Gives (ask_of request.now) text.now result }
+{
+    match request {
+        Request::Pack { .. } => listing_of(alloc, text),
+        Request::Serial { blocks, settings } => report_of(alloc, text, settings, *blocks),
     }
 }
 
@@ -50,35 +60,7 @@ fn write_out<W: Write>(output: &mut W, bytes: &[u8]) -> Result<(), Failure>
     }
 }
 
-/// Reads a text and writes its listing.
-fn pack<R: Read, W: Write>(alloc: Global, reader: &mut R, output: &mut W) -> Result<(), Failure>
-    ensures ok { OnOk result (ListsText (R.remaining reader.old) (W.contents output.old) (W.contents output.new)) }
-    ensures err { (turns : Bool) → IfErr result (λ f. Leaves f (Listing turns) (R.remaining reader.old) (W.contents output.old) (W.contents output.new)) }
-    ensures words { IfErr result (λ f. status_of f ≢ 2) }
-    ensures most { TakesAtMost (most_bytes + 1) (R.remaining reader.old) (R.remaining reader.new) }
-{
-    let text = read_text(alloc, reader)?;
-    let listing = listing_of(alloc, &text)?;
-    write_out(output, &listing)
-}
-
-/// Reads a text and writes the report of its serial run.
-fn report<R: Read, W: Write>(
-    alloc: Global,
-    blocks: u32,
-    settings: &[Setting],
-    reader: &mut R,
-    output: &mut W,
-) -> Result<(), Failure>
-    ensures ok { OnOk result (ReportsText blocks settings.now (R.remaining reader.old) (W.contents output.old) (W.contents output.new)) }
-    ensures err { IfErr result (λ f. Leaves f (SerialReport blocks settings.now) (R.remaining reader.old) (W.contents output.old) (W.contents output.new)) }
-    ensures words { IfErr result (λ f. status_of f ≢ 2) }
-    ensures most { TakesAtMost (most_bytes + 1) (R.remaining reader.old) (R.remaining reader.new) }
-{
-    Err(Failure::Memory)
-}
-
-/// Does what was asked for.
+/// Reads a text, and writes the answer to it.
 fn perform<R: Read, W: Write>(
     alloc: Global,
     request: &Request,
@@ -90,10 +72,9 @@ fn perform<R: Read, W: Write>(
     ensures words { IfErr result (λ f. status_of f ≢ 2) }
     ensures most { TakesAtMost (most_bytes + 1) (R.remaining reader.old) (R.remaining reader.new) }
 {
-    match request {
-        Request::Pack { .. } => pack(alloc, reader, output),
-        Request::Serial { blocks, settings } => report(alloc, *blocks, settings, reader, output),
-    }
+    let text = read_text(alloc, reader)?;
+    let answer = answer(alloc, request, &text)?;
+    write_out(output, &answer)
 }
 
 /// Does what the words ask for.
