@@ -65,3 +65,6 @@ pub fn report_of(
         Err(_) => Err(Failure::Memory),
     }
 }
+
+#[cfg(test)]
+mod tests;

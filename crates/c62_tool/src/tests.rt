@@ -231,7 +231,7 @@ const REFUSED_TEXTS: [(&[u8], usize, &[u8], &str); 13] = [
 ];
 
 /// Words that are no command line.
-const REFUSED_WORDS: [&[&str]; 17] = [
+const REFUSED_WORDS: [&[&str]; 24] = [
     &["--help"],
     &["-h"],
     &["help"],
@@ -249,6 +249,13 @@ const REFUSED_WORDS: [&[&str]; 17] = [
     &["pack", "--turns", "--turns"],
     &["pack", "--turns=yes"],
     &["pack", "pack"],
+    &["serial", "--help"],
+    &["serial", "--blocks"],
+    &["serial", "--blocks", "0"],
+    &["serial", "--blocks", "1000001"],
+    &["serial", "--blocks", "0x5"],
+    &["serial", "--blocks", "1", "--blocks", "1"],
+    &["serial", "-5"],
 ];
 
 #[test]
