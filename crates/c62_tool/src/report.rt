@@ -1,6 +1,6 @@
 //! Writes the report of a run (docs/REPORT.md).
 
-ghost use Rattle.std.specs.Prelude.{◌≡◌, ◌++◌, ◌*◌, ◌<◌, ◌≤◌, IfOk, OnOk, decimal, codes};
+ghost use Rattle.std.specs.Prelude.{◌≡◌, ◌==◌, ◌++◌, ◌*◌, ◌<◌, ◌≤◌, not, IfOk, OnOk, decimal, codes};
 ghost use Rattle.std.specs.List.{flat_map};
 ghost use Rattle.c62_insn.specs.Spelling.{register_name};
 ghost use Rattle.c62_tool.specs.Report.{hex_digit, hex, line, value_line, register_line, file_lines, word_line, word_lines, fault_line, exit_line, machine_lines, serial_report};
@@ -47,12 +47,19 @@ fn push_value(out: &mut Vec<u8>, value: u32) -> Result<(), AllocError>
     out.extend_from_slice(b"\n")
 }
 
+/// Whether a value has a line: 0 has none.
+fn is_reported(value: u32) -> bool
+    ensures { result ≡ not (value == 0) }
+{
+    value != 0
+}
+
 /// The line of a register that isn't 0.
 #[tactic(auto, unfolding(crate::specs::Report::value_line))]
 fn push_register_line(out: &mut Vec<u8>, reg: Reg, value: u32) -> Result<(), AllocError>
     ensures { OnOk result (out.new.items ≡ out.old.items ++ value_line (register_name reg) value) }
 {
-    if value == 0 {
+    if !is_reported(value) {
         return Ok(());
     }
     push_register(out, reg)?;
@@ -75,7 +82,7 @@ fn push_file(out: &mut Vec<u8>, state: &State, side: Side) -> Result<(), AllocEr
 fn push_word_line(out: &mut Vec<u8>, address: u32, value: u32) -> Result<(), AllocError>
     ensures { OnOk result (out.new.items ≡ out.old.items ++ value_line (codes "@" ++ hex 4 address) value) }
 {
-    if value == 0 {
+    if !is_reported(value) {
         return Ok(());
     }
     out.extend_from_slice(b"@")?;

@@ -81,7 +81,7 @@ const REPORTED: [(&[&str], &[u8], &str); 15] = [
     (
         &["serial", "B4=16", "@16=0x8899aabb"],
         b"LDBU *B4,B5\nLDH *+B4[1],A5\nSTB B5,*+B4[6]\nSTH A5,*+B4[4]",
-        "blocks 1\nexit end\nA5 ffff8899\nB4 00000010\nB5 000000bb\n@0010 8899aabb\n@0014 000000bb\n@0018 00008899\n",
+        "blocks 1\nexit end\nA5 ffff8899\nB4 00000010\nB5 000000bb\n@0010 8899aabb\n@0014 00bb0000\n@0018 00008899\n",
     ),
 ];
 
