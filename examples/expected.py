@@ -380,15 +380,15 @@ def square_root():
     words = [0x40000000, 0, 1, 2, 15, 16, 99999999]
     words += [0x7FFFFFFF, 0x80000000, 0xFFFE0000, 0xFFFE0001, 0xFFFFFFFF, 100000003]
     n = len(words)
-    start = State(A1=3, A4=0x1300, A6=1, B0=n, B4=0x1380).words(0x1300, words)
+    start = State(A1=n, A4=0x1300, B1=3, B4=0x1380, B6=1).words(0x1300, words)
     roots = [math.isqrt(word) for word in words]
     end = start.then(
         A1=0,
         A4=0x1300 + 4 * n,
-        A5=words[-1] - roots[-1] ** 2,
-        A6=roots[-1],
-        B0=0,
+        B1=0,
         B4=0x1380 + 2 * n,
+        B5=words[-1] - roots[-1] ** 2,
+        B6=roots[-1],
     ).halves(0x1380, roots)
     return start, end, n * (1 + 16 + 1) + 1
 
