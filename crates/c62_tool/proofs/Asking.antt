@@ -1,9 +1,7 @@
 -- What words ask for.
-use Rattle.std.proofs.Common.{◌≡◌, ◌≢◌, ◌∙◌, ℕ, ◌<◌, Bool, true, false, List, [], ◌∷◌, length, map, Option, Some, None, refl, sym, ap, arith, rules}
-use Rattle.std.specs.Prelude.{option_map, codes}
+use Rattle.std.proofs.Common.{◌≡◌, ◌≢◌, ◌∙◌, ℕ, true, List, [], ◌∷◌, length, map, Option, Some, None, refl, ap, arith}
 use Rattle.clap.specs.Words.{Kinds, Row, Text, fault_of, subcommand_of}
-use Rattle.c62_tool.specs.declared.setting.Setting.{Setting}
-use Rattle.c62_tool.specs.CommandLine.{Ask, Listing, SerialReport, HasBadSetting, HasFirstBad, IsUnknown, ask_in, asked, blocks_of, setting_words, tool_app, unless_fault}
+use Rattle.c62_tool.specs.CommandLine.{Ask, Listing, HasBadSetting, HasFirstBad, IsUnknown, ask_in, asked, setting_words, tool_app, unless_fault}
 use Rattle.c62_tool.specs.Settings.{IsFirstBad, settings_of}
 use Rattle.c62_tool.proofs.SettingLemmas.{none_of}
 

@@ -1,5 +1,5 @@
 -- What a run did, from what each of its steps did.
-use Rattle.std.proofs.Common.{◌≡◌, ℕ, ◌<◌, Bool, List, length, take, Option, Some, None, Result, Ok, Err, refl, sym, ap, subst, ◌∙◌, arith, inl, inr}
+use Rattle.std.proofs.Common.{◌≡◌, ℕ, ◌<◌, List, length, take, Option, Some, None, Result, Ok, Err, refl, sym, ap, subst, ◌∙◌, arith, inl, inr}
 use Rattle.std.specs.Prelude.{IfSome, IsErr}
 use Rattle.std.specs.Global.{Vec}
 use Rattle.std.specs.Io.KnownBytes.{Appends, Keeps}
@@ -10,7 +10,7 @@ use Rattle.c62_tool.specs.declared.fault.Refusal.TheVariants.{TextTooLong}
 use Rattle.c62_tool.specs.Reading.{Parts, program_of}
 use Rattle.c62_read.specs.Program.{BlockParts, Refusal as Refused, drafts_in, program_in}
 use Rattle.c62_read.specs.declared.fault.Cause.TheVariants.{TextTooLong as OverLong}
-use Rattle.c62_tool.specs.Run.{IsAnswer, IsRefusedText, Answers, Does, IsRefused, IsFailure, Blames, Leaves, Gives}
+use Rattle.c62_tool.specs.Run.{IsAnswer, IsRefusedText, Does, IsRefused, IsFailure, Blames, Leaves, Gives}
 use Rattle.c62_tool.specs.CommandLine.{Ask, Listing, SerialReport, asked}
 use Rattle.c62_tool.proofs.Asking.{asked-unknown, asked-bad}
 use Rattle.clap.specs.Words.{Text}

@@ -1,5 +1,5 @@
 -- What the program does to its streams.
-use Rattle.std.specs.Prelude.{◌≡◌, ◌≢◌, ◌⊎◌, ℕ, ◌≤◌, List, length, map, fold, Option, None, Bool, Result, IfSome, IsErr, Ok, Err}
+use Rattle.std.specs.Prelude.{◌≡◌, ◌≢◌, ◌⊎◌, ℕ, ◌≤◌, List, length, map, fold, Option, None, Result, IfSome, IsErr, Ok, Err}
 use Rattle.std.specs.Io.KnownBytes.{Appends, Consumes, Keeps}
 use Rattle.std.specs.Option.{IsSomeAnd}
 use Rattle.std.specs.Global.{Vec}

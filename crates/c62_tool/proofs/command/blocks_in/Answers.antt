@@ -1,4 +1,4 @@
-use Rattle.std.proofs.Common.{◌≡◌, ◌∙◌, ℕ, refl, Some, None}
+use Rattle.std.proofs.Common.{◌≡◌, ◌∙◌, refl, Some, None}
 use Rattle.std.specs.Prelude.{codes}
 use Rattle.clap.proofs.WalkLemmas.{first_value-rows}
 use Rattle.clap.specs.Words.{first_of, found_of, rows_of}

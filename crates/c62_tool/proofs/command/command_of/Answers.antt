@@ -1,4 +1,4 @@
-use Rattle.std.proofs.Common.{◌≡◌, ◌≢◌, ◌∙◌, ℕ, length, refl, map, rules, arith}
+use Rattle.std.proofs.Common.{◌≢◌, length, rules}
 use Rattle.c62_tool.specs.CommandLine.{ask_of}
 use Rattle.c62_tool.proofs.Asking.{asked-none, asked-taken}
 use Rattle.c62_tool.proofs.command.command_of.Goals as goal

@@ -1,4 +1,4 @@
-use Rattle.std.proofs.Common.{◌≡◌, ◌∙◌, ◌++◌, sym, ap, append_assoc, rules}
+use Rattle.std.proofs.Common.{append_assoc, rules}
 use Rattle.c62_tool.proofs.ReportLemmas.{flat_map-more, whole_file}
 use Rattle.c62_tool.proofs.report.push_file.Goals as goal
 

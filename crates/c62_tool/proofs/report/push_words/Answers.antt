@@ -1,6 +1,5 @@
-use Rattle.std.proofs.Common.{◌≡◌, ◌∙◌, ◌++◌, [], refl, sym, ap, append_assoc, rules}
+use Rattle.std.proofs.Common.{refl, append_assoc, rules}
 use Rattle.std.proofs.lemmas.List.{append-nil}
-use Rattle.c62_tool.specs.Report.{word_lines, word_line, value_line, hex}
 use Rattle.c62_tool.proofs.ReportLemmas.{no_words, more_words, word_read}
 use Rattle.c62_tool.proofs.report.push_words.Goals as goal
 

@@ -1,6 +1,5 @@
-use Rattle.std.proofs.Common.{◌≡◌, ◌∙◌, ℕ, ◌+◌, length, take, map, Some, None, sym, ap, subst, arith, rules}
-use Rattle.std.specs.Vec.{vec_len}
-use Rattle.c62_tool.specs.Settings.{setting_of, settings_of, IsFirstBad}
+use Rattle.std.proofs.Common.{◌≡◌, ◌∙◌, ℕ, ◌+◌, sym, ap, subst, rules}
+use Rattle.c62_tool.specs.Settings.{setting_of, IsFirstBad}
 use Rattle.c62_tool.proofs.SettingLemmas.{first_bad, one_more, words}
 use Rattle.c62_tool.proofs.setting.read_settings.Goals as goal
 

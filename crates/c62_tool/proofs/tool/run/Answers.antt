@@ -1,4 +1,4 @@
-use Rattle.std.proofs.Common.{◌≡◌, map}
+use Rattle.std.proofs.Common.{map}
 use Rattle.std.proofs.lemmas.Result.{err_from_is_err_and}
 use Rattle.c62_tool.proofs.Runs.{blamed}
 use Rattle.c62_tool.proofs.tool.run.Goals as goal
