@@ -12,3 +12,5 @@ pub mod AddedLemmas
 pub mod SoundLemmas
 pub mod BytesLemmas
 pub mod CommentLemmas
+pub mod SpelledTokens
+pub mod SpelledNumbers

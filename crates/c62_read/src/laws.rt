@@ -1,8 +1,10 @@
 //! Laws of the definitions.
 
-ghost use Rattle.std.specs.Prelude.{◌≡◌, ◌==◌, ◌∷◌, ◌++◌, ℕ, List, not, filter, take_while};
+ghost use Rattle.std.specs.Prelude.{◌≡◌, ◌==◌, ◌∷◌, ◌++◌, ℕ, ℤ, List, not, filter, take_while};
 ghost use Rattle.std.specs.List.{flat_map};
+ghost use Rattle.c62_insn.specs.declared.register.Reg.{Reg as Register};
 ghost use Rattle.c62_read.specs.Text.{is_blank, tokens};
+ghost use Rattle.c62_read.specs.Laws.{NumberReadsBack, RegisterReadsBack};
 
 /// The tokens of a line are its bytes in their order, less blanks and what follows a `;`.
 pub fn tokens_are_the_bytes()
@@ -13,4 +15,14 @@ pub fn tokens_are_the_bytes()
 /// What stands behind a `;` says nothing.
 pub fn comments_say_nothing()
     ensures { (line rest : List ℕ) → tokens (line ++ 59 ∷ rest) ≡ tokens line }
+{}
+
+/// Each number that a line may hold reads back from its decimal spelling.
+pub fn numbers_read_back()
+    ensures { (k : ℤ) → NumberReadsBack k }
+{}
+
+/// Each register reads back from its name.
+pub fn registers_read_back()
+    ensures { (reg : Register) → RegisterReadsBack reg }
 {}
