@@ -14,3 +14,6 @@ pub mod BytesLemmas
 pub mod CommentLemmas
 pub mod SpelledTokens
 pub mod SpelledNumbers
+pub mod SpelledSources
+pub mod SpelledUnits
+pub mod SpelledAddresses

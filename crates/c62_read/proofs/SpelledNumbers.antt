@@ -5,14 +5,14 @@ use Rattle.std.specs.Char.{digit_value, to_ascii_lowercase, is_ascii_digit}
 use Rattle.std.specs.Fmt.{decimal, signed_decimal}
 use Rattle.std.specs.List.{list_all, starts_with}
 use Rattle.std.specs.Str.Parse.{AllDigits, digits_value}
-use Rattle.std.proofs.lemmas.Bool.{and_from, and_parts, and_left, and_right, cases_lt, eq-eqb, lt-ltb, le-leb, leb-true, or_left, or_right}
+use Rattle.std.proofs.lemmas.Bool.{and_from, and_parts, and_left, and_right, cases_lt, cond_both, eq-eqb, lt-ltb, le-leb, leb-true, or_left, or_right}
 use Rattle.std.proofs.lemmas.Bool.Decides.{nat_tests}
 use Rattle.std.proofs.lemmas.Fmt.{decimal_digit, decimal_is_IsNumeral, decimal_step, first_decimal, length-decimal-le}
 use Rattle.c62_insn.specs.declared.register.Side.{Side}
 use Rattle.c62_insn.specs.declared.register.Side.TheVariants.{A, B}
 use Rattle.c62_insn.specs.declared.register.Reg.{Reg}
 use Rattle.c62_insn.specs.Spelling.{file_letter, register_name}
-use Rattle.c62_read.specs.Text.{is_word_byte}
+use Rattle.c62_read.specs.Text.{is_word_byte, joins}
 use Rattle.c62_read.specs.Number.{are_digits, decimal_of, file_of, hexadecimal_of, in_file, in_range, magnitude_of, negative, number_of, numbered, register_of, signed_of, spells}
 use Rattle.c62_read.proofs.Registers.{numbered-known}
 use Rattle.c62_read.proofs.SpelledTokens.{IsToken, word_token, led_token}
@@ -98,27 +98,118 @@ signed_back : (n d : ℕ) (ds : List ℕ) → IsWritten n d ds → signed_of (45
 unfolding signed_of
 signed_back n d ds w = ap (option_map negative) (magnitude_back n d ds w)
 
+-- a number that a line may hold
+abbrev pub fits : ℤ → Bool
+fits k = int_le (negative 2147483648) k && int_le k (pos 4294967295)
+
+in_range_back : (k : ℤ) → fits k ≡ true → in_range k ≡ Some k
+in_range_back k inside = rw inside refl
+
+pub number_read : (k : ℤ) → fits k ≡ true → number_of (signed_decimal k) ≡ Some k
+unfolding number_of
+number_read (pos n) inside =
+    let small : n ≤ 4294967295 = leb-true n 4294967295 inside in
+    let w = written n (omega arith) in
+    ap number_of w.2.is ∙ ap (option_and_then in_range) (unsigned_back n w.0 w.1 w.2) ∙ in_range_back (pos n) inside
+number_read (negsuc n) inside =
+    let small : n ≤ 2147483647 = leb-true n 2147483647 (and_parts (leb n 2147483647) true inside).0 in
+    let w = written (suc n) (omega arith) in
+    ap (λ (ds : List ℕ). number_of (45 ∷ ds)) w.2.is ∙ ap (option_and_then in_range) (signed_back (suc n) w.0 w.1 w.2) ∙ in_range_back (negsuc n) inside
+
 truth : (b : Bool) → T b → b ≡ true
 truth true h = refl
 truth false h = absurd h
 
-in_range_back : (k : ℤ) → int_le (negative 2147483648) k ≡ true → int_le k (pos 4294967295) ≡ true → in_range k ≡ Some k
-in_range_back k low high = rw (low, high) refl
-
 pub number_back : (k : ℤ) → negative 2147483648 ≤ℤ k → k ≤ℤ pos 4294967295 → number_of (signed_decimal k) ≡ Some k
-unfolding number_of
-number_back (pos n) low high =
-    let most : leb n 4294967295 ≡ true = truth (leb n 4294967295) high.le in
-    let small : n ≤ 4294967295 = leb-true n 4294967295 most in
+number_back k low high =
+    number_read k (and_from (int_le (negative 2147483648) k) (int_le k (pos 4294967295)) (truth (int_le (negative 2147483648) k) low.le) (truth (int_le k (pos 4294967295)) high.le))
+
+-- how a number is spelled: digits, or a minus and digits
+pub data IsSpelled (k : ℤ) : Type 0 where
+  Digits : (d : ℕ) (ds : List ℕ) → signed_decimal k ≡ d ∷ ds → is_ascii_digit d ≡ true → list_all is_ascii_digit ds ≡ true → length ds ≤ 9 → IsSpelled k
+  Minus : (d : ℕ) (ds : List ℕ) → signed_decimal k ≡ 45 ∷ d ∷ ds → is_ascii_digit d ≡ true → list_all is_ascii_digit ds ≡ true → length ds ≤ 9 → IsSpelled k
+
+pub spelled : (k : ℤ) → fits k ≡ true → IsSpelled k
+spelled (pos n) inside =
+    let small : n ≤ 4294967295 = leb-true n 4294967295 inside in
     let w = written n (omega arith) in
-    ap number_of w.2.is ∙ ap (option_and_then in_range) (unsigned_back n w.0 w.1 w.2) ∙ in_range_back (pos n) refl most
-number_back (negsuc n) low high =
-    let most : leb n 2147483647 ≡ true = truth (leb n 2147483647) low.le in
-    let small : n ≤ 2147483647 = leb-true n 2147483647 most in
+    Digits w.0 w.1 w.2.is w.2.digit w.2.digits w.2.short
+spelled (negsuc n) inside =
+    let small : n ≤ 2147483647 = leb-true n 2147483647 (and_parts (leb n 2147483647) true inside).0 in
     let w = written (suc n) (omega arith) in
-    ap (λ (ds : List ℕ). number_of (45 ∷ ds)) w.2.is ∙ ap (option_and_then in_range) (signed_back (suc n) w.0 w.1 w.2) ∙ in_range_back (negsuc n) most refl
+    Minus w.0 w.1 (ap (λ (ds : List ℕ). 45 ∷ ds) w.2.is) w.2.digit w.2.digits w.2.short
+
+digit_token : (d : ℕ) (ds : List ℕ) → is_ascii_digit d ≡ true → list_all is_ascii_digit ds ≡ true → list_all is_word_byte (d ∷ ds) ≡ true
+digit_token d ds first others = digits_word (d ∷ ds) (and_from (is_ascii_digit d) (list_all is_ascii_digit ds) first others)
+
+minus_joins : (d : ℕ) → is_ascii_digit d ≡ true → joins 45 d ≡ true
+minus_joins d digit = grind (arith, nat_tests)
+
+token_by : (k : ℤ) → IsSpelled k → IsToken (signed_decimal k)
+token_by k (Digits d ds is first others short) = subst IsToken (sym is) (word_token (d ∷ ds) (omega arith) (digit_token d ds first others))
+token_by k (Minus d ds is first others short) = subst IsToken (sym is) (led_token 45 d ds refl (minus_joins d first) refl (digit_token d ds first others))
+
+pub number_token : (k : ℤ) → fits k ≡ true → IsToken (signed_decimal k)
+number_token k inside = token_by k (spelled k inside)
+
+length_by : (k : ℤ) → IsSpelled k → length (signed_decimal k) ≤ 11
+length_by k (Digits d ds is first others short) = omega (arith, ap length is)
+length_by k (Minus d ds is first others short) = omega (arith, ap length is)
+
+pub number_length : (k : ℤ) → fits k ≡ true → length (signed_decimal k) ≤ 11
+number_length k inside = length_by k (spelled k inside)
+
+-- a word whose first byte names no file is no register
+no_file : (b : ℕ) (w : List ℕ) → file_of b ≡ None → register_of (b ∷ w) ≡ None
+unfolding register_of
+no_file b [] none = refl
+no_file b (d ∷ []) none =
+    let same : in_file (file_of b) (d - 48) ≡ None = ap (λ (file : Option Side). in_file file (d - 48)) none in
+    cond_both (is_ascii_digit d) (in_file (file_of b) (d - 48)) None (λ (r : Option Reg). r ≡ None) (λ _. same) (λ _. refl)
+no_file b (ten ∷ d ∷ []) none =
+    let same : in_file (file_of b) (d - 38) ≡ None = ap (λ (file : Option Side). in_file file (d - 38)) none in
+    cond_both (eqb ten 49 && is_ascii_digit d) (in_file (file_of b) (d - 38)) None (λ (r : Option Reg). r ≡ None) (λ _. same) (λ _. refl)
+no_file b (ten ∷ d ∷ e ∷ w) none = refl
+
+digit_file : (d : ℕ) → is_ascii_digit d ≡ true → file_of d ≡ None
+unfolding file_of
+digit_file d digit =
+    let a : (eqb d 65 || eqb d 97) ≡ false = grind (arith, nat_tests) in
+    let b : (eqb d 66 || eqb d 98) ≡ false = grind (arith, nat_tests) in
+    rw (a, b) refl
+
+minus_file : file_of 45 ≡ None
+unfolding file_of
+minus_file = refl
+
+no_register_by : (k : ℤ) → IsSpelled k → register_of (signed_decimal k) ≡ None
+no_register_by k (Digits d ds is first others short) = ap register_of is ∙ no_file d ds (digit_file d first)
+no_register_by k (Minus d ds is first others short) = ap register_of is ∙ no_file 45 (d ∷ ds) minus_file
+
+pub number_no_register : (k : ℤ) → fits k ≡ true → register_of (signed_decimal k) ≡ None
+number_no_register k inside = no_register_by k (spelled k inside)
+
+-- a number isn't a star
+digit_no_star : (d : ℕ) → is_ascii_digit d ≡ true → eqb (to_ascii_lowercase d) 42 ≡ false
+digit_no_star d digit = grind (arith, nat_tests)
+
+no_star_by : (k : ℤ) → IsSpelled k → spells (codes "*") (signed_decimal k) ≡ false
+no_star_by k (Digits d ds is first others short) = ap (spells (codes "*")) is ∙ and_left (eqb (to_ascii_lowercase d) 42) _ (digit_no_star d first)
+no_star_by k (Minus d ds is first others short) = ap (spells (codes "*")) is
+
+pub number_no_star : (k : ℤ) → fits k ≡ true → spells (codes "*") (signed_decimal k) ≡ false
+number_no_star k inside = no_star_by k (spelled k inside)
 
 -- ---- registers
+
+-- none of the marks that stand about registers
+pub record IsFree (w : List ℕ) : Type 0 where
+  pub star : spells (codes "*") w ≡ false
+  pub bang : spells (codes "!") w ≡ false
+  pub plus : spells (codes "+") w ≡ false
+  pub minus : spells (codes "-") w ≡ false
+  pub increment : spells (codes "++") w ≡ false
+  pub decrement : spells (codes "--") w ≡ false
 
 one_digit : (n : ℕ) → n < 10 → is_ascii_digit (48 + n) ≡ true
 one_digit n small = grind (arith, nat_tests)
@@ -154,3 +245,30 @@ register_by side n small =
 
 pub register_back : (reg : Reg) → register_of (register_name reg) ≡ Some reg
 register_back reg = register_by reg.side reg.number reg.in_range ∙ numbered-known reg
+
+register_words : (side : Side) (ds : List ℕ) → list_all is_word_byte ds ≡ true → list_all is_word_byte (file_letter side ++ ds) ≡ true
+register_words A ds words = words
+register_words B ds words = words
+
+register_some : (side : Side) (ds : List ℕ) → length (file_letter side ++ ds) ≡ suc (length ds)
+register_some A ds = refl
+register_some B ds = refl
+
+pub register_word : (reg : Reg) → list_all is_word_byte (register_name reg) ≡ true
+register_word reg =
+    let w = written reg.number (omega (arith, reg.in_range)) in
+    register_words reg.side (decimal reg.number) (ap (list_all is_word_byte) w.2.is ∙ digit_token w.0 w.1 w.2.digit w.2.digits)
+
+pub register_token : (reg : Reg) → IsToken (register_name reg)
+register_token reg = word_token (register_name reg) (omega (arith, register_some reg.side (decimal reg.number))) (register_word reg)
+
+pub register_length : (reg : Reg) → length (register_name reg) ≤ 3
+register_length reg = omega (arith, register_some reg.side (decimal reg.number), length-decimal-le 2 reg.number (omega arith) (omega (arith, reg.in_range)) (omega (arith, reg.in_range)))
+
+-- a register is no mark
+free_by : (side : Side) (ds : List ℕ) → IsFree (file_letter side ++ ds)
+free_by A ds = record { star = refl; bang = refl; plus = refl; minus = refl; increment = refl; decrement = refl }
+free_by B ds = record { star = refl; bang = refl; plus = refl; minus = refl; increment = refl; decrement = refl }
+
+pub register_free : (reg : Reg) → IsFree (register_name reg)
+register_free reg = free_by reg.side (decimal reg.number)
