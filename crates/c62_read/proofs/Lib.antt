@@ -17,3 +17,6 @@ pub mod SpelledNumbers
 pub mod SpelledSources
 pub mod SpelledUnits
 pub mod SpelledAddresses
+pub mod SpelledOperands
+pub mod HeadLemmas
+pub mod SpelledLine

@@ -1,9 +1,19 @@
 -- Laws of lines: what is spelled reads back.
-use Rattle.std.specs.Prelude.{◌≡◌, ℕ, ℤ, pos, ◌≤ℤ◌, Some}
+use Rattle.std.specs.Prelude.{◌≡◌, ℕ, ◌≤◌, ℤ, pos, ◌≤ℤ◌, List, ◌++◌, length, Some, None, Ok, IsTrue}
 use Rattle.std.specs.Fmt.{signed_decimal}
+use Rattle.std.specs.List.{list_all}
 use Rattle.c62_insn.specs.declared.register.Reg.{Reg}
-use Rattle.c62_insn.specs.Spelling.{register_name}
-use Rattle.c62_read.specs.Number.{negative, number_of, register_of}
+use Rattle.c62_insn.specs.declared.register.Unit.{Unit as FunctionalUnit}
+use Rattle.c62_insn.specs.declared.operands.Operands.{Operands}
+use Rattle.c62_insn.specs.declared.operands.Operands.TheVariants.{Block}
+use Rattle.c62_insn.specs.declared.insn.Insn.{Insn}
+use Rattle.c62_insn.specs.Insn.{op_of, operands_of, cond_of}
+use Rattle.c62_insn.specs.Spelling.{register_name, spelling}
+use Rattle.c62_insn.specs.Takes.{takes}
+use Rattle.c62_read.specs.Text.{is_blank}
+use Rattle.c62_read.specs.Number.{is_label, negative, number_of, register_of}
+use Rattle.c62_read.specs.Operand.{Word}
+use Rattle.c62_read.specs.Line.{Parts, Says, Does, Jumps, line_of}
 
 -- the decimal spelling of a number reads as it
 abbrev pub NumberReadsBack : ℤ → Type 0
@@ -12,3 +22,25 @@ NumberReadsBack k = negative 2147483648 ≤ℤ k → k ≤ℤ pos 4294967295 →
 -- the name of a register reads as it
 abbrev pub RegisterReadsBack : Reg → Type 0
 RegisterReadsBack reg = register_of (register_name reg) ≡ Some reg
+
+-- the parts of an instruction where this unit is written
+abbrev pub parts_on : Insn → FunctionalUnit → Parts
+parts_on insn unit = record { op = op_of insn; operands = operands_of insn; cond = cond_of insn; unit = Some unit }
+
+-- what parts with these operands say: a branch to a block is a jump to the label of this name
+abbrev pub says_with : (ℕ → Word) → Parts → Operands → Says
+says_with name parts (Block number) = Jumps (record parts { operands = Block 0 }) (name number)
+says_with name parts operands = Does parts
+
+abbrev pub says_on : (ℕ → Word) → Insn → FunctionalUnit → Says
+says_on name insn unit = says_with name (parts_on insn unit) (operands_of insn)
+
+-- the block that a branch goes to has a label for its name
+abbrev pub NamesTarget : (ℕ → Word) → Operands → Type 0
+NamesTarget name operands = (number : ℕ) → operands ≡ Block number → IsTrue (is_label (name number))
+
+-- the line that spells an instruction on a unit, with at most a hundred blanks before it, says that instruction on that unit
+abbrev pub LineReadsBack : (ℕ → Word) → Insn → FunctionalUnit → List ℕ → Type 0
+LineReadsBack name insn unit blanks =
+    IsTrue (takes (op_of insn) (operands_of insn) unit) → NamesTarget name (operands_of insn) → IsTrue (list_all is_blank blanks) → length blanks ≤ 100
+    → line_of (blanks ++ spelling name insn unit) ≡ Ok (None, says_on name insn unit)

@@ -3,8 +3,10 @@
 ghost use Rattle.std.specs.Prelude.{◌≡◌, ◌==◌, ◌∷◌, ◌++◌, ℕ, ℤ, List, not, filter, take_while};
 ghost use Rattle.std.specs.List.{flat_map};
 ghost use Rattle.c62_insn.specs.declared.register.Reg.{Reg as Register};
+ghost use Rattle.c62_insn.specs.declared.register.Unit.{Unit as FunctionalUnit};
+ghost use Rattle.c62_insn.specs.declared.insn.Insn.{Insn};
 ghost use Rattle.c62_read.specs.Text.{is_blank, tokens};
-ghost use Rattle.c62_read.specs.Laws.{NumberReadsBack, RegisterReadsBack};
+ghost use Rattle.c62_read.specs.Laws.{LineReadsBack, NumberReadsBack, RegisterReadsBack};
 
 /// The tokens of a line are its bytes in their order, less blanks and what follows a `;`.
 pub fn tokens_are_the_bytes()
@@ -25,4 +27,11 @@ pub fn numbers_read_back()
 /// Each register reads back from its name.
 pub fn registers_read_back()
     ensures { (reg : Register) → RegisterReadsBack reg }
+{}
+
+/// The line that spells an instruction, with its condition, its operation, a unit that takes it and
+/// its operands, reads as that instruction on that unit, with or without blanks before it. A branch
+/// to a block is spelled with a label, and reads as a branch to that label.
+pub fn spelled_lines_read_back()
+    ensures { (name : ℕ → List ℕ) (insn : Insn) (unit : FunctionalUnit) (blanks : List ℕ) → LineReadsBack name insn unit blanks }
 {}

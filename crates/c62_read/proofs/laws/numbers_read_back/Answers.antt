@@ -1,6 +1,3 @@
-use Rattle.c62_read.proofs.SpelledAddresses.{address_words}
-use Rattle.c62_read.proofs.SpelledSources.{sources_back}
-use Rattle.c62_read.proofs.SpelledUnits.{unit_back}
 use Rattle.c62_read.proofs.SpelledNumbers.{number_back}
 use Rattle.c62_read.proofs.laws.numbers_read_back.Goals as goal
 
