@@ -20,3 +20,4 @@ pub mod SpelledAddresses
 pub mod SpelledOperands
 pub mod HeadLemmas
 pub mod SpelledLine
+pub mod CommentLaws

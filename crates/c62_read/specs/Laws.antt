@@ -1,5 +1,5 @@
 -- Laws of lines: what is spelled reads back.
-use Rattle.std.specs.Prelude.{◌≡◌, ℕ, ◌≤◌, ℤ, pos, ◌≤ℤ◌, List, ◌++◌, length, Some, None, Ok, IsTrue}
+use Rattle.std.specs.Prelude.{◌≡◌, ℕ, ◌≤◌, ℤ, pos, ◌≤ℤ◌, List, [], ◌∷◌, ◌++◌, length, Some, None, Ok, IsTrue}
 use Rattle.std.specs.Fmt.{signed_decimal}
 use Rattle.std.specs.List.{list_all}
 use Rattle.c62_insn.specs.declared.register.Reg.{Reg}
@@ -10,10 +10,11 @@ use Rattle.c62_insn.specs.declared.insn.Insn.{Insn}
 use Rattle.c62_insn.specs.Insn.{op_of, operands_of, cond_of}
 use Rattle.c62_insn.specs.Spelling.{register_name, spelling}
 use Rattle.c62_insn.specs.Takes.{takes}
-use Rattle.c62_read.specs.Text.{is_blank}
+use Rattle.c62_read.specs.Text.{is_allowed, is_blank, lines_of}
 use Rattle.c62_read.specs.Number.{is_label, negative, number_of, register_of}
 use Rattle.c62_read.specs.Operand.{Word}
-use Rattle.c62_read.specs.Line.{Parts, Says, Does, Jumps, line_of}
+use Rattle.c62_read.specs.Line.{Parts, Says, Nothing, Does, Jumps, line_of}
+use Rattle.c62_read.specs.Program.{most_bytes, place_of, program_in}
 
 -- the decimal spelling of a number reads as it
 abbrev pub NumberReadsBack : ℤ → Type 0
@@ -44,3 +45,33 @@ abbrev pub LineReadsBack : (ℕ → Word) → Insn → FunctionalUnit → List �
 LineReadsBack name insn unit blanks =
     IsTrue (takes (op_of insn) (operands_of insn) unit) → NamesTarget name (operands_of insn) → IsTrue (list_all is_blank blanks) → length blanks ≤ 100
     → line_of (blanks ++ spelling name insn unit) ≡ Ok (None, says_on name insn unit)
+
+-- ---- what says nothing
+
+-- a line that may be read by itself: no byte that isn't allowed, and not too long
+abbrev pub IsReadable : List ℕ → Type 0
+IsReadable line = IsTrue (list_all is_allowed line) × (length line ≤ 255)
+
+-- a line that begins with `*` says nothing, and has no label
+abbrev pub StarSaysNothing : List ℕ → Type 0
+StarSaysNothing line = (line_of line ≡ Ok (None, Nothing)) × (place_of line ≡ None)
+
+-- a comment behind a line changes neither what the line says nor its label
+abbrev pub CommentSaysNothing : List ℕ → List ℕ → Type 0
+CommentSaysNothing line rest = (line_of (line ++ 59 ∷ rest) ≡ line_of line) × (place_of (line ++ 59 ∷ rest) ≡ place_of line)
+
+-- the other line is this one without its comment, behind a `;` or all of it
+pub data IsUncommented (line other : List ℕ) : Type 0 where
+  Same : line ≡ other → IsUncommented line other
+  Behind : (rest : List ℕ) → line ≡ other ++ 59 ∷ rest → IsReadable line → IsUncommented line other
+  Whole : (rest : List ℕ) → line ≡ 42 ∷ rest → other ≡ [] → IsReadable line → IsUncommented line other
+
+abbrev pub AreUncommented : List (List ℕ) → List (List ℕ) → Type 0
+AreUncommented [] [] = Unit {0}
+AreUncommented (line ∷ lines) (other ∷ others) = IsUncommented line other × AreUncommented lines others
+AreUncommented _ _ = ⊥
+
+-- a text says what it says without comments
+abbrev pub CommentsSayNothing : List ℕ → List ℕ → Type 0
+CommentsSayNothing text other =
+    length text ≤ most_bytes → length other ≤ most_bytes → AreUncommented (lines_of text) (lines_of other) → program_in text ≡ program_in other

@@ -1,12 +1,13 @@
 //! Laws of the definitions.
 
-ghost use Rattle.std.specs.Prelude.{◌≡◌, ◌==◌, ◌∷◌, ◌++◌, ℕ, ℤ, List, not, filter, take_while};
+ghost use Rattle.std.specs.Prelude.{◌≡◌, ◌==◌, ◌∷◌, ◌++◌, ℕ, ℤ, List, not, filter, take_while, IsTrue};
 ghost use Rattle.std.specs.List.{flat_map};
 ghost use Rattle.c62_insn.specs.declared.register.Reg.{Reg as Register};
 ghost use Rattle.c62_insn.specs.declared.register.Unit.{Unit as FunctionalUnit};
 ghost use Rattle.c62_insn.specs.declared.insn.Insn.{Insn};
-ghost use Rattle.c62_read.specs.Text.{is_blank, tokens};
-ghost use Rattle.c62_read.specs.Laws.{LineReadsBack, NumberReadsBack, RegisterReadsBack};
+ghost use Rattle.c62_read.specs.Text.{begins, is_blank, tokens};
+ghost use Rattle.c62_read.specs.Line.{is_star};
+ghost use Rattle.c62_read.specs.Laws.{LineReadsBack, NumberReadsBack, RegisterReadsBack, IsReadable, StarSaysNothing, CommentSaysNothing, CommentsSayNothing};
 
 /// The tokens of a line are its bytes in their order, less blanks and what follows a `;`.
 pub fn tokens_are_the_bytes()
@@ -34,4 +35,19 @@ pub fn registers_read_back()
 /// to a block is spelled with a label, and reads as a branch to that label.
 pub fn spelled_lines_read_back()
     ensures { (name : ℕ → List ℕ) (insn : Insn) (unit : FunctionalUnit) (blanks : List ℕ) → LineReadsBack name insn unit blanks }
+{}
+
+/// A line that begins with `*` says nothing, as long as it may be read at all.
+pub fn star_lines_say_nothing()
+    ensures { (line : List ℕ) → IsReadable line → IsTrue (begins is_star line) → StarSaysNothing line }
+{}
+
+/// A line says the same without the comment behind a `;`, and has the same label.
+pub fn comments_change_no_line()
+    ensures { (line rest : List ℕ) → IsReadable (line ++ 59 ∷ rest) → CommentSaysNothing line rest }
+{}
+
+/// A text reads as the text without its comments: as the same program, or with the same fault.
+pub fn comments_change_no_program()
+    ensures { (text other : List ℕ) → CommentsSayNothing text other }
 {}
