@@ -21,3 +21,5 @@ pub mod SpelledOperands
 pub mod HeadLemmas
 pub mod SpelledLine
 pub mod CommentLaws
+pub mod SaysLemmas
+pub mod ProgramLaws

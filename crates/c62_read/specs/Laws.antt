@@ -1,7 +1,8 @@
 -- Laws of lines: what is spelled reads back.
-use Rattle.std.specs.Prelude.{◌≡◌, ℕ, ◌≤◌, ℤ, pos, ◌≤ℤ◌, List, [], ◌∷◌, ◌++◌, length, Some, None, Ok, IsTrue}
+use Rattle.std.specs.Prelude.{◌≡◌, ℕ, ◌+◌, ◌≤◌, ℤ, pos, ◌≤ℤ◌, List, [], ◌∷◌, ◌++◌, length, map, position, unwrap_or, slice_get, Contains, Option, Some, None, Result, Ok, IsTrue}
 use Rattle.std.specs.Fmt.{signed_decimal}
-use Rattle.std.specs.List.{list_all}
+use Rattle.std.specs.List.{flat_map, list_all}
+use Rattle.std.specs.List.Sorted.{IsStrictlyIncreasing}
 use Rattle.c62_insn.specs.declared.register.Reg.{Reg}
 use Rattle.c62_insn.specs.declared.register.Unit.{Unit as FunctionalUnit}
 use Rattle.c62_insn.specs.declared.operands.Operands.{Operands}
@@ -14,7 +15,8 @@ use Rattle.c62_read.specs.Text.{is_allowed, is_blank, lines_of}
 use Rattle.c62_read.specs.Number.{is_label, negative, number_of, register_of}
 use Rattle.c62_read.specs.Operand.{Word}
 use Rattle.c62_read.specs.Line.{Parts, Says, Nothing, Does, Jumps, line_of}
-use Rattle.c62_read.specs.Program.{most_bytes, place_of, program_in}
+use Rattle.c62_read.specs.declared.fault.Cause.{Cause}
+use Rattle.c62_read.specs.Program.{BlockParts, Name, Numbered, label_is, most_bytes, place_of, program_in}
 
 -- the decimal spelling of a number reads as it
 abbrev pub NumberReadsBack : ℤ → Type 0
@@ -75,3 +77,41 @@ AreUncommented _ _ = ⊥
 abbrev pub CommentsSayNothing : List ℕ → List ℕ → Type 0
 CommentsSayNothing text other =
     length text ≤ most_bytes → length other ≤ most_bytes → AreUncommented (lines_of text) (lines_of other) → program_in text ≡ program_in other
+
+-- ---- a program is its lines
+
+-- the number of the block with this label
+abbrev pub block_named : List BlockParts → Name → ℕ
+block_named blocks label = unwrap_or (position (λ block. label_is label block.label) blocks) 0
+
+-- the instruction of a line, if it says one; a jump is a branch to the block that its label names
+abbrev pub instruction_at : (Name → ℕ) → ℕ → Result (Option Name × Says) Cause → List Numbered
+instruction_at aim number (Ok (label, Does parts)) = record { parts = parts; line = number } ∷ []
+instruction_at aim number (Ok (label, Jumps parts target)) = record { parts = record parts { operands = Block (aim target) }; line = number } ∷ []
+instruction_at aim number _ = []
+
+-- the instructions of these lines in their order, the first line having this number
+abbrev pub instructions_in : (Name → ℕ) → ℕ → List (List ℕ) → List Numbered
+instructions_in aim number [] = []
+instructions_in aim number (line ∷ lines) = instruction_at aim number (line_of line) ++ instructions_in aim (number + 1) lines
+
+-- the instructions of blocks, one after the other
+abbrev pub instructions_of : List BlockParts → List Numbered
+instructions_of blocks = flat_map (λ block. block.insns) blocks
+
+-- the instructions of a text's program are those of its lines
+abbrev pub IsItsLines : List ℕ → Type 0
+IsItsLines text =
+    (blocks : List BlockParts) → program_in text ≡ Ok blocks → instructions_of blocks ≡ instructions_in (block_named blocks) 1 (lines_of text)
+
+-- the lines of a program's instructions rise
+abbrev pub HasRisingLines : List ℕ → Type 0
+HasRisingLines text =
+    (blocks : List BlockParts) → program_in text ≡ Ok blocks → IsStrictlyIncreasing (map (λ entry. entry.line) (instructions_of blocks))
+
+-- each instruction of a program is what the text's line of its number says
+abbrev pub ReadsAsItsLine : List ℕ → Type 0
+ReadsAsItsLine text =
+    (blocks : List BlockParts) (entry : Numbered) → program_in text ≡ Ok blocks → Contains (instructions_of blocks) entry
+    → (place : ℕ) × (line : List ℕ) × (entry.line ≡ place + 1) × (slice_get (lines_of text) place ≡ Some line)
+    × (instruction_at (block_named blocks) entry.line (line_of line) ≡ entry ∷ [])

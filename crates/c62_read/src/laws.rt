@@ -7,7 +7,7 @@ ghost use Rattle.c62_insn.specs.declared.register.Unit.{Unit as FunctionalUnit};
 ghost use Rattle.c62_insn.specs.declared.insn.Insn.{Insn};
 ghost use Rattle.c62_read.specs.Text.{begins, is_blank, tokens};
 ghost use Rattle.c62_read.specs.Line.{is_star};
-ghost use Rattle.c62_read.specs.Laws.{LineReadsBack, NumberReadsBack, RegisterReadsBack, IsReadable, StarSaysNothing, CommentSaysNothing, CommentsSayNothing};
+ghost use Rattle.c62_read.specs.Laws.{LineReadsBack, NumberReadsBack, RegisterReadsBack, IsReadable, StarSaysNothing, CommentSaysNothing, CommentsSayNothing, IsItsLines, HasRisingLines, ReadsAsItsLine};
 
 /// The tokens of a line are its bytes in their order, less blanks and what follows a `;`.
 pub fn tokens_are_the_bytes()
@@ -50,4 +50,21 @@ pub fn comments_change_no_line()
 /// A text reads as the text without its comments: as the same program, or with the same fault.
 pub fn comments_change_no_program()
     ensures { (text other : List ℕ) → CommentsSayNothing text other }
+{}
+
+/// The instructions of a program's blocks, one after the other, are what the lines of its text say,
+/// in their order and with the numbers of their lines. A branch to a label goes to the block that
+/// has it.
+pub fn a_program_is_its_lines()
+    ensures { (text : List ℕ) → IsItsLines text }
+{}
+
+/// The lines of a program's instructions rise, from block to block and within each.
+pub fn lines_rise()
+    ensures { (text : List ℕ) → HasRisingLines text }
+{}
+
+/// Each instruction of a program is what the line of its number says.
+pub fn instructions_read_as_their_lines()
+    ensures { (text : List ℕ) → ReadsAsItsLine text }
 {}
