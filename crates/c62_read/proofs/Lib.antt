@@ -23,3 +23,5 @@ pub mod SpelledLine
 pub mod CommentLaws
 pub mod SaysLemmas
 pub mod ProgramLaws
+pub mod CaseBytes
+pub mod CaseLaws

@@ -1,5 +1,6 @@
 -- Laws of lines: what is spelled reads back.
-use Rattle.std.specs.Prelude.{◌≡◌, ℕ, ◌+◌, ◌≤◌, ℤ, pos, ◌≤ℤ◌, List, [], ◌∷◌, ◌++◌, length, map, position, unwrap_or, slice_get, Contains, Option, Some, None, Result, Ok, IsTrue}
+use Rattle.std.specs.Prelude.{◌≡◌, ℕ, ◌+◌, ◌≤◌, ℤ, pos, ◌≤ℤ◌, List, [], ◌∷◌, ◌++◌, length, map, option_map, position, unwrap_or, slice_get, Contains, Option, Some, None, Result, Ok, Err, IsTrue}
+use Rattle.std.specs.Char.{to_ascii_lowercase}
 use Rattle.std.specs.Fmt.{signed_decimal}
 use Rattle.std.specs.List.{flat_map, list_all}
 use Rattle.std.specs.List.Sorted.{IsStrictlyIncreasing}
@@ -77,6 +78,32 @@ AreUncommented _ _ = ⊥
 abbrev pub CommentsSayNothing : List ℕ → List ℕ → Type 0
 CommentsSayNothing text other =
     length text ≤ most_bytes → length other ≤ most_bytes → AreUncommented (lines_of text) (lines_of other) → program_in text ≡ program_in other
+
+-- ---- case
+
+-- The other line is this one but for the case of letters, this byte standing before both. What stands behind a 0 is kept: the
+-- `x` of a hexadecimal number is a small letter.
+abbrev pub IsRecased : ℕ → List ℕ → List ℕ → Type 0
+IsRecased before [] [] = Unit {0}
+IsRecased before (b ∷ line) (c ∷ other) = (to_ascii_lowercase b ≡ to_ascii_lowercase c) × (before ≡ 48 → b ≡ c) × IsRecased b line other
+IsRecased before _ _ = ⊥
+
+-- what is said, with the labels in small letters
+abbrev pub in_small : Word → Word
+in_small label = map to_ascii_lowercase label
+
+abbrev pub small_says : Says → Says
+small_says (Jumps parts label) = Jumps parts (in_small label)
+small_says says = says
+
+abbrev pub small_labels : Result (Option Word × Says) Cause → Result (Option Word × Says) Cause
+small_labels (Ok (label, says)) = Ok (option_map in_small label, small_says says)
+small_labels (Err cause) = Err cause
+
+-- case says nothing but in labels, which keep theirs
+abbrev pub CaseSaysNothing : List ℕ → List ℕ → Type 0
+CaseSaysNothing line other =
+    (small_labels (line_of line) ≡ small_labels (line_of other)) × ((parts : Parts) → line_of line ≡ Ok (None, Does parts) → line_of other ≡ Ok (None, Does parts))
 
 -- ---- a program is its lines
 

@@ -7,7 +7,7 @@ ghost use Rattle.c62_insn.specs.declared.register.Unit.{Unit as FunctionalUnit};
 ghost use Rattle.c62_insn.specs.declared.insn.Insn.{Insn};
 ghost use Rattle.c62_read.specs.Text.{begins, is_blank, tokens};
 ghost use Rattle.c62_read.specs.Line.{is_star};
-ghost use Rattle.c62_read.specs.Laws.{LineReadsBack, NumberReadsBack, RegisterReadsBack, IsReadable, StarSaysNothing, CommentSaysNothing, CommentsSayNothing, IsItsLines, HasRisingLines, ReadsAsItsLine};
+ghost use Rattle.c62_read.specs.Laws.{LineReadsBack, NumberReadsBack, RegisterReadsBack, IsReadable, StarSaysNothing, CommentSaysNothing, CommentsSayNothing, CaseSaysNothing, IsRecased, IsItsLines, HasRisingLines, ReadsAsItsLine};
 
 /// The tokens of a line are its bytes in their order, less blanks and what follows a `;`.
 pub fn tokens_are_the_bytes()
@@ -50,6 +50,12 @@ pub fn comments_change_no_line()
 /// A text reads as the text without its comments: as the same program, or with the same fault.
 pub fn comments_change_no_program()
     ensures { (text other : List ℕ) → CommentsSayNothing text other }
+{}
+
+/// Case says nothing but in labels: two lines that are the same but for the case of letters have one
+/// fault, or say the same but for the case of their labels. Letters behind a `0` keep their case.
+pub fn case_says_nothing()
+    ensures { (line other : List ℕ) → IsRecased 32 line other → CaseSaysNothing line other }
 {}
 
 /// The instructions of a program's blocks, one after the other, are what the lines of its text say,
