@@ -25,3 +25,4 @@ pub mod SaysLemmas
 pub mod ProgramLaws
 pub mod CaseBytes
 pub mod CaseLaws
+pub mod CutLaws

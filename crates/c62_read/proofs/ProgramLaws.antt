@@ -26,21 +26,21 @@ use Rattle.c62_read.proofs.SaysLemmas.{IsProper, has_no_block, proper}
 
 -- ---- drafts with their targets put in
 
-abbrev aim_at : (Name → ℕ) → Option Name → ℕ
+abbrev pub aim_at : (Name → ℕ) → Option Name → ℕ
 aim_at aim None = 0
 aim_at aim (Some label) = aim label
 
-abbrev finished : (Name → ℕ) → Draft → List Numbered
+abbrev pub finished : (Name → ℕ) → Draft → List Numbered
 finished aim draft = map (aimed (aim_at aim draft.target)) draft.insns
 
 abbrev all_finished : (Name → ℕ) → List Draft → List Numbered
 all_finished aim drafts = flat_map (finished aim) drafts
 
 -- no instruction of the block that is open has a block for its operand
-abbrev is_free : List Numbered → Bool
+abbrev pub is_free : List Numbered → Bool
 is_free entries = list_all (λ entry. has_no_block entry.parts.operands) entries
 
-abbrev is_open_free : Option Draft → Bool
+abbrev pub is_open_free : Option Draft → Bool
 is_open_free None = true
 is_open_free (Some draft) = is_free draft.insns
 
@@ -55,12 +55,12 @@ free_operands number (Constant k d) free = refl
 free_operands number (Access reg base form offset) free = refl
 free_operands number (Register target) free = refl
 
-free_entry : (number : ℕ) (entry : Numbered) → has_no_block entry.parts.operands ≡ true → aimed number entry ≡ entry
+pub free_entry : (number : ℕ) (entry : Numbered) → has_no_block entry.parts.operands ≡ true → aimed number entry ≡ entry
 free_entry number entry free =
     ap (λ (operands : Operands). let made : Numbered = record { parts = record { op = entry.parts.op; operands = operands; cond = entry.parts.cond; unit = entry.parts.unit }; line = entry.line } in made)
     (free_operands number entry.parts.operands free)
 
-free_entries : (number : ℕ) (entries : List Numbered) → is_free entries ≡ true → map (aimed number) entries ≡ entries
+pub free_entries : (number : ℕ) (entries : List Numbered) → is_free entries ≡ true → map (aimed number) entries ≡ entries
 free_entries number [] free = refl
 free_entries number (entry ∷ entries) free =
     let parts = and_parts (has_no_block entry.parts.operands) (is_free entries) free in
@@ -73,13 +73,13 @@ record IsGathered (aim : Name → ℕ) (so_far : List Numbered) (drafts : Drafts
   pub free : is_open_free drafts.current ≡ true
 
 -- the parts of what a line says
-abbrev said_by : (Name → ℕ) → ℕ → Says → List Numbered
+abbrev pub said_by : (Name → ℕ) → ℕ → Says → List Numbered
 said_by aim number Nothing = []
 said_by aim number (Pause n) = []
 said_by aim number (Does parts) = record { parts = parts; line = number } ∷ []
 said_by aim number (Jumps parts target) = record { parts = record parts { operands = Block (aim target) }; line = number } ∷ []
 
-said_at : (aim : Name → ℕ) (number : ℕ) (label : Option Name) (says : Says) → instruction_at aim number (Ok (label, says)) ≡ said_by aim number says
+pub said_at : (aim : Name → ℕ) (number : ℕ) (label : Option Name) (says : Says) → instruction_at aim number (Ok (label, says)) ≡ said_by aim number says
 said_at aim number label Nothing = refl
 said_at aim number label (Pause n) = refl
 said_at aim number label (Does parts) = refl
@@ -99,11 +99,11 @@ open_is : (aim : Name → ℕ) (current : Option Draft) → is_open_free current
 open_is aim None free = refl
 open_is aim (Some draft) free = append-nil (finished aim draft) ∙ free_entries (aim_at aim draft.target) draft.insns free
 
-opened_free : (current : Option Draft) → is_open_free current ≡ true → is_free (opened current).insns ≡ true
+pub opened_free : (current : Option Draft) → is_open_free current ≡ true → is_free (opened current).insns ≡ true
 opened_free None free = refl
 opened_free (Some draft) free = free
 
-one_more : (entries : List Numbered) (entry : Numbered) → is_free entries ≡ true → has_no_block entry.parts.operands ≡ true → is_free (entries ++ entry ∷ []) ≡ true
+pub one_more : (entries : List Numbered) (entry : Numbered) → is_free entries ≡ true → has_no_block entry.parts.operands ≡ true → is_free (entries ++ entry ∷ []) ≡ true
 one_more entries entry free last =
     list_all-append (λ (e : Numbered). has_no_block e.parts.operands) entries (entry ∷ [])
     ∙ and_from (is_free entries) (has_no_block entry.parts.operands && true) free (and_from (has_no_block entry.parts.operands) true last refl)
@@ -113,7 +113,7 @@ closed_all aim true done draft =
     ap (all_finished aim) (append-nil (done ++ draft ∷ [])) ∙ flat_map-append (finished aim) done (draft ∷ []) ∙ ap (λ (es : List Numbered). all_finished aim done ++ es) (append-nil (finished aim draft))
 closed_all aim false done draft = flat_map-append (finished aim) done (draft ∷ []) ∙ ap (λ (es : List Numbered). all_finished aim done ++ es) (append-nil (finished aim draft))
 
-closed_free : (last : Bool) (done : List Draft) (draft : Draft) → (last ≡ false → is_free draft.insns ≡ true) → is_open_free (closed last done draft).current ≡ true
+pub closed_free : (last : Bool) (done : List Draft) (draft : Draft) → (last ≡ false → is_free draft.insns ≡ true) → is_open_free (closed last done draft).current ≡ true
 closed_free true done draft free = refl
 closed_free false done draft free = free refl
 
@@ -137,12 +137,12 @@ insn_gathered aim parts number target so_far drafts entry gathered is free =
       free = closed_free (is_branch parts.op) drafts.done draft (λ goes_on. one_more old here old_free (free goes_on))
     }
 
-jump_entry : (aim : Name → ℕ) (number : ℕ) (parts : Parts) (label : Name) → parts.operands ≡ Block 0
+pub jump_entry : (aim : Name → ℕ) (number : ℕ) (parts : Parts) (label : Name) → parts.operands ≡ Block 0
     → aimed (aim label) (record { parts = parts; line = number }) ≡ record { parts = record parts { operands = Block (aim label) }; line = number }
 jump_entry aim number parts label e =
     ap (λ (operands : Operands). let made : Numbered = record { parts = record { op = parts.op; operands = aimed_operands (aim label) operands; cond = parts.cond; unit = parts.unit }; line = number } in made) e
 
-branch_is : (op : Op) → op ≡ Branch → is_branch op ≡ true
+pub branch_is : (op : Op) → op ≡ Branch → is_branch op ≡ true
 branch_is op e = ap is_branch e
 
 says_gathered : (aim : Name → ℕ) (number : ℕ) (says : Says) (so_far : List Numbered) (drafts : Drafts) → IsProper says → IsGathered aim so_far drafts
@@ -216,7 +216,7 @@ pub position_block : (label : Name) (all drafts : List Draft)
     → position (λ block. label_is label block.label) (map (block_in all) drafts) ≡ position (λ draft. label_is label draft.label) drafts
 position_block label all drafts = rw (place_block label all drafts, length-map drafts (block_in all)) refl
 
-target_is : (all : List Draft) (target : Option Name) → target_number all target ≡ aim_at (block_named (map (block_in all) all)) target
+pub target_is : (all : List Draft) (target : Option Name) → target_number all target ≡ aim_at (block_named (map (block_in all) all)) target
 target_is all None = refl
 target_is all (Some label) = ap (λ (place : Option ℕ). unwrap_or place 0) (sym (position_block label all all))
 

@@ -1,5 +1,5 @@
 -- Laws of lines: what is spelled reads back.
-use Rattle.std.specs.Prelude.{◌≡◌, ℕ, ◌+◌, ◌≤◌, ℤ, pos, ◌≤ℤ◌, List, [], ◌∷◌, ◌++◌, length, map, option_map, position, unwrap_or, slice_get, Contains, Option, Some, None, Result, Ok, Err, IsTrue}
+use Rattle.std.specs.Prelude.{◌≡◌, ℕ, ◌+◌, ◌≤◌, nat_lt, Bool, true, false, ◌&&◌, ◌||◌, ℤ, pos, ◌≤ℤ◌, List, [], ◌∷◌, ◌++◌, length, map, option_map, position, unwrap_or, slice_get, Contains, Option, Some, None, is_some, Result, Ok, Err, IsTrue}
 use Rattle.std.specs.Char.{to_ascii_lowercase}
 use Rattle.std.specs.Fmt.{signed_decimal}
 use Rattle.std.specs.List.{flat_map, list_all}
@@ -15,8 +15,9 @@ use Rattle.c62_insn.specs.Takes.{takes}
 use Rattle.c62_read.specs.Text.{is_allowed, is_blank, lines_of}
 use Rattle.c62_read.specs.Number.{is_label, negative, number_of, register_of}
 use Rattle.c62_read.specs.Operand.{Word}
-use Rattle.c62_read.specs.Line.{Parts, Says, Nothing, Does, Jumps, line_of}
+use Rattle.c62_read.specs.Line.{Parts, Says, Nothing, Does, Jumps, is_branch, line_of}
 use Rattle.c62_read.specs.declared.fault.Cause.{Cause}
+use Rattle.c62_read.specs.Block.{branch_last}
 use Rattle.c62_read.specs.Program.{BlockParts, Name, Numbered, label_is, most_bytes, place_of, program_in}
 
 -- the decimal spelling of a number reads as it
@@ -142,3 +143,50 @@ ReadsAsItsLine text =
     (blocks : List BlockParts) (entry : Numbered) → program_in text ≡ Ok blocks → Contains (instructions_of blocks) entry
     → (place : ℕ) × (line : List ℕ) × (entry.line ≡ place + 1) × (slice_get (lines_of text) place ≡ Some line)
     × (instruction_at (block_named blocks) entry.line (line_of line) ≡ entry ∷ [])
+
+-- ---- blocks are cut by labels and branches
+
+-- a label, or an instruction
+pub data Item : Type 0 where
+  Begins : Name → Item
+  Runs : Numbered → Item
+
+abbrev pub label_items : Option Name → List Item
+label_items None = []
+label_items (Some label) = Begins label ∷ []
+
+abbrev pub items_of : BlockParts → List Item
+items_of block = label_items block.label ++ map (λ entry. Runs entry) block.insns
+
+abbrev pub items_at : (Name → ℕ) → ℕ → Result (Option Name × Says) Cause → List Item
+items_at aim number (Ok (label, says)) = label_items label ++ map (λ entry. Runs entry) (instruction_at aim number (Ok (label, says)))
+items_at aim number (Err cause) = []
+
+-- the labels and instructions of these lines in their order
+abbrev pub items_in : (Name → ℕ) → ℕ → List (List ℕ) → List Item
+items_in aim number [] = []
+items_in aim number (line ∷ lines) = items_at aim number (line_of line) ++ items_in aim (number + 1) lines
+
+abbrev pub ends_in_branch : List Numbered → Bool
+ends_in_branch [] = false
+ends_in_branch (entry ∷ []) = is_branch entry.parts.op
+ends_in_branch (entry ∷ next ∷ entries) = ends_in_branch (next ∷ entries)
+
+-- a block begins with a label, or with an instruction behind a branch
+abbrev pub may_begin : Bool → Option Name → List Numbered → Bool
+may_begin behind_branch label insns = is_some label || behind_branch && nat_lt 0 (length insns)
+
+-- Each block begins so, the start of a text standing for a branch before it.
+abbrev pub begin_well : Bool → List BlockParts → Bool
+begin_well behind_branch [] = true
+begin_well behind_branch (block ∷ blocks) = may_begin behind_branch block.label block.insns && begin_well (ends_in_branch block.insns) blocks
+
+-- The blocks of a text are its labels and instructions in their order, cut before each label and behind each branch, and
+-- nowhere else: a label stands at the front of a block, a branch at its end.
+pub record IsCut (text : List ℕ) (blocks : List BlockParts) : Type 0 where
+  pub items : flat_map items_of blocks ≡ items_in (block_named blocks) 1 (lines_of text)
+  pub begins : begin_well true blocks ≡ true
+  pub ends : list_all (λ block. branch_last (map (λ entry. entry.parts.op) block.insns)) blocks ≡ true
+
+abbrev pub HasCutBlocks : List ℕ → Type 0
+HasCutBlocks text = (blocks : List BlockParts) → program_in text ≡ Ok blocks → IsCut text blocks

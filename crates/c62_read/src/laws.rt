@@ -7,7 +7,7 @@ ghost use Rattle.c62_insn.specs.declared.register.Unit.{Unit as FunctionalUnit};
 ghost use Rattle.c62_insn.specs.declared.insn.Insn.{Insn};
 ghost use Rattle.c62_read.specs.Text.{begins, is_blank, tokens};
 ghost use Rattle.c62_read.specs.Line.{is_star};
-ghost use Rattle.c62_read.specs.Laws.{LineReadsBack, NumberReadsBack, RegisterReadsBack, IsReadable, StarSaysNothing, CommentSaysNothing, CommentsSayNothing, CaseSaysNothing, IsRecased, IsItsLines, HasRisingLines, ReadsAsItsLine};
+ghost use Rattle.c62_read.specs.Laws.{LineReadsBack, NumberReadsBack, RegisterReadsBack, IsReadable, StarSaysNothing, CommentSaysNothing, CommentsSayNothing, CaseSaysNothing, IsRecased, IsItsLines, HasRisingLines, ReadsAsItsLine, HasCutBlocks};
 
 /// The tokens of a line are its bytes in their order, less blanks and what follows a `;`.
 pub fn tokens_are_the_bytes()
@@ -73,4 +73,10 @@ pub fn lines_rise()
 /// Each instruction of a program is what the line of its number says.
 pub fn instructions_read_as_their_lines()
     ensures { (text : List ℕ) → ReadsAsItsLine text }
+{}
+
+/// The blocks of a program are the labels and instructions of its text in their order, cut before
+/// each label and behind each branch and nowhere else.
+pub fn blocks_are_cut_by_labels_and_branches()
+    ensures { (text : List ℕ) → HasCutBlocks text }
 {}
