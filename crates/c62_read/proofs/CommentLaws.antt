@@ -49,11 +49,11 @@ unfolding label_front
 star_front [] = refl
 star_front (colon ∷ words) = let none : (spells (codes ":") colon && is_label (42 ∷ [])) ≡ false = and_right (spells (codes ":") colon) (is_label (42 ∷ [])) star_label in rw none refl
 
-star_is : (line : List ℕ) → begins is_star line ≡ true → (rest : List ℕ) × (line ≡ 42 ∷ rest)
+pub star_is : (line : List ℕ) → begins is_star line ≡ true → (rest : List ℕ) × (line ≡ 42 ∷ rest)
 star_is [] star = absurd cc
 star_is (b ∷ rest) star = (rest, ap (λ (c : ℕ). c ∷ rest) (eqb-true b 42 star))
 
-star_place : (rest : List ℕ) → place_of (42 ∷ rest) ≡ None
+pub star_place : (rest : List ℕ) → place_of (42 ∷ rest) ≡ None
 unfolding place_of
 star_place rest = ap (λ (words : List Word). (label_front words).0) (mark_alone 42 rest refl) ∙ star_front (tokens rest)
 

@@ -26,3 +26,4 @@ pub mod ProgramLaws
 pub mod CaseBytes
 pub mod CaseLaws
 pub mod CutLaws
+pub mod TargetLaws

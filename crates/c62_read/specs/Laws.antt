@@ -132,6 +132,13 @@ abbrev pub IsItsLines : List ℕ → Type 0
 IsItsLines text =
     (blocks : List BlockParts) → program_in text ≡ Ok blocks → instructions_of blocks ≡ instructions_in (block_named blocks) 1 (lines_of text)
 
+-- each label that a line of a program jumps to is a block's
+abbrev pub HasTargets : List ℕ → Type 0
+HasTargets text =
+    (blocks : List BlockParts) (line : List ℕ) (label : Option Name) (parts : Parts) (target : Name) → program_in text ≡ Ok blocks
+    → Contains (lines_of text) line → line_of line ≡ Ok (label, Jumps parts target)
+    → (number : ℕ) × (position (λ block. label_is target block.label) blocks ≡ Some number)
+
 -- the lines of a program's instructions rise
 abbrev pub HasRisingLines : List ℕ → Type 0
 HasRisingLines text =

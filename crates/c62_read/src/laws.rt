@@ -7,7 +7,7 @@ ghost use Rattle.c62_insn.specs.declared.register.Unit.{Unit as FunctionalUnit};
 ghost use Rattle.c62_insn.specs.declared.insn.Insn.{Insn};
 ghost use Rattle.c62_read.specs.Text.{begins, is_blank, tokens};
 ghost use Rattle.c62_read.specs.Line.{is_star};
-ghost use Rattle.c62_read.specs.Laws.{LineReadsBack, NumberReadsBack, RegisterReadsBack, IsReadable, StarSaysNothing, CommentSaysNothing, CommentsSayNothing, CaseSaysNothing, IsRecased, IsItsLines, HasRisingLines, ReadsAsItsLine, HasCutBlocks};
+ghost use Rattle.c62_read.specs.Laws.{LineReadsBack, NumberReadsBack, RegisterReadsBack, IsReadable, StarSaysNothing, CommentSaysNothing, CommentsSayNothing, CaseSaysNothing, IsRecased, IsItsLines, HasTargets, HasRisingLines, ReadsAsItsLine, HasCutBlocks};
 
 /// The tokens of a line are its bytes in their order, less blanks and what follows a `;`.
 pub fn tokens_are_the_bytes()
@@ -63,6 +63,11 @@ pub fn case_says_nothing()
 /// has it.
 pub fn a_program_is_its_lines()
     ensures { (text : List ℕ) → IsItsLines text }
+{}
+
+/// Each label that a line of a program branches to is the label of one of its blocks.
+pub fn branches_have_targets()
+    ensures { (text : List ℕ) → HasTargets text }
 {}
 
 /// The lines of a program's instructions rise, from block to block and within each.
