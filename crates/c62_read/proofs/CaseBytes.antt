@@ -1,17 +1,15 @@
 -- Words that are the same but for the case of their letters spell the same.
-use Rattle.std.proofs.Common.{◌≡◌, ℕ, ◌+◌, ◌-◌, ◌*◌, ◌<◌, ◌≤◌, ◌⊎◌, Bool, true, false, not, cond, eqb, ltb, leb, ◌&&◌, ◌||◌, List, [], ◌∷◌, ◌++◌, length, drop, Option, Some, None, refl, sym, ap, subst, ◌∙◌, arith, inl, inr}
-use Rattle.std.specs.Prelude.{ℤ, pos, map, option_map, option_and_then, is_some, codes}
+use Rattle.std.proofs.Common.{◌≡◌, ℕ, ◌+◌, ◌-◌, ◌*◌, ◌<◌, ◌≤◌, ◌⊎◌, Bool, true, false, not, cond, eqb, ltb, ◌&&◌, ◌||◌, List, [], ◌∷◌, length, drop, Option, None, refl, sym, ap, ◌∙◌, arith, inl, inr}
+use Rattle.std.specs.Prelude.{map, option_and_then, codes}
 use Rattle.std.specs.Char.{digit_value, to_ascii_lowercase, is_ascii_digit}
 use Rattle.std.specs.List.{list_all, starts_with}
 use Rattle.std.specs.Str.{bytes_eq}
-use Rattle.std.specs.Str.Parse.{digits_value, digits_value_after}
-use Rattle.std.proofs.lemmas.Bool.{agree_below, agree_below_at, and_from, and_parts, cases_Bool, cases_lt, eqb-true, le-ltb, lt-ltb}
+use Rattle.std.specs.Str.Parse.{digits_value_after}
+use Rattle.std.proofs.lemmas.Bool.{agree_below, agree_below_at, cases_lt, eqb-true, le-ltb, lt-ltb}
 use Rattle.std.proofs.lemmas.Bool.Decides.{nat_tests}
 use Rattle.c62_insn.specs.declared.register.Side.{Side}
-use Rattle.c62_insn.specs.declared.register.Reg.{Reg}
-use Rattle.c62_insn.specs.declared.register.Letter.{Letter}
 use Rattle.c62_read.specs.Text.{begins, is_allowed, is_blank, is_solid, is_sign, is_word_byte, is_double, joins}
-use Rattle.c62_read.specs.Number.{are_digits, decimal_of, file_of, hexadecimal_of, in_file, in_range, is_label, magnitude_of, negative, number_of, register_of, signed_of, spells}
+use Rattle.c62_read.specs.Number.{are_digits, decimal_of, file_of, hexadecimal_of, in_file, in_range, is_label, magnitude_of, number_of, register_of, signed_of, spells}
 use Rattle.c62_read.specs.Laws.{IsRecased}
 use mathlib.Core.Bool.{beq}
 

@@ -1,9 +1,8 @@
 -- Case changes nothing but labels.
-use Rattle.std.proofs.Common.{◌≡◌, ℕ, ◌≤◌, Bool, true, false, not, cond, eqb, ltb, leb, ◌&&◌, ◌||◌, List, [], ◌∷◌, length, Option, Some, None, Result, Ok, Err, refl, sym, ap, subst, ◌∙◌, arith, inl, inr}
-use Rattle.std.specs.Prelude.{ℤ, map, option_map, option_and_then, codes}
-use Rattle.std.specs.Char.{to_ascii_lowercase, is_ascii_digit}
-use Rattle.std.specs.List.{find, list_all, list_any}
-use Rattle.std.specs.Str.{bytes_eq}
+use Rattle.std.proofs.Common.{◌≡◌, ℕ, Bool, true, false, cond, eqb, ltb, ◌&&◌, ◌||◌, List, [], ◌∷◌, length, Option, Some, None, Result, Ok, Err, refl, sym, ap, subst, ◌∙◌, arith, inl, inr}
+use Rattle.std.specs.Prelude.{option_map, option_and_then, codes}
+use Rattle.std.specs.Char.{is_ascii_digit}
+use Rattle.std.specs.List.{find, list_all}
 use Rattle.std.proofs.lemmas.Bool.{cases_Bool}
 use Rattle.c62_insn.specs.declared.register.Side.{Side}
 use Rattle.c62_insn.specs.declared.register.Reg.{Reg}
@@ -12,29 +11,25 @@ use Rattle.c62_insn.specs.declared.register.Letter.{Letter}
 use Rattle.c62_insn.specs.declared.operands.Op.{Op}
 use Rattle.c62_insn.specs.declared.operands.Op.TheVariants.{B as Branch}
 use Rattle.c62_insn.specs.declared.operands.AddressForm.{AddressForm}
-use Rattle.c62_insn.specs.declared.operands.AddressForm.TheVariants.{Plus}
 use Rattle.c62_insn.specs.declared.operands.Offset.{Offset}
-use Rattle.c62_insn.specs.declared.operands.Offset.TheVariants.{Constant as ByConstant}
 use Rattle.c62_insn.specs.declared.operands.Operands.{Operands}
 use Rattle.c62_insn.specs.declared.operands.Operands.TheVariants.{Block}
 use Rattle.c62_insn.specs.declared.fault.FormFault.{FormFault}
 use Rattle.c62_insn.specs.Spelling.{mnemonic_of}
 use Rattle.c62_read.specs.declared.fault.Cause.{Cause}
-use Rattle.c62_read.specs.declared.fault.Cause.TheVariants.{NotAscii, LineTooLong, BadLabel, UnknownMnemonic, BadUnit, BadOperand, ParallelBar, Directive}
+use Rattle.c62_read.specs.declared.fault.Cause.TheVariants.{NotAscii, LineTooLong, BadLabel, BadUnit, ParallelBar, Directive}
 use Rattle.c62_read.specs.declared.mnemonic.Mnemonic.{Mnemonic}
 use Rattle.c62_read.specs.declared.mnemonic.Mnemonic.TheVariants.{Operation, Mv, Neg, Not, Zero, Mvkl, Mvkh, Nop}
 use Rattle.c62_read.specs.declared.operand.Address.{Address}
-use Rattle.c62_read.specs.declared.operand.Source.{Source}
-use Rattle.c62_read.specs.declared.operand.Source.TheVariants.{Constant as FromConstant}
 use Rattle.c62_read.specs.declared.unit.Mark.{Mark}
 use Rattle.c62_read.specs.declared.unit.Mark.TheVariants.{Plain, Cross, Path}
 use Rattle.c62_read.specs.declared.unit.WrittenUnit.{WrittenUnit}
 use Rattle.c62_read.specs.Text.{grow, put_back, begins, is_allowed, is_blank, is_solid, is_double, joins, tokens}
-use Rattle.c62_read.specs.Number.{is_label, number_of, register_of, spells}
-use Rattle.c62_read.specs.Operand.{Word, access, address_by, address_of, before_sources, bracketed, loaded_of, nothing_behind, offset_of, operands_from, operands_of, plain_of, register_behind, register_offset, register_source, sign_form, signed_address, source_of, sources_of, step_form, stepped_address, stepped_by, stored_of, usual_address, with_offset}
-use Rattle.c62_read.specs.Mnemonic.{all_operations, either_mnemonic, mnemonic_named, operation_named, pseudo_named}
+use Rattle.c62_read.specs.Number.{is_label, register_of, spells}
+use Rattle.c62_read.specs.Operand.{Word, address_by, address_of, bracketed, loaded_of, nothing_behind, offset_of, operands_from, operands_of, plain_of, register_behind, sign_form, signed_address, source_of, sources_of, step_form, stepped_address, stepped_by, stored_of, usual_address, with_offset}
+use Rattle.c62_read.specs.Mnemonic.{all_operations, mnemonic_named, operation_named, pseudo_named}
 use Rattle.c62_read.specs.Unit.{is_dot, is_t, is_x, letter_of, mark_of, side_numbered, unit_fits, unit_front, unit_of, unit_split, with_left}
-use Rattle.c62_read.specs.Line.{Parts, Says, Nothing, Pause, Does, Jumps, behind_unit, bracketed_condition, closed_condition, condition_front, conditional, cycles_of, does, first_begins, formed, has_colon, head_of, instruction_of, is_bars, is_branch, is_star, is_storing, jumps, jumps_or_does, label_alone, label_front, line_of, operands_written, parts_read, pause_of, rest_says, target_of, text_fault, with_condition, with_head, with_mnemonic, with_rest, with_unit, without_colon}
+use Rattle.c62_read.specs.Line.{Parts, Says, Nothing, Pause, Does, Jumps, behind_unit, bracketed_condition, closed_condition, condition_front, conditional, cycles_of, does, first_begins, formed, has_colon, head_of, instruction_of, is_bars, is_branch, is_star, is_storing, jumps_or_does, label_alone, label_front, line_of, operands_written, parts_read, pause_of, rest_says, target_of, text_fault, with_condition, with_head, with_mnemonic, with_rest, with_unit, without_colon}
 use Rattle.c62_read.specs.Laws.{CaseSaysNothing, IsRecased, in_small, small_labels, small_says}
 use Rattle.c62_read.proofs.ColonLemmas.{begins_with}
 use Rattle.c62_read.proofs.TokenLemmas.{joined_word, tokens_alone, tokens_blank, tokens_comment, tokens_double, tokens_joined, tokens_last, word_solid}
@@ -306,8 +301,15 @@ operation_same w v same = find_same w v same all_operations
 pseudo_same : (w v : Word) → IsRecasedWord w v → pseudo_named w ≡ pseudo_named v
 unfolding pseudo_named
 pseudo_same w v same =
-    rw (spells_same (codes "MV") w v same, spells_same (codes "NEG") w v same, spells_same (codes "NOT") w v same, spells_same (codes "ZERO") w v same,
-    spells_same (codes "MVKL") w v same, spells_same (codes "MVKH") w v same, spells_same (codes "NOP") w v same) refl
+    rw (
+      spells_same (codes "MV") w v same,
+      spells_same (codes "NEG") w v same,
+      spells_same (codes "NOT") w v same,
+      spells_same (codes "ZERO") w v same,
+      spells_same (codes "MVKL") w v same,
+      spells_same (codes "MVKH") w v same,
+      spells_same (codes "NOP") w v same,
+    ) refl
 
 mnemonic_same : (w v : Word) → IsRecasedWord w v → mnemonic_named w ≡ mnemonic_named v
 unfolding mnemonic_named
@@ -316,8 +318,12 @@ mnemonic_same w v same = rw (operation_same w v same, pseudo_same w v same) refl
 letter_same : (b c : ℕ) → Same b c → letter_of b ≡ letter_of c
 unfolding letter_of
 letter_same b c same =
-    rw (test_same (λ x. eqb x 76 || eqb x 108) refl b c same, test_same (λ x. eqb x 83 || eqb x 115) refl b c same, test_same (λ x. eqb x 77 || eqb x 109) refl b c same,
-    test_same (λ x. eqb x 68 || eqb x 100) refl b c same) refl
+    rw (
+      test_same (λ x. eqb x 76 || eqb x 108) refl b c same,
+      test_same (λ x. eqb x 83 || eqb x 115) refl b c same,
+      test_same (λ x. eqb x 77 || eqb x 109) refl b c same,
+      test_same (λ x. eqb x 68 || eqb x 100) refl b c same,
+    ) refl
 
 side_same : (b c : ℕ) → Same b c → side_numbered b ≡ side_numbered c
 unfolding side_numbered

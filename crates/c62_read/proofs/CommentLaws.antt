@@ -1,8 +1,7 @@
 -- Comments change neither a line nor a program.
-use Rattle.std.proofs.Common.{◌≡◌, ℕ, ◌+◌, ◌≤◌, Bool, true, false, not, cond, eqb, ltb, ◌&&◌, List, [], ◌∷◌, ◌++◌, length, Option, Some, None, Result, Ok, Err, refl, sym, ap, subst, ◌∙◌, arith, length-append}
-use Rattle.std.specs.Prelude.{map, codes, IsTrue}
+use Rattle.std.proofs.Common.{◌≡◌, ℕ, ◌+◌, ◌≤◌, Bool, true, false, cond, ◌&&◌, List, [], ◌∷◌, ◌++◌, length, Option, None, Result, Ok, Err, refl, sym, ap, subst, ◌∙◌, arith, length-append}
+use Rattle.std.specs.Prelude.{codes, IsTrue}
 use Rattle.std.specs.List.{list_all}
-use Rattle.std.specs.Option.{option_to_list}
 use Rattle.std.proofs.lemmas.Bool.{and_parts, and_right, eqb-true, le-ltb}
 use Rattle.std.proofs.lemmas.List.Folds.{list_all-append}
 use Rattle.c62_read.specs.declared.fault.Cause.{Cause}
@@ -10,8 +9,8 @@ use Rattle.c62_read.specs.declared.fault.Cause.TheVariants.{ParallelBar}
 use Rattle.c62_read.specs.Text.{begins, is_allowed, lines_of, tokens}
 use Rattle.c62_read.specs.Number.{is_label, spells}
 use Rattle.c62_read.specs.Operand.{Word}
-use Rattle.c62_read.specs.Line.{Says, Nothing, head_of, instruction_of, is_bars, is_star, condition_front, label_front, line_of, rest_says, with_head, without_colon}
-use Rattle.c62_read.specs.Program.{BlockParts, Draft, Drafts, Name, Refusal, add_head, add_line, add_lines, all_drafts, and_then, at_line, block_in, drafts_in, labels_of, no_drafts, place_of, program_in}
+use Rattle.c62_read.specs.Line.{Nothing, head_of, instruction_of, is_bars, is_star, condition_front, label_front, line_of, rest_says, with_head, without_colon}
+use Rattle.c62_read.specs.Program.{Drafts, Name, Refusal, add_head, add_line, add_lines, and_then, at_line, drafts_in, labels_of, no_drafts, place_of, program_in}
 use Rattle.c62_read.specs.Laws.{AreUncommented, Behind, CommentSaysNothing, CommentsSayNothing, IsReadable, IsUncommented, Same, StarSaysNothing, Whole}
 use Rattle.c62_read.proofs.CommentLemmas.{tokens-comment}
 use Rattle.c62_read.proofs.SpelledTokens.{mark_alone}
@@ -129,8 +128,12 @@ alike_lines labels number (line ∷ lines) [] drafts alike = absurd alike
 pub alike_programs : (text other : List ℕ) → length text ≤ 1048576 → length other ≤ 1048576 → AreAlike (lines_of text) (lines_of other) → program_in text ≡ program_in other
 unfolding program_in drafts_in
 alike_programs text other short few alike =
-    rw (le-ltb 1048576 (length text) short, le-ltb 1048576 (length other) few, alike_labels (lines_of text) (lines_of other) alike,
-    alike_lines (labels_of (lines_of other)) 1 (lines_of text) (lines_of other) no_drafts alike) refl
+    rw (
+      le-ltb 1048576 (length text) short,
+      le-ltb 1048576 (length other) few,
+      alike_labels (lines_of text) (lines_of other) alike,
+      alike_lines (labels_of (lines_of other)) 1 (lines_of text) (lines_of other) no_drafts alike,
+    ) refl
 
 empty_head : head_of [] ≡ Ok (None, [])
 unfolding head_of label_front

@@ -1,24 +1,22 @@
 -- Blocks are cut by labels and branches.
-use Rattle.std.proofs.Common.{◌≡◌, ℕ, ◌+◌, ◌<◌, ◌≤◌, Bool, true, false, not, cond, leb, ltb, ◌&&◌, ◌||◌, List, [], ◌∷◌, ◌++◌, length, Option, Some, None, Result, Ok, Err, refl, sym, ap, subst, ◌∙◌, arith, append_assoc, append-nil, length-append}
-use Rattle.std.specs.Prelude.{map, is_some, position, unwrap_or}
+use Rattle.std.proofs.Common.{◌≡◌, ℕ, ◌+◌, Bool, true, false, leb, ltb, ◌&&◌, List, [], ◌∷◌, ◌++◌, length, Option, Some, None, Result, Ok, Err, refl, sym, ap, subst, ◌∙◌, arith, append_assoc, append-nil, length-append}
+use Rattle.std.specs.Prelude.{map}
 use Rattle.std.specs.List.{flat_map, list_all}
 use Rattle.std.specs.Option.{option_to_list}
-use Rattle.std.proofs.lemmas.Bool.{and_from, and_parts, lt-ltb, or_left, or_right}
+use Rattle.std.proofs.lemmas.Bool.{and_from, and_parts, lt-ltb}
 use Rattle.std.proofs.lemmas.List.{length-map, map-append}
 use Rattle.std.proofs.lemmas.List.Concat.{flat_map-append}
 use Rattle.c62_insn.specs.declared.operands.Op.{Op}
-use Rattle.c62_insn.specs.declared.operands.Operands.{Operands}
 use Rattle.c62_insn.specs.declared.operands.Operands.TheVariants.{Block}
 use Rattle.c62_read.specs.declared.fault.Cause.{Cause}
 use Rattle.c62_read.specs.Text.{lines_of}
-use Rattle.c62_read.specs.Operand.{Word}
 use Rattle.c62_read.specs.Block.{branch_last}
 use Rattle.c62_read.specs.Line.{Parts, Says, Nothing, Pause, Does, Jumps, is_branch, line_of}
-use Rattle.c62_read.specs.Program.{BlockParts, Draft, Drafts, Name, Numbered, add_line, add_lines, aimed, all_drafts, and_then, at_line, block_in, closed, draft_operations, is_whole, labels_of, no_drafts, opened, program_in, target_number, with_insn, with_label, with_says}
-use Rattle.c62_read.specs.Laws.{Begins, HasCutBlocks, IsCut, Item, Runs, begin_well, block_named, ends_in_branch, instruction_at, items_at, items_in, items_of, label_items, may_begin}
+use Rattle.c62_read.specs.Program.{BlockParts, Draft, Drafts, Name, Numbered, add_line, add_lines, aimed, all_drafts, and_then, at_line, block_in, closed, draft_operations, is_whole, labels_of, no_drafts, opened, target_number, with_insn, with_label, with_says}
+use Rattle.c62_read.specs.Laws.{Begins, HasCutBlocks, IsCut, Item, Runs, begin_well, block_named, ends_in_branch, items_at, items_in, items_of, label_items, may_begin}
 use Rattle.c62_read.proofs.AddedLemmas.{IsAdded, added_is, kept}
 use Rattle.c62_read.proofs.HeadLemmas.{line_by_head}
-use Rattle.c62_read.proofs.ProgramLaws.{aim_at, branch_is, closed_free, free_entries, free_entry, is_free, is_open_free, jump_entry, one_more, opened_free, program_drafts, said_at, said_by, target_is}
+use Rattle.c62_read.proofs.ProgramLaws.{aim_at, branch_is, closed_free, free_entries, free_entry, is_open_free, jump_entry, one_more, opened_free, program_drafts, said_at, said_by, target_is}
 use Rattle.c62_read.proofs.SaysLemmas.{IsProper, has_no_block, proper}
 use Rattle.c62_read.proofs.SoundLemmas.{whole_blocks}
 
@@ -43,7 +41,7 @@ label_added aim (Some label) so_far drafts items =
     record {
       all = flat_map-append (draft_items aim) (all_drafts drafts) (record { label = Some label; insns = []; target = None } ∷ [])
           ∙ ap (λ (is : List Item). is ++ Begins label ∷ []) items.all;
-      free = refl
+      free = refl;
     }
 
 -- the open block, whose instructions need no target
@@ -79,7 +77,7 @@ insn_added aim parts number target so_far drafts entry items is free =
     record {
       all = closed_items aim (is_branch parts.op) drafts.done draft ∙ ap (λ (is : List Item). all_items aim drafts.done ++ is) last
           ∙ sym (append_assoc (all_items aim drafts.done) (label ++ running old) (Runs entry ∷ [])) ∙ ap (λ (is : List Item). is ++ Runs entry ∷ []) before;
-      free = closed_free (is_branch parts.op) drafts.done draft (λ goes_on. one_more old here old_free (free goes_on))
+      free = closed_free (is_branch parts.op) drafts.done draft (λ goes_on. one_more old here old_free (free goes_on));
     }
 
 says_added : (aim : Name → ℕ) (number : ℕ) (says : Says) (so_far : List Item) (drafts : Drafts) → IsProper says → AreItems aim so_far drafts
@@ -259,5 +257,5 @@ has_cut_blocks text blocks e =
     (record {
       items = block_items all all ∙ items.all;
       begins = blocks_begin all all true ∙ all_begin (labels_of (lines_of text)) (lines_of text) drafts made.1;
-      ends = blocks_end all all (whole_blocks (labels_of (lines_of text)) (lines_of text) drafts made.1)
+      ends = blocks_end all all (whole_blocks (labels_of (lines_of text)) (lines_of text) drafts made.1);
     })

@@ -1,15 +1,14 @@
 -- Lines without a label.
-use Rattle.std.proofs.Common.{◌≡◌, ℕ, ◌≤◌, Bool, true, false, not, cond, eqb, ltb, ◌&&◌, ◌||◌, List, [], ◌∷◌, ◌++◌, length, Option, Some, None, Result, Ok, Err, refl, sym, ap, ◌∙◌, arith}
+use Rattle.std.proofs.Common.{◌≡◌, ℕ, ◌≤◌, Bool, true, false, not, eqb, List, [], ◌∷◌, length, Option, None, Ok, refl, ◌∙◌, arith}
 use Rattle.std.specs.Prelude.{take_while, codes}
 use Rattle.std.specs.List.{list_all, list_any}
-use Rattle.std.proofs.lemmas.Bool.{and_from, and_left, and_parts, le-ltb, or_parts}
+use Rattle.std.proofs.lemmas.Bool.{and_from, and_parts, le-ltb, or_parts}
 use Rattle.std.proofs.lemmas.Bool.Decides.{nat_tests}
 use Rattle.std.proofs.lemmas.List.Sums.{take_while-cons}
-use Rattle.c62_read.specs.declared.fault.Cause.{Cause}
 use Rattle.c62_read.specs.Text.{begins, is_allowed, tokens}
-use Rattle.c62_read.specs.Number.{is_label, spells}
+use Rattle.c62_read.specs.Number.{spells}
 use Rattle.c62_read.specs.Operand.{Word}
-use Rattle.c62_read.specs.Line.{Says, has_colon, head_of, is_bars, is_star, label_front, line_of, rest_says, with_head, with_rest, without_colon}
+use Rattle.c62_read.specs.Line.{Says, has_colon, head_of, is_bars, is_star, label_front, line_of, rest_says}
 use Rattle.c62_read.proofs.ColonLemmas.{colons}
 use Rattle.c62_read.proofs.SpelledTokens.{is_text}
 

@@ -1,10 +1,10 @@
 -- The instructions of a program are those of its lines.
-use Rattle.std.proofs.Common.{◌≡◌, ℕ, zero, suc, ◌+◌, ◌<◌, ◌≤◌, ◌⊎◌, Bool, true, false, not, cond, ltb, ◌&&◌, List, [], ◌∷◌, ◌++◌, length, get_or, Option, Some, None, Result, Ok, Err, refl, sym, ap, subst, ◌∙◌, arith, append_assoc, append-nil, inl, inr}
+use Rattle.std.proofs.Common.{◌≡◌, ℕ, zero, suc, ◌+◌, ◌<◌, ◌≤◌, Bool, true, false, cond, ltb, ◌&&◌, List, [], ◌∷◌, ◌++◌, length, get_or, Option, Some, None, Result, Ok, Err, refl, sym, ap, subst, ◌∙◌, arith, append_assoc, append-nil, inl, inr}
 use Rattle.std.specs.Prelude.{map, position, unwrap_or, slice_get, Contains}
 use Rattle.std.specs.List.{flat_map, list_all, position_or_len}
 use Rattle.std.specs.List.Sorted.{IsStrictlyIncreasing}
 use Rattle.std.specs.Option.{option_to_list}
-use Rattle.std.proofs.lemmas.Bool.{and_from, and_parts, cases_lt, le-ltb, lt-ltb}
+use Rattle.std.proofs.lemmas.Bool.{and_from, and_parts}
 use Rattle.std.proofs.lemmas.List.{length-map, map-append}
 use Rattle.std.proofs.lemmas.List.Concat.{flat_map-append}
 use Rattle.std.proofs.lemmas.List.Elements.{Contains-append_cases}
@@ -16,7 +16,6 @@ use Rattle.c62_insn.specs.declared.operands.Operands.TheVariants.{Three, Constan
 use Rattle.c62_read.specs.declared.fault.Cause.{Cause}
 use Rattle.c62_read.specs.declared.fault.Cause.TheVariants.{TextTooLong}
 use Rattle.c62_read.specs.Text.{lines_of}
-use Rattle.c62_read.specs.Operand.{Word}
 use Rattle.c62_read.specs.Line.{Parts, Says, Nothing, Pause, Does, Jumps, is_branch, line_of}
 use Rattle.c62_read.specs.Program.{BlockParts, Draft, Drafts, Name, Numbered, Refusal, add_line, add_lines, aimed, aimed_operands, all_drafts, and_then, at_line, block_in, closed, drafts_in, label_is, labels_of, no_drafts, opened, program_in, target_number, with_insn, with_label, with_says}
 use Rattle.c62_read.specs.Laws.{HasRisingLines, IsItsLines, ReadsAsItsLine, block_named, instruction_at, instructions_in, instructions_of}
@@ -134,7 +133,7 @@ insn_gathered aim parts number target so_far drafts entry gathered is free =
     record {
       all = closed_all aim (is_branch parts.op) drafts.done draft ∙ ap (λ (es : List Numbered). all_finished aim drafts.done ++ es) last
           ∙ sym (append_assoc (all_finished aim drafts.done) old (entry ∷ [])) ∙ ap (λ (es : List Numbered). es ++ entry ∷ []) before;
-      free = closed_free (is_branch parts.op) drafts.done draft (λ goes_on. one_more old here old_free (free goes_on))
+      free = closed_free (is_branch parts.op) drafts.done draft (λ goes_on. one_more old here old_free (free goes_on));
     }
 
 pub jump_entry : (aim : Name → ℕ) (number : ℕ) (parts : Parts) (label : Name) → parts.operands ≡ Block 0

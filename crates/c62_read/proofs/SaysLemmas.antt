@@ -1,5 +1,5 @@
 -- What lines may say: no instruction but a jump has a block for its operand.
-use Rattle.std.proofs.Common.{◌≡◌, ℕ, Bool, true, false, not, cond, leb, eqb, ◌&&◌, List, [], ◌∷◌, Option, Some, None, Result, Ok, Err, refl, subst}
+use Rattle.std.proofs.Common.{◌≡◌, Bool, true, false, not, cond, leb, ◌&&◌, List, [], ◌∷◌, Option, Some, None, Result, Ok, Err, refl, subst}
 use Rattle.std.specs.Prelude.{ℤ, pos, negsuc, option_map, option_and_then, codes}
 use Rattle.std.proofs.lemmas.Bool.{cond_both}
 use Rattle.c62_insn.specs.declared.register.Reg.{Reg}
@@ -14,7 +14,7 @@ use Rattle.c62_insn.specs.declared.fault.FormFault.{FormFault}
 use Rattle.c62_insn.specs.Fault.{has_kind}
 use Rattle.c62_insn.specs.Takes.{same_side}
 use Rattle.c62_read.specs.declared.fault.Cause.{Cause}
-use Rattle.c62_read.specs.declared.fault.Cause.TheVariants.{BadLabel, UnknownMnemonic, BadUnit, BadOperand, Form, Directive}
+use Rattle.c62_read.specs.declared.fault.Cause.TheVariants.{BadUnit, BadOperand, Directive}
 use Rattle.c62_read.specs.declared.mnemonic.Mnemonic.{Mnemonic}
 use Rattle.c62_read.specs.declared.mnemonic.Mnemonic.TheVariants.{Operation, Mv, Neg, Not, Zero, Mvkl, Mvkh, Nop}
 use Rattle.c62_read.specs.declared.operand.Address.{Address}
@@ -25,7 +25,7 @@ use Rattle.c62_read.specs.Number.{number_of, register_of, spells}
 use Rattle.c62_read.specs.Operand.{Word, access, address_of, loaded_of, nothing_behind, operands_from, operands_of, plain_of, register_behind, sources_of, stored_of}
 use Rattle.c62_read.specs.Mnemonic.{constant_to_front, crossed_to_back, exchanged, in_order, mnemonic_named, read_as, with_kind, zero_in}
 use Rattle.c62_read.specs.Unit.{is_dot, unit_fits, unit_front}
-use Rattle.c62_read.specs.Line.{Parts, Says, Nothing, Pause, Does, Jumps, behind_unit, condition_front, cycles_of, does, first_begins, formed, instruction_of, jumps, jumps_or_does, letter_written, operands_written, parts_read, pause_of, rest_says, target_of, text_fault, with_condition, with_mnemonic, with_unit, is_storing}
+use Rattle.c62_read.specs.Line.{Says, Pause, Does, Jumps, behind_unit, condition_front, cycles_of, does, first_begins, formed, instruction_of, jumps_or_does, letter_written, operands_written, parts_read, pause_of, rest_says, target_of, text_fault, with_condition, with_mnemonic, with_unit, is_storing}
 
 abbrev pub has_no_block : Operands → Bool
 has_no_block (Block number) = false

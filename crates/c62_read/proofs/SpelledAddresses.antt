@@ -1,10 +1,10 @@
 -- Addresses, and with them loads and stores, read back.
-use Rattle.std.proofs.Common.{◌≡◌, ℕ, ◌+◌, ◌≤◌, Bool, true, false, not, cond, ◌&&◌, List, [], ◌∷◌, ◌++◌, length, Option, Some, None, refl, sym, ap, subst, ◌∙◌, arith, append-nil, append_assoc, length-append}
-use Rattle.std.specs.Prelude.{ℤ, pos, option_map, option_and_then, codes}
+use Rattle.std.proofs.Common.{◌≡◌, ℕ, ◌+◌, ◌≤◌, Bool, true, false, cond, List, [], ◌∷◌, ◌++◌, length, Some, None, refl, sym, ap, subst, ◌∙◌, arith, append-nil, append_assoc, length-append}
+use Rattle.std.specs.Prelude.{ℤ, pos, codes}
 use Rattle.std.specs.Fmt.{decimal, signed_decimal}
 use Rattle.std.specs.List.{list_all}
 use Rattle.std.specs.Ordering.{int_eq}
-use Rattle.std.proofs.lemmas.Bool.{and_from, and_parts, cond_both, not-true}
+use Rattle.std.proofs.lemmas.Bool.{and_from, cond_both}
 use Rattle.std.proofs.lemmas.Bool.Decides.{Decides-int_eq}
 use Rattle.std.proofs.lemmas.List.Folds.{list_all-append}
 use Rattle.c62_insn.specs.declared.register.Side.{Side}
@@ -14,13 +14,11 @@ use Rattle.c62_insn.specs.declared.operands.AddressForm.{AddressForm}
 use Rattle.c62_insn.specs.declared.operands.AddressForm.TheVariants.{Plus, Minus, PreIncrement, PreDecrement, PostIncrement, PostDecrement}
 use Rattle.c62_insn.specs.declared.operands.Offset.{Offset}
 use Rattle.c62_insn.specs.declared.operands.Offset.TheVariants.{Constant as ByConstant, Register as ByRegister}
-use Rattle.c62_insn.specs.declared.operands.Operands.{Operands}
 use Rattle.c62_insn.specs.declared.operands.Operands.TheVariants.{Access}
 use Rattle.c62_insn.specs.Spelling.{file_letter, register_name, offset_spelling, sign_of, step_of, is_base_alone, address_spelling, with_commas}
 use Rattle.c62_read.specs.declared.operand.Address.{Address}
 use Rattle.c62_read.specs.Text.{begins, is_word_byte, tokens}
-use Rattle.c62_read.specs.Number.{number_of, register_of, spells}
-use Rattle.c62_read.specs.Operand.{Word, access, address_by, address_of, bracketed, loaded_of, nothing_behind, operands_of, register_behind, stored_of, offset_of, register_offset, sign_form, signed_address, step_form, stepped_address, stepped_by, usual_address, with_offset}
+use Rattle.c62_read.specs.Operand.{Word, address_of, bracketed, loaded_of, operands_of, stored_of, offset_of, sign_form, signed_address, step_form, stepped_address, usual_address, with_offset}
 use Rattle.c62_read.proofs.SpelledTokens.{IsToken, is_text, mark_alone, tokens_end}
 use Rattle.c62_read.proofs.SpelledNumbers.{fits, number_length, number_no_register, number_read, number_token, register_back, register_length, register_free, register_token}
 

@@ -1,11 +1,10 @@
 -- The line that spells an instruction reads as it.
-use Rattle.std.proofs.Common.{◌≡◌, ℕ, ◌+◌, ◌<◌, ◌≤◌, Bool, true, false, not, cond, eqb, ltb, ◌&&◌, ◌||◌, List, [], ◌∷◌, ◌++◌, length, Option, Some, None, Result, Ok, Err, refl, sym, ap, subst, ◌∙◌, arith, append_assoc, length-append, inl, inr}
-use Rattle.std.specs.Prelude.{take_while, codes}
-use Rattle.std.specs.List.{list_all, list_any}
-use Rattle.std.proofs.lemmas.Bool.{and_from, and_left, and_parts, cond_both, le-ltb, not-true, or_parts}
+use Rattle.std.proofs.Common.{◌≡◌, ℕ, ◌≤◌, Bool, true, false, cond, List, [], ◌∷◌, ◌++◌, length, Option, Some, None, Ok, refl, sym, ap, subst, ◌∙◌, arith, append_assoc, length-append}
+use Rattle.std.specs.Prelude.{codes}
+use Rattle.std.specs.List.{list_all}
+use Rattle.std.proofs.lemmas.Bool.{and_from, and_parts}
 use Rattle.std.proofs.lemmas.Bool.Decides.{nat_tests}
 use Rattle.std.proofs.lemmas.List.Folds.{list_all-append}
-use Rattle.std.proofs.lemmas.List.Sums.{take_while-cons}
 use Rattle.c62_insn.specs.declared.register.Reg.{Reg}
 use Rattle.c62_insn.specs.declared.register.Cond.{Cond as Condition}
 use Rattle.c62_insn.specs.declared.register.Unit.{Unit as FunctionalUnit}
@@ -19,17 +18,14 @@ use Rattle.c62_insn.specs.Insn.{op_of, operands_of, cond_of}
 use Rattle.c62_insn.specs.Spelling.{condition_spelling, mnemonic_of, operands_spelling, register_name, spelling, unit_spelling}
 use Rattle.c62_insn.specs.Takes.{takes}
 use Rattle.c62_insn.proofs.InsnLemmas.{faultless_on}
-use Rattle.c62_read.specs.declared.fault.Cause.{Cause}
-use Rattle.c62_read.specs.declared.mnemonic.Mnemonic.{Mnemonic}
 use Rattle.c62_read.specs.declared.mnemonic.Mnemonic.TheVariants.{Operation}
-use Rattle.c62_read.specs.declared.unit.WrittenUnit.{WrittenUnit}
-use Rattle.c62_read.specs.Text.{begins, is_allowed, is_blank, is_word_byte, tokens}
-use Rattle.c62_read.specs.Number.{is_label, register_of, spells}
+use Rattle.c62_read.specs.Text.{begins, is_blank, tokens}
+use Rattle.c62_read.specs.Number.{is_label, spells}
 use Rattle.c62_read.specs.Operand.{Word}
 use Rattle.c62_read.specs.Mnemonic.{mnemonic_named}
-use Rattle.c62_read.specs.Unit.{is_dot, unit_fits, unit_front}
-use Rattle.c62_read.specs.Line.{Does, Jumps, Parts, Says, behind_unit, bracketed_condition, closed_condition, condition_front, conditional, first_begins, has_colon, head_of, instruction_of, is_bars, is_star, label_front, line_of, parts_read, rest_says, with_condition, with_mnemonic, with_unit, without_colon}
-use Rattle.c62_read.specs.Laws.{LineReadsBack, NamesTarget, parts_on, says_on, says_with}
+use Rattle.c62_read.specs.Unit.{is_dot, unit_fits}
+use Rattle.c62_read.specs.Line.{Does, Jumps, Says, behind_unit, bracketed_condition, closed_condition, condition_front, first_begins, instruction_of, is_bars, is_star, line_of, parts_read, rest_says, with_mnemonic}
+use Rattle.c62_read.specs.Laws.{LineReadsBack, NamesTarget, says_with}
 use Rattle.c62_read.proofs.HeadLemmas.{all_weaker, allowed_text, head_plain, line_by_head, no_colon}
 use Rattle.c62_read.proofs.TokenLemmas.{tokens_blank}
 use Rattle.c62_read.proofs.SpelledTokens.{IsToken, is_text, mark_alone, tokens_behind}
@@ -244,8 +240,13 @@ line_back name op operands cond unit blanks taking names none blank few =
     appended blanks (condition_spelling cond ++ body m u o) (all_weaker is_blank is_text blanks blank_text blank)
     (appended (condition_spelling cond) (body m u o) (text_condition cond) (text_body m u o (mnemonic_token op).plain (unit_token operands unit).plain here.bytes)) in
     let short : length line ≤ 255 =
-    omega (arith, length-append blanks (condition_spelling cond ++ body m u o), length-append (condition_spelling cond) (body m u o), condition_length cond,
-    body_length m u o (mnemonic_length op) (unit_length operands unit) here.short) in
+    omega (
+      arith,
+      length-append blanks (condition_spelling cond ++ body m u o),
+      length-append (condition_spelling cond) (body m u o),
+      condition_length cond,
+      body_length m u o (mnemonic_length op) (unit_length operands unit) here.short,
+    ) in
     let bars : is_bars (tokens line) ≡ false = ap is_bars tokens_are ∙ no_bars cond op (u ∷ tokens o) in
     let head = head_plain line (allowed_text line text) short (no_star blanks cond op (32 ∷ (u ++ 32 ∷ o)) blank) bars (no_colon line text) in
     let rest : rest_says (tokens line) ≡ Ok says =

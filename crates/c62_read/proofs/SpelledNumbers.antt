@@ -1,5 +1,5 @@
 -- Numbers and registers read back.
-use Rattle.std.proofs.Common.{◌≡◌, ℕ, zero, suc, ◌+◌, ◌-◌, ◌^◌, ◌/◌, ◌%◌, ◌<◌, ◌≤◌, Bool, true, false, not, cond, eqb, ltb, leb, ◌&&◌, ◌||◌, List, [], ◌∷◌, ◌++◌, length, get_or, Option, Some, None, refl, sym, ap, subst, ◌∙◌, arith, inl, inr}
+use Rattle.std.proofs.Common.{◌≡◌, ℕ, suc, ◌+◌, ◌-◌, ◌^◌, ◌/◌, ◌%◌, ◌<◌, ◌≤◌, Bool, true, false, eqb, ltb, leb, ◌&&◌, ◌||◌, List, [], ◌∷◌, ◌++◌, length, Option, Some, None, refl, sym, ap, subst, ◌∙◌, arith, inl, inr}
 use Rattle.std.specs.Prelude.{ℤ, pos, negsuc, ◌≤ℤ◌, int_le, option_map, option_and_then, codes, T}
 use Rattle.std.specs.Char.{digit_value, to_ascii_lowercase, is_ascii_digit}
 use Rattle.std.specs.Fmt.{decimal, signed_decimal}
@@ -13,7 +13,7 @@ use Rattle.c62_insn.specs.declared.register.Side.TheVariants.{A, B}
 use Rattle.c62_insn.specs.declared.register.Reg.{Reg}
 use Rattle.c62_insn.specs.Spelling.{file_letter, register_name}
 use Rattle.c62_read.specs.Text.{is_word_byte, joins}
-use Rattle.c62_read.specs.Number.{are_digits, decimal_of, file_of, hexadecimal_of, in_file, in_range, magnitude_of, negative, number_of, numbered, register_of, signed_of, spells}
+use Rattle.c62_read.specs.Number.{are_digits, decimal_of, file_of, in_file, in_range, magnitude_of, negative, number_of, numbered, register_of, signed_of, spells}
 use Rattle.c62_read.proofs.Registers.{numbered-known}
 use Rattle.c62_read.proofs.SpelledTokens.{IsToken, word_token, led_token}
 
@@ -65,11 +65,19 @@ written_of n (d ∷ ds) e small =
     let all : AllDigits 10 (d ∷ ds) = rw e at numeral.0.1 in
     let bytes = and_parts (is_ascii_digit d) (list_all is_ascii_digit ds) (all_ascii (d ∷ ds) all) in
     let value : digits_value 10 (d ∷ ds) ≡ n = rw e at numeral.1 in
-    let few : length (d ∷ ds) ≤ 10 = rw e at (length-decimal-le 10 n (omega arith) small (omega arith)) in
-    (d, ds, record {
-      is = e; digit = bytes.0; digits = bytes.1; valued = all_digits (d ∷ ds) all; value = value; short = omega arith;
-      leads = leading n d ds e small
-    })
+    let few : length (d ∷ ds) ≤ 10 = rw e at (length-decimal-le 10 n (omega arith) small (omega arith)) in (
+      d,
+      ds,
+      record {
+        is = e;
+        digit = bytes.0;
+        digits = bytes.1;
+        valued = all_digits (d ∷ ds) all;
+        value = value;
+        short = omega arith;
+        leads = leading n d ds e small;
+      },
+    )
 
 pub written : (n : ℕ) → n < 10 ^ 10 → (first : ℕ) × (rest : List ℕ) × IsWritten n first rest
 written n small = written_of n (decimal n) refl small

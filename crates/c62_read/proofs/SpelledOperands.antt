@@ -1,14 +1,14 @@
 -- The operands of an instruction on a unit that takes it read back.
-use Rattle.std.proofs.Common.{◌≡◌, ℕ, ◌%◌, ◌≤◌, Bool, true, false, not, cond, leb, ◌&&◌, ◌||◌, List, [], ◌∷◌, ◌++◌, length, Option, Some, None, Ok, refl, sym, ap, subst, ◌∙◌, arith, inl, inr}
-use Rattle.std.specs.Prelude.{ℤ, pos, negsuc, int_le, is_some, option_map, option_and_then, codes}
+use Rattle.std.proofs.Common.{◌≡◌, ℕ, ◌%◌, ◌≤◌, Bool, true, false, not, cond, leb, ◌&&◌, ◌||◌, List, [], ◌∷◌, length, Option, Some, None, Ok, refl, sym, ap, subst, ◌∙◌, arith, inl, inr}
+use Rattle.std.specs.Prelude.{ℤ, pos, negsuc, int_le, is_some, option_and_then}
 use Rattle.std.specs.Char.{is_ascii_digit}
 use Rattle.std.specs.List.{list_all}
-use Rattle.std.proofs.lemmas.Bool.{and_from, and_parts, and_right, both_ways, cases_Bool, le-leb, leb-true, not_from_false, not_from_true, or_cases}
+use Rattle.std.proofs.lemmas.Bool.{and_from, and_parts, and_right, both_ways, cases_Bool, le-leb, leb-true, not_from_false}
 use Rattle.c62_insn.specs.declared.register.Side.{Side}
 use Rattle.c62_insn.specs.declared.register.Reg.{Reg}
 use Rattle.c62_insn.specs.declared.register.Cond.{Cond as Condition}
 use Rattle.c62_insn.specs.declared.register.Letter.{Letter}
-use Rattle.c62_insn.specs.declared.register.Letter.TheVariants.{L, S, M, D}
+use Rattle.c62_insn.specs.declared.register.Letter.TheVariants.{S, D}
 use Rattle.c62_insn.specs.declared.register.Unit.{Unit as FunctionalUnit}
 use Rattle.c62_insn.specs.declared.operands.Op.{Op}
 use Rattle.c62_insn.specs.declared.operands.Op.TheVariants.{Add, Sub, Shl, Shr, Shru, Mvklh, Addab, Addah, Addaw, Ldb, Ldbu, Ldh, Ldhu, Ldw, Stb, Sth, Stw, B as Branch}
@@ -22,25 +22,22 @@ use Rattle.c62_insn.specs.Fault.{form_fault, has_kind}
 use Rattle.c62_insn.specs.Shape.{crosses_to, data_path_of, is_load, is_store}
 use Rattle.c62_insn.specs.Spelling.{register_name, operands_spelling, with_commas}
 use Rattle.c62_insn.specs.Takes.{same_side, same_letter, takes}
-use Rattle.c62_insn.proofs.FormLemmas.{access_on_d, constant_on_d, constants_of, first_in_file, is_add, is_narrow, lets_first_cross, narrow_constants, taken_kind, taken_letter, uncrossed_on_d}
+use Rattle.c62_insn.proofs.FormLemmas.{access_on_d, constant_on_d, first_in_file, is_add, is_narrow, lets_first_cross, narrow_constants, taken_kind, taken_letter, uncrossed_on_d}
 use Rattle.c62_insn.proofs.Registers.{same_side-refl}
-use Rattle.c62_read.specs.declared.mnemonic.Mnemonic.{Mnemonic}
 use Rattle.c62_read.specs.declared.mnemonic.Mnemonic.TheVariants.{Operation}
 use Rattle.c62_read.specs.declared.operand.Source.{Source}
 use Rattle.c62_read.specs.declared.operand.Source.TheVariants.{Register as FromRegister, Constant as FromConstant}
-use Rattle.c62_read.specs.declared.unit.Mark.{Mark}
-use Rattle.c62_read.specs.declared.unit.Mark.TheVariants.{Plain, Cross, Path}
 use Rattle.c62_read.specs.declared.unit.WrittenUnit.{WrittenUnit}
 use Rattle.c62_read.specs.Text.{begins, is_word_byte, tokens}
 use Rattle.c62_read.specs.Number.{is_label, register_of}
 use Rattle.c62_read.specs.Operand.{Word, operands_from, operands_of}
-use Rattle.c62_read.specs.Mnemonic.{constant_to_front, crossed_to_back, exchanged, in_order, is_mvklh, low_half, read_as, stands_on, with_kind}
+use Rattle.c62_read.specs.Mnemonic.{constant_to_front, crossed_to_back, exchanged, in_order, low_half, read_as, stands_on, with_kind}
 use Rattle.c62_read.specs.Unit.{mark_fits, unit_fits}
-use Rattle.c62_read.specs.Line.{Does, Jumps, does, formed, jumps_or_does, operands_written, behind_unit, is_branch, is_mismarked, label_alone, misses, parts_read, target_of, text_fault}
-use Rattle.c62_read.proofs.SpelledTokens.{IsToken, commas, is_text, text_commas, text_word, tokens_commas, tokens_end, word_token}
+use Rattle.c62_read.specs.Line.{Does, Jumps, does, formed, jumps_or_does, operands_written, behind_unit, is_branch, label_alone, misses, parts_read, target_of, text_fault}
+use Rattle.c62_read.proofs.SpelledTokens.{IsToken, is_text, text_commas, tokens_commas, tokens_end, word_token}
 use Rattle.c62_read.proofs.SpelledNumbers.{fits, register_back, register_length, register_token}
 use Rattle.c62_read.proofs.SpelledSources.{source_fits, sources_back, sources_length, sources_tokens, texts}
-use Rattle.c62_read.proofs.SpelledAddresses.{access_back, access_bytes, access_length, access_text, access_tokens, access_words, offset_fits}
+use Rattle.c62_read.proofs.SpelledAddresses.{access_back, access_bytes, access_length, access_text, access_tokens, offset_fits}
 use Rattle.c62_read.proofs.SpelledUnits.{mark_by, mark_on}
 
 -- ---- operations by the kind of their operands
@@ -281,7 +278,7 @@ sourced op operands written source sources kind_sourced kind inside few are orde
       bytes = text_commas (texts (source ∷ sources)) (sources_tokens (source ∷ sources) inside);
       short = omega (arith, sources_length (source ∷ sources) inside);
       target = no_target op (tokens (with_commas (texts (source ∷ sources)))) plain.branch;
-      read = rw (plain.store, tokens_are, sources_back source sources written inside are) (with_order op operands written order kind)
+      read = rw (plain.store, tokens_are, sources_back source sources written inside are) (with_order op operands written order kind);
     }
 
 fits_second : (k : ℤ) (a d : Reg) → fits k ≡ true → list_all source_fits (FromRegister a ∷ FromConstant k ∷ FromRegister d ∷ []) ≡ true
@@ -323,7 +320,7 @@ branch_to_register target =
       target = ap (target_of (Operation Branch)) tokens_are ∙ label_alone_none target;
       read = ap (λ (words : List Word). option_and_then (read_as (Operation Branch) None) (operands_of false words)) tokens_are
           ∙ ap (option_and_then (read_as (Operation Branch) None)) (sources_back (FromRegister target) [] (Register target) refl refl)
-          ∙ with_order Branch (Register target) (Register target) (register_order Branch target) refl
+          ∙ with_order Branch (Register target) (Register target) (register_order Branch target) refl;
     }
 
 -- whatever operands but a block
@@ -358,7 +355,7 @@ spelled_operands name op (Access reg base form offset) unit taking other =
       target = no_target op (tokens (access_text (is_store op) reg base form offset)) (access_no_branch op reg base form offset kind);
       read = ap (λ (words : List Word). option_and_then (read_as (Operation op) None) (operands_of (is_store op) words)) tokens_are
           ∙ ap (option_and_then (read_as (Operation op) None)) (access_back (is_store op) reg base form offset inside)
-          ∙ with_order op (Access reg base form offset) (Access reg base form offset) (access_order op reg base form offset) kind
+          ∙ with_order op (Access reg base form offset) (Access reg base form offset) (access_order op reg base form offset) kind;
     }
 spelled_operands name op (Block number) unit taking other = absurd (other number refl)
 spelled_operands name op (Register target) unit taking other =

@@ -1,16 +1,15 @@
 -- Operands of registers and constants alone read back.
-use Rattle.std.proofs.Common.{◌≡◌, ℕ, ◌+◌, ◌*◌, ◌<◌, ◌≤◌, Bool, true, false, not, cond, ◌&&◌, List, [], ◌∷◌, ◌++◌, length, Option, Some, None, refl, sym, ap, subst, ◌∙◌, arith, length-append}
-use Rattle.std.specs.Prelude.{ℤ, map, option_map, option_and_then, codes}
+use Rattle.std.proofs.Common.{◌≡◌, ℕ, ◌*◌, ◌≤◌, Bool, true, false, List, [], ◌∷◌, ◌++◌, length, Some, refl, arith, length-append}
+use Rattle.std.specs.Prelude.{map, codes}
 use Rattle.std.specs.Fmt.{signed_decimal}
 use Rattle.std.specs.List.{list_all}
 use Rattle.std.proofs.lemmas.Bool.{and_parts}
-use Rattle.c62_insn.specs.declared.register.Reg.{Reg}
 use Rattle.c62_insn.specs.declared.operands.Operands.{Operands}
 use Rattle.c62_insn.specs.Spelling.{register_name, with_commas}
 use Rattle.c62_read.specs.declared.operand.Source.{Source}
 use Rattle.c62_read.specs.declared.operand.Source.TheVariants.{Register as FromRegister, Constant as FromConstant}
-use Rattle.c62_read.specs.Number.{number_of, register_of, spells}
-use Rattle.c62_read.specs.Operand.{before_sources, operands_from, operands_of, plain_of, register_source, source_of, sources_of}
+use Rattle.c62_read.specs.Number.{spells}
+use Rattle.c62_read.specs.Operand.{operands_from, operands_of, plain_of, source_of, sources_of}
 use Rattle.c62_read.proofs.SpelledTokens.{IsToken, AllTokens, commas}
 use Rattle.c62_read.proofs.SpelledNumbers.{fits, number_length, number_no_register, number_no_star, number_read, number_token, register_back, register_length, register_free, register_token}
 
@@ -74,5 +73,10 @@ sources_length [] inside = omega arith
 sources_length (source ∷ []) inside = omega (arith, source_length source (and_parts (source_fits source) true inside).0)
 sources_length (source ∷ next ∷ sources) inside =
     let parts = and_parts (source_fits source) (list_all source_fits (next ∷ sources)) inside in
-    omega (arith, source_length source parts.0, sources_length (next ∷ sources) parts.1, length-append (source_text source ++ codes ",") (with_commas (texts (next ∷ sources))),
-    length-append (source_text source) (codes ","))
+    omega (
+      arith,
+      source_length source parts.0,
+      sources_length (next ∷ sources) parts.1,
+      length-append (source_text source ++ codes ",") (with_commas (texts (next ∷ sources))),
+      length-append (source_text source) (codes ","),
+    )

@@ -1,5 +1,5 @@
 -- The tokens of what is spelled.
-use Rattle.std.proofs.Common.{◌≡◌, ℕ, ◌<◌, Bool, true, false, not, eqb, ◌&&◌, ◌||◌, List, [], ◌∷◌, ◌++◌, length, refl, sym, ap, ◌∙◌, append-nil, append_assoc, arith}
+use Rattle.std.proofs.Common.{◌≡◌, ℕ, ◌<◌, Bool, true, false, not, eqb, ◌&&◌, List, [], ◌∷◌, ◌++◌, length, refl, sym, ap, ◌∙◌, append-nil, append_assoc, arith}
 use Rattle.std.specs.Prelude.{codes}
 use Rattle.std.specs.List.{list_all}
 use Rattle.std.proofs.lemmas.Bool.{and_from, and_parts}
@@ -7,7 +7,7 @@ use Rattle.std.proofs.lemmas.Bool.Decides.{nat_tests}
 use Rattle.std.proofs.lemmas.List.Folds.{list_all-append}
 use Rattle.c62_insn.specs.Spelling.{with_commas}
 use Rattle.c62_read.specs.Text.{grow, begins, is_allowed, is_blank, is_solid, is_sign, is_word_byte, is_double, joins, tokens}
-use Rattle.c62_read.proofs.TokenLemmas.{tokens_alone, tokens_double, tokens_joined, tokens_last, tokens_blank, tokens_word}
+use Rattle.c62_read.proofs.TokenLemmas.{tokens_alone, tokens_joined, tokens_last, tokens_blank, tokens_word}
 
 -- a byte that may stand in a line with neither a comment nor a label
 abbrev pub is_text : ℕ → Bool
@@ -37,7 +37,7 @@ pub led_token : (b c : ℕ) (w : List ℕ) → is_solid b ≡ true → joins b c
 led_token b c w solid joined text words =
     record {
       splits = λ rest ends. tokens_joined b c (w ++ rest) solid joined ∙ ap (grow b) (tokens_word (c ∷ w) rest words ends);
-      plain = and_from (is_text b) (list_all is_text (c ∷ w)) text (text_word (c ∷ w) words)
+      plain = and_from (is_text b) (list_all is_text (c ∷ w)) text (text_word (c ∷ w) words);
     }
 
 -- a byte that is a token by itself

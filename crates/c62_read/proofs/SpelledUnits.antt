@@ -1,8 +1,7 @@
 -- Units and mnemonics read back.
-use Rattle.std.proofs.Common.{◌≡◌, ℕ, ◌≤◌, Bool, true, false, not, cond, ◌&&◌, ◌||◌, List, [], ◌∷◌, ◌++◌, length, Option, Some, None, refl, sym, ap, subst, ◌∙◌, arith, append-nil, append_assoc}
+use Rattle.std.proofs.Common.{◌≡◌, ℕ, ◌≤◌, Bool, true, false, cond, List, [], ◌∷◌, ◌++◌, length, Option, Some, None, refl, sym, ap, subst, ◌∙◌, arith}
 use Rattle.std.specs.Prelude.{codes}
 use Rattle.std.specs.List.{list_all}
-use Rattle.std.proofs.lemmas.Bool.{and_from, not_from_false}
 use Rattle.c62_insn.specs.declared.register.Side.{Side}
 use Rattle.c62_insn.specs.declared.register.Side.TheVariants.{A, B}
 use Rattle.c62_insn.specs.declared.register.Letter.{Letter}
@@ -13,15 +12,13 @@ use Rattle.c62_insn.specs.declared.operands.Op.TheVariants.{Add}
 use Rattle.c62_insn.specs.declared.operands.Operands.{Operands}
 use Rattle.c62_insn.specs.declared.operands.Operands.TheVariants.{Three, ConstantFirst, ConstantSecond, Two, Field, Constant, Access, Block, Register}
 use Rattle.c62_insn.specs.Shape.{crosses_to, data_path_of}
-use Rattle.c62_insn.specs.Spelling.{mnemonic_of, unit_letter, side_digit, data_path_spelling, path_spelling, unit_spelling}
-use Rattle.c62_read.specs.declared.mnemonic.Mnemonic.{Mnemonic}
+use Rattle.c62_insn.specs.Spelling.{mnemonic_of, unit_letter, side_digit, path_spelling, unit_spelling}
 use Rattle.c62_read.specs.declared.mnemonic.Mnemonic.TheVariants.{Operation}
 use Rattle.c62_read.specs.declared.unit.Mark.{Mark}
 use Rattle.c62_read.specs.declared.unit.Mark.TheVariants.{Plain, Cross, Path}
-use Rattle.c62_read.specs.declared.unit.WrittenUnit.{WrittenUnit}
 use Rattle.c62_read.specs.Text.{begins, is_word_byte, joins}
 use Rattle.c62_read.specs.Number.{spells}
-use Rattle.c62_read.specs.Mnemonic.{all_operations, either_mnemonic, mnemonic_named, operation_named}
+use Rattle.c62_read.specs.Mnemonic.{mnemonic_named, operation_named}
 use Rattle.c62_read.specs.Unit.{is_dot, letter_of, side_numbered, mark_of, unit_split, unit_front}
 use Rattle.c62_read.proofs.SpelledTokens.{IsToken, led_token, word_token}
 

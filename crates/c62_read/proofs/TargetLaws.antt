@@ -1,6 +1,6 @@
 -- The labels that are jumped to are labels of blocks.
-use Rattle.std.proofs.Common.{◌≡◌, ℕ, zero, suc, ◌+◌, ◌<◌, ◌≤◌, Bool, true, false, not, cond, ltb, ◌&&◌, ◌||◌, List, [], ◌∷◌, ◌++◌, length, Option, Some, None, Result, Ok, Err, refl, sym, ap, subst, ◌∙◌, arith, append-nil, inl, inr}
-use Rattle.std.specs.Prelude.{map, position, Contains}
+use Rattle.std.proofs.Common.{◌≡◌, ℕ, zero, suc, ◌+◌, ◌<◌, Bool, true, false, cond, ltb, ◌||◌, List, [], ◌∷◌, ◌++◌, length, Option, Some, None, Result, Ok, Err, refl, sym, ap, subst, ◌∙◌, arith, append-nil, inl, inr}
+use Rattle.std.specs.Prelude.{position, Contains}
 use Rattle.std.specs.List.{list_all, list_any, position_or_len}
 use Rattle.std.specs.Option.{option_to_list}
 use Rattle.std.specs.Str.{bytes_eq}
@@ -10,8 +10,8 @@ use Rattle.c62_read.specs.declared.fault.Cause.{Cause}
 use Rattle.c62_read.specs.declared.fault.Cause.TheVariants.{NotAscii, LineTooLong, BadLabel, ParallelBar}
 use Rattle.c62_read.specs.Text.{begins, is_allowed, lines_of, tokens}
 use Rattle.c62_read.specs.Operand.{Word}
-use Rattle.c62_read.specs.Line.{Parts, Says, Nothing, Pause, Does, Jumps, has_colon, head_of, is_bars, is_branch, is_star, label_front, line_of, rest_says, without_colon}
-use Rattle.c62_read.specs.Program.{BlockParts, Draft, Drafts, Name, add_line, add_lines, all_drafts, and_then, at_line, block_in, closed, is_among, is_unknown, label_is, labels_of, no_drafts, opened, place_of, program_in, with_insn, with_label, with_says}
+use Rattle.c62_read.specs.Line.{Parts, Says, Nothing, Pause, Does, Jumps, has_colon, head_of, is_bars, is_branch, is_star, label_front, line_of, without_colon}
+use Rattle.c62_read.specs.Program.{BlockParts, Draft, Drafts, Name, add_line, add_lines, all_drafts, and_then, at_line, closed, is_among, is_unknown, label_is, labels_of, no_drafts, opened, place_of, with_insn, with_label, with_says}
 use Rattle.c62_read.specs.Laws.{HasTargets}
 use Rattle.c62_read.proofs.AddedLemmas.{IsAdded, added_is, clear_parts, kept}
 use Rattle.c62_read.proofs.CommentLaws.{star_is, star_place}
