@@ -1,9 +1,10 @@
 -- What holds of every instruction: the units that take it, its reads and its writes.
-use Rattle.std.proofs.Common.{◌≡◌, ◌≢◌, ℕ, zero, suc, ◌≤◌, arith, Bool, true, false, refl, [], ◌∷◌, ◌++◌, length, Some, None, ◌⊎◌}
+use Rattle.std.proofs.Common.{◌≡◌, ◌≢◌, ℕ, zero, suc, ◌≤◌, arith, Bool, true, false, refl, [], ◌∷◌, ◌++◌, length, Option, Some, None, ◌⊎◌}
 use Rattle.std.specs.Prelude.{if◌then◌else◌, slice_get, Contains, All}
-use Rattle.std.proofs.lemmas.Bool.{both_ways, cond_both}
+use Rattle.std.proofs.lemmas.Bool.{both_ways, cond_both, or_parts, or_from, not_from_true}
 use Rattle.std.proofs.lemmas.List.Elements.{All-nil, All-cons, All-append, All-contains}
 use Rattle.std.proofs.lemmas.List.Sums.{count_by-le-length}
+use Rattle.c62_insn.specs.declared.register.Side.{Side}
 use Rattle.c62_insn.specs.declared.register.Reg.{Reg}
 use Rattle.c62_insn.specs.declared.register.Unit.{Unit as FunctionalUnit}
 use Rattle.c62_insn.specs.declared.operands.Op.{Op}
@@ -13,11 +14,15 @@ use Rattle.c62_insn.specs.declared.operands.Offset.TheVariants.{Constant as ByCo
 use Rattle.c62_insn.specs.declared.operands.Operands.{Operands}
 use Rattle.c62_insn.specs.declared.operands.Operands.TheVariants.{Three, ConstantFirst, ConstantSecond, Two, Field, Constant, Access, Block, Register}
 use Rattle.c62_insn.specs.declared.insn.Insn.{Insn}
+use Rattle.c62_insn.specs.declared.fault.FormFault.TheVariants.{NoUnit, ConstantRange, TwoCrossed, BadSide, BadCondition}
 use Rattle.c62_insn.specs.Takes.{takes, same_reg}
+use Rattle.c62_insn.specs.Fault.{form_fault, bad_condition, constant_out_of_range, two_crossed, strays, is_other_side, side_of, bad_side, no_unit}
 use Rattle.c62_insn.specs.Shape.{delay_of, is_load, is_store, reads_destination, changes_base, offset_reads, reads_of, writes_of}
-use Rattle.c62_insn.specs.Insn.{op_of, operands_of, unit_of, operand_reads, register_writes}
+use Rattle.c62_insn.specs.Insn.{op_of, operands_of, cond_of, unit_of, operand_reads, register_writes}
 use Rattle.c62_insn.specs.PacketRules.{reads_count}
 use Rattle.c62_insn.proofs.FaultLemmas.{faultless, some_unit}
+use Rattle.c62_insn.proofs.Registers.{same_side-refl}
+use Rattle.c62_insn.proofs.SideLemmas.{takes_on_side}
 
 -- some unit takes an instruction: the written one, where one is written
 pub has_written_unit : (insn : Insn)
@@ -26,6 +31,25 @@ has_written_unit insn = some_unit insn.op insn.operands insn.unit (faultless ins
 
 pub has_unit : (insn : Insn) → (u : FunctionalUnit) × (takes (op_of insn) (operands_of insn) u ≡ true)
 has_unit insn = let found = has_written_unit insn in (found.0, found.1)
+
+no_fault : (a b c d e : Bool) → a ≡ false → b ≡ false → c ≡ false → d ≡ false → e ≡ false
+    → (if a then Some BadCondition else if b then Some ConstantRange else if c then Some TwoCrossed else if d then Some BadSide else if e then Some NoUnit else None) ≡ None
+no_fault a b c d e p q r s t = rw (p, q, r, s, t) refl
+
+own_side : (op : Op) (operands : Operands) (u : FunctionalUnit) (side : Option Side) → takes op operands u ≡ true → side_of operands ≡ side
+    → is_other_side side (Some u) ≡ false
+own_side op operands u None h e = refl
+own_side op operands u (Some side) h e = rw (takes_on_side op operands u side e h, same_side-refl side) refl
+
+-- an instruction has no fault on any unit that takes it
+pub faultless_on : (insn : Insn) (u : FunctionalUnit) → takes (op_of insn) (operands_of insn) u ≡ true
+    → form_fault (op_of insn) (operands_of insn) (cond_of insn) (Some u) ≡ None
+faultless_on insn u h =
+    let f = faultless insn.op insn.operands insn.cond insn.unit insn.well_formed in
+    let own = or_parts (strays insn.op insn.operands) (is_other_side (side_of insn.operands) insn.unit) f.sides in
+    no_fault (bad_condition insn.cond) (constant_out_of_range insn.op insn.operands) (two_crossed insn.op insn.operands)
+    (bad_side insn.op insn.operands (Some u)) (no_unit insn.op insn.operands (Some u)) f.condition f.constants f.crossing
+    (or_from _ _ own.0 (own_side insn.op insn.operands u (side_of insn.operands) h refl)) (not_from_true _ h)
 
 -- operands of a branch
 abbrev is_target : Operands → Bool

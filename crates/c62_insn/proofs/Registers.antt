@@ -22,14 +22,14 @@ pub same_side-refl : (a : Side) → same_side a a ≡ true
 same_side-refl A = refl
 same_side-refl B = refl
 
-same_letter-is : (a b : Letter) → same_letter a b ≡ true → a ≡ b
+pub same_letter-is : (a b : Letter) → same_letter a b ≡ true → a ≡ b
 same_letter-is L L h = refl
 same_letter-is S S h = refl
 same_letter-is M M h = refl
 same_letter-is D D h = refl
 same_letter-is _ _ h = cc
 
-same_letter-refl : (a : Letter) → same_letter a a ≡ true
+pub same_letter-refl : (a : Letter) → same_letter a a ≡ true
 same_letter-refl L = refl
 same_letter-refl S = refl
 same_letter-refl M = refl

@@ -39,7 +39,7 @@ any_grown : (b c : ℕ) (w : List ℕ) (words : List (List ℕ)) → eqb c 58 �
 any_grown b c w words other = rw (two_bytes b c w, other_byte c w other) refl
 
 -- the first byte of the first token
-record BeginsWith (c : ℕ) (words : List (List ℕ)) : Type 0 where
+pub record BeginsWith (c : ℕ) (words : List (List ℕ)) : Type 0 where
   pub word : List ℕ
   pub others : List (List ℕ)
   pub is : words ≡ (c ∷ word) ∷ others
@@ -48,7 +48,7 @@ grown_begins : (b : ℕ) (words : List (List ℕ)) → BeginsWith b (grow b word
 grown_begins b [] = record { word = []; others = []; is = refl }
 grown_begins b (w ∷ words) = record { word = w; others = words; is = refl }
 
-begins_with : (c : ℕ) (rest : List ℕ) → is_solid c ≡ true → BeginsWith c (tokens (c ∷ rest))
+pub begins_with : (c : ℕ) (rest : List ℕ) → is_solid c ≡ true → BeginsWith c (tokens (c ∷ rest))
 begins_with c [] solid = record { word = []; others = []; is = tokens_last c solid }
 begins_with c (d ∷ rest) solid =
     elim (cases_Bool (is_double c d)) [

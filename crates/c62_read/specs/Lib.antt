@@ -6,3 +6,4 @@ pub mod Unit
 pub mod Line
 pub mod Block
 pub mod Program
+pub mod Laws

@@ -1,8 +1,13 @@
 //! Laws of the definitions.
 
-ghost use Rattle.std.specs.Prelude.{◌≡◌, ◌==◌, ◌∷◌, ◌++◌, ℕ, List, not, filter, take_while};
+ghost use Rattle.std.specs.Prelude.{◌≡◌, ◌==◌, ◌∷◌, ◌++◌, ℕ, ℤ, List, not, filter, take_while, IsTrue};
 ghost use Rattle.std.specs.List.{flat_map};
-ghost use Rattle.c62_read.specs.Text.{is_blank, tokens};
+ghost use Rattle.c62_insn.specs.declared.register.Reg.{Reg as Register};
+ghost use Rattle.c62_insn.specs.declared.register.Unit.{Unit as FunctionalUnit};
+ghost use Rattle.c62_insn.specs.declared.insn.Insn.{Insn};
+ghost use Rattle.c62_read.specs.Text.{begins, is_blank, tokens};
+ghost use Rattle.c62_read.specs.Line.{is_star};
+ghost use Rattle.c62_read.specs.Laws.{LineReadsBack, NumberReadsBack, RegisterReadsBack, IsReadable, StarSaysNothing, CommentSaysNothing, CommentsSayNothing, CaseSaysNothing, IsRecased, IsItsLines, HasTargets, HasRisingLines, ReadsAsItsLine, HasCutBlocks};
 
 /// The tokens of a line are its bytes in their order, less blanks and what follows a `;`.
 pub fn tokens_are_the_bytes()
@@ -13,4 +18,70 @@ pub fn tokens_are_the_bytes()
 /// What stands behind a `;` says nothing.
 pub fn comments_say_nothing()
     ensures { (line rest : List ℕ) → tokens (line ++ 59 ∷ rest) ≡ tokens line }
+{}
+
+/// Each number that a line may hold reads back from its decimal spelling.
+pub fn numbers_read_back()
+    ensures { (k : ℤ) → NumberReadsBack k }
+{}
+
+/// Each register reads back from its name.
+pub fn registers_read_back()
+    ensures { (reg : Register) → RegisterReadsBack reg }
+{}
+
+/// The line that spells an instruction, with its condition, its operation, a unit that takes it and
+/// its operands, reads as that instruction on that unit, with or without blanks before it. A branch
+/// to a block is spelled with a label, and reads as a branch to that label.
+pub fn spelled_lines_read_back()
+    ensures { (name : ℕ → List ℕ) (insn : Insn) (unit : FunctionalUnit) (blanks : List ℕ) → LineReadsBack name insn unit blanks }
+{}
+
+/// A line that begins with `*` says nothing, as long as it may be read at all.
+pub fn star_lines_say_nothing()
+    ensures { (line : List ℕ) → IsReadable line → IsTrue (begins is_star line) → StarSaysNothing line }
+{}
+
+/// A line says the same without the comment behind a `;`, and has the same label.
+pub fn comments_change_no_line()
+    ensures { (line rest : List ℕ) → IsReadable (line ++ 59 ∷ rest) → CommentSaysNothing line rest }
+{}
+
+/// A text reads as the text without its comments: as the same program, or with the same fault.
+pub fn comments_change_no_program()
+    ensures { (text other : List ℕ) → CommentsSayNothing text other }
+{}
+
+/// Case says nothing but in labels: two lines that are the same but for the case of letters have one
+/// fault, or say the same but for the case of their labels. Letters behind a `0` keep their case.
+pub fn case_says_nothing()
+    ensures { (line other : List ℕ) → IsRecased 32 line other → CaseSaysNothing line other }
+{}
+
+/// The instructions of a program's blocks, one after the other, are what the lines of its text say,
+/// in their order and with the numbers of their lines. A branch to a label goes to the block that
+/// has it.
+pub fn a_program_is_its_lines()
+    ensures { (text : List ℕ) → IsItsLines text }
+{}
+
+/// Each label that a line of a program branches to is the label of one of its blocks.
+pub fn branches_have_targets()
+    ensures { (text : List ℕ) → HasTargets text }
+{}
+
+/// The lines of a program's instructions rise, from block to block and within each.
+pub fn lines_rise()
+    ensures { (text : List ℕ) → HasRisingLines text }
+{}
+
+/// Each instruction of a program is what the line of its number says.
+pub fn instructions_read_as_their_lines()
+    ensures { (text : List ℕ) → ReadsAsItsLine text }
+{}
+
+/// The blocks of a program are the labels and instructions of its text in their order, cut before
+/// each label and behind each branch and nowhere else.
+pub fn blocks_are_cut_by_labels_and_branches()
+    ensures { (text : List ℕ) → HasCutBlocks text }
 {}

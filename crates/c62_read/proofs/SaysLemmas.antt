@@ -1,0 +1,238 @@
+-- What lines may say: no instruction but a jump has a block for its operand.
+use Rattle.std.proofs.Common.{◌≡◌, Bool, true, false, not, cond, leb, ◌&&◌, List, [], ◌∷◌, Option, Some, None, Result, Ok, Err, refl, subst}
+use Rattle.std.specs.Prelude.{ℤ, pos, negsuc, option_map, option_and_then, codes}
+use Rattle.std.proofs.lemmas.Bool.{cond_both}
+use Rattle.c62_insn.specs.declared.register.Reg.{Reg}
+use Rattle.c62_insn.specs.declared.register.Cond.{Cond as Condition}
+use Rattle.c62_insn.specs.declared.register.Letter.{Letter}
+use Rattle.c62_insn.specs.declared.register.Letter.TheVariants.{L, S, M, D}
+use Rattle.c62_insn.specs.declared.operands.Op.{Op}
+use Rattle.c62_insn.specs.declared.operands.Op.TheVariants.{B as Branch}
+use Rattle.c62_insn.specs.declared.operands.Operands.{Operands}
+use Rattle.c62_insn.specs.declared.operands.Operands.TheVariants.{Three, ConstantFirst, ConstantSecond, Two, Field, Constant, Access, Block, Register}
+use Rattle.c62_insn.specs.declared.fault.FormFault.{FormFault}
+use Rattle.c62_insn.specs.Fault.{has_kind}
+use Rattle.c62_insn.specs.Takes.{same_side}
+use Rattle.c62_read.specs.declared.fault.Cause.{Cause}
+use Rattle.c62_read.specs.declared.fault.Cause.TheVariants.{BadUnit, BadOperand, Directive}
+use Rattle.c62_read.specs.declared.mnemonic.Mnemonic.{Mnemonic}
+use Rattle.c62_read.specs.declared.mnemonic.Mnemonic.TheVariants.{Operation, Mv, Neg, Not, Zero, Mvkl, Mvkh, Nop}
+use Rattle.c62_read.specs.declared.operand.Address.{Address}
+use Rattle.c62_read.specs.declared.operand.Source.{Source}
+use Rattle.c62_read.specs.declared.operand.Source.TheVariants.{Register as FromRegister, Constant as FromConstant}
+use Rattle.c62_read.specs.declared.unit.WrittenUnit.{WrittenUnit}
+use Rattle.c62_read.specs.Number.{number_of, register_of, spells}
+use Rattle.c62_read.specs.Operand.{Word, access, address_of, loaded_of, nothing_behind, operands_from, operands_of, plain_of, register_behind, sources_of, stored_of}
+use Rattle.c62_read.specs.Mnemonic.{constant_to_front, crossed_to_back, exchanged, in_order, mnemonic_named, read_as, with_kind, zero_in}
+use Rattle.c62_read.specs.Unit.{is_dot, unit_fits, unit_front}
+use Rattle.c62_read.specs.Line.{Says, Pause, Does, Jumps, behind_unit, condition_front, cycles_of, does, first_begins, formed, instruction_of, jumps_or_does, letter_written, operands_written, parts_read, pause_of, rest_says, target_of, text_fault, with_condition, with_mnemonic, with_unit, is_storing}
+
+abbrev pub has_no_block : Operands → Bool
+has_no_block (Block number) = false
+has_no_block _ = true
+
+-- ---- operands
+
+abbrev Found : Option Operands → Type 0
+Found None = Unit {0}
+Found (Some operands) = has_no_block operands ≡ true
+
+from_sources : (sources : List Source) → Found (operands_from sources)
+from_sources [] = tt
+from_sources (FromRegister a ∷ []) = refl
+from_sources (FromRegister a ∷ FromRegister d ∷ []) = refl
+from_sources (FromConstant k ∷ FromRegister d ∷ []) = refl
+from_sources (FromRegister a ∷ FromRegister b ∷ FromRegister d ∷ []) = refl
+from_sources (FromConstant k ∷ FromRegister a ∷ FromRegister d ∷ []) = refl
+from_sources (FromRegister a ∷ FromConstant k ∷ FromRegister d ∷ []) = refl
+from_sources (FromRegister a ∷ FromConstant k ∷ FromConstant m ∷ FromRegister d ∷ []) = refl
+from_sources _ = tt
+
+plain_found : (words : List Word) → Found (plain_of words)
+unfolding plain_of
+plain_found words = go (sources_of words)
+  where
+    go : (sources : Option (List Source)) → Found (option_and_then operands_from sources)
+    go None = tt
+    go (Some sources) = from_sources sources
+
+access_found : (address : Address) (reg : Option Reg) → Found (option_map (λ r. access r address) reg)
+access_found address None = tt
+access_found address (Some reg) = refl
+
+behind_found : (found : Address × List Word) → Found (register_behind found)
+behind_found (address, []) = tt
+behind_found (address, comma ∷ []) = tt
+behind_found (address, comma ∷ name ∷ []) =
+    cond_both (spells (codes ",") comma) (option_map (λ reg. access reg address) (register_of name)) None Found (λ _. access_found address (register_of name)) (λ _. tt)
+behind_found (address, comma ∷ name ∷ next ∷ words) = tt
+
+loaded_found : (words : List Word) → Found (loaded_of words)
+unfolding loaded_of
+loaded_found words = go (address_of words)
+  where
+    go : (found : Option (Address × List Word)) → Found (option_and_then register_behind found)
+    go None = tt
+    go (Some found) = behind_found found
+
+nothing_found : (reg : Reg) (found : Option (Address × List Word)) → Found (option_and_then (nothing_behind reg) found)
+nothing_found reg None = tt
+nothing_found reg (Some (address, [])) = refl
+nothing_found reg (Some (address, word ∷ words)) = tt
+
+stored_by : (reg : Option Reg) (found : Option (Address × List Word)) → Found (option_and_then (λ r. option_and_then (nothing_behind r) found) reg)
+stored_by None found = tt
+stored_by (Some reg) found = nothing_found reg found
+
+stored_found : (words : List Word) → Found (stored_of words)
+unfolding stored_of
+stored_found [] = tt
+stored_found (name ∷ []) = tt
+stored_found (name ∷ comma ∷ []) = tt
+stored_found (name ∷ comma ∷ star ∷ words) =
+    cond_both (spells (codes ",") comma && spells (codes "*") star) (option_and_then (λ reg. option_and_then (nothing_behind reg) (address_of words)) (register_of name)) None Found
+    (λ _. stored_by (register_of name) (address_of words)) (λ _. tt)
+
+operands_found : (store : Bool) (words : List Word) → Found (operands_of store words)
+unfolding operands_of
+operands_found store [] = tt
+operands_found store (first ∷ rest) =
+    cond_both (spells (codes "*") first) (cond store None (loaded_of rest)) (cond store (stored_of (first ∷ rest)) (plain_of (first ∷ rest))) Found
+    (λ _. cond_both store None (loaded_of rest) Found (λ _. tt) (λ _. loaded_found rest))
+    (λ _. cond_both store (stored_of (first ∷ rest)) (plain_of (first ∷ rest)) Found (λ _. stored_found (first ∷ rest)) (λ _. plain_found (first ∷ rest)))
+
+-- ---- what is made of them
+
+abbrev Made : Option (Op × Operands) → Type 0
+Made None = Unit {0}
+Made (Some (op, operands)) = has_no_block operands ≡ true
+
+abbrev Ordered : Op × Operands → Type 0
+Ordered (op, operands) = has_no_block operands ≡ true
+
+kind_made : (found : Op × Operands) → Ordered found → Made (with_kind found)
+kind_made (op, operands) free = cond_both (has_kind op operands) (Some (op, operands)) None Made (λ _. free) (λ _. tt)
+
+back_ordered : (turned : Option Op) (op : Op) (a b d : Reg) → Ordered (crossed_to_back turned op a b d)
+back_ordered None op a b d = refl
+back_ordered (Some turned) op a b d =
+    cond_both (not (same_side a.side d.side) && same_side b.side d.side) (turned, Three b a d) (op, Three a b d) Ordered (λ _. refl) (λ _. refl)
+
+front_ordered : (turned : Option Op) (op : Op) (a : Reg) (k : ℤ) (d : Reg) → Ordered (constant_to_front turned op a k d)
+front_ordered None op a k d = refl
+front_ordered (Some turned) op a k d = refl
+
+in_order_free : (op : Op) (operands : Operands) → has_no_block operands ≡ true → Ordered (in_order op operands)
+unfolding in_order
+in_order_free op (Three a b d) free = back_ordered (exchanged op) op a b d
+in_order_free op (ConstantSecond a k d) free = front_ordered (exchanged op) op a k d
+in_order_free op (Constant k d) free = refl
+in_order_free op (ConstantFirst k a d) free = refl
+in_order_free op (Two a d) free = refl
+in_order_free op (Field a k m d) free = refl
+in_order_free op (Access reg base form offset) free = refl
+in_order_free op (Block number) free = free
+in_order_free op (Register target) free = refl
+
+zero_free : (letter : Option Letter) (d : Reg) → Made (Some (zero_in letter d))
+zero_free None d = refl
+zero_free (Some L) d = refl
+zero_free (Some S) d = refl
+zero_free (Some M) d = refl
+zero_free (Some D) d = refl
+
+read_free : (mnemonic : Mnemonic) (letter : Option Letter) (operands : Operands) → has_no_block operands ≡ true → Made (read_as mnemonic letter operands)
+unfolding read_as
+read_free (Operation op) letter operands free = kind_made (in_order op operands) (in_order_free op operands free)
+read_free Mv letter (Two x d) free = refl
+read_free Neg letter (Two x d) free = refl
+read_free Not letter (Two x d) free = refl
+read_free Zero letter (Register d) free = zero_free letter d
+read_free Mvkl letter (Constant k d) free = refl
+read_free Mvkh letter (Constant k d) free = refl
+read_free _ letter operands free = tt
+
+written_free : (mnemonic : Mnemonic) (written : Option WrittenUnit) (operands : Option Operands) → Found operands → Made (operands_written mnemonic written operands)
+written_free mnemonic written None free = tt
+written_free mnemonic written (Some operands) free = read_free mnemonic (letter_written written) operands free
+
+-- ---- what a line says
+
+-- an instruction has no block for its operand, and a jump is a branch to block 0
+abbrev pub IsProper : Says → Type 0
+IsProper (Does parts) = has_no_block parts.operands ≡ true
+IsProper (Jumps parts label) = (parts.op ≡ Branch) × (parts.operands ≡ Block 0)
+IsProper _ = Unit {0}
+
+abbrev OkProper : Result Says Cause → Type 0
+OkProper (Ok says) = IsProper says
+OkProper (Err cause) = Unit {0}
+
+formed_proper : (fault : Option FormFault) (says : Says) → IsProper says → OkProper (formed fault says)
+formed_proper None says proper = proper
+formed_proper (Some fault) says proper = tt
+
+does_proper : (cond : Option Condition) (written : Option WrittenUnit) (found : Option (Op × Operands)) → Made found → OkProper (does cond written found)
+does_proper cond written None made = tt
+does_proper cond written (Some (op, operands)) made = formed_proper (text_fault op operands cond written) (Does (parts_read op operands cond written)) made
+
+behind_proper : (aim : Option Word) (mnemonic : Mnemonic) (cond : Option Condition) (written : Option WrittenUnit) (words : List Word)
+    → OkProper (jumps_or_does aim mnemonic cond written words)
+behind_proper (Some label) mnemonic cond written words =
+    formed_proper (text_fault Branch (Block 0) cond written) (Jumps (parts_read Branch (Block 0) cond written) label) (refl, refl)
+behind_proper None mnemonic cond written words =
+    does_proper cond written (operands_written mnemonic written (operands_of (is_storing mnemonic) words))
+    (written_free mnemonic written (operands_of (is_storing mnemonic) words) (operands_found (is_storing mnemonic) words))
+
+cycles_proper : (k : Option ℤ) → OkProper (cycles_of k)
+cycles_proper (Some (pos n)) = cond_both (leb 1 n && leb n 9) (Ok (Pause n)) (Err BadOperand) OkProper (λ _. tt) (λ _. tt)
+cycles_proper (Some (negsuc n)) = tt
+cycles_proper None = tt
+
+pause_proper : (cond : Option Condition) (words : List Word) → OkProper (pause_of cond words)
+unfolding pause_of
+pause_proper (Some cond) words = tt
+pause_proper None [] = tt
+pause_proper None (word ∷ []) = cycles_proper (number_of word)
+pause_proper None (word ∷ next ∷ words) = tt
+
+unit_proper : (mnemonic : Mnemonic) (cond : Option Condition) (written : Option WrittenUnit) (words : List Word) → OkProper (behind_unit mnemonic cond written words)
+unfolding behind_unit
+unit_proper Nop cond written words = pause_proper cond words
+unit_proper (Operation op) cond written words = behind_proper (target_of (Operation op) words) (Operation op) cond written words
+unit_proper Mv cond written words = behind_proper None Mv cond written words
+unit_proper Neg cond written words = behind_proper None Neg cond written words
+unit_proper Not cond written words = behind_proper None Not cond written words
+unit_proper Zero cond written words = behind_proper None Zero cond written words
+unit_proper Mvkl cond written words = behind_proper None Mvkl cond written words
+unit_proper Mvkh cond written words = behind_proper None Mvkh cond written words
+
+with_unit_proper : (mnemonic : Mnemonic) (cond : Option Condition) (found : Option (Option WrittenUnit × List Word)) → OkProper (with_unit mnemonic cond found)
+with_unit_proper mnemonic cond None = tt
+with_unit_proper mnemonic cond (Some (None, words)) = unit_proper mnemonic cond None words
+with_unit_proper mnemonic cond (Some (Some written, words)) =
+    cond_both (unit_fits mnemonic written) (behind_unit mnemonic cond (Some written) words) (Err BadUnit) OkProper (λ _. unit_proper mnemonic cond (Some written) words) (λ _. tt)
+
+mnemonic_proper : (cond : Option Condition) (mnemonic : Option Mnemonic) (words : List Word) → OkProper (with_mnemonic cond mnemonic words)
+mnemonic_proper cond None words = tt
+mnemonic_proper cond (Some mnemonic) words = with_unit_proper mnemonic cond (unit_front words)
+
+instruction_proper : (cond : Option Condition) (words : List Word) → OkProper (instruction_of cond words)
+unfolding instruction_of
+instruction_proper None [] = tt
+instruction_proper (Some cond) [] = tt
+instruction_proper None (name ∷ words) = mnemonic_proper None (mnemonic_named name) words
+instruction_proper (Some cond) (name ∷ words) = mnemonic_proper (Some cond) (mnemonic_named name) words
+
+condition_proper : (found : Option (Option Condition × List Word)) → OkProper (with_condition found)
+condition_proper None = tt
+condition_proper (Some (cond, words)) = instruction_proper cond words
+
+rest_proper : (words : List Word) → OkProper (rest_says words)
+unfolding rest_says
+rest_proper words =
+    cond_both (first_begins is_dot words) (Err Directive) (with_condition (condition_front words)) OkProper (λ _. tt) (λ _. condition_proper (condition_front words))
+
+-- what a line says is proper
+pub proper : (words : List Word) (says : Says) → rest_says words ≡ Ok says → IsProper says
+proper words says e = let found : OkProper (Ok says) = subst OkProper e (rest_proper words) in found
