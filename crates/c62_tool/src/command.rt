@@ -43,6 +43,7 @@ fn pack_command<'a>(alloc: Global) -> Result<Command<'a>, AllocError>
 {
     Command::new(alloc, "pack")
         .about("Reads serial text and writes its listing")
+        .override_usage("c62 pack [--turns]")
         .arg(turns_flag(alloc))
 }
 
@@ -73,6 +74,7 @@ fn serial_command<'a>(alloc: Global) -> Result<Command<'a>, AllocError>
 {
     Command::new(alloc, "serial")
         .about("Runs serial text, one instruction after the other, and reports the end")
+        .override_usage("c62 serial [--blocks <N>] [SETTING]...")
         .arg(blocks_option(alloc))?
         .arg(settings_words(alloc))
 }
