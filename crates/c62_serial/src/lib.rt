@@ -9,3 +9,6 @@ mod state;
 pub use chain::{Chain, End, run_program};
 pub use serial::{Exit, run_block};
 pub use state::State;
+
+#[cfg(test)]
+mod tests;
