@@ -24,17 +24,16 @@ ghost use Rattle.c62_insn.specs.Insn.{op_of, cond_of, register_writes};
 ghost use Rattle.c62_serial.specs.State.{word_in, byte_in};
 ghost use Rattle.c62_serial.specs.Memory.{is_size, is_good, read, written};
 ghost use Rattle.c62_serial.specs.Effect.{act_of, loaded, extended, is_fault, operand_values};
-ghost use Rattle.c62_serial.specs.Serial.{after_write, after_access, after_act, after_fault, exit_of, act_in, serial};
+ghost use Rattle.c62_serial.specs.Serial.{after_write, after_access, after_act, after_fault, exit_to, act_in, serial};
 
-impl Exit {
-    /// The exit of a branch that ran, else this one.
-    fn or_target(self, target: Option<Target>) -> Exit
-        ensures { result ≡ exit_of self target }
-    {
+/// The exit of a branch that goes there.
+impl From<Target> for Exit {
+    ghost from_gives = { λ target exit. exit ≡ exit_to target };
+
+    fn from(target: Target) -> Exit {
         match target {
-            None => self,
-            Some(Target::Block(number)) => Exit::Block(number),
-            Some(Target::Register(value)) => Exit::Register(value),
+            Target::Block(number) => Exit::Block(number),
+            Target::Register(value) => Exit::Register(value),
         }
     }
 }
@@ -152,9 +151,10 @@ pub fn run_block(_alloc: Global, block: &Block, state: &mut State) -> Result<Exi
 {
     let insns = block.insns();
     state.room(insns.len())?;
-    let mut exit = Exit::Next;
     for entry in insns {
-        exit = exit.or_target(run_insn(entry, state));
+        if let Some(target) = run_insn(entry, state) {
+            return Ok(Exit::from(target));
+        }
     }
-    Ok(exit)
+    Ok(Exit::Next)
 }
