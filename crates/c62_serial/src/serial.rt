@@ -20,7 +20,7 @@ pub enum Exit {
 }
 
 ghost use Rattle.std.specs.Option.{option_to_list};
-ghost use Rattle.c62_insn.specs.Insn.{op_of, cond_of, register_writes};
+ghost use Rattle.c62_insn.specs.Insn.{op_of, cond_of};
 ghost use Rattle.c62_serial.specs.State.{word_in, byte_in};
 ghost use Rattle.c62_serial.specs.Memory.{is_size, is_good, read, written};
 ghost use Rattle.c62_serial.specs.Effect.{act_of, loaded, extended, is_fault, operand_values};
@@ -53,12 +53,11 @@ fn inputs(insn: Insn, state: &State) -> Inputs
     }
 }
 
-/// Puts these values into the registers that an instruction writes, in their order.
-fn write(insn: Insn, values: &[u32], state: &mut State)
-    ensures { state.new ≡ record state.old { machine = record state.old.machine { registers = fold after_write state.old.machine.registers (zip (register_writes insn) values.now) } } }
+/// Puts values into the registers that an instruction writes, in their order.
+fn write(writes: &[(Reg, u8)], values: &[u32], state: &mut State)
+    ensures { state.new ≡ record state.old { machine = record state.old.machine { registers = fold after_write state.old.machine.registers (zip writes.now values.now) } } }
 {
-    let writes = insn.writes();
-    for ((reg, _), value) in writes.as_slice().iter().zip(values) {
+    for ((reg, _), value) in writes.iter().zip(values) {
         state.set(*reg, *value);
     }
 }
@@ -131,7 +130,7 @@ fn run_insn(entry: &SerialInsn, state: &mut State) -> Option<Target>
     if let Some(value) = make_access(entry, access, state) {
         values.push(value);
     }
-    write(entry.insn, values.as_slice(), state);
+    write(entry.insn.writes().as_slice(), values.as_slice(), state);
     target
 }
 
