@@ -1,10 +1,11 @@
 //! Worked rows, whose answers come from the processor's manual.
 
 use crate::chain::{Chain, End, run_program};
+use crate::serial::run_block;
 use crate::state::State;
 use c62_insn::Reg;
 use c62_insn::Side::{self, A, B};
-use c62_read::read_program;
+use c62_read::{Program, ReadFault, read_program};
 use std::alloc::Global;
 use std::process::Abort;
 use std::test::Fail;
@@ -220,21 +221,43 @@ fn calls_of_a_state(rt: HostRuntime) -> Result<(), Fail> {
     Ok(())
 }
 
-/// Want of memory in a run leaves the state at the start of a block.
+/// A block of 9 instructions, and one of 30.
+fn two_blocks(alloc: Global) -> Result<Program, ReadFault> {
+    let mut text = String::new(alloc);
+    for _ in 0..9u8 {
+        text.push_str("MVK 2,A4\n")?;
+    }
+    text.push_str("L:")?;
+    for _ in 0..30u8 {
+        text.push_str("MVK 3,A5\n")?;
+    }
+    read_program(alloc, text.as_bytes())
+}
+
+/// Want of memory leaves a state at the start of a block.
 #[test]
 fn want_of_memory(rt: HostRuntime) {
     let alloc = rt.alloc();
-    let text = b"MVK 1,A4\nL: MVK 2,A4\nMVK 2,A4\nMVK 2,A4\nMVK 2,A4\nMVK 2,A4\nMVK 2,A5\n";
-    let Ok(program) = read_program(alloc, text) else {
+    let Ok(program) = two_blocks(alloc) else {
         return;
     };
     let Ok(mut state) = State::new(alloc) else {
         return;
     };
-    let ended = run_program(alloc, &program, &mut state, 9);
-    let left = match ended {
-        Ok(_) => [2, 2],
-        Err(_) => [state.reg(A4).min(1), 0],
+    if state.room(3).is_err() {
+        assert_eq!(&rt; [state.reg(A4), state.reg(A5)], [0, 0]);
+    }
+    let Some(first) = program.blocks().first() else {
+        return;
     };
-    assert!(&rt; [state.reg(A4), state.reg(A5)] == left);
+    let left = match run_block(alloc, first, &mut state) {
+        Ok(_) => 2,
+        Err(_) => 0,
+    };
+    assert_eq!(&rt; [state.reg(A4), state.reg(A5)], [left, 0]);
+    let loaded = match run_program(alloc, &program, &mut state, 9) {
+        Ok(_) => 3,
+        Err(_) => 0,
+    };
+    assert_eq!(&rt; [state.reg(A4), state.reg(A5)], [2, loaded]);
 }
