@@ -20,7 +20,7 @@ dropped : (p : ℕ → Bool) (xs : List ℕ) → All (λ x. p x ≡ false) xs �
 dropped p [] h = refl
 dropped p (x ∷ xs) h = rw (All-head (λ x. p x ≡ false) x xs h) (dropped p xs (All-tail (λ x. p x ≡ false) x xs h))
 
-is_below : (x y : ℕ) → x < y → nat_lt x y ≡ true
+pub is_below : (x y : ℕ) → x < y → nat_lt x y ≡ true
 is_below x y h = grind (arith, nat_tests)
 
 is_not_below : (x y : ℕ) → y ≤ x → nat_lt x y ≡ false

@@ -1,2 +1,4 @@
 pub mod FaultLemmas
 pub mod ChainLemmas
+pub mod BranchLemmas
+pub mod MemoryLemmas

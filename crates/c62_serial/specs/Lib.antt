@@ -4,3 +4,4 @@ pub mod Faults
 pub mod Effect
 pub mod Serial
 pub mod Chain
+pub mod Laws

@@ -42,11 +42,14 @@ after_act line act machine = record {
   faults = after_fault machine.faults line (is_fault act.access);
 }
 
+abbrev pub exit_to : Target → Exit
+exit_to (ToBlock number) = Block number
+exit_to (ToRegister value) = Register value
+
 -- the exit is that of a branch that ran
-abbrev pub exit_of : Exit → Option Target → Exit
-exit_of exit None = exit
-exit_of exit (Some (ToBlock number)) = Block number
-exit_of exit (Some (ToRegister value)) = Register value
+abbrev pub exit_after : Exit → Option Target → Exit
+exit_after exit None = exit
+exit_after exit (Some target) = exit_to target
 
 -- an instruction acts on what a run left
 abbrev pub act_in : Machine → SerialInsn → Act
@@ -54,7 +57,7 @@ act_in machine entry = act_of entry.insn (word_in machine) (byte_in machine)
 
 abbrev pub after_insn : Ran → SerialInsn → Ran
 after_insn ran entry = let act = act_in ran.machine entry in
-    record { machine = after_act entry.line act ran.machine; exit = exit_of ran.exit act.target }
+    record { machine = after_act entry.line act ran.machine; exit = exit_after ran.exit act.target }
 
 -- the serial meaning
 abbrev pub serial : List SerialInsn → Machine → Ran

@@ -3,9 +3,13 @@
 #![tactic(auto)]
 
 mod chain;
+pub mod laws;
 mod serial;
 mod state;
 
 pub use chain::{Chain, End, run_program};
 pub use serial::{Exit, run_block};
 pub use state::State;
+
+#[cfg(test)]
+mod tests;

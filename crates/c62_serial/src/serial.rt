@@ -20,21 +20,20 @@ pub enum Exit {
 }
 
 ghost use Rattle.std.specs.Option.{option_to_list};
-ghost use Rattle.c62_insn.specs.Insn.{op_of, cond_of, register_writes};
+ghost use Rattle.c62_insn.specs.Insn.{op_of, cond_of};
 ghost use Rattle.c62_serial.specs.State.{word_in, byte_in};
 ghost use Rattle.c62_serial.specs.Memory.{is_size, is_good, read, written};
 ghost use Rattle.c62_serial.specs.Effect.{act_of, loaded, extended, is_fault, operand_values};
-ghost use Rattle.c62_serial.specs.Serial.{after_write, after_access, after_act, after_fault, exit_of, act_in, serial};
+ghost use Rattle.c62_serial.specs.Serial.{after_write, after_access, after_act, after_fault, exit_to, act_in, serial};
 
-impl Exit {
-    /// The exit of a branch that ran, else this one.
-    fn or_target(self, target: Option<Target>) -> Exit
-        ensures { result ≡ exit_of self target }
-    {
+/// The exit of a branch that goes there.
+impl From<Target> for Exit {
+    ghost from_gives = { λ target exit. exit ≡ exit_to target };
+
+    fn from(target: Target) -> Exit {
         match target {
-            None => self,
-            Some(Target::Block(number)) => Exit::Block(number),
-            Some(Target::Register(value)) => Exit::Register(value),
+            Target::Block(number) => Exit::Block(number),
+            Target::Register(value) => Exit::Register(value),
         }
     }
 }
@@ -54,12 +53,11 @@ fn inputs(insn: Insn, state: &State) -> Inputs
     }
 }
 
-/// Puts these values into the registers that an instruction writes, in their order.
-fn write(insn: Insn, values: &[u32], state: &mut State)
-    ensures { state.new ≡ record state.old { machine = record state.old.machine { registers = fold after_write state.old.machine.registers (zip (register_writes insn) values.now) } } }
+/// Puts values into the registers that an instruction writes, in their order.
+fn write(writes: &[(Reg, u8)], values: &[u32], state: &mut State)
+    ensures { state.new ≡ record state.old { machine = record state.old.machine { registers = fold after_write state.old.machine.registers (zip writes.now values.now) } } }
 {
-    let writes = insn.writes();
-    for ((reg, _), value) in writes.as_slice().iter().zip(values) {
+    for ((reg, _), value) in writes.iter().zip(values) {
         state.set(*reg, *value);
     }
 }
@@ -132,7 +130,7 @@ fn run_insn(entry: &SerialInsn, state: &mut State) -> Option<Target>
     if let Some(value) = make_access(entry, access, state) {
         values.push(value);
     }
-    write(entry.insn, values.as_slice(), state);
+    write(entry.insn.writes().as_slice(), values.as_slice(), state);
     target
 }
 
@@ -152,9 +150,10 @@ pub fn run_block(_alloc: Global, block: &Block, state: &mut State) -> Result<Exi
 {
     let insns = block.insns();
     state.room(insns.len())?;
-    let mut exit = Exit::Next;
     for entry in insns {
-        exit = exit.or_target(run_insn(entry, state));
+        if let Some(target) = run_insn(entry, state) {
+            return Ok(Exit::from(target));
+        }
     }
-    Ok(exit)
+    Ok(Exit::Next)
 }

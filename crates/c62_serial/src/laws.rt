@@ -1,0 +1,46 @@
+//! Laws of memory, faults and runs. The functions do nothing: what each ensures is a law, proved of
+//! the definitions that all other contracts cite.
+
+ghost use Rattle.std.specs.Prelude.{◌≡◌, ℕ, List, length, IsTrue};
+ghost use Rattle.std.specs.List.Sorted.{IsStrictlyIncreasing};
+ghost use Rattle.c62_insn.specs.declared.register.Reg.{Reg as Register};
+ghost use Rattle.c62_read.specs.declared.block.SerialInsn.{SerialInsn};
+ghost use Rattle.c62_serial.specs.State.{Machine, IsSound};
+ghost use Rattle.c62_serial.specs.Memory.{is_size, is_good};
+ghost use Rattle.c62_serial.specs.Serial.{Ran};
+ghost use Rattle.c62_serial.specs.Laws.{StoresItsBytes, LoadsWhatWasStored, StoresWordAsBytes, HoldsItsWord, JoinsLines, DoesNothing, RunsInTurn};
+
+/// A store puts its bytes into memory, the lowest first, and changes no other.
+pub fn stores_its_bytes()
+    ensures { (memory : List ℕ) (address size value : ℕ) → length memory ≡ 65536 → IsTrue (is_good address size) → StoresItsBytes memory address size value }
+{}
+
+/// A load of what was stored gives the low bytes of the value.
+pub fn loads_what_was_stored()
+    ensures { (memory : List ℕ) (address size value : ℕ) → length memory ≡ 65536 → IsTrue (is_size size) → IsTrue (is_good address size) → LoadsWhatWasStored memory address size value }
+{}
+
+/// A word is stored as its four bytes are, one by one.
+pub fn stores_word_as_bytes()
+    ensures { (memory : List ℕ) (address value : ℕ) → length memory ≡ 65536 → IsTrue (is_good address 4) → StoresWordAsBytes memory address value }
+{}
+
+/// A register holds the word that was put into it, and the others keep theirs.
+pub fn holds_its_word()
+    ensures { (machine : Machine) (reg : Register) (value : ℕ) → IsSound machine → HoldsItsWord machine reg value }
+{}
+
+/// The faulted lines rise, and a line that joins them is one of them beside those that were.
+pub fn joins_lines()
+    ensures { (lines : List ℕ) (line : ℕ) → IsStrictlyIncreasing lines → JoinsLines lines line }
+{}
+
+/// An instruction whose condition does not hold changes nothing and goes nowhere.
+pub fn does_nothing()
+    ensures { (ran : Ran) (entry : SerialInsn) → DoesNothing ran entry }
+{}
+
+/// The instructions of a block run in turn: first some of them, then the rest on what those left.
+pub fn runs_in_turn()
+    ensures { (first rest : List SerialInsn) (machine : Machine) → RunsInTurn first rest machine }
+{}
