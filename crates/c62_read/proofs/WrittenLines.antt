@@ -1,8 +1,8 @@
 -- Lines of a pause and of a label read back.
-use Rattle.std.proofs.Common.{◌≡◌, ℕ, ◌+◌, ◌≤◌, Bool, true, false, not, cond, eqb, ltb, leb, ◌&&◌, ◌||◌, List, [], ◌∷◌, ◌++◌, length, Option, Some, None, Result, Ok, Err, refl, sym, ap, subst, ◌∙◌, arith, length-append}
-use Rattle.std.specs.Prelude.{ℤ, pos, codes}
+use Rattle.std.proofs.Common.{◌≡◌, ℕ, ◌+◌, ◌≤◌, true, false, eqb, List, [], ◌∷◌, ◌++◌, length, Option, Some, None, Ok, refl, ap, ◌∙◌, arith, length-append}
+use Rattle.std.specs.Prelude.{pos, codes}
 use Rattle.std.specs.Char.{to_ascii_lowercase}
-use Rattle.std.specs.Fmt.{decimal, signed_decimal}
+use Rattle.std.specs.Fmt.{decimal}
 use Rattle.std.specs.List.{list_all}
 use Rattle.std.proofs.lemmas.Bool.{and_from, and_left, and_parts, le-leb, le-ltb}
 use Rattle.std.proofs.lemmas.Bool.Decides.{nat_tests}
@@ -10,17 +10,17 @@ use Rattle.std.proofs.lemmas.Fmt.{decimal_digit}
 use Rattle.std.proofs.lemmas.List.Folds.{list_all-append}
 use Rattle.c62_read.specs.declared.mnemonic.Mnemonic.TheVariants.{Nop}
 use Rattle.c62_read.specs.Text.{begins, is_allowed, is_blank, is_word_byte, tokens}
-use Rattle.c62_read.specs.Number.{is_label, number_of, spells}
+use Rattle.c62_read.specs.Number.{is_label}
 use Rattle.c62_read.specs.Operand.{Word}
 use Rattle.c62_read.specs.Mnemonic.{mnemonic_named, operation_named, pseudo_named}
 use Rattle.c62_read.specs.Unit.{unit_front}
-use Rattle.c62_read.specs.Line.{Nothing, Pause, behind_unit, condition_front, cycles_of, head_of, instruction_of, is_bars, is_star, label_front, line_of, pause_of, rest_says}
+use Rattle.c62_read.specs.Line.{Nothing, Pause, behind_unit, condition_front, cycles_of, head_of, instruction_of, is_bars, is_star, label_front, pause_of, rest_says}
 use Rattle.c62_read.specs.Program.{place_of}
 use Rattle.c62_read.specs.Laws.{LabelReadsBack, PauseReadsBack}
 use Rattle.c62_read.proofs.HeadLemmas.{all_weaker, allowed_text, head_plain, line_by_head, no_colon}
 use Rattle.c62_read.proofs.SpelledNumbers.{fits, number_read, number_token}
 use Rattle.c62_read.proofs.SpelledOperands.{label_parts, label_some, spelled_label}
-use Rattle.c62_read.proofs.SpelledTokens.{IsToken, is_text, text_word, tokens_behind, tokens_end, word_token}
+use Rattle.c62_read.proofs.SpelledTokens.{IsToken, is_text, tokens_behind, tokens_end, word_token}
 use Rattle.c62_read.proofs.TokenLemmas.{tokens_blank}
 
 -- ---- a pause
