@@ -1,8 +1,8 @@
 -- What holds of operands that some unit takes.
-use Rattle.std.proofs.Common.{◌≡◌, ℕ, ◌≤◌, Bool, true, false, not, leb, ◌&&◌, ◌||◌, List, [], ◌∷◌, refl, subst, arith, inl, inr}
+use Rattle.std.proofs.Common.{◌≡◌, Bool, true, false, not, ◌&&◌, ◌||◌, List, [], ◌∷◌, refl, subst, arith, inl, inr}
 use Rattle.std.specs.Prelude.{ℤ, pos, negsuc, int_le}
 use Rattle.std.specs.List.{list_all, list_any}
-use Rattle.std.proofs.lemmas.Bool.{and_from, and_left, and_parts, and_right, both_ways, le-leb, leb-true, or_cases, or_from, or_left, or_right, not_from_true}
+use Rattle.std.proofs.lemmas.Bool.{and_from, and_parts, both_ways, le-leb, leb-true, or_cases, or_from, or_left, or_right, not_from_true}
 use Rattle.c62_insn.specs.declared.register.Side.{Side}
 use Rattle.c62_insn.specs.declared.register.Side.TheVariants.{A, B}
 use Rattle.c62_insn.specs.declared.register.Reg.{Reg}
@@ -23,10 +23,10 @@ use Rattle.c62_insn.specs.declared.form.Pattern.{Pattern}
 use Rattle.c62_insn.specs.declared.form.Pattern.TheVariants.{Three as three, ConstantFirst as constant_first, ConstantSecond as constant_second, Two as two, Field as field, Constant as constant, Access as access, Block as block, Register as register}
 use Rattle.c62_insn.specs.declared.form.Form.{Form}
 use Rattle.c62_insn.specs.Table.{forms_of}
-use Rattle.c62_insn.specs.Takes.{same_side, same_letter, may_lie, in_range, offset_in_range, same_kind, holds_constants, lie_well, takes, has_letter}
+use Rattle.c62_insn.specs.Takes.{same_side, same_letter, may_lie, in_range, same_kind, holds_constants, lie_well, takes, has_letter}
 use Rattle.c62_insn.specs.Shape.{crosses_to}
 use Rattle.c62_insn.specs.Fault.{has_kind}
-use Rattle.c62_insn.proofs.Registers.{same_side-is, same_side-refl, same_letter-is, same_letter-refl}
+use Rattle.c62_insn.proofs.Registers.{same_letter-is}
 
 -- ---- tests of forms
 
@@ -88,8 +88,10 @@ one_form op operands unit (form ∷ forms) any all =
           let first = and_parts (holds_constants form.pattern operands && same_letter form.letter unit.letter) (lie_well form.pattern unit.side operands) here in
           let both = and_parts (holds_constants form.pattern operands) (same_letter form.letter unit.letter) first.0 in
           record {
-            pattern = form.pattern; holds = both.0; lies = first.1;
-            kept = subst (λ (letter : Letter). keeps op letter form.pattern ≡ true) (same_letter-is form.letter unit.letter both.1) kept.0
+            pattern = form.pattern;
+            holds = both.0;
+            lies = first.1;
+            kept = subst (λ (letter : Letter). keeps op letter form.pattern ≡ true) (same_letter-is form.letter unit.letter both.1) kept.0;
           }
       | inr later ↦ one_form op operands unit forms later kept.1
     ]

@@ -27,3 +27,4 @@ pub mod CaseBytes
 pub mod CaseLaws
 pub mod CutLaws
 pub mod TargetLaws
+pub mod WrittenLines

@@ -367,7 +367,7 @@ pub record IsSpelledLabel (label : List ℕ) : Type 0 where
   pub token : IsToken label
   pub short : length label ≤ 32
 
-label_parts : (label : List ℕ) → is_label label ≡ true
+pub label_parts : (label : List ℕ) → is_label label ≡ true
     → (begins (λ b. not (is_ascii_digit b)) label ≡ true) × (list_all is_word_byte label ≡ true) × (leb (length label) 32 ≡ true)
 unfolding is_label
 label_parts label is =
@@ -379,6 +379,9 @@ label_parts label is =
 begun : (test : ℕ → Bool) (w : List ℕ) → begins test w ≡ true → 1 ≤ length w
 begun test [] is = absurd cc
 begun test (b ∷ w) is = omega arith
+
+pub label_some : (label : List ℕ) → is_label label ≡ true → 1 ≤ length label
+label_some label is = begun (λ b. not (is_ascii_digit b)) label (label_parts label is).0
 
 pub spelled_label : (label : List ℕ) → is_label label ≡ true → IsSpelledLabel label
 spelled_label label is =

@@ -1,5 +1,5 @@
 -- Laws of lines: what is spelled reads back.
-use Rattle.std.specs.Prelude.{◌≡◌, ℕ, ◌+◌, ◌≤◌, nat_lt, Bool, true, false, ◌&&◌, ◌||◌, ℤ, pos, ◌≤ℤ◌, List, [], ◌∷◌, ◌++◌, length, map, option_map, position, unwrap_or, slice_get, Contains, Option, Some, None, is_some, Result, Ok, Err, IsTrue}
+use Rattle.std.specs.Prelude.{◌≡◌, ℕ, ◌+◌, ◌≤◌, nat_lt, Bool, true, false, ◌&&◌, ◌||◌, ℤ, pos, ◌≤ℤ◌, List, [], ◌∷◌, ◌++◌, length, map, option_map, position, unwrap_or, slice_get, Contains, Option, Some, None, is_some, Result, Ok, Err, codes, decimal, IsTrue}
 use Rattle.std.specs.Char.{to_ascii_lowercase}
 use Rattle.std.specs.Fmt.{signed_decimal}
 use Rattle.std.specs.List.{flat_map, list_all}
@@ -15,7 +15,7 @@ use Rattle.c62_insn.specs.Takes.{takes}
 use Rattle.c62_read.specs.Text.{is_allowed, is_blank, lines_of}
 use Rattle.c62_read.specs.Number.{is_label, negative, number_of, register_of}
 use Rattle.c62_read.specs.Operand.{Word}
-use Rattle.c62_read.specs.Line.{Parts, Says, Nothing, Does, Jumps, is_branch, line_of}
+use Rattle.c62_read.specs.Line.{Parts, Says, Nothing, Pause, Does, Jumps, is_branch, line_of}
 use Rattle.c62_read.specs.declared.fault.Cause.{Cause}
 use Rattle.c62_read.specs.Block.{branch_last}
 use Rattle.c62_read.specs.Program.{BlockParts, Name, Numbered, label_is, most_bytes, place_of, program_in}
@@ -49,6 +49,16 @@ abbrev pub LineReadsBack : (ℕ → Word) → Insn → FunctionalUnit → List �
 LineReadsBack name insn unit blanks =
     IsTrue (takes (op_of insn) (operands_of insn) unit) → NamesTarget name (operands_of insn) → IsTrue (list_all is_blank blanks) → length blanks ≤ 100
     → line_of (blanks ++ spelling name insn unit) ≡ Ok (None, says_on name insn unit)
+
+-- the line that spells so many cycles without an instruction says them
+abbrev pub PauseReadsBack : ℕ → List ℕ → Type 0
+PauseReadsBack n blanks =
+    1 ≤ n → n ≤ 9 → IsTrue (list_all is_blank blanks) → length blanks ≤ 100 → line_of (blanks ++ (codes "NOP " ++ decimal n)) ≡ Ok (None, Pause n)
+
+-- a label and a colon are a line of that label, and say nothing else
+abbrev pub LabelReadsBack : Word → Type 0
+LabelReadsBack label =
+    IsTrue (is_label label) → (line_of (label ++ codes ":") ≡ Ok (Some label, Nothing)) × (place_of (label ++ codes ":") ≡ Some label)
 
 -- ---- what says nothing
 

@@ -7,7 +7,7 @@ ghost use Rattle.c62_insn.specs.declared.register.Unit.{Unit as FunctionalUnit};
 ghost use Rattle.c62_insn.specs.declared.insn.Insn.{Insn};
 ghost use Rattle.c62_read.specs.Text.{begins, is_blank, tokens};
 ghost use Rattle.c62_read.specs.Line.{is_star};
-ghost use Rattle.c62_read.specs.Laws.{LineReadsBack, NumberReadsBack, RegisterReadsBack, IsReadable, StarSaysNothing, CommentSaysNothing, CommentsSayNothing, CaseSaysNothing, IsRecased, IsItsLines, HasTargets, HasRisingLines, ReadsAsItsLine, HasCutBlocks};
+ghost use Rattle.c62_read.specs.Laws.{LineReadsBack, PauseReadsBack, LabelReadsBack, NumberReadsBack, RegisterReadsBack, IsReadable, StarSaysNothing, CommentSaysNothing, CommentsSayNothing, CaseSaysNothing, IsRecased, IsItsLines, HasTargets, HasRisingLines, ReadsAsItsLine, HasCutBlocks};
 
 /// The tokens of a line are its bytes in their order, less blanks and what follows a `;`.
 pub fn tokens_are_the_bytes()
@@ -35,6 +35,17 @@ pub fn registers_read_back()
 /// to a block is spelled with a label, and reads as a branch to that label.
 pub fn spelled_lines_read_back()
     ensures { (name : ℕ → List ℕ) (insn : Insn) (unit : FunctionalUnit) (blanks : List ℕ) → LineReadsBack name insn unit blanks }
+{}
+
+/// A line of NOP and a number from 1 to 9 reads as so many cycles without an instruction, with or
+/// without blanks before it.
+pub fn pauses_read_back()
+    ensures { (n : ℕ) (blanks : List ℕ) → PauseReadsBack n blanks }
+{}
+
+/// A line of a label and a colon reads as that label with nothing behind it.
+pub fn labels_read_back()
+    ensures { (label : List ℕ) → LabelReadsBack label }
 {}
 
 /// A line that begins with `*` says nothing, as long as it may be read at all.
