@@ -10,5 +10,6 @@ pub mod BlockLemmas
 pub mod ReadingLemmas
 pub mod AddedLemmas
 pub mod SoundLemmas
+pub mod TargetLemmas
 pub mod BytesLemmas
 pub mod CommentLemmas
