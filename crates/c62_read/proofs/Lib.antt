@@ -4,7 +4,6 @@ pub mod NumberLemmas
 pub mod SourceLemmas
 pub mod UnitLemmas
 pub mod ColonLemmas
-pub mod Pieces
 pub mod LineLemmas
 pub mod BlockLemmas
 pub mod ReadingLemmas

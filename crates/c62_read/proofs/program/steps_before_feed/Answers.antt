@@ -1,0 +1,17 @@
+use Rattle.std.proofs.Common.{◌≡◌, ◌+◌, ◌-◌, ℕ, false, take, drop, arith, sym, ap, ◌∙◌}
+use Rattle.std.specs.List.{list_any}
+use Rattle.c62_read.specs.Text.{is_line_feed}
+use Rattle.c62_read.proofs.LineLemmas.{none_more_steps}
+use Rattle.c62_read.proofs.program.steps_before_feed.Goals as goal
+
+pub loop-start-preserved : goal.loop-start-preserved
+loop-start-preserved c =
+    let text = c.args.text.now in
+    let start = c.loop-start.start in
+    let step : (start + 16) - start ≡ 16 = omega arith in
+    let next : list_any is_line_feed (take 16 (drop start text)) ≡ false =
+    ap (λ (n : ℕ). list_any is_line_feed (take n (drop start text))) (sym step) ∙ sym c.has_feed.ensures ∙ c.if-not-has_feed.true in
+    record {
+      within = omega (arith, c.loop-start-test.true, c.loop-start.invariant.within);
+      none = none_more_steps text start 16 c.loop-start.invariant.none next;
+    }
