@@ -9,6 +9,7 @@ pub mod BlockLemmas
 pub mod ReadingLemmas
 pub mod AddedLemmas
 pub mod SoundLemmas
+pub mod PlaceLemmas
 pub mod TargetLemmas
 pub mod BytesLemmas
 pub mod CommentLemmas

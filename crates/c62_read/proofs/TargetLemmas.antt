@@ -32,7 +32,7 @@ use Rattle.c62_read.specs.Operand.{Word, access, address_of, loaded_of, nothing_
 use Rattle.c62_read.specs.Mnemonic.{crossed_to_back, constant_to_front, exchanged, in_order, mnemonic_named, read_as, with_kind, zero_in}
 use Rattle.c62_read.specs.Number.{is_label, number_of, register_of, spells}
 use Rattle.c62_read.specs.Text.{begins, is_allowed, is_double, tokens}
-use Rattle.c62_read.proofs.TokenLemmas.{tokens_alone}
+use Rattle.c62_read.proofs.PlaceLemmas.{star_place}
 use Rattle.c62_read.specs.Line.{Parts, Says, Nothing, Pause, Does, Jumps, behind_unit, condition_front, cycles_of, does, first_begins, formed, has_colon, head_of, is_bars, is_star, label_front, without_colon, instruction_of, is_branch, is_storing, jumps, jumps_or_does, letter_written, operands_written, parts_read, pause_of, rest_says, target_of, text_fault, with_condition, with_mnemonic, with_unit}
 use Rattle.c62_read.specs.declared.block.SerialInsn.{SerialInsn}
 use Rattle.c62_read.specs.Block.{Serial, is_labelled, labels_in, target_stands, targets_stand}
@@ -392,32 +392,6 @@ gets_label : (label : Name) (drafts : Drafts) → has_label label (all_drafts (w
 gets_label label drafts = one_more label (all_drafts drafts) (new_draft (Some label)) ∙ or_right (has_label label (all_drafts drafts)) (bytes_eq label label) (same_label label)
 
 -- a line's label is the one in its label place
-no_label_front : (word : List ℕ) (words : List (List ℕ)) → is_label word ≡ false → (label_front (word ∷ words)).0 ≡ None
-unfolding label_front
-no_label_front word [] none = refl
-no_label_front word (colon ∷ words) none = go (spells (codes ":") colon) (is_label word) none
-  where
-    go : (ends label : Bool) → label ≡ false → (if◌then◌else◌ {A = Option Name × List (List ℕ)} (ends && label) (Some word, words) (None, word ∷ colon ∷ words)).0 ≡ None
-    go true true e = absurd cc
-    go true false e = refl
-    go false label e = refl
-
-star_is_no_label : is_label (42 ∷ []) ≡ false
-unfolding is_label
-star_is_no_label = refl
-
-star_place : (line : List ℕ) → begins is_star line ≡ true → place_of line ≡ None
-unfolding place_of label_front
-star_place [] star = refl
-star_place (b ∷ []) star =
-    let e : b ≡ 42 = eqb-true b 42 star in
-    subst (λ (x : ℕ). (label_front (tokens (x ∷ []))).0 ≡ None) (sym e) refl
-star_place (b ∷ c ∷ rest) star =
-    let e : b ≡ 42 = eqb-true b 42 star in
-    let single : is_double 42 c ≡ false = and_right (eqb 42 c) false refl in
-    subst (λ (x : ℕ). (label_front (tokens (x ∷ c ∷ rest))).0 ≡ None) (sym e)
-    (ap (λ (words : List (List ℕ)). (label_front words).0) (tokens_alone 42 c rest refl single refl) ∙ no_label_front (42 ∷ []) (tokens (c ∷ rest)) star_is_no_label)
-
 colon_place : (colon : Bool) (front : Option Name × List (List ℕ)) (label : Option Name) (words : List (List ℕ)) → (if◌then◌else◌ {A = Result (Option Name × List (List ℕ)) Cause} colon (Err BadLabel) (Ok (front.0, front.1))) ≡ Ok (label, words) → front.0 ≡ label
 colon_place true front label words is = absurd cc
 colon_place false front label words is = cc

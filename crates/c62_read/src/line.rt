@@ -215,7 +215,7 @@ fn begins_with_dot(rest: &[u8]) -> bool
     }
 }
 
-fn begins_with(byte: u8, bytes: &[u8]) -> bool
+pub(crate) fn begins_with(byte: u8, bytes: &[u8]) -> bool
     ensures { result ≡ begins (λ b. b == byte) bytes.now }
 {
     match bytes {

@@ -11,7 +11,7 @@ ghost use Rattle.c62_read.specs.Text.{is_line_feed, lines_of, without_return};
 use crate::block::{Block, Program, SerialInsn};
 use crate::fault::{Cause, ReadFault};
 use crate::label::Label;
-use crate::line::{first_label, owned, read_head, read_rest};
+use crate::line::{begins_with, first_label, owned, read_head, read_rest};
 use crate::reading::What;
 use c62_insn::{Insn, Op};
 use std::alloc::{AllocError, Global};
@@ -252,11 +252,14 @@ fn is_among(label: &[u8], labels: &[&[u8]]) -> bool
     any_is(label, labels)
 }
 
-/// The label in a line's label place.
-#[tactic(auto, unfolding(crate::specs::Program::place_of))]
+/// The label in a line's label place, which a comment line doesn't have.
+#[tactic(auto, using(crate::proofs::PlaceLemmas::star_place), unfolding(crate::specs::Program::place_of))]
 fn place(line: &[u8]) -> Option<&[u8]>
     ensures { option_copied result ≡ place_of line.now }
 {
+    if begins_with(b'*', line) {
+        return None;
+    }
     first_label(line).0
 }
 
