@@ -1,13 +1,13 @@
 -- The first line of a text.
-use Rattle.std.proofs.Common.{◌≡◌, ◌<◌, ◌≤◌, ℕ, ◌+◌, zero, suc, Bool, true, false, not, eqb, ◌&&◌, ◌||◌, List, [], ◌∷◌, ◌++◌, length, take, drop, Some, None, refl, sym, ap, ◌∙◌, arith, take-add}
-use Rattle.std.specs.Prelude.{position, nat_lt, if◌then◌else◌, Option}
-use Rattle.std.specs.List.{list_all, list_any, before_first, after_first, position_or_len, prefix_len}
+use Rattle.std.proofs.Common.{◌≡◌, ◌<◌, ◌≤◌, ℕ, ◌+◌, ◌-◌, zero, suc, Bool, true, false, not, eqb, ◌&&◌, ◌||◌, List, [], ◌∷◌, ◌++◌, length, take, drop, Some, None, refl, sym, ap, ◌∙◌, arith, take-add}
+use Rattle.std.specs.Prelude.{position, nat_lt, if◌then◌else◌}
+use Rattle.std.specs.List.{list_all, list_any, before_first, position_or_len}
 use Rattle.std.proofs.Common.{get_or}
 use Rattle.std.proofs.lemmas.Bool.{and_from, and_parts, eqb-true, not-true, ltb-true, ltb-false, lt-ltb, le-ltb}
 use Rattle.std.proofs.lemmas.List.{length-drop, take_all}
 use Rattle.std.proofs.lemmas.List.Quantifiers.{position-Some}
 use Rattle.std.proofs.lemmas.List.Folds.{list_any-append}
-use Rattle.std.proofs.lemmas.List.Sums.{split_at_first}
+use Rattle.std.proofs.lemmas.List.Sums.{prefix_len-le-length, split_at_first}
 use Rattle.c62_read.specs.Text.{grow, is_line_feed, lines_of, without_return}
 
 -- a line is without the carriage return that stands last
@@ -149,3 +149,19 @@ pub none_more_steps : (text : List ℕ) (n k : ℕ) → list_any is_line_feed (t
 none_more_steps text n k front next =
     ap (list_any is_line_feed) (take-add n k text) ∙ list_any-append is_line_feed (take n text) (take k (drop n text))
     ∙ ap (λ (x : Bool). x || list_any is_line_feed (take k (drop n text))) front ∙ next
+
+within_next : (k : ℕ) (text : List ℕ) → list_any is_line_feed (take k text) ≡ true → position_or_len is_line_feed text < k
+within_next zero text some = absurd cc
+within_next (suc k) [] some = absurd cc
+within_next (suc k) (b ∷ text) some = go (is_line_feed b) some (within_next k text)
+  where
+    go : (feed : Bool) → (feed || list_any is_line_feed (take k text)) ≡ true → (list_any is_line_feed (take k text) ≡ true → position_or_len is_line_feed text < k)
+        → (if not feed then 1 + position_or_len is_line_feed text else 0) < suc k
+    go true e others = omega arith
+    go false e others = omega (arith, others e)
+
+pub near_feed : (text : List ℕ) (n k : ℕ) → n ≤ length text → list_any is_line_feed (take n text) ≡ false → list_any is_line_feed (take k (drop n text)) ≡ true → position_or_len is_line_feed text < n + k
+near_feed text n k within none some = omega (arith, place_later n text none within, within_next k (drop n text) some)
+
+pub near_end : (text : List ℕ) (n k : ℕ) → length text - n < k → position_or_len is_line_feed text < n + k
+near_end text n k short = omega (arith, prefix_len-le-length (λ (b : ℕ). not (is_line_feed b)) text)

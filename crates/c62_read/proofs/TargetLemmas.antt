@@ -1,10 +1,10 @@
 -- Every branch to a label of a text that is read goes to a block that is there and has a label.
-use Rattle.std.proofs.Common.{◌≡◌, ◌<◌, ℕ, zero, suc, ◌+◌, Bool, true, false, cond, not, eqb, ◌&&◌, ◌||◌, List, [], ◌∷◌, ◌++◌, length, Option, Some, None, Result, Ok, Err, refl, sym, ap, subst, ◌∙◌, arith}
-use Rattle.std.specs.Prelude.{ℤ, pos, negsuc, map, position, unwrap_or, option_map, option_and_then, is_some, nat_le, nat_lt, codes, if◌then◌else◌}
+use Rattle.std.proofs.Common.{◌≡◌, ◌<◌, ℕ, zero, suc, ◌+◌, Bool, true, false, cond, not, ◌&&◌, ◌||◌, List, [], ◌∷◌, ◌++◌, length, Option, Some, None, Result, Ok, Err, refl, sym, ap, subst, ◌∙◌, arith}
+use Rattle.std.specs.Prelude.{ℤ, pos, negsuc, map, option_map, option_and_then, is_some, nat_le, nat_lt, if◌then◌else◌}
 use Rattle.std.specs.List.{list_all, list_any, find, position_or_len, slice_get}
 use Rattle.std.specs.Option.{option_to_list}
 use Rattle.std.specs.Str.{bytes_eq}
-use Rattle.std.proofs.lemmas.Bool.{and_from, and_parts, and_right, eqb-true, lt-ltb, not-true, not-false}
+use Rattle.std.proofs.lemmas.Bool.{and_from, and_parts, lt-ltb, not-true, not-false}
 use Rattle.std.proofs.lemmas.List.{length-map}
 use Rattle.std.proofs.lemmas.List.Folds.{find_at, list_all-append, list_all-map, list_any-append}
 use Rattle.std.proofs.lemmas.Option.{slice_get-map, slice_get_within}
@@ -15,7 +15,7 @@ use Rattle.c62_insn.specs.declared.register.Reg.{Reg}
 use Rattle.c62_insn.specs.declared.register.Cond.{Cond as Condition}
 use Rattle.c62_insn.specs.declared.operands.Op.{Op}
 use Rattle.c62_insn.specs.declared.operands.Operands.{Operands}
-use Rattle.c62_insn.specs.declared.operands.Operands.TheVariants.{Three, ConstantFirst, ConstantSecond, Two, Field, Constant, Access, Register, Block}
+use Rattle.c62_insn.specs.declared.operands.Operands.TheVariants.{Three, ConstantSecond, Two, Constant, Register, Block}
 use Rattle.c62_insn.specs.declared.fault.FormFault.{FormFault}
 use Rattle.c62_insn.specs.Fault.{has_kind}
 use Rattle.c62_insn.specs.Takes.{same_side}
@@ -30,10 +30,10 @@ use Rattle.c62_read.specs.declared.operand.Source.TheVariants.{Register as FromR
 use Rattle.c62_read.specs.declared.unit.WrittenUnit.{WrittenUnit}
 use Rattle.c62_read.specs.Operand.{Word, access, address_of, loaded_of, nothing_behind, operands_from, operands_of, plain_of, register_behind, sources_of, stored_of}
 use Rattle.c62_read.specs.Mnemonic.{crossed_to_back, constant_to_front, exchanged, in_order, mnemonic_named, read_as, with_kind, zero_in}
-use Rattle.c62_read.specs.Number.{is_label, number_of, register_of, spells}
-use Rattle.c62_read.specs.Text.{begins, is_allowed, is_double, tokens}
+use Rattle.c62_read.specs.Number.{number_of, register_of}
+use Rattle.c62_read.specs.Text.{begins, is_allowed, tokens}
 use Rattle.c62_read.proofs.PlaceLemmas.{star_place}
-use Rattle.c62_read.specs.Line.{Parts, Says, Nothing, Pause, Does, Jumps, behind_unit, condition_front, cycles_of, does, first_begins, formed, has_colon, head_of, is_bars, is_star, label_front, without_colon, instruction_of, is_branch, is_storing, jumps, jumps_or_does, letter_written, operands_written, parts_read, pause_of, rest_says, target_of, text_fault, with_condition, with_mnemonic, with_unit}
+use Rattle.c62_read.specs.Line.{Parts, Says, Nothing, Pause, Does, Jumps, behind_unit, condition_front, cycles_of, does, first_begins, formed, has_colon, head_of, is_bars, is_star, label_front, without_colon, instruction_of, is_branch, is_storing, jumps_or_does, letter_written, operands_written, parts_read, pause_of, rest_says, target_of, text_fault, with_condition, with_mnemonic, with_unit}
 use Rattle.c62_read.specs.declared.block.SerialInsn.{SerialInsn}
 use Rattle.c62_read.specs.Block.{Serial, is_labelled, labels_in, target_stands, targets_stand}
 use Rattle.c62_read.specs.Unit.{is_dot, unit_fits, unit_front}

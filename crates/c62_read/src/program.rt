@@ -1,7 +1,7 @@
 //! What a text says.
 
 ghost use Rattle.std.specs.Prelude.{◌≡◌, ℕ, Ok, Err, ◌≤◌, ◌<◌, ◌+◌, ◌^◌, ◌∷◌, ◌++◌, [], length, take, map, false, position, Some, None, MatchOption, MatchResult, IfSome, IfOk, IfErr, OnOk, IsTrue};
-ghost use Rattle.std.specs.List.{list_any, list_all};
+ghost use Rattle.std.specs.List.{list_any, list_all, position_or_len};
 ghost use Rattle.std.specs.Option.{option_copied, option_to_list};
 ghost use Rattle.std.specs.Str.{bytes_eq};
 ghost use Rattle.c62_insn.specs.Insn.{op_of};
@@ -348,10 +348,11 @@ fn has_feed(bytes: &[u8]) -> bool
     found
 }
 
-/// How many bytes at the front, a whole number of steps, have no line feed.
+/// How many bytes at the front have no line feed: the first one, or the end, is within a step of them.
 fn steps_before_feed(text: &[u8]) -> usize
     ensures within { result ≤ length text.now }
     ensures none { list_any is_line_feed (take result text.now) ≡ false }
+    ensures near { position_or_len is_line_feed text.now < result + 16 }
 {
     let mut start = 0;
     while STEP <= text.len() - start && !has_feed(&text[start..start + STEP]) {

@@ -1,5 +1,5 @@
-use Rattle.std.proofs.Common.{◌≡◌, ◌+◌, ℕ, List, sym, ap, ◌∙◌}
-use Rattle.std.specs.Prelude.{Option, Some, None, position}
+use Rattle.std.proofs.Common.{◌≡◌, ◌+◌, ℕ, sym, ap, ◌∙◌}
+use Rattle.std.specs.Prelude.{Some, None, position}
 use Rattle.c62_read.specs.Text.{is_line_feed}
 use Rattle.c62_read.proofs.LineLemmas.{later_is, later_none}
 use Rattle.c62_read.proofs.program.first_feed.Goals as goal
