@@ -4,12 +4,13 @@ pub mod NumberLemmas
 pub mod SourceLemmas
 pub mod UnitLemmas
 pub mod ColonLemmas
-pub mod Pieces
 pub mod LineLemmas
 pub mod BlockLemmas
 pub mod ReadingLemmas
 pub mod AddedLemmas
 pub mod SoundLemmas
+pub mod PlaceLemmas
+pub mod TargetLemmas
 pub mod BytesLemmas
 pub mod CommentLemmas
 pub mod SpelledTokens

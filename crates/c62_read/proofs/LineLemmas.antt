@@ -1,73 +1,167 @@
--- How the first line of a text comes apart from the rest.
-use Rattle.std.proofs.Common.{◌≡◌, ℕ, suc, ◌+◌, ◌<◌, ◌≤◌, ◌⊎◌, Bool, true, false, cond, eqb, ◌&&◌, List, [], ◌∷◌, length, get_or, take, drop, refl, ap, ◌∙◌, add-one, arith, inl, inr}
-use Rattle.std.proofs.lemmas.Bool.{and_parts, and_right, both_ways}
-use Rattle.std.proofs.lemmas.List.{nil_from_length, length-drop, take_all}
-use Rattle.std.proofs.Math.Seq.{drop-cons, take-suc}
-use Rattle.c62_read.proofs.Pieces.{prepend, prepend_more, prepend_empty, prepend_all}
-use Rattle.c62_read.specs.Text.{grow, begins, is_line_feed, line_end, lines_of}
+-- The first line of a text.
+use Rattle.std.proofs.Common.{◌≡◌, ◌<◌, ◌≤◌, ℕ, ◌+◌, ◌-◌, zero, suc, Bool, true, false, not, eqb, ◌&&◌, ◌||◌, List, [], ◌∷◌, ◌++◌, length, take, drop, Some, None, refl, sym, ap, ◌∙◌, arith, take-add}
+use Rattle.std.specs.Prelude.{position, nat_lt, if◌then◌else◌}
+use Rattle.std.specs.List.{list_all, list_any, before_first, position_or_len}
+use Rattle.std.proofs.Common.{get_or}
+use Rattle.std.proofs.lemmas.Bool.{and_from, and_parts, eqb-true, not-true, ltb-true, ltb-false, lt-ltb, le-ltb}
+use Rattle.std.proofs.lemmas.List.{length-drop, take_all}
+use Rattle.std.proofs.lemmas.List.Quantifiers.{position-Some}
+use Rattle.std.proofs.lemmas.List.Folds.{list_any-append}
+use Rattle.std.proofs.lemmas.List.Sums.{prefix_len-le-length, split_at_first}
+use Rattle.c62_read.specs.Text.{grow, is_line_feed, lines_of, without_return}
 
--- the first n bytes are of the first line
-abbrev pub StandsBefore : ℕ → List ℕ → Type 0
-StandsBefore n text = lines_of text ≡ prepend (take n text) (lines_of (drop n text))
+-- a line is without the carriage return that stands last
+pub without_last : (rest : List ℕ) (b : ℕ) → without_return (rest ++ b ∷ []) ≡ (if eqb b 13 then rest else (rest ++ b ∷ []))
+without_last [] b = refl
+without_last (a ∷ []) b = go (eqb b 13)
+  where
+    go : (return : Bool) → a ∷ (if return then [] else b ∷ []) ≡ (if return then a ∷ [] else a ∷ b ∷ [])
+    go true = refl
+    go false = refl
+without_last (a ∷ c ∷ rest) b = ap (λ (line : List ℕ). a ∷ line) (without_last (c ∷ rest) b) ∙ go (eqb b 13)
+  where
+    go : (return : Bool) → a ∷ (if return then c ∷ rest else (c ∷ rest ++ b ∷ [])) ≡ (if return then a ∷ c ∷ rest else (a ∷ c ∷ rest ++ b ∷ []))
+    go true = refl
+    go false = refl
 
--- which way a test went
-chosen : {A : Type 0} (c : Bool) (x y z : A) → cond c x y ≡ z → ((c ≡ true) × (x ≡ z)) ⊎ ((c ≡ false) × (y ≡ z))
-chosen true x y z e = inl (refl, e)
-chosen false x y z e = inr (refl, e)
+-- ---- bytes without a line feed
 
--- a byte that ends no line is of the line
-pub inside : (b : ℕ) (rest : List ℕ) → line_end (b ∷ rest) ≡ 0 → lines_of (b ∷ rest) ≡ grow b (lines_of rest)
-inside b rest none =
-    elim (chosen (eqb b 10) 1 (cond (eqb b 13 && begins is_line_feed rest) 2 0) 0 none) [
-      | inl feed ↦ absurd (omega (arith, feed.1))
-      | inr other ↦ elim (chosen (eqb b 13 && begins is_line_feed rest) 2 0 0 other.1) [
-        | inl return ↦ absurd (omega (arith, return.1))
-        | inr word ↦ rw (other.0, word.0) refl
-      ]
-    ]
+abbrev has_no_feed : List ℕ → Bool
+has_no_feed bytes = list_all (λ b. not (is_line_feed b)) bytes
 
-feed_first : (b : ℕ) (rest : List ℕ) → eqb b 10 ≡ true → lines_of (b ∷ rest) ≡ [] ∷ lines_of rest
-feed_first b rest feed = rw feed refl
+-- in front of a line feed they are a line
+before_feed : (line rest : List ℕ) → has_no_feed line ≡ true → lines_of (line ++ 10 ∷ rest) ≡ without_return line ∷ lines_of rest
+before_feed [] rest none = refl
+before_feed (b ∷ []) rest none =
+    let other : eqb b 10 ≡ false = not-true (eqb b 10) (and_parts (not (eqb b 10)) true none).0 in
+    rw other (go (eqb b 13))
+  where
+    go : (return : Bool) → (if return && true then [] ∷ lines_of rest else ((b ∷ []) ∷ lines_of rest)) ≡ (if return then [] else b ∷ []) ∷ lines_of rest
+    go true = refl
+    go false = refl
+before_feed (b ∷ c ∷ line) rest none =
+    let parts = and_parts (not (eqb b 10)) (has_no_feed (c ∷ line)) none in
+    let other : eqb b 10 ≡ false = not-true (eqb b 10) parts.0 in
+    let next : eqb c 10 ≡ false = not-true (eqb c 10) (and_parts (not (eqb c 10)) (has_no_feed line) parts.1).0 in
+    let others : lines_of (c ∷ (line ++ 10 ∷ rest)) ≡ without_return (c ∷ line) ∷ lines_of rest = before_feed (c ∷ line) rest parts.1 in
+    rw other (go (eqb b 13) (eqb c 10) next ∙ ap (grow b) others)
+  where
+    go : (return feed : Bool) → feed ≡ false → (if return && feed then lines_of (c ∷ (line ++ 10 ∷ rest)) else grow b (lines_of (c ∷ (line ++ 10 ∷ rest)))) ≡ grow b (lines_of (c ∷ (line ++ 10 ∷ rest)))
+    go true true e = absurd cc
+    go true false e = refl
+    go false feed e = refl
 
--- what ends a line begins the next
-pub at_end : (text : List ℕ) → 0 < line_end text → lines_of text ≡ [] ∷ lines_of (drop (line_end text) text)
-at_end [] some = absurd (omega arith)
-at_end (b ∷ []) some =
-    elim (chosen (eqb b 10) 1 (cond (eqb b 13 && false) 2 0) (line_end (b ∷ [])) refl) [
-      | inl feed ↦ rw feed.0 refl
-      | inr other ↦ elim (chosen (eqb b 13 && false) 2 0 (line_end (b ∷ [])) other.1) [
-        | inl return ↦ let no : (eqb b 13 && false) ≡ true = return.0 in absurd (both_ways (eqb b 13 && false) (and_right (eqb b 13) false refl) no)
-        | inr word ↦ absurd (omega (arith, some, word.1))
-      ]
-    ]
-at_end (b ∷ c ∷ rest) some =
-    elim (chosen (eqb b 10) 1 (cond (eqb b 13 && eqb c 10) 2 0) (line_end (b ∷ c ∷ rest)) refl) [
-      | inl feed ↦ rw feed.0 refl
-      | inr other ↦ elim (chosen (eqb b 13 && eqb c 10) 2 0 (line_end (b ∷ c ∷ rest)) other.1) [
-        | inl return ↦ rw (other.0, return.0) (feed_first c rest (and_parts (eqb b 13) (eqb c 10) return.0).1)
-        | inr word ↦ absurd (omega (arith, some, word.1))
-      ]
-    ]
+-- at the end of the text they are the last line
+at_end : (b : ℕ) (line : List ℕ) → has_no_feed (b ∷ line) ≡ true → lines_of (b ∷ line) ≡ (b ∷ line) ∷ []
+at_end b [] none =
+    let other : eqb b 10 ≡ false = not-true (eqb b 10) (and_parts (not (eqb b 10)) true none).0 in
+    rw other (go (eqb b 13))
+  where
+    go : (return : Bool) → (if return && false then [] else ((b ∷ []) ∷ [])) ≡ (b ∷ []) ∷ []
+    go true = refl
+    go false = refl
+at_end b (c ∷ line) none =
+    let parts = and_parts (not (eqb b 10)) (has_no_feed (c ∷ line)) none in
+    let other : eqb b 10 ≡ false = not-true (eqb b 10) parts.0 in
+    let next : eqb c 10 ≡ false = not-true (eqb c 10) (and_parts (not (eqb c 10)) (has_no_feed line) parts.1).0 in
+    rw other (go (eqb b 13) (eqb c 10) next ∙ ap (grow b) (at_end c line parts.1))
+  where
+    go : (return feed : Bool) → feed ≡ false → (if return && feed then lines_of (c ∷ line) else grow b (lines_of (c ∷ line))) ≡ grow b (lines_of (c ∷ line))
+    go true true e = absurd cc
+    go true false e = refl
+    go false feed e = refl
 
-pub goes_on : (text : List ℕ) (n : ℕ) → n < length text → line_end (drop n text) ≡ 0 → StandsBefore n text → StandsBefore (n + 1) text
-goes_on text n in_range none so_far =
-    let b = get_or text n 0 in
-    let front = take n text in
-    let rest = drop (suc n) text in
-    let here : drop n text ≡ b ∷ rest = drop-cons text n 0 in_range in
-    let none_here : line_end (b ∷ rest) ≡ 0 = rw here at none in
-    let grown : lines_of (drop n text) ≡ grow b (lines_of rest) = ap lines_of here ∙ inside b rest none_here in
-    so_far ∙ ap (prepend front) grown ∙ prepend_more front b (lines_of rest) ∙ rw (add-one, take-suc text n 0 in_range) refl
+-- ---- the first line feed of a text
 
--- the first line, and the lines after its end
-pub ends_line : (text : List ℕ) (n : ℕ) → 0 < line_end (drop n text) → StandsBefore n text → lines_of text ≡ take n text ∷ lines_of (drop (line_end (drop n text)) (drop n text))
-ends_line text n some before = before ∙ ap (prepend (take n text)) (at_end (drop n text) some) ∙ prepend_empty (take n text) (lines_of (drop (line_end (drop n text)) (drop n text)))
+none_more : (b : ℕ) (text : List ℕ) (feed : Bool) → is_line_feed b ≡ feed → has_no_feed (before_first is_line_feed text) ≡ true
+    → has_no_feed (take (if not feed then 1 + position_or_len is_line_feed text else 0) (b ∷ text)) ≡ true
+none_more b text true e others = refl
+none_more b text false e others =
+    let next : 1 + position_or_len is_line_feed text ≡ suc (position_or_len is_line_feed text) = omega arith in
+    rw next (and_from (not (is_line_feed b)) (has_no_feed (before_first is_line_feed text)) (ap not e) others)
 
--- the last line, which the end of the text ends
-pub ends_text : (text : List ℕ) (n : ℕ) → 0 < length text → length text ≤ n → StandsBefore n text → lines_of text ≡ take n text ∷ lines_of (drop (line_end (drop n text)) (drop n text))
-ends_text [] n some past before = absurd (omega arith)
-ends_text (b ∷ text) n some past before =
-    let none : drop n (b ∷ text) ≡ [] = nil_from_length (drop n (b ∷ text)) (omega (arith, length-drop n (b ∷ text))) in
-    let all : take n (b ∷ text) ≡ b ∷ text = take_all n (b ∷ text) past in
-    let one : lines_of (b ∷ text) ≡ prepend (take n (b ∷ text)) (lines_of (drop n (b ∷ text))) = before in
-    rw (none, all) (one ∙ rw (none, all) (prepend_all b text))
+none_before : (text : List ℕ) → has_no_feed (before_first is_line_feed text) ≡ true
+none_before [] = refl
+none_before (b ∷ text) = none_more b text (is_line_feed b) refl (none_before text)
+
+place_is : (text : List ℕ) (k : ℕ) → position is_line_feed text ≡ Some k → (position_or_len is_line_feed text ≡ k) × (k < length text)
+place_is text k is = go (nat_lt (position_or_len is_line_feed text) (length text)) refl is
+  where
+    go : (within : Bool) → nat_lt (position_or_len is_line_feed text) (length text) ≡ within → (if within then Some (position_or_len is_line_feed text) else None) ≡ Some k
+        → (position_or_len is_line_feed text ≡ k) × (k < length text)
+    go true less found = let same : position_or_len is_line_feed text ≡ k = cc in (same, omega (arith, same, ltb-true (position_or_len is_line_feed text) (length text) less))
+    go false less found = absurd cc
+
+pub first_is : (text : List ℕ) (k : ℕ) → position is_line_feed text ≡ Some k → lines_of text ≡ without_return (take k text) ∷ lines_of (drop (k + 1) text)
+first_is text k is =
+    let place = position_or_len is_line_feed text in
+    let parts = place_is text k is in
+    let less : place < length text = omega (arith, parts.0, parts.1) in
+    let feed : get_or text place 0 ≡ 10 = rw parts.0 (eqb-true (get_or text k 0) 10 (position-Some is_line_feed text k 0 is).1) in
+    let split : text ≡ take place text ++ 10 ∷ drop (place + 1) text =
+    split_at_first is_line_feed text 0 less ∙ ap (λ (b : ℕ). take place text ++ b ∷ drop (place + 1) text) feed in
+    ap lines_of split ∙ before_feed (take place text) (drop (place + 1) text) (none_before text)
+    ∙ ap (λ (n : ℕ). without_return (take n text) ∷ lines_of (drop (n + 1) text)) parts.0
+
+past_is : (text : List ℕ) → position is_line_feed text ≡ None → length text ≤ position_or_len is_line_feed text
+past_is text is = go (nat_lt (position_or_len is_line_feed text) (length text)) refl is
+  where
+    go : (within : Bool) → nat_lt (position_or_len is_line_feed text) (length text) ≡ within → (if within then Some (position_or_len is_line_feed text) else None) ≡ None → length text ≤ position_or_len is_line_feed text
+    go true less found = absurd cc
+    go false less found = ltb-false (position_or_len is_line_feed text) (length text) less
+
+none_is : (text : List ℕ) → position is_line_feed text ≡ None → has_no_feed text ≡ true
+none_is text is =
+    let all : take (position_or_len is_line_feed text) text ≡ text = take_all (position_or_len is_line_feed text) text (past_is text is) in
+    sym (ap has_no_feed all) ∙ none_before text
+
+pub only_is : (text : List ℕ) → 0 < length text → position is_line_feed text ≡ None → lines_of text ≡ text ∷ []
+only_is [] some is = absurd (omega arith)
+only_is (b ∷ text) some is = at_end b text (none_is (b ∷ text) is)
+
+-- ---- a line feed behind bytes without one
+
+place_later : (n : ℕ) (text : List ℕ) → list_any is_line_feed (take n text) ≡ false → n ≤ length text → position_or_len is_line_feed text ≡ n + position_or_len is_line_feed (drop n text)
+place_later zero text none within = omega arith
+place_later (suc n) [] none within = absurd (omega arith)
+place_later (suc n) (b ∷ text) none within = go (is_line_feed b) none (place_later n text)
+  where
+    go : (feed : Bool) → (feed || list_any is_line_feed (take n text)) ≡ false
+        → (list_any is_line_feed (take n text) ≡ false → n ≤ length text → position_or_len is_line_feed text ≡ n + position_or_len is_line_feed (drop n text))
+        → (if not feed then 1 + position_or_len is_line_feed text else 0) ≡ suc n + position_or_len is_line_feed (drop n text)
+    go true e others = absurd cc
+    go false e others = omega (arith, others e (omega arith))
+
+pub later_is : (text : List ℕ) (n k : ℕ) → n ≤ length text → list_any is_line_feed (take n text) ≡ false → position is_line_feed (drop n text) ≡ Some k → position is_line_feed text ≡ Some (n + k)
+later_is text n k within none is =
+    let parts = place_is (drop n text) k is in
+    let place : position_or_len is_line_feed text ≡ n + k = omega (arith, place_later n text none within, parts.0) in
+    let less : position_or_len is_line_feed text < length text = omega (arith, place, parts.1, length-drop n text) in
+    rw (lt-ltb (position_or_len is_line_feed text) (length text) less) (ap (λ (i : ℕ). Some i) place)
+
+pub later_none : (text : List ℕ) (n : ℕ) → n ≤ length text → list_any is_line_feed (take n text) ≡ false → position is_line_feed (drop n text) ≡ None → position is_line_feed text ≡ None
+later_none text n within none is =
+    let past : length (drop n text) ≤ position_or_len is_line_feed (drop n text) = past_is (drop n text) is in
+    let more : length text ≤ position_or_len is_line_feed text = omega (arith, place_later n text none within, past, length-drop n text) in
+    rw (le-ltb (position_or_len is_line_feed text) (length text) more) refl
+
+pub none_more_steps : (text : List ℕ) (n k : ℕ) → list_any is_line_feed (take n text) ≡ false → list_any is_line_feed (take k (drop n text)) ≡ false → list_any is_line_feed (take (n + k) text) ≡ false
+none_more_steps text n k front next =
+    ap (list_any is_line_feed) (take-add n k text) ∙ list_any-append is_line_feed (take n text) (take k (drop n text))
+    ∙ ap (λ (x : Bool). x || list_any is_line_feed (take k (drop n text))) front ∙ next
+
+within_next : (k : ℕ) (text : List ℕ) → list_any is_line_feed (take k text) ≡ true → position_or_len is_line_feed text < k
+within_next zero text some = absurd cc
+within_next (suc k) [] some = absurd cc
+within_next (suc k) (b ∷ text) some = go (is_line_feed b) some (within_next k text)
+  where
+    go : (feed : Bool) → (feed || list_any is_line_feed (take k text)) ≡ true → (list_any is_line_feed (take k text) ≡ true → position_or_len is_line_feed text < k)
+        → (if not feed then 1 + position_or_len is_line_feed text else 0) < suc k
+    go true e others = omega arith
+    go false e others = omega (arith, others e)
+
+pub near_feed : (text : List ℕ) (n k : ℕ) → n ≤ length text → list_any is_line_feed (take n text) ≡ false → list_any is_line_feed (take k (drop n text)) ≡ true → position_or_len is_line_feed text < n + k
+near_feed text n k within none some = omega (arith, place_later n text none within, within_next k (drop n text) some)
+
+pub near_end : (text : List ℕ) (n k : ℕ) → length text - n < k → position_or_len is_line_feed text < n + k
+near_end text n k short = omega (arith, prefix_len-le-length (λ (b : ℕ). not (is_line_feed b)) text)

@@ -1,7 +1,10 @@
 -- Blocks of serial text.
-use Rattle.std.specs.Prelude.{ℕ, Bool, true, not, ◌&&◌, nat_le, List, [], ◌∷◌, length, map, Option}
+use Rattle.std.specs.Prelude.{ℕ, Bool, true, false, not, ◌&&◌, nat_le, List, [], ◌∷◌, length, map, Option, Some, None, is_some}
+use Rattle.std.specs.List.{list_all, slice_get}
 use Rattle.c62_insn.specs.declared.operands.Op.{Op}
-use Rattle.c62_insn.specs.Insn.{op_of}
+use Rattle.c62_insn.specs.declared.operands.Operands.{Operands}
+use Rattle.c62_insn.specs.declared.operands.Operands.TheVariants.{Block as BlockNumber}
+use Rattle.c62_insn.specs.Insn.{op_of, operands_of}
 use Rattle.c62_read.specs.declared.block.SerialInsn.{SerialInsn}
 use Rattle.c62_read.specs.Line.{is_branch}
 
@@ -22,3 +25,24 @@ operations insns = map (λ entry. op_of entry.insn) insns
 -- at most 256 instructions, and a branch only as the last
 abbrev pub is_block : List SerialInsn → Bool
 is_block insns = nat_le (length insns) 256 && branch_last (operations insns)
+
+-- ---- branches to labels
+
+-- the labels of the blocks, by their numbers
+abbrev pub labels_in : List Serial → List (Option (List ℕ))
+labels_in blocks = map (λ block. block.label) blocks
+
+-- whether a block is there and has a label
+abbrev pub is_labelled : Option (Option (List ℕ)) → Bool
+is_labelled None = false
+is_labelled (Some label) = is_some label
+
+-- whether the block that these operands name, if any, is there and has a label
+abbrev pub target_stands : List (Option (List ℕ)) → Operands → Bool
+target_stands labels (BlockNumber k) = is_labelled (slice_get labels k)
+target_stands labels operands = true
+
+-- every branch to a label goes to a block that is there and has a label
+unfoldable pub targets_stand : List Serial → Bool
+targets_stand blocks =
+    list_all (λ block. list_all (λ entry. target_stands (labels_in blocks) (operands_of entry.insn)) block.insns) blocks

@@ -20,10 +20,11 @@ begins test (b ∷ rest) = test b
 abbrev pub is_line_feed : ℕ → Bool
 is_line_feed b = b == 10
 
--- how many bytes the end of a line takes that stands first: a line feed, or a carriage return and a line feed
-abbrev pub line_end : List ℕ → ℕ
-line_end [] = 0
-line_end (b ∷ rest) = if b == 10 then 1 else (if b == 13 && begins is_line_feed rest then 2 else 0)
+-- a line without the carriage return that stands last
+abbrev pub without_return : List ℕ → List ℕ
+without_return [] = []
+without_return (b ∷ []) = if b == 13 then [] else b ∷ []
+without_return (b ∷ c ∷ line) = b ∷ without_return (c ∷ line)
 
 -- The lines of a text, without their ends. The end of the text ends a line where bytes stand before it.
 abbrev pub lines_of : List ℕ → List (List ℕ)

@@ -2,7 +2,7 @@
 
 ghost use Rattle.std.specs.Prelude.{◌≡◌, ◌≤◌, length, Some, None, List, map, true, IfOk, IsTrue};
 ghost use Rattle.std.specs.Option.{option_copied};
-ghost use Rattle.c62_read.specs.Block.{Serial, is_block};
+ghost use Rattle.c62_read.specs.Block.{Serial, is_block, targets_stand};
 
 use crate::label::Label;
 use c62_insn::{Insn, Operands};
@@ -105,28 +105,32 @@ impl Model for Program {
 
     ghost view = { λ program. program.blocks.items };
 
-    ghost invariant = { λ program. length program.blocks.items ≤ 64 };
+    ghost invariant = { λ program. (length program.blocks.items ≤ 64) × (targets_stand program.blocks.items ≡ true) };
 }
 
 impl Program {
     pub(crate) fn new(blocks: Vec<Block>) -> Program
-        requires { length blocks.items ≤ 64 }
+        requires few { length blocks.items ≤ 64 }
+        requires targets { IsTrue (targets_stand blocks.items) }
         ensures { result ≡ blocks.items }
     {
         Program { blocks }
     }
 
-    /// The blocks in their order, at most 64.
+    /// The blocks in their order, at most 64. Every branch to a label names the number of one that has a label.
     pub fn blocks(&self) -> &[Block]
         ensures same { result.now ≡ self.now }
         ensures few { length self.now ≤ 64 }
+        ensures sound { IsTrue (targets_stand self.now) }
     {
         &self.blocks
     }
 
-    /// Hands over the blocks in their order. It takes no memory.
+    /// Hands over the blocks in their order, with what `blocks` tells of them. It takes no memory.
     pub fn into_blocks(self) -> Vec<Block>
-        ensures { result.items ≡ self }
+        ensures same { result.items ≡ self }
+        ensures few { length result.items ≤ 64 }
+        ensures sound { IsTrue (targets_stand result.items) }
     {
         self.blocks
     }

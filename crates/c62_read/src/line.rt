@@ -215,7 +215,7 @@ fn begins_with_dot(rest: &[u8]) -> bool
     }
 }
 
-fn begins_with(byte: u8, bytes: &[u8]) -> bool
+pub(crate) fn begins_with(byte: u8, bytes: &[u8]) -> bool
     ensures { result ≡ begins (λ b. b == byte) bytes.now }
 {
     match bytes {
@@ -267,10 +267,15 @@ fn begins_with_bars(rest: &[u8]) -> bool
     }
 }
 
+/// Looks at every byte, whatever the others are: so the compiler compares many at once.
 fn all_allowed(line: &[u8]) -> bool
     ensures { result ≡ list_all is_allowed line.now }
 {
-    line.iter().all(|b| is_allowed(*b))
+    let mut allowed = true;
+    for b in line {
+        allowed &= is_allowed(*b);
+    }
+    allowed
 }
 
 fn colon_before_comment(rest: &[u8]) -> bool

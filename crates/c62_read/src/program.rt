@@ -1,23 +1,26 @@
 //! What a text says.
 
-ghost use Rattle.std.specs.Prelude.{◌≡◌, ℕ, Ok, Err, ◌≤◌, ◌<◌, ◌+◌, ◌^◌, ◌∷◌, ◌++◌, [], length, take, drop, map, position, Some, None, MatchOption, MatchResult, IfSome, IfOk, IfErr, OnOk, IsTrue};
-ghost use Rattle.std.specs.List.{list_any, list_all};
+ghost use Rattle.std.specs.Prelude.{◌≡◌, ℕ, Ok, Err, ◌≤◌, ◌<◌, ◌+◌, ◌^◌, ◌∷◌, ◌++◌, [], length, take, map, false, position, Some, None, MatchOption, MatchResult, IfSome, IfOk, IfErr, OnOk, IsTrue};
+ghost use Rattle.std.specs.List.{list_any, list_all, position_or_len};
 ghost use Rattle.std.specs.Option.{option_copied, option_to_list};
 ghost use Rattle.std.specs.Str.{bytes_eq};
 ghost use Rattle.c62_insn.specs.Insn.{op_of};
 ghost use Rattle.c62_read.specs.Number.{is_label};
-ghost use Rattle.c62_read.specs.Text.{line_end, lines_of};
+ghost use Rattle.c62_read.specs.Text.{is_line_feed, lines_of, without_return};
 
 use crate::block::{Block, Program, SerialInsn};
 use crate::fault::{Cause, ReadFault};
 use crate::label::Label;
-use crate::line::{first_label, owned, read_head, read_rest};
+use crate::line::{begins_with, first_label, owned, read_head, read_rest};
 use crate::reading::What;
 use c62_insn::{Insn, Op};
 use std::alloc::{AllocError, Global};
 
 /// The longest text, in bytes.
 pub const MOST_BYTES: usize = 1_048_576;
+
+/// How many bytes are compared at once.
+const STEP: usize = 16;
 
 /// A block as it is read, and the label that its last instruction branches to.
 #[derive(Drop)]
@@ -249,11 +252,14 @@ fn is_among(label: &[u8], labels: &[&[u8]]) -> bool
     any_is(label, labels)
 }
 
-/// The label in a line's label place.
-#[tactic(auto, unfolding(crate::specs::Program::place_of))]
+/// The label in a line's label place, which a comment line doesn't have.
+#[tactic(auto, using(crate::proofs::PlaceLemmas::star_place), unfolding(crate::specs::Program::place_of))]
 fn place(line: &[u8]) -> Option<&[u8]>
     ensures { option_copied result ≡ place_of line.now }
 {
+    if begins_with(b'*', line) {
+        return None;
+    }
     first_label(line).0
 }
 
@@ -331,31 +337,59 @@ fn label_is(label: &[u8], other: &Option<Label>) -> bool
     }
 }
 
-fn line_end(text: &[u8]) -> usize
-    ensures value { result ≡ line_end text.now }
-    ensures within { result ≤ length text.now }
+/// Looks at every byte, whatever the others are: so the compiler compares many at once.
+fn has_feed(bytes: &[u8]) -> bool
+    ensures { result ≡ list_any is_line_feed bytes.now }
 {
-    match text {
-        [] => 0,
-        [b'\n', ..] => 1,
-        [b'\r', b'\n', ..] => 2,
-        [_, ..] => 0,
+    let mut found = false;
+    for b in bytes {
+        found |= *b == b'\n';
+    }
+    found
+}
+
+/// How many bytes at the front have no line feed: the first one, or the end, is within a step of them.
+fn steps_before_feed(text: &[u8]) -> usize
+    ensures within { result ≤ length text.now }
+    ensures none { list_any is_line_feed (take result text.now) ≡ false }
+    ensures near { position_or_len is_line_feed text.now < result + 16 }
+{
+    let mut start = 0;
+    while STEP <= text.len() - start && !has_feed(&text[start..start + STEP]) {
+        start += STEP;
+    }
+    start
+}
+
+/// Where the first line feed stands, looked for byte by byte.
+fn feed_in(bytes: &[u8]) -> Option<usize>
+    ensures value { result ≡ position is_line_feed bytes.now }
+    ensures within { IfSome result (λ place. place < length bytes.now) }
+{
+    bytes.iter().position(|b| *b == b'\n')
+}
+
+/// Where the first line feed stands.
+fn first_feed(text: &[u8]) -> Option<usize>
+    ensures value { result ≡ position is_line_feed text.now }
+    ensures within { IfSome result (λ place. place < length text.now) }
+{
+    let (front, rest) = text.split_at(steps_before_feed(text));
+    match feed_in(rest) {
+        Some(place) => Some(front.len() + place),
+        None => None,
     }
 }
 
-/// How many bytes the first line has, without its end.
-fn line_len(text: &[u8]) -> usize
-    requires { 0 < length text.now }
-    ensures within { result ≤ length text.now }
-    ensures progress { 0 < result + line_end (drop result text.now) }
-    ensures line { let tail = drop result text.now in
-        lines_of text.now ≡ take result text.now ∷ lines_of (drop (line_end tail) tail) }
+/// A line without the carriage return that belongs to its line feed.
+#[tactic(auto, using(crate::proofs::LineLemmas::without_last))]
+fn without_return(line: &[u8]) -> &[u8]
+    ensures { result.now ≡ without_return line.now }
 {
-    let mut len = 0;
-    while len < text.len() && line_end(&text[len..]) == 0 {
-        len += 1;
+    match line.split_last() {
+        None => line,
+        Some((last, rest)) => { if *last == b'\r' { rest } else { line } }
     }
-    len
 }
 
 /// The first line of a text, without its end, and the text after it.
@@ -366,8 +400,10 @@ fn first_line(text: &[u8]) -> Option<(&[u8], &[u8])>
     if text.is_empty() {
         return None;
     }
-    let (line, tail) = text.split_at(line_len(text));
-    Some((line, &tail[line_end(tail)..]))
+    match first_feed(text) {
+        Some(end) => Some((without_return(&text[..end]), &text[end + 1..])),
+        None => Some((text, &[])),
+    }
 }
 
 /// The blocks of a text as they are read.

@@ -1,6 +1,12 @@
 //! Worked rows: texts, their answers and the points at which a text could be read in two ways.
 
+mod limits;
+mod order;
+
+use crate::block::Block;
+use crate::line::read_insn;
 use crate::program::read_program;
+use crate::reading::{Reading, What};
 use c62_insn::{AddressForm, Insn, Offset, Op, Operands, Reg, Side};
 use std::alloc::Global;
 use std::process::Abort;
@@ -31,7 +37,7 @@ const ROWS_OF_FAULTS: [(&str, &str); 22] = [
     ("ADD .L1A1,A2,A3", "read"),
 ];
 
-const ROWS_OF_TOKENS: [(&str, &str); 22] = [
+const ROWS_OF_TOKENS: [(&str, &str); 26] = [
     ("ADD.L1 A1,A2,A3", "read"),
     ("ADD .L12 A1,A2,A3", "line 1: BadOperand"),
     ("ADD .L1Y A1,A2,A3", "line 1: BadOperand"),
@@ -54,9 +60,13 @@ const ROWS_OF_TOKENS: [(&str, &str); 22] = [
     ("LDW *A4 ++ [ 1 ],A5", "read"),
     ("LDW *+A4[+1],A5", "read"),
     ("LDW *+A4[-0],A5", "read"),
+    ("MVK 1,A1 ; \x7f", "line 1: NotAscii"),
+    ("MVK 1,\0A1", "line 1: NotAscii"),
+    ("MVK 1,\rA1\n", "line 1: NotAscii"),
+    ("\tMVK\t1 , A1\t;", "read"),
 ];
 
-const ROWS_OF_ADDRESSES: [(&str, &str); 22] = [
+const ROWS_OF_ADDRESSES: [(&str, &str); 28] = [
     ("LDW *+A4[-1],A5", "line 1: ConstantRange"),
     ("LDW *A4++5,A5", "line 1: BadOperand"),
     ("LDW *+-1,A5", "line 1: BadOperand"),
@@ -79,9 +89,15 @@ const ROWS_OF_ADDRESSES: [(&str, &str); 22] = [
     ("* \x7f", "line 1: NotAscii"),
     ("L: || ADD A1,A2,A3", "line 1: UnknownMnemonic"),
     ("[A1] || ADD A1,A2,A3", "line 1: UnknownMnemonic"),
+    ("MVK 00000000001,A1", "line 1: BadOperand"),
+    ("MVKL 12345678901,A1", "line 1: BadOperand"),
+    ("MVK -010,A1", "line 1: BadOperand"),
+    ("MVK 0x000000001,A1", "line 1: BadOperand"),
+    ("MVK A01,A1", "line 1: BadOperand"),
+    ("a15: NOP", "line 1: BadLabel"),
 ];
 
-const ROWS_OF_LABELS: [(&str, &str); 22] = [
+const ROWS_OF_LABELS: [(&str, &str); 31] = [
     ("| ADD A1,A2,A3", "line 1: UnknownMnemonic"),
     ("L: M: MVK 1,A1", "line 1: BadLabel"),
     ("L:: MVK 1,A1", "line 1: BadLabel"),
@@ -104,9 +120,18 @@ const ROWS_OF_LABELS: [(&str, &str); 22] = [
     ("MVK L,A1", "line 1: BadOperand"),
     ("B ABCDEFGHIJKLMNOPQRSTUVWXYZ_123456", "line 1: BadOperand"),
     ("AND 0xFFFFFFFF,A1,A2", "line 1: ConstantRange"),
+    ("NOP:", "read"),
+    ("B NRP", "line 1: UnknownTarget"),
+    ("LMBD A1,A2,A3", "line 1: UnknownMnemonic"),
+    ("NOT .D1 A1,A2", "line 1: BadUnit"),
+    ("MVKL .L1 1,A1", "line 1: BadUnit"),
+    ("ZERO .M1 A1", "line 1: BadUnit"),
+    ("NOP .S1", "line 1: BadUnit"),
+    ("MVK L+1,A1", "line 1: BadOperand"),
+    ("LDW *A4(1),A5", "line 1: BadOperand"),
 ];
 
-const ROWS_OF_FORMS: [(&str, &str); 18] = [
+const ROWS_OF_FORMS: [(&str, &str); 24] = [
     ("MVK 0xFFFF8000,A1", "line 1: ConstantRange"),
     ("ADD B1,B1,A2", "line 1: TwoCrossed"),
     ("SHL B1,B2,A3", "line 1: TwoCrossed"),
@@ -125,9 +150,15 @@ const ROWS_OF_FORMS: [(&str, &str); 18] = [
     ("SUB .S1 B1,A1,A2", "line 1: NoUnit"),
     ("SUB B1,20,A2", "line 1: NoUnit"),
     ("B Q\nQ: FOO", "line 2: UnknownMnemonic"),
+    ("ADDAB B1,B2,A3", "line 1: TwoCrossed"),
+    ("SUB .S1X B1,A1,A2", "line 1: NoUnit"),
+    ("ADD .D1 B1,A1,A2", "line 1: NoUnit"),
+    ("ADD .D1 20,A1,A2", "read"),
+    ("B q\nQ:", "line 1: UnknownTarget"),
+    ("B Q\nNOP\nQ: \x7f", "line 3: NotAscii"),
 ];
 
-const SAME: [(&str, &str); 21] = [
+const SAME: [(&str, &str); 25] = [
     ("CMPGT B1,A2,A1", "cmplt a2,b1,a1"),
     ("CMPLTU B1,A2,A1", "CMPGTU A2,B1,A1"),
     ("MPYHL B1,A2,A1", "MPYLH A2,B1,A1"),
@@ -149,6 +180,10 @@ const SAME: [(&str, &str); 21] = [
     ("LDW *++A4,A5", "LDW *++A4[1],A5"),
     ("STW A5,*A4--", "STW A5,*A4--[1]"),
     ("MVK 0x7Fff,B15", "MVK 32767,b15"),
+    ("ADD .D1 20,A2,A3", "ADD .D1 A2,20,A3"),
+    ("ZERO .S1 A1", "MVK .S1 0,A1"),
+    ("ZERO .L1 A1", "SUB .L1 A1,A1,A1"),
+    ("MVK .S15,A1", "mvk\t.s1 +5 , a1 ; five"),
 ];
 
 /// The fault of a text as it is printed, or `read`.
@@ -168,11 +203,17 @@ fn only(rt: &impl Abort, alloc: Global, text: &str) -> Result<Insn, Fail> {
     Ok(block.insns()[0].insn)
 }
 
+/// The text gets its answer.
+fn check_answer(rt: &impl Abort, alloc: Global, text: &str, want: &str) -> Result<(), Fail> {
+    let found = answer(alloc, text)?;
+    assert_eq!(rt; found.as_str(), want, "{text}");
+    Ok(())
+}
+
 /// Each text of a table gets its answer.
 fn check_answers(rt: &impl Abort, alloc: Global, rows: &[(&str, &str)]) -> Result<(), Fail> {
     for (text, want) in rows {
-        let found = answer(alloc, text)?;
-        assert_eq!(rt; found.as_str(), *want, "{text}");
+        check_answer(rt, alloc, text, want)?;
     }
     Ok(())
 }
@@ -213,6 +254,90 @@ fn check_same(rt: &impl Abort, alloc: Global, rows: &[(&str, &str)]) -> Result<(
 #[test]
 fn texts_that_say_the_same(rt: HostRuntime) -> Result<(), Fail> {
     check_same(&rt, rt.alloc(), &SAME)
+}
+
+/// Lines and what they say by themselves.
+const READ: [(&str, &str); 18] = [
+    ("", "nothing"),
+    ("; c", "nothing"),
+    ("*L: c", "nothing"),
+    ("L:", "L: nothing"),
+    ("Loop_1$ : NOP", "Loop_1$: 1 cycles"),
+    ("NOP 9", "9 cycles"),
+    ("L: MVK 1,A1", "L: an instruction"),
+    ("B B3", "an instruction"),
+    ("B Q", "a branch to Q"),
+    ("L: [!B0] b .s2 q ; c", "L: a branch to q"),
+    ("|| NOP", "line 1: ParallelBar"),
+    ("A1: NOP", "line 1: BadLabel"),
+    ("L: .text", "line 1: Directive"),
+    ("L: FOO", "line 1: UnknownMnemonic"),
+    ("L: NOP .S1", "line 1: BadUnit"),
+    ("L: NOP 10", "line 1: BadOperand"),
+    ("[A3] B Q", "line 1: BadCondition"),
+    ("NOP\n", "line 1: NotAscii"),
+];
+
+fn told(alloc: Global, reading: &Reading) -> Result<String, Fail> {
+    let mut told = String::new(alloc);
+    if let Some(label) = &reading.label {
+        told.push_str(str::from_utf8(label.as_bytes())?)?;
+        told.push_str(": ")?;
+    }
+    match &reading.what {
+        What::Empty => told.push_str("nothing")?,
+        What::Nop(cycles) => told.push_str(format!(in alloc; "{cycles} cycles")?.as_str())?,
+        What::Insn(_) => told.push_str("an instruction")?,
+        What::Jump(_, label) => {
+            told.push_str("a branch to ")?;
+            told.push_str(str::from_utf8(label.as_bytes())?)?;
+        }
+    }
+    Ok(told)
+}
+
+#[test]
+fn reads_one_line(rt: HostRuntime) -> Result<(), Fail> {
+    for (line, want) in READ {
+        let found = match read_insn(line.as_bytes()) {
+            Ok(reading) => told(rt.alloc(), &reading)?,
+            Err(fault) => format!(in rt.alloc(); "{fault}")?,
+        };
+        assert_eq!(rt; found.as_str(), want, "{line}");
+    }
+    Ok(())
+}
+
+/// The number of the block that a block's last instruction branches to.
+fn target(block: &Block) -> Option<u8> {
+    match block.insns().last()?.insn.operands() {
+        Operands::Block(number) => Some(number),
+        _ => None,
+    }
+}
+
+#[test]
+fn blocks_and_their_copies(rt: HostRuntime) -> Result<(), Fail> {
+    let text = "MVK 3,A1\nL: SUB A1,1,A1\n\n[A1] B L\nMVK 2,A2\n";
+    let wants = [
+        (false, &[1u32][..], None),
+        (true, &[2, 4], Some(1)),
+        (false, &[5], None),
+    ];
+    let program = read_program(rt.alloc(), text.as_bytes())?;
+    assert_eq!(rt; program.blocks().len(), wants.len());
+    for (block, (labelled, lines, aim)) in program.blocks().iter().zip(wants) {
+        let copy = block.copy(rt.alloc())?;
+        assert_eq!(rt; copy.label().is_some(), labelled);
+        assert_eq!(rt; copy.insns().len(), lines.len());
+        for (entry, line) in copy.insns().iter().zip(lines) {
+            assert_eq!(rt; entry.line, *line);
+        }
+        assert_eq!(rt; target(block), aim);
+        assert_eq!(rt; target(&copy), aim);
+    }
+    assert_eq!(rt; program.into_blocks().len(), wants.len());
+    Ok(())
 }
 
 #[test]

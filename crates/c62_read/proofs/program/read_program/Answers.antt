@@ -2,6 +2,8 @@ use Rattle.std.proofs.Common.{◌≡◌, List, Ok, sym, ap, subst, inr, ◌∙�
 use Rattle.std.specs.Prelude.{map}
 use Rattle.std.proofs.lemmas.Result.{err_from_is_err_and}
 use Rattle.c62_read.specs.Program.{Draft, Drafts, BlockParts, all_drafts, block_in, block_parts, draft_of, drafts_of}
+use Rattle.c62_read.specs.Text.{lines_of}
+use Rattle.c62_read.proofs.TargetLemmas.{targets_read}
 use Rattle.c62_read.proofs.ReadingLemmas.{too_long, program_read, program_refused}
 use Rattle.c62_read.proofs.program.read_program.Goals as goal
 
@@ -22,3 +24,12 @@ returns-clause-ok c =
     subst (λ (ds : List Draft). map block_parts c.in_ok-all_blocks.field-0.items ≡ map (block_in ds) ds) done c.in_ok-all_blocks.ensures.made in
     program_read c.args.text.now c.if-text-gt-MOST_BYTES.false drafts c.in_ok-reader.ensures.ok
     ∙ ap (λ (blocks : List BlockParts). Ok blocks) (sym (ap (map block_parts) c.new.ensures ∙ made))
+
+pub new-requires-clause-targets : goal.new-requires-clause-targets
+new-requires-clause-targets c =
+    let drafts = drafts_of c.in_ok-reader.reader in
+    let ended = c.in_ok-end_block.ensures in
+    let done : map draft_of c.deref.result.now ≡ all_drafts drafts = ap (map draft_of) c.deref.ensures.value ∙ ap (λ (d : Drafts). d.done) ended in
+    let made : map block_parts c.in_ok-all_blocks.field-0.items ≡ map (block_in (all_drafts drafts)) (all_drafts drafts) =
+    subst (λ (ds : List Draft). map block_parts c.in_ok-all_blocks.field-0.items ≡ map (block_in ds) ds) done c.in_ok-all_blocks.ensures.made in
+    targets_read (lines_of c.args.text.now) drafts c.in_ok-all_blocks.field-0.items c.in_ok-reader.ensures.ok made
