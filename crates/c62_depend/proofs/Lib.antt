@@ -1,0 +1,4 @@
+pub mod RegSets
+pub mod Ranges
+pub mod Greatest
+pub mod Latencies

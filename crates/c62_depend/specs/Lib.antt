@@ -1,0 +1,6 @@
+pub mod RegSet
+pub mod Uses
+pub mod Latency
+pub mod Links
+pub mod Height
+pub mod Side

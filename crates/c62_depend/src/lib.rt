@@ -1,0 +1,9 @@
+//! The plan of a block: how far its instructions must stand apart, on which side each stands, and how urgent each is.
+#![tactic(auto)]
+
+mod latency;
+mod links;
+mod reg_set;
+mod uses;
+
+pub use links::Link;
