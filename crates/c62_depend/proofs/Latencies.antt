@@ -136,27 +136,27 @@ latency-is block i j = by_order (cases_Bool (nat_lt i j))
     by_order (inl before) = rw before (by_insns (slice_get block i) (slice_get block j) refl refl (ltb-true i j before))
     by_order (inr late) = rw late (no_bound late)
 
+pub delay_of-small : (op : Op) → delay_of op ≤ 5
+delay_of-small Mpy = omega arith
+delay_of-small Mpyu = omega arith
+delay_of-small Mpyus = omega arith
+delay_of-small Mpysu = omega arith
+delay_of-small Mpyh = omega arith
+delay_of-small Mpyhu = omega arith
+delay_of-small Mpyhl = omega arith
+delay_of-small Mpylh = omega arith
+delay_of-small Ldb = omega arith
+delay_of-small Ldbu = omega arith
+delay_of-small Ldh = omega arith
+delay_of-small Ldhu = omega arith
+delay_of-small Ldw = omega arith
+delay_of-small Branch = omega arith
+delay_of-small _ = omega arith
+
 -- every bound is small
 pub bounds-small : (block : List Insn) (i j : ℕ) (b : ℤ) → Bounds block i j b → (negsuc 4 ≤ℤ b) × (b ≤ℤ pos 5)
 bounds-small block i j b w = of_case w.first w.second w.applies
   where
-    delay_of-small : (op : Op) → delay_of op ≤ 5
-    delay_of-small Mpy = omega arith
-    delay_of-small Mpyu = omega arith
-    delay_of-small Mpyus = omega arith
-    delay_of-small Mpysu = omega arith
-    delay_of-small Mpyh = omega arith
-    delay_of-small Mpyhu = omega arith
-    delay_of-small Mpyhl = omega arith
-    delay_of-small Mpylh = omega arith
-    delay_of-small Ldb = omega arith
-    delay_of-small Ldbu = omega arith
-    delay_of-small Ldh = omega arith
-    delay_of-small Ldhu = omega arith
-    delay_of-small Ldw = omega arith
-    delay_of-small Branch = omega arith
-    delay_of-small _ = omega arith
-
     of_case : (p q : Insn) → IsBound block i j p q b → (negsuc 4 ≤ℤ b) × (b ≤ℤ pos 5)
     of_case p q (ReadAfterWrite reg delay writes reads e) =
         let few : delay ≤ 4 = writes_delay p reg delay writes in (omega (arith, ints), omega (arith, ints))

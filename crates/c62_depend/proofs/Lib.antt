@@ -2,3 +2,4 @@ pub mod RegSets
 pub mod Ranges
 pub mod Greatest
 pub mod Latencies
+pub mod Heights

@@ -1,9 +1,9 @@
 -- Lists that are made number by number.
-use Rattle.std.proofs.Common.{◌≡◌, ℕ, zero, suc, ◌+◌, List, [], ◌∷◌, ◌++◌, map, refl, sym, ap, ◌∙◌, arith, append_assoc}
+use Rattle.std.proofs.Common.{◌≡◌, ℕ, zero, suc, ◌+◌, ◌<◌, List, [], ◌∷◌, ◌++◌, map, length, get_or, refl, sym, ap, ◌∙◌, arith, append_assoc}
 use Rattle.std.specs.List.{flat_map, range_with_len}
 use Rattle.std.proofs.lemmas.Grind.{flat_map-append}
-use Rattle.std.proofs.lemmas.List.FromFn.{map-range_with_len_more}
-use Rattle.std.proofs.lemmas.List.{map-append}
+use Rattle.std.proofs.lemmas.List.FromFn.{map-range_with_len_more, length-map-range_with_len, get_or-map-range_with_len}
+use Rattle.std.proofs.lemmas.List.{map-append, length-map, get_or-map}
 
 pub range_more : (a n m j : ℕ) → a + n ≡ j → m ≡ n + 1 → range_with_len a m ≡ range_with_len a n ++ j ∷ []
 range_more a zero m j at next = rw (next) (ap (λ (k : ℕ). k ∷ []) (let same : a ≡ j = omega arith in same))
@@ -33,3 +33,16 @@ made_more {X} {Y} g f n old new x before added one =
     ∙ ap (λ (ys : List Y). ys ++ g x ∷ []) before
     ∙ ap (λ (y : Y). map f (range_with_len 0 n) ++ y ∷ []) one
     ∙ sym (map-range_with_len_more f 0 n n (omega arith))
+
+-- the elements that a list made number by number has
+pub made_long : {X Y : Type 0} (g : X → Y) (f : ℕ → Y) (n : ℕ) (xs : List X) → map g xs ≡ map f (range_with_len 0 n) → length xs ≡ n
+made_long g f n xs e = sym (length-map xs g) ∙ ap length e ∙ length-map-range_with_len f 0 n
+
+pub made_at : {X Y : Type 0} (g : X → Y) (f : ℕ → Y) (n i : ℕ) (xs : List X) (x : X) → map g xs ≡ map f (range_with_len 0 n) → i < n
+    → x ≡ get_or xs i x → g x ≡ f i
+made_at {X} {Y} g f n i xs x e within at =
+    let long : length xs ≡ n = made_long g f n xs e in
+    ap g at
+    ∙ sym (get_or-map g xs i x (g x) (omega arith))
+    ∙ ap (λ (ys : List Y). get_or ys i (g x)) e
+    ∙ get_or-map-range_with_len f 0 n i i (g x) within (omega arith)

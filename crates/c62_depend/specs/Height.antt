@@ -1,5 +1,5 @@
 -- How urgent an instruction is: the longest path of latencies that begins with it.
-use Rattle.std.specs.Prelude.{◌≡◌, ◌⊎◌, ℕ, zero, suc, ◌+◌, ◌-◌, ◌≤◌, max, ℤ, pos, negsuc, ◌+ℤ◌, ◌≤ℤ◌, List, length, Option, Some, None, slice_get, fold}
+use Rattle.std.specs.Prelude.{◌≡◌, ◌⊎◌, ℕ, zero, suc, ◌+◌, ◌-◌, ◌<◌, ◌≤◌, slice_index, max, ℤ, pos, negsuc, ◌+ℤ◌, ◌≤ℤ◌, List, length, Option, Some, None, slice_get, fold}
 use Rattle.c62_insn.specs.declared.insn.Insn.{Insn}
 use Rattle.c62_insn.specs.Shape.{delay_of}
 use Rattle.c62_insn.specs.Insn.{op_of}
@@ -32,3 +32,10 @@ path_within block (suc steps) i = longest (path_within block steps) (delay_at bl
 -- the height of number i: no path has more instructions than the block
 unfoldable pub height : List Insn → ℕ → ℕ
 height block i = path_within block (length block) i
+
+-- a link whose number has a height among these that is small, and whose latency is small
+pub record IsUsable (heights : List ℕ) (link : Link) : Type 0 where
+  pub within : link.number < length heights
+  pub low : slice_index heights link.number ≤ 1280
+  pub above : negsuc 4 ≤ℤ link.latency
+  pub below : link.latency ≤ℤ pos 5

@@ -1,9 +1,11 @@
 //! The plan of a block: how far its instructions must stand apart, on which side each stands, and how urgent each is.
 #![tactic(auto)]
 
+mod height;
 mod latency;
 mod links;
 mod reg_set;
+mod side;
 mod uses;
 
 pub use links::Link;
