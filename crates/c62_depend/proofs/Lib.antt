@@ -3,3 +3,4 @@ pub mod Ranges
 pub mod Greatest
 pub mod Latencies
 pub mod Heights
+pub mod Units

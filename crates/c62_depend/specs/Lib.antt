@@ -4,3 +4,5 @@ pub mod Latency
 pub mod Links
 pub mod Height
 pub mod Side
+pub mod Places
+pub mod Plan

@@ -6,6 +6,7 @@ mod latency;
 mod links;
 mod reg_set;
 mod side;
+mod tables;
 mod uses;
 
 pub use links::Link;

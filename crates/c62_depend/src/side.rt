@@ -1,16 +1,19 @@
 //! The side of an instruction, and the units that it may stand on.
 
-ghost use Rattle.std.specs.Prelude.{◌≡◌, ◌≤◌, ◌<◌, length};
-ghost use Rattle.c62_insn.specs.declared.register.Side.{Side as MachineSide};
+ghost use Rattle.std.specs.Prelude.{◌≡◌, ◌&&◌, ◌<◌, length, IfOk};
 ghost use Rattle.c62_insn.specs.declared.register.Unit.{Unit as FunctionalUnit};
 ghost use Rattle.c62_insn.specs.Fault.{side_of};
-ghost use Rattle.c62_insn.specs.Insn.{op_of, operands_of, unit_of};
+ghost use Rattle.c62_insn.specs.Takes.{same_side};
+ghost use Rattle.c62_insn.specs.Insn.{operands_of};
 ghost use Rattle.c62_insn.specs.Units.{unit_in};
 ghost use Rattle.c62_depend.specs.Uses.{insns_in};
-ghost use Rattle.c62_depend.specs.Side.{is_side, count_on, branch_side, side_in, is_written, suits};
+ghost use Rattle.c62_depend.specs.Side.{is_side, count_on, branch_side, side_in, is_written};
+ghost use Rattle.c62_depend.specs.Places.{IsPlace, ArePlaces};
 
 use crate::uses::Uses;
+use bitflags::Flags;
 use c62_insn::{Insn, Operands, Side, Unit, UnitSet};
+use std::alloc::{AllocError, Global};
 
 /// The side of an instruction where its operands decide it: not that of a branch to a block.
 fn side_of(operands: Operands) -> Option<Side>
@@ -78,4 +81,56 @@ fn is_written(unit: Unit, written: Option<Unit>) -> bool
         Some(written) => written == unit,
         None => true,
     }
+}
+
+/// Whether a unit is among those that take an instruction, on the instruction's side, and the written one where one is.
+fn may_stand(taken: UnitSet, side: Side, written: Option<Unit>, unit: Unit) -> bool
+    ensures { result ≡ (unit_in taken unit && (same_side unit.side side && is_written unit written)) }
+{
+    taken.has(unit) && (unit.side == side && is_written(unit, written))
+}
+
+fn units_among(taken: UnitSet, side: Side, written: Option<Unit>) -> UnitSet
+    ensures { (unit : FunctionalUnit) → unit_in result unit ≡ (unit_in taken unit && (same_side unit.side side && is_written unit written)) }
+{
+    let mut units = UnitSet::empty();
+    for unit in Unit::ALL {
+        if may_stand(taken, side, written, unit) {
+            units = units.with(unit);
+        }
+    }
+    units
+}
+
+/// Where an instruction may stand.
+#[derive(Clone, Copy)]
+pub(crate) struct Place {
+    pub side: Side,
+    pub units: UnitSet,
+}
+
+impl Place {
+    /// Where instruction `i` may stand.
+    pub fn new(uses: &[Uses], i: usize) -> Place
+        requires { i < length uses.now }
+        ensures { IsPlace (insns_in uses.now) i result }
+    {
+        let insn = uses[i].insn;
+        let side = side(uses, insn);
+        Place {
+            side,
+            units: units_among(insn.units(), side, insn.unit()),
+        }
+    }
+}
+
+/// Where each instruction may stand.
+pub(crate) fn places(alloc: Global, uses: &[Uses]) -> Result<Vec<Place>, AllocError>
+    ensures { IfOk result (λ places. ArePlaces (insns_in uses.now) (length uses.now) places.items) }
+{
+    let mut places = Vec::with_capacity(alloc, uses.len())?;
+    for i in 0..uses.len() {
+        places.push(Place::new(uses, i))?;
+    }
+    Ok(places)
 }
