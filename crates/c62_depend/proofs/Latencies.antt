@@ -2,8 +2,8 @@
 use Rattle.std.proofs.lemmas.Option.{same_Some, none-some, slice_get_read, slice_get-map}
 use Rattle.std.specs.Prelude.{option_map}
 use Rattle.std.proofs.Common.{length, get_or, arith, ◌≡◌, ℕ, ◌+◌, ◌<◌, ℤ, pos, negsuc, ◌≤◌, ◌-ℤ◌, ◌≤ℤ◌, Bool, true, false, List, Option, Some, None, refl, sym, ap, ◌∙◌, subst, inl, inr, ◌⊎◌, cond}
-use Rattle.std.specs.Prelude.{IfSome, Contains, slice_get, nat_lt, ◌&&◌, ◌||◌}
-use Rattle.std.proofs.lemmas.Bool.{cases_Bool, both_ways, lt-ltb, ltb-true}
+use Rattle.std.specs.Prelude.{IfSome, IsTrue, is_some, ◌↔◌, Contains, slice_get, nat_lt, ◌&&◌, ◌||◌}
+use Rattle.std.proofs.lemmas.Bool.{cases_Bool, both_ways, lt-ltb, le-ltb, ltb-true}
 use Rattle.c62_insn.specs.declared.register.Reg.{Reg}
 use Rattle.c62_insn.specs.declared.operands.Op.{Op}
 use Rattle.c62_insn.specs.declared.operands.Op.TheVariants.{Mpy, Mpyu, Mpyus, Mpysu, Mpyh, Mpyhu, Mpyhl, Mpylh, Ldb, Ldbu, Ldh, Ldhu, Ldw, B as Branch}
@@ -190,3 +190,14 @@ latency_at uses i j u v o before within at_i at_j e =
 
 pub latency_small_at : (block : List Insn) (i j : ℕ) (o : Option ℤ) → o ≡ latency block i j → IfSome o (λ m. (negsuc 4 ≤ℤ m) × (m ≤ℤ pos 5))
 latency_small_at block i j o e = latency-small block i j o (subst (IsLatency block i j) (sym e) (latency-is block i j))
+
+pub greatest_from : (block : List Insn) (i j : ℕ) (o : Option ℤ) → o ≡ latency block i j → IsLatency block i j o
+greatest_from block i j o e = subst (IsLatency block i j) (sym e) (latency-is block i j)
+
+pub latency_late : (block : List Insn) (i j : ℕ) → j ≤ i → None ≡ latency block i j
+unfolding latency
+latency_late block i j late = rw (le-ltb i j late) refl
+
+pub depends_is : (block : List Insn) (i j : ℕ) (o : Option ℤ) (t : Bool) → IsLatency block i j o → t ≡ is_some o → IsTrue t ↔ Depends block i j
+depends_is block i j None t none e = (λ yes. (let clash : true ≡ false = sym yes ∙ e in cc), λ d. absurd (none d))
+depends_is block i j (Some m) t g e = (λ yes. (m, g.applies), λ d. e)

@@ -4,3 +4,4 @@ pub mod Greatest
 pub mod Latencies
 pub mod Heights
 pub mod Units
+pub mod Plans

@@ -46,3 +46,9 @@ made_at {X} {Y} g f n i xs x e within at =
     ∙ sym (get_or-map g xs i x (g x) (omega arith))
     ∙ ap (λ (ys : List Y). get_or ys i (g x)) e
     ∙ get_or-map-range_with_len f 0 n i i (g x) within (omega arith)
+
+pub list_long : {Y : Type 0} (f : ℕ → Y) (n : ℕ) (ys : List Y) → ys ≡ map f (range_with_len 0 n) → length ys ≡ n
+list_long f n ys e = ap length e ∙ length-map-range_with_len f 0 n
+
+pub list_at : {Y : Type 0} (f : ℕ → Y) (n i : ℕ) (ys : List Y) (y : Y) → ys ≡ map f (range_with_len 0 n) → i < n → y ≡ get_or ys i y → y ≡ f i
+list_at {Y} f n i ys y e within at = at ∙ ap (λ (zs : List Y). get_or zs i y) e ∙ get_or-map-range_with_len f 0 n i i y within (omega arith)

@@ -4,9 +4,12 @@
 mod height;
 mod latency;
 mod links;
+mod plan;
 mod reg_set;
+mod same;
 mod side;
 mod tables;
 mod uses;
 
 pub use links::Link;
+pub use plan::Plan;
