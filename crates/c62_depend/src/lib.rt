@@ -13,3 +13,6 @@ mod uses;
 
 pub use links::Link;
 pub use plan::Plan;
+
+#[cfg(test)]
+mod tests;
