@@ -19,11 +19,11 @@ use Rattle.c62_depend.proofs.Latencies.{latency_small_at, delay_of-small}
 
 -- ---- the lists of dependences
 
-linked-all : (P : Link → Type 0) (number : ℕ) (o : Option ℤ) → ((l : ℤ) → o ≡ Some l → P (record { number = number; latency = l })) → All P (linked number o)
+pub linked-all : (P : Link → Type 0) (number : ℕ) (o : Option ℤ) → ((l : ℤ) → o ≡ Some l → P (record { number = number; latency = l })) → All P (linked number o)
 linked-all P number None each = All-nil P
 linked-all P number (Some l) each = All-cons P (record { number = number; latency = l }) [] (each l refl) (All-nil P)
 
-pieces-all : {A : Type 0} (P : A → Type 0) (f : ℕ → List A) (a n : ℕ) → ((j : ℕ) → a ≤ j → j < a + n → All P (f j)) → All P (flat_map f (range_with_len a n))
+pub pieces-all : {A : Type 0} (P : A → Type 0) (f : ℕ → List A) (a n : ℕ) → ((j : ℕ) → a ≤ j → j < a + n → All P (f j)) → All P (flat_map f (range_with_len a n))
 pieces-all P f a zero each = All-nil P
 pieces-all P f a (suc n) each =
     All-append P (f a) (flat_map f (range_with_len (a + 1) n)) (each a (omega arith) (omega arith))

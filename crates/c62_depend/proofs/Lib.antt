@@ -5,3 +5,4 @@ pub mod Latencies
 pub mod Heights
 pub mod Units
 pub mod Plans
+pub mod Rules

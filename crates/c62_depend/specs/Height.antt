@@ -39,3 +39,9 @@ pub record IsUsable (heights : List ℕ) (link : Link) : Type 0 where
   pub low : slice_index heights link.number ≤ 1280
   pub above : negsuc 4 ≤ℤ link.latency
   pub below : link.latency ≤ℤ pos 5
+
+-- the rule of heights: the greatest of the delay and, over all that depend on i, the latency plus the height
+pub record IsHeight (block : List Insn) (i h : ℕ) : Type 0 where
+  pub delay : delay_at block i ≤ h
+  pub above : (j : ℕ) (cycles : ℤ) → latency block i j ≡ Some cycles → (cycles +ℤ pos (height block j)) ≤ℤ pos h
+  pub attained : (h ≡ delay_at block i) ⊎ ((j : ℕ) × (cycles : ℤ) × (latency block i j ≡ Some cycles) × (cycles +ℤ pos (height block j) ≡ pos h))

@@ -6,3 +6,4 @@ pub mod Height
 pub mod Side
 pub mod Places
 pub mod Plan
+pub mod Laws

@@ -3,6 +3,7 @@
 
 mod height;
 mod latency;
+pub mod laws;
 mod links;
 mod plan;
 mod reg_set;
