@@ -1,8 +1,10 @@
 -- A register more in a set.
-use Rattle.std.proofs.Common.{◌≡◌, ◌≢◌, ℕ, ◌+◌, ◌*◌, ◌^◌, ◌%◌, ◌<◌, Bool, true, false, ◌||◌, refl, sym, ap, ◌∙◌, arith, w32, bit_or}
-use Rattle.std.specs.Prelude.{◌==◌, ◌&&◌}
+use Rattle.std.proofs.Common.{◌≡◌, ◌≢◌, ℕ, ◌+◌, ◌*◌, ◌^◌, ◌%◌, ◌<◌, Bool, true, false, ◌||◌, refl, sym, ap, ◌∙◌, arith, w32, bit_or, bit_and, zero, suc, inl, inr}
+use Rattle.std.specs.Prelude.{◌==◌, ◌&&◌, not}
 use Rattle.std.specs.Int.{bit_at}
-use Rattle.std.proofs.lemmas.Nat.Bits.{bit_at_set_same, bit_at_set_other}
+use Rattle.std.proofs.lemmas.Nat.Bits.{bit_at_set_same, bit_at_set_other, and_pow, bit_at-lt, bit_at-pow_same, bit_at-pow_other}
+use Rattle.std.proofs.lemmas.Nat.{pow_pos}
+use Rattle.std.proofs.lemmas.Bool.{cases_eq}
 use Rattle.std.proofs.lemmas.Bool.Decides.{nat_tests}
 use Rattle.c62_insn.specs.declared.register.Side.{Side}
 use Rattle.c62_insn.specs.declared.register.Side.TheVariants.{A, B}
@@ -53,3 +55,39 @@ with_one n k reg other is = by_test (same_reg reg other) refl
             let one : same_reg reg other ≡ true = one_place reg.side other.side reg.number other.number reg.in_range other.in_range (sym (same ∙ is)) in
             let clash : true ≡ false = sym one ∙ e in
             cc
+
+-- the test of one bit
+pub bit_tells : (n bit k : ℕ) → bit ≡ 2 ^ k → not (bit_and n bit == 0) ≡ (bit_at n k == 1)
+bit_tells n bit k e = rw (e, and_pow n k) (tells (bit_at n k) (2 ^ k) (bit_at-lt n k) (pow_pos k))
+  where
+    tells : (b p : ℕ) → b < 2 → 0 < p → not (b * p == 0) ≡ (b == 1)
+    tells zero p below some = let none : zero * p ≡ zero = omega arith in rw none refl
+    tells (suc zero) p below some =
+        let same : suc zero * p ≡ p = omega arith in
+        let positive : (p == 0) ≡ false = grind (arith, nat_tests) in
+        rw (same, positive) refl
+    tells (suc (suc b)) p below some = absurd (omega arith)
+
+-- one bit is one register
+pub same_bits : (a b : Reg) (x y : ℕ) → x ≡ 2 ^ place_of a → y ≡ 2 ^ place_of b → (x == y) ≡ same_reg a b
+same_bits a b x y e f = by_test (same_reg a b) refl
+  where
+    by_test : (t : Bool) → same_reg a b ≡ t → (x == y) ≡ t
+    by_test true h =
+        let same : x ≡ y = e ∙ ap (λ (r : Reg). 2 ^ place_of r) (same_reg-is a b h) ∙ sym f in
+        grind (arith, nat_tests)
+    by_test false h =
+        let apart : x ≢ y = λ same.
+            elim (cases_eq (place_of a) (place_of b)) [
+              | inl one ↦
+                  let is : same_reg a b ≡ true = one_place a.side b.side a.number b.number a.in_range b.in_range one in
+                  let clash : true ≡ false = sym is ∙ h in
+                  cc
+              | inr other ↦
+                  let off : bit_at (2 ^ place_of b) (place_of a) ≡ 0 = bit_at-pow_other (place_of b) (place_of a) other in
+                  let on : bit_at (2 ^ place_of a) (place_of a) ≡ 1 = bit_at-pow_same (place_of a) in
+                  let pows : 2 ^ place_of a ≡ 2 ^ place_of b = sym e ∙ same ∙ f in
+                  let moved : bit_at (2 ^ place_of a) (place_of a) ≡ bit_at (2 ^ place_of b) (place_of a) = ap (λ (n : ℕ). bit_at n (place_of a)) pows in
+                  absurd (omega arith)
+            ] in
+        grind (arith, nat_tests)

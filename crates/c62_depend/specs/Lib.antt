@@ -1,4 +1,5 @@
 pub mod RegSet
+pub mod Writes
 pub mod Uses
 pub mod Latency
 pub mod Links

@@ -3,9 +3,9 @@
 ghost use Rattle.std.specs.Prelude.{◌≡◌, ◌<◌, ◌≤ℤ◌, length, pos, negsuc, ◌+◌, IfSome};
 ghost use Rattle.c62_depend.specs.Latency.{greater, greatest_by, read_after, write_after_read, write_after, access_after, branch_after, reads_after, writes_after_reads, writes_after, latency_of, latency};
 ghost use Rattle.c62_depend.specs.Uses.{insns_in};
+ghost use Rattle.c62_depend.specs.Writes.{write_of, writes_in};
 
-use crate::uses::Uses;
-use c62_insn::Reg;
+use crate::uses::{Uses, Write, Writes};
 
 /// The greater of two bounds, each of which may be absent.
 fn greater(a: Option<i32>, b: Option<i32>) -> Option<i32>
@@ -18,85 +18,83 @@ fn greater(a: Option<i32>, b: Option<i32>) -> Option<i32>
     }
 }
 
-fn read_after(second: &Uses, write: (Reg, u8)) -> Option<i32>
-    ensures { result ≡ read_after second.now.insn write }
+fn read_after(second: &Uses, write: Write) -> Option<i32>
+    ensures { result ≡ read_after second.now.insn (write_of write) }
 {
-    if second.reads(write.0) {
-        Some(i32::from(write.1) + 1)
+    if second.reads(write.to) {
+        Some(i32::from(write.delay) + 1)
     } else {
         None
     }
 }
 
-fn write_after_read(first: &Uses, write: (Reg, u8)) -> Option<i32>
-    ensures { result ≡ write_after_read first.now.insn write }
+fn write_after_read(first: &Uses, write: Write) -> Option<i32>
+    ensures { result ≡ write_after_read first.now.insn (write_of write) }
 {
-    if first.reads(write.0) {
-        Some(-i32::from(write.1))
+    if first.reads(write.to) {
+        Some(-i32::from(write.delay))
     } else {
         None
     }
 }
 
-fn write_after(first: (Reg, u8), second: (Reg, u8)) -> Option<i32>
-    ensures { result ≡ write_after first second }
+fn write_after(first: Write, second: Write) -> Option<i32>
+    ensures { result ≡ write_after (write_of first) (write_of second) }
 {
-    if first.0 == second.0 {
-        Some(i32::from(first.1) + 1 - i32::from(second.1))
+    if first.to.is_same(second.to) {
+        Some(i32::from(first.delay) + 1 - i32::from(second.delay))
     } else {
         None
     }
 }
 
-fn writes_after_one(first: (Reg, u8), seconds: &[(Reg, u8)]) -> Option<i32>
-    ensures { result ≡ greatest_by (write_after first) seconds.now }
+fn writes_after_one(first: Write, seconds: Writes) -> Option<i32>
+    ensures { result ≡ greatest_by (write_after (write_of first)) (writes_in seconds) }
 {
-    let mut greatest = None;
-    for second in seconds {
-        greatest = greater(greatest, write_after(first, *second));
+    match seconds {
+        Writes::Nothing => None,
+        Writes::One(write) => write_after(first, write),
+        Writes::Two(base, loaded) => greater(write_after(first, base), write_after(first, loaded)),
     }
-    greatest
 }
 
 /// The second instruction reads what the first writes.
 fn reads_after(first: &Uses, second: &Uses) -> Option<i32>
     ensures { result ≡ reads_after first.now.insn second.now.insn }
 {
-    let writes = first.writes();
-    let mut greatest = None;
-    for write in writes {
-        greatest = greater(greatest, read_after(second, *write));
+    match first.writes {
+        Writes::Nothing => None,
+        Writes::One(write) => read_after(second, write),
+        Writes::Two(base, loaded) => greater(read_after(second, base), read_after(second, loaded)),
     }
-    greatest
 }
 
 /// The second instruction writes what the first reads.
 fn writes_after_reads(first: &Uses, second: &Uses) -> Option<i32>
     ensures { result ≡ writes_after_reads first.now.insn second.now.insn }
 {
-    let writes = second.writes();
-    let mut greatest = None;
-    for write in writes {
-        greatest = greater(greatest, write_after_read(first, *write));
+    match second.writes {
+        Writes::Nothing => None,
+        Writes::One(write) => write_after_read(first, write),
+        Writes::Two(base, loaded) => greater(
+            write_after_read(first, base),
+            write_after_read(first, loaded),
+        ),
     }
-    greatest
-}
-
-fn writes_after_all(firsts: &[(Reg, u8)], seconds: &[(Reg, u8)]) -> Option<i32>
-    ensures { result ≡ greatest_by (λ v. greatest_by (write_after v) seconds.now) firsts.now }
-{
-    let mut greatest = None;
-    for first in firsts {
-        greatest = greater(greatest, writes_after_one(*first, seconds));
-    }
-    greatest
 }
 
 /// Both instructions write one register.
 fn writes_after(first: &Uses, second: &Uses) -> Option<i32>
     ensures { result ≡ writes_after first.now.insn second.now.insn }
 {
-    writes_after_all(first.writes(), second.writes())
+    match first.writes {
+        Writes::Nothing => None,
+        Writes::One(write) => writes_after_one(write, second.writes),
+        Writes::Two(base, loaded) => greater(
+            writes_after_one(base, second.writes),
+            writes_after_one(loaded, second.writes),
+        ),
+    }
 }
 
 /// Two accesses to memory, of which one stores.

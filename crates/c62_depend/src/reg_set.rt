@@ -1,6 +1,6 @@
 //! Sets of registers.
 
-ghost use Rattle.std.specs.Prelude.{◌≡◌, ℕ, ◌+◌, ◌<◌, ◌||◌, false};
+ghost use Rattle.std.specs.Prelude.{◌≡◌, ℕ, ◌+◌, ◌<◌, ◌^◌, ◌||◌, false};
 ghost use Rattle.c62_insn.specs.declared.register.Reg.{Reg as Register};
 ghost use Rattle.c62_insn.specs.Takes.{same_reg};
 ghost use Rattle.c62_depend.specs.RegSet.{place_of, reg_in};
@@ -22,6 +22,32 @@ fn place(reg: Reg) -> u32
     }
 }
 
+/// A register, with its bit in a set.
+#[derive(Clone, Copy)]
+pub(crate) struct RegBit {
+    pub reg: Reg,
+    bit: u32,
+    pub ghost bit_is: { bit ≡ 2 ^ place_of reg },
+}
+
+impl RegBit {
+    pub fn new(reg: Reg) -> RegBit
+        ensures { result.reg ≡ reg }
+    {
+        RegBit {
+            reg,
+            bit: 1 << place(reg),
+        }
+    }
+
+    /// Whether both are one register.
+    pub fn is_same(self, other: RegBit) -> bool
+        ensures { result ≡ same_reg self.reg other.reg }
+    {
+        self.bit == other.bit
+    }
+}
+
 impl RegSet {
     /// The set without registers.
     pub fn new() -> RegSet
@@ -31,10 +57,10 @@ impl RegSet {
     }
 
     /// Whether `reg` is in the set.
-    pub fn has(self, reg: Reg) -> bool
-        ensures { result ≡ reg_in self reg }
+    pub fn has(self, reg: RegBit) -> bool
+        ensures { result ≡ reg_in self reg.reg }
     {
-        self.0 >> place(reg) & 1 == 1
+        self.0 & reg.bit != 0
     }
 
     /// The set with `reg` added.

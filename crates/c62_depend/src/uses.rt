@@ -5,23 +5,38 @@ ghost use Rattle.c62_insn.specs.declared.register.Reg.{Reg as Register};
 ghost use Rattle.c62_insn.specs.Shape.{delay_of, is_load, is_store, is_branch};
 ghost use Rattle.c62_insn.specs.Insn.{op_of, is_condition_on, register_writes, reads_register};
 ghost use Rattle.c62_depend.specs.RegSet.{reg_in};
+ghost use Rattle.c62_depend.specs.Writes.{write_of, writes_in};
 
-use crate::reg_set::RegSet;
-use arrayvec::ArrayVec;
+use crate::reg_set::{RegBit, RegSet};
 use c62_insn::{Cond, Insn, Reg};
+
+/// A write of a register, with its delay in cycles.
+#[derive(Clone, Copy)]
+pub(crate) struct Write {
+    pub to: RegBit,
+    pub delay: u8,
+}
+
+/// The writes of an instruction: at most two.
+#[derive(Clone, Copy)]
+pub(crate) enum Writes {
+    Nothing,
+    One(Write),
+    Two(Write, Write),
+}
 
 /// An instruction, with what its dependences ask of it at hand.
 #[derive(Drop)]
 pub(crate) struct Uses {
     pub insn: Insn,
     reads: RegSet,
-    writes: ArrayVec<(Reg, u8), 2>,
+    pub writes: Writes,
     pub delay: u8,
     pub loads: bool,
     pub stores: bool,
     pub branches: bool,
     pub ghost reads_are: { (reg : Register) → reg_in reads reg ≡ reads_register insn reg },
-    pub ghost writes_are: { writes.items ≡ register_writes insn },
+    pub ghost writes_are: { writes_in writes ≡ register_writes insn },
     pub ghost delay_is: { delay ≡ delay_of (op_of insn) },
     pub ghost load_is: { loads ≡ is_load (op_of insn) },
     pub ghost store_is: { stores ≡ is_store (op_of insn) },
@@ -50,6 +65,31 @@ fn reads(insn: &Insn) -> RegSet
     set
 }
 
+impl Write {
+    fn new(write: (Reg, u8)) -> Write
+        ensures { write_of result ≡ write }
+    {
+        Write {
+            to: RegBit::new(write.0),
+            delay: write.1,
+        }
+    }
+}
+
+impl Writes {
+    /// The writes of an instruction.
+    fn new(insn: &Insn) -> Writes
+        ensures { writes_in result ≡ register_writes insn.now }
+    {
+        let writes = insn.writes();
+        match writes.as_slice() {
+            [] => Writes::Nothing,
+            [write] => Writes::One(Write::new(*write)),
+            [first, second, ..] => Writes::Two(Write::new(*first), Write::new(*second)),
+        }
+    }
+}
+
 impl Uses {
     pub fn new(insn: Insn) -> Uses
         ensures { result.insn ≡ insn }
@@ -58,7 +98,7 @@ impl Uses {
         Uses {
             insn,
             reads: reads(&insn),
-            writes: insn.writes(),
+            writes: Writes::new(&insn),
             delay: insn.delay(),
             loads: op.is_load(),
             stores: op.is_store(),
@@ -67,16 +107,9 @@ impl Uses {
     }
 
     /// Whether the instruction reads a register, as an operand or as its condition.
-    pub fn reads(&self, reg: Reg) -> bool
-        ensures { result ≡ reads_register self.now.insn reg }
+    pub fn reads(&self, reg: RegBit) -> bool
+        ensures { result ≡ reads_register self.now.insn reg.reg }
     {
         self.reads.has(reg)
-    }
-
-    /// The registers that the instruction writes, each with the delay of the write.
-    pub fn writes(&self) -> &[(Reg, u8)]
-        ensures { result.now ≡ register_writes self.now.insn }
-    {
-        self.writes.as_slice()
     }
 }
