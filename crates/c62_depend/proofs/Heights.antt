@@ -139,9 +139,9 @@ height_found block i h delay heights links from within d e found =
     ∙ ap (λ (x : ℕ). longest (slice_index heights) x links) d
     ∙ ap (longest (slice_index heights) (delay_at block i)) e
     ∙ longest_same (slice_index heights) (height block) (delay_at block i) (followers block i)
-      (All-weaker (IsFollower block i) (λ link. slice_index heights link.number ≡ height block link.number)
-      (λ link follows. let after : i < link.number = follows.after in from.are link.number (omega arith) follows.within)
-      (followers block i) (followers-are block i))
+    (All-weaker (IsFollower block i) (λ link. slice_index heights link.number ≡ height block link.number)
+    (λ link follows. let after : i < link.number = follows.after in from.are link.number (omega arith) follows.within)
+    (followers block i) (followers-are block i))
     ∙ sym (height-step block i within)
 
 -- one number further up

@@ -81,10 +81,10 @@ some_suits block p = by_side (side_of (operands_of p)) refl (has_written_unit p)
     on_branch number u e takes_it (inl none) is =
         let there : FunctionalUnit = record { letter = u.letter; side = side_in block p } in
         let taken : takes (op_of p) (operands_of p) there ≡ true =
-            ap (λ (x : Operands). takes (op_of p) x there) e
-            ∙ takes_alike (op_of p) u.letter (side_in block p) u.side number
-            ∙ sym (ap (λ (x : Operands). takes (op_of p) x u) e)
-            ∙ takes_it in
+        ap (λ (x : Operands). takes (op_of p) x there) e
+        ∙ takes_alike (op_of p) u.letter (side_in block p) u.side number
+        ∙ sym (ap (λ (x : Operands). takes (op_of p) x u) e)
+        ∙ takes_it in
         (there, suits_from _ _ _ taken (same_side-refl (side_in block p)) (written_one there (unit_of p) (inl none)))
     on_branch number u e takes_it (inr one) is =
         let there : side_in block p ≡ u.side = is ∙ ap (branch_side block) one in

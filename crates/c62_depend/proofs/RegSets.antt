@@ -78,16 +78,16 @@ same_bits a b x y e f = by_test (same_reg a b) refl
         grind (arith, nat_tests)
     by_test false h =
         let apart : x ≢ y = λ same.
-            elim (cases_eq (place_of a) (place_of b)) [
-              | inl one ↦
-                  let is : same_reg a b ≡ true = one_place a.side b.side a.number b.number a.in_range b.in_range one in
-                  let clash : true ≡ false = sym is ∙ h in
-                  cc
-              | inr other ↦
-                  let off : bit_at (2 ^ place_of b) (place_of a) ≡ 0 = bit_at-pow_other (place_of b) (place_of a) other in
-                  let on : bit_at (2 ^ place_of a) (place_of a) ≡ 1 = bit_at-pow_same (place_of a) in
-                  let pows : 2 ^ place_of a ≡ 2 ^ place_of b = sym e ∙ same ∙ f in
-                  let moved : bit_at (2 ^ place_of a) (place_of a) ≡ bit_at (2 ^ place_of b) (place_of a) = ap (λ (n : ℕ). bit_at n (place_of a)) pows in
-                  absurd (omega arith)
-            ] in
+        elim (cases_eq (place_of a) (place_of b)) [
+          | inl one ↦
+              let is : same_reg a b ≡ true = one_place a.side b.side a.number b.number a.in_range b.in_range one in
+              let clash : true ≡ false = sym is ∙ h in
+              cc
+          | inr other ↦
+              let off : bit_at (2 ^ place_of b) (place_of a) ≡ 0 = bit_at-pow_other (place_of b) (place_of a) other in
+              let on : bit_at (2 ^ place_of a) (place_of a) ≡ 1 = bit_at-pow_same (place_of a) in
+              let pows : 2 ^ place_of a ≡ 2 ^ place_of b = sym e ∙ same ∙ f in
+              let moved : bit_at (2 ^ place_of a) (place_of a) ≡ bit_at (2 ^ place_of b) (place_of a) = ap (λ (n : ℕ). bit_at n (place_of a)) pows in
+              absurd (omega arith)
+        ] in
         grind (arith, nat_tests)

@@ -100,14 +100,14 @@ longest-least : (f : ℕ → ℕ) (least : ℕ) (links : List Link) → least �
 longest-least f least [] = omega arith
 longest-least f least (link ∷ links) =
     let more : max least (raised link.latency (f link.number)) ≤ longest f (max least (raised link.latency (f link.number))) links
-        = longest-least f (max least (raised link.latency (f link.number))) links in
+    = longest-least f (max least (raised link.latency (f link.number))) links in
     omega arith
 
 longest-each : (f : ℕ → ℕ) (least : ℕ) (links : List Link) → All (λ link. raised link.latency (f link.number) ≤ longest f least links) links
 longest-each f least [] = All-nil (λ (link : Link). raised link.latency (f link.number) ≤ longest f least [])
 longest-each f least (link ∷ links) =
     let more : max least (raised link.latency (f link.number)) ≤ longest f (max least (raised link.latency (f link.number))) links
-        = longest-least f (max least (raised link.latency (f link.number))) links in
+    = longest-least f (max least (raised link.latency (f link.number))) links in
     All-cons (λ (one : Link). raised one.latency (f one.number) ≤ longest f least (link ∷ links)) link links (omega arith)
     (longest-each f (max least (raised link.latency (f link.number))) links)
 
@@ -147,8 +147,8 @@ height_is block i within = subst (IsHeight block i) (sym (height-step block i wi
   above = λ j cycles e.
       let is_in = (followers_are block i).each (record { number = j; latency = cycles }) e in
       let below : raised cycles (height block j) ≤ longest (height block) (delay_at block i) (followers block i) =
-          All-contains (λ (link : Link). raised link.latency (height block link.number) ≤ longest (height block) (delay_at block i) (followers block i))
-          (followers block i) (record { number = j; latency = cycles }) (longest-each (height block) (delay_at block i) (followers block i)) is_in in
+      All-contains (λ (link : Link). raised link.latency (height block link.number) ≤ longest (height block) (delay_at block i) (followers block i))
+      (followers block i) (record { number = j; latency = cycles }) (longest-each (height block) (delay_at block i) (followers block i)) is_in in
       let above : (cycles +ℤ pos (height block j)) ≤ℤ pos (raised cycles (height block j)) = raised-above cycles (height block j) in
       omega (arith, ints);
   attained = reached (longest (height block) (delay_at block i) (followers block i)) (longest-least (height block) (delay_at block i) (followers block i))

@@ -34,11 +34,7 @@ fn longest(delay: u16, links: &[Link], heights: &[u16]) -> u16
 }
 
 /// The height of each instruction, found from the last one up.
-pub(crate) fn heights(
-    alloc: Global,
-    uses: &[Uses],
-    links: &[Links],
-) -> Result<Vec<u16>, AllocError>
+pub(crate) fn heights(alloc: Global, uses: &[Uses], links: &[Links]) -> Result<Vec<u16>, AllocError>
     requires few { length uses.now ≤ 256 }
     requires links { map (λ one. one.items) links.now ≡ map (followers (insns_in uses.now)) (range_with_len 0 (length uses.now)) }
     ensures { IfOk result (λ heights. heights.items ≡ map (height (insns_in uses.now)) (range_with_len 0 (length uses.now))) }
