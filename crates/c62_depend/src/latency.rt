@@ -121,10 +121,9 @@ fn branch_after(first: &Uses, second: &Uses) -> Option<i32>
     }
 }
 
-/// By how much the cycle of the second instruction must at least exceed that of the first: the greatest bound of the
-/// cases that apply.
+/// The greatest bound of all cases that apply.
 #[tactic(auto, unfolding(crate::specs::Latency::latency_of))]
-pub(crate) fn latency_between(first: &Uses, second: &Uses) -> Option<i32>
+fn latency_of_all(first: &Uses, second: &Uses) -> Option<i32>
     ensures { result ≡ latency_of first.now.insn second.now.insn }
 {
     let reads = greater(
@@ -133,6 +132,18 @@ pub(crate) fn latency_between(first: &Uses, second: &Uses) -> Option<i32>
     );
     let writes = greater(writes_after(first, second), access_after(first, second));
     greater(greater(reads, writes), branch_after(first, second))
+}
+
+/// By how much the cycle of the second instruction must at least exceed that of the first: the greatest bound of the
+/// cases that apply.
+fn latency_between(first: &Uses, second: &Uses) -> Option<i32>
+    ensures { result ≡ latency_of first.now.insn second.now.insn }
+{
+    if first.is_apart(second) {
+        greater(access_after(first, second), branch_after(first, second))
+    } else {
+        latency_of_all(first, second)
+    }
 }
 
 /// By how much the cycle of instruction `j` must at least exceed that of instruction `i`, which stands before it: the

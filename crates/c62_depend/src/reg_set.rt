@@ -1,6 +1,6 @@
 //! Sets of registers.
 
-ghost use Rattle.std.specs.Prelude.{◌≡◌, ℕ, ◌+◌, ◌<◌, ◌^◌, ◌||◌, false};
+ghost use Rattle.std.specs.Prelude.{◌≡◌, ℕ, ◌+◌, ◌<◌, ◌^◌, ◌||◌, true, false};
 ghost use Rattle.c62_insn.specs.declared.register.Reg.{Reg as Register};
 ghost use Rattle.c62_insn.specs.Takes.{same_reg};
 ghost use Rattle.c62_depend.specs.RegSet.{place_of, reg_in};
@@ -68,5 +68,12 @@ impl RegSet {
         ensures { (other : Register) → reg_in result other ≡ (reg_in self other || same_reg reg other) }
     {
         RegSet(self.0 | 1 << place(reg))
+    }
+
+    /// Whether a register may be in both sets.
+    pub fn meets(self, other: RegSet) -> bool
+        ensures { result ≡ false → (reg : Register) → reg_in self reg ≡ true → reg_in other reg ≡ false }
+    {
+        self.0 & other.0 != 0
     }
 }

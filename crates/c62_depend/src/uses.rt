@@ -1,6 +1,9 @@
 //! What an instruction reads, writes and accesses.
 
-ghost use Rattle.std.specs.Prelude.{◌≡◌};
+ghost use Rattle.std.specs.Prelude.{◌≡◌, IsTrue};
+ghost use Rattle.std.specs.List.{list_any};
+ghost use Rattle.c62_insn.specs.Takes.{same_reg};
+ghost use Rattle.c62_depend.specs.Latency.{AreApart};
 ghost use Rattle.c62_insn.specs.declared.register.Reg.{Reg as Register};
 ghost use Rattle.c62_insn.specs.Shape.{delay_of, is_load, is_store, is_branch};
 ghost use Rattle.c62_insn.specs.Insn.{op_of, is_condition_on, register_writes, reads_register};
@@ -30,12 +33,14 @@ pub(crate) enum Writes {
 pub(crate) struct Uses {
     pub insn: Insn,
     reads: RegSet,
+    written: RegSet,
     pub writes: Writes,
     pub delay: u8,
     pub loads: bool,
     pub stores: bool,
     pub branches: bool,
     pub ghost reads_are: { (reg : Register) → reg_in reads reg ≡ reads_register insn reg },
+    pub ghost written_are: { (reg : Register) → reg_in written reg ≡ list_any (λ write. same_reg write.0 reg) (register_writes insn) },
     pub ghost writes_are: { writes_in writes ≡ register_writes insn },
     pub ghost delay_is: { delay ≡ delay_of (op_of insn) },
     pub ghost load_is: { loads ≡ is_load (op_of insn) },
@@ -90,15 +95,28 @@ impl Writes {
     }
 }
 
+/// The registers that are written.
+fn written(writes: Writes) -> RegSet
+    ensures { (reg : Register) → reg_in result reg ≡ list_any (λ write. same_reg write.0 reg) (writes_in writes) }
+{
+    match writes {
+        Writes::Nothing => RegSet::new(),
+        Writes::One(write) => RegSet::new().with(write.to.reg),
+        Writes::Two(base, loaded) => RegSet::new().with(base.to.reg).with(loaded.to.reg),
+    }
+}
+
 impl Uses {
     pub fn new(insn: Insn) -> Uses
         ensures { result.insn ≡ insn }
     {
         let op = insn.op();
+        let writes = Writes::new(&insn);
         Uses {
             insn,
             reads: reads(&insn),
-            writes: Writes::new(&insn),
+            written: written(writes),
+            writes,
             delay: insn.delay(),
             loads: op.is_load(),
             stores: op.is_store(),
@@ -111,5 +129,18 @@ impl Uses {
         ensures { result ≡ reads_register self.now.insn reg.reg }
     {
         self.reads.has(reg)
+    }
+
+    /// Whether neither instruction reads or writes a register that the other one writes. It may say `false` of any two.
+    pub fn is_apart(&self, later: &Uses) -> bool
+        ensures { IsTrue result → AreApart self.now.insn later.now.insn }
+    {
+        if self.written.meets(later.reads) {
+            return false;
+        }
+        if self.written.meets(later.written) {
+            return false;
+        }
+        !later.written.meets(self.reads)
     }
 }
