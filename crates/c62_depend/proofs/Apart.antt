@@ -1,10 +1,10 @@
 -- Where two instructions share no register that one of them writes, no case of registers applies.
-use Rattle.std.proofs.Common.{◌≡◌, ℕ, ◌<◌, min, ℤ, Bool, true, false, ◌||◌, List, [], ◌∷◌, Option, Some, None, refl, sym, ap, ◌∙◌, subst, arith, bit_and, cond, inl, inr}
-use Rattle.std.specs.Prelude.{◌==◌, not, All, fold, IsTrue}
+use Rattle.std.proofs.Common.{◌≡◌, ℕ, min, ℤ, Bool, true, false, List, [], ◌∷◌, Option, None, refl, sym, ap, ◌∙◌, subst, arith, bit_and}
+use Rattle.std.specs.Prelude.{◌==◌, not, All, fold}
 use Rattle.std.specs.List.{list_any}
 use Rattle.std.specs.Int.{bit_at}
 use Rattle.std.proofs.lemmas.Nat.Bits.{bit_at_and, bit_at-zero}
-use Rattle.std.proofs.lemmas.Bool.{cases_Bool, both_ways, or_left, or_right, or_parts, false_from_ne_true, eqb-true}
+use Rattle.std.proofs.lemmas.Bool.{both_ways, or_left, or_right, or_parts, false_from_ne_true, eqb-true}
 use Rattle.std.proofs.lemmas.Bool.Decides.{nat_tests}
 use Rattle.std.proofs.lemmas.List.Elements.{All-nil, All-cons, All-head, All-tail, All-weaker}
 use Rattle.c62_insn.specs.declared.register.Reg.{Reg}
@@ -14,7 +14,7 @@ use Rattle.c62_insn.specs.Insn.{register_writes, reads_register}
 use Rattle.c62_insn.proofs.Registers.{same_reg-is, same_reg-refl}
 use Rattle.c62_depend.specs.declared.reg_set.RegSet.{RegSet}
 use Rattle.c62_depend.specs.RegSet.{place_of, reg_in}
-use Rattle.c62_depend.specs.Latency.{greater, greatest_by, read_after, write_after_read, write_after, access_after, branch_after, reads_after, writes_after_reads, writes_after, latency_of, AreApart}
+use Rattle.c62_depend.specs.Latency.{greater, greatest_by, read_after, write_after_read, write_after, access_after, branch_after, latency_of, AreApart}
 
 -- ---- sets
 
@@ -22,7 +22,7 @@ pub meets_not : (a b : RegSet) → not (bit_and a.0 b.0 == 0) ≡ false → (reg
 meets_not a b none reg is =
     let empty : bit_and a.0 b.0 ≡ 0 = grind (arith, nat_tests) in
     let both : min (bit_at a.0 (place_of reg)) (bit_at b.0 (place_of reg)) ≡ 0 =
-        sym (bit_at_and a.0 b.0 (place_of reg)) ∙ ap (λ (n : ℕ). bit_at n (place_of reg)) empty ∙ bit_at-zero (place_of reg) in
+    sym (bit_at_and a.0 b.0 (place_of reg)) ∙ ap (λ (n : ℕ). bit_at n (place_of reg)) empty ∙ bit_at-zero (place_of reg) in
     let one : bit_at a.0 (place_of reg) ≡ 1 = eqb-true (bit_at a.0 (place_of reg)) 1 is in
     let other : bit_at b.0 (place_of reg) ≡ 0 = omega arith in
     rw other refl

@@ -1,6 +1,6 @@
 -- Heights are what the rule says: the greatest of the delay and of each latency plus the height behind it.
-use Rattle.std.proofs.Common.{◌≡◌, ℕ, zero, suc, ◌+◌, ◌-◌, ◌*◌, ◌<◌, ◌≤◌, max, set, ℤ, pos, negsuc, ◌+ℤ◌, ◌≤ℤ◌, List, [], ◌∷◌, ◌++◌, length, map, get_or, Option, Some, None, refl, sym, ap, ◌∙◌, subst, arith, inl, inr, ◌⊎◌}
-use Rattle.std.specs.Prelude.{All, Contains, fold, slice_get, slice_index, IfSome}
+use Rattle.std.proofs.Common.{◌≡◌, ℕ, zero, suc, ◌+◌, ◌-◌, ◌*◌, ◌<◌, ◌≤◌, max, set, ℤ, pos, negsuc, ◌≤ℤ◌, List, [], ◌∷◌, length, map, Option, Some, None, refl, sym, ap, ◌∙◌, arith, inl, inr}
+use Rattle.std.specs.Prelude.{All, slice_get, slice_index}
 use Rattle.std.specs.List.{flat_map, range_with_len}
 use Rattle.std.proofs.lemmas.Int.{ints}
 use Rattle.std.proofs.lemmas.Bool.{cases_eq}
@@ -13,7 +13,7 @@ use Rattle.c62_insn.specs.declared.insn.Insn.{Insn}
 use Rattle.c62_insn.specs.Insn.{op_of}
 use Rattle.c62_depend.specs.declared.links.Link.{Link}
 use Rattle.c62_depend.specs.Latency.{latency}
-use Rattle.c62_depend.specs.Links.{linked, needs, followers}
+use Rattle.c62_depend.specs.Links.{linked, followers}
 use Rattle.c62_depend.specs.Height.{raised, delay_in, delay_at, longest, path_within, height, IsUsable}
 use Rattle.c62_depend.proofs.Latencies.{latency_small_at, delay_of-small}
 

@@ -1,5 +1,5 @@
 -- The dependences of an instruction, as lists.
-use Rattle.std.specs.Prelude.{ℕ, ◌+◌, ◌-◌, ℤ, List, [], ◌∷◌, length, map, Option, Some, None}
+use Rattle.std.specs.Prelude.{ℕ, ◌+◌, ◌-◌, ℤ, List, [], ◌∷◌, length, Option, Some, None}
 use Rattle.std.specs.List.{flat_map, range_with_len}
 use Rattle.c62_insn.specs.declared.insn.Insn.{Insn}
 use Rattle.c62_depend.specs.declared.links.Link.{Link}

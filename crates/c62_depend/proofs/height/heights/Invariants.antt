@@ -1,4 +1,3 @@
-use Rattle.std.proofs.Common.{◌≡◌, length}
 use Rattle.c62_depend.specs.Uses.{insns_in}
 use Rattle.c62_depend.proofs.Heights.{AreHeightsFrom}
 use Rattle.c62_depend.proofs.height.heights.Given as goal

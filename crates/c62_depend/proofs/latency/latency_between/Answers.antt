@@ -1,5 +1,5 @@
 use Rattle.std.proofs.Common.{sym, ◌∙◌, ℤ, Option, ap}
-use Rattle.c62_depend.specs.Latency.{greater, access_after, branch_after, latency_of, AreApart}
+use Rattle.c62_depend.specs.Latency.{greater, access_after}
 use Rattle.c62_depend.proofs.Apart.{latency_apart}
 use Rattle.c62_depend.proofs.latency.latency_between.Goals as goal
 

@@ -1,7 +1,5 @@
-use Rattle.std.proofs.Common.{◌≡◌, ℕ, length, arith, subst, sym}
 use Rattle.c62_depend.specs.Uses.{insns_in}
-use Rattle.c62_depend.specs.Places.{ArePlaces}
-use Rattle.c62_depend.proofs.Units.{no_places, places_more}
+use Rattle.c62_depend.proofs.Units.{places_more}
 use Rattle.c62_depend.proofs.side.places.Goals as goal
 
 pub loop-i-preserved : goal.loop-i-preserved

@@ -1,4 +1,4 @@
-use Rattle.std.proofs.Common.{◌≤◌, List, ap, ◌∙◌}
+use Rattle.std.proofs.Common.{List, ap, ◌∙◌}
 use Rattle.c62_insn.specs.declared.insn.Insn.{Insn}
 use Rattle.c62_read.specs.Block.{Serial}
 use Rattle.c62_depend.specs.declared.uses.Uses.{Uses}
