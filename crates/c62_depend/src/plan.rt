@@ -12,7 +12,8 @@ use c62_read::Block;
 use std::alloc::{AllocError, Global};
 use std::marker::Model;
 
-/// A block, with all that scheduling asks of it.
+/// A block, with all that scheduling asks of it. Its instructions have numbers from 0, in their order; a call on a number
+/// asks that it is below [`Plan::len`]. All calls but [`Plan::new`] and [`Plan::copy`] take no memory.
 #[derive(Drop)]
 pub struct Plan {
     block: Block,
@@ -62,7 +63,9 @@ impl Plan {
         &self.block
     }
 
-    /// How many instructions there are.
+    /// How many instructions there are: at most 256. By this call a caller learns what holds of every plan: latencies go
+    /// from a lower number to a higher one and are -5 to 5; a height is at most five cycles for each instruction; each
+    /// instruction has a unit, and only units of its side.
     pub fn len(&self) -> u16
         ensures len { result ≡ length self.now.insns }
         ensures sound { IsPlan (insns_of self.now) }
@@ -156,6 +159,10 @@ impl Plan {
     }
 
     /// An equal plan.
+    ///
+    /// # Errors
+    ///
+    /// Where memory ran out.
     pub fn copy(&self, alloc: Global) -> Result<Plan, AllocError>
         ensures { IfOk result (λ plan. plan ≡ self.now) }
     {
