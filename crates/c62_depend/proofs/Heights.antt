@@ -1,0 +1,162 @@
+-- Heights are what the rule says: the greatest of the delay and of each latency plus the height behind it.
+use Rattle.std.proofs.Common.{◌≡◌, ℕ, zero, suc, ◌+◌, ◌-◌, ◌*◌, ◌<◌, ◌≤◌, max, set, ℤ, pos, negsuc, ◌≤ℤ◌, List, [], ◌∷◌, length, map, Option, Some, None, refl, sym, ap, ◌∙◌, arith, inl, inr}
+use Rattle.std.specs.Prelude.{All, slice_get, slice_index}
+use Rattle.std.specs.List.{flat_map, range_with_len}
+use Rattle.std.proofs.lemmas.Int.{ints}
+use Rattle.std.proofs.lemmas.Bool.{cases_eq}
+use Rattle.std.proofs.lemmas.List.{get_or-set_other}
+use Rattle.std.proofs.lemmas.Grind.{get_or-set_at}
+use Rattle.std.proofs.lemmas.List.FromFn.{fill_by_all}
+use Rattle.std.proofs.Math.ListN.{length-set}
+use Rattle.std.proofs.lemmas.List.Elements.{All-nil, All-cons, All-append, All-head, All-tail, All-weaker}
+use Rattle.c62_insn.specs.declared.insn.Insn.{Insn}
+use Rattle.c62_insn.specs.Insn.{op_of}
+use Rattle.c62_depend.specs.declared.links.Link.{Link}
+use Rattle.c62_depend.specs.Latency.{latency}
+use Rattle.c62_depend.specs.Links.{linked, followers}
+use Rattle.c62_depend.specs.Height.{raised, delay_in, delay_at, longest, path_within, height, IsUsable}
+use Rattle.c62_depend.proofs.Latencies.{latency_small_at, delay_of-small}
+
+-- ---- the lists of dependences
+
+pub linked-all : (P : Link → Type 0) (number : ℕ) (o : Option ℤ) → ((l : ℤ) → o ≡ Some l → P (record { number = number; latency = l })) → All P (linked number o)
+linked-all P number None each = All-nil P
+linked-all P number (Some l) each = All-cons P (record { number = number; latency = l }) [] (each l refl) (All-nil P)
+
+pub pieces-all : {A : Type 0} (P : A → Type 0) (f : ℕ → List A) (a n : ℕ) → ((j : ℕ) → a ≤ j → j < a + n → All P (f j)) → All P (flat_map f (range_with_len a n))
+pieces-all P f a zero each = All-nil P
+pieces-all P f a (suc n) each =
+    All-append P (f a) (flat_map f (range_with_len (a + 1) n)) (each a (omega arith) (omega arith))
+    (pieces-all P f (a + 1) n (λ j low high. each j (omega arith) (omega arith)))
+
+-- what holds of a dependence in the list of those that depend on i
+pub record IsFollower (block : List Insn) (i : ℕ) (link : Link) : Type 0 where
+  pub after : i < link.number
+  pub within : link.number < length block
+  pub is : latency block i link.number ≡ Some link.latency
+
+pub followers-are : (block : List Insn) (i : ℕ) → All (IsFollower block i) (followers block i)
+unfolding followers
+followers-are block i =
+    pieces-all (IsFollower block i) (λ j. linked j (latency block i j)) (i + 1) (length block - (i + 1))
+    (λ j low high. linked-all (IsFollower block i) j (latency block i j) (λ l e. record { after = omega arith; within = omega arith; is = e }))
+
+-- ---- the greatest over a list
+
+longest_same : (f g : ℕ → ℕ) (least : ℕ) (links : List Link) → All (λ link. f link.number ≡ g link.number) links → longest f least links ≡ longest g least links
+longest_same f g least [] same = refl
+longest_same f g least (link ∷ links) same =
+    longest_same f g (max least (raised link.latency (f link.number))) links (All-tail (λ link. f link.number ≡ g link.number) link links same)
+    ∙ ap (λ (h : ℕ). longest g (max least (raised link.latency h)) links) (All-head (λ link. f link.number ≡ g link.number) link links same)
+
+longest_below : (f : ℕ → ℕ) (least most : ℕ) (links : List Link) → least ≤ most → All (λ link. raised link.latency (f link.number) ≤ most) links → longest f least links ≤ most
+longest_below f least most [] low each = low
+longest_below f least most (link ∷ links) low each =
+    let first : raised link.latency (f link.number) ≤ most = All-head (λ link. raised link.latency (f link.number) ≤ most) link links each in
+    longest_below f (max least (raised link.latency (f link.number))) most links (omega arith) (All-tail (λ link. raised link.latency (f link.number) ≤ most) link links each)
+
+raised-small : (l : ℤ) (h : ℕ) → l ≤ℤ pos 5 → raised l h ≤ h + 5
+raised-small (pos n) h small = let few : n ≤ 5 = omega (arith, ints) in omega arith
+raised-small (negsuc n) h small = omega arith
+
+delay_in-small : (o : Option Insn) → delay_in o ≤ 5
+delay_in-small None = omega arith
+delay_in-small (Some insn) = delay_of-small (op_of insn)
+
+delay_at-small : (block : List Insn) (i : ℕ) → delay_at block i ≤ 5
+delay_at-small block i = delay_in-small (slice_get block i)
+
+-- ---- heights
+
+enough : (block : List Insn) (s t i : ℕ) → i < length block → length block ≤ i + s → length block ≤ i + t → path_within block s i ≡ path_within block t i
+enough block zero t i within some more = absurd (omega arith)
+enough block (suc s) zero i within some more = absurd (omega arith)
+enough block (suc s) (suc t) i within some more =
+    longest_same (path_within block s) (path_within block t) (delay_at block i) (followers block i)
+    (All-weaker (IsFollower block i) (λ link. path_within block s link.number ≡ path_within block t link.number)
+    (λ link follows. let after : i < link.number = follows.after in enough block s t link.number follows.within (omega arith) (omega arith))
+    (followers block i) (followers-are block i))
+
+-- the rule of heights
+pub height-step : (block : List Insn) (i : ℕ) → i < length block → height block i ≡ longest (height block) (delay_at block i) (followers block i)
+unfolding height
+height-step block i within = enough block (length block) (suc (length block)) i within (omega arith) (omega arith)
+
+one_more : (block : List Insn) (f : ℕ → ℕ) (i : ℕ) (link : Link) → IsFollower block i link → f link.number ≤ 5 * (length block - link.number)
+    → raised link.latency (f link.number) ≤ 5 * (length block - i)
+one_more block f i link follows behind =
+    let small : link.latency ≤ℤ pos 5 = (latency_small_at block i link.number (Some link.latency) (sym follows.is)).1 in
+    let more : raised link.latency (f link.number) ≤ f link.number + 5 = raised-small link.latency (f link.number) small in
+    let after : i < link.number = follows.after in
+    let inside : link.number < length block = follows.within in
+    omega arith
+
+within-more : (block : List Insn) (s i : ℕ) → i < length block → path_within block s i ≤ 5 * (length block - i)
+within-more block zero i within = omega arith
+within-more block (suc s) i within =
+    longest_below (path_within block s) (delay_at block i) (5 * (length block - i)) (followers block i)
+    (let delay : delay_at block i ≤ 5 = delay_at-small block i in omega arith)
+    (All-weaker (IsFollower block i) (λ link. raised link.latency (path_within block s link.number) ≤ 5 * (length block - i))
+    (λ link follows. one_more block (path_within block s) i link follows (within-more block s link.number follows.within))
+    (followers block i) (followers-are block i))
+
+-- a height is at most five cycles for each instruction from this one on
+pub height-small : (block : List Insn) (i : ℕ) → i < length block → height block i ≤ 5 * (length block - i)
+unfolding height
+height-small block i within = within-more block (length block) i within
+
+-- ---- the heights found from the last number up
+
+-- the list has the heights of the numbers from i on
+pub record AreHeightsFrom (block : List Insn) (i : ℕ) (heights : List ℕ) : Type 0 where
+  pub long : length heights ≡ length block
+  pub are : (k : ℕ) → i ≤ k → k < length block → slice_index heights k ≡ height block k
+
+pub no_heights : (block : List Insn) (n : ℕ) (heights : List ℕ) → length heights ≡ length block → n ≡ length block → AreHeightsFrom block n heights
+no_heights block n heights long all = record { long = long; are = λ k low high. absurd (omega arith) }
+
+-- what depends on i has its height already
+pub usable : (block : List Insn) (i : ℕ) (heights : List ℕ) (links : List Link) → AreHeightsFrom block (i + 1) heights → length block ≤ 256
+    → links ≡ followers block i → All (IsUsable heights) links
+usable block i heights links from few e =
+    rw e (All-weaker (IsFollower block i) (IsUsable heights) each (followers block i) (followers-are block i))
+  where
+    each : (link : Link) → IsFollower block i link → IsUsable heights link
+    each link follows =
+        let small = latency_small_at block i link.number (Some link.latency) (sym follows.is) in
+        let after : i < link.number = follows.after in
+        let inside : link.number < length block = follows.within in
+        let high : height block link.number ≤ 5 * (length block - link.number) = height-small block link.number inside in
+        let here : slice_index heights link.number ≡ height block link.number = from.are link.number (omega arith) inside in
+        let long : length heights ≡ length block = from.long in
+        record { within = omega arith; low = rw here (omega arith); above = small.0; below = small.1 }
+
+-- the height that the greatest over the list gives
+height_found : (block : List Insn) (i h delay : ℕ) (heights : List ℕ) (links : List Link) → AreHeightsFrom block (i + 1) heights → i < length block
+    → delay ≡ delay_at block i → links ≡ followers block i → h ≡ longest (slice_index heights) delay links → h ≡ height block i
+height_found block i h delay heights links from within d e found =
+    found
+    ∙ ap (λ (x : ℕ). longest (slice_index heights) x links) d
+    ∙ ap (longest (slice_index heights) (delay_at block i)) e
+    ∙ longest_same (slice_index heights) (height block) (delay_at block i) (followers block i)
+    (All-weaker (IsFollower block i) (λ link. slice_index heights link.number ≡ height block link.number)
+    (λ link follows. let after : i < link.number = follows.after in from.are link.number (omega arith) follows.within)
+    (followers block i) (followers-are block i))
+    ∙ sym (height-step block i within)
+
+-- one number further up
+pub height_more : (block : List Insn) (i h delay : ℕ) (heights : List ℕ) (links : List Link) → AreHeightsFrom block (i + 1) heights → i < length block
+    → delay ≡ delay_at block i → links ≡ followers block i → h ≡ longest (slice_index heights) delay links → AreHeightsFrom block i (set heights i h)
+height_more block i h delay heights links from within d e found = record {
+  long = length-set heights i h ∙ from.long;
+  are = λ k low high. elim (cases_eq k i) [
+    | inl same ↦
+        let long : length heights ≡ length block = from.long in
+        get_or-set_at heights i k h 0 same (omega arith) ∙ height_found block i h delay heights links from within d e found ∙ ap (height block) (sym same)
+    | inr other ↦ get_or-set_other heights i k h 0 other ∙ from.are k (omega arith) high
+  ];
+}
+
+pub heights_all : (block : List Insn) (n : ℕ) (heights : List ℕ) → AreHeightsFrom block 0 heights → length block ≡ n → heights ≡ map (height block) (range_with_len 0 n)
+heights_all block n heights from long =
+    fill_by_all (height block) heights n 0 (from.long ∙ long) (λ k inside. from.are k (omega arith) (omega arith))

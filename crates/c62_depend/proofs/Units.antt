@@ -1,0 +1,62 @@
+-- The units of an instruction.
+use Rattle.std.proofs.Common.{◌≡◌, ℕ, ◌+◌, ◌<◌, Bool, List, [], ◌∷◌, ◌++◌, length, get_or, Option, Some, refl, sym, ap, ◌∙◌, subst, arith, inl, inr, length-append}
+use Rattle.std.specs.Prelude.{◌&&◌, slice_get}
+use Rattle.std.proofs.lemmas.Bool.{cases_lt}
+use Rattle.std.proofs.lemmas.List.{get_or_append_left, get_or_push}
+use Rattle.c62_insn.specs.declared.register.Side.{Side}
+use Rattle.c62_insn.specs.declared.register.Unit.{Unit as FunctionalUnit}
+use Rattle.c62_insn.specs.declared.unit_set.UnitSet.{UnitSet}
+use Rattle.c62_insn.specs.declared.insn.Insn.{Insn}
+use Rattle.c62_insn.specs.Takes.{same_side, takes}
+use Rattle.c62_insn.specs.Insn.{op_of, operands_of, unit_of}
+use Rattle.c62_insn.specs.Units.{unit_in}
+use Rattle.c62_depend.specs.declared.uses.Uses.{Uses}
+use Rattle.c62_depend.specs.declared.side.Place.{Place}
+use Rattle.c62_depend.specs.Uses.{insns_in}
+use Rattle.c62_depend.specs.Side.{side_in, is_written, side_at, suits_at, side, stands_on}
+use Rattle.c62_depend.specs.Places.{IsPlace, ArePlaces}
+use Rattle.c62_depend.proofs.Latencies.{insn_at}
+
+abbrev pub stands : UnitSet → Side → Option FunctionalUnit → FunctionalUnit → Bool
+stands taken side written unit = unit_in taken unit && (same_side unit.side side && is_written unit written)
+
+-- the place of an instruction, from its parts
+pub place_from : (uses : List Uses) (i : ℕ) (u : Uses) (s : Side) (taken units : UnitSet) (written : Option FunctionalUnit) → i < length uses → u ≡ get_or uses i u
+    → s ≡ side_in (insns_in uses) u.insn
+    → ((unit : FunctionalUnit) → unit_in taken unit ≡ takes (op_of u.insn) (operands_of u.insn) unit)
+    → written ≡ unit_of u.insn
+    → ((unit : FunctionalUnit) → unit_in units unit ≡ stands taken s written unit)
+    → IsPlace (insns_in uses) i (record { side = s; units = units })
+unfolding side stands_on
+place_from uses i u s taken units written within at is takes_are wrote units_are =
+    let here : slice_get (insns_in uses) i ≡ Some u.insn = insn_at uses i u within at in
+    record {
+      side = is ∙ sym (ap (side_at (insns_in uses)) here);
+      units = λ unit.
+          units_are unit
+          ∙ ap (λ (t : Bool). t && (same_side unit.side s && is_written unit written)) (takes_are unit)
+          ∙ ap (λ (x : Side). takes (op_of u.insn) (operands_of u.insn) unit && (same_side unit.side x && is_written unit written)) is
+          ∙ ap (λ (w : Option FunctionalUnit). takes (op_of u.insn) (operands_of u.insn) unit && (same_side unit.side (side_in (insns_in uses) u.insn) && is_written unit w)) wrote
+          ∙ sym (ap (λ (o : Option Insn). suits_at (insns_in uses) o unit) here);
+    }
+
+each_more : {X : Type 0} (P : ℕ → X → Type 0) (xs ys : List X) (x : X) → ((k : ℕ) (d : X) → k < length xs → P k (get_or xs k d)) → ys ≡ xs ++ x ∷ [] → P (length xs) x
+    → (k : ℕ) (d : X) → k < length ys → P k (get_or ys k d)
+each_more {X} P xs ys x before added one k d within =
+    let long : length ys ≡ length xs + 1 = ap length added ∙ length-append xs (x ∷ []) in
+    subst (λ (zs : List X). P k (get_or zs k d)) (sym added)
+    (elim (cases_lt k (length xs)) [
+      | inl low ↦ subst (P k) (sym (get_or_append_left xs (x ∷ []) d k low)) (before k d low)
+      | inr high ↦
+          let last : k ≡ length xs = omega arith in
+          subst (λ (n : ℕ). P n (get_or (xs ++ x ∷ []) n d)) (sym last) (subst (P (length xs)) (sym (get_or_push xs x d (length xs) refl)) one)
+    ])
+
+pub no_places : (block : List Insn) → ArePlaces block 0 []
+no_places block = record { long = refl; each = λ k d within. absurd (omega arith) }
+
+pub places_more : (block : List Insn) (n : ℕ) (xs ys : List Place) (x : Place) → ArePlaces block n xs → ys ≡ xs ++ x ∷ [] → IsPlace block n x → ArePlaces block (n + 1) ys
+places_more block n xs ys x before added one = record {
+  long = ap length added ∙ length-append xs (x ∷ []) ∙ ap (λ (m : ℕ). m + 1) before.long;
+  each = each_more (IsPlace block) xs ys x before.each added (subst (λ (m : ℕ). IsPlace block m x) (sym before.long) one);
+}

@@ -1,0 +1,6 @@
+use Rattle.c62_depend.specs.Uses.{insns_in}
+use Rattle.c62_depend.proofs.Heights.{AreHeightsFrom}
+use Rattle.c62_depend.proofs.height.heights.Given as goal
+
+abbrev pub invariant-loop-i : goal.invariant-loop-i
+invariant-loop-i l = AreHeightsFrom (insns_in l.uses) l.i l.heights.items

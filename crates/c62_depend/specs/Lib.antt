@@ -1,0 +1,10 @@
+pub mod RegSet
+pub mod Writes
+pub mod Uses
+pub mod Latency
+pub mod Links
+pub mod Height
+pub mod Side
+pub mod Places
+pub mod Plan
+pub mod Laws

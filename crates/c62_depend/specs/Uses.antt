@@ -1,0 +1,7 @@
+-- The instructions of a list of uses.
+use Rattle.std.specs.Prelude.{List, map}
+use Rattle.c62_insn.specs.declared.insn.Insn.{Insn}
+use Rattle.c62_depend.specs.declared.uses.Uses.{Uses}
+
+abbrev pub insns_in : List Uses → List Insn
+insns_in uses = map (λ one. one.insn) uses

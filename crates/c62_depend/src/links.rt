@@ -1,0 +1,82 @@
+//! The dependences of an instruction, as lists.
+
+ghost use Rattle.std.specs.Prelude.{◌≡◌, ◌<◌, ◌≤◌, ◌++◌, length, map, IfOk, OnOk};
+ghost use Rattle.std.specs.List.{range_with_len};
+ghost use Rattle.c62_depend.specs.Uses.{insns_in};
+ghost use Rattle.c62_depend.specs.Links.{linked, needs, followers};
+
+use crate::latency::latency;
+use crate::uses::Uses;
+use smallvec::SmallVec;
+use std::alloc::{AllocError, Global};
+
+/// One end of a dependence: the number of the other instruction, and the latency of the dependence.
+#[derive(Clone, Copy, Default, PartialEq, Eq, Debug)]
+pub struct Link {
+    /// The number of the other instruction.
+    pub number: u16,
+    /// The least number of cycles from the earlier instruction to the later one. It may be negative.
+    pub latency: i32,
+}
+
+/// The dependences of one instruction.
+pub(crate) type Links = SmallVec<Link, 4>;
+
+fn add(links: &mut Links, number: u16, latency: Option<i32>) -> Result<(), AllocError>
+    ensures { OnOk result (links.new.items ≡ links.old.items ++ linked number latency) }
+{
+    if let Some(latency) = latency {
+        links.push(Link { number, latency })?;
+    }
+    Ok(())
+}
+
+/// What instruction `j` depends on.
+fn needs_of(alloc: Global, uses: &[Uses], j: usize) -> Result<Links, AllocError>
+    requires few { length uses.now ≤ 256 }
+    requires within { j < length uses.now }
+    ensures { IfOk result (λ links. links.items ≡ needs (insns_in uses.now) j) }
+{
+    let mut links = SmallVec::new(alloc);
+    for i in 0..j {
+        add(&mut links, i as u16, latency(uses, i, j))?;
+    }
+    Ok(links)
+}
+
+/// What depends on instruction `i`.
+fn followers_of(alloc: Global, uses: &[Uses], i: usize) -> Result<Links, AllocError>
+    requires few { length uses.now ≤ 256 }
+    requires within { i < length uses.now }
+    ensures { IfOk result (λ links. links.items ≡ followers (insns_in uses.now) i) }
+{
+    let mut links = SmallVec::new(alloc);
+    for j in i + 1..uses.len() {
+        add(&mut links, j as u16, latency(uses, i, j))?;
+    }
+    Ok(links)
+}
+
+/// What each instruction depends on.
+pub(crate) fn all_needs(alloc: Global, uses: &[Uses]) -> Result<Vec<Links>, AllocError>
+    requires { length uses.now ≤ 256 }
+    ensures { IfOk result (λ all. map (λ links. links.items) all.items ≡ map (needs (insns_in uses.now)) (range_with_len 0 (length uses.now))) }
+{
+    let mut all = Vec::with_capacity(alloc, uses.len())?;
+    for j in 0..uses.len() {
+        all.push(needs_of(alloc, uses, j)?)?;
+    }
+    Ok(all)
+}
+
+/// What depends on each instruction.
+pub(crate) fn all_followers(alloc: Global, uses: &[Uses]) -> Result<Vec<Links>, AllocError>
+    requires { length uses.now ≤ 256 }
+    ensures { IfOk result (λ all. map (λ links. links.items) all.items ≡ map (followers (insns_in uses.now)) (range_with_len 0 (length uses.now))) }
+{
+    let mut all = Vec::with_capacity(alloc, uses.len())?;
+    for i in 0..uses.len() {
+        all.push(followers_of(alloc, uses, i)?)?;
+    }
+    Ok(all)
+}

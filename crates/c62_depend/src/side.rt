@@ -1,0 +1,136 @@
+//! The side of an instruction, and the units that it may stand on.
+
+ghost use Rattle.std.specs.Prelude.{◌≡◌, ◌&&◌, ◌<◌, length, IfOk};
+ghost use Rattle.c62_insn.specs.declared.register.Unit.{Unit as FunctionalUnit};
+ghost use Rattle.c62_insn.specs.Fault.{side_of};
+ghost use Rattle.c62_insn.specs.Takes.{same_side};
+ghost use Rattle.c62_insn.specs.Insn.{operands_of};
+ghost use Rattle.c62_insn.specs.Units.{unit_in};
+ghost use Rattle.c62_depend.specs.Uses.{insns_in};
+ghost use Rattle.c62_depend.specs.Side.{is_side, count_on, branch_side, side_in, is_written};
+ghost use Rattle.c62_depend.specs.Places.{IsPlace, ArePlaces};
+
+use crate::uses::Uses;
+use bitflags::Flags;
+use c62_insn::{Insn, Operands, Side, Unit, UnitSet};
+use std::alloc::{AllocError, Global};
+
+/// The side of an instruction where its operands decide it: not that of a branch to a block.
+fn side_of(operands: Operands) -> Option<Side>
+    ensures { result ≡ side_of operands }
+{
+    match operands {
+        Operands::Three(_, _, d)
+        | Operands::ConstantFirst(_, _, d)
+        | Operands::ConstantSecond(_, _, d)
+        | Operands::Two(_, d)
+        | Operands::Field(_, _, _, d)
+        | Operands::Constant(_, d) => Some(d.side),
+        Operands::Access(_, base, _, _) => Some(base.side),
+        Operands::Block(_) => None,
+        Operands::Register(_) => Some(Side::B),
+    }
+}
+
+fn is_on(uses: &Uses, side: Side) -> bool
+    ensures { result ≡ is_side side (side_of (operands_of uses.now.insn)) }
+{
+    match side_of(uses.insn.operands()) {
+        Some(other) => other == side,
+        None => false,
+    }
+}
+
+/// How many instructions stand on a side by their operands.
+fn count_on(uses: &[Uses], side: Side) -> usize
+    ensures { result ≡ count_on side (insns_in uses.now) }
+{
+    uses.iter().filter(|one| is_on(one, side)).count()
+}
+
+/// The side of a branch to a block.
+fn branch_side(uses: &[Uses], unit: Option<Unit>) -> Side
+    ensures { result ≡ branch_side (insns_in uses.now) unit }
+{
+    match unit {
+        Some(unit) => unit.side,
+        None => {
+            if count_on(uses, Side::A) < count_on(uses, Side::B) {
+                Side::A
+            } else {
+                Side::B
+            }
+        }
+    }
+}
+
+/// The side of an instruction of the block.
+fn side(uses: &[Uses], insn: Insn) -> Side
+    ensures { result ≡ side_in (insns_in uses.now) insn }
+{
+    match side_of(insn.operands()) {
+        Some(side) => side,
+        None => branch_side(uses, insn.unit()),
+    }
+}
+
+fn is_written(unit: Unit, written: Option<Unit>) -> bool
+    ensures { result ≡ is_written unit written }
+{
+    match written {
+        Some(written) => written == unit,
+        None => true,
+    }
+}
+
+/// Whether a unit is among those that take an instruction, on the instruction's side, and the written one where one is.
+fn may_stand(taken: UnitSet, side: Side, written: Option<Unit>, unit: Unit) -> bool
+    ensures { result ≡ (unit_in taken unit && (same_side unit.side side && is_written unit written)) }
+{
+    taken.has(unit) && (unit.side == side && is_written(unit, written))
+}
+
+fn units_among(taken: UnitSet, side: Side, written: Option<Unit>) -> UnitSet
+    ensures { (unit : FunctionalUnit) → unit_in result unit ≡ (unit_in taken unit && (same_side unit.side side && is_written unit written)) }
+{
+    let mut units = UnitSet::empty();
+    for unit in Unit::ALL {
+        if may_stand(taken, side, written, unit) {
+            units = units.with(unit);
+        }
+    }
+    units
+}
+
+/// Where an instruction may stand.
+#[derive(Clone, Copy)]
+pub(crate) struct Place {
+    pub side: Side,
+    pub units: UnitSet,
+}
+
+impl Place {
+    /// Where instruction `i` may stand.
+    pub fn new(uses: &[Uses], i: usize) -> Place
+        requires { i < length uses.now }
+        ensures { IsPlace (insns_in uses.now) i result }
+    {
+        let insn = uses[i].insn;
+        let side = side(uses, insn);
+        Place {
+            side,
+            units: units_among(insn.units(), side, insn.unit()),
+        }
+    }
+}
+
+/// Where each instruction may stand.
+pub(crate) fn places(alloc: Global, uses: &[Uses]) -> Result<Vec<Place>, AllocError>
+    ensures { IfOk result (λ places. ArePlaces (insns_in uses.now) (length uses.now) places.items) }
+{
+    let mut places = Vec::with_capacity(alloc, uses.len())?;
+    for i in 0..uses.len() {
+        places.push(Place::new(uses, i))?;
+    }
+    Ok(places)
+}

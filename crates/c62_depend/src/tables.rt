@@ -1,0 +1,54 @@
+//! What a plan keeps beside its block.
+
+ghost use Rattle.std.specs.Prelude.{◌≡◌, ◌≤◌, length, IfOk};
+ghost use Rattle.c62_depend.specs.Uses.{insns_in};
+
+use crate::height::heights;
+use crate::links::{Links, all_followers, all_needs};
+use crate::side::{Place, places};
+use crate::uses::Uses;
+use c62_read::SerialInsn;
+use std::alloc::{AllocError, Global};
+
+/// An entry for each instruction of a block.
+#[derive(Drop)]
+pub(crate) struct Tables {
+    pub uses: Vec<Uses>,
+    pub needs: Vec<Links>,
+    pub followers: Vec<Links>,
+    pub heights: Vec<u16>,
+    pub places: Vec<Place>,
+}
+
+fn all_uses(alloc: Global, insns: &[SerialInsn]) -> Result<Vec<Uses>, AllocError>
+    ensures { IfOk result (λ uses. insns_in uses.items ≡ unnumbered insns.now) }
+{
+    let mut uses = Vec::with_capacity(alloc, insns.len())?;
+    for entry in insns {
+        uses.push(Uses::new(entry.insn))?;
+    }
+    Ok(uses)
+}
+
+ghost use Rattle.c62_depend.specs.Plan.{unnumbered, AreTables};
+
+impl Tables {
+    /// The tables of these instructions.
+    pub fn new(alloc: Global, insns: &[SerialInsn]) -> Result<Tables, AllocError>
+        requires { length insns.now ≤ 256 }
+        ensures { IfOk result (λ tables. AreTables (unnumbered insns.now) tables) }
+    {
+        let uses = all_uses(alloc, insns)?;
+        let needs = all_needs(alloc, &uses)?;
+        let followers = all_followers(alloc, &uses)?;
+        let heights = heights(alloc, &uses, &followers)?;
+        let places = places(alloc, &uses)?;
+        Ok(Tables {
+            uses,
+            needs,
+            followers,
+            heights,
+            places,
+        })
+    }
+}

@@ -1,0 +1,195 @@
+//! Worked blocks: their dependences, heights and places.
+
+use crate::plan::Plan;
+use c62_insn::{Letter, Side, Unit};
+use c62_read::read_program;
+use std::alloc::Global;
+use std::process::Abort;
+use std::test::Fail;
+
+/// A text, all its dependences as `earlier>later:latency`, and its heights.
+const LATENCIES: [(&str, &str, &str); 16] = [
+    (
+        "MVK 3,A1\nADD A5,A1,A2\nLDW *A4,A5",
+        "0>1:1 1>2:-4 ",
+        "1 0 4 ",
+    ),
+    ("LDW *A4,A5\nMVK 1,A5", "0>1:5 ", "5 0 "),
+    (
+        "L1:\nMVK 0,A0\nMVK 1,A1\nMVK 2,A2\nMVK 3,A3\nMVK 4,A4\nMVK 5,A5\nMVK 6,A6\nMVK 7,A7\nB L1",
+        "0>8:-5 1>8:-5 2>8:-5 3>8:-5 4>8:-5 5>8:-5 6>8:-5 7>8:-5 ",
+        "0 0 0 0 0 0 0 0 5 ",
+    ),
+    ("L1: MPY A1,A2,A3\nB L1", "0>1:-4 ", "1 5 "),
+    (
+        "LDW *B4,B5\nADD B2,A2,B3\nADD A1,B1,A3\nADD A3,A3,A4\nMPY A5,B1,A2\nMPY A2,A2,A6",
+        "1>4:-1 2>3:1 4>5:2 ",
+        "4 2 1 0 3 1 ",
+    ),
+    ("LDW *A4++,A4\nADD A4,A4,A5", "0>1:5 ", "5 0 "),
+    ("MVK 1,A4\nLDW *A4++,A4", "0>1:1 ", "5 4 "),
+    ("LDW *A4++,A4\nLDW *A4++,A4", "0>1:5 ", "9 4 "),
+    ("LDW *A4++,A5\nMVK 1,A4", "0>1:1 ", "4 0 "),
+    ("STW A1,*A4\nLDW *B4,B5", "0>1:1 ", "5 4 "),
+    ("LDW *B4,B5\nSTW A1,*A4", "0>1:0 ", "4 0 "),
+    ("STW A1,*A4\nSTH B1,*B4", "0>1:1 ", "1 0 "),
+    ("LDW *A4,A5\nLDW *A4,A6", "", "4 4 "),
+    ("L1: SUB A1,1,A1\n[A1] B L1", "0>1:1 ", "6 5 "),
+    (
+        "MVK 1,A1\nMVKLH 2,A1\nADDK 3,A1\nLDW *A4,A1",
+        "0>1:1 0>2:1 0>3:-3 1>2:1 1>3:-3 2>3:-3 ",
+        "3 2 1 4 ",
+    ),
+    (
+        "[B0] MVK 1,A1\nMVK 2,B0\n[!A1] LDW *A4,B0\nB B0",
+        "0>1:0 0>2:1 0>3:-5 1>2:-3 1>3:1 2>3:5 ",
+        "11 7 10 5 ",
+    ),
+];
+
+/// A text, and the units of its instructions.
+const UNITS: [(&str, &str); 10] = [
+    ("ADD A1,A2,A3", "L1 S1 D1 ; "),
+    ("ADD .S1 A1,A2,A3\nADD .L2X B1,A2,B3", "S1 ; L2 ; "),
+    ("LDW *A4,B5\nSTW A1,*B4", "D1 ; D2 ; "),
+    ("L: MPY A1,A2,A3\nB L", "M1 ; S2 ; "),
+    ("L: ADD B1,B2,B3\nB L", "L2 S2 D2 ; S1 ; "),
+    ("L: MVK 1,A1\nMVK 1,B1\nB L", "S1 ; S2 ; S2 ; "),
+    ("L: MVK 1,A1\nB .S1 L", "S1 ; S1 ; "),
+    ("L: MVK 1,B1\nB .S2 L", "S2 ; S2 ; "),
+    ("MVK 1,B1\nB B3", "S2 ; S2 ; "),
+    ("L: B L", "S2 ; "),
+];
+
+/// Two texts of one block, and whether their plans are the same.
+const SAME: [(&str, &str, bool); 6] = [
+    ("L: MVK 1,A1", "L: MVK 1,A1 ; as above", true),
+    ("L: MVK 1,A1", "L: MVK 2,A1", false),
+    ("L: MVK 1,A1", "M: MVK 1,A1", false),
+    ("L: MVK 1,A1", "MVK 1,A1", false),
+    ("L: MVK 1,A1", "L:\nMVK 1,A1", false),
+    ("L: MVK 1,A1", "L: MVK 1,A1\nMVK 1,A1", false),
+];
+
+/// The plan of the only block of a text.
+fn plan_of(rt: &impl Abort, alloc: Global, text: &str) -> Result<Plan, Fail> {
+    let mut blocks = read_program(alloc, text.as_bytes())?.into_blocks();
+    assert_eq!(rt; blocks.len(), 1, "{text}");
+    let block = blocks.pop().expect(rt, "a block");
+    match Plan::new(alloc, block) {
+        Ok(plan) => Ok(plan),
+        Err((_, error)) => Err(error.into()),
+    }
+}
+
+fn latencies(alloc: Global, plan: &Plan) -> Result<String, Fail> {
+    let mut all = String::new(alloc);
+    for i in 0..plan.len() {
+        for j in 0..plan.len() {
+            if let Some(latency) = plan.latency(i, j) {
+                all.push_str(&format!(in alloc; "{i}>{j}:{latency} ")?)?;
+            }
+        }
+    }
+    Ok(all)
+}
+
+/// The dependences again, from the lists of what depends on each instruction.
+fn followers(alloc: Global, plan: &Plan) -> Result<String, Fail> {
+    let mut all = String::new(alloc);
+    for i in 0..plan.len() {
+        for link in plan.followers(i) {
+            all.push_str(&format!(in alloc; "{i}>{}:{} ", link.number, link.latency)?)?;
+        }
+    }
+    Ok(all)
+}
+
+fn heights(alloc: Global, plan: &Plan) -> Result<String, Fail> {
+    let mut all = String::new(alloc);
+    for i in 0..plan.len() {
+        all.push_str(&format!(in alloc; "{} ", plan.height(i))?)?;
+    }
+    Ok(all)
+}
+
+fn name(unit: Unit) -> &'static str {
+    match (unit.letter, unit.side) {
+        (Letter::L, Side::A) => "L1 ",
+        (Letter::S, Side::A) => "S1 ",
+        (Letter::M, Side::A) => "M1 ",
+        (Letter::D, Side::A) => "D1 ",
+        (Letter::L, Side::B) => "L2 ",
+        (Letter::S, Side::B) => "S2 ",
+        (Letter::M, Side::B) => "M2 ",
+        (Letter::D, Side::B) => "D2 ",
+    }
+}
+
+fn units(alloc: Global, plan: &Plan) -> Result<String, Fail> {
+    let mut all = String::new(alloc);
+    for i in 0..plan.len() {
+        for unit in Unit::ALL {
+            if plan.units(i).has(unit) {
+                all.push_str(name(unit))?;
+            }
+        }
+        all.push_str("; ")?;
+    }
+    Ok(all)
+}
+
+#[test]
+fn dependences_and_heights(rt: HostRuntime) -> Result<(), Fail> {
+    for (text, want, high) in &LATENCIES {
+        let plan = plan_of(&rt, rt.alloc(), text)?;
+        let found = latencies(rt.alloc(), &plan)?;
+        assert_eq!(rt; found.as_str(), *want, "{text}");
+        let listed = followers(rt.alloc(), &plan)?;
+        assert_eq!(rt; listed.as_str(), *want, "{text}");
+        let found = heights(rt.alloc(), &plan)?;
+        assert_eq!(rt; found.as_str(), *high, "{text}");
+    }
+    Ok(())
+}
+
+#[test]
+fn units_of_instructions(rt: HostRuntime) -> Result<(), Fail> {
+    for (text, want) in &UNITS {
+        let plan = plan_of(&rt, rt.alloc(), text)?;
+        let found = units(rt.alloc(), &plan)?;
+        assert_eq!(rt; found.as_str(), *want, "{text}");
+    }
+    Ok(())
+}
+
+#[test]
+fn plans_of_equal_blocks(rt: HostRuntime) -> Result<(), Fail> {
+    for (text, other, want) in &SAME {
+        let plan = plan_of(&rt, rt.alloc(), text)?;
+        let other = plan_of(&rt, rt.alloc(), other)?;
+        assert_eq!(rt; plan.same(&other), *want, "{text}");
+        assert!(rt; plan.same(&plan.copy(rt.alloc())?), "{text}");
+    }
+    Ok(())
+}
+
+#[test]
+fn a_full_block(rt: HostRuntime) -> Result<(), Fail> {
+    let mut text = String::new(rt.alloc());
+    for _ in 0..256 {
+        text.push_str("MVK 1,A1\n")?;
+    }
+    let plan = plan_of(&rt, rt.alloc(), &text)?;
+    assert_eq!(rt; plan.len(), 256);
+    assert_eq!(rt; plan.height(0), 255);
+    assert_eq!(rt; plan.height(255), 0);
+    assert_eq!(rt; plan.latency(0, 255), Some(1));
+    assert!(rt; plan.depends(0, 255) && !plan.depends(255, 0));
+    assert_eq!(rt; plan.needs(255).len(), 255);
+    assert_eq!(rt; plan.needs(255)[7].number, 7);
+    assert_eq!(rt; plan.followers(0).len(), 255);
+    assert!(rt; plan.side(9) == Side::A);
+    assert_eq!(rt; plan.block().insns()[9].line, 10);
+    Ok(())
+}
