@@ -188,6 +188,15 @@ unfolding latency
 latency_at uses i j u v o before within at_i at_j e =
     rw (lt-ltb i j before, insn_at uses i u (omega arith) at_i, insn_at uses j v within at_j) e
 
+-- the latency of two instructions of a block
+pub latency_among : (block : List Insn) (i j : ℕ) (p q : Insn) (o : Option ℤ) → i < j → j < length block → p ≡ get_or block i p → q ≡ get_or block j q
+    → o ≡ latency_of p q → o ≡ latency block i j
+unfolding latency
+latency_among block i j p q o before within at_i at_j e =
+    let first : slice_get block i ≡ Some p = slice_get_read block (length block) i p refl (omega arith) at_i in
+    let second : slice_get block j ≡ Some q = slice_get_read block (length block) j q refl within at_j in
+    rw (lt-ltb i j before, first, second) e
+
 pub latency_small_at : (block : List Insn) (i j : ℕ) (o : Option ℤ) → o ≡ latency block i j → IfSome o (λ m. (negsuc 4 ≤ℤ m) × (m ≤ℤ pos 5))
 latency_small_at block i j o e = latency-small block i j o (subst (IsLatency block i j) (sym e) (latency-is block i j))
 

@@ -2,10 +2,12 @@
 
 ghost use Rattle.std.specs.Prelude.{◌≡◌, ◌<◌, ◌≤ℤ◌, length, pos, negsuc, ◌+◌, IfSome};
 ghost use Rattle.c62_depend.specs.Latency.{greater, greatest_by, read_after, write_after_read, write_after, access_after, branch_after, reads_after, writes_after_reads, writes_after, latency_of, latency};
+ghost use Rattle.c62_insn.specs.Dependence.{IsLatency};
 ghost use Rattle.c62_depend.specs.Uses.{insns_in};
 ghost use Rattle.c62_depend.specs.Writes.{write_of, writes_in};
 
 use crate::uses::{Uses, Write, Writes};
+use c62_insn::Insn;
 
 /// The greater of two bounds, each of which may be absent.
 fn greater(a: Option<i32>, b: Option<i32>) -> Option<i32>
@@ -155,4 +157,17 @@ pub(crate) fn latency(uses: &[Uses], i: usize, j: usize) -> Option<i32>
     ensures small { IfSome result (λ latency. (negsuc 4 ≤ℤ latency) × (latency ≤ℤ pos 5)) }
 {
     latency_between(&uses[i], &uses[j])
+}
+
+/// By how much the cycle of instruction `j` of a block must at least exceed that of instruction `i`, which stands before
+/// it: the greatest bound of the cases of dependence that apply (`docs/MACHINE.md`, "Dependences"), and `None` where none
+/// does. A [`Plan`](crate::Plan) has the latencies of its block at hand; this call is for a block without one.
+pub fn latency_in(block: &[Insn], i: usize, j: usize) -> Option<i32>
+    requires before { i < j }
+    requires within { j < length block.now }
+    ensures greatest { IsLatency block.now i j result }
+    ensures latency { result ≡ latency block.now i j }
+    ensures small { IfSome result (λ latency. (negsuc 4 ≤ℤ latency) × (latency ≤ℤ pos 5)) }
+{
+    latency_between(&Uses::new(block[i]), &Uses::new(block[j]))
 }

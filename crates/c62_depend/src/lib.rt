@@ -12,6 +12,7 @@ mod side;
 mod tables;
 mod uses;
 
+pub use latency::latency_in;
 pub use links::Link;
 pub use plan::Plan;
 

@@ -1,5 +1,3 @@
-pub mod Greatest
-pub mod Latencies
 pub mod IssuesOf
 pub mod Used
 pub mod Adding

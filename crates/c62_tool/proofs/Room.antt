@@ -21,7 +21,7 @@ use Rattle.c62_tool.specs.Lawful.{Spots, IsAt, spot_at, placed, issues, is_writt
 use Rattle.c62_tool.specs.Least.{IsReady, IsAfter, IsLeast, HasNoSpot, placed_below, IsComplete, IsPlacedInOrder}
 use Rattle.c62_tool.specs.Packet.{Suits, has_read_left}
 use Rattle.c62_tool.proofs.IssuesOf.{issued-placement}
-use Rattle.c62_tool.proofs.Latencies.{bounds-small}
+use Rattle.c62_depend.proofs.Latencies.{bounds-small}
 use Rattle.c62_tool.proofs.Adding.{all-from}
 use Rattle.c62_tool.proofs.Placing.{spot_at-placed_same, spot_at-placed_other, IsAt-placed, spot_in, lawful_from_suits}
 

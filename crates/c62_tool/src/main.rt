@@ -2,7 +2,6 @@
 #![tactic(auto)]
 
 mod command;
-mod depend;
 mod failure;
 mod fault;
 #[cfg(test)]

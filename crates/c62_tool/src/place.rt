@@ -5,9 +5,9 @@ ghost use Rattle.c62_tool.specs.Lawful.{IsLawful};
 ghost use Rattle.c62_tool.specs.Least.{IsReady, IsEarly, IsLeast, HasNoSpot, IsComplete, IsPlacedInOrder};
 ghost use Rattle.c62_tool.specs.Early.{IsBoundBy};
 
-use crate::depend::latency;
 use crate::packet::suits;
 use crate::spot::Spot;
+use c62_depend::latency_in;
 use c62_insn::{Insn, Unit};
 use std::alloc::{AllocError, Global};
 
@@ -34,7 +34,7 @@ fn bound_by(block: &[Insn], spots: &[Option<Spot>], h: usize, i: usize) -> u16
     let Some(spot) = spots[h] else {
         return 0;
     };
-    let Some(latency) = latency(block, h, i) else {
+    let Some(latency) = latency_in(block, h, i) else {
         return 0;
     };
     first_after(spot.cycle, latency)

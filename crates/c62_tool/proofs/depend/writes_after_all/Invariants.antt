@@ -1,6 +1,0 @@
-use Rattle.std.proofs.Common.{◌≡◌, take}
-use Rattle.c62_tool.specs.Latency.{greatest_by, write_after}
-use Rattle.c62_tool.proofs.depend.writes_after_all.Given as goal
-
-abbrev pub invariant-loop-first : goal.invariant-loop-first
-invariant-loop-first l = l.greatest ≡ greatest_by (λ v. greatest_by (write_after v) l.seconds) (take l.first-index l.firsts)
