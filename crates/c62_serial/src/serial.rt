@@ -139,10 +139,11 @@ fn run_insn(entry: &SerialInsn, state: &mut State) -> Option<Target>
 /// past the end of memory, reads 0 or stores nothing, its line joins the faulted ones, and the run
 /// goes on. Answers the exit of the branch, where it ran, else [`Exit::Next`].
 ///
+/// Room for a fault of each instruction is made first, by the state's own allocator.
+///
 /// # Errors
 ///
-/// `AllocError` where there is no room for the lines that may fault and memory runs out. The state is
-/// then as before.
+/// `AllocError` where that room was missing and memory runs out. The state is then as before.
 pub fn run_block(_alloc: Global, block: &Block, state: &mut State) -> Result<Exit, AllocError>
     ensures machine { OnOk result (state.new.machine ≡ (serial block.now.insns state.old.machine).machine) }
     ensures exit { IfOk result (λ exit. exit ≡ (serial block.now.insns state.old.machine).exit) }
@@ -151,6 +152,7 @@ pub fn run_block(_alloc: Global, block: &Block, state: &mut State) -> Result<Exi
     let insns = block.insns();
     state.room(insns.len())?;
     for entry in insns {
+        // A branch is the last instruction of its block.
         if let Some(target) = run_insn(entry, state) {
             return Ok(Exit::from(target));
         }

@@ -12,7 +12,8 @@ const WORD: u8 = 4;
 const MEMORY: usize = 65_536;
 
 /// Thirty-two registers, 65,536 bytes of memory, and the lines whose accesses faulted, each once and
-/// rising. It has room for some more such lines (`docs/MACHINE.md`, "Memory").
+/// rising. It has room for some more such lines; all calls but [`State::new`] and [`State::room`] take
+/// no memory.
 #[derive(Drop)]
 pub struct State {
     registers: [u32; 32],
@@ -127,8 +128,8 @@ impl State {
         self.memory[usize::from(address)]
     }
 
-    /// What a load of this many bytes reads, the lowest byte first; `None` where the address is no
-    /// multiple of the size, or the access reaches past the end of memory.
+    /// What a load of 1, 2 or 4 bytes reads, as a number with the lowest byte first; `None` where the
+    /// address is no multiple of the size, or the access reaches past the end of memory.
     pub fn load(&self, address: u32, size: u8) -> Option<u32>
         requires { IsTrue (is_size size) }
         ensures { result ≡ read (byte_in self.now.machine) address size }
@@ -140,8 +141,9 @@ impl State {
         }
     }
 
-    /// Stores the low bytes of a value, the lowest first. Answers whether it did: where the address
-    /// is no multiple of the size, or the access reaches past the end of memory, nothing changes.
+    /// Stores the low 1, 2 or 4 bytes of a value, the lowest first. Answers whether it did: where the
+    /// address is no multiple of the size, or the access reaches past the end of memory, nothing
+    /// changes.
     pub fn store(&mut self, address: u32, size: u8, value: u32) -> bool
         requires { IsTrue (is_size size) }
         ensures done { result ≡ is_good address size }
@@ -178,7 +180,8 @@ impl State {
         self.faults.reserve(lines)
     }
 
-    /// Puts a line among those that faulted, where it is not yet. It takes room for one at most.
+    /// Puts a line among those that faulted, where it is not yet. It asks room for one, and takes no
+    /// memory.
     #[tactic(auto, using(crate::proofs::FaultLemmas::joined_rises))]
     pub fn fault(&mut self, line: u32)
         requires { 0 < self.old.room }
