@@ -1,5 +1,5 @@
 -- Sets of registers.
-use Rattle.std.specs.Prelude.{ℕ, ◌+◌, Bool, ◌==◌}
+use Rattle.std.specs.Prelude.{ℕ, ◌+◌, Bool, not, ◌==◌, bit_and}
 use Rattle.std.specs.Int.{bit_at}
 use Rattle.c62_insn.specs.declared.register.Side.{Side}
 use Rattle.c62_insn.specs.declared.register.Side.TheVariants.{A, B}
@@ -17,3 +17,7 @@ place_of reg = place_on reg.side reg.number
 -- whether the register is in the set
 abbrev pub reg_in : RegSet → Reg → Bool
 reg_in set reg = bit_at set.0 (place_of reg) == 1
+
+-- whether some register is in both sets
+abbrev pub shares : RegSet → RegSet → Bool
+shares a b = not (bit_and a.0 b.0 == 0)

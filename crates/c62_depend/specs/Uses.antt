@@ -1,7 +1,13 @@
 -- The instructions of a list of uses.
-use Rattle.std.specs.Prelude.{List, map}
+use Rattle.std.specs.Prelude.{Bool, not, ◌&&◌, List, map}
 use Rattle.c62_insn.specs.declared.insn.Insn.{Insn}
 use Rattle.c62_depend.specs.declared.uses.Uses.{Uses}
+use Rattle.c62_depend.specs.RegSet.{shares}
 
 abbrev pub insns_in : List Uses → List Insn
 insns_in uses = map (λ one. one.insn) uses
+
+-- whether no register that one writes is read or written by the other
+abbrev pub are_apart : Uses → Uses → Bool
+are_apart first second =
+    not (shares first.written second.reads) && (not (shares first.written second.written) && not (shares second.written first.reads))

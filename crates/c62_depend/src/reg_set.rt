@@ -1,9 +1,9 @@
 //! Sets of registers.
 
-ghost use Rattle.std.specs.Prelude.{◌≡◌, ℕ, ◌+◌, ◌<◌, ◌^◌, ◌||◌, true, false};
+ghost use Rattle.std.specs.Prelude.{◌≡◌, ℕ, ◌+◌, ◌<◌, ◌^◌, ◌||◌, false};
 ghost use Rattle.c62_insn.specs.declared.register.Reg.{Reg as Register};
 ghost use Rattle.c62_insn.specs.Takes.{same_reg};
-ghost use Rattle.c62_depend.specs.RegSet.{place_of, reg_in};
+ghost use Rattle.c62_depend.specs.RegSet.{place_of, reg_in, shares};
 
 use c62_insn::{Reg, Side};
 
@@ -70,9 +70,9 @@ impl RegSet {
         RegSet(self.0 | 1 << place(reg))
     }
 
-    /// Whether a register may be in both sets.
+    /// Whether some register is in both sets.
     pub fn meets(self, other: RegSet) -> bool
-        ensures { result ≡ false → (reg : Register) → reg_in self reg ≡ true → reg_in other reg ≡ false }
+        ensures { result ≡ shares self other }
     {
         self.0 & other.0 != 0
     }

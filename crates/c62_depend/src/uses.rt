@@ -107,6 +107,8 @@ fn written(writes: Writes) -> RegSet
 }
 
 impl Uses {
+    ghost use Rattle.c62_depend.specs.Uses.{are_apart};
+
     pub fn new(insn: Insn) -> Uses
         ensures { result.insn ≡ insn }
     {
@@ -131,9 +133,10 @@ impl Uses {
         self.reads.has(reg)
     }
 
-    /// Whether neither instruction reads or writes a register that the other one writes. It may say `false` of any two.
+    /// Whether neither instruction reads or writes a register that the other one writes.
     pub fn is_apart(&self, later: &Uses) -> bool
-        ensures { IsTrue result → AreApart self.now.insn later.now.insn }
+        ensures apart { IsTrue result → AreApart self.now.insn later.now.insn }
+        ensures exact { result ≡ are_apart self.now later.now }
     {
         if self.written.meets(later.reads) {
             return false;

@@ -10,4 +10,4 @@ returns-then-is_apart c =
     c.greater.ensures
     ∙ ap (λ (o : Option ℤ). greater o c.branch_after.result) c.access_after.ensures
     ∙ ap (λ (o : Option ℤ). greater (access_after p q) o) c.branch_after.ensures
-    ∙ sym (latency_apart p q (c.is_apart.ensures c.if-is_apart.true))
+    ∙ sym (latency_apart p q (c.is_apart.ensures.apart c.if-is_apart.true))
