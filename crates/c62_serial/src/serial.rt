@@ -38,18 +38,37 @@ impl From<Target> for Exit {
     }
 }
 
+/// The words of at most three registers. It goes by cases, since a loop here costs a run a third more
+/// machine instructions.
+fn words(registers: &[Reg], state: &State) -> ArrayVec<u32, 3>
+    requires { length registers.now ≤ 3 }
+    ensures { result.items ≡ map (word_in state.now.machine) registers.now }
+{
+    let mut words = ArrayVec::new();
+    match registers {
+        [] => {}
+        [a] => words.push(state.reg(*a)),
+        [a, b] => {
+            words.push(state.reg(*a));
+            words.push(state.reg(*b));
+        }
+        [a, b, c, ..] => {
+            words.push(state.reg(*a));
+            words.push(state.reg(*b));
+            words.push(state.reg(*c));
+        }
+    }
+    words
+}
+
 /// The values that an instruction reads.
 fn inputs(insn: Insn, state: &State) -> Inputs
     ensures cond { result.cond ≡ option_map (λ cond. word_in state.now.machine cond.reg) (cond_of insn) }
     ensures reads { result.reads.items ≡ operand_values (word_in state.now.machine) insn }
 {
-    let mut reads = ArrayVec::new();
-    for reg in insn.reads().as_slice() {
-        reads.push(state.reg(*reg));
-    }
     Inputs {
         cond: insn.cond().map(|cond| state.reg(cond.reg)),
-        reads,
+        reads: words(insn.reads().as_slice(), state),
     }
 }
 
