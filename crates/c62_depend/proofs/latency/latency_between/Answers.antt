@@ -1,13 +1,10 @@
-use Rattle.std.proofs.Common.{sym, ◌∙◌, ℤ, Option, ap}
-use Rattle.c62_depend.specs.Latency.{greater, access_after}
-use Rattle.c62_depend.proofs.Apart.{latency_apart}
+use Rattle.std.proofs.Common.{sym, ◌∙◌}
+use Rattle.c62_depend.proofs.Bounds.{all_is, awaited_is}
 use Rattle.c62_depend.proofs.latency.latency_between.Goals as goal
 
-pub returns-then-is_apart : goal.returns-then-is_apart
-returns-then-is_apart c =
-    let p = c.args.first.now.insn in
-    let q = c.args.second.now.insn in
-    c.greater.ensures
-    ∙ ap (λ (o : Option ℤ). greater o c.branch_after.result) c.access_after.ensures
-    ∙ ap (λ (o : Option ℤ). greater (access_after p q) o) c.branch_after.ensures
-    ∙ sym (latency_apart p q (c.is_apart.ensures.apart c.if-is_apart.true))
+pub returns-then-meets : goal.returns-then-meets
+returns-then-meets c =
+    c.bound_of_result.ensures ∙ awaited_is c.args.first.now c.args.second.now (sym c.meets.ensures ∙ c.if-meets.true)
+
+pub returns-else-meets : goal.returns-else-meets
+returns-else-meets c = c.latency_of_all.ensures ∙ all_is c.args.first.now c.args.second.now
