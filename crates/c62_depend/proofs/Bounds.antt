@@ -1,9 +1,9 @@
 -- The bounds that the sets of registers tell are those of the cases.
-use Rattle.std.proofs.Common.{◌≡◌, ℕ, suc, ◌+◌, ◌<◌, ◌≤◌, ℤ, pos, ◌-ℤ◌, ◌≤ℤ◌, Bool, true, List, [], ◌∷◌, Option, Some, refl, sym, ap, ◌∙◌, subst, arith, inl, inr, ◌⊎◌}
-use Rattle.std.specs.Prelude.{Contains, length, All, ◌==◌, ◌&&◌}
+use Rattle.std.proofs.Common.{◌≡◌, ℕ, suc, ◌+◌, ◌<◌, ◌≤◌, ℤ, pos, ◌-ℤ◌, ◌≤ℤ◌, Bool, true, false, List, [], ◌∷◌, Option, Some, refl, sym, ap, ◌∙◌, subst, arith, inl, inr, ◌⊎◌}
+use Rattle.std.specs.Prelude.{Contains, length, All, ◌==◌, ◌&&◌, not}
 use Rattle.std.specs.List.{list_any}
 use Rattle.std.proofs.lemmas.Int.{ints}
-use Rattle.std.proofs.lemmas.Bool.{or_cases, or_left, or_right, and_parts, cond_both}
+use Rattle.std.proofs.lemmas.Bool.{both_ways, false_from_ne_true, not-true, or_cases, or_left, or_right, and_parts, cond_both}
 use Rattle.std.proofs.lemmas.Bool.Decides.{nat_tests}
 use Rattle.std.proofs.lemmas.List.Folds.{list_any_at}
 use Rattle.std.proofs.lemmas.List.Elements.{All-nil, All-cons, All-append, All-contains}
@@ -19,8 +19,9 @@ use Rattle.c62_insn.specs.Dependence.{IsBound, ReadAfterWrite, WriteAfterRead, W
 use Rattle.c62_insn.proofs.Registers.{same_reg-is, same_reg-refl}
 use Rattle.c62_insn.proofs.InsnLemmas.{writes_delay_of}
 use Rattle.c62_depend.specs.declared.uses.Uses.{Uses}
+use Rattle.c62_depend.specs.declared.reg_set.RegSet.{RegSet}
 use Rattle.c62_depend.specs.RegSet.{reg_in, shares}
-use Rattle.c62_depend.specs.Uses.{bound_if, after_results, after_at_once, after_reads, after_all}
+use Rattle.c62_depend.specs.Uses.{are_apart, bound_if, after_results, after_at_once, after_reads, after_all}
 use Rattle.c62_depend.specs.Latency.{greater, access_after, branch_after, latency_of}
 use Rattle.c62_depend.proofs.RegSets.{shared, shares_one}
 use Rattle.c62_depend.proofs.Greatest.{IsGreatest, IsGreatest-is, IsGreatest-same, IsGreatest-greater, IsGreatest-one}
@@ -96,6 +97,21 @@ read_touches u reg h = u.touched_are reg ∙ or_left (reg_in u.reads reg) (reg_i
 
 write_touches : (u : Uses) (reg : Reg) → reg_in u.at_once reg ≡ true → reg_in u.touched reg ≡ true
 write_touches u reg h = u.touched_are reg ∙ or_right (reg_in u.reads reg) (reg_in u.at_once reg) h
+
+at_once_written : (u : Uses) (reg : Reg) → reg_in u.at_once reg ≡ true → reg_in u.written reg ≡ true
+at_once_written u reg h = u.written_are reg ∙ or_left (reg_in u.at_once reg) (reg_in u.results reg) h
+
+result_written : (u : Uses) (reg : Reg) → reg_in u.results reg ≡ true → reg_in u.written reg ≡ true
+result_written u reg h = u.written_are reg ∙ or_right (reg_in u.at_once reg) (reg_in u.results reg) h
+
+written_used : (u : Uses) (reg : Reg) → reg_in u.written reg ≡ true → reg_in u.used reg ≡ true
+written_used u reg h = u.used_are reg ∙ or_right (reg_in u.reads reg) (reg_in u.written reg) h
+
+touched_used : (u : Uses) (reg : Reg) → reg_in u.touched reg ≡ true → reg_in u.used reg ≡ true
+touched_used u reg h = elim (or_cases (reg_in u.reads reg) (reg_in u.at_once reg) (sym (u.touched_are reg) ∙ h)) [
+  | inl read ↦ u.used_are reg ∙ or_left (reg_in u.reads reg) (reg_in u.written reg) read
+  | inr write ↦ written_used u reg (at_once_written u reg write)
+]
 
 -- ---- two instructions
 
@@ -265,6 +281,31 @@ module _ (p q : Uses) where
   -- the greatest of all that is told is the latency
   pub all_is : after_all p q ≡ latency_of p.insn q.insn
   all_is = IsGreatest-one IsCase (after_all p q) (latency_of p.insn q.insn) all_greatest cases_greatest
+
+  not_shared : (a b : RegSet) → ((reg : Reg) → reg_in a reg ≡ true → reg_in b reg ≡ true → shares p.written q.used ≡ true) → shares p.written q.used ≡ false → shares a b ≡ false
+  not_shared a b met none = false_from_ne_true (shares a b) (λ some. let reg = shared a b some in both_ways (shares p.written q.used) none (met reg.0 reg.1 reg.2))
+
+  not_overwritten : (b : RegSet) → ((reg : Reg) → reg_in b reg ≡ true → reg_in q.written reg ≡ true) → shares q.written p.reads ≡ false → shares p.reads b ≡ false
+  not_overwritten b is_written none = false_from_ne_true (shares p.reads b)
+      (λ some. let reg = shared p.reads b some in both_ways (shares q.written p.reads) none (shares_one q.written p.reads reg.0 (is_written reg.0 reg.2) reg.1))
+
+  -- two instructions that are apart have no bound of registers
+  pub apart_is : are_apart p q ≡ true → greater (access_after p.insn q.insn) (branch_after p.insn q.insn) ≡ latency_of p.insn q.insn
+  apart_is h =
+      let parts = and_parts (not (shares p.written q.used)) (not (shares q.written p.reads)) h in
+      let unused : shares p.written q.used ≡ false = not-true (shares p.written q.used) parts.0 in
+      let kept : shares q.written p.reads ≡ false = not-true (shares q.written p.reads) parts.1 in
+      let one = not_shared p.results q.touched (λ reg a b. shares_one p.written q.used reg (result_written p reg a) (touched_used q reg b)) unused in
+      let two = not_shared p.results q.results (λ reg a b. shares_one p.written q.used reg (result_written p reg a) (written_used q reg (result_written q reg b))) unused in
+      let three = not_shared p.at_once q.touched (λ reg a b. shares_one p.written q.used reg (at_once_written p reg a) (touched_used q reg b)) unused in
+      let four = not_shared p.at_once q.results (λ reg a b. shares_one p.written q.used reg (at_once_written p reg a) (written_used q reg (result_written q reg b))) unused in
+      let five = not_overwritten q.at_once (at_once_written q) kept in
+      let six = not_overwritten q.results (result_written q) kept in
+      none_told one two three four five six ∙ all_is
+    where
+      none_told : shares p.results q.touched ≡ false → shares p.results q.results ≡ false → shares p.at_once q.touched ≡ false → shares p.at_once q.results ≡ false
+          → shares p.reads q.at_once ≡ false → shares p.reads q.results ≡ false → greater (access_after p.insn q.insn) (branch_after p.insn q.insn) ≡ after_all p q
+      none_told a b c d e f = rw (a, b, c, d, e, f) refl
 
   bound_below : (b : ℤ) → IsBound [] 0 0 p.insn q.insn b → b ≤ℤ pos (delay_of (op_of p.insn) + 1)
   bound_below b (ReadAfterWrite reg d writes reads e) = let few : d ≤ delay_of (op_of p.insn) = writes_delay_of p.insn reg d writes in omega (arith, ints)

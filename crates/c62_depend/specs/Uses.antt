@@ -1,5 +1,5 @@
 -- The bounds between two instructions, from the sets of registers that they read and write.
-use Rattle.std.specs.Prelude.{◌+◌, ℤ, pos, ◌-ℤ◌, Bool, if◌then◌else◌, List, map, Option, Some, None}
+use Rattle.std.specs.Prelude.{◌+◌, ℤ, pos, ◌-ℤ◌, Bool, not, ◌&&◌, if◌then◌else◌, List, map, Option, Some, None}
 use Rattle.c62_insn.specs.declared.insn.Insn.{Insn}
 use Rattle.c62_depend.specs.declared.uses.Uses.{Uses}
 use Rattle.c62_depend.specs.RegSet.{shares}
@@ -8,6 +8,10 @@ use Rattle.c62_depend.specs.Latency.{greater, access_after, branch_after}
 -- the instructions of a list of uses
 abbrev pub insns_in : List Uses → List Insn
 insns_in uses = map (λ one. one.insn) uses
+
+-- whether no register that one writes is read or written by the other
+abbrev pub are_apart : Uses → Uses → Bool
+are_apart p q = not (shares p.written q.used) && not (shares q.written p.reads)
 
 abbrev pub bound_if : Bool → ℤ → Option ℤ
 bound_if applies bound = if applies then Some bound else None

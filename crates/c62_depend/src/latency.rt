@@ -116,6 +116,8 @@ fn latency_between(first: &Uses, second: &Uses) -> Option<i32>
 {
     if first.results.meets(second.touched) {
         bound_of_result(first)
+    } else if first.is_apart(second) {
+        greater(access_after(first, second), branch_after(first, second))
     } else {
         latency_of_all(first, second)
     }

@@ -24,6 +24,10 @@ pub(crate) struct Uses {
     pub results: RegSet,
     /// The registers that are read, or written with no delay.
     pub touched: RegSet,
+    /// The registers that are written.
+    pub written: RegSet,
+    /// The registers that are read or written.
+    pub used: RegSet,
     pub delay: u8,
     pub loads: bool,
     pub stores: bool,
@@ -32,6 +36,8 @@ pub(crate) struct Uses {
     pub ghost at_once_are: { (reg : Register) → reg_in at_once reg ≡ writes_with insn 0 reg },
     pub ghost results_are: { (reg : Register) → reg_in results reg ≡ writes_with insn (delay_of (op_of insn)) reg },
     pub ghost touched_are: { (reg : Register) → reg_in touched reg ≡ (reg_in reads reg || reg_in at_once reg) },
+    pub ghost written_are: { (reg : Register) → reg_in written reg ≡ (reg_in at_once reg || reg_in results reg) },
+    pub ghost used_are: { (reg : Register) → reg_in used reg ≡ (reg_in reads reg || reg_in written reg) },
     pub ghost delay_is: { delay ≡ delay_of (op_of insn) },
     pub ghost load_is: { loads ≡ is_load (op_of insn) },
     pub ghost store_is: { stores ≡ is_store (op_of insn) },
@@ -84,6 +90,8 @@ fn written(insn: &Insn, delay: u8) -> RegSet
 }
 
 impl Uses {
+    ghost use Rattle.c62_depend.specs.Uses.{are_apart};
+
     pub fn new(insn: Insn) -> Uses
         ensures { result.insn ≡ insn }
     {
@@ -91,16 +99,26 @@ impl Uses {
         let delay = insn.delay();
         let reads = reads(&insn);
         let at_once = written(&insn, 0);
+        let results = written(&insn, delay);
+        let written = at_once.joined(results);
         Uses {
             insn,
             reads,
             at_once,
-            results: written(&insn, delay),
+            results,
             touched: reads.joined(at_once),
+            written,
+            used: reads.joined(written),
             delay,
             loads: op.is_load(),
             stores: op.is_store(),
             branches: op.is_branch(),
         }
+    }
+    /// Whether neither instruction reads or writes a register that the other one writes.
+    pub fn is_apart(&self, later: &Uses) -> bool
+        ensures { result ≡ are_apart self.now later.now }
+    {
+        !self.written.meets(later.used) && !later.written.meets(self.reads)
     }
 }
