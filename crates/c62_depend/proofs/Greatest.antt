@@ -21,6 +21,17 @@ pub IsGreatest-same : (P Q : ℤ → Type 0) (o : Option ℤ) → IsGreatest P o
 IsGreatest-same P Q None g into out = λ b q. g b (out b q)
 IsGreatest-same P Q (Some m) g into out = (into m g.0, λ b q. g.1 b (out b q))
 
+-- there is one greatest
+pub IsGreatest-one : (P : ℤ → Type 0) (a b : Option ℤ) → IsGreatest P a → IsGreatest P b → a ≡ b
+IsGreatest-one P None None ga gb = refl
+IsGreatest-one P None (Some y) ga gb = absurd (ga y gb.0)
+IsGreatest-one P (Some x) None ga gb = absurd (gb x ga.0)
+IsGreatest-one P (Some x) (Some y) ga gb =
+    let low : x ≤ℤ y = gb.1 x ga.0 in
+    let high : y ≤ℤ x = ga.1 y gb.0 in
+    let same : x ≡ y = omega (arith, ints) in
+    ap Some same
+
 int_max-either : (x y : ℤ) → (int_max x y ≡ x) ⊎ (int_max x y ≡ y)
 int_max-either x y = either (int_lt y x)
   where

@@ -21,24 +21,24 @@ use Rattle.c62_depend.specs.Latency.{read_after, write_after_read, write_after, 
 use Rattle.c62_depend.proofs.Greatest.{IsGreatest, IsGiven, IsGreatest-is, IsGreatest-same, IsGreatest-greater, IsGreatest-greatest_by, IsGreatest-pairs}
 
 -- a number that is given under a test
-some_under : {A : Type 0} (t : Bool) (x y : A) → cond t (Some x) None ≡ Some y → (t ≡ true) × (y ≡ x)
+pub some_under : {A : Type 0} (t : Bool) (x y : A) → cond t (Some x) None ≡ Some y → (t ≡ true) × (y ≡ x)
 some_under true x y e = (refl, cc)
 some_under false x y e = cc
 
-under : {A : Type 0} (t : Bool) (x y : A) → t ≡ true → y ≡ x → cond t (Some x) None ≡ Some y
+pub under : {A : Type 0} (t : Bool) (x y : A) → t ≡ true → y ≡ x → cond t (Some x) None ≡ Some y
 under t x y h e = rw (h, e) refl
 
 module _ (block : List Insn) (i j : ℕ) (p q : Insn) where
-  ByReads : ℤ → Type 0
+  unfoldable pub ByReads : ℤ → Type 0
   ByReads b = IsGiven (read_after q) (register_writes p) b ⊎ IsGiven (write_after_read p) (register_writes q) b
 
-  ByWrites : ℤ → Type 0
+  unfoldable pub ByWrites : ℤ → Type 0
   ByWrites b = ((v : Reg × ℕ) × Contains (register_writes p) v × IsGiven (write_after v) (register_writes q) b) ⊎ (access_after p q ≡ Some b)
 
-  By : ℤ → Type 0
+  unfoldable pub By : ℤ → Type 0
   By b = (ByReads b ⊎ ByWrites b) ⊎ (branch_after p q ≡ Some b)
 
-  by_cases : (b : ℤ) → IsBound block i j p q b → By b
+  pub by_cases : (b : ℤ) → IsBound block i j p q b → By b
   unfolding By ByReads ByWrites
   by_cases b (ReadAfterWrite reg delay writes reads e) = inl (inl (inl ((reg, delay), writes, under (reads_register q reg) _ b reads e)))
   by_cases b (WriteAfterRead reg delay writes reads e) = inl (inl (inr ((reg, delay), writes, under (reads_register p reg) _ b reads e)))
@@ -77,7 +77,7 @@ module _ (block : List Insn) (i j : ℕ) (p q : Insn) where
       by_tests false l false true hs hl ht hm e = cc
       by_tests false l false false hs hl ht hm e = cc
 
-  from_cases : (b : ℤ) → By b → IsBound block i j p q b
+  pub from_cases : (b : ℤ) → By b → IsBound block i j p q b
   unfolding By ByReads ByWrites
   from_cases b (inl (inl (inl w))) =
       let u = some_under (reads_register q w.0.0) (pos (w.0.1 + 1)) b w.2 in ReadAfterWrite w.0.0 w.0.1 w.1 u.0 u.1
@@ -92,7 +92,7 @@ module _ (block : List Insn) (i j : ℕ) (p q : Insn) where
   from_cases b (inr e) =
       let u = some_under (is_branch (op_of q)) (pos (delay_of (op_of p)) -ℤ pos 5) b e in BeforeBranch u.0 u.1
 
-  by_all : IsGreatest By (latency_of p q)
+  pub by_all : IsGreatest By (latency_of p q)
   unfolding latency_of By ByReads ByWrites
   by_all =
       IsGreatest-greater _ _ _ _

@@ -6,4 +6,4 @@ pub mod Heights
 pub mod Units
 pub mod Plans
 pub mod Rules
-pub mod Apart
+pub mod Bounds

@@ -1,17 +1,18 @@
 -- A register more in a set.
-use Rattle.std.proofs.Common.{◌≡◌, ◌≢◌, ℕ, ◌*◌, ◌^◌, ◌%◌, ◌<◌, Bool, true, false, ◌||◌, refl, sym, ap, ◌∙◌, arith, w32, bit_or, bit_and, zero, suc, inl, inr}
-use Rattle.std.specs.Prelude.{◌==◌, ◌&&◌, not}
-use Rattle.std.specs.Int.{bit_at}
-use Rattle.std.proofs.lemmas.Nat.Bits.{bit_at_set_same, bit_at_set_other, and_pow, bit_at-lt, bit_at-pow_same, bit_at-pow_other}
-use Rattle.std.proofs.lemmas.Nat.{pow_pos}
-use Rattle.std.proofs.lemmas.Bool.{cases_eq}
+use Rattle.std.proofs.Common.{◌≡◌, ◌≢◌, ℕ, ◌+◌, ◌-◌, ◌*◌, ◌^◌, ◌%◌, ◌<◌, min, max, Bool, true, false, ◌||◌, refl, sym, ap, ◌∙◌, arith, w32, bit_or, bit_and, zero, suc, inl, inr}
+use Rattle.std.specs.Prelude.{◌==◌, ◌&&◌}
+use Rattle.std.specs.Int.{bit_at, trailing_zeros}
+use Rattle.std.proofs.lemmas.Nat.Bits.{bit_at_set_same, bit_at_set_other, bit_at_and, bit_at_or, bit_at-lt, bit_at-zero, bit_at-trailing_zeros}
+use Rattle.std.proofs.lemmas.Nat.{and-not}
+use Rattle.std.proofs.lemmas.Bool.{cases_lt, eqb-true}
 use Rattle.std.proofs.lemmas.Bool.Decides.{nat_tests}
 use Rattle.c62_insn.specs.declared.register.Side.{Side}
 use Rattle.c62_insn.specs.declared.register.Side.TheVariants.{A, B}
 use Rattle.c62_insn.specs.declared.register.Reg.{Reg}
 use Rattle.c62_insn.specs.Takes.{same_side, same_reg}
 use Rattle.c62_insn.proofs.Registers.{same_reg-is}
-use Rattle.c62_depend.specs.RegSet.{place_on, place_of}
+use Rattle.c62_depend.specs.declared.reg_set.RegSet.{RegSet}
+use Rattle.c62_depend.specs.RegSet.{place_on, place_of, reg_in, shares}
 
 one_place : (s t : Side) (m n : ℕ) → m < 16 → n < 16 → place_on s m ≡ place_on t n → (same_side s t && (m == n)) ≡ true
 one_place A A m n low below e = grind (arith, nat_tests)
@@ -56,38 +57,47 @@ with_one n k reg other is = by_test (same_reg reg other) refl
             let clash : true ≡ false = sym one ∙ e in
             cc
 
--- the test of one bit
-pub bit_tells : (n bit k : ℕ) → bit ≡ 2 ^ k → not (bit_and n bit == 0) ≡ (bit_at n k == 1)
-bit_tells n bit k e = rw (e, and_pow n k) (tells (bit_at n k) (2 ^ k) (bit_at-lt n k) (pow_pos k))
-  where
-    tells : (b p : ℕ) → b < 2 → 0 < p → not (b * p == 0) ≡ (b == 1)
-    tells zero p below some = let none : zero * p ≡ zero = omega arith in rw none refl
-    tells (suc zero) p below some =
-        let same : suc zero * p ≡ p = omega arith in
-        let positive : (p == 0) ≡ false = grind (arith, nat_tests) in
-        rw (same, positive) refl
-    tells (suc (suc b)) p below some = absurd (omega arith)
+reg_at : (k : ℕ) → k < 32 → (reg : Reg) × (place_of reg ≡ k)
+reg_at k low = elim (cases_lt k 16) [
+  | inl few ↦ (record { side = A; number = k; in_range = few }, refl)
+  | inr many ↦ (record { side = B; number = k - 16; in_range = omega arith }, omega arith)
+]
 
--- one bit is one register
-pub same_bits : (a b : Reg) (x y : ℕ) → x ≡ 2 ^ place_of a → y ≡ 2 ^ place_of b → (x == y) ≡ same_reg a b
-same_bits a b x y e f = by_test (same_reg a b) refl
+-- two sets that share a register
+pub shared : (a b : RegSet) → shares a b ≡ true → (reg : Reg) × (reg_in a reg ≡ true) × (reg_in b reg ≡ true)
+shared a b some =
+    let more : 0 < bit_and a.bits b.bits = grind (arith, nat_tests) in
+    let parts : bit_and (2 ^ 32 - 1 - a.bits) b.bits + bit_and a.bits b.bits ≡ b.bits = and-not 32 a.bits b.bits a.within b.within in
+    let few : bit_and a.bits b.bits < 2 ^ 32 = omega (arith, b.within) in
+    let lowest = bit_at-trailing_zeros w32 (bit_and a.bits b.bits) more few in
+    let k : ℕ = trailing_zeros w32 (bit_and a.bits b.bits) in
+    let reg = reg_at k lowest.0 in
+    let both : min (bit_at a.bits k) (bit_at b.bits k) ≡ 1 = sym (bit_at_and a.bits b.bits k) ∙ lowest.1 in
+    let first : bit_at a.bits k ≡ 1 = omega (arith, bit_at-lt a.bits k) in
+    let second : bit_at b.bits k ≡ 1 = omega (arith, bit_at-lt b.bits k) in
+    (reg.0, rw (reg.1, first) refl, rw (reg.1, second) refl)
+
+pub shares_one : (a b : RegSet) (reg : Reg) → reg_in a reg ≡ true → reg_in b reg ≡ true → shares a b ≡ true
+shares_one a b reg one other = by_test (shares a b) refl
   where
-    by_test : (t : Bool) → same_reg a b ≡ t → (x == y) ≡ t
-    by_test true h =
-        let same : x ≡ y = e ∙ ap (λ (r : Reg). 2 ^ place_of r) (same_reg-is a b h) ∙ sym f in
-        grind (arith, nat_tests)
-    by_test false h =
-        let apart : x ≢ y = λ same.
-        elim (cases_eq (place_of a) (place_of b)) [
-          | inl one ↦
-              let is : same_reg a b ≡ true = one_place a.side b.side a.number b.number a.in_range b.in_range one in
-              let clash : true ≡ false = sym is ∙ h in
-              cc
-          | inr other ↦
-              let off : bit_at (2 ^ place_of b) (place_of a) ≡ 0 = bit_at-pow_other (place_of b) (place_of a) other in
-              let on : bit_at (2 ^ place_of a) (place_of a) ≡ 1 = bit_at-pow_same (place_of a) in
-              let pows : 2 ^ place_of a ≡ 2 ^ place_of b = sym e ∙ same ∙ f in
-              let moved : bit_at (2 ^ place_of a) (place_of a) ≡ bit_at (2 ^ place_of b) (place_of a) = ap (λ (n : ℕ). bit_at n (place_of a)) pows in
-              absurd (omega arith)
-        ] in
-        grind (arith, nat_tests)
+    by_test : (t : Bool) → shares a b ≡ t → shares a b ≡ true
+    by_test true e = e
+    by_test false e =
+        let empty : bit_and a.bits b.bits ≡ 0 = grind (arith, nat_tests) in
+        let both : min (bit_at a.bits (place_of reg)) (bit_at b.bits (place_of reg)) ≡ 0 =
+        sym (bit_at_and a.bits b.bits (place_of reg)) ∙ ap (λ (n : ℕ). bit_at n (place_of reg)) empty ∙ bit_at-zero (place_of reg) in
+        let first : bit_at a.bits (place_of reg) ≡ 1 = eqb-true (bit_at a.bits (place_of reg)) 1 one in
+        let second : bit_at b.bits (place_of reg) ≡ 1 = eqb-true (bit_at b.bits (place_of reg)) 1 other in
+        absurd (omega arith)
+
+-- a register of one of two sets
+pub joined_is : (a b : ℕ) (reg : Reg) → (bit_at (bit_or a b) (place_of reg) == 1) ≡ ((bit_at a (place_of reg) == 1) || (bit_at b (place_of reg) == 1))
+joined_is a b reg = rw (bit_at_or a b (place_of reg)) (by_bits (bit_at a (place_of reg)) (bit_at b (place_of reg)) (bit_at-lt a (place_of reg)) (bit_at-lt b (place_of reg)))
+  where
+    by_bits : (x y : ℕ) → x < 2 → y < 2 → (max x y == 1) ≡ ((x == 1) || (y == 1))
+    by_bits zero zero low below = refl
+    by_bits zero (suc zero) low below = refl
+    by_bits (suc zero) zero low below = refl
+    by_bits (suc zero) (suc zero) low below = refl
+    by_bits (suc (suc x)) y low below = absurd (omega arith)
+    by_bits x (suc (suc y)) low below = absurd (omega arith)

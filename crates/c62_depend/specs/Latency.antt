@@ -1,6 +1,6 @@
 -- The greatest of the bounds from one instruction to another, case by case.
 use Rattle.std.specs.Int.{int_max}
-use Rattle.std.specs.Prelude.{◌≡◌, ℕ, ◌+◌, nat_lt, slice_get, ℤ, pos, ◌-ℤ◌, ◌&&◌, ◌||◌, if◌then◌else◌, List, Option, Some, None, fold}
+use Rattle.std.specs.Prelude.{ℕ, ◌+◌, nat_lt, slice_get, ℤ, pos, ◌-ℤ◌, ◌&&◌, ◌||◌, if◌then◌else◌, List, Option, Some, None, fold}
 use Rattle.c62_insn.specs.declared.register.Reg.{Reg}
 use Rattle.c62_insn.specs.declared.insn.Insn.{Insn}
 use Rattle.c62_insn.specs.Takes.{same_reg}
@@ -45,12 +45,6 @@ writes_after_reads p q = greatest_by (write_after_read p) (register_writes q)
 
 abbrev pub writes_after : Insn → Insn → Option ℤ
 writes_after p q = greatest_by (λ v. greatest_by (write_after v) (register_writes q)) (register_writes p)
-
--- no register that one writes is read or written by the other
-pub record AreApart (p q : Insn) : Type 0 where
-  pub reads : reads_after p q ≡ None
-  pub overwrites : writes_after_reads p q ≡ None
-  pub writes : writes_after p q ≡ None
 
 unfoldable pub latency_of : Insn → Insn → Option ℤ
 latency_of p q =

@@ -16,8 +16,8 @@ place_of reg = place_on reg.side reg.number
 
 -- whether the register is in the set
 abbrev pub reg_in : RegSet → Reg → Bool
-reg_in set reg = bit_at set.0 (place_of reg) == 1
+reg_in set reg = bit_at set.bits (place_of reg) == 1
 
 -- whether some register is in both sets
 abbrev pub shares : RegSet → RegSet → Bool
-shares a b = not (bit_and a.0 b.0 == 0)
+shares a b = not (bit_and a.bits b.bits == 0)

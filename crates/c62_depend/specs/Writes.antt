@@ -1,14 +1,11 @@
--- The writes of an instruction, as its list of registers with delays.
-use Rattle.std.specs.Prelude.{ℕ, List, [], ◌∷◌}
+-- The writes of an instruction, by their delays.
+use Rattle.std.specs.Prelude.{ℕ, Bool, ◌&&◌, ◌==◌}
+use Rattle.std.specs.List.{list_any}
 use Rattle.c62_insn.specs.declared.register.Reg.{Reg}
-use Rattle.c62_depend.specs.declared.uses.Write.{Write}
-use Rattle.c62_depend.specs.declared.uses.Writes.{Writes}
-use Rattle.c62_depend.specs.declared.uses.Writes.TheVariants.{Nothing, One, Two}
+use Rattle.c62_insn.specs.declared.insn.Insn.{Insn}
+use Rattle.c62_insn.specs.Takes.{same_reg}
+use Rattle.c62_insn.specs.Insn.{register_writes}
 
-abbrev pub write_of : Write → Reg × ℕ
-write_of write = (write.to.reg, write.delay)
-
-abbrev pub writes_in : Writes → List (Reg × ℕ)
-writes_in Nothing = []
-writes_in (One write) = write_of write ∷ []
-writes_in (Two first second) = write_of first ∷ write_of second ∷ []
+-- whether the instruction writes the register with this delay
+abbrev pub writes_with : Insn → ℕ → Reg → Bool
+writes_with insn delay reg = list_any (λ write. same_reg write.0 reg && (write.1 == delay)) (register_writes insn)

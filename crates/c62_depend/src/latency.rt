@@ -1,12 +1,12 @@
 //! How far two instructions of a block must stand apart.
 
-ghost use Rattle.std.specs.Prelude.{◌≡◌, ◌<◌, ◌≤ℤ◌, length, pos, negsuc, ◌+◌, IfSome};
-ghost use Rattle.c62_depend.specs.Latency.{greater, greatest_by, read_after, write_after_read, write_after, access_after, branch_after, reads_after, writes_after_reads, writes_after, latency_of, latency};
+ghost use Rattle.std.specs.Prelude.{◌≡◌, ◌<◌, ◌≤ℤ◌, length, pos, negsuc, ◌+◌, ◌-ℤ◌, Some, IfSome};
+ghost use Rattle.c62_depend.specs.Latency.{greater, access_after, branch_after, latency_of, latency};
 ghost use Rattle.c62_insn.specs.Dependence.{IsLatency};
-ghost use Rattle.c62_depend.specs.Uses.{insns_in};
-ghost use Rattle.c62_depend.specs.Writes.{write_of, writes_in};
+ghost use Rattle.c62_depend.specs.RegSet.{shares};
+ghost use Rattle.c62_depend.specs.Uses.{insns_in, bound_if, after_results, after_at_once, after_reads, after_all};
 
-use crate::uses::{Uses, Write, Writes};
+use crate::uses::Uses;
 use c62_insn::Insn;
 
 /// The greater of two bounds, each of which may be absent.
@@ -20,83 +20,48 @@ fn greater(a: Option<i32>, b: Option<i32>) -> Option<i32>
     }
 }
 
-fn read_after(second: &Uses, write: Write) -> Option<i32>
-    ensures { result ≡ read_after second.now.insn (write_of write) }
+/// A bound, where it applies.
+fn bound_if(applies: bool, bound: i32) -> Option<i32>
+    ensures { result ≡ bound_if applies bound }
 {
-    if second.reads(write.to) {
-        Some(i32::from(write.delay) + 1)
-    } else {
-        None
-    }
+    if applies { Some(bound) } else { None }
 }
 
-fn write_after_read(first: &Uses, write: Write) -> Option<i32>
-    ensures { result ≡ write_after_read first.now.insn (write_of write) }
+/// The results of the first instruction land before the second one reads or writes their registers.
+fn after_results(first: &Uses, second: &Uses) -> Option<i32>
+    ensures { result ≡ after_results first.now second.now }
 {
-    if first.reads(write.to) {
-        Some(-i32::from(write.delay))
-    } else {
-        None
-    }
-}
-
-fn write_after(first: Write, second: Write) -> Option<i32>
-    ensures { result ≡ write_after (write_of first) (write_of second) }
-{
-    if first.to.is_same(second.to) {
-        Some(i32::from(first.delay) + 1 - i32::from(second.delay))
-    } else {
-        None
-    }
-}
-
-fn writes_after_one(first: Write, seconds: Writes) -> Option<i32>
-    ensures { result ≡ greatest_by (write_after (write_of first)) (writes_in seconds) }
-{
-    match seconds {
-        Writes::Nothing => None,
-        Writes::One(write) => write_after(first, write),
-        Writes::Two(base, loaded) => greater(write_after(first, base), write_after(first, loaded)),
-    }
-}
-
-/// The second instruction reads what the first writes.
-fn reads_after(first: &Uses, second: &Uses) -> Option<i32>
-    ensures { result ≡ reads_after first.now.insn second.now.insn }
-{
-    match first.writes {
-        Writes::Nothing => None,
-        Writes::One(write) => read_after(second, write),
-        Writes::Two(base, loaded) => greater(read_after(second, base), read_after(second, loaded)),
-    }
-}
-
-/// The second instruction writes what the first reads.
-fn writes_after_reads(first: &Uses, second: &Uses) -> Option<i32>
-    ensures { result ≡ writes_after_reads first.now.insn second.now.insn }
-{
-    match second.writes {
-        Writes::Nothing => None,
-        Writes::One(write) => write_after_read(first, write),
-        Writes::Two(base, loaded) => greater(
-            write_after_read(first, base),
-            write_after_read(first, loaded),
+    let landed = i32::from(first.delay) + 1;
+    greater(
+        bound_if(first.results.meets(second.touched), landed),
+        bound_if(
+            first.results.meets(second.results),
+            landed - i32::from(second.delay),
         ),
-    }
+    )
 }
 
-/// Both instructions write one register.
-fn writes_after(first: &Uses, second: &Uses) -> Option<i32>
-    ensures { result ≡ writes_after first.now.insn second.now.insn }
+/// So does what the first instruction writes with no delay.
+fn after_at_once(first: &Uses, second: &Uses) -> Option<i32>
+    ensures { result ≡ after_at_once first.now second.now }
 {
-    match first.writes {
-        Writes::Nothing => None,
-        Writes::One(write) => writes_after_one(write, second.writes),
-        Writes::Two(base, loaded) => greater(
-            writes_after_one(base, second.writes),
-            writes_after_one(loaded, second.writes),
+    greater(
+        bound_if(first.at_once.meets(second.touched), 1),
+        bound_if(
+            first.at_once.meets(second.results),
+            1 - i32::from(second.delay),
         ),
-    }
+    )
+}
+
+/// The second instruction writes no register before the first one has read it.
+fn after_reads(first: &Uses, second: &Uses) -> Option<i32>
+    ensures { result ≡ after_reads first.now second.now }
+{
+    greater(
+        bound_if(first.reads.meets(second.at_once), 0),
+        bound_if(first.reads.meets(second.results), -i32::from(second.delay)),
+    )
 }
 
 /// Two accesses to memory, of which one stores.
@@ -124,24 +89,34 @@ fn branch_after(first: &Uses, second: &Uses) -> Option<i32>
 }
 
 /// The greatest bound of all cases that apply.
-#[tactic(auto, unfolding(crate::specs::Latency::latency_of))]
 fn latency_of_all(first: &Uses, second: &Uses) -> Option<i32>
-    ensures { result ≡ latency_of first.now.insn second.now.insn }
+    ensures { result ≡ after_all first.now second.now }
 {
-    let reads = greater(
-        reads_after(first, second),
-        writes_after_reads(first, second),
+    let writes = greater(
+        after_results(first, second),
+        greater(after_at_once(first, second), after_reads(first, second)),
     );
-    let writes = greater(writes_after(first, second), access_after(first, second));
-    greater(greater(reads, writes), branch_after(first, second))
+    greater(
+        writes,
+        greater(access_after(first, second), branch_after(first, second)),
+    )
+}
+
+/// The bound that a result sets which is awaited.
+fn bound_of_result(first: &Uses) -> Option<i32>
+    ensures { result ≡ Some (pos (first.now.delay + 1)) }
+{
+    Some(i32::from(first.delay) + 1)
 }
 
 /// By how much the cycle of the second instruction must at least exceed that of the first: the greatest bound of the
-/// cases that apply.
+/// cases that apply. No bound exceeds that of a result which the second one awaits.
 fn latency_between(first: &Uses, second: &Uses) -> Option<i32>
     ensures { result ≡ latency_of first.now.insn second.now.insn }
 {
-    if first.is_apart(second) {
+    if first.results.meets(second.touched) {
+        bound_of_result(first)
+    } else if first.is_apart(second) {
         greater(access_after(first, second), branch_after(first, second))
     } else {
         latency_of_all(first, second)

@@ -1,47 +1,43 @@
 //! What an instruction reads, writes and accesses.
 
-ghost use Rattle.std.specs.Prelude.{◌≡◌, IsTrue};
+ghost use Rattle.std.specs.Prelude.{◌≡◌, ◌&&◌, ◌||◌, ◌==◌};
 ghost use Rattle.std.specs.List.{list_any};
 ghost use Rattle.c62_insn.specs.Takes.{same_reg};
-ghost use Rattle.c62_depend.specs.Latency.{AreApart};
 ghost use Rattle.c62_insn.specs.declared.register.Reg.{Reg as Register};
 ghost use Rattle.c62_insn.specs.Shape.{delay_of, is_load, is_store, is_branch};
-ghost use Rattle.c62_insn.specs.Insn.{op_of, is_condition_on, register_writes, reads_register};
+ghost use Rattle.c62_insn.specs.Insn.{op_of, is_condition_on, reads_register};
 ghost use Rattle.c62_depend.specs.RegSet.{reg_in};
-ghost use Rattle.c62_depend.specs.Writes.{write_of, writes_in};
+ghost use Rattle.c62_depend.specs.Writes.{writes_with};
 
-use crate::reg_set::{RegBit, RegSet};
+use crate::reg_set::RegSet;
 use c62_insn::{Cond, Insn, Reg};
-
-/// A write of a register, with its delay in cycles.
-#[derive(Clone, Copy)]
-pub(crate) struct Write {
-    pub to: RegBit,
-    pub delay: u8,
-}
-
-/// The writes of an instruction: at most two.
-#[derive(Clone, Copy)]
-pub(crate) enum Writes {
-    Nothing,
-    One(Write),
-    Two(Write, Write),
-}
 
 /// An instruction, with what its dependences ask of it at hand.
 #[derive(Drop)]
 pub(crate) struct Uses {
     pub insn: Insn,
-    reads: RegSet,
-    written: RegSet,
-    pub writes: Writes,
+    /// The registers that are read, as operands or as the condition.
+    pub reads: RegSet,
+    /// The registers that are written with no delay.
+    pub at_once: RegSet,
+    /// The registers that are written with the delay of the instruction.
+    pub results: RegSet,
+    /// The registers that are read, or written with no delay.
+    pub touched: RegSet,
+    /// The registers that are written.
+    pub written: RegSet,
+    /// The registers that are read or written.
+    pub used: RegSet,
     pub delay: u8,
     pub loads: bool,
     pub stores: bool,
     pub branches: bool,
     pub ghost reads_are: { (reg : Register) → reg_in reads reg ≡ reads_register insn reg },
-    pub ghost written_are: { (reg : Register) → reg_in written reg ≡ list_any (λ write. same_reg write.0 reg) (register_writes insn) },
-    pub ghost writes_are: { writes_in writes ≡ register_writes insn },
+    pub ghost at_once_are: { (reg : Register) → reg_in at_once reg ≡ writes_with insn 0 reg },
+    pub ghost results_are: { (reg : Register) → reg_in results reg ≡ writes_with insn (delay_of (op_of insn)) reg },
+    pub ghost touched_are: { (reg : Register) → reg_in touched reg ≡ (reg_in reads reg || reg_in at_once reg) },
+    pub ghost written_are: { (reg : Register) → reg_in written reg ≡ (reg_in at_once reg || reg_in results reg) },
+    pub ghost used_are: { (reg : Register) → reg_in used reg ≡ (reg_in reads reg || reg_in written reg) },
     pub ghost delay_is: { delay ≡ delay_of (op_of insn) },
     pub ghost load_is: { loads ≡ is_load (op_of insn) },
     pub ghost store_is: { stores ≡ is_store (op_of insn) },
@@ -70,40 +66,27 @@ fn reads(insn: &Insn) -> RegSet
     set
 }
 
-impl Write {
-    fn new(write: (Reg, u8)) -> Write
-        ensures { write_of result ≡ write }
-    {
-        Write {
-            to: RegBit::new(write.0),
-            delay: write.1,
-        }
-    }
-}
-
-impl Writes {
-    /// The writes of an instruction.
-    fn new(insn: &Insn) -> Writes
-        ensures { writes_in result ≡ register_writes insn.now }
-    {
-        let writes = insn.writes();
-        match writes.as_slice() {
-            [] => Writes::Nothing,
-            [write] => Writes::One(Write::new(*write)),
-            [first, second, ..] => Writes::Two(Write::new(*first), Write::new(*second)),
-        }
-    }
-}
-
-/// The registers that are written.
-fn written(writes: Writes) -> RegSet
-    ensures { (reg : Register) → reg_in result reg ≡ list_any (λ write. same_reg write.0 reg) (writes_in writes) }
+/// The set with the register of a write added, where the write has this delay.
+fn with_write(set: RegSet, write: (Reg, u8), delay: u8) -> RegSet
+    ensures { (reg : Register) → reg_in result reg ≡ (reg_in set reg || (same_reg write.0 reg && (write.1 == delay))) }
 {
-    match writes {
-        Writes::Nothing => RegSet::new(),
-        Writes::One(write) => RegSet::new().with(write.to.reg),
-        Writes::Two(base, loaded) => RegSet::new().with(base.to.reg).with(loaded.to.reg),
+    if write.1 == delay {
+        set.with(write.0)
+    } else {
+        set
     }
+}
+
+/// The registers that an instruction writes with this delay.
+fn written(insn: &Insn, delay: u8) -> RegSet
+    ensures { (reg : Register) → reg_in result reg ≡ writes_with insn.now delay reg }
+{
+    let mut set = RegSet::new();
+    let writes = insn.writes();
+    for write in writes.as_slice() {
+        set = with_write(set, *write, delay);
+    }
+    set
 }
 
 impl Uses {
@@ -113,37 +96,29 @@ impl Uses {
         ensures { result.insn ≡ insn }
     {
         let op = insn.op();
-        let writes = Writes::new(&insn);
+        let delay = insn.delay();
+        let reads = reads(&insn);
+        let at_once = written(&insn, 0);
+        let results = written(&insn, delay);
+        let written = at_once.joined(results);
         Uses {
             insn,
-            reads: reads(&insn),
-            written: written(writes),
-            writes,
-            delay: insn.delay(),
+            reads,
+            at_once,
+            results,
+            touched: reads.joined(at_once),
+            written,
+            used: reads.joined(written),
+            delay,
             loads: op.is_load(),
             stores: op.is_store(),
             branches: op.is_branch(),
         }
     }
-
-    /// Whether the instruction reads a register, as an operand or as its condition.
-    pub fn reads(&self, reg: RegBit) -> bool
-        ensures { result ≡ reads_register self.now.insn reg.reg }
-    {
-        self.reads.has(reg)
-    }
-
     /// Whether neither instruction reads or writes a register that the other one writes.
     pub fn is_apart(&self, later: &Uses) -> bool
-        ensures apart { IsTrue result → AreApart self.now.insn later.now.insn }
-        ensures exact { result ≡ are_apart self.now later.now }
+        ensures { result ≡ are_apart self.now later.now }
     {
-        if self.written.meets(later.reads) {
-            return false;
-        }
-        if self.written.meets(later.written) {
-            return false;
-        }
-        !later.written.meets(self.reads)
+        !self.written.meets(later.used) && !later.written.meets(self.reads)
     }
 }

@@ -1,6 +1,6 @@
-use Rattle.std.proofs.Common.{ℤ, Option, ap, ◌≡◌, ◌∙◌}
+use Rattle.std.proofs.Common.{ap, ◌∙◌}
 use Rattle.c62_insn.specs.declared.insn.Insn.{Insn}
-use Rattle.c62_depend.specs.Latency.{latency, latency_of}
+use Rattle.c62_depend.specs.Latency.{latency_of}
 use Rattle.c62_depend.proofs.Latencies.{greatest_from, latency_among, latency_small_at}
 use Rattle.c62_depend.proofs.latency.latency_in.Goals as goal
 

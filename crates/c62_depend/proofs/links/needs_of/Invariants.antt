@@ -6,4 +6,4 @@ use Rattle.c62_depend.specs.Links.{linked}
 use Rattle.c62_depend.proofs.links.needs_of.Given as goal
 
 abbrev pub invariant-loop-i : goal.invariant-loop-i
-invariant-loop-i l = l.links.items ≡ flat_map (λ i. linked i (latency (insns_in l.uses) i l.j)) (range_with_len 0 l.i)
+invariant-loop-i l = l.gathered.items ≡ flat_map (λ i. linked i (latency (insns_in l.uses) i l.j)) (range_with_len 0 l.i)
