@@ -47,6 +47,18 @@ const LATENCIES: [(&str, &str, &str); 16] = [
     ),
 ];
 
+/// A text, and the sides of its instructions.
+const SIDES: [(&str, &str); 5] = [
+    (
+        "L1:\nMVK 0,A0\nMVK 1,A1\nMVK 2,A2\nMVK 3,A3\nMVK 4,A4\nMVK 5,A5\nMVK 6,A6\nMVK 7,A7\nB L1",
+        "AAAAAAAAB",
+    ),
+    ("L1: MPY A1,A2,A3\nB L1", "AB"),
+    ("L1: MVK 1,B1\nLDW *B4,A5\nB L1", "BBA"),
+    ("L1: MVK 1,A1\nSTW A1,*B4\nB L1", "ABB"),
+    ("L1: MVK 1,B1\nADD .L2X A1,B1,B2\nB .S2 L1", "BBB"),
+];
+
 /// A text, and the units of its instructions.
 const UNITS: [(&str, &str); 10] = [
     ("ADD A1,A2,A3", "L1 S1 D1 ; "),
@@ -149,6 +161,22 @@ fn dependences_and_heights(rt: HostRuntime) -> Result<(), Fail> {
         assert_eq!(rt; listed.as_str(), *want, "{text}");
         let found = heights(rt.alloc(), &plan)?;
         assert_eq!(rt; found.as_str(), *high, "{text}");
+    }
+    Ok(())
+}
+
+#[test]
+fn sides_of_instructions(rt: HostRuntime) -> Result<(), Fail> {
+    for (text, want) in &SIDES {
+        let plan = plan_of(&rt, rt.alloc(), text)?;
+        let mut found = String::new(rt.alloc());
+        for i in 0..plan.len() {
+            found.push(match plan.side(i) {
+                Side::A => 'A',
+                Side::B => 'B',
+            })?;
+        }
+        assert_eq!(rt; found.as_str(), *want, "{text}");
     }
     Ok(())
 }
