@@ -115,6 +115,7 @@ impl Uses {
             branches: op.is_branch(),
         }
     }
+
     /// Whether neither instruction reads or writes a register that the other one writes.
     pub fn is_apart(&self, later: &Uses) -> bool
         ensures { result ≡ are_apart self.now later.now }
