@@ -2,7 +2,7 @@
 use Rattle.std.proofs.lemmas.Option.{same_Some, none-some, slice_get_read, slice_get-map}
 use Rattle.std.specs.Prelude.{option_map}
 use Rattle.std.proofs.Common.{length, get_or, arith, ◌≡◌, ℕ, ◌+◌, ◌<◌, ℤ, pos, negsuc, ◌≤◌, ◌-ℤ◌, ◌≤ℤ◌, Bool, true, false, List, Option, Some, None, refl, sym, ap, ◌∙◌, subst, inl, inr, ◌⊎◌, cond}
-use Rattle.std.specs.Prelude.{IfSome, IsTrue, is_some, ◌↔◌, Contains, slice_get, nat_lt, ◌&&◌, ◌||◌}
+use Rattle.std.specs.Prelude.{IfSome, IsTrue, is_some, ◌↔◌, Contains, slice_get, nat_lt, ◌&&◌, ◌||◌, not}
 use Rattle.std.proofs.lemmas.Bool.{cases_Bool, both_ways, lt-ltb, le-ltb, ltb-true}
 use Rattle.c62_insn.specs.declared.register.Reg.{Reg}
 use Rattle.c62_insn.specs.declared.operands.Op.{Op}
@@ -14,10 +14,10 @@ use Rattle.c62_insn.proofs.InsnLemmas.{writes_delay}
 use Rattle.c62_insn.proofs.Registers.{same_reg-is, same_reg-refl}
 use Rattle.c62_insn.specs.Shape.{delay_of, is_load, is_store, is_branch}
 use Rattle.c62_insn.specs.Insn.{op_of, register_writes, reads_register}
-use Rattle.c62_insn.specs.Dependence.{IsBound, ReadAfterWrite, WriteAfterRead, WriteAfterWrite, AfterStore, StoreAfterLoad, BeforeBranch, Bounds, Depends, IsLatency}
+use Rattle.c62_insn.specs.Dependence.{IsBound, ReadAfterWrite, WriteAfterRead, WriteAfterWrite, AfterStore, StoreAfterLoad, BeforeBranch, Bounds, Depends, IsLatency, are_exclusive, are_disjoint}
 use Rattle.c62_depend.specs.declared.uses.Uses.{Uses}
 use Rattle.c62_depend.specs.Uses.{insns_in}
-use Rattle.c62_depend.specs.Latency.{read_after, write_after_read, write_after, access_after, branch_after, latency_of, between, latency}
+use Rattle.c62_depend.specs.Latency.{greater, awaits, spares, overwrites, read_after_write, write_after_read, write_after_write, access_after_store, store_after_load, before_branch, by_registers, by_order, latency_of, between, latency}
 use Rattle.c62_depend.proofs.Greatest.{IsGreatest, IsGiven, IsGreatest-is, IsGreatest-same, IsGreatest-greater, IsGreatest-greatest_by, IsGreatest-pairs}
 
 -- a number that is given under a test
@@ -28,81 +28,124 @@ some_under false x y e = cc
 pub under : {A : Type 0} (t : Bool) (x y : A) → t ≡ true → y ≡ x → cond t (Some x) None ≡ Some y
 under t x y h e = rw (h, e) refl
 
+-- ---- the bounds of the six cases
+
+abbrev pub ByRead : Insn → Insn → ℤ → Type 0
+ByRead p q b = IsGiven (awaits q) (register_writes p) b
+
+abbrev pub BySpared : Insn → Insn → ℤ → Type 0
+BySpared p q b = IsGiven (spares p) (register_writes q) b
+
+abbrev pub ByWrites : Insn → Insn → ℤ → Type 0
+ByWrites p q b = (v : Reg × ℕ) × Contains (register_writes p) v × IsGiven (overwrites v) (register_writes q) b
+
+abbrev pub ByWritesUnless : Bool → Insn → Insn → ℤ → Type 0
+ByWritesUnless exclusive p q b = (exclusive ≡ false) × ByWrites p q b
+
+-- of the cases of registers, and of the others
+unfoldable pub ByRegisters : Bool → Insn → Insn → ℤ → Type 0
+ByRegisters exclusive p q b = ByRead p q b ⊎ (BySpared p q b ⊎ ByWritesUnless exclusive p q b)
+
+abbrev pub ByOrder : Bool → Insn → Insn → ℤ → Type 0
+ByOrder disjoint p q b = (access_after_store disjoint p q ≡ Some b) ⊎ ((store_after_load disjoint p q ≡ Some b) ⊎ (before_branch p q ≡ Some b))
+
+abbrev pub By : Bool → Bool → Insn → Insn → ℤ → Type 0
+By exclusive disjoint p q b = ByRegisters exclusive p q b ⊎ ByOrder disjoint p q b
+
+-- ---- each case tells its greatest
+
+module _ (p q : Insn) where
+  pub read-greatest : IsGreatest (ByRead p q) (read_after_write p q)
+  read-greatest = IsGreatest-greatest_by (awaits q) (register_writes p)
+
+  pub spared-greatest : IsGreatest (BySpared p q) (write_after_read p q)
+  spared-greatest = IsGreatest-greatest_by (spares p) (register_writes q)
+
+  pub writes-greatest : IsGreatest (ByWrites p q) (write_after_write false p q)
+  writes-greatest = IsGreatest-pairs overwrites (register_writes p) (register_writes q)
+
+  writes_unless-greatest : (exclusive : Bool) → IsGreatest (ByWritesUnless exclusive p q) (write_after_write exclusive p q)
+  writes_unless-greatest true = λ b w. (let clash : true ≡ false = w.0 in cc)
+  writes_unless-greatest false =
+      IsGreatest-same (ByWrites p q) (ByWritesUnless false p q) (write_after_write false p q) writes-greatest (λ b w. (refl, w)) (λ b w. w.1)
+
+  registers-greatest : (exclusive : Bool) → IsGreatest (ByRegisters exclusive p q) (by_registers exclusive p q)
+  unfolding by_registers ByRegisters
+  registers-greatest exclusive =
+      IsGreatest-greater (ByRead p q) (λ b. BySpared p q b ⊎ ByWritesUnless exclusive p q b) (read_after_write p q)
+      (greater (write_after_read p q) (write_after_write exclusive p q)) read-greatest
+      (IsGreatest-greater (BySpared p q) (ByWritesUnless exclusive p q) (write_after_read p q) (write_after_write exclusive p q) spared-greatest (writes_unless-greatest exclusive))
+
+  order-greatest : (disjoint : Bool) → IsGreatest (ByOrder disjoint p q) (by_order disjoint p q)
+  order-greatest disjoint =
+      IsGreatest-greater (λ b. access_after_store disjoint p q ≡ Some b) (λ b. (store_after_load disjoint p q ≡ Some b) ⊎ (before_branch p q ≡ Some b))
+      (access_after_store disjoint p q) (greater (store_after_load disjoint p q) (before_branch p q)) (IsGreatest-is (access_after_store disjoint p q))
+      (IsGreatest-greater (λ b. store_after_load disjoint p q ≡ Some b) (λ b. before_branch p q ≡ Some b) (store_after_load disjoint p q) (before_branch p q)
+      (IsGreatest-is (store_after_load disjoint p q)) (IsGreatest-is (before_branch p q)))
+
+  pub all-greatest : (exclusive disjoint : Bool) → IsGreatest (By exclusive disjoint p q) (latency_of exclusive disjoint p q)
+  all-greatest exclusive disjoint =
+      IsGreatest-greater (ByRegisters exclusive p q) (ByOrder disjoint p q) (by_registers exclusive p q) (by_order disjoint p q) (registers-greatest exclusive) (order-greatest disjoint)
+
+-- ---- the cases are those of the definition
+
+store_from : (block : List Insn) (i j : ℕ) (p q : Insn) (d s l t : Bool) (b : ℤ) → are_disjoint block i j ≡ d → is_store (op_of p) ≡ s → is_load (op_of q) ≡ l → is_store (op_of q) ≡ t
+    → cond (not d && (s && (l || t))) (Some (pos 1)) None ≡ Some b → IsBound block i j p q b
+store_from block i j p q false true true t b hd hs hl ht e = AfterStore hs (inl hl) hd (cc)
+store_from block i j p q false true false true b hd hs hl ht e = AfterStore hs (inr ht) hd (cc)
+store_from block i j p q false true false false b hd hs hl ht e = cc
+store_from block i j p q false false l t b hd hs hl ht e = cc
+store_from block i j p q true s l t b hd hs hl ht e = cc
+
+load_from : (block : List Insn) (i j : ℕ) (p q : Insn) (d l t : Bool) (b : ℤ) → are_disjoint block i j ≡ d → is_load (op_of p) ≡ l → is_store (op_of q) ≡ t
+    → cond (not d && (l && t)) (Some (pos 0)) None ≡ Some b → IsBound block i j p q b
+load_from block i j p q false true true b hd hl ht e = StoreAfterLoad hl ht hd (cc)
+load_from block i j p q false true false b hd hl ht e = cc
+load_from block i j p q false false t b hd hl ht e = cc
+load_from block i j p q true l t b hd hl ht e = cc
+
+store_told : (d s l t : Bool) (b : ℤ) → d ≡ false → s ≡ true → (l ≡ true) ⊎ (t ≡ true) → b ≡ pos 1 → cond (not d && (s && (l || t))) (Some (pos 1)) None ≡ Some b
+store_told d s true t b hd hs w e = rw (hd, hs, e) refl
+store_told d s false true b hd hs w e = rw (hd, hs, e) refl
+store_told d s false false b hd hs w e = elim w [ inl x ↦ cc | inr x ↦ cc ]
+
+load_told : (d l t : Bool) (b : ℤ) → d ≡ false → l ≡ true → t ≡ true → b ≡ pos 0 → cond (not d && (l && t)) (Some (pos 0)) None ≡ Some b
+load_told d l t b hd hl ht e = rw (hd, hl, ht, e) refl
+
 module _ (block : List Insn) (i j : ℕ) (p q : Insn) where
-  unfoldable pub ByReads : ℤ → Type 0
-  ByReads b = IsGiven (read_after q) (register_writes p) b ⊎ IsGiven (write_after_read p) (register_writes q) b
+  pub IsCase : ℤ → Type 0
+  IsCase b = By (are_exclusive block i j) (are_disjoint block i j) p q b
 
-  unfoldable pub ByWrites : ℤ → Type 0
-  ByWrites b = ((v : Reg × ℕ) × Contains (register_writes p) v × IsGiven (write_after v) (register_writes q) b) ⊎ (access_after p q ≡ Some b)
-
-  unfoldable pub By : ℤ → Type 0
-  By b = (ByReads b ⊎ ByWrites b) ⊎ (branch_after p q ≡ Some b)
-
-  pub by_cases : (b : ℤ) → IsBound block i j p q b → By b
-  unfolding By ByReads ByWrites
-  by_cases b (ReadAfterWrite reg delay writes reads e) = inl (inl (inl ((reg, delay), writes, under (reads_register q reg) _ b reads e)))
-  by_cases b (WriteAfterRead reg delay writes reads e) = inl (inl (inr ((reg, delay), writes, under (reads_register p reg) _ b reads e)))
+  pub by_cases : (b : ℤ) → IsBound block i j p q b → IsCase b
+  unfolding IsCase ByRegisters
+  by_cases b (ReadAfterWrite reg delay writes reads e) = inl (inl ((reg, delay), writes, under (reads_register q reg) _ b reads e))
+  by_cases b (WriteAfterRead reg delay writes reads e) = inl (inr (inl ((reg, delay), writes, under (reads_register p reg) _ b reads e)))
   by_cases b (WriteAfterWrite reg first second one other free e) =
-      inl (inr (inl ((reg, first), one, ((reg, second), other, under (same_reg reg reg) _ b (same_reg-refl reg) e))))
-  by_cases b (AfterStore store access free e) = inl (inr (inr (after_store (is_load (op_of q)) (is_store (op_of q)) store access)))
-    where
-      after_store : (l t : Bool) → is_store (op_of p) ≡ true → (l ≡ true) ⊎ (t ≡ true)
-          → cond (is_store (op_of p) && (l || t)) (Some (pos 1)) (cond (is_load (op_of p) && t) (Some (pos 0)) None) ≡ Some b
-      after_store true t h w = rw (h, e) refl
-      after_store false true h w = rw (h, e) refl
-      after_store false false h w = elim w [ inl x ↦ cc | inr x ↦ cc ]
-  by_cases b (StoreAfterLoad load store free e) = inl (inr (inr (no_store (op_of p) load store)))
-    where
-      no_store : (op : Op) → is_load op ≡ true → is_store (op_of q) ≡ true
-          → cond (is_store op && (is_load (op_of q) || is_store (op_of q))) (Some (pos 1)) (cond (is_load op && is_store (op_of q)) (Some (pos 0)) None) ≡ Some b
-      no_store Ldb h w = rw (w, e) refl
-      no_store Ldbu h w = rw (w, e) refl
-      no_store Ldh h w = rw (w, e) refl
-      no_store Ldhu h w = rw (w, e) refl
-      no_store Ldw h w = rw (w, e) refl
-      no_store _ h w = cc
-  by_cases b (BeforeBranch is e) = inr (rw (is, e) refl)
+      inl (inr (inr (free, ((reg, first), one, ((reg, second), other, under (same_reg reg reg) _ b (same_reg-refl reg) e)))))
+  by_cases b (AfterStore store access free e) =
+      inr (inl (store_told (are_disjoint block i j) (is_store (op_of p)) (is_load (op_of q)) (is_store (op_of q)) b free store access e))
+  by_cases b (StoreAfterLoad load store free e) = inr (inr (inl (load_told (are_disjoint block i j) (is_load (op_of p)) (is_store (op_of q)) b free load store e)))
+  by_cases b (BeforeBranch is e) = inr (inr (inr (rw (is, e) refl)))
 
-  from_access : (b : ℤ) → access_after p q ≡ Some b → IsBound block i j p q b
-  from_access b e = by_tests (is_store (op_of p)) (is_load (op_of q)) (is_store (op_of q)) (is_load (op_of p)) refl refl refl refl e
-    where
-      by_tests : (s l t m : Bool) → is_store (op_of p) ≡ s → is_load (op_of q) ≡ l → is_store (op_of q) ≡ t → is_load (op_of p) ≡ m
-          → cond (s && (l || t)) (Some (pos 1)) (cond (m && t) (Some (pos 0)) None) ≡ Some b → IsBound block i j p q b
-      by_tests true true t m hs hl ht hm e = AfterStore hs (inl hl) refl (cc)
-      by_tests true false true m hs hl ht hm e = AfterStore hs (inr ht) refl (cc)
-      by_tests true false false true hs hl ht hm e = cc
-      by_tests true false false false hs hl ht hm e = cc
-      by_tests false l true true hs hl ht hm e = StoreAfterLoad hm ht refl (cc)
-      by_tests false l true false hs hl ht hm e = cc
-      by_tests false l false true hs hl ht hm e = cc
-      by_tests false l false false hs hl ht hm e = cc
+  pub from_cases : (b : ℤ) → IsCase b → IsBound block i j p q b
+  unfolding IsCase ByRegisters
+  from_cases b (inl (inl w)) = let u = some_under (reads_register q w.0.0) (pos (w.0.1 + 1)) b w.2 in ReadAfterWrite w.0.0 w.0.1 w.1 u.0 u.1
+  from_cases b (inl (inr (inl w))) = let u = some_under (reads_register p w.0.0) (pos 0 -ℤ pos w.0.1) b w.2 in WriteAfterRead w.0.0 w.0.1 w.1 u.0 u.1
+  from_cases b (inl (inr (inr w))) =
+      let pair = w.1 in
+      let other = pair.2.0 in
+      let u = some_under (same_reg pair.0.0 other.0) (pos (pair.0.1 + 1) -ℤ pos other.1) b pair.2.2 in
+      let same : other.0 ≡ pair.0.0 = sym (same_reg-is pair.0.0 other.0 u.0) in
+      WriteAfterWrite pair.0.0 pair.0.1 other.1 pair.1 (subst (λ (r : Reg). Contains (register_writes q) (r, other.1)) same pair.2.1) w.0 u.1
+  from_cases b (inr (inl e)) = store_from block i j p q (are_disjoint block i j) (is_store (op_of p)) (is_load (op_of q)) (is_store (op_of q)) b refl refl refl refl e
+  from_cases b (inr (inr (inl e))) = load_from block i j p q (are_disjoint block i j) (is_load (op_of p)) (is_store (op_of q)) b refl refl refl e
+  from_cases b (inr (inr (inr e))) = let u = some_under (is_branch (op_of q)) (pos (delay_of (op_of p)) -ℤ pos 5) b e in BeforeBranch u.0 u.1
 
-  pub from_cases : (b : ℤ) → By b → IsBound block i j p q b
-  unfolding By ByReads ByWrites
-  from_cases b (inl (inl (inl w))) =
-      let u = some_under (reads_register q w.0.0) (pos (w.0.1 + 1)) b w.2 in ReadAfterWrite w.0.0 w.0.1 w.1 u.0 u.1
-  from_cases b (inl (inl (inr w))) =
-      let u = some_under (reads_register p w.0.0) (pos 0 -ℤ pos w.0.1) b w.2 in WriteAfterRead w.0.0 w.0.1 w.1 u.0 u.1
-  from_cases b (inl (inr (inl w))) =
-      let other = w.2.0 in
-      let u = some_under (same_reg w.0.0 other.0) (pos (w.0.1 + 1) -ℤ pos other.1) b w.2.2 in
-      let same : other.0 ≡ w.0.0 = sym (same_reg-is w.0.0 other.0 u.0) in
-      WriteAfterWrite w.0.0 w.0.1 other.1 w.1 (subst (λ (r : Reg). Contains (register_writes q) (r, other.1)) same w.2.1) refl u.1
-  from_cases b (inl (inr (inr e))) = from_access b e
-  from_cases b (inr e) =
-      let u = some_under (is_branch (op_of q)) (pos (delay_of (op_of p)) -ℤ pos 5) b e in BeforeBranch u.0 u.1
-
-  pub by_all : IsGreatest By (latency_of p q)
-  unfolding latency_of By ByReads ByWrites
-  by_all =
-      IsGreatest-greater _ _ _ _
-      (IsGreatest-greater _ _ _ _
-      (IsGreatest-greater _ _ _ _ (IsGreatest-greatest_by (read_after q) (register_writes p)) (IsGreatest-greatest_by (write_after_read p) (register_writes q)))
-      (IsGreatest-greater _ _ _ _ (IsGreatest-pairs write_after (register_writes p) (register_writes q)) (IsGreatest-is (access_after p q))))
-      (IsGreatest-is (branch_after p q))
-
-  latency_of-greatest : IsGreatest (IsBound block i j p q) (latency_of p q)
-  latency_of-greatest = IsGreatest-same By (IsBound block i j p q) (latency_of p q) by_all from_cases by_cases
+  latency_of-greatest : IsGreatest (IsBound block i j p q) (latency_of (are_exclusive block i j) (are_disjoint block i j) p q)
+  unfolding IsCase
+  latency_of-greatest =
+      IsGreatest-same IsCase (IsBound block i j p q) (latency_of (are_exclusive block i j) (are_disjoint block i j) p q)
+      (all-greatest p q (are_exclusive block i j) (are_disjoint block i j)) from_cases by_cases
 
 -- the bound at two known instructions
 bound_at : (block : List Insn) (i j : ℕ) (p q : Insn) (b : ℤ) → slice_get block i ≡ Some p → slice_get block j ≡ Some q → Bounds block i j b → IsBound block i j p q b
@@ -127,12 +170,12 @@ latency-is block i j = by_order (cases_Bool (nat_lt i j))
     no_bound : (nat_lt i j ≡ false) → Depends block i j → ⊥
     no_bound late d = let before : i < j = d.1.before in absurd (both_ways (nat_lt i j) late (lt-ltb i j before))
 
-    by_insns : (o r : Option Insn) → slice_get block i ≡ o → slice_get block j ≡ r → i < j → IsLatency block i j (between o r)
+    by_insns : (o r : Option Insn) → slice_get block i ≡ o → slice_get block j ≡ r → i < j → IsLatency block i j (between (are_exclusive block i j) (are_disjoint block i j) o r)
     by_insns None r at_i at_j before = λ d. none-some d.1.first (sym at_i ∙ d.1.is_first)
     by_insns (Some p) None at_i at_j before = λ d. none-some d.1.second (sym at_j ∙ d.1.is_second)
-    by_insns (Some p) (Some q) at_i at_j before = latency-from block i j p q (latency_of p q) at_i at_j before (latency_of-greatest block i j p q)
+    by_insns (Some p) (Some q) at_i at_j before = latency-from block i j p q (latency_of (are_exclusive block i j) (are_disjoint block i j) p q) at_i at_j before (latency_of-greatest block i j p q)
 
-    by_order : (nat_lt i j ≡ true) ⊎ (nat_lt i j ≡ false) → IsLatency block i j (cond (nat_lt i j) (between (slice_get block i) (slice_get block j)) None)
+    by_order : (nat_lt i j ≡ true) ⊎ (nat_lt i j ≡ false) → IsLatency block i j (cond (nat_lt i j) (between (are_exclusive block i j) (are_disjoint block i j) (slice_get block i) (slice_get block j)) None)
     by_order (inl before) = rw before (by_insns (slice_get block i) (slice_get block j) refl refl (ltb-true i j before))
     by_order (inr late) = rw late (no_bound late)
 
@@ -183,14 +226,14 @@ insn_at uses i u within at =
 
 -- the latency of two instructions of a list
 pub latency_at : (uses : List Uses) (i j : ℕ) (u v : Uses) (o : Option ℤ) → i < j → j < length uses → u ≡ get_or uses i u → v ≡ get_or uses j v
-    → o ≡ latency_of u.insn v.insn → o ≡ latency (insns_in uses) i j
+    → o ≡ latency_of (are_exclusive (insns_in uses) i j) (are_disjoint (insns_in uses) i j) u.insn v.insn → o ≡ latency (insns_in uses) i j
 unfolding latency
 latency_at uses i j u v o before within at_i at_j e =
     rw (lt-ltb i j before, insn_at uses i u (omega arith) at_i, insn_at uses j v within at_j) e
 
 -- the latency of two instructions of a block
 pub latency_among : (block : List Insn) (i j : ℕ) (p q : Insn) (o : Option ℤ) → i < j → j < length block → p ≡ get_or block i p → q ≡ get_or block j q
-    → o ≡ latency_of p q → o ≡ latency block i j
+    → o ≡ latency_of (are_exclusive block i j) (are_disjoint block i j) p q → o ≡ latency block i j
 unfolding latency
 latency_among block i j p q o before within at_i at_j e =
     let first : slice_get block i ≡ Some p = slice_get_read block (length block) i p refl (omega arith) at_i in

@@ -1,9 +1,9 @@
 -- What always holds of a plan.
-use Rattle.std.proofs.Common.{◌≡◌, ℕ, ◌*◌, ◌-◌, ◌<◌, ◌≤◌, ℤ, Bool, true, List, length, Option, Some, None, refl, sym, ap, ◌∙◌, subst, arith, inl, inr, ◌⊎◌}
+use Rattle.std.proofs.Common.{◌≡◌, ℕ, zero, suc, ◌+◌, ◌*◌, ◌-◌, ◌<◌, ◌≤◌, ℤ, Bool, true, false, not, List, [], ◌∷◌, length, map, Option, Some, None, refl, sym, ap, ◌∙◌, subst, arith, inl, inr, ◌⊎◌}
 use Rattle.std.specs.Prelude.{◌&&◌, slice_get, nat_le, IsTrue}
-use Rattle.std.proofs.lemmas.Bool.{and_parts, leb-true}
+use Rattle.std.proofs.lemmas.Bool.{and_parts, both_ways, leb-true, not-true}
 use Rattle.std.proofs.lemmas.List.{length-map}
-use Rattle.std.proofs.lemmas.Option.{slice_get_within, slice_get_cases}
+use Rattle.std.proofs.lemmas.Option.{none-some, same_Some, slice_get_within, slice_get_cases}
 use Rattle.c62_insn.specs.declared.register.Side.{Side}
 use Rattle.c62_insn.specs.declared.register.Letter.{Letter}
 use Rattle.c62_insn.specs.declared.register.Unit.{Unit as FunctionalUnit}
@@ -12,8 +12,9 @@ use Rattle.c62_insn.specs.declared.operands.Op.TheVariants.{B as Branch}
 use Rattle.c62_insn.specs.declared.operands.Operands.{Operands}
 use Rattle.c62_insn.specs.declared.operands.Operands.TheVariants.{Three, ConstantFirst, ConstantSecond, Two, Field, Constant, Access, Block, Register}
 use Rattle.c62_insn.specs.declared.insn.Insn.{Insn}
-use Rattle.c62_insn.specs.Takes.{same_side, takes}
-use Rattle.c62_insn.specs.Fault.{side_of}
+use Rattle.c62_insn.specs.Takes.{same_side, takes, is_written}
+use Rattle.c62_insn.specs.Stands.{may_stand}
+use Rattle.c62_insn.specs.Shape.{side_of, is_branch}
 use Rattle.c62_insn.specs.Insn.{op_of, operands_of, unit_of}
 use Rattle.c62_insn.specs.Dependence.{IsLatency, IsGreatestBound}
 use Rattle.c62_insn.proofs.InsnLemmas.{has_written_unit}
@@ -23,7 +24,7 @@ use Rattle.c62_read.specs.declared.block.SerialInsn.{SerialInsn}
 use Rattle.c62_read.specs.Block.{branch_last, operations, is_block}
 use Rattle.c62_depend.specs.Latency.{latency}
 use Rattle.c62_depend.specs.Height.{height}
-use Rattle.c62_depend.specs.Side.{branch_side, side_or, side_in, is_written, suits, side_at, suits_at, side, stands_on}
+use Rattle.c62_depend.specs.Side.{branch_side, side_or, side_in, suits, side_at, suits_at, side, stands_on}
 use Rattle.c62_depend.specs.Plan.{IsShort, IsPlan, unnumbered}
 use Rattle.c62_depend.proofs.Latencies.{latency-is, bounds-small}
 use Rattle.c62_depend.proofs.Heights.{height-small}
@@ -44,10 +45,10 @@ takes_alike : (op : Op) (letter : Letter) (s t : Side) (number : ℕ)
 takes_alike Branch letter s t number = refl
 takes_alike _ letter s t number = refl
 
-suits_from : (t s w : Bool) → t ≡ true → s ≡ true → w ≡ true → (t && (s && w)) ≡ true
-suits_from t s w a b c = rw (a, b, c) refl
+suits_from : (s w t : Bool) → s ≡ true → w ≡ true → t ≡ true → (s && (w && t)) ≡ true
+suits_from s w t a b c = rw (a, b, c) refl
 
-written_one : (u : FunctionalUnit) (o : Option FunctionalUnit) → (o ≡ None) ⊎ (o ≡ Some u) → is_written u o ≡ true
+written_one : (u : FunctionalUnit) (o : Option FunctionalUnit) → (o ≡ None) ⊎ (o ≡ Some u) → is_written o u ≡ true
 written_one u o (inl e) = rw e refl
 written_one u o (inr e) = rw e (same_unit-refl u)
 
@@ -85,16 +86,16 @@ some_suits block p = by_side (side_of (operands_of p)) refl (has_written_unit p)
         ∙ takes_alike (op_of p) u.letter (side_in block p) u.side number
         ∙ sym (ap (λ (x : Operands). takes (op_of p) x u) e)
         ∙ takes_it in
-        (there, suits_from _ _ _ taken (same_side-refl (side_in block p)) (written_one there (unit_of p) (inl none)))
+        (there, suits_from _ _ _ (same_side-refl (side_in block p)) (written_one there (unit_of p) (inl none)) taken)
     on_branch number u e takes_it (inr one) is =
         let there : side_in block p ≡ u.side = is ∙ ap (branch_side block) one in
-        (u, suits_from _ _ _ takes_it (ap (same_side u.side) there ∙ same_side-refl u.side) (written_one u (unit_of p) (inr one)))
+        (u, suits_from _ _ _ (ap (same_side u.side) there ∙ same_side-refl u.side) (written_one u (unit_of p) (inr one)) takes_it)
 
     by_side : (o : Option Side) → side_of (operands_of p) ≡ o → Found → Answer
     by_side (Some s) e found =
         let there : side_in block p ≡ s = side_decided block p s e in
         let lies : found.0.side ≡ s = takes_on_side (op_of p) (operands_of p) found.0 s e found.1 in
-        (found.0, suits_from _ _ _ found.1 (ap (same_side found.0.side) (there ∙ sym lies) ∙ same_side-refl found.0.side) (written_one found.0 (unit_of p) found.2))
+        (found.0, suits_from _ _ _ (ap (same_side found.0.side) (there ∙ sym lies) ∙ same_side-refl found.0.side) (written_one found.0 (unit_of p) found.2) found.1)
     by_side None e found =
         let target = to_block (operands_of p) e in
         on_branch target.0 found.0 target.1 found.1 found.2 (ap (side_or (branch_side block (unit_of p))) e)
@@ -115,12 +116,28 @@ on_side_is block i unit h = by_insn (slice_get block i) h
     by_insn : (o : Option Insn) → suits_at block o unit ≡ true → unit.side ≡ side_at block o
     by_insn None h = cc
     by_insn (Some p) h =
-        let parts = and_parts (takes (op_of p) (operands_of p) unit) (same_side unit.side (side_in block p) && is_written unit (unit_of p)) h in
-        same_side-is unit.side (side_in block p) (and_parts (same_side unit.side (side_in block p)) (is_written unit (unit_of p)) parts.1).0
+        same_side-is unit.side (side_in block p) (and_parts (same_side unit.side (side_in block p)) (may_stand p unit) h).0
 
-pub plan_is : (block : List Insn) → length block ≤ 256 → IsPlan block
-plan_is block few = record {
+abbrev pub IsBranchLast : List Insn → Type 0
+IsBranchLast block = (i : ℕ) (insn : Insn) → slice_get block i ≡ Some insn → IsTrue (is_branch (op_of insn)) → i + 1 ≡ length block
+
+branch-last : (block : List Insn) → branch_last (map op_of block) ≡ true → IsBranchLast block
+branch-last [] h i insn at is = absurd (none-some insn at)
+branch-last (p ∷ []) h zero insn at is = refl
+branch-last (p ∷ []) h (suc i) insn at is = absurd (none-some insn at)
+branch-last (p ∷ next ∷ rest) h zero insn at is =
+    let first : is_branch (op_of p) ≡ false = not-true (is_branch (op_of p)) (and_parts (not (is_branch (op_of p))) (branch_last (map op_of (next ∷ rest))) h).0 in
+    let same : is_branch (op_of p) ≡ true = ap (λ (q : Insn). is_branch (op_of q)) (same_Some p insn at) ∙ is in
+    absurd (both_ways (is_branch (op_of p)) first same)
+branch-last (p ∷ next ∷ rest) h (suc i) insn at is =
+    let later : i + 1 ≡ length (next ∷ rest) =
+    branch-last (next ∷ rest) (and_parts (not (is_branch (op_of p))) (branch_last (map op_of (next ∷ rest))) h).1 i insn at is in
+    omega (arith, later)
+
+pub plan_is : (block : List Insn) → length block ≤ 256 → IsBranchLast block → IsPlan block
+plan_is block few branch = record {
   few = few;
+  branch = branch;
   short = short_is block;
   low = λ i within. (let small : height block i ≤ 5 * (length block - i) = height-small block i within in omega arith);
   stands = stands_is block;
@@ -136,3 +153,12 @@ few_insns entries sound =
     let few : length entries ≤ 256 = leb-true (length entries) 256 parts.0 in
     let many : length (unnumbered entries) ≡ length entries = many_insns entries in
     omega arith
+
+ops_of : (entries : List SerialInsn) → map op_of (unnumbered entries) ≡ operations entries
+ops_of [] = refl
+ops_of (entry ∷ entries) = ap (λ (ops : List Op). op_of entry.insn ∷ ops) (ops_of entries)
+
+pub last_branch : (entries : List SerialInsn) → IsTrue (is_block entries) → IsBranchLast (unnumbered entries)
+last_branch entries sound =
+    let parts = and_parts (nat_le (length entries) 256) (branch_last (operations entries)) sound in
+    branch-last (unnumbered entries) (ap branch_last (ops_of entries) ∙ parts.1)

@@ -11,24 +11,25 @@ use Rattle.c62_insn.specs.declared.register.Side.TheVariants.{A, B}
 use Rattle.c62_insn.specs.declared.register.Reg.{Reg}
 use Rattle.c62_insn.specs.Takes.{same_side, same_reg}
 use Rattle.c62_insn.proofs.Registers.{same_reg-is}
+use Rattle.c62_insn.specs.Register.{first_of, register_index}
 use Rattle.c62_depend.specs.declared.reg_set.RegSet.{RegSet}
-use Rattle.c62_depend.specs.RegSet.{place_on, place_of, reg_in, shares}
+use Rattle.c62_depend.specs.RegSet.{reg_in, shares}
 
-one_place : (s t : Side) (m n : ℕ) → m < 16 → n < 16 → place_on s m ≡ place_on t n → (same_side s t && (m == n)) ≡ true
+one_place : (s t : Side) (m n : ℕ) → m < 16 → n < 16 → first_of s + m ≡ first_of t + n → (same_side s t && (m == n)) ≡ true
 one_place A A m n low below e = grind (arith, nat_tests)
 one_place A B m n low below e = absurd (omega arith)
 one_place B A m n low below e = absurd (omega arith)
 one_place B B m n low below e = let same : m ≡ n = omega arith in grind (arith, nat_tests)
 
-pub place-within : (reg : Reg) → place_of reg < 32
+pub place-within : (reg : Reg) → register_index reg < 32
 place-within reg = on reg.side reg.number reg.in_range
   where
-    on : (s : Side) (n : ℕ) → n < 16 → place_on s n < 32
+    on : (s : Side) (n : ℕ) → n < 16 → first_of s + n < 32
     on A n low = omega arith
     on B n low = omega arith
 
-pub with_one : (n k : ℕ) (reg other : Reg) → k ≡ place_of reg
-    → (bit_at (bit_or n (1 * 2 ^ k % 2 ^ 32)) (place_of other) == 1) ≡ ((bit_at n (place_of other) == 1) || same_reg reg other)
+pub with_one : (n k : ℕ) (reg other : Reg) → k ≡ register_index reg
+    → (bit_at (bit_or n (1 * 2 ^ k % 2 ^ 32)) (register_index other) == 1) ≡ ((bit_at n (register_index other) == 1) || same_reg reg other)
 with_one n k reg other is = by_test (same_reg reg other) refl
   where
     within : k < 32
@@ -42,24 +43,24 @@ with_one n k reg other is = by_test (same_reg reg other) refl
     or_false true = refl
     or_false false = refl
 
-    by_test : (t : Bool) → same_reg reg other ≡ t → (bit_at (bit_or n (1 * 2 ^ k % 2 ^ 32)) (place_of other) == 1) ≡ ((bit_at n (place_of other) == 1) || t)
+    by_test : (t : Bool) → same_reg reg other ≡ t → (bit_at (bit_or n (1 * 2 ^ k % 2 ^ 32)) (register_index other) == 1) ≡ ((bit_at n (register_index other) == 1) || t)
     by_test true e =
-        let same : place_of other ≡ k = ap place_of (sym (same_reg-is reg other e)) ∙ sym is in
+        let same : register_index other ≡ k = ap register_index (sym (same_reg-is reg other e)) ∙ sym is in
         let set : bit_at (bit_or n (1 * 2 ^ k % 2 ^ 32)) k ≡ 1 = bit_at_set_same w32 n k within in
         rw (same, set, or_true (bit_at n k == 1)) refl
     by_test false e =
-        let apart : place_of other ≢ k = λ same. absurd (both same) in
-        rw (bit_at_set_other w32 n k within (place_of other) apart, or_false (bit_at n (place_of other) == 1)) refl
+        let apart : register_index other ≢ k = λ same. absurd (both same) in
+        rw (bit_at_set_other w32 n k within (register_index other) apart, or_false (bit_at n (register_index other) == 1)) refl
       where
-        both : place_of other ≡ k → ⊥
+        both : register_index other ≡ k → ⊥
         both same =
             let one : same_reg reg other ≡ true = one_place reg.side other.side reg.number other.number reg.in_range other.in_range (sym (same ∙ is)) in
             let clash : true ≡ false = sym one ∙ e in
             cc
 
-reg_at : (k : ℕ) → k < 32 → (reg : Reg) × (place_of reg ≡ k)
+reg_at : (k : ℕ) → k < 32 → (reg : Reg) × (register_index reg ≡ k)
 reg_at k low = elim (cases_lt k 16) [
-  | inl few ↦ (record { side = A; number = k; in_range = few }, refl)
+  | inl few ↦ (record { side = A; number = k; in_range = few }, omega arith)
   | inr many ↦ (record { side = B; number = k - 16; in_range = omega arith }, omega arith)
 ]
 
@@ -84,15 +85,15 @@ shares_one a b reg one other = by_test (shares a b) refl
     by_test true e = e
     by_test false e =
         let empty : bit_and a.bits b.bits ≡ 0 = grind (arith, nat_tests) in
-        let both : min (bit_at a.bits (place_of reg)) (bit_at b.bits (place_of reg)) ≡ 0 =
-        sym (bit_at_and a.bits b.bits (place_of reg)) ∙ ap (λ (n : ℕ). bit_at n (place_of reg)) empty ∙ bit_at-zero (place_of reg) in
-        let first : bit_at a.bits (place_of reg) ≡ 1 = eqb-true (bit_at a.bits (place_of reg)) 1 one in
-        let second : bit_at b.bits (place_of reg) ≡ 1 = eqb-true (bit_at b.bits (place_of reg)) 1 other in
+        let both : min (bit_at a.bits (register_index reg)) (bit_at b.bits (register_index reg)) ≡ 0 =
+        sym (bit_at_and a.bits b.bits (register_index reg)) ∙ ap (λ (n : ℕ). bit_at n (register_index reg)) empty ∙ bit_at-zero (register_index reg) in
+        let first : bit_at a.bits (register_index reg) ≡ 1 = eqb-true (bit_at a.bits (register_index reg)) 1 one in
+        let second : bit_at b.bits (register_index reg) ≡ 1 = eqb-true (bit_at b.bits (register_index reg)) 1 other in
         absurd (omega arith)
 
 -- a register of one of two sets
-pub joined_is : (a b : ℕ) (reg : Reg) → (bit_at (bit_or a b) (place_of reg) == 1) ≡ ((bit_at a (place_of reg) == 1) || (bit_at b (place_of reg) == 1))
-joined_is a b reg = rw (bit_at_or a b (place_of reg)) (by_bits (bit_at a (place_of reg)) (bit_at b (place_of reg)) (bit_at-lt a (place_of reg)) (bit_at-lt b (place_of reg)))
+pub joined_is : (a b : ℕ) (reg : Reg) → (bit_at (bit_or a b) (register_index reg) == 1) ≡ ((bit_at a (register_index reg) == 1) || (bit_at b (register_index reg) == 1))
+joined_is a b reg = rw (bit_at_or a b (register_index reg)) (by_bits (bit_at a (register_index reg)) (bit_at b (register_index reg)) (bit_at-lt a (register_index reg)) (bit_at-lt b (register_index reg)))
   where
     by_bits : (x y : ℕ) → x < 2 → y < 2 → (max x y == 1) ≡ ((x == 1) || (y == 1))
     by_bits zero zero low below = refl

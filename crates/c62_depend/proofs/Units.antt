@@ -7,36 +7,31 @@ use Rattle.c62_insn.specs.declared.register.Side.{Side}
 use Rattle.c62_insn.specs.declared.register.Unit.{Unit as FunctionalUnit}
 use Rattle.c62_insn.specs.declared.unit_set.UnitSet.{UnitSet}
 use Rattle.c62_insn.specs.declared.insn.Insn.{Insn}
-use Rattle.c62_insn.specs.Takes.{same_side, takes}
-use Rattle.c62_insn.specs.Insn.{op_of, operands_of, unit_of}
+use Rattle.c62_insn.specs.Takes.{same_side}
+use Rattle.c62_insn.specs.Stands.{may_stand}
 use Rattle.c62_insn.specs.Units.{unit_in}
 use Rattle.c62_depend.specs.declared.uses.Uses.{Uses}
 use Rattle.c62_depend.specs.declared.side.Place.{Place}
 use Rattle.c62_depend.specs.Uses.{insns_in}
-use Rattle.c62_depend.specs.Side.{side_in, is_written, side_at, suits_at, side, stands_on}
+use Rattle.c62_depend.specs.Side.{side_in, side_at, suits_at, side, stands_on}
 use Rattle.c62_depend.specs.Places.{IsPlace, ArePlaces}
 use Rattle.c62_depend.proofs.Latencies.{insn_at}
 
-abbrev pub stands : UnitSet → Side → Option FunctionalUnit → FunctionalUnit → Bool
-stands taken side written unit = unit_in taken unit && (same_side unit.side side && is_written unit written)
+-- whether an instruction of this side may stand on a unit
+abbrev pub stands : Insn → Side → FunctionalUnit → Bool
+stands insn side unit = same_side unit.side side && may_stand insn unit
 
 -- the place of an instruction, from its parts
-pub place_from : (uses : List Uses) (i : ℕ) (u : Uses) (s : Side) (taken units : UnitSet) (written : Option FunctionalUnit) → i < length uses → u ≡ get_or uses i u
-    → s ≡ side_in (insns_in uses) u.insn
-    → ((unit : FunctionalUnit) → unit_in taken unit ≡ takes (op_of u.insn) (operands_of u.insn) unit)
-    → written ≡ unit_of u.insn
-    → ((unit : FunctionalUnit) → unit_in units unit ≡ stands taken s written unit)
-    → IsPlace (insns_in uses) i (record { side = s; units = units })
+pub place_from : (uses : List Uses) (i : ℕ) (u : Uses) (s : Side) (units : UnitSet) → i < length uses → u ≡ get_or uses i u → s ≡ side_in (insns_in uses) u.insn
+    → ((unit : FunctionalUnit) → unit_in units unit ≡ stands u.insn s unit) → IsPlace (insns_in uses) i (record { side = s; units = units })
 unfolding side stands_on
-place_from uses i u s taken units written within at is takes_are wrote units_are =
+place_from uses i u s units within at is units_are =
     let here : slice_get (insns_in uses) i ≡ Some u.insn = insn_at uses i u within at in
     record {
       side = is ∙ sym (ap (side_at (insns_in uses)) here);
       units = λ unit.
           units_are unit
-          ∙ ap (λ (t : Bool). t && (same_side unit.side s && is_written unit written)) (takes_are unit)
-          ∙ ap (λ (x : Side). takes (op_of u.insn) (operands_of u.insn) unit && (same_side unit.side x && is_written unit written)) is
-          ∙ ap (λ (w : Option FunctionalUnit). takes (op_of u.insn) (operands_of u.insn) unit && (same_side unit.side (side_in (insns_in uses) u.insn) && is_written unit w)) wrote
+          ∙ ap (λ (x : Side). stands u.insn x unit) is
           ∙ sym (ap (λ (o : Option Insn). suits_at (insns_in uses) o unit) here);
     }
 

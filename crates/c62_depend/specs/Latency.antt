@@ -1,11 +1,13 @@
--- The greatest of the bounds from one instruction to another, case by case.
+-- The greatest of the bounds from one instruction to another: that of each of the six cases, and of all (docs/MACHINE.md,
+-- "Dependences"; SPRU189, "Delay Slots").
 use Rattle.std.specs.Int.{int_max}
-use Rattle.std.specs.Prelude.{ℕ, ◌+◌, nat_lt, slice_get, ℤ, pos, ◌-ℤ◌, ◌&&◌, ◌||◌, if◌then◌else◌, List, Option, Some, None, fold}
+use Rattle.std.specs.Prelude.{ℕ, ◌+◌, nat_lt, slice_get, ℤ, pos, ◌-ℤ◌, Bool, not, ◌&&◌, ◌||◌, if◌then◌else◌, List, Option, Some, None, fold}
 use Rattle.c62_insn.specs.declared.register.Reg.{Reg}
 use Rattle.c62_insn.specs.declared.insn.Insn.{Insn}
 use Rattle.c62_insn.specs.Takes.{same_reg}
 use Rattle.c62_insn.specs.Shape.{delay_of, is_load, is_store, is_branch}
 use Rattle.c62_insn.specs.Insn.{op_of, register_writes, reads_register}
+use Rattle.c62_insn.specs.Dependence.{are_exclusive, are_disjoint}
 
 abbrev pub greater : Option ℤ → Option ℤ → Option ℤ
 greater None b = b
@@ -16,44 +18,53 @@ greater (Some x) (Some y) = Some (int_max x y)
 abbrev pub greatest_by : {X : Type 0} → (X → Option ℤ) → List X → Option ℤ
 greatest_by f xs = fold (λ a x. greater a (f x)) None xs
 
--- q reads what this write of an earlier instruction writes
-abbrev pub read_after : Insn → Reg × ℕ → Option ℤ
-read_after q w = if reads_register q w.0 then Some (pos (w.1 + 1)) else None
+-- 1: q reads what a write of the earlier p writes
+abbrev pub awaits : Insn → Reg × ℕ → Option ℤ
+awaits q w = if reads_register q w.0 then Some (pos (w.1 + 1)) else None
 
--- p reads what this write of a later instruction writes
-abbrev pub write_after_read : Insn → Reg × ℕ → Option ℤ
-write_after_read p w = if reads_register p w.0 then Some (pos 0 -ℤ pos w.1) else None
+abbrev pub read_after_write : Insn → Insn → Option ℤ
+read_after_write p q = greatest_by (awaits q) (register_writes p)
 
--- two writes of one register
-abbrev pub write_after : Reg × ℕ → Reg × ℕ → Option ℤ
-write_after v w = if same_reg v.0 w.0 then Some (pos (v.1 + 1) -ℤ pos w.1) else None
+-- 2: p reads what a write of the later q writes
+abbrev pub spares : Insn → Reg × ℕ → Option ℤ
+spares p w = if reads_register p w.0 then Some (pos 0 -ℤ pos w.1) else None
 
-abbrev pub access_after : Insn → Insn → Option ℤ
-access_after p q =
-    if is_store (op_of p) && (is_load (op_of q) || is_store (op_of q)) then Some (pos 1)
-    else if is_load (op_of p) && is_store (op_of q) then Some (pos 0)
-    else None
+abbrev pub write_after_read : Insn → Insn → Option ℤ
+write_after_read p q = greatest_by (spares p) (register_writes q)
 
-abbrev pub branch_after : Insn → Insn → Option ℤ
-branch_after p q = if is_branch (op_of q) then Some (pos (delay_of (op_of p)) -ℤ pos 5) else None
+-- 3: both write one register, and are not exclusive
+abbrev pub overwrites : Reg × ℕ → Reg × ℕ → Option ℤ
+overwrites v w = if same_reg v.0 w.0 then Some (pos (v.1 + 1) -ℤ pos w.1) else None
 
-abbrev pub reads_after : Insn → Insn → Option ℤ
-reads_after p q = greatest_by (read_after q) (register_writes p)
+abbrev pub write_after_write : Bool → Insn → Insn → Option ℤ
+write_after_write exclusive p q = if exclusive then None else greatest_by (λ v. greatest_by (overwrites v) (register_writes q)) (register_writes p)
 
-abbrev pub writes_after_reads : Insn → Insn → Option ℤ
-writes_after_reads p q = greatest_by (write_after_read p) (register_writes q)
+-- 4: an access comes after a store, and the two are not disjoint
+abbrev pub access_after_store : Bool → Insn → Insn → Option ℤ
+access_after_store disjoint p q = if not disjoint && (is_store (op_of p) && (is_load (op_of q) || is_store (op_of q))) then Some (pos 1) else None
 
-abbrev pub writes_after : Insn → Insn → Option ℤ
-writes_after p q = greatest_by (λ v. greatest_by (write_after v) (register_writes q)) (register_writes p)
+-- 5: a store comes after a load, and the two are not disjoint
+abbrev pub store_after_load : Bool → Insn → Insn → Option ℤ
+store_after_load disjoint p q = if not disjoint && (is_load (op_of p) && is_store (op_of q)) then Some (pos 0) else None
 
-unfoldable pub latency_of : Insn → Insn → Option ℤ
-latency_of p q =
-    greater (greater (greater (reads_after p q) (writes_after_reads p q)) (greater (writes_after p q) (access_after p q))) (branch_after p q)
+-- 6: q is the branch
+abbrev pub before_branch : Insn → Insn → Option ℤ
+before_branch p q = if is_branch (op_of q) then Some (pos (delay_of (op_of p)) -ℤ pos 5) else None
 
-abbrev pub between : Option Insn → Option Insn → Option ℤ
-between (Some p) (Some q) = latency_of p q
-between _ _ = None
+-- the cases of registers, and the others
+unfoldable pub by_registers : Bool → Insn → Insn → Option ℤ
+by_registers exclusive p q = greater (read_after_write p q) (greater (write_after_read p q) (write_after_write exclusive p q))
+
+abbrev pub by_order : Bool → Insn → Insn → Option ℤ
+by_order disjoint p q = greater (access_after_store disjoint p q) (greater (store_after_load disjoint p q) (before_branch p q))
+
+abbrev pub latency_of : Bool → Bool → Insn → Insn → Option ℤ
+latency_of exclusive disjoint p q = greater (by_registers exclusive p q) (by_order disjoint p q)
+
+abbrev pub between : Bool → Bool → Option Insn → Option Insn → Option ℤ
+between exclusive disjoint (Some p) (Some q) = latency_of exclusive disjoint p q
+between exclusive disjoint _ _ = None
 
 -- the latency from number i of a block to number j: none where i doesn't stand before j or no case applies
 unfoldable pub latency : List Insn → ℕ → ℕ → Option ℤ
-latency block i j = if nat_lt i j then between (slice_get block i) (slice_get block j) else None
+latency block i j = if nat_lt i j then between (are_exclusive block i j) (are_disjoint block i j) (slice_get block i) (slice_get block j) else None

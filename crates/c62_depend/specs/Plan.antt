@@ -1,8 +1,10 @@
 -- What always holds of the plan of a block.
-use Rattle.std.specs.Prelude.{◌≡◌, ℕ, ◌*◌, ◌<◌, ◌≤◌, ℤ, pos, negsuc, ◌≤ℤ◌, List, length, map, Some, IsTrue}
+use Rattle.std.specs.Prelude.{◌≡◌, ℕ, ◌+◌, ◌*◌, ◌<◌, ◌≤◌, ℤ, pos, negsuc, ◌≤ℤ◌, List, length, map, Some, slice_get, IsTrue}
 use Rattle.std.specs.List.{range_with_len}
 use Rattle.c62_insn.specs.declared.register.Unit.{Unit as FunctionalUnit}
 use Rattle.c62_insn.specs.declared.insn.Insn.{Insn}
+use Rattle.c62_insn.specs.Shape.{is_branch}
+use Rattle.c62_insn.specs.Insn.{op_of}
 use Rattle.c62_read.specs.declared.block.SerialInsn.{SerialInsn}
 use Rattle.c62_read.specs.Block.{Serial}
 use Rattle.c62_depend.specs.declared.tables.Tables.{Tables}
@@ -30,6 +32,8 @@ pub record IsShort (block : List Insn) (i j : ℕ) (latency : ℤ) : Type 0 wher
 
 pub record IsPlan (block : List Insn) : Type 0 where
   pub few : length block ≤ 256
+  -- a branch stands only as the last
+  pub branch : (i : ℕ) (insn : Insn) → slice_get block i ≡ Some insn → IsTrue (is_branch (op_of insn)) → i + 1 ≡ length block
   -- an instruction depends on earlier ones alone, by a latency of -5 to 5
   pub short : (i j : ℕ) (cycles : ℤ) → latency block i j ≡ Some cycles → IsShort block i j cycles
   -- a height is at most five cycles for each instruction

@@ -1,12 +1,13 @@
 -- The side and the units of an instruction (docs/SCHEDULING.md, "Words").
-use Rattle.std.specs.Prelude.{ℕ, Bool, true, false, ◌&&◌, nat_lt, if◌then◌else◌, List, Option, Some, None, count_by, slice_get}
+use Rattle.std.specs.Prelude.{ℕ, Bool, false, ◌&&◌, nat_lt, if◌then◌else◌, List, Option, Some, None, count_by, slice_get}
 use Rattle.c62_insn.specs.declared.register.Side.{Side}
 use Rattle.c62_insn.specs.declared.register.Side.TheVariants.{A, B}
 use Rattle.c62_insn.specs.declared.register.Unit.{Unit as FunctionalUnit}
 use Rattle.c62_insn.specs.declared.insn.Insn.{Insn}
-use Rattle.c62_insn.specs.Takes.{same_side, same_unit, takes}
-use Rattle.c62_insn.specs.Fault.{side_of}
-use Rattle.c62_insn.specs.Insn.{op_of, operands_of, unit_of}
+use Rattle.c62_insn.specs.Takes.{same_side}
+use Rattle.c62_insn.specs.Shape.{side_of}
+use Rattle.c62_insn.specs.Insn.{operands_of, unit_of}
+use Rattle.c62_insn.specs.Stands.{may_stand}
 
 abbrev pub is_side : Side → Option Side → Bool
 is_side side None = false
@@ -29,13 +30,9 @@ side_or side (Some decided) = decided
 abbrev pub side_in : List Insn → Insn → Side
 side_in block insn = side_or (branch_side block (unit_of insn)) (side_of (operands_of insn))
 
-abbrev pub is_written : FunctionalUnit → Option FunctionalUnit → Bool
-is_written unit None = true
-is_written unit (Some written) = same_unit written unit
-
--- whether an instruction may stand on the unit: it takes the instruction, lies on its side, and is the written one where one is written
+-- whether an instruction may stand on the unit as one of the block: the unit lies on its side
 abbrev pub suits : List Insn → Insn → FunctionalUnit → Bool
-suits block insn unit = takes (op_of insn) (operands_of insn) unit && (same_side unit.side (side_in block insn) && is_written unit (unit_of insn))
+suits block insn unit = same_side unit.side (side_in block insn) && may_stand insn unit
 
 abbrev pub side_at : List Insn → Option Insn → Side
 side_at block None = B

@@ -63,9 +63,9 @@ impl Plan {
         &self.block
     }
 
-    /// How many instructions there are: at most 256. By this call a caller learns what holds of every plan: latencies go
-    /// from a lower number to a higher one and are -5 to 5; a height is at most five cycles for each instruction; each
-    /// instruction has a unit, and only units of its side.
+    /// How many instructions there are: at most 256. By this call a caller learns what holds of every plan: a branch stands
+    /// only as the last; latencies go from a lower number to a higher one and are -5 to 5; a height is at most five
+    /// cycles for each instruction; each instruction has a unit, and only units of its side.
     pub fn len(&self) -> u16
         ensures len { result ≡ length self.now.insns }
         ensures sound { IsPlan (insns_of self.now) }

@@ -1,10 +1,10 @@
 //! Sets of registers.
 
-ghost use Rattle.std.specs.Prelude.{◌≡◌, ℕ, ◌+◌, ◌<◌, ◌^◌, ◌||◌, false};
+ghost use Rattle.std.specs.Prelude.{◌≡◌, ◌<◌, ◌^◌, ◌||◌, false};
 ghost use Rattle.c62_insn.specs.declared.register.Reg.{Reg as Register};
 ghost use Rattle.c62_insn.specs.Takes.{same_reg};
 
-use c62_insn::{Reg, Side};
+use c62_insn::Reg;
 
 /// A set of registers.
 #[derive(Clone, Copy)]
@@ -14,18 +14,7 @@ pub(crate) struct RegSet {
 }
 
 impl RegSet {
-    ghost use Rattle.c62_depend.specs.RegSet.{place_of, reg_in, shares};
-
-    /// The place of a register in A0 to A15, B0 to B15.
-    fn place(reg: Reg) -> u32
-        ensures place { result ≡ place_of reg }
-        ensures within { result < 32 }
-    {
-        match reg.side {
-            Side::A => u32::from(reg.number),
-            Side::B => 16 + u32::from(reg.number),
-        }
-    }
+    ghost use Rattle.c62_depend.specs.RegSet.{reg_in, shares};
 
     /// The set without registers.
     pub fn new() -> RegSet
@@ -39,7 +28,7 @@ impl RegSet {
         ensures { (other : Register) → reg_in result other ≡ (reg_in self other || same_reg reg other) }
     {
         RegSet {
-            bits: self.bits | 1 << RegSet::place(reg),
+            bits: self.bits | 1 << reg.index(),
         }
     }
 

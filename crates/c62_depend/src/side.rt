@@ -2,40 +2,24 @@
 
 ghost use Rattle.std.specs.Prelude.{◌≡◌, ◌&&◌, ◌<◌, length, IfOk};
 ghost use Rattle.c62_insn.specs.declared.register.Unit.{Unit as FunctionalUnit};
-ghost use Rattle.c62_insn.specs.Fault.{side_of};
+ghost use Rattle.c62_insn.specs.Shape.{side_of};
 ghost use Rattle.c62_insn.specs.Takes.{same_side};
 ghost use Rattle.c62_insn.specs.Insn.{operands_of};
 ghost use Rattle.c62_insn.specs.Units.{unit_in};
+ghost use Rattle.c62_insn.specs.Stands.{may_stand};
 ghost use Rattle.c62_depend.specs.Uses.{insns_in};
-ghost use Rattle.c62_depend.specs.Side.{is_side, count_on, branch_side, side_in, is_written};
+ghost use Rattle.c62_depend.specs.Side.{is_side, count_on, branch_side, side_in};
 ghost use Rattle.c62_depend.specs.Places.{IsPlace, ArePlaces};
 
 use crate::uses::Uses;
 use bitflags::Flags;
-use c62_insn::{Insn, Operands, Side, Unit, UnitSet};
+use c62_insn::{Insn, Side, Unit, UnitSet};
 use std::alloc::{AllocError, Global};
-
-/// The side of an instruction where its operands decide it: not that of a branch to a block.
-fn side_of(operands: Operands) -> Option<Side>
-    ensures { result ≡ side_of operands }
-{
-    match operands {
-        Operands::Three(_, _, d)
-        | Operands::ConstantFirst(_, _, d)
-        | Operands::ConstantSecond(_, _, d)
-        | Operands::Two(_, d)
-        | Operands::Field(_, _, _, d)
-        | Operands::Constant(_, d) => Some(d.side),
-        Operands::Access(_, base, _, _) => Some(base.side),
-        Operands::Block(_) => None,
-        Operands::Register(_) => Some(Side::B),
-    }
-}
 
 fn is_on(uses: &Uses, side: Side) -> bool
     ensures { result ≡ is_side side (side_of (operands_of uses.now.insn)) }
 {
-    match side_of(uses.insn.operands()) {
+    match uses.insn.operands().side() {
         Some(other) => other == side,
         None => false,
     }
@@ -68,34 +52,25 @@ fn branch_side(uses: &[Uses], unit: Option<Unit>) -> Side
 fn side(uses: &[Uses], insn: Insn) -> Side
     ensures { result ≡ side_in (insns_in uses.now) insn }
 {
-    match side_of(insn.operands()) {
+    match insn.operands().side() {
         Some(side) => side,
         None => branch_side(uses, insn.unit()),
     }
 }
 
-fn is_written(unit: Unit, written: Option<Unit>) -> bool
-    ensures { result ≡ is_written unit written }
+/// Whether an instruction of this side may stand on a unit.
+fn suits(insn: Insn, side: Side, unit: Unit) -> bool
+    ensures { result ≡ (same_side unit.side side && may_stand insn unit) }
 {
-    match written {
-        Some(written) => written == unit,
-        None => true,
-    }
+    unit.side == side && insn.may_stand(unit)
 }
 
-/// Whether a unit is among those that take an instruction, on the instruction's side, and the written one where one is.
-fn may_stand(taken: UnitSet, side: Side, written: Option<Unit>, unit: Unit) -> bool
-    ensures { result ≡ (unit_in taken unit && (same_side unit.side side && is_written unit written)) }
-{
-    taken.has(unit) && (unit.side == side && is_written(unit, written))
-}
-
-fn units_among(taken: UnitSet, side: Side, written: Option<Unit>) -> UnitSet
-    ensures { (unit : FunctionalUnit) → unit_in result unit ≡ (unit_in taken unit && (same_side unit.side side && is_written unit written)) }
+fn units_on(insn: Insn, side: Side) -> UnitSet
+    ensures { (unit : FunctionalUnit) → unit_in result unit ≡ (same_side unit.side side && may_stand insn unit) }
 {
     let mut units = UnitSet::empty();
     for unit in Unit::ALL {
-        if may_stand(taken, side, written, unit) {
+        if suits(insn, side, unit) {
             units = units.with(unit);
         }
     }
@@ -119,7 +94,7 @@ impl Place {
         let side = side(uses, insn);
         Place {
             side,
-            units: units_among(insn.units(), side, insn.unit()),
+            units: units_on(insn, side),
         }
     }
 }

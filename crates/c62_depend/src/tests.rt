@@ -8,13 +8,16 @@ use std::process::Abort;
 use std::test::Fail;
 
 /// A text, all its dependences as `earlier>later:latency`, and its heights.
-const LATENCIES: [(&str, &str, &str); 16] = [
+const LATENCIES: [(&str, &str, &str); 19] = [
     (
         "MVK 3,A1\nADD A5,A1,A2\nLDW *A4,A5",
         "0>1:1 1>2:-4 ",
         "1 0 4 ",
     ),
+    ("LDW *A4,A5\nADD A5,A5,A6", "0>1:5 ", "5 0 "),
+    ("ADD A5,A1,A2\nLDW *A4,A5", "0>1:-4 ", "0 4 "),
     ("LDW *A4,A5\nMVK 1,A5", "0>1:5 ", "5 0 "),
+    ("LDW *A4,A5\nSTW B1,*B4", "0>1:0 ", "4 0 "),
     (
         "L1:\nMVK 0,A0\nMVK 1,A1\nMVK 2,A2\nMVK 3,A3\nMVK 4,A4\nMVK 5,A5\nMVK 6,A6\nMVK 7,A7\nB L1",
         "0>8:-5 1>8:-5 2>8:-5 3>8:-5 4>8:-5 5>8:-5 6>8:-5 7>8:-5 ",
@@ -219,5 +222,8 @@ fn a_full_block(rt: HostRuntime) -> Result<(), Fail> {
     assert_eq!(rt; plan.followers(0).len(), 255);
     assert!(rt; plan.side(9) == Side::A);
     assert_eq!(rt; plan.block().insns()[9].line, 10);
+    let copy = plan.copy(rt.alloc())?;
+    assert!(rt; copy.same(&plan));
+    assert_eq!(rt; copy.needs(255).len(), 255);
     Ok(())
 }

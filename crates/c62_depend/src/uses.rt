@@ -22,8 +22,6 @@ pub(crate) struct Uses {
     pub at_once: RegSet,
     /// The registers that are written with the delay of the instruction.
     pub results: RegSet,
-    /// The registers that are read, or written with no delay.
-    pub touched: RegSet,
     /// The registers that are written.
     pub written: RegSet,
     /// The registers that are read or written.
@@ -35,7 +33,6 @@ pub(crate) struct Uses {
     pub ghost reads_are: { (reg : Register) → reg_in reads reg ≡ reads_register insn reg },
     pub ghost at_once_are: { (reg : Register) → reg_in at_once reg ≡ writes_with insn 0 reg },
     pub ghost results_are: { (reg : Register) → reg_in results reg ≡ writes_with insn (delay_of (op_of insn)) reg },
-    pub ghost touched_are: { (reg : Register) → reg_in touched reg ≡ (reg_in reads reg || reg_in at_once reg) },
     pub ghost written_are: { (reg : Register) → reg_in written reg ≡ (reg_in at_once reg || reg_in results reg) },
     pub ghost used_are: { (reg : Register) → reg_in used reg ≡ (reg_in reads reg || reg_in written reg) },
     pub ghost delay_is: { delay ≡ delay_of (op_of insn) },
@@ -106,7 +103,6 @@ impl Uses {
             reads,
             at_once,
             results,
-            touched: reads.joined(at_once),
             written,
             used: reads.joined(written),
             delay,

@@ -9,7 +9,8 @@ use Rattle.c62_insn.specs.declared.operands.Op.{Op}
 use Rattle.c62_insn.specs.declared.operands.Operands.{Operands}
 use Rattle.c62_insn.specs.declared.fault.FormFault.TheVariants.{NoUnit, ConstantRange, TwoCrossed, BadSide, BadCondition}
 use Rattle.c62_insn.specs.Takes.{takes}
-use Rattle.c62_insn.specs.Fault.{form_fault, bad_condition, constant_out_of_range, two_crossed, bad_side, no_unit, all_units}
+use Rattle.c62_insn.specs.Fault.{form_fault, bad_condition, constant_out_of_range, two_crossed, bad_side, no_unit}
+use Rattle.c62_insn.specs.Units.{all_units}
 
 -- none of the five tests holds
 pub record IsFaultless (op : Op) (operands : Operands) (cond : Option Condition) (unit : Option FunctionalUnit) : Type 0 where

@@ -16,21 +16,21 @@ use Rattle.c62_insn.specs.declared.operands.Offset.{Offset}
 use Rattle.c62_insn.specs.declared.operands.Offset.TheVariants.{Constant as ByConstant, Register as ByRegister}
 use Rattle.c62_insn.specs.declared.operands.Operands.{Operands}
 use Rattle.c62_insn.specs.declared.operands.Operands.TheVariants.{Three, ConstantFirst, ConstantSecond, Two, Field, Constant, Access, Block, Register}
-use Rattle.c62_insn.specs.declared.form.Place.{Place}
-use Rattle.c62_insn.specs.declared.form.Place.TheVariants.{Own, Crossing}
+use Rattle.c62_insn.specs.declared.form.Reach.{Reach}
+use Rattle.c62_insn.specs.declared.form.Reach.TheVariants.{Own, Crossing}
 use Rattle.c62_insn.specs.declared.form.Range.{Range}
 use Rattle.c62_insn.specs.declared.form.Pattern.{Pattern}
-use Rattle.c62_insn.specs.declared.form.Pattern.TheVariants.{Three as three, ConstantFirst as constant_first, ConstantSecond as constant_second, Two as two, Field as field, Constant as constant, Access as access, Block as block, Register as register}
+use Rattle.c62_insn.specs.declared.form.Pattern.TheVariants.{TwoSources, ConstantSource, SourceConstant, OneSource, SourceField, ConstantAlone, Address, ToBlock, ToRegister}
 use Rattle.c62_insn.specs.declared.form.Form.{Form}
 use Rattle.c62_insn.specs.Table.{forms_of}
-use Rattle.c62_insn.specs.Takes.{same_side, same_letter, may_lie, in_range, same_kind, holds_constants, lie_well, takes, has_letter}
+use Rattle.c62_insn.specs.Takes.{same_side, same_letter, may_lie, in_range, same_kind, holds_constants, registers_fit, takes, has_letter}
 use Rattle.c62_insn.specs.Shape.{crosses_to}
 use Rattle.c62_insn.specs.Fault.{has_kind}
 use Rattle.c62_insn.proofs.Registers.{same_letter-is}
 
 -- ---- tests of forms
 
-abbrev is_own : Place → Bool
+abbrev is_own : Reach → Bool
 is_own Own = true
 is_own Crossing = false
 
@@ -55,15 +55,15 @@ is_within range = int_le (negsuc 32767) range.low && int_le range.high (pos 6553
 
 -- what each form keeps: on .D nothing crosses, and only ADD has a constant first
 abbrev keeps : Op → Letter → Pattern → Bool
-keeps op letter (three first second) = (is_own first || lets_first_cross op) && (not (same_letter letter D) || is_own first && is_own second)
-keeps op letter (constant_first range place) = is_within range && (not (same_letter letter D) || is_own place && is_add op)
-keeps op letter (constant_second place range) = is_within range && (not (same_letter letter D) || is_own place)
-keeps op letter (two place) = not (same_letter letter D) || is_own place
-keeps op letter (field range) = is_within range
-keeps op letter (constant range) = is_within range
-keeps op letter (access range) = same_letter letter D && is_within range
-keeps op letter block = true
-keeps op letter register = true
+keeps op letter (TwoSources first second) = (is_own first || lets_first_cross op) && (not (same_letter letter D) || is_own first && is_own second)
+keeps op letter (ConstantSource range place) = is_within range && (not (same_letter letter D) || is_own place && is_add op)
+keeps op letter (SourceConstant place range) = is_within range && (not (same_letter letter D) || is_own place)
+keeps op letter (OneSource place) = not (same_letter letter D) || is_own place
+keeps op letter (SourceField range) = is_within range
+keeps op letter (ConstantAlone range) = is_within range
+keeps op letter (Address range) = same_letter letter D && is_within range
+keeps op letter ToBlock = true
+keeps op letter ToRegister = true
 
 all_keep : (op : Op) → list_all (λ form. keeps op form.letter form.pattern) (forms_of op) ≡ true
 all_keep Add = refl
@@ -74,18 +74,18 @@ all_keep _ = refl
 record IsTaken (op : Op) (operands : Operands) (unit : FunctionalUnit) : Type 0 where
   pub pattern : Pattern
   pub holds : holds_constants pattern operands ≡ true
-  pub lies : lie_well pattern unit.side operands ≡ true
+  pub lies : registers_fit pattern unit.side operands ≡ true
   pub kept : keeps op unit.letter pattern ≡ true
 
 one_form : (op : Op) (operands : Operands) (unit : FunctionalUnit) (forms : List Form)
-    → list_any (λ form. holds_constants form.pattern operands && same_letter form.letter unit.letter && lie_well form.pattern unit.side operands) forms ≡ true
+    → list_any (λ form. holds_constants form.pattern operands && same_letter form.letter unit.letter && registers_fit form.pattern unit.side operands) forms ≡ true
     → list_all (λ form. keeps op form.letter form.pattern) forms ≡ true → IsTaken op operands unit
 one_form op operands unit [] any all = absurd cc
 one_form op operands unit (form ∷ forms) any all =
     let kept = and_parts (keeps op form.letter form.pattern) (list_all (λ (f : Form). keeps op f.letter f.pattern) forms) all in
-    elim (or_cases (holds_constants form.pattern operands && same_letter form.letter unit.letter && lie_well form.pattern unit.side operands) _ any) [
+    elim (or_cases (holds_constants form.pattern operands && same_letter form.letter unit.letter && registers_fit form.pattern unit.side operands) _ any) [
       | inl here ↦
-          let first = and_parts (holds_constants form.pattern operands && same_letter form.letter unit.letter) (lie_well form.pattern unit.side operands) here in
+          let first = and_parts (holds_constants form.pattern operands && same_letter form.letter unit.letter) (registers_fit form.pattern unit.side operands) here in
           let both = and_parts (holds_constants form.pattern operands) (same_letter form.letter unit.letter) first.0 in
           record {
             pattern = form.pattern;
@@ -110,12 +110,12 @@ one_side B A A h e = cc
 one_side B A B h e = cc
 
 own_first : (op : Op) (pattern : Pattern) (unit : FunctionalUnit) (a b d : Reg)
-    → holds_constants pattern (Three a b d) ≡ true → lie_well pattern unit.side (Three a b d) ≡ true → keeps op unit.letter pattern ≡ true → lets_first_cross op ≡ false
+    → holds_constants pattern (Three a b d) ≡ true → registers_fit pattern unit.side (Three a b d) ≡ true → keeps op unit.letter pattern ≡ true → lets_first_cross op ≡ false
     → same_side a.side d.side ≡ true
-own_first op (three Own second) unit a b d holds lies kept fixed =
+own_first op (TwoSources Own second) unit a b d holds lies kept fixed =
     let parts = and_parts (same_side a.side unit.side && may_lie second unit.side b) (same_side d.side unit.side) lies in
     one_side a.side d.side unit.side (and_parts (same_side a.side unit.side) (may_lie second unit.side b) parts.0).0 parts.1
-own_first op (three Crossing second) unit a b d holds lies kept fixed =
+own_first op (TwoSources Crossing second) unit a b d holds lies kept fixed =
     absurd (both_ways (lets_first_cross op) fixed (and_parts (lets_first_cross op) _ kept).0)
 own_first op _ unit a b d holds lies kept fixed = absurd cc
 
@@ -127,30 +127,30 @@ first_in_file op unit a b d taking fixed =
 at_d : (letter : Letter) (x : Bool) → same_letter letter D ≡ true → (not (same_letter letter D) || x) ≡ true → x ≡ true
 at_d letter x is_d or = rw is_d at or
 
-own_place : (place : Place) (side : Side) (reg : Reg) → is_own place ≡ true → may_lie place side reg ≡ true → not (same_side reg.side side) ≡ false
+own_place : (place : Reach) (side : Side) (reg : Reg) → is_own place ≡ true → may_lie place side reg ≡ true → not (same_side reg.side side) ≡ false
 own_place Own side reg own lies = not_from_true (same_side reg.side side) lies
 own_place Crossing side reg own lies = absurd cc
 
 none_crosses : (op : Op) (pattern : Pattern) (unit : FunctionalUnit) (operands : Operands)
-    → holds_constants pattern operands ≡ true → lie_well pattern unit.side operands ≡ true → keeps op unit.letter pattern ≡ true → same_letter unit.letter D ≡ true
+    → holds_constants pattern operands ≡ true → registers_fit pattern unit.side operands ≡ true → keeps op unit.letter pattern ≡ true → same_letter unit.letter D ≡ true
     → crosses_to unit.side operands ≡ false
-none_crosses op (three first second) unit (Three a b d) holds lies kept is_d =
+none_crosses op (TwoSources first second) unit (Three a b d) holds lies kept is_d =
     let places = at_d unit.letter (is_own first && is_own second) is_d (and_parts (is_own first || lets_first_cross op) _ kept).1 in
     let own = and_parts (is_own first) (is_own second) places in
     let both = and_parts (may_lie first unit.side a) (may_lie second unit.side b) (and_parts (may_lie first unit.side a && may_lie second unit.side b) (same_side d.side unit.side) lies).0 in
     or_from _ _ (own_place first unit.side a own.0 both.0) (own_place second unit.side b own.1 both.1)
-none_crosses op (constant_first range place) unit (ConstantFirst k a d) holds lies kept is_d =
+none_crosses op (ConstantSource range place) unit (ConstantFirst k a d) holds lies kept is_d =
     let places = at_d unit.letter (is_own place && is_add op) is_d (and_parts (is_within range) _ kept).1 in
     own_place place unit.side a (and_parts (is_own place) (is_add op) places).0 (and_parts (may_lie place unit.side a) (same_side d.side unit.side) lies).0
-none_crosses op (constant_second place range) unit (ConstantSecond a k d) holds lies kept is_d =
+none_crosses op (SourceConstant place range) unit (ConstantSecond a k d) holds lies kept is_d =
     own_place place unit.side a (at_d unit.letter (is_own place) is_d (and_parts (is_within range) _ kept).1) (and_parts (may_lie place unit.side a) (same_side d.side unit.side) lies).0
-none_crosses op (two place) unit (Two a d) holds lies kept is_d =
+none_crosses op (OneSource place) unit (Two a d) holds lies kept is_d =
     own_place place unit.side a (at_d unit.letter (is_own place) is_d kept) (and_parts (may_lie place unit.side a) (same_side d.side unit.side) lies).0
-none_crosses op (field range) unit (Field a k m d) holds lies kept is_d = not_from_true _ (and_parts (same_side a.side unit.side) (same_side d.side unit.side) lies).0
-none_crosses op (constant range) unit (Constant k d) holds lies kept is_d = refl
-none_crosses op (access range) unit (Access reg base form offset) holds lies kept is_d = refl
-none_crosses op block unit (Block number) holds lies kept is_d = refl
-none_crosses op register unit (Register target) holds lies kept is_d = refl
+none_crosses op (SourceField range) unit (Field a k m d) holds lies kept is_d = not_from_true _ (and_parts (same_side a.side unit.side) (same_side d.side unit.side) lies).0
+none_crosses op (ConstantAlone range) unit (Constant k d) holds lies kept is_d = refl
+none_crosses op (Address range) unit (Access reg base form offset) holds lies kept is_d = refl
+none_crosses op ToBlock unit (Block number) holds lies kept is_d = refl
+none_crosses op ToRegister unit (Register target) holds lies kept is_d = refl
 none_crosses op _ unit _ holds lies kept is_d = absurd cc
 
 -- nothing crosses to .D
@@ -160,7 +160,7 @@ uncrossed_on_d op operands unit taking is_d =
 
 add_alone : (op : Op) (pattern : Pattern) (letter : Letter) (k : ℤ) (a d : Reg)
     → holds_constants pattern (ConstantFirst k a d) ≡ true → keeps op letter pattern ≡ true → same_letter letter D ≡ true → is_add op ≡ true
-add_alone op (constant_first range place) letter k a d holds kept is_d =
+add_alone op (ConstantSource range place) letter k a d holds kept is_d =
     (and_parts (is_own place) (is_add op) (at_d letter (is_own place && is_add op) is_d (and_parts (is_within range) _ kept).1)).1
 add_alone op _ letter k a d holds kept is_d = absurd cc
 
@@ -171,7 +171,7 @@ constant_on_d op unit k a d taking is_d =
 
 access_letter : (op : Op) (pattern : Pattern) (letter : Letter) (reg base : Reg) (form : AddressForm) (offset : Offset)
     → holds_constants pattern (Access reg base form offset) ≡ true → keeps op letter pattern ≡ true → same_letter letter D ≡ true
-access_letter op (access range) letter reg base form offset holds kept = (and_parts (same_letter letter D) (is_within range) kept).0
+access_letter op (Address range) letter reg base form offset holds kept = (and_parts (same_letter letter D) (is_within range) kept).0
 access_letter op _ letter reg base form offset holds kept = absurd cc
 
 -- loads and stores stand on .D
@@ -213,13 +213,13 @@ narrow_one range k within inside = and_from (is_narrow k) true (narrow_in range 
 
 all_narrow : (op : Op) (pattern : Pattern) (letter : Letter) (operands : Operands)
     → holds_constants pattern operands ≡ true → keeps op letter pattern ≡ true → list_all is_narrow (constants_of operands) ≡ true
-all_narrow op (constant_first range place) letter (ConstantFirst k a d) holds kept = narrow_one range k (and_parts (is_within range) _ kept).0 holds
-all_narrow op (constant_second place range) letter (ConstantSecond a k d) holds kept = narrow_one range k (and_parts (is_within range) _ kept).0 holds
-all_narrow op (field range) letter (Field a k m d) holds kept =
+all_narrow op (ConstantSource range place) letter (ConstantFirst k a d) holds kept = narrow_one range k (and_parts (is_within range) _ kept).0 holds
+all_narrow op (SourceConstant place range) letter (ConstantSecond a k d) holds kept = narrow_one range k (and_parts (is_within range) _ kept).0 holds
+all_narrow op (SourceField range) letter (Field a k m d) holds kept =
     let both = and_parts (in_range range k) (in_range range m) holds in
     and_from (is_narrow k) (list_all is_narrow (m ∷ [])) (narrow_in range k kept both.0) (narrow_one range m kept both.1)
-all_narrow op (constant range) letter (Constant k d) holds kept = narrow_one range k kept holds
-all_narrow op (access range) letter (Access reg base form (ByConstant k)) holds kept = narrow_one range k (and_parts (same_letter letter D) (is_within range) kept).1 holds
+all_narrow op (ConstantAlone range) letter (Constant k d) holds kept = narrow_one range k kept holds
+all_narrow op (Address range) letter (Access reg base form (ByConstant k)) holds kept = narrow_one range k (and_parts (same_letter letter D) (is_within range) kept).1 holds
 all_narrow op pattern letter (Access reg base form (ByRegister offset)) holds kept = refl
 all_narrow op pattern letter (Three a b d) holds kept = refl
 all_narrow op pattern letter (Two a d) holds kept = refl
@@ -244,22 +244,22 @@ any_weaker p q (form ∷ forms) weaker any =
 
 pub taken_letter : (op : Op) (operands : Operands) (unit : FunctionalUnit) → takes op operands unit ≡ true → has_letter op unit.letter ≡ true
 taken_letter op operands unit taking =
-    any_weaker (λ form. holds_constants form.pattern operands && same_letter form.letter unit.letter && lie_well form.pattern unit.side operands)
+    any_weaker (λ form. holds_constants form.pattern operands && same_letter form.letter unit.letter && registers_fit form.pattern unit.side operands)
     (λ form. same_letter form.letter unit.letter) (forms_of op)
     (λ form here. (and_parts (holds_constants form.pattern operands) (same_letter form.letter unit.letter)
-    (and_parts (holds_constants form.pattern operands && same_letter form.letter unit.letter) (lie_well form.pattern unit.side operands) here).0).1) taking
+    (and_parts (holds_constants form.pattern operands && same_letter form.letter unit.letter) (registers_fit form.pattern unit.side operands) here).0).1) taking
 
 kind_held : (pattern : Pattern) (operands : Operands) → holds_constants pattern operands ≡ true → same_kind pattern operands ≡ true
-kind_held (constant_first range place) (ConstantFirst k a d) holds = refl
-kind_held (constant_second place range) (ConstantSecond a k d) holds = refl
-kind_held (field range) (Field a k m d) holds = refl
-kind_held (constant range) (Constant k d) holds = refl
-kind_held (access range) (Access reg base form offset) holds = refl
+kind_held (ConstantSource range place) (ConstantFirst k a d) holds = refl
+kind_held (SourceConstant place range) (ConstantSecond a k d) holds = refl
+kind_held (SourceField range) (Field a k m d) holds = refl
+kind_held (ConstantAlone range) (Constant k d) holds = refl
+kind_held (Address range) (Access reg base form offset) holds = refl
 kind_held pattern operands holds = holds
 
 pub taken_kind : (op : Op) (operands : Operands) (unit : FunctionalUnit) → takes op operands unit ≡ true → has_kind op operands ≡ true
 taken_kind op operands unit taking =
-    any_weaker (λ form. holds_constants form.pattern operands && same_letter form.letter unit.letter && lie_well form.pattern unit.side operands)
+    any_weaker (λ form. holds_constants form.pattern operands && same_letter form.letter unit.letter && registers_fit form.pattern unit.side operands)
     (λ form. same_kind form.pattern operands) (forms_of op)
     (λ form here. kind_held form.pattern operands (and_parts (holds_constants form.pattern operands) (same_letter form.letter unit.letter)
-    (and_parts (holds_constants form.pattern operands && same_letter form.letter unit.letter) (lie_well form.pattern unit.side operands) here).0).0) taking
+    (and_parts (holds_constants form.pattern operands && same_letter form.letter unit.letter) (registers_fit form.pattern unit.side operands) here).0).0) taking

@@ -1,7 +1,7 @@
 -- What holds of every instruction: the units that take it, its reads and its writes.
 use Rattle.std.proofs.Common.{◌≡◌, ◌≢◌, ℕ, zero, suc, ◌≤◌, arith, Bool, true, false, refl, [], ◌∷◌, ◌++◌, length, Option, Some, None, ◌⊎◌}
-use Rattle.std.specs.Prelude.{if◌then◌else◌, slice_get, Contains, All}
-use Rattle.std.proofs.lemmas.Bool.{both_ways, cond_both, or_parts, or_from, not_from_true}
+use Rattle.std.specs.Prelude.{if◌then◌else◌, slice_get, Contains, All, IsTrue}
+use Rattle.std.proofs.lemmas.Bool.{and_parts, both_ways, cond_both, or_parts, or_from, not_from_true}
 use Rattle.std.proofs.lemmas.List.Elements.{All-nil, All-cons, All-append, All-contains}
 use Rattle.std.proofs.lemmas.List.Sums.{count_by-le-length}
 use Rattle.c62_insn.specs.declared.register.Side.{Side}
@@ -15,9 +15,10 @@ use Rattle.c62_insn.specs.declared.operands.Operands.{Operands}
 use Rattle.c62_insn.specs.declared.operands.Operands.TheVariants.{Three, ConstantFirst, ConstantSecond, Two, Field, Constant, Access, Block, Register}
 use Rattle.c62_insn.specs.declared.insn.Insn.{Insn}
 use Rattle.c62_insn.specs.declared.fault.FormFault.TheVariants.{NoUnit, ConstantRange, TwoCrossed, BadSide, BadCondition}
-use Rattle.c62_insn.specs.Takes.{takes, same_reg}
-use Rattle.c62_insn.specs.Fault.{form_fault, bad_condition, constant_out_of_range, two_crossed, strays, is_other_side, side_of, bad_side, no_unit}
-use Rattle.c62_insn.specs.Shape.{delay_of, is_load, is_store, reads_destination, changes_base, offset_reads, reads_of, writes_of}
+use Rattle.c62_insn.specs.Takes.{takes, same_reg, is_written}
+use Rattle.c62_insn.specs.Fault.{form_fault, bad_condition, constant_out_of_range, two_crossed, has_misplaced, is_other_side, bad_side, no_unit}
+use Rattle.c62_insn.specs.Shape.{side_of, delay_of, is_load, is_store, reads_destination, changes_base, offset_reads, reads_of, writes_of}
+use Rattle.c62_insn.specs.Stands.{may_stand}
 use Rattle.c62_insn.specs.Insn.{op_of, operands_of, cond_of, unit_of, operand_reads, register_writes}
 use Rattle.c62_insn.specs.PacketRules.{reads_count}
 use Rattle.c62_insn.proofs.FaultLemmas.{faultless, some_unit}
@@ -46,10 +47,15 @@ pub faultless_on : (insn : Insn) (u : FunctionalUnit) → takes (op_of insn) (op
     → form_fault (op_of insn) (operands_of insn) (cond_of insn) (Some u) ≡ None
 faultless_on insn u h =
     let f = faultless insn.op insn.operands insn.cond insn.unit insn.well_formed in
-    let own = or_parts (strays insn.op insn.operands) (is_other_side (side_of insn.operands) insn.unit) f.sides in
+    let own = or_parts (has_misplaced insn.op insn.operands) (is_other_side (side_of insn.operands) insn.unit) f.sides in
     no_fault (bad_condition insn.cond) (constant_out_of_range insn.op insn.operands) (two_crossed insn.op insn.operands)
     (bad_side insn.op insn.operands (Some u)) (no_unit insn.op insn.operands (Some u)) f.condition f.constants f.crossing
     (or_from _ _ own.0 (own_side insn.op insn.operands u (side_of insn.operands) h refl)) (not_from_true _ h)
+
+-- nor on any unit on which it may stand
+pub faultless_standing : (insn : Insn) (u : FunctionalUnit) → IsTrue (may_stand insn u)
+    → form_fault (op_of insn) (operands_of insn) (cond_of insn) (Some u) ≡ None
+faultless_standing insn u h = faultless_on insn u (and_parts (is_written (unit_of insn) u) (takes (op_of insn) (operands_of insn) u) h).1
 
 -- operands of a branch
 abbrev is_target : Operands → Bool

@@ -12,10 +12,10 @@ use Rattle.c62_insn.specs.declared.operands.Operands.{Operands}
 use Rattle.c62_insn.specs.declared.operands.Operands.TheVariants.{Three, ConstantFirst, ConstantSecond, Two, Field, Constant, Access, Block, Register}
 use Rattle.c62_insn.specs.declared.form.Form.{Form}
 use Rattle.c62_insn.specs.declared.form.Pattern.{Pattern}
-use Rattle.c62_insn.specs.declared.form.Pattern.TheVariants.{Three as three, ConstantFirst as constant_first, ConstantSecond as constant_second, Two as two, Field as field, Constant as constant, Access as access, Block as block, Register as register}
+use Rattle.c62_insn.specs.declared.form.Pattern.TheVariants.{TwoSources, ConstantSource, SourceConstant, OneSource, SourceField, ConstantAlone, Address, ToBlock, ToRegister}
 use Rattle.c62_insn.specs.Table.{forms_of}
-use Rattle.c62_insn.specs.Takes.{same_side, same_letter, may_lie, offset_on, holds_constants, lie_well, takes}
-use Rattle.c62_insn.specs.Fault.{side_of}
+use Rattle.c62_insn.specs.Takes.{same_side, same_letter, may_lie, offset_on, holds_constants, registers_fit, takes}
+use Rattle.c62_insn.specs.Shape.{side_of}
 
 one_side : (a b : Side) → same_side a b ≡ true → a ≡ b
 one_side A A h = refl
@@ -27,25 +27,25 @@ on_side : (d : Reg) (s side : Side) → same_side d.side s ≡ true → Some d.s
 on_side d s side h e = let same = one_side d.side s h in cc
 
 -- a pattern that lies well on a side has its operands' side there
-well_on_side : (pattern : Pattern) (s : Side) (operands : Operands) (side : Side) → lie_well pattern s operands ≡ true → side_of operands ≡ Some side → s ≡ side
-well_on_side (three p q) s (Three a b d) side h e =
+well_on_side : (pattern : Pattern) (s : Side) (operands : Operands) (side : Side) → registers_fit pattern s operands ≡ true → side_of operands ≡ Some side → s ≡ side
+well_on_side (TwoSources p q) s (Three a b d) side h e =
     on_side d s side (and_parts (may_lie p s a && may_lie q s b) (same_side d.side s) h).1 e
-well_on_side (constant_first range p) s (ConstantFirst k a d) side h e = on_side d s side (and_parts (may_lie p s a) (same_side d.side s) h).1 e
-well_on_side (constant_second p range) s (ConstantSecond a k d) side h e = on_side d s side (and_parts (may_lie p s a) (same_side d.side s) h).1 e
-well_on_side (two p) s (Two a d) side h e = on_side d s side (and_parts (may_lie p s a) (same_side d.side s) h).1 e
-well_on_side (field range) s (Field a k m d) side h e = on_side d s side (and_parts (same_side a.side s) (same_side d.side s) h).1 e
-well_on_side (constant range) s (Constant k d) side h e = on_side d s side h e
-well_on_side (access range) s (Access reg base form offset) side h e = on_side base s side (and_parts (same_side base.side s) (offset_on s offset) h).0 e
-well_on_side block s (Block number) side h e = cc
-well_on_side register s (Register target) side h e = one_side s B (and_parts (same_side s B) (same_side target.side B) h).0 ∙ cc
+well_on_side (ConstantSource range p) s (ConstantFirst k a d) side h e = on_side d s side (and_parts (may_lie p s a) (same_side d.side s) h).1 e
+well_on_side (SourceConstant p range) s (ConstantSecond a k d) side h e = on_side d s side (and_parts (may_lie p s a) (same_side d.side s) h).1 e
+well_on_side (OneSource p) s (Two a d) side h e = on_side d s side (and_parts (may_lie p s a) (same_side d.side s) h).1 e
+well_on_side (SourceField range) s (Field a k m d) side h e = on_side d s side (and_parts (same_side a.side s) (same_side d.side s) h).1 e
+well_on_side (ConstantAlone range) s (Constant k d) side h e = on_side d s side h e
+well_on_side (Address range) s (Access reg base form offset) side h e = on_side base s side (and_parts (same_side base.side s) (offset_on s offset) h).0 e
+well_on_side ToBlock s (Block number) side h e = cc
+well_on_side ToRegister s (Register target) side h e = one_side s B (and_parts (same_side s B) (same_side target.side B) h).0 ∙ cc
 well_on_side _ s _ side h e = cc
 
 form_on_side : (forms : List Form) (operands : Operands) (unit : FunctionalUnit) (side : Side) → side_of operands ≡ Some side
-    → list_any (λ form. holds_constants form.pattern operands && same_letter form.letter unit.letter && lie_well form.pattern unit.side operands) forms ≡ true
+    → list_any (λ form. holds_constants form.pattern operands && same_letter form.letter unit.letter && registers_fit form.pattern unit.side operands) forms ≡ true
     → unit.side ≡ side
 form_on_side [] operands unit side e h = cc
 form_on_side (form ∷ forms) operands unit side e h =
-    one_or (holds_constants form.pattern operands) (same_letter form.letter unit.letter) (lie_well form.pattern unit.side operands) _ h
+    one_or (holds_constants form.pattern operands) (same_letter form.letter unit.letter) (registers_fit form.pattern unit.side operands) _ h
     (λ l. well_on_side form.pattern unit.side operands side l e) (form_on_side forms operands unit side e)
   where
     one_or : (a b l rest : Bool) → ((a && b && l) || rest) ≡ true → (l ≡ true → unit.side ≡ side) → (rest ≡ true → unit.side ≡ side) → unit.side ≡ side

@@ -5,8 +5,7 @@ use Rattle.c62_insn.specs.declared.register.Letter.TheVariants.{L, S, M, D}
 use Rattle.c62_insn.specs.declared.register.Side.{Side}
 use Rattle.c62_insn.specs.declared.register.Side.TheVariants.{A, B}
 use Rattle.c62_insn.specs.declared.register.Unit.{Unit as FunctionalUnit}
-use Rattle.c62_insn.specs.Fault.{all_units}
-use Rattle.c62_insn.specs.Units.{place_of, index_of}
+use Rattle.c62_insn.specs.Units.{all_units, place_of, index_of}
 
 unit_of_parts : Letter → Side → FunctionalUnit
 unit_of_parts letter side = record { letter = letter; side = side }

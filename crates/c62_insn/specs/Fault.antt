@@ -1,22 +1,22 @@
 -- Why an operation, operands, condition and written unit make no instruction: five tests in their order (docs/MACHINE.md,
 -- "Form faults"). The order is this project's own.
-use Rattle.std.specs.Prelude.{ℕ, Bool, true, false, ◌&&◌, ◌||◌, not, ◌==◌, nat_lt, if◌then◌else◌, List, [], ◌∷◌, Option, Some, None}
+use Rattle.std.specs.Prelude.{ℕ, Bool, true, false, ◌&&◌, ◌||◌, not, ◌==◌, nat_lt, if◌then◌else◌, Option, Some, None}
 use Rattle.std.specs.List.{list_any}
 use Rattle.c62_insn.specs.declared.register.Side.{Side}
 use Rattle.c62_insn.specs.declared.register.Side.TheVariants.{A, B}
-use Rattle.c62_insn.specs.declared.register.Letter.TheVariants.{L, S, M, D}
 use Rattle.c62_insn.specs.declared.register.Reg.{Reg}
 use Rattle.c62_insn.specs.declared.register.Cond.{Cond as Condition}
 use Rattle.c62_insn.specs.declared.register.Unit.{Unit as FunctionalUnit}
 use Rattle.c62_insn.specs.declared.operands.Op.{Op}
 use Rattle.c62_insn.specs.declared.operands.Op.TheVariants.{Shl, Shr, Shru, Ext, Extu, Sub2, Addab, Addah, Addaw}
 use Rattle.c62_insn.specs.declared.operands.Operands.{Operands}
-use Rattle.c62_insn.specs.declared.operands.Operands.TheVariants.{Three, ConstantFirst, ConstantSecond, Two, Field, Constant, Access, Block, Register}
+use Rattle.c62_insn.specs.declared.operands.Operands.TheVariants.{Three, ConstantFirst, ConstantSecond, Two, Field, Access, Register}
 use Rattle.c62_insn.specs.declared.fault.FormFault.{FormFault}
 use Rattle.c62_insn.specs.declared.fault.FormFault.TheVariants.{NoUnit, ConstantRange, TwoCrossed, BadSide, BadCondition}
 use Rattle.c62_insn.specs.Table.{forms_of}
+use Rattle.c62_insn.specs.Units.{all_units}
 use Rattle.c62_insn.specs.Takes.{same_side, same_kind, holds_constants, offset_on, takes}
-use Rattle.c62_insn.specs.Shape.{is_load, is_store, is_branch}
+use Rattle.c62_insn.specs.Shape.{is_load, is_store, is_branch, side_of}
 
 -- A1, A2, B0, B1 and B2 may be a condition (SPRU189, "Conditional Operations")
 abbrev pub may_condition : Side → ℕ → Bool
@@ -40,20 +40,8 @@ abbrev pub constant_out_of_range : Op → Operands → Bool
 constant_out_of_range op operands = has_kind op operands && not (in_some_range op operands)
 
 -- a load, a store or a branch
-abbrev pub is_transfer : Op → Bool
-is_transfer op = is_load op || is_store op || is_branch op
-
--- the side of an instruction, where its operands decide it
-abbrev pub side_of : Operands → Option Side
-side_of (Three _ _ d) = Some d.side
-side_of (ConstantFirst _ _ d) = Some d.side
-side_of (ConstantSecond _ _ d) = Some d.side
-side_of (Two _ d) = Some d.side
-side_of (Field _ _ _ d) = Some d.side
-side_of (Constant _ d) = Some d.side
-side_of (Access _ base _ _) = Some base.side
-side_of (Block _) = None
-side_of (Register _) = Some B
+abbrev pub accesses_or_branches : Op → Bool
+accesses_or_branches op = is_load op || is_store op || is_branch op
 
 -- the register in the place of the first source, and of the second
 abbrev pub first_source : Operands → Option Reg
@@ -76,7 +64,7 @@ lies_across _ _ = false
 -- two sources, both on the side other than the destination's
 abbrev pub two_crossed : Op → Operands → Bool
 two_crossed op operands =
-    not (is_transfer op) && lies_across (side_of operands) (first_source operands) && lies_across (side_of operands) (second_source operands)
+    not (accesses_or_branches op) && lies_across (side_of operands) (first_source operands) && lies_across (side_of operands) (second_source operands)
 
 -- operations whose first source no form lets cross
 abbrev pub is_first_fixed : Op → Bool
@@ -99,10 +87,10 @@ is_second_fixed Addaw = true
 is_second_fixed _ = false
 
 -- whether such a source lies across, an offset register on the other side than its base, or a branch register in file A
-abbrev pub strays : Op → Operands → Bool
-strays op (Access _ base _ offset) = not (offset_on base.side offset)
-strays op (Register target) = same_side target.side A
-strays op operands =
+abbrev pub has_misplaced : Op → Operands → Bool
+has_misplaced op (Access _ base _ offset) = not (offset_on base.side offset)
+has_misplaced op (Register target) = same_side target.side A
+has_misplaced op operands =
     (is_first_fixed op && lies_across (side_of operands) (first_source operands))
     || (is_second_fixed op && lies_across (side_of operands) (second_source operands))
 
@@ -112,13 +100,7 @@ is_other_side (Some side) (Some unit) = not (same_side unit.side side)
 is_other_side _ _ = false
 
 abbrev pub bad_side : Op → Operands → Option FunctionalUnit → Bool
-bad_side op operands unit = strays op operands || is_other_side (side_of operands) unit
-
--- .L1 .S1 .M1 .D1 .L2 .S2 .M2 .D2
-abbrev pub all_units : List FunctionalUnit
-all_units =
-    record { letter = L; side = A } ∷ record { letter = S; side = A } ∷ record { letter = M; side = A } ∷ record { letter = D; side = A }
-    ∷ record { letter = L; side = B } ∷ record { letter = S; side = B } ∷ record { letter = M; side = B } ∷ record { letter = D; side = B } ∷ []
+bad_side op operands unit = has_misplaced op operands || is_other_side (side_of operands) unit
 
 -- no unit, or not the written one, takes the operands
 abbrev pub no_unit : Op → Operands → Option FunctionalUnit → Bool

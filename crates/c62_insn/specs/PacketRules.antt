@@ -1,6 +1,6 @@
 -- Which instructions may share cycles: the five rules of execute packets (docs/MACHINE.md, "Packet rules"; SPRU189,
 -- "Resource Constraints").
-use Rattle.std.specs.Prelude.{◌≡◌, ◌⊎◌, ℕ, ◌+◌, ◌≤◌, ◌==◌, Bool, false, if◌then◌else◌, List, Contains, Option, Some, None, sum_by, count_by, slice_index_or, IsTrue}
+use Rattle.std.specs.Prelude.{◌≡◌, ◌⊎◌, ℕ, ◌+◌, ◌≤◌, ◌==◌, Bool, false, if◌then◌else◌, List, [], ◌∷◌, Contains, Option, Some, None, sum_by, count_by, slice_index_or, IsTrue}
 use Rattle.c62_insn.specs.declared.register.Side.{Side}
 use Rattle.c62_insn.specs.declared.register.Reg.{Reg}
 use Rattle.c62_insn.specs.declared.register.Unit.{Unit as FunctionalUnit}
@@ -22,6 +22,12 @@ Issues = List (Option Issue)
 -- the instruction of this number is issued so
 abbrev pub IsIssued : Issues → ℕ → Issue → Type 0
 IsIssued issues i p = slice_index_or issues i None ≡ Some p
+
+-- what is issued, without the numbers
+abbrev pub issued : Issues → List Issue
+issued [] = []
+issued (None ∷ issues) = issued issues
+issued (Some p ∷ issues) = p ∷ issued issues
 
 -- of each cycle at most one issued instruction is such
 abbrev pub AtMostOne : (Issue → Type 0) → Issues → Type 0

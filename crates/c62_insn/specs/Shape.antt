@@ -2,6 +2,7 @@
 -- "Cycles and delays", "Cross paths" and "Data paths").
 use Rattle.std.specs.Prelude.{ℕ, Bool, true, false, ◌||◌, not, if◌then◌else◌, List, [], ◌∷◌, ◌++◌, Option, Some, None}
 use Rattle.c62_insn.specs.declared.register.Side.{Side}
+use Rattle.c62_insn.specs.declared.register.Side.TheVariants.{B}
 use Rattle.c62_insn.specs.declared.register.Reg.{Reg}
 use Rattle.c62_insn.specs.declared.operands.Op.{Op}
 use Rattle.c62_insn.specs.declared.operands.Op.TheVariants.{Mvklh, Addk, Mpy, Mpyu, Mpyus, Mpysu, Mpyh, Mpyhu, Mpyhl, Mpylh, Ldb, Ldbu, Ldh, Ldhu, Ldw, Stb, Sth, Stw, B as Branch}
@@ -48,6 +49,18 @@ is_load _ = false
 abbrev pub is_branch : Op → Bool
 is_branch Branch = true
 is_branch _ = false
+
+-- the side of an instruction, where its operands decide it
+abbrev pub side_of : Operands → Option Side
+side_of (Three _ _ d) = Some d.side
+side_of (ConstantFirst _ _ d) = Some d.side
+side_of (ConstantSecond _ _ d) = Some d.side
+side_of (Two _ d) = Some d.side
+side_of (Field _ _ _ d) = Some d.side
+side_of (Constant _ d) = Some d.side
+side_of (Access _ base _ _) = Some base.side
+side_of (Block _) = None
+side_of (Register _) = Some B
 
 -- whether the destination is a source too
 abbrev pub reads_destination : Op → Bool

@@ -6,27 +6,27 @@ use Rattle.c62_insn.specs.declared.register.Letter.{Letter}
 use Rattle.c62_insn.specs.declared.register.Letter.TheVariants.{L, S, M, D}
 use Rattle.c62_insn.specs.declared.operands.Op.{Op}
 use Rattle.c62_insn.specs.declared.operands.Op.TheVariants.{Add, Sub, And, Or, Xor, Cmpeq, Cmpgt, Cmplt, Cmpgtu, Cmpltu, Abs, Shl, Shr, Shru, Ext, Extu, Add2, Sub2, Mvk, Mvklh, Addk, Mpy, Mpyu, Mpyus, Mpysu, Mpyh, Mpyhu, Mpyhl, Mpylh, Addab, Addah, Addaw, Ldb, Ldbu, Ldh, Ldhu, Ldw, Stb, Sth, Stw, B}
-use Rattle.c62_insn.specs.declared.form.Place.TheVariants.{Own, Crossing}
+use Rattle.c62_insn.specs.declared.form.Reach.TheVariants.{Own, Crossing}
 use Rattle.c62_insn.specs.declared.form.Range.{Range}
 use Rattle.c62_insn.specs.declared.form.Pattern.{Pattern}
-use Rattle.c62_insn.specs.declared.form.Pattern.TheVariants.{Three as three, ConstantFirst as constant_first, ConstantSecond as constant_second, Two as two, Field as field, Constant as constant, Access as access, Block as block, Register as register}
+use Rattle.c62_insn.specs.declared.form.Pattern.TheVariants.{TwoSources, ConstantSource, SourceConstant, OneSource, SourceField, ConstantAlone, Address, ToBlock, ToRegister}
 use Rattle.c62_insn.specs.declared.form.Form.{Form}
 
 -- the ranges of constants: -16..15, -15..16, 0..31, -32768..32767 and 0..65535
-abbrev pub short : Range
-short = record { low = negsuc 15; high = pos 15 }
+abbrev pub scst5 : Range
+scst5 = record { low = negsuc 15; high = pos 15 }
 
 abbrev pub negated : Range
 negated = record { low = negsuc 14; high = pos 16 }
 
-abbrev pub count : Range
-count = record { low = pos 0; high = pos 31 }
+abbrev pub ucst5 : Range
+ucst5 = record { low = pos 0; high = pos 31 }
 
-abbrev pub half : Range
-half = record { low = negsuc 32767; high = pos 32767 }
+abbrev pub scst16 : Range
+scst16 = record { low = negsuc 32767; high = pos 32767 }
 
-abbrev pub bits : Range
-bits = record { low = pos 0; high = pos 65535 }
+abbrev pub ucst16 : Range
+ucst16 = record { low = pos 0; high = pos 65535 }
 
 -- the same operands on one unit, or on .L and .S
 abbrev pub on : Letter → Pattern → List Form
@@ -38,46 +38,46 @@ on_ls operands = record { letter = L; pattern = operands } ∷ record { letter =
 -- the forms of each operation
 abbrev pub forms_of : Op → List Form
 forms_of Add =
-    on_ls (three Own Crossing) ++ on_ls (constant_first short Crossing) ++ on D (three Own Own) ++ on D (constant_first count Own)
+    on_ls (TwoSources Own Crossing) ++ on_ls (ConstantSource scst5 Crossing) ++ on D (TwoSources Own Own) ++ on D (ConstantSource ucst5 Own)
 forms_of Sub =
-    on L (three Own Crossing) ++ on L (three Crossing Own) ++ on S (three Own Crossing) ++ on D (three Own Own)
-    ++ on_ls (constant_first short Crossing) ++ on D (constant_second Own count) ++ on_ls (constant_second Crossing negated)
-forms_of And = on_ls (three Own Crossing) ++ on_ls (constant_first short Crossing)
-forms_of Or = on_ls (three Own Crossing) ++ on_ls (constant_first short Crossing)
-forms_of Xor = on_ls (three Own Crossing) ++ on_ls (constant_first short Crossing)
-forms_of Cmpeq = on L (three Own Crossing) ++ on L (constant_first short Crossing)
-forms_of Cmpgt = on L (three Own Crossing) ++ on L (constant_first short Crossing)
-forms_of Cmplt = on L (three Own Crossing) ++ on L (constant_first short Crossing)
-forms_of Cmpgtu = on L (three Own Crossing)
-forms_of Cmpltu = on L (three Own Crossing)
-forms_of Abs = on L (two Crossing)
-forms_of Shl = on S (three Crossing Own) ++ on S (constant_second Crossing count)
-forms_of Shr = on S (three Crossing Own) ++ on S (constant_second Crossing count)
-forms_of Shru = on S (three Crossing Own) ++ on S (constant_second Crossing count)
-forms_of Ext = on S (field count)
-forms_of Extu = on S (field count)
-forms_of Add2 = on S (three Own Crossing)
-forms_of Sub2 = on S (three Own Crossing)
-forms_of Mvk = on S (constant half)
-forms_of Addk = on S (constant half)
-forms_of Mvklh = on S (constant bits)
-forms_of Mpy = on M (three Own Crossing) ++ on M (constant_first short Crossing)
-forms_of Mpyu = on M (three Own Crossing)
-forms_of Mpyus = on M (three Own Crossing)
-forms_of Mpysu = on M (three Own Crossing)
-forms_of Mpyh = on M (three Own Crossing)
-forms_of Mpyhu = on M (three Own Crossing)
-forms_of Mpyhl = on M (three Own Crossing)
-forms_of Mpylh = on M (three Own Crossing)
-forms_of Addab = on D (three Own Own) ++ on D (constant_second Own count)
-forms_of Addah = on D (three Own Own) ++ on D (constant_second Own count)
-forms_of Addaw = on D (three Own Own) ++ on D (constant_second Own count)
-forms_of Ldb = on D (access count)
-forms_of Ldbu = on D (access count)
-forms_of Ldh = on D (access count)
-forms_of Ldhu = on D (access count)
-forms_of Ldw = on D (access count)
-forms_of Stb = on D (access count)
-forms_of Sth = on D (access count)
-forms_of Stw = on D (access count)
-forms_of B = on S block ++ on S register
+    on L (TwoSources Own Crossing) ++ on L (TwoSources Crossing Own) ++ on S (TwoSources Own Crossing) ++ on D (TwoSources Own Own)
+    ++ on_ls (ConstantSource scst5 Crossing) ++ on D (SourceConstant Own ucst5) ++ on_ls (SourceConstant Crossing negated)
+forms_of And = on_ls (TwoSources Own Crossing) ++ on_ls (ConstantSource scst5 Crossing)
+forms_of Or = on_ls (TwoSources Own Crossing) ++ on_ls (ConstantSource scst5 Crossing)
+forms_of Xor = on_ls (TwoSources Own Crossing) ++ on_ls (ConstantSource scst5 Crossing)
+forms_of Cmpeq = on L (TwoSources Own Crossing) ++ on L (ConstantSource scst5 Crossing)
+forms_of Cmpgt = on L (TwoSources Own Crossing) ++ on L (ConstantSource scst5 Crossing)
+forms_of Cmplt = on L (TwoSources Own Crossing) ++ on L (ConstantSource scst5 Crossing)
+forms_of Cmpgtu = on L (TwoSources Own Crossing)
+forms_of Cmpltu = on L (TwoSources Own Crossing)
+forms_of Abs = on L (OneSource Crossing)
+forms_of Shl = on S (TwoSources Crossing Own) ++ on S (SourceConstant Crossing ucst5)
+forms_of Shr = on S (TwoSources Crossing Own) ++ on S (SourceConstant Crossing ucst5)
+forms_of Shru = on S (TwoSources Crossing Own) ++ on S (SourceConstant Crossing ucst5)
+forms_of Ext = on S (SourceField ucst5)
+forms_of Extu = on S (SourceField ucst5)
+forms_of Add2 = on S (TwoSources Own Crossing)
+forms_of Sub2 = on S (TwoSources Own Crossing)
+forms_of Mvk = on S (ConstantAlone scst16)
+forms_of Addk = on S (ConstantAlone scst16)
+forms_of Mvklh = on S (ConstantAlone ucst16)
+forms_of Mpy = on M (TwoSources Own Crossing) ++ on M (ConstantSource scst5 Crossing)
+forms_of Mpyu = on M (TwoSources Own Crossing)
+forms_of Mpyus = on M (TwoSources Own Crossing)
+forms_of Mpysu = on M (TwoSources Own Crossing)
+forms_of Mpyh = on M (TwoSources Own Crossing)
+forms_of Mpyhu = on M (TwoSources Own Crossing)
+forms_of Mpyhl = on M (TwoSources Own Crossing)
+forms_of Mpylh = on M (TwoSources Own Crossing)
+forms_of Addab = on D (TwoSources Own Own) ++ on D (SourceConstant Own ucst5)
+forms_of Addah = on D (TwoSources Own Own) ++ on D (SourceConstant Own ucst5)
+forms_of Addaw = on D (TwoSources Own Own) ++ on D (SourceConstant Own ucst5)
+forms_of Ldb = on D (Address ucst5)
+forms_of Ldbu = on D (Address ucst5)
+forms_of Ldh = on D (Address ucst5)
+forms_of Ldhu = on D (Address ucst5)
+forms_of Ldw = on D (Address ucst5)
+forms_of Stb = on D (Address ucst5)
+forms_of Sth = on D (Address ucst5)
+forms_of Stw = on D (Address ucst5)
+forms_of B = on S ToBlock ++ on S ToRegister

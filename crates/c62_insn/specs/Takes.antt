@@ -1,6 +1,6 @@
 -- Which operands a form takes, and so which units an instruction may stand on (docs/MACHINE.md, "Instruction table" and
 -- "Cross paths"; SPRU189, "Register File Cross Paths" and "Mapping Between Instructions and Functional Units").
-use Rattle.std.specs.Prelude.{Bool, true, false, ◌&&◌, ◌==◌, ℤ, int_le}
+use Rattle.std.specs.Prelude.{Bool, true, false, ◌&&◌, ◌==◌, ℤ, int_le, Option, Some, None}
 use Rattle.std.specs.List.{list_any}
 use Rattle.c62_insn.specs.declared.register.Side.{Side}
 use Rattle.c62_insn.specs.declared.register.Side.TheVariants.{A, B}
@@ -13,11 +13,11 @@ use Rattle.c62_insn.specs.declared.operands.Offset.{Offset}
 use Rattle.c62_insn.specs.declared.operands.Offset.TheVariants.{Constant as ByConstant, Register as ByRegister}
 use Rattle.c62_insn.specs.declared.operands.Operands.{Operands}
 use Rattle.c62_insn.specs.declared.operands.Operands.TheVariants.{Three, ConstantFirst, ConstantSecond, Two, Field, Constant, Access, Block, Register}
-use Rattle.c62_insn.specs.declared.form.Place.{Place}
-use Rattle.c62_insn.specs.declared.form.Place.TheVariants.{Own, Crossing}
+use Rattle.c62_insn.specs.declared.form.Reach.{Reach}
+use Rattle.c62_insn.specs.declared.form.Reach.TheVariants.{Own, Crossing}
 use Rattle.c62_insn.specs.declared.form.Range.{Range}
 use Rattle.c62_insn.specs.declared.form.Pattern.{Pattern}
-use Rattle.c62_insn.specs.declared.form.Pattern.TheVariants.{Three as three, ConstantFirst as constant_first, ConstantSecond as constant_second, Two as two, Field as field, Constant as constant, Access as access, Block as block, Register as register}
+use Rattle.c62_insn.specs.declared.form.Pattern.TheVariants.{TwoSources, ConstantSource, SourceConstant, OneSource, SourceField, ConstantAlone, Address, ToBlock, ToRegister}
 use Rattle.c62_insn.specs.Table.{forms_of}
 
 abbrev pub same_side : Side → Side → Bool
@@ -40,7 +40,7 @@ abbrev pub same_unit : FunctionalUnit → FunctionalUnit → Bool
 same_unit a b = same_letter a.letter b.letter && same_side a.side b.side
 
 -- whether a source may lie there: on the unit's own side, or on either, over the cross path
-abbrev pub may_lie : Place → Side → Reg → Bool
+abbrev pub may_lie : Reach → Side → Reg → Bool
 may_lie Own side reg = same_side reg.side side
 may_lie Crossing side reg = true
 
@@ -49,15 +49,15 @@ in_range range k = int_le range.low k && int_le k range.high
 
 -- whether the operands are of the pattern's kind and number
 abbrev pub same_kind : Pattern → Operands → Bool
-same_kind (three _ _) (Three _ _ _) = true
-same_kind (constant_first _ _) (ConstantFirst _ _ _) = true
-same_kind (constant_second _ _) (ConstantSecond _ _ _) = true
-same_kind (two _) (Two _ _) = true
-same_kind (field _) (Field _ _ _ _) = true
-same_kind (constant _) (Constant _ _) = true
-same_kind (access _) (Access _ _ _ _) = true
-same_kind block (Block _) = true
-same_kind register (Register _) = true
+same_kind (TwoSources _ _) (Three _ _ _) = true
+same_kind (ConstantSource _ _) (ConstantFirst _ _ _) = true
+same_kind (SourceConstant _ _) (ConstantSecond _ _ _) = true
+same_kind (OneSource _) (Two _ _) = true
+same_kind (SourceField _) (Field _ _ _ _) = true
+same_kind (ConstantAlone _) (Constant _ _) = true
+same_kind (Address _) (Access _ _ _ _) = true
+same_kind ToBlock (Block _) = true
+same_kind ToRegister (Register _) = true
 same_kind _ _ = false
 
 abbrev pub offset_in_range : Range → Offset → Bool
@@ -66,11 +66,11 @@ offset_in_range range (ByRegister _) = true
 
 -- whether besides the constants lie in the pattern's ranges
 abbrev pub holds_constants : Pattern → Operands → Bool
-holds_constants (constant_first range _) (ConstantFirst k _ _) = in_range range k
-holds_constants (constant_second _ range) (ConstantSecond _ k _) = in_range range k
-holds_constants (field range) (Field _ k m _) = in_range range k && in_range range m
-holds_constants (constant range) (Constant k _) = in_range range k
-holds_constants (access range) (Access _ _ _ offset) = offset_in_range range offset
+holds_constants (ConstantSource range _) (ConstantFirst k _ _) = in_range range k
+holds_constants (SourceConstant _ range) (ConstantSecond _ k _) = in_range range k
+holds_constants (SourceField range) (Field _ k m _) = in_range range k && in_range range m
+holds_constants (ConstantAlone range) (Constant k _) = in_range range k
+holds_constants (Address range) (Access _ _ _ offset) = offset_in_range range offset
 holds_constants pattern operands = same_kind pattern operands
 
 -- an offset register lies on the side of its unit ("Memory, Load, and Store Paths")
@@ -79,22 +79,27 @@ offset_on side (ByConstant _) = true
 offset_on side (ByRegister reg) = same_side reg.side side
 
 -- whether the registers lie as the pattern wants them on a unit of this side
-abbrev pub lie_well : Pattern → Side → Operands → Bool
-lie_well (three first second) side (Three a b d) = may_lie first side a && may_lie second side b && same_side d.side side
-lie_well (constant_first _ place) side (ConstantFirst _ a d) = may_lie place side a && same_side d.side side
-lie_well (constant_second place _) side (ConstantSecond a _ d) = may_lie place side a && same_side d.side side
-lie_well (two place) side (Two a d) = may_lie place side a && same_side d.side side
-lie_well (field _) side (Field a _ _ d) = same_side a.side side && same_side d.side side
-lie_well (constant _) side (Constant _ d) = same_side d.side side
-lie_well (access _) side (Access _ base _ offset) = same_side base.side side && offset_on side offset
-lie_well block side (Block _) = true
-lie_well register side (Register target) = same_side side B && same_side target.side B
-lie_well _ _ _ = false
+abbrev pub registers_fit : Pattern → Side → Operands → Bool
+registers_fit (TwoSources first second) side (Three a b d) = may_lie first side a && may_lie second side b && same_side d.side side
+registers_fit (ConstantSource _ place) side (ConstantFirst _ a d) = may_lie place side a && same_side d.side side
+registers_fit (SourceConstant place _) side (ConstantSecond a _ d) = may_lie place side a && same_side d.side side
+registers_fit (OneSource place) side (Two a d) = may_lie place side a && same_side d.side side
+registers_fit (SourceField _) side (Field a _ _ d) = same_side a.side side && same_side d.side side
+registers_fit (ConstantAlone _) side (Constant _ d) = same_side d.side side
+registers_fit (Address _) side (Access _ base _ offset) = same_side base.side side && offset_on side offset
+registers_fit ToBlock side (Block _) = true
+registers_fit ToRegister side (Register target) = same_side side B && same_side target.side B
+registers_fit _ _ _ = false
 
 -- whether this unit takes the operands
 abbrev pub takes : Op → Operands → FunctionalUnit → Bool
 takes op operands unit =
-    list_any (λ form. holds_constants form.pattern operands && same_letter form.letter unit.letter && lie_well form.pattern unit.side operands) (forms_of op)
+    list_any (λ form. holds_constants form.pattern operands && same_letter form.letter unit.letter && registers_fit form.pattern unit.side operands) (forms_of op)
+
+-- the written unit, where one is written, and else any
+abbrev pub is_written : Option FunctionalUnit → FunctionalUnit → Bool
+is_written None unit = true
+is_written (Some written) unit = same_unit written unit
 
 -- whether some form stands on units of this letter
 abbrev pub has_letter : Op → Letter → Bool

@@ -1,7 +1,9 @@
 //! Why operands make no instruction.
 
 ghost use Rattle.std.specs.Prelude.{◌≡◌};
-ghost use Rattle.c62_insn.specs.Fault.{form_fault, bad_condition, has_kind, in_some_range, constant_out_of_range, is_transfer, side_of, first_source, second_source, lies_across, two_crossed, is_first_fixed, is_second_fixed, strays, is_other_side, bad_side, all_units, no_unit};
+ghost use Rattle.c62_insn.specs.Fault.{form_fault, bad_condition, in_some_range, constant_out_of_range, accesses_or_branches, first_source, second_source, lies_across, two_crossed, is_first_fixed, is_second_fixed, has_misplaced, is_other_side, bad_side, no_unit};
+ghost use Rattle.c62_insn.specs.Shape.{side_of};
+ghost use Rattle.c62_insn.specs.Units.{all_units};
 ghost use Rattle.c62_insn.specs.Takes.{takes};
 ghost use Rattle.std.specs.List.{list_any};
 
@@ -43,12 +45,6 @@ fn is_bad_condition(cond: Option<Cond>) -> bool
     }
 }
 
-fn is_known_kind(op: Op, operands: Operands) -> bool
-    ensures { result ≡ has_kind op operands }
-{
-    forms(op).iter().any(|form| form.pattern.has_kind(operands))
-}
-
 fn is_in_some_range(op: Op, operands: Operands) -> bool
     ensures { result ≡ in_some_range op operands }
 {
@@ -60,13 +56,13 @@ fn is_in_some_range(op: Op, operands: Operands) -> bool
 fn is_out_of_range(op: Op, operands: Operands) -> bool
     ensures { result ≡ constant_out_of_range op operands }
 {
-    is_known_kind(op, operands) && !is_in_some_range(op, operands)
+    op.has_kind(operands) && !is_in_some_range(op, operands)
 }
 
 impl Op {
     /// Whether this is a load, a store or a branch.
-    fn is_transfer(self) -> bool
-        ensures { result ≡ is_transfer self }
+    fn accesses_or_branches(self) -> bool
+        ensures { result ≡ accesses_or_branches self }
     {
         self.is_load() || self.is_store() || self.is_branch()
     }
@@ -93,25 +89,6 @@ impl Op {
 }
 
 impl Operands {
-    /// The side of the instructions that have these operands, where the operands decide it: the
-    /// side of an access's base, side B for a branch to a register, and for others the
-    /// destination's. `None` for a branch to a block, which a unit of either side takes.
-    pub fn side(self) -> Option<Side>
-        ensures { result ≡ side_of self }
-    {
-        match self {
-            Operands::Three(_, _, d)
-            | Operands::ConstantFirst(_, _, d)
-            | Operands::ConstantSecond(_, _, d)
-            | Operands::Two(_, d)
-            | Operands::Field(_, _, _, d)
-            | Operands::Constant(_, d) => Some(d.side),
-            Operands::Access(_, base, _, _) => Some(base.side),
-            Operands::Block(_) => None,
-            Operands::Register(_) => Some(Side::B),
-        }
-    }
-
     /// Whether the first source is a register on the other side.
     fn is_first_across(self) -> bool
         ensures { result ≡ lies_across (side_of self) (first_source self) }
@@ -139,11 +116,11 @@ impl Operands {
 fn is_two_crossed(op: Op, operands: Operands) -> bool
     ensures { result ≡ two_crossed op operands }
 {
-    !op.is_transfer() && operands.is_first_across() && operands.is_second_across()
+    !op.accesses_or_branches() && operands.is_first_across() && operands.is_second_across()
 }
 
-fn is_stray(op: Op, operands: Operands) -> bool
-    ensures { result ≡ strays op operands }
+fn has_misplaced_register(op: Op, operands: Operands) -> bool
+    ensures { result ≡ has_misplaced op operands }
 {
     match operands {
         Operands::Access(_, base, _, offset) => !offset.lies_on(base.side),
@@ -158,7 +135,7 @@ fn is_stray(op: Op, operands: Operands) -> bool
 fn is_on_bad_side(op: Op, operands: Operands, unit: Option<Unit>) -> bool
     ensures { result ≡ bad_side op operands unit }
 {
-    is_stray(op, operands)
+    has_misplaced_register(op, operands)
         || match (operands.side(), unit) {
             (Some(side), Some(unit)) => unit.side != side,
             _ => false,

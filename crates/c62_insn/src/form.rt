@@ -7,7 +7,7 @@ use bitflags::Flags;
 
 /// Which registers a source may be.
 #[derive(Clone, Copy, PartialEq, Eq, Debug)]
-pub(crate) enum Place {
+pub(crate) enum Reach {
     /// A register of the unit's own side.
     Own,
     /// A register of either side, over the cross path where it lies on the other one.
@@ -25,23 +25,23 @@ pub(crate) struct Range {
 #[derive(Clone, Copy, PartialEq, Eq, Debug)]
 pub(crate) enum Pattern {
     /// Two sources and the destination.
-    Three(Place, Place),
+    TwoSources(Reach, Reach),
     /// A constant, a source and the destination.
-    ConstantFirst(Range, Place),
+    ConstantSource(Range, Reach),
     /// A source, a constant and the destination.
-    ConstantSecond(Place, Range),
+    SourceConstant(Reach, Range),
     /// A source and the destination.
-    Two(Place),
+    OneSource(Reach),
     /// An own source, two constants and the destination.
-    Field(Range),
+    SourceField(Range),
     /// A constant and the destination.
-    Constant(Range),
+    ConstantAlone(Range),
     /// An access, whose base and offset register lie on the unit's side.
-    Access(Range),
+    Address(Range),
     /// A block.
-    Block,
+    ToBlock,
     /// A register of file B, on the unit of side B.
-    Register,
+    ToRegister,
 }
 
 /// One form of an operation.
@@ -55,125 +55,125 @@ ghost use Rattle.std.specs.Prelude.{◌≡◌};
 ghost use Rattle.c62_insn.specs.Table.{forms_of};
 
 /// -16 to 15
-const SHORT: Range = Range { low: -16, high: 15 };
+const SCST5: Range = Range { low: -16, high: 15 };
 /// -15 to 16, for a subtraction that is made as an addition
 const NEGATED: Range = Range { low: -15, high: 16 };
 /// 0 to 31
-const COUNT: Range = Range { low: 0, high: 31 };
+const UCST5: Range = Range { low: 0, high: 31 };
 /// -32768 to 32767
-const HALF: Range = Range {
+const SCST16: Range = Range {
     low: -32768,
     high: 32767,
 };
 /// 0 to 65535
-const BITS: Range = Range {
+const UCST16: Range = Range {
     low: 0,
     high: 65535,
 };
 
 const L_CROSSING: Form = Form {
     letter: Letter::L,
-    pattern: Pattern::Three(Place::Own, Place::Crossing),
+    pattern: Pattern::TwoSources(Reach::Own, Reach::Crossing),
 };
 
 const S_CROSSING: Form = Form {
     letter: Letter::S,
-    pattern: Pattern::Three(Place::Own, Place::Crossing),
+    pattern: Pattern::TwoSources(Reach::Own, Reach::Crossing),
 };
 
 const M_CROSSING: Form = Form {
     letter: Letter::M,
-    pattern: Pattern::Three(Place::Own, Place::Crossing),
+    pattern: Pattern::TwoSources(Reach::Own, Reach::Crossing),
 };
 
 const L_CROSSING_FIRST: Form = Form {
     letter: Letter::L,
-    pattern: Pattern::Three(Place::Crossing, Place::Own),
+    pattern: Pattern::TwoSources(Reach::Crossing, Reach::Own),
 };
 
 const S_CROSSING_FIRST: Form = Form {
     letter: Letter::S,
-    pattern: Pattern::Three(Place::Crossing, Place::Own),
+    pattern: Pattern::TwoSources(Reach::Crossing, Reach::Own),
 };
 
 const D_OWN: Form = Form {
     letter: Letter::D,
-    pattern: Pattern::Three(Place::Own, Place::Own),
+    pattern: Pattern::TwoSources(Reach::Own, Reach::Own),
 };
 
-const L_SHORT: Form = Form {
+const L_SCST5: Form = Form {
     letter: Letter::L,
-    pattern: Pattern::ConstantFirst(SHORT, Place::Crossing),
+    pattern: Pattern::ConstantSource(SCST5, Reach::Crossing),
 };
 
-const S_SHORT: Form = Form {
+const S_SCST5: Form = Form {
     letter: Letter::S,
-    pattern: Pattern::ConstantFirst(SHORT, Place::Crossing),
+    pattern: Pattern::ConstantSource(SCST5, Reach::Crossing),
 };
 
-const M_SHORT: Form = Form {
+const M_SCST5: Form = Form {
     letter: Letter::M,
-    pattern: Pattern::ConstantFirst(SHORT, Place::Crossing),
+    pattern: Pattern::ConstantSource(SCST5, Reach::Crossing),
 };
 
-const D_COUNT_FIRST: Form = Form {
+const D_UCST5_FIRST: Form = Form {
     letter: Letter::D,
-    pattern: Pattern::ConstantFirst(COUNT, Place::Own),
+    pattern: Pattern::ConstantSource(UCST5, Reach::Own),
 };
 
-const D_COUNT: Form = Form {
+const D_UCST5: Form = Form {
     letter: Letter::D,
-    pattern: Pattern::ConstantSecond(Place::Own, COUNT),
+    pattern: Pattern::SourceConstant(Reach::Own, UCST5),
 };
 
-const S_COUNT: Form = Form {
+const S_UCST5: Form = Form {
     letter: Letter::S,
-    pattern: Pattern::ConstantSecond(Place::Crossing, COUNT),
+    pattern: Pattern::SourceConstant(Reach::Crossing, UCST5),
 };
 
 const L_NEGATED: Form = Form {
     letter: Letter::L,
-    pattern: Pattern::ConstantSecond(Place::Crossing, NEGATED),
+    pattern: Pattern::SourceConstant(Reach::Crossing, NEGATED),
 };
 
 const S_NEGATED: Form = Form {
     letter: Letter::S,
-    pattern: Pattern::ConstantSecond(Place::Crossing, NEGATED),
+    pattern: Pattern::SourceConstant(Reach::Crossing, NEGATED),
 };
 
 const L_TWO: Form = Form {
     letter: Letter::L,
-    pattern: Pattern::Two(Place::Crossing),
+    pattern: Pattern::OneSource(Reach::Crossing),
 };
 
 const S_FIELD: Form = Form {
     letter: Letter::S,
-    pattern: Pattern::Field(COUNT),
+    pattern: Pattern::SourceField(UCST5),
 };
 
-const S_HALF: Form = Form {
+const S_SCST16: Form = Form {
     letter: Letter::S,
-    pattern: Pattern::Constant(HALF),
+    pattern: Pattern::ConstantAlone(SCST16),
 };
 
-const S_BITS: Form = Form {
+const S_UCST16: Form = Form {
     letter: Letter::S,
-    pattern: Pattern::Constant(BITS),
+    pattern: Pattern::ConstantAlone(UCST16),
 };
 
 const D_ACCESS: Form = Form {
     letter: Letter::D,
-    pattern: Pattern::Access(COUNT),
+    pattern: Pattern::Address(UCST5),
 };
 
 const S_BLOCK: Form = Form {
     letter: Letter::S,
-    pattern: Pattern::Block,
+    pattern: Pattern::ToBlock,
 };
 
 const S_REGISTER: Form = Form {
     letter: Letter::S,
-    pattern: Pattern::Register,
+    pattern: Pattern::ToRegister,
 };
 
 /// The forms of `op`.
@@ -184,36 +184,36 @@ pub(crate) fn forms(op: Op) -> &'static [Form]
         Op::Add => &[
             L_CROSSING,
             S_CROSSING,
-            L_SHORT,
-            S_SHORT,
+            L_SCST5,
+            S_SCST5,
             D_OWN,
-            D_COUNT_FIRST,
+            D_UCST5_FIRST,
         ],
         Op::Sub => &[
             L_CROSSING,
             L_CROSSING_FIRST,
             S_CROSSING,
             D_OWN,
-            L_SHORT,
-            S_SHORT,
-            D_COUNT,
+            L_SCST5,
+            S_SCST5,
+            D_UCST5,
             L_NEGATED,
             S_NEGATED,
         ],
-        Op::And | Op::Or | Op::Xor => &[L_CROSSING, S_CROSSING, L_SHORT, S_SHORT],
-        Op::Cmpeq | Op::Cmpgt | Op::Cmplt => &[L_CROSSING, L_SHORT],
+        Op::And | Op::Or | Op::Xor => &[L_CROSSING, S_CROSSING, L_SCST5, S_SCST5],
+        Op::Cmpeq | Op::Cmpgt | Op::Cmplt => &[L_CROSSING, L_SCST5],
         Op::Cmpgtu | Op::Cmpltu => &[L_CROSSING],
         Op::Abs => &[L_TWO],
-        Op::Shl | Op::Shr | Op::Shru => &[S_CROSSING_FIRST, S_COUNT],
+        Op::Shl | Op::Shr | Op::Shru => &[S_CROSSING_FIRST, S_UCST5],
         Op::Ext | Op::Extu => &[S_FIELD],
         Op::Add2 | Op::Sub2 => &[S_CROSSING],
-        Op::Mvk | Op::Addk => &[S_HALF],
-        Op::Mvklh => &[S_BITS],
-        Op::Mpy => &[M_CROSSING, M_SHORT],
+        Op::Mvk | Op::Addk => &[S_SCST16],
+        Op::Mvklh => &[S_UCST16],
+        Op::Mpy => &[M_CROSSING, M_SCST5],
         Op::Mpyu | Op::Mpyus | Op::Mpysu | Op::Mpyh | Op::Mpyhu | Op::Mpyhl | Op::Mpylh => &[
             M_CROSSING,
         ],
-        Op::Addab | Op::Addah | Op::Addaw => &[D_OWN, D_COUNT],
+        Op::Addab | Op::Addah | Op::Addaw => &[D_OWN, D_UCST5],
         Op::Ldb | Op::Ldbu | Op::Ldh | Op::Ldhu | Op::Ldw | Op::Stb | Op::Sth | Op::Stw => &[
             D_ACCESS,
         ],
@@ -221,7 +221,7 @@ pub(crate) fn forms(op: Op) -> &'static [Form]
     }
 }
 
-impl Place {
+impl Reach {
     ghost use Rattle.c62_insn.specs.Takes.{may_lie};
 
     /// Whether `reg` may be this source on a unit of `side`.
@@ -229,8 +229,8 @@ impl Place {
         ensures { result ≡ may_lie self side reg }
     {
         match self {
-            Place::Own => reg.side == side,
-            Place::Crossing => true,
+            Reach::Own => reg.side == side,
+            Reach::Crossing => true,
         }
     }
 }
@@ -261,22 +261,22 @@ impl Offset {
 }
 
 impl Pattern {
-    ghost use Rattle.c62_insn.specs.Takes.{same_kind, holds_constants, lie_well};
+    ghost use Rattle.c62_insn.specs.Takes.{same_kind, holds_constants, registers_fit};
 
     /// Whether `operands` are of this kind and number.
     pub(crate) fn has_kind(self, operands: Operands) -> bool
         ensures { result ≡ same_kind self operands }
     {
         match (self, operands) {
-            (Pattern::Three(_, _), Operands::Three(_, _, _)) => true,
-            (Pattern::ConstantFirst(_, _), Operands::ConstantFirst(_, _, _)) => true,
-            (Pattern::ConstantSecond(_, _), Operands::ConstantSecond(_, _, _)) => true,
-            (Pattern::Two(_), Operands::Two(_, _)) => true,
-            (Pattern::Field(_), Operands::Field(_, _, _, _)) => true,
-            (Pattern::Constant(_), Operands::Constant(_, _)) => true,
-            (Pattern::Access(_), Operands::Access(_, _, _, _)) => true,
-            (Pattern::Block, Operands::Block(_)) => true,
-            (Pattern::Register, Operands::Register(_)) => true,
+            (Pattern::TwoSources(_, _), Operands::Three(_, _, _)) => true,
+            (Pattern::ConstantSource(_, _), Operands::ConstantFirst(_, _, _)) => true,
+            (Pattern::SourceConstant(_, _), Operands::ConstantSecond(_, _, _)) => true,
+            (Pattern::OneSource(_), Operands::Two(_, _)) => true,
+            (Pattern::SourceField(_), Operands::Field(_, _, _, _)) => true,
+            (Pattern::ConstantAlone(_), Operands::Constant(_, _)) => true,
+            (Pattern::Address(_), Operands::Access(_, _, _, _)) => true,
+            (Pattern::ToBlock, Operands::Block(_)) => true,
+            (Pattern::ToRegister, Operands::Register(_)) => true,
             _ => false,
         }
     }
@@ -286,43 +286,45 @@ impl Pattern {
         ensures { result ≡ holds_constants self operands }
     {
         match (self, operands) {
-            (Pattern::ConstantFirst(range, _), Operands::ConstantFirst(k, _, _)) => range.contains(
+            (Pattern::ConstantSource(range, _), Operands::ConstantFirst(k, _, _)) => range.contains(
                 k,
             ),
-            (Pattern::ConstantSecond(_, range), Operands::ConstantSecond(_, k, _)) =>
+            (Pattern::SourceConstant(_, range), Operands::ConstantSecond(_, k, _)) =>
                 range.contains(k),
-            (Pattern::Field(range), Operands::Field(_, k, m, _)) => {
+            (Pattern::SourceField(range), Operands::Field(_, k, m, _)) => {
                 range.contains(k) && range.contains(m)
             }
-            (Pattern::Constant(range), Operands::Constant(k, _)) => range.contains(k),
-            (Pattern::Access(range), Operands::Access(_, _, _, Offset::Constant(k))) =>
+            (Pattern::ConstantAlone(range), Operands::Constant(k, _)) => range.contains(k),
+            (Pattern::Address(range), Operands::Access(_, _, _, Offset::Constant(k))) =>
                 range.contains(k),
             _ => self.has_kind(operands),
         }
     }
 
     /// Whether the registers lie where a unit of `side` takes them.
-    pub(crate) fn lie_well(self, side: Side, operands: Operands) -> bool
-        ensures { result ≡ lie_well self side operands }
+    pub(crate) fn registers_fit(self, side: Side, operands: Operands) -> bool
+        ensures { result ≡ registers_fit self side operands }
     {
         match (self, operands) {
-            (Pattern::Three(first, second), Operands::Three(a, b, d)) => {
+            (Pattern::TwoSources(first, second), Operands::Three(a, b, d)) => {
                 first.admits(side, a) && second.admits(side, b) && d.side == side
             }
-            (Pattern::ConstantFirst(_, place), Operands::ConstantFirst(_, a, d)) => {
+            (Pattern::ConstantSource(_, place), Operands::ConstantFirst(_, a, d)) => {
                 place.admits(side, a) && d.side == side
             }
-            (Pattern::ConstantSecond(place, _), Operands::ConstantSecond(a, _, d)) => {
+            (Pattern::SourceConstant(place, _), Operands::ConstantSecond(a, _, d)) => {
                 place.admits(side, a) && d.side == side
             }
-            (Pattern::Two(place), Operands::Two(a, d)) => place.admits(side, a) && d.side == side,
-            (Pattern::Field(_), Operands::Field(a, _, _, d)) => a.side == side && d.side == side,
-            (Pattern::Constant(_), Operands::Constant(_, d)) => d.side == side,
-            (Pattern::Access(_), Operands::Access(_, base, _, offset)) => {
+            (Pattern::OneSource(place), Operands::Two(a, d)) => place.admits(side, a)
+                && d.side == side,
+            (Pattern::SourceField(_), Operands::Field(a, _, _, d)) => a.side == side
+                && d.side == side,
+            (Pattern::ConstantAlone(_), Operands::Constant(_, d)) => d.side == side,
+            (Pattern::Address(_), Operands::Access(_, base, _, offset)) => {
                 base.side == side && offset.lies_on(side)
             }
-            (Pattern::Block, Operands::Block(_)) => true,
-            (Pattern::Register, Operands::Register(target)) => side == Side::B
+            (Pattern::ToBlock, Operands::Block(_)) => true,
+            (Pattern::ToRegister, Operands::Register(target)) => side == Side::B
                 && target.side == Side::B,
             _ => false,
         }
@@ -338,7 +340,7 @@ pub(crate) fn unit_takes(op: Op, operands: Operands, unit: Unit) -> bool
     forms(op).iter().any(|form| {
         form.pattern.holds_constants(operands)
             && form.letter == unit.letter
-            && form.pattern.lie_well(unit.side, operands)
+            && form.pattern.registers_fit(unit.side, operands)
     })
 }
 

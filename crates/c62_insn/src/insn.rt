@@ -1,11 +1,13 @@
 //! Instructions.
 
-ghost use Rattle.std.specs.Prelude.{◌≡◌, ◌↔◌, IsOk, IfOk, IfErr, IsTrue, Some, None};
+ghost use Rattle.std.specs.Prelude.{◌≡◌, ◌↔◌, IsOk, IfOk, IfErr, IfSome, IsTrue, Some, None};
 ghost use Rattle.c62_insn.specs.Fault.{form_fault};
+ghost use Rattle.c62_insn.specs.Takes.{is_written};
 
+use crate::action::{Action, act, word};
 use crate::effect::{Access, Effect, Inputs, Target};
 use crate::fault::{FormFault, find_fault};
-use crate::form::units_of;
+use crate::form::{unit_takes, units_of};
 use crate::operands::{Offset, Op, Operands};
 use crate::register::{Cond, Reg, Side, Unit};
 use crate::unit_set::UnitSet;
@@ -43,14 +45,25 @@ fn is_same_unit(a: Option<Unit>, b: Option<Unit>) -> bool
     }
 }
 
+fn is_written(written: Option<Unit>, unit: Unit) -> bool
+    ensures { result ≡ is_written written unit }
+{
+    match written {
+        None => true,
+        Some(written) => written == unit,
+    }
+}
+
 impl Insn {
     ghost use Rattle.std.specs.Prelude.{ℕ, true, false, ◌==◌, length, is_some, [], if◌then◌else◌};
     ghost use Rattle.c62_insn.specs.Insn.{op_of, operands_of, cond_of, unit_of};
     ghost use Rattle.c62_insn.specs.Takes.{takes};
+    ghost use Rattle.c62_insn.specs.Stands.{may_stand};
     ghost use Rattle.c62_insn.specs.Units.{unit_in};
     ghost use Rattle.c62_insn.specs.declared.register.Unit.{Unit as FunctionalUnit};
     ghost use Rattle.arrayvec.specs.ArrayVec.{array_vec_len};
     ghost use Rattle.c62_insn.specs.Effect.{runs_of, values_of, access_of, target_of, loaded_of};
+    ghost use Rattle.c62_insn.specs.Action.{word_at, runs_with, IsActionOf};
     ghost use Rattle.c62_insn.specs.Shape.{reads_of, writes_of, delay_of, data_path_of, crosses_to};
 
     /// The instruction of these parts.
@@ -221,6 +234,32 @@ impl Insn {
         units_of(self.op, self.operands)
     }
 
+    /// Whether the instruction may stand on `unit`: the unit takes it, and is the written one where
+    /// one was written.
+    pub fn may_stand(self, unit: Unit) -> bool
+        ensures { result ≡ may_stand self unit }
+    {
+        is_written(self.unit, unit) && unit_takes(self.op, self.operands, unit)
+    }
+
+    /// The instruction with `unit` written, on which it may stand. Operation, operands and condition
+    /// stay.
+    #[tactic(auto, using(crate::proofs::InsnLemmas::faultless_standing))]
+    pub fn on_unit(self, unit: Unit) -> Insn
+        requires { IsTrue (may_stand self unit) }
+        ensures op { op_of result ≡ op_of self }
+        ensures operands { operands_of result ≡ operands_of self }
+        ensures cond { cond_of result ≡ cond_of self }
+        ensures unit { unit_of result ≡ Some unit }
+    {
+        Insn {
+            op: self.op,
+            operands: self.operands,
+            cond: self.cond,
+            unit: Some(unit),
+        }
+    }
+
     fn runs(self, cond: Option<u32>) -> bool
         ensures { result ≡ runs_of (cond_of self) cond }
     {
@@ -321,6 +360,21 @@ impl Insn {
                 target: None,
             }
         }
+    }
+
+    /// What the instruction does where registers have these words, those of A0 to A15 and B0 to B15:
+    /// [`Insn::apply`] to them, together with the registers that are written. `None` where its
+    /// condition does not hold.
+    pub fn action(&self, registers: &[u32; 32]) -> Option<Action>
+        ensures runs { is_some result ≡ runs_with (word_at registers.now) (cond_of self.now) }
+        ensures action { IfSome result (λ action. IsActionOf self.now (word_at registers.now) action) }
+    {
+        if let Some(Cond { reg, negated }) = self.cond
+            && (word(registers, reg) == 0) != negated
+        {
+            return None;
+        }
+        Some(act(registers, self.op, &self.operands))
     }
 
     /// What a load writes to its destination, of the bytes that it read as a number: extended by

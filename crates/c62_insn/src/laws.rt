@@ -1,13 +1,37 @@
 //! Laws of the instruction set, as SPRU189 words them. The functions do nothing: what each ensures
 //! is a law, proved of the definitions that all other contracts cite.
 
-ghost use Rattle.std.specs.Prelude.{◌≡◌, ℕ, ◌<◌, ◌≤◌, ◌%◌, ◌^◌, ℤ, pos, negsuc, ◌≤ℤ◌, length, []};
+ghost use Rattle.std.specs.Prelude.{◌≡◌, ℕ, ◌<◌, ◌≤◌, ◌%◌, ◌^◌, ℤ, pos, negsuc, ◌≤ℤ◌, List, length, []};
 ghost use Rattle.c62_insn.specs.declared.register.Reg.{Reg as Register};
 ghost use Rattle.c62_insn.specs.declared.insn.Insn.{Insn};
+ghost use Rattle.c62_insn.specs.declared.operands.Op.{Op as Operation};
 ghost use Rattle.c62_insn.specs.declared.operands.Op.TheVariants.{B as Branch};
 ghost use Rattle.c62_insn.specs.Insn.{op_of, operand_reads, register_writes};
-ghost use Rattle.c62_insn.specs.PacketRules.{reads_count};
-ghost use Rattle.c62_insn.specs.Laws.{HasUnit, StandsOnOneSide, HasRisingDelays, WritesInTime, WritesBaseFirst, CrossesSecond, MultipliesByConstant, SubtractsByAdding, AddsHalves, ShiftsOut};
+ghost use Rattle.c62_insn.specs.PacketRules.{Issue, Issues, reads_count};
+ghost use Rattle.c62_insn.specs.Breaches.{TwoOnOneUnit, TwoOverCrossPath, TwoOverDataPath, FiveReads, TwoLandings};
+ghost use Rattle.c62_insn.specs.Part.{PartKeepsRules, AnyOrderKeepsRules, AnyOrderIsAsLong};
+ghost use Rattle.c62_insn.specs.Laws.{HasUnit, StandsOnOneSide, HasRisingDelays, WritesInTime, WritesBaseFirst, CrossesNotToD, WritesOwnSide, HasDelayOfKind, UsesItsPath, MovesBase, Mirrors, HasRangesOfBits, CrossesSecond, MultipliesByConstant, SubtractsByAdding, AddsHalves, ShiftsOut};
+
+/// Part of what keeps the packet rules keeps them, under whatever numbers it is issued: the rules ask neither for
+/// the order of what is issued nor for numbers under which nothing is.
+pub fn part_keeps_rules()
+    ensures part { (issues others : Issues) → PartKeepsRules issues others }
+    ensures any_order { (issues others : Issues) → AnyOrderKeepsRules issues others }
+{}
+
+/// The breaches of the packet rules that `docs/MACHINE.md` gives as examples are breaches.
+pub fn breaches()
+    ensures units { TwoOnOneUnit }
+    ensures cross_paths { TwoOverCrossPath }
+    ensures data_paths { TwoOverDataPath }
+    ensures reads { FiveReads }
+    ensures landings { TwoLandings }
+{}
+
+/// Instructions of which at most one is a branch take as long in whatever order they are listed.
+pub fn any_order_is_as_long()
+    ensures { (issues others : List Issue) → AnyOrderIsAsLong issues others }
+{}
 
 /// Some unit takes every instruction: the written one, where one is written.
 pub fn has_unit()
@@ -45,6 +69,41 @@ pub fn writes_base_first()
 /// A branch writes no register.
 pub fn branch_writes_nothing()
     ensures { (insn : Insn) → op_of insn ≡ Branch → register_writes insn ≡ [] }
+{}
+
+/// Nothing crosses to .D.
+pub fn crosses_not_to_d()
+    ensures { (insn : Insn) → CrossesNotToD insn }
+{}
+
+/// What is no load writes registers of its unit's side alone.
+pub fn writes_own_side()
+    ensures { (insn : Insn) → WritesOwnSide insn }
+{}
+
+/// Multiplies, which are what runs on .M, have one delay slot, loads four, the branch five, and all others none.
+pub fn has_delay_of_kind()
+    ensures { (op : Operation) → HasDelayOfKind op }
+{}
+
+/// An access goes over the data path of the register that it loads or stores.
+pub fn uses_its_path()
+    ensures { (insn : Insn) → UsesItsPath insn }
+{}
+
+/// A post form's address is the old base, a pre form's the new one; up and down again gives the base back.
+pub fn moves_base()
+    ensures { (base distance : ℕ) → base < 2 ^ 32 → distance < 2 ^ 32 → MovesBase base distance }
+{}
+
+/// CMPGT and CMPLT, CMPGTU and CMPLTU, MPYHL and MPYLH, MPYUS and MPYSU are one operation each, with the sources exchanged.
+pub fn mirrors()
+    ensures { (a b : ℕ) → Mirrors a b }
+{}
+
+/// The ranges of constants are the numbers of 5 and of 16 bits, signed and unsigned.
+pub fn has_ranges_of_bits()
+    ensures { HasRangesOfBits }
 {}
 
 /// ADD of registers of both sides takes the crossed one as its second source, and not as its first.

@@ -2,7 +2,7 @@
 
 ghost use Rattle.std.specs.Prelude.{◌≡◌, ◌↔◌, IsTrue};
 
-use crate::register::Reg;
+use crate::register::{Reg, Side};
 
 /// An operation, with what it gives modulo 2^32 (`docs/MACHINE.md`, "Instruction table"; SPRU189,
 /// "Individual Instruction Descriptions").
@@ -146,6 +146,51 @@ pub enum Operands {
 impl Op {
     ghost use Rattle.c62_insn.specs.Shape.{delay_of, is_store, is_load, is_branch, reads_destination};
 
+    /// All 41 operations, in the order of `docs/MACHINE.md`, "Instruction table".
+    pub const ALL: [Op; 41] = [
+        Op::Add,
+        Op::Sub,
+        Op::And,
+        Op::Or,
+        Op::Xor,
+        Op::Cmpeq,
+        Op::Cmpgt,
+        Op::Cmplt,
+        Op::Cmpgtu,
+        Op::Cmpltu,
+        Op::Abs,
+        Op::Shl,
+        Op::Shr,
+        Op::Shru,
+        Op::Ext,
+        Op::Extu,
+        Op::Add2,
+        Op::Sub2,
+        Op::Mvk,
+        Op::Mvklh,
+        Op::Addk,
+        Op::Mpy,
+        Op::Mpyu,
+        Op::Mpyus,
+        Op::Mpysu,
+        Op::Mpyh,
+        Op::Mpyhu,
+        Op::Mpyhl,
+        Op::Mpylh,
+        Op::Addab,
+        Op::Addah,
+        Op::Addaw,
+        Op::Ldb,
+        Op::Ldbu,
+        Op::Ldh,
+        Op::Ldhu,
+        Op::Ldw,
+        Op::Stb,
+        Op::Sth,
+        Op::Stw,
+        Op::B,
+    ];
+
     /// The delay slots of the result, in cycles: 1 for a multiply, 4 for a load, 5 for a branch, else
     /// 0 (SPRU189, "Delay Slots").
     pub fn delay(self) -> u8
@@ -227,6 +272,27 @@ impl Offset {
 }
 
 impl Operands {
+    ghost use Rattle.c62_insn.specs.Shape.{side_of};
+
+    /// The side of the instructions that have these operands, where the operands decide it: the
+    /// side of an access's base, side B for a branch to a register, and for others the
+    /// destination's. `None` for a branch to a block, which a unit of either side takes.
+    pub fn side(self) -> Option<Side>
+        ensures { result ≡ side_of self }
+    {
+        match self {
+            Operands::Three(_, _, d)
+            | Operands::ConstantFirst(_, _, d)
+            | Operands::ConstantSecond(_, _, d)
+            | Operands::Two(_, d)
+            | Operands::Field(_, _, _, d)
+            | Operands::Constant(_, d) => Some(d.side),
+            Operands::Access(_, base, _, _) => Some(base.side),
+            Operands::Block(_) => None,
+            Operands::Register(_) => Some(Side::B),
+        }
+    }
+
     /// Whether both are of one kind and equal in all parts.
     pub fn is_same(&self, other: &Operands) -> bool
         ensures { IsTrue result ↔ (self.now ≡ other.now) }

@@ -3,8 +3,8 @@
 ghost use Rattle.std.specs.Prelude.{ℤ, pos, min, ◌≡◌, ◌<◌, ◌≤◌, ◌*◌, ◌*ℤ◌, ◌+◌, ◌-◌, ◌^◌, ◌/◌, unsigned_abs, int_lt, if◌then◌else◌};
 ghost use Rattle.c62_insn.specs.Word.{word, sg, sg_half, lo, hi, sum, difference, shifted_left, shifted_right, half_sums, half_differences};
 
-/// `z` modulo 2^32.
-pub(crate) fn word_of(z: i64) -> u32
+/// A whole number modulo 2^32, as the word that a register or memory holds.
+pub fn word_of(z: i64) -> u32
     ensures { result ≡ word z }
 {
     z.rem_euclid(1 << 32) as u32

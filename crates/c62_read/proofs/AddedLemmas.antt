@@ -6,7 +6,8 @@ use Rattle.std.proofs.lemmas.Bool.{leb-false}
 use Rattle.c62_read.specs.declared.fault.Cause.{Cause}
 use Rattle.c62_read.specs.declared.fault.Cause.TheVariants.{DuplicateLabel, UnknownTarget, TooManyInstructions, TooManyBlocks}
 use Rattle.c62_read.specs.Line.{Parts, Says, Nothing, Pause, Does, Jumps, is_branch, head_of, rest_says}
-use Rattle.c62_read.specs.Program.{Name, Draft, Drafts, add_line, add_lines, add_head, add_says, and_then, at_line, all_drafts, begins_block, closed, hindrance, is_full, is_instruction, is_taken, is_unknown, no_drafts, opened, unless_hindered, with_insn, with_label, with_says}
+use Rattle.c62_read.specs.Program.{Name, Draft, and_then}
+use Rattle.c62_read.specs.Walk.{Drafts, add_line, add_lines, add_head, add_says, at_line, all_drafts, begins_block, closed, hindrance, is_full, is_instruction, is_taken, is_unknown, no_drafts, opened, unless_hindered, with_insn, with_label, with_says}
 
 -- the line says this, and nothing stands against it
 pub record IsAdded (labels : List Name) (number : ℕ) (line : List ℕ) (old new : Drafts) : Type 0 where
@@ -20,10 +21,13 @@ pub record IsAdded (labels : List Name) (number : ℕ) (line : List ℕ) (old ne
   pub is : new ≡ with_says number says (with_label label old)
 
 module _ (labels : List Name) (number : ℕ) (line : List ℕ) (old new : Drafts) where
-  by_hindrance : (label : Option Name) (words : List (List ℕ)) (says : Says) → head_of line ≡ Ok (label, words) → rest_says words ≡ Ok says → is_taken label old ≡ false
-      → (h : Option Cause) → hindrance labels label says old ≡ h → unless_hindered h (with_says number says (with_label label old)) ≡ Ok new → IsAdded labels number line old new
+  by_hindrance : (label : Option Name) (words : List (List ℕ)) (says : Says) → head_of line ≡ Ok (label, words) → rest_says words ≡ Ok says
+      → is_taken label old ≡ false
+      → (h : Option Cause) → hindrance labels label says old ≡ h → unless_hindered h (with_says number says (with_label label old)) ≡ Ok new
+      → IsAdded labels number line old new
   by_hindrance label words says head rest free (Some cause) e added = absurd cc
-  by_hindrance label words says head rest free None e added = record { label = label; words = words; says = says; head = head; rest = rest; free = free; clear = e; is = cc }
+  by_hindrance label words says head rest free None e added =
+      record { label = label; words = words; says = says; head = head; rest = rest; free = free; clear = e; is = cc }
 
   by_says : (label : Option Name) (words : List (List ℕ)) → head_of line ≡ Ok (label, words) → is_taken label old ≡ false
       → (said : Result Says Cause) → rest_says words ≡ said → add_says labels number label old said ≡ Ok new → IsAdded labels number line old new
@@ -31,11 +35,13 @@ module _ (labels : List Name) (number : ℕ) (line : List ℕ) (old new : Drafts
   by_says label words head free (Ok says) e added = by_hindrance label words says head e free (hindrance labels label says old) refl added
 
   by_label : (label : Option Name) (words : List (List ℕ)) → head_of line ≡ Ok (label, words)
-      → (taken : Bool) → is_taken label old ≡ taken → cond taken (Err DuplicateLabel) (add_says labels number label old (rest_says words)) ≡ Ok new → IsAdded labels number line old new
+      → (taken : Bool) → is_taken label old ≡ taken → cond taken (Err DuplicateLabel) (add_says labels number label old (rest_says words)) ≡ Ok new
+      → IsAdded labels number line old new
   by_label label words head true e added = absurd cc
   by_label label words head false e added = by_says label words head e (rest_says words) refl added
 
-  by_head : (head : Result (Option Name × List (List ℕ)) Cause) → head_of line ≡ head → add_head labels number old head ≡ Ok new → IsAdded labels number line old new
+  by_head : (head : Result (Option Name × List (List ℕ)) Cause) → head_of line ≡ head → add_head labels number old head ≡ Ok new
+      → IsAdded labels number line old new
   by_head (Err cause) e added = absurd cc
   by_head (Ok (label, words)) e added = by_label label words e (is_taken label old) refl added
 
@@ -50,17 +56,20 @@ pub record IsClear (labels : List Name) (label : Option Name) (says : Says) (old
   pub room : (is_instruction says && is_none label && is_full old.current) ≡ false
   pub blocks : (begins_block label says old && leb 64 (length (all_drafts old))) ≡ false
 
-clear_by : (unknown full many : Bool) → cond unknown (Some UnknownTarget) (cond full (Some TooManyInstructions) (cond many (Some TooManyBlocks) None)) ≡ None
+clear_by : (unknown full many : Bool)
+    → cond unknown (Some UnknownTarget) (cond full (Some TooManyInstructions) (cond many (Some TooManyBlocks) None)) ≡ None
     → (unknown ≡ false) × (full ≡ false) × (many ≡ false)
 clear_by true full many e = absurd cc
 clear_by false true many e = absurd cc
 clear_by false false true e = absurd cc
 clear_by false false false e = (refl, refl, refl)
 
-pub clear_parts : (labels : List Name) (label : Option Name) (says : Says) (old : Drafts) → hindrance labels label says old ≡ None → IsClear labels label says old
+pub clear_parts : (labels : List Name) (label : Option Name) (says : Says) (old : Drafts) → hindrance labels label says old ≡ None
+    → IsClear labels label says old
 unfolding hindrance
 clear_parts labels label says old clear =
-    let parts = clear_by (is_unknown labels says) (is_instruction says && is_none label && is_full old.current) (begins_block label says old && leb 64 (length (all_drafts old))) clear in
+    let parts = clear_by (is_unknown labels says) (is_instruction says && is_none label && is_full old.current)
+    (begins_block label says old && leb 64 (length (all_drafts old))) clear in
     record { known = parts.0; room = parts.1; blocks = parts.2 }
 
 -- ---- how many blocks there are
@@ -78,21 +87,34 @@ open_length drafts = length-append drafts.done (option_to_list drafts.current)
 -- a line that begins no block adds none, and another adds one
 abbrev Grows : Option Name → Says → ℕ → Drafts → Type 0
 Grows label says number old =
-    length (all_drafts (with_says number says (with_label label old))) ≤ length (all_drafts old) + cond (begins_block label says old) 1 0
+    length (all_drafts (with_says number says (with_label label old))) ≡ length (all_drafts old) + cond (begins_block label says old) 1 0
 
 grows_label : (label : Name) (says : Says) (number : ℕ) (old : Drafts) → Grows (Some label) says number old
 unfolding with_says
 grows_label label Nothing number old = omega (arith, append_one (all_drafts old) (record { label = Some label; insns = []; target = None }))
 grows_label label (Pause n) number old = omega (arith, append_one (all_drafts old) (record { label = Some label; insns = []; target = None }))
-grows_label label (Does parts) number old = omega (arith, closed_length (is_branch parts.op) (all_drafts old) (with_insn parts number None (record { label = Some label; insns = []; target = None })))
-grows_label label (Jumps parts target) number old = omega (arith, closed_length (is_branch parts.op) (all_drafts old) (with_insn parts number (Some target) (record { label = Some label; insns = []; target = None })))
+grows_label label (Does parts) number old =
+    omega (
+      arith,
+      closed_length (is_branch parts.op) (all_drafts old)
+          (with_insn parts number None (record { label = Some label; insns = []; target = None })),
+    )
+grows_label label (Jumps parts target) number old =
+    omega (
+      arith,
+      closed_length (is_branch parts.op) (all_drafts old)
+          (with_insn parts number (Some target) (record { label = Some label; insns = []; target = None })),
+    )
 
 grows_insn : (parts : Parts) (number : ℕ) (target : Option Name) (done : List Draft) (current : Option Draft)
-    → length (all_drafts (closed (is_branch parts.op) done (with_insn parts number target (opened current)))) ≤ length (done ++ option_to_list current) + cond (is_none current) 1 0
-grows_insn parts number target done None = omega (arith, closed_length (is_branch parts.op) done (with_insn parts number target (opened None)), length-append done [])
-grows_insn parts number target done (Some draft) = omega (arith, closed_length (is_branch parts.op) done (with_insn parts number target draft), append_one done draft)
+    → length (all_drafts (closed (is_branch parts.op) done (with_insn parts number target (opened current))))
+    ≡ length (done ++ option_to_list current) + cond (is_none current) 1 0
+grows_insn parts number target done None =
+    omega (arith, closed_length (is_branch parts.op) done (with_insn parts number target (opened None)), length-append done [])
+grows_insn parts number target done (Some draft) =
+    omega (arith, closed_length (is_branch parts.op) done (with_insn parts number target draft), append_one done draft)
 
-grows : (label : Option Name) (says : Says) (number : ℕ) (old : Drafts) → Grows label says number old
+pub grows : (label : Option Name) (says : Says) (number : ℕ) (old : Drafts) → Grows label says number old
 unfolding with_says
 grows (Some label) says number old = grows_label label says number old
 grows None Nothing number old = omega arith
@@ -100,31 +122,13 @@ grows None (Pause n) number old = omega arith
 grows None (Does parts) number old = grows_insn parts number None old.done old.current
 grows None (Jumps parts target) number old = grows_insn parts number (Some target) old.done old.current
 
-within : (begins : Bool) (n m : ℕ) → n ≤ 64 → (begins && leb 64 n) ≡ false → m ≤ n + cond begins 1 0 → m ≤ 64
+within : (begins : Bool) (n m : ℕ) → n ≤ 64 → (begins && leb 64 n) ≡ false → m ≡ n + cond begins 1 0 → m ≤ 64
 within true n m few room grown = let less : n < 64 = leb-false 64 n room in omega arith
 within false n m few room grown = omega arith
 
-pub few_added : (labels : List Name) (number : ℕ) (line : List ℕ) (old new : Drafts) → IsAdded labels number line old new → length (all_drafts old) ≤ 64 → length (all_drafts new) ≤ 64
+pub few_added : (labels : List Name) (number : ℕ) (line : List ℕ) (old new : Drafts) → IsAdded labels number line old new
+    → length (all_drafts old) ≤ 64 → length (all_drafts new) ≤ 64
 few_added labels number line old new added few =
     let clear = clear_parts labels added.label added.says old added.clear in
     subst (λ (drafts : Drafts). length (all_drafts drafts) ≤ 64) (sym added.is)
     (within (begins_block added.label added.says old) (length (all_drafts old)) _ few clear.blocks (grows added.label added.says number old))
-
-module _ (P : Drafts → Type 0) (labels : List Name) (keeps : (number : ℕ) (line : List ℕ) (old new : Drafts) → IsAdded labels number line old new → P old → P new) where
-  kept_by : (number : ℕ) (line : List ℕ) (lines : List (List ℕ)) (old new : Drafts)
-      → ((more : Drafts) → add_lines labels (number + 1) lines more ≡ Ok new → P more → P new)
-      → (added : Result Drafts Cause) → add_line labels number line old ≡ added
-      → and_then (at_line number added) (λ more. add_lines labels (number + 1) lines more) ≡ Ok new → P old → P new
-  kept_by number line lines old new others (Err cause) e is holds = absurd cc
-  kept_by number line lines old new others (Ok more) e is holds = others more is (keeps number line old more (added_is labels number line old more e) holds)
-
-  -- what each line keeps holds at the end
-  pub kept : (number : ℕ) (lines : List (List ℕ)) (old new : Drafts) → add_lines labels number lines old ≡ Ok new → P old → P new
-  unfolding add_lines
-  kept number [] old new is holds = let same : old ≡ new = cc in subst P same holds
-  kept number (line ∷ lines) old new is holds =
-      kept_by number line lines old new (λ more. kept (number + 1) lines more new) (add_line labels number line old) refl is holds
-
--- a text that is read has at most 64 blocks
-pub few_blocks : (labels : List Name) (lines : List (List ℕ)) (drafts : Drafts) → add_lines labels 1 lines no_drafts ≡ Ok drafts → length (all_drafts drafts) ≤ 64
-few_blocks labels lines drafts is = kept (λ (d : Drafts). length (all_drafts d) ≤ 64) labels (few_added labels) 1 lines no_drafts drafts is (omega arith)

@@ -53,8 +53,10 @@ tokens-bytes (b ∷ c ∷ rest) =
               ap joined_bytes (tokens_double b c rest here double) ∙ ap (λ (bs : List ℕ). b ∷ c ∷ bs) (tokens-bytes rest)
               ∙ sym (kept_dark b (c ∷ rest) text solid ∙ ap (λ (bs : List ℕ). b ∷ bs) (kept_dark c rest second.0 second.1))
           | inr single ↦ elim (cases_Bool (joins b c)) [
-            | inl joined ↦ ap joined_bytes (tokens_joined b c rest here joined) ∙ grown b (tokens (c ∷ rest)) ∙ ap (λ (bs : List ℕ). b ∷ bs) (tokens-bytes (c ∷ rest)) ∙ sym (kept_dark b (c ∷ rest) text solid)
-            | inr alone ↦ ap joined_bytes (tokens_alone b c rest here single alone) ∙ ap (λ (bs : List ℕ). b ∷ bs) (tokens-bytes (c ∷ rest)) ∙ sym (kept_dark b (c ∷ rest) text solid)
+            | inl joined ↦ ap joined_bytes (tokens_joined b c rest here joined) ∙ grown b (tokens (c ∷ rest))
+                ∙ ap (λ (bs : List ℕ). b ∷ bs) (tokens-bytes (c ∷ rest)) ∙ sym (kept_dark b (c ∷ rest) text solid)
+            | inr alone ↦ ap joined_bytes (tokens_alone b c rest here single alone) ∙ ap (λ (bs : List ℕ). b ∷ bs) (tokens-bytes (c ∷ rest))
+                ∙ sym (kept_dark b (c ∷ rest) text solid)
           ]
         ]
       ]

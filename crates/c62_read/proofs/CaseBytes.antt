@@ -5,7 +5,7 @@ use Rattle.std.specs.Char.{digit_value, to_ascii_lowercase, is_ascii_digit}
 use Rattle.std.specs.List.{list_all, starts_with}
 use Rattle.std.specs.Str.{bytes_eq}
 use Rattle.std.specs.Str.Parse.{digits_value_after}
-use Rattle.std.proofs.lemmas.Bool.{agree_below, agree_below_at, cases_lt, eqb-true, le-ltb, lt-ltb}
+use Rattle.std.proofs.lemmas.Bool.{agree_below, agree_below_at, cases_Bool, cases_lt, eqb-true, le-ltb, lt-ltb}
 use Rattle.std.proofs.lemmas.Bool.Decides.{nat_tests}
 use Rattle.c62_insn.specs.declared.register.Side.{Side}
 use Rattle.c62_read.specs.Text.{begins, is_allowed, is_blank, is_solid, is_sign, is_word_byte, is_double, joins}
@@ -57,12 +57,15 @@ beq-is true false e = absurd cc
 beq-is false true e = absurd cc
 
 -- a test that answers the same for each capital and its small letter
-pub test_same : (test : ℕ → Bool) → agree_below (λ c. ltb c 65 || beq (test (c + 32)) (test c)) (λ c. true) 91 ≡ true → (b c : ℕ) → Same b c → test b ≡ test c
+pub test_same : (test : ℕ → Bool) → agree_below (λ c. ltb c 65 || beq (test (c + 32)) (test c)) (λ c. true) 91 ≡ true → (b c : ℕ) → Same b c
+    → test b ≡ test c
 test_same test all b c same = by_case (case_of b c same)
   where
     at : (x : ℕ) → 65 ≤ x → x < 91 → test (x + 32) ≡ test x
     at x high low =
-        beq-is (test (x + 32)) (test x) (or_holds x (beq (test (x + 32)) (test x)) high (agree_below_at (λ y. ltb y 65 || beq (test (y + 32)) (test y)) (λ y. true) 91 x all low))
+        beq-is (test (x + 32)) (test x)
+        (or_holds x (beq (test (x + 32)) (test x)) high
+        (agree_below_at (λ y. ltb y 65 || beq (test (y + 32)) (test y)) (λ y. true) 91 x all low))
 
     by_case : IsCase b c → test b ≡ test c
     by_case (Equal e) = ap test e
@@ -74,7 +77,8 @@ number_same f all b c same = by_case (case_of b c same)
   where
     at : (x : ℕ) → 65 ≤ x → x < 91 → f (x + 32) ≡ f x
     at x high low =
-        eqb-true (f (x + 32)) (f x) (or_holds x (eqb (f (x + 32)) (f x)) high (agree_below_at (λ y. ltb y 65 || eqb (f (y + 32)) (f y)) (λ y. true) 91 x all low))
+        eqb-true (f (x + 32)) (f x) (or_holds x (eqb (f (x + 32)) (f x)) high
+        (agree_below_at (λ y. ltb y 65 || eqb (f (y + 32)) (f y)) (λ y. true) 91 x all low))
 
     by_case : IsCase b c → f b ≡ f c
     by_case (Equal e) = ap f e
@@ -127,7 +131,8 @@ bar_same = test_same (λ x. eqb x 124) refl
 pub double_same : (b c d e : ℕ) → Same b c → Same d e → is_double b d ≡ is_double c e
 double_same b c d e first second =
     double_parts b d
-    ∙ rw (plus_same b c first, minus_same b c first, bar_same b c first, plus_same d e second, minus_same d e second, bar_same d e second) (sym (double_parts c e))
+    ∙ rw (plus_same b c first, minus_same b c first, bar_same b c first, plus_same d e second, minus_same d e second, bar_same d e second)
+    (sym (double_parts c e))
 
 -- ---- words
 
@@ -156,13 +161,15 @@ length_same before (b ∷ w) (c ∷ v) same = rw (length_same b w v same.2) refl
 length_same before [] (c ∷ v) same = absurd same
 length_same before (b ∷ w) [] same = absurd same
 
-pub all_same : (test : ℕ → Bool) → ((b c : ℕ) → Same b c → test b ≡ test c) → (before : ℕ) (w v : List ℕ) → IsRecased before w v → list_all test w ≡ list_all test v
+pub all_same : (test : ℕ → Bool) → ((b c : ℕ) → Same b c → test b ≡ test c) → (before : ℕ) (w v : List ℕ) → IsRecased before w v
+    → list_all test w ≡ list_all test v
 all_same test tests before [] [] same = refl
 all_same test tests before (b ∷ w) (c ∷ v) same = rw (tests b c same.0, all_same test tests b w v same.2) refl
 all_same test tests before [] (c ∷ v) same = absurd same
 all_same test tests before (b ∷ w) [] same = absurd same
 
-pub begins_same : (test : ℕ → Bool) → ((b c : ℕ) → Same b c → test b ≡ test c) → (before : ℕ) (w v : List ℕ) → IsRecased before w v → begins test w ≡ begins test v
+pub begins_same : (test : ℕ → Bool) → ((b c : ℕ) → Same b c → test b ≡ test c) → (before : ℕ) (w v : List ℕ) → IsRecased before w v
+    → begins test w ≡ begins test v
 begins_same test tests before [] [] same = refl
 begins_same test tests before (b ∷ w) (c ∷ v) same = tests b c same.0
 begins_same test tests before [] (c ∷ v) same = absurd same
@@ -185,8 +192,10 @@ digit_is b c same digit = by_case (case_of b c same)
     by_case (Raised high low e) = absurd (omega (arith, most))
     by_case (Lowered high low e) = absurd (omega (arith, most))
 
-digit_number : (f g : Option Side) (d e less : ℕ) (c : Bool) → f ≡ g → Same d e → is_ascii_digit d ≡ c → cond c (in_file f (d - less)) None ≡ cond c (in_file g (e - less)) None
-digit_number f g d e less true files same digit = ap (λ (n : ℕ). in_file f (n - less)) (digit_is d e same digit) ∙ ap (λ (file : Option Side). in_file file (e - less)) files
+digit_number : (f g : Option Side) (d e less : ℕ) (c : Bool) → f ≡ g → Same d e → is_ascii_digit d ≡ c
+    → cond c (in_file f (d - less)) None ≡ cond c (in_file g (e - less)) None
+digit_number f g d e less true files same digit = ap (λ (n : ℕ). in_file f (n - less)) (digit_is d e same digit)
+    ∙ ap (λ (file : Option Side). in_file file (e - less)) files
 digit_number f g d e less false files same digit = refl
 
 two_same : (l m d e : ℕ) → Same l m → Same d e → register_of (l ∷ d ∷ []) ≡ register_of (m ∷ e ∷ [])
@@ -198,7 +207,8 @@ two_same l m d e first second =
 one_same : (b c : ℕ) → Same b c → eqb b 49 ≡ eqb c 49
 one_same = test_same (λ x. eqb x 49) refl
 
-ten_number : (f g : Option Side) (d e : ℕ) (t c : Bool) → f ≡ g → Same d e → is_ascii_digit d ≡ c → cond (t && c) (in_file f (d - 38)) None ≡ cond (t && c) (in_file g (e - 38)) None
+ten_number : (f g : Option Side) (d e : ℕ) (t c : Bool) → f ≡ g → Same d e → is_ascii_digit d ≡ c
+    → cond (t && c) (in_file f (d - 38)) None ≡ cond (t && c) (in_file g (e - 38)) None
 ten_number f g d e true c files same digit = digit_number f g d e 38 c files same digit
 ten_number f g d e false c files same digit = refl
 
@@ -261,16 +271,30 @@ decimal_same before (b ∷ w) [] same = absurd same
 zero_same : (b c : ℕ) → Same b c → eqb 48 b ≡ eqb 48 c
 zero_same = test_same (λ x. eqb 48 x) refl
 
--- the small x of a hexadecimal number stands behind a 0
-hex_mark : (zero : Bool) (b d e : ℕ) → eqb 48 b ≡ zero → (b ≡ 48 → d ≡ e) → (zero && (eqb 120 d && true)) ≡ (zero && (eqb 120 e && true))
-hex_mark true b d e is kept = ap (λ (x : ℕ). eqb 120 x && true) (kept (sym (eqb-true 48 b is)))
-hex_mark false b d e is kept = refl
+-- a hexadecimal number has a small x behind a 0
+x_lowers : (d : ℕ) → eqb 120 d ≡ true → to_ascii_lowercase d ≡ 120
+x_lowers d is = let e : 120 ≡ d = eqb-true 120 d is in ap to_ascii_lowercase (sym e)
+
+x_same : (d e : ℕ) → Same d e → (to_ascii_lowercase d ≡ 120 → d ≡ e) → eqb 120 d ≡ eqb 120 e
+x_same d e same kept =
+    elim (cases_Bool (eqb 120 d)) [
+      | inl small ↦ ap (λ (x : ℕ). eqb 120 x) (kept (x_lowers d small))
+      | inr first ↦ elim (cases_Bool (eqb 120 e)) [
+        | inl small ↦ ap (λ (x : ℕ). eqb 120 x) (kept (same ∙ x_lowers e small))
+        | inr second ↦ first ∙ sym second
+      ]
+    ]
+
+hex_mark : (zero : Bool) (b d e : ℕ) → eqb 48 b ≡ zero → Same d e → (b ≡ 48 → to_ascii_lowercase d ≡ 120 → d ≡ e)
+    → (zero && (eqb 120 d && true)) ≡ (zero && (eqb 120 e && true))
+hex_mark true b d e is same kept = ap (λ (x : Bool). x && true) (x_same d e same (kept (sym (eqb-true 48 b is))))
+hex_mark false b d e is same kept = refl
 
 hex_same : (before : ℕ) (w v : List ℕ) → IsRecased before w v → starts_with eqb w (codes "0x") ≡ starts_with eqb v (codes "0x")
 hex_same before [] [] same = refl
 hex_same before (b ∷ []) (c ∷ []) same = ap (λ (zero : Bool). zero && false) (zero_same b c same.0)
 hex_same before (b ∷ d ∷ w) (c ∷ e ∷ v) same =
-    hex_mark (eqb 48 b) b d e refl same.2.1 ∙ ap (λ (zero : Bool). zero && (eqb 120 e && true)) (zero_same b c same.0)
+    hex_mark (eqb 48 b) b d e refl same.2.0 same.2.1 ∙ ap (λ (zero : Bool). zero && (eqb 120 e && true)) (zero_same b c same.0)
 hex_same before [] (c ∷ v) same = absurd same
 hex_same before (b ∷ w) [] same = absurd same
 hex_same before (b ∷ []) (c ∷ e ∷ v) same = absurd same.2
@@ -309,4 +333,9 @@ no_digit_same b c same = ap not (digit_same b c same)
 pub label_same : (w v : List ℕ) → IsRecasedWord w v → is_label w ≡ is_label v
 unfolding is_label
 label_same w v same =
-    rw (begins_same (λ b. not (is_ascii_digit b)) no_digit_same 32 w v same, all_same is_word_byte word_same 32 w v same, length_same 32 w v same, register_same w v same) refl
+    rw (
+      begins_same (λ b. not (is_ascii_digit b)) no_digit_same 32 w v same,
+      all_same is_word_byte word_same 32 w v same,
+      length_same 32 w v same,
+      register_same w v same,
+    ) refl

@@ -54,7 +54,8 @@ begins_with c (d ∷ rest) solid =
     elim (cases_Bool (is_double c d)) [
       | inl double ↦ record { word = d ∷ []; others = tokens rest; is = tokens_double c d rest solid double }
       | inr single ↦ elim (cases_Bool (joins c d)) [
-        | inl joined ↦ let grown = grown_begins c (tokens (d ∷ rest)) in record { word = grown.word; others = grown.others; is = tokens_joined c d rest solid joined ∙ grown.is }
+        | inl joined ↦ let grown = grown_begins c (tokens (d ∷ rest)) in
+            record { word = grown.word; others = grown.others; is = tokens_joined c d rest solid joined ∙ grown.is }
         | inr alone ↦ record { word = []; others = tokens (d ∷ rest); is = tokens_alone c d rest solid single alone }
       ]
     ]
@@ -79,13 +80,16 @@ no_colon_double b c double =
 no_colon_blank : (b : ℕ) → is_blank b ≡ true → eqb b 58 ≡ false
 no_colon_blank b blank = grind (arith, nat_tests)
 
-joined_case : (b c : ℕ) (rest : List ℕ) → joins b c ≡ true → has_colon (tokens (c ∷ rest)) ≡ in_bytes (c ∷ rest) → has_colon (tokens (b ∷ c ∷ rest)) ≡ in_bytes (b ∷ c ∷ rest)
+joined_case : (b c : ℕ) (rest : List ℕ) → joins b c ≡ true → has_colon (tokens (c ∷ rest)) ≡ in_bytes (c ∷ rest)
+    → has_colon (tokens (b ∷ c ∷ rest)) ≡ in_bytes (b ∷ c ∷ rest)
 joined_case b c rest joined others =
     let parts = no_colon_joins b c joined in
     let word = joined_word b c joined in
     let first = begins_with c rest (word_solid c word) in
-    let same : has_colon (grow b (tokens (c ∷ rest))) ≡ has_colon (tokens (c ∷ rest)) = rw first.is (any_grown b c first.word first.others (no_colon_word c word)) in
-    let bytes : in_bytes (b ∷ c ∷ rest) ≡ in_bytes (c ∷ rest) = bytes_more b (c ∷ rest) parts.1 ∙ ap (λ (x : Bool). x || in_bytes (c ∷ rest)) parts.0 in
+    let same : has_colon (grow b (tokens (c ∷ rest))) ≡ has_colon (tokens (c ∷ rest)) =
+    rw first.is (any_grown b c first.word first.others (no_colon_word c word)) in
+    let bytes : in_bytes (b ∷ c ∷ rest) ≡ in_bytes (c ∷ rest) = bytes_more b (c ∷ rest) parts.1
+    ∙ ap (λ (x : Bool). x || in_bytes (c ∷ rest)) parts.0 in
     ap has_colon (tokens_joined b c rest parts.2 joined) ∙ same ∙ others ∙ sym bytes
 
 pub colons : (line : List ℕ) → has_colon (tokens line) ≡ in_bytes line
@@ -94,7 +98,8 @@ colons (b ∷ []) =
     elim (cases_Bool (eqb b 59)) [
       | inl comment ↦ rw (tokens_comment b [] comment) (sym (bytes_comment b [] comment))
       | inr text ↦ elim (cases_Bool (is_blank b)) [
-        | inl blank ↦ let none : in_bytes (b ∷ []) ≡ false = bytes_more b [] text ∙ ap (λ (x : Bool). x || false) (no_colon_blank b blank) in ap has_colon (tokens_blank b [] text blank) ∙ sym none
+        | inl blank ↦ let none : in_bytes (b ∷ []) ≡ false = bytes_more b [] text ∙ ap (λ (x : Bool). x || false) (no_colon_blank b blank) in
+            ap has_colon (tokens_blank b [] text blank) ∙ sym none
         | inr dark ↦ let solid : is_solid b ≡ true = rw (text, dark) refl in
             let here : has_colon ((b ∷ []) ∷ []) ≡ (eqb b 58 || false) = ap (λ (x : Bool). x || false) (one_byte b) in
             ap has_colon (tokens_last b solid) ∙ here ∙ sym (bytes_more b [] text)
@@ -105,19 +110,24 @@ colons (b ∷ c ∷ rest) =
       | inl comment ↦ rw (tokens_comment b (c ∷ rest) comment) (sym (bytes_comment b (c ∷ rest) comment))
       | inr text ↦ elim (cases_Bool (is_blank b)) [
         | inl blank ↦
-            let first : in_bytes (b ∷ c ∷ rest) ≡ in_bytes (c ∷ rest) = bytes_more b (c ∷ rest) text ∙ ap (λ (x : Bool). x || in_bytes (c ∷ rest)) (no_colon_blank b blank) in
+            let first : in_bytes (b ∷ c ∷ rest) ≡ in_bytes (c ∷ rest) = bytes_more b (c ∷ rest) text
+            ∙ ap (λ (x : Bool). x || in_bytes (c ∷ rest)) (no_colon_blank b blank) in
             ap has_colon (tokens_blank b (c ∷ rest) text blank) ∙ colons (c ∷ rest) ∙ sym first
         | inr dark ↦ let solid : is_solid b ≡ true = rw (text, dark) refl in elim (cases_Bool (is_double b c)) [
           | inl double ↦ let parts = no_colon_double b c double in
-              let here : has_colon ((b ∷ c ∷ []) ∷ tokens rest) ≡ has_colon (tokens rest) = ap (λ (x : Bool). x || has_colon (tokens rest)) (two_bytes b c []) in
+              let here : has_colon ((b ∷ c ∷ []) ∷ tokens rest) ≡ has_colon (tokens rest) =
+              ap (λ (x : Bool). x || has_colon (tokens rest)) (two_bytes b c []) in
               let second : in_bytes (c ∷ rest) ≡ in_bytes rest = bytes_more c rest parts.2 ∙ ap (λ (x : Bool). x || in_bytes rest) parts.1 in
-              let first : in_bytes (b ∷ c ∷ rest) ≡ in_bytes (c ∷ rest) = bytes_more b (c ∷ rest) text ∙ ap (λ (x : Bool). x || in_bytes (c ∷ rest)) parts.0 in
+              let first : in_bytes (b ∷ c ∷ rest) ≡ in_bytes (c ∷ rest) = bytes_more b (c ∷ rest) text
+              ∙ ap (λ (x : Bool). x || in_bytes (c ∷ rest)) parts.0 in
               ap has_colon (tokens_double b c rest solid double) ∙ here ∙ colons rest ∙ sym second ∙ sym first
           | inr single ↦ elim (cases_Bool (joins b c)) [
             | inl joined ↦ joined_case b c rest joined (colons (c ∷ rest))
             | inr alone ↦
-                let here : has_colon ((b ∷ []) ∷ tokens (c ∷ rest)) ≡ (eqb b 58 || has_colon (tokens (c ∷ rest))) = ap (λ (x : Bool). x || has_colon (tokens (c ∷ rest))) (one_byte b) in
-                ap has_colon (tokens_alone b c rest solid single alone) ∙ here ∙ ap (λ (x : Bool). eqb b 58 || x) (colons (c ∷ rest)) ∙ sym (bytes_more b (c ∷ rest) text)
+                let here : has_colon ((b ∷ []) ∷ tokens (c ∷ rest)) ≡ (eqb b 58 || has_colon (tokens (c ∷ rest))) =
+                ap (λ (x : Bool). x || has_colon (tokens (c ∷ rest))) (one_byte b) in
+                ap has_colon (tokens_alone b c rest solid single alone) ∙ here ∙ ap (λ (x : Bool). eqb b 58 || x) (colons (c ∷ rest))
+                ∙ sym (bytes_more b (c ∷ rest) text)
           ]
         ]
       ]

@@ -10,9 +10,10 @@ use Rattle.c62_read.specs.Text.{begins, is_allowed, lines_of, tokens}
 use Rattle.c62_read.specs.Number.{is_label, spells}
 use Rattle.c62_read.specs.Operand.{Word}
 use Rattle.c62_read.specs.Line.{Nothing, head_of, instruction_of, is_bars, is_star, condition_front, label_front, line_of, rest_says, with_head, without_colon}
-use Rattle.c62_read.specs.Program.{Drafts, Name, Refusal, add_head, add_line, add_lines, and_then, at_line, drafts_in, labels_of, no_drafts, place_of, program_in}
+use Rattle.c62_read.specs.Program.{fault_in, place_of}
 use Rattle.c62_read.specs.Laws.{AreUncommented, Behind, CommentSaysNothing, CommentsSayNothing, IsReadable, IsUncommented, Same, StarSaysNothing, Whole}
 use Rattle.c62_read.proofs.CommentLemmas.{tokens-comment}
+use Rattle.c62_read.proofs.AlikeLaws.{AreAlike, IsAlike, alike_programs}
 use Rattle.c62_read.proofs.SpelledTokens.{mark_alone}
 
 abbrev Head : Type 0
@@ -46,7 +47,8 @@ star_label = refl
 star_front : (words : List Word) → (label_front ((42 ∷ []) ∷ words)).0 ≡ None
 unfolding label_front
 star_front [] = refl
-star_front (colon ∷ words) = let none : (spells (codes ":") colon && is_label (42 ∷ [])) ≡ false = and_right (spells (codes ":") colon) (is_label (42 ∷ [])) star_label in rw none refl
+star_front (colon ∷ words) = let none : (spells (codes ":") colon && is_label (42 ∷ [])) ≡ false =
+    and_right (spells (codes ":") colon) (is_label (42 ∷ [])) star_label in rw none refl
 
 pub star_is : (line : List ℕ) → begins is_star line ≡ true → (rest : List ℕ) × (line ≡ 42 ∷ rest)
 star_is [] star = absurd cc
@@ -64,7 +66,8 @@ star_nothing line readable star =
 
 front_readable : (line rest : List ℕ) → IsReadable (line ++ 59 ∷ rest) → IsReadable line
 front_readable line rest readable =
-    let parts = and_parts (list_all is_allowed line) (list_all is_allowed (59 ∷ rest)) (sym (list_all-append is_allowed line (59 ∷ rest)) ∙ readable.0) in
+    let parts = and_parts (list_all is_allowed line) (list_all is_allowed (59 ∷ rest))
+    (sym (list_all-append is_allowed line (59 ∷ rest)) ∙ readable.0) in
     (parts.0, omega (arith, readable.1, length-append line (59 ∷ rest)))
 
 same_star : (line rest : List ℕ) → begins is_star (line ++ 59 ∷ rest) ≡ begins is_star line
@@ -86,54 +89,7 @@ comment_place line rest = ap (λ (words : List Word). (label_front words).0) (to
 pub comment_nothing : (line rest : List ℕ) → IsReadable (line ++ 59 ∷ rest) → CommentSaysNothing line rest
 comment_nothing line rest readable = (comment_line line rest readable, comment_place line rest)
 
--- ---- lines that have one head and one label place
-
-pub record IsAlike (line other : List ℕ) : Type 0 where
-  pub head : head_of line ≡ head_of other
-  pub place : place_of line ≡ place_of other
-
-abbrev pub AreAlike : List (List ℕ) → List (List ℕ) → Type 0
-AreAlike [] [] = Unit {0}
-AreAlike (line ∷ lines) (other ∷ others) = IsAlike line other × AreAlike lines others
-AreAlike _ _ = ⊥
-
-alike_labels : (lines others : List (List ℕ)) → AreAlike lines others → labels_of lines ≡ labels_of others
-alike_labels [] [] alike = refl
-alike_labels (line ∷ lines) (other ∷ others) alike =
-    let place = alike.0.place in
-    rw (place, alike_labels lines others alike.1) refl
-alike_labels [] (other ∷ others) alike = absurd alike
-alike_labels (line ∷ lines) [] alike = absurd alike
-
-alike_line : (labels : List Name) (number : ℕ) (line other : List ℕ) (drafts : Drafts) → IsAlike line other → add_line labels number line drafts ≡ add_line labels number other drafts
-unfolding add_line
-alike_line labels number line other drafts alike = ap (add_head labels number drafts) alike.head
-
-alike_lines : (labels : List Name) (number : ℕ) (lines others : List (List ℕ)) (drafts : Drafts) → AreAlike lines others
-    → add_lines labels number lines drafts ≡ add_lines labels number others drafts
-unfolding add_lines
-alike_lines labels number [] [] drafts alike = refl
-alike_lines labels number (line ∷ lines) (other ∷ others) drafts alike =
-    ap (λ (added : Result Drafts Cause). and_then (at_line number added) (λ more. add_lines labels (number + 1) lines more)) (alike_line labels number line other drafts alike.0)
-    ∙ then_by (at_line number (add_line labels number other drafts)) (λ more. alike_lines labels (number + 1) lines others more alike.1)
-  where
-    then_by : (added : Result Drafts Refusal) → ((more : Drafts) → add_lines labels (number + 1) lines more ≡ add_lines labels (number + 1) others more)
-        → and_then added (λ more. add_lines labels (number + 1) lines more) ≡ and_then added (λ more. add_lines labels (number + 1) others more)
-    then_by (Ok more) each = each more
-    then_by (Err refusal) each = refl
-alike_lines labels number [] (other ∷ others) drafts alike = absurd alike
-alike_lines labels number (line ∷ lines) [] drafts alike = absurd alike
-
--- texts of alike lines are one program
-pub alike_programs : (text other : List ℕ) → length text ≤ 1048576 → length other ≤ 1048576 → AreAlike (lines_of text) (lines_of other) → program_in text ≡ program_in other
-unfolding program_in drafts_in
-alike_programs text other short few alike =
-    rw (
-      le-ltb 1048576 (length text) short,
-      le-ltb 1048576 (length other) few,
-      alike_labels (lines_of text) (lines_of other) alike,
-      alike_lines (labels_of (lines_of other)) 1 (lines_of text) (lines_of other) no_drafts alike,
-    ) refl
+-- ---- lines without their comments
 
 empty_head : head_of [] ≡ Ok (None, [])
 unfolding head_of label_front
@@ -143,14 +99,19 @@ empty_place : place_of [] ≡ None
 unfolding place_of label_front
 empty_place = refl
 
+by_head : (line other : List ℕ) → head_of line ≡ head_of other → place_of line ≡ place_of other → IsAlike line other
+unfolding line_of
+by_head line other head place = record { head = ap fault_in head; place = place; said = ap with_head head }
+
 alike : (line other : List ℕ) → IsUncommented line other → IsAlike line other
-alike line other (Same e) = record { head = ap head_of e; place = ap place_of e }
+alike line other (Same e) = by_head line other (ap head_of e) (ap place_of e)
 alike line other (Behind rest e readable) =
     let there : IsReadable (other ++ 59 ∷ rest) = subst IsReadable e readable in
-    record { head = ap head_of e ∙ comment_head other rest there; place = ap place_of e ∙ comment_place other rest }
+    by_head line other (ap head_of e ∙ comment_head other rest there) (ap place_of e ∙ comment_place other rest)
 alike line other (Whole rest e f readable) =
     let star : begins is_star line ≡ true = ap (begins is_star) e in
-    record { head = star_head line readable star ∙ sym (ap head_of f ∙ empty_head); place = ap place_of e ∙ star_place rest ∙ sym (ap place_of f ∙ empty_place) }
+    by_head line other (star_head line readable star ∙ sym (ap head_of f ∙ empty_head))
+    (ap place_of e ∙ star_place rest ∙ sym (ap place_of f ∙ empty_place))
 
 all_alike : (lines others : List (List ℕ)) → AreUncommented lines others → AreAlike lines others
 all_alike [] [] same = tt

@@ -1,15 +1,18 @@
 -- Lines without a label.
-use Rattle.std.proofs.Common.{◌≡◌, ℕ, ◌≤◌, Bool, true, false, not, eqb, List, [], ◌∷◌, length, Option, None, Ok, refl, ◌∙◌, arith}
+use Rattle.std.proofs.Common.{◌≡◌, ℕ, ◌≤◌, ◌<◌, Bool, true, false, cond, not, eqb, ◌||◌, List, [], ◌∷◌, length, Option, None, Ok, refl, ap, ◌∙◌, arith}
 use Rattle.std.specs.Prelude.{take_while, codes}
+use Rattle.std.specs.Char.{to_ascii_lowercase}
 use Rattle.std.specs.List.{list_all, list_any}
 use Rattle.std.proofs.lemmas.Bool.{and_from, and_parts, le-ltb, or_parts}
 use Rattle.std.proofs.lemmas.Bool.Decides.{nat_tests}
 use Rattle.std.proofs.lemmas.List.Sums.{take_while-cons}
-use Rattle.c62_read.specs.Text.{begins, is_allowed, tokens}
+use Rattle.c62_read.specs.Text.{begins, is_allowed, is_solid, tokens}
 use Rattle.c62_read.specs.Number.{spells}
 use Rattle.c62_read.specs.Operand.{Word}
-use Rattle.c62_read.specs.Line.{Says, has_colon, head_of, is_bars, is_star, label_front, line_of, rest_says}
-use Rattle.c62_read.proofs.ColonLemmas.{colons}
+use Rattle.c62_read.specs.Line.{Says, Nothing, condition_front, has_colon, head_of, instruction_of, is_bars, is_star, label_front, line_of, rest_says, without_colon}
+use Rattle.c62_read.specs.Program.{Name, place_of}
+use Rattle.c62_read.specs.Walk.{Drafts, add_line, hindrance, is_taken, with_says}
+use Rattle.c62_read.proofs.ColonLemmas.{begins_with, colons}
 use Rattle.c62_read.proofs.SpelledTokens.{is_text}
 
 pub all_weaker : (p q : ℕ → Bool) (bytes : List ℕ) → ((b : ℕ) → p b ≡ true → q b ≡ true) → list_all p bytes ≡ true → list_all q bytes ≡ true
@@ -46,12 +49,73 @@ no_label (name ∷ colon ∷ words) none =
     rw second.0 refl
 
 -- the head of a line without a label
-pub head_plain : (line : List ℕ) → list_all is_allowed line ≡ true → length line ≤ 255 → begins is_star line ≡ false → is_bars (tokens line) ≡ false → has_colon (tokens line) ≡ false
+pub head_plain : (line : List ℕ) → list_all is_allowed line ≡ true → length line ≤ 255 → begins is_star line ≡ false → is_bars (tokens line) ≡ false
+    → has_colon (tokens line) ≡ false
     → head_of line ≡ Ok (None, tokens line)
 unfolding head_of
 head_plain line allowed short no_star no_bars none =
     rw (allowed, le-ltb 255 (length line) short, no_star, no_bars, no_label (tokens line) none, none) refl
 
-pub line_by_head : (line : List ℕ) (label : Option Word) (words : List Word) (says : Says) → head_of line ≡ Ok (label, words) → rest_says words ≡ Ok says → line_of line ≡ Ok (label, says)
+pub line_by_head : (line : List ℕ) (label : Option Word) (words : List Word) (says : Says) → head_of line ≡ Ok (label, words)
+    → rest_says words ≡ Ok says → line_of line ≡ Ok (label, says)
 unfolding line_of
 line_by_head line label words says head rest = rw (head, rest) refl
+
+-- ---- a line with no colon at all
+
+no_take : (test : ℕ → Bool) (bytes : List ℕ) → list_any (λ b. eqb b 58) bytes ≡ false → list_any (λ b. eqb b 58) (take_while test bytes) ≡ false
+no_take test [] none = refl
+no_take test (b ∷ bytes) none =
+    let parts = or_parts (eqb b 58) (list_any (λ (x : ℕ). eqb x 58) bytes) none in
+    ap (list_any (λ (x : ℕ). eqb x 58)) (take_while-cons test b bytes) ∙ go (test b) parts.0 (no_take test bytes parts.1)
+  where
+    go : (goes : Bool) → eqb b 58 ≡ false → list_any (λ (x : ℕ). eqb x 58) (take_while test bytes) ≡ false
+        → list_any (λ (x : ℕ). eqb x 58) (cond goes (b ∷ take_while test bytes) []) ≡ false
+    go true here others = or_from here others
+      where
+        or_from : eqb b 58 ≡ false → list_any (λ (x : ℕ). eqb x 58) (take_while test bytes) ≡ false
+            → (eqb b 58 || list_any (λ (x : ℕ). eqb x 58) (take_while test bytes)) ≡ false
+        or_from e f = rw (e, f) refl
+    go false here others = refl
+
+no_colon_at_all : (line : List ℕ) → list_any (λ b. eqb b 58) line ≡ false → has_colon (tokens line) ≡ false
+no_colon_at_all line none = colons line ∙ no_take (λ (b : ℕ). not (eqb b 59)) line none
+
+pub head_without_colon : (line : List ℕ) → list_any (λ b. eqb b 58) line ≡ false → without_colon (label_front (tokens line)) ≡ Ok (None, tokens line)
+head_without_colon line none =
+    let colon = no_colon_at_all line none in
+    ap without_colon (no_label (tokens line) colon) ∙ rw colon refl
+
+pub plain_place : (line : List ℕ) → list_any (λ b. eqb b 58) line ≡ false → place_of line ≡ None
+unfolding place_of
+plain_place line none = ap (λ (front : Option Word × List Word). front.0) (no_label (tokens line) (no_colon_at_all line none))
+
+-- ---- bars
+
+bar_byte : (b : ℕ) → eqb b 124 ≡ false → eqb (to_ascii_lowercase b) 124 ≡ false
+bar_byte b other = grind (arith, nat_tests)
+
+bar_word : (b : ℕ) (word : Word) → eqb b 124 ≡ false → spells (codes "||") (b ∷ word) ≡ false
+bar_word b word other = rw (bar_byte b other) refl
+
+-- a line that begins with a token's byte, and not with a bar, does not begin with bars
+pub no_bars : (start : List ℕ) → (0 < length start → begins is_solid start ≡ true) → begins (λ b. eqb b 124) start ≡ false
+    → is_bars (tokens start) ≡ false
+no_bars [] solid other = refl
+no_bars (b ∷ rest) solid other =
+    let first = begins_with b rest (solid (omega arith)) in
+    ap is_bars first.is ∙ bar_word b first.word other
+
+-- ---- an empty line
+
+empty_head : head_of [] ≡ Ok (None, [])
+unfolding head_of label_front
+empty_head = refl
+
+empty_rest : rest_says [] ≡ Ok Nothing
+unfolding rest_says condition_front instruction_of
+empty_rest = refl
+
+pub empty_line : (labels : List Name) (number : ℕ) (line : List ℕ) (drafts : Drafts) → line ≡ [] → add_line labels number line drafts ≡ Ok drafts
+unfolding add_line hindrance is_taken with_says
+empty_line labels number line drafts none = rw (none, empty_head, empty_rest) refl

@@ -2,7 +2,6 @@ pub mod Registers
 pub mod TokenLemmas
 pub mod NumberLemmas
 pub mod SourceLemmas
-pub mod UnitLemmas
 pub mod ColonLemmas
 pub mod LineLemmas
 pub mod BlockLemmas
@@ -11,6 +10,7 @@ pub mod AddedLemmas
 pub mod SoundLemmas
 pub mod PlaceLemmas
 pub mod TargetLemmas
+pub mod WalkLemmas
 pub mod BytesLemmas
 pub mod CommentLemmas
 pub mod SpelledTokens
@@ -20,12 +20,17 @@ pub mod SpelledUnits
 pub mod SpelledAddresses
 pub mod SpelledOperands
 pub mod HeadLemmas
+pub mod NameLemmas
+pub mod EffectLaws
 pub mod SpelledLine
+pub mod AlikeLaws
 pub mod CommentLaws
 pub mod SaysLemmas
+pub mod CutLemmas
+pub mod FaultLemmas
+pub mod ProgramLemmas
 pub mod ProgramLaws
 pub mod CaseBytes
 pub mod CaseLaws
-pub mod CutLaws
-pub mod TargetLaws
+pub mod CaseTexts
 pub mod WrittenLines

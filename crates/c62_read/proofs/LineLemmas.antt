@@ -36,7 +36,8 @@ before_feed (b ∷ []) rest none =
     let other : eqb b 10 ≡ false = not-true (eqb b 10) (and_parts (not (eqb b 10)) true none).0 in
     rw other (go (eqb b 13))
   where
-    go : (return : Bool) → (if return && true then [] ∷ lines_of rest else ((b ∷ []) ∷ lines_of rest)) ≡ (if return then [] else b ∷ []) ∷ lines_of rest
+    go : (return : Bool) → (if return && true then [] ∷ lines_of rest else ((b ∷ []) ∷ lines_of rest))
+        ≡ (if return then [] else b ∷ []) ∷ lines_of rest
     go true = refl
     go false = refl
 before_feed (b ∷ c ∷ line) rest none =
@@ -46,7 +47,9 @@ before_feed (b ∷ c ∷ line) rest none =
     let others : lines_of (c ∷ (line ++ 10 ∷ rest)) ≡ without_return (c ∷ line) ∷ lines_of rest = before_feed (c ∷ line) rest parts.1 in
     rw other (go (eqb b 13) (eqb c 10) next ∙ ap (grow b) others)
   where
-    go : (return feed : Bool) → feed ≡ false → (if return && feed then lines_of (c ∷ (line ++ 10 ∷ rest)) else grow b (lines_of (c ∷ (line ++ 10 ∷ rest)))) ≡ grow b (lines_of (c ∷ (line ++ 10 ∷ rest)))
+    go : (return feed : Bool) → feed ≡ false
+        → (if return && feed then lines_of (c ∷ (line ++ 10 ∷ rest)) else grow b (lines_of (c ∷ (line ++ 10 ∷ rest))))
+        ≡ grow b (lines_of (c ∷ (line ++ 10 ∷ rest)))
     go true true e = absurd cc
     go true false e = refl
     go false feed e = refl
@@ -66,7 +69,8 @@ at_end b (c ∷ line) none =
     let next : eqb c 10 ≡ false = not-true (eqb c 10) (and_parts (not (eqb c 10)) (has_no_feed line) parts.1).0 in
     rw other (go (eqb b 13) (eqb c 10) next ∙ ap (grow b) (at_end c line parts.1))
   where
-    go : (return feed : Bool) → feed ≡ false → (if return && feed then lines_of (c ∷ line) else grow b (lines_of (c ∷ line))) ≡ grow b (lines_of (c ∷ line))
+    go : (return feed : Bool) → feed ≡ false
+        → (if return && feed then lines_of (c ∷ line) else grow b (lines_of (c ∷ line))) ≡ grow b (lines_of (c ∷ line))
     go true true e = absurd cc
     go true false e = refl
     go false feed e = refl
@@ -87,12 +91,15 @@ none_before (b ∷ text) = none_more b text (is_line_feed b) refl (none_before t
 place_is : (text : List ℕ) (k : ℕ) → position is_line_feed text ≡ Some k → (position_or_len is_line_feed text ≡ k) × (k < length text)
 place_is text k is = go (nat_lt (position_or_len is_line_feed text) (length text)) refl is
   where
-    go : (within : Bool) → nat_lt (position_or_len is_line_feed text) (length text) ≡ within → (if within then Some (position_or_len is_line_feed text) else None) ≡ Some k
+    go : (within : Bool) → nat_lt (position_or_len is_line_feed text) (length text) ≡ within
+        → (if within then Some (position_or_len is_line_feed text) else None) ≡ Some k
         → (position_or_len is_line_feed text ≡ k) × (k < length text)
-    go true less found = let same : position_or_len is_line_feed text ≡ k = cc in (same, omega (arith, same, ltb-true (position_or_len is_line_feed text) (length text) less))
+    go true less found = let same : position_or_len is_line_feed text ≡ k =
+        cc in (same, omega (arith, same, ltb-true (position_or_len is_line_feed text) (length text) less))
     go false less found = absurd cc
 
-pub first_is : (text : List ℕ) (k : ℕ) → position is_line_feed text ≡ Some k → lines_of text ≡ without_return (take k text) ∷ lines_of (drop (k + 1) text)
+pub first_is : (text : List ℕ) (k : ℕ) → position is_line_feed text ≡ Some k
+    → lines_of text ≡ without_return (take k text) ∷ lines_of (drop (k + 1) text)
 first_is text k is =
     let place = position_or_len is_line_feed text in
     let parts = place_is text k is in
@@ -106,7 +113,8 @@ first_is text k is =
 past_is : (text : List ℕ) → position is_line_feed text ≡ None → length text ≤ position_or_len is_line_feed text
 past_is text is = go (nat_lt (position_or_len is_line_feed text) (length text)) refl is
   where
-    go : (within : Bool) → nat_lt (position_or_len is_line_feed text) (length text) ≡ within → (if within then Some (position_or_len is_line_feed text) else None) ≡ None → length text ≤ position_or_len is_line_feed text
+    go : (within : Bool) → nat_lt (position_or_len is_line_feed text) (length text) ≡ within
+        → (if within then Some (position_or_len is_line_feed text) else None) ≡ None → length text ≤ position_or_len is_line_feed text
     go true less found = absurd cc
     go false less found = ltb-false (position_or_len is_line_feed text) (length text) less
 
@@ -121,31 +129,36 @@ only_is (b ∷ text) some is = at_end b text (none_is (b ∷ text) is)
 
 -- ---- a line feed behind bytes without one
 
-place_later : (n : ℕ) (text : List ℕ) → list_any is_line_feed (take n text) ≡ false → n ≤ length text → position_or_len is_line_feed text ≡ n + position_or_len is_line_feed (drop n text)
+place_later : (n : ℕ) (text : List ℕ) → list_any is_line_feed (take n text) ≡ false → n ≤ length text
+    → position_or_len is_line_feed text ≡ n + position_or_len is_line_feed (drop n text)
 place_later zero text none within = omega arith
 place_later (suc n) [] none within = absurd (omega arith)
 place_later (suc n) (b ∷ text) none within = go (is_line_feed b) none (place_later n text)
   where
     go : (feed : Bool) → (feed || list_any is_line_feed (take n text)) ≡ false
-        → (list_any is_line_feed (take n text) ≡ false → n ≤ length text → position_or_len is_line_feed text ≡ n + position_or_len is_line_feed (drop n text))
+        → (list_any is_line_feed (take n text) ≡ false → n ≤ length text
+        → position_or_len is_line_feed text ≡ n + position_or_len is_line_feed (drop n text))
         → (if not feed then 1 + position_or_len is_line_feed text else 0) ≡ suc n + position_or_len is_line_feed (drop n text)
     go true e others = absurd cc
     go false e others = omega (arith, others e (omega arith))
 
-pub later_is : (text : List ℕ) (n k : ℕ) → n ≤ length text → list_any is_line_feed (take n text) ≡ false → position is_line_feed (drop n text) ≡ Some k → position is_line_feed text ≡ Some (n + k)
+pub later_is : (text : List ℕ) (n k : ℕ) → n ≤ length text → list_any is_line_feed (take n text) ≡ false
+    → position is_line_feed (drop n text) ≡ Some k → position is_line_feed text ≡ Some (n + k)
 later_is text n k within none is =
     let parts = place_is (drop n text) k is in
     let place : position_or_len is_line_feed text ≡ n + k = omega (arith, place_later n text none within, parts.0) in
     let less : position_or_len is_line_feed text < length text = omega (arith, place, parts.1, length-drop n text) in
     rw (lt-ltb (position_or_len is_line_feed text) (length text) less) (ap (λ (i : ℕ). Some i) place)
 
-pub later_none : (text : List ℕ) (n : ℕ) → n ≤ length text → list_any is_line_feed (take n text) ≡ false → position is_line_feed (drop n text) ≡ None → position is_line_feed text ≡ None
+pub later_none : (text : List ℕ) (n : ℕ) → n ≤ length text → list_any is_line_feed (take n text) ≡ false
+    → position is_line_feed (drop n text) ≡ None → position is_line_feed text ≡ None
 later_none text n within none is =
     let past : length (drop n text) ≤ position_or_len is_line_feed (drop n text) = past_is (drop n text) is in
     let more : length text ≤ position_or_len is_line_feed text = omega (arith, place_later n text none within, past, length-drop n text) in
     rw (le-ltb (position_or_len is_line_feed text) (length text) more) refl
 
-pub none_more_steps : (text : List ℕ) (n k : ℕ) → list_any is_line_feed (take n text) ≡ false → list_any is_line_feed (take k (drop n text)) ≡ false → list_any is_line_feed (take (n + k) text) ≡ false
+pub none_more_steps : (text : List ℕ) (n k : ℕ) → list_any is_line_feed (take n text) ≡ false → list_any is_line_feed (take k (drop n text)) ≡ false
+    → list_any is_line_feed (take (n + k) text) ≡ false
 none_more_steps text n k front next =
     ap (list_any is_line_feed) (take-add n k text) ∙ list_any-append is_line_feed (take n text) (take k (drop n text))
     ∙ ap (λ (x : Bool). x || list_any is_line_feed (take k (drop n text))) front ∙ next
@@ -155,12 +168,14 @@ within_next zero text some = absurd cc
 within_next (suc k) [] some = absurd cc
 within_next (suc k) (b ∷ text) some = go (is_line_feed b) some (within_next k text)
   where
-    go : (feed : Bool) → (feed || list_any is_line_feed (take k text)) ≡ true → (list_any is_line_feed (take k text) ≡ true → position_or_len is_line_feed text < k)
+    go : (feed : Bool) → (feed || list_any is_line_feed (take k text)) ≡ true
+        → (list_any is_line_feed (take k text) ≡ true → position_or_len is_line_feed text < k)
         → (if not feed then 1 + position_or_len is_line_feed text else 0) < suc k
     go true e others = omega arith
     go false e others = omega (arith, others e)
 
-pub near_feed : (text : List ℕ) (n k : ℕ) → n ≤ length text → list_any is_line_feed (take n text) ≡ false → list_any is_line_feed (take k (drop n text)) ≡ true → position_or_len is_line_feed text < n + k
+pub near_feed : (text : List ℕ) (n k : ℕ) → n ≤ length text → list_any is_line_feed (take n text) ≡ false
+    → list_any is_line_feed (take k (drop n text)) ≡ true → position_or_len is_line_feed text < n + k
 near_feed text n k within none some = omega (arith, place_later n text none within, within_next k (drop n text) some)
 
 pub near_end : (text : List ℕ) (n k : ℕ) → length text - n < k → position_or_len is_line_feed text < n + k

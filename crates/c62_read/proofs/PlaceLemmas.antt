@@ -1,10 +1,13 @@
--- The label place of a comment line.
-use Rattle.std.proofs.Common.{◌≡◌, ℕ, Bool, true, false, eqb, ◌&&◌, List, [], ◌∷◌, Some, None, refl, sym, ap, subst, ◌∙◌}
-use Rattle.std.specs.Prelude.{Option, codes, if◌then◌else◌}
+-- The label place of a line.
+use Rattle.std.proofs.Common.{◌≡◌, ℕ, Bool, true, false, eqb, ◌&&◌, List, [], ◌∷◌, length, Some, None, Result, Ok, Err, refl, sym, ap, subst, ◌∙◌}
+use Rattle.std.specs.Prelude.{Option, codes, nat_lt, if◌then◌else◌}
+use Rattle.std.specs.List.{list_all}
 use Rattle.std.proofs.lemmas.Bool.{and_right, eqb-true}
-use Rattle.c62_read.specs.Text.{begins, is_double, tokens}
+use Rattle.c62_read.specs.declared.fault.Cause.{Cause}
+use Rattle.c62_read.specs.declared.fault.Cause.TheVariants.{BadLabel, LineTooLong, NotAscii, ParallelBar}
+use Rattle.c62_read.specs.Text.{begins, is_allowed, is_double, tokens}
 use Rattle.c62_read.specs.Number.{is_label, spells}
-use Rattle.c62_read.specs.Line.{is_star, label_front}
+use Rattle.c62_read.specs.Line.{has_colon, head_of, is_bars, is_star, label_front, without_colon}
 use Rattle.c62_read.specs.Program.{Name, place_of}
 use Rattle.c62_read.proofs.TokenLemmas.{tokens_alone}
 
@@ -13,7 +16,8 @@ unfolding label_front
 no_label_front word [] none = refl
 no_label_front word (colon ∷ words) none = go (spells (codes ":") colon) (is_label word) none
   where
-    go : (ends label : Bool) → label ≡ false → (if◌then◌else◌ {A = Option Name × List (List ℕ)} (ends && label) (Some word, words) (None, word ∷ colon ∷ words)).0 ≡ None
+    go : (ends label : Bool) → label ≡ false
+        → (if◌then◌else◌ {A = Option Name × List (List ℕ)} (ends && label) (Some word, words) (None, word ∷ colon ∷ words)).0 ≡ None
     go true true e = absurd cc
     go true false e = refl
     go false label e = refl
@@ -32,4 +36,43 @@ star_place (b ∷ c ∷ rest) star =
     let e : b ≡ 42 = eqb-true b 42 star in
     let single : is_double 42 c ≡ false = and_right (eqb 42 c) false refl in
     subst (λ (x : ℕ). (label_front (tokens (x ∷ c ∷ rest))).0 ≡ None) (sym e)
-    (ap (λ (words : List (List ℕ)). (label_front words).0) (tokens_alone 42 c rest refl single refl) ∙ no_label_front (42 ∷ []) (tokens (c ∷ rest)) star_is_no_label)
+    (ap (λ (words : List (List ℕ)). (label_front words).0) (tokens_alone 42 c rest refl single refl)
+    ∙ no_label_front (42 ∷ []) (tokens (c ∷ rest)) star_is_no_label)
+
+-- ---- a line's label is the one in its label place
+
+colon_place : (colon : Bool) (front : Option Name × List (List ℕ)) (label : Option Name) (words : List (List ℕ))
+    → (if◌then◌else◌ {A = Result (Option Name × List (List ℕ)) Cause} colon (Err BadLabel) (Ok (front.0, front.1))) ≡ Ok (label, words)
+    → front.0 ≡ label
+colon_place true front label words is = absurd cc
+colon_place false front label words is = cc
+
+abbrev SameHead : Result (Option Name × List (List ℕ)) Cause → Result (Option Name × List (List ℕ)) Cause → Type 0
+SameHead read said = read ≡ said
+
+head_label : (found other : Option Name × List (List ℕ)) → SameHead (Ok found) (Ok other) → found.0 ≡ other.0
+head_label found other is = let same : found ≡ other = cc in ap (λ (head : Option Name × List (List ℕ)). head.0) same
+
+abbrev Heads : Bool → Bool → Bool → Bool → List ℕ → Result (Option Name × List (List ℕ)) Cause
+Heads allowed long star bars line =
+    if allowed then (if long then Err LineTooLong
+    else (if star then Ok (None, [])
+    else (if bars then Err ParallelBar
+    else without_colon (label_front (tokens line)))))
+    else Err NotAscii
+
+head_place : (allowed long star bars : Bool) (line : List ℕ) (label : Option Name) (words : List (List ℕ)) → begins is_star line ≡ star
+    → Heads allowed long star bars line ≡ Ok (label, words)
+    → place_of line ≡ label
+unfolding place_of
+head_place false long star bars line label words starred is = absurd cc
+head_place true true star bars line label words starred is = absurd cc
+head_place true false true bars line label words starred is = star_place line starred ∙ head_label (None, []) (label, words) is
+head_place true false false true line label words starred is = absurd cc
+head_place true false false false line label words starred is =
+    colon_place (has_colon (label_front (tokens line)).1) (label_front (tokens line)) label words is
+
+pub place_is : (line : List ℕ) (label : Option Name) (words : List (List ℕ)) → head_of line ≡ Ok (label, words) → place_of line ≡ label
+unfolding head_of
+place_is line label words is = head_place (list_all is_allowed line) (nat_lt 255 (length line)) (begins is_star line)
+    (is_bars (tokens line)) line label words refl is

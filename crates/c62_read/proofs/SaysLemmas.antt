@@ -64,7 +64,8 @@ behind_found : (found : Address × List Word) → Found (register_behind found)
 behind_found (address, []) = tt
 behind_found (address, comma ∷ []) = tt
 behind_found (address, comma ∷ name ∷ []) =
-    cond_both (spells (codes ",") comma) (option_map (λ reg. access reg address) (register_of name)) None Found (λ _. access_found address (register_of name)) (λ _. tt)
+    cond_both (spells (codes ",") comma) (option_map (λ reg. access reg address) (register_of name)) None Found
+    (λ _. access_found address (register_of name)) (λ _. tt)
 behind_found (address, comma ∷ name ∷ next ∷ words) = tt
 
 loaded_found : (words : List Word) → Found (loaded_of words)
@@ -90,7 +91,8 @@ stored_found [] = tt
 stored_found (name ∷ []) = tt
 stored_found (name ∷ comma ∷ []) = tt
 stored_found (name ∷ comma ∷ star ∷ words) =
-    cond_both (spells (codes ",") comma && spells (codes "*") star) (option_and_then (λ reg. option_and_then (nothing_behind reg) (address_of words)) (register_of name)) None Found
+    cond_both (spells (codes ",") comma && spells (codes "*") star)
+    (option_and_then (λ reg. option_and_then (nothing_behind reg) (address_of words)) (register_of name)) None Found
     (λ _. stored_by (register_of name) (address_of words)) (λ _. tt)
 
 operands_found : (store : Bool) (words : List Word) → Found (operands_of store words)
@@ -99,7 +101,8 @@ operands_found store [] = tt
 operands_found store (first ∷ rest) =
     cond_both (spells (codes "*") first) (cond store None (loaded_of rest)) (cond store (stored_of (first ∷ rest)) (plain_of (first ∷ rest))) Found
     (λ _. cond_both store None (loaded_of rest) Found (λ _. tt) (λ _. loaded_found rest))
-    (λ _. cond_both store (stored_of (first ∷ rest)) (plain_of (first ∷ rest)) Found (λ _. stored_found (first ∷ rest)) (λ _. plain_found (first ∷ rest)))
+    (λ _. cond_both store (stored_of (first ∷ rest)) (plain_of (first ∷ rest)) Found (λ _. stored_found (first ∷ rest))
+    (λ _. plain_found (first ∷ rest)))
 
 -- ---- what is made of them
 
@@ -141,7 +144,8 @@ zero_free (Some S) d = refl
 zero_free (Some M) d = refl
 zero_free (Some D) d = refl
 
-read_free : (mnemonic : Mnemonic) (letter : Option Letter) (operands : Operands) → has_no_block operands ≡ true → Made (read_as mnemonic letter operands)
+read_free : (mnemonic : Mnemonic) (letter : Option Letter) (operands : Operands) → has_no_block operands ≡ true
+    → Made (read_as mnemonic letter operands)
 unfolding read_as
 read_free (Operation op) letter operands free = kind_made (in_order op operands) (in_order_free op operands free)
 read_free Mv letter (Two x d) free = refl
@@ -152,7 +156,8 @@ read_free Mvkl letter (Constant k d) free = refl
 read_free Mvkh letter (Constant k d) free = refl
 read_free _ letter operands free = tt
 
-written_free : (mnemonic : Mnemonic) (written : Option WrittenUnit) (operands : Option Operands) → Found operands → Made (operands_written mnemonic written operands)
+written_free : (mnemonic : Mnemonic) (written : Option WrittenUnit) (operands : Option Operands) → Found operands
+    → Made (operands_written mnemonic written operands)
 written_free mnemonic written None free = tt
 written_free mnemonic written (Some operands) free = read_free mnemonic (letter_written written) operands free
 
@@ -172,9 +177,11 @@ formed_proper : (fault : Option FormFault) (says : Says) → IsProper says → O
 formed_proper None says proper = proper
 formed_proper (Some fault) says proper = tt
 
-does_proper : (cond : Option Condition) (written : Option WrittenUnit) (found : Option (Op × Operands)) → Made found → OkProper (does cond written found)
+does_proper : (cond : Option Condition) (written : Option WrittenUnit) (found : Option (Op × Operands)) → Made found
+    → OkProper (does cond written found)
 does_proper cond written None made = tt
-does_proper cond written (Some (op, operands)) made = formed_proper (text_fault op operands cond written) (Does (parts_read op operands cond written)) made
+does_proper cond written (Some (op, operands)) made =
+    formed_proper (text_fault op operands cond written) (Does (parts_read op operands cond written)) made
 
 behind_proper : (aim : Option Word) (mnemonic : Mnemonic) (cond : Option Condition) (written : Option WrittenUnit) (words : List Word)
     → OkProper (jumps_or_does aim mnemonic cond written words)
@@ -196,7 +203,8 @@ pause_proper None [] = tt
 pause_proper None (word ∷ []) = cycles_proper (number_of word)
 pause_proper None (word ∷ next ∷ words) = tt
 
-unit_proper : (mnemonic : Mnemonic) (cond : Option Condition) (written : Option WrittenUnit) (words : List Word) → OkProper (behind_unit mnemonic cond written words)
+unit_proper : (mnemonic : Mnemonic) (cond : Option Condition) (written : Option WrittenUnit) (words : List Word)
+    → OkProper (behind_unit mnemonic cond written words)
 unfolding behind_unit
 unit_proper Nop cond written words = pause_proper cond words
 unit_proper (Operation op) cond written words = behind_proper (target_of (Operation op) words) (Operation op) cond written words
@@ -207,11 +215,13 @@ unit_proper Zero cond written words = behind_proper None Zero cond written words
 unit_proper Mvkl cond written words = behind_proper None Mvkl cond written words
 unit_proper Mvkh cond written words = behind_proper None Mvkh cond written words
 
-with_unit_proper : (mnemonic : Mnemonic) (cond : Option Condition) (found : Option (Option WrittenUnit × List Word)) → OkProper (with_unit mnemonic cond found)
+with_unit_proper : (mnemonic : Mnemonic) (cond : Option Condition) (found : Option (Option WrittenUnit × List Word))
+    → OkProper (with_unit mnemonic cond found)
 with_unit_proper mnemonic cond None = tt
 with_unit_proper mnemonic cond (Some (None, words)) = unit_proper mnemonic cond None words
 with_unit_proper mnemonic cond (Some (Some written, words)) =
-    cond_both (unit_fits mnemonic written) (behind_unit mnemonic cond (Some written) words) (Err BadUnit) OkProper (λ _. unit_proper mnemonic cond (Some written) words) (λ _. tt)
+    cond_both (unit_fits mnemonic written) (behind_unit mnemonic cond (Some written) words) (Err BadUnit) OkProper
+    (λ _. unit_proper mnemonic cond (Some written) words) (λ _. tt)
 
 mnemonic_proper : (cond : Option Condition) (mnemonic : Option Mnemonic) (words : List Word) → OkProper (with_mnemonic cond mnemonic words)
 mnemonic_proper cond None words = tt
@@ -231,7 +241,8 @@ condition_proper (Some (cond, words)) = instruction_proper cond words
 rest_proper : (words : List Word) → OkProper (rest_says words)
 unfolding rest_says
 rest_proper words =
-    cond_both (first_begins is_dot words) (Err Directive) (with_condition (condition_front words)) OkProper (λ _. tt) (λ _. condition_proper (condition_front words))
+    cond_both (first_begins is_dot words) (Err Directive) (with_condition (condition_front words)) OkProper (λ _. tt)
+    (λ _. condition_proper (condition_front words))
 
 -- what a line says is proper
 pub proper : (words : List Word) (says : Says) → rest_says words ≡ Ok says → IsProper says

@@ -18,18 +18,22 @@ five_none (Constant a) (Constant b) c d e others = refl
 
 -- five sources and more are no operands
 five : (a b c d : Source) (others : Option (List Source)) (more : Option Source)
-    → option_and_then operands_from (before_sources (Some a) (before_sources (Some b) (before_sources (Some c) (before_sources (Some d) (before_sources more others))))) ≡ None
+    → option_and_then operands_from
+    (before_sources (Some a) (before_sources (Some b) (before_sources (Some c) (before_sources (Some d) (before_sources more others))))) ≡ None
 five a b c d others None = refl
 five a b c d None (Some e) = refl
 five a b c d (Some others) (Some e) = five_none a b c d e others
 
 pub too_many : (a b c d : Source) (words : List Word)
-    → option_and_then operands_from (before_sources (Some a) (before_sources (Some b) (before_sources (Some c) (before_sources (Some d) (sources_of words))))) ≡ None
+    → option_and_then operands_from
+    (before_sources (Some a) (before_sources (Some b) (before_sources (Some c) (before_sources (Some d) (sources_of words))))) ≡ None
 too_many a b c d [] = refl
 too_many a b c d (word ∷ []) = five a b c d (Some []) (source_of word)
 too_many a b c d (word ∷ comma ∷ rest) = behind (spells (codes ",") comma)
   where
     behind : (is_comma : Bool)
-        → option_and_then operands_from (before_sources (Some a) (before_sources (Some b) (before_sources (Some c) (before_sources (Some d) (cond is_comma (before_sources (source_of word) (sources_of rest)) None))))) ≡ None
+        → option_and_then operands_from
+        (before_sources (Some a) (before_sources (Some b)
+        (before_sources (Some c) (before_sources (Some d) (cond is_comma (before_sources (source_of word) (sources_of rest)) None))))) ≡ None
     behind true = five a b c d (sources_of rest) (source_of word)
     behind false = refl

@@ -76,7 +76,8 @@ step_ends : (form : AddressForm) (rest : List ℕ) → begins is_word_byte (step
 step_ends Plus rest = refl
 step_ends _ rest = refl
 
-tokens_sign : (form : AddressForm) (side : Side) (rest : List ℕ) → tokens (sign_of form ++ (file_letter side ++ rest)) ≡ with_sign form (tokens (file_letter side ++ rest))
+tokens_sign : (form : AddressForm) (side : Side) (rest : List ℕ)
+    → tokens (sign_of form ++ (file_letter side ++ rest)) ≡ with_sign form (tokens (file_letter side ++ rest))
 tokens_sign Plus A rest = refl
 tokens_sign Plus B rest = refl
 tokens_sign Minus A rest = refl
@@ -87,15 +88,18 @@ tokens_sign PreDecrement A rest = refl
 tokens_sign PreDecrement B rest = refl
 tokens_sign _ side rest = refl
 
-sign_register : (form : AddressForm) (reg : Reg) (rest : List ℕ) → tokens (sign_of form ++ (register_name reg ++ rest)) ≡ with_sign form (tokens (register_name reg ++ rest))
+sign_register : (form : AddressForm) (reg : Reg) (rest : List ℕ)
+    → tokens (sign_of form ++ (register_name reg ++ rest)) ≡ with_sign form (tokens (register_name reg ++ rest))
 sign_register form reg rest =
     let parts = append_assoc (file_letter reg.side) (decimal reg.number) rest in
-    subst (λ (text : List ℕ). tokens (sign_of form ++ text) ≡ with_sign form (tokens text)) (sym parts) (tokens_sign form reg.side (decimal reg.number ++ rest))
+    subst (λ (text : List ℕ). tokens (sign_of form ++ text) ≡ with_sign form (tokens text)) (sym parts)
+    (tokens_sign form reg.side (decimal reg.number ++ rest))
 
 abbrev whole : Reg → AddressForm → Offset → List ℕ
 whole base form offset = codes "*" ++ sign_of form ++ register_name base ++ step_of form ++ codes "[" ++ offset_spelling offset ++ codes "]"
 
-regrouped : (s r t o rest : List ℕ) → (42 ∷ []) ++ s ++ r ++ t ++ (91 ∷ []) ++ o ++ (93 ∷ []) ++ rest ≡ 42 ∷ (s ++ (r ++ (t ++ 91 ∷ (o ++ 93 ∷ rest))))
+regrouped : (s r t o rest : List ℕ)
+    → (42 ∷ []) ++ s ++ r ++ t ++ (91 ∷ []) ++ o ++ (93 ∷ []) ++ rest ≡ 42 ∷ (s ++ (r ++ (t ++ 91 ∷ (o ++ 93 ∷ rest))))
 regrouped s r t o rest = simp append_assoc refl
 
 tokens_whole : (base : Reg) (form : AddressForm) (offset : Offset) (rest : List ℕ) → offset_fits offset ≡ true
@@ -112,18 +116,21 @@ tokens_whole base form offset rest inside =
     ∙ ap (λ (words : List Word). register_name base ∷ words)
     (tokens_step form (offset_spelling offset ++ 93 ∷ rest) ∙ ap (with_step form) (tokens_bracket offset rest inside))))
 
-tokens_alone_base : (base : Reg) (rest : List ℕ) → begins is_word_byte rest ≡ false → tokens (42 ∷ (register_name base ++ rest)) ≡ codes "*" ∷ register_name base ∷ tokens rest
+tokens_alone_base : (base : Reg) (rest : List ℕ) → begins is_word_byte rest ≡ false
+    → tokens (42 ∷ (register_name base ++ rest)) ≡ codes "*" ∷ register_name base ∷ tokens rest
 tokens_alone_base base rest ends =
     mark_alone 42 (register_name base ++ rest) refl ∙ ap (λ (words : List Word). codes "*" ∷ words) ((register_token base).splits rest ends)
 
 -- the tokens of an address
-pub address_tokens : (base : Reg) (form : AddressForm) (offset : Offset) (rest : List ℕ) → offset_fits offset ≡ true → begins is_word_byte rest ≡ false
+pub address_tokens : (base : Reg) (form : AddressForm) (offset : Offset) (rest : List ℕ) → offset_fits offset ≡ true
+    → begins is_word_byte rest ≡ false
     → tokens (address_spelling base form offset ++ rest) ≡ codes "*" ∷ address_words base form offset (tokens rest)
 address_tokens base form offset rest inside ends = by_alone (is_base_alone form offset)
   where
     by_alone : (alone : Bool)
         → tokens (cond alone (codes "*" ++ register_name base) (whole base form offset) ++ rest)
-        ≡ codes "*" ∷ cond alone (register_name base ∷ tokens rest) (with_sign form (register_name base ∷ with_step form (codes "[" ∷ offset_spelling offset ∷ codes "]" ∷ tokens rest)))
+        ≡ codes "*" ∷ cond alone (register_name base ∷ tokens rest)
+        (with_sign form (register_name base ∷ with_step form (codes "[" ∷ offset_spelling offset ∷ codes "]" ∷ tokens rest)))
     by_alone true = tokens_alone_base base rest ends
     by_alone false = tokens_whole base form offset rest inside
 
@@ -149,7 +156,8 @@ text_whole base form offset inside =
     text_step Plus = refl
     text_step _ = refl
 
-pub address_text : (base : Reg) (form : AddressForm) (offset : Offset) → offset_fits offset ≡ true → list_all is_text (address_spelling base form offset) ≡ true
+pub address_text : (base : Reg) (form : AddressForm) (offset : Offset) → offset_fits offset ≡ true
+    → list_all is_text (address_spelling base form offset) ≡ true
 address_text base form offset inside =
     cond_both (is_base_alone form offset) (codes "*" ++ register_name base) (whole base form offset) (λ (text : List ℕ). list_all is_text text ≡ true)
     (λ _. (register_token base).plain) (λ _. text_whole base form offset inside)
@@ -158,12 +166,14 @@ sign_length : (form : AddressForm) → length (sign_of form) + length (step_of f
 sign_length Plus = omega arith
 sign_length _ = omega arith
 
-lengths : (s r t o : List ℕ) → length s + length t ≤ 2 → length r ≤ 3 → length o ≤ 11 → length ((42 ∷ []) ++ s ++ r ++ t ++ (91 ∷ []) ++ o ++ (93 ∷ [])) ≤ 19
+lengths : (s r t o : List ℕ) → length s + length t ≤ 2 → length r ≤ 3 → length o ≤ 11
+    → length ((42 ∷ []) ++ s ++ r ++ t ++ (91 ∷ []) ++ o ++ (93 ∷ [])) ≤ 19
 lengths s r t o signs register offset = simp length-append (omega arith)
 
 whole_length : (base : Reg) (form : AddressForm) (offset : Offset) → offset_fits offset ≡ true → length (whole base form offset) ≤ 19
 whole_length base form offset inside =
-    lengths (sign_of form) (register_name base) (step_of form) (offset_spelling offset) (sign_length form) (register_length base) (offset_length offset inside)
+    lengths (sign_of form) (register_name base) (step_of form) (offset_spelling offset) (sign_length form) (register_length base)
+    (offset_length offset inside)
 
 pub address_length : (base : Reg) (form : AddressForm) (offset : Offset) → offset_fits offset ≡ true → length (address_spelling base form offset) ≤ 19
 address_length base form offset inside =
@@ -193,7 +203,8 @@ base_back : (base : Reg) (rest : List Word) → address_of (register_name base �
 unfolding address_of
 base_back base rest = rw (no_sign base, register_back base) refl
 
-stepped_back : (base : Reg) (form : AddressForm) (step : Word) (offset : Offset) (rest : List Word) → offset_fits offset ≡ true → step_form step ≡ Some form
+stepped_back : (base : Reg) (form : AddressForm) (step : Word) (offset : Offset) (rest : List Word) → offset_fits offset ≡ true
+    → step_form step ≡ Some form
     → stepped_address base (step ∷ codes "[" ∷ offset_spelling offset ∷ codes "]" ∷ rest) ≡ Some (address base form offset, rest)
 unfolding stepped_address
 stepped_back base form step offset rest inside is = rw is (bracket_back base form offset rest inside)
@@ -210,7 +221,8 @@ by_sign : (form : AddressForm) (sign : Word) (words : List Word) → sign_form s
 unfolding address_of
 by_sign form sign words is = rw is refl
 
-signs : (sign_form (codes "+") ≡ Some Plus) × (sign_form (codes "-") ≡ Some Minus) × (sign_form (codes "++") ≡ Some PreIncrement) × (sign_form (codes "--") ≡ Some PreDecrement)
+signs : (sign_form (codes "+") ≡ Some Plus) × (sign_form (codes "-") ≡ Some Minus) × (sign_form (codes "++") ≡ Some PreIncrement) ×
+    (sign_form (codes "--") ≡ Some PreDecrement)
 unfolding sign_form
 signs = (refl, refl, refl, refl)
 
@@ -231,10 +243,14 @@ pub address_back : (base : Reg) (form : AddressForm) (offset : Offset) (rest : L
 address_back base Plus (ByConstant k) rest inside ends = plus_back base k rest (int_eq k (pos 0)) refl inside ends
 address_back base Plus (ByRegister reg) rest inside ends = by_sign Plus (codes "+") _ signs.0 ∙ signed_back base Plus (ByRegister reg) rest inside
 address_back base Minus offset rest inside ends = by_sign Minus (codes "-") _ signs.1 ∙ signed_back base Minus offset rest inside
-address_back base PreIncrement offset rest inside ends = by_sign PreIncrement (codes "++") _ signs.2 ∙ signed_back base PreIncrement offset rest inside
-address_back base PreDecrement offset rest inside ends = by_sign PreDecrement (codes "--") _ signs.3 ∙ signed_back base PreDecrement offset rest inside
-address_back base PostIncrement offset rest inside ends = base_back base _ ∙ stepped_back base PostIncrement (codes "++") offset rest inside increments
-address_back base PostDecrement offset rest inside ends = base_back base _ ∙ stepped_back base PostDecrement (codes "--") offset rest inside decrements
+address_back base PreIncrement offset rest inside ends = by_sign PreIncrement (codes "++") _ signs.2
+    ∙ signed_back base PreIncrement offset rest inside
+address_back base PreDecrement offset rest inside ends = by_sign PreDecrement (codes "--") _ signs.3
+    ∙ signed_back base PreDecrement offset rest inside
+address_back base PostIncrement offset rest inside ends = base_back base _
+    ∙ stepped_back base PostIncrement (codes "++") offset rest inside increments
+address_back base PostDecrement offset rest inside ends = base_back base _
+    ∙ stepped_back base PostDecrement (codes "--") offset rest inside decrements
 
 -- ---- loads and stores
 
@@ -271,10 +287,13 @@ access_back false reg base form offset inside = load_back reg base form offset i
 
 abbrev pub access_text : Bool → Reg → Reg → AddressForm → Offset → List ℕ
 access_text store reg base form offset =
-    cond store (with_commas (register_name reg ∷ address_spelling base form offset ∷ [])) (with_commas (address_spelling base form offset ∷ register_name reg ∷ []))
+    cond store (with_commas (register_name reg ∷ address_spelling base form offset ∷ []))
+    (with_commas (address_spelling base form offset ∷ register_name reg ∷ []))
 
-address_end : (base : Reg) (form : AddressForm) (offset : Offset) → offset_fits offset ≡ true → tokens (address_spelling base form offset) ≡ codes "*" ∷ address_words base form offset []
-address_end base form offset inside = ap tokens (sym (append-nil (address_spelling base form offset))) ∙ address_tokens base form offset [] inside refl
+address_end : (base : Reg) (form : AddressForm) (offset : Offset) → offset_fits offset ≡ true
+    → tokens (address_spelling base form offset) ≡ codes "*" ∷ address_words base form offset []
+address_end base form offset inside = ap tokens (sym (append-nil (address_spelling base form offset)))
+    ∙ address_tokens base form offset [] inside refl
 
 pub access_tokens : (store : Bool) (reg base : Reg) (form : AddressForm) (offset : Offset) → offset_fits offset ≡ true
     → tokens (access_text store reg base form offset) ≡ access_words store reg base form offset
@@ -292,16 +311,21 @@ access_tokens false reg base form offset inside =
 joined_text : (a b : List ℕ) → list_all is_text a ≡ true → list_all is_text b ≡ true → list_all is_text (a ++ (44 ∷ []) ++ b) ≡ true
 joined_text a b first second =
     list_all-append is_text (a ++ (44 ∷ [])) b
-    ∙ and_from (list_all is_text (a ++ (44 ∷ []))) (list_all is_text b) (list_all-append is_text a (44 ∷ []) ∙ and_from (list_all is_text a) true first refl) second
+    ∙ and_from (list_all is_text (a ++ (44 ∷ []))) (list_all is_text b)
+    (list_all-append is_text a (44 ∷ []) ∙ and_from (list_all is_text a) true first refl) second
 
-pub access_bytes : (store : Bool) (reg base : Reg) (form : AddressForm) (offset : Offset) → offset_fits offset ≡ true → list_all is_text (access_text store reg base form offset) ≡ true
-access_bytes true reg base form offset inside = joined_text (register_name reg) (address_spelling base form offset) (register_token reg).plain (address_text base form offset inside)
-access_bytes false reg base form offset inside = joined_text (address_spelling base form offset) (register_name reg) (address_text base form offset inside) (register_token reg).plain
+pub access_bytes : (store : Bool) (reg base : Reg) (form : AddressForm) (offset : Offset) → offset_fits offset ≡ true
+    → list_all is_text (access_text store reg base form offset) ≡ true
+access_bytes true reg base form offset inside =
+    joined_text (register_name reg) (address_spelling base form offset) (register_token reg).plain (address_text base form offset inside)
+access_bytes false reg base form offset inside =
+    joined_text (address_spelling base form offset) (register_name reg) (address_text base form offset inside) (register_token reg).plain
 
 joined_length : (a b : List ℕ) → length (a ++ (44 ∷ []) ++ b) ≡ length a + length b + 1
 joined_length a b = simp length-append (omega arith)
 
-pub access_length : (store : Bool) (reg base : Reg) (form : AddressForm) (offset : Offset) → offset_fits offset ≡ true → length (access_text store reg base form offset) ≤ 23
+pub access_length : (store : Bool) (reg base : Reg) (form : AddressForm) (offset : Offset) → offset_fits offset ≡ true
+    → length (access_text store reg base form offset) ≤ 23
 access_length true reg base form offset inside =
     omega (arith, joined_length (register_name reg) (address_spelling base form offset), register_length reg, address_length base form offset inside)
 access_length false reg base form offset inside =

@@ -44,36 +44,51 @@ record IsBehind (op : Op) (operands : Operands) (cond : Option Condition) (unit 
 abbrev pub not_block : Operands → Type 0
 not_block operands = (number : ℕ) → operands ≡ Block number → ⊥
 
-behind_block : (name : ℕ → List ℕ) (op : Op) (number : ℕ) (cond : Option Condition) (unit : FunctionalUnit) → op ≡ Branch → is_label (name number) ≡ true
+behind_block : (name : ℕ → List ℕ) (op : Op) (number : ℕ) (cond : Option Condition) (unit : FunctionalUnit) → op ≡ Branch
+    → is_label (name number) ≡ true
     → form_fault op (Block number) cond (Some unit) ≡ None
     → IsBehind op (Block number) cond unit (name number) (Jumps (parts_read op (Block 0) cond (Some (written_on (Block number) unit))) (name number))
 behind_block name op number cond unit is_branch label none =
     let spelled = spelled_label (name number) label in
-    let none_branch : form_fault Branch (Block number) cond (Some unit) ≡ None = subst (λ (o : Op). form_fault o (Block number) cond (Some unit) ≡ None) is_branch none in
-    let there : IsBehind Branch (Block number) cond unit (name number) (Jumps (parts_read Branch (Block 0) cond (Some (written_on (Block number) unit))) (name number)) =
-    record { bytes = spelled.token.plain; short = omega (arith, spelled.short); read = jumps_back number (name number) cond unit label none_branch } in
-    subst (λ (o : Op). IsBehind o (Block number) cond unit (name number) (Jumps (parts_read o (Block 0) cond (Some (written_on (Block number) unit))) (name number)))
+    let none_branch : form_fault Branch (Block number) cond (Some unit) ≡ None =
+    subst (λ (o : Op). form_fault o (Block number) cond (Some unit) ≡ None) is_branch none in
+    let there : IsBehind Branch (Block number) cond unit (name number)
+    (Jumps (parts_read Branch (Block 0) cond (Some (written_on (Block number) unit))) (name number)) =
+    record {
+      bytes = spelled.token.plain;
+      short = omega (arith, spelled.short);
+      read =
+          jumps_back number (name number) cond unit label none_branch;
+    } in
+    subst (λ (o : Op). IsBehind o (Block number) cond unit (name number)
+    (Jumps (parts_read o (Block 0) cond (Some (written_on (Block number) unit))) (name number)))
     (sym is_branch) there
 
-behind_does : (name : ℕ → List ℕ) (op : Op) (operands : Operands) (cond : Option Condition) (unit : FunctionalUnit) → takes op operands unit ≡ true → not_block operands
+behind_does : (name : ℕ → List ℕ) (op : Op) (operands : Operands) (cond : Option Condition) (unit : FunctionalUnit) → takes op operands unit ≡ true
+    → not_block operands
     → form_fault op operands cond (Some unit) ≡ None
-    → IsBehind op operands cond unit (operands_spelling name op unit.letter operands) (Does (parts_read op operands cond (Some (written_on operands unit))))
+    → IsBehind op operands cond unit (operands_spelling name op unit.letter operands)
+    (Does (parts_read op operands cond (Some (written_on operands unit))))
 behind_does name op operands cond unit taking other none =
     let spelled = spelled_operands name op operands unit taking other in
     record { bytes = spelled.bytes; short = spelled.short; read = does_back name op operands cond unit taking other none }
 
 -- the operands as they are spelled
-behind : (name : ℕ → List ℕ) (op : Op) (operands : Operands) (cond : Option Condition) (unit : FunctionalUnit) → takes op operands unit ≡ true → NamesTarget name operands
+behind : (name : ℕ → List ℕ) (op : Op) (operands : Operands) (cond : Option Condition) (unit : FunctionalUnit) → takes op operands unit ≡ true
+    → NamesTarget name operands
     → form_fault op operands cond (Some unit) ≡ None
-    → IsBehind op operands cond unit (operands_spelling name op unit.letter operands) (says_with name (record { op = op; operands = operands; cond = cond; unit = Some unit }) operands)
-behind name op (Block number) cond unit taking names none = behind_block name op number cond unit (block_branch op number unit taking) (names number refl) none
+    → IsBehind op operands cond unit (operands_spelling name op unit.letter operands)
+    (says_with name (record { op = op; operands = operands; cond = cond; unit = Some unit }) operands)
+behind name op (Block number) cond unit taking names none =
+    behind_block name op number cond unit (block_branch op number unit taking) (names number refl) none
 behind name op (Three a b d) cond unit taking names none = behind_does name op (Three a b d) cond unit taking (λ number e. cc) none
 behind name op (ConstantFirst k a d) cond unit taking names none = behind_does name op (ConstantFirst k a d) cond unit taking (λ number e. cc) none
 behind name op (ConstantSecond a k d) cond unit taking names none = behind_does name op (ConstantSecond a k d) cond unit taking (λ number e. cc) none
 behind name op (Two a d) cond unit taking names none = behind_does name op (Two a d) cond unit taking (λ number e. cc) none
 behind name op (Field a k m d) cond unit taking names none = behind_does name op (Field a k m d) cond unit taking (λ number e. cc) none
 behind name op (Constant k d) cond unit taking names none = behind_does name op (Constant k d) cond unit taking (λ number e. cc) none
-behind name op (Access reg base form offset) cond unit taking names none = behind_does name op (Access reg base form offset) cond unit taking (λ number e. cc) none
+behind name op (Access reg base form offset) cond unit taking names none =
+    behind_does name op (Access reg base form offset) cond unit taking (λ number e. cc) none
 behind name op (Register target) cond unit taking names none = behind_does name op (Register target) cond unit taking (λ number e. cc) none
 
 -- ---- the words of a line
@@ -92,25 +107,31 @@ condition_regrouped x r y rest = simp append_assoc refl
 tokens_closed : (reg : Reg) (rest : List ℕ) → tokens (register_name reg ++ 93 ∷ 32 ∷ rest) ≡ register_name reg ∷ codes "]" ∷ tokens rest
 tokens_closed reg rest =
     (register_token reg).splits (93 ∷ 32 ∷ rest) refl
-    ∙ ap (λ (words : List Word). register_name reg ∷ words) (mark_alone 93 (32 ∷ rest) refl ∙ ap (λ (words : List Word). codes "]" ∷ words) (tokens_blank 32 rest refl refl))
+    ∙ ap (λ (words : List Word). register_name reg ∷ words) (mark_alone 93 (32 ∷ rest) refl ∙ ap (λ (words : List Word). codes "]" ∷ words)
+    (tokens_blank 32 rest refl refl))
 
 tokens_bang : (reg : Reg) (negated : Bool) (rest : List ℕ)
-    → tokens ((codes "[" ++ cond negated (codes "!") []) ++ (register_name reg ++ 93 ∷ 32 ∷ rest)) ≡ codes "[" ∷ bang negated (register_name reg ∷ codes "]" ∷ tokens rest)
+    → tokens ((codes "[" ++ cond negated (codes "!") []) ++ (register_name reg ++ 93 ∷ 32 ∷ rest))
+    ≡ codes "[" ∷ bang negated (register_name reg ∷ codes "]" ∷ tokens rest)
 tokens_bang reg true rest =
     mark_alone 91 (33 ∷ (register_name reg ++ 93 ∷ 32 ∷ rest)) refl
-    ∙ ap (λ (words : List Word). codes "[" ∷ words) (mark_alone 33 (register_name reg ++ 93 ∷ 32 ∷ rest) refl ∙ ap (λ (words : List Word). codes "!" ∷ words) (tokens_closed reg rest))
-tokens_bang reg false rest = mark_alone 91 (register_name reg ++ 93 ∷ 32 ∷ rest) refl ∙ ap (λ (words : List Word). codes "[" ∷ words) (tokens_closed reg rest)
+    ∙ ap (λ (words : List Word). codes "[" ∷ words)
+    (mark_alone 33 (register_name reg ++ 93 ∷ 32 ∷ rest) refl ∙ ap (λ (words : List Word). codes "!" ∷ words) (tokens_closed reg rest))
+tokens_bang reg false rest = mark_alone 91 (register_name reg ++ 93 ∷ 32 ∷ rest) refl
+    ∙ ap (λ (words : List Word). codes "[" ∷ words) (tokens_closed reg rest)
 
 tokens_condition : (cond : Option Condition) (rest : List ℕ) → tokens (condition_spelling cond ++ rest) ≡ condition_words cond (tokens rest)
 tokens_condition None rest = refl
 tokens_condition (Some c) rest =
-    ap tokens (condition_regrouped (codes "[" ++ cond c.negated (codes "!") []) (register_name c.reg) (codes "] ") rest) ∙ tokens_bang c.reg c.negated rest
+    ap tokens (condition_regrouped (codes "[" ++ cond c.negated (codes "!") []) (register_name c.reg) (codes "] ") rest)
+    ∙ tokens_bang c.reg c.negated rest
 
 -- the mnemonic, the unit and the operands
 abbrev body : List ℕ → List ℕ → List ℕ → List ℕ
 body mnemonic unit operands = mnemonic ++ 32 ∷ (unit ++ 32 ∷ operands)
 
-tokens_body : (mnemonic unit operands : List ℕ) → IsToken mnemonic → IsToken unit → tokens (body mnemonic unit operands) ≡ mnemonic ∷ unit ∷ tokens operands
+tokens_body : (mnemonic unit operands : List ℕ) → IsToken mnemonic → IsToken unit
+    → tokens (body mnemonic unit operands) ≡ mnemonic ∷ unit ∷ tokens operands
 tokens_body mnemonic unit operands first second =
     first.splits (32 ∷ (unit ++ 32 ∷ operands)) refl
     ∙ ap (λ (words : List Word). mnemonic ∷ words)
@@ -123,12 +144,14 @@ regrouped c m u o = simp append_assoc refl
 -- ---- what the words say
 
 front_by : (reg : Reg) (negated : Bool) (words : List Word)
-    → condition_front (codes "[" ∷ bang negated (register_name reg ∷ codes "]" ∷ words)) ≡ Some (Some (record { reg = reg; negated = negated }), words)
+    → condition_front (codes "[" ∷ bang negated (register_name reg ∷ codes "]" ∷ words))
+    ≡ Some (Some (record { reg = reg; negated = negated }), words)
 unfolding condition_front bracketed_condition closed_condition
 front_by reg true words = rw (register_back reg) refl
 front_by reg false words = rw ((register_free reg).bang, register_back reg) refl
 
-front_back : (cond : Option Condition) (op : Op) (words : List Word) → condition_front (condition_words cond (mnemonic_of op ∷ words)) ≡ Some (cond, mnemonic_of op ∷ words)
+front_back : (cond : Option Condition) (op : Op) (words : List Word)
+    → condition_front (condition_words cond (mnemonic_of op ∷ words)) ≡ Some (cond, mnemonic_of op ∷ words)
 unfolding condition_front
 front_back None op words = rw (mnemonic_no_bracket op) refl
 front_back (Some c) op words = front_by c.reg c.negated (mnemonic_of op ∷ words)
@@ -137,7 +160,8 @@ undirected : (cond : Option Condition) (op : Op) (words : List Word) → first_b
 undirected None op words = mnemonic_no_dot op
 undirected (Some c) op words = refl
 
-unit_says : (op : Op) (operands : Operands) (cond : Option Condition) (unit : FunctionalUnit) (words : List Word) (says : Says) → unit_fits (Operation op) (written_on operands unit) ≡ true
+unit_says : (op : Op) (operands : Operands) (cond : Option Condition) (unit : FunctionalUnit) (words : List Word) (says : Says)
+    → unit_fits (Operation op) (written_on operands unit) ≡ true
     → behind_unit (Operation op) cond (Some (written_on operands unit)) words ≡ Ok says
     → with_mnemonic cond (mnemonic_named (mnemonic_of op)) (unit_spelling operands unit ∷ words) ≡ Ok says
 unit_says op operands cond unit words says fits read = rw (mnemonic_back op, unit_back operands unit words, fits) read
@@ -154,7 +178,8 @@ words_say : (op : Op) (operands : Operands) (cond : Option Condition) (unit : Fu
     → rest_says (condition_words cond (mnemonic_of op ∷ unit_spelling operands unit ∷ words)) ≡ Ok says
 unfolding rest_says
 words_say op operands cond unit words says fits read =
-    rw (undirected cond op (unit_spelling operands unit ∷ words), front_back cond op (unit_spelling operands unit ∷ words)) (instruction_says op operands cond unit words says fits read)
+    rw (undirected cond op (unit_spelling operands unit ∷ words), front_back cond op (unit_spelling operands unit ∷ words))
+    (instruction_says op operands cond unit words says fits read)
 
 -- ---- the bytes of a line
 
@@ -180,9 +205,11 @@ joined_length x r few short = simp length-append (omega arith)
 
 condition_length : (cond : Option Condition) → length (condition_spelling cond) ≤ 7
 condition_length None = omega arith
-condition_length (Some c) = joined_length (codes "[" ++ cond c.negated (codes "!") []) (register_name c.reg) (bang_length c.negated) (register_length c.reg)
+condition_length (Some c) = joined_length
+    (codes "[" ++ cond c.negated (codes "!") []) (register_name c.reg) (bang_length c.negated) (register_length c.reg)
 
-text_body : (m u o : List ℕ) → list_all is_text m ≡ true → list_all is_text u ≡ true → list_all is_text o ≡ true → list_all is_text (body m u o) ≡ true
+text_body : (m u o : List ℕ) → list_all is_text m ≡ true → list_all is_text u ≡ true → list_all is_text o ≡ true
+    → list_all is_text (body m u o) ≡ true
 text_body m u o first second third = appended m (32 ∷ (u ++ 32 ∷ o)) first (appended u (32 ∷ o) second third)
 
 body_length : (m u o : List ℕ) → length m ≤ 6 → length u ≤ 5 → length o ≤ 48 → length (body m u o) ≤ 61
@@ -215,16 +242,20 @@ blank_text b blank = grind (arith, nat_tests)
 -- an instruction's line, with its parts one behind the other
 abbrev line_text : (ℕ → List ℕ) → Insn → FunctionalUnit → List ℕ
 line_text name insn unit =
-    condition_spelling (cond_of insn) ++ body (mnemonic_of (op_of insn)) (unit_spelling (operands_of insn) unit) (operands_spelling name (op_of insn) unit.letter (operands_of insn))
+    condition_spelling (cond_of insn) ++ body (mnemonic_of (op_of insn)) (unit_spelling (operands_of insn) unit)
+    (operands_spelling name (op_of insn) unit.letter (operands_of insn))
 
 spelling_is : (name : ℕ → List ℕ) (insn : Insn) (unit : FunctionalUnit) → spelling name insn unit ≡ line_text name insn unit
 spelling_is name insn unit =
-    regrouped (condition_spelling (cond_of insn)) (mnemonic_of (op_of insn)) (unit_spelling (operands_of insn) unit) (operands_spelling name (op_of insn) unit.letter (operands_of insn))
+    regrouped (condition_spelling (cond_of insn)) (mnemonic_of (op_of insn)) (unit_spelling (operands_of insn) unit)
+    (operands_spelling name (op_of insn) unit.letter (operands_of insn))
 
 -- an instruction's line reads as it, for all parts that have no fault
-line_back : (name : ℕ → List ℕ) (op : Op) (operands : Operands) (cond : Option Condition) (unit : FunctionalUnit) (blanks : List ℕ) → takes op operands unit ≡ true
+line_back : (name : ℕ → List ℕ) (op : Op) (operands : Operands) (cond : Option Condition) (unit : FunctionalUnit) (blanks : List ℕ)
+    → takes op operands unit ≡ true
     → NamesTarget name operands → form_fault op operands cond (Some unit) ≡ None → list_all is_blank blanks ≡ true → length blanks ≤ 100
-    → line_of (blanks ++ (condition_spelling cond ++ body (mnemonic_of op) (unit_spelling operands unit) (operands_spelling name op unit.letter operands)))
+    → line_of (blanks ++ (condition_spelling cond ++ body (mnemonic_of op) (unit_spelling operands unit)
+    (operands_spelling name op unit.letter operands)))
     ≡ Ok (None, says_with name (record { op = op; operands = operands; cond = cond; unit = Some unit }) operands)
 line_back name op operands cond unit blanks taking names none blank few =
     let o : List ℕ = operands_spelling name op unit.letter operands in
@@ -238,7 +269,8 @@ line_back name op operands cond unit blanks taking names none blank few =
     ∙ ap (condition_words cond) (tokens_body m u o (mnemonic_token op) (unit_token operands unit)) in
     let text : list_all is_text line ≡ true =
     appended blanks (condition_spelling cond ++ body m u o) (all_weaker is_blank is_text blanks blank_text blank)
-    (appended (condition_spelling cond) (body m u o) (text_condition cond) (text_body m u o (mnemonic_token op).plain (unit_token operands unit).plain here.bytes)) in
+    (appended (condition_spelling cond) (body m u o) (text_condition cond)
+    (text_body m u o (mnemonic_token op).plain (unit_token operands unit).plain here.bytes)) in
     let short : length line ≤ 255 =
     omega (
       arith,

@@ -122,7 +122,8 @@ number_read (pos n) inside =
 number_read (negsuc n) inside =
     let small : n ≤ 2147483647 = leb-true n 2147483647 (and_parts (leb n 2147483647) true inside).0 in
     let w = written (suc n) (omega arith) in
-    ap (λ (ds : List ℕ). number_of (45 ∷ ds)) w.2.is ∙ ap (option_and_then in_range) (signed_back (suc n) w.0 w.1 w.2) ∙ in_range_back (negsuc n) inside
+    ap (λ (ds : List ℕ). number_of (45 ∷ ds)) w.2.is ∙ ap (option_and_then in_range) (signed_back (suc n) w.0 w.1 w.2)
+    ∙ in_range_back (negsuc n) inside
 
 truth : (b : Bool) → T b → b ≡ true
 truth true h = refl
@@ -130,12 +131,15 @@ truth false h = absurd h
 
 pub number_back : (k : ℤ) → negative 2147483648 ≤ℤ k → k ≤ℤ pos 4294967295 → number_of (signed_decimal k) ≡ Some k
 number_back k low high =
-    number_read k (and_from (int_le (negative 2147483648) k) (int_le k (pos 4294967295)) (truth (int_le (negative 2147483648) k) low.le) (truth (int_le k (pos 4294967295)) high.le))
+    number_read k (and_from (int_le (negative 2147483648) k) (int_le k (pos 4294967295)) (truth (int_le (negative 2147483648) k) low.le)
+    (truth (int_le k (pos 4294967295)) high.le))
 
 -- how a number is spelled: digits, or a minus and digits
 pub data IsSpelled (k : ℤ) : Type 0 where
-  Digits : (d : ℕ) (ds : List ℕ) → signed_decimal k ≡ d ∷ ds → is_ascii_digit d ≡ true → list_all is_ascii_digit ds ≡ true → length ds ≤ 9 → IsSpelled k
-  Minus : (d : ℕ) (ds : List ℕ) → signed_decimal k ≡ 45 ∷ d ∷ ds → is_ascii_digit d ≡ true → list_all is_ascii_digit ds ≡ true → length ds ≤ 9 → IsSpelled k
+  Digits : (d : ℕ) (ds : List ℕ) → signed_decimal k ≡ d ∷ ds → is_ascii_digit d ≡ true → list_all is_ascii_digit ds ≡ true → length ds ≤ 9
+      → IsSpelled k
+  Minus : (d : ℕ) (ds : List ℕ) → signed_decimal k ≡ 45 ∷ d ∷ ds → is_ascii_digit d ≡ true → list_all is_ascii_digit ds ≡ true → length ds ≤ 9
+      → IsSpelled k
 
 pub spelled : (k : ℤ) → fits k ≡ true → IsSpelled k
 spelled (pos n) inside =
@@ -155,7 +159,8 @@ minus_joins d digit = grind (arith, nat_tests)
 
 token_by : (k : ℤ) → IsSpelled k → IsToken (signed_decimal k)
 token_by k (Digits d ds is first others short) = subst IsToken (sym is) (word_token (d ∷ ds) (omega arith) (digit_token d ds first others))
-token_by k (Minus d ds is first others short) = subst IsToken (sym is) (led_token 45 d ds refl (minus_joins d first) refl (digit_token d ds first others))
+token_by k (Minus d ds is first others short) =
+    subst IsToken (sym is) (led_token 45 d ds refl (minus_joins d first) refl (digit_token d ds first others))
 
 pub number_token : (k : ℤ) → fits k ≡ true → IsToken (signed_decimal k)
 number_token k inside = token_by k (spelled k inside)
@@ -271,7 +276,11 @@ pub register_token : (reg : Reg) → IsToken (register_name reg)
 register_token reg = word_token (register_name reg) (omega (arith, register_some reg.side (decimal reg.number))) (register_word reg)
 
 pub register_length : (reg : Reg) → length (register_name reg) ≤ 3
-register_length reg = omega (arith, register_some reg.side (decimal reg.number), length-decimal-le 2 reg.number (omega arith) (omega (arith, reg.in_range)) (omega (arith, reg.in_range)))
+register_length reg = omega (
+  arith,
+  register_some reg.side (decimal reg.number),
+  length-decimal-le 2 reg.number (omega arith) (omega (arith, reg.in_range)) (omega (arith, reg.in_range)),
+)
 
 -- a register is no mark
 free_by : (side : Side) (ds : List ℕ) → IsFree (file_letter side ++ ds)

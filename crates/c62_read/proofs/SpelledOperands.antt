@@ -81,7 +81,8 @@ plain_op Stw operands sourced kind = absurd (both_ways (has_kind Stw operands) (
 plain_op Branch operands sourced kind = absurd (both_ways (has_kind Branch operands) (branch_kind operands sourced) kind)
 plain_op _ operands sourced kind = record { store = refl; branch = refl }
 
-access_op : (op : Op) (reg base : Reg) (form : AddressForm) (offset : Offset) → has_kind op (Access reg base form offset) ≡ true → (is_load op || is_store op) ≡ true
+access_op : (op : Op) (reg base : Reg) (form : AddressForm) (offset : Offset) → has_kind op (Access reg base form offset) ≡ true
+    → (is_load op || is_store op) ≡ true
 access_op Ldb reg base form offset kind = refl
 access_op Ldbu reg base form offset kind = refl
 access_op Ldh reg base form offset kind = refl
@@ -92,7 +93,8 @@ access_op Sth reg base form offset kind = refl
 access_op Stw reg base form offset kind = refl
 access_op _ reg base form offset kind = absurd cc
 
-access_no_branch : (op : Op) (reg base : Reg) (form : AddressForm) (offset : Offset) → has_kind op (Access reg base form offset) ≡ true → is_branch op ≡ false
+access_no_branch : (op : Op) (reg base : Reg) (form : AddressForm) (offset : Offset) → has_kind op (Access reg base form offset) ≡ true
+    → is_branch op ≡ false
 access_no_branch Branch reg base form offset kind = absurd cc
 access_no_branch _ reg base form offset kind = refl
 
@@ -147,7 +149,8 @@ second_kept Addah a d k kind = refl
 second_kept Addaw a d k kind = refl
 second_kept _ a d k kind = absurd cc
 
-second_order : (op : Op) (a d : Reg) (k : ℤ) → has_kind op (ConstantSecond a k d) ≡ true → in_order op (ConstantSecond a k d) ≡ (op, ConstantSecond a k d)
+second_order : (op : Op) (a d : Reg) (k : ℤ) → has_kind op (ConstantSecond a k d) ≡ true
+    → in_order op (ConstantSecond a k d) ≡ (op, ConstantSecond a k d)
 unfolding in_order
 second_order op a d k kind = ap (λ (turned : Option Op). constant_to_front turned op a k d) (second_kept op a d k kind)
 
@@ -159,7 +162,8 @@ field_order : (op : Op) (a d : Reg) (k m : ℤ) → in_order op (Field a k m d) 
 unfolding in_order
 field_order op a d k m = refl
 
-access_order : (op : Op) (reg base : Reg) (form : AddressForm) (offset : Offset) → in_order op (Access reg base form offset) ≡ (op, Access reg base form offset)
+access_order : (op : Op) (reg base : Reg) (form : AddressForm) (offset : Offset)
+    → in_order op (Access reg base form offset) ≡ (op, Access reg base form offset)
 unfolding in_order
 access_order op reg base form offset = refl
 
@@ -178,12 +182,14 @@ or_false : (x : Bool) → (x || false) ≡ true → x ≡ true
 or_false true or = refl
 or_false false or = cc
 
-constant_order : (op : Op) (unit : FunctionalUnit) (k : ℤ) (d : Reg) → takes op (Constant k d) unit ≡ true → in_order op (Constant k d) ≡ (op, Constant k d)
+constant_order : (op : Op) (unit : FunctionalUnit) (k : ℤ) (d : Reg) → takes op (Constant k d) unit ≡ true
+    → in_order op (Constant k d) ≡ (op, Constant k d)
 unfolding in_order
 constant_order Mvklh unit k d taking =
     let here = or_false (int_le (pos 0) k && int_le k (pos 65535) && same_letter S unit.letter && same_side d.side unit.side) taking in
     let inside : (int_le (pos 0) k && int_le k (pos 65535)) ≡ true =
-    (and_parts (int_le (pos 0) k && int_le k (pos 65535)) (same_letter S unit.letter) (and_parts (int_le (pos 0) k && int_le k (pos 65535) && same_letter S unit.letter) (same_side d.side unit.side) here).0).0 in
+    (and_parts (int_le (pos 0) k && int_le k (pos 65535)) (same_letter S unit.letter)
+    (and_parts (int_le (pos 0) k && int_le k (pos 65535) && same_letter S unit.letter) (same_side d.side unit.side) here).0).0 in
     ap (λ (z : ℤ). (Mvklh, Constant z d)) (low_half_is k inside)
 constant_order _ unit k d taking = refl
 
@@ -193,7 +199,8 @@ constant_order _ unit k d taking = refl
 abbrev pub written_on : Operands → FunctionalUnit → WrittenUnit
 written_on operands unit = record { unit = unit; mark = mark_on unit.side operands }
 
-marked_by : (side : Side) (operands : Operands) (crosses : Bool) (path : Option Side) → crosses_to side operands ≡ crosses → data_path_of operands ≡ path
+marked_by : (side : Side) (operands : Operands) (crosses : Bool) (path : Option Side) → crosses_to side operands ≡ crosses
+    → data_path_of operands ≡ path
     → misses (mark_by crosses path) side operands ≡ false
 marked_by side operands true path e f = rw e refl
 marked_by side operands false None e f = refl
@@ -205,7 +212,8 @@ unfolding text_fault
 no_fault op operands cond unit none =
     rw (none, marked_by unit.side operands (crosses_to unit.side operands) (data_path_of operands) refl refl) refl
 
-cross_fits : (op : Op) (crosses : Bool) (letter : Letter) → (same_letter letter D ≡ true → crosses ≡ false) → mark_fits (Operation op) letter (mark_by crosses None) ≡ true
+cross_fits : (op : Op) (crosses : Bool) (letter : Letter) → (same_letter letter D ≡ true → crosses ≡ false)
+    → mark_fits (Operation op) letter (mark_by crosses None) ≡ true
 cross_fits op false letter own = refl
 cross_fits op true letter own =
     elim (cases_Bool (same_letter letter D)) [
@@ -213,15 +221,19 @@ cross_fits op true letter own =
       | inr other ↦ not_from_false (same_letter letter D) other
     ]
 
-mark_taken : (op : Op) (operands : Operands) (unit : FunctionalUnit) → takes op operands unit ≡ true → mark_fits (Operation op) unit.letter (mark_on unit.side operands) ≡ true
+mark_taken : (op : Op) (operands : Operands) (unit : FunctionalUnit) → takes op operands unit ≡ true
+    → mark_fits (Operation op) unit.letter (mark_on unit.side operands) ≡ true
 mark_taken op (Access reg base form offset) unit taking =
     and_from (same_letter unit.letter D) (is_load op || is_store op) (access_on_d op unit reg base form offset taking)
     (access_op op reg base form offset (taken_kind op (Access reg base form offset) unit taking))
 mark_taken op (Three a b d) unit taking = cross_fits op (crosses_to unit.side (Three a b d)) unit.letter (uncrossed_on_d op (Three a b d) unit taking)
-mark_taken op (ConstantFirst k a d) unit taking = cross_fits op (crosses_to unit.side (ConstantFirst k a d)) unit.letter (uncrossed_on_d op (ConstantFirst k a d) unit taking)
-mark_taken op (ConstantSecond a k d) unit taking = cross_fits op (crosses_to unit.side (ConstantSecond a k d)) unit.letter (uncrossed_on_d op (ConstantSecond a k d) unit taking)
+mark_taken op (ConstantFirst k a d) unit taking =
+    cross_fits op (crosses_to unit.side (ConstantFirst k a d)) unit.letter (uncrossed_on_d op (ConstantFirst k a d) unit taking)
+mark_taken op (ConstantSecond a k d) unit taking =
+    cross_fits op (crosses_to unit.side (ConstantSecond a k d)) unit.letter (uncrossed_on_d op (ConstantSecond a k d) unit taking)
 mark_taken op (Two a d) unit taking = cross_fits op (crosses_to unit.side (Two a d)) unit.letter (uncrossed_on_d op (Two a d) unit taking)
-mark_taken op (Field a k m d) unit taking = cross_fits op (crosses_to unit.side (Field a k m d)) unit.letter (uncrossed_on_d op (Field a k m d) unit taking)
+mark_taken op (Field a k m d) unit taking =
+    cross_fits op (crosses_to unit.side (Field a k m d)) unit.letter (uncrossed_on_d op (Field a k m d) unit taking)
 mark_taken op (Constant k d) unit taking = refl
 mark_taken op (Block number) unit taking = refl
 mark_taken op (Register target) unit taking = refl
@@ -231,10 +243,12 @@ unfolding stands_on
 stands op operands unit taking = taken_letter op operands unit taking
 
 -- a unit that takes the operands may be written
-pub unit_written_fits : (op : Op) (operands : Operands) (unit : FunctionalUnit) → takes op operands unit ≡ true → unit_fits (Operation op) (written_on operands unit) ≡ true
+pub unit_written_fits : (op : Op) (operands : Operands) (unit : FunctionalUnit) → takes op operands unit ≡ true
+    → unit_fits (Operation op) (written_on operands unit) ≡ true
 unfolding unit_fits
 unit_written_fits op operands unit taking =
-    and_from (stands_on (Operation op) unit.letter) (mark_fits (Operation op) unit.letter (mark_on unit.side operands)) (stands op operands unit taking) (mark_taken op operands unit taking)
+    and_from (stands_on (Operation op) unit.letter) (mark_fits (Operation op) unit.letter (mark_on unit.side operands))
+    (stands op operands unit taking) (mark_taken op operands unit taking)
 
 -- ---- constants
 
@@ -246,7 +260,8 @@ narrow_fits (negsuc n) narrow =
 one_fits : (k : ℤ) → list_all is_narrow (k ∷ []) ≡ true → fits k ≡ true
 one_fits k narrow = narrow_fits k (and_parts (is_narrow k) true narrow).0
 
-offset_taken : (op : Op) (unit : FunctionalUnit) (reg base : Reg) (form : AddressForm) (offset : Offset) → takes op (Access reg base form offset) unit ≡ true → offset_fits offset ≡ true
+offset_taken : (op : Op) (unit : FunctionalUnit) (reg base : Reg) (form : AddressForm) (offset : Offset)
+    → takes op (Access reg base form offset) unit ≡ true → offset_fits offset ≡ true
 offset_taken op unit reg base form (ByConstant k) taking = one_fits k (narrow_constants op (Access reg base form (ByConstant k)) unit taking)
 offset_taken op unit reg base form (ByRegister offset) taking = refl
 
@@ -269,7 +284,8 @@ with_order op operands written order kind = ap with_kind order ∙ rw kind refl
 
 -- operands that are these sources
 sourced : (op : Op) (operands written : Operands) (source : Source) (sources : List Source) → is_sourced operands ≡ true → has_kind op operands ≡ true
-    → list_all source_fits (source ∷ sources) ≡ true → length sources ≤ 3 → operands_from (source ∷ sources) ≡ Some written → in_order op written ≡ (op, operands)
+    → list_all source_fits (source ∷ sources) ≡ true → length sources ≤ 3 → operands_from (source ∷ sources) ≡ Some written
+    → in_order op written ≡ (op, operands)
     → IsSpelledOperands op operands (with_commas (texts (source ∷ sources)))
 sourced op operands written source sources kind_sourced kind inside few are order =
     let plain = plain_op op operands kind_sourced kind in
@@ -284,28 +300,34 @@ sourced op operands written source sources kind_sourced kind inside few are orde
 fits_second : (k : ℤ) (a d : Reg) → fits k ≡ true → list_all source_fits (FromRegister a ∷ FromConstant k ∷ FromRegister d ∷ []) ≡ true
 fits_second k a d inside = and_from (fits k) true inside refl
 
-fits_field : (k m : ℤ) (a d : Reg) → fits k ≡ true → fits m ≡ true → list_all source_fits (FromRegister a ∷ FromConstant k ∷ FromConstant m ∷ FromRegister d ∷ []) ≡ true
+fits_field : (k m : ℤ) (a d : Reg) → fits k ≡ true → fits m ≡ true
+    → list_all source_fits (FromRegister a ∷ FromConstant k ∷ FromConstant m ∷ FromRegister d ∷ []) ≡ true
 fits_field k m a d first second = and_from (fits k) (fits m && true) first (and_from (fits m) true second refl)
 
-first_by : (op : Op) (unit : FunctionalUnit) (k : ℤ) (a d : Reg) (on_d : Bool) → same_letter unit.letter D ≡ on_d → takes op (ConstantFirst k a d) unit ≡ true
+first_by : (op : Op) (unit : FunctionalUnit) (k : ℤ) (a d : Reg) (on_d : Bool) → same_letter unit.letter D ≡ on_d
+    → takes op (ConstantFirst k a d) unit ≡ true
     → IsSpelledOperands op (ConstantFirst k a d)
-    (cond on_d (with_commas (texts (FromRegister a ∷ FromConstant k ∷ FromRegister d ∷ []))) (with_commas (texts (FromConstant k ∷ FromRegister a ∷ FromRegister d ∷ []))))
+    (cond on_d (with_commas (texts (FromRegister a ∷ FromConstant k ∷ FromRegister d ∷ [])))
+    (with_commas (texts (FromConstant k ∷ FromRegister a ∷ FromRegister d ∷ []))))
 first_by op unit k a d true e taking =
     let kind = taken_kind op (ConstantFirst k a d) unit taking in
     let inside = one_fits k (narrow_constants op (ConstantFirst k a d) unit taking) in
-    sourced op (ConstantFirst k a d) (ConstantSecond a k d) (FromRegister a) (FromConstant k ∷ FromRegister d ∷ []) refl kind (fits_second k a d inside) (omega arith) refl
+    sourced op (ConstantFirst k a d) (ConstantSecond a k d) (FromRegister a) (FromConstant k ∷ FromRegister d ∷ []) refl kind
+    (fits_second k a d inside) (omega arith) refl
     (front_order op k a d (constant_on_d op unit k a d taking e))
 first_by op unit k a d false e taking =
     let kind = taken_kind op (ConstantFirst k a d) unit taking in
     let inside = one_fits k (narrow_constants op (ConstantFirst k a d) unit taking) in
-    sourced op (ConstantFirst k a d) (ConstantFirst k a d) (FromConstant k) (FromRegister a ∷ FromRegister d ∷ []) refl kind (and_from (fits k) true inside refl) (omega arith) refl
+    sourced op (ConstantFirst k a d) (ConstantFirst k a d) (FromConstant k) (FromRegister a ∷ FromRegister d ∷ []) refl kind
+    (and_from (fits k) true inside refl) (omega arith) refl
     (first_order op k a d)
 
 no_label : (reg : Reg) → is_label (register_name reg) ≡ false
 unfolding is_label
 no_label reg =
     let known : not (is_some (register_of (register_name reg))) ≡ false = ap (λ (found : Option Reg). not (is_some found)) (register_back reg) in
-    and_right (begins (λ b. not (is_ascii_digit b)) (register_name reg) && list_all is_word_byte (register_name reg) && leb (length (register_name reg)) 32)
+    and_right (begins (λ b. not (is_ascii_digit b)) (register_name reg) && list_all is_word_byte (register_name reg) && leb
+    (length (register_name reg)) 32)
     (not (is_some (register_of (register_name reg)))) known
 
 label_alone_none : (reg : Reg) → label_alone (register_name reg ∷ []) ≡ None
@@ -327,23 +349,28 @@ branch_to_register target =
 pub spelled_operands : (name : ℕ → List ℕ) (op : Op) (operands : Operands) (unit : FunctionalUnit) → takes op operands unit ≡ true
     → ((number : ℕ) → operands ≡ Block number → ⊥) → IsSpelledOperands op operands (operands_spelling name op unit.letter operands)
 spelled_operands name op (Three a b d) unit taking other =
-    sourced op (Three a b d) (Three a b d) (FromRegister a) (FromRegister b ∷ FromRegister d ∷ []) refl (taken_kind op (Three a b d) unit taking) refl (omega arith) refl
+    sourced op (Three a b d) (Three a b d) (FromRegister a) (FromRegister b ∷ FromRegister d ∷ []) refl
+    (taken_kind op (Three a b d) unit taking) refl (omega arith) refl
     (three_order op unit a b d taking)
 spelled_operands name op (ConstantFirst k a d) unit taking other = first_by op unit k a d (same_letter unit.letter D) refl taking
 spelled_operands name op (ConstantSecond a k d) unit taking other =
     let kind = taken_kind op (ConstantSecond a k d) unit taking in
     let inside = one_fits k (narrow_constants op (ConstantSecond a k d) unit taking) in
-    sourced op (ConstantSecond a k d) (ConstantSecond a k d) (FromRegister a) (FromConstant k ∷ FromRegister d ∷ []) refl kind (fits_second k a d inside) (omega arith) refl
+    sourced op (ConstantSecond a k d) (ConstantSecond a k d) (FromRegister a) (FromConstant k ∷ FromRegister d ∷ []) refl kind
+    (fits_second k a d inside) (omega arith) refl
     (second_order op a d k kind)
 spelled_operands name op (Two a d) unit taking other =
-    sourced op (Two a d) (Two a d) (FromRegister a) (FromRegister d ∷ []) refl (taken_kind op (Two a d) unit taking) refl (omega arith) refl (two_order op a d)
+    sourced op (Two a d) (Two a d) (FromRegister a) (FromRegister d ∷ []) refl (taken_kind op (Two a d) unit taking) refl (omega arith) refl
+    (two_order op a d)
 spelled_operands name op (Field a k m d) unit taking other =
     let both = and_parts (is_narrow k) (is_narrow m && true) (narrow_constants op (Field a k m d) unit taking) in
-    sourced op (Field a k m d) (Field a k m d) (FromRegister a) (FromConstant k ∷ FromConstant m ∷ FromRegister d ∷ []) refl (taken_kind op (Field a k m d) unit taking)
+    sourced op (Field a k m d) (Field a k m d) (FromRegister a) (FromConstant k ∷ FromConstant m ∷ FromRegister d ∷ []) refl
+    (taken_kind op (Field a k m d) unit taking)
     (fits_field k m a d (narrow_fits k both.0) (one_fits m both.1)) (omega arith) refl (field_order op a d k m)
 spelled_operands name op (Constant k d) unit taking other =
     let inside = one_fits k (narrow_constants op (Constant k d) unit taking) in
-    sourced op (Constant k d) (Constant k d) (FromConstant k) (FromRegister d ∷ []) refl (taken_kind op (Constant k d) unit taking) (and_from (fits k) true inside refl) (omega arith) refl
+    sourced op (Constant k d) (Constant k d) (FromConstant k) (FromRegister d ∷ []) refl (taken_kind op (Constant k d) unit taking)
+    (and_from (fits k) true inside refl) (omega arith) refl
     (constant_order op unit k d taking)
 spelled_operands name op (Access reg base form offset) unit taking other =
     let kind = taken_kind op (Access reg base form offset) unit taking in
@@ -359,7 +386,8 @@ spelled_operands name op (Access reg base form offset) unit taking other =
     }
 spelled_operands name op (Block number) unit taking other = absurd (other number refl)
 spelled_operands name op (Register target) unit taking other =
-    subst (λ (o : Op). IsSpelledOperands o (Register target) (register_name target)) (sym (register_op op target (taken_kind op (Register target) unit taking))) (branch_to_register target)
+    subst (λ (o : Op). IsSpelledOperands o (Register target) (register_name target))
+    (sym (register_op op target (taken_kind op (Register target) unit taking))) (branch_to_register target)
 
 -- ---- a branch to a block
 
@@ -371,7 +399,8 @@ pub label_parts : (label : List ℕ) → is_label label ≡ true
     → (begins (λ b. not (is_ascii_digit b)) label ≡ true) × (list_all is_word_byte label ≡ true) × (leb (length label) 32 ≡ true)
 unfolding is_label
 label_parts label is =
-    let first = and_parts (begins (λ b. not (is_ascii_digit b)) label && list_all is_word_byte label && leb (length label) 32) (not (is_some (register_of label))) is in
+    let first = and_parts (begins (λ b. not (is_ascii_digit b)) label && list_all is_word_byte label && leb (length label) 32)
+    (not (is_some (register_of label))) is in
     let second = and_parts (begins (λ b. not (is_ascii_digit b)) label && list_all is_word_byte label) (leb (length label) 32) first.0 in
     let third = and_parts (begins (λ b. not (is_ascii_digit b)) label) (list_all is_word_byte label) second.0 in
     (third.0, third.1, second.1)
@@ -399,9 +428,11 @@ unfolding read_as
 written_is op written None = refl
 written_is op written (Some operands) = refl
 
-does_by : (op : Op) (operands : Operands) (cond : Option Condition) (unit : FunctionalUnit) (words : List Word) → form_fault op operands cond (Some unit) ≡ None
+does_by : (op : Op) (operands : Operands) (cond : Option Condition) (unit : FunctionalUnit) (words : List Word)
+    → form_fault op operands cond (Some unit) ≡ None
     → target_of (Operation op) words ≡ None → option_and_then (read_as (Operation op) None) (operands_of (is_store op) words) ≡ Some (op, operands)
-    → behind_unit (Operation op) cond (Some (written_on operands unit)) words ≡ Ok (Does (parts_read op operands cond (Some (written_on operands unit))))
+    → behind_unit (Operation op) cond (Some (written_on operands unit)) words
+    ≡ Ok (Does (parts_read op operands cond (Some (written_on operands unit))))
 unfolding behind_unit
 does_by op operands cond unit words none target read =
     let written = written_on operands unit in
@@ -419,8 +450,10 @@ does_back name op operands cond unit taking other none =
     does_by op operands cond unit (tokens (operands_spelling name op unit.letter operands)) none s.target s.read
 
 -- the name of a block
-pub jumps_back : (number : ℕ) (label : List ℕ) (cond : Option Condition) (unit : FunctionalUnit) → is_label label ≡ true → form_fault Branch (Block number) cond (Some unit) ≡ None
-    → behind_unit (Operation Branch) cond (Some (written_on (Block number) unit)) (tokens label) ≡ Ok (Jumps (parts_read Branch (Block 0) cond (Some (written_on (Block number) unit))) label)
+pub jumps_back : (number : ℕ) (label : List ℕ) (cond : Option Condition) (unit : FunctionalUnit) → is_label label ≡ true
+    → form_fault Branch (Block number) cond (Some unit) ≡ None
+    → behind_unit (Operation Branch) cond (Some (written_on (Block number) unit)) (tokens label)
+    ≡ Ok (Jumps (parts_read Branch (Block 0) cond (Some (written_on (Block number) unit))) label)
 unfolding behind_unit
 jumps_back number label cond unit is none =
     rw (tokens_end label (spelled_label label is).token, is, no_fault Branch (Block 0) cond unit none) refl

@@ -48,24 +48,29 @@ sources_tokens (source ∷ sources) inside =
     let parts = and_parts (source_fits source) (list_all source_fits sources) inside in
     (source_token source parts.0, sources_tokens sources parts.1)
 
-sources_read : (source : Source) (sources : List Source) → list_all source_fits (source ∷ sources) ≡ true → sources_of (commas (texts (source ∷ sources))) ≡ Some (source ∷ sources)
+sources_read : (source : Source) (sources : List Source) → list_all source_fits (source ∷ sources) ≡ true
+    → sources_of (commas (texts (source ∷ sources))) ≡ Some (source ∷ sources)
 sources_read source [] inside = rw (source_read source (and_parts (source_fits source) true inside).0) refl
 sources_read source (next ∷ sources) inside =
     let parts = and_parts (source_fits source) (list_all source_fits (next ∷ sources)) inside in
     rw (source_read source parts.0, sources_read next sources parts.1) refl
 
-plain_read : (source : Source) (sources : List Source) (operands : Operands) → list_all source_fits (source ∷ sources) ≡ true → operands_from (source ∷ sources) ≡ Some operands
+plain_read : (source : Source) (sources : List Source) (operands : Operands) → list_all source_fits (source ∷ sources) ≡ true
+    → operands_from (source ∷ sources) ≡ Some operands
     → plain_of (commas (texts (source ∷ sources))) ≡ Some operands
 unfolding plain_of
 plain_read source sources operands inside are = rw (sources_read source sources inside) are
 
 -- operands that are these sources read as they are
-pub sources_back : (source : Source) (sources : List Source) (operands : Operands) → list_all source_fits (source ∷ sources) ≡ true → operands_from (source ∷ sources) ≡ Some operands
+pub sources_back : (source : Source) (sources : List Source) (operands : Operands) → list_all source_fits (source ∷ sources) ≡ true
+    → operands_from (source ∷ sources) ≡ Some operands
     → operands_of false (commas (texts (source ∷ sources))) ≡ Some operands
 unfolding operands_of
-sources_back source [] operands inside are = rw (source_no_star source (and_parts (source_fits source) true inside).0) (plain_read source [] operands inside are)
+sources_back source [] operands inside are =
+    rw (source_no_star source (and_parts (source_fits source) true inside).0) (plain_read source [] operands inside are)
 sources_back source (next ∷ sources) operands inside are =
-    rw (source_no_star source (and_parts (source_fits source) (list_all source_fits (next ∷ sources)) inside).0) (plain_read source (next ∷ sources) operands inside are)
+    rw (source_no_star source (and_parts (source_fits source) (list_all source_fits (next ∷ sources)) inside).0)
+    (plain_read source (next ∷ sources) operands inside are)
 
 -- eleven bytes and a comma for each
 pub sources_length : (sources : List Source) → list_all source_fits sources ≡ true → length (with_commas (texts sources)) ≤ 12 * length sources

@@ -33,7 +33,8 @@ word_token [] some words = absurd (omega arith)
 word_token (b ∷ w) some words = record { splits = λ rest ends. tokens_word (b ∷ w) rest words ends; plain = text_word (b ∷ w) words }
 
 -- a number with its sign, or a unit
-pub led_token : (b c : ℕ) (w : List ℕ) → is_solid b ≡ true → joins b c ≡ true → is_text b ≡ true → list_all is_word_byte (c ∷ w) ≡ true → IsToken (b ∷ c ∷ w)
+pub led_token : (b c : ℕ) (w : List ℕ) → is_solid b ≡ true → joins b c ≡ true → is_text b ≡ true → list_all is_word_byte (c ∷ w) ≡ true
+    → IsToken (b ∷ c ∷ w)
 led_token b c w solid joined text words =
     record {
       splits = λ rest ends. tokens_joined b c (w ++ rest) solid joined ∙ ap (grow b) (tokens_word (c ∷ w) rest words ends);
@@ -87,7 +88,8 @@ tokens_commas [] all = refl
 tokens_commas (w ∷ []) all = tokens_end w all.0
 tokens_commas (w ∷ next ∷ ws) all =
     ap tokens (commas_more w next ws) ∙ all.0.splits (44 ∷ with_commas (next ∷ ws)) refl
-    ∙ ap (λ (words : List (List ℕ)). w ∷ words) (mark_alone 44 (with_commas (next ∷ ws)) refl ∙ ap (λ (words : List (List ℕ)). codes "," ∷ words) (tokens_commas (next ∷ ws) all.1))
+    ∙ ap (λ (words : List (List ℕ)). w ∷ words)
+    (mark_alone 44 (with_commas (next ∷ ws)) refl ∙ ap (λ (words : List (List ℕ)). codes "," ∷ words) (tokens_commas (next ∷ ws) all.1))
 
 pub text_commas : (ws : List (List ℕ)) → AllTokens ws → list_all is_text (with_commas ws) ≡ true
 text_commas [] all = refl

@@ -102,7 +102,8 @@ by_sides P plain cross first second (Path B) = second
 
 abbrev Reads : Letter → Side → Mark → Type 0
 Reads letter side mark =
-    (words : List (List ℕ)) → unit_front (word_of letter side mark ∷ words) ≡ Some (Some (record { unit = record { letter = letter; side = side }; mark = mark }), words)
+    (words : List (List ℕ)) → unit_front (word_of letter side mark ∷ words)
+    ≡ Some (Some (record { unit = record { letter = letter; side = side }; mark = mark }), words)
 
 word_read : (letter : Letter) (side : Side) (mark : Mark) → Reads letter side mark
 unfolding unit_front unit_split letter_of side_numbered mark_of

@@ -33,7 +33,8 @@ tokens_joined b c rest solid joined =
     let single = joined_no_double b c joined in
     rw (parts.0, parts.1, single, joined) refl
 
-pub tokens_alone : (b c : ℕ) (rest : List ℕ) → is_solid b ≡ true → is_double b c ≡ false → joins b c ≡ false → tokens (b ∷ c ∷ rest) ≡ (b ∷ []) ∷ tokens (c ∷ rest)
+pub tokens_alone : (b c : ℕ) (rest : List ℕ) → is_solid b ≡ true → is_double b c ≡ false → joins b c ≡ false
+    → tokens (b ∷ c ∷ rest) ≡ (b ∷ []) ∷ tokens (c ∷ rest)
 tokens_alone b c rest solid single alone = let parts = solid_parts b solid in rw (parts.0, parts.1, single, alone) refl
 
 pub tokens_last : (b : ℕ) → is_solid b ≡ true → tokens (b ∷ []) ≡ (b ∷ []) ∷ []
@@ -49,9 +50,11 @@ tokens_comment b [] comment = rw comment refl
 tokens_comment b (c ∷ rest) comment = rw comment refl
 
 -- one more byte of a word
-pub words_more : (bytes : List ℕ) (n : ℕ) → n < length bytes → list_all is_word_byte (take n bytes) ≡ true → is_word_byte (get_or bytes n 0) ≡ true → list_all is_word_byte (take (n + 1) bytes) ≡ true
+pub words_more : (bytes : List ℕ) (n : ℕ) → n < length bytes → list_all is_word_byte (take n bytes) ≡ true → is_word_byte (get_or bytes n 0) ≡ true
+    → list_all is_word_byte (take (n + 1) bytes) ≡ true
 words_more bytes n in_range so_far word =
-    rw (add-one, take-suc bytes n 0 in_range) (list_all-append is_word_byte (take n bytes) (get_or bytes n 0 ∷ []) ∙ and_from _ _ so_far (and_from _ true word refl))
+    rw (add-one, take-suc bytes n 0 in_range)
+    (list_all-append is_word_byte (take n bytes) (get_or bytes n 0 ∷ []) ∙ and_from _ _ so_far (and_from _ true word refl))
 
 pub word_ends : (bytes : List ℕ) (n : ℕ) → n < length bytes → is_word_byte (get_or bytes n 0) ≡ false → begins is_word_byte (drop n bytes) ≡ false
 word_ends bytes n in_range other = rw (drop-cons bytes n 0 in_range) other
@@ -63,7 +66,8 @@ no_word_joins : (b c : ℕ) → is_word_byte b ≡ true → is_word_byte c ≡ f
 no_word_joins b c word other = grind (arith, nat_tests)
 
 -- a word where no byte of a word follows
-pub tokens_word : (w rest : List ℕ) → list_all is_word_byte w ≡ true → begins is_word_byte rest ≡ false → tokens (w ++ rest) ≡ put_back w (tokens rest)
+pub tokens_word : (w rest : List ℕ) → list_all is_word_byte w ≡ true → begins is_word_byte rest ≡ false
+    → tokens (w ++ rest) ≡ put_back w (tokens rest)
 tokens_word [] rest words ends = refl
 tokens_word (b ∷ []) [] words ends = tokens_last b (word_solid b (and_parts (is_word_byte b) true words).0)
 tokens_word (b ∷ []) (c ∷ rest) words ends =
@@ -76,15 +80,18 @@ tokens_word (b ∷ c ∷ w) rest words ends =
     tokens_joined b c (w ++ rest) (word_solid b first.0) joined ∙ ap (grow b) (tokens_word (c ∷ w) rest first.1 ends)
 
 -- a first byte that joins a word
-tokens_joined_word : (b c : ℕ) (more : List ℕ) (n : ℕ) → is_solid b ≡ true → joins b c ≡ true → list_all is_word_byte (take n (c ∷ more)) ≡ true → begins is_word_byte (drop n (c ∷ more)) ≡ false
+tokens_joined_word : (b c : ℕ) (more : List ℕ) (n : ℕ) → is_solid b ≡ true → joins b c ≡ true → list_all is_word_byte (take n (c ∷ more)) ≡ true
+    → begins is_word_byte (drop n (c ∷ more)) ≡ false
     → tokens (b ∷ c ∷ more) ≡ (b ∷ take n (c ∷ more)) ∷ tokens (drop n (c ∷ more))
 tokens_joined_word b c more zero solid joined words ends = let word : is_word_byte c ≡ true = joined_word b c joined in absurd cc
 tokens_joined_word b c more (suc n) solid joined words ends =
     let whole : (c ∷ take n more) ++ drop n more ≡ c ∷ more = ap (λ (bs : List ℕ). c ∷ bs) (take-append-drop n more) in
-    tokens_joined b c more solid joined ∙ ap (λ (bs : List ℕ). grow b (tokens bs)) (sym whole) ∙ ap (grow b) (tokens_word (c ∷ take n more) (drop n more) words ends)
+    tokens_joined b c more solid joined ∙ ap (λ (bs : List ℕ). grow b (tokens bs)) (sym whole)
+    ∙ ap (grow b) (tokens_word (c ∷ take n more) (drop n more) words ends)
 
 pub joined_token : (bytes : List ℕ) (n : ℕ) → 2 ≤ length bytes → begins is_solid bytes ≡ true → joins (get_or bytes 0 0) (get_or bytes 1 0) ≡ true
-    → list_all is_word_byte (take n (drop 1 bytes)) ≡ true → begins is_word_byte (drop n (drop 1 bytes)) ≡ false → tokens bytes ≡ take (1 + n) bytes ∷ tokens (drop (1 + n) bytes)
+    → list_all is_word_byte (take n (drop 1 bytes)) ≡ true → begins is_word_byte (drop n (drop 1 bytes)) ≡ false
+    → tokens bytes ≡ take (1 + n) bytes ∷ tokens (drop (1 + n) bytes)
 joined_token [] n long solid joined words ends = absurd (omega arith)
 joined_token (b ∷ []) n long solid joined words ends = absurd (omega arith)
 joined_token (b ∷ c ∷ more) n long solid joined words ends =

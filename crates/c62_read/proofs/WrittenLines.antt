@@ -55,7 +55,8 @@ nop_token = word_token (codes "NOP") (omega arith) refl
 nop_tokens : (n : ℕ) → n ≤ 9 → tokens (codes "NOP " ++ decimal n) ≡ codes "NOP" ∷ decimal n ∷ []
 nop_tokens n small =
     nop_token.splits (32 ∷ decimal n) refl
-    ∙ ap (λ (words : List Word). codes "NOP" ∷ words) (tokens_blank 32 (decimal n) refl refl ∙ tokens_end (decimal n) (number_token (pos n) (small_fits n small)))
+    ∙ ap (λ (words : List Word). codes "NOP" ∷ words)
+    (tokens_blank 32 (decimal n) refl refl ∙ tokens_end (decimal n) (number_token (pos n) (small_fits n small)))
 
 appended : (a b : List ℕ) → list_all is_text a ≡ true → list_all is_text b ≡ true → list_all is_text (a ++ b) ≡ true
 appended a b first second = list_all-append is_text a b ∙ and_from (list_all is_text a) (list_all is_text b) first second
@@ -73,10 +74,12 @@ pause_back n blanks some small blank few =
     let line : List ℕ = blanks ++ text in
     let tokens_are : tokens line ≡ codes "NOP" ∷ decimal n ∷ [] = tokens_behind blanks text blank ∙ nop_tokens n small in
     let bytes : list_all is_text line ≡ true =
-    appended blanks text (all_weaker is_blank is_text blanks blank_text blank) (appended (codes "NOP ") (decimal n) refl (number_token (pos n) (small_fits n small)).plain) in
+    appended blanks text (all_weaker is_blank is_text blanks blank_text blank)
+    (appended (codes "NOP ") (decimal n) refl (number_token (pos n) (small_fits n small)).plain) in
     let one : length (decimal n) ≡ 1 = ap length (decimal_digit n (omega arith)) in
     let short : length line ≤ 255 = omega (arith, one, length-append blanks text) in
-    let head = head_plain line (allowed_text line bytes) short (nop_no_star blanks (79 ∷ 80 ∷ 32 ∷ decimal n) blank) (ap is_bars tokens_are) (no_colon line bytes) in
+    let head = head_plain line (allowed_text line bytes) short (nop_no_star blanks (79 ∷ 80 ∷ 32 ∷ decimal n) blank) (ap is_bars tokens_are)
+    (no_colon line bytes) in
     line_by_head line None (tokens line) (Pause n) head (ap rest_says tokens_are ∙ nop_says n some small)
 
 -- ---- a label
@@ -93,7 +96,8 @@ word_no_star (b ∷ w) rest some words = no_star_byte b (and_parts (is_word_byte
 
 word_no_bars : (w : Word) (words : List Word) → 1 ≤ length w → list_all is_word_byte w ≡ true → is_bars (w ∷ words) ≡ false
 word_no_bars [] words some all = absurd (omega arith)
-word_no_bars (b ∷ w) words some all = and_left (eqb (to_ascii_lowercase b) 124) _ (no_bar b (and_parts (is_word_byte b) (list_all is_word_byte w) all).0)
+word_no_bars (b ∷ w) words some all =
+    and_left (eqb (to_ascii_lowercase b) 124) _ (no_bar b (and_parts (is_word_byte b) (list_all is_word_byte w) all).0)
 
 label_tokens : (label : Word) → IsToken label → tokens (label ++ 58 ∷ []) ≡ label ∷ codes ":" ∷ []
 label_tokens label token = token.splits (58 ∷ []) refl
@@ -116,11 +120,19 @@ label_head label is =
     let allowed : list_all is_allowed line ≡ true =
     list_all-append is_allowed label (58 ∷ []) ∙ and_from (list_all is_allowed label) true (allowed_text label spelled.token.plain) refl in
     let short : length line ≤ 255 = omega (arith, spelled.short, length-append label (58 ∷ [])) in
-    rw (allowed, le-ltb 255 (length line) short, word_no_star label (58 ∷ []) some parts.1, label_tokens label spelled.token, word_no_bars label (codes ":" ∷ []) some parts.1, front_is label is) refl
+    rw (
+      allowed,
+      le-ltb 255 (length line) short,
+      word_no_star label (58 ∷ []) some parts.1,
+      label_tokens label spelled.token,
+      word_no_bars label (codes ":" ∷ []) some parts.1,
+      front_is label is,
+    ) refl
 
 pub label_back : (label : Word) → LabelReadsBack label
 unfolding place_of
 label_back label is = (
   line_by_head (label ++ 58 ∷ []) (Some label) [] Nothing (label_head label is) nothing,
-  ap (λ (words : List Word). (label_front words).0) (label_tokens label (spelled_label label is).token) ∙ ap (λ (front : Option Word × List Word). front.0) (front_is label is),
+  ap (λ (words : List Word). (label_front words).0) (label_tokens label (spelled_label label is).token)
+      ∙ ap (λ (front : Option Word × List Word). front.0) (front_is label is),
 )

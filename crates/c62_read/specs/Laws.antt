@@ -1,24 +1,30 @@
 -- Laws of lines: what is spelled reads back.
-use Rattle.std.specs.Prelude.{◌≡◌, ℕ, ◌+◌, ◌≤◌, nat_lt, Bool, true, false, ◌&&◌, ◌||◌, ℤ, pos, ◌≤ℤ◌, List, [], ◌∷◌, ◌++◌, length, map, option_map, position, unwrap_or, slice_get, Contains, Option, Some, None, is_some, Result, Ok, Err, codes, decimal, IsTrue}
+use Rattle.std.specs.Prelude.{◌≡◌, ℕ, ◌+◌, ◌≤◌, ◌<◌, ◌^◌, nat_lt, Bool, true, false, ◌&&◌, ◌||◌, ℤ, pos, ◌≤ℤ◌, List, [], ◌∷◌, ◌++◌, length, map, option_map, position, unwrap_or, slice_get, Contains, Option, Some, None, is_some, Result, Ok, Err, codes, decimal, IsTrue}
 use Rattle.std.specs.Char.{to_ascii_lowercase}
 use Rattle.std.specs.Fmt.{signed_decimal}
-use Rattle.std.specs.List.{flat_map, list_all}
+use Rattle.std.specs.List.{IsDistinct, flat_map, list_all}
+use Rattle.std.specs.Option.{option_to_list}
+use Rattle.std.specs.Str.{bytes_eq}
 use Rattle.std.specs.List.Sorted.{IsStrictlyIncreasing}
 use Rattle.c62_insn.specs.declared.register.Reg.{Reg}
 use Rattle.c62_insn.specs.declared.register.Unit.{Unit as FunctionalUnit}
+use Rattle.c62_insn.specs.declared.operands.Op.{Op}
+use Rattle.c62_insn.specs.declared.operands.Op.TheVariants.{Add, Sub, Mvk}
 use Rattle.c62_insn.specs.declared.operands.Operands.{Operands}
 use Rattle.c62_insn.specs.declared.operands.Operands.TheVariants.{Block}
 use Rattle.c62_insn.specs.declared.insn.Insn.{Insn}
+use Rattle.c62_insn.specs.Effect.{result_of}
 use Rattle.c62_insn.specs.Insn.{op_of, operands_of, cond_of}
 use Rattle.c62_insn.specs.Spelling.{register_name, spelling}
 use Rattle.c62_insn.specs.Takes.{takes}
 use Rattle.c62_read.specs.Text.{is_allowed, is_blank, lines_of}
 use Rattle.c62_read.specs.Number.{is_label, negative, number_of, register_of}
 use Rattle.c62_read.specs.Operand.{Word}
+use Rattle.c62_read.specs.Mnemonic.{exchanged}
 use Rattle.c62_read.specs.Line.{Parts, Says, Nothing, Pause, Does, Jumps, is_branch, line_of}
 use Rattle.c62_read.specs.declared.fault.Cause.{Cause}
 use Rattle.c62_read.specs.Block.{branch_last}
-use Rattle.c62_read.specs.Program.{BlockParts, Name, Numbered, label_is, most_bytes, place_of, program_in}
+use Rattle.c62_read.specs.Program.{BlockParts, Item, Name, Numbered, Runs, items_from, label_is, label_items, labels_of, most_bytes, place_of, program_in}
 
 -- the decimal spelling of a number reads as it
 abbrev pub NumberReadsBack : ℤ → Type 0
@@ -92,11 +98,11 @@ CommentsSayNothing text other =
 
 -- ---- case
 
--- The other line is this one but for the case of letters, this byte standing before both. What stands behind a 0 is kept: the
--- `x` of a hexadecimal number is a small letter.
+-- The other line is this one but for the case of letters, this byte standing before both. An `x` behind a 0 is kept: that of a
+-- hexadecimal number is a small letter.
 abbrev pub IsRecased : ℕ → List ℕ → List ℕ → Type 0
 IsRecased before [] [] = Unit {0}
-IsRecased before (b ∷ line) (c ∷ other) = (to_ascii_lowercase b ≡ to_ascii_lowercase c) × (before ≡ 48 → b ≡ c) × IsRecased b line other
+IsRecased before (b ∷ line) (c ∷ other) = (to_ascii_lowercase b ≡ to_ascii_lowercase c) × (before ≡ 48 → to_ascii_lowercase b ≡ 120 → b ≡ c) × IsRecased b line other
 IsRecased before _ _ = ⊥
 
 -- what is said, with the labels in small letters
@@ -115,6 +121,23 @@ small_labels (Err cause) = Err cause
 abbrev pub CaseSaysNothing : List ℕ → List ℕ → Type 0
 CaseSaysNothing line other =
     (small_labels (line_of line) ≡ small_labels (line_of other)) × ((parts : Parts) → line_of line ≡ Ok (None, Does parts) → line_of other ≡ Ok (None, Does parts))
+
+-- the label that a line branches to, if it says so
+abbrev pub target_in : Result (Option Word × Says) Cause → Option Name
+target_in (Ok (label, Jumps parts target)) = Some target
+target_in said = None
+
+-- the same but for the case of letters that are no label's
+abbrev pub AreRecased : List (List ℕ) → List (List ℕ) → Type 0
+AreRecased [] [] = Unit {0}
+AreRecased (line ∷ lines) (other ∷ others) =
+    (IsRecased 32 line other × (place_of line ≡ place_of other) × (target_in (line_of line) ≡ target_in (line_of other))) × AreRecased lines others
+AreRecased _ _ = ⊥
+
+-- a text says what it says in any case of its letters, where labels keep theirs
+abbrev pub CaseChangesNothing : List ℕ → List ℕ → Type 0
+CaseChangesNothing text other =
+    length text ≤ most_bytes → length other ≤ most_bytes → AreRecased (lines_of text) (lines_of other) → program_in text ≡ program_in other
 
 -- ---- a program is its lines
 
@@ -163,26 +186,15 @@ ReadsAsItsLine text =
 
 -- ---- blocks are cut by labels and branches
 
--- a label, or an instruction
-pub data Item : Type 0 where
-  Begins : Name → Item
-  Runs : Numbered → Item
+-- a branch to a label with the number of its block
+abbrev pub settled : (Name → ℕ) → Item → Item
+settled aim (Runs entry (Some target)) =
+    Runs (record { parts = record entry.parts { operands = Block (aim target) }; line = entry.line }) None
+settled aim item = item
 
-abbrev pub label_items : Option Name → List Item
-label_items None = []
-label_items (Some label) = Begins label ∷ []
-
+-- a block's label and instructions
 abbrev pub items_of : BlockParts → List Item
-items_of block = label_items block.label ++ map (λ entry. Runs entry) block.insns
-
-abbrev pub items_at : (Name → ℕ) → ℕ → Result (Option Name × Says) Cause → List Item
-items_at aim number (Ok (label, says)) = label_items label ++ map (λ entry. Runs entry) (instruction_at aim number (Ok (label, says)))
-items_at aim number (Err cause) = []
-
--- the labels and instructions of these lines in their order
-abbrev pub items_in : (Name → ℕ) → ℕ → List (List ℕ) → List Item
-items_in aim number [] = []
-items_in aim number (line ∷ lines) = items_at aim number (line_of line) ++ items_in aim (number + 1) lines
+items_of block = label_items block.label ++ map (λ entry. Runs entry None) block.insns
 
 abbrev pub ends_in_branch : List Numbered → Bool
 ends_in_branch [] = false
@@ -201,9 +213,29 @@ begin_well behind_branch (block ∷ blocks) = may_begin behind_branch block.labe
 -- The blocks of a text are its labels and instructions in their order, cut before each label and behind each branch, and
 -- nowhere else: a label stands at the front of a block, a branch at its end.
 pub record IsCut (text : List ℕ) (blocks : List BlockParts) : Type 0 where
-  pub items : flat_map items_of blocks ≡ items_in (block_named blocks) 1 (lines_of text)
+  pub items : flat_map items_of blocks ≡ map (settled (block_named blocks)) (items_from 1 (lines_of text))
   pub begins : begin_well true blocks ≡ true
   pub ends : list_all (λ block. branch_last (map (λ entry. entry.parts.op) block.insns)) blocks ≡ true
 
 abbrev pub HasCutBlocks : List ℕ → Type 0
 HasCutBlocks text = (blocks : List BlockParts) → program_in text ≡ Ok blocks → IsCut text blocks
+
+-- ---- labels
+
+-- The labels of a program's blocks are those of its lines, in their order, and no two are the same.
+abbrev pub HasItsLabels : List ℕ → Type 0
+HasItsLabels text =
+    (blocks : List BlockParts) → program_in text ≡ Ok blocks
+    → (flat_map (λ block. option_to_list block.label) blocks ≡ labels_of (lines_of text)) × IsDistinct bytes_eq (labels_of (lines_of text))
+
+-- ---- what is rewritten keeps its effect
+
+-- an operation that stands for another with its two sources exchanged does with them what the other did
+abbrev pub KeepsEffect : Op → Op → Type 0
+KeepsEffect op turned = exchanged op ≡ Some turned → (a b : ℕ) → result_of op a b ≡ result_of turned b a
+
+-- An addition to 0 moves a word. A word less itself is 0, and so is what MVK of 0 makes.
+pub record KeepEffects : Type 0 where
+  pub moves : (a : ℕ) → a < 2 ^ 32 → result_of Add 0 a ≡ a
+  pub clears : (a : ℕ) → a < 2 ^ 32 → result_of Sub a a ≡ 0
+  pub zero : (a : ℕ) → result_of Mvk 0 a ≡ 0

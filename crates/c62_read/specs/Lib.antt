@@ -6,4 +6,5 @@ pub mod Unit
 pub mod Line
 pub mod Block
 pub mod Program
+pub mod Walk
 pub mod Laws

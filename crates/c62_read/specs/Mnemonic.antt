@@ -1,5 +1,6 @@
 -- Mnemonics, and what the reader makes of them.
-use Rattle.std.specs.Prelude.{ℕ, ℤ, pos, negsuc, Bool, true, false, not, ◌&&◌, ◌||◌, List, [], ◌∷◌, Option, Some, None, codes, if◌then◌else◌}
+use Rattle.std.specs.Prelude.{ℕ, ℤ, pos, negsuc, Bool, true, false, not, ◌==◌, ◌&&◌, ◌||◌, List, [], ◌∷◌, Option, Some, None, codes, if◌then◌else◌}
+use Rattle.std.specs.Char.{to_ascii_lowercase}
 use Rattle.std.specs.List.{find}
 use Rattle.c62_insn.specs.declared.register.Letter.{Letter}
 use Rattle.c62_insn.specs.declared.register.Letter.TheVariants.{L, S, D}
@@ -15,6 +16,7 @@ use Rattle.c62_insn.specs.Word.{word, lo, hi, sg_half}
 use Rattle.c62_read.specs.declared.mnemonic.Mnemonic.{Mnemonic}
 use Rattle.c62_read.specs.declared.mnemonic.Mnemonic.TheVariants.{Operation, Mv, Neg, Not, Zero, Mvkl, Mvkh, Nop}
 use Rattle.c62_read.specs.Number.{spells}
+use Rattle.c62_read.specs.Text.{begins}
 
 abbrev pub all_operations : List Op
 all_operations =
@@ -24,6 +26,10 @@ all_operations =
 
 unfoldable pub operation_named : List ℕ → Option Op
 operation_named name = find (λ op. spells (mnemonic_of op) name) all_operations
+
+-- the operation's name begins with this small letter
+abbrev pub begins_so : ℕ → Op → Bool
+begins_so letter op = begins (λ b. to_ascii_lowercase b == letter) (mnemonic_of op)
 
 -- the mnemonics that are no operation's name
 unfoldable pub pseudo_named : List ℕ → Option Mnemonic

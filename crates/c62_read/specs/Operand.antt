@@ -1,6 +1,5 @@
 -- What the tokens behind a mnemonic and its unit say as operands.
 use Rattle.std.specs.Prelude.{◌≡◌, ℕ, pos, Bool, ◌&&◌, List, [], ◌∷◌, Option, Some, None, option_map, option_and_then, codes, if◌then◌else◌}
-use Rattle.std.specs.Borrow.{Bor}
 use Rattle.c62_insn.specs.declared.register.Reg.{Reg}
 use Rattle.c62_insn.specs.declared.operands.AddressForm.{AddressForm}
 use Rattle.c62_insn.specs.declared.operands.AddressForm.TheVariants.{Plus, Minus, PreIncrement, PreDecrement, PostIncrement, PostDecrement}
@@ -11,16 +10,17 @@ use Rattle.c62_insn.specs.declared.operands.Operands.TheVariants.{Three, Constan
 use Rattle.c62_read.specs.declared.operand.Address.{Address}
 use Rattle.c62_read.specs.declared.operand.Source.{Source}
 use Rattle.c62_read.specs.declared.operand.Source.TheVariants.{Register as FromRegister, Constant as FromConstant}
-use Rattle.c62_read.specs.Text.{tokens}
+use Rattle.c62_read.specs.declared.token.Tokens.{Tokens}
+use Rattle.c62_read.specs.Text.{words_left}
 use Rattle.c62_read.specs.Number.{spells, number_of, register_of}
 
 abbrev pub Word : Type 0
 Word = List ℕ
 
 -- what a function found at the front of a line: a thing, and the tokens behind it
-abbrev pub Finds : {T : Type 0} → Option (T × Bor (List ℕ)) → Option (T × List (List ℕ)) → Type 0
+abbrev pub Finds : {T : Type 0} → Option (T × Tokens) → Option (T × List (List ℕ)) → Type 0
 Finds None said = said ≡ None
-Finds (Some found) said = said ≡ Some (found.0, tokens found.1.now)
+Finds (Some found) said = said ≡ Some (found.0, words_left found.1)
 
 -- ---- addresses
 
@@ -138,9 +138,9 @@ sources_of (word ∷ []) = before_sources (source_of word) (Some [])
 sources_of (word ∷ comma ∷ rest) = if spells (codes ",") comma then before_sources (source_of word) (sources_of rest) else None
 
 -- the sources behind a comma, where one was read
-abbrev pub more_sources : Option (Bor (List ℕ)) → Option (List Source)
+abbrev pub more_sources : Option Tokens → Option (List Source)
 more_sources None = Some []
-more_sources (Some rest) = sources_of (tokens rest.now)
+more_sources (Some rest) = sources_of (words_left rest)
 
 -- the kinds of operands without an address or a label
 abbrev pub operands_from : List Source → Option Operands

@@ -1,5 +1,7 @@
 -- The lines of a text, and the tokens of a line.
-use Rattle.std.specs.Prelude.{ℕ, Bool, false, not, ◌==◌, ◌&&◌, ◌||◌, nat_le, nat_lt, List, [], ◌∷◌, if◌then◌else◌}
+use Rattle.std.specs.Prelude.{ℕ, Bool, false, not, ◌==◌, ◌&&◌, ◌||◌, nat_le, nat_lt, List, [], ◌∷◌, Option, Some, None, if◌then◌else◌}
+use Rattle.std.specs.Borrow.{Bor}
+use Rattle.c62_read.specs.declared.token.Tokens.{Tokens}
 use Rattle.std.specs.Char.{is_ascii_digit, is_ascii_alphanumeric}
 
 -- b stands before these pieces and belongs to the first of them
@@ -73,3 +75,11 @@ tokens (b ∷ c ∷ rest) =
     else (if is_double b c then (b ∷ c ∷ []) ∷ tokens rest
     else (if joins b c then grow b (tokens (c ∷ rest))
     else (b ∷ []) ∷ tokens (c ∷ rest))))
+
+abbrev pub led_by : Option (Bor (List ℕ)) → List (List ℕ) → List (List ℕ)
+led_by None others = []
+led_by (Some first) others = first.now ∷ others
+
+-- the tokens that are left of a line
+unfoldable pub words_left : Tokens → List (List ℕ)
+words_left line = led_by line.first (tokens line.rest.now)

@@ -5,9 +5,10 @@ ghost use Rattle.std.specs.List.{flat_map};
 ghost use Rattle.c62_insn.specs.declared.register.Reg.{Reg as Register};
 ghost use Rattle.c62_insn.specs.declared.register.Unit.{Unit as FunctionalUnit};
 ghost use Rattle.c62_insn.specs.declared.insn.Insn.{Insn};
+ghost use Rattle.c62_insn.specs.declared.operands.Op.{Op as Operation};
 ghost use Rattle.c62_read.specs.Text.{begins, is_blank, tokens};
 ghost use Rattle.c62_read.specs.Line.{is_star};
-ghost use Rattle.c62_read.specs.Laws.{LineReadsBack, PauseReadsBack, LabelReadsBack, NumberReadsBack, RegisterReadsBack, IsReadable, StarSaysNothing, CommentSaysNothing, CommentsSayNothing, CaseSaysNothing, IsRecased, IsItsLines, HasTargets, HasRisingLines, ReadsAsItsLine, HasCutBlocks};
+ghost use Rattle.c62_read.specs.Laws.{LineReadsBack, PauseReadsBack, LabelReadsBack, NumberReadsBack, RegisterReadsBack, IsReadable, StarSaysNothing, CommentSaysNothing, CommentsSayNothing, CaseSaysNothing, CaseChangesNothing, IsRecased, IsItsLines, HasTargets, HasRisingLines, ReadsAsItsLine, HasCutBlocks, HasItsLabels, KeepsEffect, KeepEffects};
 
 /// The tokens of a line are its bytes in their order, less blanks and what follows a `;`.
 pub fn tokens_are_the_bytes()
@@ -64,9 +65,15 @@ pub fn comments_change_no_program()
 {}
 
 /// Case says nothing but in labels: two lines that are the same but for the case of letters have one
-/// fault, or say the same but for the case of their labels. Letters behind a `0` keep their case.
+/// fault, or say the same but for the case of their labels. An `x` behind a `0` keeps its case.
 pub fn case_says_nothing()
     ensures { (line other : List ℕ) → IsRecased 32 line other → CaseSaysNothing line other }
+{}
+
+/// A text reads the same in any case of its letters, where labels keep theirs, and the `x` of a
+/// hexadecimal number: as the same program, or with the same fault.
+pub fn case_changes_no_program()
+    ensures { (text other : List ℕ) → CaseChangesNothing text other }
 {}
 
 /// The instructions of a program's blocks, one after the other, are what the lines of its text say,
@@ -95,4 +102,20 @@ pub fn instructions_read_as_their_lines()
 /// each label and behind each branch and nowhere else.
 pub fn blocks_are_cut_by_labels_and_branches()
     ensures { (text : List ℕ) → HasCutBlocks text }
+{}
+
+/// The labels of a program's blocks are those of the lines of its text, in their order, and no two
+/// are the same.
+pub fn labels_are_distinct()
+    ensures { (text : List ℕ) → HasItsLabels text }
+{}
+
+/// Where two sources are exchanged, the operation that stands for the written one does the same.
+pub fn exchanged_operations_keep_the_effect()
+    ensures { (op turned : Operation) → KeepsEffect op turned }
+{}
+
+/// The operations that stand for MV and ZERO move a word, and make 0.
+pub fn pseudo_operations_keep_the_effect()
+    ensures { KeepEffects }
 {}

@@ -20,13 +20,14 @@ pub use fault::{Cause, ReadFault};
 pub use label::Label;
 pub use laws::{
     a_program_is_its_lines, blocks_are_cut_by_labels_and_branches, branches_have_targets,
-    case_says_nothing, comments_change_no_line, comments_change_no_program, comments_say_nothing,
-    instructions_read_as_their_lines, labels_read_back, lines_rise, numbers_read_back,
-    pauses_read_back, registers_read_back, spelled_lines_read_back, star_lines_say_nothing,
-    tokens_are_the_bytes,
+    case_changes_no_program, case_says_nothing, comments_change_no_line,
+    comments_change_no_program, comments_say_nothing, exchanged_operations_keep_the_effect,
+    instructions_read_as_their_lines, labels_are_distinct, labels_read_back, lines_rise,
+    numbers_read_back, pauses_read_back, pseudo_operations_keep_the_effect, registers_read_back,
+    spelled_lines_read_back, star_lines_say_nothing, tokens_are_the_bytes,
 };
 pub use line::read_insn;
-pub use program::{MOST_BYTES, read_program};
+pub use program::{MOST_BYTES, label_place, read_program};
 pub use reading::{Reading, What};
 
 #[cfg(test)]

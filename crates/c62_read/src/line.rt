@@ -1,12 +1,12 @@
 //! What a line says, and its first fault.
 
-ghost use Rattle.std.specs.Prelude.{◌≡◌, ◌==◌, Ok, Err, Some, None, MatchResult, IsTrue, IfSome, IfOk, IfErr, not, take_while};
+ghost use Rattle.std.specs.Prelude.{◌≡◌, ◌<◌, length, ◌==◌, Ok, Err, Some, None, MatchResult, IsTrue, IfSome, IfOk, IfErr, not, take_while};
 ghost use Rattle.std.specs.List.{list_all, list_any};
 ghost use Rattle.std.specs.Option.{option_copied};
-ghost use Rattle.c62_read.specs.Text.{begins, tokens, is_allowed};
+ghost use Rattle.c62_read.specs.Text.{begins, tokens, is_allowed, is_solid, words_left};
 ghost use Rattle.c62_read.specs.Number.{is_label};
 ghost use Rattle.c62_read.specs.Operand.{Finds};
-ghost use Rattle.c62_read.specs.Line.{said, is_branch, label_alone, target_of, is_storing, letter_written, does, jumps, pause_of, behind_unit, instruction_of, conditional, closed_condition, bracketed_condition, condition_front, first_begins, rest_says, label_front, has_colon, is_bars, is_star, head_of, line_of, said_of};
+ghost use Rattle.c62_read.specs.Line.{said, is_branch, label_alone, target_of, is_storing, letter_written, does, jumps, pause_of, behind_unit, instruction_of, conditional, closed_condition, bracketed_condition, condition_front, first_begins, rest_says, label_front, without_colon, has_colon, is_bars, is_star, head_of, line_of, said_of};
 ghost use Rattle.c62_read.specs.Unit.{is_dot};
 
 use crate::fault::{Cause, ReadFault};
@@ -16,22 +16,22 @@ use crate::mnemonic::{Mnemonic, mnemonic_named};
 use crate::number::{is_label, number, register, spells};
 use crate::operand::read_operands;
 use crate::reading::{Reading, What};
-use crate::token::{first_token, is_allowed};
+use crate::token::{Tokens, first_token, from_token, has_byte, is_allowed, is_mark};
 use crate::unit::{WrittenUnit, first_unit};
 use c62_insn::{Cond, Letter, Op, Operands};
 
 /// The number of cycles behind NOP, which takes no condition.
 #[tactic(auto, unfolding(crate::specs::Line::pause_of))]
-fn pause(cond: Option<Cond>, rest: &[u8]) -> Result<What, Cause>
-    ensures { said result ≡ pause_of cond (tokens rest.now) }
+fn pause(cond: Option<Cond>, rest: Tokens<'_>) -> Result<What, Cause>
+    ensures { said result ≡ pause_of cond (words_left rest.entry) }
 {
     if cond.is_some() {
         return Err(Cause::BadOperand);
     }
-    let Some((word, rest)) = first_token(rest) else {
+    let Some((word, rest)) = rest.split() else {
         return Ok(What::Nop(1));
     };
-    if first_token(rest).is_some() {
+    if rest.split().is_some() {
         return Err(Cause::BadOperand);
     }
     let cycles = number(word).ok_or(Cause::BadOperand)?;
@@ -43,12 +43,12 @@ fn pause(cond: Option<Cond>, rest: &[u8]) -> Result<What, Cause>
 }
 
 /// A label, and nothing else.
-fn label_alone(rest: &[u8]) -> Option<&[u8]>
-    ensures value { option_copied result ≡ label_alone (tokens rest.now) }
+fn label_alone<'a>(rest: Tokens<'a>) -> Option<&'a [u8]>
+    ensures value { option_copied result ≡ label_alone (words_left rest.entry) }
     ensures label { IfSome result (λ word. IsTrue (is_label word.now)) }
 {
-    let (word, rest) = first_token(rest)?;
-    if first_token(rest).is_some() || !is_label(word) {
+    let (word, rest) = rest.split()?;
+    if rest.split().is_some() || !is_label(word) {
         None
     } else {
         Some(word)
@@ -56,8 +56,8 @@ fn label_alone(rest: &[u8]) -> Option<&[u8]>
 }
 
 /// The label that a branch goes to, where a label is all that is written.
-fn target(mnemonic: Mnemonic, rest: &[u8]) -> Option<&[u8]>
-    ensures value { option_copied result ≡ target_of mnemonic (tokens rest.now) }
+fn target<'a>(mnemonic: Mnemonic, rest: Tokens<'a>) -> Option<&'a [u8]>
+    ensures value { option_copied result ≡ target_of mnemonic (words_left rest.entry) }
     ensures label { IfSome result (λ word. IsTrue (is_label word.now)) }
 {
     match mnemonic {
@@ -114,9 +114,9 @@ fn behind_unit(
     mnemonic: Mnemonic,
     cond: Option<Cond>,
     written: Option<WrittenUnit>,
-    rest: &[u8],
+    rest: Tokens<'_>,
 ) -> Result<What, Cause>
-    ensures { said result ≡ behind_unit mnemonic cond written (tokens rest.now) }
+    ensures { said result ≡ behind_unit mnemonic cond written (words_left rest.entry) }
 {
     if matches!(mnemonic, Mnemonic::Nop) {
         return pause(cond, rest);
@@ -138,10 +138,10 @@ fn behind_unit(
 
 /// The instruction behind the condition.
 #[tactic(auto, unfolding(crate::specs::Line::instruction_of))]
-fn instruction(cond: Option<Cond>, rest: &[u8]) -> Result<What, Cause>
-    ensures { said result ≡ instruction_of cond (tokens rest.now) }
+fn instruction(cond: Option<Cond>, rest: Tokens<'_>) -> Result<What, Cause>
+    ensures { said result ≡ instruction_of cond (words_left rest.entry) }
 {
-    let Some((name, rest)) = first_token(rest) else {
+    let Some((name, rest)) = rest.split() else {
         return if cond.is_some() {
             Err(Cause::UnknownMnemonic)
         } else {
@@ -166,12 +166,12 @@ fn instruction(cond: Option<Cond>, rest: &[u8]) -> Result<What, Cause>
 
 /// `register ]`
 #[tactic(auto, unfolding(crate::specs::Line::closed_condition))]
-fn closed_condition(negated: bool, rest: &[u8]) -> Option<(Option<Cond>, &[u8])>
-    ensures { Finds result (closed_condition negated (tokens rest.now)) }
+fn closed_condition<'a>(negated: bool, rest: Tokens<'a>) -> Option<(Option<Cond>, Tokens<'a>)>
+    ensures { Finds result (closed_condition negated (words_left rest.entry)) }
 {
-    let (name, rest) = first_token(rest)?;
-    let (close, rest) = first_token(rest)?;
-    if !spells(b"]", close) {
+    let (name, rest) = rest.split()?;
+    let (close, rest) = rest.split()?;
+    if !is_mark(b']', close) {
         return None;
     }
     let reg = register(name)?;
@@ -180,11 +180,11 @@ fn closed_condition(negated: bool, rest: &[u8]) -> Option<(Option<Cond>, &[u8])>
 
 /// `[!] register ]`
 #[tactic(auto, unfolding(crate::specs::Line::bracketed_condition))]
-fn bracketed_condition(rest: &[u8]) -> Option<(Option<Cond>, &[u8])>
-    ensures { Finds result (bracketed_condition (tokens rest.now)) }
+fn bracketed_condition<'a>(rest: Tokens<'a>) -> Option<(Option<Cond>, Tokens<'a>)>
+    ensures { Finds result (bracketed_condition (words_left rest.entry)) }
 {
-    let (first, behind) = first_token(rest)?;
-    if spells(b"!", first) {
+    let (first, behind) = rest.split()?;
+    if is_mark(b'!', first) {
         closed_condition(true, behind)
     } else {
         closed_condition(false, rest)
@@ -193,23 +193,23 @@ fn bracketed_condition(rest: &[u8]) -> Option<(Option<Cond>, &[u8])>
 
 /// The condition, where a bracket stands first, and what follows it. There is none where the bracket begins no condition.
 #[tactic(auto, unfolding(crate::specs::Line::condition_front))]
-fn first_condition(rest: &[u8]) -> Option<(Option<Cond>, &[u8])>
-    ensures { Finds result (condition_front (tokens rest.now)) }
+fn first_condition<'a>(rest: Tokens<'a>) -> Option<(Option<Cond>, Tokens<'a>)>
+    ensures { Finds result (condition_front (words_left rest.entry)) }
 {
-    let Some((first, behind)) = first_token(rest) else {
+    let Some((first, behind)) = rest.split() else {
         return Some((None, rest));
     };
-    if spells(b"[", first) {
+    if is_mark(b'[', first) {
         bracketed_condition(behind)
     } else {
         Some((None, rest))
     }
 }
 
-fn begins_with_dot(rest: &[u8]) -> bool
-    ensures { result ≡ first_begins is_dot (tokens rest.now) }
+fn begins_with_dot(rest: Tokens<'_>) -> bool
+    ensures { result ≡ first_begins is_dot (words_left rest.entry) }
 {
-    match first_token(rest) {
+    match rest.split() {
         Some((word, _)) => begins_with(b'.', word),
         None => false,
     }
@@ -229,6 +229,7 @@ pub(crate) fn begins_with(byte: u8, bytes: &[u8]) -> bool
 pub(crate) fn read_rest(rest: &[u8]) -> Result<What, Cause>
     ensures { said result ≡ rest_says (tokens rest.now) }
 {
+    let rest = Tokens::new(rest);
     if begins_with_dot(rest) {
         return Err(Cause::Directive);
     }
@@ -250,18 +251,23 @@ pub(crate) fn first_label(rest: &[u8]) -> (Option<&[u8]>, &[u8])
     let Some((colon, behind)) = first_token(behind) else {
         return (None, rest);
     };
-    if spells(b":", colon) && is_label(name) {
+    if is_mark(b':', colon) && is_label(name) {
         (Some(name), behind)
     } else {
         (None, rest)
     }
 }
 
-/// Whether parallel bars stand first.
-fn begins_with_bars(rest: &[u8]) -> bool
-    ensures { result ≡ is_bars (tokens rest.now) }
+/// Whether parallel bars stand first, where the first byte is a token's.
+#[tactic(auto, using(crate::proofs::HeadLemmas::no_bars))]
+fn begins_with_bars(start: &[u8]) -> bool
+    requires { 0 < length start.now → IsTrue (begins is_solid start.now) }
+    ensures { result ≡ is_bars (tokens start.now) }
 {
-    match first_token(rest) {
+    if !begins_with(b'|', start) {
+        return false;
+    }
+    match first_token(start) {
         Some((word, _)) => spells(b"||", word),
         None => false,
     }
@@ -292,6 +298,22 @@ fn has_colon(rest: &[u8]) -> bool
     colon_before_comment(rest)
 }
 
+/// The label that stands first and what follows its colon. No other colon may stand before the comment.
+#[tactic(auto, using(crate::proofs::HeadLemmas::head_without_colon))]
+fn read_label(start: &[u8]) -> Result<(Option<&[u8]>, &[u8]), Cause>
+    ensures value { MatchResult result (λ head. without_colon (label_front (tokens start.now)) ≡ Ok (option_copied head.0, tokens head.1.now)) (λ cause. without_colon (label_front (tokens start.now)) ≡ Err cause) }
+    ensures label { IfOk result (λ head. IfSome head.0 (λ word. IsTrue (is_label word.now))) }
+{
+    if !has_byte(b':', start) {
+        return Ok((None, start));
+    }
+    let (label, rest) = first_label(start);
+    if has_colon(rest) {
+        return Err(Cause::BadLabel);
+    }
+    Ok((label, rest))
+}
+
 /// The label of a line and what follows it.
 #[tactic(auto, unfolding(crate::specs::Line::head_of))]
 pub(crate) fn read_head(line: &[u8]) -> Result<(Option<&[u8]>, &[u8]), Cause>
@@ -307,14 +329,11 @@ pub(crate) fn read_head(line: &[u8]) -> Result<(Option<&[u8]>, &[u8]), Cause>
     if begins_with(b'*', line) {
         return Ok((None, &[]));
     }
-    if begins_with_bars(line) {
+    let start = from_token(line);
+    if begins_with_bars(start) {
         return Err(Cause::ParallelBar);
     }
-    let (label, rest) = first_label(line);
-    if has_colon(rest) {
-        return Err(Cause::BadLabel);
-    }
-    Ok((label, rest))
+    read_label(start)
 }
 
 /// The reading of one line, which takes no memory. The line is without its end; its fault carries the line 1.

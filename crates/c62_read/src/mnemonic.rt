@@ -1,6 +1,9 @@
 //! Mnemonics, and what the reader makes of them.
 
 ghost use Rattle.std.specs.Prelude.{◌≡◌, pos};
+ghost use Rattle.std.specs.List.{filter, find};
+ghost use Rattle.c62_insn.specs.Spelling.{mnemonic_of};
+ghost use Rattle.c62_read.specs.Number.{spells};
 ghost use Rattle.c62_insn.specs.Word.{word, lo};
 
 use crate::number::spells;
@@ -19,7 +22,7 @@ pub(crate) enum Mnemonic {
     Nop,
 }
 
-ghost use Rattle.c62_read.specs.Mnemonic.{operation_named, pseudo_named, mnemonic_named, stands_on, exchanged, low_half, signed_low_half, high_half, constant_to_front, crossed_to_back, in_order, with_kind, zero_in, read_as};
+ghost use Rattle.c62_read.specs.Mnemonic.{all_operations, begins_so, operation_named, pseudo_named, mnemonic_named, stands_on, exchanged, low_half, signed_low_half, high_half, constant_to_front, crossed_to_back, in_order, with_kind, zero_in, read_as};
 
 const OPERATIONS: [Op; 41] = [
     Op::Add,
@@ -65,15 +68,75 @@ const OPERATIONS: [Op; 41] = [
     Op::B,
 ];
 
+const WITH_A: [Op; 8] = [
+    Op::Add,
+    Op::And,
+    Op::Abs,
+    Op::Add2,
+    Op::Addk,
+    Op::Addab,
+    Op::Addah,
+    Op::Addaw,
+];
+
+const WITH_C: [Op; 5] = [Op::Cmpeq, Op::Cmpgt, Op::Cmplt, Op::Cmpgtu, Op::Cmpltu];
+
+const WITH_L: [Op; 5] = [Op::Ldb, Op::Ldbu, Op::Ldh, Op::Ldhu, Op::Ldw];
+
+const WITH_M: [Op; 10] = [
+    Op::Mvk,
+    Op::Mvklh,
+    Op::Mpy,
+    Op::Mpyu,
+    Op::Mpyus,
+    Op::Mpysu,
+    Op::Mpyh,
+    Op::Mpyhu,
+    Op::Mpyhl,
+    Op::Mpylh,
+];
+
+const WITH_S: [Op; 8] = [
+    Op::Sub,
+    Op::Shl,
+    Op::Shr,
+    Op::Shru,
+    Op::Sub2,
+    Op::Stb,
+    Op::Sth,
+    Op::Stw,
+];
+
+/// Operations among which each is whose name begins with this small letter, in their order.
+fn beginning_with(letter: u8) -> &'static [Op]
+    ensures { filter (begins_so letter) result.now ≡ filter (begins_so letter) all_operations }
+{
+    match letter {
+        b'a' => &WITH_A,
+        b'c' => &WITH_C,
+        b'l' => &WITH_L,
+        b'm' => &WITH_M,
+        b's' => &WITH_S,
+        _ => &OPERATIONS,
+    }
+}
+
+fn named_among(ops: &[Op], name: &[u8]) -> Option<Op>
+    ensures { result ≡ find (λ op. spells (mnemonic_of op) name.now) ops.now }
+{
+    ops.iter()
+        .copied()
+        .find(|op| spells(op.mnemonic().as_bytes(), name))
+}
+
 /// The operation of this name.
-#[tactic(auto, unfolding(crate::specs::Mnemonic::operation_named))]
 fn operation_named(name: &[u8]) -> Option<Op>
     ensures { result ≡ operation_named name.now }
 {
-    OPERATIONS
-        .iter()
-        .copied()
-        .find(|op| spells(op.mnemonic().as_bytes(), name))
+    match name {
+        [] => None,
+        [first, ..] => named_among(beginning_with(first.to_ascii_lowercase()), name),
+    }
 }
 
 /// The mnemonic of this name that is no operation's.

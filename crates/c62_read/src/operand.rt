@@ -1,10 +1,10 @@
 //! Operands as they are written, labels aside.
 
 ghost use Rattle.std.specs.Prelude.{◌≡◌, [], ◌∷◌, Some, None, MatchOption};
-ghost use Rattle.c62_read.specs.Text.{tokens};
+ghost use Rattle.c62_read.specs.Text.{words_left};
 
 use crate::number::{number, register, spells};
-use crate::token::first_token;
+use crate::token::{Tokens, is_mark};
 use c62_insn::{AddressForm, Offset, Operands, Reg};
 
 /// The address of a load or store.
@@ -29,9 +29,9 @@ ghost use Rattle.c62_read.specs.Operand.{Finds, sign_form, step_form, usual_offs
 fn sign_form(word: &[u8]) -> Option<AddressForm>
     ensures { result ≡ sign_form word.now }
 {
-    if spells(b"+", word) {
+    if is_mark(b'+', word) {
         Some(AddressForm::Plus)
-    } else if spells(b"-", word) {
+    } else if is_mark(b'-', word) {
         Some(AddressForm::Minus)
     } else if spells(b"++", word) {
         Some(AddressForm::PreIncrement)
@@ -78,12 +78,12 @@ fn offset(word: &[u8]) -> Option<Offset>
 
 /// `offset ]`
 #[tactic(auto, unfolding(crate::specs::Operand::bracketed))]
-fn bracketed(base: Reg, form: AddressForm, rest: &[u8]) -> Option<(Address, &[u8])>
-    ensures { Finds result (bracketed base form (tokens rest.now)) }
+fn bracketed<'a>(base: Reg, form: AddressForm, rest: Tokens<'a>) -> Option<(Address, Tokens<'a>)>
+    ensures { Finds result (bracketed base form (words_left rest.entry)) }
 {
-    let (word, rest) = first_token(rest)?;
-    let (close, rest) = first_token(rest)?;
-    if !spells(b"]", close) {
+    let (word, rest) = rest.split()?;
+    let (close, rest) = rest.split()?;
+    if !is_mark(b']', close) {
         return None;
     }
     let offset = offset(word)?;
@@ -92,14 +92,14 @@ fn bracketed(base: Reg, form: AddressForm, rest: &[u8]) -> Option<(Address, &[u8
 
 /// `[ offset ]`, or nothing
 #[tactic(auto, unfolding(crate::specs::Operand::with_offset))]
-fn with_offset(base: Reg, form: AddressForm, rest: &[u8]) -> Option<(Address, &[u8])>
-    ensures { Finds result (with_offset base form (tokens rest.now)) }
+fn with_offset<'a>(base: Reg, form: AddressForm, rest: Tokens<'a>) -> Option<(Address, Tokens<'a>)>
+    ensures { Finds result (with_offset base form (words_left rest.entry)) }
 {
     let offset = usual_offset(form);
-    let Some((bracket, inside)) = first_token(rest) else {
+    let Some((bracket, inside)) = rest.split() else {
         return Some((Address { base, form, offset }, rest));
     };
-    if spells(b"[", bracket) {
+    if is_mark(b'[', bracket) {
         bracketed(base, form, inside)
     } else {
         Some((Address { base, form, offset }, rest))
@@ -108,21 +108,21 @@ fn with_offset(base: Reg, form: AddressForm, rest: &[u8]) -> Option<(Address, &[
 
 /// `R [offset]` behind a sign
 #[tactic(auto, unfolding(crate::specs::Operand::signed_address))]
-fn signed_address(form: AddressForm, rest: &[u8]) -> Option<(Address, &[u8])>
-    ensures { Finds result (signed_address form (tokens rest.now)) }
+fn signed_address<'a>(form: AddressForm, rest: Tokens<'a>) -> Option<(Address, Tokens<'a>)>
+    ensures { Finds result (signed_address form (words_left rest.entry)) }
 {
-    let (name, rest) = first_token(rest)?;
+    let (name, rest) = rest.split()?;
     with_offset(register(name)?, form, rest)
 }
 
 /// A step and an offset behind `R`, or nothing
 #[tactic(auto, unfolding(crate::specs::Operand::stepped_address))]
-fn stepped_address(base: Reg, rest: &[u8]) -> Option<(Address, &[u8])>
-    ensures { Finds result (stepped_address base (tokens rest.now)) }
+fn stepped_address<'a>(base: Reg, rest: Tokens<'a>) -> Option<(Address, Tokens<'a>)>
+    ensures { Finds result (stepped_address base (words_left rest.entry)) }
 {
     let form = AddressForm::Plus;
     let offset = usual_offset(form);
-    let Some((step, behind)) = first_token(rest) else {
+    let Some((step, behind)) = rest.split() else {
         return Some((Address { base, form, offset }, rest));
     };
     match step_form(step) {
@@ -133,10 +133,10 @@ fn stepped_address(base: Reg, rest: &[u8]) -> Option<(Address, &[u8])>
 
 /// The address behind a `*`
 #[tactic(auto, unfolding(crate::specs::Operand::address_of))]
-fn read_address(rest: &[u8]) -> Option<(Address, &[u8])>
-    ensures { Finds result (address_of (tokens rest.now)) }
+fn read_address<'a>(rest: Tokens<'a>) -> Option<(Address, Tokens<'a>)>
+    ensures { Finds result (address_of (words_left rest.entry)) }
 {
-    let (first, rest) = first_token(rest)?;
+    let (first, rest) = rest.split()?;
     match sign_form(first) {
         Some(form) => signed_address(form, rest),
         None => stepped_address(register(first)?, rest),
@@ -151,13 +151,13 @@ fn access(reg: Reg, address: Address) -> Operands
 
 /// `address , register` behind the `*`
 #[tactic(auto, unfolding(crate::specs::Operand::loaded_of))]
-fn loaded(rest: &[u8]) -> Option<Operands>
-    ensures { result ≡ loaded_of (tokens rest.now) }
+fn loaded(rest: Tokens<'_>) -> Option<Operands>
+    ensures { result ≡ loaded_of (words_left rest.entry) }
 {
     let (address, rest) = read_address(rest)?;
-    let (comma, rest) = first_token(rest)?;
-    let (name, rest) = first_token(rest)?;
-    if first_token(rest).is_some() || !spells(b",", comma) {
+    let (comma, rest) = rest.split()?;
+    let (name, rest) = rest.split()?;
+    if rest.split().is_some() || !is_mark(b',', comma) {
         return None;
     }
     Some(access(register(name)?, address))
@@ -165,18 +165,18 @@ fn loaded(rest: &[u8]) -> Option<Operands>
 
 /// `register , * address`
 #[tactic(auto, unfolding(crate::specs::Operand::stored_of))]
-fn stored(rest: &[u8]) -> Option<Operands>
-    ensures { result ≡ stored_of (tokens rest.now) }
+fn stored(rest: Tokens<'_>) -> Option<Operands>
+    ensures { result ≡ stored_of (words_left rest.entry) }
 {
-    let (name, rest) = first_token(rest)?;
-    let (comma, rest) = first_token(rest)?;
-    let (star, rest) = first_token(rest)?;
-    if !spells(b",", comma) || !spells(b"*", star) {
+    let (name, rest) = rest.split()?;
+    let (comma, rest) = rest.split()?;
+    let (star, rest) = rest.split()?;
+    if !is_mark(b',', comma) || !is_mark(b'*', star) {
         return None;
     }
     let reg = register(name)?;
     let (address, rest) = read_address(rest)?;
-    if first_token(rest).is_some() {
+    if rest.split().is_some() {
         return None;
     }
     Some(access(reg, address))
@@ -194,14 +194,14 @@ fn read_source(word: &[u8]) -> Option<Source>
 }
 
 /// The first source, and what follows the comma behind it, where one is there
-fn first_source(rest: &[u8]) -> Option<(Source, Option<&[u8]>)>
-    ensures { MatchOption result (sources_of (tokens rest.now) ≡ None) (λ found. sources_of (tokens rest.now) ≡ before_sources (Some found.0) (more_sources found.1)) }
+fn first_source(rest: Tokens<'_>) -> Option<(Source, Option<Tokens<'_>>)>
+    ensures { MatchOption result (sources_of (words_left rest.entry) ≡ None) (λ found. sources_of (words_left rest.entry) ≡ before_sources (Some found.0) (more_sources found.1)) }
 {
-    let (word, rest) = first_token(rest)?;
-    let Some((comma, rest)) = first_token(rest) else {
+    let (word, rest) = rest.split()?;
+    let Some((comma, rest)) = rest.split() else {
         return Some((read_source(word)?, None));
     };
-    if spells(b",", comma) {
+    if is_mark(b',', comma) {
         Some((read_source(word)?, Some(rest)))
     } else {
         None
@@ -255,8 +255,8 @@ fn four_operands(a: Source, k: Source, m: Source, d: Source) -> Option<Operands>
 
 /// One to four registers and numbers, with commas between
 #[tactic(auto, using(crate::proofs::SourceLemmas::too_many), unfolding(crate::specs::Operand::plain_of))]
-fn plain(rest: &[u8]) -> Option<Operands>
-    ensures { result ≡ plain_of (tokens rest.now) }
+fn plain(rest: Tokens<'_>) -> Option<Operands>
+    ensures { result ≡ plain_of (words_left rest.entry) }
 {
     let (a, more) = first_source(rest)?;
     let Some(rest) = more else {
@@ -279,11 +279,11 @@ fn plain(rest: &[u8]) -> Option<Operands>
 
 /// All operands but labels; those of a store begin with its register.
 #[tactic(auto, unfolding(crate::specs::Operand::operands_of))]
-pub(crate) fn read_operands(store: bool, rest: &[u8]) -> Option<Operands>
-    ensures { result ≡ operands_of store (tokens rest.now) }
+pub(crate) fn read_operands(store: bool, rest: Tokens<'_>) -> Option<Operands>
+    ensures { result ≡ operands_of store (words_left rest.entry) }
 {
-    let (first, behind) = first_token(rest)?;
-    if spells(b"*", first) {
+    let (first, behind) = rest.split()?;
+    if is_mark(b'*', first) {
         if store { None } else { loaded(behind) }
     } else if store {
         stored(rest)

@@ -13,6 +13,7 @@ use crate::fault::{Cause, ReadFault};
 use crate::label::Label;
 use crate::line::{begins_with, first_label, owned, read_head, read_rest};
 use crate::reading::What;
+use crate::token::has_byte;
 use c62_insn::{Insn, Op};
 use std::alloc::{AllocError, Global};
 
@@ -38,7 +39,8 @@ pub(crate) struct TextReader {
 }
 
 ghost use Rattle.c62_read.specs.Line.{said_of, parts_of, is_branch};
-ghost use Rattle.c62_read.specs.Program.{draft_of, drafts_of, new_draft, all_drafts, with_label, opened, with_insn, closed, with_says, label_is, is_taken, is_full, is_unknown, is_instruction, begins_block, hindrance, is_among, names, place_of, labels_of, add_line, at_line, Fails, add_lines, no_drafts, target_number, aimed, numbered_of, block_parts, block_in, program_in, is_whole};
+ghost use Rattle.c62_read.specs.Program.{label_is, is_among, place_of, labels_of, Fails, target_number, aimed, numbered_of, block_parts, block_in, program_in};
+ghost use Rattle.c62_read.specs.Walk.{draft_of, drafts_of, new_draft, all_drafts, with_label, opened, with_insn, closed, with_says, is_taken, is_full, is_unknown, is_instruction, begins_block, hindrance, names, add_line, at_line, add_lines, no_drafts, is_whole};
 
 impl BlockReader {
     fn new(alloc: Global, label: Option<Label>) -> BlockReader
@@ -150,7 +152,7 @@ impl TextReader {
         self.put_block(matches!(insn.op(), Op::B), block)
     }
 
-    #[tactic(auto, unfolding(crate::specs::Program::with_says))]
+    #[tactic(auto, unfolding(crate::specs::Walk::with_says))]
     fn add_what(&mut self, alloc: Global, line: u32, what: What) -> Result<(), AllocError>
         ensures { OnOk result (drafts_of self.new ≡ with_says line (said_of what) (drafts_of self.old)) }
     {
@@ -177,7 +179,7 @@ impl TextReader {
     }
 
     /// Whether an earlier line has the label.
-    #[tactic(auto, unfolding(crate::specs::Program::is_taken))]
+    #[tactic(auto, unfolding(crate::specs::Walk::is_taken))]
     fn is_taken(&self, label: Option<&[u8]>) -> bool
         ensures { result ≡ is_taken (option_copied label.entry) (drafts_of self.now) }
     {
@@ -204,7 +206,7 @@ impl TextReader {
     }
 
     /// What stands against a line that says something by itself.
-    #[tactic(auto, unfolding(crate::specs::Program::hindrance))]
+    #[tactic(auto, unfolding(crate::specs::Walk::hindrance))]
     fn hindrance(&self, labels: &[&[u8]], label: Option<&[u8]>, what: &What) -> Option<Cause>
         ensures { result ≡ hindrance (names labels.now) (option_copied label.entry) (said_of what.now) (drafts_of self.now) }
     {
@@ -252,11 +254,15 @@ fn is_among(label: &[u8], labels: &[&[u8]]) -> bool
     any_is(label, labels)
 }
 
-/// The label in a line's label place, which a comment line doesn't have.
-#[tactic(auto, using(crate::proofs::PlaceLemmas::star_place), unfolding(crate::specs::Program::place_of))]
-fn place(line: &[u8]) -> Option<&[u8]>
+/// The label in a line's label place, decided for the line alone: the part left of its first colon, without the blanks
+/// around it, where that is a label and the line is no comment line (docs/SERIAL_TEXT.md, "Labels and blocks").
+#[tactic(auto, using(crate::proofs::PlaceLemmas::star_place, crate::proofs::HeadLemmas::plain_place), unfolding(crate::specs::Program::place_of))]
+pub fn label_place(line: &[u8]) -> Option<&[u8]>
     ensures { option_copied result ≡ place_of line.now }
 {
+    if !has_byte(b':', line) {
+        return None;
+    }
     if begins_with(b'*', line) {
         return None;
     }
@@ -265,7 +271,7 @@ fn place(line: &[u8]) -> Option<&[u8]>
 
 impl TextReader {
     /// What a line of the text says, where nothing stands against it.
-    #[tactic(auto, unfolding(crate::specs::Program::add_line))]
+    #[tactic(auto, unfolding(crate::specs::Walk::add_line))]
     fn judge<'a>(&self, labels: &[&[u8]], line: &'a [u8]) -> Result<(Option<&'a [u8]>, What), Cause>
         ensures said { (number : ℕ) → MatchResult result
             (λ found. add_line (names labels.now) number line.now (drafts_of self.now) ≡ Ok (with_says number (said_of found.1) (with_label (option_copied found.0) (drafts_of self.now))))
@@ -283,7 +289,7 @@ impl TextReader {
         }
     }
 
-    fn add_line(
+    fn add_text(
         &mut self,
         alloc: Global,
         labels: &[&[u8]],
@@ -305,6 +311,23 @@ impl TextReader {
             }),
         }
     }
+
+    /// An empty line says nothing.
+    fn add_line(
+        &mut self,
+        alloc: Global,
+        labels: &[&[u8]],
+        number: u32,
+        line: &[u8],
+    ) -> Result<(), ReadFault>
+        ensures ok { OnOk result (add_line (names labels.now) number line.now (drafts_of self.old) ≡ Ok (drafts_of self.new)) }
+        ensures err { IfErr result (λ fault. Fails fault (at_line number (add_line (names labels.now) number line.now (drafts_of self.old)))) }
+    {
+        match line {
+            [] => Ok(()),
+            [_, ..] => self.add_text(alloc, labels, number, line),
+        }
+    }
 }
 
 /// The labels of all lines of a text.
@@ -314,7 +337,7 @@ fn all_labels<'a>(alloc: Global, text: &'a [u8]) -> Result<Vec<&'a [u8]>, AllocE
     let mut labels = Vec::new(alloc);
     let mut rest = text;
     while let Some((line, after)) = first_line(rest) {
-        if let Some(label) = place(line) {
+        if let Some(label) = label_place(line) {
             labels.push(label)?;
         }
         rest = after;
@@ -337,15 +360,10 @@ fn label_is(label: &[u8], other: &Option<Label>) -> bool
     }
 }
 
-/// Looks at every byte, whatever the others are: so the compiler compares many at once.
 fn has_feed(bytes: &[u8]) -> bool
     ensures { result ≡ list_any is_line_feed bytes.now }
 {
-    let mut found = false;
-    for b in bytes {
-        found |= *b == b'\n';
-    }
-    found
+    has_byte(b'\n', bytes)
 }
 
 /// How many bytes at the front have no line feed: the first one, or the end, is within a step of them.

@@ -1,13 +1,25 @@
 //! The tokens of a line.
 
-ghost use Rattle.std.specs.Prelude.{◌≡◌, ◌≤◌, ◌<◌, length, take, drop, MatchOption, IsTrue, false, [], ◌∷◌};
-ghost use Rattle.std.specs.List.{list_all};
-ghost use Rattle.c62_read.specs.Text.{begins, is_allowed, is_blank, is_solid, is_word_byte, is_sign, is_double, joins, tokens};
+ghost use Rattle.std.specs.Prelude.{◌≡◌, ◌==◌, ◌≤◌, ◌<◌, length, take, drop, MatchOption, IsTrue, false, [], ◌∷◌};
+ghost use Rattle.std.specs.List.{list_all, list_any};
+ghost use Rattle.c62_read.specs.Number.{spells};
+ghost use Rattle.c62_read.specs.Text.{begins, is_allowed, is_blank, is_solid, is_word_byte, is_sign, is_double, joins, tokens, words_left, put_back};
 
 pub(crate) fn is_allowed(b: u8) -> bool
     ensures { result ≡ is_allowed b }
 {
     b == b'\t' || 32 <= b && b < 127
+}
+
+/// Looks at every byte, whatever the others are: so the compiler compares many at once.
+pub(crate) fn has_byte(byte: u8, bytes: &[u8]) -> bool
+    ensures { result ≡ list_any (λ b. b == byte) bytes.now }
+{
+    let mut found = false;
+    for b in bytes {
+        found |= *b == byte;
+    }
+    found
 }
 
 fn is_blank(b: u8) -> bool
@@ -105,4 +117,65 @@ pub(crate) fn from_token(line: &[u8]) -> &[u8]
         start = rest;
     }
     start
+}
+
+/// The tokens of a line from some place on, of which the first is cut off already: so each is cut off once.
+#[derive(Clone, Copy)]
+pub(crate) struct Tokens<'a> {
+    pub first: Option<&'a [u8]>,
+    pub rest: &'a [u8],
+}
+
+impl<'a> Tokens<'a> {
+    /// All tokens of a line.
+    #[tactic(auto, unfolding(crate::specs::Text::words_left))]
+    pub(crate) fn new(line: &'a [u8]) -> Tokens<'a>
+        ensures { words_left result ≡ tokens line.now }
+    {
+        match first_token(line) {
+            Some((first, rest)) => Tokens {
+                first: Some(first),
+                rest,
+            },
+            None => Tokens {
+                first: None,
+                rest: &[],
+            },
+        }
+    }
+
+    /// The first token, and the others.
+    #[tactic(auto, unfolding(crate::specs::Text::words_left))]
+    pub(crate) fn split(self) -> Option<(&'a [u8], Tokens<'a>)>
+        ensures { MatchOption result (words_left self.entry ≡ []) (λ found. words_left self.entry ≡ found.0.now ∷ words_left found.1) }
+    {
+        let first = self.first?;
+        Some((first, Tokens::new(self.rest)))
+    }
+
+    /// What is left of the first token, and the others.
+    #[tactic(auto, unfolding(crate::specs::Text::words_left))]
+    pub(crate) fn from_left(self, left: &'a [u8]) -> Tokens<'a>
+        ensures { words_left result ≡ put_back left.now (tokens self.entry.rest.now) }
+    {
+        if left.is_empty() {
+            Tokens::new(self.rest)
+        } else {
+            Tokens {
+                first: Some(left),
+                rest: self.rest,
+            }
+        }
+    }
+}
+
+/// Whether the token is this mark.
+pub(crate) fn is_mark(mark: u8, word: &[u8]) -> bool
+    ensures { result ≡ spells (mark ∷ []) word.now }
+{
+    match word {
+        [] => false,
+        [b] => b.eq_ignore_ascii_case(&mark),
+        [_, _, ..] => false,
+    }
 }

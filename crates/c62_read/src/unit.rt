@@ -1,10 +1,10 @@
 //! Units as they are written.
 
 ghost use Rattle.std.specs.Prelude.{◌≡◌, Some, None, MatchOption};
-ghost use Rattle.c62_read.specs.Text.{tokens, begins};
+ghost use Rattle.c62_read.specs.Text.{begins, words_left};
 
 use crate::mnemonic::Mnemonic;
-use crate::token::from_token;
+use crate::token::Tokens;
 use c62_insn::{Letter, Side, Unit};
 
 /// What is written behind a unit's number.
@@ -82,25 +82,28 @@ fn unit_split(bytes: &[u8]) -> Option<(WrittenUnit, &[u8])>
     }
 }
 
-fn begins_with_dot(bytes: &[u8]) -> bool
-    ensures { result ≡ begins is_dot bytes.now }
+fn begins_with_dot(word: &[u8]) -> bool
+    ensures { result ≡ begins is_dot word.now }
 {
-    match bytes {
+    match word {
         [] => false,
         [first, ..] => *first == b'.',
     }
 }
 
 /// The unit that is written first, where one is, and what follows it. There is none where a dot begins no unit.
-pub(crate) fn first_unit(rest: &[u8]) -> Option<(Option<WrittenUnit>, &[u8])>
-    ensures { Finds result (unit_front (tokens rest.now)) }
+#[tactic(auto, unfolding(crate::specs::Unit::unit_front, crate::specs::Text::words_left))]
+pub(crate) fn first_unit(rest: Tokens<'_>) -> Option<(Option<WrittenUnit>, Tokens<'_>)>
+    ensures { Finds result (unit_front (words_left rest.entry)) }
 {
-    let start = from_token(rest);
-    if !begins_with_dot(start) {
-        return Some((None, start));
+    let Some(word) = rest.first else {
+        return Some((None, rest));
+    };
+    if !begins_with_dot(word) {
+        return Some((None, rest));
     }
-    let (unit, left) = unit_split(start)?;
-    Some((Some(unit), left))
+    let (unit, left) = unit_split(word)?;
+    Some((Some(unit), rest.from_left(left)))
 }
 
 impl Mnemonic {

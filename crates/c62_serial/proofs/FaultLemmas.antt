@@ -1,13 +1,14 @@
--- A line joins rising lines.
-use Rattle.std.proofs.Common.{◌≡◌, ℕ, zero, suc, ◌+◌, ◌<◌, ◌≤◌, Bool, true, false, List, [], ◌∷◌, ◌++◌, length, take, drop, refl, ap, arith, Result, Ok, Err, get_or, add-one}
-use Rattle.std.specs.Prelude.{All, filter, nat_lt, insert, MatchOption}
+-- A line joins rising lines, which are told by their members.
+use Rattle.std.proofs.Common.{◌≡◌, ◌⊎◌, ℕ, zero, suc, ◌+◌, ◌<◌, ◌≤◌, Bool, true, false, List, [], ◌∷◌, ◌++◌, length, take, drop, refl, inl, inr, ◌∙◌, sym, subst, cond, ap, arith, Result, Ok, Err, get_or, add-one}
+use Rattle.std.specs.Prelude.{◌↔◌, All, Contains, filter, nat_lt, slice_index_or, insert, MatchOption}
 use Rattle.std.specs.Result.{result_err}
 use Rattle.std.specs.Ordering.{nat_cmp}
 use Rattle.std.specs.List.Sorted.{IsStrictlyIncreasing, IsBinarySearchResult}
+use Rattle.std.proofs.lemmas.Bool.{cases_lt, false≢true}
 use Rattle.std.proofs.lemmas.Bool.Decides.{nat_tests}
 use Rattle.std.proofs.lemmas.Grind.{common_steps}
 use Rattle.std.proofs.lemmas.List.{take-append-drop, get_or-take, get_or-drop, length-take, length-drop, drop_more}
-use Rattle.std.proofs.lemmas.List.Elements.{All-head, All-tail, All-from_get_or, filter_passes, filter-append}
+use Rattle.std.proofs.lemmas.List.Elements.{All-head, All-tail, All-from_get_or, filter_passes, filter-append, Contains-append_left, Contains-append_right, Contains-append_cases}
 use Rattle.std.proofs.lemmas.List.Kept.{IsStrictlyIncreasing-filter, AllPairs-from_increasing}
 use Rattle.std.proofs.lemmas.List.Sorted.{searched}
 use Rattle.c62_serial.specs.Faults.{joined}
@@ -143,3 +144,96 @@ joined_rises line lines rising =
     between line (filter (λ x. nat_lt x line) lines) (filter (λ x. nat_lt line x) lines)
     (IsStrictlyIncreasing-filter (λ x. nat_lt x line) lines rising) (IsStrictlyIncreasing-filter (λ x. nat_lt line x) lines rising)
     (passes_below line lines) (passes_above line lines)
+
+-- ---- the members of joined lines
+
+here : (x : ℕ) (xs : List ℕ) → Contains (x ∷ xs) x
+here x xs = (0, omega arith, refl)
+
+later : (x y : ℕ) (xs : List ℕ) → Contains xs y → Contains (x ∷ xs) y
+later x y xs c = (suc c.0, omega arith, c.2)
+
+cases : (x y : ℕ) (xs : List ℕ) → Contains (x ∷ xs) y → (x ≡ y) ⊎ Contains xs y
+cases x y xs c = at c.0 c.1 c.2
+  where
+    at : (k : ℕ) → k < length (x ∷ xs) → slice_index_or (x ∷ xs) k y ≡ y → (x ≡ y) ⊎ Contains xs y
+    at zero l e = inl e
+    at (suc k) l e = inr (k, omega arith, e)
+
+filtered : (p : ℕ → Bool) (xs : List ℕ) (y : ℕ) → Contains (filter p xs) y → Contains xs y
+filtered p [] y c = c
+filtered p (x ∷ xs) y c = either (p x) (filtered p xs y) c
+  where
+    either : (b : Bool) → (Contains (filter p xs) y → Contains xs y) → Contains (cond b (x ∷ filter p xs) (filter p xs)) y → Contains (x ∷ xs) y
+    either true rest d = elim (cases x y (filter p xs) d) [ inl e ↦ (0, omega arith, e) | inr r ↦ later x y xs (rest r) ]
+    either false rest d = later x y xs (rest d)
+
+passed : (p : ℕ → Bool) (xs : List ℕ) (y : ℕ) → p y ≡ true → Contains xs y → Contains (filter p xs) y
+passed p [] y h c = c
+passed p (x ∷ xs) y h c = by_case (p x) refl (cases x y xs c) (passed p xs y h)
+  where
+    by_case : (b : Bool) → p x ≡ b → (x ≡ y) ⊎ Contains xs y → (Contains xs y → Contains (filter p xs) y) → Contains (cond b (x ∷ filter p xs) (filter p xs)) y
+    by_case true e (inl f) rest = (0, omega arith, f)
+    by_case true e (inr r) rest = later x y (filter p xs) (rest r)
+    by_case false e (inl f) rest = absurd (false≢true (sym e ∙ (rw f h)))
+    by_case false e (inr r) rest = rest r
+
+into : (lines : List ℕ) (line other : ℕ) → Contains (joined line lines) other → (other ≡ line) ⊎ Contains lines other
+into lines line other c = elim (Contains-append_cases (filter (λ x. nat_lt x line) lines) (line ∷ filter (λ x. nat_lt line x) lines) other c) [
+  | inl l ↦ inr (filtered (λ x. nat_lt x line) lines other l)
+  | inr r ↦ from_line (cases line other (filter (λ x. nat_lt line x) lines) r)
+]
+  where
+    from_line : (line ≡ other) ⊎ Contains (filter (λ x. nat_lt line x) lines) other → (other ≡ line) ⊎ Contains lines other
+    from_line (inl e) = inl (sym e)
+    from_line (inr r) = inr (filtered (λ x. nat_lt line x) lines other r)
+
+stands : (lines : List ℕ) (line : ℕ) → Contains (joined line lines) line
+stands lines line =
+    Contains-append_right (filter (λ x. nat_lt x line) lines) (line ∷ filter (λ x. nat_lt line x) lines) line (here line (filter (λ x. nat_lt line x) lines))
+
+held : (lines : List ℕ) (line other : ℕ) → Contains lines other → (other < line) ⊎ (line ≤ other) → Contains (joined line lines) other
+held lines line other c (inl l) =
+    Contains-append_left (filter (λ x. nat_lt x line) lines) (line ∷ filter (λ x. nat_lt line x) lines) other
+    (passed (λ x. nat_lt x line) lines other (is_below other line l) c)
+held lines line other c (inr l) = by_rest (cases_lt line other)
+  where
+    by_rest : (line < other) ⊎ (other ≤ line) → Contains (joined line lines) other
+    by_rest (inl m) =
+        Contains-append_right (filter (λ x. nat_lt x line) lines) (line ∷ filter (λ x. nat_lt line x) lines) other
+        (later line other (filter (λ x. nat_lt line x) lines) (passed (λ x. nat_lt line x) lines other (is_below line other m) c))
+    by_rest (inr m) = let e : line ≡ other = omega arith in let P : ℕ → Type 0 = λ z. Contains (joined line lines) z in subst P e (stands lines line)
+
+out : (lines : List ℕ) (line other : ℕ) → (other ≡ line) ⊎ Contains lines other → Contains (joined line lines) other
+out lines line other (inl e) = let P : ℕ → Type 0 = λ z. Contains (joined line lines) z in subst P (sym e) (stands lines line)
+out lines line other (inr c) = held lines line other c (cases_lt other line)
+
+-- among the lines after one joined them are that one and those that were
+pub joined_holds : (lines : List ℕ) (line other : ℕ) → Contains (joined line lines) other ↔ ((other ≡ line) ⊎ Contains lines other)
+joined_holds lines line other = (into lines line other, out lines line other)
+
+-- ---- rising lines with the same members
+
+member_first : (x n : ℕ) (xs : List ℕ) → IsStrictlyIncreasing (x ∷ xs) → Contains (x ∷ xs) n → x ≤ n
+member_first x n xs rising (zero, l, e) = omega (arith, e)
+member_first x n xs rising (suc k, l, e) = let f : x < get_or xs k n = AllPairs-from_increasing (x ∷ xs) rising 0 (suc k) n (omega arith) l in omega (arith, e, f)
+
+member_later : (x n : ℕ) (xs : List ℕ) → IsStrictlyIncreasing (x ∷ xs) → Contains xs n → x < n
+member_later x n xs rising (k, l, e) = let f : x < get_or xs k n = AllPairs-from_increasing (x ∷ xs) rising 0 (suc k) n (omega arith) (omega arith) in omega (arith, e, f)
+
+rest_of : (x y n : ℕ) (xs ys : List ℕ) → x ≡ y → IsStrictlyIncreasing (x ∷ xs) → (Contains (x ∷ xs) n → Contains (y ∷ ys) n) → Contains xs n → Contains ys n
+rest_of x y n xs ys e rising h c = elim (cases y n ys (h (later x n xs c))) [
+  | inl f ↦ (let l : x < n = member_later x n xs rising c in absurd (omega (arith, e, f, l)))
+  | inr r ↦ r
+]
+
+pub same_rising : (xs ys : List ℕ) → IsStrictlyIncreasing xs → IsStrictlyIncreasing ys → ((n : ℕ) → Contains xs n ↔ Contains ys n) → xs ≡ ys
+same_rising [] [] rx ry h = refl
+same_rising [] (y ∷ ys) rx ry h = let c : Contains [] y = (h y).1 (here y ys) in absurd (omega (arith, c.1))
+same_rising (x ∷ xs) [] rx ry h = let c : Contains [] x = (h x).0 (here x xs) in absurd (omega (arith, c.1))
+same_rising (x ∷ xs) (y ∷ ys) rx ry h =
+    let l : y ≤ x = member_first y x ys ry ((h x).0 (here x xs)) in
+    let m : x ≤ y = member_first x y xs rx ((h y).1 (here y ys)) in
+    let e : x ≡ y = omega (arith, l, m) in
+    let rest = same_rising xs ys (rising_tail x xs rx) (rising_tail y ys ry) (λ n. (rest_of x y n xs ys e rx (h n).0, rest_of y x n ys xs (sym e) ry (h n).1)) in
+    ap (λ (zs : List ℕ). x ∷ zs) rest ∙ ap (λ (z : ℕ). z ∷ ys) e

@@ -2,3 +2,6 @@ pub mod FaultLemmas
 pub mod ChainLemmas
 pub mod BranchLemmas
 pub mod MemoryLemmas
+pub mod RegisterLemmas
+pub mod MachineLemmas
+pub mod ActionLemmas

@@ -1,28 +1,29 @@
--- A chain of blocks: block 0 first, then each block that the exit before it chooses. It speaks of blocks by number and of
--- what each does to the machine, so that serial blocks and packets cite one text.
-use Rattle.std.specs.Prelude.{◌≡◌, ℕ, zero, suc, ◌+◌, ◌<◌, nat_lt, List, [], length, None, slice_index_or, if◌then◌else◌}
+-- A chain of blocks: block 0 first, then each block that the exit before it chooses (docs/REPORT.md, "The chain of
+-- blocks"). It speaks of blocks by number and of what each does to the machine, so that serial blocks and packets cite
+-- one text.
+use Rattle.std.specs.Prelude.{◌≡◌, ℕ, ◌+◌, ◌<◌, ◌≤◌, nat_lt, List, [], ◌∷◌, length, None, slice_index_or, if◌then◌else◌}
 use Rattle.c62_read.specs.Block.{Serial}
 use Rattle.c62_serial.specs.declared.serial.Exit.{Exit}
 use Rattle.c62_serial.specs.declared.serial.Exit.TheVariants.{Next, Block, Register}
 use Rattle.c62_serial.specs.declared.chain.End.{End}
 use Rattle.c62_serial.specs.declared.chain.End.TheVariants.{End as FellThrough, Register as ToRegister, Limit}
 use Rattle.c62_serial.specs.declared.chain.Chain.{Chain}
-use Rattle.c62_serial.specs.State.{Machine}
+use Rattle.c62_serial.specs.State.{Machine, Contents, IsSound}
 use Rattle.c62_serial.specs.Serial.{Ran, serial}
 
--- what the block of a number does to the machine
-abbrev pub Blocks : Type 0
-Blocks = ℕ → Machine → Ran
+-- What blocks do: of a block's number, the machine before it and what its run leaves.
+abbrev pub Blocks : Type 1
+Blocks = ℕ → Machine → Ran → Type 0
 
 -- where a chain stands: at the start of a block, or at its end
 pub data Place : Type 0 where
   At : ℕ → Place
   Ended : End → Place
 
--- the machine after some blocks, how many they were, and where the chain stands
+-- the numbers of the blocks that were run, the machine after them, and where the chain stands
 pub record Standing : Type 0 where
+  pub numbers : List ℕ
   pub machine : Machine
-  pub blocks : ℕ
   pub place : Place
 
 -- at the block of this number; past the last block the chain ends
@@ -35,41 +36,79 @@ place_after count number Next = place_at count (number + 1)
 place_after count number (Block target) = place_at count target
 place_after count number (Register value) = Ended (ToRegister value)
 
-abbrev pub after_block : ℕ → Blocks → ℕ → Standing → Standing
-after_block count does number standing = let ran = does number standing.machine in
-    record { machine = ran.machine; blocks = standing.blocks + 1; place = place_after count number ran.exit }
+-- From a machine and a place the blocks of these numbers, each where the chain stands, lead to a machine and a place.
+unfoldable pub Leads : ℕ → Blocks → Machine → Place → List ℕ → Machine → Place → Type 0
+Leads count Does machine place [] final last = (final ≡ machine) × (last ≡ place)
+Leads count Does machine place (number ∷ numbers) final last =
+    (place ≡ At number) × (ran : Ran) × Does number machine ran
+    × Leads count Does ran.machine (place_after count number ran.exit) numbers final last
 
--- one block more, where the chain has not ended
-abbrev pub onward : ℕ → Blocks → Standing → Place → Standing
-onward count does standing (At number) = after_block count does number standing
-onward count does standing (Ended stop) = standing
+-- a chain of so many blocks comes to stand there, from block 0 on
+abbrev pub Stands : ℕ → Blocks → Machine → Standing → Type 0
+Stands count Does opening standing =
+    Leads count Does opening (place_at count 0) standing.numbers standing.machine standing.place
 
--- where the chain stands after up to so many blocks
-unfoldable pub after_blocks : ℕ → Blocks → Machine → ℕ → Standing
-after_blocks count does machine zero = record { machine = machine; blocks = 0; place = place_at count 0 }
-after_blocks count does machine (suc most) = let standing = after_blocks count does machine most in onward count does standing standing.place
+-- what the limit says: where a block would follow, as many were run as it allows
+abbrev pub IsStopped : ℕ → ℕ → Place → Type 0
+IsStopped limit blocks (At number) = blocks ≡ limit
+IsStopped limit blocks (Ended stop) = blocks ≤ limit
 
--- the chain's end under a limit: where a block would follow, the limit
+-- the whole chain under a limit
+pub record IsChain (count : ℕ) (Does : Blocks) (opening : Machine) (limit : ℕ) (standing : Standing) : Type 0 where
+  pub stands : Stands count Does opening standing
+  pub stopped : IsStopped limit (length standing.numbers) standing.place
+
+-- the chain's end: where a block would follow, the limit
 abbrev pub end_of : Place → End
 end_of (At number) = Limit
 end_of (Ended stop) = stop
 
 abbrev pub chain_of : Standing → Chain
-chain_of standing = record { blocks = standing.blocks; stop = end_of standing.place }
+chain_of standing = record { blocks = length standing.numbers; stop = end_of standing.place }
 
--- the standing is the start of a block, reached after fewer blocks than the limit
-abbrev pub IsBlockStart : ℕ → Blocks → Machine → ℕ → Machine → Type 0
-IsBlockStart count does opening limit machine =
-    (most : ℕ) × (number : ℕ) × (most < limit) × (after_blocks count does opening most ≡ record { machine = machine; blocks = most; place = At number })
+-- the chain under a limit is this one, and leaves this machine
+pub record RunsChain (count : ℕ) (Does : Blocks) (opening : Machine) (limit : ℕ) (chain : Chain) (final : Machine)
+    : Type 0 where
+  pub standing : Standing
+  pub whole : IsChain count Does opening limit standing
+  pub told : chain ≡ chain_of standing
+  pub left : final ≡ standing.machine
+
+-- Each block leaves one outcome of a sound machine, and a sound machine in it.
+pub record IsDetermined (count : ℕ) (Does : Blocks) : Type 0 where
+  pub one : (number : ℕ) (before : Machine) (ran other : Ran) → number < count → IsSound before
+      → Does number before ran → Does number before other → ran ≡ other
+  pub sound : (number : ℕ) (before : Machine) (ran : Ran) → number < count → IsSound before
+      → Does number before ran → IsSound ran.machine
+
+-- the machine is that at the start of this block, reached after fewer blocks than the limit
+pub record IsBlockStart (count : ℕ) (Does : Blocks) (opening : Machine) (limit number : ℕ) (machine : Machine)
+    : Type 0 where
+  pub numbers : List ℕ
+  pub stands : Stands count Does opening (record { numbers = numbers; machine = machine; place = At number })
+  pub fewer : length numbers < limit
 
 -- ---- the blocks of a program
 
 abbrev pub no_block : Serial
 no_block = record { label = None; insns = [] }
 
-abbrev pub serial_blocks : List Serial → Blocks
-serial_blocks program number machine = serial (slice_index_or program number no_block).insns machine
+abbrev pub block_of : List Serial → ℕ → Serial
+block_of program number = slice_index_or program number no_block
 
--- where a program's chain stands
-abbrev pub program_after : List Serial → Machine → ℕ → Standing
-program_after program machine most = after_blocks (length program) (serial_blocks program) machine most
+abbrev pub serial_blocks : List Serial → Blocks
+serial_blocks program number before ran = ran ≡ serial (block_of program number).insns before
+
+abbrev pub IsProgramChain : List Serial → Machine → ℕ → Standing → Type 0
+IsProgramChain program opening limit standing = IsChain (length program) (serial_blocks program) opening limit standing
+
+-- the program's chain is this one, and leaves this machine
+abbrev pub RunsProgram : List Serial → Machine → ℕ → Chain → Machine → Type 0
+RunsProgram program opening limit chain final =
+    RunsChain (length program) (serial_blocks program) opening limit chain final
+
+-- The program's run stopped at the start of a block for whose faults there was no room.
+pub record LacksRoom (program : List Serial) (opening : Machine) (limit : ℕ) (left : Contents) : Type 0 where
+  pub number : ℕ
+  pub start : IsBlockStart (length program) (serial_blocks program) opening limit number left.machine
+  pub room : left.room < length (block_of program number).insns

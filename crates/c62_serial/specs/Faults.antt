@@ -1,5 +1,5 @@
 -- The set of lines whose accesses faulted, as a rising list (docs/MACHINE.md, "Memory").
-use Rattle.std.specs.Prelude.{ℕ, nat_lt, List, ◌∷◌, ◌++◌, filter}
+use Rattle.std.specs.Prelude.{ℕ, nat_lt, Bool, List, ◌∷◌, ◌++◌, filter, if◌then◌else◌}
 use Rattle.c62_serial.specs.State.{Machine}
 
 -- the lines with this one among them: those below it, itself, those above it
@@ -8,3 +8,10 @@ joined line lines = filter (λ other. nat_lt other line) lines ++ line ∷ filte
 
 abbrev pub with_fault : ℕ → Machine → Machine
 with_fault line machine = record machine { faults = joined line machine.faults }
+
+-- lines after an access of this one, which may fault
+abbrev pub after_fault : List ℕ → ℕ → Bool → List ℕ
+after_fault lines line fault = if fault then joined line lines else lines
+
+abbrev pub with_fault_if : ℕ → Bool → Machine → Machine
+with_fault_if line fault machine = record machine { faults = after_fault machine.faults line fault }

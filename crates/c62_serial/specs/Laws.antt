@@ -1,14 +1,17 @@
 -- What the definitions of memory, faults and runs amount to, as laws above them.
-use Rattle.std.specs.Prelude.{◌≡◌, ◌≢◌, ◌⊎◌, ◌↔◌, ℕ, ◌+◌, ◌*◌, ◌/◌, ◌%◌, ◌^◌, ◌<◌, ◌≤◌, false, List, ◌++◌, length, slice_index, Contains, Some}
+use Rattle.std.specs.Prelude.{◌≡◌, ◌≢◌, ◌⊎◌, ◌↔◌, ℕ, ◌+◌, ◌-◌, ◌*◌, ◌/◌, ◌%◌, ◌^◌, ◌<◌, ◌≤◌, nat_lt, nat_le, true, false, ◌&&◌, List, [], ◌∷◌, ◌++◌, length, slice_index, Contains, Option, Some, None, unwrap_or, if◌then◌else◌}
+use Rattle.std.specs.Option.{option_or}
 use Rattle.std.specs.List.Sorted.{IsStrictlyIncreasing}
 use Rattle.c62_insn.specs.declared.register.Reg.{Reg}
+use Rattle.c62_insn.specs.declared.effect.Access.{Access as MemoryAccess}
+use Rattle.c62_insn.specs.Takes.{same_reg}
 use Rattle.c62_read.specs.declared.block.SerialInsn.{SerialInsn}
 use Rattle.c62_serial.specs.declared.serial.Exit.TheVariants.{Next}
-use Rattle.c62_serial.specs.State.{Machine, word_in, with_word}
-use Rattle.c62_serial.specs.Memory.{read, written}
+use Rattle.c62_serial.specs.State.{Machine, word_in, byte_in, with_word}
+use Rattle.c62_serial.specs.Memory.{is_good, read, written}
 use Rattle.c62_serial.specs.Faults.{joined}
-use Rattle.c62_serial.specs.Effect.{runs}
-use Rattle.c62_serial.specs.Serial.{Ran, after_insn, serial}
+use Rattle.c62_serial.specs.Effect.{Act, runs, is_fault}
+use Rattle.c62_serial.specs.Serial.{Ran, after_act, after_insn, serial}
 
 -- memory after a store: its bytes stand in it, the lowest first, and all others are as they were
 pub record StoresItsBytes (memory : List ℕ) (address size value : ℕ) : Type 0 where
@@ -37,6 +40,43 @@ pub record HoldsItsWord (machine : Machine) (reg : Reg) (value : ℕ) : Type 0 w
 pub record JoinsLines (lines : List ℕ) (line : ℕ) : Type 0 where
   pub rising : IsStrictlyIncreasing (joined line lines)
   pub holds : (other : ℕ) → Contains (joined line lines) other ↔ ((other ≡ line) ⊎ Contains lines other)
+
+-- the machines hold the same words and bytes, and the same lines faulted
+pub record HoldsTheSame (one other : Machine) : Type 0 where
+  pub words : (reg : Reg) → word_in one reg ≡ word_in other reg
+  pub bytes : (address : ℕ) → address < 65536 → byte_in one address ≡ byte_in other address
+  pub faults : (line : ℕ) → Contains one.faults line ↔ Contains other.faults line
+
+-- the last value of these writes to a register, where one of them writes it
+abbrev pub last_written : Reg → List ((Reg × ℕ) × ℕ) → Option ℕ
+last_written reg [] = None
+last_written reg (write ∷ writes) =
+    option_or (last_written reg writes) (if same_reg write.0.0 reg then Some write.1 else None)
+
+-- the byte that a store of this value puts at a place from its address on
+abbrev pub stored_byte : ℕ → ℕ → ℕ
+stored_byte value place = value / 256 ^ place % 256
+
+-- the byte that an access stores at an address, where it stores one there
+abbrev pub stored_by : ℕ → ℕ → Option ℕ → ℕ → Option ℕ
+stored_by start size None address = None
+stored_by start size (Some value) address =
+    if is_good start size && nat_le start address && nat_lt address (start + size)
+    then Some (stored_byte value (address - start)) else None
+
+abbrev pub stored_at : Option MemoryAccess → ℕ → Option ℕ
+stored_at None address = None
+stored_at (Some access) address = stored_by access.address access.size access.value address
+
+-- After what an instruction of this line did each register holds the last of its writes, each byte what was stored
+-- there, else what they held, and the line is among the faulted ones where its access faulted.
+pub record ActsOnEach (line : ℕ) (act : Act) (machine : Machine) : Type 0 where
+  pub words : (reg : Reg)
+      → word_in (after_act line act machine) reg ≡ unwrap_or (last_written reg act.writes) (word_in machine reg)
+  pub bytes : (address : ℕ)
+      → byte_in (after_act line act machine) address ≡ unwrap_or (stored_at act.access address) (byte_in machine address)
+  pub faults : (other : ℕ) → Contains (after_act line act machine).faults other
+      ↔ (((is_fault act.access ≡ true) × (other ≡ line)) ⊎ Contains machine.faults other)
 
 -- an instruction whose condition does not hold does nothing
 abbrev pub DoesNothing : Ran → SerialInsn → Type 0

@@ -1,16 +1,21 @@
 -- The serial meaning of a block: the effects of its instructions one after the other, each on what the one before left.
-use Rattle.std.specs.Prelude.{ℕ, Bool, List, Option, Some, None, fold, slice_set, if◌then◌else◌}
+use Rattle.std.specs.Prelude.{ℕ, List, ◌++◌, Option, Some, None, fold, slice_set}
+use Rattle.std.specs.List.{zip}
+use Rattle.std.specs.Option.{option_to_list}
 use Rattle.c62_insn.specs.declared.register.Reg.{Reg}
+use Rattle.c62_insn.specs.declared.operands.Op.{Op}
+use Rattle.c62_insn.specs.declared.action.Action.{Action}
 use Rattle.c62_insn.specs.declared.effect.Access.{Access as MemoryAccess}
 use Rattle.c62_insn.specs.declared.effect.Target.{Target}
 use Rattle.c62_insn.specs.declared.effect.Target.TheVariants.{Block as ToBlock, Register as ToRegister}
+use Rattle.c62_insn.specs.Action.{writes_in, values_in, access_in, target_in}
 use Rattle.c62_read.specs.declared.block.SerialInsn.{SerialInsn}
 use Rattle.c62_serial.specs.declared.serial.Exit.{Exit}
 use Rattle.c62_serial.specs.declared.serial.Exit.TheVariants.{Next, Block, Register}
 use Rattle.c62_serial.specs.State.{Machine, index_of, word_in, byte_in}
 use Rattle.c62_serial.specs.Memory.{written}
-use Rattle.c62_serial.specs.Faults.{joined}
-use Rattle.c62_serial.specs.Effect.{Act, act_of, is_fault}
+use Rattle.c62_serial.specs.Faults.{with_fault_if}
+use Rattle.c62_serial.specs.Effect.{Act, act_of, loaded, is_fault}
 
 -- what a run leaves: the machine, and where it goes on
 pub record Ran : Type 0 where
@@ -30,17 +35,30 @@ abbrev pub after_access : List ℕ → Option MemoryAccess → List ℕ
 after_access memory None = memory
 after_access memory (Some access) = after_store memory access.value access.address access.size
 
--- lines after an access of this one, which may fault
-abbrev pub after_fault : List ℕ → ℕ → Bool → List ℕ
-after_fault lines line fault = if fault then joined line lines else lines
+-- the machine after an access of this line, which may fault
+abbrev pub with_access : ℕ → Option MemoryAccess → Machine → Machine
+with_access line access machine =
+    with_fault_if line (is_fault access) (record machine { memory = after_access machine.memory access })
+
+-- the machine after these writes
+abbrev pub with_writes : List ((Reg × ℕ) × ℕ) → Machine → Machine
+with_writes writes machine = record machine { registers = fold after_write machine.registers writes }
 
 -- the machine after what an instruction of this line did
 abbrev pub after_act : ℕ → Act → Machine → Machine
-after_act line act machine = record {
-  registers = fold after_write machine.registers act.writes;
-  memory = after_access machine.memory act.access;
-  faults = after_fault machine.faults line (is_fault act.access);
+after_act line act machine = with_writes act.writes (with_access line act.access machine)
+
+-- what an instruction did that took this action, of the bytes before it
+abbrev pub act_by : Op → Action → (ℕ → ℕ) → Act
+act_by op action byte = record {
+  writes = zip (writes_in op action) (values_in action ++ option_to_list (loaded byte op (access_in action)));
+  access = access_in action;
+  target = target_in action;
 }
+
+-- the machine after an instruction of this line took this action
+abbrev pub after_action : ℕ → Op → Action → Machine → Machine
+after_action line op action machine = after_act line (act_by op action (byte_in machine)) machine
 
 abbrev pub exit_to : Target → Exit
 exit_to (ToBlock number) = Block number

@@ -1,9 +1,8 @@
 -- What the machine holds (docs/MACHINE.md, "Register files and units" and "Memory").
-use Rattle.std.specs.Prelude.{◌≡◌, ℕ, ◌+◌, List, [], length, slice_index, slice_set, All}
+use Rattle.std.specs.Prelude.{◌≡◌, ℕ, List, [], length, slice_index, slice_set, All, Option, Some, None}
 use Rattle.std.specs.List.Sorted.{IsStrictlyIncreasing}
-use Rattle.c62_insn.specs.declared.register.Side.{Side}
-use Rattle.c62_insn.specs.declared.register.Side.TheVariants.{A, B}
 use Rattle.c62_insn.specs.declared.register.Reg.{Reg}
+pub use Rattle.c62_insn.specs.Register.{first_of, register_index as index_of}
 
 -- the words of A0 to A15 and B0 to B15, the bytes of memory, and the lines whose accesses faulted
 pub record Machine : Type 0 where
@@ -29,14 +28,6 @@ pub record IsZero (machine : Machine) : Type 0 where
   pub bytes : All (λ byte. byte ≡ 0) machine.memory
   pub faults : machine.faults ≡ []
 
-abbrev pub first_of : Side → ℕ
-first_of A = 0
-first_of B = 16
-
--- the place of a register among A0 to A15 and B0 to B15
-abbrev pub index_of : Reg → ℕ
-index_of reg = first_of reg.side + reg.number
-
 abbrev pub word_in : Machine → Reg → ℕ
 word_in machine reg = slice_index machine.registers (index_of reg)
 
@@ -46,3 +37,8 @@ byte_in machine address = slice_index machine.memory address
 -- the machine with this word in a register
 abbrev pub with_word : Reg → ℕ → Machine → Machine
 with_word reg value machine = record machine { registers = slice_set machine.registers (index_of reg) value }
+
+-- the machine after a write, where there is one
+abbrev pub with_write : Option (Reg × ℕ) → Machine → Machine
+with_write None machine = machine
+with_write (Some write) machine = with_word write.0 write.1 machine

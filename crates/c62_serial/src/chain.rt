@@ -1,11 +1,11 @@
 //! A program run as a chain of blocks.
 
-ghost use Rattle.std.specs.Prelude.{◌≡◌, ◌<◌, ◌≤◌, length, IfOk, OnOk, OnErr};
+ghost use Rattle.std.specs.Prelude.{IfOk, OnErr};
 
 use crate::serial::{Exit, run_block};
 use crate::state::State;
 use c62_read::Program;
-use std::alloc::{AllocError, Global};
+use std::alloc::AllocError;
 
 /// How a chain ended.
 #[derive(Clone, Copy, PartialEq, Eq, Debug)]
@@ -27,26 +27,23 @@ pub struct Chain {
     pub stop: End,
 }
 
-ghost use Rattle.c62_serial.specs.Chain.{serial_blocks, program_after, chain_of, IsBlockStart};
+ghost use Rattle.c62_serial.specs.Chain.{RunsProgram, LacksRoom};
 
 /// Runs a program from its first block on, and at most so many blocks. After a block it goes on with
 /// the next one or with the branch's; a branch to a register, or going on past the last block, ends
 /// it. The limit is looked at before each block, the first too, so a chain that ends with its last
 /// allowed block ends as it would without a limit.
 ///
+/// Before each block the state makes room for a fault of each of its instructions, by its own
+/// allocator.
+///
 /// # Errors
 ///
-/// `AllocError` where memory runs out. The state is then that at the start of a block of the chain,
-/// after fewer blocks than the limit.
-pub fn run_program(
-    alloc: Global,
-    program: &Program,
-    state: &mut State,
-    limit: u32,
-) -> Result<Chain, AllocError>
-    ensures chain { IfOk result (λ chain. chain ≡ chain_of (program_after program.now state.old.machine limit)) }
-    ensures machine { OnOk result (state.new.machine ≡ (program_after program.now state.old.machine limit).machine) }
-    ensures err { OnErr result (IsBlockStart (length program.now) (serial_blocks program.now) state.old.machine limit state.new.machine) }
+/// `AllocError` where that room was missing and memory runs out. The state is then that at the start
+/// of a block of the chain, after fewer blocks than the limit.
+pub fn run_program(program: &Program, state: &mut State, limit: u32) -> Result<Chain, AllocError>
+    ensures ok { IfOk result (λ chain. RunsProgram program.now state.old.machine limit chain state.new.machine) }
+    ensures err { OnErr result (LacksRoom program.now state.old.machine limit state.new) }
 {
     let all = program.blocks();
     let mut number = 0;
@@ -58,7 +55,7 @@ pub fn run_program(
                 stop: End::Limit,
             });
         }
-        let exit = run_block(alloc, &all[number], state)?;
+        let exit = run_block(&all[number], state)?;
         blocks += 1;
         number = match exit {
             Exit::Next => number + 1,

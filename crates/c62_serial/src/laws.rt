@@ -5,24 +5,30 @@ ghost use Rattle.std.specs.Prelude.{◌≡◌, ℕ, List, length, IsTrue};
 ghost use Rattle.std.specs.List.Sorted.{IsStrictlyIncreasing};
 ghost use Rattle.c62_insn.specs.declared.register.Reg.{Reg as Register};
 ghost use Rattle.c62_read.specs.declared.block.SerialInsn.{SerialInsn};
+ghost use Rattle.c62_read.specs.Block.{Serial};
 ghost use Rattle.c62_serial.specs.State.{Machine, IsSound};
 ghost use Rattle.c62_serial.specs.Memory.{is_size, is_good};
-ghost use Rattle.c62_serial.specs.Serial.{Ran};
-ghost use Rattle.c62_serial.specs.Laws.{StoresItsBytes, LoadsWhatWasStored, StoresWordAsBytes, HoldsItsWord, JoinsLines, DoesNothing, RunsInTurn};
+ghost use Rattle.c62_serial.specs.Effect.{Act};
+ghost use Rattle.c62_serial.specs.Serial.{Ran, after_act, serial};
+ghost use Rattle.c62_serial.specs.Chain.{Standing, IsProgramChain};
+ghost use Rattle.c62_serial.specs.Laws.{StoresItsBytes, LoadsWhatWasStored, StoresWordAsBytes, HoldsItsWord, JoinsLines, HoldsTheSame, ActsOnEach, DoesNothing, RunsInTurn};
 
 /// A store puts its bytes into memory, the lowest first, and changes no other.
 pub fn stores_its_bytes()
-    ensures { (memory : List ℕ) (address size value : ℕ) → length memory ≡ 65536 → IsTrue (is_good address size) → StoresItsBytes memory address size value }
+    ensures { (memory : List ℕ) (address size value : ℕ) → length memory ≡ 65536
+        → IsTrue (is_good address size) → StoresItsBytes memory address size value }
 {}
 
 /// A load of what was stored gives the low bytes of the value.
 pub fn loads_what_was_stored()
-    ensures { (memory : List ℕ) (address size value : ℕ) → length memory ≡ 65536 → IsTrue (is_size size) → IsTrue (is_good address size) → LoadsWhatWasStored memory address size value }
+    ensures { (memory : List ℕ) (address size value : ℕ) → length memory ≡ 65536
+        → IsTrue (is_size size) → IsTrue (is_good address size) → LoadsWhatWasStored memory address size value }
 {}
 
 /// A word is stored as its four bytes are, one by one.
 pub fn stores_word_as_bytes()
-    ensures { (memory : List ℕ) (address value : ℕ) → length memory ≡ 65536 → IsTrue (is_good address 4) → StoresWordAsBytes memory address value }
+    ensures { (memory : List ℕ) (address value : ℕ) → length memory ≡ 65536
+        → IsTrue (is_good address 4) → StoresWordAsBytes memory address value }
 {}
 
 /// A register holds the word that was put into it, and the others keep theirs.
@@ -35,6 +41,24 @@ pub fn joins_lines()
     ensures { (lines : List ℕ) (line : ℕ) → IsStrictlyIncreasing lines → JoinsLines lines line }
 {}
 
+/// A run keeps a machine sound: its registers and its bytes are as many, and its faulted lines rise.
+pub fn keeps_machines_sound()
+    ensures act { (line : ℕ) (act : Act) (machine : Machine) → IsSound machine → IsSound (after_act line act machine) }
+    ensures run { (insns : List SerialInsn) (machine : Machine) → IsSound machine
+        → IsSound (serial insns machine).machine }
+{}
+
+/// Sound machines with the same words, bytes and faulted lines are one.
+pub fn tells_machines_by_what_they_hold()
+    ensures { (one other : Machine) → IsSound one → IsSound other → HoldsTheSame one other → one ≡ other }
+{}
+
+/// After an instruction each register holds the last of its writes and each byte what it stored there,
+/// else what they held, and its line has faulted where its access did.
+pub fn acts_on_each()
+    ensures { (line : ℕ) (act : Act) (machine : Machine) → IsSound machine → ActsOnEach line act machine }
+{}
+
 /// An instruction whose condition does not hold changes nothing and goes nowhere.
 pub fn does_nothing()
     ensures { (ran : Ran) (entry : SerialInsn) → DoesNothing ran entry }
@@ -43,4 +67,10 @@ pub fn does_nothing()
 /// The instructions of a block run in turn: first some of them, then the rest on what those left.
 pub fn runs_in_turn()
     ensures { (first rest : List SerialInsn) (machine : Machine) → RunsInTurn first rest machine }
+{}
+
+/// From a sound machine a program has one chain under a limit.
+pub fn has_one_chain()
+    ensures { (program : List Serial) (opening : Machine) (limit : ℕ) (one other : Standing) → IsSound opening
+        → IsProgramChain program opening limit one → IsProgramChain program opening limit other → one ≡ other }
 {}

@@ -4,6 +4,7 @@
 
 mod chain;
 pub mod laws;
+mod operation;
 mod serial;
 mod state;
 

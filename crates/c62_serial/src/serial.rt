@@ -1,12 +1,11 @@
 //! A block run one instruction after the other.
 
-ghost use Rattle.std.specs.Prelude.{◌≡◌, ◌+◌, ◌<◌, ◌≤◌, ◌++◌, length, not, map, zip, fold, option_map, IsTrue, IfSome, IfOk, OnOk, OnErr};
+ghost use Rattle.std.specs.Prelude.{◌≡◌, ◌+◌, ◌<◌, ◌≤◌, length, IsTrue, IfOk, OnOk, OnErr};
 
 use crate::state::State;
-use arrayvec::ArrayVec;
-use c62_insn::{Access, Effect, Inputs, Insn, Reg, Target};
+use c62_insn::{Access, Action, Reg, Target, Transfer};
 use c62_read::{Block, SerialInsn};
-use std::alloc::{AllocError, Global};
+use std::alloc::AllocError;
 
 /// Where a block goes on.
 #[derive(Clone, Copy, PartialEq, Eq, Debug)]
@@ -19,12 +18,11 @@ pub enum Exit {
     Register(u32),
 }
 
-ghost use Rattle.std.specs.Option.{option_to_list};
-ghost use Rattle.c62_insn.specs.Insn.{op_of, cond_of};
-ghost use Rattle.c62_serial.specs.State.{word_in, byte_in};
-ghost use Rattle.c62_serial.specs.Memory.{is_size, is_good, read, written};
-ghost use Rattle.c62_serial.specs.Effect.{act_of, loaded, extended, is_fault, operand_values};
-ghost use Rattle.c62_serial.specs.Serial.{after_write, after_access, after_act, after_fault, exit_to, act_in, serial};
+ghost use Rattle.c62_insn.specs.declared.action.Action.TheVariants.{Transfer as Transfers};
+ghost use Rattle.c62_insn.specs.Insn.{op_of};
+ghost use Rattle.c62_serial.specs.State.{with_write};
+ghost use Rattle.c62_serial.specs.Memory.{is_size};
+ghost use Rattle.c62_serial.specs.Serial.{after_act, after_action, exit_to, act_in, serial};
 
 /// The exit of a branch that goes there.
 impl From<Target> for Exit {
@@ -38,99 +36,39 @@ impl From<Target> for Exit {
     }
 }
 
-/// The words of at most three registers. It goes by cases, since a loop here costs a run a third more
-/// machine instructions.
-fn words(registers: &[Reg], state: &State) -> ArrayVec<u32, 3>
-    requires { length registers.now ≤ 3 }
-    ensures { result.items ≡ map (word_in state.now.machine) registers.now }
+/// Puts a word into a register, where there is one to be put.
+fn write(write: Option<(Reg, u32)>, state: &mut State)
+    ensures { state.new ≡ record state.old { machine = with_write write state.old.machine } }
 {
-    let mut words = ArrayVec::new();
-    match registers {
-        [] => {}
-        [a] => words.push(state.reg(*a)),
-        [a, b] => {
-            words.push(state.reg(*a));
-            words.push(state.reg(*b));
-        }
-        [a, b, c, ..] => {
-            words.push(state.reg(*a));
-            words.push(state.reg(*b));
-            words.push(state.reg(*c));
-        }
-    }
-    words
-}
-
-/// The values that an instruction reads.
-fn inputs(insn: Insn, state: &State) -> Inputs
-    ensures cond { result.cond ≡ option_map (λ cond. word_in state.now.machine cond.reg) (cond_of insn) }
-    ensures reads { result.reads.items ≡ operand_values (word_in state.now.machine) insn }
-{
-    Inputs {
-        cond: insn.cond().map(|cond| state.reg(cond.reg)),
-        reads: words(insn.reads().as_slice(), state),
+    if let Some((reg, word)) = write {
+        state.set(reg, word);
     }
 }
 
-/// Puts values into the registers that an instruction writes, in their order.
-fn write(writes: &[(Reg, u8)], values: &[u32], state: &mut State)
-    ensures { state.new ≡ record state.old { machine = record state.old.machine { registers = fold after_write state.old.machine.registers (zip writes.now values.now) } } }
-{
-    for ((reg, _), value) in writes.iter().zip(values) {
-        state.set(*reg, *value);
-    }
-}
-
-/// What a load puts into its destination. Where its access faults that is 0, and its line joins the
-/// faulted ones.
-fn load(entry: &SerialInsn, address: u32, size: u8, state: &mut State) -> u32
-    requires size { IsTrue (is_size size) }
+/// Makes a load or a store. The base is changed before a load's destination is.
+fn make_transfer(entry: &SerialInsn, transfer: Transfer, state: &mut State)
+    requires size { IsTrue (is_size transfer.access.size) }
     requires room { 0 < state.old.room }
-    ensures value { result ≡ extended (op_of entry.now.insn) (read (byte_in state.old.machine) address size) }
-    ensures machine { state.new.machine ≡ record state.old.machine { faults = after_fault state.old.machine.faults entry.now.line (not (is_good address size)) } }
-    ensures room { state.old.room ≤ state.new.room + 1 }
-{
-    match state.load(address, size) {
-        Some(raw) => entry.insn.loaded(raw),
-        None => {
-            state.fault(entry.line);
-            0
-        }
-    }
-}
-
-/// Makes a store. Where its access faults nothing is stored, and its line joins the faulted ones.
-fn store(entry: &SerialInsn, address: u32, size: u8, value: u32, state: &mut State)
-    requires size { IsTrue (is_size size) }
-    requires room { 0 < state.old.room }
-    ensures machine { state.new.machine ≡ record state.old.machine { memory = written address size value state.old.machine.memory; faults = after_fault state.old.machine.faults entry.now.line (not (is_good address size)) } }
-    ensures room { state.old.room ≤ state.new.room + 1 }
-{
-    if !state.store(address, size, value) {
-        state.fault(entry.line);
-    }
-}
-
-/// Makes the access of an instruction, where it has one, and answers the value of a load's destination.
-fn make_access(entry: &SerialInsn, access: Option<Access>, state: &mut State) -> Option<u32>
-    requires size { IfSome access (λ access. IsTrue (is_size access.size)) }
-    requires room { 0 < state.old.room }
-    ensures loaded { result ≡ loaded (byte_in state.old.machine) (op_of entry.now.insn) access }
-    ensures machine { state.new.machine ≡ record state.old.machine { memory = after_access state.old.machine.memory access; faults = after_fault state.old.machine.faults entry.now.line (is_fault access) } }
+    ensures machine { state.new.machine ≡ after_action entry.now.line (op_of entry.now.insn) (Transfers transfer) state.old.machine }
     ensures room { state.old.room ≤ state.new.room + 1 }
 {
     let Access {
         address,
         size,
         value,
-    } = access?;
-    match value {
+    } = transfer.access;
+    let loaded = match value {
         Some(value) => {
-            store(entry, address, size, value, state);
+            state.make_store(entry.line, address, size, value);
             None
         }
-        None => Some(load(entry, address, size, state)),
-    }
+        None => {
+            let word = state.make_load(entry.insn, entry.line, address, size);
+            transfer.loads.map(|reg| (reg, word))
+        }
+    };
+    write(transfer.base, state);
+    write(loaded, state);
 }
 
 /// Runs an instruction. Answers where its branch goes, where it is a branch that ran.
@@ -140,17 +78,17 @@ fn run_insn(entry: &SerialInsn, state: &mut State) -> Option<Target>
     ensures target { result ≡ (act_in state.old.machine entry.now).target }
     ensures room { state.old.room ≤ state.new.room + 1 }
 {
-    let Effect {
-        mut values,
-        access,
-        target,
-        ..
-    } = entry.insn.apply(&inputs(entry.insn, state));
-    if let Some(value) = make_access(entry, access, state) {
-        values.push(value);
+    match entry.insn.action(state.registers())? {
+        Action::Write(reg, word) => {
+            state.set(reg, word);
+            None
+        }
+        Action::Transfer(transfer) => {
+            make_transfer(entry, transfer, state);
+            None
+        }
+        Action::Branch(target) => Some(target),
     }
-    write(entry.insn.writes().as_slice(), values.as_slice(), state);
-    target
 }
 
 /// Runs the instructions of a block one after the other, without delays: each acts on what the one
@@ -163,9 +101,10 @@ fn run_insn(entry: &SerialInsn, state: &mut State) -> Option<Target>
 /// # Errors
 ///
 /// `AllocError` where that room was missing and memory runs out. The state is then as before.
-pub fn run_block(_alloc: Global, block: &Block, state: &mut State) -> Result<Exit, AllocError>
+pub fn run_block(block: &Block, state: &mut State) -> Result<Exit, AllocError>
     ensures machine { OnOk result (state.new.machine ≡ (serial block.now.insns state.old.machine).machine) }
     ensures exit { IfOk result (λ exit. exit ≡ (serial block.now.insns state.old.machine).exit) }
+    ensures full { OnErr result (state.old.room < length block.now.insns) }
     ensures err { OnErr result (state.new ≡ state.old) }
 {
     let insns = block.insns();

@@ -3,7 +3,7 @@
 ghost use Rattle.std.specs.Prelude.{◌≡◌, ◌+◌, ◌<◌, ◌≤◌, length, slice_index, insert, IsTrue, IsOk, IfOk, OnOk, OnErr, MatchOption};
 ghost use Rattle.std.specs.List.Sorted.{IsStrictlyIncreasing};
 
-use c62_insn::{Reg, Side};
+use c62_insn::Reg;
 use std::alloc::{AllocError, Global};
 use std::marker::Model;
 
@@ -33,23 +33,13 @@ impl Model for State {
       room = vec_capacity state.faults - vec_len state.faults;
     } };
 
-    ghost invariant = { λ state. IsSound (record { registers = state.registers; memory = state.memory.items; faults = state.faults.items }) };
+    ghost invariant = { λ state.
+        IsSound (record { registers = state.registers; memory = state.memory.items; faults = state.faults.items }) };
 }
 
-ghost use Rattle.c62_serial.specs.State.{Machine, IsSound, IsZero, index_of, word_in, byte_in, with_word};
+ghost use Rattle.c62_serial.specs.State.{Machine, IsSound, IsZero, word_in, byte_in, with_word};
 ghost use Rattle.c62_serial.specs.Memory.{is_size, is_good, number_of, bytes_from, bytes_of, read, put, with_bytes};
 ghost use Rattle.c62_serial.specs.Faults.{joined, with_fault};
-
-/// The place of a register among A0 to A15 and B0 to B15.
-fn index(reg: Reg) -> usize
-    ensures place { result ≡ index_of reg }
-    ensures within { result < 32 }
-{
-    match reg.side {
-        Side::A => usize::from(reg.number),
-        Side::B => 16 + usize::from(reg.number),
-    }
-}
 
 /// Whether the access lies on its size and within memory.
 fn is_good(address: u32, size: u8) -> bool
@@ -79,14 +69,19 @@ fn put(memory: &mut [u8], at: usize, size: u8, value: u32)
     requires within { at + size ≤ length memory.old }
     ensures { memory.new ≡ put at (bytes_of size value) size memory.old }
 {
-    let end = at + usize::from(size);
-    memory[at..end].copy_from_slice(&value.to_le_bytes()[..usize::from(size)]);
+    let bytes = value.to_le_bytes();
+    match size {
+        1 => memory[at..at + 1].copy_from_slice(&bytes[..1]),
+        2 => memory[at..at + 2].copy_from_slice(&bytes[..2]),
+        _ => memory[at..at + 4].copy_from_slice(&bytes),
+    }
 }
 
 /// The place for a line among rising lines, where it is not among them.
 fn new_place(lines: &[u32], line: u32) -> Option<usize>
     requires { IsStrictlyIncreasing lines.now }
-    ensures { MatchOption result (joined line lines.now ≡ lines.now) (λ place. (place ≤ length lines.now) × (joined line lines.now ≡ insert lines.now place line)) }
+    ensures { MatchOption result (joined line lines.now ≡ lines.now)
+        (λ place. (place ≤ length lines.now) × (joined line lines.now ≡ insert lines.now place line)) }
 {
     lines.binary_search(&line).err()
 }
@@ -111,14 +106,21 @@ impl State {
     pub fn reg(&self, reg: Reg) -> u32
         ensures { result ≡ word_in self.now.machine reg }
     {
-        self.registers[index(reg)]
+        self.registers[usize::from(reg.index())]
     }
 
     /// Puts a word into a register.
     pub fn set(&mut self, reg: Reg, value: u32)
         ensures { self.new ≡ record self.old { machine = with_word reg value self.old.machine } }
     {
-        self.registers[index(reg)] = value;
+        self.registers[usize::from(reg.index())] = value;
+    }
+
+    /// The words of all registers, A0 to A15 and then B0 to B15.
+    pub fn registers(&self) -> &[u32; 32]
+        ensures { result.now ≡ self.now.machine.registers }
+    {
+        &self.registers
     }
 
     /// The byte at an address.
@@ -201,6 +203,6 @@ impl State {
         ensures same { result.now ≡ self.now.machine.faults }
         ensures sound { IsSound self.now.machine }
     {
-        &self.faults
+        self.faults.as_slice()
     }
 }

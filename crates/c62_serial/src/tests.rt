@@ -3,8 +3,8 @@
 use crate::chain::{Chain, End, run_program};
 use crate::serial::run_block;
 use crate::state::State;
-use c62_insn::Reg;
 use c62_insn::Side::{self, A, B};
+use c62_insn::{AddressForm, Cond, Insn, Offset, Op, Operands, Reg};
 use c62_read::{Program, ReadFault, read_program};
 use std::alloc::Global;
 use std::process::Abort;
@@ -161,7 +161,7 @@ fn check_rows(rt: &impl Abort, alloc: Global, rows: &[&str]) -> Result<(), Fail>
         let (settings, want) = rest.split_once(" | ").expect(rt, "settings");
         let program = read_program(alloc, &lines(alloc, text)?)?;
         let Opening { mut state, limit } = Opening::new(rt, alloc, settings)?;
-        let chain = run_program(alloc, &program, &mut state, limit)?;
+        let chain = run_program(&program, &mut state, limit)?;
         let found = report(alloc, chain, &state)?;
         assert_eq!(rt; found.as_str(), want, "{row}");
     }
@@ -221,6 +221,64 @@ fn calls_of_a_state(rt: HostRuntime) -> Result<(), Fail> {
     Ok(())
 }
 
+/// What instructions ask of a state: what `[!A1] STW A1,*++A4[A1]` reads, bytes loaded with and without
+/// their sign, and accesses that fault.
+#[test]
+fn calls_of_instructions(rt: HostRuntime) -> Result<(), Fail> {
+    let a1 = Reg { side: A, number: 1 };
+    let mut state = State::new(rt.alloc())?;
+    state.set(a1, 5);
+    state.set(A4, 8);
+    assert!(&rt; &state.registers()[..6] == [0, 5, 0, 0, 8, 0].as_slice());
+    let address = Operands::Access(a1, A4, AddressForm::PreIncrement, Offset::Register(a1));
+    let cond = Cond {
+        reg: a1,
+        negated: true,
+    };
+    let inputs = state.inputs(Insn::new(Op::Stw, address, Some(cond), None)?);
+    assert_eq!(&rt; inputs.cond, Some(5));
+    assert!(&rt; inputs.reads.as_slice() == [5, 8, 5].as_slice());
+    state.room(3)?;
+    state.make_store(4, 8, 2, 0x1_2380);
+    state.make_store(2, 9, 2, 0x1_2380);
+    let rows = [
+        (Op::Ldb, 8, 1, 0xffff_ff80),
+        (Op::Ldbu, 8, 1, 0x80),
+        (Op::Ldh, 8, 2, 0x2380),
+        (Op::Ldw, 0xfffe, 4, 0),
+    ];
+    for (op, place, size, want) in rows {
+        let insn = Insn::new(op, address, None, None)?;
+        state.room(1)?;
+        assert_eq!(&rt; state.make_load(insn, 1, place, size), want, "at {place}");
+    }
+    assert!(&rt; state.faults() == [1, 2].as_slice());
+    Ok(())
+}
+
+/// A program of the greatest size, in which every access faults.
+#[test]
+fn greatest_size(rt: HostRuntime) -> Result<(), Fail> {
+    let alloc = rt.alloc();
+    let mut text = String::new(alloc);
+    for block in 0..64u8 {
+        text.push_str(&format!(in alloc; "L{block}:")?)?;
+        for _ in 0..256u16 {
+            text.push_str("LDH *A4,A5\n")?;
+        }
+    }
+    let program = read_program(alloc, text.as_bytes())?;
+    let mut state = State::new(alloc)?;
+    state.set(A4, 1);
+    let want = Chain {
+        blocks: 64,
+        stop: End::End,
+    };
+    assert_eq!(&rt; run_program(&program, &mut state, 1000)?, want);
+    assert_eq!(&rt; state.faults().len(), 64 * 256);
+    Ok(())
+}
+
 /// A block of 9 instructions, and one of 30.
 fn two_blocks(alloc: Global) -> Result<Program, ReadFault> {
     let mut text = String::new(alloc);
@@ -250,12 +308,12 @@ fn want_of_memory(rt: HostRuntime) {
     let Some(first) = program.blocks().first() else {
         return;
     };
-    let left = match run_block(alloc, first, &mut state) {
+    let left = match run_block(first, &mut state) {
         Ok(_) => 2,
         Err(_) => 0,
     };
     assert_eq!(&rt; [state.reg(A4), state.reg(A5)], [left, 0]);
-    let loaded = match run_program(alloc, &program, &mut state, 9) {
+    let loaded = match run_program(&program, &mut state, 9) {
         Ok(_) => 3,
         Err(_) => 0,
     };

@@ -18,3 +18,6 @@ pub mod ParsedNumber
 pub mod Asking
 pub mod ReportLemmas
 pub mod Runs
+pub mod Telling
+pub mod Passed
+pub mod Limits

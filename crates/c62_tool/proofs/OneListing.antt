@@ -12,8 +12,7 @@ use Rattle.c62_insn.specs.declared.register.Side.TheVariants.{A, B}
 use Rattle.c62_insn.specs.declared.register.Letter.{Letter}
 use Rattle.c62_insn.specs.declared.register.Letter.TheVariants.{L, S, M, D}
 use Rattle.c62_insn.specs.declared.register.Unit.{Unit as FunctionalUnit}
-use Rattle.c62_insn.specs.Units.{place_of, index_of}
-use Rattle.c62_insn.specs.Fault.{all_units}
+use Rattle.c62_insn.specs.Units.{place_of, index_of, all_units}
 use Rattle.c62_insn.specs.PacketRules.{Issue, HasOneEachUnit}
 use Rattle.c62_tool.specs.Listing.{listing_place, length_of, block_text, IsInListingOrder, IsListing}
 

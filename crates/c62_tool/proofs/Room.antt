@@ -17,7 +17,9 @@ use Rattle.c62_insn.specs.PacketRules.{Issue, Issues, reads_in, reads_count}
 use Rattle.c62_insn.proofs.InsnLemmas.{has_written_unit, reads_count_at_most_three}
 use Rattle.c62_insn.proofs.Registers.{same_unit-refl}
 use Rattle.c62_tool.specs.declared.spot.Spot.{Spot}
-use Rattle.c62_tool.specs.Lawful.{Spots, IsAt, spot_at, placed, issues, is_written, may_stand, IsLawful}
+use Rattle.c62_insn.specs.Takes.{is_written}
+use Rattle.c62_insn.specs.Stands.{may_stand}
+use Rattle.c62_tool.specs.Lawful.{Spots, IsAt, spot_at, placed, issues, IsLawful}
 use Rattle.c62_tool.specs.Least.{IsReady, IsAfter, IsLeast, HasNoSpot, placed_below, IsComplete, IsPlacedInOrder}
 use Rattle.c62_tool.specs.Packet.{Suits, has_read_left}
 use Rattle.c62_tool.proofs.IssuesOf.{issued-placement}

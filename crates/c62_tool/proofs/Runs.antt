@@ -1,6 +1,7 @@
 -- What a run did, from what each of its steps did.
-use Rattle.std.proofs.Common.{◌≡◌, ℕ, ◌<◌, List, length, take, Option, Some, None, Result, Ok, Err, refl, sym, ap, subst, ◌∙◌, arith, inl, inr}
-use Rattle.std.specs.Prelude.{IfSome, IsErr}
+use Rattle.std.proofs.Common.{◌≡◌, ℕ, ◌<◌, ◌≤◌, List, length, take, Option, Some, None, Result, Ok, Err, refl, sym, ap, subst, ◌∙◌, arith, rules, inl, inr}
+use Rattle.std.specs.Prelude.{◌⊎◌, [], IfSome, IsErrAnd, codes}
+use Rattle.std.specs.Option.{IsSomeAnd}
 use Rattle.std.specs.Global.{Vec}
 use Rattle.std.specs.Io.KnownBytes.{Appends, Keeps}
 use Rattle.std.proofs.lemmas.Bool.{cases_lt, lt-ltb}
@@ -10,9 +11,9 @@ use Rattle.c62_tool.specs.declared.fault.Refusal.TheVariants.{TextTooLong}
 use Rattle.c62_tool.specs.Reading.{Parts, program_of}
 use Rattle.c62_read.specs.Program.{BlockParts, Refusal as Refused, drafts_in, program_in}
 use Rattle.c62_read.specs.declared.fault.Cause.TheVariants.{TextTooLong as OverLong}
-use Rattle.c62_tool.specs.Run.{IsAnswer, IsRefusedText, Does, IsRefused, IsFailure, Blames, Leaves, Gives}
-use Rattle.c62_tool.specs.CommandLine.{Ask, Listing, SerialReport, asked}
-use Rattle.c62_tool.proofs.Asking.{asked-unknown, asked-bad}
+use Rattle.c62_tool.specs.Message.{IsFront, Tells, TellsOf, fault_message, message_of, refusal_message, setting_message}
+use Rattle.c62_tool.specs.Run.{AsksInVain, AsksNothing, Blames, Does, Fails, Gives, HasFailed, IsAnswer, IsRefused, IsRefusedText, IsRun, IsRunOnBytes, Streams, TakesAtMost, status_of}
+use Rattle.c62_tool.specs.CommandLine.{Ask, HasBadSetting, IsUnknown, Listing, SerialReport, asked}
 use Rattle.clap.specs.Words.{Text}
 use Rattle.c62_tool.specs.declared.failure.Failure.{Failure}
 use Rattle.c62_tool.specs.declared.failure.Failure.TheVariants as failures
@@ -63,32 +64,179 @@ Keeps-same : (known : Option (List ℕ)) → Keeps known known
 Keeps-same None = tt
 Keeps-same (Some xs) = refl
 
-refused_all : (ask : Ask) (all text : List ℕ) → text ≡ take 1048577 all → IsRefusedText ask text → IsRefusedText ask all
-refused_all (Listing turns) all text read is = subst (λ (p : Result (List Parts) Refusal). IsErr p) (ap program_of read ∙ program_of-take all) is
-refused_all (SerialReport blocks settings) all text read is =
-    subst (λ (p : Result (List BlockParts) Refused). IsErr p) (ap program_in read ∙ program_in-take all) is
+refused_all : (ask : Ask) (all text message : List ℕ) → text ≡ take 1048577 all → IsRefusedText ask text message → IsRefusedText ask all message
+refused_all (Listing turns) all text message read is =
+    subst (λ (p : Result (List Parts) Refusal). IsErrAnd p (λ refusal. message ≡ refusal_message refusal)) (ap program_of read ∙ program_of-take all) is
+refused_all (SerialReport blocks settings) all text message read is =
+    subst (λ (p : Result (List BlockParts) Refused). IsErrAnd p (λ fault. message ≡ fault_message fault.0 fault.1)) (ap program_in read ∙ program_in-take all) is
 
-refused : (ask : Ask) (known : Option (List ℕ)) (text : List ℕ) → IfSome known (λ all. text ≡ take 1048577 all) → IsRefusedText ask text → IsRefused ask known
-refused ask None text read is = tt
-refused ask (Some all) text read is = refused_all ask all text read is
+refused : (ask : Ask) (known : Option (List ℕ)) (text message : List ℕ) → IfSome known (λ all. text ≡ take 1048577 all) → IsRefusedText ask text message
+    → IsRefused ask known message
+refused ask None text message read is = tt
+refused ask (Some all) text message read is = refused_all ask all text message read is
 
 -- no answer came to what was read
 pub refuses : (ask : Ask) (known old : Option (List ℕ)) (text : List ℕ) (f : Failure) → IfSome known (λ all. text ≡ take 1048577 all) → Gives ask text (Err f)
-    → Leaves f ask known old old
-refuses ask known old text (failures.Refused r) read gives = (refused ask known text read gives, Keeps-same old)
-refuses ask known old text (failures.Unread r) read gives = (refused ask known text read gives, Keeps-same old)
+    → Fails f ask known old old
+refuses ask known old text (failures.Refused refusal) read gives = (refused ask known text (refusal_message refusal) read gives, Keeps-same old)
+refuses ask known old text (failures.Unread fault) read gives = (refused ask known text (fault_message fault.line fault.cause) read gives, Keeps-same old)
 refuses ask known old text failures.Memory read gives = Keeps-same old
 refuses ask known old text failures.Input read gives = absurd gives
 refuses ask known old text failures.Output read gives = absurd gives
 refuses ask known old text (failures.Words e) read gives = absurd gives
 refuses ask known old text (failures.Setting k) read gives = absurd gives
 
--- the words are blamed where they ask for nothing
-pub blamed : (f : Failure) (words : List Text) (known old : Option (List ℕ)) → Blames f words → IsFailure f (asked words) known old old
-blamed (failures.Words e) words known old blames = (asked-unknown words blames, Keeps-same old)
-blamed (failures.Setting k) words known old blames = (asked-bad words k blames, Keeps-same old)
-blamed failures.Memory words known old blames = Keeps-same old
-blamed (failures.Refused r) words known old blames = absurd blames
-blamed (failures.Unread r) words known old blames = absurd blames
-blamed failures.Input words known old blames = absurd blames
-blamed failures.Output words known old blames = absurd blames
+-- the words are blamed
+pub blamed : (f : Failure) (words : List Text) (known old : Option (List ℕ)) → Blames f words → HasFailed f words known old old
+blamed f words known old blames = inl (blames, Keeps-same old)
+
+-- words that ask for something do so
+pub for_asked : (words : List Text) (ask : Ask) (P : Ask → Type 0) → asked words ≡ Some ask → P ask → IsSomeAnd (asked words) P
+for_asked words ask P is p = subst (λ (a : Option Ask). IsSomeAnd a P) (sym is) p
+
+-- ---- a whole run
+
+-- what a run reads
+pub record Reads (words : List Text) (old new : Option (List ℕ)) : Type 0 where
+  pub unread : asked words ≡ None → Keeps old new
+  pub most : TakesAtMost 1048577 old new
+
+some_none : {T : Type 0} (o : Option T) (P : T → Type 0) → IsSomeAnd o P → o ≡ None → ⊥
+some_none None P some none = some
+some_none (Some x) P some none = absurd cc
+
+pub done : (words : List Text) (old new : Streams) → Reads words old.input new.input → Keeps old.errors new.errors
+    → IsSomeAnd (asked words) (λ ask. Does ask old.input old.output new.output) → IsRun words old new 0
+done words old new reads silent does = record {
+  known = search rules;
+  done = λ _. does;
+  silent = λ _. silent;
+  refused = λ e. absurd (omega arith);
+  blamed = λ e. absurd (omega arith);
+  judged = λ none. absurd (some_none (asked words) (λ ask. Does ask old.input old.output new.output) does none);
+  unread = reads.unread;
+  memory = λ e. absurd (omega arith);
+  stream = λ e. absurd (omega arith);
+  quiet = λ less more. absurd (omega arith);
+  most = reads.most;
+}
+
+module _ (words : List Text) (old new : Streams) (reads : Reads words old.input new.input) where
+  is_refused : Keeps old.output new.output → TellsOf (AsksInVain (asked words) old.input) old.errors new.errors → (asked words ≡ None → ⊥) → IsRun words old new 1
+  is_refused quiet told some = record {
+    known = search rules;
+    done = λ e. absurd (omega arith);
+    silent = λ e. absurd (omega arith);
+    refused = λ _. told;
+    blamed = λ e. absurd (omega arith);
+    judged = λ none. absurd (some none);
+    unread = reads.unread;
+    memory = λ e. absurd (omega arith);
+    stream = λ e. absurd (omega arith);
+    quiet = λ _ _. quiet;
+    most = reads.most;
+  }
+
+  is_blamed : Keeps old.output new.output → AsksNothing words old.errors new.errors → IsRun words old new 2
+  is_blamed quiet told = record {
+    known = search rules;
+    done = λ e. absurd (omega arith);
+    silent = λ e. absurd (omega arith);
+    refused = λ e. absurd (omega arith);
+    blamed = λ _. told;
+    judged = λ _. inl refl;
+    unread = reads.unread;
+    memory = λ e. absurd (omega arith);
+    stream = λ e. absurd (omega arith);
+    quiet = λ _ _. quiet;
+    most = reads.most;
+  }
+
+  is_out_of_memory : Keeps old.output new.output → Tells old.errors new.errors (codes "memory\n") → IsRun words old new 3
+  is_out_of_memory quiet told = record {
+    known = search rules;
+    done = λ e. absurd (omega arith);
+    silent = λ e. absurd (omega arith);
+    refused = λ e. absurd (omega arith);
+    blamed = λ e. absurd (omega arith);
+    judged = λ _. inr refl;
+    unread = reads.unread;
+    memory = λ _. told;
+    stream = λ e. absurd (omega arith);
+    quiet = λ _ _. quiet;
+    most = reads.most;
+  }
+
+  is_cut_off : Tells old.errors new.errors (codes "input\n") ⊎ Tells old.errors new.errors (codes "output\n") → (asked words ≡ None → ⊥) → IsRun words old new 4
+  is_cut_off told some = record {
+    known = search rules;
+    done = λ e. absurd (omega arith);
+    silent = λ e. absurd (omega arith);
+    refused = λ e. absurd (omega arith);
+    blamed = λ e. absurd (omega arith);
+    judged = λ none. absurd (some none);
+    unread = reads.unread;
+    memory = λ e. absurd (omega arith);
+    stream = λ _. told;
+    quiet = λ less more. absurd (omega arith);
+    most = reads.most;
+  }
+
+  -- the words ask for nothing
+  is_not_asked : (f : Failure) → Blames f words → Keeps old.output new.output → IfSome (message_of f) (Tells old.errors new.errors) → IsRun words old new (status_of f)
+  is_not_asked (failures.Words e) blames quiet told = is_blamed quiet (inl blames)
+  is_not_asked (failures.Setting k) blames quiet told = is_blamed quiet (inr (record { text = setting_message k; is = (k, blames, refl); told = told }))
+  is_not_asked failures.Memory blames quiet told = is_out_of_memory quiet told
+  is_not_asked (failures.Refused r) blames quiet told = absurd blames
+  is_not_asked (failures.Unread r) blames quiet told = absurd blames
+  is_not_asked failures.Input blames quiet told = absurd blames
+  is_not_asked failures.Output blames quiet told = absurd blames
+
+  -- what they ask for was not done
+  is_not_done : (f : Failure) (ask : Ask) → asked words ≡ Some ask → Fails f ask old.input old.output new.output → IfSome (message_of f) (Tells old.errors new.errors)
+      → IsRun words old new (status_of f)
+  is_not_done (failures.Refused refusal) ask is fails told =
+      is_refused fails.1 (record { text = refusal_message refusal; is = for_asked words ask _ is fails.0; told = told }) (λ none. absurd cc)
+  is_not_done (failures.Unread fault) ask is fails told =
+      is_refused fails.1 (record { text = fault_message fault.line fault.cause; is = for_asked words ask _ is fails.0; told = told }) (λ none. absurd cc)
+  is_not_done failures.Memory ask is fails told = is_out_of_memory fails told
+  is_not_done failures.Input ask is fails told = is_cut_off (inl told) (λ none. absurd cc)
+  is_not_done failures.Output ask is fails told = is_cut_off (inr told) (λ none. absurd cc)
+  is_not_done (failures.Words e) ask is fails told = absurd fails
+  is_not_done (failures.Setting k) ask is fails told = absurd fails
+
+  pub failed : (f : Failure) → HasFailed f words old.input old.output new.output → IfSome (message_of f) (Tells old.errors new.errors) → IsRun words old new (status_of f)
+  failed f (inl blames) told = is_not_asked f blames.0 blames.1 told
+  failed f (inr fails) told = go (asked words) refl fails
+    where
+      go : (a : Option Ask) → asked words ≡ a → IsSomeAnd a (λ ask. Fails f ask old.input old.output new.output) → IsRun words old new (status_of f)
+      go None is none = absurd none
+      go (Some ask) is some = is_not_done f ask is some told
+
+-- ---- a run on bytes
+
+-- the bytes that a stream that held nothing holds now
+pub held : (bytes text : List ℕ) → Tells (Some []) (Some bytes) text → IsFront bytes text
+held bytes text told = (told.0, told.1)
+
+pub on_bytes : (words : List Text) (input rest output errors : List ℕ) (status : ℕ)
+    → IsRun words (record { input = Some input; output = Some []; errors = Some [] }) (record { input = Some rest; output = Some output; errors = Some errors }) status
+    → IsRunOnBytes words input output errors status
+on_bytes words input rest output errors status run = record {
+  known = run.known;
+  done = λ e. answered_in (asked words) (run.done e);
+  silent = run.silent;
+  refused = λ e. let told = run.refused e in (told.text, told.is, held errors told.text told.told);
+  blamed = λ e. blamed_in (run.blamed e);
+  judged = run.judged;
+  memory = λ e. held errors (codes "memory\n") (run.memory e);
+  quiet = run.quiet;
+}
+  where
+    answered_in : (a : Option Ask) → IsSomeAnd a (λ ask. Does ask (Some input) (Some []) (Some output)) → IsSomeAnd a (λ ask. IsAnswer ask input output)
+    answered_in None none = absurd none
+    answered_in (Some ask) does = subst (IsAnswer ask input) (sym does.written) does.is
+
+    blamed_in : AsksNothing words (Some []) (Some errors) → IsUnknown words ⊎ ((k : ℕ) × HasBadSetting words k × IsFront errors (setting_message k))
+    blamed_in (inl unknown) = inl unknown
+    blamed_in (inr told) = inr (told.is.0, told.is.1, subst (IsFront errors) told.is.2 (held errors told.text told.told))

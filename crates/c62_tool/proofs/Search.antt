@@ -6,8 +6,7 @@ use Rattle.std.proofs.lemmas.Int.{ints}
 use Rattle.std.proofs.lemmas.Option.{slice_get_read}
 use Rattle.c62_insn.specs.declared.register.Unit.{Unit as FunctionalUnit}
 use Rattle.c62_insn.specs.declared.insn.Insn.{Insn}
-use Rattle.c62_insn.specs.Units.{index_of}
-use Rattle.c62_insn.specs.Fault.{all_units}
+use Rattle.c62_insn.specs.Units.{index_of, all_units}
 use Rattle.c62_insn.proofs.UnitOrder.{same_index, index_of-below, index_of-listed}
 use Rattle.c62_tool.specs.declared.spot.Spot.{Spot}
 use Rattle.c62_tool.specs.Lawful.{Spots, placed, IsLawful}

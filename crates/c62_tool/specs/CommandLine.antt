@@ -1,7 +1,7 @@
 -- The command line, as clap reads it.
-use Rattle.std.specs.Prelude.{◌≡◌, ◌≢◌, ◌<◌, ℕ, pos, ◌^◌, Bool, true, false, ◌&&◌, nat_lt, length, List, [], ◌∷◌, Option, Some, None, unwrap_or, option_map, option_and_then, codes, if◌then◌else◌}
+use Rattle.std.specs.Prelude.{◌≡◌, ◌≢◌, ◌<◌, ◌≤◌, ℕ, pos, ◌^◌, Bool, true, false, ◌&&◌, nat_lt, length, List, [], ◌∷◌, Option, Some, None, unwrap_or, option_map, option_and_then, codes, if◌then◌else◌}
 use Rattle.std.specs.Str.{bytes_eq}
-use Rattle.std.specs.Str.Parse.{digits_value, without_leading_plus}
+use Rattle.std.specs.Str.Parse.{digits_value, signed_digits_value, without_leading_plus}
 use Rattle.std.specs.Option.{option_map_or}
 use Rattle.clap.specs.Words.{App, Kinds, Row, Rule, Text, all_of, first_of, new_app, new_rule, with_rule, with_subcommand, fault_of, subcommand_of}
 use Rattle.clap.specs.declared.builder.action.ArgAction.TheVariants.{SetTrue, Append}
@@ -100,3 +100,15 @@ HasBadSetting words k = (0 < length words) × (fault_of tool_app words ≡ []) �
 -- there are words, and clap doesn't take them
 abbrev pub IsUnknown : List Text → Type 0
 IsUnknown words = (0 < length words) × (fault_of tool_app words ≢ [])
+
+-- ---- numbers that are given
+
+-- the number that stands for a value that may be given: that which it writes, between these two, or this one
+abbrev pub IsNumberOf : ℕ → ℕ → ℕ → Option Text → ℕ → Type 0
+IsNumberOf least most default None number = number ≡ default
+IsNumberOf least most default (Some text) number = (signed_digits_value 10 text ≡ pos number) × (least ≤ number) × (number ≤ most)
+
+-- Where clap takes the words, the limit of blocks is the number behind `--blocks`, 1 to 1,000,000, or 1,000 without it.
+abbrev pub TakesLimits : List Text → Type 0
+TakesLimits words = (name : Text) (rows : List Row) → fault_of tool_app words ≡ [] → subcommand_of tool_app words ≡ Some (name, rows)
+    → IsNumberOf 1 1000000 1000 (first_of (codes "blocks") rows) (blocks_of rows)

@@ -1,9 +1,8 @@
 -- Sets of placements, and which are lawful (docs/SCHEDULING.md, "Lawful").
-use Rattle.std.specs.Prelude.{◌≡◌, ℕ, ◌*◌, ◌<◌, ℤ, pos, ◌≤ℤ◌, ◌+ℤ◌, Bool, true, ◌&&◌, List, [], ◌∷◌, length, Option, Some, None, option_map, slice_index_or, slice_get, slice_set, replicate, IsTrue, IsSome}
+use Rattle.std.specs.Prelude.{◌≡◌, ℕ, ◌*◌, ◌<◌, ℤ, pos, ◌≤ℤ◌, ◌+ℤ◌, List, [], ◌∷◌, length, Option, Some, None, option_map, slice_index_or, slice_get, slice_set, replicate, IsTrue, IsSome}
 use Rattle.c62_insn.specs.declared.insn.Insn.{Insn}
 use Rattle.c62_insn.specs.declared.register.Unit.{Unit as FunctionalUnit}
-use Rattle.c62_insn.specs.Takes.{same_unit, takes}
-use Rattle.c62_insn.specs.Insn.{op_of, operands_of, unit_of}
+use Rattle.c62_insn.specs.Stands.{may_stand}
 use Rattle.c62_insn.specs.PacketRules.{Issues, KeepsPacketRules}
 use Rattle.c62_insn.specs.Dependence.{Bounds, Depends}
 use Rattle.c62_tool.specs.declared.spot.Spot.{Spot}
@@ -34,15 +33,6 @@ abbrev pub issues : List Insn → Spots → Issues
 issues [] set = []
 issues (insn ∷ block) [] = []
 issues (insn ∷ block) (spot ∷ set) = option_map (issue_at insn) spot ∷ issues block set
-
--- the written unit, where one is written
-abbrev pub is_written : Option FunctionalUnit → FunctionalUnit → Bool
-is_written None unit = true
-is_written (Some written) unit = same_unit written unit
-
--- an instruction may stand on the units that take it, or on the written one alone
-abbrev pub may_stand : Insn → FunctionalUnit → Bool
-may_stand insn unit = is_written (unit_of insn) unit && takes (op_of insn) (operands_of insn) unit
 
 -- A set of placements that keeps all rules, with all that a placed instruction depends on. A block of n instructions
 -- has the cycles below 5 n.

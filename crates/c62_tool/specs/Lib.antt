@@ -10,4 +10,5 @@ pub mod Packed
 pub mod CommandLine
 pub mod Settings
 pub mod Report
+pub mod Message
 pub mod Run

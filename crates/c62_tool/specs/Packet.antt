@@ -12,7 +12,8 @@ use Rattle.c62_insn.specs.PacketRules.{Issues, reads_count, reads_in}
 use Rattle.c62_tool.specs.declared.resource.Resource.{Resource}
 use Rattle.c62_tool.specs.declared.resource.Resource.TheVariants.{OnUnit, CrossPath, DataPath}
 use Rattle.c62_tool.specs.declared.spot.Spot.{Spot}
-use Rattle.c62_tool.specs.Lawful.{Spots, spot_at, issues, may_stand}
+use Rattle.c62_insn.specs.Stands.{may_stand}
+use Rattle.c62_tool.specs.Lawful.{Spots, spot_at, issues}
 
 abbrev pub is_path : Side → Option Side → Bool
 is_path side None = false

@@ -1,9 +1,9 @@
 -- What the program does to its streams.
-use Rattle.std.specs.Prelude.{◌≡◌, ◌≢◌, ◌⊎◌, ℕ, ◌≤◌, List, length, map, fold, Option, None, Result, IfSome, IsErr, Ok, Err}
+use Rattle.std.specs.Prelude.{◌≡◌, ◌≢◌, ◌⊎◌, ℕ, ◌+◌, ◌<◌, ◌≤◌, List, [], length, map, fold, codes, Option, None, Result, IfSome, IsErrAnd, Ok, Err}
 use Rattle.std.specs.Io.KnownBytes.{Appends, Consumes, Keeps}
 use Rattle.std.specs.Option.{IsSomeAnd}
 use Rattle.std.specs.Global.{Vec}
-use Rattle.clap.specs.Words.{kind_of}
+use Rattle.clap.specs.Words.{Text, kind_of}
 use Rattle.clap.specs.declared.error.Error.{Error}
 use Rattle.clap.specs.declared.error.kind.ErrorKind.TheVariants.{OutOfMemory}
 use Rattle.c62_insn.specs.declared.insn.Insn.{Insn}
@@ -19,11 +19,13 @@ use Rattle.c62_read.specs.Block.{Serial}
 use Rattle.c62_read.specs.Program.{program_in, block_parts}
 use Rattle.c62_serial.specs.State.{Machine, IsZero, with_word}
 use Rattle.c62_serial.specs.Memory.{with_bytes}
-use Rattle.c62_serial.specs.Chain.{Standing, chain_of, program_after}
+use Rattle.c62_serial.specs.declared.chain.Chain.{Chain}
+use Rattle.c62_serial.specs.Chain.{RunsProgram}
 use Rattle.c62_tool.specs.Report.{serial_report}
-use Rattle.c62_tool.specs.Reading.{IsProgram, program_of}
+use Rattle.c62_tool.specs.Reading.{IsProgram, most_bytes, program_of}
 use Rattle.c62_tool.specs.Packed.{IsPacked}
-use Rattle.c62_tool.specs.CommandLine.{Ask, Listing, SerialReport, IsUnknown, HasBadSetting}
+use Rattle.c62_tool.specs.CommandLine.{Ask, Listing, SerialReport, IsUnknown, HasBadSetting, asked}
+use Rattle.c62_tool.specs.Message.{fault_message, refusal_message, setting_message, IsFront, Tells, TellsOf}
 
 abbrev pub status_of : Failure → ℕ
 status_of (Refused _) = 1
@@ -70,9 +72,10 @@ with_settings settings machine = fold with_setting machine settings
 pub record IsReport (program : List Serial) (settings : List Given) (blocks : ℕ) (text : List ℕ) : Type 0 where
   pub zeros : Machine
   pub zero : IsZero zeros
-  pub standing : Standing
-  pub run : standing ≡ program_after program (with_settings settings zeros) blocks
-  pub report : text ≡ serial_report (chain_of standing) standing.machine
+  pub chain : Chain
+  pub final : Machine
+  pub run : RunsProgram program (with_settings settings zeros) blocks chain final
+  pub report : text ≡ serial_report chain final
 
 -- the text says a program, of whose serial run this is the report
 pub record IsSerialReport (settings : List Given) (blocks : ℕ) (text report : List ℕ) : Type 0 where
@@ -85,10 +88,11 @@ abbrev pub IsAnswer : Ask → List ℕ → List ℕ → Type 0
 IsAnswer (Listing turns) text answer = IsPackedText text answer
 IsAnswer (SerialReport blocks settings) text answer = IsSerialReport settings blocks text answer
 
--- the text says no block that could be packed, or no program that could be run
-abbrev pub IsRefusedText : Ask → List ℕ → Type 0
-IsRefusedText (Listing turns) text = IsErr (program_of text)
-IsRefusedText (SerialReport blocks settings) text = IsErr (program_in text)
+-- the text says no block that could be packed, or no program that could be run, and the message tells its fault
+abbrev pub IsRefusedText : Ask → List ℕ → List ℕ → Type 0
+IsRefusedText (Listing turns) text message = IsErrAnd (program_of text) (λ refusal. message ≡ refusal_message refusal)
+IsRefusedText (SerialReport blocks settings) text message =
+    IsErrAnd (program_in text) (λ fault. message ≡ fault_message fault.0 fault.1)
 
 -- the answer to a text was written
 pub record Answers (ask : Ask) (text : List ℕ) (old new : Option (List ℕ)) : Type 0 where
@@ -100,37 +104,88 @@ pub record Answers (ask : Ask) (text : List ℕ) (old new : Option (List ℕ)) :
 abbrev pub Does : Ask → Option (List ℕ) → Option (List ℕ) → Option (List ℕ) → Type 0
 Does ask text old new = IfSome text (λ bytes. Answers ask bytes old new)
 
--- the text is refused, where it is known
-abbrev pub IsRefused : Ask → Option (List ℕ) → Type 0
-IsRefused ask text = IfSome text (IsRefusedText ask)
+-- the text is refused, where it is known, and the message tells its fault
+abbrev pub IsRefused : Ask → Option (List ℕ) → List ℕ → Type 0
+IsRefused ask text message = IfSome text (λ bytes. IsRefusedText ask bytes message)
 
--- What a run did that failed. A failure of the output leaves open what was written.
-abbrev pub Leaves : Failure → Ask → Option (List ℕ) → Option (List ℕ) → Option (List ℕ) → Type 0
-Leaves Output ask text old new = Unit {0}
-Leaves (Refused r) ask text old new = IsRefused ask text × Keeps old new
-Leaves (Unread r) ask text old new = IsRefused ask text × Keeps old new
-Leaves _ ask text old new = Keeps old new
+-- what is asked for is asked of a text that is refused, and the message tells its fault
+abbrev pub AsksInVain : Option Ask → Option (List ℕ) → List ℕ → Type 0
+AsksInVain asked text message = IsSomeAnd asked (λ ask. IsRefused ask text message)
+
+-- a setting is bad, and the message tells its number
+abbrev pub IsBadSetting : List Text → List ℕ → Type 0
+IsBadSetting words message = (k : ℕ) × HasBadSetting words k × (message ≡ setting_message k)
+
+-- The words ask for nothing: clap doesn't take them, or a setting is bad, and that is told.
+abbrev pub AsksNothing : List Text → Option (List ℕ) → Option (List ℕ) → Type 0
+AsksNothing words old new = IsUnknown words ⊎ TellsOf (IsBadSetting words) old new
 
 -- why words ask for nothing: clap doesn't take them, or a setting is bad
-abbrev pub Blames : Failure → List (List ℕ) → Type 0
+abbrev pub Blames : Failure → List Text → Type 0
 Blames (Words _) words = IsUnknown words
 Blames (Setting k) words = HasBadSetting words k
 Blames Memory words = Unit {0}
 Blames _ words = ⊥
 
--- What failed of what was asked for: the words are blamed where they ask for nothing.
-abbrev pub IsFailure : Failure → Option Ask → Option (List ℕ) → Option (List ℕ) → Option (List ℕ) → Type 0
-IsFailure (Words _) asked text old new = (asked ≡ None) × Keeps old new
-IsFailure (Setting _) asked text old new = (asked ≡ None) × Keeps old new
-IsFailure (Refused _) asked text old new = IsSomeAnd asked (λ ask. IsRefused ask text) × Keeps old new
-IsFailure (Unread _) asked text old new = IsSomeAnd asked (λ ask. IsRefused ask text) × Keeps old new
-IsFailure Output asked text old new = Unit {0}
-IsFailure _ asked text old new = Keeps old new
-
--- the answer to a text, or that it is refused, unless memory ran out
+-- the answer to a text, or its fault, unless memory ran out
 abbrev pub Gives : Ask → List ℕ → Result (Vec ℕ) Failure → Type 0
 Gives ask text (Ok v) = IsAnswer ask text v.items
-Gives ask text (Err (Refused r)) = IsRefusedText ask text
-Gives ask text (Err (Unread fault)) = IsRefusedText ask text
+Gives ask text (Err (Refused refusal)) = IsRefusedText ask text (refusal_message refusal)
+Gives ask text (Err (Unread fault)) = IsRefusedText ask text (fault_message fault.line fault.cause)
 Gives ask text (Err Memory) = Unit {0}
 Gives ask text (Err _) = ⊥
+
+-- Why what is asked for was not done. A failure of the output leaves open what was written.
+abbrev pub Fails : Failure → Ask → Option (List ℕ) → Option (List ℕ) → Option (List ℕ) → Type 0
+Fails (Refused refusal) ask text old new = IsRefused ask text (refusal_message refusal) × Keeps old new
+Fails (Unread fault) ask text old new = IsRefused ask text (fault_message fault.line fault.cause) × Keeps old new
+Fails Memory ask text old new = Keeps old new
+Fails Input ask text old new = Keeps old new
+Fails Output ask text old new = Unit {0}
+Fails _ ask text old new = ⊥
+
+-- Why a run failed: the words ask for nothing, or what they ask for was not done.
+abbrev pub HasFailed : Failure → List Text → Option (List ℕ) → Option (List ℕ) → Option (List ℕ) → Type 0
+HasFailed f words text old new = (Blames f words × Keeps old new) ⊎ IsSomeAnd (asked words) (λ ask. Fails f ask text old new)
+
+-- ---- a whole run
+
+-- What a run has to do with: the bytes that its reader still gives, and those that its output and its error stream hold,
+-- where they tell them.
+pub record Streams : Type 0 where
+  pub input : Option (List ℕ)
+  pub output : Option (List ℕ)
+  pub errors : Option (List ℕ)
+
+abbrev pub streams : Option (List ℕ) → Option (List ℕ) → Option (List ℕ) → Streams
+streams input output errors = record { input = input; output = output; errors = errors }
+
+-- What a run on these words does to its streams, and the status that it ends with (README.md, "Command line").
+pub record IsRun (words : List Text) (old new : Streams) (status : ℕ) : Type 0 where
+  pub known : status ≤ 4
+  -- What the words ask for was written, and nothing is told.
+  pub done : status ≡ 0 → IsSomeAnd (asked words) (λ ask. Does ask old.input old.output new.output)
+  pub silent : status ≡ 0 → Keeps old.errors new.errors
+  -- The text is refused, and its fault is told.
+  pub refused : status ≡ 1 → TellsOf (AsksInVain (asked words) old.input) old.errors new.errors
+  -- The words are refused. Words and settings are judged first: where they ask for nothing, nothing is read.
+  pub blamed : status ≡ 2 → AsksNothing words old.errors new.errors
+  pub judged : asked words ≡ None → (status ≡ 2) ⊎ (status ≡ 3)
+  pub unread : asked words ≡ None → Keeps old.input new.input
+  -- Memory ran out, or a stream failed.
+  pub memory : status ≡ 3 → Tells old.errors new.errors (codes "memory\n")
+  pub stream : status ≡ 4 → Tells old.errors new.errors (codes "input\n") ⊎ Tells old.errors new.errors (codes "output\n")
+  -- Nothing is written but an answer, and one byte past the limit of a text is the last that is read.
+  pub quiet : 0 < status → status < 4 → Keeps old.output new.output
+  pub most : TakesAtMost (most_bytes + 1) old.input new.input
+
+-- the same of a run on these bytes, which wrote these to its output and its error stream
+pub record IsRunOnBytes (words : List Text) (input output errors : List ℕ) (status : ℕ) : Type 0 where
+  pub known : status ≤ 4
+  pub done : status ≡ 0 → IsSomeAnd (asked words) (λ ask. IsAnswer ask input output)
+  pub silent : status ≡ 0 → errors ≡ []
+  pub refused : status ≡ 1 → (message : List ℕ) × IsSomeAnd (asked words) (λ ask. IsRefusedText ask input message) × IsFront errors message
+  pub blamed : status ≡ 2 → IsUnknown words ⊎ ((k : ℕ) × HasBadSetting words k × IsFront errors (setting_message k))
+  pub judged : asked words ≡ None → (status ≡ 2) ⊎ (status ≡ 3)
+  pub memory : status ≡ 3 → IsFront errors (codes "memory\n")
+  pub quiet : 0 < status → status < 4 → output ≡ []

@@ -18,6 +18,19 @@ use std::convert::AsStr;
 /// How many blocks a run has at most, where nothing is said.
 const DEFAULT_BLOCKS: u32 = 1000;
 
+/// What each help ends with: where texts come from and go to, and what the statuses are (README.md, "Command line").
+const STREAMS_AND_STATUS: &str = "\
+The text is read from standard input, and the answer is written to standard output,
+as in: c62 pack < kernel.s
+
+Status, and what standard error says:
+  0  done, and nothing is said
+  1  the text is refused: `line 7: BadUnit` names its first faulty line and the fault
+  2  the words are refused, by a text like this one, or `setting 2: bad`
+  3  no memory: `memory`
+  4  a stream failed: `input` or `output`
+docs/SERIAL_TEXT.md tells what each fault is.";
+
 /// What was asked for.
 #[derive(Debug, Drop)]
 pub enum Request {
@@ -44,6 +57,7 @@ fn pack_command<'a>(alloc: Global) -> Result<Command<'a>, AllocError>
     Command::new(alloc, "pack")
         .about("Reads serial text and writes its listing")
         .override_usage("c62 pack [--turns]")
+        .after_help(STREAMS_AND_STATUS)
         .arg(turns_flag(alloc))
 }
 
@@ -65,7 +79,7 @@ fn settings_words<'a>(alloc: Global) -> Arg<'a>
     Arg::new(alloc, "settings")
         .value_name("SETTING")
         .action(ArgAction::Append)
-        .help("REG=NUMBER sets a register, @ADDRESS=NUMBER a word of memory")
+        .help("REG=NUMBER sets a register, @ADDRESS=NUMBER a word of memory; a file's name is none")
 }
 
 fn serial_command<'a>(alloc: Global) -> Result<Command<'a>, AllocError>
@@ -75,6 +89,7 @@ fn serial_command<'a>(alloc: Global) -> Result<Command<'a>, AllocError>
     Command::new(alloc, "serial")
         .about("Runs serial text, one instruction after the other, and reports the end")
         .override_usage("c62 serial [--blocks <N>] [SETTING]...")
+        .after_help(STREAMS_AND_STATUS)
         .arg(blocks_option(alloc))?
         .arg(settings_words(alloc))
 }
@@ -84,6 +99,8 @@ fn tool_command<'a>(alloc: Global) -> Result<Command<'a>, AllocError>
 {
     Command::new(alloc, "c62")
         .about("Packs and runs TMS320C62x instructions")
+        .override_usage("c62 <COMMAND>\n       c62              (this is c62 pack --turns)")
+        .after_help(STREAMS_AND_STATUS)
         .no_binary_name(true)
         .subcommand_required(true)
         .subcommand(pack_command(alloc)?)?

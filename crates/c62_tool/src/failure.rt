@@ -10,7 +10,6 @@ use crate::setting::SettingError;
 use c62_read::{Cause, ReadFault};
 use clap::error::ErrorKind;
 use std::alloc::AllocError;
-use std::fmt;
 
 /// Why a run fails.
 #[derive(Debug, Drop)]
@@ -41,21 +40,6 @@ impl Failure {
             Failure::Words(_) | Failure::Setting(_) => 2,
             Failure::Memory => 3,
             Failure::Input | Failure::Output => 4,
-        }
-    }
-}
-
-/// One line for each failure but clap's, whose text has lines of its own.
-impl fmt::Display for Failure {
-    fn fmt<W: fmt::Write>(&self, f: &mut fmt::Formatter<W>) -> fmt::Result {
-        match self {
-            Failure::Refused(refusal) => writeln!(f, "{refusal}"),
-            Failure::Unread(fault) => writeln!(f, "{fault}"),
-            Failure::Words(error) => write!(f, "{error}"),
-            Failure::Setting(number) => writeln!(f, "setting {number}: bad"),
-            Failure::Memory => writeln!(f, "memory"),
-            Failure::Input => writeln!(f, "input"),
-            Failure::Output => writeln!(f, "output"),
         }
     }
 }

@@ -1,11 +1,12 @@
 //! Why a text is refused (docs/SERIAL_TEXT.md).
 
 ghost use Rattle.std.specs.Prelude.{◌≡◌};
+ghost use Rattle.c62_tool.specs.Message.{cause_of};
 ghost use Rattle.c62_tool.specs.declared.fault.ReadError.TheVariants.{Memory};
 
 use c62_insn::FormFault;
+use c62_read::Cause;
 use std::alloc::{AllocError, AllocFailed};
-use std::fmt;
 
 /// What is wrong with a line. The first that applies counts, in this order.
 #[derive(Clone, Copy, Debug, PartialEq, Eq)]
@@ -32,11 +33,22 @@ pub enum LineFault {
     TooManyInstructions,
 }
 
-impl fmt::Display for LineFault {
-    fn fmt<W: fmt::Write>(&self, f: &mut fmt::Formatter<W>) -> fmt::Result {
+impl LineFault {
+    /// The fault as the reader of whole texts names it.
+    pub fn cause(self) -> Cause
+        ensures { result ≡ cause_of self }
+    {
         match self {
-            LineFault::Form(fault) => write!(f, "{fault}"),
-            fault => write!(f, "{fault:?}"),
+            LineFault::NotAscii => Cause::NotAscii,
+            LineFault::LineTooLong => Cause::LineTooLong,
+            LineFault::ParallelBar => Cause::ParallelBar,
+            LineFault::BadLabel => Cause::BadLabel,
+            LineFault::Directive => Cause::Directive,
+            LineFault::UnknownMnemonic => Cause::UnknownMnemonic,
+            LineFault::BadUnit => Cause::BadUnit,
+            LineFault::BadOperand => Cause::BadOperand,
+            LineFault::Form(fault) => Cause::Form(fault),
+            LineFault::TooManyInstructions => Cause::TooManyInstructions,
         }
     }
 }
@@ -48,15 +60,6 @@ pub enum Refusal {
     TextTooLong,
     /// The first faulty line, from 1, and what is wrong with it.
     At(usize, LineFault),
-}
-
-impl fmt::Display for Refusal {
-    fn fmt<W: fmt::Write>(&self, f: &mut fmt::Formatter<W>) -> fmt::Result {
-        match self {
-            Refusal::TextTooLong => write!(f, "line 0: TextTooLong"),
-            Refusal::At(line, fault) => write!(f, "line {line}: {fault}"),
-        }
-    }
 }
 
 /// Why a text was not read.

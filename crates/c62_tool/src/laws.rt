@@ -6,6 +6,8 @@ ghost use Rattle.c62_insn.specs.declared.insn.Insn.{Insn};
 ghost use Rattle.c62_tool.specs.declared.spot.Spot.{Spot};
 ghost use Rattle.c62_tool.specs.Lawful.{Spots};
 ghost use Rattle.c62_tool.specs.Least.{IsLeast};
+ghost use Rattle.clap.specs.Words.{Text};
+ghost use Rattle.c62_tool.specs.CommandLine.{TakesLimits};
 ghost use Rattle.c62_tool.specs.Listing.{ListsInOneWay};
 
 /// A number has one least spot at most.
@@ -16,4 +18,9 @@ pub fn has_one_least_spot()
 /// Instructions no two of which share cycle and unit have one listing.
 pub fn lists_in_one_way()
     ensures { (issues : List Issue) → ListsInOneWay issues }
+{}
+
+/// Where clap takes the words, no limit of blocks is made up: it is the number that was given, or the one for none.
+pub fn takes_limits()
+    ensures { (words : List Text) → TakesLimits words }
 {}

@@ -10,6 +10,7 @@ mod input;
 mod laws;
 mod line;
 mod listing;
+mod message;
 mod pack;
 mod packet;
 mod place;

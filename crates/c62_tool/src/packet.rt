@@ -6,7 +6,7 @@ ghost use Rattle.c62_insn.specs.Takes.{same_reg};
 ghost use Rattle.c62_insn.specs.Insn.{operand_reads};
 ghost use Rattle.c62_insn.specs.PacketRules.{reads_count, reads_in};
 ghost use Rattle.c62_tool.specs.Spot.{issue_at};
-ghost use Rattle.c62_tool.specs.Lawful.{issues, is_written, may_stand};
+ghost use Rattle.c62_tool.specs.Lawful.{issues};
 ghost use Rattle.c62_tool.specs.Packet.{is_path, uses_on, uses_in, IsUsed, reads_at, has_read_left, IsFree, Suits};
 
 use crate::resource::Resource;
@@ -149,29 +149,13 @@ fn is_free(block: &[Insn], spots: &[Option<Spot>], insn: &Insn, spot: Spot) -> b
     !clashes(block, spots, insn, spot, Resource::DataPath(Side::B))
 }
 
-fn is_written(written: Option<Unit>, unit: Unit) -> bool
-    ensures { result ≡ is_written written unit }
-{
-    match written {
-        None => true,
-        Some(written) => written == unit,
-    }
-}
-
-/// Whether an instruction may stand on a unit.
-fn may_stand(insn: &Insn, unit: Unit) -> bool
-    ensures { result ≡ may_stand insn.now unit }
-{
-    is_written(insn.unit(), unit) && insn.units().has(unit)
-}
-
 /// Whether an instruction may stand at a spot beside what is placed there.
 pub fn suits(block: &[Insn], spots: &[Option<Spot>], insn: &Insn, spot: Spot) -> bool
     requires sized { length spots.now ≡ length block.now }
     requires few { length block.now ≤ 256 }
     ensures { IsTrue result ↔ Suits block.now spots.now insn.now spot }
 {
-    may_stand(insn, spot.unit)
+    insn.may_stand(spot.unit)
         && is_free(block, spots, insn, spot)
         && has_reads_left(block, spots, insn, spot.cycle)
 }

@@ -43,7 +43,7 @@ fn report(
 {
     let mut state = State::new(alloc)?;
     set_all(&mut state, settings);
-    let chain = run_program(alloc, program, &mut state, blocks)?;
+    let chain = run_program(program, &mut state, blocks)?;
     serial_report(alloc, chain, &state)
 }
 

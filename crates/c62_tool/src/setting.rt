@@ -2,11 +2,10 @@
 
 ghost use Rattle.std.specs.Prelude.{◌≡◌, ◌==◌, ℕ, map, Some, IfOk, IfErr};
 ghost use Rattle.std.specs.List.{position};
-ghost use Rattle.c62_insn.specs.Word.{word};
 ghost use Rattle.c62_tool.specs.declared.setting.SettingError.TheVariants.{Memory};
 ghost use Rattle.c62_tool.specs.Settings.{word_address, set_to, setting_of, settings_of, IsFirstBad};
 
-use c62_insn::Reg;
+use c62_insn::{Reg, word_of};
 use c62_read::number::{number, register};
 use std::alloc::{AllocFailed, Global};
 
@@ -43,13 +42,6 @@ fn word_address(number: i64) -> Option<u32>
     } else {
         None
     }
-}
-
-/// The number modulo 2^32.
-fn word_of(number: i64) -> u32
-    ensures { result ≡ word number }
-{
-    number.rem_euclid(1 << 32) as u32
 }
 
 /// What is set where this place gets the value.

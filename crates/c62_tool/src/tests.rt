@@ -1,6 +1,6 @@
 //! Runs over streams in memory, and over streams that fail.
 
-use crate::tool::run_tool;
+use crate::tool::{run_on_bytes, run_tool};
 use std::io;
 use std::io::{Read, Write};
 use std::test::Fail;
@@ -59,6 +59,20 @@ impl Write for Full {
         } else {
             Ok(())
         }
+    }
+}
+
+/// Takes all that is written, and fails when it is flushed.
+#[derive(Drop)]
+struct Unflushed;
+
+impl Write for Unflushed {
+    fn write(&mut self, buf: &[u8]) -> io::Result<usize> {
+        Ok(buf.len())
+    }
+
+    fn flush(&mut self) -> io::Result<()> {
+        Err(io::Error::from(io::ErrorKind::Other))
     }
 }
 
@@ -230,18 +244,96 @@ const REFUSED_TEXTS: [(&[u8], usize, &[u8], &str); 13] = [
     (b"\n", 1_048_577, b"", "line 0: TextTooLong\n"),
 ];
 
+/// Where texts come from and go to, and what the statuses are.
+const ENDING: &str = "
+The text is read from standard input, and the answer is written to standard output,
+as in: c62 pack < kernel.s
+
+Status, and what standard error says:
+  0  done, and nothing is said
+  1  the text is refused: `line 7: BadUnit` names its first faulty line and the fault
+  2  the words are refused, by a text like this one, or `setting 2: bad`
+  3  no memory: `memory`
+  4  a stream failed: `input` or `output`
+docs/SERIAL_TEXT.md tells what each fault is.
+";
+
+/// Words, and the whole text that refuses them, but for the ending of a help.
+const TOLD: [(&[&str], &str, &str); 5] = [
+    (
+        &["--help"],
+        "Packs and runs TMS320C62x instructions
+
+Usage: c62 <COMMAND>
+       c62              (this is c62 pack --turns)
+
+Commands:
+  pack    Reads serial text and writes its listing
+  serial  Runs serial text, one instruction after the other, and reports the end
+  help    Print this message or the help of the given subcommand(s)
+
+Options:
+  -h, --help  Print help
+",
+        ENDING,
+    ),
+    (
+        &["pack", "--help"],
+        "Reads serial text and writes its listing
+
+Usage: c62 pack [--turns]
+
+Options:
+      --turns  Packs on one thread, one side after the other
+  -h, --help   Print help
+",
+        ENDING,
+    ),
+    (
+        &["serial", "-h"],
+        "Runs serial text, one instruction after the other, and reports the end
+
+Usage: c62 serial [--blocks <N>] [SETTING]...
+
+Arguments:
+  [SETTING]...  REG=NUMBER sets a register, @ADDRESS=NUMBER a word of memory; a file's name is none
+
+Options:
+      --blocks <N>  Runs at most N blocks, 1 to 1000000; 1000 where none is given
+  -h, --help        Print help
+",
+        ENDING,
+    ),
+    (
+        &["frob"],
+        "error: unrecognized subcommand 'frob'
+
+Usage: c62 <COMMAND>
+       c62              (this is c62 pack --turns)
+
+For more information, try '--help'.
+",
+        "",
+    ),
+    (
+        &["serial", "--blocks", "0"],
+        "error: invalid value '0' for '--blocks <N>': 0 is not in 1..=1000000
+
+For more information, try '--help'.
+",
+        "",
+    ),
+];
+
 /// Words that are no command line.
-const REFUSED_WORDS: [&[&str]; 24] = [
-    &["--help"],
+const REFUSED_WORDS: [&[&str]; 19] = [
     &["-h"],
     &["help"],
     &["help", "pack"],
-    &["pack", "--help"],
     &["--version"],
     &["--"],
     &[""],
     &["--turns"],
-    &["frob"],
     &["run"],
     &["--eject", "1"],
     &["pack", "--eject", "1"],
@@ -249,9 +341,7 @@ const REFUSED_WORDS: [&[&str]; 24] = [
     &["pack", "--turns", "--turns"],
     &["pack", "--turns=yes"],
     &["pack", "pack"],
-    &["serial", "--help"],
     &["serial", "--blocks"],
-    &["serial", "--blocks", "0"],
     &["serial", "--blocks", "1000001"],
     &["serial", "--blocks", "0x5"],
     &["serial", "--blocks", "1", "--blocks", "1"],
@@ -261,13 +351,10 @@ const REFUSED_WORDS: [&[&str]; 24] = [
 #[test]
 fn listings(rt: HostRuntime) -> Result<(), Fail> {
     for (words, text, listing) in &LISTED {
-        let mut input = *text;
-        let mut output = Vec::new(rt.alloc());
-        let mut errors = Vec::new(rt.alloc());
-        let status = run_tool(&rt, *words, &mut input, &mut output, &mut errors);
-        assert_eq!(rt; status, 0);
-        assert_eq!(rt; output.as_slice(), listing.as_bytes());
-        assert!(rt; errors.is_empty());
+        let ran = run_on_bytes(rt.alloc(), *words, text);
+        assert_eq!(rt; ran.status, 0);
+        assert_eq!(rt; ran.output.as_slice(), listing.as_bytes());
+        assert!(rt; ran.errors.is_empty());
     }
     Ok(())
 }
@@ -281,27 +368,21 @@ fn longest_block(rt: HostRuntime) -> Result<(), Fail> {
         text.extend_from_slice(b"MVK 1,A1\n")?;
         listing.extend_from_slice(b"   MVK .S1 1,A1\n")?;
     }
-    let mut input = text.as_slice();
-    let mut output = Vec::new(rt.alloc());
-    let mut errors = Vec::new(rt.alloc());
-    let status = run_tool(&rt, &["pack"], &mut input, &mut output, &mut errors);
-    assert_eq!(rt; status, 0);
-    assert_eq!(rt; output.as_slice(), listing.as_slice());
-    assert!(rt; errors.is_empty());
+    let ran = run_on_bytes(rt.alloc(), &["pack"], &text);
+    assert_eq!(rt; ran.status, 0);
+    assert_eq!(rt; ran.output.as_slice(), listing.as_slice());
+    assert!(rt; ran.errors.is_empty());
     Ok(())
 }
 
 #[test]
 fn refused_lines(rt: HostRuntime) -> Result<(), Fail> {
     for (text, fault) in &REFUSED {
-        let mut input = *text;
-        let mut output = Vec::new(rt.alloc());
-        let mut errors = Vec::new(rt.alloc());
-        let status = run_tool(&rt, &["pack"], &mut input, &mut output, &mut errors);
+        let ran = run_on_bytes(rt.alloc(), &["pack"], text);
         let expected = format!(in rt.alloc(); "line 1: {fault}\n")?;
-        assert_eq!(rt; errors.as_slice(), expected.as_bytes());
-        assert_eq!(rt; status, 1);
-        assert!(rt; output.is_empty());
+        assert_eq!(rt; ran.errors.as_slice(), expected.as_bytes());
+        assert_eq!(rt; ran.status, 1);
+        assert!(rt; ran.output.is_empty());
     }
     Ok(())
 }
@@ -314,13 +395,22 @@ fn refused_texts(rt: HostRuntime) -> Result<(), Fail> {
             text.extend_from_slice(line)?;
         }
         text.extend_from_slice(rest)?;
-        let mut input = text.as_slice();
-        let mut output = Vec::new(rt.alloc());
-        let mut errors = Vec::new(rt.alloc());
-        let status = run_tool(&rt, &["pack"], &mut input, &mut output, &mut errors);
-        assert_eq!(rt; errors.as_slice(), expected.as_bytes());
-        assert_eq!(rt; status, 1);
-        assert!(rt; output.is_empty());
+        let ran = run_on_bytes(rt.alloc(), &["pack"], &text);
+        assert_eq!(rt; ran.errors.as_slice(), expected.as_bytes());
+        assert_eq!(rt; ran.status, 1);
+        assert!(rt; ran.output.is_empty());
+    }
+    Ok(())
+}
+
+#[test]
+fn told_words(rt: HostRuntime) -> Result<(), Fail> {
+    for (words, text, ending) in &TOLD {
+        let ran = run_on_bytes(rt.alloc(), *words, b"");
+        let expected = format!(in rt.alloc(); "{text}{ending}")?;
+        assert_eq!(rt; ran.errors.as_slice(), expected.as_bytes());
+        assert_eq!(rt; ran.status, 2);
+        assert!(rt; ran.output.is_empty());
     }
     Ok(())
 }
@@ -380,6 +470,12 @@ fn writers_that_fail(rt: HostRuntime) -> Result<(), Fail> {
             assert_eq!(rt; errors.as_slice(), b"output\n".as_slice());
         }
     }
+
+    let mut input: &[u8] = b"MVK 5,A1\n";
+    let mut errors = Vec::new(rt.alloc());
+    let status = run_tool(&rt, &["pack"], &mut input, &mut Unflushed, &mut errors);
+    assert_eq!(rt; status, 4);
+    assert_eq!(rt; errors.as_slice(), b"output\n".as_slice());
 
     // A failure of the error stream changes no status.
     let rows: [(&[&str], u8); 2] = [(&["pack"], 1), (&["frob"], 2)];

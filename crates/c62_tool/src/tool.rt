@@ -1,16 +1,17 @@
 //! The run over a reader and writers.
 
-ghost use Rattle.std.specs.Prelude.{◌≡◌, ◌≢◌, ◌≤◌, ◌<◌, ◌+◌, Bool, None, IfErr, OnOk, map};
+ghost use Rattle.std.specs.Prelude.{◌≡◌, ◌+◌, Bool, None, IfErr, OnOk, map};
 ghost use Rattle.std.specs.Io.KnownBytes.{Appends, Keeps};
 ghost use Rattle.std.specs.Option.{IsSomeAnd};
 ghost use Rattle.c62_tool.specs.Reading.{most_bytes};
-ghost use Rattle.c62_tool.specs.Run.{TakesAtMost, Does, IsRefused, IsFailure, Leaves, Gives, status_of};
+ghost use Rattle.c62_tool.specs.Run.{TakesAtMost, Does, Fails, Gives, HasFailed, IsRun, IsRunOnBytes, streams};
 ghost use Rattle.c62_tool.specs.CommandLine.{Listing, ask_of, asked};
 
 use crate::command::{Request, command_of};
 use crate::failure::Failure;
 use crate::fault::ReadError;
 use crate::input::read_text;
+use crate::message::report;
 use crate::pack::pack_block;
 use crate::program::read_program;
 use crate::serial::report_of;
@@ -68,8 +69,7 @@ fn perform<R: Read, W: Write>(
     output: &mut W,
 ) -> Result<(), Failure>
     ensures ok { OnOk result (Does (ask_of request.now) (R.remaining reader.old) (W.contents output.old) (W.contents output.new)) }
-    ensures err { IfErr result (λ f. Leaves f (ask_of request.now) (R.remaining reader.old) (W.contents output.old) (W.contents output.new)) }
-    ensures words { IfErr result (λ f. status_of f ≢ 2) }
+    ensures err { IfErr result (λ f. Fails f (ask_of request.now) (R.remaining reader.old) (W.contents output.old) (W.contents output.new)) }
     ensures most { TakesAtMost (most_bytes + 1) (R.remaining reader.old) (R.remaining reader.new) }
 {
     let text = read_text(alloc, reader)?;
@@ -77,7 +77,7 @@ fn perform<R: Read, W: Write>(
     write_out(output, &answer)
 }
 
-/// Does what the words ask for.
+/// Does what the words ask for. They are judged before anything is read.
 fn run<S: AsStr, R: Read, W: Write>(
     alloc: Global,
     words: &[S],
@@ -85,15 +85,40 @@ fn run<S: AsStr, R: Read, W: Write>(
     output: &mut W,
 ) -> Result<(), Failure>
     ensures ok { OnOk result (IsSomeAnd (asked (map S.text words.now)) (λ ask. Does ask (R.remaining reader.old) (W.contents output.old) (W.contents output.new))) }
-    ensures err { IfErr result (λ f. IsFailure f (asked (map S.text words.now)) (R.remaining reader.old) (W.contents output.old) (W.contents output.new)) }
-    ensures unread { IfErr result (λ f. status_of f ≡ 2 → Keeps (R.remaining reader.old) (R.remaining reader.new)) }
+    ensures err { IfErr result (λ f. HasFailed f (map S.text words.now) (R.remaining reader.old) (W.contents output.old) (W.contents output.new)) }
+    ensures unread { asked (map S.text words.now) ≡ None → Keeps (R.remaining reader.old) (R.remaining reader.new) }
     ensures most { TakesAtMost (most_bytes + 1) (R.remaining reader.old) (R.remaining reader.new) }
 {
     let request = command_of(alloc, words)?;
     perform(alloc, &request, reader, output)
 }
 
+/// Runs a command that needs no workers, and answers the program's status. It waits for nothing but its streams, and ends
+/// where they do.
+pub fn run_alone<S: AsStr, R: Read, W: Write, E: Write>(
+    alloc: Global,
+    words: &[S],
+    reader: &mut R,
+    output: &mut W,
+    errors: &mut E,
+) -> u8
+    ensures { let old = streams (R.remaining reader.old) (W.contents output.old) (E.contents errors.old) in
+        let new = streams (R.remaining reader.new) (W.contents output.new) (E.contents errors.new) in
+        IsRun (map S.text words.now) old new result }
+{
+    match run(alloc, words, reader, output) {
+        Ok(()) => 0,
+        Err(failure) => {
+            report(errors, &failure);
+            failure.status()
+        }
+    }
+}
+
 /// Runs the program on these words, which are those after its name, and answers its status.
+///
+/// Where reader and output tell their bytes, a 0 means that the answer to the text was written, a 1 that the text is refused
+/// by the fault that is told, and a 2 that the words are refused before anything is read.
 pub fn run_tool<H: AllocGlobal + Threads + Wait, S: AsStr, R: Read, W: Write, E: Write>(
     rt: &H,
     words: &[S],
@@ -101,30 +126,32 @@ pub fn run_tool<H: AllocGlobal + Threads + Wait, S: AsStr, R: Read, W: Write, E:
     output: &mut W,
     errors: &mut E,
 ) -> u8
-    ensures status { result ≤ 4 }
-
-    // Where the reader and the output tell their bytes, a 0 means that what the words ask for was written: the text's
-    // listing, or the report of its serial run.
-    ensures done { result ≡ 0 → IsSomeAnd (asked (map S.text words.now)) (λ ask. Does ask (R.remaining reader.old) (W.contents output.old) (W.contents output.new)) }
-
-    // A 1 means that the text says nothing that could be packed or run.
-    ensures refused { result ≡ 1 → IsSomeAnd (asked (map S.text words.now)) (λ ask. IsRefused ask (R.remaining reader.old)) }
-
-    // Words and settings are judged first. A 2 means that clap doesn't take the words, or that a setting is bad.
-    ensures words { result ≡ 2 → asked (map S.text words.now) ≡ None }
-    ensures unread { result ≡ 2 → Keeps (R.remaining reader.old) (R.remaining reader.new) }
-
-    // Nothing is written under 1, 2 and 3.
-    ensures quiet { 0 < result → result < 4 → Keeps (W.contents output.old) (W.contents output.new) }
-
-    // No more is read than one byte past the limit.
-    ensures most { TakesAtMost (most_bytes + 1) (R.remaining reader.old) (R.remaining reader.new) }
+    ensures { let old = streams (R.remaining reader.old) (W.contents output.old) (E.contents errors.old) in
+        let new = streams (R.remaining reader.new) (W.contents output.new) (E.contents errors.new) in
+        IsRun (map S.text words.now) old new result }
 {
-    match run(rt.alloc(), words, reader, output) {
-        Ok(()) => 0,
-        Err(failure) => {
-            let _ = write!(errors, "{failure}");
-            failure.status()
-        }
+    run_alone(rt.alloc(), words, reader, output, errors)
+}
+
+/// What a run wrote to its output and its error stream, and its status.
+#[derive(Debug, Drop)]
+pub struct Ran {
+    pub output: Vec<u8>,
+    pub errors: Vec<u8>,
+    pub status: u8,
+}
+
+/// Runs a command that needs no workers on these bytes. A 4 means that there was no memory for the answer.
+pub fn run_on_bytes<S: AsStr>(alloc: Global, words: &[S], input: &[u8]) -> Ran
+    ensures { IsRunOnBytes (map S.text words.now) input.now result.output.items result.errors.items result.status }
+{
+    let mut reader = input;
+    let mut output = Vec::new(alloc);
+    let mut errors = Vec::new(alloc);
+    let status = run_alone(alloc, words, &mut reader, &mut output, &mut errors);
+    Ran {
+        output,
+        errors,
+        status,
     }
 }

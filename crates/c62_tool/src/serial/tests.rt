@@ -1,6 +1,6 @@
 //! Serial runs over streams in memory.
 
-use crate::tool::run_tool;
+use crate::tool::run_on_bytes;
 use std::test::Fail;
 
 /// Words, a text, and the report.
@@ -114,13 +114,10 @@ const REFUSED: [(&[u8], &str); 4] = [
 #[test]
 fn reports(rt: HostRuntime) -> Result<(), Fail> {
     for (words, text, report) in &REPORTED {
-        let mut input = *text;
-        let mut output = Vec::new(rt.alloc());
-        let mut errors = Vec::new(rt.alloc());
-        let status = run_tool(&rt, *words, &mut input, &mut output, &mut errors);
-        assert_eq!(rt; errors.as_slice(), b"".as_slice());
-        assert_eq!(rt; output.as_slice(), report.as_bytes());
-        assert_eq!(rt; status, 0);
+        let ran = run_on_bytes(rt.alloc(), *words, text);
+        assert_eq!(rt; ran.errors.as_slice(), b"".as_slice());
+        assert_eq!(rt; ran.output.as_slice(), report.as_bytes());
+        assert_eq!(rt; ran.status, 0);
     }
     Ok(())
 }
@@ -129,30 +126,24 @@ fn reports(rt: HostRuntime) -> Result<(), Fail> {
 #[test]
 fn full_memory(rt: HostRuntime) -> Result<(), Fail> {
     let words = ["serial", "--blocks", "1000000", "A1=1", "A2=0x4000"];
-    let mut input: &[u8] = b"L: STW A1,*A4++\n SUB A2,1,A2\n [A2] B L\n";
-    let mut output = Vec::new(rt.alloc());
-    let mut errors = Vec::new(rt.alloc());
-    let status = run_tool(&rt, words.as_slice(), &mut input, &mut output, &mut errors);
+    let text = b"L: STW A1,*A4++\n SUB A2,1,A2\n [A2] B L\n";
+    let ran = run_on_bytes(rt.alloc(), words.as_slice(), text);
     let head = b"blocks 16384\nexit end\nA1 00000001\nA4 00010000\n@0000 00000001\n";
-    assert_eq!(rt; status, 0);
-    assert!(rt; output.starts_with(head));
-    assert!(rt; output.ends_with(b"\n@fffc 00000001\n"));
-    assert_eq!(rt; output.len(), 46 + 15 * 16_384);
+    assert_eq!(rt; ran.status, 0);
+    assert!(rt; ran.output.starts_with(head));
+    assert!(rt; ran.output.ends_with(b"\n@fffc 00000001\n"));
+    assert_eq!(rt; ran.output.len(), 46 + 15 * 16_384);
     Ok(())
 }
 
 #[test]
 fn bad_settings(rt: HostRuntime) -> Result<(), Fail> {
     for (words, number) in &BAD_SETTINGS {
-        let mut input: &[u8] = b"FOO";
-        let mut output = Vec::new(rt.alloc());
-        let mut errors = Vec::new(rt.alloc());
-        let status = run_tool(&rt, *words, &mut input, &mut output, &mut errors);
+        let ran = run_on_bytes(rt.alloc(), *words, b"FOO");
         let expected = format!(in rt.alloc(); "setting {number}: bad\n")?;
-        assert_eq!(rt; errors.as_slice(), expected.as_bytes());
-        assert_eq!(rt; status, 2);
-        assert_eq!(rt; input.len(), 3);
-        assert!(rt; output.is_empty());
+        assert_eq!(rt; ran.errors.as_slice(), expected.as_bytes());
+        assert_eq!(rt; ran.status, 2);
+        assert!(rt; ran.output.is_empty());
     }
     Ok(())
 }
@@ -160,13 +151,10 @@ fn bad_settings(rt: HostRuntime) -> Result<(), Fail> {
 #[test]
 fn refused_texts(rt: HostRuntime) -> Result<(), Fail> {
     for (text, expected) in &REFUSED {
-        let mut input = *text;
-        let mut output = Vec::new(rt.alloc());
-        let mut errors = Vec::new(rt.alloc());
-        let status = run_tool(&rt, &["serial"], &mut input, &mut output, &mut errors);
-        assert_eq!(rt; errors.as_slice(), expected.as_bytes());
-        assert_eq!(rt; status, 1);
-        assert!(rt; output.is_empty());
+        let ran = run_on_bytes(rt.alloc(), &["serial"], text);
+        assert_eq!(rt; ran.errors.as_slice(), expected.as_bytes());
+        assert_eq!(rt; ran.status, 1);
+        assert!(rt; ran.output.is_empty());
     }
     Ok(())
 }

@@ -12,14 +12,17 @@ overflow_mul-value c =
 
 pub overflow_add-value : goal.overflow_add-value
 overflow_add-value c =
-    let given = digit_given c.to_digit.result c.unwrap-digit.result c.args.radix (digit_value c.from.result) c.to_digit.ensures.value c.unwrap-digit.ensures in
+    let given = digit_given c.to_digit.result c.unwrap-digit.result c.args.radix
+    (digit_value c.from.result) c.to_digit.ensures.value c.unwrap-digit.ensures in
     let more = digit_more c.loop-d.value c.args.radix c.unwrap-digit.result c.loop-d.d-index c.loop-d.invariant.bound c.requires.high given.1 in
-    let small = fits (c.loop-d.value * c.args.radix + c.unwrap-digit.result) c.loop-d.d-index more (omega (arith, c.requires.few, c.loop-d-test.true)) in
+    let small = fits (c.loop-d.value * c.args.radix + c.unwrap-digit.result) c.loop-d.d-index more
+    (omega (arith, c.requires.few, c.loop-d-test.true)) in
     rw (c.from-in-loop-d.ensures, c.from-in-loop-d-2.ensures) (omega arith)
 
 pub loop-d-preserved : goal.loop-d-preserved
 loop-d-preserved c =
-    let given = digit_given c.to_digit.result c.unwrap-digit.result c.args.radix (digit_value c.from.result) c.to_digit.ensures.value c.unwrap-digit.ensures in
+    let given = digit_given c.to_digit.result c.unwrap-digit.result c.args.radix
+    (digit_value c.from.result) c.to_digit.ensures.value c.unwrap-digit.ensures in
     let more = digit_more c.loop-d.value c.args.radix c.unwrap-digit.result c.loop-d.d-index c.loop-d.invariant.bound c.requires.high given.1 in
     let next = digits_value_more c.args.radix c.args.digits.now c.loop-d.d-index c.loop-d-test.true in
     record {

@@ -1,6 +1,6 @@
 use Rattle.std.proofs.Common.{◌≡◌, sym, subst, true}
 use Rattle.c62_read.specs.declared.program.BlockReader.{BlockReader}
-use Rattle.c62_read.specs.Program.{draft_of, is_whole}
+use Rattle.c62_read.specs.Walk.{draft_of, is_whole}
 use Rattle.c62_read.proofs.SoundLemmas.{whole_at}
 use Rattle.c62_read.proofs.program.all_blocks.Goals as goal
 

@@ -1,6 +1,7 @@
 use Rattle.std.proofs.Common.{◌≡◌, ◌++◌, length}
 use Rattle.c62_read.specs.Text.{lines_of}
-use Rattle.c62_read.specs.Program.{names, labels_of}
+use Rattle.c62_read.specs.Program.{labels_of}
+use Rattle.c62_read.specs.Walk.{names}
 use Rattle.c62_read.proofs.program.all_labels.Given as goal
 
 abbrev pub invariant-loop-line : goal.invariant-loop-line

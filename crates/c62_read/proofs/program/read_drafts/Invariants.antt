@@ -1,11 +1,13 @@
 use Rattle.std.proofs.Common.{◌≡◌, ◌+◌, ◌≤◌, length}
 use Rattle.c62_read.specs.Text.{lines_of}
-use Rattle.c62_read.specs.Program.{labels_of, add_lines, drafts_of, no_drafts}
+use Rattle.c62_read.specs.Program.{labels_of}
+use Rattle.c62_read.specs.Walk.{add_lines, drafts_of, no_drafts}
 use Rattle.c62_read.proofs.program.read_drafts.Given as goal
 
 abbrev pub invariant-loop-line : goal.invariant-loop-line
 invariant-loop-line l = record {
-  so_far : add_lines (labels_of (lines_of l.text)) l.number (lines_of l.rest) (drafts_of l.reader) ≡ add_lines (labels_of (lines_of l.text)) 1 (lines_of l.text) no_drafts;
+  so_far : add_lines (labels_of (lines_of l.text)) l.number (lines_of l.rest) (drafts_of l.reader)
+      ≡ add_lines (labels_of (lines_of l.text)) 1 (lines_of l.text) no_drafts;
   counted : l.number + length l.rest ≤ length l.text + 1;
 }
 

@@ -1,9 +1,11 @@
 use Rattle.std.proofs.Common.{◌≡◌, List, Ok, sym, ap, subst, inr, ◌∙◌}
 use Rattle.std.specs.Prelude.{map}
 use Rattle.std.proofs.lemmas.Result.{err_from_is_err_and}
-use Rattle.c62_read.specs.Program.{Draft, Drafts, BlockParts, all_drafts, block_in, block_parts, draft_of, drafts_of}
+use Rattle.c62_read.specs.Program.{Draft, BlockParts, block_in, block_parts}
+use Rattle.c62_read.specs.Walk.{Drafts, all_drafts, draft_of, drafts_of}
 use Rattle.c62_read.specs.Text.{lines_of}
 use Rattle.c62_read.proofs.TargetLemmas.{targets_read}
+use Rattle.c62_read.proofs.WalkLemmas.{walk_reads}
 use Rattle.c62_read.proofs.ReadingLemmas.{too_long, program_read, program_refused}
 use Rattle.c62_read.proofs.program.read_program.Goals as goal
 
@@ -32,4 +34,7 @@ new-requires-clause-targets c =
     let done : map draft_of c.deref.result.now ≡ all_drafts drafts = ap (map draft_of) c.deref.ensures.value ∙ ap (λ (d : Drafts). d.done) ended in
     let made : map block_parts c.in_ok-all_blocks.field-0.items ≡ map (block_in (all_drafts drafts)) (all_drafts drafts) =
     subst (λ (ds : List Draft). map block_parts c.in_ok-all_blocks.field-0.items ≡ map (block_in ds) ds) done c.in_ok-all_blocks.ensures.made in
-    targets_read (lines_of c.args.text.now) drafts c.in_ok-all_blocks.field-0.items c.in_ok-reader.ensures.ok made
+    let lines = lines_of c.args.text.now in
+    let read = walk_reads lines drafts c.in_ok-reader.ensures.ok in
+    targets_read lines c.in_ok-all_blocks.field-0.items read.0
+    (made ∙ ap (λ (ds : List Draft). map (block_in ds) ds) (sym read.1))

@@ -3,7 +3,7 @@ use Rattle.std.proofs.lemmas.Bool.{false≢true}
 use Rattle.c62_insn.specs.declared.register.Letter.TheVariants.{L}
 use Rattle.c62_insn.specs.declared.register.Side.TheVariants.{A}
 use Rattle.c62_insn.specs.declared.register.Unit.{Unit as FunctionalUnit}
-use Rattle.c62_insn.specs.Fault.{all_units}
+use Rattle.c62_insn.specs.Units.{all_units}
 use Rattle.c62_tool.proofs.Search.{searched_none, searched_unit, searched_cycle, searched_found, searched_all}
 use Rattle.c62_tool.proofs.place.least.Goals as goal
 

@@ -6,6 +6,6 @@ use Rattle.c62_depend.proofs.side.Place.new.Goals as goal
 pub returns : goal.returns
 returns c =
     let u = get_or c.args.uses.now c.args.i c.index-uses-i.result in
-    place_from c.args.uses.now c.args.i u c.side-side.result c.units.result c.units_among.result c.unit.result c.requires
+    place_from c.args.uses.now c.args.i u c.side-side.result c.units_on.result c.requires
     (ap (λ (d : Uses). get_or c.args.uses.now c.args.i d) c.index-uses-i.is)
-    c.side-side.ensures c.units.ensures c.unit.ensures c.units_among.ensures
+    c.side-side.ensures c.units_on.ensures

@@ -1,0 +1,9 @@
+use Rattle.std.proofs.Common.{◌∙◌, ap}
+use Rattle.c62_insn.specs.declared.register.Letter.{Letter}
+use Rattle.c62_insn.specs.declared.register.Letter.TheVariants.{D}
+use Rattle.c62_insn.specs.Takes.{same_letter}
+use Rattle.c62_insn.proofs.FormLemmas.{uncrossed_on_d}
+use Rattle.c62_insn.proofs.laws.crosses_not_to_d.Goals as goal
+
+pub returns : goal.returns
+returns c = λ insn unit is taken. uncrossed_on_d insn.op insn.operands unit taken (ap (λ (letter : Letter). same_letter letter D) is)

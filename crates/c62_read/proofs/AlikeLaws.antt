@@ -1,0 +1,106 @@
+-- Texts whose lines say the same are one program.
+use Rattle.std.proofs.Common.{◌≡◌, ◌≤◌, ℕ, ◌+◌, List, [], ◌∷◌, ◌++◌, length, Option, Result, refl, sym, ap, ◌∙◌}
+use Rattle.std.specs.Prelude.{nat_lt, option_map}
+use Rattle.std.specs.List.{list_any}
+use Rattle.std.specs.Option.{option_to_list}
+use Rattle.std.proofs.lemmas.Bool.{le-ltb}
+use Rattle.c62_read.specs.declared.fault.Cause.{Cause}
+use Rattle.c62_read.specs.declared.fault.Cause.TheVariants.{DuplicateLabel, UnknownTarget, TooManyInstructions, TooManyBlocks}
+use Rattle.c62_read.specs.Text.{lines_of}
+use Rattle.c62_read.specs.Line.{Says, head_of, line_of}
+use Rattle.c62_read.specs.Program.{Item, Name, Refusal, cut, drafts_in, fault_if, fault_in, fault_of, first_fault, first_of, is_among, is_overfull, items_from, labels_of, misses_label, place_of, program_in}
+
+pub record IsAlike (line other : List ℕ) : Type 0 where
+  pub head : fault_in (head_of line) ≡ fault_in (head_of other)
+  pub place : place_of line ≡ place_of other
+  pub said : line_of line ≡ line_of other
+
+abbrev pub AreAlike : List (List ℕ) → List (List ℕ) → Type 0
+AreAlike [] [] = Unit {0}
+AreAlike (line ∷ lines) (other ∷ others) = IsAlike line other × AreAlike lines others
+AreAlike _ _ = ⊥
+
+alike_more : (lines others : List (List ℕ)) (line other : List ℕ) → AreAlike lines others → IsAlike line other
+    → AreAlike (lines ++ line ∷ []) (others ++ other ∷ [])
+alike_more [] [] line other alike last = (last, tt)
+alike_more (first ∷ lines) (second ∷ others) line other alike last = (alike.0, alike_more lines others line other alike.1 last)
+alike_more [] (second ∷ others) line other alike last = absurd alike
+alike_more (first ∷ lines) [] line other alike last = absurd alike
+
+alike_length : (lines others : List (List ℕ)) → AreAlike lines others → length lines ≡ length others
+alike_length [] [] alike = refl
+alike_length (line ∷ lines) (other ∷ others) alike = rw (alike_length lines others alike.1) refl
+alike_length [] (other ∷ others) alike = absurd alike
+alike_length (line ∷ lines) [] alike = absurd alike
+
+alike_labels : (lines others : List (List ℕ)) → AreAlike lines others → labels_of lines ≡ labels_of others
+alike_labels [] [] alike = refl
+alike_labels (line ∷ lines) (other ∷ others) alike = let place = alike.0.place in rw (place, alike_labels lines others alike.1) refl
+alike_labels [] (other ∷ others) alike = absurd alike
+alike_labels (line ∷ lines) [] alike = absurd alike
+
+alike_items : (number : ℕ) (lines others : List (List ℕ)) → AreAlike lines others → items_from number lines ≡ items_from number others
+alike_items number [] [] alike = refl
+alike_items number (line ∷ lines) (other ∷ others) alike = let said = alike.0.said in rw (said, alike_items (number + 1) lines others alike.1) refl
+alike_items number [] (other ∷ others) alike = absurd alike
+alike_items number (line ∷ lines) [] alike = absurd alike
+
+-- a line's fault by what is told of it
+abbrev told : List Name → Option Cause → List Name → Option Name → Result (Option Name × Says) Cause → List Item → Option Cause
+told labels head earlier place said items =
+    first_of (head
+    ∷ fault_if (list_any (λ label. is_among label earlier) (option_to_list place)) DuplicateLabel
+    ∷ fault_in said
+    ∷ fault_if (misses_label labels said) UnknownTarget
+    ∷ fault_if (list_any is_overfull (cut items)) TooManyInstructions
+    ∷ fault_if (nat_lt 64 (length (cut items))) TooManyBlocks
+    ∷ [])
+
+fault_told : (labels : List Name) (before : List (List ℕ)) (line : List ℕ)
+    → fault_of labels before line ≡ told labels (fault_in (head_of line)) (labels_of before) (place_of line) (line_of line) (items_from 1 (before ++ line ∷ []))
+unfolding fault_of
+fault_told labels before line = refl
+
+alike_fault : (labels : List Name) (before others : List (List ℕ)) (line other : List ℕ) → AreAlike before others → IsAlike line other
+    → fault_of labels before line ≡ fault_of labels others other
+alike_fault labels before others line other alike last =
+    let earlier : List Name = labels_of before in
+    let items : List Item = items_from 1 (before ++ line ∷ []) in
+    let more : List Item = items_from 1 (others ++ other ∷ []) in
+    let same : items ≡ more = alike_items 1 (before ++ line ∷ []) (others ++ other ∷ []) (alike_more before others line other alike last) in
+    fault_told labels before line
+    ∙ ap (λ (head : Option Cause). told labels head earlier (place_of line) (line_of line) items) last.head
+    ∙ ap (λ (names : List Name). told labels (fault_in (head_of other)) names (place_of line) (line_of line) items) (alike_labels before others alike)
+    ∙ ap (λ (place : Option Name). told labels (fault_in (head_of other)) (labels_of others) place (line_of line) items) last.place
+    ∙ ap (λ (said : Result (Option Name × Says) Cause). told labels (fault_in (head_of other)) (labels_of others) (place_of other) said items) last.said
+    ∙ ap (λ (all : List Item). told labels (fault_in (head_of other)) (labels_of others) (place_of other) (line_of other) all) same
+    ∙ sym (fault_told labels others other)
+
+abbrev at_first : ℕ → Option Cause → Option Refusal → Option Refusal
+at_first count fault later = first_of (option_map (λ cause. (count + 1, cause)) fault ∷ later ∷ [])
+
+alike_faults : (labels : List Name) (before earlier lines others : List (List ℕ)) → AreAlike before earlier → AreAlike lines others
+    → first_fault labels before lines ≡ first_fault labels earlier others
+unfolding first_fault
+alike_faults labels before earlier [] [] first alike = refl
+alike_faults labels before earlier (line ∷ lines) (other ∷ others) first alike =
+    let count = alike_length before earlier first in
+    let here = alike_fault labels before earlier line other first alike.0 in
+    let later = alike_faults labels (before ++ line ∷ []) (earlier ++ other ∷ []) lines others (alike_more before earlier line other first alike.0) alike.1 in
+    ap (λ (n : ℕ). at_first n (fault_of labels before line) (first_fault labels (before ++ line ∷ []) lines)) count
+    ∙ ap (λ (fault : Option Cause). at_first (length earlier) fault (first_fault labels (before ++ line ∷ []) lines)) here
+    ∙ ap (λ (fault : Option Refusal). at_first (length earlier) (fault_of labels earlier other) fault) later
+alike_faults labels before earlier [] (other ∷ others) first alike = absurd alike
+alike_faults labels before earlier (line ∷ lines) [] first alike = absurd alike
+
+pub alike_programs : (text other : List ℕ) → length text ≤ 1048576 → length other ≤ 1048576 → AreAlike (lines_of text) (lines_of other)
+    → program_in text ≡ program_in other
+unfolding program_in drafts_in
+alike_programs text other short few alike =
+    rw (
+      le-ltb 1048576 (length text) short,
+      le-ltb 1048576 (length other) few,
+      alike_labels (lines_of text) (lines_of other) alike,
+      alike_faults (labels_of (lines_of other)) [] [] (lines_of text) (lines_of other) tt alike,
+      alike_items 1 (lines_of text) (lines_of other) alike,
+    ) refl

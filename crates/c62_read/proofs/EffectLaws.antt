@@ -1,0 +1,73 @@
+-- What the reader puts in place of what was written does the same.
+use Rattle.std.proofs.Common.{◌≡◌, ℕ, ◌+◌, ◌-◌, ◌*◌, ◌<◌, ◌%◌, ◌^◌, Bool, true, false, cond, eqb, Option, Some, None, refl, sym, ap, subst, ◌∙◌, arith, inl, inr}
+use Rattle.std.specs.Prelude.{ℤ, pos, ◌*ℤ◌, ◌/◌}
+use Rattle.std.proofs.Math.IntN.{*ℤ_comm}
+use Rattle.std.proofs.Math.Nat.{mod-eq_of_lt, mul_comm}
+use Rattle.std.proofs.lemmas.Bool.{cases_Bool, eqb-true}
+use Rattle.std.proofs.lemmas.Nat.{and_comm, or_comm, xor_comm}
+use Rattle.c62_insn.specs.declared.operands.Op.{Op}
+use Rattle.c62_insn.specs.declared.operands.Op.TheVariants.{Add, And, Or, Xor, Add2, Cmpeq, Cmpgt, Cmplt, Cmpgtu, Cmpltu, Mpy, Mpyu, Mpyus, Mpysu, Mpyh, Mpyhu, Mpyhl, Mpylh}
+use Rattle.c62_insn.specs.Effect.{result_of}
+use Rattle.c62_insn.specs.Word.{hi, lo, sg_half, sum, word}
+use Rattle.c62_read.specs.Mnemonic.{exchanged}
+use Rattle.c62_read.specs.Laws.{KeepEffects, KeepsEffect}
+
+equal_turned : (a b : ℕ) → eqb a b ≡ eqb b a
+equal_turned a b =
+    elim (cases_Bool (eqb a b)) [
+      | inl same ↦ let e : a ≡ b = eqb-true a b same in ap (λ (x : ℕ). eqb x b) e ∙ ap (λ (x : ℕ). eqb b x) (sym e)
+      | inr first ↦ elim (cases_Bool (eqb b a)) [
+        | inl same ↦ let e : b ≡ a = eqb-true b a same in ap (λ (x : ℕ). eqb x b) (sym e) ∙ ap (λ (x : ℕ). eqb b x) e
+        | inr second ↦ first ∙ sym second
+      ]
+    ]
+
+sum_turned : (a b : ℕ) → sum a b ≡ sum b a
+sum_turned a b = let e : a + b ≡ b + a = omega arith in ap (λ (n : ℕ). n % 2 ^ 32) e
+
+halves_turned : (a b c d : ℕ) → (a + b) % 2 ^ 16 * 2 ^ 16 + (c + d) % 2 ^ 16 ≡ (b + a) % 2 ^ 16 * 2 ^ 16 + (d + c) % 2 ^ 16
+halves_turned a b c d =
+    let first : a + b ≡ b + a = omega arith in
+    let second : c + d ≡ d + c = omega arith in
+    ap (λ (n : ℕ). n % 2 ^ 16 * 2 ^ 16 + (c + d) % 2 ^ 16) first ∙ ap (λ (n : ℕ). (b + a) % 2 ^ 16 * 2 ^ 16 + n % 2 ^ 16) second
+
+product_turned : (a b : ℤ) → word (a *ℤ b) ≡ word (b *ℤ a)
+product_turned a b = ap word (*ℤ_comm a b)
+
+abbrev Keeps : Option Op → Op → ℕ → ℕ → Type 0
+Keeps None op a b = Unit {0}
+Keeps (Some turned) op a b = result_of op a b ≡ result_of turned b a
+
+keeps : (op : Op) (a b : ℕ) → Keeps (exchanged op) op a b
+keeps Add a b = sum_turned a b
+keeps And a b = and_comm a b
+keeps Or a b = or_comm a b
+keeps Xor a b = xor_comm a b
+keeps Add2 a b = halves_turned (hi a) (hi b) (lo a) (lo b)
+keeps Cmpeq a b = ap (λ (same : Bool). cond same 1 0) (equal_turned a b)
+keeps Cmpgt a b = refl
+keeps Cmplt a b = refl
+keeps Cmpgtu a b = refl
+keeps Cmpltu a b = refl
+keeps Mpy a b = product_turned (sg_half (lo a)) (sg_half (lo b))
+keeps Mpyu a b = mul_comm (lo a) (lo b)
+keeps Mpyus a b = product_turned (pos (lo a)) (sg_half (lo b))
+keeps Mpysu a b = product_turned (sg_half (lo a)) (pos (lo b))
+keeps Mpyh a b = product_turned (sg_half (hi a)) (sg_half (hi b))
+keeps Mpyhu a b = mul_comm (hi a) (hi b)
+keeps Mpyhl a b = product_turned (sg_half (hi a)) (sg_half (lo b))
+keeps Mpylh a b = product_turned (sg_half (lo a)) (sg_half (hi b))
+keeps op a b = tt
+
+pub exchanged_keeps : (op turned : Op) → KeepsEffect op turned
+exchanged_keeps op turned is a b = subst (λ (t : Option Op). Keeps t op a b) is (keeps op a b)
+
+cleared : (a : ℕ) → a < 2 ^ 32 → (a + (2 ^ 32 - a)) % 2 ^ 32 ≡ 0
+cleared a small = let whole : a + (2 ^ 32 - a) ≡ 2 ^ 32 = omega (arith, small) in ap (λ (n : ℕ). n % 2 ^ 32) whole
+
+pub pseudo_keeps : KeepEffects
+pseudo_keeps = record {
+  moves = λ a small. let same : 0 + a ≡ a = omega arith in ap (λ (n : ℕ). n % 2 ^ 32) same ∙ mod-eq_of_lt small;
+  clears = λ a small. cleared a small;
+  zero = λ a. refl;
+}

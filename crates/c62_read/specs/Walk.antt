@@ -1,0 +1,133 @@
+-- How the reader goes over the lines of a text, once and from the first: what it has of the lines so far, and what the next
+-- line does to that. What a text says is defined without it (Program), and the two are proved equal.
+use Rattle.std.specs.Prelude.{◌≡◌, ℕ, ◌+◌, Bool, true, false, not, ◌&&◌, ◌||◌, nat_le, List, [], ◌∷◌, ◌++◌, length, map, Option, Some, None, is_some, is_none, option_map, Result, Ok, Err, if◌then◌else◌}
+use Rattle.std.specs.Borrow.{Bor}
+use Rattle.std.specs.List.{list_any}
+use Rattle.std.specs.Option.{option_to_list}
+use Rattle.c62_insn.specs.declared.operands.Op.{Op}
+use Rattle.c62_read.specs.declared.fault.Cause.{Cause}
+use Rattle.c62_read.specs.declared.fault.Cause.TheVariants.{DuplicateLabel, UnknownTarget, TooManyInstructions, TooManyBlocks}
+use Rattle.c62_read.specs.declared.program.BlockReader.{BlockReader}
+use Rattle.c62_read.specs.declared.program.TextReader.{TextReader}
+use Rattle.c62_read.specs.Block.{branch_last}
+use Rattle.c62_read.specs.Line.{Parts, Says, Nothing, Pause, Does, Jumps, is_branch, head_of, rest_says}
+use Rattle.c62_read.specs.Program.{Name, Numbered, Draft, Refusal, and_then, is_among, label_is, numbered_of}
+
+-- the blocks that are whole, and the one that the next instruction goes into
+pub record Drafts : Type 0 where
+  pub done : List Draft
+  pub current : Option Draft
+
+abbrev pub draft_operations : Draft → List Op
+draft_operations draft = map (λ entry. entry.parts.op) draft.insns
+
+-- at most 256 instructions, and a branch only as the last
+abbrev pub is_whole : Draft → Bool
+is_whole draft = nat_le (length draft.insns) 256 && branch_last (draft_operations draft)
+
+abbrev pub new_draft : Option Name → Draft
+new_draft label = record { label = label; insns = []; target = None }
+
+abbrev pub all_drafts : Drafts → List Draft
+all_drafts drafts = drafts.done ++ option_to_list drafts.current
+
+-- a label begins a block
+abbrev pub with_label : Option Name → Drafts → Drafts
+with_label None drafts = drafts
+with_label (Some label) drafts = record { done = all_drafts drafts; current = Some (new_draft (Some label)) }
+
+-- where no block is open, an instruction begins one
+abbrev pub opened : Option Draft → Draft
+opened None = new_draft None
+opened (Some draft) = draft
+
+abbrev pub with_insn : Parts → ℕ → Option Name → Draft → Draft
+with_insn parts line target draft =
+    record { label = draft.label; insns = draft.insns ++ record { parts = parts; line = line } ∷ []; target = target }
+
+-- a branch ends its block
+abbrev pub closed : Bool → List Draft → Draft → Drafts
+closed true done draft = record { done = done ++ draft ∷ []; current = None }
+closed false done draft = record { done = done; current = Some draft }
+
+unfoldable pub with_says : ℕ → Says → Drafts → Drafts
+with_says line Nothing drafts = drafts
+with_says line (Pause n) drafts = drafts
+with_says line (Does parts) drafts = closed (is_branch parts.op) drafts.done (with_insn parts line None (opened drafts.current))
+with_says line (Jumps parts label) drafts = closed (is_branch parts.op) drafts.done (with_insn parts line (Some label) (opened drafts.current))
+
+-- ---- the same blocks in the reader
+
+abbrev pub draft_of : BlockReader → Draft
+draft_of block = record { label = block.label; insns = map numbered_of block.insns.items; target = block.target }
+
+abbrev pub drafts_of : TextReader → Drafts
+drafts_of text = record { done = map draft_of text.done.items; current = option_map draft_of text.current }
+
+abbrev pub names : List (Bor (List ℕ)) → List Name
+names labels = map (λ label. label.now) labels
+
+-- ---- the faults that need other lines
+
+-- whether an earlier line has the label
+unfoldable pub is_taken : Option Name → Drafts → Bool
+is_taken None drafts = false
+is_taken (Some label) drafts = list_any (λ draft. label_is label draft.label) (all_drafts drafts)
+
+abbrev pub is_unknown : List Name → Says → Bool
+is_unknown labels (Jumps parts label) = not (is_among label labels)
+is_unknown labels _ = false
+
+abbrev pub is_instruction : Says → Bool
+is_instruction Nothing = false
+is_instruction (Pause n) = false
+is_instruction _ = true
+
+abbrev pub is_full : Option Draft → Bool
+is_full None = false
+is_full (Some draft) = nat_le 256 (length draft.insns)
+
+-- whether the line begins a block: by its label, or by an instruction where no block is open
+abbrev pub begins_block : Option Name → Says → Drafts → Bool
+begins_block label says drafts = is_some label || is_instruction says && is_none drafts.current
+
+-- what stands against a line that says something by itself: a branch to no label, a 257th instruction of a block, a 65th block
+unfoldable pub hindrance : List Name → Option Name → Says → Drafts → Option Cause
+hindrance labels label says drafts =
+    if is_unknown labels says then Some UnknownTarget
+    else (if is_instruction says && is_none label && is_full drafts.current then Some TooManyInstructions
+    else (if begins_block label says drafts && nat_le 64 (length (all_drafts drafts)) then Some TooManyBlocks
+    else None))
+
+-- ---- lines
+
+abbrev pub unless_hindered : Option Cause → Drafts → Result Drafts Cause
+unless_hindered (Some cause) drafts = Err cause
+unless_hindered None drafts = Ok drafts
+
+abbrev pub add_says : List Name → ℕ → Option Name → Drafts → Result Says Cause → Result Drafts Cause
+add_says labels number label drafts (Err cause) = Err cause
+add_says labels number label drafts (Ok says) =
+    unless_hindered (hindrance labels label says drafts) (with_says number says (with_label label drafts))
+
+abbrev pub add_head : List Name → ℕ → Drafts → Result (Option Name × List (List ℕ)) Cause → Result Drafts Cause
+add_head labels number drafts (Err cause) = Err cause
+add_head labels number drafts (Ok (label, words)) =
+    if is_taken label drafts then Err DuplicateLabel else add_says labels number label drafts (rest_says words)
+
+-- the blocks with what the line of this number says, or the line's first fault; the labels are those of the text
+unfoldable pub add_line : List Name → ℕ → List ℕ → Drafts → Result Drafts Cause
+add_line labels number line drafts = add_head labels number drafts (head_of line)
+
+abbrev pub at_line : {T : Type 0} → ℕ → Result T Cause → Result T Refusal
+at_line number (Ok value) = Ok value
+at_line number (Err cause) = Err (number, cause)
+
+-- the blocks with what these lines say, of which the first has this number, or the first faulty line with its fault
+unfoldable pub add_lines : List Name → ℕ → List (List ℕ) → Drafts → Result Drafts Refusal
+add_lines labels number [] drafts = Ok drafts
+add_lines labels number (line ∷ lines) drafts =
+    and_then (at_line number (add_line labels number line drafts)) (λ more. add_lines labels (number + 1) lines more)
+
+abbrev pub no_drafts : Drafts
+no_drafts = record { done = []; current = None }
