@@ -1,0 +1,11 @@
+//! The listing of packets.
+#![tactic(auto)]
+
+mod spelling;
+mod writer;
+
+pub use spelling::push_spelling;
+pub use writer::list;
+
+#[cfg(test)]
+mod tests;

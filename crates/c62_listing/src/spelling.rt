@@ -1,0 +1,263 @@
+//! Writes instructions.
+
+ghost use Rattle.std.specs.Prelude.{◌≡◌, ◌++◌, OnOk, codes, string_bytes};
+ghost use Rattle.std.specs.Fmt.{signed_decimal};
+ghost use Rattle.c62_insn.specs.Insn.{op_of, operands_of};
+ghost use Rattle.c62_insn.specs.Spelling.{file_letter, side_digit, unit_letter, register_name, condition_spelling, unit_spelling, offset_spelling, sign_of, step_of, is_base_alone, address_spelling, access_spelling, field_spelling, operands_spelling, spelling};
+
+use c62_insn::{AddressForm, Cond, Insn, Letter, Offset, Op, Operands, Reg, Side, Unit};
+use itoa::Buffer;
+use std::alloc::AllocError;
+
+fn file_letter(side: Side) -> &'static str
+    ensures { result.now ≡ file_letter side }
+{
+    match side {
+        Side::A => "A",
+        Side::B => "B",
+    }
+}
+
+fn side_digit(side: Side) -> &'static str
+    ensures { result.now ≡ side_digit side }
+{
+    match side {
+        Side::A => "1",
+        Side::B => "2",
+    }
+}
+
+fn unit_letter(letter: Letter) -> &'static str
+    ensures { result.now ≡ unit_letter letter }
+{
+    match letter {
+        Letter::L => "L",
+        Letter::S => "S",
+        Letter::M => "M",
+        Letter::D => "D",
+    }
+}
+
+pub(crate) fn push_register(out: &mut String, reg: Reg) -> Result<(), AllocError>
+    ensures { OnOk result (string_bytes out.new ≡ string_bytes out.old ++ register_name reg) }
+{
+    let mut buffer = Buffer::new();
+    out.push_str(file_letter(reg.side))?;
+    out.push_str(buffer.format(reg.number))
+}
+
+fn push_constant(out: &mut String, constant: i64) -> Result<(), AllocError>
+    ensures { OnOk result (string_bytes out.new ≡ string_bytes out.old ++ signed_decimal constant) }
+{
+    let mut buffer = Buffer::new();
+    out.push_str(buffer.format(constant))
+}
+
+fn push_condition(out: &mut String, cond: Option<Cond>) -> Result<(), AllocError>
+    ensures { OnOk result (string_bytes out.new ≡ string_bytes out.old ++ condition_spelling cond) }
+{
+    if let Some(cond) = cond {
+        out.push_str(if cond.negated { "[!" } else { "[" })?;
+        push_register(out, cond.reg)?;
+        out.push_str("] ")?;
+    }
+    Ok(())
+}
+
+fn push_unit(out: &mut String, insn: Insn, unit: Unit) -> Result<(), AllocError>
+    ensures { OnOk result (string_bytes out.new ≡ string_bytes out.old ++ unit_spelling (operands_of insn) unit) }
+{
+    out.push_str(".")?;
+    out.push_str(unit_letter(unit.letter))?;
+    out.push_str(side_digit(unit.side))?;
+    if insn.crosses(unit) {
+        out.push_str("X")?;
+    }
+    if let Some(path) = insn.data_path() {
+        out.push_str("T")?;
+        out.push_str(side_digit(path))?;
+    }
+    Ok(())
+}
+
+fn push_offset(out: &mut String, offset: Offset) -> Result<(), AllocError>
+    ensures { OnOk result (string_bytes out.new ≡ string_bytes out.old ++ offset_spelling offset) }
+{
+    match offset {
+        Offset::Constant(constant) => push_constant(out, constant),
+        Offset::Register(reg) => push_register(out, reg),
+    }
+}
+
+/// What stands before the base.
+fn sign(form: AddressForm) -> &'static str
+    ensures { result.now ≡ sign_of form }
+{
+    match form {
+        AddressForm::Plus => "+",
+        AddressForm::Minus => "-",
+        AddressForm::PreIncrement => "++",
+        AddressForm::PreDecrement => "--",
+        AddressForm::PostIncrement | AddressForm::PostDecrement => "",
+    }
+}
+
+/// What stands after the base.
+fn step(form: AddressForm) -> &'static str
+    ensures { result.now ≡ step_of form }
+{
+    match form {
+        AddressForm::PostIncrement => "++",
+        AddressForm::PostDecrement => "--",
+        _ => "",
+    }
+}
+
+/// Whether the base alone is written.
+fn is_base_alone(form: AddressForm, offset: Offset) -> bool
+    ensures { result ≡ is_base_alone form offset }
+{
+    match (form, offset) {
+        (AddressForm::Plus, Offset::Constant(constant)) => constant == 0,
+        _ => false,
+    }
+}
+
+fn push_address(
+    out: &mut String,
+    base: Reg,
+    form: AddressForm,
+    offset: Offset,
+) -> Result<(), AllocError>
+    ensures { OnOk result (string_bytes out.new ≡ string_bytes out.old ++ address_spelling base form offset) }
+{
+    out.push_str("*")?;
+    if is_base_alone(form, offset) {
+        return push_register(out, base);
+    }
+    out.push_str(sign(form))?;
+    push_register(out, base)?;
+    out.push_str(step(form))?;
+    out.push_str("[")?;
+    push_offset(out, offset)?;
+    out.push_str("]")
+}
+
+/// A register with another operand behind it.
+fn push_source(out: &mut String, reg: Reg) -> Result<(), AllocError>
+    ensures { OnOk result (string_bytes out.new ≡ string_bytes out.old ++ register_name reg ++ codes ",") }
+{
+    push_register(out, reg)?;
+    out.push_str(",")
+}
+
+/// A constant with another operand behind it.
+fn push_first_constant(out: &mut String, constant: i64) -> Result<(), AllocError>
+    ensures { OnOk result (string_bytes out.new ≡ string_bytes out.old ++ signed_decimal constant ++ codes ",") }
+{
+    push_constant(out, constant)?;
+    out.push_str(",")
+}
+
+fn push_field(
+    out: &mut String,
+    source: Reg,
+    left: i64,
+    right: i64,
+    destination: Reg,
+) -> Result<(), AllocError>
+    ensures { OnOk result (string_bytes out.new ≡ string_bytes out.old ++ field_spelling source left right destination) }
+{
+    push_source(out, source)?;
+    push_first_constant(out, left)?;
+    push_first_constant(out, right)?;
+    push_register(out, destination)
+}
+
+fn push_access(
+    out: &mut String,
+    op: Op,
+    reg: Reg,
+    base: Reg,
+    form: AddressForm,
+    offset: Offset,
+) -> Result<(), AllocError>
+    ensures { OnOk result (string_bytes out.new ≡ string_bytes out.old ++ access_spelling op reg (address_spelling base form offset)) }
+{
+    if op.is_store() {
+        push_source(out, reg)?;
+        push_address(out, base, form, offset)
+    } else {
+        push_address(out, base, form, offset)?;
+        out.push_str(",")?;
+        push_register(out, reg)
+    }
+}
+
+fn push_operands(
+    out: &mut String,
+    insn: Insn,
+    letter: Letter,
+    label: &str,
+) -> Result<(), AllocError>
+    ensures { OnOk result (string_bytes out.new ≡ string_bytes out.old ++ operands_spelling (λ _. label.now) (op_of insn) letter (operands_of insn)) }
+{
+    match insn.operands() {
+        Operands::Three(a, b, d) => {
+            push_source(out, a)?;
+            push_source(out, b)?;
+            push_register(out, d)
+        }
+        Operands::ConstantFirst(constant, a, d) => {
+            if letter == Letter::D {
+                push_source(out, a)?;
+                push_first_constant(out, constant)?;
+            } else {
+                push_first_constant(out, constant)?;
+                push_source(out, a)?;
+            }
+            push_register(out, d)
+        }
+        Operands::ConstantSecond(a, constant, d) => {
+            push_source(out, a)?;
+            push_first_constant(out, constant)?;
+            push_register(out, d)
+        }
+        Operands::Two(a, d) => {
+            push_source(out, a)?;
+            push_register(out, d)
+        }
+        Operands::Field(a, left, right, d) => push_field(out, a, left, right, d),
+        Operands::Constant(constant, d) => {
+            push_first_constant(out, constant)?;
+            push_register(out, d)
+        }
+        Operands::Access(reg, base, form, offset) => push_access(
+            out,
+            insn.op(),
+            reg,
+            base,
+            form,
+            offset,
+        ),
+        Operands::Block(_) => out.push_str(label),
+        Operands::Register(target) => push_register(out, target),
+    }
+}
+
+/// Appends `insn` as it is written on `unit`, where `label` is the name of the block that a branch goes to.
+pub fn push_spelling(
+    out: &mut String,
+    insn: Insn,
+    unit: Unit,
+    label: &str,
+) -> Result<(), AllocError>
+    ensures { OnOk result (string_bytes out.new ≡ string_bytes out.old ++ spelling (λ _. label.now) insn unit) }
+{
+    push_condition(out, insn.cond())?;
+    out.push_str(insn.op().mnemonic())?;
+    out.push_str(" ")?;
+    push_unit(out, insn, unit)?;
+    out.push_str(" ")?;
+    push_operands(out, insn, unit.letter, label)
+}

@@ -1,0 +1,350 @@
+//! What a line of a listing says, or its first fault.
+
+ghost use Rattle.std.specs.Prelude.{◌≡◌, ◌⊎◌, ◌≤◌, ◌+◌, ◌&&◌, not, Ok, Err, MatchResult, is_some, is_none, nat_le, nat_lt, length};
+ghost use Rattle.std.specs.List.{list_any};
+ghost use Rattle.std.specs.Str.{bytes_eq};
+ghost use Rattle.c62_read.specs.Line.{line_of, said_of};
+ghost use Rattle.c62_read.specs.Walk.{is_unknown, is_instruction};
+ghost use Rattle.c62_listing_reader.specs.Text.{lines_in, content};
+ghost use Rattle.c62_listing_reader.specs.Cut.{line_cut};
+ghost use Rattle.c62_listing_reader.specs.Begin.{rest_of, is_gap, is_beside};
+ghost use Rattle.c62_listing_reader.specs.Said.{labels_of, opened};
+ghost use Rattle.c62_listing_reader.specs.Faults.{is_issue, is_filled, unit_said, unit_above, precedes, goes_on, is_misplaced, after_label, hindrance, cycles_added, is_alone, is_unfit, is_odd, unless_odd, with_rest, rest_says, line_says};
+ghost use Rattle.c62_listing_reader.specs.Reading.{drafts_of, said_by, entries_of, read_as, Fails};
+
+use crate::draft::Blocks;
+use crate::fault::LineFault;
+use crate::line::{Above, Front, all_allowed, beginning, has_colon, rest};
+use crate::spelled::is_spelled;
+use crate::text::{Cut, begins_filled, content, is_ended};
+use c62_insn::Unit;
+use c62_read::{Cause, Label, Reading, What, label_place, read_insn};
+use std::alloc::Global;
+
+/// A label of the text, and the number of the block that it stands for.
+#[derive(Clone, Copy)]
+pub struct Named<'a> {
+    pub label: &'a [u8],
+    pub number: u32,
+}
+
+/// What a line says.
+#[derive(Drop)]
+pub struct Judged {
+    pub front: Front,
+    pub label: Option<Label>,
+    pub what: What,
+}
+
+fn is_issue(above: Above) -> bool
+    ensures { result ≡ is_issue above }
+{
+    matches!(above, Above::Issue(_))
+}
+
+fn is_filled(above: Above) -> bool
+    ensures { result ≡ is_filled above }
+{
+    !matches!(above, Above::Start)
+}
+
+pub fn is_gap(front: Front) -> bool
+    ensures { result ≡ is_gap front }
+{
+    matches!(front, Front::Empty)
+}
+
+pub fn is_beside(front: Front) -> bool
+    ensures { result ≡ is_beside front }
+{
+    matches!(front, Front::Beside)
+}
+
+fn unit_said(what: &What) -> Option<Unit>
+    ensures { result ≡ unit_said (said_of what.now) }
+{
+    match what {
+        What::Insn(insn) => insn.unit(),
+        What::Jump(insn, _) => insn.unit(),
+        _ => None,
+    }
+}
+
+fn unit_above(above: Above) -> Option<Unit>
+    ensures { result ≡ unit_above above }
+{
+    match above {
+        Above::Issue(unit) => unit,
+        _ => None,
+    }
+}
+
+fn precedes(unit: Option<Unit>, above: Option<Unit>) -> bool
+    ensures { result ≡ precedes unit above }
+{
+    match (unit, above) {
+        (Some(unit), Some(above)) => unit.index() < above.index(),
+        _ => false,
+    }
+}
+
+/// Whether a pause follows one of less than nine cycles.
+fn goes_on(what: &What, above: Above) -> bool
+    ensures { result ≡ goes_on (said_of what.now) above }
+{
+    match (what, above) {
+        (What::Nop(_), Above::Pause(cycles)) => cycles < 9,
+        _ => false,
+    }
+}
+
+fn is_misplaced(front: Front, above: Above) -> bool
+    ensures { result ≡ is_misplaced front above }
+{
+    match front {
+        Front::Stray => true,
+        Front::Beside => !is_issue(above),
+        _ => false,
+    }
+}
+
+/// The reading of a rest in which bars have no meaning. A label that is taken comes before all faults but a bad label.
+fn after_label(taken: bool, colon: bool, read: Result<Reading, Cause>) -> Result<Reading, Cause>
+    ensures { read_as result ≡ after_label taken colon (read_as read) }
+{
+    match read {
+        Err(Cause::ParallelBar) => Err(if colon {
+            Cause::BadLabel
+        } else {
+            Cause::UnknownMnemonic
+        }),
+        Err(Cause::BadLabel) => Err(Cause::BadLabel),
+        read => {
+            if taken {
+                Err(Cause::DuplicateLabel)
+            } else {
+                read
+            }
+        }
+    }
+}
+
+fn read_line(rest: &[u8]) -> Result<Reading, Cause>
+    ensures { read_as result ≡ line_of rest.now }
+{
+    match read_insn(rest) {
+        Ok(reading) => Ok(reading),
+        Err(fault) => Err(fault.cause),
+    }
+}
+
+fn rest_says(blocks: &Blocks, rest: &[u8]) -> Result<Reading, Cause>
+    ensures { read_as result ≡ rest_says (drafts_of blocks.now) rest.now }
+{
+    let taken = blocks.is_taken(label_place(rest));
+    let colon = has_colon(rest);
+    after_label(taken, colon, read_line(rest))
+}
+
+fn any_is(label: &[u8], names: &[Named<'_>]) -> bool
+    ensures { result ≡ list_any (λ other. bytes_eq other.label.now label.now) names.now }
+{
+    names.iter().any(|other| other.label == label)
+}
+
+/// Whether a branch goes to a label that no line has.
+#[tactic(auto, using(crate::proofs::NameLemmas::any_named))]
+fn is_unknown(names: &[Named<'_>], what: &What) -> bool
+    ensures { result ≡ is_unknown (labels_of (entries_of names.now)) (said_of what.now) }
+{
+    match what {
+        What::Jump(_, label) => !any_is(label.as_bytes(), names),
+        _ => false,
+    }
+}
+
+fn is_instruction(what: &What) -> bool
+    ensures { result ≡ is_instruction (said_of what.now) }
+{
+    matches!(what, What::Insn(_) | What::Jump(_, _))
+}
+
+/// Whether the line is the 257th instruction of its block.
+fn is_one_more(blocks: &Blocks, what: &What) -> bool
+    ensures { result ≡ (is_instruction (said_of what.now) && nat_le 256 (length (opened (drafts_of blocks.now).current).placed)) }
+{
+    is_instruction(what) && 256 <= blocks.count()
+}
+
+/// Whether the line begins a block.
+fn begins_block(blocks: &Blocks, front: Front) -> bool
+    ensures { result ≡ (not (is_gap front) && is_none (drafts_of blocks.now).current) }
+{
+    !is_gap(front) && blocks.current.is_none()
+}
+
+/// Whether the line begins the 65th block.
+fn begins_one_more(blocks: &Blocks, front: Front) -> bool
+    ensures { result ≡ (not (is_gap front) && is_none (drafts_of blocks.now).current && nat_le 64 (length (drafts_of blocks.now).done)) }
+{
+    begins_block(blocks, front) && blocks.is_full()
+}
+
+/// What stands against a line that says something by itself.
+fn hindrance(names: &[Named<'_>], blocks: &Blocks, front: Front, what: &What) -> Option<Cause>
+    ensures { result ≡ hindrance (labels_of (entries_of names.now)) (drafts_of blocks.now) front (said_of what.now) }
+{
+    if is_unknown(names, what) {
+        return Some(Cause::UnknownTarget);
+    }
+    if is_one_more(blocks, what) {
+        return Some(Cause::TooManyInstructions);
+    }
+    if begins_one_more(blocks, front) {
+        return Some(Cause::TooManyBlocks);
+    }
+    None
+}
+
+fn cycles_added(beside: bool, what: &What) -> u16
+    ensures added { result ≡ cycles_added beside (said_of what.now) }
+    ensures few { result ≤ 255 }
+{
+    match what {
+        What::Empty => 0,
+        What::Nop(cycles) => u16::from(*cycles),
+        _ => u16::from(!beside),
+    }
+}
+
+/// Whether an empty line does not stand between two lines that are not empty.
+fn is_alone(front: Front, above: Above, below: &[u8]) -> bool
+    ensures { result ≡ is_alone front above (lines_in below.now) }
+{
+    if is_gap(front) {
+        let between = is_filled(above) && begins_filled(below);
+        !between
+    } else {
+        false
+    }
+}
+
+/// Whether the line gives a unit that stands before the unit of the line above in one packet.
+fn falls(front: Front, what: &What, above: Above) -> bool
+    ensures { result ≡ (is_beside front && precedes (unit_said (said_of what.now)) (unit_above above)) }
+{
+    is_beside(front) && precedes(unit_said(what), unit_above(above))
+}
+
+/// Whether a label stands in a block that is begun.
+fn is_inside(label: &Option<Label>, blocks: &Blocks) -> bool
+    ensures { result ≡ (is_some label.now && is_some (drafts_of blocks.now).current) }
+{
+    label.is_some() && blocks.current.is_some()
+}
+
+/// Whether the line makes its block too long.
+fn is_too_long(blocks: &Blocks, front: Front, what: &What) -> bool
+    ensures { result ≡ nat_lt 2048 ((opened (drafts_of blocks.now).current).cycles + cycles_added (is_beside front) (said_of what.now)) }
+{
+    2048 < u32::from(blocks.cycles()) + u32::from(cycles_added(is_beside(front), what))
+}
+
+/// Whether a line does not fit its neighbours.
+fn is_unfit(blocks: &Blocks, above: Above, cut: &Cut<'_>, front: Front, reading: &Reading) -> bool
+    ensures { result ≡ is_unfit (drafts_of blocks.now) above (line_cut cut.now) (lines_in cut.now.rest.now) front reading.now.label (said_of reading.now.what) }
+{
+    if !is_ended(cut) {
+        return true;
+    }
+    if falls(front, &reading.what, above) {
+        return true;
+    }
+    if goes_on(&reading.what, above) {
+        return true;
+    }
+    if is_alone(front, above, cut.rest) {
+        return true;
+    }
+    if is_inside(&reading.label, blocks) {
+        return true;
+    }
+    is_too_long(blocks, front, &reading.what)
+}
+
+/// What a line says behind its front, where it is spelled so and fits its neighbours.
+fn fitted(
+    alloc: Global,
+    blocks: &Blocks,
+    above: Above,
+    cut: &Cut<'_>,
+    front: Front,
+    reading: Reading,
+) -> Result<Judged, LineFault>
+    ensures { MatchResult result
+        (λ judged. unless_odd (is_odd (drafts_of blocks.now) above (line_cut cut.now) (lines_in cut.now.rest.now) front reading.label (said_of reading.what)) (record { front = front; label = reading.label; says = said_of reading.what }) ≡ Ok (said_by judged))
+        (λ fault. Fails fault (unless_odd (is_odd (drafts_of blocks.now) above (line_cut cut.now) (lines_in cut.now.rest.now) front reading.label (said_of reading.what)) (record { front = front; label = reading.label; says = said_of reading.what }))) }
+{
+    let spelled = is_spelled(alloc, content(cut), front, &reading.label, &reading.what)?;
+    if !spelled {
+        return Err(LineFault::Shape);
+    }
+    if is_unfit(blocks, above, cut, front, &reading) {
+        return Err(LineFault::Shape);
+    }
+    Ok(Judged {
+        front,
+        label: reading.label,
+        what: reading.what,
+    })
+}
+
+fn with_rest(
+    alloc: Global,
+    names: &[Named<'_>],
+    blocks: &Blocks,
+    above: Above,
+    cut: &Cut<'_>,
+    front: Front,
+) -> Result<Judged, LineFault>
+    ensures { MatchResult result
+        (λ judged. with_rest (labels_of (entries_of names.now)) (drafts_of blocks.now) above (line_cut cut.now) (lines_in cut.now.rest.now) front (rest_says (drafts_of blocks.now) (rest_of front (content (line_cut cut.now)))) ≡ Ok (said_by judged))
+        (λ fault. Fails fault (with_rest (labels_of (entries_of names.now)) (drafts_of blocks.now) above (line_cut cut.now) (lines_in cut.now.rest.now) front (rest_says (drafts_of blocks.now) (rest_of front (content (line_cut cut.now)))))) }
+{
+    match rest_says(blocks, rest(front, content(cut))) {
+        Err(cause) => Err(LineFault::Read(cause)),
+        Ok(reading) => {
+            match hindrance(names, blocks, front, &reading.what) {
+                Some(cause) => Err(LineFault::Read(cause)),
+                None => fitted(alloc, blocks, above, cut, front, reading),
+            }
+        }
+    }
+}
+
+/// What a line says, or its first fault.
+#[tactic(auto, unfolding(crate::specs::Faults::line_says))]
+pub fn judge(
+    alloc: Global,
+    names: &[Named<'_>],
+    blocks: &Blocks,
+    above: Above,
+    cut: &Cut<'_>,
+) -> Result<Judged, LineFault>
+    ensures { MatchResult result
+        (λ judged. line_says (labels_of (entries_of names.now)) (drafts_of blocks.now) above (line_cut cut.now) (lines_in cut.now.rest.now) ≡ Ok (said_by judged))
+        (λ fault. Fails fault (line_says (labels_of (entries_of names.now)) (drafts_of blocks.now) above (line_cut cut.now) (lines_in cut.now.rest.now))) }
+{
+    let line = content(cut);
+    if !all_allowed(line) {
+        return Err(LineFault::Read(Cause::NotAscii));
+    }
+    if line.len() > 255 {
+        return Err(LineFault::Read(Cause::LineTooLong));
+    }
+    let front = beginning(line);
+    if is_misplaced(front, above) {
+        return Err(LineFault::Shape);
+    }
+    with_rest(alloc, names, blocks, above, cut, front)
+}

@@ -1,0 +1,16 @@
+//! Reads listings.
+#![tactic(auto)]
+
+mod draft;
+mod fault;
+mod judge;
+mod line;
+mod reader;
+mod spelled;
+mod text;
+
+pub use fault::ListFault;
+pub use reader::{MOST_BYTES, read_listing};
+
+#[cfg(test)]
+mod tests;

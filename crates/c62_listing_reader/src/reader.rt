@@ -1,0 +1,255 @@
+//! Reads listings.
+
+ghost use Rattle.std.specs.Prelude.{◌≡◌, ◌⊎◌, ◌+◌, ◌<◌, ◌≤◌, ◌++◌, ◌∷◌, [], All, List, length, map, OnOk, IfOk, MatchResult, Result, Ok, Err};
+ghost use Rattle.c62_insn.specs.Insn.{op_of, operands_of, cond_of, unit_of};
+ghost use Rattle.c62_read.specs.Line.{parts_of, said_of};
+ghost use Rattle.c62_read.specs.Program.{aimed_operands};
+ghost use Rattle.c62_packet.specs.Packed.{IsPacketBlock};
+ghost use Rattle.c62_listing_reader.specs.declared.fault.LineFault.TheVariants.{Memory as OutOfMemory};
+ghost use Rattle.c62_listing_reader.specs.declared.fault.ListFault.TheVariants.{Memory as NoMemory};
+ghost use Rattle.c62_listing_reader.specs.declared.line.Above.TheVariants.{Start};
+ghost use Rattle.c62_listing_reader.specs.Text.{lines_in};
+ghost use Rattle.c62_listing_reader.specs.Said.{Draft, Drafts as Placements, names_in, labels_of, aim_by, with_says, with_said, above_of, above_next, all_drafts, no_drafts};
+ghost use Rattle.c62_listing_reader.specs.Faults.{Refusal, contents, draft_of, IsFaulted, IsFirstFaulty, IsRead, read_lines, cycles_added};
+ghost use Rattle.c62_listing_reader.specs.Fine.{IsFine};
+ghost use Rattle.c62_listing_reader.specs.Reading.{draft_open, drafts_of, said_by, entries_of, HasUnit, Fits, RefusesLines, RefusesBlocks, Refuses};
+
+use crate::draft::{Blocks, OpenBlock};
+use crate::fault::{LineFault, ListFault};
+use crate::judge::{Judged, Named, is_beside, is_gap, judge};
+use crate::line::Above;
+use crate::text::{content, first_line};
+use c62_insn::{Insn, Operands};
+use c62_packet::{BlockFault, PacketBlock, Packets};
+use c62_read::{Cause, ReadFault, What, label_place};
+use std::alloc::{AllocError, Global};
+
+/// The longest listing, in bytes.
+pub const MOST_BYTES: usize = 8_388_608;
+
+/// The labels of all lines of a text.
+fn all_names<'a>(alloc: Global, text: &'a [u8]) -> Result<Vec<Named<'a>>, AllocError>
+    requires { length text.now ≤ 8388608 }
+    ensures { IfOk result (λ names. entries_of names.items ≡ names_in 0 (contents text.now)) }
+{
+    let mut names = Vec::new(alloc);
+    let mut rest = text;
+    let mut number = 0;
+    while let Some(cut) = first_line(rest) {
+        let line = content(&cut);
+        if let Some(label) = label_place(line) {
+            names.push(Named { label, number })?;
+        }
+        number += u32::from(line.is_empty());
+        rest = cut.rest;
+    }
+    Ok(names)
+}
+
+/// The number of the block that a label stands for.
+fn number_of(names: &[Named<'_>], label: &[u8]) -> u8
+    ensures { result ≡ aim_by (entries_of names.now) label.now }
+{
+    for named in names {
+        if named.label == label {
+            return named.number.min(255) as u8;
+        }
+    }
+    0
+}
+
+/// A branch to a label goes to the block of this number.
+fn aimed(insn: Insn, number: u8) -> Insn
+    ensures { parts_of result ≡ record { op = op_of insn; operands = aimed_operands number (operands_of insn); cond = cond_of insn; unit = unit_of insn } }
+{
+    match insn.operands() {
+        Operands::Block(_) => {
+            let Ok(insn) = Insn::new(insn.op(), Operands::Block(number), insn.cond(), insn.unit())
+            else {
+                unreachable!()
+            };
+            insn
+        }
+        _ => insn,
+    }
+}
+
+fn above_of(what: &What) -> Above
+    ensures { result ≡ above_of (said_of what.now) }
+{
+    match what {
+        What::Empty => Above::Heading,
+        What::Nop(cycles) => Above::Pause(*cycles),
+        What::Insn(insn) => Above::Issue(insn.unit()),
+        What::Jump(insn, _) => Above::Issue(insn.unit()),
+    }
+}
+
+/// What the next line asks of this one.
+fn above_next(judged: &Judged) -> Above
+    ensures { result ≡ above_next judged.now.front (said_of judged.now.what) }
+{
+    if is_gap(judged.front) {
+        Above::Start
+    } else {
+        above_of(&judged.what)
+    }
+}
+
+impl OpenBlock {
+    fn add_what(
+        &mut self,
+        names: &[Named<'_>],
+        beside: bool,
+        line: u32,
+        what: What,
+    ) -> Result<(), AllocError>
+        requires unit { HasUnit (said_of what) }
+        requires short { self.old.cycles + cycles_added beside (said_of what) ≤ 2048 }
+        ensures { OnOk result (draft_open self.new ≡ with_says (aim_by (entries_of names.now)) beside line (said_of what) (draft_open self.old)) }
+    {
+        match what {
+            What::Empty => Ok(()),
+            What::Nop(cycles) => {
+                self.add_pause(cycles);
+                Ok(())
+            }
+            What::Insn(insn) => self.add_insn(beside, insn, line),
+            What::Jump(insn, target) => {
+                let number = number_of(names, target.as_bytes());
+                self.add_insn(beside, aimed(insn, number), line)
+            }
+        }
+    }
+}
+
+impl Blocks {
+    /// Adds what a line says. An empty line ends a block.
+    fn add(
+        &mut self,
+        alloc: Global,
+        names: &[Named<'_>],
+        line: u32,
+        judged: Judged,
+    ) -> Result<(), AllocError>
+        requires { Fits (drafts_of self.old) (said_by judged) }
+        ensures { OnOk result (drafts_of self.new ≡ with_said (aim_by (entries_of names.now)) line (said_by judged) (drafts_of self.old)) }
+    {
+        if is_gap(judged.front) {
+            return self.end_block();
+        }
+        let mut block = self.take_block(alloc);
+        block.add_label(judged.label);
+        block.add_what(names, is_beside(judged.front), line, judged.what)?;
+        self.put_block(block);
+        Ok(())
+    }
+}
+
+fn fault_of_line(line: u32, fault: LineFault) -> ListFault
+    ensures { (says : Result Placements Refusal) → (fault ≡ OutOfMemory) ⊎ (says ≡ Err (line, fault)) → RefusesLines says result }
+{
+    match fault {
+        LineFault::Read(cause) => ListFault::Read(ReadFault { line, cause }),
+        LineFault::Shape => ListFault::Shape(line),
+        LineFault::Memory => ListFault::Memory,
+    }
+}
+
+/// The blocks that the lines say.
+fn read_blocks(alloc: Global, names: &[Named<'_>], text: &[u8]) -> Result<Blocks, ListFault>
+    requires { length text.now ≤ 8388608 }
+    ensures { MatchResult result
+        (λ blocks. (read_lines (labels_of (entries_of names.now)) (aim_by (entries_of names.now)) 1 no_drafts Start (lines_in text.now) ≡ Ok (drafts_of blocks))
+        × All IsFine (all_drafts (drafts_of blocks)) × (length (all_drafts (drafts_of blocks)) ≤ 64))
+        (λ fault. RefusesLines (read_lines (labels_of (entries_of names.now)) (aim_by (entries_of names.now)) 1 no_drafts Start (lines_in text.now)) fault) }
+{
+    let mut blocks = Blocks::new(alloc);
+    let mut above = Above::Start;
+    let mut number = 1;
+    let mut rest = text;
+    while let Some(cut) = first_line(rest) {
+        let judged = match judge(alloc, names, &blocks, above, &cut) {
+            Ok(judged) => judged,
+            Err(fault) => return Err(fault_of_line(number, fault)),
+        };
+        above = above_next(&judged);
+        blocks.add(alloc, names, number, judged)?;
+        number += 1;
+        rest = cut.rest;
+    }
+    Ok(blocks)
+}
+
+fn fault_of_block(number: u8, fault: BlockFault) -> ListFault
+    ensures { (drafts : List Draft) → IsFirstFaulty drafts number fault → RefusesBlocks drafts result }
+{
+    match fault {
+        BlockFault::TwoBranches => ListFault::TwoBranches(number),
+        BlockFault::NotDrained => ListFault::NotDrained(number),
+        BlockFault::Unlawful(cycle, rule) => ListFault::Unlawful(number, cycle, rule),
+    }
+}
+
+/// The packet block of a block as it was read.
+fn packet_block(block: OpenBlock) -> Result<PacketBlock, BlockFault>
+    requires { IsFine (draft_open block) }
+    ensures { MatchResult result (λ packed. (draft_of packed ≡ draft_open block) × IsPacketBlock packed) (λ fault. IsFaulted (draft_open block) fault) }
+{
+    PacketBlock::new(block.label, block.cycles, block.placed)
+}
+
+fn put(packets: &mut Packets, block: PacketBlock) -> Result<(), ListFault>
+    requires { length packets.old < 64 }
+    ensures { MatchResult result (λ _. packets.new ≡ packets.old ++ block ∷ []) (λ fault. fault ≡ NoMemory) }
+{
+    match packets.push(block) {
+        Ok(()) => Ok(()),
+        Err(_) => Err(ListFault::Memory),
+    }
+}
+
+/// The packets of blocks as they were read.
+fn packets_of(alloc: Global, blocks: Vec<OpenBlock>) -> Result<Packets, ListFault>
+    requires few { length blocks.items ≤ 64 }
+    requires fine { All IsFine (map draft_open blocks.items) }
+    ensures { MatchResult result
+        (λ packets. (map draft_of packets ≡ map draft_open blocks.items) × All IsPacketBlock packets)
+        (λ fault. RefusesBlocks (map draft_open blocks.items) fault) }
+{
+    let mut packets = Packets::new(alloc);
+    let mut left = blocks;
+    left.reverse();
+    let mut number = 0;
+    while let Some(block) = left.pop() {
+        let packed = match packet_block(block) {
+            Ok(packed) => packed,
+            Err(fault) => return Err(fault_of_block(number, fault)),
+        };
+        put(&mut packets, packed)?;
+        number += 1;
+    }
+    Ok(packets)
+}
+
+/// The packets that a text lists.
+///
+/// # Errors
+///
+/// `Read` with `TextTooLong` where the text has more than 8,388,608 bytes. Else the first fault of the first faulty line.
+/// Else, for the first faulty block, `TwoBranches`, `NotDrained` or `Unlawful`. `Memory` where memory ran out
+/// (`docs/LISTING.md`, "Faults of a line" and "Faults of a block").
+pub fn read_listing(alloc: Global, text: &[u8]) -> Result<Packets, ListFault>
+    ensures { MatchResult result (λ packets. IsRead text.now packets) (λ fault. Refuses text.now fault) }
+{
+    if text.len() > MOST_BYTES {
+        return Err(ListFault::Read(ReadFault {
+            line: 0,
+            cause: Cause::TextTooLong,
+        }));
+    }
+    let names = all_names(alloc, text)?;
+    let mut blocks = read_blocks(alloc, &names, text)?;
+    blocks.end_block()?;
+    packets_of(alloc, blocks.done)
+}

@@ -1,0 +1,93 @@
+//! Whether a line is spelled as a listing spells what it says.
+
+ghost use Rattle.std.specs.Prelude.{◌≡◌, ◌++◌, [], OnOk, IfOk, codes, decimal, string_bytes};
+ghost use Rattle.std.specs.Option.{option_copied};
+ghost use Rattle.c62_insn.specs.Insn.{unit_of};
+ghost use Rattle.c62_read.specs.Line.{parts_of, said_of};
+ghost use Rattle.c62_listing_reader.specs.Said.{front_spelling, issue_line, spelled_line, is_text};
+
+use crate::line::Front;
+use c62_insn::Insn;
+use c62_listing::push_spelling;
+use c62_read::{Label, What};
+use itoa::Buffer;
+use std::alloc::{AllocError, Global};
+
+fn front_text(front: Front) -> &'static str
+    ensures { result.now ≡ front_spelling front }
+{
+    match front {
+        Front::Beside => "|| ",
+        _ => "   ",
+    }
+}
+
+/// Whether the line is spelled as this instruction on its unit.
+fn is_issue(
+    alloc: Global,
+    line: &[u8],
+    front: Front,
+    insn: Insn,
+    target: &str,
+) -> Result<bool, AllocError>
+    ensures { IfOk result (λ is. is ≡ is_text line.now (issue_line front target.now (parts_of insn) (unit_of insn))) }
+{
+    let Some(unit) = insn.unit() else {
+        return Ok(false);
+    };
+    let mut spelled = String::with_capacity(alloc, 64)?;
+    spelled.push_str(front_text(front))?;
+    push_spelling(&mut spelled, insn, unit, target)?;
+    Ok(line == spelled.as_bytes())
+}
+
+fn is_pause(alloc: Global, line: &[u8], cycles: u8) -> Result<bool, AllocError>
+    ensures { IfOk result (λ is. is ≡ is_text line.now (Some (codes "   NOP " ++ decimal cycles))) }
+{
+    let mut buffer = Buffer::new();
+    let mut spelled = String::with_capacity(alloc, 16)?;
+    spelled.push_str("   NOP ")?;
+    spelled.push_str(buffer.format(cycles))?;
+    Ok(line == spelled.as_bytes())
+}
+
+/// The label as a text.
+fn label_text(label: &Label) -> &str
+    ensures { result.now ≡ label.now }
+{
+    match str::from_utf8(label.as_bytes()) {
+        Ok(text) => text,
+        Err(_) => unreachable!(),
+    }
+}
+
+fn is_heading(alloc: Global, line: &[u8], label: &Label) -> Result<bool, AllocError>
+    ensures { IfOk result (λ is. is ≡ is_text line.now (Some (label.now ++ codes ":"))) }
+{
+    let mut spelled = String::with_capacity(alloc, 40)?;
+    spelled.push_str(label_text(label))?;
+    spelled.push_str(":")?;
+    Ok(line == spelled.as_bytes())
+}
+
+/// Whether a line is the one spelling of what it says behind a label, or without one.
+pub fn is_spelled(
+    alloc: Global,
+    line: &[u8],
+    front: Front,
+    label: &Option<Label>,
+    what: &What,
+) -> Result<bool, AllocError>
+    ensures { IfOk result (λ is. is ≡ is_text line.now (spelled_line front label.now (said_of what.now))) }
+{
+    match (label, what) {
+        (Some(label), What::Empty) => is_heading(alloc, line, label),
+        (Some(_), _) => Ok(false),
+        (None, What::Empty) => Ok(front == Front::Empty && line.is_empty()),
+        (None, What::Nop(cycles)) => is_pause(alloc, line, *cycles),
+        (None, What::Insn(insn)) => is_issue(alloc, line, front, *insn, ""),
+        (None, What::Jump(insn, target)) => {
+            is_issue(alloc, line, front, *insn, label_text(target))
+        }
+    }
+}

@@ -1,0 +1,116 @@
+//! Texts and what they are read as.
+
+use crate::{ListFault, read_listing};
+use c62_listing::list;
+use c62_packet::Packets;
+use std::alloc::Global;
+use std::test::Fail;
+
+/// What a text is refused for, or its own listing.
+fn told(alloc: Global, text: &str) -> Result<String, Fail> {
+    match read_listing(alloc, text.as_bytes()) {
+        Ok(packets) => {
+            if packets.closed() {
+                Ok(list(alloc, &packets)?)
+            } else {
+                Ok(format!(in alloc; "open")?)
+            }
+        }
+        Err(fault) => Ok(format!(in alloc; "{fault}")?),
+    }
+}
+
+/// Listings.
+const LISTINGS: [&str; 12] = [
+    "",
+    "   MVK .S1 5,A1\n   MVK .S1 7,A2\n   ADD .L1 A1,A2,A3\n",
+    "   LDW .D1T1 *A4,A5\n   NOP 4\n   ADD .L1 A5,A5,A6\n",
+    "   MVK .S1 3,A1\n|| LDW .D1T1 *A4,A5\n   ADD .L1 A5,A1,A2\n   NOP 3\n",
+    "   ADD .L1 A1,A1,A5\n|| MPY .M1 A1,A1,A4\n   SUB .L1 A1,A2,A3\n",
+    "   ADD .L1X A1,B1,A2\n   SUB .L1X A3,B3,A4\n",
+    "   LDW .D1T1 *A4,A5\n|| LDW .D2T2 *B4,B6\n   NOP 4\n",
+    "L1:\n   MPY .M1 A1,A2,A3\n|| B .S2 L1\n   NOP 5\n",
+    "L1:\n   SUB .L1 A1,1,A1\n   [A1] B .S2 L1\n   NOP 5\n",
+    "L1:\n   MPY .M1 A1,A2,A3\n|| B .S2 END\n   NOP 5\n\nL2:\n\nEND:\n   MVK .S1 1,A1\n",
+    "   MPY .M1X A5,B1,A2\n|| ADD .L2X B2,A2,B3\n|| LDW .D2T2 *B4,B5\n   ADD .L1X A1,B1,A3\n   ADD .L1 A3,A3,A4\n|| MPY .M1 A2,A2,A6\n   NOP 2\n",
+    "   ADD .L1X A1,B1,A3\n|| ADD .L2X B2,A2,B3\n|| LDW .D2T2 *B4,B5\n   ADD .L1 A3,A3,A4\n|| MPY .M1X A5,B1,A2\n   NOP 1\n   MPY .M1 A2,A2,A6\n   NOP 1\n",
+];
+
+#[test]
+fn reads_listings_back(rt: HostRuntime) -> Result<(), Fail> {
+    for text in LISTINGS.iter() {
+        assert!(rt; told(rt.alloc(), text)?.as_str() == *text, "{text}");
+    }
+    Ok(())
+}
+
+/// Texts that are no listings, and why.
+const REFUSED: [(&str, &str); 40] = [
+    ("   LDW .D1T1 *A4,A5\n   NOP 2\n   NOP 2\n", "line 3: Shape"),
+    ("   ADD .L1 A1,B1,A2\n", "line 1: Shape"),
+    ("|| MVK .S1 1,A1\n", "line 1: Shape"),
+    ("   MVK .S1 1,A1\n|| ADD .L1 A2,A2,A3\n", "line 2: Shape"),
+    ("   mvk .S1 1,A1\n", "line 1: Shape"),
+    ("   MVK .S1 1,A1\n   NOP 1\n", "block 0: NotDrained"),
+    (
+        "L:\n   B .S2 L\n   B .S2 L\n   NOP 4\n",
+        "block 0: TwoBranches",
+    ),
+    (
+        "   LDW .D1T1 *A4,A5\n|| LDW .D2T1 *B4,A6\n   NOP 4\n",
+        "block 0 cycle 0: P3",
+    ),
+    ("   LDW .D1T1 *A4,A5\n", "block 0: NotDrained"),
+    ("   MVK .S1 1,A1\r\n", "line 1: Shape"),
+    ("   MVK .S1 1,A1", "line 1: Shape"),
+    ("  MVK .S1 1,A1\n", "line 1: Shape"),
+    ("   MVK .S1 0x1,A1\n", "line 1: Shape"),
+    ("   NOP\n", "line 1: Shape"),
+    ("   LDW .D1T1 *+A4[0],A5\n   NOP 4\n", "line 1: Shape"),
+    ("   LDW .D1 *A4,A5\n   NOP 4\n", "line 1: Shape"),
+    ("   MV .L1 A1,A2\n", "line 1: Shape"),
+    ("   MVK .S1 1,A1 ; c\n", "line 1: Shape"),
+    ("; c\n", "line 1: Shape"),
+    ("\n", "line 1: Shape"),
+    ("   MVK .S1 1,A1\n\n", "line 2: Shape"),
+    ("   MVK .S1 1,A1\n\n\n   MVK .S1 1,A1\n", "line 2: Shape"),
+    ("   MVK .S1 1,A1\nL:\n", "line 2: Shape"),
+    ("   NOP 3\n   NOP 9\n", "line 2: Shape"),
+    ("L:\n|| FOO\n", "line 2: Shape"),
+    ("   MVK .S1 1,A1\n|| NOP 1\n", "line 2: Shape"),
+    ("   MVK .S1 1,A1\n|| NOP 10\n", "line 2: BadOperand"),
+    ("   FOO A1\n", "line 1: UnknownMnemonic"),
+    (
+        "   MVK .S1 1,A1\n|| ||MVK .S1 1,A1\n",
+        "line 2: UnknownMnemonic",
+    ),
+    ("   MVK .S1 1,A1\n|| || L: x\n", "line 2: BadLabel"),
+    ("*L: x\n", "line 1: Shape"),
+    ("   *A4\n", "line 1: UnknownMnemonic"),
+    ("   *A4:\n", "line 1: BadLabel"),
+    ("L:\n\nL: FOO\n", "line 3: DuplicateLabel"),
+    ("   B .S2 Q\n   NOP 5\n", "line 1: UnknownTarget"),
+    ("   ADD .L1X 20,A2,A3\n", "line 1: BadSide"),
+    ("   MVK .S1 1,A1\n|| MVK .S1 2,A2\n", "block 0 cycle 0: P1"),
+    (
+        "   ADD .L1X A1,B1,A2\n|| SUB .S1X A3,B3,A4\n",
+        "block 0 cycle 0: P2",
+    ),
+    (
+        "   ADD .L1 A1,A1,A5\n|| ADD .S1 A1,A1,A6\n|| MPY .M1 A1,A1,A4\n   NOP 1\n",
+        "block 0 cycle 0: P4",
+    ),
+    (
+        "   MPY .M1 A1,A2,A3\n   ADD .L1 A1,A1,A3\n",
+        "block 0 cycle 1: P5",
+    ),
+];
+
+#[test]
+fn refuses_what_is_no_listing(rt: HostRuntime) -> Result<(), Fail> {
+    for (text, want) in REFUSED.iter() {
+        let told = told(rt.alloc(), text)?;
+        assert!(rt; told.as_str() == *want, "{text} is {told}");
+    }
+    Ok(())
+}

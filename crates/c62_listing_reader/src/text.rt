@@ -1,0 +1,97 @@
+//! The lines of a text, with their ends.
+
+ghost use Rattle.std.specs.Prelude.{◌≡◌, ◌∷◌, [], ◌<◌, length, position, IfSome, MatchOption};
+ghost use Rattle.c62_read.specs.Text.{is_line_feed, without_return};
+ghost use Rattle.c62_listing_reader.specs.Text.{lines_in, content, ends_in_return, is_ended, is_empty, begin_filled};
+ghost use Rattle.c62_listing_reader.specs.Cut.{line_cut};
+
+/// A line that is cut off a text, and the text behind it.
+#[derive(Clone, Copy)]
+pub struct Cut<'a> {
+    bytes: &'a [u8],
+    /// Whether a line feed ends the line.
+    fed: bool,
+    pub rest: &'a [u8],
+}
+
+fn feed_in(text: &[u8]) -> Option<usize>
+    ensures value { result ≡ position is_line_feed text.now }
+    ensures within { IfSome result (λ place. place < length text.now) }
+{
+    text.iter().position(|b| *b == b'\n')
+}
+
+/// The first line of a text.
+pub fn first_line(text: &[u8]) -> Option<Cut<'_>>
+    ensures found { MatchOption result (lines_in text.now ≡ []) (λ cut. lines_in text.now ≡ line_cut cut ∷ lines_in cut.rest.now) }
+    ensures shorter { IfSome result (λ cut. length cut.rest.now < length text.now) }
+{
+    if text.is_empty() {
+        return None;
+    }
+    match feed_in(text) {
+        Some(end) => Some(Cut {
+            bytes: &text[..end],
+            fed: true,
+            rest: &text[end + 1..],
+        }),
+        None => Some(Cut {
+            bytes: text,
+            fed: false,
+            rest: &[],
+        }),
+    }
+}
+
+/// A line without the carriage return that stands last.
+#[tactic(auto, using(crate::proofs::TextLemmas::without_last))]
+fn without_return(line: &[u8]) -> &[u8]
+    ensures { result.now ≡ without_return line.now }
+{
+    match line.split_last() {
+        None => line,
+        Some((last, rest)) => { if *last == b'\r' { rest } else { line } }
+    }
+}
+
+#[tactic(auto, using(crate::proofs::TextLemmas::last_return))]
+fn ends_in_return(line: &[u8]) -> bool
+    ensures { result ≡ ends_in_return line.now }
+{
+    match line.split_last() {
+        None => false,
+        Some((last, _)) => *last == b'\r',
+    }
+}
+
+/// The line without its end.
+pub fn content<'a>(cut: &Cut<'a>) -> &'a [u8]
+    ensures { result.now ≡ content (line_cut cut.now) }
+{
+    if cut.fed {
+        without_return(cut.bytes)
+    } else {
+        cut.bytes
+    }
+}
+
+/// Whether a line feed alone ends the line.
+pub fn is_ended(cut: &Cut<'_>) -> bool
+    ensures { result ≡ is_ended (line_cut cut.now) }
+{
+    if cut.fed {
+        !ends_in_return(cut.bytes)
+    } else {
+        false
+    }
+}
+
+/// Whether a text begins with a line that is not empty.
+pub fn begins_filled(text: &[u8]) -> bool
+    ensures { result ≡ begin_filled (lines_in text.now) }
+{
+    match first_line(text) {
+        Some(cut) => !content(&cut).is_empty(),
+        None => false,
+    }
+}

@@ -1,0 +1,6 @@
+pub mod LengthLemmas
+pub mod PacketsLemmas
+pub mod RuleLemmas
+pub mod Broken
+pub mod Near
+pub mod OneFault

@@ -1,0 +1,45 @@
+-- What stands against a block that is written with so many cycles (docs/LISTING.md, "Faults of a block").
+use Rattle.std.specs.Prelude.{◌≡◌, ◌⊎◌, ℕ, ◌<◌, List}
+use Rattle.c62_insn.specs.Length.{length_of}
+use Rattle.c62_packet.specs.declared.placed.Placed.{Placed}
+use Rattle.c62_packet.specs.declared.fault.PacketRule.{PacketRule}
+use Rattle.c62_packet.specs.declared.fault.PacketRule.TheVariants.{P1, P2, P3, P4, P5}
+use Rattle.c62_packet.specs.declared.fault.BlockFault.{BlockFault}
+use Rattle.c62_packet.specs.declared.fault.BlockFault.TheVariants.{TwoBranches, NotDrained, Unlawful}
+use Rattle.c62_packet.specs.Packed.{Packed, issued, issues_of, HaveOneBranch, AreDrained, IsPacketBlock}
+use Rattle.c62_packet.specs.Rules.{IsKept}
+
+-- the cycles written are the block's length, and all lands before its end
+pub record HaveLength (cycles : ℕ) (placed : List Placed) : Type 0 where
+  pub own_length : cycles ≡ length_of (issues_of placed)
+  pub drained : AreDrained cycles placed
+
+abbrev pub rank_of : PacketRule → ℕ
+rank_of P1 = 0
+rank_of P2 = 1
+rank_of P3 = 2
+rank_of P4 = 3
+rank_of P5 = 4
+
+-- by cycle, and in a cycle in the order of the rules
+abbrev pub IsBefore : ℕ → PacketRule → ℕ → PacketRule → Type 0
+IsBefore cycle rule other next = (cycle < other) ⊎ ((cycle ≡ other) × (rank_of rule < rank_of next))
+
+-- the rule is broken in this cycle, and before that all are kept
+pub record IsFirstBroken (cycle : ℕ) (rule : PacketRule) (placed : List Placed) : Type 0 where
+  pub broken : IsKept rule cycle (issued placed) → ⊥
+  pub first : (earlier : ℕ) (other : PacketRule) → IsBefore earlier other cycle rule → IsKept other earlier (issued placed)
+
+-- the first fault: too many branches, then cycles that are not the length, then the packet rules
+abbrev pub IsFault : ℕ → List Placed → BlockFault → Type 0
+IsFault cycles placed TwoBranches = HaveOneBranch placed → ⊥
+IsFault cycles placed NotDrained = HaveOneBranch placed × (HaveLength cycles placed → ⊥)
+IsFault cycles placed (Unlawful cycle rule) = HaveOneBranch placed × HaveLength cycles placed × IsFirstBroken cycle rule placed
+
+-- a packet block has no fault
+abbrev pub HasNoFault : Packed → Type 0
+HasNoFault block = IsPacketBlock block → (fault : BlockFault) → IsFault block.cycles block.placed fault → ⊥
+
+-- instructions that are written with so many cycles have one fault at most
+abbrev pub HasOneFault : ℕ → List Placed → Type 0
+HasOneFault cycles placed = (fault other : BlockFault) → IsFault cycles placed fault → IsFault cycles placed other → fault ≡ other

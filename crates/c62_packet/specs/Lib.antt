@@ -1,0 +1,5 @@
+pub mod Packed
+pub mod Rules
+pub mod Fault
+pub mod Clash
+pub mod Packets

@@ -1,0 +1,107 @@
+//! Packet blocks.
+
+ghost use Rattle.std.specs.Prelude.{◌≡◌, ◌≤◌, length, Some, MatchResult};
+ghost use Rattle.std.specs.Option.{option_copied};
+ghost use Rattle.c62_packet.specs.Packed.{Packed, IsPacketBlock, IsInListingOrder, StandAsWritten};
+ghost use Rattle.c62_packet.specs.Fault.{IsFault};
+
+use crate::fault::BlockFault;
+use crate::length::{cycles_of, has_one_branch, is_drained};
+use crate::placed::Placed;
+use crate::rules::first_broken;
+use c62_read::Label;
+use std::marker::Model;
+
+/// A block of execute packets: its label, where it has one, its length in cycles, and its
+/// instructions in listing order, by cycle and in a cycle by unit. It keeps the packet rules in each
+/// cycle, has at most one branch, 256 instructions and 2,048 cycles, and nothing lands in the cycle
+/// of its length or later. The written unit of each instruction is the one that it stands on.
+#[derive(Drop)]
+pub struct PacketBlock {
+    label: Option<Label>,
+    cycles: u16,
+    placed: Vec<Placed>,
+}
+
+impl Model for PacketBlock {
+    ghost Value = { Packed };
+
+    ghost view = { λ block. record { label = block.label; cycles = block.cycles; placed = block.placed.items } };
+
+    ghost invariant = { λ block. IsPacketBlock (record { label = block.label; cycles = block.cycles; placed = block.placed.items }) };
+}
+
+impl PacketBlock {
+    /// The block of these instructions, written with so many cycles. They stand in listing order,
+    /// each with its unit written.
+    ///
+    /// # Errors
+    ///
+    /// The first of these: `TwoBranches` where there is more than one branch; `NotDrained` where
+    /// `cycles` is not the length of the block, or something lands in that cycle or later;
+    /// `Unlawful` where a packet rule is broken, with the least such cycle and there the first rule.
+    pub fn new(
+        label: Option<Label>,
+        cycles: u16,
+        placed: Vec<Placed>,
+    ) -> Result<PacketBlock, BlockFault>
+        requires few { length placed.items ≤ 256 }
+        requires short { cycles ≤ 2048 }
+        requires in_order { IsInListingOrder placed.items }
+        requires as_written { StandAsWritten placed.items }
+        ensures { MatchResult result
+            (λ block. (block ≡ record { label = label; cycles = cycles; placed = placed.items }) × IsPacketBlock block)
+            (λ fault. IsFault cycles placed.items fault) }
+    {
+        if !has_one_branch(&placed) {
+            return Err(BlockFault::TwoBranches);
+        }
+        if u32::from(cycles) != cycles_of(&placed) || !is_drained(cycles, &placed) {
+            return Err(BlockFault::NotDrained);
+        }
+        if let Some((cycle, rule)) = first_broken(&placed) {
+            return Err(BlockFault::Unlawful(cycle, rule));
+        }
+        Ok(PacketBlock {
+            label,
+            cycles,
+            placed,
+        })
+    }
+
+    /// The block of these instructions, which make one with so many cycles.
+    pub fn of_lawful(label: Option<Label>, cycles: u16, placed: Vec<Placed>) -> PacketBlock
+        requires { IsPacketBlock (record { label = label; cycles = cycles; placed = placed.items }) }
+        ensures { result ≡ record { label = label; cycles = cycles; placed = placed.items } }
+    {
+        PacketBlock {
+            label,
+            cycles,
+            placed,
+        }
+    }
+
+    /// The label, where the block has one.
+    pub fn label(&self) -> Option<&Label>
+        ensures { option_copied result ≡ self.now.label }
+    {
+        self.label.as_ref()
+    }
+
+    /// How many cycles the block takes: a branch takes effect six cycles after its issue, and
+    /// without one all has landed.
+    pub fn length(&self) -> u16
+        ensures same { result ≡ self.now.cycles }
+        ensures sound { IsPacketBlock self.now }
+    {
+        self.cycles
+    }
+
+    /// The instructions in listing order.
+    pub fn placed(&self) -> &[Placed]
+        ensures same { result.now ≡ self.now.placed }
+        ensures sound { IsPacketBlock self.now }
+    {
+        &self.placed
+    }
+}

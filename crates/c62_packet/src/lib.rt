@@ -1,0 +1,19 @@
+//! Blocks of execute packets that keep the packet rules, and lists of them.
+#![tactic(auto)]
+
+mod block;
+mod fault;
+pub mod laws;
+mod length;
+mod packets;
+mod placed;
+mod rules;
+
+pub use block::PacketBlock;
+pub use fault::{BlockFault, PacketRule};
+pub use length::cycles_of;
+pub use packets::Packets;
+pub use placed::Placed;
+
+#[cfg(test)]
+mod tests;

@@ -1,0 +1,107 @@
+//! Lists of packet blocks.
+
+ghost use Rattle.std.specs.Prelude.{◌≡◌, ◌<◌, ◌≤◌, ◌++◌, ◌∷◌, [], List, All, length, MatchResult, OnOk};
+ghost use Rattle.std.specs.List.{list_all};
+ghost use Rattle.c62_insn.specs.Insn.{operands_of};
+ghost use Rattle.c62_read.specs.Block.{target_stands};
+ghost use Rattle.c62_packet.specs.Packed.{Packed, IsPacketBlock};
+ghost use Rattle.c62_packet.specs.Packets.{labels_of, is_closed};
+
+use crate::block::PacketBlock;
+use crate::placed::Placed;
+use c62_insn::Operands;
+use std::alloc::{AllocError, Global};
+use std::marker::Model;
+
+/// At most 64 packet blocks, numbered from 0 in their order.
+#[derive(Drop)]
+pub struct Packets {
+    blocks: Vec<PacketBlock>,
+}
+
+impl Model for Packets {
+    ghost Value = { List Packed };
+
+    ghost view = { λ packets. packets.blocks.items };
+
+    ghost invariant = { λ packets. (length packets.blocks.items ≤ 64) × All IsPacketBlock packets.blocks.items };
+}
+
+impl Packets {
+    /// No blocks. This takes no memory.
+    pub fn new(alloc: Global) -> Packets
+        ensures { result ≡ [] }
+    {
+        Packets {
+            blocks: Vec::new(alloc),
+        }
+    }
+
+    /// How many blocks there are, at most 64.
+    pub fn len(&self) -> usize
+        ensures len { result ≡ length self.now }
+        ensures few { length self.now ≤ 64 }
+    {
+        self.blocks.len()
+    }
+
+    /// Appends a block.
+    ///
+    /// # Errors
+    ///
+    /// The block as it was, where memory ran out; the list is then unchanged.
+    pub fn push(&mut self, block: PacketBlock) -> Result<(), (PacketBlock, AllocError)>
+        requires { length self.old < 64 }
+        ensures { MatchResult result
+            (λ _. self.new ≡ self.old ++ block ∷ [])
+            (λ back. (back.0 ≡ block) × (self.new ≡ self.old)) }
+    {
+        let _ = block.length();
+        match self.blocks.push(block) {
+            Ok(()) => Ok(()),
+            Err(failed) => Err((failed.value, AllocError)),
+        }
+    }
+
+    /// The blocks in their order, each of which is a packet block.
+    pub fn blocks(&self) -> &[PacketBlock]
+        ensures same { result.now ≡ self.now }
+        ensures few { length self.now ≤ 64 }
+        ensures sound { All IsPacketBlock self.now }
+    {
+        &self.blocks
+    }
+
+    /// Whether every branch to a block goes to one that is there and has a label.
+    pub fn closed(&self) -> bool
+        ensures { result ≡ is_closed self.now }
+    {
+        let blocks = self.blocks();
+        blocks.iter().all(|block| is_closed_among(blocks, block))
+    }
+}
+
+/// Whether the branches of a block go to blocks that are there and have labels.
+fn is_closed_among(blocks: &[PacketBlock], block: &PacketBlock) -> bool
+    ensures { result ≡ list_all (λ p. target_stands (labels_of blocks.now) (operands_of p.insn)) block.now.placed }
+{
+    block
+        .placed()
+        .iter()
+        .all(|placed| target_stands(blocks, placed))
+}
+
+/// Whether the block that an instruction branches to, if any, is there and has a label.
+fn target_stands(blocks: &[PacketBlock], placed: &Placed) -> bool
+    ensures { result ≡ target_stands (labels_of blocks.now) (operands_of placed.now.insn) }
+{
+    match placed.insn.operands() {
+        Operands::Block(number) => {
+            match blocks.get(number as usize) {
+                Some(block) => block.label().is_some(),
+                None => false,
+            }
+        }
+        _ => true,
+    }
+}

@@ -1,0 +1,259 @@
+//! The first packet rule that placed instructions break.
+
+ghost use Rattle.std.specs.Prelude.{◌≡◌, ◌↔◌, ◌+◌, ◌<◌, ◌≤◌, All, drop, length, slice_get, Some, MatchOption};
+ghost use Rattle.std.specs.List.{list_any};
+ghost use Rattle.c62_insn.specs.PacketRules.{reads_count, reads_in, KeepsPacketRules};
+ghost use Rattle.c62_packet.specs.declared.placed.Placed.{Placed as Placement};
+ghost use Rattle.c62_packet.specs.Packed.{issue_of, issued, IsInListingOrder};
+ghost use Rattle.c62_packet.specs.Fault.{rank_of, IsFirstBroken};
+ghost use Rattle.c62_packet.specs.Clash.{shares_unit, crosses, shares_side, both_cross, shares_cross_path, same_path, shares_data_path, reads_beside, is_over_read, is_landing, lands, is_met, landing_beside, broken_beside, is_before, earlier, broken};
+
+use crate::fault::PacketRule;
+use crate::placed::Placed;
+use c62_insn::{Reg, Side};
+
+fn shares_unit(placed: &Placed, other: &Placed) -> bool
+    ensures { result ≡ shares_unit placed.now other.now }
+{
+    other.cycle == placed.cycle && other.unit == placed.unit
+}
+
+fn crosses(placed: &Placed) -> bool
+    ensures { result ≡ crosses placed.now }
+{
+    placed.insn.crosses(placed.unit)
+}
+
+fn shares_side(placed: &Placed, other: &Placed) -> bool
+    ensures { result ≡ shares_side placed.now other.now }
+{
+    other.cycle == placed.cycle && other.unit.side == placed.unit.side
+}
+
+fn both_cross(placed: &Placed, other: &Placed) -> bool
+    ensures { result ≡ both_cross placed.now other.now }
+{
+    crosses(placed) && crosses(other)
+}
+
+fn shares_cross_path(placed: &Placed, other: &Placed) -> bool
+    ensures { result ≡ shares_cross_path placed.now other.now }
+{
+    shares_side(placed, other) && both_cross(placed, other)
+}
+
+fn is_same_path(path: Option<Side>, other: Option<Side>) -> bool
+    ensures { result ≡ same_path path other }
+{
+    match (path, other) {
+        (Some(path), Some(other)) => path == other,
+        _ => false,
+    }
+}
+
+fn shares_data_path(placed: &Placed, other: &Placed) -> bool
+    ensures { result ≡ shares_data_path placed.now other.now }
+{
+    other.cycle == placed.cycle && is_same_path(other.insn.data_path(), placed.insn.data_path())
+}
+
+/// How often the operands of an instruction read a register.
+fn reads(placed: &Placed, reg: Reg) -> usize
+    ensures count { result ≡ reads_count reg placed.now.insn }
+    ensures few { result ≤ 3 }
+{
+    let reads = placed.insn.reads();
+    reads.as_slice().iter().filter(|read| **read == reg).count()
+}
+
+/// The same of one that is issued in this cycle, and 0 of others.
+fn reads_in(placed: &Placed, cycle: u16, reg: Reg) -> usize
+    ensures count { result ≡ reads_in cycle reg (Some (issue_of placed.now)) }
+    ensures few { result ≤ 3 }
+{
+    if placed.cycle == cycle {
+        reads(placed, reg)
+    } else {
+        0
+    }
+}
+
+/// How often a register is read in the cycle of an instruction, by it and by others.
+fn reads_beside(placed: &Placed, others: &[Placed], reg: Reg) -> usize
+    requires { length others.now ≤ 256 }
+    ensures { result ≡ reads_beside placed.now others.now reg }
+{
+    let mut count = reads(placed, reg);
+    for other in others {
+        count += reads_in(other, placed.cycle, reg);
+    }
+    count
+}
+
+/// Whether a register that an instruction reads is read more than four times in its cycle.
+fn is_over_read(placed: &Placed, others: &[Placed]) -> bool
+    requires { length others.now ≤ 256 }
+    ensures { result ≡ is_over_read placed.now others.now }
+{
+    let reads = placed.insn.reads();
+    reads
+        .as_slice()
+        .iter()
+        .any(|reg| 4 < reads_beside(placed, others, *reg))
+}
+
+/// Whether a write that is issued in one cycle lands in this register in another.
+fn is_landing(write: (Reg, u8), from: u16, reg: Reg, cycle: u32) -> bool
+    ensures { result ≡ is_landing from reg cycle write }
+{
+    write.0 == reg && u32::from(from) + u32::from(write.1) == cycle
+}
+
+/// Whether a write of the instruction lands in this register in this cycle.
+fn lands(placed: &Placed, reg: Reg, cycle: u32) -> bool
+    ensures { result ≡ lands reg cycle placed.now }
+{
+    let writes = placed.insn.writes();
+    writes
+        .as_slice()
+        .iter()
+        .any(|write| is_landing(*write, placed.cycle, reg, cycle))
+}
+
+/// Whether another write lands with this one.
+fn is_met(placed: &Placed, others: &[Placed], write: (Reg, u8)) -> bool
+    ensures { result ≡ is_met placed.now others.now write }
+{
+    let cycle = u32::from(placed.cycle) + u32::from(write.1);
+    others.iter().any(|other| lands(other, write.0, cycle))
+}
+
+/// The least cycle in which a write of the instruction lands with another.
+fn landing_beside(placed: &Placed, others: &[Placed]) -> Option<u16>
+    requires { placed.now.cycle < 2048 }
+    ensures { result ≡ landing_beside placed.now others.now }
+{
+    let writes = placed.insn.writes();
+    for write in writes.as_slice() {
+        if is_met(placed, others, *write) {
+            return Some(placed.cycle + u16::from(write.1));
+        }
+    }
+    None
+}
+
+/// Whether another stands on the unit of an instruction in its cycle.
+fn shares_a_unit(placed: &Placed, others: &[Placed]) -> bool
+    ensures { result ≡ list_any (shares_unit placed.now) others.now }
+{
+    others.iter().any(|other| shares_unit(placed, other))
+}
+
+/// Whether another uses the cross path of an instruction in its cycle.
+fn shares_a_cross_path(placed: &Placed, others: &[Placed]) -> bool
+    ensures { result ≡ list_any (shares_cross_path placed.now) others.now }
+{
+    others.iter().any(|other| shares_cross_path(placed, other))
+}
+
+/// Whether another uses the data path of an instruction in its cycle.
+fn shares_a_data_path(placed: &Placed, others: &[Placed]) -> bool
+    ensures { result ≡ list_any (shares_data_path placed.now) others.now }
+{
+    others.iter().any(|other| shares_data_path(placed, other))
+}
+
+/// The least cycle and there the first rule that an instruction breaks together with others.
+fn broken_beside(placed: &Placed, others: &[Placed]) -> Option<(u16, PacketRule)>
+    requires short { placed.now.cycle < 2048 }
+    requires few { length others.now ≤ 256 }
+    ensures { result ≡ broken_beside placed.now others.now }
+{
+    if shares_a_unit(placed, others) {
+        return Some((placed.cycle, PacketRule::P1));
+    }
+    if shares_a_cross_path(placed, others) {
+        return Some((placed.cycle, PacketRule::P2));
+    }
+    if shares_a_data_path(placed, others) {
+        return Some((placed.cycle, PacketRule::P3));
+    }
+    if is_over_read(placed, others) {
+        return Some((placed.cycle, PacketRule::P4));
+    }
+    match landing_beside(placed, others) {
+        Some(cycle) => Some((cycle, PacketRule::P5)),
+        None => None,
+    }
+}
+
+/// Those of the instructions behind one that may share a cycle or a landing with it.
+fn near(placed: &[Placed], at: usize) -> &[Placed]
+    requires at { at < length placed.now }
+    requires few { length placed.now ≤ 256 }
+    requires in_order { IsInListingOrder placed.now }
+    ensures same { (p : Placement) → slice_get placed.now at ≡ Some p → broken_beside p result.now ≡ broken_beside p (drop (at + 1) placed.now) }
+    ensures few { length result.now ≤ 256 }
+{
+    let rest = &placed[at + 1..];
+    let last = u32::from(placed[at].cycle) + 4;
+    let end = rest.partition_point(|other| u32::from(other.cycle) <= last);
+    &rest[..end]
+}
+
+fn rank(rule: PacketRule) -> u8
+    ensures { result ≡ rank_of rule }
+{
+    match rule {
+        PacketRule::P1 => 0,
+        PacketRule::P2 => 1,
+        PacketRule::P3 => 2,
+        PacketRule::P4 => 3,
+        PacketRule::P5 => 4,
+    }
+}
+
+fn is_before(found: (u16, PacketRule), other: (u16, PacketRule)) -> bool
+    ensures { result ≡ is_before found other }
+{
+    if found.0 == other.0 {
+        rank(found.1) < rank(other.1)
+    } else {
+        found.0 < other.0
+    }
+}
+
+fn earlier(
+    found: Option<(u16, PacketRule)>,
+    other: Option<(u16, PacketRule)>,
+) -> Option<(u16, PacketRule)>
+    ensures { result ≡ earlier found other }
+{
+    match (found, other) {
+        (None, other) => other,
+        (found, None) => found,
+        (Some(found), Some(other)) => {
+            if is_before(other, found) {
+                Some(other)
+            } else {
+                Some(found)
+            }
+        }
+    }
+}
+
+/// The least cycle in which a packet rule is broken, and there the first rule.
+pub fn first_broken(placed: &[Placed]) -> Option<(u16, PacketRule)>
+    requires few { length placed.now ≤ 256 }
+    requires short { All (λ p. p.cycle < 2048) placed.now }
+    requires in_order { IsInListingOrder placed.now }
+    ensures { MatchOption result (KeepsPacketRules (issued placed.now)) (λ found. IsFirstBroken found.0 found.1 placed.now) }
+{
+    let mut found = None;
+    let mut at = placed.len();
+    while at > 0 {
+        at -= 1;
+        found = earlier(found, broken_beside(&placed[at], near(placed, at)));
+    }
+    found
+}
