@@ -1,0 +1,10 @@
+pub mod Lookup
+pub mod Upto
+pub mod Acting
+pub mod Landings
+pub mod Core
+pub mod Base
+pub mod Runs
+pub mod Ends
+pub mod Faulted
+pub mod Main

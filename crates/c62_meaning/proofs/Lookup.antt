@@ -1,0 +1,220 @@
+-- Lookups: the last write in a list, and the one of greatest time, are one where the list is in the order of time.
+use Rattle.std.proofs.Common.{◌≡◌, ℕ, zero, suc, length, ◌<◌, ◌≤◌, cond, eqb, ltb, ◌&&◌, List, [], ◌∷◌, ◌++◌, Some, None, refl, sym, ◌∙◌, ap, subst, ◌⊎◌, inl, inr, ⊎_elim, arith}
+use Rattle.std.proofs.lemmas.Bool.{cases_Bool, and_parts, eqb-true, ltb-true, eq-eqb, lt-ltb, le-ltb, cases_lt, cases_eq, cond-true, cond-false, and_from, ne_eqb, false≢true, and_right}
+use Rattle.std.specs.List.{flat_map, Contains}
+use Rattle.c62_meaning.specs.Landing.{Landing, later, latest, value_or}
+
+abbrev pub In : {X : Type 0} → X → List X → Type 0
+In x [] = ⊥
+In x (y ∷ ys) = (y ≡ x) ⊎ In x ys
+
+pub In_from_Contains : {X : Type 0} → (x : X) (xs : List X) → Contains xs x → In x xs
+In_from_Contains x [] (k, l, e) = absurd (omega arith)
+In_from_Contains x (y ∷ ys) (zero, l, e) = inl e
+In_from_Contains x (y ∷ ys) (suc k, l, e) = inr (In_from_Contains x ys (k, omega arith, e))
+
+pub Contains_from_In : {X : Type 0} → (x : X) (xs : List X) → In x xs → Contains xs x
+Contains_from_In x [] h = absurd h
+Contains_from_In x (y ∷ ys) (inl e) = (0, omega arith, e)
+Contains_from_In x (y ∷ ys) (inr h) = let r = Contains_from_In x ys h in let l : r.0 < length ys = r.1 in (suc r.0, omega arith, r.2)
+
+pub In-append_left : {X : Type 0} → (x : X) (xs ys : List X) → In x xs → In x (xs ++ ys)
+In-append_left x [] ys h = absurd h
+In-append_left x (y ∷ xs) ys (inl e) = inl e
+In-append_left x (y ∷ xs) ys (inr h) = inr (In-append_left x xs ys h)
+
+pub In-append_right : {X : Type 0} → (x : X) (xs ys : List X) → In x ys → In x (xs ++ ys)
+In-append_right x [] ys h = h
+In-append_right x (y ∷ xs) ys h = inr (In-append_right x xs ys h)
+
+pub In-append_cases : {X : Type 0} → (x : X) (xs ys : List X) → In x (xs ++ ys) → In x xs ⊎ In x ys
+In-append_cases x [] ys h = inr h
+In-append_cases x (y ∷ xs) ys (inl e) = inl (inl e)
+In-append_cases x (y ∷ xs) ys (inr h) = ⊎_elim (λ a. inl (inr a)) (λ b. inr b) (In-append_cases x xs ys h)
+
+pub In-flat_map : {X Y : Type 0} → (f : X → List Y) (y : Y) (x : X) (xs : List X) → In x xs → In y (f x) → In y (flat_map f xs)
+In-flat_map f y x [] h k = absurd h
+In-flat_map f y x (z ∷ xs) (inl e) k = In-append_left y (f z) (flat_map f xs) (subst (λ v. In y (f v)) (sym e) k)
+In-flat_map f y x (z ∷ xs) (inr h) k = In-append_right y (f z) (flat_map f xs) (In-flat_map f y x xs h k)
+
+pub from_In-flat_map : {X Y : Type 0} → (f : X → List Y) (y : Y) (xs : List X) → In y (flat_map f xs) → (x : X) × In x xs × In y (f x)
+from_In-flat_map f y [] h = absurd h
+from_In-flat_map f y (z ∷ xs) h =
+    ⊎_elim (λ a. (z, inl refl, a)) (λ b. let r = from_In-flat_map f y xs b in (r.0, inr r.1, r.2)) (In-append_cases y (f z) (flat_map f xs) h)
+
+-- w is the landing at this place before t of the greatest time
+pub record IsLatest (place t : ℕ) (ls : List Landing) (w : Landing) : Type 0 where
+  pub inside : In w ls
+  pub here : w.place ≡ place
+  pub early : w.time < t
+  pub last : (v : Landing) → In v ls → v.place ≡ place → v.time < t → v.time ≤ w.time
+
+abbrev pub NoneBefore : ℕ → ℕ → List Landing → Type 0
+NoneBefore place t ls = (v : Landing) → In v ls → v.place ≡ place → v.time < t → ⊥
+
+abbrev pub LatestCases : ℕ → ℕ → List Landing → Type 0
+LatestCases place t ls = (NoneBefore place t ls × (latest place t ls ≡ None)) ⊎ ((w : Landing) × IsLatest place t ls w × (latest place t ls ≡ Some w))
+
+latest_skip : (place t : ℕ) (x : Landing) (xs : List Landing) → (x.place ≡ place → x.time < t → ⊥) → latest place t (x ∷ xs) ≡ latest place t xs → LatestCases place t xs → LatestCases place t (x ∷ xs)
+latest_skip place t x xs out same (inl (none, e)) =
+    inl ((λ v h p l. ⊎_elim (λ q. out (ap (λ (u : Landing). u.place) q ∙ p) (subst (λ (u : Landing). u.time < t) (sym q) l)) (λ k. none v k p l) h), same ∙ e)
+latest_skip place t x xs out same (inr (w, i, e)) =
+    inr (
+      w,
+      record {
+        inside = inr i.inside;
+        here = i.here;
+        early = i.early;
+        last = λ v h p l. ⊎_elim (λ q. absurd (out (ap (λ (u : Landing). u.place) q ∙ p) (subst (λ (u : Landing). u.time < t) (sym q) l))) (λ k. i.last v k p l) h;
+      },
+      same ∙ e,
+    )
+
+latest_take : (place t : ℕ) (x : Landing) (xs : List Landing) → x.place ≡ place → x.time < t → latest place t (x ∷ xs) ≡ Some (later x (latest place t xs)) → LatestCases place t xs → LatestCases place t (x ∷ xs)
+latest_take place t x xs here early same (inl (none, e)) =
+    inr (
+      x,
+      record {
+        inside = inl refl;
+        here = here;
+        early = early;
+        last = λ v h p l. ⊎_elim (λ q. subst (λ (u : Landing). u.time ≤ x.time) q (omega arith)) (λ k. absurd (none v k p l)) h;
+      },
+      same ∙ ap (λ o. Some (later x o)) e,
+    )
+latest_take place t x xs here early same (inr (w, i, e)) =
+    ⊎_elim
+    (λ lt. inr (
+      x,
+      record {
+        inside = inl refl;
+        here = here;
+        early = early;
+        last = λ v h p l. ⊎_elim (λ q. subst (λ (u : Landing). u.time ≤ x.time) q (omega arith)) (λ k. let m = i.last v k p l in omega arith) h;
+      },
+      same ∙ ap (λ o. Some (later x o)) e ∙ ap Some (cond-true _ x w (lt-ltb _ _ lt)),
+    ))
+    (λ ge. inr (
+      w,
+      record {
+        inside = inr i.inside;
+        here = i.here;
+        early = i.early;
+        last = λ v h p l. ⊎_elim (λ q. subst (λ (u : Landing). u.time ≤ w.time) q ge) (λ k. i.last v k p l) h;
+      },
+      same ∙ ap (λ o. Some (later x o)) e ∙ ap Some (cond-false _ x w (le-ltb _ _ ge)),
+    ))
+    (cases_lt w.time x.time)
+
+pub latest_cases : (place t : ℕ) (ls : List Landing) → LatestCases place t ls
+latest_cases place t [] = inl ((λ v h p l. h), refl)
+latest_cases place t (x ∷ xs) =
+    ⊎_elim
+    (λ e. let b = and_parts _ _ e in latest_take place t x xs (eqb-true _ _ b.0) (ltb-true _ _ b.1) (cond-true _ _ _ e) (latest_cases place t xs))
+    (λ e. latest_skip place t x xs (λ p l. false≢true (sym e ∙ and_from _ _ (eq-eqb _ _ p) (lt-ltb _ _ l))) (cond-false _ _ _ e) (latest_cases place t xs))
+    (cases_Bool (eqb x.place place && ltb x.time t))
+
+-- the value that the writes leave at a place
+abbrev pub last_value : ℕ → List Landing → ℕ → ℕ
+last_value place [] old = old
+last_value place (w ∷ ws) old = last_value place ws (cond (eqb w.place place) w.value old)
+
+-- the writes of this place come in the order of time
+abbrev pub InOrder : ℕ → List Landing → Type 0
+InOrder place [] = Unit {0}
+InOrder place (w ∷ ws) = ((v : Landing) → In v ws → w.place ≡ place → v.place ≡ place → w.time < v.time) × InOrder place ws
+
+pub record IsLast (place : ℕ) (ls : List Landing) (w : Landing) : Type 0 where
+  pub inside : In w ls
+  pub here : w.place ≡ place
+  pub last : (v : Landing) → In v ls → v.place ≡ place → (v.time < w.time) ⊎ (v ≡ w)
+
+abbrev pub LastCases : ℕ → List Landing → ℕ → Type 0
+LastCases place ls old = (((v : Landing) → In v ls → v.place ≡ place → ⊥) × (last_value place ls old ≡ old)) ⊎ ((w : Landing) × IsLast place ls w × (last_value place ls old ≡ w.value))
+
+last_cases : (place : ℕ) (ls : List Landing) (old : ℕ) → InOrder place ls → LastCases place ls old
+last_cases place [] old o = inl ((λ v h p. h), refl)
+last_cases place (x ∷ xs) old o =
+    ⊎_elim
+    (λ p. last_take place x xs old p o (last_cases place xs x.value o.1))
+    (λ p. last_skip place x xs old p (last_cases place xs old o.1))
+    (cases_eq x.place place)
+  where
+    last_take : (place : ℕ) (x : Landing) (xs : List Landing) (old : ℕ) → x.place ≡ place → InOrder place (x ∷ xs) → LastCases place xs x.value → LastCases place (x ∷ xs) old
+    last_take place x xs old here o (inl (none, e)) =
+        inr (
+          x,
+          record {
+            inside = inl refl;
+            here = here;
+            last = λ v h p. ⊎_elim (λ q. inr (sym q)) (λ k. absurd (none v k p)) h;
+          },
+          ap (λ u. last_value place xs u) (cond-true _ _ _ (eq-eqb _ _ here)) ∙ e,
+        )
+    last_take place x xs old here o (inr (w, i, e)) =
+        inr (
+          w,
+          record {
+            inside = inr i.inside;
+            here = i.here;
+            last = λ v h p. ⊎_elim (λ q. inl (subst (λ (u : Landing). u.time < w.time) q (o.0 w i.inside here i.here))) (λ k. i.last v k p) h;
+          },
+          ap (λ u. last_value place xs u) (cond-true _ _ _ (eq-eqb _ _ here)) ∙ e,
+        )
+
+    last_skip : (place : ℕ) (x : Landing) (xs : List Landing) (old : ℕ) → (x.place ≡ place → ⊥) → LastCases place xs old → LastCases place (x ∷ xs) old
+    last_skip place x xs old out (inl (none, e)) =
+        inl ((λ v h p. ⊎_elim (λ q. out (ap (λ (u : Landing). u.place) q ∙ p)) (λ k. none v k p) h), ap (λ u. last_value place xs u) (cond-false _ _ _ (ne_eqb _ _ out)) ∙ e)
+    last_skip place x xs old out (inr (w, i, e)) =
+        inr (
+          w,
+          record {
+            inside = inr i.inside;
+            here = i.here;
+            last = λ v h p. ⊎_elim (λ q. absurd (out (ap (λ (u : Landing). u.place) q ∙ p))) (λ k. i.last v k p) h;
+          },
+          ap (λ u. last_value place xs u) (cond-false _ _ _ (ne_eqb _ _ out)) ∙ e,
+        )
+
+-- Of writes `ls` in serial order, and landings `ms` of which those before t are the same ones, the greatest is the last.
+pub record IsSeen (place t : ℕ) (ls ms : List Landing) : Type 0 where
+  pub in_order : InOrder place ls
+  pub in_time : (w : Landing) → In w ls → w.place ≡ place → w.time < t
+  pub landed : (w : Landing) → In w ls → w.place ≡ place → w.time < t → In w ms
+  pub no_other : (w : Landing) → In w ms → w.place ≡ place → w.time < t → In w ls
+
+pub latest_is_last : (place t : ℕ) (ls ms : List Landing) (old : ℕ) → IsSeen place t ls ms → value_or (latest place t ms) old ≡ last_value place ls old
+latest_is_last place t ls ms old s = go (latest_cases place t ms) (last_cases place ls old s.in_order)
+  where
+    go : LatestCases place t ms → LastCases place ls old → value_or (latest place t ms) old ≡ last_value place ls old
+    go (inl (none, e)) (inl (none', e')) = rw e (sym e')
+    go (inl (none, e)) (inr (w, i, e')) =
+        absurd (none w (s.landed w i.inside i.here (s.in_time w i.inside i.here)) i.here (s.in_time w i.inside i.here))
+    go (inr (v, j, e)) (inl (none, e')) = absurd (none v (s.no_other v j.inside j.here j.early) j.here)
+    go (inr (v, j, e)) (inr (w, i, e')) =
+        let early : w.time < t = s.in_time w i.inside i.here in
+        let top : w.time ≤ v.time = j.last w (s.landed w i.inside i.here early) i.here early in
+        let same : v ≡ w = ⊎_elim {C = v ≡ w} (λ lt. absurd (omega arith)) (λ q. q) (i.last v (s.no_other v j.inside j.here j.early) j.here) in
+        rw e (ap (λ (u : Landing). u.value) same ∙ sym e')
+
+pub last_value-append : (place : ℕ) (ls ms : List Landing) (old : ℕ) → last_value place (ls ++ ms) old ≡ last_value place ms (last_value place ls old)
+last_value-append place [] ms old = refl
+last_value-append place (x ∷ xs) ms old = last_value-append place xs ms (cond (eqb x.place place) x.value old)
+
+pub InOrder-append : (place : ℕ) (ls ms : List Landing) → InOrder place ls → InOrder place ms → ((v w : Landing) → In v ls → In w ms → v.place ≡ place → w.place ≡ place → v.time < w.time) → InOrder place (ls ++ ms)
+InOrder-append place [] ms o p h = p
+InOrder-append place (x ∷ xs) ms o p h = (
+  (λ v k a b. ⊎_elim (λ c. o.0 v c a b) (λ c. h x v (inl refl) c a b) (In-append_cases v xs ms k)),
+  InOrder-append place xs ms o.1 p (λ v w a b. h v w (inr a) b),
+)
+
+-- A lookup sees only the landings before t.
+pub latest-append : (place t : ℕ) (ls ms ns : List Landing) → latest place t ms ≡ latest place t ns → latest place t (ls ++ ms) ≡ latest place t (ls ++ ns)
+latest-append place t [] ms ns e = e
+latest-append place t (x ∷ xs) ms ns e =
+    ap (λ o. cond (eqb x.place place && ltb x.time t) (Some (later x o)) o) (latest-append place t xs ms ns e)
+
+pub latest-late : (place t : ℕ) (ls ms : List Landing) → ((w : Landing) → In w ls → t ≤ w.time) → latest place t (ls ++ ms) ≡ latest place t ms
+latest-late place t [] ms h = refl
+latest-late place t (x ∷ xs) ms h =
+    cond-false _ _ _ (and_right _ _ (le-ltb _ _ (h x (inl refl)))) ∙ latest-late place t xs ms (λ w k. h w (inr k))

@@ -1,0 +1,59 @@
+-- The writes of the instructions below a number, one after the other.
+use Rattle.std.proofs.Common.{◌≡◌, ℕ, zero, suc, ◌<◌, ◌≤◌, List, [], ◌++◌, subst, ⊎_elim, arith}
+use Rattle.std.proofs.lemmas.Bool.{cases_lt, cases_eq}
+use Rattle.c62_meaning.specs.Landing.{Landing, value_before}
+use Rattle.c62_meaning.proofs.Lookup.{In, In-append_left, In-append_right, In-append_cases, last_value, InOrder, InOrder-append, latest_is_last}
+
+abbrev pub upto : (ℕ → List Landing) → ℕ → List Landing
+upto f zero = []
+upto f (suc i) = upto f i ++ f i
+
+pub from_In-upto : (f : ℕ → List Landing) (i : ℕ) (w : Landing) → In w (upto f i) → (j : ℕ) × (j < i) × In w (f j)
+from_In-upto f zero w h = absurd h
+from_In-upto f (suc i) w h =
+    ⊎_elim (λ a. let r = from_In-upto f i w a in let l : r.0 < i = r.1 in (r.0, omega arith, r.2)) (λ b. (i, omega arith, b)) (In-append_cases w (upto f i) (f i) h)
+
+pub In-upto : (f : ℕ → List Landing) (i j : ℕ) (w : Landing) → j < i → In w (f j) → In w (upto f i)
+In-upto f zero j w l h = absurd (omega arith)
+In-upto f (suc i) j w l h =
+    ⊎_elim
+    (λ e. In-append_right w (upto f i) (f i) (subst (λ k. In w (f k)) e h))
+    (λ ne. In-append_left w (upto f i) (f i) (In-upto f i j w (omega arith) h))
+    (cases_eq j i)
+
+-- The writes of one place, of instructions in serial order, come in the order of time.
+pub record AreOrdered (f : ℕ → List Landing) (n place : ℕ) : Type 0 where
+  pub own : (j : ℕ) → j < n → InOrder place (f j)
+  pub ordered : (j k : ℕ) (v w : Landing) → j < k → k < n → In v (f j) → In w (f k) → v.place ≡ place → w.place ≡ place → v.time < w.time
+
+pub InOrder-upto : (f : ℕ → List Landing) (n place i : ℕ) → AreOrdered f n place → i ≤ n → InOrder place (upto f i)
+InOrder-upto f n place zero o l = tt
+InOrder-upto f n place (suc i) o l =
+    InOrder-append place (upto f i) (f i) (InOrder-upto f n place i o (omega arith)) (o.own i (omega arith))
+    (λ v w a b p q. let r = from_In-upto f i v a in o.ordered r.0 i v w r.1 (omega arith) r.2 b p q)
+
+-- What a reader at the number i and the time t can see: the writes before it have landed, and those from it on have not.
+pub record IsReadAt (f : ℕ → List Landing) (n place i t : ℕ) : Type 0 where
+  pub below : i ≤ n
+  pub before : (j : ℕ) (w : Landing) → j < i → In w (f j) → w.place ≡ place → w.time < t
+  pub after : (j : ℕ) (w : Landing) → i ≤ j → j < n → In w (f j) → w.place ≡ place → t ≤ w.time
+
+-- The landings `ms` before t are those of f.
+pub record AreThose (f : ℕ → List Landing) (n t : ℕ) (ms : List Landing) : Type 0 where
+  pub there : (j : ℕ) (w : Landing) → j < n → In w (f j) → w.time < t → In w ms
+  pub no_other : (w : Landing) → In w ms → w.time < t → (j : ℕ) × (j < n) × In w (f j)
+
+pub lookup : (f : ℕ → List Landing) (n place i t : ℕ) (ms : List Landing) (old : ℕ) → AreOrdered f n place → IsReadAt f n place i t → AreThose f n t ms → value_before place t ms old ≡ last_value place (upto f i) old
+lookup f n place i t ms old o r a = latest_is_last place t (upto f i) ms old (record {
+  in_order = InOrder-upto f n place i o r.below;
+  in_time = λ w h p. let s = from_In-upto f i w h in r.before s.0 w s.1 s.2 p;
+  landed = λ w h p l. let s = from_In-upto f i w h in let k : s.0 < i = s.1 in let b : i ≤ n = r.below in a.there s.0 w (omega arith) s.2 l;
+  no_other = λ w h p l. seen w p l (a.no_other w h l);
+})
+  where
+    seen : (w : Landing) → w.place ≡ place → w.time < t → (j : ℕ) × (j < n) × In w (f j) → In w (upto f i)
+    seen w p l (j, k, h) =
+        ⊎_elim
+        (λ lt. In-upto f i j w lt h)
+        (λ ge. let late : t ≤ w.time = r.after j w ge k h p in absurd (omega arith))
+        (cases_lt j i)

@@ -1,0 +1,5 @@
+use Rattle.c62_meaning.proofs.Acting.{same_act}
+use Rattle.c62_meaning.proofs.laws.acts_alike_on_all_units.Goals as goal
+
+pub returns : goal.returns
+returns c = same_act

@@ -1,0 +1,54 @@
+-- What packet meaning amounts to, as laws above its definition.
+use Rattle.std.specs.Prelude.{◌≡◌, ◌↔◌, ℕ, ◌≤ℤ◌, ◌+ℤ◌, ℤ, pos, List, length, map, Contains, slice_get, Some}
+use Rattle.c62_insn.specs.declared.insn.Insn.{Insn}
+use Rattle.c62_insn.specs.Insn.{op_of, operands_of, cond_of}
+use Rattle.c62_insn.specs.Dependence.{Bounds}
+use Rattle.c62_insn.specs.Length.{length_of}
+use Rattle.c62_read.specs.declared.block.SerialInsn.{SerialInsn}
+use Rattle.c62_serial.specs.State.{Machine, IsSound}
+use Rattle.c62_serial.specs.Serial.{Ran, serial}
+use Rattle.c62_packet.specs.declared.placed.Placed.{Placed}
+use Rattle.c62_packet.specs.Packed.{issues_of}
+use Rattle.c62_meaning.specs.Meaning.{IsMeaning}
+
+-- ---- one meaning
+
+-- every block of packets has a meaning, and no two
+pub record HasOneMeaning (block : List Placed) (cycles : ℕ) (opening : Machine) : Type 0 where
+  pub ran : Ran
+  pub is : IsMeaning block cycles opening ran
+  pub only : (other : Ran) → IsMeaning block cycles opening other → other ≡ ran
+
+-- ---- packets are serial
+
+-- the same instruction, whichever unit is written
+pub record IsSameInsn (one other : Insn) : Type 0 where
+  pub op : op_of one ≡ op_of other
+  pub operands : operands_of one ≡ operands_of other
+  pub cond : cond_of one ≡ cond_of other
+
+-- an instruction of a block stands in its packets
+pub record StandsAs (entry : SerialInsn) (p : Placed) : Type 0 where
+  pub insn : IsSameInsn entry.insn p.insn
+  pub line : entry.line ≡ p.line
+
+-- The instructions of a block, placed, in serial order. Whatever bounds the distance of two of them is kept.
+pub record IsPlacing (insns : List SerialInsn) (placed : List Placed) : Type 0 where
+  pub count : length placed ≡ length insns
+  pub stands : (i : ℕ) (entry : SerialInsn) (p : Placed) → slice_get insns i ≡ Some entry → slice_get placed i ≡ Some p → StandsAs entry p
+  pub keeps : (i j : ℕ) (p q : Placed) (bound : ℤ) → slice_get placed i ≡ Some p → slice_get placed j ≡ Some q
+      → Bounds (map (λ entry. entry.insn) insns) i j bound → (pos p.cycle +ℤ bound) ≤ℤ pos q.cycle
+
+-- a block of packets holds the instructions of a serial block so placed, in any order
+pub record IsPacked (insns : List SerialInsn) (block : List Placed) : Type 0 where
+  pub placed : List Placed
+  pub placing : IsPlacing insns placed
+  pub members : (p : Placed) → Contains block p ↔ Contains placed p
+
+-- the cycles that a block of packets takes
+abbrev pub cycles_of : List Placed → ℕ
+cycles_of block = length_of (issues_of block)
+
+-- from every machine the packets leave what the serial block leaves, and go on where it does
+abbrev pub AreSerial : List SerialInsn → List Placed → Type 0
+AreSerial insns block = (opening : Machine) (ran : Ran) → IsSound opening → IsMeaning block (cycles_of block) opening ran ↔ (ran ≡ serial insns opening)

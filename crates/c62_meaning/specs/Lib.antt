@@ -1,0 +1,4 @@
+pub mod Landing
+pub mod Packet
+pub mod Meaning
+pub mod Laws

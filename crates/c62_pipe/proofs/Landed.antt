@@ -1,0 +1,239 @@
+-- Registers and memory at the end of a cycle.
+use Rattle.std.proofs.Common.{◌≡◌, ℕ, zero, suc, ◌+◌, ◌*◌, ◌<◌, ◌≤◌, Bool, true, false, List, [], ◌∷◌, ◌++◌, length, get_or, set, map, take, drop, cond, eqb, ltb, ◌&&◌, Option, Some, None, refl, sym, ◌∙◌, ap, subst, ◌⊎◌, inl, inr, ⊎_elim, arith}
+use Rattle.std.specs.Prelude.{fold}
+use Rattle.std.specs.List.{flat_map}
+use Rattle.std.proofs.lemmas.Bool.{cases_eq, cases_order, cond-true, cond-false, eq-eqb, ne_eqb, eqb-true, lt-ltb, le-ltb, and_parts, and_right}
+use Rattle.std.proofs.lemmas.List.{length-set, get_or-set_other, take-append-drop}
+use Rattle.std.proofs.lemmas.Grind.{get_or-set_at, flat_map-append}
+use Rattle.c62_insn.specs.declared.register.Reg.{Reg}
+use Rattle.c62_insn.specs.Units.{index_of as unit_index}
+use Rattle.c62_insn.proofs.UnitOrder.{index_of-below}
+use Rattle.c62_serial.specs.State.{Machine, index_of, word_in, byte_in}
+use Rattle.c62_packet.specs.declared.placed.Placed.{Placed}
+use Rattle.c62_packet.specs.Packed.{listing_place}
+use Rattle.c62_meaning.specs.Landing.{Landing, later, latest, value_or, value_before}
+use Rattle.c62_meaning.specs.Packet.{Did, write_landing, access_landings, access_time, register_landings, memory_landings, word_before, byte_before}
+use Rattle.c62_meaning.proofs.Lookup.{In, In-flat_map, from_In-flat_map, In-append_left, latest_cases, LatestCases, last_value, InOrder, InOrder-append, latest_is_last}
+use Rattle.c62_meaning.proofs.Landings.{from_In-writes, from_In-access, InOrder-access}
+use Rattle.c62_pipe.specs.Flight.{Slot, landed}
+use Rattle.c62_pipe.proofs.Order.{Ascends, In-take, In-parts, parts_at}
+use Rattle.c62_pipe.proofs.Slots.{due_of, due_in}
+
+-- ---- landings at one time
+
+abbrev or_else : Option Landing → Option Landing → Option Landing
+or_else (Some w) o = Some w
+or_else None o = o
+
+-- of the landings at this place and time, the last in the list
+abbrev last_at : ℕ → ℕ → List Landing → Option Landing
+last_at place t [] = None
+last_at place t (w ∷ ws) = or_else (last_at place t ws) (cond (eqb w.place place && eqb w.time t) (Some w) None)
+
+or_none : (o : Option Landing) → or_else o None ≡ o
+or_none None = refl
+or_none (Some w) = refl
+
+value_or_else : (o p : Option Landing) (old : ℕ) → value_or (or_else o p) old ≡ value_or o (value_or p old)
+value_or_else None p old = refl
+value_or_else (Some w) p old = refl
+
+time_of_last : (place t : ℕ) (x w : Landing) (o : Option Landing) → ((v : Landing) → o ≡ Some v → v.time ≡ t) → (b : Bool) → (eqb x.place place && eqb x.time t) ≡ b
+    → or_else o (cond b (Some x) None) ≡ Some w → w.time ≡ t
+time_of_last place t x w (Some v) rest b h e = rest w e
+time_of_last place t x w None rest true h e =
+    let same : x ≡ w = cc in ap (λ (u : Landing). u.time) (sym same) ∙ eqb-true x.time t (and_parts (eqb x.place place) (eqb x.time t) h).1
+time_of_last place t x w None rest false h e = cc
+
+last_at_time : (place t : ℕ) (ls : List Landing) (w : Landing) → last_at place t ls ≡ Some w → w.time ≡ t
+last_at_time place t [] w e = cc
+last_at_time place t (x ∷ xs) w e = time_of_last place t x w (last_at place t xs) (λ v h. last_at_time place t xs v h) (eqb x.place place && eqb x.time t) refl e
+
+latest_time : (place t : ℕ) (ls : List Landing) (y : Landing) → latest place t ls ≡ Some y → y.time < t
+latest_time place t ls y e = go (latest_cases place t ls)
+  where
+    go : LatestCases place t ls → y.time < t
+    go (inl (none, q)) = cc
+    go (inr (w, i, q)) = let same : w ≡ y = cc in subst (λ (u : Landing). u.time < t) same i.early
+
+merge_early : (x : Landing) (a l : Option Landing) → ((v : Landing) → a ≡ Some v → x.time ≤ v.time) → Some (later x (or_else a l)) ≡ or_else a (Some (later x l))
+merge_early x (Some v) l h = ap Some (cond-false _ x v (le-ltb v.time x.time (h v refl)))
+merge_early x None l h = refl
+
+merge_now : (x : Landing) (a l : Option Landing) → ((v : Landing) → a ≡ Some v → x.time ≤ v.time) → ((y : Landing) → l ≡ Some y → y.time < x.time)
+    → Some (later x (or_else a l)) ≡ or_else a (Some x)
+merge_now x (Some v) l h k = ap Some (cond-false _ x v (le-ltb v.time x.time (h v refl)))
+merge_now x None None h k = refl
+merge_now x None (Some y) h k = ap Some (cond-true _ x y (lt-ltb y.time x.time (k y refl)))
+
+-- one landing more before the next time
+head_next : (place t : ℕ) (x : Landing) (xs : List Landing) → (latest place (suc t) xs ≡ or_else (last_at place t xs) (latest place t xs)) → (x.place ≡ place) ⊎ (x.place ≡ place → ⊥)
+    → (x.time < t) ⊎ ((x.time ≡ t) ⊎ (t < x.time)) → latest place (suc t) (x ∷ xs) ≡ or_else (last_at place t (x ∷ xs)) (latest place t (x ∷ xs))
+head_next place t x xs rest (inr ne) order =
+    let p : eqb x.place place ≡ false = ne_eqb _ _ ne in
+    rw p (rest ∙ ap (λ o. or_else o (latest place t xs)) (sym (or_none (last_at place t xs))))
+head_next place t x xs rest (inl e) (inl lt) =
+    let p : eqb x.place place ≡ true = eq-eqb _ _ e in
+    let q : ltb x.time (suc t) ≡ true = lt-ltb _ _ (omega arith) in
+    let r : ltb x.time t ≡ true = lt-ltb _ _ lt in
+    let s : eqb x.time t ≡ false = ne_eqb _ _ (λ (f : x.time ≡ t). omega arith) in
+    rw (p, q, r, s) (
+    ap (λ o. Some (later x o)) rest
+    ∙ merge_early x (last_at place t xs) (latest place t xs) (λ v h. let f : v.time ≡ t = last_at_time place t xs v h in omega arith)
+    ∙ ap (λ o. or_else o (Some (later x (latest place t xs)))) (sym (or_none (last_at place t xs))))
+head_next place t x xs rest (inl e) (inr (inl at)) =
+    let p : eqb x.place place ≡ true = eq-eqb _ _ e in
+    let q : ltb x.time (suc t) ≡ true = lt-ltb _ _ (omega arith) in
+    let r : ltb x.time t ≡ false = le-ltb _ _ (omega arith) in
+    let s : eqb x.time t ≡ true = eq-eqb _ _ at in
+    rw (p, q, r, s) (
+    ap (λ o. Some (later x o)) rest
+    ∙ merge_now x (last_at place t xs) (latest place t xs) (λ v h. let f : v.time ≡ t = last_at_time place t xs v h in omega arith)
+    (λ y h. let f : y.time < t = latest_time place t xs y h in omega arith)
+    ∙ sym (some_else (last_at place t xs)))
+  where
+    some_else : (o : Option Landing) → or_else (or_else o (Some x)) (latest place t xs) ≡ or_else o (Some x)
+    some_else None = refl
+    some_else (Some v) = refl
+head_next place t x xs rest (inl e) (inr (inr gt)) =
+    let p : eqb x.place place ≡ true = eq-eqb _ _ e in
+    let q : ltb x.time (suc t) ≡ false = le-ltb _ _ (omega arith) in
+    let r : ltb x.time t ≡ false = le-ltb _ _ (omega arith) in
+    let s : eqb x.time t ≡ false = ne_eqb _ _ (λ (f : x.time ≡ t). omega arith) in
+    rw (p, q, r, s) (rest ∙ ap (λ o. or_else o (latest place t xs)) (sym (or_none (last_at place t xs))))
+
+-- what stands before the next time is what landed at this one, else what stood before
+latest-next : (place t : ℕ) (ls : List Landing) → latest place (suc t) ls ≡ or_else (last_at place t ls) (latest place t ls)
+latest-next place t [] = refl
+latest-next place t (x ∷ xs) = head_next place t x xs (latest-next place t xs) (cases_eq x.place place) order
+  where
+    order : (x.time < t) ⊎ ((x.time ≡ t) ⊎ (t < x.time))
+    order = ⊎_elim {C = (x.time < t) ⊎ ((x.time ≡ t) ⊎ (t < x.time))} (λ e. inr (inl e)) (λ o. ⊎_elim {C = (x.time < t) ⊎ ((x.time ≡ t) ⊎ (t < x.time))} (λ l. inl l) (λ g. inr (inr g)) o) (cases_order x.time t)
+
+last_at-append : (place t : ℕ) (xs ys : List Landing) → last_at place t (xs ++ ys) ≡ or_else (last_at place t ys) (last_at place t xs)
+last_at-append place t [] ys = sym (or_none (last_at place t ys))
+last_at-append place t (x ∷ xs) ys =
+    ap (λ o. or_else o (cond (eqb x.place place && eqb x.time t) (Some x) None)) (last_at-append place t xs ys)
+    ∙ assoc (last_at place t ys)
+  where
+    assoc : (o : Option Landing) → or_else (or_else o (last_at place t xs)) (cond (eqb x.place place && eqb x.time t) (Some x) None)
+        ≡ or_else o (or_else (last_at place t xs) (cond (eqb x.place place && eqb x.time t) (Some x) None))
+    assoc None = refl
+    assoc (Some v) = refl
+
+none_at : (place t : ℕ) (ls : List Landing) → ((w : Landing) → In w ls → w.time ≡ t → ⊥) → last_at place t ls ≡ None
+none_at place t [] h = refl
+none_at place t (x ∷ xs) h =
+    let s : eqb x.time t ≡ false = ne_eqb _ _ (h x (inl refl)) in
+    ap (λ o. or_else o (cond (eqb x.place place && eqb x.time t) (Some x) None)) (none_at place t xs (λ w k. h w (inr k)))
+    ∙ cond-false _ _ _ (and_right _ _ s)
+
+-- ---- what a slot leaves in a register
+
+abbrev pub last_pair : ℕ → Slot → ℕ → ℕ
+last_pair place [] old = old
+last_pair place (x ∷ xs) old = last_pair place xs (cond (eqb (index_of x.0) place) x.1 old)
+
+pub landed-last : (place : ℕ) (slot : Slot) (registers : List ℕ) → place < length registers → get_or (fold landed registers slot) place 0 ≡ last_pair place slot (get_or registers place 0)
+landed-last place [] registers l = refl
+landed-last place (x ∷ xs) registers l =
+    let l' : place < length (set registers (index_of x.0) x.1) = rw length-set l in
+    landed-last place xs (set registers (index_of x.0) x.1) l' ∙ ap (λ v. last_pair place xs v) one
+  where
+    one : get_or (set registers (index_of x.0) x.1) place 0 ≡ cond (eqb (index_of x.0) place) x.1 (get_or registers place 0)
+    one =
+        ⊎_elim {C = get_or (set registers (index_of x.0) x.1) place 0 ≡ cond (eqb (index_of x.0) place) x.1 (get_or registers place 0)}
+        (λ e. get_or-set_at registers (index_of x.0) place x.1 0 (sym e) (subst (λ i. i < length registers) (sym e) l) ∙ sym (cond-true _ _ _ (eq-eqb _ _ e)))
+        (λ ne. get_or-set_other registers (index_of x.0) place x.1 0 (λ e. ne (sym e)) ∙ sym (cond-false _ _ _ (ne_eqb _ _ ne)))
+        (cases_eq (index_of x.0) place)
+
+last_pair-append : (place : ℕ) (xs ys : Slot) (old : ℕ) → last_pair place (xs ++ ys) old ≡ last_pair place ys (last_pair place xs old)
+last_pair-append place [] ys old = refl
+last_pair-append place (x ∷ xs) ys old = last_pair-append place xs ys (cond (eqb (index_of x.0) place) x.1 old)
+
+head_pair : (place t c : ℕ) (w : (Reg × ℕ) × ℕ) (slot : Slot) (a : Option Landing) (old : ℕ) → ((u : ℕ) → last_pair place slot u ≡ value_or a u)
+    → (x y : Bool) → eqb (index_of w.0.0) place ≡ y
+    → last_pair place (cond x ((w.0.0, w.1) ∷ slot) slot) old ≡ value_or (or_else a (cond (y && x) (Some (write_landing c w)) None)) old
+head_pair place t c w slot a old rest true true e =
+    rest (cond (eqb (index_of w.0.0) place) w.1 old) ∙ ap (λ v. value_or a v) (cond-true _ _ _ e) ∙ sym (value_or_else a (Some (write_landing c w)) old)
+head_pair place t c w slot a old rest true false e =
+    rest (cond (eqb (index_of w.0.0) place) w.1 old) ∙ ap (λ v. value_or a v) (cond-false _ _ _ e) ∙ sym (value_or_else a None old)
+head_pair place t c w slot a old rest false true e = rest old ∙ sym (value_or_else a None old)
+head_pair place t c w slot a old rest false false e = rest old ∙ sym (value_or_else a None old)
+
+pairs_of : (place t c : ℕ) (ws : List ((Reg × ℕ) × ℕ)) (old : ℕ) → last_pair place (due_of t c ws) old ≡ value_or (last_at place t (map (write_landing c) ws)) old
+pairs_of place t c [] old = refl
+pairs_of place t c (w ∷ ws) old =
+    head_pair place t c w (due_of t c ws) (last_at place t (map (write_landing c) ws)) old (λ u. pairs_of place t c ws u)
+    (eqb (c + w.0.1) t) (eqb (index_of w.0.0) place) refl
+
+pairs_in : (place t : ℕ) (did : Did) (ps : List Placed) (old : ℕ) → last_pair place (due_in did t ps) old ≡ value_or (last_at place t (flat_map (register_landings did) ps)) old
+pairs_in place t did [] old = refl
+pairs_in place t did (p ∷ ps) old =
+    last_pair-append place (due_of t p.cycle (did p).writes) (due_in did t ps) old
+    ∙ pairs_in place t did ps (last_pair place (due_of t p.cycle (did p).writes) old)
+    ∙ ap (λ v. value_or (last_at place t (flat_map (register_landings did) ps)) v) (pairs_of place t p.cycle (did p).writes old)
+    ∙ sym (value_or_else (last_at place t (flat_map (register_landings did) ps)) (last_at place t (register_landings did p)) old)
+    ∙ sym (ap (λ o. value_or o old) (last_at-append place t (register_landings did p) (flat_map (register_landings did) ps)))
+
+-- a register before the next cycle is what landed in this one, else what it was
+pub word-next : (block : List Placed) (opening : Machine) (did : Did) (c n : ℕ) (reg : Reg) → ((p : Placed) → In p (drop n block) → c < p.cycle)
+    → word_before block opening did (suc c) reg ≡ last_pair (index_of reg) (due_in did c (take n block)) (word_before block opening did c reg)
+word-next block opening did c n reg late =
+    let place : ℕ = index_of reg in
+    let old : ℕ = word_in opening reg in
+    let front = flat_map (register_landings did) (take n block) in
+    let back = flat_map (register_landings did) (drop n block) in
+    let all : flat_map (register_landings did) block ≡ front ++ back
+    = ap (λ ps. flat_map (register_landings did) ps) (sym (take-append-drop n block)) ∙ flat_map-append (register_landings did) (take n block) (drop n block) in
+    let none : last_at (index_of reg) c back ≡ None = none_at (index_of reg) c back (λ w h e.
+    let r = from_In-flat_map (register_landings did) w (drop n block) h in
+    let s = from_In-writes r.0.cycle (did r.0).writes w r.2 in
+    let l : c < r.0.cycle = late r.0 r.1 in
+    let f : w.time ≡ r.0.cycle + s.0.0.1 = s.3 in omega arith) in
+    let last : last_at (index_of reg) c (flat_map (register_landings did) block) ≡ last_at (index_of reg) c front
+    = ap (λ ls. last_at (index_of reg) c ls) all ∙ last_at-append (index_of reg) c front back ∙ ap (λ o. or_else o (last_at (index_of reg) c front)) none in
+    ap (λ o. value_or o (word_in opening reg)) (latest-next (index_of reg) c (flat_map (register_landings did) block))
+    ∙ value_or_else (last_at (index_of reg) c (flat_map (register_landings did) block)) (latest (index_of reg) c (flat_map (register_landings did) block)) (word_in opening reg)
+    ∙ ap (λ o. value_or o (word_before block opening did c reg)) last
+    ∙ sym (pairs_in (index_of reg) c did (take n block) (word_before block opening did c reg))
+
+-- ---- memory
+
+in_order : (did : Did) (a : ℕ) (ps : List Placed) → Ascends ps → InOrder a (flat_map (memory_landings did) ps)
+in_order did a [] h = tt
+in_order did a (p ∷ ps) h =
+    InOrder-append a (memory_landings did p) (flat_map (memory_landings did) ps)
+    (InOrder-access a (access_time p) (did p).access)
+    (in_order did a ps h.1)
+    (λ v w k l e f.
+    let r = from_In-flat_map (memory_landings did) w ps l in
+    let tv : v.time ≡ listing_place p = (from_In-access (access_time p) (did p).access v k).at in
+    let tw : w.time ≡ listing_place r.0 = (from_In-access (access_time r.0) (did r.0).access w r.2).at in
+    let less : listing_place p < listing_place r.0 = h.0 r.0 r.1 in omega arith)
+
+-- memory before the next cycle: the stores of all that was issued, one after the other
+pub byte-next : (block : List Placed) (opening : Machine) (did : Did) (c n a : ℕ) → Ascends block → ((p : Placed) → In p (take n block) → p.cycle ≤ c)
+    → ((p : Placed) → In p (drop n block) → c < p.cycle)
+    → byte_before block opening did (suc c) a ≡ last_value a (flat_map (memory_landings did) (take n block)) (byte_in opening a)
+byte-next block opening did c n a ascends early late =
+    latest_is_last a (8 * suc c) (flat_map (memory_landings did) (take n block)) (flat_map (memory_landings did) block) (byte_in opening a)
+    (record {
+      in_order = in_order did a (take n block) (parts_at block n ascends).front;
+      in_time = λ w h p.
+          let r = from_In-flat_map (memory_landings did) w (take n block) h in
+          let t : w.time ≡ 8 * r.0.cycle + unit_index r.0.unit = (from_In-access (access_time r.0) (did r.0).access w r.2).at in
+          let b : unit_index r.0.unit < 8 = index_of-below r.0.unit in
+          let e : r.0.cycle ≤ c = early r.0 r.1 in omega arith;
+      landed = λ w h p l.
+          let r = from_In-flat_map (memory_landings did) w (take n block) h in
+          In-flat_map (memory_landings did) w r.0 block (In-take block n r.0 r.1) r.2;
+      no_other = λ w h p l.
+          let r = from_In-flat_map (memory_landings did) w block h in
+          let t : w.time ≡ 8 * r.0.cycle + unit_index r.0.unit = (from_In-access (access_time r.0) (did r.0).access w r.2).at in
+          found w r.0 r.2 (omega arith) (In-parts block n r.0 r.1);
+    })
+  where
+    found : (w : Landing) (p : Placed) → In w (memory_landings did p) → p.cycle < suc c → In p (take n block) ⊎ In p (drop n block) → In w (flat_map (memory_landings did) (take n block))
+    found w p h l (inl k) = In-flat_map (memory_landings did) w p (take n block) k h
+    found w p h l (inr k) = let g : c < p.cycle = late p k in absurd (omega arith)

@@ -1,0 +1,5 @@
+pub mod Order
+pub mod Slots
+pub mod Landed
+pub mod Running
+pub mod Chains

@@ -1,0 +1,5 @@
+use Rattle.c62_pipe.proofs.Chains.{run_alike}
+use Rattle.c62_pipe.proofs.laws.packets_run_as_their_program.Goals as goal
+
+pub returns : goal.returns
+returns c = run_alike

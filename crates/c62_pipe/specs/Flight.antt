@@ -1,0 +1,85 @@
+-- What is in flight between two cycles: writes by the cycle of their landing, and the stores of the packet.
+use Rattle.std.specs.Prelude.{◌≡◌, ℕ, ◌+◌, ◌%◌, ◌≤◌, List, [], ◌∷◌, ◌++◌, length, All, fold, slice_set, slice_index_or, Option, Some, None, IsTrue}
+use Rattle.c62_insn.specs.declared.register.Reg.{Reg}
+use Rattle.c62_insn.specs.declared.effect.Access.{Access as MemoryAccess}
+use Rattle.c62_packet.specs.declared.placed.Placed.{Placed}
+use Rattle.c62_serial.specs.State.{Machine, index_of, word_in, byte_in}
+use Rattle.c62_serial.specs.Memory.{is_size, written}
+use Rattle.c62_serial.specs.Effect.{Act, act_of}
+
+-- the registers that get a value in one cycle, in the order of issue
+abbrev pub Slot : Type 0
+Slot = List (Reg × ℕ)
+
+-- a store that is to be made: address, size and value
+abbrev pub Store : Type 0
+Store = ℕ × ℕ × ℕ
+
+-- a slot for each of five cycles in turn, and the stores of the packet
+pub record Flight : Type 0 where
+  pub slots : List Slot
+  pub stores : List Store
+
+-- what always holds of it
+pub record IsFlight (flight : Flight) : Type 0 where
+  pub slots : length flight.slots ≡ 5
+  pub sizes : All (λ store. IsTrue (is_size store.1)) flight.stores
+
+-- what lands in a cycle
+abbrev pub due : List Slot → ℕ → Slot
+due slots cycle = slice_index_or slots (cycle % 5) []
+
+-- one write more that lands in this cycle
+abbrev pub with_due : ℕ → Reg → ℕ → List Slot → List Slot
+with_due cycle reg value slots = slice_set slots (cycle % 5) (due slots cycle ++ (reg, value) ∷ [])
+
+-- a write of an instruction issued in this cycle
+abbrev pub with_write : ℕ → List Slot → (Reg × ℕ) × ℕ → List Slot
+with_write cycle slots write = with_due (cycle + write.0.1) write.0.0 write.1 slots
+
+abbrev pub with_writes : ℕ → List ((Reg × ℕ) × ℕ) → List Slot → List Slot
+with_writes cycle writes slots = fold (with_write cycle) slots writes
+
+-- each slot holds at most as many writes as eight units start in five cycles
+abbrev pub FitsSlots : List Slot → Type 0
+FitsSlots slots = All (λ slot. length slot ≤ 40) slots
+
+-- the store of an access, where it stores
+abbrev pub stores_at : ℕ → ℕ → Option ℕ → List Store
+stores_at address size None = []
+stores_at address size (Some value) = (address, size, value) ∷ []
+
+abbrev pub stores_of : Option MemoryAccess → List Store
+stores_of None = []
+stores_of (Some access) = stores_at access.address access.size access.value
+
+-- what an instruction does on this machine
+abbrev pub act_at : Placed → Machine → Act
+act_at p machine = act_of p.insn (word_in machine) (byte_in machine)
+
+abbrev pub with_stores : List Store → Flight → Flight
+with_stores stores flight = record { slots = flight.slots; stores = stores }
+
+-- what is in flight after an instruction did this in a cycle
+abbrev pub issued : ℕ → Act → Flight → Flight
+issued cycle act flight = record { slots = with_writes cycle act.writes flight.slots; stores = flight.stores ++ stores_of act.access }
+
+-- registers after a landing
+abbrev pub landed : List ℕ → Reg × ℕ → List ℕ
+landed registers write = slice_set registers (index_of write.0) write.1
+
+-- memory after a store
+abbrev pub stored : List ℕ → Store → List ℕ
+stored memory store = written store.0 store.1 store.2 memory
+
+-- the machine at the end of a cycle: the stores are made, and what is due lands
+abbrev pub at_end : ℕ → Flight → Machine → Machine
+at_end cycle flight machine = record {
+  registers = fold landed machine.registers (due flight.slots cycle);
+  memory = fold stored machine.memory flight.stores;
+  faults = machine.faults;
+}
+
+-- what is in flight then
+abbrev pub after_end : ℕ → Flight → Flight
+after_end cycle flight = record { slots = slice_set flight.slots (cycle % 5) []; stores = [] }

@@ -1,0 +1,14 @@
+//! Execute packets run cycle by cycle, with delayed writes, and chains of packet blocks.
+#![tactic(auto)]
+
+mod chain;
+pub mod laws;
+mod pipe;
+mod ring;
+mod slot;
+
+pub use chain::run_chain;
+pub use pipe::Pipe;
+
+#[cfg(test)]
+mod tests;

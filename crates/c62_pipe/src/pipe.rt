@@ -1,0 +1,189 @@
+//! The pipeline: packets issued cycle by cycle, their writes landing after their delays.
+
+ghost use Rattle.std.specs.Prelude.{◌≡◌, ℕ, fold, not, ◌+◌, ◌<◌, ◌≤◌, ◌++◌, [], length, IsTrue, IfSome, IfOk, OnErr};
+ghost use Rattle.c62_insn.specs.Insn.{op_of};
+ghost use Rattle.c62_serial.specs.State.{byte_in};
+ghost use Rattle.c62_serial.specs.Memory.{is_size, is_good};
+ghost use Rattle.c62_serial.specs.Faults.{with_fault_if};
+ghost use Rattle.c62_serial.specs.Effect.{loaded, is_fault};
+ghost use Rattle.c62_serial.specs.Serial.{exit_after};
+ghost use Rattle.c62_meaning.specs.Meaning.{IsMeaning};
+ghost use Rattle.c62_pipe.specs.Flight.{due, stored, FitsSlots, with_writes, stores_of, act_at, issued, with_stores, at_end, after_end};
+
+use crate::ring::Ring;
+use arrayvec::ArrayVec;
+use c62_insn::{Access, Effect, Target};
+use c62_packet::{PacketBlock, Placed};
+use c62_serial::{Exit, State};
+use std::alloc::AllocError;
+use std::marker::Model;
+
+/// What is in flight: writes that have not landed, and the stores of the packet that is issued.
+#[derive(Drop)]
+pub struct Pipe {
+    ring: Ring,
+    stores: ArrayVec<(u32, u8, u32), 8>,
+}
+
+impl Model for Pipe {
+    ghost use Rattle.c62_pipe.specs.Flight.{Flight, IsFlight};
+
+    ghost Value = { Flight };
+
+    ghost view = { λ pipe. record { slots = pipe.ring; stores = pipe.stores.items } };
+
+    ghost invariant = { λ pipe. IsFlight (record { slots = pipe.ring; stores = pipe.stores.items }) };
+}
+
+/// Puts the line of a store among the faulted ones, where the store is misaligned or reaches past the
+/// end of memory.
+fn note_fault(line: u32, address: u32, size: u8, state: &mut State)
+    requires size { IsTrue (is_size size) }
+    requires room { 0 < state.old.room }
+    ensures machine { state.new.machine ≡ with_fault_if line (not (is_good address size)) state.old.machine }
+    ensures room { state.old.room ≤ state.new.room + 1 }
+{
+    match state.load(address, size) {
+        Some(_) => {}
+        None => state.fault(line),
+    }
+}
+
+impl Pipe {
+    /// Nothing in flight.
+    fn new() -> Pipe
+        ensures slots { (cycle : ℕ) → due result.slots cycle ≡ [] }
+        ensures size { length result.slots ≡ 5 }
+        ensures stores { result.stores ≡ [] }
+    {
+        Pipe {
+            ring: Ring::new(),
+            stores: ArrayVec::new(),
+        }
+    }
+
+    /// Makes the access of an instruction, where it has one, and answers the value of a load's
+    /// destination. A store waits for the end of the cycle, since loads of its packet do not see it.
+    fn access(&mut self, placed: &Placed, access: Option<Access>, state: &mut State) -> Option<u32>
+        requires size { IfSome access (λ access. IsTrue (is_size access.size)) }
+        requires room { 0 < state.old.room }
+        requires few { length self.old.stores < 8 }
+        ensures loaded { result ≡ loaded (byte_in state.old.machine) (op_of placed.now.insn) access }
+        ensures machine { state.new.machine ≡ with_fault_if placed.now.line (is_fault access) state.old.machine }
+        ensures room { state.old.room ≤ state.new.room + 1 }
+        ensures flight { self.new ≡ with_stores (self.old.stores ++ stores_of access) self.old }
+    {
+        let Access {
+            address,
+            size,
+            value,
+        } = access?;
+        match value {
+            Some(value) => {
+                note_fault(placed.line, address, size, state);
+                self.stores.push((address, size, value));
+                None
+            }
+            None => Some(state.make_load(placed.insn, placed.line, address, size)),
+        }
+    }
+
+    /// Issues an instruction: it reads registers and memory as they are before this cycle's writes and
+    /// stores, and its own are put in flight. Answers where its branch goes, where it is a branch that
+    /// runs.
+    fn issue(&mut self, placed: &Placed, state: &mut State) -> Option<Target>
+        requires room { 0 < state.old.room }
+        requires few { length self.old.stores < 8 }
+        requires fits { FitsSlots (with_writes placed.now.cycle (act_at placed.now state.old.machine).writes self.old.slots) }
+        ensures target { result ≡ (act_at placed.now state.old.machine).target }
+        ensures machine { state.new.machine ≡ with_fault_if placed.now.line (is_fault (act_at placed.now state.old.machine).access) state.old.machine }
+        ensures room { state.old.room ≤ state.new.room + 1 }
+        ensures flight { self.new ≡ issued placed.now.cycle (act_at placed.now state.old.machine) self.old }
+    {
+        let Effect {
+            mut values,
+            access,
+            target,
+            ..
+        } = placed.insn.apply(&state.inputs(placed.insn));
+        if let Some(value) = self.access(placed, access, state) {
+            values.push(value);
+        }
+        self.ring.schedule(
+            placed.cycle,
+            placed.insn.writes().as_slice(),
+            values.as_slice(),
+        );
+        target
+    }
+
+    /// Makes the stores of the packet, in the order of its units.
+    fn make_stores(&mut self, state: &mut State)
+        ensures flight { self.new ≡ with_stores [] self.old }
+        ensures state { state.new ≡ record state.old { machine = record state.old.machine { memory = fold stored state.old.machine.memory self.old.stores } } }
+    {
+        for (address, size, value) in self.stores.as_slice() {
+            let _ = state.store(*address, *size, *value);
+        }
+        self.stores.clear();
+    }
+
+    /// Ends a cycle: the stores of its packet are made, and what is due lands.
+    fn end_cycle(&mut self, cycle: u16, state: &mut State)
+        ensures flight { self.new ≡ after_end cycle self.old }
+        ensures state { state.new ≡ record state.old { machine = at_end cycle self.old state.old.machine } }
+    {
+        self.make_stores(state);
+        self.ring.land(cycle, state);
+    }
+
+    /// Runs a block of packets, cycle by cycle. Instructions read registers and memory in the cycle of
+    /// their issue, before its writes and stores; a write lands after the delay of its instruction, and
+    /// the stores of a packet are made .D1 first. A misaligned access, or one past the end of memory,
+    /// reads 0 or stores nothing, its line joins the faulted ones, and the run goes on. Answers the exit
+    /// of the branch, where it ran, else [`Exit::Next`], and how many cycles the block took.
+    ///
+    /// Room for a fault of each instruction is made first, by the state's own allocator.
+    ///
+    /// # Errors
+    ///
+    /// `AllocError` where that room was missing and memory runs out. The state is then as before.
+    pub fn run(block: &PacketBlock, state: &mut State) -> Result<(Exit, u32), AllocError>
+        ensures cycles { IfOk result (λ ran. ran.1 ≡ block.now.cycles) }
+        ensures short { IfOk result (λ ran. ran.1 ≤ 2048) }
+        ensures meaning { IfOk result (λ ran. IsMeaning block.now.placed block.now.cycles state.old.machine (record { machine = state.new.machine; exit = ran.0 })) }
+        ensures full { OnErr result (state.old.room < length block.now.placed) }
+        ensures err { OnErr result (state.new ≡ state.old) }
+    {
+        let all = block.placed();
+        let length = block.length();
+        state.room(all.len())?;
+        // It tells what holds of every state.
+        let _ = state.faults();
+        let mut pipe = Pipe::new();
+        let mut cycle = 0;
+        let mut exit = Exit::Next;
+        for placed in all {
+            while cycle < placed.cycle {
+                pipe.end_cycle(cycle, state);
+                cycle += 1;
+            }
+            exit = exit_after(exit, pipe.issue(placed, state));
+        }
+        while cycle < length {
+            pipe.end_cycle(cycle, state);
+            cycle += 1;
+        }
+        Ok((exit, u32::from(length)))
+    }
+}
+
+/// The exit is that of a branch that ran.
+fn exit_after(exit: Exit, target: Option<Target>) -> Exit
+    ensures { result ≡ exit_after exit target }
+{
+    match target {
+        Some(target) => Exit::from(target),
+        None => exit,
+    }
+}

@@ -1,0 +1,77 @@
+//! Writes in flight, by the cycle in which they land.
+
+ghost use Rattle.std.specs.Prelude.{◌≡◌, ℕ, ◌+◌, ◌<◌, ◌≤◌, ◌%◌, ◌++◌, [], List, length, zip, fold, slice_set};
+ghost use Rattle.c62_pipe.specs.Flight.{Slot as Writes, due, landed, with_due, with_writes, FitsSlots};
+
+use crate::slot::Slot;
+use c62_insn::Reg;
+use c62_serial::State;
+use std::marker::Model;
+
+/// A write lands at most four cycles after its issue, so those in flight land in five cycles.
+const CYCLES: usize = 5;
+
+/// A slot for each of five cycles in turn: a cycle's slot is that of its number modulo five.
+#[derive(Drop)]
+pub struct Ring {
+    slots: [Slot; CYCLES],
+}
+
+impl Model for Ring {
+    ghost use Rattle.std.specs.Prelude.{◌≡◌, List, length};
+    ghost use Rattle.c62_pipe.specs.Flight.{Slot as Writes};
+
+    ghost Value = { List Writes };
+
+    ghost view = { λ ring. ring.slots };
+
+    ghost invariant = { λ ring. length ring.slots ≡ 5 };
+}
+
+impl Ring {
+    /// Nothing in flight.
+    pub fn new() -> Ring
+        ensures empty { (cycle : ℕ) → due result cycle ≡ [] }
+        ensures size { length result ≡ 5 }
+    {
+        Ring {
+            slots: [
+                Slot::new(),
+                Slot::new(),
+                Slot::new(),
+                Slot::new(),
+                Slot::new(),
+            ],
+        }
+    }
+
+    /// Adds a write that lands in this cycle.
+    fn add(&mut self, cycle: usize, reg: Reg, value: u32)
+        requires { length (due self.old cycle) < 40 }
+        ensures { self.new ≡ with_due cycle reg value self.old }
+    {
+        self.slots[cycle % CYCLES].push(reg, value);
+    }
+
+    /// Adds the writes of an instruction that is issued in this cycle: each lands after its delay.
+    pub fn schedule(&mut self, cycle: u16, writes: &[(Reg, u8)], values: &[u32])
+        requires { FitsSlots (with_writes cycle (zip writes.now values.now) self.old) }
+        ensures { self.new ≡ with_writes cycle (zip writes.now values.now) self.old }
+    {
+        for ((reg, delay), value) in writes.iter().zip(values) {
+            self.add(usize::from(cycle) + usize::from(*delay), *reg, *value);
+        }
+    }
+
+    /// Puts what is due in this cycle into its registers, and empties the slot.
+    pub fn land(&mut self, cycle: u16, state: &mut State)
+        ensures ring { self.new ≡ slice_set self.old (cycle % 5) [] }
+        ensures state { state.new ≡ record state.old { machine = record state.old.machine { registers = fold landed state.old.machine.registers (due self.old cycle) } } }
+    {
+        let slot = &mut self.slots[usize::from(cycle) % CYCLES];
+        for (reg, value) in slot.writes() {
+            state.set(*reg, *value);
+        }
+        slot.clear();
+    }
+}
