@@ -1,0 +1,187 @@
+-- Chains of dependences, and marks along them.
+use Rattle.std.proofs.Common.{◌≡◌, ℕ, suc, ◌+◌, ◌<◌, ◌≤◌, ◌≢◌, ℤ, Bool, true, false, List, length, Option, Some, None, IsTrue, get_or, set, sym, ap, refl, ◌∙◌, subst, arith, inl, inr, ◌⊎◌, replicate, get_or-set_same, get_or-set_other, length-set}
+use Rattle.std.specs.Prelude.{All}
+use Rattle.std.specs.List.{list_any}
+use Rattle.std.proofs.lemmas.Bool.{cases_eq, cases_lt, false≢true}
+use Rattle.std.proofs.lemmas.List.{get_or-replicate, get_or_past, length-replicate}
+use Rattle.std.proofs.lemmas.List.Folds.{Any-from_list_any, list_any-from_Any}
+use Rattle.std.proofs.lemmas.List.Elements.{All-contains, All-weaker}
+use Rattle.c62_insn.specs.declared.insn.Insn.{Insn}
+use Rattle.c62_insn.specs.Dependence.{Depends, IsLatency}
+use Rattle.c62_depend.specs.declared.links.Link.{Link}
+use Rattle.c62_depend.specs.Latency.{latency}
+use Rattle.c62_depend.specs.Links.{needs, followers}
+use Rattle.c62_depend.proofs.Latencies.{latency-is}
+use Rattle.c62_depend.proofs.Plans.{short_is}
+use Rattle.c62_depend.proofs.Rules.{needs_are, followers_are}
+use Rattle.c62_board.specs.Chain.{Leads, start, more, IsMarked, Marks}
+
+-- ---- chains
+
+pub before : (block : List Insn) (i j : ℕ) → Depends block i j → i < j
+before block i j dep = dep.1.before
+
+pub leads_up : (block : List Insn) (i j : ℕ) → Leads block i j → i ≤ j
+leads_up block i _ start = omega arith
+leads_up block i j (more k _ led dep) = (let up = leads_up block i k led in let step : k < j = before block k j dep in omega arith)
+
+-- a dependence in front of a chain
+pub leads_first : (block : List Insn) (i k j : ℕ) → Depends block i k → Leads block k j → Leads block i j
+leads_first block i k _ dep start = more i k start dep
+leads_first block i k j dep (more m _ led last) = more m j (leads_first block i k m dep led) last
+
+-- a chain is empty, or has a last dependence
+pub leads_last : (block : List Insn) (i j : ℕ) → Leads block i j → (j ≡ i) ⊎ ((k : ℕ) × Leads block i k × Depends block k j)
+leads_last block i _ start = inl refl
+leads_last block i j (more k _ led dep) = inr (k, led, dep)
+
+-- a chain is empty, or has a first dependence
+pub leads_next : (block : List Insn) (i j : ℕ) → Leads block i j → (j ≡ i) ⊎ ((k : ℕ) × Depends block i k × Leads block k j)
+leads_next block i _ start = inl refl
+leads_next block i j (more k _ led dep) = elim (leads_next block i k led) [
+  | inl e ↦ inr (j, subst (λ (x : ℕ). Depends block x j) e dep, start)
+  | inr w ↦ inr (w.0, w.1, more k j w.2 dep)
+]
+
+-- ---- the lists of a plan
+
+depends_of : (block : List Insn) (i j : ℕ) (l : ℤ) (o : Option ℤ) → IsLatency block i j o → o ≡ Some l → Depends block i j
+depends_of block i j l (Some b) g e = (b, g.applies)
+depends_of block i j l None g e = cc
+
+latency_of : (block : List Insn) (i j : ℕ) (o : Option ℤ) → IsLatency block i j o → Depends block i j → (l : ℤ) × (o ≡ Some l)
+latency_of block i j (Some b) g dep = (b, refl)
+latency_of block i j None g dep = absurd (g dep)
+
+-- whether the other end of a link is marked
+abbrev pub is_linked : List Bool → Link → Bool
+is_linked marks link = get_or marks link.number false
+
+-- a marked number that j depends on
+pub need_from : (block : List Insn) (j : ℕ) (marks : List Bool) → list_any (is_linked marks) (needs block j) ≡ true
+    → (k : ℕ) × IsMarked marks k × Depends block k j
+need_from block j marks h =
+    let w = Any-from_list_any (is_linked marks) (needs block j) h in
+    let l = All-contains (λ (link : Link). latency block link.number j ≡ Some link.latency) (needs block j) w.1 (needs_are block j).all (w.0, w.2, w.3) in
+    (w.1.number, w.4, depends_of block w.1.number j w.1.latency (latency block w.1.number j) (latency-is block w.1.number j) l)
+
+pub need_of : (block : List Insn) (j k : ℕ) (marks : List Bool) → IsMarked marks k → Depends block k j → list_any (is_linked marks) (needs block j) ≡ true
+need_of block j k marks marked dep =
+    let l = latency_of block k j (latency block k j) (latency-is block k j) dep in
+    let link : Link = record { number = k; latency = l.0 } in
+    let at = (needs_are block j).each link l.1 in
+    list_any-from_Any (is_linked marks) (needs block j) (at.0, link, at.1, at.2, marked)
+
+-- a marked number that depends on i
+pub follower_from : (block : List Insn) (i : ℕ) (marks : List Bool) → list_any (is_linked marks) (followers block i) ≡ true
+    → (k : ℕ) × IsMarked marks k × Depends block i k
+follower_from block i marks h =
+    let w = Any-from_list_any (is_linked marks) (followers block i) h in
+    let l = All-contains (λ (link : Link). latency block i link.number ≡ Some link.latency) (followers block i) w.1 (followers_are block i).all (w.0, w.2, w.3) in
+    (w.1.number, w.4, depends_of block i w.1.number w.1.latency (latency block i w.1.number) (latency-is block i w.1.number) l)
+
+pub follower_of : (block : List Insn) (i k : ℕ) (marks : List Bool) → IsMarked marks k → Depends block i k → list_any (is_linked marks) (followers block i) ≡ true
+follower_of block i k marks marked dep =
+    let l = latency_of block i k (latency block i k) (latency-is block i k) dep in
+    let link : Link = record { number = k; latency = l.0 } in
+    let at = (followers_are block i).each link l.1 in
+    list_any-from_Any (is_linked marks) (followers block i) (at.0, link, at.1, at.2, marked)
+
+-- the numbers of links are those of the block
+pub needs_within : (block : List Insn) (j n : ℕ) → j ≤ n → All (λ link. link.number < n) (needs block j)
+needs_within block j n most =
+    All-weaker (λ (link : Link). latency block link.number j ≡ Some link.latency) (λ link. link.number < n)
+    (λ link e. (let before : link.number < j = (short_is block link.number j link.latency e).before in omega arith)) (needs block j) (needs_are block j).all
+
+pub followers_within : (block : List Insn) (i n : ℕ) → length block ≤ n → All (λ link. link.number < n) (followers block i)
+followers_within block i n most =
+    All-weaker (λ (link : Link). latency block i link.number ≡ Some link.latency) (λ link. link.number < n)
+    (λ link e. (let in_block : link.number < length block = (short_is block i link.number link.latency e).within in omega arith)) (followers block i) (followers_are block i).all
+
+-- what depends on a number is in the block
+pub follower_in : (block : List Insn) (i j : ℕ) → Depends block i j → j < length block
+follower_in block i j dep = (let l = latency_of block i j (latency block i j) (latency-is block i j) dep in (short_is block i j l.0 l.1).within)
+
+-- ---- marks
+
+-- the numbers of the block from low to high are marked where they are such
+pub record AreMarked (block : List Insn) (Is : ℕ → Type 0) (low high : ℕ) (marks : List Bool) : Type 0 where
+  pub many : length marks ≡ 256
+  pub right : (k : ℕ) → low ≤ k → k < high → IsMarked marks k → Is k
+  pub all : (k : ℕ) → low ≤ k → k < high → Is k → IsMarked marks k
+
+-- one number more is marked as it should be
+marked_same : (block : List Insn) (Is : ℕ → Type 0) (low high i : ℕ) (marks : List Bool) (b : Bool) → i < length marks → (IsTrue b → Is i) → (Is i → IsTrue b)
+    → ((k : ℕ) → low ≤ k → k < high → k ≢ i → IsMarked marks k → Is k) → ((k : ℕ) → low ≤ k → k < high → k ≢ i → Is k → IsMarked marks k)
+    → length marks ≡ 256 → AreMarked block Is low high (set marks i b)
+marked_same block Is low high i marks b within right all others_right others_all many = record {
+  many = length-set marks i b ∙ many;
+  right = λ k above below marked. elim (cases_eq k i) [
+    | inl e ↦ subst Is (sym e) (right (sym (get_or-set_same marks i b false within) ∙ ap (λ (x : ℕ). get_or (set marks i b) x false) (sym e) ∙ marked))
+    | inr ne ↦ others_right k above below ne (sym (get_or-set_other marks i k b false ne) ∙ marked)
+  ];
+  all = λ k above below is. elim (cases_eq k i) [
+    | inl e ↦ ap (λ (x : ℕ). get_or (set marks i b) x false) e ∙ get_or-set_same marks i b false within ∙ all (subst Is e is)
+    | inr ne ↦ get_or-set_other marks i k b false ne ∙ others_all k above below ne is
+  ];
+}
+
+blank : (k : ℕ) → IsMarked (replicate 256 false) k → ⊥
+blank k marked = elim (cases_lt k 256) [
+  | inl lt ↦ false≢true (sym (get_or-replicate 256 k false false lt) ∙ marked)
+  | inr le ↦ false≢true (sym (get_or_past (replicate 256 false) k false (rw (length-replicate 256 false) le)) ∙ marked)
+]
+
+pub led_start : (block : List Insn) (i : ℕ) → i < 256 → AreMarked block (Leads block i) 0 (i + 1) (set (replicate 256 false) i true)
+led_start block i within =
+    marked_same block (Leads block i) 0 (i + 1) i (replicate 256 false) true (rw (length-replicate 256 false) within) (λ _. start) (λ _. refl)
+    (λ k _ _ ne marked. absurd (blank k marked))
+    (λ k _ below ne led. (let up = leads_up block i k led in absurd (ne (omega arith))))
+    (length-replicate 256 false)
+
+pub led_more : (block : List Insn) (i j : ℕ) (marks : List Bool) → i < j → j < 256 → AreMarked block (Leads block i) 0 j marks
+    → AreMarked block (Leads block i) 0 (j + 1) (set marks j (list_any (is_linked marks) (needs block j)))
+led_more block i j marks after within so_far =
+    marked_same block (Leads block i) 0 (j + 1) j marks (list_any (is_linked marks) (needs block j)) (rw so_far.many within)
+    (λ h. (let w = need_from block j marks h in
+    let step : w.0 < j = before block w.0 j w.2 in
+    more w.0 j (so_far.right w.0 (omega arith) step w.1) w.2))
+    (λ led. elim (leads_last block i j led) [
+      | inl e ↦ absurd (let e : j ≡ i = e in omega arith)
+      | inr w ↦ (let step : w.0 < j = before block w.0 j w.2 in need_of block j w.0 marks (so_far.all w.0 (omega arith) step w.1) w.2)
+    ])
+    (λ k above below ne. so_far.right k above (omega arith))
+    (λ k above below ne. so_far.all k above (omega arith))
+    so_far.many
+
+pub leading_start : (block : List Insn) (i n : ℕ) → i < 256 → AreMarked block (λ k. Leads block k i) i n (set (replicate 256 false) i true)
+leading_start block i n within =
+    marked_same block (λ k. Leads block k i) i n i (replicate 256 false) true (rw (length-replicate 256 false) within) (λ _. start) (λ _. refl)
+    (λ k _ _ ne marked. absurd (blank k marked))
+    (λ k above _ ne led. (let up = leads_up block k i led in absurd (ne (omega arith))))
+    (length-replicate 256 false)
+
+pub leading_more : (block : List Insn) (i j m : ℕ) (marks : List Bool) → m ≡ suc j → m ≤ i → i < 256
+    → AreMarked block (λ k. Leads block k i) m (length block) marks
+    → AreMarked block (λ k. Leads block k i) j (length block) (set marks j (list_any (is_linked marks) (followers block j)))
+leading_more block i j m marks next most within so_far =
+    marked_same block (λ k. Leads block k i) j (length block) j marks (list_any (is_linked marks) (followers block j)) (rw so_far.many (omega arith))
+    (λ h. (let w = follower_from block j marks h in
+    let step : j < w.0 = before block j w.0 w.2 in
+    leads_first block j w.0 i w.2 (so_far.right w.0 (omega arith) (follower_in block j w.0 w.2) w.1)))
+    (λ led. elim (leads_next block j i led) [
+      | inl e ↦ absurd (let e : i ≡ j = e in omega arith)
+      | inr w ↦ (let step : j < w.0 = before block j w.0 w.1 in follower_of block j w.0 marks (so_far.all w.0 (omega arith) (follower_in block j w.0 w.1) w.2) w.1)
+    ])
+    (λ k above below ne. so_far.right k (omega arith) below)
+    (λ k above below ne. so_far.all k (omega arith) below)
+    so_far.many
+
+pub marks_from : (block : List Insn) (Is : ℕ → Type 0) (high : ℕ) (marks : List Bool) → length block ≤ high → AreMarked block Is 0 high marks → Marks block Is marks
+marks_from block Is high marks all marked k within =
+    (marked.right k (omega arith) (omega arith), marked.all k (omega arith) (omega arith))
+
+pub marks_to : (block : List Insn) (i low : ℕ) (marks : List Bool) → low ≡ 0 → AreMarked block (λ k. Leads block k i) low (length block) marks
+    → Marks block (λ k. Leads block k i) marks
+marks_to block i low marks all marked k within =
+    (marked.right k (omega arith) within, marked.all k (omega arith) within)

@@ -1,0 +1,126 @@
+-- What a step that ejects makes of its parts.
+use Rattle.std.proofs.Common.{◌≡◌, ℕ, ◌+◌, ◌-◌, ◌<◌, List, [], ◌∷◌, ◌++◌, length, Bool, ap, refl, ◌∙◌, subst, arith, length-append}
+use Rattle.c62_insn.specs.declared.register.Side.{Side}
+use Rattle.c62_insn.specs.declared.insn.Insn.{Insn}
+use Rattle.c62_depend.specs.Plan.{insns_of}
+use Rattle.c62_sheet.specs.declared.entry.Entry.{Entry}
+use Rattle.c62_sheet.specs.declared.entry.Entry.TheVariants.{Place}
+use Rattle.c62_sheet.specs.declared.entry.Spot.{Spot}
+use Rattle.c62_sheet.specs.declared.entry.Who.{Who}
+use Rattle.c62_sheet.specs.Lawful.{placed, IsLawful}
+use Rattle.c62_sheet.specs.Least.{HasNoSpot, IsPick}
+use Rattle.c62_sheet.specs.Journal.{replayed}
+use Rattle.c62_board.specs.declared.turn.Turn.TheVariants.{Placed, Ejected, Idle, Done, NoRoom, Memory}
+use Rattle.c62_board.specs.Chain.{Marks}
+use Rattle.c62_board.specs.Who.{who_of}
+use Rattle.c62_board.specs.Withdrawal.{GoesWith, Withdraws, marked_below}
+use Rattle.c62_board.specs.Victim.{IsEjected}
+use Rattle.c62_board.specs.State.{BoardState, IsSound, Adds, GainsRoom, IsWithdrawal, IsReadyNow, IsLeastNow, TakesTurn, HasNoRoomFor}
+use Rattle.c62_sheet.proofs.Picks.{pick_unique}
+use Rattle.c62_board.proofs.Journals.{adds_both, gains_adds}
+use Rattle.c62_board.proofs.Withdrawals.{withdrawn_many}
+use Rattle.c62_board.proofs.Victims.{one_victim, ready_left, spot_left}
+use Rattle.c62_board.proofs.Turns.{pick_left, placed_ejected, stuck_ejected}
+
+-- a board, the same with more room, and without the victim
+module _ (old mid left : BoardState) (side : Side) (i q n count : ℕ) (who : Who) (sound : IsSound old) (sound_left : IsSound left)
+    (pick : IsPick (insns_of old.plan) old.spots side i) (ejected : IsEjected (insns_of old.plan) old.spots old.budget i q)
+    (gains : GainsRoom old n mid) (out : IsWithdrawal mid q who count left) where
+  abbrev block : List Insn
+  block = insns_of old.plan
+
+  withdraws : Withdraws block old.spots q who out.entries
+  withdraws = subst (λ (b : BoardState). Withdraws (insns_of b.plan) b.spots q who out.entries) gains.same out.withdraws
+
+  left_plan : left.plan ≡ old.plan
+  left_plan = out.adds.plan ∙ ap (λ (b : BoardState). b.plan) gains.same
+
+  left_spots : left.spots ≡ replayed old.spots out.entries
+  left_spots = out.adds.spots ∙ ap (λ (b : BoardState). replayed b.spots out.entries) gains.same
+
+  left_lawful : IsLawful block (replayed old.spots out.entries)
+  left_lawful = rw (← left_plan, ← left_spots) sound_left.lawful
+
+  pub eject_ready : IsReadyNow left i
+  eject_ready = record {
+    within = rw left_plan pick.competes.within;
+    ready = rw (left_plan, left_spots)
+        (ready_left block old.spots old.budget i q who out.entries sound.lawful pick.competes.ready pick.competes.within ejected withdraws left_lawful);
+  }
+
+  pub eject_spot : HasNoSpot (insns_of left.plan) left.spots i → ⊥
+  eject_spot none =
+      let w = spot_left block old.spots old.budget i q who out.entries sound.lawful pick.competes.ready pick.competes.within ejected withdraws left_lawful in
+      let now : (s : Spot) → IsLawful block (placed (replayed old.spots out.entries) i s) → IsLawful (insns_of left.plan) (placed left.spots i s) =
+      λ s lawful. rw (left_plan, left_spots) lawful in
+      none w.0 (now w.0 w.1)
+
+  pub eject_turn : (s : Spot) (by : Who) (last : BoardState) → who ≡ who_of side → by ≡ who_of side → IsLeastNow left i s → Adds left (Place i s by ∷ []) last
+      → TakesTurn old side (Ejected q i s) (record last { budget = last.budget - 1 })
+  eject_turn s by last is_who is_by least adds =
+      let budget : last.budget ≡ old.budget = adds.budget ∙ out.adds.budget ∙ ap (λ (b : BoardState). b.budget) gains.same in
+      let least_then : IsLeastNow (record old { spots = replayed old.spots out.entries }) i s = rw (← left_plan, ← left_spots) least in
+      record {
+        entries = out.entries ++ Place i s by ∷ [];
+        turn_is = (
+          record {
+            pick = pick;
+            ejected = ejected;
+            withdrawals = out.entries;
+            withdraws = subst (λ (w : Who). Withdraws block old.spots q w out.entries) is_who withdraws;
+            least = least_then;
+            entries_are = ap (λ (w : Who). out.entries ++ Place i s w ∷ []) is_by;
+          },
+          (let some = ejected.left in omega (arith, budget)),
+        );
+        adds = record {
+          plan = adds.plan ∙ left_plan;
+          spots = both.spots ∙ ap (λ (b : BoardState). replayed b.spots (out.entries ++ Place i s by ∷ [])) gains.same;
+          journal = both.journal ∙ ap (λ (b : BoardState). b.journal ++ (out.entries ++ Place i s by ∷ [])) gains.same;
+          budget = refl;
+          room = (let fits = both.room in let more = gains.more in omega arith);
+        };
+      }
+    where
+      both : Adds mid (out.entries ++ Place i s by ∷ []) last
+      both = adds_both mid left last out.entries (Place i s by ∷ []) out.adds adds
+
+-- without room for the withdrawals and the placing there is none for the turn
+pub no_room_to_eject : (old : BoardState) (side : Side) (i q : ℕ) (marks : List Bool) → IsPick (insns_of old.plan) old.spots side i
+    → IsEjected (insns_of old.plan) old.spots old.budget i q → Marks (insns_of old.plan) (GoesWith (insns_of old.plan) old.spots q) marks
+    → old.room < marked_below marks (length (insns_of old.plan)) + 1 → HasNoRoomFor old side
+no_room_to_eject old side i q marks pick ejected marked full Memory entries left is = absurd is
+no_room_to_eject old side i q marks pick ejected marked full Done entries left is = absurd (pick_left (insns_of old.plan) old.spots side i pick is.0)
+no_room_to_eject old side i q marks pick ejected marked full Idle entries left is = absurd (is.1 i pick.competes)
+no_room_to_eject old side i q marks pick ejected marked full (NoRoom k) entries left is =
+    absurd (stuck_ejected (insns_of old.plan) old.spots old.budget side k i q is.0 pick ejected)
+no_room_to_eject old side i q marks pick ejected marked full (Placed k s) entries left is =
+    absurd (placed_ejected (insns_of old.plan) old.spots old.budget side k i q s is.0 pick ejected)
+no_room_to_eject old side i q marks pick ejected marked full (Ejected p k s) entries left is =
+    let number : k ≡ i = pick_unique (insns_of old.plan) old.spots side k i is.0.pick pick in
+    let theirs : IsEjected (insns_of old.plan) old.spots old.budget i p = subst (λ (x : ℕ). IsEjected (insns_of old.plan) old.spots old.budget x p) number is.0.ejected in
+    let victim : p ≡ q = one_victim (insns_of old.plan) old.spots i p q theirs.victim ejected.victim in
+    let withdraws : Withdraws (insns_of old.plan) old.spots q (who_of side) is.0.withdrawals =
+    subst (λ (x : ℕ). Withdraws (insns_of old.plan) old.spots x (who_of side) is.0.withdrawals) victim is.0.withdraws in
+    let many = withdrawn_many (insns_of old.plan) old.spots q (who_of side) (length (insns_of old.plan)) marks is.0.withdrawals (omega arith) marked withdraws in
+    let long : length entries ≡ length is.0.withdrawals + 1 =
+    ap (length {A = Entry}) is.0.entries_are ∙ length-append is.0.withdrawals (Place k s (who_of side) ∷ []) in
+    omega (arith, many, long, full)
+
+-- a withdrawal once there is room
+pub gains_withdrawal : (old mid new : BoardState) (n i count many : ℕ) (who : Who) → many ≡ count → GainsRoom old n mid → IsWithdrawal mid i who count new
+    → IsWithdrawal old i who many new
+gains_withdrawal old mid new n i count many who same gains out = record {
+  entries = out.entries;
+  withdraws = subst (λ (b : BoardState). Withdraws (insns_of b.plan) b.spots i who out.entries) gains.same out.withdraws;
+  counts = same ∙ out.counts;
+  adds = gains_adds old mid new n out.entries gains out.adds;
+}
+
+-- without room for the withdrawals
+pub no_room_to_withdraw : (board : BoardState) (i : ℕ) (who : Who) (marks : List Bool) (entries : List Entry)
+    → Marks (insns_of board.plan) (GoesWith (insns_of board.plan) board.spots i) marks
+    → board.room < marked_below marks (length (insns_of board.plan)) → Withdraws (insns_of board.plan) board.spots i who entries → board.room < length entries
+no_room_to_withdraw board i who marks entries marked full withdraws =
+    let many = withdrawn_many (insns_of board.plan) board.spots i who (length (insns_of board.plan)) marks entries (omega arith) marked withdraws in
+    omega (arith, many, full)

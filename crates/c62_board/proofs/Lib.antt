@@ -1,0 +1,9 @@
+pub mod Chains
+pub mod Placements
+pub mod Journals
+pub mod Withdrawals
+pub mod Parts
+pub mod Victims
+pub mod Turns
+pub mod Ejections
+pub mod Counting

@@ -1,0 +1,21 @@
+-- Laws of boards, in the words of the rules.
+use Rattle.std.specs.Prelude.{◌≡◌, ℕ, ◌*◌, ◌≤◌, List, [], ◌∷◌, length}
+use Rattle.c62_insn.specs.declared.register.Side.{Side}
+use Rattle.c62_insn.specs.declared.insn.Insn.{Insn}
+use Rattle.c62_sheet.specs.declared.entry.Entry.{Entry}
+use Rattle.c62_sheet.specs.declared.entry.Entry.TheVariants.{Place, Withdraw}
+use Rattle.c62_sheet.specs.Lawful.{Spots}
+use Rattle.c62_board.specs.declared.turn.Turn.{Turn}
+use Rattle.c62_board.specs.Turn.{IsTurn}
+
+-- a side has one turn at most, with one list of entries, and one budget is left
+abbrev pub HasOneTurn : List Insn → Spots → ℕ → Side → Type 0
+HasOneTurn block set budget side =
+    (first second : Turn) (entries others : List Entry) (left rest : ℕ) → IsTurn block set budget side first entries left
+    → IsTurn block set budget side second others rest → (first ≡ second) × (entries ≡ others) × (left ≡ rest)
+
+-- nothing was withdrawn
+abbrev pub HasOnlyPlaces : List Entry → Type 0
+HasOnlyPlaces [] = Unit {0}
+HasOnlyPlaces (Place i s who ∷ entries) = HasOnlyPlaces entries
+HasOnlyPlaces (Withdraw i who ∷ entries) = ⊥

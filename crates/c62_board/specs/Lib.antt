@@ -1,0 +1,9 @@
+pub mod Chain
+pub mod Who
+pub mod Withdrawal
+pub mod Victim
+pub mod Turn
+pub mod Replay
+pub mod State
+pub mod View
+pub mod Laws

@@ -1,0 +1,42 @@
+-- What is withdrawn with a number (docs/SCHEDULING.md, "Withdrawing").
+use Rattle.std.specs.Prelude.{◌≡◌, ◌⊎◌, ℕ, zero, suc, ◌+◌, ◌≤◌, ◌++◌, Bool, false, List, [], ◌∷◌, length, slice_index_or, if◌then◌else◌, IsSome, Vec, vec_capacity}
+use Rattle.std.specs.declared.alloc.Global.{Global}
+use Rattle.c62_insn.specs.declared.insn.Insn.{Insn}
+use Rattle.c62_sheet.specs.declared.entry.Entry.{Entry}
+use Rattle.c62_sheet.specs.declared.entry.Entry.TheVariants.{Withdraw}
+use Rattle.c62_sheet.specs.declared.entry.Who.{Who}
+use Rattle.c62_depend.specs.Plan.{insns_of}
+use Rattle.c62_sheet.specs.Lawful.{Spots, spot_at, Placements}
+use Rattle.c62_sheet.specs.Journal.{replayed, IsLegal}
+use Rattle.c62_board.specs.Chain.{Leads}
+
+-- j goes with i: it is placed, and a chain of dependences leads to it from i
+pub record GoesWith (block : List Insn) (set : Spots) (i j : ℕ) : Type 0 where
+  pub taken : IsSome (spot_at set j)
+  pub led : Leads block i j
+
+-- the entries withdraw each number below n that goes with i and no other, highest first
+abbrev pub WithdrawsBelow : List Insn → Spots → ℕ → Who → ℕ → List Entry → Type 0
+WithdrawsBelow block set i who zero entries = entries ≡ []
+WithdrawsBelow block set i who (suc j) entries =
+    (GoesWith block set i j × ((rest : List Entry) × (entries ≡ Withdraw j who ∷ rest) × WithdrawsBelow block set i who j rest))
+    ⊎ ((GoesWith block set i j → ⊥) × WithdrawsBelow block set i who j entries)
+
+-- the entries withdraw exactly i and the placed numbers to which a chain of dependences leads from it, highest first
+abbrev pub Withdraws : List Insn → Spots → ℕ → Who → List Entry → Type 0
+Withdraws block set i who entries = WithdrawsBelow block set i who (length block) entries
+
+-- how many numbers below n are marked
+abbrev pub marked_below : List Bool → ℕ → ℕ
+marked_below marks zero = 0
+marked_below marks (suc n) = marked_below marks n + (if slice_index_or marks n false then 1 else 0)
+
+-- what goes with i was taken out of the sheet, and written to the journal, which had the room
+pub record TakesOut (old : Placements) (journal : Vec Entry Global) (i : ℕ) (who : Who) (new : Placements) (longer : Vec Entry Global) : Type 0 where
+  pub entries : List Entry
+  pub withdraws : Withdraws (insns_of old.plan) old.spots i who entries
+  pub legal : IsLegal (insns_of old.plan) old.spots entries
+  pub plan : new.plan ≡ old.plan
+  pub spots : new.spots ≡ replayed old.spots entries
+  pub journal_is : longer.items ≡ journal.items ++ entries
+  pub room : vec_capacity journal ≤ vec_capacity longer

@@ -1,0 +1,258 @@
+//! Worked blocks: steps, withdrawals, replays, proposals and refusals.
+
+use crate::board::Board;
+use crate::fault::{CommitFault, PlaceFault, ReplayFault, WithdrawFault};
+use crate::turn::{Proposal, Turn};
+use c62_depend::Plan;
+use c62_insn::{Letter, Side, Unit};
+use c62_read::read_program;
+use c62_sheet::{Entry, Spot, Who};
+use std::alloc::Global;
+use std::process::Abort;
+use std::test::Fail;
+
+const L1: Unit = Unit {
+    letter: Letter::L,
+    side: Side::A,
+};
+
+const M1: Unit = Unit {
+    letter: Letter::M,
+    side: Side::A,
+};
+
+const D1: Unit = Unit {
+    letter: Letter::D,
+    side: Side::A,
+};
+
+const L2: Unit = Unit {
+    letter: Letter::L,
+    side: Side::B,
+};
+
+const D2: Unit = Unit {
+    letter: Letter::D,
+    side: Side::B,
+};
+
+const SIX: &str =
+    "LDW *B4,B5\nADD B2,A2,B3\nADD A1,B1,A3\nADD A3,A3,A4\nMPY A5,B1,A2\nMPY A2,A2,A6";
+
+const ONE_PATH: &str = "LDW *A4,A5\nLDW *B4,A6";
+
+/// The entries of the sides' steps on the block of six with one ejection, and those of one that withdraws.
+const JOURNAL: [Entry; 10] = [
+    Entry::Place(2, Spot { cycle: 0, unit: L1 }, Who::A),
+    Entry::Place(0, Spot { cycle: 0, unit: D2 }, Who::B),
+    Entry::Place(3, Spot { cycle: 1, unit: L1 }, Who::A),
+    Entry::Place(1, Spot { cycle: 0, unit: L2 }, Who::B),
+    Entry::Withdraw(3, Who::A),
+    Entry::Withdraw(2, Who::A),
+    Entry::Place(4, Spot { cycle: 0, unit: M1 }, Who::A),
+    Entry::Place(2, Spot { cycle: 1, unit: L1 }, Who::A),
+    Entry::Place(5, Spot { cycle: 2, unit: M1 }, Who::A),
+    Entry::Place(3, Spot { cycle: 2, unit: L1 }, Who::A),
+];
+
+/// The turns of A and B alternately on the block of six with one ejection.
+const TURNS: [Turn; 12] = [
+    Turn::Placed(2, Spot { cycle: 0, unit: L1 }),
+    Turn::Placed(0, Spot { cycle: 0, unit: D2 }),
+    Turn::Placed(3, Spot { cycle: 1, unit: L1 }),
+    Turn::Placed(1, Spot { cycle: 0, unit: L2 }),
+    Turn::Ejected(2, 4, Spot { cycle: 0, unit: M1 }),
+    Turn::Idle,
+    Turn::Placed(2, Spot { cycle: 1, unit: L1 }),
+    Turn::Idle,
+    Turn::Placed(5, Spot { cycle: 2, unit: M1 }),
+    Turn::Idle,
+    Turn::Placed(3, Spot { cycle: 2, unit: L1 }),
+    Turn::Done,
+];
+
+/// The plan of the only block of a text.
+fn plan_of(rt: &impl Abort, alloc: Global, text: &str) -> Result<Plan, Fail> {
+    let mut blocks = read_program(alloc, text.as_bytes())?.into_blocks();
+    assert_eq!(rt; blocks.len(), 1, "{text}");
+    let block = blocks.pop().expect(rt, "a block");
+    match Plan::new(alloc, block) {
+        Ok(plan) => Ok(plan),
+        Err((_, error)) => Err(error.into()),
+    }
+}
+
+/// An empty board of the only block of a text.
+fn board_of(rt: &impl Abort, alloc: Global, text: &str, budget: u16) -> Result<Board, Fail> {
+    match Board::new(alloc, plan_of(rt, alloc, text)?, budget) {
+        Ok(board) => Ok(board),
+        Err((_, error)) => Err(error.into()),
+    }
+}
+
+fn side_of(turn: usize) -> Side {
+    if turn % 2 == 0 { Side::A } else { Side::B }
+}
+
+/// The board of the block of six after the first turns.
+fn after(rt: &impl Abort, alloc: Global, turns: usize) -> Result<Board, Fail> {
+    let mut board = board_of(rt, alloc, SIX, 1)?;
+    for k in 0..turns {
+        board.step(side_of(k));
+    }
+    Ok(board)
+}
+
+fn place(rt: &impl Abort, board: &mut Board, i: u16) -> Result<Spot, PlaceFault> {
+    assert!(rt; i < board.plan().len());
+    board.place(i, Who::Tail)
+}
+
+fn withdraw(rt: &impl Abort, board: &mut Board, i: u16) -> Result<u16, WithdrawFault> {
+    assert!(rt; i < board.plan().len());
+    board.withdraw(i, Who::A)
+}
+
+#[test]
+fn turns_of_both_sides(rt: HostRuntime) -> Result<(), Fail> {
+    let mut board = board_of(&rt, rt.alloc(), SIX, 1)?;
+    for (k, want) in TURNS.iter().enumerate() {
+        assert_eq!(rt; board.step(side_of(k)), *want);
+    }
+    assert!(rt; board.journal() == &JOURNAL[..]);
+    assert_eq!(rt; board.budget(), 0);
+    assert!(rt; board.complete());
+    assert_eq!(rt; board.length(), 5);
+    board.clear();
+    assert_eq!(rt; board.journal().len(), 0);
+    assert_eq!(rt; board.counts().placed_a, 0);
+    assert_eq!(rt; board.step(Side::A), TURNS[0]);
+    Ok(())
+}
+
+#[test]
+fn the_victim(rt: HostRuntime) -> Result<(), Fail> {
+    let board = after(&rt, rt.alloc(), 4)?;
+    assert!(rt; board.plan().len() == 6);
+    assert!(rt; board.ready(4));
+    let least = board.least(4);
+    assert_eq!(rt; least, Some(Spot { cycle: 1, unit: M1 }));
+    if least.is_some() {
+        assert_eq!(rt; board.blocks_least(4), Some(2));
+    }
+    let mut board = board_of(&rt, rt.alloc(), "ADD A2,B1,A3\nMPY A5,B2,A2", 1)?;
+    assert_eq!(rt;
+        board.step(Side::A),
+        Turn::Placed(0, Spot { cycle: 0, unit: L1 })
+    );
+    assert!(rt; board.plan().len() == 2);
+    assert!(rt; board.ready(1));
+    if board.least(1).is_some() {
+        assert_eq!(rt; board.blocks_least(1), None);
+    }
+    Ok(())
+}
+
+#[test]
+fn withdrawals(rt: HostRuntime) -> Result<(), Fail> {
+    let mut board = after(&rt, rt.alloc(), 4)?;
+    assert_eq!(rt; withdraw(&rt, &mut board, 4), Err(WithdrawFault::NotPlaced));
+    assert_eq!(rt; board.journal().len(), 4);
+    assert_eq!(rt; withdraw(&rt, &mut board, 2), Ok(2));
+    assert!(rt; board.journal() == &JOURNAL[..6]);
+    assert_eq!(rt; board.counts().placed_a, 0);
+    Ok(())
+}
+
+#[test]
+fn a_chain_of_256(rt: HostRuntime) -> Result<(), Fail> {
+    let mut text = String::new(rt.alloc());
+    for _ in 0..256 {
+        text.push_str("ADD A1,A2,A1\n")?;
+    }
+    let mut board = board_of(&rt, rt.alloc(), &text, 0)?;
+    for i in 0..256 {
+        assert_eq!(rt; place(&rt, &mut board, i), Ok(Spot { cycle: i, unit: L1 }));
+    }
+    assert!(rt; board.complete());
+    assert_eq!(rt; board.length(), 256);
+    assert_eq!(rt; withdraw(&rt, &mut board, 1), Ok(255));
+    assert_eq!(rt; board.journal().len(), 511);
+    assert_eq!(rt; board.journal()[256], Entry::Withdraw(255, Who::A));
+    assert_eq!(rt; board.counts().placed_a, 1);
+    Ok(())
+}
+
+#[test]
+fn replays(rt: HostRuntime) -> Result<(), Fail> {
+    let plan = plan_of(&rt, rt.alloc(), SIX)?;
+    let Ok(board) = Board::replay(rt.alloc(), plan, 3, &JOURNAL) else {
+        return Err("the entries are legal".into());
+    };
+    assert!(rt; board.complete());
+    assert!(rt; board.journal() == &JOURNAL[..]);
+    assert_eq!(rt; board.budget(), 3);
+    let mut exchanged = JOURNAL;
+    exchanged[4] = JOURNAL[5];
+    exchanged[5] = JOURNAL[4];
+    let plan = plan_of(&rt, rt.alloc(), SIX)?;
+    let Err((plan, fault)) = Board::replay(rt.alloc(), plan, 3, &exchanged) else {
+        return Err("an entry is not legal".into());
+    };
+    assert_eq!(rt; fault, ReplayFault::BadEntry(4));
+    assert_eq!(rt; plan.len(), 6);
+    Ok(())
+}
+
+#[test]
+fn proposals(rt: HostRuntime) -> Result<(), Fail> {
+    let mut board = board_of(&rt, rt.alloc(), ONE_PATH, 0)?;
+    let first = Proposal {
+        number: 0,
+        spot: Spot { cycle: 0, unit: D1 },
+        seen: 0,
+    };
+    let second = Proposal {
+        number: 1,
+        spot: Spot { cycle: 0, unit: D2 },
+        seen: 7,
+    };
+    let later = Proposal {
+        number: 0,
+        spot: Spot { cycle: 1, unit: D1 },
+        seen: 1,
+    };
+    let none = Proposal {
+        number: 65535,
+        spot: Spot { cycle: 0, unit: D1 },
+        seen: 0,
+    };
+    assert_eq!(rt; board.commit(&none, Who::A), Err(CommitFault::NotReady));
+    assert_eq!(rt; board.commit(&later, Who::A), Err(CommitFault::Stale(0)));
+    assert_eq!(rt;
+        board.commit(&second, Who::B),
+        Ok(Spot { cycle: 0, unit: D2 })
+    );
+    assert_eq!(rt; board.commit(&second, Who::B), Err(CommitFault::NotReady));
+    assert_eq!(rt; board.commit(&first, Who::A), Err(CommitFault::Stale(1)));
+    assert_eq!(rt; board.journal().len(), 1);
+    assert_eq!(rt;
+        board.commit(&later, Who::A),
+        Ok(Spot { cycle: 1, unit: D1 })
+    );
+    assert_eq!(rt; board.length(), 6);
+    assert_eq!(rt; place(&rt, &mut board, 0), Err(PlaceFault::NotReady));
+    assert_eq!(rt; board.pick(Side::A), None);
+    assert_eq!(rt; board.budget(), 0);
+    Ok(())
+}
+
+#[test]
+fn a_refused_spot(rt: HostRuntime) -> Result<(), Fail> {
+    let board = after(&rt, rt.alloc(), 2)?;
+    assert!(rt; board.plan().len() == 6);
+    assert_eq!(rt; board.spot_of(2), Some(Spot { cycle: 0, unit: L1 }));
+    assert!(rt; board.check(4, Spot { cycle: 0, unit: M1 }).is_err());
+    assert!(rt; board.check(3, Spot { cycle: 1, unit: L1 }).is_ok());
+    Ok(())
+}

@@ -1,0 +1,69 @@
+//! What is withdrawn with an instruction.
+
+ghost use Rattle.std.specs.Prelude.{◌≡◌, ◌↔◌, ◌+◌, ◌<◌, ◌≤◌, IsTrue, IsSome, length, vec_len, vec_capacity};
+ghost use Rattle.c62_depend.specs.Plan.{insns_of};
+ghost use Rattle.c62_sheet.specs.Lawful.{spot_at};
+ghost use Rattle.c62_board.specs.Chain.{Leads, Marks, IsMarked};
+ghost use Rattle.c62_board.specs.Withdrawal.{GoesWith, TakesOut, marked_below};
+
+use crate::chain::{Chained, led_from};
+use c62_sheet::{Entry, Sheet, Who};
+
+/// Whether instruction `j` is marked and placed.
+fn is_marked_and_placed(sheet: &Sheet, marks: &[bool], j: u16) -> bool
+    requires in_plan { j < length sheet.now.plan.insns }
+    requires room { j < length marks.now }
+    ensures { IsTrue result ↔ (IsMarked marks.now j × IsSome (spot_at sheet.now.spots j)) }
+{
+    marks[j as usize] && sheet.spot_of(j).is_some()
+}
+
+/// Marks what goes with instruction `i`.
+pub(crate) fn going_with(sheet: &Sheet, i: u16) -> Chained
+    requires { i < length sheet.now.plan.insns }
+    ensures { Marks (insns_of sheet.now.plan) (GoesWith (insns_of sheet.now.plan) sheet.now.spots i) result }
+{
+    let plan = sheet.plan();
+    let n = plan.len();
+    let mut marks = led_from(plan, i);
+    for j in 0..n {
+        marks[j as usize] = is_marked_and_placed(sheet, &marks, j);
+    }
+    marks
+}
+
+/// How many numbers below `n` are marked.
+pub(crate) fn count_marked(marks: &[bool], n: u16) -> u16
+    requires { n ≤ length marks.now }
+    ensures { result ≡ marked_below marks.now n }
+{
+    let mut count = 0;
+    for k in 0..n {
+        count += u16::from(marks[k as usize]);
+    }
+    count
+}
+
+/// Takes out the marked instructions, highest first, and writes it into a journal that has room.
+pub(crate) fn take_out_marked(
+    sheet: &mut Sheet,
+    journal: &mut Vec<Entry>,
+    marks: &[bool],
+    i: u16,
+    who: Who,
+)
+    requires marked { Marks (insns_of sheet.old.plan) (GoesWith (insns_of sheet.old.plan) sheet.old.spots i) marks.now }
+    requires many { length sheet.old.plan.insns ≤ length marks.now }
+    requires room { vec_len journal.old + marked_below marks.now (length sheet.old.plan.insns) ≤ vec_capacity journal.old }
+    ensures { TakesOut sheet.old journal.old i who sheet.new journal.new }
+{
+    let n = sheet.plan().len();
+    for j in (0..n).rev() {
+        if marks[j as usize] {
+            let Ok(()) = journal.push(Entry::Withdraw(j, who)) else {
+                unreachable!()
+            };
+            sheet.take_out(j);
+        }
+    }
+}

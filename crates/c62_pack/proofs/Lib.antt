@@ -1,0 +1,2 @@
+pub mod SameIssues
+pub mod Arranging

@@ -1,0 +1,150 @@
+-- The packet rules and a block's length don't ask which unit is written in an instruction.
+use Rattle.std.proofs.Common.{arith, ◌≡◌, ℕ, zero, suc, ◌+◌, ◌≤◌, List, [], ◌∷◌, get_or, Option, Some, None, refl, sym, ap, ◌∙◌, Bool, true, false, cond, subst, max}
+use Rattle.std.specs.Prelude.{sum_by, count_by, find, IsTrue, if◌then◌else◌, ◌==◌}
+use Rattle.std.specs.Option.{option_map_or}
+use Rattle.std.proofs.lemmas.Option.{none-some, same_Some}
+use Rattle.std.proofs.lemmas.List.Sums.{sum_by-cons}
+use Rattle.c62_insn.specs.declared.register.Reg.{Reg}
+use Rattle.c62_insn.specs.declared.register.Side.{Side}
+use Rattle.c62_insn.specs.declared.register.Unit.{Unit as FunctionalUnit}
+use Rattle.c62_insn.specs.declared.operands.Op.{Op}
+use Rattle.c62_insn.specs.declared.operands.Operands.{Operands}
+use Rattle.c62_insn.specs.declared.insn.Insn.{Insn}
+use Rattle.c62_insn.specs.Takes.{same_reg}
+use Rattle.c62_insn.specs.Shape.{crosses_to, data_path_of, reads_of, writes_of, is_branch}
+use Rattle.c62_insn.specs.Insn.{op_of, operands_of, register_writes}
+use Rattle.c62_insn.specs.PacketRules.{Issue, Issues, IsIssued, AtMostOne, reads_in, reads_count, LandsIn, may_land_together, UsesCrossPath, UsesDataPath, KeepsPacketRules}
+use Rattle.c62_insn.specs.Length.{greatest_delay, landing_end, last_landing_end, length_of}
+
+-- the same issue, whichever unit is written
+pub record IsSameIssue (p q : Issue) : Type 0 where
+  pub op : op_of p.insn ≡ op_of q.insn
+  pub operands : operands_of p.insn ≡ operands_of q.insn
+  pub cycle : p.cycle ≡ q.cycle
+  pub unit : p.unit ≡ q.unit
+
+abbrev pub AreSameOptions : Option Issue → Option Issue → Type 0
+AreSameOptions None None = Unit {0}
+AreSameOptions (Some p) (Some q) = IsSameIssue p q
+AreSameOptions _ _ = ⊥
+
+abbrev pub AreSame : Issues → Issues → Type 0
+AreSame [] [] = Unit {0}
+AreSame (p ∷ ps) (q ∷ qs) = AreSameOptions p q × AreSame ps qs
+AreSame _ _ = ⊥
+
+-- what is issued under a number in the one is in the other
+pub record IsMirrored (ps : Issues) (i : ℕ) (q : Issue) : Type 0 where
+  pub other : Issue
+  pub issued : IsIssued ps i other
+  pub same : IsSameIssue other q
+
+of_options : (p q : Option Issue) (r : Issue) → AreSameOptions p q → q ≡ Some r → (s : Issue) × (p ≡ Some s) × IsSameIssue s r
+of_options None None r same e = absurd (none-some r e)
+of_options None (Some q) r same e = absurd same
+of_options (Some s) None r same e = absurd same
+of_options (Some s) (Some q) r same e = (s, refl, subst (λ (t : Issue). IsSameIssue s t) (same_Some q r e) same)
+
+pub mirrored : (ps qs : Issues) (i : ℕ) (q : Issue) → AreSame ps qs → IsIssued qs i q → IsMirrored ps i q
+mirrored [] [] i q same e = absurd (none-some q e)
+mirrored [] (r ∷ qs) i q same e = absurd same
+mirrored (p ∷ ps) [] i q same e = absurd same
+mirrored (p ∷ ps) (r ∷ qs) zero q same e = let found = of_options p r q same.0 e in record { other = found.0; issued = found.1; same = found.2 }
+mirrored (p ∷ ps) (r ∷ qs) (suc i) q same e =
+    let found = mirrored ps qs i q same.1 e in record { other = found.other; issued = found.issued; same = found.same }
+
+-- ---- the rules
+
+one_each : (Is : Issue → Type 0) (ps qs : Issues) → ((p q : Issue) → IsSameIssue p q → Is q → Is p) → AreSame ps qs → AtMostOne Is ps → AtMostOne Is qs
+one_each Is ps qs like same rule i j p q h k e is_p is_q =
+    let a = mirrored ps qs i p same h in
+    let b = mirrored ps qs j q same k in
+    rule i j a.other b.other a.issued b.issued (a.same.cycle ∙ (e ∙ sym b.same.cycle)) (like a.other p a.same is_p) (like b.other q b.same is_q)
+
+crosses_same : (side : Side) (p q : Issue) → IsSameIssue p q → UsesCrossPath side q → UsesCrossPath side p
+crosses_same side p q same (on_side, crosses) = (
+  ap (λ (u : FunctionalUnit). u.side) same.unit ∙ on_side,
+  subst (λ (o : Operands). IsTrue (crosses_to p.unit.side o)) (sym same.operands)
+      (subst (λ (u : FunctionalUnit). IsTrue (crosses_to u.side (operands_of q.insn))) (sym same.unit) crosses),
+)
+
+path_same : (side : Side) (p q : Issue) → IsSameIssue p q → UsesDataPath side q → UsesDataPath side p
+path_same side p q same uses = ap data_path_of same.operands ∙ uses
+
+reads_same : (cycle : ℕ) (reg : Reg) (p q : Issue) → IsSameIssue p q → reads_in cycle reg (Some p) ≡ reads_in cycle reg (Some q)
+reads_same cycle reg p q same =
+    ap (λ (k : ℕ). if k == cycle then count_by (λ read. same_reg read reg) (reads_of (op_of p.insn) (operands_of p.insn)) else 0) same.cycle
+    ∙ (ap (λ (op : Op). if q.cycle == cycle then count_by (λ read. same_reg read reg) (reads_of op (operands_of p.insn)) else 0) same.op
+    ∙ ap (λ (o : Operands). if q.cycle == cycle then count_by (λ read. same_reg read reg) (reads_of (op_of q.insn) o) else 0) same.operands)
+
+option_reads : (cycle : ℕ) (reg : Reg) (p q : Option Issue) → AreSameOptions p q → reads_in cycle reg p ≡ reads_in cycle reg q
+option_reads cycle reg None None same = refl
+option_reads cycle reg None (Some q) same = absurd same
+option_reads cycle reg (Some p) None same = absurd same
+option_reads cycle reg (Some p) (Some q) same = reads_same cycle reg p q same
+
+sum_same : (cycle : ℕ) (reg : Reg) (ps qs : Issues) → AreSame ps qs → sum_by (reads_in cycle reg) ps ≡ sum_by (reads_in cycle reg) qs
+sum_same cycle reg [] [] same = refl
+sum_same cycle reg [] (q ∷ qs) same = absurd same
+sum_same cycle reg (p ∷ ps) [] same = absurd same
+sum_same cycle reg (p ∷ ps) (q ∷ qs) same =
+    let head = option_reads cycle reg p q same.0 in
+    let tail = sum_same cycle reg ps qs same.1 in
+    omega (arith, sum_by-cons (reads_in cycle reg) p ps, sum_by-cons (reads_in cycle reg) q qs)
+
+pub writes_same : (p q : Issue) → IsSameIssue p q → register_writes p.insn ≡ register_writes q.insn
+writes_same p q same = ap (λ (op : Op). writes_of op (operands_of p.insn)) same.op ∙ ap (λ (o : Operands). writes_of (op_of q.insn) o) same.operands
+
+lands_same : (reg : Reg) (cycle : ℕ) (p q : Issue) → IsSameIssue p q → LandsIn q reg cycle → LandsIn p reg cycle
+lands_same reg cycle p q same (delay, contains, e) = (
+  delay,
+  subst (λ (ws : List (Reg × ℕ)). Rattle.std.specs.Prelude.Contains ws (reg, delay)) (sym (writes_same p q same)) contains,
+  ap (λ (k : ℕ). k + delay) same.cycle ∙ e,
+)
+
+pub rules_same : (ps qs : Issues) → AreSame ps qs → KeepsPacketRules ps → KeepsPacketRules qs
+rules_same ps qs same rules = record {
+  p1 = λ unit. one_each (λ p. p.unit ≡ unit) ps qs (λ p q s e. s.unit ∙ e) same (rules.p1 unit);
+  p2 = λ side. one_each (UsesCrossPath side) ps qs (crosses_same side) same (rules.p2 side);
+  p3 = λ side. one_each (UsesDataPath side) ps qs (path_same side) same (rules.p3 side);
+  p4 = λ cycle reg. subst (λ (n : ℕ). n ≤ 4) (sum_same cycle reg ps qs same) (rules.p4 cycle reg);
+  p5 = λ i j p q reg cycle h k lands theirs.
+      let a = mirrored ps qs i p same h in
+      let b = mirrored ps qs j q same k in
+      rules.p5 i j a.other b.other reg cycle a.issued b.issued (lands_same reg cycle a.other p a.same lands) (lands_same reg cycle b.other q b.same theirs);
+}
+
+-- ---- the length
+
+abbrev pub AreSameIssued : List Issue → List Issue → Type 0
+AreSameIssued [] [] = Unit {0}
+AreSameIssued (p ∷ ps) (q ∷ qs) = IsSameIssue p q × AreSameIssued ps qs
+AreSameIssued _ _ = ⊥
+
+pub end_same : (p q : Issue) → IsSameIssue p q → landing_end p ≡ landing_end q
+end_same p q same = let e = ap greatest_delay (writes_same p q same) in let c = same.cycle in omega arith
+
+last_same : (ps qs : List Issue) → AreSameIssued ps qs → last_landing_end ps ≡ last_landing_end qs
+last_same [] [] same = refl
+last_same [] (q ∷ qs) same = absurd same
+last_same (p ∷ ps) [] same = absurd same
+last_same (p ∷ ps) (q ∷ qs) same = ap (λ (n : ℕ). max n (last_landing_end ps)) (end_same p q same.0) ∙ ap (λ (n : ℕ). max (landing_end q) n) (last_same ps qs same.1)
+
+found_same : (ps qs : List Issue) (d e : ℕ) → AreSameIssued ps qs → d ≡ e
+    → option_map_or (λ (p : Issue). p.cycle + 6) (find (λ (p : Issue). is_branch (op_of p.insn)) ps) d
+    ≡ option_map_or (λ (p : Issue). p.cycle + 6) (find (λ (p : Issue). is_branch (op_of p.insn)) qs) e
+found_same [] [] d e same same_end = same_end
+found_same [] (q ∷ qs) d e same same_end = absurd same
+found_same (p ∷ ps) [] d e same same_end = absurd same
+found_same (p ∷ ps) (q ∷ qs) d e same same_end =
+    let later = found_same ps qs d e same.1 same_end in
+    let g : Option Issue → ℕ → ℕ = λ o n. option_map_or (λ (r : Issue). r.cycle + 6) o n in
+    let f : Issue → Bool = λ r. is_branch (op_of r.insn) in
+    subst (λ (b : Bool). g (cond (f p) (Some p) (find f ps)) d ≡ g (cond b (Some q) (find f qs)) e) (ap is_branch same.0.op)
+    (elim (f p) as (λ (b : Bool). g (cond b (Some p) (find f ps)) d ≡ g (cond b (Some q) (find f qs)) e) [
+      | true ↦ ap (λ (n : ℕ). n + 6) same.0.cycle
+      | false ↦ later
+    ])
+
+pub length_same : (ps qs : List Issue) → AreSameIssued ps qs → length_of ps ≡ length_of qs
+length_same ps qs same = found_same ps qs (last_landing_end ps) (last_landing_end qs) same (last_same ps qs same)

@@ -1,0 +1,12 @@
+//! The execute packets of a plan whose instructions are placed.
+#![tactic(auto)]
+
+mod arrange;
+mod fault;
+mod packets;
+
+pub use fault::AtFault;
+pub use packets::{packets_at, packets_of};
+
+#[cfg(test)]
+mod tests;

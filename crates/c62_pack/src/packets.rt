@@ -1,0 +1,72 @@
+//! The packets of a board, and of any lawful spots.
+
+ghost use Rattle.std.specs.Prelude.{◌≡◌, map, Some, IfOk, MatchResult};
+ghost use Rattle.c62_depend.specs.Plan.{insns_of};
+ghost use Rattle.c62_sheet.specs.Lawful.{IsLawful};
+ghost use Rattle.c62_sheet.specs.Least.{IsComplete};
+ghost use Rattle.c62_meaning.specs.Laws.{AreSerial};
+ghost use Rattle.c62_pipe.specs.Chain.{IsBlockPacked};
+ghost use Rattle.c62_pack.specs.Packets.{ArePackets, IsAtFault};
+
+use crate::arrange::arrange;
+use crate::fault::AtFault;
+use c62_board::Board;
+use c62_depend::Plan;
+use c62_packet::PacketBlock;
+use c62_sheet::{Spot, are_lawful};
+use std::alloc::{AllocError, Global};
+
+/// The spots of a complete board, by number.
+fn spots_of(alloc: Global, board: &Board) -> Result<Vec<Spot>, AllocError>
+    requires { IsComplete (insns_of board.now.plan) board.now.spots }
+    ensures { IfOk result (λ spots. map Some spots.items ≡ board.now.spots) }
+{
+    let count = board.plan().len();
+    let mut spots = Vec::with_capacity(alloc, usize::from(count))?;
+    for number in 0..count {
+        let Some(spot) = board.spot_of(number) else {
+            unreachable!()
+        };
+        spots.push(spot)?;
+    }
+    Ok(spots)
+}
+
+/// The packets of a complete board: its instructions in listing order, each with its line, and with the unit written on
+/// which it stands; its label, and its length in cycles. Run as packets, they leave what the board's block leaves run
+/// serially, in registers, memory and faulted lines, and go on where it does, from every machine.
+///
+/// # Errors
+///
+/// Where memory ran out.
+pub fn packets_of(alloc: Global, board: &Board) -> Result<PacketBlock, AllocError>
+    requires { IsComplete (insns_of board.now.plan) board.now.spots }
+    ensures packets { IfOk result (ArePackets board.now.plan board.now.spots) }
+    ensures serial { IfOk result (λ block. AreSerial board.now.plan.insns block.placed) }
+    ensures block { IfOk result (IsBlockPacked board.now.plan) }
+{
+    let spots = spots_of(alloc, board)?;
+    arrange(alloc, board.plan(), &spots)
+}
+
+/// The packets of a plan whose instruction `i` stands at spot `i`, as [`packets_of`] has them of a board, for any lawful
+/// spots, least or not.
+///
+/// # Errors
+///
+/// `NotLawful` exactly where the spots are not a lawful complete set of placements of the plan (`docs/SCHEDULING.md`,
+/// "Lawful"), and `Memory` where memory ran out.
+pub fn packets_at(alloc: Global, plan: &Plan, spots: &[Spot]) -> Result<PacketBlock, AtFault>
+    ensures packets { IfOk result (ArePackets plan.now (map Some spots.now)) }
+    ensures serial { IfOk result (λ block. AreSerial plan.now.insns block.placed) }
+    ensures block { IfOk result (IsBlockPacked plan.now) }
+    ensures fault { MatchResult result (λ _. IsLawful (insns_of plan.now) (map Some spots.now)) (IsAtFault plan.now spots.now) }
+{
+    if !are_lawful(plan, spots) {
+        return Err(AtFault::NotLawful);
+    }
+    match arrange(alloc, plan, spots) {
+        Ok(block) => Ok(block),
+        Err(_) => Err(AtFault::Memory),
+    }
+}

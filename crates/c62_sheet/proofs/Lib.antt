@@ -1,0 +1,17 @@
+pub mod Optional
+pub mod Sets
+pub mod IssuesOf
+pub mod Adding
+pub mod Used
+pub mod Placing
+pub mod Missing
+pub mod EarlyCycles
+pub mod Turns
+pub mod Asking
+pub mod Search
+pub mod Picks
+pub mod Tallies
+pub mod Without
+pub mod Empty
+pub mod Room
+pub mod Prefix

@@ -1,0 +1,7 @@
+use Rattle.std.proofs.Common.{ℕ, ◌<◌}
+use Rattle.std.specs.Prelude.{IsSome}
+use Rattle.c62_sheet.specs.Lawful.{spot_at}
+use Rattle.c62_sheet.proofs.counts.is_complete.Given as goal
+
+abbrev pub invariant-loop-k : goal.invariant-loop-k
+invariant-loop-k l = (k : ℕ) → k < l.k → IsSome (spot_at l.spots k)

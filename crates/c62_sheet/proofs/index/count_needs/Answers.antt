@@ -1,0 +1,20 @@
+use Rattle.std.proofs.Common.{arith, ◌≤◌, length, ap, ◌∙◌, sym}
+use Rattle.c62_depend.specs.Plan.{insns_of}
+use Rattle.c62_depend.specs.Links.{needs}
+use Rattle.c62_depend.specs.declared.links.Link.{Link}
+use Rattle.std.proofs.Common.{List, ◌≡◌}
+use Rattle.c62_sheet.specs.Lawful.{nothing_placed}
+use Rattle.c62_sheet.proofs.Sets.{nothing_at}
+use Rattle.c62_sheet.proofs.Missing.{lacking-nothing, needs-few}
+use Rattle.c62_sheet.proofs.index.count_needs.Goals as goal
+
+pub overflow_cast-result : goal.overflow_cast-result
+overflow_cast-result c =
+    let few = needs-few (insns_of c.args.plan.now) c.args.j in
+    let many : length c.needs.result.now ≡ length (needs (insns_of c.args.plan.now) c.args.j) = ap (length {A = Link}) c.needs.ensures in
+    omega (arith, few, many)
+
+pub returns : goal.returns
+returns c =
+    ap (length {A = Link}) c.needs.ensures
+    ∙ lacking-nothing (insns_of c.args.plan.now) (nothing_placed (length (insns_of c.args.plan.now))) c.args.j (nothing_at (length (insns_of c.args.plan.now)))

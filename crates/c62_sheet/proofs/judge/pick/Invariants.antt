@@ -1,0 +1,6 @@
+use Rattle.c62_depend.specs.Plan.{insns_of}
+use Rattle.c62_sheet.proofs.Picks.{IsBestOf}
+use Rattle.c62_sheet.proofs.judge.pick.Given as goal
+
+abbrev pub invariant-loop-k : goal.invariant-loop-k
+invariant-loop-k l = IsBestOf (insns_of l.plan) l.spots l.of l.k l.best

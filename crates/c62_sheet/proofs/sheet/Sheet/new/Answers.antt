@@ -1,0 +1,17 @@
+use Rattle.std.proofs.Common.{rules, ◌≡◌, ◌∙◌, ap, sym, length}
+use Rattle.c62_depend.specs.Plan.{insns_of}
+use Rattle.c62_depend.proofs.Plans.{many_insns}
+use Rattle.c62_sheet.specs.Lawful.{nothing_placed}
+use Rattle.c62_sheet.proofs.Empty.{lawful_empty}
+use Rattle.c62_sheet.proofs.sheet.Sheet.new.Goals as goal
+
+pub invariant_of-result : goal.invariant_of-result
+invariant_of-result c =
+    let made : c.in-Ok.spots.items ≡ nothing_placed c.from.result = search rules in
+    let is : c.in-Ok.spots.items ≡ nothing_placed (length (insns_of c.args.plan)) =
+    made ∙ ap nothing_placed (c.from.ensures ∙ c.len.ensures.len ∙ sym (many_insns c.args.plan.insns)) in
+    record {
+      known = c.len.ensures.sound;
+      lawful = rw is (lawful_empty (insns_of c.args.plan));
+      index = rw is c.in-Ok-all_missing.ensures;
+    }

@@ -1,0 +1,10 @@
+pub mod Lawful
+pub mod Least
+pub mod Check
+pub mod Counts
+pub mod Journal
+pub mod Packet
+pub mod Index
+pub mod Early
+pub mod View
+pub mod Laws

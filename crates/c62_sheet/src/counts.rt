@@ -1,0 +1,114 @@
+//! How many instructions are placed and ready, and how long what is placed takes.
+
+ghost use Rattle.std.specs.Prelude.{◌≡◌, ◌↔◌, ◌<◌, ◌≤◌, length, IsTrue};
+ghost use Rattle.c62_insn.specs.Insn.{register_writes};
+ghost use Rattle.c62_insn.specs.Length.{greatest_delay, landing_end};
+ghost use Rattle.c62_depend.specs.Plan.{insns_of};
+ghost use Rattle.c62_sheet.specs.Lawful.{issue_at, IsLawful};
+ghost use Rattle.c62_sheet.specs.Least.{IsReadyOn, IsComplete};
+ghost use Rattle.c62_sheet.specs.Counts.{HasCount, IsPlacedOn, AreCounts, set_length};
+ghost use Rattle.c62_sheet.specs.Index.{IsIndex};
+
+use crate::entry::{Counts, Spot};
+use crate::judge::is_ready_on;
+use c62_depend::Plan;
+use c62_insn::{Insn, Side};
+
+/// Whether instruction `k` is a placed one of a side.
+fn is_placed_on(plan: &Plan, spots: &[Option<Spot>], of: Side, k: u16) -> bool
+    requires sized { length spots.now ≡ length (insns_of plan.now) }
+    requires in_plan { k < length plan.now.insns }
+    ensures { IsTrue result ↔ IsPlacedOn (insns_of plan.now) spots.now of k }
+{
+    plan.side(k) == of && spots[usize::from(k)].is_some()
+}
+
+/// How many instructions of a side are placed.
+fn count_placed(plan: &Plan, spots: &[Option<Spot>], of: Side) -> u16
+    requires { length spots.now ≡ length (insns_of plan.now) }
+    ensures { HasCount (IsPlacedOn (insns_of plan.now) spots.now of) (length (insns_of plan.now)) result }
+{
+    let mut count = 0;
+    for k in 0..plan.len() {
+        count += u16::from(is_placed_on(plan, spots, of, k));
+    }
+    count
+}
+
+/// How many instructions of a side are ready.
+fn count_ready(plan: &Plan, spots: &[Option<Spot>], missing: &[u16], of: Side) -> u16
+    requires sized { length spots.now ≡ length (insns_of plan.now) }
+    requires index { IsIndex (insns_of plan.now) spots.now missing.now }
+    ensures { HasCount (IsReadyOn (insns_of plan.now) spots.now of) (length (insns_of plan.now)) result }
+{
+    let mut count = 0;
+    for k in 0..plan.len() {
+        count += u16::from(is_ready_on(plan, spots, missing, of, k));
+    }
+    count
+}
+
+/// How many instructions of each side are placed, and how many are ready.
+pub(crate) fn counts(plan: &Plan, spots: &[Option<Spot>], missing: &[u16]) -> Counts
+    requires sized { length spots.now ≡ length (insns_of plan.now) }
+    requires index { IsIndex (insns_of plan.now) spots.now missing.now }
+    ensures { AreCounts (insns_of plan.now) spots.now result }
+{
+    Counts {
+        placed_a: count_placed(plan, spots, Side::A),
+        placed_b: count_placed(plan, spots, Side::B),
+        ready_a: count_ready(plan, spots, missing, Side::A),
+        ready_b: count_ready(plan, spots, missing, Side::B),
+    }
+}
+
+/// The greatest delay of the writes of an instruction, in cycles.
+fn greatest_delay(insn: Insn) -> u8
+    ensures { result ≡ greatest_delay (register_writes insn) }
+{
+    let mut greatest = 0;
+    for write in insn.writes().as_slice() {
+        greatest = greatest.max(write.1);
+    }
+    greatest
+}
+
+/// The cycle after the last landing of an instruction at a spot.
+fn landing_end(insn: Insn, spot: Spot) -> u16
+    requires { spot.cycle < 1280 }
+    ensures { result ≡ landing_end (issue_at insn spot) }
+{
+    spot.cycle + u16::from(greatest_delay(insn)) + 1
+}
+
+/// How many cycles what is placed takes: six from the issue of a branch, and else until the last landing.
+pub(crate) fn length(plan: &Plan, spots: &[Option<Spot>]) -> u16
+    requires { IsLawful (insns_of plan.now) spots.now }
+    ensures { result ≡ set_length (insns_of plan.now) spots.now }
+{
+    let mut end = 0;
+    for k in 0..plan.len() {
+        let Some(spot) = spots[usize::from(k)] else {
+            continue;
+        };
+        let insn = plan.insn(k);
+        if insn.op().is_branch() {
+            return spot.cycle + 6;
+        }
+        end = end.max(landing_end(insn, spot));
+    }
+    end
+}
+
+/// Whether all instructions are placed.
+pub(crate) fn is_complete(plan: &Plan, spots: &[Option<Spot>]) -> bool
+    requires { length spots.now ≡ length (insns_of plan.now) }
+    ensures { IsTrue result ↔ IsComplete (insns_of plan.now) spots.now }
+{
+    for k in 0..plan.len() {
+        if spots[usize::from(k)].is_none() {
+            return false;
+        }
+    }
+    true
+}

@@ -1,0 +1,52 @@
+//! The first cycle that the dependences of an instruction allow.
+
+ghost use Rattle.std.specs.Prelude.{◌≡◌, ℕ, ◌<◌, ◌≤◌, ℤ, pos, negsuc, ◌≤ℤ◌, ◌+ℤ◌, length};
+ghost use Rattle.c62_depend.specs.Plan.{insns_of};
+ghost use Rattle.c62_sheet.specs.declared.entry.Spot.{Spot as Place};
+ghost use Rattle.c62_sheet.specs.Lawful.{IsAt, IsLawful};
+ghost use Rattle.c62_sheet.specs.Least.{IsEarly};
+ghost use Rattle.c62_sheet.specs.Early.{IsBoundBy};
+
+use crate::entry::Spot;
+use c62_depend::{Link, Plan};
+
+/// The first cycle that exceeds another by a latency.
+fn first_after(cycle: u16, latency: i32) -> u16
+    requires early { cycle < 1280 }
+    requires above { negsuc 4 ≤ℤ latency }
+    requires below { latency ≤ℤ pos 5 }
+    ensures after { (pos cycle +ℤ latency) ≤ℤ pos result }
+    ensures least { (other : ℕ) → (pos cycle +ℤ latency) ≤ℤ pos other → result ≤ other }
+{
+    let first = i32::from(cycle) + latency;
+    if first < 0 { 0 } else { first as u16 }
+}
+
+/// The first cycle in which the latency from another instruction is over: 0 where that is not placed.
+fn bound_by(spots: &[Option<Spot>], link: Link) -> u16
+    requires within { link.number < length spots.now }
+    requires early { (s : Place) → IsAt spots.now link.number s → s.cycle < 1280 }
+    requires above { negsuc 4 ≤ℤ link.latency }
+    requires below { link.latency ≤ℤ pos 5 }
+    ensures { IsBoundBy spots.now link result }
+{
+    match spots[usize::from(link.number)] {
+        None => 0,
+        Some(spot) => first_after(spot.cycle, link.latency),
+    }
+}
+
+/// The first cycle in which instruction `i` keeps the bounds to all placed ones that it depends on.
+pub(crate) fn early(plan: &Plan, spots: &[Option<Spot>], i: u16) -> u16
+    requires lawful { IsLawful (insns_of plan.now) spots.now }
+    requires in_plan { i < length plan.now.insns }
+    ensures { IsEarly (insns_of plan.now) spots.now i result }
+{
+    plan.len();
+    let needs = plan.needs(i);
+    let mut cycle = 0u16;
+    for link in needs {
+        cycle = cycle.max(bound_by(spots, *link));
+    }
+    cycle
+}

@@ -1,0 +1,42 @@
+//! Laws of sets of placements, in the words of the rules. The functions do nothing: what each ensures is a law, proved of
+//! the definitions that the contracts of a [`Sheet`](crate::Sheet) cite.
+
+ghost use Rattle.std.specs.Prelude.{List};
+ghost use Rattle.c62_insn.specs.declared.register.Side.{Side};
+ghost use Rattle.c62_insn.specs.declared.insn.Insn.{Insn};
+ghost use Rattle.std.specs.Prelude.{ℕ};
+ghost use Rattle.c62_sheet.specs.Lawful.{Spots};
+ghost use Rattle.c62_sheet.specs.Laws.{HasOneLeast, HasOnePick, FindsRoom, NeverLandTogether, CanTakeOut, IsLawfulEmpty};
+
+/// An instruction has one least spot at most.
+pub fn has_one_least()
+    ensures { (block : List Insn) (set : Spots) (i : ℕ) → HasOneLeast block set i }
+{}
+
+/// A side has one pick at most.
+pub fn has_one_pick()
+    ensures { (block : List Insn) (set : Spots) (of : Side) → HasOnePick block set of }
+{}
+
+/// Where all that is placed stands at least five cycles before cycle 5·k, each ready instruction may be placed in that
+/// cycle, so it has a least spot, no later. The k-th placing (from 0) of a set from which nothing was withdrawn therefore
+/// finds a spot by cycle 5·k.
+pub fn finds_room()
+    ensures { (block : List Insn) (set : Spots) → FindsRoom block set }
+{}
+
+/// P5 is never the first rule against a placement: of two writers of one register the later one in the block lands later
+/// by their dependence, which is asked before.
+pub fn never_land_together()
+    ensures { (block : List Insn) (set : Spots) → NeverLandTogether block set }
+{}
+
+/// A lawful set stays lawful where an instruction is taken out that no placed one depends on.
+pub fn can_take_out()
+    ensures { (block : List Insn) (set : Spots) → CanTakeOut block set }
+{}
+
+/// Nothing placed is lawful.
+pub fn is_lawful_empty()
+    ensures { (block : List Insn) → IsLawfulEmpty block }
+{}

@@ -1,0 +1,20 @@
+//! Sets of placements of a block's instructions: which are lawful, what is ready, and where it goes.
+#![tactic(auto)]
+
+mod counts;
+mod early;
+mod entry;
+mod index;
+mod judge;
+pub mod laws;
+mod packet;
+mod resource;
+mod sheet;
+mod whole;
+
+pub use entry::{Counts, Entry, Rule, Spot, Unlawful, Who};
+pub use sheet::Sheet;
+pub use whole::are_lawful;
+
+#[cfg(test)]
+mod tests;

@@ -1,0 +1,50 @@
+//! Whole sets of placements, made elsewhere.
+
+ghost use Rattle.std.specs.Prelude.{◌≡◌, ◌↔◌, ◌<◌, ◌≤◌, length, map, Some, None, IsTrue};
+ghost use Rattle.c62_depend.specs.Plan.{insns_of};
+ghost use Rattle.c62_sheet.specs.Lawful.{IsLawful, placed};
+ghost use Rattle.c62_sheet.specs.Least.{IsReady};
+
+use crate::early::early;
+use crate::entry::Spot;
+use crate::packet::rule_against;
+use c62_depend::Plan;
+
+/// Whether the set with ready instruction `i` at a spot is lawful.
+fn is_lawful_with(plan: &Plan, spots: &[Option<Spot>], i: u16, spot: Spot) -> bool
+    requires lawful { IsLawful (insns_of plan.now) spots.now }
+    requires in_plan { i < length plan.now.insns }
+    requires ready { IsReady (insns_of plan.now) spots.now i }
+    ensures { IsTrue result ↔ IsLawful (insns_of plan.now) (placed spots.now i spot) }
+{
+    if !plan.units(i).has(spot.unit) {
+        return false;
+    }
+    if spot.cycle >= 5 * plan.len() {
+        return false;
+    }
+    if spot.cycle < early(plan, spots, i) {
+        return false;
+    }
+    rule_against(plan, spots, i, spot).is_none()
+}
+
+/// Whether these spots, that of instruction `i` at place `i`, are a lawful set in which every instruction of the plan is
+/// placed (`docs/SCHEDULING.md`, "Lawful"). This takes no memory.
+pub fn are_lawful(plan: &Plan, spots: &[Spot]) -> bool
+    ensures { IsTrue result ↔ IsLawful (insns_of plan.now) (map Some spots.now) }
+{
+    let count = usize::from(plan.len());
+    if spots.len() != count {
+        return false;
+    }
+    let mut set = [None; 256];
+    for i in 0..plan.len() {
+        let spot = spots[usize::from(i)];
+        if !is_lawful_with(plan, &set[..count], i, spot) {
+            return false;
+        }
+        set[usize::from(i)] = Some(spot);
+    }
+    true
+}

@@ -1,0 +1,20 @@
+//! Whole schedules: steps of both sides in turn, on one thread or by two workers that share one board behind a lock, and
+//! what is left at the end.
+#![tactic(auto)]
+
+mod alternating;
+mod finishing;
+mod gate;
+mod scheduling;
+mod workers;
+
+pub use alternating::turns;
+pub use finishing::finish;
+pub use gate::{FreeGate, Gate};
+pub use scheduling::{Options, schedule};
+pub use workers::worker;
+
+#[cfg(test)]
+mod tests;
+#[cfg(test)]
+mod worker_tests;

@@ -1,0 +1,53 @@
+//! Two workers and one lock.
+
+ghost use Rattle.std.specs.Prelude.{IfOk};
+ghost use Rattle.c62_work.specs.Schedule.{IsWhole};
+
+use crate::finishing::finish;
+use crate::gate::Gate;
+use crate::workers::worker;
+use c62_board::Board;
+use c62_depend::Plan;
+use c62_insn::Side;
+use std::alloc::{AllocError, Global};
+use std::sync::{Mutex, Wait};
+use std::thread::{Threads, join};
+
+/// How many turns each worker makes at most, and how many ejections there may be.
+#[derive(Clone, Copy, PartialEq, Eq, Debug)]
+pub struct Options {
+    /// The most turns of a worker.
+    pub turns: u32,
+    /// The most ejections of the whole schedule.
+    pub budget: u16,
+}
+
+/// Places the instructions of a plan by two workers, one for each side, each on a thread of its own, and finishes what
+/// they leave. The board is complete and of the plan given, however the turns fell and wherever a worker stopped.
+///
+/// # Errors
+///
+/// `AllocError` where memory runs out. The plan is then dropped.
+pub fn schedule<R: Threads + Wait + Sync, G: Gate + Sync>(
+    rt: &R,
+    alloc: Global,
+    plan: Plan,
+    options: Options,
+    gate: &G,
+) -> Result<Board, AllocError>
+    ensures { IfOk result (IsWhole plan) }
+{
+    let given = plan.copy(alloc)?;
+    let Ok(board) = Board::new(alloc, plan, options.budget) else {
+        return Err(AllocError);
+    };
+    let shared = Mutex::new(board);
+    join(
+        rt,
+        || worker(rt, &shared, Side::A, options.turns, gate),
+        || worker(rt, &shared, Side::B, options.turns, gate),
+    );
+    let board = finish(alloc, shared.into_inner(), &given)?;
+    board.plan();
+    Ok(board)
+}

@@ -1,0 +1,147 @@
+//! Worked blocks: steps of both sides in turn, and finishing.
+
+use crate::{finish, turns};
+use c62_board::{Board, Entry, Spot, Turn, Who};
+use c62_depend::Plan;
+use c62_insn::{Letter, Side, Unit};
+use c62_read::read_program;
+use std::alloc::Global;
+use std::process::Abort;
+use std::test::Fail;
+
+const L1: Unit = Unit {
+    letter: Letter::L,
+    side: Side::A,
+};
+
+const M1: Unit = Unit {
+    letter: Letter::M,
+    side: Side::A,
+};
+
+const L2: Unit = Unit {
+    letter: Letter::L,
+    side: Side::B,
+};
+
+const D2: Unit = Unit {
+    letter: Letter::D,
+    side: Side::B,
+};
+
+const S1: Unit = Unit {
+    letter: Letter::S,
+    side: Side::A,
+};
+
+const SIX: &str =
+    "LDW *B4,B5\nADD B2,A2,B3\nADD A1,B1,A3\nADD A3,A3,A4\nMPY A5,B1,A2\nMPY A2,A2,A6";
+
+const THREE: &str = "MVK 5,A1\nMVK 7,A2\nADD A1,A2,A3";
+
+/// The journal of the block of six with one ejection.
+const JOURNAL: [Entry; 10] = [
+    Entry::Place(2, Spot { cycle: 0, unit: L1 }, Who::A),
+    Entry::Place(0, Spot { cycle: 0, unit: D2 }, Who::B),
+    Entry::Place(3, Spot { cycle: 1, unit: L1 }, Who::A),
+    Entry::Place(1, Spot { cycle: 0, unit: L2 }, Who::B),
+    Entry::Withdraw(3, Who::A),
+    Entry::Withdraw(2, Who::A),
+    Entry::Place(4, Spot { cycle: 0, unit: M1 }, Who::A),
+    Entry::Place(2, Spot { cycle: 1, unit: L1 }, Who::A),
+    Entry::Place(5, Spot { cycle: 2, unit: M1 }, Who::A),
+    Entry::Place(3, Spot { cycle: 2, unit: L1 }, Who::A),
+];
+
+/// Its cycles without one.
+const CYCLES: [u16; 6] = [0, 0, 0, 1, 1, 3];
+
+/// The plan of the only block of a text.
+fn plan_of(rt: &impl Abort, alloc: Global, text: &str) -> Result<Plan, Fail> {
+    let mut blocks = read_program(alloc, text.as_bytes())?.into_blocks();
+    assert_eq!(rt; blocks.len(), 1, "{text}");
+    let block = blocks.pop().expect(rt, "a block");
+    match Plan::new(alloc, block) {
+        Ok(plan) => Ok(plan),
+        Err((_, error)) => Err(error.into()),
+    }
+}
+
+/// An empty board of the only block of a text.
+fn board_of(rt: &impl Abort, alloc: Global, text: &str, budget: u16) -> Result<Board, Fail> {
+    match Board::new(alloc, plan_of(rt, alloc, text)?, budget) {
+        Ok(board) => Ok(board),
+        Err((_, error)) => Err(error.into()),
+    }
+}
+
+/// The six instructions stand in these cycles.
+fn has_cycles(rt: &impl Abort, board: &Board) {
+    for i in 0..6u16 {
+        assert!(rt; i < board.plan().len());
+        let cycle = board.spot_of(i).map(|spot| spot.cycle);
+        assert_eq!(rt; cycle, Some(CYCLES[i as usize]));
+    }
+}
+
+#[test]
+fn both_sides_in_turn(rt: HostRuntime) -> Result<(), Fail> {
+    let mut board = board_of(&rt, rt.alloc(), SIX, 1)?;
+    assert_eq!(rt; turns(&mut board), Turn::Done);
+    assert!(rt; board.journal() == &JOURNAL[..]);
+    assert_eq!(rt; board.length(), 5);
+    let mut board = board_of(&rt, rt.alloc(), SIX, 0)?;
+    assert_eq!(rt; turns(&mut board), Turn::Done);
+    has_cycles(&rt, &board);
+    assert_eq!(rt; board.length(), 5);
+    Ok(())
+}
+
+#[test]
+fn a_needed_blocker_stays(rt: HostRuntime) -> Result<(), Fail> {
+    let mut board = board_of(&rt, rt.alloc(), "ADD A2,B1,A3\nMPY A5,B2,A2", 1)?;
+    assert_eq!(rt; turns(&mut board), Turn::Done);
+    let journal = [
+        Entry::Place(0, Spot { cycle: 0, unit: L1 }, Who::A),
+        Entry::Place(1, Spot { cycle: 1, unit: M1 }, Who::A),
+    ];
+    assert!(rt; board.journal() == &journal[..]);
+    assert_eq!(rt; board.budget(), 1);
+    assert_eq!(rt; board.length(), 3);
+    Ok(())
+}
+
+#[test]
+fn finishing_an_empty_board(rt: HostRuntime) -> Result<(), Fail> {
+    let plan = plan_of(&rt, rt.alloc(), SIX)?;
+    for text in [SIX, THREE] {
+        let board = board_of(&rt, rt.alloc(), text, 2)?;
+        let board = finish(rt.alloc(), board, &plan)?;
+        has_cycles(&rt, &board);
+        assert_eq!(rt; board.budget(), 2);
+        assert_eq!(rt; board.journal().len(), 6);
+        for i in 0..6u16 {
+            assert!(rt; usize::from(i) < board.journal().len());
+            let entry = board.journal()[usize::from(i)];
+            assert!(rt; matches!(entry, Entry::Place(number, _, Who::Tail) if number == i));
+        }
+    }
+    Ok(())
+}
+
+#[test]
+fn finishing_what_a_side_began(rt: HostRuntime) -> Result<(), Fail> {
+    let plan = plan_of(&rt, rt.alloc(), THREE)?;
+    let mut board = board_of(&rt, rt.alloc(), THREE, 0)?;
+    board.step(Side::A);
+    board.step(Side::A);
+    let board = finish(rt.alloc(), board, &plan)?;
+    let journal = [
+        Entry::Place(0, Spot { cycle: 0, unit: S1 }, Who::A),
+        Entry::Place(1, Spot { cycle: 1, unit: S1 }, Who::A),
+        Entry::Place(2, Spot { cycle: 2, unit: L1 }, Who::Tail),
+    ];
+    assert!(rt; board.journal() == &journal[..]);
+    assert_eq!(rt; board.length(), 3);
+    Ok(())
+}

@@ -1,0 +1,234 @@
+//! Two workers on threads that share one board.
+
+use crate::{FreeGate, Gate, Options, schedule, worker};
+use c62_board::{Board, Entry, Spot, Turn, Who};
+use c62_depend::Plan;
+use c62_insn::{Letter, Side, Unit};
+use c62_read::read_program;
+use std::alloc::Global;
+use std::hint::spin_loop;
+use std::process::Abort;
+use std::sync::Mutex;
+use std::sync::atomic::{AtomicU64, Ordering};
+use std::test::Fail;
+
+/// Three instructions of side A, of which the last needs the other two.
+const SUM: &str = "MVK 5,A1\nMVK 7,A2\nADD A1,A2,A3";
+
+/// A block in which an ejection pays.
+const EJECTING: &str =
+    "LDW *B4,B5\nADD B2,A2,B3\nADD A1,B1,A3\nADD A3,A3,A4\nMPY A5,B1,A2\nMPY A2,A2,A6";
+
+/// The same in serial order, each at its least spot.
+const IN_ORDER: &str = "+0@0.D2T +1@0.L2T +2@0.L1T +3@1.L1T +4@1.M1T +5@3.M1T ";
+
+/// The plan of the only block of a text.
+fn plan_of(rt: &impl Abort, alloc: Global, text: &str) -> Result<Plan, Fail> {
+    let mut blocks = read_program(alloc, text.as_bytes())?.into_blocks();
+    assert_eq!(rt; blocks.len(), 1, "{text}");
+    match Plan::new(alloc, blocks.pop().expect(rt, "a block")) {
+        Ok(plan) => Ok(plan),
+        Err((_, error)) => Err(error.into()),
+    }
+}
+
+fn board_of(rt: &impl Abort, alloc: Global, text: &str, budget: u16) -> Result<Board, Fail> {
+    match Board::new(alloc, plan_of(rt, alloc, text)?, budget) {
+        Ok(board) => Ok(board),
+        Err((_, error)) => Err(error.into()),
+    }
+}
+
+fn unit_name(unit: Unit) -> &'static str {
+    match (unit.letter, unit.side) {
+        (Letter::L, Side::A) => "L1",
+        (Letter::S, Side::A) => "S1",
+        (Letter::M, Side::A) => "M1",
+        (Letter::D, Side::A) => "D1",
+        (Letter::L, Side::B) => "L2",
+        (Letter::S, Side::B) => "S2",
+        (Letter::M, Side::B) => "M2",
+        (Letter::D, Side::B) => "D2",
+    }
+}
+
+fn who_name(who: Who) -> &'static str {
+    match who {
+        Who::A => "A",
+        Who::B => "B",
+        Who::Tail => "T",
+    }
+}
+
+fn entry_text(alloc: Global, entry: &Entry) -> Result<String, Fail> {
+    Ok(match *entry {
+        Entry::Place(i, Spot { cycle, unit }, who) => format!(in alloc;
+            "+{i}@{cycle}.{}{} ",
+            unit_name(unit),
+            who_name(who)
+        )?,
+        Entry::Withdraw(i, who) => format!(in alloc; "-{i}{} ", who_name(who))?,
+    })
+}
+
+fn journal_text(alloc: Global, board: &Board) -> Result<String, Fail> {
+    let mut all = String::new(alloc);
+    for entry in board.journal() {
+        all.push_str(&entry_text(alloc, entry)?)?;
+    }
+    Ok(all)
+}
+
+/// In each side's first turn it waits until the other side's first turn has begun.
+#[derive(Drop)]
+struct Meeting {
+    came: [AtomicU64; 2],
+    met: [AtomicU64; 2],
+}
+
+/// How often a gate looks at most for what it waits for.
+const POLLS: u32 = 10_000_000;
+
+fn wait_for(flag: &AtomicU64) -> bool {
+    for _ in 0..POLLS {
+        if flag.load(Ordering::SeqCst) == 1 {
+            return true;
+        }
+        spin_loop();
+    }
+    false
+}
+
+impl Gate for Meeting {
+    fn before(&self, side: Side, turn: u32) {
+        if turn > 0 {
+            return;
+        }
+        let (mine, theirs) = match side {
+            Side::A => (0, 1),
+            Side::B => (1, 0),
+        };
+        self.came[mine].store(1, Ordering::SeqCst);
+        if wait_for(&self.came[theirs]) {
+            self.met[mine].store(1, Ordering::SeqCst);
+        }
+    }
+
+    fn after(&self, _side: Side, _turn: u32, _came: &Turn) {}
+}
+
+#[test]
+fn both_workers_are_at_work(rt: HostRuntime) -> Result<(), Fail> {
+    let gate = Meeting {
+        came: [AtomicU64::new(0), AtomicU64::new(0)],
+        met: [AtomicU64::new(0), AtomicU64::new(0)],
+    };
+    let options = Options {
+        turns: 100,
+        budget: 0,
+    };
+    let board = schedule(
+        &rt,
+        rt.alloc(),
+        plan_of(&rt, rt.alloc(), SUM)?,
+        options,
+        &gate,
+    )?;
+    assert_eq!(rt; gate.met[0].load(Ordering::SeqCst), 1);
+    assert_eq!(rt; gate.met[1].load(Ordering::SeqCst), 1);
+    let found = journal_text(rt.alloc(), &board)?;
+    assert_eq!(rt; found.as_str(), "+0@0.S1A +1@1.S1A +2@2.L1A ");
+    Ok(())
+}
+
+/// Holds side A's first turn until side B's first turn is over.
+#[derive(Drop)]
+struct Behind {
+    over: AtomicU64,
+}
+
+impl Gate for Behind {
+    fn before(&self, side: Side, turn: u32) {
+        if side == Side::A && turn == 0 {
+            wait_for(&self.over);
+        }
+    }
+
+    fn after(&self, side: Side, turn: u32, _came: &Turn) {
+        if side == Side::B && turn == 0 {
+            self.over.store(1, Ordering::SeqCst);
+        }
+    }
+}
+
+#[test]
+fn a_gate_holds_a_worker_back(rt: HostRuntime) -> Result<(), Fail> {
+    let gate = Behind {
+        over: AtomicU64::new(0),
+    };
+    let options = Options {
+        turns: 100,
+        budget: 0,
+    };
+    let plan = plan_of(&rt, rt.alloc(), "LDW *A4,A5\nLDW *B4,B6")?;
+    let board = schedule(&rt, rt.alloc(), plan, options, &gate)?;
+    let found = journal_text(rt.alloc(), &board)?;
+    assert_eq!(rt; found.as_str(), "+1@0.D2B +0@0.D1A ");
+    Ok(())
+}
+
+#[test]
+fn workers_make_their_turns(rt: HostRuntime) -> Result<(), Fail> {
+    for (side, made) in [(Side::A, 4), (Side::B, 100)] {
+        let board = Mutex::new(board_of(&rt, rt.alloc(), SUM, 0)?);
+        assert_eq!(rt; worker(&rt, &board, side, 100, &FreeGate), made);
+    }
+    let options = Options {
+        turns: 2,
+        budget: 0,
+    };
+    let board = schedule(
+        &rt,
+        rt.alloc(),
+        plan_of(&rt, rt.alloc(), SUM)?,
+        options,
+        &FreeGate,
+    )?;
+    let found = journal_text(rt.alloc(), &board)?;
+    assert_eq!(rt; found.as_str(), "+0@0.S1A +1@1.S1A +2@2.L1T ");
+    Ok(())
+}
+
+#[test]
+fn schedules_are_whole(rt: HostRuntime) -> Result<(), Fail> {
+    let plan = plan_of(&rt, rt.alloc(), EJECTING)?;
+    for turns in 0..11 {
+        for budget in 0..2 {
+            let board = schedule(
+                &rt,
+                rt.alloc(),
+                plan.copy(rt.alloc())?,
+                Options { turns, budget },
+                &FreeGate,
+            )?;
+            assert!(rt; board.complete() && board.plan().same(&plan));
+            let Ok(again) = Board::replay(
+                rt.alloc(),
+                plan.copy(rt.alloc())?,
+                budget,
+                board.journal(),
+            ) else {
+                return Err("the journal is not legal".into());
+            };
+            for i in 0..plan.len() {
+                assert!(rt; i < again.plan().len() && i < board.plan().len());
+                assert_eq!(rt; again.spot_of(i), board.spot_of(i));
+            }
+            if turns == 0 {
+                let found = journal_text(rt.alloc(), &board)?;
+                assert_eq!(rt; found.as_str(), IN_ORDER);
+            }
+        }
+    }
+    Ok(())
+}
