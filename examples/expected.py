@@ -7,14 +7,17 @@ or a pointer behind an array. Some registers that a text has to clear start with
 
     python3 expected.py
 
-writes NAME.settings and NAME.report of each text anew.
+writes NAME.settings and NAME.report of each text anew, and with --check it writes nothing, and names those that differ.
 """
 
 import binascii
 import math
 import pathlib
+import sys
 
 HERE = pathlib.Path(__file__).resolve().parent
+# how many blocks ./run lets a text run
+LIMIT = 100000
 NAMES = [f"{file}{number}" for file in "AB" for number in range(16)]
 
 
@@ -62,9 +65,9 @@ class State:
         for address, value in self.memory_words():
             yield f"@0x{address:04x}=0x{value:08x}"
 
-    def report(self, blocks):
+    def report(self, blocks, ending="end"):
         yield f"blocks {blocks}"
-        yield "exit end"
+        yield f"exit {ending}"
         for name in NAMES:
             value = self.registers.get(name, 0) % 2**32
             if value != 0:
@@ -532,6 +535,29 @@ def edge():
     return start, end, n
 
 
+def gcd():
+    """The only text that ends by a return: the ending is the address in B3."""
+    first, second = 1071, 462
+    quotients = []
+    while second != 0:
+        quotients.append(first // second)
+        first, second = second, first % second
+    subtractions = sum(quotients) - 1
+    start = State(A4=1071, A5=462, A1=5, A2=5, B3=0x2000)
+    end = start.then(A1=1, A2=1 - len(quotients) % 2, A4=math.gcd(1071, 462), A5=math.gcd(1071, 462))
+    return start, end, 2 * subtractions + 2, f"register {0x2000:08x}"
+
+
+def noise():
+    """The only text without an end: the limit of blocks ends its run."""
+    taps, word = 0xB400, 0xACE1
+    start = State(A4=word, A5=taps)
+    for _ in range(LIMIT):
+        bit = word % 2
+        word = word // 2 ^ taps * bit
+    return start, start.then(A1=bit, A4=word), LIMIT, "limit"
+
+
 KERNELS = [
     first,
     dot,
@@ -552,14 +578,21 @@ KERNELS = [
     block_match,
     reorder,
     edge,
+    gcd,
+    noise,
 ]
 
 
-def write(path, lines):
-    path.write_bytes("".join(line + "\n" for line in lines).encode())
+def files():
+    """Each file, and what it has to hold."""
+    for kernel in KERNELS:
+        start, end, *ran = kernel()
+        for suffix, lines in ("settings", start.settings()), ("report", end.report(*ran)):
+            yield HERE / f"{kernel.__name__}.{suffix}", "".join(line + "\n" for line in lines).encode()
 
 
-for kernel in KERNELS:
-    start, end, blocks = kernel()
-    write(HERE / f"{kernel.__name__}.settings", start.settings())
-    write(HERE / f"{kernel.__name__}.report", end.report(blocks))
+if sys.argv[1:] == ["--check"]:
+    stale = [path.name for path, text in files() if not path.is_file() or path.read_bytes() != text]
+    sys.exit(f"not as computed: {', '.join(stale)}" if stale else 0)
+for path, text in files():
+    path.write_bytes(text)
