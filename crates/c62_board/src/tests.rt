@@ -135,11 +135,11 @@ fn the_victim(rt: HostRuntime) -> Result<(), Fail> {
     let board = after(&rt, rt.alloc(), 4)?;
     assert!(rt; board.plan().len() == 6);
     assert!(rt; board.ready(4));
-    let least = board.least(4);
-    assert_eq!(rt; least, Some(Spot { cycle: 1, unit: M1 }));
-    if least.is_some() {
-        assert_eq!(rt; board.blocks_least(4), Some(2));
-    }
+    let Some(least) = board.least(4) else {
+        return Err("no room".into());
+    };
+    assert_eq!(rt; least, Spot { cycle: 1, unit: M1 });
+    assert_eq!(rt; board.blocks_least(4), Some(2));
     let mut board = board_of(&rt, rt.alloc(), "ADD A2,B1,A3\nMPY A5,B2,A2", 1)?;
     assert_eq!(rt;
         board.step(Side::A),
@@ -147,9 +147,10 @@ fn the_victim(rt: HostRuntime) -> Result<(), Fail> {
     );
     assert!(rt; board.plan().len() == 2);
     assert!(rt; board.ready(1));
-    if board.least(1).is_some() {
-        assert_eq!(rt; board.blocks_least(1), None);
-    }
+    let Some(_) = board.least(1) else {
+        return Err("no room".into());
+    };
+    assert_eq!(rt; board.blocks_least(1), None);
     Ok(())
 }
 
