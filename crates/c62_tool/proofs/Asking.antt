@@ -1,11 +1,11 @@
 -- What words ask for.
-use Rattle.std.proofs.Common.{◌≡◌, ◌≢◌, ◌∙◌, ℕ, true, List, [], ◌∷◌, length, map, Option, Some, None, refl, ap, arith}
+use Rattle.std.proofs.Common.{◌≡◌, ◌≢◌, ◌∙◌, ℕ, List, [], ◌∷◌, length, map, Option, Some, None, refl, ap, arith}
 use Rattle.clap.specs.Words.{Kinds, Row, Text, fault_of, subcommand_of}
-use Rattle.c62_tool.specs.CommandLine.{Ask, Listing, HasBadSetting, HasFirstBad, IsUnknown, ask_in, asked, setting_words, tool_app, unless_fault}
+use Rattle.c62_tool.specs.CommandLine.{Ask, Listing, HasBadSetting, HasFirstBad, IsUnknown, ask_in, asked, plain_packing, setting_words, tool_app, unless_fault}
 use Rattle.c62_tool.specs.Settings.{IsFirstBad, settings_of}
 use Rattle.c62_tool.proofs.SettingLemmas.{none_of}
 
-pub asked-none : {W : Type 0} (text : W → Text) (words : List W) → length words ≡ 0 → asked (map text words) ≡ Some (Listing true)
+pub asked-none : {W : Type 0} (text : W → Text) (words : List W) → length words ≡ 0 → asked (map text words) ≡ Some (Listing plain_packing)
 unfolding asked
 asked-none text [] e = refl
 asked-none text (word ∷ words) e = absurd (omega arith)

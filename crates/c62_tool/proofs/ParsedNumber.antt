@@ -19,16 +19,17 @@ digits_from (d ∷ ds) e =
     let parts = both _ _ e in
     (ltb-true _ _ parts.0, digits_from ds parts.1)
 
-abbrev is_number : List ℕ → Bool
-is_number ds = nat_lt 0 (length ds) && are_digits 10 ds && nat_lt (digits_value 10 ds) (2 ^ 32)
+abbrev is_number : ℕ → List ℕ → Bool
+is_number bits ds = nat_lt 0 (length ds) && are_digits 10 ds && nat_lt (digits_value 10 ds) (2 ^ bits)
 
-pub number_read : {E : Type 0} (text : List ℕ) (r : Result ℕ E) → ParsesUnsigned 32 10 text r → result_unwrap_or r 1000 ≡ unwrap_or (number_written text) 1000
-number_read text (Ok n) h =
+pub number_read : {E : Type 0} (bits default : ℕ) (text : List ℕ) (r : Result ℕ E) → ParsesUnsigned bits 10 text r
+    → result_unwrap_or r default ≡ unwrap_or (number_written bits text) default
+number_read bits default text (Ok n) h =
     let ds = without_leading_plus text in
-    rw (lt-ltb 0 (length ds) h.0.0.0, digits_pass ds h.0.0.1, lt-ltb (digits_value 10 ds) (2 ^ 32) h.0.1) h.1
-number_read text (Err e) h = go (is_number (without_leading_plus text)) refl
+    rw (lt-ltb 0 (length ds) h.0.0.0, digits_pass ds h.0.0.1, lt-ltb (digits_value 10 ds) (2 ^ bits) h.0.1) h.1
+number_read bits default text (Err e) h = go (is_number bits (without_leading_plus text)) refl
   where
-    go : (b : Bool) → is_number (without_leading_plus text) ≡ b → 1000 ≡ unwrap_or (number_written text) 1000
+    go : (b : Bool) → is_number bits (without_leading_plus text) ≡ b → default ≡ unwrap_or (number_written bits text) default
     go false t = rw t refl
     go true t =
         let outer = both _ _ t in

@@ -1,61 +1,90 @@
 -- What a run did, from what each of its steps did.
-use Rattle.std.proofs.Common.{◌≡◌, ℕ, ◌<◌, ◌≤◌, List, length, take, Option, Some, None, Result, Ok, Err, refl, sym, ap, subst, ◌∙◌, arith, rules, inl, inr}
+use Rattle.std.proofs.Common.{◌≡◌, ℕ, ◌+◌, ◌<◌, ◌≤◌, List, length, take, Option, Some, None, Result, Ok, Err, refl, sym, ap, subst, ◌∙◌, arith, rules, inl, inr}
 use Rattle.std.specs.Prelude.{◌⊎◌, [], IfSome, IsErrAnd, codes}
 use Rattle.std.specs.Option.{IsSomeAnd}
 use Rattle.std.specs.Global.{Vec}
 use Rattle.std.specs.Io.KnownBytes.{Appends, Keeps}
 use Rattle.std.proofs.lemmas.Bool.{cases_lt, lt-ltb}
 use Rattle.std.proofs.lemmas.List.{take_all, length-take}
-use Rattle.c62_tool.specs.declared.fault.Refusal.{Refusal}
-use Rattle.c62_tool.specs.declared.fault.Refusal.TheVariants.{TextTooLong}
-use Rattle.c62_tool.specs.Reading.{Parts, program_of}
-use Rattle.c62_read.specs.Program.{BlockParts, Refusal as Refused, drafts_in, program_in}
-use Rattle.c62_read.specs.declared.fault.Cause.TheVariants.{TextTooLong as OverLong}
-use Rattle.c62_tool.specs.Message.{IsFront, Tells, TellsOf, fault_message, message_of, refusal_message, setting_message}
-use Rattle.c62_tool.specs.Run.{AsksInVain, AsksNothing, Blames, Does, Fails, Gives, HasFailed, IsAnswer, IsRefused, IsRefusedText, IsRun, IsRunOnBytes, Streams, TakesAtMost, status_of}
-use Rattle.c62_tool.specs.CommandLine.{Ask, HasBadSetting, IsUnknown, Listing, SerialReport, asked}
+use Rattle.c62_read.specs.Program.{BlockParts, Refusal, drafts_in, program_in}
+use Rattle.c62_read.specs.declared.fault.Cause.TheVariants.{TextTooLong}
+use Rattle.c62_listing_reader.specs.Said.{Drafts}
+use Rattle.c62_listing_reader.specs.Faults.{drafts_in as listed_in, Refusal as Refused}
+use Rattle.c62_listing_reader.specs.declared.fault.ListFault.{ListFault}
+use Rattle.c62_listing_reader.specs.declared.fault.ListFault.TheVariants as listed
+use Rattle.c62_listing_reader.specs.declared.fault.LineFault.TheVariants.{Read}
+use Rattle.c62_listing_reader.specs.Reading.{Refuses}
+use Rattle.c62_tool.specs.Message.{IsFront, Tells, TellsOf, fault_message, list_message, message_of, setting_message}
+use Rattle.c62_tool.specs.Run.{AsksInVain, AsksNothing, Blames, Does, Fails, Gives, HasFailed, IsAnswer, IsNoProgram, IsRefused, IsRefusedText, IsRun, IsRunOnBytes, Streams, TakesAtMost, limit_of, status_of}
+use Rattle.c62_tool.specs.CommandLine.{Ask, HasBadSetting, IsUnknown, Listing, ListingReport, PacketReport, SerialReport, asked}
 use Rattle.clap.specs.Words.{Text}
 use Rattle.c62_tool.specs.declared.failure.Failure.{Failure}
 use Rattle.c62_tool.specs.declared.failure.Failure.TheVariants as failures
 
-too_long : (text : List ℕ) → 1048576 < length text → program_of text ≡ Err TextTooLong
-unfolding program_of
-too_long text long = rw (lt-ltb 1048576 (length text) long) refl
+-- ---- one byte past the limit tells enough
 
--- one byte past the limit tells enough
-pub program_of-take : (all : List ℕ) → program_of (take 1048577 all) ≡ program_of all
-program_of-take all =
-    elim (cases_lt 1048576 (length all)) [
-      | inl long ↦ too_long (take 1048577 all) (omega (arith, length-take 1048577 all)) ∙ sym (too_long all long)
-      | inr short ↦ ap program_of (take_all 1048577 all (omega arith))
-    ]
-
-too_long_program : (text : List ℕ) → 1048576 < length text → program_in text ≡ Err (0, OverLong)
+too_long : (text : List ℕ) → 1048576 < length text → program_in text ≡ Err (0, TextTooLong)
 unfolding program_in drafts_in
-too_long_program text long = rw (lt-ltb 1048576 (length text) long) refl
+too_long text long = rw (lt-ltb 1048576 (length text) long) refl
 
 pub program_in-take : (all : List ℕ) → program_in (take 1048577 all) ≡ program_in all
 program_in-take all =
     elim (cases_lt 1048576 (length all)) [
-      | inl long ↦ too_long_program (take 1048577 all) (omega (arith, length-take 1048577 all)) ∙ sym (too_long_program all long)
+      | inl long ↦ too_long (take 1048577 all) (omega (arith, length-take 1048577 all)) ∙ sym (too_long all long)
       | inr short ↦ ap program_in (take_all 1048577 all (omega arith))
     ]
 
+too_long_listing : (text : List ℕ) → 8388608 < length text → listed_in text ≡ Err (0, Read TextTooLong)
+too_long_listing text long = rw (lt-ltb 8388608 (length text) long) refl
+
+pub listed_in-take : (all : List ℕ) → listed_in (take 8388609 all) ≡ listed_in all
+listed_in-take all =
+    elim (cases_lt 8388608 (length all)) [
+      | inl long ↦ too_long_listing (take 8388609 all) (omega (arith, length-take 8388609 all)) ∙ sym (too_long_listing all long)
+      | inr short ↦ ap listed_in (take_all 8388609 all (omega arith))
+    ]
+
+-- what a part that tells enough says is what all says
+program_all : (all text : List ℕ) → text ≡ take 1048577 all → program_in text ≡ program_in all
+program_all all text read = ap program_in read ∙ program_in-take all
+
+listed_all : (all text : List ℕ) → text ≡ take 8388609 all → listed_in text ≡ listed_in all
+listed_all all text read = ap listed_in read ∙ listed_in-take all
+
 -- the answer to what was read is the answer to all
-answered : (ask : Ask) (all text answer : List ℕ) → text ≡ take 1048577 all → IsAnswer ask text answer → IsAnswer ask all answer
-answered (Listing turns) all text answer read is = record {
-  block = is.block;
-  says = sym (ap program_of read ∙ program_of-take all) ∙ is.says;
+answered : (ask : Ask) (all text answer : List ℕ) → text ≡ take (limit_of ask + 1) all → IsAnswer ask text answer → IsAnswer ask all answer
+answered (Listing packing) all text answer read is = record {
+  program = is.program;
+  says = sym (program_all all text read) ∙ is.says;
+  packets = is.packets;
   packed = is.packed;
+  listed = is.listed;
 }
 answered (SerialReport blocks settings) all text answer read is = record {
   program = is.program;
-  says = sym (ap program_in read ∙ program_in-take all) ∙ is.says;
+  says = sym (program_all all text read) ∙ is.says;
+  reported = is.reported;
+}
+answered (PacketReport packing blocks settings) all text answer read is = record {
+  program = is.program;
+  says = sym (program_all all text read) ∙ is.says;
+  packets = is.packets;
+  packed = is.packed;
+  reported = is.reported;
+}
+answered (ListingReport blocks settings) all text answer read is = record {
+  packets = is.packets;
+  read = record {
+    drafts = is.read.drafts;
+    said = sym (listed_all all text read) ∙ is.read.said;
+    blocks = is.read.blocks;
+    are_blocks = is.read.are_blocks;
+  };
   reported = is.reported;
 }
 
 -- the answer to what was read, written
-pub answers : (ask : Ask) (known old new : Option (List ℕ)) (text : List ℕ) (v : Vec ℕ) → IfSome known (λ all. text ≡ take 1048577 all) → Gives ask text (Ok v)
+pub answers : (ask : Ask) (known old new : Option (List ℕ)) (text : List ℕ) (v : Vec ℕ) → IfSome known (λ all. text ≡ take (limit_of ask + 1) all) → Gives ask text (Ok v)
     → Appends old new v.items → Does ask known old new
 answers ask None old new text v read gives written = tt
 answers ask (Some all) old new text v read gives written = record { answer = v.items; is = answered ask all text v.items read gives; written = written }
@@ -64,22 +93,39 @@ Keeps-same : (known : Option (List ℕ)) → Keeps known known
 Keeps-same None = tt
 Keeps-same (Some xs) = refl
 
-refused_all : (ask : Ask) (all text message : List ℕ) → text ≡ take 1048577 all → IsRefusedText ask text message → IsRefusedText ask all message
-refused_all (Listing turns) all text message read is =
-    subst (λ (p : Result (List Parts) Refusal). IsErrAnd p (λ refusal. message ≡ refusal_message refusal)) (ap program_of read ∙ program_of-take all) is
-refused_all (SerialReport blocks settings) all text message read is =
-    subst (λ (p : Result (List BlockParts) Refused). IsErrAnd p (λ fault. message ≡ fault_message fault.0 fault.1)) (ap program_in read ∙ program_in-take all) is
+no_program_all : (all text message : List ℕ) → text ≡ take 1048577 all → IsNoProgram text message → IsNoProgram all message
+no_program_all all text message read is =
+    subst (λ (p : Result (List BlockParts) Refusal). IsErrAnd p (λ fault. message ≡ fault_message fault.0 fault.1)) (program_all all text read) is
 
-refused : (ask : Ask) (known : Option (List ℕ)) (text message : List ℕ) → IfSome known (λ all. text ≡ take 1048577 all) → IsRefusedText ask text message
+refuses_all : (all text : List ℕ) (fault : ListFault) → text ≡ take 8388609 all → Refuses text fault → Refuses all fault
+refuses_all all text (listed.Read fault) read is = sym (listed_all all text read) ∙ is
+refuses_all all text (listed.Shape line) read is = sym (listed_all all text read) ∙ is
+refuses_all all text (listed.TwoBranches number) read is = record { drafts = is.drafts; said = sym (listed_all all text read) ∙ is.said; block = is.block }
+refuses_all all text (listed.NotDrained number) read is = record { drafts = is.drafts; said = sym (listed_all all text read) ∙ is.said; block = is.block }
+refuses_all all text (listed.Unlawful number cycle rule) read is = record { drafts = is.drafts; said = sym (listed_all all text read) ∙ is.said; block = is.block }
+refuses_all all text listed.Memory read is = tt
+
+refused_all : (ask : Ask) (all text message : List ℕ) → text ≡ take (limit_of ask + 1) all → IsRefusedText ask text message → IsRefusedText ask all message
+refused_all (Listing packing) all text message read is = no_program_all all text message read is
+refused_all (SerialReport blocks settings) all text message read is = no_program_all all text message read is
+refused_all (PacketReport packing blocks settings) all text message read is = no_program_all all text message read is
+refused_all (ListingReport blocks settings) all text message read is = record {
+  fault = is.fault;
+  known = is.known;
+  refused = refuses_all all text is.fault read is.refused;
+  told = is.told;
+}
+
+refused : (ask : Ask) (known : Option (List ℕ)) (text message : List ℕ) → IfSome known (λ all. text ≡ take (limit_of ask + 1) all) → IsRefusedText ask text message
     → IsRefused ask known message
 refused ask None text message read is = tt
 refused ask (Some all) text message read is = refused_all ask all text message read is
 
 -- no answer came to what was read
-pub refuses : (ask : Ask) (known old : Option (List ℕ)) (text : List ℕ) (f : Failure) → IfSome known (λ all. text ≡ take 1048577 all) → Gives ask text (Err f)
+pub refuses : (ask : Ask) (known old : Option (List ℕ)) (text : List ℕ) (f : Failure) → IfSome known (λ all. text ≡ take (limit_of ask + 1) all) → Gives ask text (Err f)
     → Fails f ask known old old
-refuses ask known old text (failures.Refused refusal) read gives = (refused ask known text (refusal_message refusal) read gives, Keeps-same old)
 refuses ask known old text (failures.Unread fault) read gives = (refused ask known text (fault_message fault.line fault.cause) read gives, Keeps-same old)
+refuses ask known old text (failures.Unlisted fault) read gives = (refused ask known text (list_message fault) read gives, Keeps-same old)
 refuses ask known old text failures.Memory read gives = Keeps-same old
 refuses ask known old text failures.Input read gives = absurd gives
 refuses ask known old text failures.Output read gives = absurd gives
@@ -99,7 +145,7 @@ for_asked words ask P is p = subst (λ (a : Option Ask). IsSomeAnd a P) (sym is)
 -- what a run reads
 pub record Reads (words : List Text) (old new : Option (List ℕ)) : Type 0 where
   pub unread : asked words ≡ None → Keeps old new
-  pub most : TakesAtMost 1048577 old new
+  pub most : (ask : Ask) → asked words ≡ Some ask → TakesAtMost (limit_of ask + 1) old new
 
 some_none : {T : Type 0} (o : Option T) (P : T → Type 0) → IsSomeAnd o P → o ≡ None → ⊥
 some_none None P some none = some
@@ -187,7 +233,7 @@ module _ (words : List Text) (old new : Streams) (reads : Reads words old.input 
   is_not_asked (failures.Words e) blames quiet told = is_blamed quiet (inl blames)
   is_not_asked (failures.Setting k) blames quiet told = is_blamed quiet (inr (record { text = setting_message k; is = (k, blames, refl); told = told }))
   is_not_asked failures.Memory blames quiet told = is_out_of_memory quiet told
-  is_not_asked (failures.Refused r) blames quiet told = absurd blames
+  is_not_asked (failures.Unlisted r) blames quiet told = absurd blames
   is_not_asked (failures.Unread r) blames quiet told = absurd blames
   is_not_asked failures.Input blames quiet told = absurd blames
   is_not_asked failures.Output blames quiet told = absurd blames
@@ -195,8 +241,8 @@ module _ (words : List Text) (old new : Streams) (reads : Reads words old.input 
   -- what they ask for was not done
   is_not_done : (f : Failure) (ask : Ask) → asked words ≡ Some ask → Fails f ask old.input old.output new.output → IfSome (message_of f) (Tells old.errors new.errors)
       → IsRun words old new (status_of f)
-  is_not_done (failures.Refused refusal) ask is fails told =
-      is_refused fails.1 (record { text = refusal_message refusal; is = for_asked words ask _ is fails.0; told = told }) (λ none. absurd cc)
+  is_not_done (failures.Unlisted fault) ask is fails told =
+      is_refused fails.1 (record { text = list_message fault; is = for_asked words ask _ is fails.0; told = told }) (λ none. absurd cc)
   is_not_done (failures.Unread fault) ask is fails told =
       is_refused fails.1 (record { text = fault_message fault.line fault.cause; is = for_asked words ask _ is fails.0; told = told }) (λ none. absurd cc)
   is_not_done failures.Memory ask is fails told = is_out_of_memory fails told

@@ -8,8 +8,10 @@ use Rattle.clap.specs.declared.builder.action.ArgAction.TheVariants.{SetTrue, Ap
 use Rattle.clap.specs.declared.builder.value_parser.ValueParser.TheVariants.{Signed}
 use Rattle.c62_read.specs.Number.{are_digits}
 use Rattle.c62_tool.specs.declared.setting.Setting.{Setting}
+use Rattle.c62_tool.specs.declared.schedule.Packing.{Packing}
+use Rattle.c62_tool.specs.declared.command.Start.{Start}
 use Rattle.c62_tool.specs.declared.command.Request.{Request}
-use Rattle.c62_tool.specs.declared.command.Request.TheVariants.{Pack, Serial}
+use Rattle.c62_tool.specs.declared.command.Request.TheVariants.{Pack, Run, Serial, Sim}
 use Rattle.c62_tool.specs.Settings.{settings_of, IsFirstBad}
 
 -- ---- what clap takes
@@ -17,6 +19,10 @@ use Rattle.c62_tool.specs.Settings.{settings_of, IsFirstBad}
 -- `--turns`
 abbrev pub turns_rule : Rule
 turns_rule = record (new_rule (codes "turns")) { long = Some (codes "turns"); action = Some SetTrue }
+
+-- `--eject N`, from 0 to 1,000
+abbrev pub eject_rule : Rule
+eject_rule = record (new_rule (codes "eject")) { long = Some (codes "eject"); value_names = 1; parser = Some (Signed (pos 0) (pos 1000)) }
 
 -- `--blocks N`, from 1 to 1,000,000
 abbrev pub blocks_rule : Rule
@@ -26,58 +32,104 @@ blocks_rule = record (new_rule (codes "blocks")) { long = Some (codes "blocks");
 abbrev pub settings_rule : Rule
 settings_rule = record (new_rule (codes "settings")) { value_names = 1; action = Some Append }
 
--- `pack [--turns]`
+abbrev pub with_packing : App → App
+with_packing app = with_rule (with_rule app turns_rule) eject_rule
+
+abbrev pub with_start : App → App
+with_start app = with_rule (with_rule app blocks_rule) settings_rule
+
+-- `pack [--turns] [--eject N]`
 abbrev pub pack_app : App
-pack_app = with_rule (new_app (codes "pack")) turns_rule
+pack_app = with_packing (new_app (codes "pack"))
+
+-- `run [--turns] [--eject N] [--blocks N] [SETTING]..`
+abbrev pub run_app : App
+run_app = with_start (with_packing (new_app (codes "run")))
 
 -- `serial [--blocks N] [SETTING]..`
 abbrev pub serial_app : App
-serial_app = with_rule (with_rule (new_app (codes "serial")) blocks_rule) settings_rule
+serial_app = with_start (new_app (codes "serial"))
+
+-- `sim [--blocks N] [SETTING]..`
+abbrev pub sim_app : App
+sim_app = with_start (new_app (codes "sim"))
 
 abbrev pub bare_app : App
 bare_app = let new = new_app (codes "c62") in record new { top = record new.top { no_binary_name = true; subcommand_required = true } }
 
+-- the subcommands that pack
+abbrev pub packing_app : App
+packing_app = with_subcommand (with_subcommand bare_app pack_app.top) run_app.top
+
 -- the whole command line: exactly one subcommand
 abbrev pub tool_app : App
-tool_app = with_subcommand (with_subcommand bare_app pack_app.top) serial_app.top
+tool_app = with_subcommand (with_subcommand packing_app serial_app.top) sim_app.top
 
 -- ---- what was asked for
 
 pub data Ask : Type 0 where
-  -- the listing of a text
-  Listing : (turns : Bool) → Ask
+  -- the listing of a text, packed so
+  Listing : Packing → Ask
   -- the report of a serial run of at most so many blocks, from a state with these settings
   SerialReport : (blocks : ℕ) → List Setting → Ask
+  -- the report of the same run of the packets of a text, packed so
+  PacketReport : Packing → (blocks : ℕ) → List Setting → Ask
+  -- the report of such a run of the packets that a listing says
+  ListingReport : (blocks : ℕ) → List Setting → Ask
 
 abbrev pub ask_of : Request → Ask
-ask_of (Pack turns) = Listing turns
-ask_of (Serial blocks settings) = SerialReport blocks settings.items
+ask_of (Pack packing) = Listing packing
+ask_of (Run packing start) = PacketReport packing start.blocks start.settings.items
+ask_of (Serial start) = SerialReport start.blocks start.settings.items
+ask_of (Sim start) = ListingReport start.blocks start.settings.items
 
 -- a flag was set
 abbrev pub is_set : Text → List Row → Bool
 is_set flag rows = option_map_or (λ t. bytes_eq t (codes "true")) (first_of flag rows) false
 
--- a number below 2^32 in decimal, with or without a `+` in front
-abbrev pub number_written : Text → Option ℕ
-number_written text =
+-- a number of so many bits in decimal, with or without a `+` in front
+abbrev pub number_written : ℕ → Text → Option ℕ
+number_written bits text =
     let digits = without_leading_plus text in
-    if nat_lt 0 (length digits) && are_digits 10 digits && nat_lt (digits_value 10 digits) (2 ^ 32) then Some (digits_value 10 digits)
+    if nat_lt 0 (length digits) && are_digits 10 digits && nat_lt (digits_value 10 digits) (2 ^ bits) then Some (digits_value 10 digits)
     else None
+
+-- the number behind this option, or this one where none is given
+abbrev pub number_of : ℕ → Text → ℕ → List Row → ℕ
+number_of bits option default rows = unwrap_or (option_and_then (number_written bits) (first_of option rows)) default
 
 -- the limit of blocks: 1,000 where none is given
 abbrev pub blocks_of : List Row → ℕ
-blocks_of rows = unwrap_or (option_and_then number_written (first_of (codes "blocks") rows)) 1000
+blocks_of rows = number_of 32 (codes "blocks") 1000 rows
+
+-- how many ejections a block may have: none where nothing is given
+abbrev pub budget_of : List Row → ℕ
+budget_of rows = number_of 16 (codes "eject") 0 rows
+
+abbrev pub packing_of : List Row → Packing
+packing_of rows = record { turns = is_set (codes "turns") rows; budget = budget_of rows }
+
+-- by turns and without ejections
+abbrev pub plain_packing : Packing
+plain_packing = record { turns = true; budget = 0 }
 
 -- the words that are to be settings
 abbrev pub setting_words : List Row → List Text
 setting_words rows = unwrap_or (all_of (codes "settings") rows) []
 
+-- which report a subcommand asks for, with these settings
+abbrev pub report_asked : Text → List Row → List Setting → Ask
+report_asked name rows settings =
+    if bytes_eq name (codes "run") then PacketReport (packing_of rows) (blocks_of rows) settings
+    else (if bytes_eq name (codes "sim") then ListingReport (blocks_of rows) settings
+    else SerialReport (blocks_of rows) settings)
+
 -- what the subcommand's name and what was found for its arguments ask for, where the settings are good
 abbrev pub ask_in : Option (Text × List Row) → Option Ask
-ask_in None = Some (Listing true)
+ask_in None = Some (Listing plain_packing)
 ask_in (Some (name, rows)) =
-    if bytes_eq name (codes "serial") then option_map (SerialReport (blocks_of rows)) (settings_of (setting_words rows))
-    else Some (Listing (is_set (codes "turns") rows))
+    if bytes_eq name (codes "pack") then Some (Listing (packing_of rows))
+    else option_map (report_asked name rows) (settings_of (setting_words rows))
 
 abbrev pub unless_fault : Kinds → Option Ask → Option Ask
 unless_fault [] ask = ask
@@ -85,13 +137,13 @@ unless_fault (kind ∷ kinds) ask = None
 
 -- What the words ask for: no words ask for `pack --turns`. None where clap doesn't take them, or a setting is bad.
 unfoldable pub asked : List Text → Option Ask
-asked [] = Some (Listing true)
+asked [] = Some (Listing plain_packing)
 asked (word ∷ words) = unless_fault (fault_of tool_app (word ∷ words)) (ask_in (subcommand_of tool_app (word ∷ words)))
 
 -- setting k of the subcommand, from 1, is its first bad one
 abbrev pub HasFirstBad : Option (Text × List Row) → ℕ → Type 0
 HasFirstBad None k = ⊥
-HasFirstBad (Some (name, rows)) k = (name ≡ codes "serial") × IsFirstBad (setting_words rows) k
+HasFirstBad (Some (name, rows)) k = (bytes_eq name (codes "pack") ≡ false) × IsFirstBad (setting_words rows) k
 
 -- clap takes the words, and setting k is the first bad one
 abbrev pub HasBadSetting : List Text → ℕ → Type 0
@@ -108,7 +160,13 @@ abbrev pub IsNumberOf : ℕ → ℕ → ℕ → Option Text → ℕ → Type 0
 IsNumberOf least most default None number = number ≡ default
 IsNumberOf least most default (Some text) number = (signed_digits_value 10 text ≡ pos number) × (least ≤ number) × (number ≤ most)
 
--- Where clap takes the words, the limit of blocks is the number behind `--blocks`, 1 to 1,000,000, or 1,000 without it.
+-- the numbers that a subcommand's options stand for
+pub record AreLimits (rows : List Row) : Type 0 where
+  -- behind `--blocks` 1 to 1,000,000, and 1,000 without it
+  pub blocks : IsNumberOf 1 1000000 1000 (first_of (codes "blocks") rows) (blocks_of rows)
+  -- behind `--eject` 0 to 1,000, and 0 without it
+  pub eject : IsNumberOf 0 1000 0 (first_of (codes "eject") rows) (budget_of rows)
+
+-- Where clap takes the words, no number is made up.
 abbrev pub TakesLimits : List Text → Type 0
-TakesLimits words = (name : Text) (rows : List Row) → fault_of tool_app words ≡ [] → subcommand_of tool_app words ≡ Some (name, rows)
-    → IsNumberOf 1 1000000 1000 (first_of (codes "blocks") rows) (blocks_of rows)
+TakesLimits words = (name : Text) (rows : List Row) → fault_of tool_app words ≡ [] → subcommand_of tool_app words ≡ Some (name, rows) → AreLimits rows

@@ -1,13 +1,5 @@
-pub mod Spot
-pub mod Lawful
-pub mod Least
-pub mod Packet
-pub mod Early
-pub mod Listing
-pub mod Text
-pub mod Reading
-pub mod Packed
 pub mod CommandLine
+pub mod Schedule
 pub mod Settings
 pub mod Report
 pub mod Message

@@ -5,10 +5,10 @@ use Rattle.c62_insn.specs.declared.fault.FormFault.{FormFault}
 use Rattle.c62_insn.specs.declared.fault.FormFault.TheVariants as form
 use Rattle.c62_read.specs.declared.fault.Cause.{Cause}
 use Rattle.c62_read.specs.declared.fault.Cause.TheVariants as cause
-use Rattle.c62_tool.specs.declared.fault.LineFault.{LineFault}
-use Rattle.c62_tool.specs.declared.fault.LineFault.TheVariants as line_fault
-use Rattle.c62_tool.specs.declared.fault.Refusal.{Refusal}
-use Rattle.c62_tool.specs.declared.fault.Refusal.TheVariants.{TextTooLong, At}
+use Rattle.c62_packet.specs.declared.fault.PacketRule.{PacketRule}
+use Rattle.c62_packet.specs.declared.fault.PacketRule.TheVariants as rule
+use Rattle.c62_listing_reader.specs.declared.fault.ListFault.{ListFault}
+use Rattle.c62_listing_reader.specs.declared.fault.ListFault.TheVariants as listed
 use Rattle.c62_tool.specs.declared.failure.Failure.{Failure}
 use Rattle.c62_tool.specs.declared.failure.Failure.TheVariants as failure
 
@@ -39,18 +39,12 @@ cause_name cause.TooManyBlocks = codes "TooManyBlocks"
 cause_name cause.TextTooLong = codes "TextTooLong"
 cause_name cause.Memory = codes "Memory"
 
--- the fault of a line as the reader of whole texts names it
-abbrev pub cause_of : LineFault → Cause
-cause_of line_fault.NotAscii = cause.NotAscii
-cause_of line_fault.LineTooLong = cause.LineTooLong
-cause_of line_fault.ParallelBar = cause.ParallelBar
-cause_of line_fault.BadLabel = cause.BadLabel
-cause_of line_fault.Directive = cause.Directive
-cause_of line_fault.UnknownMnemonic = cause.UnknownMnemonic
-cause_of line_fault.BadUnit = cause.BadUnit
-cause_of line_fault.BadOperand = cause.BadOperand
-cause_of (line_fault.Form fault) = cause.Form fault
-cause_of line_fault.TooManyInstructions = cause.TooManyInstructions
+abbrev pub rule_name : PacketRule → List ℕ
+rule_name rule.P1 = codes "P1"
+rule_name rule.P2 = codes "P2"
+rule_name rule.P3 = codes "P3"
+rule_name rule.P4 = codes "P4"
+rule_name rule.P5 = codes "P5"
 
 -- ---- the lines
 
@@ -58,9 +52,22 @@ cause_of line_fault.TooManyInstructions = cause.TooManyInstructions
 abbrev pub fault_message : ℕ → Cause → List ℕ
 fault_message line fault = codes "line " ++ decimal line ++ codes ": " ++ cause_name fault ++ codes "\n"
 
-abbrev pub refusal_message : Refusal → List ℕ
-refusal_message TextTooLong = fault_message 0 cause.TextTooLong
-refusal_message (At line fault) = fault_message line (cause_of fault)
+-- `block K: NAME`
+abbrev pub block_message : ℕ → List ℕ → List ℕ
+block_message block name = codes "block " ++ decimal block ++ codes ": " ++ name ++ codes "\n"
+
+-- `block K cycle C: RULE`
+abbrev pub rule_message : ℕ → ℕ → PacketRule → List ℕ
+rule_message block cycle rule = codes "block " ++ decimal block ++ codes " cycle " ++ decimal cycle ++ codes ": " ++ rule_name rule ++ codes "\n"
+
+-- the line about a fault of a listing
+abbrev pub list_message : ListFault → List ℕ
+list_message (listed.Read fault) = fault_message fault.line fault.cause
+list_message (listed.Shape line) = codes "line " ++ decimal line ++ codes ": Shape\n"
+list_message (listed.TwoBranches block) = block_message block (codes "TwoBranches")
+list_message (listed.NotDrained block) = block_message block (codes "NotDrained")
+list_message (listed.Unlawful block cycle rule) = rule_message block cycle rule
+list_message listed.Memory = codes "memory\n"
 
 -- `setting K: bad`
 abbrev pub setting_message : ℕ → List ℕ
@@ -68,8 +75,8 @@ setting_message number = codes "setting " ++ decimal number ++ codes ": bad\n"
 
 -- what is told of a failure; clap's own text is left open
 abbrev pub message_of : Failure → Option (List ℕ)
-message_of (failure.Refused refusal) = Some (refusal_message refusal)
 message_of (failure.Unread fault) = Some (fault_message fault.line fault.cause)
+message_of (failure.Unlisted fault) = Some (list_message fault)
 message_of (failure.Words error) = None
 message_of (failure.Setting number) = Some (setting_message number)
 message_of failure.Memory = Some (codes "memory\n")

@@ -58,6 +58,16 @@ unfoldable pub machine_lines : Machine → List ℕ
 machine_lines machine =
     file_lines machine A ++ file_lines machine B ++ word_lines machine memory_words ++ flat_map fault_line machine.faults
 
+abbrev pub blocks_line : Chain → List ℕ
+blocks_line chain = line (codes "blocks " ++ decimal chain.blocks)
+
+abbrev pub cycles_line : ℕ → List ℕ
+cycles_line cycles = line (codes "cycles " ++ decimal cycles)
+
 -- the report of a serial run
 unfoldable pub serial_report : Chain → Machine → List ℕ
-serial_report chain machine = line (codes "blocks " ++ decimal chain.blocks) ++ exit_line chain.stop ++ machine_lines machine
+serial_report chain machine = blocks_line chain ++ exit_line chain.stop ++ machine_lines machine
+
+-- the report of a run of packets: the same, with a line for the cycles behind the first
+unfoldable pub packet_report : Chain → ℕ → Machine → List ℕ
+packet_report chain cycles machine = blocks_line chain ++ cycles_line cycles ++ exit_line chain.stop ++ machine_lines machine

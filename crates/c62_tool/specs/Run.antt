@@ -1,35 +1,41 @@
 -- What the program does to its streams.
-use Rattle.std.specs.Prelude.{◌≡◌, ◌≢◌, ◌⊎◌, ℕ, ◌+◌, ◌<◌, ◌≤◌, List, [], length, map, fold, codes, Option, None, Result, IfSome, IsErrAnd, Ok, Err}
+use Rattle.std.specs.Prelude.{◌≡◌, ◌≢◌, ◌⊎◌, ℕ, ◌+◌, ◌<◌, ◌≤◌, List, [], length, map, fold, codes, Option, Some, None, Result, IfSome, IsErrAnd, Ok, Err}
 use Rattle.std.specs.Io.KnownBytes.{Appends, Consumes, Keeps}
 use Rattle.std.specs.Option.{IsSomeAnd}
 use Rattle.std.specs.Global.{Vec}
 use Rattle.clap.specs.Words.{Text, kind_of}
 use Rattle.clap.specs.declared.error.Error.{Error}
 use Rattle.clap.specs.declared.error.kind.ErrorKind.TheVariants.{OutOfMemory}
-use Rattle.c62_insn.specs.declared.insn.Insn.{Insn}
 use Rattle.c62_tool.specs.declared.failure.Failure.{Failure}
-use Rattle.c62_tool.specs.declared.failure.Failure.TheVariants.{Refused, Unread, Words, Setting, Memory, Input, Output}
+use Rattle.c62_tool.specs.declared.failure.Failure.TheVariants.{Unread, Unlisted, Words, Setting, Memory, Input, Output}
 use Rattle.c62_tool.specs.declared.setting.SettingError.{SettingError}
 use Rattle.c62_tool.specs.declared.setting.SettingError.TheVariants as setting
 use Rattle.c62_tool.specs.declared.setting.Setting.{Setting as Given}
 use Rattle.c62_tool.specs.declared.setting.Setting.TheVariants as given
+use Rattle.c62_tool.specs.declared.schedule.Packing.{Packing}
 use Rattle.c62_read.specs.declared.fault.Cause.TheVariants.{Memory as OutOfStore}
 use Rattle.c62_read.specs.declared.fault.ReadFault.{ReadFault}
 use Rattle.c62_read.specs.Block.{Serial}
-use Rattle.c62_read.specs.Program.{program_in, block_parts}
-use Rattle.c62_serial.specs.State.{Machine, IsZero, with_word}
+use Rattle.c62_read.specs.Program.{program_in, block_parts, most_bytes}
+use Rattle.c62_serial.specs.State.{Machine, IsSound, IsZero, with_word}
 use Rattle.c62_serial.specs.Memory.{with_bytes}
 use Rattle.c62_serial.specs.declared.chain.Chain.{Chain}
 use Rattle.c62_serial.specs.Chain.{RunsProgram}
-use Rattle.c62_tool.specs.Report.{serial_report}
-use Rattle.c62_tool.specs.Reading.{IsProgram, most_bytes, program_of}
-use Rattle.c62_tool.specs.Packed.{IsPacked}
-use Rattle.c62_tool.specs.CommandLine.{Ask, Listing, SerialReport, IsUnknown, HasBadSetting, asked}
-use Rattle.c62_tool.specs.Message.{fault_message, refusal_message, setting_message, IsFront, Tells, TellsOf}
+use Rattle.c62_packet.specs.Packed.{Packed}
+use Rattle.c62_pipe.specs.Chain.{RunsPackets}
+use Rattle.c62_listing.specs.Listing.{listing}
+use Rattle.c62_listing_reader.specs.declared.fault.ListFault.{ListFault}
+use Rattle.c62_listing_reader.specs.declared.fault.ListFault.TheVariants.{Memory as NoStore}
+use Rattle.c62_listing_reader.specs.Faults.{IsRead, most_bytes as most_listing_bytes}
+use Rattle.c62_listing_reader.specs.Reading.{Refuses}
+use Rattle.c62_tool.specs.Schedule.{AreScheduled}
+use Rattle.c62_tool.specs.Report.{serial_report, packet_report}
+use Rattle.c62_tool.specs.CommandLine.{Ask, Listing, SerialReport, PacketReport, ListingReport, IsUnknown, HasBadSetting, asked}
+use Rattle.c62_tool.specs.Message.{fault_message, list_message, setting_message, IsFront, Tells, TellsOf}
 
 abbrev pub status_of : Failure → ℕ
-status_of (Refused _) = 1
 status_of (Unread _) = 1
+status_of (Unlisted _) = 1
 status_of (Words _) = 2
 status_of (Setting _) = 2
 status_of Memory = 3
@@ -44,6 +50,10 @@ IsWordsFailure error f = ((kind_of error ≡ OutOfMemory) × (f ≡ Memory)) ⊎
 abbrev pub IsReadFailure : ReadFault → Failure → Type 0
 IsReadFailure fault f = ((fault.cause ≡ OutOfStore) × (f ≡ Memory)) ⊎ ((fault.cause ≢ OutOfStore) × (f ≡ Unread fault))
 
+-- what a fault of reading a listing is
+abbrev pub IsListFailure : ListFault → Failure → Type 0
+IsListFailure fault f = ((fault ≡ NoStore) × (f ≡ Memory)) ⊎ ((fault ≢ NoStore) × (f ≡ Unlisted fault))
+
 -- what words that are no settings are
 abbrev pub IsSettingFailure : SettingError → Failure → Type 0
 IsSettingFailure setting.Memory f = f ≡ Memory
@@ -53,11 +63,24 @@ IsSettingFailure (setting.Bad k) f = f ≡ Setting k
 abbrev pub TakesAtMost : ℕ → Option (List ℕ) → Option (List ℕ) → Type 0
 TakesAtMost n old new = (bytes : List ℕ) × Consumes old new bytes × (length bytes ≤ n)
 
--- the text says a block, of which this is the packed listing
-pub record IsPackedText (text listing : List ℕ) : Type 0 where
-  pub block : List Insn
-  pub says : IsProgram text block
-  pub packed : IsPacked block listing
+-- the most bytes that a text may have: a listing, or serial text
+abbrev pub limit_of : Ask → ℕ
+limit_of (ListingReport blocks settings) = most_listing_bytes
+limit_of _ = most_bytes
+
+-- ---- answers
+
+-- the text says a program
+abbrev pub SaysProgram : List ℕ → List Serial → Type 0
+SaysProgram text program = program_in text ≡ Ok (map block_parts program)
+
+-- the text says a program, and this is the listing of its blocks, packed so
+pub record IsPackedText (packing : Packing) (text answer : List ℕ) : Type 0 where
+  pub program : List Serial
+  pub says : SaysProgram text program
+  pub packets : List Packed
+  pub packed : AreScheduled packing program packets
+  pub listed : answer ≡ listing packets
 
 -- the machine after a setting
 abbrev pub with_setting : Machine → Given → Machine
@@ -68,31 +91,83 @@ with_setting machine (given.Word address value) = with_bytes address 4 value mac
 abbrev pub with_settings : List Given → Machine → Machine
 with_settings settings machine = fold with_setting machine settings
 
--- The report of a program's serial run: of at most so many blocks, from zeros with these settings.
-pub record IsReport (program : List Serial) (settings : List Given) (blocks : ℕ) (text : List ℕ) : Type 0 where
+-- all zeros, and then these settings
+pub record IsOpening (settings : List Given) (opening : Machine) : Type 0 where
   pub zeros : Machine
   pub zero : IsZero zeros
+  pub set : opening ≡ with_settings settings zeros
+  pub sound : IsSound opening
+
+-- The report of a program's serial run: of at most so many blocks, from zeros with these settings.
+pub record IsReport (program : List Serial) (settings : List Given) (blocks : ℕ) (answer : List ℕ) : Type 0 where
+  pub opening : Machine
+  pub begin : IsOpening settings opening
   pub chain : Chain
   pub final : Machine
-  pub run : RunsProgram program (with_settings settings zeros) blocks chain final
-  pub report : text ≡ serial_report chain final
+  pub run : RunsProgram program opening blocks chain final
+  pub report : answer ≡ serial_report chain final
+
+-- The report of such a run of packets.
+pub record IsPacketReport (packets : List Packed) (settings : List Given) (blocks : ℕ) (answer : List ℕ) : Type 0 where
+  pub opening : Machine
+  pub begin : IsOpening settings opening
+  pub chain : Chain
+  pub cycles : ℕ
+  pub final : Machine
+  pub run : RunsPackets packets opening blocks chain cycles final
+  pub report : answer ≡ packet_report chain cycles final
+
+-- The same, where the packets run as this program does: without its line of cycles it is the report of the serial run.
+pub record IsSameReport (program : List Serial) (packets : List Packed) (settings : List Given) (blocks : ℕ) (answer : List ℕ) : Type 0 where
+  pub reported : IsPacketReport packets settings blocks answer
+  pub serial : RunsProgram program reported.opening blocks reported.chain reported.final
 
 -- the text says a program, of whose serial run this is the report
-pub record IsSerialReport (settings : List Given) (blocks : ℕ) (text report : List ℕ) : Type 0 where
+pub record IsSerialReport (settings : List Given) (blocks : ℕ) (text answer : List ℕ) : Type 0 where
   pub program : List Serial
-  pub says : program_in text ≡ Ok (map block_parts program)
-  pub reported : IsReport program settings blocks report
+  pub says : SaysProgram text program
+  pub reported : IsReport program settings blocks answer
 
--- what answers a text: its listing, or the report of its run
+-- the text says a program, and this is the report of a run of its blocks, packed so
+pub record IsRunReport (packing : Packing) (settings : List Given) (blocks : ℕ) (text answer : List ℕ) : Type 0 where
+  pub program : List Serial
+  pub says : SaysProgram text program
+  pub packets : List Packed
+  pub packed : AreScheduled packing program packets
+  pub reported : IsSameReport program packets settings blocks answer
+
+-- the text is a listing, of the run of whose packets this is the report
+pub record IsListingReport (settings : List Given) (blocks : ℕ) (text answer : List ℕ) : Type 0 where
+  pub packets : List Packed
+  pub read : IsRead text packets
+  pub reported : IsPacketReport packets settings blocks answer
+
+-- what answers a text: its listing, or the report of a run
 abbrev pub IsAnswer : Ask → List ℕ → List ℕ → Type 0
-IsAnswer (Listing turns) text answer = IsPackedText text answer
+IsAnswer (Listing packing) text answer = IsPackedText packing text answer
 IsAnswer (SerialReport blocks settings) text answer = IsSerialReport settings blocks text answer
+IsAnswer (PacketReport packing blocks settings) text answer = IsRunReport packing settings blocks text answer
+IsAnswer (ListingReport blocks settings) text answer = IsListingReport settings blocks text answer
 
--- the text says no block that could be packed, or no program that could be run, and the message tells its fault
+-- ---- refusals
+
+-- the text says no program, and the message tells its fault
+abbrev pub IsNoProgram : List ℕ → List ℕ → Type 0
+IsNoProgram text message = IsErrAnd (program_in text) (λ fault. message ≡ fault_message fault.0 fault.1)
+
+-- the text is no listing, and the message tells its first fault
+pub record IsNoListing (text message : List ℕ) : Type 0 where
+  pub fault : ListFault
+  pub known : fault ≢ NoStore
+  pub refused : Refuses text fault
+  pub told : message ≡ list_message fault
+
+-- the text says nothing that could be answered, and the message tells its fault
 abbrev pub IsRefusedText : Ask → List ℕ → List ℕ → Type 0
-IsRefusedText (Listing turns) text message = IsErrAnd (program_of text) (λ refusal. message ≡ refusal_message refusal)
-IsRefusedText (SerialReport blocks settings) text message =
-    IsErrAnd (program_in text) (λ fault. message ≡ fault_message fault.0 fault.1)
+IsRefusedText (ListingReport blocks settings) text message = IsNoListing text message
+IsRefusedText _ text message = IsNoProgram text message
+
+-- ---- streams
 
 -- the answer to a text was written
 pub record Answers (ask : Ask) (text : List ℕ) (old new : Option (List ℕ)) : Type 0 where
@@ -127,18 +202,32 @@ Blames (Setting k) words = HasBadSetting words k
 Blames Memory words = Unit {0}
 Blames _ words = ⊥
 
+-- the program that a text says, or its fault, unless memory ran out
+abbrev pub GivesProgram : List ℕ → Result (List Serial) Failure → Type 0
+GivesProgram text (Ok program) = SaysProgram text program
+GivesProgram text (Err (Unread fault)) = IsNoProgram text (fault_message fault.line fault.cause)
+GivesProgram text (Err Memory) = Unit {0}
+GivesProgram text (Err _) = ⊥
+
+-- the packets that a listing says, or its fault, unless memory ran out
+abbrev pub GivesPackets : List ℕ → Result (List Packed) Failure → Type 0
+GivesPackets text (Ok packets) = IsRead text packets
+GivesPackets text (Err (Unlisted fault)) = IsNoListing text (list_message fault)
+GivesPackets text (Err Memory) = Unit {0}
+GivesPackets text (Err _) = ⊥
+
 -- the answer to a text, or its fault, unless memory ran out
 abbrev pub Gives : Ask → List ℕ → Result (Vec ℕ) Failure → Type 0
 Gives ask text (Ok v) = IsAnswer ask text v.items
-Gives ask text (Err (Refused refusal)) = IsRefusedText ask text (refusal_message refusal)
 Gives ask text (Err (Unread fault)) = IsRefusedText ask text (fault_message fault.line fault.cause)
+Gives ask text (Err (Unlisted fault)) = IsRefusedText ask text (list_message fault)
 Gives ask text (Err Memory) = Unit {0}
 Gives ask text (Err _) = ⊥
 
 -- Why what is asked for was not done. A failure of the output leaves open what was written.
 abbrev pub Fails : Failure → Ask → Option (List ℕ) → Option (List ℕ) → Option (List ℕ) → Type 0
-Fails (Refused refusal) ask text old new = IsRefused ask text (refusal_message refusal) × Keeps old new
 Fails (Unread fault) ask text old new = IsRefused ask text (fault_message fault.line fault.cause) × Keeps old new
+Fails (Unlisted fault) ask text old new = IsRefused ask text (list_message fault) × Keeps old new
 Fails Memory ask text old new = Keeps old new
 Fails Input ask text old new = Keeps old new
 Fails Output ask text old new = Unit {0}
@@ -177,7 +266,7 @@ pub record IsRun (words : List Text) (old new : Streams) (status : ℕ) : Type 0
   pub stream : status ≡ 4 → Tells old.errors new.errors (codes "input\n") ⊎ Tells old.errors new.errors (codes "output\n")
   -- Nothing is written but an answer, and one byte past the limit of a text is the last that is read.
   pub quiet : 0 < status → status < 4 → Keeps old.output new.output
-  pub most : TakesAtMost (most_bytes + 1) old.input new.input
+  pub most : (ask : Ask) → asked words ≡ Some ask → TakesAtMost (limit_of ask + 1) old.input new.input
 
 -- the same of a run on these bytes, which wrote these to its output and its error stream
 pub record IsRunOnBytes (words : List Text) (input output errors : List ℕ) (status : ℕ) : Type 0 where

@@ -4,12 +4,13 @@ ghost use Rattle.std.specs.Prelude.{◌≡◌, ◌≢◌, ℕ, IfOk, IfErr, IsOk
 ghost use Rattle.clap.specs.Words.{app_of, found_of, kind_of, rows_of, rule_of, subcommand_of, subcommand_rows_of, fault_of};
 ghost use Rattle.clap.specs.declared.builder.command.Command.TheViews.{out-Command as fields_of};
 ghost use Rattle.clap.specs.declared.error.kind.ErrorKind.TheVariants.{OutOfMemory};
-ghost use Rattle.c62_tool.specs.CommandLine.{turns_rule, blocks_rule, settings_rule, pack_app, serial_app, tool_app, is_set, blocks_of, setting_words, ask_in, ask_of, asked, HasFirstBad};
+ghost use Rattle.c62_tool.specs.CommandLine.{turns_rule, eject_rule, blocks_rule, settings_rule, pack_app, run_app, serial_app, sim_app, bare_app, packing_app, tool_app, with_packing, with_start, is_set, blocks_of, budget_of, packing_of, plain_packing, setting_words, ask_in, ask_of, asked, HasFirstBad};
 ghost use Rattle.c62_tool.specs.Settings.{settings_of, IsFirstBad};
 ghost use Rattle.c62_tool.specs.declared.setting.SettingError.TheVariants.{Bad};
 ghost use Rattle.c62_tool.specs.Run.{Blames};
 
 use crate::failure::Failure;
+use crate::schedule::Packing;
 use crate::setting::{Setting, SettingError, read_settings};
 use clap::{Arg, ArgAction, ArgMatches, Command, Error, value_parser};
 use std::alloc::{AllocError, Global};
@@ -25,20 +26,38 @@ as in: c62 pack < kernel.s
 
 Status, and what standard error says:
   0  done, and nothing is said
-  1  the text is refused: `line 7: BadUnit` names its first faulty line and the fault
+  1  the text is refused: `line 7: BadUnit` names its first faulty line and the fault;
+     of a listing also `block 0: NotDrained`, or `block 0 cycle 3: P5` and the packet rule
   2  the words are refused, by a text like this one, or `setting 2: bad`
   3  no memory: `memory`
   4  a stream failed: `input` or `output`
-docs/SERIAL_TEXT.md tells what each fault is.";
+docs/SERIAL_TEXT.md and docs/LISTING.md tell what each fault is.";
+
+/// Where a run begins, and how many blocks it has at most.
+#[derive(Debug, Drop)]
+pub struct Start {
+    pub blocks: u32,
+    pub settings: Vec<Setting>,
+}
 
 /// What was asked for.
 #[derive(Debug, Drop)]
 pub enum Request {
-    /// The listing of a text, packed by one thread where `turns` is set.
-    Pack { turns: bool },
-    /// The report of a serial run of at most so many blocks, from a state with these settings.
-    Serial { blocks: u32, settings: Vec<Setting> },
+    /// The listing of a serial text.
+    Pack(Packing),
+    /// The report of a run of the packets of a serial text.
+    Run(Packing, Start),
+    /// The report of the serial run of a serial text.
+    Serial(Start),
+    /// The report of a run of the packets of a listing.
+    Sim(Start),
 }
+
+/// What no words ask for: packing by turns, without ejections.
+const PLAIN: Packing = Packing {
+    turns: true,
+    budget: 0,
+};
 
 fn turns_flag<'a>(alloc: Global) -> Arg<'a>
     ensures rule { rule_of result ≡ turns_rule }
@@ -50,15 +69,15 @@ fn turns_flag<'a>(alloc: Global) -> Arg<'a>
         .help("Packs on one thread, one side after the other")
 }
 
-fn pack_command<'a>(alloc: Global) -> Result<Command<'a>, AllocError>
-    ensures app { IfOk result (λ c. app_of c ≡ pack_app) }
-    ensures local { IfOk result (λ c. (fields_of c).has_globals ≡ false) }
+fn eject_option<'a>(alloc: Global) -> Arg<'a>
+    ensures rule { rule_of result ≡ eject_rule }
+    ensures local { result.global ≡ false }
 {
-    Command::new(alloc, "pack")
-        .about("Reads serial text and writes its listing")
-        .override_usage("c62 pack [--turns]")
-        .after_help(STREAMS_AND_STATUS)
-        .arg(turns_flag(alloc))
+    Arg::new(alloc, "eject")
+        .long("eject")
+        .value_name("N")
+        .value_parser(value_parser!(u16).range(0..=1000))
+        .help("Ejects at most N placed instructions of a block, 0 to 1000; 0 where none is given")
 }
 
 fn blocks_option<'a>(alloc: Global) -> Arg<'a>
@@ -82,20 +101,72 @@ fn settings_words<'a>(alloc: Global) -> Arg<'a>
         .help("REG=NUMBER sets a register, @ADDRESS=NUMBER a word of memory; a file's name is none")
 }
 
-fn serial_command<'a>(alloc: Global) -> Result<Command<'a>, AllocError>
-    ensures app { IfOk result (λ c. app_of c ≡ serial_app) }
-    ensures local { IfOk result (λ c. (fields_of c).has_globals ≡ false) }
+/// The command with the options of packing.
+fn with_packing<'a>(alloc: Global, command: Command<'a>) -> Result<Command<'a>, AllocError>
+    ensures app { IfOk result (λ c. app_of c ≡ with_packing (app_of command.entry)) }
+    ensures local { (fields_of command.entry).has_globals ≡ false → IfOk result (λ c. (fields_of c).has_globals ≡ false) }
 {
-    Command::new(alloc, "serial")
-        .about("Runs serial text, one instruction after the other, and reports the end")
-        .override_usage("c62 serial [--blocks <N>] [SETTING]...")
-        .after_help(STREAMS_AND_STATUS)
+    command.arg(turns_flag(alloc))?.arg(eject_option(alloc))
+}
+
+/// The command with the limit of blocks and the settings.
+fn with_start<'a>(alloc: Global, command: Command<'a>) -> Result<Command<'a>, AllocError>
+    ensures app { IfOk result (λ c. app_of c ≡ with_start (app_of command.entry)) }
+    ensures local { (fields_of command.entry).has_globals ≡ false → IfOk result (λ c. (fields_of c).has_globals ≡ false) }
+{
+    command
         .arg(blocks_option(alloc))?
         .arg(settings_words(alloc))
 }
 
-fn tool_command<'a>(alloc: Global) -> Result<Command<'a>, AllocError>
-    ensures { IfOk result (λ c. app_of c ≡ tool_app) }
+fn pack_command<'a>(alloc: Global) -> Result<Command<'a>, AllocError>
+    ensures app { IfOk result (λ c. app_of c ≡ pack_app) }
+    ensures local { IfOk result (λ c. (fields_of c).has_globals ≡ false) }
+{
+    let command = Command::new(alloc, "pack")
+        .about("Reads serial text and writes its listing")
+        .override_usage("c62 pack [--turns] [--eject <N>]")
+        .after_help(STREAMS_AND_STATUS);
+    with_packing(alloc, command)
+}
+
+fn run_command<'a>(alloc: Global) -> Result<Command<'a>, AllocError>
+    ensures app { IfOk result (λ c. app_of c ≡ run_app) }
+    ensures local { IfOk result (λ c. (fields_of c).has_globals ≡ false) }
+{
+    let command = Command::new(alloc, "run")
+        .about("Packs serial text, runs the packets and reports the end")
+        .override_usage("c62 run [--turns] [--eject <N>] [--blocks <N>] [SETTING]...")
+        .after_help(STREAMS_AND_STATUS);
+    with_start(alloc, with_packing(alloc, command)?)
+}
+
+fn serial_command<'a>(alloc: Global) -> Result<Command<'a>, AllocError>
+    ensures app { IfOk result (λ c. app_of c ≡ serial_app) }
+    ensures local { IfOk result (λ c. (fields_of c).has_globals ≡ false) }
+{
+    let command = Command::new(alloc, "serial")
+        .about("Runs serial text, one instruction after the other, and reports the end")
+        .override_usage("c62 serial [--blocks <N>] [SETTING]...")
+        .after_help(STREAMS_AND_STATUS);
+    with_start(alloc, command)
+}
+
+fn sim_command<'a>(alloc: Global) -> Result<Command<'a>, AllocError>
+    ensures app { IfOk result (λ c. app_of c ≡ sim_app) }
+    ensures local { IfOk result (λ c. (fields_of c).has_globals ≡ false) }
+{
+    let command = Command::new(alloc, "sim")
+        .about("Reads a listing, runs its packets and reports the end")
+        .override_usage("c62 sim [--blocks <N>] [SETTING]...")
+        .after_help(STREAMS_AND_STATUS);
+    with_start(alloc, command)
+}
+
+/// The program with no subcommand yet.
+fn bare_command<'a>(alloc: Global) -> Command<'a>
+    ensures app { app_of result ≡ bare_app }
+    ensures local { (fields_of result).has_globals ≡ false }
 {
     Command::new(alloc, "c62")
         .about("Packs and runs TMS320C62x instructions")
@@ -103,8 +174,24 @@ fn tool_command<'a>(alloc: Global) -> Result<Command<'a>, AllocError>
         .after_help(STREAMS_AND_STATUS)
         .no_binary_name(true)
         .subcommand_required(true)
+}
+
+/// The program with the subcommands that pack.
+fn packing_command<'a>(alloc: Global) -> Result<Command<'a>, AllocError>
+    ensures app { IfOk result (λ c. app_of c ≡ packing_app) }
+    ensures local { IfOk result (λ c. (fields_of c).has_globals ≡ false) }
+{
+    bare_command(alloc)
         .subcommand(pack_command(alloc)?)?
-        .subcommand(serial_command(alloc)?)
+        .subcommand(run_command(alloc)?)
+}
+
+fn tool_command<'a>(alloc: Global) -> Result<Command<'a>, AllocError>
+    ensures { IfOk result (λ c. app_of c ≡ tool_app) }
+{
+    packing_command(alloc)?
+        .subcommand(serial_command(alloc)?)?
+        .subcommand(sim_command(alloc)?)
 }
 
 /// What clap reads of the words.
@@ -137,6 +224,25 @@ fn blocks_in(matches: &ArgMatches<'_>) -> u32
     }
 }
 
+/// How many ejections a block may have.
+fn budget_in(matches: &ArgMatches<'_>) -> u16
+    ensures { result ≡ budget_of (rows_of (found_of matches.now)) }
+{
+    match matches.get_str("eject") {
+        Some(text) => text.parse().unwrap_or(0),
+        None => 0,
+    }
+}
+
+fn packing_in(matches: &ArgMatches<'_>) -> Packing
+    ensures { result ≡ packing_of (rows_of (found_of matches.now)) }
+{
+    Packing {
+        turns: is_set(matches, "turns"),
+        budget: budget_in(matches),
+    }
+}
+
 /// The settings, in their order.
 fn settings_in(alloc: Global, matches: &ArgMatches<'_>) -> Result<Vec<Setting>, SettingError>
     ensures ok { IfOk result (λ settings. settings_of (setting_words (rows_of (found_of matches.now))) ≡ Some settings.items) }
@@ -148,29 +254,48 @@ fn settings_in(alloc: Global, matches: &ArgMatches<'_>) -> Result<Vec<Setting>, 
     }
 }
 
+/// Where a run begins, by the options of its subcommand.
+fn start_in(alloc: Global, matches: &ArgMatches<'_>) -> Result<Start, SettingError>
+    ensures blocks { IfOk result (λ start. start.blocks ≡ blocks_of (rows_of (found_of matches.now))) }
+    ensures settings { IfOk result (λ start. settings_of (setting_words (rows_of (found_of matches.now))) ≡ Some start.settings.items) }
+    ensures err { IfErr result (λ error. (k : ℕ) → error ≡ Bad k → IsFirstBad (setting_words (rows_of (found_of matches.now))) k) }
+{
+    Ok(Start {
+        blocks: blocks_in(matches),
+        settings: settings_in(alloc, matches)?,
+    })
+}
+
+/// What the subcommand of this name asks for.
+fn request_named(alloc: Global, name: &str, found: &ArgMatches<'_>) -> Result<Request, SettingError>
+    ensures ok { IfOk result (λ request. ask_in (Some (name.now, rows_of (found_of found.now))) ≡ Some (ask_of request)) }
+    ensures err { IfErr result (λ error. (k : ℕ) → error ≡ Bad k → HasFirstBad (Some (name.now, rows_of (found_of found.now))) k) }
+{
+    if name == "pack" {
+        return Ok(Request::Pack(packing_in(found)));
+    }
+    let start = start_in(alloc, found)?;
+    Ok(if name == "run" {
+        Request::Run(packing_in(found), start)
+    } else if name == "sim" {
+        Request::Sim(start)
+    } else {
+        Request::Serial(start)
+    })
+}
+
 /// What the subcommand that was read asks for.
 fn request_in(alloc: Global, matches: &ArgMatches<'_>) -> Result<Request, SettingError>
     ensures ok { IfOk result (λ request. ask_in (subcommand_rows_of matches.now) ≡ Some (ask_of request)) }
     ensures err { IfErr result (λ error. (k : ℕ) → error ≡ Bad k → HasFirstBad (subcommand_rows_of matches.now) k) }
 {
     match matches.subcommand() {
-        None => Ok(Request::Pack { turns: true }),
-        Some((name, found)) => {
-            if name == "serial" {
-                Ok(Request::Serial {
-                    blocks: blocks_in(found),
-                    settings: settings_in(alloc, found)?,
-                })
-            } else {
-                Ok(Request::Pack {
-                    turns: is_set(found, "turns"),
-                })
-            }
-        }
+        None => Ok(Request::Pack(PLAIN)),
+        Some((name, found)) => request_named(alloc, name, found),
     }
 }
 
-/// Reads the words after the program's name. None at all ask for `pack --turns`.
+/// Reads the words after the program's name. No words ask for `pack --turns`.
 ///
 /// The words are blamed where clap doesn't take them, and a setting where it is the first bad one. Want of memory may come
 /// whatever the words are.
@@ -179,7 +304,7 @@ pub fn command_of<'a, S: AsStr>(alloc: Global, words: &'a [S]) -> Result<Request
     ensures refused { IfErr result (λ failure. Blames failure (map S.text words.entry.now)) }
 {
     if words.is_empty() {
-        return Ok(Request::Pack { turns: true });
+        return Ok(Request::Pack(PLAIN));
     }
     let matches = matches_of(alloc, words)?;
     Ok(request_in(alloc, &matches)?)

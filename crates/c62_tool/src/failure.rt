@@ -2,11 +2,11 @@
 
 ghost use Rattle.std.specs.Prelude.{◌≡◌, ◌⊎◌};
 ghost use Rattle.c62_tool.specs.declared.failure.Failure.TheVariants.{Memory, Input};
-ghost use Rattle.c62_tool.specs.Run.{status_of, IsWordsFailure, IsSettingFailure, IsReadFailure};
+ghost use Rattle.c62_tool.specs.Run.{status_of, IsWordsFailure, IsSettingFailure, IsReadFailure, IsListFailure};
 
-use crate::fault::Refusal;
 use crate::input::InputError;
 use crate::setting::SettingError;
+use c62_listing_reader::ListFault;
 use c62_read::{Cause, ReadFault};
 use clap::error::ErrorKind;
 use std::alloc::AllocError;
@@ -14,10 +14,10 @@ use std::alloc::AllocError;
 /// Why a run fails.
 #[derive(Debug, Drop)]
 pub enum Failure {
-    /// The text says no block to pack.
-    Refused(Refusal),
-    /// The text has a fault.
+    /// The serial text has a fault.
     Unread(ReadFault),
+    /// The listing has a fault.
+    Unlisted(ListFault),
     /// The words ask for nothing that there is.
     Words(clap::Error),
     /// The setting with this number, from 1, is none.
@@ -36,7 +36,7 @@ impl Failure {
         ensures { result ≡ status_of self.now }
     {
         match self {
-            Failure::Refused(_) | Failure::Unread(_) => 1,
+            Failure::Unread(_) | Failure::Unlisted(_) => 1,
             Failure::Words(_) | Failure::Setting(_) => 2,
             Failure::Memory => 3,
             Failure::Input | Failure::Output => 4,
@@ -70,6 +70,17 @@ impl From<ReadFault> for Failure {
         match fault.cause {
             Cause::Memory => Failure::Memory,
             _ => Failure::Unread(fault),
+        }
+    }
+}
+
+impl From<ListFault> for Failure {
+    ghost from_gives = { λ fault f. IsListFailure fault f };
+
+    fn from(fault: ListFault) -> Failure {
+        match fault {
+            ListFault::Memory => Failure::Memory,
+            _ => Failure::Unlisted(fault),
         }
     }
 }

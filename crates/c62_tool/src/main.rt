@@ -1,27 +1,16 @@
-//! The program c62: packs a block of instructions into execute packets.
+//! The program c62: packs serial text into execute packets, and runs text and packets.
 #![tactic(auto)]
 
+mod answer;
 mod command;
 mod failure;
-mod fault;
-#[cfg(test)]
-mod fixtures;
 mod input;
 mod laws;
-mod line;
-mod listing;
 mod message;
-mod pack;
-mod packet;
-mod place;
-mod program;
 mod report;
-mod resource;
-mod serial;
+mod run;
+mod schedule;
 mod setting;
-mod spelling;
-mod spot;
-mod token;
 mod tool;
 
 use std::process::ExitCode;

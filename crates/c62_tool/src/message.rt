@@ -1,12 +1,13 @@
 //! Tells what failed (README.md, "Command line").
 
 ghost use Rattle.std.specs.Prelude.{◌≡◌, Some, IfSome};
-ghost use Rattle.c62_tool.specs.Message.{form_name, cause_name, fault_message, refusal_message, message_of, Tells};
+ghost use Rattle.c62_tool.specs.Message.{form_name, cause_name, rule_name, fault_message, list_message, message_of, Tells};
 
 use crate::failure::Failure;
-use crate::fault::Refusal;
 use arrayvec::ArrayString;
 use c62_insn::FormFault;
+use c62_listing_reader::ListFault;
+use c62_packet::PacketRule;
 use c62_read::{Cause, ReadFault};
 use std::fmt;
 use std::fmt::Write as _;
@@ -50,33 +51,58 @@ fn cause_name(cause: Cause) -> &'static str
     }
 }
 
-/// A line of the text, from 1, and what is wrong with it.
-#[derive(Clone, Copy)]
-struct FaultLine {
-    line: usize,
-    cause: Cause,
+fn rule_name(rule: PacketRule) -> &'static str
+    ensures { result.now ≡ rule_name rule }
+{
+    match rule {
+        PacketRule::P1 => "P1",
+        PacketRule::P2 => "P2",
+        PacketRule::P3 => "P3",
+        PacketRule::P4 => "P4",
+        PacketRule::P5 => "P5",
+    }
 }
 
-impl fmt::Display for FaultLine {
-    ghost output = { λ fault. Some (fault_message fault.line fault.cause) };
+/// A fault of reading, as a line.
+#[derive(Clone, Copy)]
+struct ReadLine {
+    fault: ReadFault,
+}
+
+impl fmt::Display for ReadLine {
+    ghost output = { λ shown. Some (fault_message shown.fault.line shown.fault.cause) };
 
     fn fmt<W: fmt::Write>(&self, f: &mut fmt::Formatter<W>) -> fmt::Result {
-        let line = self.line;
-        let name = cause_name(self.cause);
+        let line = self.fault.line;
+        let name = cause_name(self.fault.cause);
         writeln!(f, "line {line}: {name}")
     }
 }
 
-impl fmt::Display for Refusal {
-    ghost output = { λ refusal. Some (refusal_message refusal) };
+/// A fault of a listing, as a line.
+#[derive(Clone, Copy)]
+struct ListLine {
+    fault: ListFault,
+}
+
+impl fmt::Display for ListLine {
+    ghost output = { λ shown. Some (list_message shown.fault) };
 
     fn fmt<W: fmt::Write>(&self, f: &mut fmt::Formatter<W>) -> fmt::Result {
-        let (line, cause) = match self {
-            Refusal::TextTooLong => (0, Cause::TextTooLong),
-            Refusal::At(line, fault) => (*line, fault.cause()),
-        };
-        let shown = FaultLine { line, cause };
-        write!(f, "{shown}")
+        match self.fault {
+            ListFault::Read(fault) => {
+                let shown = ReadLine { fault };
+                write!(f, "{shown}")
+            }
+            ListFault::Shape(line) => writeln!(f, "line {line}: Shape"),
+            ListFault::TwoBranches(block) => writeln!(f, "block {block}: TwoBranches"),
+            ListFault::NotDrained(block) => writeln!(f, "block {block}: NotDrained"),
+            ListFault::Unlawful(block, cycle, rule) => {
+                let name = rule_name(rule);
+                writeln!(f, "block {block} cycle {cycle}: {name}")
+            }
+            ListFault::Memory => writeln!(f, "memory"),
+        }
     }
 }
 
@@ -86,12 +112,12 @@ impl fmt::Display for Failure {
 
     fn fmt<W: fmt::Write>(&self, f: &mut fmt::Formatter<W>) -> fmt::Result {
         match self {
-            Failure::Refused(refusal) => write!(f, "{refusal}"),
-            Failure::Unread(ReadFault { line, cause }) => {
-                let shown = FaultLine {
-                    line: *line as usize,
-                    cause: *cause,
-                };
+            Failure::Unread(fault) => {
+                let shown = ReadLine { fault: *fault };
+                write!(f, "{shown}")
+            }
+            Failure::Unlisted(fault) => {
+                let shown = ListLine { fault: *fault };
                 write!(f, "{shown}")
             }
             Failure::Words(error) => write!(f, "{error}"),

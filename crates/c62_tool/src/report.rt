@@ -2,10 +2,9 @@
 
 ghost use Rattle.std.specs.Prelude.{◌≡◌, ◌==◌, ◌++◌, ◌*◌, ◌<◌, ◌≤◌, not, IfOk, OnOk, decimal, codes};
 ghost use Rattle.std.specs.List.{flat_map};
-ghost use Rattle.c62_insn.specs.Spelling.{register_name};
-ghost use Rattle.c62_tool.specs.Report.{hex_digit, hex, line, value_line, register_line, file_lines, word_line, word_lines, fault_line, exit_line, machine_lines, serial_report};
+ghost use Rattle.c62_insn.specs.Spelling.{file_letter, register_name};
+ghost use Rattle.c62_tool.specs.Report.{hex_digit, hex, line, value_line, register_line, file_lines, word_line, word_lines, fault_line, exit_line, machine_lines, serial_report, packet_report};
 
-use crate::spelling::push_register;
 use c62_insn::{Reg, Side};
 use c62_serial::{Chain, End, State};
 use itoa::Buffer;
@@ -45,6 +44,23 @@ fn push_value(out: &mut Vec<u8>, value: u32) -> Result<(), AllocError>
     out.extend_from_slice(b" ")?;
     push_hex(out, 8, value)?;
     out.extend_from_slice(b"\n")
+}
+
+fn file_letter(side: Side) -> &'static [u8]
+    ensures { result.now ≡ file_letter side }
+{
+    match side {
+        Side::A => b"A",
+        Side::B => b"B",
+    }
+}
+
+fn push_register(out: &mut Vec<u8>, reg: Reg) -> Result<(), AllocError>
+    ensures { OnOk result (out.new.items ≡ out.old.items ++ register_name reg) }
+{
+    let mut buffer = Buffer::new();
+    out.extend_from_slice(file_letter(reg.side))?;
+    out.extend_from_slice(buffer.format(reg.number).as_bytes())
 }
 
 /// Whether a value has a line: 0 has none.
@@ -105,7 +121,7 @@ fn push_words(out: &mut Vec<u8>, state: &State, count: u32) -> Result<(), AllocE
 }
 
 /// A line with a word and a number.
-fn push_count(out: &mut Vec<u8>, word: &[u8], count: u32) -> Result<(), AllocError>
+fn push_count(out: &mut Vec<u8>, word: &[u8], count: u64) -> Result<(), AllocError>
     ensures { OnOk result (out.new.items ≡ out.old.items ++ line (word.now ++ decimal count)) }
 {
     let mut buffer = Buffer::new();
@@ -119,7 +135,7 @@ fn push_faults(out: &mut Vec<u8>, faults: &[u32]) -> Result<(), AllocError>
     ensures { OnOk result (out.new.items ≡ out.old.items ++ flat_map fault_line faults.now) }
 {
     for number in faults {
-        push_count(out, b"fault ", *number)?;
+        push_count(out, b"fault ", u64::from(*number))?;
     }
     Ok(())
 }
@@ -158,7 +174,25 @@ pub fn serial_report(alloc: Global, chain: Chain, state: &State) -> Result<Vec<u
     ensures { IfOk result (λ report. report.items ≡ serial_report chain state.now.machine) }
 {
     let mut out = Vec::new(alloc);
-    push_count(&mut out, b"blocks ", chain.blocks)?;
+    push_count(&mut out, b"blocks ", u64::from(chain.blocks))?;
+    push_exit(&mut out, chain.stop)?;
+    push_machine(&mut out, state)?;
+    Ok(out)
+}
+
+/// The report of a run of packets: that of the serial run, with a line for its cycles behind the first.
+#[tactic(auto, unfolding(crate::specs::Report::packet_report))]
+pub fn packet_report(
+    alloc: Global,
+    chain: Chain,
+    cycles: u64,
+    state: &State,
+) -> Result<Vec<u8>, AllocError>
+    ensures { IfOk result (λ report. report.items ≡ packet_report chain cycles state.now.machine) }
+{
+    let mut out = Vec::new(alloc);
+    push_count(&mut out, b"blocks ", u64::from(chain.blocks))?;
+    push_count(&mut out, b"cycles ", cycles)?;
     push_exit(&mut out, chain.stop)?;
     push_machine(&mut out, state)?;
     Ok(out)

@@ -3,7 +3,10 @@
 use crate::tool::{run_on_bytes, run_tool};
 use std::io;
 use std::io::{Read, Write};
+use std::process::Abort;
+use std::sync::Wait;
 use std::test::Fail;
+use std::thread::Threads;
 
 /// Gives these bytes in so many reads, and then fails.
 #[derive(Drop)]
@@ -77,7 +80,7 @@ impl Write for Unflushed {
 }
 
 /// Words and a text, and the listing of the text.
-const LISTED: [(&[&str], &[u8], &str); 22] = [
+const LISTED: [(&[&str], &[u8], &str); 19] = [
     (&[], b"", ""),
     (&["pack"], b"\r\n* \n", ""),
     (
@@ -87,160 +90,108 @@ const LISTED: [(&[&str], &[u8], &str); 22] = [
     ),
     (
         &["pack", "--turns"],
-        b"MVK 1,A1\nADD A1,A1,A2\nSUB A2,A1,A1\nADD A3,A4,A5\n",
-        "   ADD .L1 A3,A4,A5\n|| MVK .S1 1,A1\n   ADD .L1 A1,A1,A2\n   SUB .L1 A2,A1,A1\n",
+        b"LDW *A4,A5\nADD A5,A5,A6",
+        "   LDW .D1T1 *A4,A5\n   NOP 4\n   ADD .L1 A5,A5,A6\n",
     ),
     (
-        &["pack"],
-        b" mvk\t-0x8000 , a15 ; least\r\n* L: no line\n\nMVK .s1 +32767,A0",
-        "   MVK .S1 -32768,A15\n   MVK .S1 32767,A0\n",
-    ),
-    (&["pack", "--"], b"ADD 20,A2,A3", "   ADD .D1 A2,20,A3\n"),
-    (&["pack"], b"ADD A2,20,A3", "   ADD .D1 A2,20,A3\n"),
-    (&["pack"], b"ADD A2,0xf,A3", "   ADD .L1 15,A2,A3\n"),
-    (&["pack"], b"ADD -16,A2,A3", "   ADD .L1 -16,A2,A3\n"),
-    (&["pack"], b"SUB A2,16,A3", "   SUB .L1 A2,16,A3\n"),
-    (&["pack"], b"SUB A2,17,A3", "   SUB .D1 A2,17,A3\n"),
-    (&["pack"], b"SUB -0,A2,A3", "   SUB .L1 0,A2,A3\n"),
-    (&["pack"], b"MVK .S15,A1", "   MVK .S1 5,A1\n"),
-    (&["pack"], b"MVK .s1-5,A1", "   MVK .S1 -5,A1\n"),
-    (&["pack"], b"MVK-5,A1", "   MVK .S1 -5,A1\n"),
-    (&["pack"], b"ADD.S1 A1,A2,A3", "   ADD .S1 A1,A2,A3\n"),
-    (&["pack"], b"ADD .D1A1,A2,A3", "   ADD .D1 A1,A2,A3\n"),
-    (&["pack"], b"sub.l1a1,a2,a3;a:b", "   SUB .L1 A1,A2,A3\n"),
-    // the units whose range holds the constant
-    (
-        &["pack"],
-        b"ADD 20,A2,A3\nadd a2 , -16 , a4\nADD .s1 A2,15,A5",
-        "   ADD .L1 -16,A2,A4\n|| ADD .S1 15,A2,A5\n|| ADD .D1 A2,20,A3\n",
+        &["pack", "--turns"],
+        b"MVK 3,A1\nADD A5,A1,A2\nLDW *A4,A5",
+        "   MVK .S1 3,A1\n|| LDW .D1T1 *A4,A5\n   ADD .L1 A5,A1,A2\n   NOP 3\n",
     ),
     (
-        &["pack"],
-        b"SUB 3,A1,A2\nSUB A3,16,A4\nSUB A5,31,A6",
-        "   SUB .L1 3,A1,A2\n|| SUB .S1 A3,16,A4\n|| SUB .D1 A5,31,A6\n",
+        &["pack", "--turns"],
+        b"LDW *A4,A5\nMVK 1,A5",
+        "   LDW .D1T1 *A4,A5\n   NOP 4\n   MVK .S1 1,A5\n",
     ),
-    // a fifth read of A1
     (
-        &["pack"],
-        b"ADD A1,A1,A2\nADD A1,A1,A3\nADD A1,A4,A5",
-        "   ADD .L1 A1,A1,A2\n|| ADD .S1 A1,A1,A3\n   ADD .L1 A1,A4,A5\n",
+        &["pack", "--turns"],
+        b"MPY A1,A1,A4\nADD A1,A1,A5\nSUB A1,A2,A3",
+        "   ADD .L1 A1,A1,A5\n|| MPY .M1 A1,A1,A4\n   SUB .L1 A1,A2,A3\n",
     ),
-    // each unit once, and the written one alone
     (
-        &["pack"],
-        b"ADD A1,A2,A3\nSUB A1,A2,A4\nADD A5,A6,A7\nSUB .L1 A8,A9,A10",
-        "   ADD .L1 A1,A2,A3\n|| SUB .S1 A1,A2,A4\n|| ADD .D1 A5,A6,A7\n   SUB .L1 A8,A9,A10\n",
+        &["pack", "--turns"],
+        b"ADD A1,B1,A2\nSUB A3,B3,A4",
+        "   ADD .L1X A1,B1,A2\n   SUB .L1X A3,B3,A4\n",
+    ),
+    (
+        &["pack", "--turns"],
+        b"LDW *A4,A5\nLDW *B4,A6",
+        "   LDW .D1T1 *A4,A5\n   LDW .D2T1 *B4,A6\n   NOP 4\n",
+    ),
+    (
+        &["pack", "--turns"],
+        b"LDW *A4,A5\nLDW *B4,B6",
+        "   LDW .D1T1 *A4,A5\n|| LDW .D2T2 *B4,B6\n   NOP 4\n",
+    ),
+    (
+        &["pack", "--turns"],
+        b"L1:\nMVK 0,A0\nMVK 1,A1\nMVK 2,A2\nMVK 3,A3\nMVK 4,A4\nMVK 5,A5\nMVK 6,A6\nMVK 7,A7\nB L1",
+        "L1:\n   MVK .S1 0,A0\n   MVK .S1 1,A1\n   MVK .S1 2,A2\n|| B .S2 L1\n   MVK .S1 3,A3\n   MVK .S1 4,A4\n   MVK .S1 5,A5\n   MVK .S1 6,A6\n   MVK .S1 7,A7\n",
+    ),
+    (
+        &["pack", "--turns"],
+        b"L1: MPY A1,A2,A3\nB L1",
+        "L1:\n   MPY .M1 A1,A2,A3\n|| B .S2 L1\n   NOP 5\n",
+    ),
+    (
+        &["pack", "--turns"],
+        b"CMPGT B1,A2,A1\nADD 20,A2,A3",
+        "   CMPLT .L1X A2,B1,A1\n|| ADD .D1 A2,20,A3\n",
+    ),
+    // an ejection pays, and there is none without a budget
+    (&["pack", "--turns", "--eject", "1"], EJECTING, EJECTED),
+    (&["pack", "--turns", "--eject=1000"], EJECTING, EJECTED),
+    (
+        &["pack", "--turns", "--eject", "0"],
+        EJECTING,
+        "   ADD .L1X A1,B1,A3\n|| ADD .L2X B2,A2,B3\n|| LDW .D2T2 *B4,B5\n   ADD .L1 A3,A3,A4\n|| MPY .M1X A5,B1,A2\n   NOP 1\n   MPY .M1 A2,A2,A6\n   NOP 1\n",
+    ),
+    // a block behind another, and one that falls through with its label alone
+    (
+        &["pack", "--turns"],
+        b"L1: SUB A1,1,A1\n[A1] B L1\nEnd_1:",
+        "L1:\n   SUB .L1 A1,1,A1\n   [A1] B .S2 L1\n   NOP 5\n\nEnd_1:\n",
+    ),
+    // more idle cycles than one NOP takes
+    (
+        &["pack", "--turns"],
+        b"LDW *A4,A5\nLDW *A5,A5\nLDW *A5,A5\nSTW A5,*A5",
+        "   LDW .D1T1 *A4,A5\n   NOP 4\n   LDW .D1T1 *A5,A5\n   NOP 4\n   LDW .D1T1 *A5,A5\n   NOP 4\n   STW .D1T1 A5,*A5\n",
+    ),
+    // by two workers, of which one has nothing to place
+    (
+        &["pack", "--eject", "7"],
+        b"MVK 5,A1\nMVK 7,A2\nADD A1,A2,A3\n",
+        "   MVK .S1 5,A1\n   MVK .S1 7,A2\n   ADD .L1 A1,A2,A3\n",
     ),
 ];
 
-/// A text of one line, and what is wrong with it.
-const REFUSED: [(&[u8], &str); 70] = [
-    // bytes and length
-    (b"MVK 1,A1\r", "NotAscii"),
-    (b"MVK 1,A1\r\r\n", "NotAscii"),
-    (b"MVK 1,\rA1\n", "NotAscii"),
-    (b"MVK 1,A1 ; \x7f", "NotAscii"),
-    (b"* \x00", "NotAscii"),
-    (b"|| L: .\x80", "NotAscii"),
-    // what stands first
-    (b"|| ADD A1,A2,A3", "ParallelBar"),
-    (b"\t||| L:", "ParallelBar"),
-    (b"| ADD A1,A2,A3", "UnknownMnemonic"),
-    (b"| | ADD A1,A2,A3", "UnknownMnemonic"),
-    (b"L: MVK 1,A1", "BadLabel"),
-    (b"A1: MVK 1,A2", "BadLabel"),
-    (b".text:", "BadLabel"),
-    (b"MVK 1:2,A1", "BadLabel"),
-    (b" .text", "Directive"),
-    (b". x", "Directive"),
-    (b"[A1] MVK 1,A2", "BadOperand"),
-    (b"[A1 MVK 1,A2", "BadOperand"),
-    (b"MPY A1,A2,A3", "UnknownMnemonic"),
-    (b"FOO .L3 A1", "UnknownMnemonic"),
-    (b"MVK5,A1", "UnknownMnemonic"),
-    (b" * x", "UnknownMnemonic"),
-    (b"5 MVK 1,A1", "UnknownMnemonic"),
-    // units
-    (b"MVK .M1 1,A1", "BadUnit"),
-    (b"MVK .L1 1,A1", "BadUnit"),
-    (b"SUB .M1 A1,A2,A3", "BadUnit"),
-    (b"ADD .L3 A1", "BadUnit"),
-    (b"ADD .L A1,A2,A3", "BadUnit"),
-    (b"ADD . L1 A1,A2,A3", "BadUnit"),
-    (b"ADD .X1 A1,A2,A3", "BadUnit"),
-    (b"ADD .D1X A1,A2,A3", "BadUnit"),
-    (b"ADD .D1T1 A1,A2,A3", "BadUnit"),
-    (b"ADD .D1T3 A1,A2,A3", "BadUnit"),
-    (b"ADD .S1T1 A1,A2,A3", "BadUnit"),
-    (b"ADD .L12 A1,A2,A3", "BadOperand"),
-    (b"ADD .L1Y A1,A2,A3", "BadOperand"),
-    (b"ADD .D1T A1,A2,A3", "BadOperand"),
-    (b"MVK .S1", "BadOperand"),
-    // operands
-    (b"MVK", "BadOperand"),
-    (b"ADD A1,A2", "BadOperand"),
-    (b"ADD A1,A2,A3,A4", "BadOperand"),
-    (b"ADD A1 A2,A3", "BadOperand"),
-    (b"ADD A1,A2,5", "BadOperand"),
-    (b"ADD 5,5,A1", "BadOperand"),
-    (b"ADD A1,B1,A2", "BadOperand"),
-    (b"ADD A1,A2,b15", "BadOperand"),
-    (b"MVK A1,A2", "BadOperand"),
-    (b"MVK 1,A1,", "BadOperand"),
-    (b"MVK 1,A16", "BadOperand"),
-    (b"MVK 1,A01", "BadOperand"),
-    (b"MVK - 5,A1", "BadOperand"),
-    (b"MVK ++5,A1", "BadOperand"),
-    (b"MVK 010,A1", "BadOperand"),
-    (b"MVK 0X10,A1", "BadOperand"),
-    (b"MVK 0x,A1", "BadOperand"),
-    (b"MVK 0x123456789,A1", "BadOperand"),
-    (b"MVK 4294967296,A1", "BadOperand"),
-    (b"MVK 12345678901,A1", "BadOperand"),
-    (b"MVK -2147483649,A1", "BadOperand"),
-    (b"MVK -0xffffffff,A1", "BadOperand"),
-    // forms
-    (b"MVK 4294967295,A1", "ConstantRange"),
-    (b"MVK -2147483648,A1", "ConstantRange"),
-    (b"MVK 0xFFFF8000,A1", "ConstantRange"),
-    (b"ADD 40,A2,A3", "ConstantRange"),
-    (b"SUB 20,A2,A3", "ConstantRange"),
-    (b"ADD .L1X 40,A2,A3", "ConstantRange"),
-    (b"ADD .L1X 20,A2,A3", "BadSide"),
-    (b"MVK .S1X 1,A1", "BadSide"),
-    (b"ADD .L2 A1,A2,A3", "BadSide"),
-    (b"SUB .D1 5,A1,A2", "NoUnit"),
+/// A block in which an ejection pays, and its listing with one.
+const EJECTING: &[u8] =
+    b"LDW *B4,B5\nADD B2,A2,B3\nADD A1,B1,A3\nADD A3,A3,A4\nMPY A5,B1,A2\nMPY A2,A2,A6";
+
+const EJECTED: &str =
+    "   MPY .M1X A5,B1,A2\n|| ADD .L2X B2,A2,B3\n|| LDW .D2T2 *B4,B5\n   ADD .L1X A1,B1,A3\n   ADD .L1 A3,A3,A4\n|| MPY .M1 A2,A2,A6\n   NOP 2\n";
+
+/// A text, and what is told of it where it is packed or run.
+const REFUSED: [(&[u8], &str); 10] = [
+    (b"ADD B1,B2,A0", "line 1: TwoCrossed\n"),
+    (b"MPY .L1 A1,A2,A3", "line 1: BadUnit\n"),
+    (b"ADD 40,A2,A3", "line 1: ConstantRange\n"),
+    (b"ADD 20,B2,A3", "line 1: NoUnit\n"),
+    (b"MVK 1,A1\r\n\nMVK 1,A1\r", "line 3: NotAscii\n"),
+    (b"FOO", "line 1: UnknownMnemonic\n"),
+    (b"NOP\nB Q", "line 2: UnknownTarget\n"),
+    (b"L: MVK 1,A1\n|| MVK 2,A2", "line 2: ParallelBar\n"),
+    (b"[A3] MVK 1,A1", "line 1: BadCondition\n"),
+    (b"L: NOP\n L: NOP", "line 2: DuplicateLabel\n"),
 ];
 
-/// A line, how often it stands, what follows it, and the answer.
-const REFUSED_TEXTS: [(&[u8], usize, &[u8], &str); 13] = [
-    (
-        b"MVK 1,A1\r\n",
-        1,
-        b"\n* L:\nFOO\n.x",
-        "line 4: UnknownMnemonic\n",
-    ),
-    (b"MVK 1,A1\n", 2, b"\r\n;\n .x\r\n", "line 5: Directive\n"),
-    (b" ", 255, b"\r\nFOO", "line 2: UnknownMnemonic\n"),
+/// A line, how often it stands, what follows it, and what is told of that.
+const REFUSED_TEXTS: [(&[u8], usize, &[u8], &str); 4] = [
     (b" ", 256, b"\nFOO", "line 1: LineTooLong\n"),
-    (b";", 255, b"FOO", "line 1: LineTooLong\n"),
-    (b"*", 256, b"", "line 1: LineTooLong\n"),
-    (b" ", 300, b"\x7f", "line 1: NotAscii\n"),
-    (b"|", 256, b"", "line 1: LineTooLong\n"),
     (b"MVK 1,A1\n", 257, b"", "line 257: TooManyInstructions\n"),
-    (
-        b"MVK 1,A1\n",
-        256,
-        b"\n; c\n* c\nADD A1,A2,A3\nFOO",
-        "line 260: TooManyInstructions\n",
-    ),
-    (b"MVK 1,A1\n", 256, b"FOO", "line 257: UnknownMnemonic\n"),
-    (
-        b"MVK 1,A1\n",
-        256,
-        b"MVK 32768,A1",
-        "line 257: ConstantRange\n",
-    ),
+    (b"MVK 1,A1\nL:\n", 1, b"L:\n", "line 3: DuplicateLabel\n"),
     (b"\n", 1_048_577, b"", "line 0: TextTooLong\n"),
 ];
 
@@ -251,15 +202,16 @@ as in: c62 pack < kernel.s
 
 Status, and what standard error says:
   0  done, and nothing is said
-  1  the text is refused: `line 7: BadUnit` names its first faulty line and the fault
+  1  the text is refused: `line 7: BadUnit` names its first faulty line and the fault;
+     of a listing also `block 0: NotDrained`, or `block 0 cycle 3: P5` and the packet rule
   2  the words are refused, by a text like this one, or `setting 2: bad`
   3  no memory: `memory`
   4  a stream failed: `input` or `output`
-docs/SERIAL_TEXT.md tells what each fault is.
+docs/SERIAL_TEXT.md and docs/LISTING.md tell what each fault is.
 ";
 
 /// Words, and the whole text that refuses them, but for the ending of a help.
-const TOLD: [(&[&str], &str, &str); 5] = [
+const TOLD: [(&[&str], &str, &str); 8] = [
     (
         &["--help"],
         "Packs and runs TMS320C62x instructions
@@ -269,7 +221,9 @@ Usage: c62 <COMMAND>
 
 Commands:
   pack    Reads serial text and writes its listing
+  run     Packs serial text, runs the packets and reports the end
   serial  Runs serial text, one instruction after the other, and reports the end
+  sim     Reads a listing, runs its packets and reports the end
   help    Print this message or the help of the given subcommand(s)
 
 Options:
@@ -281,11 +235,29 @@ Options:
         &["pack", "--help"],
         "Reads serial text and writes its listing
 
-Usage: c62 pack [--turns]
+Usage: c62 pack [--turns] [--eject <N>]
 
 Options:
-      --turns  Packs on one thread, one side after the other
-  -h, --help   Print help
+      --turns      Packs on one thread, one side after the other
+      --eject <N>  Ejects at most N placed instructions of a block, 0 to 1000; 0 where none is given
+  -h, --help       Print help
+",
+        ENDING,
+    ),
+    (
+        &["run", "--help"],
+        "Packs serial text, runs the packets and reports the end
+
+Usage: c62 run [--turns] [--eject <N>] [--blocks <N>] [SETTING]...
+
+Arguments:
+  [SETTING]...  REG=NUMBER sets a register, @ADDRESS=NUMBER a word of memory; a file's name is none
+
+Options:
+      --turns       Packs on one thread, one side after the other
+      --eject <N>   Ejects at most N placed instructions of a block, 0 to 1000; 0 where none is given
+      --blocks <N>  Runs at most N blocks, 1 to 1000000; 1000 where none is given
+  -h, --help        Print help
 ",
         ENDING,
     ),
@@ -294,6 +266,21 @@ Options:
         "Runs serial text, one instruction after the other, and reports the end
 
 Usage: c62 serial [--blocks <N>] [SETTING]...
+
+Arguments:
+  [SETTING]...  REG=NUMBER sets a register, @ADDRESS=NUMBER a word of memory; a file's name is none
+
+Options:
+      --blocks <N>  Runs at most N blocks, 1 to 1000000; 1000 where none is given
+  -h, --help        Print help
+",
+        ENDING,
+    ),
+    (
+        &["sim", "-h"],
+        "Reads a listing, runs its packets and reports the end
+
+Usage: c62 sim [--blocks <N>] [SETTING]...
 
 Arguments:
   [SETTING]...  REG=NUMBER sets a register, @ADDRESS=NUMBER a word of memory; a file's name is none
@@ -323,10 +310,18 @@ For more information, try '--help'.
 ",
         "",
     ),
+    (
+        &["pack", "--eject", "1001"],
+        "error: invalid value '1001' for '--eject <N>': 1001 is not in 0..=1000
+
+For more information, try '--help'.
+",
+        "",
+    ),
 ];
 
 /// Words that are no command line.
-const REFUSED_WORDS: [&[&str]; 19] = [
+const REFUSED_WORDS: [&[&str]; 22] = [
     &["-h"],
     &["help"],
     &["help", "pack"],
@@ -334,9 +329,12 @@ const REFUSED_WORDS: [&[&str]; 19] = [
     &["--"],
     &[""],
     &["--turns"],
-    &["run"],
     &["--eject", "1"],
-    &["pack", "--eject", "1"],
+    &["pack", "--eject", "-1"],
+    &["run", "--eject", "x"],
+    &["serial", "--eject", "1"],
+    &["sim", "--turns"],
+    &["pack", "A1=1"],
     &["pack", "extra"],
     &["pack", "--turns", "--turns"],
     &["pack", "--turns=yes"],
@@ -348,10 +346,23 @@ const REFUSED_WORDS: [&[&str]; 19] = [
     &["serial", "-5"],
 ];
 
+/// The text is refused, and this is told.
+fn refuses<H: AllocGlobal + Threads + Wait + Abort + Sync>(
+    rt: &H,
+    command: &str,
+    text: &[u8],
+    expected: &str,
+) {
+    let ran = run_on_bytes(rt, &[command], text);
+    assert_eq!(rt; ran.errors.as_slice(), expected.as_bytes());
+    assert_eq!(rt; ran.status, 1);
+    assert!(rt; ran.output.is_empty());
+}
+
 #[test]
 fn listings(rt: HostRuntime) -> Result<(), Fail> {
     for (words, text, listing) in &LISTED {
-        let ran = run_on_bytes(rt.alloc(), *words, text);
+        let ran = run_on_bytes(&rt, *words, text);
         assert_eq!(rt; ran.status, 0);
         assert_eq!(rt; ran.output.as_slice(), listing.as_bytes());
         assert!(rt; ran.errors.is_empty());
@@ -368,7 +379,7 @@ fn longest_block(rt: HostRuntime) -> Result<(), Fail> {
         text.extend_from_slice(b"MVK 1,A1\n")?;
         listing.extend_from_slice(b"   MVK .S1 1,A1\n")?;
     }
-    let ran = run_on_bytes(rt.alloc(), &["pack"], &text);
+    let ran = run_on_bytes(&rt, &["pack"], &text);
     assert_eq!(rt; ran.status, 0);
     assert_eq!(rt; ran.output.as_slice(), listing.as_slice());
     assert!(rt; ran.errors.is_empty());
@@ -376,29 +387,19 @@ fn longest_block(rt: HostRuntime) -> Result<(), Fail> {
 }
 
 #[test]
-fn refused_lines(rt: HostRuntime) -> Result<(), Fail> {
-    for (text, fault) in &REFUSED {
-        let ran = run_on_bytes(rt.alloc(), &["pack"], text);
-        let expected = format!(in rt.alloc(); "line 1: {fault}\n")?;
-        assert_eq!(rt; ran.errors.as_slice(), expected.as_bytes());
-        assert_eq!(rt; ran.status, 1);
-        assert!(rt; ran.output.is_empty());
-    }
-    Ok(())
-}
-
-#[test]
 fn refused_texts(rt: HostRuntime) -> Result<(), Fail> {
+    for (text, expected) in &REFUSED {
+        for command in ["pack", "run", "serial"] {
+            refuses(&rt, command, text, expected);
+        }
+    }
     for (line, count, rest, expected) in &REFUSED_TEXTS {
         let mut text = Vec::new(rt.alloc());
         for _ in 0..*count {
             text.extend_from_slice(line)?;
         }
         text.extend_from_slice(rest)?;
-        let ran = run_on_bytes(rt.alloc(), &["pack"], &text);
-        assert_eq!(rt; ran.errors.as_slice(), expected.as_bytes());
-        assert_eq!(rt; ran.status, 1);
-        assert!(rt; ran.output.is_empty());
+        refuses(&rt, "pack", &text, expected);
     }
     Ok(())
 }
@@ -406,7 +407,7 @@ fn refused_texts(rt: HostRuntime) -> Result<(), Fail> {
 #[test]
 fn told_words(rt: HostRuntime) -> Result<(), Fail> {
     for (words, text, ending) in &TOLD {
-        let ran = run_on_bytes(rt.alloc(), *words, b"");
+        let ran = run_on_bytes(&rt, *words, b"");
         let expected = format!(in rt.alloc(); "{text}{ending}")?;
         assert_eq!(rt; ran.errors.as_slice(), expected.as_bytes());
         assert_eq!(rt; ran.status, 2);

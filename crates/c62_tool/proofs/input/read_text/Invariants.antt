@@ -1,13 +1,12 @@
 use Rattle.std.proofs.Common.{length, ◌-◌, ◌+◌, ◌≤◌}
 use Rattle.std.specs.Io.KnownBytes.{Consumes}
-use Rattle.c62_tool.specs.Reading.{most_bytes}
 use Rattle.c62_tool.proofs.input.read_text.Given as goal
 
 abbrev pub invariant-loop-chunk : goal.invariant-loop-chunk
 invariant-loop-chunk g l = record {
   taken : Consumes (g.R.Read.remaining l.fn.reader) (g.R.Read.remaining l.reader) l.text.items;
-  most : length l.text.items ≤ most_bytes + 1;
+  most : length l.text.items ≤ l.limit + 1;
 }
 
 abbrev pub decreases-loop-chunk : goal.decreases-loop-chunk
-decreases-loop-chunk g l = most_bytes + 1 - length l.text.items
+decreases-loop-chunk g l = l.limit + 1 - length l.text.items

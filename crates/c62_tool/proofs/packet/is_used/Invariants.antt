@@ -1,9 +1,0 @@
-use Rattle.std.proofs.Common.{◌≡◌, ℕ, ◌<◌, Some}
-use Rattle.std.specs.Prelude.{slice_get, IsTrue}
-use Rattle.c62_insn.specs.declared.insn.Insn.{Insn}
-use Rattle.c62_tool.specs.Lawful.{spot_at}
-use Rattle.c62_tool.specs.Packet.{uses_in}
-use Rattle.c62_tool.proofs.packet.is_used.Given as goal
-
-abbrev pub invariant-loop-k : goal.invariant-loop-k
-invariant-loop-k l = (k : ℕ) (insn : Insn) → k < l.k → slice_get l.block k ≡ Some insn → IsTrue (uses_in l.resource l.cycle insn (spot_at l.spots k)) → ⊥

@@ -1,0 +1,46 @@
+-- How the blocks of a program become packets (docs/SCHEDULING.md, "Turns", "Finishing" and "Two workers").
+use Rattle.std.specs.Prelude.{◌≡◌, ◌≢◌, ℕ, true, List, [], ◌∷◌}
+use Rattle.c62_read.specs.Block.{Serial}
+use Rattle.c62_depend.specs.Plan.{insns_of}
+use Rattle.c62_sheet.specs.Least.{IsComplete}
+use Rattle.c62_board.specs.declared.turn.Turn.{Turn}
+use Rattle.c62_board.specs.declared.turn.Turn.TheVariants.{Memory}
+use Rattle.c62_board.specs.State.{BoardState, Has, IsSound}
+use Rattle.c62_work.specs.Turns.{TakesTurns}
+use Rattle.c62_work.specs.Finish.{IsFinished}
+use Rattle.c62_packet.specs.Packed.{Packed}
+use Rattle.c62_meaning.specs.Laws.{AreSerial}
+use Rattle.c62_pipe.specs.Chain.{IsBlockPacked}
+use Rattle.c62_pack.specs.Packets.{ArePackets}
+use Rattle.c62_tool.specs.declared.schedule.Packing.{Packing}
+
+-- Both sides took steps by turns on an empty board of the block with this budget, and what was missing then was placed.
+pub record IsTurned (block : Serial) (budget : ℕ) (board : BoardState) : Type 0 where
+  pub empty : BoardState
+  pub begin : Has block [] budget empty
+  pub last : Turn
+  pub enough : last ≢ Memory
+  pub turned : BoardState
+  pub turns : TakesTurns empty last turned
+  pub finished : IsFinished turned block board
+
+-- A complete lawful board of the block. By turns it is the one that they lead to, and otherwise it may be any.
+pub record IsMade (packing : Packing) (block : Serial) (board : BoardState) : Type 0 where
+  pub plan_is : board.plan ≡ block
+  pub complete : IsComplete (insns_of block) board.spots
+  pub sound : IsSound board
+  pub turned : packing.turns ≡ true → IsTurned block packing.budget board
+
+-- The packets of such a board. Run as packets, they do what the block does serially.
+pub record IsScheduled (packing : Packing) (block : Serial) (packed : Packed) : Type 0 where
+  pub board : BoardState
+  pub made : IsMade packing block board
+  pub packets : ArePackets block board.spots packed
+  pub serial : AreSerial block.insns packed.placed
+  pub keeps : IsBlockPacked block packed
+
+-- block by block
+abbrev pub AreScheduled : Packing → List Serial → List Packed → Type 0
+AreScheduled packing [] [] = Unit {0}
+AreScheduled packing (block ∷ blocks) (packed ∷ packets) = IsScheduled packing block packed × AreScheduled packing blocks packets
+AreScheduled packing _ _ = ⊥

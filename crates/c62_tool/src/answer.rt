@@ -1,0 +1,116 @@
+//! What answers a text.
+
+ghost use Rattle.std.specs.Prelude.{◌≡◌, IfOk, IsTrue};
+ghost use Rattle.c62_listing.specs.Listing.{listing};
+ghost use Rattle.c62_packet.specs.Packets.{is_closed};
+ghost use Rattle.c62_tool.specs.CommandLine.{Listing, SerialReport, PacketReport, ListingReport, ask_of};
+ghost use Rattle.c62_tool.specs.Run.{Gives, GivesProgram, GivesPackets, limit_of};
+
+use crate::command::{Request, Start};
+use crate::failure::Failure;
+use crate::run::{packet_run, serial_run};
+use crate::schedule::{Packing, packets_of_program};
+use c62_listing::list;
+use c62_listing_reader::read_listing;
+use c62_packet::Packets;
+use c62_read::{Program, read_program};
+use std::alloc::{AllocError, Global};
+use std::sync::Wait;
+use std::thread::Threads;
+
+/// The program that a text says.
+fn program_of(alloc: Global, text: &[u8]) -> Result<Program, Failure>
+    ensures { GivesProgram text.now result }
+{
+    match read_program(alloc, text) {
+        Ok(program) => Ok(program),
+        Err(fault) => Err(Failure::from(fault)),
+    }
+}
+
+/// The packets that a listing says.
+fn packets_in(alloc: Global, text: &[u8]) -> Result<Packets, Failure>
+    ensures packets { GivesPackets text.now result }
+    ensures closed { IfOk result (λ packets. IsTrue (is_closed packets)) }
+{
+    match read_listing(alloc, text) {
+        Ok(packets) => Ok(packets),
+        Err(fault) => Err(Failure::from(fault)),
+    }
+}
+
+fn listing_of(alloc: Global, packets: &Packets) -> Result<Vec<u8>, AllocError>
+    requires { IsTrue (is_closed packets.now) }
+    ensures { IfOk result (λ text. text.items ≡ listing packets.now) }
+{
+    Ok(list(alloc, packets)?.into_bytes())
+}
+
+/// The listing of what a text says, packed.
+fn pack<H: AllocGlobal + Threads + Wait + Sync>(
+    rt: &H,
+    text: &[u8],
+    packing: Packing,
+) -> Result<Vec<u8>, Failure>
+    ensures { Gives (Listing packing) text.now result }
+{
+    let program = program_of(rt.alloc(), text)?;
+    let packets = packets_of_program(rt, program, packing)?;
+    Ok(listing_of(rt.alloc(), &packets)?)
+}
+
+/// The report of a run of what a text says, packed.
+fn run<H: AllocGlobal + Threads + Wait + Sync>(
+    rt: &H,
+    text: &[u8],
+    packing: Packing,
+    start: &Start,
+) -> Result<Vec<u8>, Failure>
+    ensures { Gives (PacketReport packing start.now.blocks start.now.settings.items) text.now result }
+{
+    let program = program_of(rt.alloc(), text)?;
+    let packets = packets_of_program(rt, program, packing)?;
+    Ok(packet_run(rt.alloc(), &packets, start)?)
+}
+
+/// The report of the serial run of what a text says.
+fn serial(alloc: Global, text: &[u8], start: &Start) -> Result<Vec<u8>, Failure>
+    ensures { Gives (SerialReport start.now.blocks start.now.settings.items) text.now result }
+{
+    let program = program_of(alloc, text)?;
+    Ok(serial_run(alloc, &program, start)?)
+}
+
+/// The report of a run of the packets of a listing.
+fn sim(alloc: Global, text: &[u8], start: &Start) -> Result<Vec<u8>, Failure>
+    ensures { Gives (ListingReport start.now.blocks start.now.settings.items) text.now result }
+{
+    let packets = packets_in(alloc, text)?;
+    Ok(packet_run(alloc, &packets, start)?)
+}
+
+/// The answer to a text.
+pub fn answer<H: AllocGlobal + Threads + Wait + Sync>(
+    rt: &H,
+    request: &Request,
+    text: &[u8],
+) -> Result<Vec<u8>, Failure>
+    ensures { Gives (ask_of request.now) text.now result }
+{
+    match request {
+        Request::Pack(packing) => pack(rt, text, *packing),
+        Request::Run(packing, start) => run(rt, text, *packing, start),
+        Request::Serial(start) => serial(rt.alloc(), text, start),
+        Request::Sim(start) => sim(rt.alloc(), text, start),
+    }
+}
+
+/// The most bytes of a text that is answered.
+pub fn limit_of(request: &Request) -> usize
+    ensures { result ≡ limit_of (ask_of request.now) }
+{
+    match request {
+        Request::Sim(_) => c62_listing_reader::MOST_BYTES,
+        Request::Pack(_) | Request::Run(_, _) | Request::Serial(_) => c62_read::MOST_BYTES,
+    }
+}

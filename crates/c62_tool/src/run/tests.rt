@@ -1,0 +1,229 @@
+//! Runs over streams in memory.
+
+use crate::tool::run_on_bytes;
+use std::test::Fail;
+
+/// Words, a text, and the report.
+const REPORTED: [(&[&str], &[u8], &str); 15] = [
+    (&["serial"], b"", "blocks 0\nexit end\n"),
+    (
+        &["serial", "A4=1"],
+        b"LDH *A4,A5",
+        "blocks 1\nexit end\nA4 00000001\nfault 1\n",
+    ),
+    (
+        &["serial", "A1=3"],
+        b"L1: SUB A1,1,A1\n[A1] B L1\n",
+        "blocks 3\nexit end\n",
+    ),
+    (
+        &["serial", "--blocks", "2", "A1=3"],
+        b"L1: SUB A1,1,A1\n[A1] B L1\n",
+        "blocks 2\nexit limit\nA1 00000001\n",
+    ),
+    (
+        &["serial", "A1=3", "--blocks=+003"],
+        b"L1: SUB A1,1,A1\n[A1] B L1\n",
+        "blocks 3\nexit end\n",
+    ),
+    (&["serial"], b"L: B L", "blocks 1000\nexit limit\n"),
+    (
+        &["serial", "B3=0x100"],
+        b"B B3",
+        "blocks 1\nexit register 00000100\nB3 00000100\n",
+    ),
+    (
+        &["serial", "A1=0x80000000"],
+        b"ABS A1,A2",
+        "blocks 1\nexit end\nA1 80000000\nA2 7fffffff\n",
+    ),
+    (
+        &["serial", "A1=0xffff", "A2=3"],
+        b"MPY A1,A2,A3",
+        "blocks 1\nexit end\nA1 0000ffff\nA2 00000003\nA3 fffffffd\n",
+    ),
+    (
+        &["serial", "A1=1", "A2=32"],
+        b"SHL A1,A2,A3",
+        "blocks 1\nexit end\nA1 00000001\nA2 00000020\n",
+    ),
+    (
+        &["serial", "A4=8", "@8=99"],
+        b"[!A1] LDW *A4++,A4",
+        "blocks 1\nexit end\nA4 00000063\n@0008 00000063\n",
+    ),
+    // each place that can be set, the last of settings, and the last register and word
+    (
+        &[
+            "serial",
+            "a1=5",
+            "A1=6",
+            "@+8=1",
+            "@0x8=0xffffffff",
+            "B15=-1",
+            "@-0=1",
+            "@65532=0x12345678",
+        ],
+        b"* nothing\n",
+        "blocks 0\nexit end\nA1 00000006\nB15 ffffffff\n@0000 00000001\n@0008 ffffffff\n@fffc 12345678\n",
+    ),
+    (
+        &["serial", "--", "A0=1", "b0=0xABCDEF09"],
+        b"L:",
+        "blocks 1\nexit end\nA0 00000001\nB0 abcdef09\n",
+    ),
+    // faulted lines are those of the text, each once
+    (
+        &["serial", "A1=2", "A4=0x10000"],
+        b"; two turns\nL: LDW *A4,A5\n SUB A1,1,A1\n STB A1,*-A4[1]\n STH A1,*A4++\n [A1] B L\n",
+        "blocks 2\nexit end\nA4 00010004\n@fffc 01000000\nfault 2\nfault 4\nfault 5\n",
+    ),
+    (
+        &["serial", "B4=16", "@16=0x8899aabb"],
+        b"LDBU *B4,B5\nLDH *+B4[1],A5\nSTB B5,*+B4[6]\nSTH A5,*+B4[4]",
+        "blocks 1\nexit end\nA5 ffff8899\nB4 00000010\nB5 000000bb\n@0010 8899aabb\n@0014 00bb0000\n@0018 00008899\n",
+    ),
+];
+
+/// Words, a text, and the report of a run of its packets.
+const RUN: [(&[&str], &[u8], &str); 12] = [
+    (&["run"], b"", "blocks 0\ncycles 0\nexit end\n"),
+    (
+        &["run", "A4=8", "@8=99"],
+        b"[!A1] LDW *A4++,A4",
+        "blocks 1\ncycles 5\nexit end\nA4 00000063\n@0008 00000063\n",
+    ),
+    (
+        &["run", "A4=8", "@8=99", "A1=1"],
+        b"[!A1] LDW *A4++,A4",
+        "blocks 1\ncycles 5\nexit end\nA1 00000001\nA4 00000008\n@0008 00000063\n",
+    ),
+    (
+        &["run", "A4=1"],
+        b"LDH *A4,A5",
+        "blocks 1\ncycles 5\nexit end\nA4 00000001\nfault 1\n",
+    ),
+    (
+        &["sim", "A4=8", "A5=1", "@8=7"],
+        b"   LDW .D1T1 *A4,A5\n   ADD .L1 A5,A5,A6\n   NOP 3\n",
+        "blocks 1\ncycles 5\nexit end\nA4 00000008\nA5 00000007\nA6 00000002\n@0008 00000007\n",
+    ),
+    (
+        &["run", "--turns", "A1=9", "A4=8", "B4=8"],
+        b"STW A1,*A4\nLDW *B4,B5",
+        "blocks 1\ncycles 6\nexit end\nA1 00000009\nA4 00000008\nB4 00000008\nB5 00000009\n@0008 00000009\n",
+    ),
+    (
+        &["sim", "A1=9", "A4=8", "B4=8"],
+        b"   STW .D1T1 A1,*A4\n|| LDW .D2T2 *B4,B5\n   NOP 4\n",
+        "blocks 1\ncycles 5\nexit end\nA1 00000009\nA4 00000008\nB4 00000008\n@0008 00000009\n",
+    ),
+    (
+        &["run", "A1=3"],
+        b"L1: SUB A1,1,A1\n[A1] B L1\n",
+        "blocks 3\ncycles 21\nexit end\n",
+    ),
+    (
+        &["run", "--blocks", "2", "--turns", "A1=3"],
+        b"L1: SUB A1,1,A1\n[A1] B L1\n",
+        "blocks 2\ncycles 14\nexit limit\nA1 00000001\n",
+    ),
+    (
+        &["run", "B3=0x100"],
+        b"B B3",
+        "blocks 1\ncycles 6\nexit register 00000100\nB3 00000100\n",
+    ),
+    // the cycles of the schedule with its ejections
+    (
+        &["run", "--turns", "--eject", "0", "A1=1", "B1=2"],
+        b"MPY A1,B1,A2\nMPY A2,A2,A6\nL:",
+        "blocks 2\ncycles 4\nexit end\nA1 00000001\nA2 00000002\nA6 00000004\nB1 00000002\n",
+    ),
+    (&["sim"], b"", "blocks 0\ncycles 0\nexit end\n"),
+];
+
+/// A text that is no listing, and what is told of it.
+const NO_LISTING: [(&[u8], &str); 7] = [
+    (
+        b"   LDW .D1T1 *A4,A5\n|| LDW .D2T1 *B4,A6\n   NOP 4\n",
+        "block 0 cycle 0: P3\n",
+    ),
+    (b"   LDW .D1T1 *A4,A5\n", "block 0: NotDrained\n"),
+    (
+        b"L:\n   B .S1 L\n   B .S2 L\n   NOP 5\n",
+        "block 0: TwoBranches\n",
+    ),
+    (
+        b"   MVK .S1 1,A1\n\n   MPY .M1 A1,A2,A3\n   ADD .L1 A1,A1,A3\n",
+        "block 1 cycle 1: P5\n",
+    ),
+    (b"   mvk .S1 1,A1\n", "line 1: Shape\n"),
+    (b"   MVK .S1 1,A1", "line 1: Shape\n"),
+    (b"   MVK .S1 1,A1\n   B .S1 Q\n", "line 2: UnknownTarget\n"),
+];
+
+/// Words with a bad setting, and its number.
+const BAD_SETTINGS: [(&[&str], usize); 14] = [
+    (&["serial", "@6=1"], 1),
+    (&["serial", "A16=1"], 1),
+    (&["serial", "A1=5", "x"], 2),
+    (&["serial", ""], 1),
+    (&["serial", "-"], 1),
+    (&["serial", "A1="], 1),
+    (&["serial", "A1==5"], 1),
+    (&["serial", "A1 =5"], 1),
+    (&["serial", "@65536=1"], 1),
+    (&["serial", "@-4=1"], 1),
+    (&["serial", "A1=4294967296"], 1),
+    (&["serial", "--blocks", "5", "B1=0", "A1=010", "x"], 2),
+    (&["serial", "@08=1"], 1),
+    (&["run", "--turns", "A1=0X5"], 1),
+];
+
+#[test]
+fn reports(rt: HostRuntime) -> Result<(), Fail> {
+    for (words, text, report) in REPORTED.iter().chain(&RUN) {
+        let ran = run_on_bytes(&rt, *words, text);
+        assert_eq!(rt; ran.errors.as_slice(), b"".as_slice());
+        assert_eq!(rt; ran.output.as_slice(), report.as_bytes());
+        assert_eq!(rt; ran.status, 0);
+    }
+    Ok(())
+}
+
+/// All 16,384 words of memory, each with a line of 15 bytes.
+#[test]
+fn full_memory(rt: HostRuntime) -> Result<(), Fail> {
+    let words = ["serial", "--blocks", "1000000", "A1=1", "A2=0x4000"];
+    let text = b"L: STW A1,*A4++\n SUB A2,1,A2\n [A2] B L\n";
+    let ran = run_on_bytes(&rt, words.as_slice(), text);
+    let head = b"blocks 16384\nexit end\nA1 00000001\nA4 00010000\n@0000 00000001\n";
+    assert_eq!(rt; ran.status, 0);
+    assert!(rt; ran.output.starts_with(head));
+    assert!(rt; ran.output.ends_with(b"\n@fffc 00000001\n"));
+    assert_eq!(rt; ran.output.len(), 46 + 15 * 16_384);
+    Ok(())
+}
+
+#[test]
+fn bad_settings(rt: HostRuntime) -> Result<(), Fail> {
+    for (words, number) in &BAD_SETTINGS {
+        let ran = run_on_bytes(&rt, *words, b"FOO");
+        let expected = format!(in rt.alloc(); "setting {number}: bad\n")?;
+        assert_eq!(rt; ran.errors.as_slice(), expected.as_bytes());
+        assert_eq!(rt; ran.status, 2);
+        assert!(rt; ran.output.is_empty());
+    }
+    Ok(())
+}
+
+#[test]
+fn refused_listings(rt: HostRuntime) -> Result<(), Fail> {
+    for (text, expected) in &NO_LISTING {
+        let ran = run_on_bytes(&rt, &["sim"], text);
+        assert_eq!(rt; ran.errors.as_slice(), expected.as_bytes());
+        assert_eq!(rt; ran.status, 1);
+        assert!(rt; ran.output.is_empty());
+    }
+    Ok(())
+}

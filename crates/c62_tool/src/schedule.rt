@@ -1,0 +1,110 @@
+//! Packs the blocks of a program.
+
+ghost use Rattle.std.specs.Prelude.{◌≡◌, ◌<◌, ◌++◌, ◌∷◌, [], length, IfOk, IsTrue, OnOk};
+ghost use Rattle.c62_sheet.specs.Least.{IsComplete};
+ghost use Rattle.c62_depend.specs.Plan.{insns_of};
+ghost use Rattle.c62_board.specs.State.{IsSound};
+ghost use Rattle.c62_packet.specs.Packed.{Packed};
+ghost use Rattle.c62_pack.specs.Packets.{ArePackets};
+ghost use Rattle.c62_meaning.specs.Laws.{AreSerial};
+ghost use Rattle.c62_packet.specs.Packets.{is_closed};
+ghost use Rattle.c62_pipe.specs.Chain.{IsBlockPacked};
+ghost use Rattle.c62_tool.specs.Schedule.{AreScheduled, IsMade, IsTurned};
+
+use c62_board::{Board, Turn};
+use c62_depend::Plan;
+use c62_pack::packets_of;
+use c62_packet::Packets;
+use c62_read::{Block, Program};
+use c62_work::{FreeGate, Options, finish, schedule, turns};
+use std::alloc::{AllocError, Global};
+use std::sync::Wait;
+use std::thread::Threads;
+
+/// The most turns of a worker.
+const WORKER_TURNS: u32 = 100_000;
+
+/// How blocks are packed.
+#[derive(Clone, Copy, PartialEq, Eq, Debug)]
+pub struct Packing {
+    /// By turns of both sides on one thread, and otherwise by a worker for each side on a thread of its own.
+    pub turns: bool,
+    /// How many ejections there may be in a block.
+    pub budget: u16,
+}
+
+fn plan_of(alloc: Global, block: Block) -> Result<Plan, AllocError>
+    ensures { IfOk result (λ plan. plan ≡ block) }
+{
+    match Plan::new(alloc, block) {
+        Ok(plan) => Ok(plan),
+        Err((_, error)) => Err(error),
+    }
+}
+
+/// A board of a plan, completed by turns of both sides on this thread.
+fn turned_board(alloc: Global, plan: &Plan, budget: u16) -> Result<Board, AllocError>
+    ensures { IfOk result (IsTurned plan.now budget) }
+{
+    let mut board = match Board::new(alloc, plan.copy(alloc)?, budget) {
+        Ok(board) => board,
+        Err((_, error)) => return Err(error),
+    };
+    match turns(&mut board) {
+        Turn::Memory => Err(AllocError),
+        _ => finish(alloc, board, plan),
+    }
+}
+
+/// A complete board of a block.
+fn board_of<H: AllocGlobal + Threads + Wait + Sync>(
+    rt: &H,
+    block: Block,
+    packing: Packing,
+) -> Result<Board, AllocError>
+    ensures { IfOk result (IsMade packing block) }
+{
+    let plan = plan_of(rt.alloc(), block)?;
+    let board = if packing.turns {
+        turned_board(rt.alloc(), &plan, packing.budget)?
+    } else {
+        let options = Options {
+            turns: WORKER_TURNS,
+            budget: packing.budget,
+        };
+        schedule(rt, rt.alloc(), plan, options, &FreeGate)?
+    };
+    // It tells what holds of every board.
+    board.plan();
+    Ok(board)
+}
+
+/// Appends the packets of a complete board.
+fn push_packets(alloc: Global, packets: &mut Packets, board: &Board) -> Result<(), AllocError>
+    requires complete { IsComplete (insns_of board.now.plan) board.now.spots }
+    requires few { length packets.old < 64 }
+    ensures pushed { OnOk result ((packed : Packed) × ArePackets board.now.plan board.now.spots packed
+        × AreSerial board.now.plan.insns packed.placed × IsBlockPacked board.now.plan packed × (packets.new ≡ packets.old ++ packed ∷ [])) }
+{
+    match packets.push(packets_of(alloc, board)?) {
+        Ok(()) => Ok(()),
+        Err((_, error)) => Err(error),
+    }
+}
+
+/// The packets of a program's blocks. `AllocError` where memory ran out.
+pub fn packets_of_program<H: AllocGlobal + Threads + Wait + Sync>(
+    rt: &H,
+    program: Program,
+    packing: Packing,
+) -> Result<Packets, AllocError>
+    ensures packed { IfOk result (AreScheduled packing program) }
+    ensures closed { IfOk result (λ packets. IsTrue (is_closed packets)) }
+{
+    let mut packets = Packets::new(rt.alloc());
+    for block in program.into_blocks() {
+        let board = board_of(rt, block, packing)?;
+        push_packets(rt.alloc(), &mut packets, &board)?;
+    }
+    Ok(packets)
+}
