@@ -7,13 +7,14 @@ use Rattle.c62_sheet.specs.declared.entry.Entry.{Entry}
 use Rattle.c62_sheet.specs.declared.entry.Entry.TheVariants.{Place}
 use Rattle.c62_sheet.specs.declared.entry.Spot.{Spot}
 use Rattle.c62_sheet.specs.declared.entry.Who.{Who}
-use Rattle.c62_sheet.specs.Lawful.{placed, IsLawful}
-use Rattle.c62_sheet.specs.Least.{HasNoSpot, IsPick}
+use Rattle.c62_sheet.specs.Lawful.{Placements, placed, IsLawful}
+use Rattle.c62_sheet.specs.Least.{IsReady, IsLeast, HasNoSpot, IsPick}
 use Rattle.c62_sheet.specs.Journal.{replayed}
 use Rattle.c62_board.specs.declared.turn.Turn.TheVariants.{Placed, Ejected, Idle, Done, NoRoom, Memory}
 use Rattle.c62_board.specs.Chain.{Marks}
 use Rattle.c62_board.specs.Who.{who_of}
-use Rattle.c62_board.specs.Withdrawal.{GoesWith, Withdraws, marked_below}
+use Rattle.c62_board.specs.Withdrawal.{GoesWith, Withdraws, IsLeft, marked_below}
+use Rattle.c62_board.specs.Turn.{IsEjection}
 use Rattle.c62_board.specs.Victim.{IsEjected}
 use Rattle.c62_board.specs.State.{BoardState, IsSound, Adds, GainsRoom, IsWithdrawal, IsReadyNow, IsLeastNow, TakesTurn, HasNoRoomFor}
 use Rattle.c62_sheet.proofs.Picks.{pick_unique}
@@ -84,6 +85,40 @@ module _ (old mid left : BoardState) (side : Side) (i q n count : ℕ) (who : Wh
     where
       both : Adds mid (out.entries ++ Place i s by ∷ []) last
       both = adds_both mid left last out.entries (Place i s by ∷ []) out.adds adds
+
+-- a board's placements, and the same once the victim is out
+module _ (old : BoardState) (new : Placements) (side : Side) (i q : ℕ) (sound : IsSound old) (pick : IsPick (insns_of old.plan) old.spots side i)
+    (ejected : IsEjected (insns_of old.plan) old.spots old.budget i q) (kept : new.plan ≡ old.plan)
+    (left : IsLeft (insns_of old.plan) old.spots q (who_of side) new.spots)
+    (lawful : IsLawful (insns_of new.plan) new.spots) where
+  out_lawful : IsLawful (insns_of old.plan) (replayed old.spots left.entries)
+  out_lawful = rw (← kept, ← left.spots) lawful
+
+  pub ready_out : IsReady (insns_of new.plan) new.spots i
+  ready_out =
+      rw (kept, left.spots)
+      (ready_left (insns_of old.plan) old.spots old.budget i q (who_of side) left.entries sound.lawful pick.competes.ready pick.competes.within ejected left.withdraws out_lawful)
+
+  pub spot_out : HasNoSpot (insns_of new.plan) new.spots i → ⊥
+  spot_out none =
+      let w = spot_left (insns_of old.plan) old.spots old.budget i q (who_of side) left.entries sound.lawful pick.competes.ready pick.competes.within ejected left.withdraws out_lawful in
+      let now : (s : Spot) → IsLawful (insns_of old.plan) (placed (replayed old.spots left.entries) i s) → IsLawful (insns_of new.plan) (placed new.spots i s) =
+      λ s fits. rw (kept, left.spots) fits in
+      none w.0 (now w.0 w.1)
+
+  pub ejection_out : (s : Spot) → IsLeast (insns_of new.plan) new.spots i s
+      → (entries : List Entry) × IsEjection (insns_of old.plan) old.spots old.budget side q i s entries
+  ejection_out s least = (
+    left.entries ++ Place i s (who_of side) ∷ [],
+    record {
+      pick = pick;
+      ejected = ejected;
+      withdrawals = left.entries;
+      withdraws = left.withdraws;
+      least = rw (← kept, ← left.spots) least;
+      entries_are = refl;
+    },
+  )
 
 -- without room for the withdrawals and the placing there is none for the turn
 pub no_room_to_eject : (old : BoardState) (side : Side) (i q : ℕ) (marks : List Bool) → IsPick (insns_of old.plan) old.spots side i

@@ -1,6 +1,6 @@
 -- What goes when a number is withdrawn.
 use Rattle.std.proofs.Common.{◌≡◌, ℕ, zero, suc, ◌+◌, ◌<◌, ◌≤◌, ◌↔◌, List, [], ◌∷◌, ◌++◌, length, Bool, true, false, cond, Option, Some, None, get_or, set, IsSome, IsTrue, inl, inr, sym, ap, refl, ◌∙◌, subst, arith, append_assoc, get_or-set_same, get_or-set_other, length-set, ◌≢◌}
-use Rattle.std.proofs.lemmas.Bool.{cases_eq, cases_lt, false_from_ne_true}
+use Rattle.std.proofs.lemmas.Bool.{cases_eq, cases_lt, false_from_ne_true, false≢true}
 use Rattle.std.proofs.lemmas.List.{append-nil, get_or_past}
 use Rattle.std.proofs.lemmas.Option.{none-some}
 use Rattle.c62_insn.specs.declared.insn.Insn.{Insn}
@@ -11,7 +11,7 @@ use Rattle.c62_sheet.specs.declared.entry.Who.{Who}
 use Rattle.c62_sheet.specs.Lawful.{Spots, IsAt, spot_at, withdrawn, IsLawful}
 use Rattle.c62_sheet.specs.Journal.{replayed, PermitsWithdraw, IsLegal}
 use Rattle.c62_board.specs.Chain.{Leads, more, IsMarked, Marks}
-use Rattle.c62_board.specs.Withdrawal.{GoesWith, WithdrawsBelow, Withdraws, marked_below}
+use Rattle.c62_board.specs.Withdrawal.{GoesWith, WithdrawsBelow, Withdraws, marked_below, withdrawals}
 use Rattle.c62_sheet.proofs.Optional.{value_of_some, some_is}
 use Rattle.c62_board.proofs.Journals.{replayed_more, legal_more, lawful_after}
 use Rattle.c62_board.proofs.Chains.{before}
@@ -127,6 +127,33 @@ pub taking_all : (block : List Insn) (set now : Spots) (i m : ℕ) (who : Who) (
 taking_all block set now i m who es at r =
     subst (λ (xs : List Entry). Withdraws block set i who xs) (append-nil es)
     (r.whole [] (subst (λ (n : ℕ). WithdrawsBelow block set i who n []) (sym at) refl))
+
+-- ---- the withdrawals of the marked numbers
+
+pub withdrawals_one : (marks : List Bool) (who : Who) (j m : ℕ) → m ≡ suc j → get_or marks j false ≡ true
+    → withdrawals marks who m ≡ Withdraw j who ∷ withdrawals marks who j
+withdrawals_one marks who j m at is =
+    ap (withdrawals marks who) at ∙ ap (λ (b : Bool). cond {A = List Entry} b (Withdraw j who ∷ withdrawals marks who j) (withdrawals marks who j)) is
+
+pub withdrawals_skip : (marks : List Bool) (who : Who) (j m : ℕ) → m ≡ suc j → get_or marks j false ≡ false
+    → withdrawals marks who m ≡ withdrawals marks who j
+withdrawals_skip marks who j m at is =
+    ap (withdrawals marks who) at ∙ ap (λ (b : Bool). cond {A = List Entry} b (Withdraw j who ∷ withdrawals marks who j) (withdrawals marks who j)) is
+
+-- they withdraw what goes with a number, where that is what is marked
+pub withdraws_marked : (block : List Insn) (set : Spots) (i : ℕ) (who : Who) (n : ℕ) (marks : List Bool) → n ≤ length block
+    → Marks block (GoesWith block set i) marks → WithdrawsBelow block set i who n (withdrawals marks who n)
+withdraws_marked block set i who zero marks le marked = refl
+withdraws_marked block set i who (suc j) marks le marked =
+    here (get_or marks j false) refl (withdraws_marked block set i who j marks (omega arith) marked)
+  where
+    here : (b : Bool) → get_or marks j false ≡ b → WithdrawsBelow block set i who j (withdrawals marks who j)
+        → WithdrawsBelow block set i who (suc j) (withdrawals marks who (suc j))
+    here true is rest = inl ((marked j (omega arith)).0 is, (withdrawals marks who j, withdrawals_one marks who j (suc j) refl is, rest))
+    here false is rest = inr (
+      λ g. false≢true (sym is ∙ (marked j (omega arith)).1 g),
+      subst (λ (es : List Entry). WithdrawsBelow block set i who j es) (sym (withdrawals_skip marks who j (suc j) refl is)) rest,
+    )
 
 -- ---- counting them
 

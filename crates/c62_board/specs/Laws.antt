@@ -14,6 +14,10 @@ HasOneTurn block set budget side =
     (first second : Turn) (entries others : List Entry) (left rest : ℕ) → IsTurn block set budget side first entries left
     → IsTurn block set budget side second others rest → (first ≡ second) × (entries ≡ others) × (left ≡ rest)
 
+-- it is a turn of the side, with some list of entries, and some budget is left
+abbrev pub HasTurn : List Insn → Spots → ℕ → Side → Turn → Type 0
+HasTurn block set budget side turn = (entries : List Entry) × ((left : ℕ) × IsTurn block set budget side turn entries left)
+
 -- nothing was withdrawn
 abbrev pub HasOnlyPlaces : List Entry → Type 0
 HasOnlyPlaces [] = Unit {0}

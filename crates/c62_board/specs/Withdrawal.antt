@@ -26,10 +26,22 @@ WithdrawsBelow block set i who (suc j) entries =
 abbrev pub Withdraws : List Insn → Spots → ℕ → Who → List Entry → Type 0
 Withdraws block set i who entries = WithdrawsBelow block set i who (length block) entries
 
+-- the withdrawals of the marked numbers below n, highest first
+abbrev pub withdrawals : List Bool → Who → ℕ → List Entry
+withdrawals marks who zero = []
+withdrawals marks who (suc n) = if slice_index_or marks n false then Withdraw n who ∷ withdrawals marks who n else withdrawals marks who n
+
 -- how many numbers below n are marked
 abbrev pub marked_below : List Bool → ℕ → ℕ
 marked_below marks zero = 0
 marked_below marks (suc n) = marked_below marks n + (if slice_index_or marks n false then 1 else 0)
+
+-- what goes with i was taken out, which legal withdrawals do too
+pub record IsLeft (block : List Insn) (old : Spots) (i : ℕ) (who : Who) (new : Spots) : Type 0 where
+  pub entries : List Entry
+  pub withdraws : Withdraws block old i who entries
+  pub legal : IsLegal block old entries
+  pub spots : new ≡ replayed old entries
 
 -- what goes with i was taken out of the sheet, and written to the journal, which had the room
 pub record TakesOut (old : Placements) (journal : Vec Entry Global) (i : ℕ) (who : Who) (new : Placements) (longer : Vec Entry Global) : Type 0 where

@@ -1,6 +1,6 @@
 //! The board.
 
-ghost use Rattle.std.specs.Prelude.{◌≡◌, ◌≢◌, ◌<◌, ◌≤◌, ◌↔◌, ℕ, None, [], ◌∷◌, length, IsTrue, IsSome, IfOk, IfErr, OnOk, OnErr, MatchResult, MatchOption};
+ghost use Rattle.std.specs.Prelude.{◌≡◌, ◌≢◌, ◌<◌, ◌≤◌, ◌↔◌, ℕ, None, List, [], ◌∷◌, length, IsTrue, IsSome, IfOk, IfErr, OnOk, OnErr, MatchResult, MatchOption};
 ghost use Rattle.c62_depend.specs.Plan.{insns_of, IsPlan};
 ghost use Rattle.c62_sheet.specs.Lawful.{spot_at, IsLawful};
 ghost use Rattle.c62_sheet.specs.Least.{IsReady, IsLeast, HasNoSpot, IsPick, HasNoPick, IsComplete};
@@ -9,10 +9,12 @@ ghost use Rattle.c62_sheet.specs.Counts.{AreCounts, set_length};
 ghost use Rattle.c62_sheet.specs.Journal.{IsLegal, replayed};
 ghost use Rattle.c62_board.specs.Replay.{IsFirstBad};
 ghost use Rattle.c62_sheet.specs.declared.entry.Spot.{Spot as SpotOf};
+ghost use Rattle.c62_sheet.specs.declared.entry.Entry.{Entry as EntryOf};
 ghost use Rattle.c62_board.specs.Chain.{Marks};
 ghost use Rattle.c62_board.specs.Withdrawal.{GoesWith, marked_below};
 ghost use Rattle.c62_board.specs.Victim.{IsVictim, HasNoVictim, IsEjected};
-ghost use Rattle.c62_board.specs.Turn.{IsChoice, IsPlaced};
+ghost use Rattle.c62_board.specs.Turn.{IsChoice, IsPlaced, IsEjection};
+ghost use Rattle.c62_board.specs.Laws.{HasTurn};
 
 use crate::fault::{CommitFault, PlaceFault, ReplayFault, WithdrawFault};
 use crate::turn::{Choice, Proposal, Turn, who_of};
@@ -124,6 +126,14 @@ impl Board {
         ensures sound { IsSound self.now }
     {
         self.budget
+    }
+
+    /// The placements alone, without the journal and the budget.
+    pub fn sheet(&self) -> &Sheet
+        ensures sheet { result.now ≡ record { plan = self.now.plan; spots = self.now.spots } }
+        ensures sound { IsSound self.now }
+    {
+        &self.sheet
     }
 
     /// Where instruction `i` stands, if it is placed.
@@ -396,6 +406,35 @@ impl Board {
             Choice::Stop(i) => Turn::NoRoom(i),
             Choice::Put(i, spot) => self.take_place(i, spot, side),
             Choice::Eject(q, i) => self.eject(q, i, side),
+        }
+    }
+
+    /// Where the pick of a side goes once its victim is out with all that goes with it. The board is given up.
+    fn spot_without(self, q: u16, i: u16, side: Side) -> Spot
+        requires pick { IsPick (insns_of self.plan) self.spots side i }
+        requires ejected { IsEjected (insns_of self.plan) self.spots self.budget i q }
+        ensures { (entries : List EntryOf) × IsEjection (insns_of self.plan) self.spots self.budget side q i result entries }
+    {
+        let marks = withdrawal::going_with(&self.sheet, q);
+        let mut sheet = self.sheet;
+        withdrawal::leave_out(&mut sheet, &marks, q);
+        sheet.plan();
+        let Some(spot) = sheet.least(i) else {
+            unreachable!()
+        };
+        spot
+    }
+
+    /// The turn that a side has, however little room there is. The board is given up.
+    pub(crate) fn turn_of(self, side: Side) -> Turn
+        ensures { HasTurn (insns_of self.plan) self.spots self.budget side result }
+    {
+        match self.choose(side) {
+            Choice::Finished => Turn::Done,
+            Choice::Wait => Turn::Idle,
+            Choice::Stop(i) => Turn::NoRoom(i),
+            Choice::Put(i, spot) => Turn::Placed(i, spot),
+            Choice::Eject(q, i) => Turn::Ejected(q, i, self.spot_without(q, i, side)),
         }
     }
 

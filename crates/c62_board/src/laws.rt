@@ -1,13 +1,21 @@
 //! Laws of boards, in the words of the rules.
 
-ghost use Rattle.std.specs.Prelude.{◌≡◌, ℕ, ◌*◌, ◌≤◌, List, length};
+ghost use Rattle.std.specs.Prelude.{◌≡◌, ℕ, ◌*◌, ◌<◌, ◌≤◌, List, length};
 ghost use Rattle.c62_insn.specs.declared.register.Side.{Side as SideOf};
 ghost use Rattle.c62_insn.specs.declared.insn.Insn.{Insn};
 ghost use Rattle.c62_sheet.specs.Lawful.{Spots};
-ghost use Rattle.c62_board.specs.Laws.{HasOneTurn, HasOnlyPlaces};
+ghost use Rattle.c62_depend.specs.Plan.{insns_of};
+ghost use Rattle.c62_sheet.specs.Least.{IsPick, IsComplete};
+ghost use Rattle.c62_sheet.specs.declared.entry.Entry.{Entry as EntryOf};
+ghost use Rattle.c62_sheet.specs.declared.entry.Who.{Who as WhoOf};
+ghost use Rattle.c62_board.specs.Withdrawal.{Withdraws};
+ghost use Rattle.c62_board.specs.Laws.{HasOneTurn, HasTurn, HasOnlyPlaces};
 ghost use Rattle.c62_board.specs.State.{IsReadyNow, IsLeastNow};
 
 use crate::board::Board;
+use crate::turn::Turn;
+use crate::withdrawal::going_with;
+use c62_insn::Side;
 use c62_sheet::Spot;
 
 /// A side has one turn at most: what it does, the entries that it adds and the ejections that it leaves are determined.
@@ -15,6 +23,36 @@ use c62_sheet::Spot;
 pub fn has_one_turn()
     ensures { (block : List Insn) (set : Spots) (budget : ℕ) (side : SideOf) → HasOneTurn block set budget side }
 {}
+
+/// Each side of every board has a turn, however little room there is for its entries: this one. So a side has exactly one.
+/// The board is given up.
+pub fn has_a_turn(board: Board, side: Side) -> Turn
+    ensures { HasTurn (insns_of board.plan) board.spots board.budget side result }
+{
+    board.turn_of(side)
+}
+
+/// Whatever room there is, some entries withdraw an instruction with all that goes with it.
+pub fn has_withdrawals(board: &Board, i: u16)
+    requires { i < length board.now.plan.insns }
+    ensures { (who : WhoOf) → (entries : List EntryOf) × Withdraws (insns_of board.now.plan) board.now.spots i who entries }
+{
+    going_with(board.sheet(), i);
+}
+
+/// On a board that is not complete some side has a pick, so its turn is not [`Turn::Idle`]: this one.
+pub fn has_a_pick(board: &Board) -> Side
+    requires { IsComplete (insns_of board.now.plan) board.now.spots → ⊥ }
+    ensures { (i : ℕ) × IsPick (insns_of board.now.plan) board.now.spots result i }
+{
+    if let Some(_) = board.pick(Side::A) {
+        return Side::A;
+    }
+    let Some(_) = board.pick(Side::B) else {
+        unreachable!()
+    };
+    Side::B
+}
 
 /// Two boards of one plan with equal journals have equal placements.
 pub fn same_journal_same_spots(first: &Board, second: &Board)

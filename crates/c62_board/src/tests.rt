@@ -31,6 +31,11 @@ const L2: Unit = Unit {
     side: Side::B,
 };
 
+const S2: Unit = Unit {
+    letter: Letter::S,
+    side: Side::B,
+};
+
 const D2: Unit = Unit {
     letter: Letter::D,
     side: Side::B,
@@ -68,6 +73,33 @@ const TURNS: [Turn; 12] = [
     Turn::Placed(5, Spot { cycle: 2, unit: M1 }),
     Turn::Idle,
     Turn::Placed(3, Spot { cycle: 2, unit: L1 }),
+    Turn::Done,
+];
+
+/// A block in which two ejections pay.
+const SEVEN: &str =
+    "LDW *A1,A1\nMPY A4,B1,A5\nMVK 8,B1\nLDW *A4,A4\nMVK 7,B1\nMVK 9,B4\nSUB A4,A2,A2";
+
+/// The turns of A and B alternately on it, with two ejections.
+const TWO_EJECTIONS: [Turn; 10] = [
+    Turn::Placed(0, Spot { cycle: 0, unit: D1 }),
+    Turn::Placed(5, Spot { cycle: 0, unit: S2 }),
+    Turn::Placed(1, Spot { cycle: 0, unit: M1 }),
+    Turn::Ejected(5, 2, Spot { cycle: 0, unit: S2 }),
+    Turn::Ejected(0, 3, Spot { cycle: 0, unit: D1 }),
+    Turn::Placed(4, Spot { cycle: 1, unit: S2 }),
+    Turn::Placed(0, Spot { cycle: 1, unit: D1 }),
+    Turn::Placed(5, Spot { cycle: 2, unit: S2 }),
+    Turn::Placed(6, Spot { cycle: 5, unit: L1 }),
+    Turn::Done,
+];
+
+/// The turns after the first ejection where that is the only one.
+const ONE_EJECTION: [Turn; 5] = [
+    Turn::Placed(3, Spot { cycle: 1, unit: D1 }),
+    Turn::Placed(4, Spot { cycle: 1, unit: S2 }),
+    Turn::Placed(6, Spot { cycle: 6, unit: L1 }),
+    Turn::Placed(5, Spot { cycle: 2, unit: S2 }),
     Turn::Done,
 ];
 
@@ -131,6 +163,27 @@ fn turns_of_both_sides(rt: HostRuntime) -> Result<(), Fail> {
 }
 
 #[test]
+fn two_ejections_and_one(rt: HostRuntime) -> Result<(), Fail> {
+    let mut board = board_of(&rt, rt.alloc(), SEVEN, 2)?;
+    for (k, want) in TWO_EJECTIONS.iter().enumerate() {
+        assert_eq!(rt; board.step(side_of(k)), *want);
+    }
+    assert_eq!(rt; board.budget(), 0);
+    assert_eq!(rt; board.length(), 6);
+    let mut board = board_of(&rt, rt.alloc(), SEVEN, 1)?;
+    for (k, want) in TWO_EJECTIONS[..4]
+        .iter()
+        .chain(ONE_EJECTION.iter())
+        .enumerate()
+    {
+        assert_eq!(rt; board.step(side_of(k)), *want);
+    }
+    assert_eq!(rt; board.budget(), 0);
+    assert_eq!(rt; board.length(), 7);
+    Ok(())
+}
+
+#[test]
 fn the_victim(rt: HostRuntime) -> Result<(), Fail> {
     let board = after(&rt, rt.alloc(), 4)?;
     assert!(rt; board.plan().len() == 6);
@@ -181,6 +234,12 @@ fn a_chain_of_256(rt: HostRuntime) -> Result<(), Fail> {
     assert_eq!(rt; board.journal().len(), 511);
     assert_eq!(rt; board.journal()[256], Entry::Withdraw(255, Who::A));
     assert_eq!(rt; board.counts().placed_a, 1);
+    for i in 1..256 {
+        assert_eq!(rt; place(&rt, &mut board, i), Ok(Spot { cycle: i, unit: L1 }));
+    }
+    assert_eq!(rt; withdraw(&rt, &mut board, 0), Ok(256));
+    assert_eq!(rt; board.journal().len(), 1022);
+    assert_eq!(rt; board.counts().placed_a, 0);
     Ok(())
 }
 
@@ -255,5 +314,147 @@ fn a_refused_spot(rt: HostRuntime) -> Result<(), Fail> {
     assert_eq!(rt; board.spot_of(2), Some(Spot { cycle: 0, unit: L1 }));
     assert!(rt; board.check(4, Spot { cycle: 0, unit: M1 }).is_err());
     assert!(rt; board.check(3, Spot { cycle: 1, unit: L1 }).is_ok());
+    Ok(())
+}
+
+/// What is seen of a board of the block of six.
+#[derive(Clone, Copy, PartialEq, Eq, Debug)]
+struct Seen {
+    entries: usize,
+    budget: u16,
+    spots: [Option<Spot>; 6],
+}
+
+fn look_at(rt: &impl Abort, board: &Board) -> Seen {
+    let mut spots = [None; 6];
+    for (i, spot) in spots.iter_mut().enumerate() {
+        assert!(rt; board.plan().len() == 6);
+        *spot = board.spot_of(i as u16);
+    }
+    Seen {
+        entries: board.journal().len(),
+        budget: board.budget(),
+        spots,
+    }
+}
+
+/// The plan of the block of six, where memory is given.
+fn plan_of_six(alloc: Global) -> Option<Plan> {
+    let mut blocks = read_program(alloc, SIX.as_bytes()).ok()?.into_blocks();
+    Plan::new(alloc, blocks.pop()?).ok()
+}
+
+/// The plan of the block of six, asked for again where memory is refused.
+fn plan_again(rt: &impl Abort, alloc: Global) -> Result<Plan, Fail> {
+    match plan_of_six(alloc) {
+        Some(plan) => Ok(plan),
+        None => plan_of(rt, alloc, SIX),
+    }
+}
+
+/// A step, taken again where memory is refused, which changes nothing.
+fn step_again(rt: &impl Abort, board: &mut Board, side: Side) -> Turn {
+    let before = look_at(rt, board);
+    match board.step(side) {
+        Turn::Memory => {
+            assert_eq!(rt; look_at(rt, board), before);
+            board.step(side)
+        }
+        turn => turn,
+    }
+}
+
+/// The same of a withdrawal.
+fn withdraw_again(rt: &impl Abort, board: &mut Board, i: u16) -> Result<u16, WithdrawFault> {
+    let before = look_at(rt, board);
+    match withdraw(rt, board, i) {
+        Err(WithdrawFault::Memory) => {
+            assert_eq!(rt; look_at(rt, board), before);
+            withdraw(rt, board, i)
+        }
+        answer => answer,
+    }
+}
+
+/// The same of a placing.
+fn place_again(rt: &impl Abort, board: &mut Board, i: u16) -> Result<Spot, PlaceFault> {
+    let before = look_at(rt, board);
+    match place(rt, board, i) {
+        Err(PlaceFault::Memory) => {
+            assert_eq!(rt; look_at(rt, board), before);
+            place(rt, board, i)
+        }
+        answer => answer,
+    }
+}
+
+/// The same of a proposal.
+fn commit_again(
+    rt: &impl Abort,
+    board: &mut Board,
+    proposal: &Proposal,
+) -> Result<Spot, CommitFault> {
+    let before = look_at(rt, board);
+    match board.commit(proposal, Who::A) {
+        Err(CommitFault::Memory) => {
+            assert_eq!(rt; look_at(rt, board), before);
+            board.commit(proposal, Who::A)
+        }
+        answer => answer,
+    }
+}
+
+/// The replay of these entries, made again from the plan that comes back where memory is refused.
+fn replay_again(rt: &impl Abort, alloc: Global, entries: &[Entry]) -> Result<Board, Fail> {
+    let plan = match Board::replay(alloc, plan_again(rt, alloc)?, 3, entries) {
+        Ok(board) => return Ok(board),
+        Err((plan, fault)) => {
+            assert_eq!(rt; fault, ReplayFault::Memory);
+            plan
+        }
+    };
+    assert_eq!(rt; plan.len(), 6);
+    match Board::replay(alloc, plan, 3, entries) {
+        Ok(board) => Ok(board),
+        Err((_, fault)) => Err(fault.into()),
+    }
+}
+
+/// An empty board, made again from the plan that comes back where memory is refused.
+fn board_again(rt: &impl Abort, alloc: Global) -> Result<Board, Fail> {
+    let plan = match Board::new(alloc, plan_again(rt, alloc)?, 1) {
+        Ok(board) => return Ok(board),
+        Err((plan, _)) => plan,
+    };
+    assert_eq!(rt; plan.len(), 6);
+    match Board::new(alloc, plan, 1) {
+        Ok(board) => Ok(board),
+        Err((_, error)) => Err(error.into()),
+    }
+}
+
+/// Wherever one allocation is refused, this passes too: what was handed over comes back, the board is as it was, and the
+/// call made again does what it does with ample memory.
+#[test]
+fn one_refused_growth(rt: HostRuntime) -> Result<(), Fail> {
+    let mut board = board_again(&rt, rt.alloc())?;
+    for (k, want) in TURNS.iter().enumerate() {
+        assert_eq!(rt; step_again(&rt, &mut board, side_of(k)), *want);
+    }
+    assert!(rt; board.journal() == &JOURNAL[..]);
+    let mut board = replay_again(&rt, rt.alloc(), &JOURNAL[..4])?;
+    assert_eq!(rt; withdraw_again(&rt, &mut board, 2), Ok(2));
+    assert!(rt; board.journal() == &JOURNAL[..6]);
+    let mut board = board_again(&rt, rt.alloc())?;
+    let first = Spot { cycle: 0, unit: L1 };
+    assert_eq!(rt; place_again(&rt, &mut board, 2), Ok(first));
+    let mut board = board_again(&rt, rt.alloc())?;
+    let proposal = Proposal {
+        number: 2,
+        spot: first,
+        seen: 0,
+    };
+    assert_eq!(rt; commit_again(&rt, &mut board, &proposal), Ok(first));
+    assert!(rt; board.journal() == &JOURNAL[..1]);
     Ok(())
 }

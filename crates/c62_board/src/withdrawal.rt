@@ -1,10 +1,11 @@
 //! What is withdrawn with an instruction.
 
-ghost use Rattle.std.specs.Prelude.{◌≡◌, ◌↔◌, ◌+◌, ◌<◌, ◌≤◌, IsTrue, IsSome, length, vec_len, vec_capacity};
+ghost use Rattle.std.specs.Prelude.{◌≡◌, ◌↔◌, ◌+◌, ◌++◌, ◌<◌, ◌≤◌, IsTrue, IsSome, length, vec_len, vec_capacity};
 ghost use Rattle.c62_depend.specs.Plan.{insns_of};
 ghost use Rattle.c62_sheet.specs.Lawful.{spot_at};
 ghost use Rattle.c62_board.specs.Chain.{Leads, Marks, IsMarked};
-ghost use Rattle.c62_board.specs.Withdrawal.{GoesWith, TakesOut, marked_below};
+ghost use Rattle.c62_sheet.specs.declared.entry.Who.{Who as WhoOf};
+ghost use Rattle.c62_board.specs.Withdrawal.{GoesWith, TakesOut, IsLeft, marked_below, withdrawals};
 
 use crate::chain::{Chained, led_from};
 use c62_sheet::{Entry, Sheet, Who};
@@ -44,6 +45,36 @@ pub(crate) fn count_marked(marks: &[bool], n: u16) -> u16
     count
 }
 
+/// Writes the withdrawals of the marked numbers below `n`, highest first, into a journal that has room.
+fn write_marked(journal: &mut Vec<Entry>, marks: &[bool], n: u16, who: Who)
+    requires many { n ≤ length marks.now }
+    requires room { vec_len journal.old + marked_below marks.now n ≤ vec_capacity journal.old }
+    ensures entries { journal.new.items ≡ journal.old.items ++ withdrawals marks.now who n }
+    ensures room { vec_capacity journal.old ≤ vec_capacity journal.new }
+{
+    for j in (0..n).rev() {
+        if marks[j as usize] {
+            let Ok(()) = journal.push(Entry::Withdraw(j, who)) else {
+                unreachable!()
+            };
+        }
+    }
+}
+
+/// Takes out the marked instructions, highest first.
+pub(crate) fn leave_out(sheet: &mut Sheet, marks: &[bool], i: u16)
+    requires marked { Marks (insns_of sheet.old.plan) (GoesWith (insns_of sheet.old.plan) sheet.old.spots i) marks.now }
+    requires many { length sheet.old.plan.insns ≤ length marks.now }
+    ensures plan { sheet.new.plan ≡ sheet.old.plan }
+    ensures left { (who : WhoOf) → IsLeft (insns_of sheet.old.plan) sheet.old.spots i who sheet.new.spots }
+{
+    for j in (0..sheet.plan().len()).rev() {
+        if marks[j as usize] {
+            sheet.take_out(j);
+        }
+    }
+}
+
 /// Takes out the marked instructions, highest first, and writes it into a journal that has room.
 pub(crate) fn take_out_marked(
     sheet: &mut Sheet,
@@ -57,13 +88,6 @@ pub(crate) fn take_out_marked(
     requires room { vec_len journal.old + marked_below marks.now (length sheet.old.plan.insns) ≤ vec_capacity journal.old }
     ensures { TakesOut sheet.old journal.old i who sheet.new journal.new }
 {
-    let n = sheet.plan().len();
-    for j in (0..n).rev() {
-        if marks[j as usize] {
-            let Ok(()) = journal.push(Entry::Withdraw(j, who)) else {
-                unreachable!()
-            };
-            sheet.take_out(j);
-        }
-    }
+    write_marked(journal, marks, sheet.plan().len(), who);
+    leave_out(sheet, marks, i);
 }

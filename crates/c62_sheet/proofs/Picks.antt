@@ -1,12 +1,14 @@
 -- The best number of a side, as far as a walk has come.
-use Rattle.std.proofs.Common.{arith, ◌≡◌, ℕ, ◌+◌, ◌<◌, ◌≤◌, List, length, Option, Some, None, inl, inr, ◌⊎◌, sym, ap, ◌∙◌, subst}
+use Rattle.std.proofs.Common.{arith, ◌≡◌, ℕ, zero, suc, ◌+◌, ◌<◌, ◌≤◌, List, length, Option, Some, None, IsSome, inl, inr, ◌⊎◌, refl, sym, ap, ◌∙◌, subst}
 use Rattle.std.specs.Prelude.{MatchOption, IfSome}
 use Rattle.std.proofs.lemmas.Bool.{cases_eq, cases_lt}
 use Rattle.c62_insn.specs.declared.register.Side.{Side}
 use Rattle.c62_insn.specs.declared.insn.Insn.{Insn}
 use Rattle.c62_depend.specs.Height.{height}
-use Rattle.c62_sheet.specs.Lawful.{Spots}
-use Rattle.c62_sheet.specs.Least.{IsReadyOn, IsBefore, IsPick, HasNoPick}
+use Rattle.c62_depend.specs.Side.{side}
+use Rattle.c62_sheet.specs.declared.entry.Spot.{Spot}
+use Rattle.c62_sheet.specs.Lawful.{Spots, spot_at}
+use Rattle.c62_sheet.specs.Least.{IsReady, IsReadyOn, IsBefore, IsPick, HasNoPick, IsComplete}
 
 -- b is the pick among the numbers below n
 pub record IsBest (block : List Insn) (set : Spots) (of : Side) (n b : ℕ) : Type 0 where
@@ -98,3 +100,31 @@ pick_unique block set of i k a b =
       | inl less ↦ elim (b.best i a.competes) [ inl more ↦ absurd (omega (arith, less, more)) | inr v ↦ absurd (omega (arith, less, v.0)) ]
       | inr w ↦ elim (b.best i a.competes) [ inl more ↦ absurd (omega (arith, w.0, more)) | inr v ↦ omega (arith, w.1, v.1) ]
     ]
+
+-- ---- somebody has something to do
+
+-- all numbers below n are placed, or there is a lowest one that is not
+pub lowest_missing : (set : Spots) (n : ℕ)
+    → ((k : ℕ) → k < n → IsSome (spot_at set k)) ⊎ ((i : ℕ) × (i < n) × (spot_at set i ≡ None) × ((k : ℕ) → k < i → IsSome (spot_at set k)))
+lowest_missing set zero = inl (λ k lt. absurd (omega (arith, lt)))
+lowest_missing set (suc n) = elim (lowest_missing set n) [
+  | inr w ↦ inr (w.0, (let lt = w.1 in omega arith), w.2, w.3)
+  | inl all ↦ here (spot_at set n) refl all
+]
+  where
+    here : (o : Option Spot) → spot_at set n ≡ o → ((k : ℕ) → k < n → IsSome (spot_at set k))
+        → ((k : ℕ) → k < suc n → IsSome (spot_at set k)) ⊎ ((i : ℕ) × (i < suc n) × (spot_at set i ≡ None) × ((k : ℕ) → k < i → IsSome (spot_at set k)))
+    here None e all = inr (n, omega arith, e, all)
+    here (Some s) e all = inl (λ k lt. elim (cases_eq k n) [
+      | inl same ↦ rw (same, e) refl
+      | inr ne ↦ all k (omega arith)
+    ])
+
+pub ready_lowest : (block : List Insn) (set : Spots) (i : ℕ) → spot_at set i ≡ None → ((k : ℕ) → k < i → IsSome (spot_at set k)) → IsReady block set i
+ready_lowest block set i free below = record { free = free; founded = λ h dep. below h dep.1.before }
+
+pub some_ready : (block : List Insn) (set : Spots) → (IsComplete block set → ⊥) → (of : Side) × ((i : ℕ) × IsReadyOn block set of i)
+some_ready block set left = elim (lowest_missing set (length block)) [
+  | inl all ↦ absurd (left all)
+  | inr w ↦ (side block w.0, (w.0, record { within = w.1; ready = ready_lowest block set w.0 w.2 w.3; sided = refl }))
+]

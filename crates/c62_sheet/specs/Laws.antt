@@ -7,7 +7,7 @@ use Rattle.c62_depend.specs.Plan.{IsPlan}
 use Rattle.c62_sheet.specs.declared.entry.Spot.{Spot}
 use Rattle.c62_sheet.specs.declared.entry.Rule.TheVariants.{P5}
 use Rattle.c62_sheet.specs.Lawful.{Spots, IsAt, placed, withdrawn, nothing_placed, IsLawful}
-use Rattle.c62_sheet.specs.Least.{IsReady, IsLeast, IsPick, IsLast}
+use Rattle.c62_sheet.specs.Least.{IsReady, IsReadyOn, IsLeast, IsPick, IsLast, IsComplete}
 use Rattle.c62_sheet.specs.Check.{IsFirst}
 
 -- a number has one least spot at most
@@ -17,6 +17,10 @@ HasOneLeast block set i = (s t : Spot) → IsLeast block set i s → IsLeast blo
 -- a side has one pick at most
 abbrev pub HasOnePick : List Insn → Spots → Side → Type 0
 HasOnePick block set of = (i k : ℕ) → IsPick block set of i → IsPick block set of k → i ≡ k
+
+-- where not every number is placed, some side has a ready one
+abbrev pub HasSomeReady : List Insn → Spots → Type 0
+HasSomeReady block set = (IsComplete block set → ⊥) → (of : Side) × ((i : ℕ) × IsReadyOn block set of i)
 
 -- number i fits in cycle 5 k, and its least spot is no later
 pub record HasRoom (block : List Insn) (set : Spots) (i k : ℕ) : Type 0 where

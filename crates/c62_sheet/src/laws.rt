@@ -6,7 +6,7 @@ ghost use Rattle.c62_insn.specs.declared.register.Side.{Side};
 ghost use Rattle.c62_insn.specs.declared.insn.Insn.{Insn};
 ghost use Rattle.std.specs.Prelude.{ℕ};
 ghost use Rattle.c62_sheet.specs.Lawful.{Spots};
-ghost use Rattle.c62_sheet.specs.Laws.{HasOneLeast, HasOnePick, FindsRoom, NeverLandTogether, CanTakeOut, IsLawfulEmpty};
+ghost use Rattle.c62_sheet.specs.Laws.{HasOneLeast, HasOnePick, HasSomeReady, FindsRoom, NeverLandTogether, CanTakeOut, IsLawfulEmpty};
 
 /// An instruction has one least spot at most.
 pub fn has_one_least()
@@ -16,6 +16,11 @@ pub fn has_one_least()
 /// A side has one pick at most.
 pub fn has_one_pick()
     ensures { (block : List Insn) (set : Spots) (of : Side) → HasOnePick block set of }
+{}
+
+/// Where not every instruction is placed, some side has a ready one: the lowest that is not placed is ready.
+pub fn has_some_ready()
+    ensures { (block : List Insn) (set : Spots) → HasSomeReady block set }
 {}
 
 /// Where all that is placed stands at least five cycles before cycle 5·k, each ready instruction may be placed in that

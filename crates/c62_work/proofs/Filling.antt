@@ -20,7 +20,7 @@ use Rattle.c62_read.specs.Block.{Serial}
 use Rattle.c62_board.specs.State.{BoardState, nothing_of, Adds, IsCleared, IsLeastNow}
 use Rattle.c62_board.proofs.Journals.{adds_both}
 use Rattle.c62_work.specs.Finish.{IsLowestMissing, FillsUp, FillsOut, CannotFill, IsBoardFor, IsFinished}
-use Rattle.c62_work.proofs.Ranks.{ready_lowest}
+use Rattle.c62_sheet.proofs.Picks.{ready_lowest}
 
 -- the rest of a list whose beginning these are, which completes a set
 pub record EndsIn (block : List Insn) (now : Spots) (es all : List Entry) : Type 0 where

@@ -1,5 +1,5 @@
 -- How much is left to do: each step that goes on and is not idle makes it less, and two sides are not idle at once.
-use Rattle.std.proofs.Common.{◌≡◌, ℕ, zero, suc, ◌+◌, ◌*◌, ◌<◌, ◌≤◌, ◌⊎◌, Bool, true, false, cond, List, [], ◌∷◌, length, Option, Some, None, IsSome, set, inl, inr, refl, ap, ◌∙◌, arith, length-set, add-one}
+use Rattle.std.proofs.Common.{◌≡◌, ℕ, zero, suc, ◌+◌, ◌*◌, ◌<◌, ◌≤◌, ◌⊎◌, Bool, true, false, cond, List, [], ◌∷◌, length, Option, inl, inr, refl, ap, ◌∙◌, arith, length-set, add-one}
 use Rattle.std.specs.Prelude.{count_by, is_none}
 use Rattle.std.proofs.Math.Nat.{suc-mul}
 use Rattle.std.proofs.lemmas.Bool.{cases_eq}
@@ -8,13 +8,13 @@ use Rattle.c62_insn.specs.declared.register.Side.{Side}
 use Rattle.c62_insn.specs.declared.register.Side.TheVariants.{A, B}
 use Rattle.c62_insn.specs.declared.insn.Insn.{Insn}
 use Rattle.c62_read.specs.Block.{Serial}
-use Rattle.c62_depend.specs.Side.{side}
 use Rattle.c62_depend.specs.Plan.{insns_of}
 use Rattle.c62_sheet.specs.declared.entry.Entry.{Entry}
 use Rattle.c62_sheet.specs.declared.entry.Entry.TheVariants.{Place, Withdraw}
 use Rattle.c62_sheet.specs.declared.entry.Spot.{Spot}
 use Rattle.c62_sheet.specs.Lawful.{Spots, spot_at, placed}
-use Rattle.c62_sheet.specs.Least.{IsReady, HasNoPick, IsComplete}
+use Rattle.c62_sheet.specs.Least.{HasNoPick, IsComplete}
+use Rattle.c62_sheet.proofs.Picks.{some_ready}
 use Rattle.c62_sheet.specs.Journal.{after, replayed}
 use Rattle.c62_board.specs.declared.turn.Turn.{Turn}
 use Rattle.c62_board.specs.declared.turn.Turn.TheVariants.{Placed, Ejected, Idle, Done, NoRoom, Memory}
@@ -59,31 +59,10 @@ step_rank old new of (Ejected q i s) sized step goes =
 
 -- ---- somebody has something to do
 
--- all numbers below n are placed, or there is a lowest one that is not
-pub lowest_missing : (set : Spots) (n : ℕ)
-    → ((k : ℕ) → k < n → IsSome (spot_at set k)) ⊎ ((i : ℕ) × (i < n) × (spot_at set i ≡ None) × ((k : ℕ) → k < i → IsSome (spot_at set k)))
-lowest_missing set zero = inl (λ k lt. absurd (omega (arith, lt)))
-lowest_missing set (suc n) = elim (lowest_missing set n) [
-  | inr w ↦ inr (w.0, (let lt = w.1 in omega arith), w.2, w.3)
-  | inl all ↦ here (spot_at set n) refl all
-]
-  where
-    here : (o : Option Spot) → spot_at set n ≡ o → ((k : ℕ) → k < n → IsSome (spot_at set k))
-        → ((k : ℕ) → k < suc n → IsSome (spot_at set k)) ⊎ ((i : ℕ) × (i < suc n) × (spot_at set i ≡ None) × ((k : ℕ) → k < i → IsSome (spot_at set k)))
-    here None e all = inr (n, omega arith, e, all)
-    here (Some s) e all = inl (λ k lt. elim (cases_eq k n) [
-      | inl same ↦ rw (same, e) refl
-      | inr ne ↦ all k (omega arith)
-    ])
-
-pub ready_lowest : (block : List Insn) (set : Spots) (i : ℕ) → spot_at set i ≡ None → ((k : ℕ) → k < i → IsSome (spot_at set k)) → IsReady block set i
-ready_lowest block set i free below = record { free = free; founded = λ h dep. below h dep.1.before }
-
 pub not_both_idle : (block : List Insn) (set : Spots) → (IsComplete block set → ⊥) → HasNoPick block set A → HasNoPick block set B → ⊥
-not_both_idle block set left a b = elim (lowest_missing set (length block)) [
-  | inl all ↦ left all
-  | inr w ↦ none (side block w.0) w.0 (record { within = w.1; ready = ready_lowest block set w.0 w.2 w.3; sided = refl })
-]
+not_both_idle block set left a b =
+    let w = some_ready block set left in
+    none w.0 w.1.0 w.1.1
   where
     none : (of : Side) → HasNoPick block set of
     none A = a

@@ -199,6 +199,72 @@ fn workers_make_their_turns(rt: HostRuntime) -> Result<(), Fail> {
     Ok(())
 }
 
+/// Keeps what it is told of the turns of a worker, and whether the lock was free when it was told.
+#[derive(Drop)]
+struct Watch<'a> {
+    board: &'a Mutex<Board>,
+    told: [AtomicU64; 8],
+    count: AtomicU64,
+}
+
+impl Watch<'_> {
+    /// Keeps a number, or 0 where the lock is held.
+    fn keep(&self, number: u64) {
+        let place = self.count.fetch_add(1, Ordering::SeqCst);
+        if let Some(slot) = self.told.get(place as usize) {
+            let free = self.board.try_lock().is_some();
+            slot.store(if free { number } else { 0 }, Ordering::SeqCst);
+        }
+    }
+}
+
+/// A number for a turn of a side: thousands for the side, hundreds for the turn.
+fn turn_number(side: Side, turn: u32) -> u64 {
+    let thousands = match side {
+        Side::A => 1000,
+        Side::B => 2000,
+    };
+    thousands + 100 * u64::from(turn)
+}
+
+impl Gate for Watch<'_> {
+    fn before(&self, side: Side, turn: u32) {
+        self.keep(turn_number(side, turn) + 1);
+    }
+
+    fn after(&self, side: Side, turn: u32, came: &Turn) {
+        let what = match came {
+            Turn::Placed(i, _) => 20 + u64::from(*i),
+            Turn::Idle => 2,
+            Turn::Done => 3,
+            Turn::Ejected(_, _, _) | Turn::NoRoom(_) | Turn::Memory => 4,
+        };
+        self.keep(turn_number(side, turn) + what);
+    }
+}
+
+#[test]
+fn a_gate_is_told_each_turn(rt: HostRuntime) -> Result<(), Fail> {
+    let cases = [
+        (Side::A, [1001, 1020, 1101, 1121, 1201, 1222, 1301, 1303]),
+        (Side::B, [2001, 2002, 2101, 2102, 2201, 2202, 2301, 2302]),
+    ];
+    for (side, want) in &cases {
+        let board = Mutex::new(board_of(&rt, rt.alloc(), SUM, 0)?);
+        let gate = Watch {
+            board: &board,
+            told: [0; 8].map(AtomicU64::new),
+            count: AtomicU64::new(0),
+        };
+        assert_eq!(rt; worker(&rt, &board, *side, 4, &gate), 4);
+        assert_eq!(rt; gate.count.load(Ordering::SeqCst), 8);
+        for (slot, number) in gate.told.iter().zip(want.iter()) {
+            assert_eq!(rt; slot.load(Ordering::SeqCst), *number);
+        }
+    }
+    Ok(())
+}
+
 #[test]
 fn schedules_are_whole(rt: HostRuntime) -> Result<(), Fail> {
     let plan = plan_of(&rt, rt.alloc(), EJECTING)?;
@@ -227,6 +293,7 @@ fn schedules_are_whole(rt: HostRuntime) -> Result<(), Fail> {
             if turns == 0 {
                 let found = journal_text(rt.alloc(), &board)?;
                 assert_eq!(rt; found.as_str(), IN_ORDER);
+                assert_eq!(rt; board.budget(), budget);
             }
         }
     }
