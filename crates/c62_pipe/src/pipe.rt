@@ -9,7 +9,7 @@ ghost use Rattle.c62_serial.specs.Effect.{loaded, is_fault};
 ghost use Rattle.c62_insn.specs.declared.action.Action.TheVariants.{Transfer as Transfers};
 ghost use Rattle.c62_serial.specs.Serial.{act_by, exit_after};
 ghost use Rattle.c62_meaning.specs.Meaning.{IsMeaning};
-ghost use Rattle.c62_pipe.specs.Flight.{due, stored, FitsSlots, with_writes, stores_of, act_at, issued, with_stores, at_end, after_end};
+ghost use Rattle.c62_pipe.specs.Flight.{IsIdle, stored, FitsSlots, with_writes, stores_of, act_at, issued, with_stores, at_end, after_end};
 
 use crate::ring::Ring;
 use arrayvec::ArrayVec;
@@ -52,10 +52,8 @@ fn note_fault(line: u32, address: u32, size: u8, state: &mut State)
 
 impl Pipe {
     /// Nothing in flight.
-    fn new() -> Pipe
-        ensures slots { (cycle : ℕ) → due result.slots cycle ≡ [] }
-        ensures size { length result.slots ≡ 5 }
-        ensures stores { result.stores ≡ [] }
+    pub(crate) fn new() -> Pipe
+        ensures { IsIdle result }
     {
         Pipe {
             ring: Ring::new(),
@@ -158,6 +156,45 @@ impl Pipe {
         self.ring.land(cycle, state);
     }
 
+    /// Runs a block of packets as [`Pipe::run`] does, where nothing is in flight. Nothing is then.
+    ///
+    /// # Errors
+    ///
+    /// As of [`Pipe::run`].
+    pub(crate) fn run_block(
+        &mut self,
+        block: &PacketBlock,
+        state: &mut State,
+    ) -> Result<(Exit, u32), AllocError>
+        requires { IsIdle self.old }
+        ensures idle { IsIdle self.new }
+        ensures cycles { IfOk result (λ ran. ran.1 ≡ block.now.cycles) }
+        ensures short { IfOk result (λ ran. ran.1 ≤ 2048) }
+        ensures meaning { IfOk result (λ ran. IsMeaning block.now.placed block.now.cycles state.old.machine (record { machine = state.new.machine; exit = ran.0 })) }
+        ensures full { OnErr result (state.old.room < length block.now.placed) }
+        ensures err { OnErr result (state.new ≡ state.old) }
+    {
+        let all = block.placed();
+        let length = block.length();
+        state.room(all.len())?;
+        // It tells what holds of every state.
+        let _ = state.faults();
+        let mut cycle = 0;
+        let mut exit = Exit::Next;
+        for placed in all {
+            while cycle < placed.cycle {
+                self.end_cycle(cycle, state);
+                cycle += 1;
+            }
+            exit = exit_after(exit, self.issue(placed, state));
+        }
+        while cycle < length {
+            self.end_cycle(cycle, state);
+            cycle += 1;
+        }
+        Ok((exit, u32::from(length)))
+    }
+
     /// Runs a block of packets, cycle by cycle. Instructions read registers and memory in the cycle of
     /// their issue, before its writes and stores; a write lands after the delay of its instruction, and
     /// the stores of a packet are made .D1 first. A misaligned access, or one past the end of memory,
@@ -176,26 +213,8 @@ impl Pipe {
         ensures full { OnErr result (state.old.room < length block.now.placed) }
         ensures err { OnErr result (state.new ≡ state.old) }
     {
-        let all = block.placed();
-        let length = block.length();
-        state.room(all.len())?;
-        // It tells what holds of every state.
-        let _ = state.faults();
         let mut pipe = Pipe::new();
-        let mut cycle = 0;
-        let mut exit = Exit::Next;
-        for placed in all {
-            while cycle < placed.cycle {
-                pipe.end_cycle(cycle, state);
-                cycle += 1;
-            }
-            exit = exit_after(exit, pipe.issue(placed, state));
-        }
-        while cycle < length {
-            pipe.end_cycle(cycle, state);
-            cycle += 1;
-        }
-        Ok((exit, u32::from(length)))
+        pipe.run_block(block, state)
     }
 }
 
