@@ -4,9 +4,11 @@ use crate::fault::AtFault;
 use crate::packets::{packets_at, packets_of};
 use c62_board::{Board, Spot, Who};
 use c62_depend::Plan;
-use c62_insn::{Letter, Side, Unit};
-use c62_packet::PacketBlock;
-use c62_read::read_program;
+use c62_insn::{Letter, Reg, Side, Unit};
+use c62_packet::{PacketBlock, Packets};
+use c62_pipe::run_chain;
+use c62_read::{Block, read_program};
+use c62_serial::{Chain, End, State, run_program};
 use std::alloc::Global;
 use std::process::Abort;
 use std::test::Fail;
@@ -54,12 +56,121 @@ const SPOTS: [([(u16, Unit); 3], Option<(&str, u16)>); 4] = [
     ([(1, S1), (0, S1), (15, L1)], None),
 ];
 
-fn plan_of(rt: &impl Abort, alloc: Global, text: &str) -> Result<Plan, Fail> {
-    let mut blocks = read_program(alloc, text.as_bytes())?.into_blocks();
-    match Plan::new(alloc, blocks.pop().expect(rt, "a block")) {
+/// What a register holds, by side and number.
+type Holds = (Side, u8, u32);
+
+const A: Side = Side::A;
+
+const B: Side = Side::B;
+
+/// A text; what registers hold before its packets are run; how many blocks are run, how the chain ends, and its cycles; and
+/// what registers hold then. The word at 8 is 99 before, and at most nine blocks are run.
+const RUNS: [(&str, &[Holds], (u32, End, u64), &[Holds]); 9] = [
+    ("", &[], (0, End::End, 0), &[]),
+    (
+        "[!A1] LDW *A4++,A4",
+        &[(A, 4, 8)],
+        (1, End::End, 5),
+        &[(A, 4, 99)],
+    ),
+    (
+        "[!A1] LDW *A4++,A4",
+        &[(A, 1, 1), (A, 4, 8)],
+        (1, End::End, 5),
+        &[(A, 1, 1), (A, 4, 8)],
+    ),
+    (
+        "LDH *A4,A5",
+        &[(A, 4, 1), (A, 5, 7)],
+        (1, End::End, 5),
+        &[(A, 4, 1), (A, 5, 0)],
+    ),
+    (
+        "STW A1,*A4\nLDW *B4,B5",
+        &[(A, 1, 9), (A, 4, 8), (B, 4, 8)],
+        (1, End::End, 6),
+        &[(A, 1, 9), (B, 5, 9)],
+    ),
+    (
+        "L1: SUB A1,1,A1\n[A1] B L1",
+        &[(A, 1, 3)],
+        (3, End::End, 21),
+        &[(A, 1, 0)],
+    ),
+    (
+        "L1: SUB A1,1,A1\n[A1] B L1",
+        &[(A, 1, 12)],
+        (9, End::Limit, 63),
+        &[(A, 1, 3)],
+    ),
+    (
+        "B B3",
+        &[(B, 3, 0x100)],
+        (1, End::Register(0x100), 6),
+        &[(B, 3, 0x100)],
+    ),
+    (
+        "MVK 1,A1\nL: LDW *A4,A5\nMPY A5,A5,A5",
+        &[(A, 4, 8)],
+        (2, End::End, 8),
+        &[(A, 1, 1), (A, 5, 9801)],
+    ),
+];
+
+fn plan_of(alloc: Global, block: Block) -> Result<Plan, Fail> {
+    match Plan::new(alloc, block) {
         Ok(plan) => Ok(plan),
         Err((_, error)) => Err(error.into()),
     }
+}
+
+/// The last block of a text.
+fn block_of(rt: &impl Abort, alloc: Global, text: &str) -> Result<Block, Fail> {
+    let mut blocks = read_program(alloc, text.as_bytes())?.into_blocks();
+    Ok(blocks.pop().expect(rt, "a block"))
+}
+
+/// A board on which a block's instructions are placed in serial order.
+fn board_of(rt: &impl Abort, alloc: Global, block: Block) -> Result<Board, Fail> {
+    let Ok(mut board) = Board::new(alloc, plan_of(alloc, block)?, 0) else {
+        return Err("memory".into());
+    };
+    for number in 0..board.plan().len() {
+        assert!(rt; number < board.plan().len());
+        board.place(number, Who::Tail).map_err(|_| "no room")?;
+    }
+    Ok(board)
+}
+
+/// The packets of a text whose blocks are placed in serial order.
+fn packets(rt: &impl Abort, alloc: Global, text: &str) -> Result<Packets, Fail> {
+    let mut packets = Packets::new(alloc);
+    for block in read_program(alloc, text.as_bytes())?.into_blocks() {
+        let board = board_of(rt, alloc, block)?;
+        assert!(rt; board.complete());
+        assert!(rt; packets.len() < 64);
+        match packets.push(packets_of(alloc, &board)?) {
+            Ok(()) => {}
+            Err((_, error)) => return Err(error.into()),
+        }
+    }
+    Ok(packets)
+}
+
+fn register(side: Side, number: u8) -> Reg {
+    Reg {
+        side,
+        number: number % 16,
+    }
+}
+
+fn opening(alloc: Global, holds: &[Holds]) -> Result<State, Fail> {
+    let mut state = State::new(alloc)?;
+    let _ = state.poke(8, 99);
+    for (side, number, word) in holds {
+        state.set(register(*side, *number), *word);
+    }
+    Ok(state)
 }
 
 fn unit_name(unit: Unit) -> &'static str {
@@ -92,13 +203,7 @@ fn packets_text(rt: &impl Abort, alloc: Global, block: &PacketBlock) -> Result<S
 #[test]
 fn packets_of_boards(rt: HostRuntime) -> Result<(), Fail> {
     for (text, packets, length) in &PACKETS {
-        let Ok(mut board) = Board::new(rt.alloc(), plan_of(&rt, rt.alloc(), text)?, 0) else {
-            return Err("memory".into());
-        };
-        for number in 0..board.plan().len() {
-            assert!(rt; number < board.plan().len());
-            board.place(number, Who::Tail).map_err(|_| "no room")?;
-        }
+        let board = board_of(&rt, rt.alloc(), block_of(&rt, rt.alloc(), text)?)?;
         assert!(rt; board.complete());
         let block = packets_of(rt.alloc(), &board)?;
         let found = packets_text(&rt, rt.alloc(), &block)?;
@@ -112,9 +217,37 @@ fn packets_of_boards(rt: HostRuntime) -> Result<(), Fail> {
     Ok(())
 }
 
+/// The packets of each text leave what its row says, and what its blocks leave run serially.
+#[test]
+fn packets_run_as_blocks(rt: HostRuntime) -> Result<(), Fail> {
+    for (text, holds, (blocks, stop, cycles), left) in &RUNS {
+        let packets = packets(&rt, rt.alloc(), text)?;
+        let closed = packets.closed();
+        assert!(rt; closed);
+        let mut state = opening(rt.alloc(), holds)?;
+        let (chain, taken) = run_chain(&packets, &mut state, 9)?;
+        let want = Chain {
+            blocks: *blocks,
+            stop: *stop,
+        };
+        assert_eq!(rt; chain, want, "{text}");
+        assert_eq!(rt; taken, *cycles, "{text}");
+        for (side, number, word) in *left {
+            assert_eq!(rt; state.reg(register(*side, *number)), *word, "{text}");
+        }
+        let mut serial = opening(rt.alloc(), holds)?;
+        let program = read_program(rt.alloc(), text.as_bytes())?;
+        assert_eq!(rt; run_program(&program, &mut serial, 9)?, chain, "{text}");
+        assert!(rt; state.registers() == serial.registers(), "{text}");
+        assert!(rt; state.faults() == serial.faults(), "{text}");
+        assert_eq!(rt; state.load(8, 4), serial.load(8, 4), "{text}");
+    }
+    Ok(())
+}
+
 #[test]
 fn packets_at_spots(rt: HostRuntime) -> Result<(), Fail> {
-    let plan = plan_of(&rt, rt.alloc(), SUM)?;
+    let plan = plan_of(rt.alloc(), block_of(&rt, rt.alloc(), SUM)?)?;
     for (stands, want) in &SPOTS {
         let [first, second, third] = *stands;
         let spots = [first, second, third].map(|(cycle, unit)| Spot { cycle, unit });

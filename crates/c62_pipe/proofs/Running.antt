@@ -1,5 +1,5 @@
 -- A block of packets from one cycle to the next.
-use Rattle.std.proofs.Common.{◌≡◌, ℕ, zero, suc, ◌+◌, ◌*◌, ◌%◌, ◌<◌, ◌≤◌, List, [], ◌∷◌, ◌++◌, length, length-append, get_or, set, map, take, drop, Option, Some, None, refl, sym, ◌∙◌, ap, subst, ◌⊎◌, inl, inr, ⊎_elim, arith}
+use Rattle.std.proofs.Common.{◌≡◌, ℕ, zero, suc, ◌+◌, ◌-◌, ◌*◌, ◌%◌, ◌<◌, ◌≤◌, List, [], ◌∷◌, ◌++◌, length, length-append, get_or, set, map, take, drop, Option, Some, None, refl, sym, ◌∙◌, ap, subst, ◌⊎◌, inl, inr, ⊎_elim, arith}
 use Rattle.std.specs.Prelude.{◌↔◌, Contains, fold, slice_set}
 use Rattle.std.specs.List.{flat_map}
 use Rattle.std.specs.List.Sorted.{IsStrictlyIncreasing}
@@ -7,11 +7,13 @@ use Rattle.std.proofs.lemmas.Bool.{cases_eq, cases_Bool, cond-false, cond_both, 
 use Rattle.std.proofs.Math.ListN.{drop_of_length-le}
 use Rattle.std.proofs.lemmas.List.{length-set, take_more, drop_more, take_all, take-append-drop, append-nil}
 use Rattle.std.proofs.lemmas.List.Sums.{fold-append}
+use Rattle.std.proofs.lemmas.List.Elements.{All-contains}
 use Rattle.std.proofs.lemmas.Grind.{flat_map-append}
 use Rattle.c62_insn.specs.declared.register.Reg.{Reg}
 use Rattle.c62_insn.specs.declared.effect.Access.{Access as MemoryAccess}
 use Rattle.c62_insn.specs.declared.effect.Target.{Target}
-use Rattle.c62_insn.specs.Length.{landing_end}
+use Rattle.c62_insn.specs.Insn.{register_writes}
+use Rattle.c62_insn.specs.Length.{greatest_delay, landing_end}
 use Rattle.c62_insn.specs.Units.{index_of as unit_index}
 use Rattle.c62_insn.proofs.UnitOrder.{index_of-below}
 use Rattle.c62_serial.specs.declared.serial.Exit.{Exit}
@@ -31,10 +33,10 @@ use Rattle.c62_meaning.specs.Packet.{Did, register_landings, memory_landings, ac
 use Rattle.c62_meaning.specs.Meaning.{HasFaulted, exit_by, Leaves, IsMeaning}
 use Rattle.c62_meaning.proofs.Lookup.{In, Contains_from_In, In-append_right, In-append_cases, last_value, last_value-append}
 use Rattle.c62_meaning.proofs.Acting.{act_same}
-use Rattle.c62_meaning.proofs.Landings.{access-last}
+use Rattle.c62_meaning.proofs.Landings.{access-last, act_writes}
 use Rattle.c62_meaning.proofs.Runs.{the_run, the_run_runs}
 use Rattle.c62_meaning.proofs.Faulted.{lines_after, lines_hold}
-use Rattle.c62_pipe.specs.Flight.{Slot, Store, Flight, due, with_writes, FitsSlots, stores_at, stores_of, act_at, issued, landed, stored, at_end, after_end}
+use Rattle.c62_pipe.specs.Flight.{Slot, Store, Flight, IsIdle, due, with_writes, FitsSlots, stores_at, stores_of, act_at, issued, landed, stored, at_end, after_end}
 use Rattle.c62_pipe.proofs.Order.{Ascends, ascends, AreParts, parts_at, In-take, In-parts}
 use Rattle.c62_pipe.proofs.Slots.{due_of, due_in, due-set_same, due-set_other, length-writes, due_writes, act_soon, due_none, few_due, fits}
 use Rattle.c62_pipe.proofs.Landed.{last_pair, landed-last, word-next, byte-next}
@@ -302,6 +304,44 @@ finish block opening cycle flight machine exit room h e = record {
   where
     all : take (length block.placed) block.placed ≡ block.placed
     all = take_all (length block.placed) block.placed (omega arith)
+
+-- a write lands within the greatest delay
+within_greatest : (ws : List (Reg × ℕ)) (w : Reg × ℕ) → In w ws → w.1 ≤ greatest_delay ws
+within_greatest [] w h = absurd h
+within_greatest (x ∷ xs) w (inl e) = let f : x.1 ≡ w.1 = ap (λ (u : Reg × ℕ). u.1) e in omega arith
+within_greatest (x ∷ xs) w (inr h) = let r : w.1 ≤ greatest_delay xs = within_greatest xs w h in omega arith
+
+-- all of these landed before t
+all_landed : (block : List Placed) (opening : Machine) (t : ℕ) (ps : List Placed) → ((p : Placed) → In p ps → landing_end (issue_of p) ≤ t) → ((p : Placed) → In p ps → In p block)
+    → due_in (the_run block opening) t ps ≡ []
+all_landed block opening t [] late sub = refl
+all_landed block opening t (p ∷ ps) late sub =
+    let word : Reg → ℕ = word_before block opening (the_run block opening) p.cycle in
+    let byte : ℕ → ℕ = byte_before block opening (the_run block opening) p.cycle in
+    let end : landing_end (issue_of p) ≤ t = late p (inl refl) in
+    let here : due_of t p.cycle (the_run block opening p).writes ≡ []
+    = ap (λ (x : Act). due_of t p.cycle x.writes) (the_run_runs block opening p (Contains_from_In p block (sub p (inl refl))))
+    ∙ due_none t p.cycle (act_of p.insn word byte).writes
+    (λ w k f. let d : w.0.1 ≤ greatest_delay (register_writes p.insn) = within_greatest (register_writes p.insn) w.0 (act_writes p.insn word byte w k) in omega arith) in
+    ap (λ slot. slot ++ due_in (the_run block opening) t ps) here ∙ all_landed block opening t ps (λ q k. late q (inr k)) (λ q k. sub q (inr k))
+
+-- nothing is in flight
+pub idle : (block : Packed) (opening : Machine) (cycle : ℕ) (flight : Flight) (machine : Machine) (exit : Exit) (room : ℕ) → IsPacketBlock block
+    → Running block.placed opening cycle (length block.placed) flight machine exit room → cycle ≡ block.cycles → flight.stores ≡ [] → IsIdle flight
+idle block opening cycle flight machine exit room is h e none = record {
+  size = h.slots;
+  slots = λ c.
+      let t : ℕ = cycle + (c % 5 + 5 - cycle % 5) % 5 in
+      let from : cycle ≤ t = omega arith in
+      let below : t < cycle + 5 = omega arith in
+      let slot : t % 5 ≡ c % 5 = omega arith in
+      let at : due flight.slots t ≡ due flight.slots c = ap (λ n. get_or flight.slots n []) slot in
+      let landed : due_in (the_run block.placed opening) t block.placed ≡ [] = all_landed block.placed opening t block.placed
+      (λ p k. let d : landing_end (issue_of p) ≤ block.cycles = All-contains (λ p. landing_end (issue_of p) ≤ block.cycles) block.placed p is.drained (Contains_from_In p block.placed k) in omega arith)
+      (λ p k. k) in
+      sym at ∙ h.flying t from below ∙ ap (λ ps. due_in (the_run block.placed opening) t ps) (take_all (length block.placed) block.placed (omega arith)) ∙ landed;
+  stores = none;
+}
 
 -- ---- the steps of the run
 

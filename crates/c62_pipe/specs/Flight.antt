@@ -29,6 +29,12 @@ pub record IsFlight (flight : Flight) : Type 0 where
 abbrev pub due : List Slot → ℕ → Slot
 due slots cycle = slice_index_or slots (cycle % 5) []
 
+-- nothing is in flight
+pub record IsIdle (flight : Flight) : Type 0 where
+  pub size : length flight.slots ≡ 5
+  pub slots : (cycle : ℕ) → due flight.slots cycle ≡ []
+  pub stores : flight.stores ≡ []
+
 -- one write more that lands in this cycle
 abbrev pub with_due : ℕ → Reg → ℕ → List Slot → List Slot
 with_due cycle reg value slots = slice_set slots (cycle % 5) (due slots cycle ++ (reg, value) ∷ [])

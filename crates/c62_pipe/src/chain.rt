@@ -31,6 +31,7 @@ pub fn run_chain(
     ensures err { OnErr result (LacksRoom packets.now state.old.machine limit state.new) }
 {
     let all = packets.blocks();
+    let mut pipe = Pipe::new();
     let mut number = 0;
     let mut blocks = 0;
     let mut cycles = 0;
@@ -42,7 +43,7 @@ pub fn run_chain(
             };
             return Ok((chain, cycles));
         }
-        let (exit, taken) = Pipe::run(&all[number], state)?;
+        let (exit, taken) = pipe.run_block(&all[number], state)?;
         blocks += 1;
         cycles += u64::from(taken);
         number = match exit {

@@ -6,13 +6,14 @@ ghost use Rattle.c62_serial.specs.State.{byte_in};
 ghost use Rattle.c62_serial.specs.Memory.{is_size, is_good};
 ghost use Rattle.c62_serial.specs.Faults.{with_fault_if};
 ghost use Rattle.c62_serial.specs.Effect.{loaded, is_fault};
-ghost use Rattle.c62_serial.specs.Serial.{exit_after};
+ghost use Rattle.c62_insn.specs.declared.action.Action.TheVariants.{Transfer as Transfers};
+ghost use Rattle.c62_serial.specs.Serial.{act_by, exit_after};
 ghost use Rattle.c62_meaning.specs.Meaning.{IsMeaning};
-ghost use Rattle.c62_pipe.specs.Flight.{due, stored, FitsSlots, with_writes, stores_of, act_at, issued, with_stores, at_end, after_end};
+ghost use Rattle.c62_pipe.specs.Flight.{IsIdle, stored, FitsSlots, with_writes, stores_of, act_at, issued, with_stores, at_end, after_end};
 
 use crate::ring::Ring;
 use arrayvec::ArrayVec;
-use c62_insn::{Access, Effect, Target};
+use c62_insn::{Access, Action, Target, Transfer};
 use c62_packet::{PacketBlock, Placed};
 use c62_serial::{Exit, State};
 use std::alloc::AllocError;
@@ -51,10 +52,8 @@ fn note_fault(line: u32, address: u32, size: u8, state: &mut State)
 
 impl Pipe {
     /// Nothing in flight.
-    fn new() -> Pipe
-        ensures slots { (cycle : ℕ) → due result.slots cycle ≡ [] }
-        ensures size { length result.slots ≡ 5 }
-        ensures stores { result.stores ≡ [] }
+    pub(crate) fn new() -> Pipe
+        ensures { IsIdle result }
     {
         Pipe {
             ring: Ring::new(),
@@ -62,22 +61,22 @@ impl Pipe {
         }
     }
 
-    /// Makes the access of an instruction, where it has one, and answers the value of a load's
-    /// destination. A store waits for the end of the cycle, since loads of its packet do not see it.
-    fn access(&mut self, placed: &Placed, access: Option<Access>, state: &mut State) -> Option<u32>
-        requires size { IfSome access (λ access. IsTrue (is_size access.size)) }
+    /// Makes the access of a load or a store, and answers the word of a load's destination. A store waits
+    /// for the end of the cycle, since loads of its packet do not see it.
+    fn access(&mut self, placed: &Placed, access: Access, state: &mut State) -> Option<u32>
+        requires size { IsTrue (is_size access.size) }
         requires room { 0 < state.old.room }
         requires few { length self.old.stores < 8 }
-        ensures loaded { result ≡ loaded (byte_in state.old.machine) (op_of placed.now.insn) access }
-        ensures machine { state.new.machine ≡ with_fault_if placed.now.line (is_fault access) state.old.machine }
+        ensures loaded { result ≡ loaded (byte_in state.old.machine) (op_of placed.now.insn) (Some access) }
+        ensures machine { state.new.machine ≡ with_fault_if placed.now.line (is_fault (Some access)) state.old.machine }
         ensures room { state.old.room ≤ state.new.room + 1 }
-        ensures flight { self.new ≡ with_stores (self.old.stores ++ stores_of access) self.old }
+        ensures flight { self.new ≡ with_stores (self.old.stores ++ stores_of (Some access)) self.old }
     {
         let Access {
             address,
             size,
             value,
-        } = access?;
+        } = access;
         match value {
             Some(value) => {
                 note_fault(placed.line, address, size, state);
@@ -85,6 +84,29 @@ impl Pipe {
                 None
             }
             None => Some(state.make_load(placed.insn, placed.line, address, size)),
+        }
+    }
+
+    /// Makes a load or a store, and puts its writes in flight: a base that is changed, and the
+    /// destination of a load.
+    fn transfer(&mut self, placed: &Placed, transfer: Transfer, state: &mut State)
+        requires size { IsTrue (is_size transfer.access.size) }
+        requires room { 0 < state.old.room }
+        requires few { length self.old.stores < 8 }
+        requires fits { FitsSlots (with_writes placed.now.cycle (act_by (op_of placed.now.insn) (Transfers transfer) (byte_in state.old.machine)).writes self.old.slots) }
+        ensures machine { state.new.machine ≡ with_fault_if placed.now.line (is_fault (Some transfer.access)) state.old.machine }
+        ensures room { state.old.room ≤ state.new.room + 1 }
+        ensures flight { self.new ≡ issued placed.now.cycle (act_by (op_of placed.now.insn) (Transfers transfer) (byte_in state.old.machine)) self.old }
+    {
+        let loaded = self.access(placed, transfer.access, state);
+        if let Some((base, word)) = transfer.base {
+            self.ring.schedule(placed.cycle, 0, base, word);
+        }
+        if let Some(reg) = transfer.loads
+            && let Some(word) = loaded
+        {
+            self.ring
+                .schedule(placed.cycle, placed.insn.delay(), reg, word);
         }
     }
 
@@ -100,21 +122,18 @@ impl Pipe {
         ensures room { state.old.room ≤ state.new.room + 1 }
         ensures flight { self.new ≡ issued placed.now.cycle (act_at placed.now state.old.machine) self.old }
     {
-        let Effect {
-            mut values,
-            access,
-            target,
-            ..
-        } = placed.insn.apply(&state.inputs(placed.insn));
-        if let Some(value) = self.access(placed, access, state) {
-            values.push(value);
+        match placed.insn.action(state.registers())? {
+            Action::Write(reg, word) => {
+                self.ring
+                    .schedule(placed.cycle, placed.insn.delay(), reg, word);
+                None
+            }
+            Action::Transfer(transfer) => {
+                self.transfer(placed, transfer, state);
+                None
+            }
+            Action::Branch(target) => Some(target),
         }
-        self.ring.schedule(
-            placed.cycle,
-            placed.insn.writes().as_slice(),
-            values.as_slice(),
-        );
-        target
     }
 
     /// Makes the stores of the packet, in the order of its units.
@@ -137,6 +156,45 @@ impl Pipe {
         self.ring.land(cycle, state);
     }
 
+    /// Runs a block of packets as [`Pipe::run`] does, where nothing is in flight. Nothing is then.
+    ///
+    /// # Errors
+    ///
+    /// As of [`Pipe::run`].
+    pub(crate) fn run_block(
+        &mut self,
+        block: &PacketBlock,
+        state: &mut State,
+    ) -> Result<(Exit, u32), AllocError>
+        requires { IsIdle self.old }
+        ensures idle { IsIdle self.new }
+        ensures cycles { IfOk result (λ ran. ran.1 ≡ block.now.cycles) }
+        ensures short { IfOk result (λ ran. ran.1 ≤ 2048) }
+        ensures meaning { IfOk result (λ ran. IsMeaning block.now.placed block.now.cycles state.old.machine (record { machine = state.new.machine; exit = ran.0 })) }
+        ensures full { OnErr result (state.old.room < length block.now.placed) }
+        ensures err { OnErr result (state.new ≡ state.old) }
+    {
+        let all = block.placed();
+        let length = block.length();
+        state.room(all.len())?;
+        // It tells what holds of every state.
+        let _ = state.faults();
+        let mut cycle = 0;
+        let mut exit = Exit::Next;
+        for placed in all {
+            while cycle < placed.cycle {
+                self.end_cycle(cycle, state);
+                cycle += 1;
+            }
+            exit = exit_after(exit, self.issue(placed, state));
+        }
+        while cycle < length {
+            self.end_cycle(cycle, state);
+            cycle += 1;
+        }
+        Ok((exit, u32::from(length)))
+    }
+
     /// Runs a block of packets, cycle by cycle. Instructions read registers and memory in the cycle of
     /// their issue, before its writes and stores; a write lands after the delay of its instruction, and
     /// the stores of a packet are made .D1 first. A misaligned access, or one past the end of memory,
@@ -155,26 +213,8 @@ impl Pipe {
         ensures full { OnErr result (state.old.room < length block.now.placed) }
         ensures err { OnErr result (state.new ≡ state.old) }
     {
-        let all = block.placed();
-        let length = block.length();
-        state.room(all.len())?;
-        // It tells what holds of every state.
-        let _ = state.faults();
         let mut pipe = Pipe::new();
-        let mut cycle = 0;
-        let mut exit = Exit::Next;
-        for placed in all {
-            while cycle < placed.cycle {
-                pipe.end_cycle(cycle, state);
-                cycle += 1;
-            }
-            exit = exit_after(exit, pipe.issue(placed, state));
-        }
-        while cycle < length {
-            pipe.end_cycle(cycle, state);
-            cycle += 1;
-        }
-        Ok((exit, u32::from(length)))
+        pipe.run_block(block, state)
     }
 }
 

@@ -1,7 +1,7 @@
 //! Writes in flight, by the cycle in which they land.
 
-ghost use Rattle.std.specs.Prelude.{◌≡◌, ℕ, ◌+◌, ◌<◌, ◌≤◌, ◌%◌, ◌++◌, [], List, length, zip, fold, slice_set};
-ghost use Rattle.c62_pipe.specs.Flight.{Slot as Writes, due, landed, with_due, with_writes, FitsSlots};
+ghost use Rattle.std.specs.Prelude.{◌≡◌, ℕ, ◌+◌, ◌<◌, ◌≤◌, ◌%◌, ◌++◌, [], List, length, fold, slice_set};
+ghost use Rattle.c62_pipe.specs.Flight.{Slot as Writes, due, landed, with_due};
 
 use crate::slot::Slot;
 use c62_insn::Reg;
@@ -45,22 +45,13 @@ impl Ring {
         }
     }
 
-    /// Adds a write that lands in this cycle.
-    fn add(&mut self, cycle: usize, reg: Reg, value: u32)
-        requires { length (due self.old cycle) < 40 }
-        ensures { self.new ≡ with_due cycle reg value self.old }
+    /// Adds a write of an instruction that is issued in this cycle: it lands after so many cycles more.
+    pub fn schedule(&mut self, cycle: u16, delay: u8, reg: Reg, word: u32)
+        requires { length (due self.old (cycle + delay)) < 40 }
+        ensures { self.new ≡ with_due (cycle + delay) reg word self.old }
     {
-        self.slots[cycle % CYCLES].push(reg, value);
-    }
-
-    /// Adds the writes of an instruction that is issued in this cycle: each lands after its delay.
-    pub fn schedule(&mut self, cycle: u16, writes: &[(Reg, u8)], values: &[u32])
-        requires { FitsSlots (with_writes cycle (zip writes.now values.now) self.old) }
-        ensures { self.new ≡ with_writes cycle (zip writes.now values.now) self.old }
-    {
-        for ((reg, delay), value) in writes.iter().zip(values) {
-            self.add(usize::from(cycle) + usize::from(*delay), *reg, *value);
-        }
+        let landing = usize::from(cycle) + usize::from(delay);
+        self.slots[landing % CYCLES].push(reg, word);
     }
 
     /// Puts what is due in this cycle into its registers, and empties the slot.

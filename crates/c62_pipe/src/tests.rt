@@ -26,7 +26,7 @@ const A6: Reg = Reg { side: A, number: 6 };
 /// Each row has packets as a listing writes them, with `/` between its lines and `//` between blocks,
 /// what is set before the run, and what the run leaves: the blocks run, the end and the cycles, then
 /// each register, word of memory and line that is not 0, all in hexadecimal digits.
-const DELAYS: [&str; 7] = [
+const DELAYS: [&str; 12] = [
     "LDW .D1T1 *A4,A5/ADD .L1 A5,A5,A6/NOP 3 | A4=8 A5=1 @8=7 | 1 end 5 A4=8 A5=7 A6=2 @8=7",
     "MPY .M1 A1,A2,A3/ADD .L1 A3,A3,A6/ADD .D1 A3,A3,A7 | A1=2 A2=3 A3=1 | 1 end 3 A1=2 A2=3 A3=6 A6=2 A7=c",
     "LDW .D1T1 *A4,A5/NOP 2/MPY .M1 A1,A2,A3/ADD .L1 A1,A2,A6 | A1=2 A2=3 A4=8 @8=7 | 1 end 5 A1=2 A2=3 A3=6 A4=8 A5=7 A6=5 @8=7",
@@ -34,23 +34,38 @@ const DELAYS: [&str; 7] = [
     "ADD .L1 A4,A4,A6/|| LDW .D1T1 *A4++,A5/ADD .L1 A4,A4,A7/NOP 3 | A4=8 @8=7 | 1 end 5 A4=c A5=7 A6=10 A7=18 @8=7",
     "[A1] ADD .L1 A2,A2,A3/|| MVK .S1 1,A1/[A1] ADD .L1 A2,A2,A4 | A2=3 | 1 end 2 A1=1 A2=3 A4=6",
     "B .S2 B3/LDH .D1T1 *A4,A5/MVK .S1 1,A6/NOP 3 | A4=1 B3=100 | 1 register=100 6 A4=1 A6=1 B3=100 fault=2",
+    "MPY .M1 A1,A2,A3/ADD .L1 A1,A1,A4 | A1=2 A2=3 | 1 end 2 A1=2 A2=3 A3=6 A4=4",
+    "MVK .S1 1,A1/|| B .S2 B3/ADD .L1 A1,A1,A2/|| MVK .S2 7,B3/MV .S2 B3,B4/NOP 3 | B3=100 | 1 register=100 6 A1=1 A2=2 B3=7 B4=7",
+    "LDW .D1T1 *A4,A1/NOP 3/[A1] MVK .S1 1,A2/[A1] MVK .S1 1,A3 | A4=8 @8=7 | 1 end 6 A1=7 A3=1 A4=8 @8=7",
+    "LDW .D1T1 *A4,A5/|| LDW .D2T2 *B4,B5/NOP 2/MPY .M1 A1,A1,A6/|| MPY .M2 B1,B1,B6/ADD .L1 A1,A1,A7/|| MVK .S1 9,A8/|| ADD .D1 A1,A1,A9/|| ADD .L2 B1,B1,B7/|| MVK .S2 9,B8/|| ADD .D2 B1,B1,B9 | A1=2 B1=3 A4=8 B4=c @8=7 @c=5 | 1 end 5 A1=2 A4=8 A5=7 A6=4 A7=4 A8=9 A9=4 B1=3 B4=c B5=5 B6=9 B7=6 B8=9 B9=6 @8=7 @c=5",
+    "LDW .D1T1 *A4++,A5/LDW .D1T1 *A4++,A5/LDW .D1T1 *A4++,A5/LDW .D1T1 *A4++,A5/LDW .D1T1 *A4++,A5/MV .L1 A5,A6/|| LDW .D1T1 *A4++,A5/MV .L1 A5,A7/MV .L1 A5,A8/MV .L1 A5,A9/MV .L1 A5,A10/MV .L1 A5,A11 | A4=8 @8=1 @c=2 @10=3 @14=4 @18=5 @1c=6 | 1 end b A4=20 A5=6 A6=1 A7=2 A8=3 A9=4 A10=5 A11=6 @8=1 @c=2 @10=3 @14=4 @18=5 @1c=6",
 ];
 
-const MEMORY: [&str; 6] = [
+const MEMORY: [&str; 13] = [
     "STW .D1T1 A1,*A4/|| LDW .D2T2 *B4,B5/NOP 4 | A1=9 A4=8 B4=8 | 1 end 5 A1=9 A4=8 B4=8 @8=9",
     "STW .D1T1 A1,*A4/LDW .D2T2 *B4,B5/NOP 4 | A1=9 A4=8 B4=8 | 1 end 6 A1=9 A4=8 B4=8 B5=9 @8=9",
     "STW .D1T1 A1,*A4/|| STW .D2T2 B1,*B4 | A1=1 B1=2 A4=8 B4=8 | 1 end 1 A1=1 A4=8 B1=2 B4=8 @8=2",
     "LDH .D1T1 *A4,A5/NOP 4 | A4=1 | 1 end 5 A4=1 fault=1",
     "[!A1] LDW .D1T1 *A4++,A4/NOP 4 | A4=8 @8=63 | 1 end 5 A4=63 @8=63",
     "[!A1] LDW .D1T1 *A4++,A4/NOP 4 | A1=1 A4=8 @8=63 | 1 end 5 A1=1 A4=8 @8=63",
+    "STH .D1T1 A1,*A4/|| STW .D2T2 B1,*B4 | A1=1 B1=50002 A4=8 B4=8 | 1 end 1 A1=1 A4=8 B1=50002 B4=8 @8=50002",
+    "STW .D1T1 A1,*A4/|| STB .D2T2 B1,*B4 | A1=10001 B1=2 A4=8 B4=9 | 1 end 1 A1=10001 A4=8 B1=2 B4=9 @8=10201",
+    "LDH .D1T1 *A4++,A5/|| LDW .D2T2 *B4,B5/NOP 4 | A4=1 A5=9 B4=10000 | 1 end 5 A4=3 B4=10000 fault=1 fault=2",
+    "STW .D1T1 A1,*A4++/|| STB .D2T2 B1,*B4 | A1=5 A4=2 B1=6 B4=10000 | 1 end 1 A1=5 A4=6 B1=6 B4=10000 fault=1 fault=2",
+    "[A1] LDH .D1T1 *A4++,A5/[A1] STW .D1T1 A4,*A4++/NOP 3 | A4=1 | 1 end 5 A4=1",
+    "LDB .D1T1 *A4,A5/|| LDHU .D2T2 *B4,B5/NOP 4 | A4=8 B4=8 @8=fff0 | 1 end 5 A4=8 A5=fffffff0 B4=8 B5=fff0 @8=fff0",
+    "STW .D1T1 A4,*A4++/|| LDW .D2T2 *B4++,B5/STW .D1T1 A4,*A4++/|| LDW .D2T2 *B4++,B6/NOP 4 | A4=8 B4=8 | 1 end 6 A4=10 B4=10 @8=8 @c=c",
 ];
 
-const CHAINS: [&str; 6] = [
+const CHAINS: [&str; 9] = [
+    " |  | 0 end 0",
     "L1:/SUB .L1 A1,1,A1/[A1] B .S2 L1/NOP 5 | A1=3 | 3 end 15",
     "L1:/SUB .L1 A1,1,A1/[A1] B .S2 L1/NOP 5 | A1=3 limit=2 | 2 limit e A1=1",
     "B .S2 B3/NOP 5 | B3=100 | 1 register=100 6 B3=100",
     "MVK .S1 1,A1//MPY .M1 A1,A1,A2/NOP 1 |  | 2 end 3 A1=1 A2=1",
     "MVK .S1 1,A1//MVK .S1 2,A2 | limit=1 | 1 limit 1 A1=1",
+    "MVK .S1 1,A1//MVK .S1 2,A2 | limit=2 | 2 end 2 A1=1 A2=2",
+    "L1:/LDH .D1T1 *A4,A5/NOP 4//B .S2 L1/[!A1] MVK .S1 1,A1/NOP 4 | A4=1 limit=3 | 3 limit 10 A1=1 A4=1 fault=2",
     "MVK .S1 1,A1 | limit=0 | 0 limit 0",
 ];
 
@@ -150,6 +165,9 @@ fn block(alloc: Global, text: &str) -> Option<PacketBlock> {
 /// The blocks of a listing.
 fn packets(rt: &impl Abort, alloc: Global, text: &str) -> Result<Packets, Fail> {
     let mut packets = Packets::new(alloc);
+    if text.is_empty() {
+        return Ok(packets);
+    }
     for part in text.split("//") {
         let block = block(alloc, part).ok_or("a block")?;
         assert!(rt; packets.len() < 64);
