@@ -1,13 +1,12 @@
 -- Blocks as they are read, and packet blocks.
-use Rattle.std.proofs.Common.{arith, ◌≡◌, ℕ, ◌+◌, ◌*◌, ◌<◌, ◌≤◌, List, [], ◌∷◌, length, get_or, map, Option, Some, None, refl, sym, ap, ◌∙◌, subst}
-use Rattle.std.specs.Prelude.{All}
+use Rattle.std.proofs.Common.{arith, ◌≡◌, ℕ, ◌+◌, ◌*◌, ◌<◌, ◌≤◌, List, length, get_or, map, Some, ap, ◌∙◌}
 use Rattle.std.specs.List.Sorted.{IsNonDecreasingBy}
 use Rattle.std.proofs.lemmas.List.{length-map}
 use Rattle.std.proofs.lemmas.List.{get_or-map}
 use Rattle.c62_insn.specs.Insn.{unit_of}
 use Rattle.c62_packet.specs.declared.placed.Placed.{Placed}
 use Rattle.c62_packet.specs.Packed.{listing_place, IsInListingOrder, StandAsWritten}
-use Rattle.c62_listing_reader.specs.Said.{Part, part_of}
+use Rattle.c62_listing_reader.specs.Said.{part_of}
 use Rattle.c62_listing_reader.specs.Fine.{unit_place, part_place}
 
 same_place : (p : Placed) → unit_of p.insn ≡ Some p.unit → part_place (part_of p) ≡ listing_place p

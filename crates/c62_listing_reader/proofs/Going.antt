@@ -1,11 +1,9 @@
 -- What holds of the blocks that lines without faults say.
-use Rattle.std.proofs.Common.{arith, ◌≡◌, ℕ, zero, suc, ◌+◌, ◌-◌, ◌*◌, ◌<◌, ◌≤◌, List, [], ◌∷◌, ◌++◌, length, get_or, Option, Some, None, Bool, true, false, not, refl, sym, ap, ◌∙◌, subst, length-append, append-nil}
-use Rattle.std.specs.Prelude.{◌&&◌, nat_le, nat_lt, if◌then◌else◌, is_some, is_none, All, Result, Ok, Err}
-use Rattle.std.specs.List.{list_all}
-use Rattle.std.specs.List.Sorted.{IsNonDecreasingBy}
+use Rattle.std.proofs.Common.{arith, ◌≡◌, ℕ, ◌+◌, ◌-◌, ◌*◌, ◌<◌, ◌≤◌, List, [], ◌∷◌, ◌++◌, length, get_or, Option, Some, None, Bool, true, false, not, refl, sym, ap, ◌∙◌, subst, length-append, append-nil}
+use Rattle.std.specs.Prelude.{◌&&◌, nat_le, is_some, is_none, All, Ok}
 use Rattle.std.specs.Option.{option_to_list}
 use Rattle.std.proofs.Math.Seq.{get_or-append_seam}
-use Rattle.std.proofs.lemmas.Bool.{and_parts, false≢true, false_from_ne_true}
+use Rattle.std.proofs.lemmas.Bool.{false≢true}
 use Rattle.std.proofs.lemmas.Bool.Decides.{nat_tests}
 use Rattle.std.proofs.lemmas.Option.{same_Some, none-some}
 use Rattle.std.proofs.lemmas.List.Elements.{All-nil, All-cons, All-append, All-weaker}
@@ -15,23 +13,21 @@ use Rattle.c62_insn.specs.declared.register.Letter.TheVariants.{L, S, M, D}
 use Rattle.c62_insn.specs.declared.register.Side.{Side}
 use Rattle.c62_insn.specs.declared.register.Side.TheVariants.{A, B}
 use Rattle.c62_insn.specs.declared.register.Unit.{Unit as FunctionalUnit}
-use Rattle.c62_insn.specs.Units.{place_of, index_of}
-use Rattle.c62_read.specs.declared.fault.Cause.{Cause}
-use Rattle.c62_read.specs.Text.{is_allowed}
+use Rattle.c62_insn.specs.Units.{place_of}
 use Rattle.c62_read.specs.Line.{Says, Nothing, Pause, Does, Jumps, Parts}
 use Rattle.c62_read.specs.Program.{Name}
-use Rattle.c62_read.specs.Walk.{is_instruction, is_unknown}
-use Rattle.c62_listing_reader.specs.declared.fault.LineFault.{LineFault}
+use Rattle.c62_read.specs.Walk.{is_instruction}
 use Rattle.c62_listing_reader.specs.declared.line.Front.{Front}
 use Rattle.c62_listing_reader.specs.declared.line.Front.TheVariants.{Empty, First, Beside, Label, Stray}
 use Rattle.c62_listing_reader.specs.declared.line.Above.{Above}
 use Rattle.c62_listing_reader.specs.declared.line.Above.TheVariants.{Start, Heading, Pause as PauseAbove, Issue}
-use Rattle.c62_listing_reader.specs.Text.{Line, content, is_ended}
-use Rattle.c62_listing_reader.specs.Begin.{front_of, rest_of, is_gap, is_beside}
+use Rattle.c62_listing_reader.specs.Text.{Line, content}
+use Rattle.c62_listing_reader.specs.Begin.{is_gap, is_beside}
 use Rattle.c62_listing_reader.specs.Said.{Said, Part, Draft, Drafts, all_drafts, opened, with_part, with_pause, with_label, with_says, with_said, above_of, above_next, jump_to, issue_line, spelled_line, is_text}
-use Rattle.c62_listing_reader.specs.Faults.{is_issue, unit_said, unit_above, precedes, goes_on, is_misplaced, hindrance, cycles_added, is_alone, is_unfit, is_odd, unless_odd, unless_hindered, with_rest, rest_says, line_says}
+use Rattle.c62_listing_reader.specs.Faults.{is_issue, unit_said, unit_above, precedes, is_misplaced, cycles_added, line_says}
 use Rattle.c62_listing_reader.specs.Fine.{unit_place, part_place, IsFine}
 use Rattle.c62_listing_reader.specs.Reading.{HasUnit}
+use Rattle.c62_listing_reader.proofs.ToldLemmas.{not_false, told}
 
 -- the last instruction is the one that the line above says, and stands in the last cycle written
 pub record EndsWith (unit : Option FunctionalUnit) (draft : Draft) : Type 0 where
@@ -162,30 +158,6 @@ pub record IsJudged (drafts : Drafts) (above : Above) (said : Said) : Type 0 whe
   pub outside : (is_some said.label && is_some drafts.current) ≡ false
   pub short : (opened drafts.current).cycles + cycles_added (is_beside said.front) said.says ≤ 2048
 
-if_err : {T E : Type 0} (b : Bool) (e : E) (y : Result T E) (s : T) → (if b then Err e else y) ≡ Ok s → (b ≡ false) × (y ≡ Ok s)
-if_err true e y s h = absurd cc
-if_err false e y s h = (refl, h)
-
-else_err : {T E : Type 0} (b : Bool) (e : E) (y : Result T E) (s : T) → (if b then y else Err e) ≡ Ok s → (b ≡ true) × (y ≡ Ok s)
-else_err true e y s h = (refl, h)
-else_err false e y s h = absurd cc
-
-if_some : {T : Type 0} (b : Bool) (x : T) (y : Option T) → (if b then Some x else y) ≡ None → (b ≡ false) × (y ≡ None)
-if_some true x y h = absurd cc
-if_some false x y h = (refl, h)
-
-if_true : (b y : Bool) → (if b then true else y) ≡ false → (b ≡ false) × (y ≡ false)
-if_true true y h = absurd cc
-if_true false y h = (refl, h)
-
-hindered : (o : Option Cause) (r : Result Said LineFault) (s : Said) → unless_hindered o r ≡ Ok s → (o ≡ None) × (r ≡ Ok s)
-hindered (Some cause) r s h = absurd cc
-hindered None r s h = (refl, h)
-
-unodd : (b : Bool) (x s : Said) → unless_odd b x ≡ Ok s → (b ≡ false) × (x ≡ s)
-unodd true x s h = absurd cc
-unodd false x s h = (refl, cc)
-
 issue_unit : (bytes : List ℕ) (front : Front) (target : Name) (parts : Parts) (unit : Option FunctionalUnit)
     → is_text bytes (issue_line front target parts unit) ≡ true → is_some unit ≡ true
 issue_unit bytes front target parts None h = absurd (false≢true h)
@@ -201,44 +173,19 @@ has_unit bytes front None (Pause n) h = tt
 has_unit bytes front None (Does parts) h = issue_unit bytes front [] parts parts.unit h
 has_unit bytes front None (Jumps parts target) h = issue_unit bytes front target parts parts.unit h
 
-not_false : (b : Bool) → not b ≡ false → b ≡ true
-not_false true h = refl
-not_false false h = absurd (false≢true (sym h))
-
-rest_judged : (labels : List Name) (drafts : Drafts) (above : Above) (line : Line) (below : List Line) (front : Front) (read : Result (Option Name × Says) Cause) (said : Said)
-    → is_misplaced front above ≡ false → with_rest labels drafts above line below front read ≡ Ok said → IsJudged drafts above said
-rest_judged labels drafts above line below front (Err cause) said placed h = absurd cc
-rest_judged labels drafts above line below front (Ok (label, says)) said placed h =
-    let one = hindered (hindrance labels drafts front says) (unless_odd (is_odd drafts above line below front label says) (record { front = front; label = label; says = says })) said h in
-    let known = if_some (is_unknown labels says) _ _ one.0 in
-    let few = if_some (is_instruction says && nat_le 256 (length (opened drafts.current).placed)) _ _ known.1 in
-    let begins = if_some (not (is_gap front) && is_none drafts.current && nat_le 64 (length drafts.done)) _ _ few.1 in
-    let two = unodd (is_odd drafts above line below front label says) (record { front = front; label = label; says = says }) said one.1 in
-    let spelled = if_true (not (is_text (content line) (spelled_line front label says))) (is_unfit drafts above line below front label says) two.0 in
-    let ended = if_true (not (is_ended line)) _ spelled.1 in
-    let falls = if_true (is_beside front && precedes (unit_said says) (unit_above above)) _ ended.1 in
-    let goes = if_true (goes_on says above) _ falls.1 in
-    let alone = if_true (is_alone front above below) _ goes.1 in
-    let inside = if_true (is_some label && is_some drafts.current) _ alone.1 in
-    let long : nat_lt 2048 ((opened drafts.current).cycles + cycles_added (is_beside front) says) ≡ false = inside.1 in
-    subst (IsJudged drafts above) two.1 (record {
-      placed = placed;
-      few = few.0;
-      begins = begins.0;
-      unit = has_unit (content line) front label says (not_false (is_text (content line) (spelled_line front label says)) spelled.0);
-      order = falls.0;
-      outside = inside.0;
-      short = grind (arith, nat_tests);
-    })
-
 pub judged_fits : (labels : List Name) (drafts : Drafts) (above : Above) (line : Line) (below : List Line) (said : Said)
     → line_says labels drafts above line below ≡ Ok said → IsJudged drafts above said
-unfolding line_says
 judged_fits labels drafts above line below said h =
-    let allowed = else_err (list_all is_allowed (content line)) _ _ said h in
-    let short = if_err (nat_lt 255 (length (content line))) _ _ said allowed.1 in
-    let placed = if_err (is_misplaced (front_of (content line)) above) _ _ said short.1 in
-    rest_judged labels drafts above line below (front_of (content line)) (rest_says drafts (rest_of (front_of (content line)) (content line))) said placed.0 placed.1
+    let is = told labels drafts above line below said h in
+    record {
+      placed = is.placed;
+      few = is.few;
+      begins = is.begins;
+      unit = has_unit (content line) said.front said.label said.says is.spelled;
+      order = is.order;
+      outside = is.outside;
+      short = is.short;
+    }
 
 -- ---- the blocks, line by line
 

@@ -1,5 +1,5 @@
 -- Reading line by line, and what it says of a text.
-use Rattle.std.proofs.Common.{arith, ◌≡◌, ℕ, ◌+◌, ◌<◌, ◌≤◌, List, [], ◌∷◌, length, Bool, false, refl, sym, ap, ◌∙◌, subst}
+use Rattle.std.proofs.Common.{arith, ◌≡◌, ℕ, ◌+◌, ◌≤◌, List, [], ◌∷◌, length, false, sym, ap, ◌∙◌, subst}
 use Rattle.std.specs.Prelude.{nat_lt, Result, Ok, Err, MatchResult, All, map}
 use Rattle.std.proofs.lemmas.Bool.Decides.{nat_tests}
 use Rattle.c62_read.specs.Program.{Name}

@@ -1,6 +1,6 @@
 -- The faults of a listing: of its lines, each with its neighbours, and of its blocks (docs/LISTING.md, "Faults of a line" and
 -- "Faults of a block").
-use Rattle.std.specs.Prelude.{◌≡◌, ℕ, ◌+◌, Bool, true, false, not, ◌&&◌, ◌||◌, nat_le, nat_lt, if◌then◌else◌, List, [], ◌∷◌, length, map, take, Option, Some, None, is_some, is_none, Result, Ok, Err, All}
+use Rattle.std.specs.Prelude.{◌≡◌, ℕ, ◌+◌, Bool, true, false, not, ◌&&◌, nat_le, nat_lt, if◌then◌else◌, List, [], ◌∷◌, length, map, take, Option, Some, None, is_some, is_none, Result, Ok, Err, All}
 use Rattle.std.specs.List.{list_all, list_any, slice_get}
 use Rattle.c62_insn.specs.declared.register.Unit.{Unit as FunctionalUnit}
 use Rattle.c62_insn.specs.Units.{index_of}
@@ -17,7 +17,7 @@ use Rattle.c62_packet.specs.Fault.{IsFault}
 use Rattle.c62_listing_reader.specs.declared.line.Front.{Front}
 use Rattle.c62_listing_reader.specs.declared.line.Front.TheVariants.{Beside, Stray}
 use Rattle.c62_listing_reader.specs.declared.line.Above.{Above}
-use Rattle.c62_listing_reader.specs.declared.line.Above.TheVariants.{Start, Heading, Pause as PauseAbove, Issue}
+use Rattle.c62_listing_reader.specs.declared.line.Above.TheVariants.{Start, Pause as PauseAbove, Issue}
 use Rattle.c62_listing_reader.specs.declared.fault.LineFault.{LineFault}
 use Rattle.c62_listing_reader.specs.declared.fault.LineFault.TheVariants.{Read, Shape}
 use Rattle.c62_listing_reader.specs.Text.{Line, lines_in, content, is_ended, begin_filled}

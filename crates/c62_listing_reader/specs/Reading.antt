@@ -1,5 +1,5 @@
 -- What the reader holds, as the definitions see it.
-use Rattle.std.specs.Prelude.{◌≡◌, ◌⊎◌, ℕ, ◌+◌, ◌≤◌, IsTrue, is_some, List, map, Option, Some, None, option_map, Result, Ok, Err}
+use Rattle.std.specs.Prelude.{◌≡◌, ◌⊎◌, ℕ, ◌+◌, ◌≤◌, IsTrue, is_some, List, map, Option, option_map, Result, Ok, Err}
 use Rattle.c62_read.specs.declared.fault.Cause.{Cause}
 use Rattle.c62_read.specs.declared.reading.Reading.{Reading}
 use Rattle.c62_read.specs.Line.{Says, Does, Jumps, said_of}

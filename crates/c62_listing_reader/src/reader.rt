@@ -1,10 +1,11 @@
 //! Reads listings.
 
-ghost use Rattle.std.specs.Prelude.{◌≡◌, ◌⊎◌, ◌+◌, ◌<◌, ◌≤◌, ◌++◌, ◌∷◌, [], All, List, length, map, OnOk, IfOk, MatchResult, Result, Ok, Err};
+ghost use Rattle.std.specs.Prelude.{◌≡◌, ◌⊎◌, ◌+◌, ◌<◌, ◌≤◌, ◌++◌, ◌∷◌, [], All, List, length, map, OnOk, IfOk, MatchResult, Result, Ok, Err, IsTrue};
 ghost use Rattle.c62_insn.specs.Insn.{op_of, operands_of, cond_of, unit_of};
 ghost use Rattle.c62_read.specs.Line.{parts_of, said_of};
 ghost use Rattle.c62_read.specs.Program.{aimed_operands};
 ghost use Rattle.c62_packet.specs.Packed.{IsPacketBlock};
+ghost use Rattle.c62_packet.specs.Packets.{is_closed};
 ghost use Rattle.c62_listing_reader.specs.declared.fault.LineFault.TheVariants.{Memory as OutOfMemory};
 ghost use Rattle.c62_listing_reader.specs.declared.fault.ListFault.TheVariants.{Memory as NoMemory};
 ghost use Rattle.c62_listing_reader.specs.declared.line.Above.TheVariants.{Start};
@@ -232,7 +233,7 @@ fn packets_of(alloc: Global, blocks: Vec<OpenBlock>) -> Result<Packets, ListFaul
     Ok(packets)
 }
 
-/// The packets that a text lists.
+/// The packets that a text lists. Each branch to a block goes to one that is there and has a label.
 ///
 /// # Errors
 ///
@@ -240,7 +241,8 @@ fn packets_of(alloc: Global, blocks: Vec<OpenBlock>) -> Result<Packets, ListFaul
 /// Else, for the first faulty block, `TwoBranches`, `NotDrained` or `Unlawful`. `Memory` where memory ran out
 /// (`docs/LISTING.md`, "Faults of a line" and "Faults of a block").
 pub fn read_listing(alloc: Global, text: &[u8]) -> Result<Packets, ListFault>
-    ensures { MatchResult result (λ packets. IsRead text.now packets) (λ fault. Refuses text.now fault) }
+    ensures read { MatchResult result (λ packets. IsRead text.now packets) (λ fault. Refuses text.now fault) }
+    ensures closed { IfOk result (λ packets. IsTrue (is_closed packets)) }
 {
     if text.len() > MOST_BYTES {
         return Err(ListFault::Read(ReadFault {

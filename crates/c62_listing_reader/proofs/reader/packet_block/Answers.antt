@@ -1,4 +1,4 @@
-use Rattle.std.proofs.Common.{◌≡◌, ◌≤◌, length, map, refl, arith, ◌∙◌, ap, sym}
+use Rattle.std.proofs.Common.{arith}
 use Rattle.std.proofs.lemmas.List.{length-map}
 use Rattle.c62_listing_reader.specs.Said.{part_of}
 use Rattle.c62_listing_reader.proofs.BlockLemmas.{in_order}

@@ -1,4 +1,4 @@
-use Rattle.std.proofs.Common.{◌≡◌, ◌+◌, List, Ok, Err, sym, ap, subst, arith, ◌∙◌, inl, inr}
+use Rattle.std.proofs.Common.{◌+◌, sym, ap, subst, arith, ◌∙◌, inl, inr}
 use Rattle.c62_listing_reader.specs.declared.line.Above.{Above}
 use Rattle.c62_listing_reader.specs.declared.line.Above.TheVariants.{Start}
 use Rattle.c62_listing_reader.specs.Text.{lines_in}

@@ -1,7 +1,6 @@
-use Rattle.std.proofs.Common.{◌≡◌, ◌<◌, ℕ, ◌+◌, List, ◌∷◌, length, take, drop, sym, ap, ◌∙◌, rules}
-use Rattle.std.specs.Prelude.{true}
+use Rattle.std.proofs.Common.{◌<◌, ℕ, ◌+◌, List, ◌∷◌, length, take, sym, ap, ◌∙◌, rules}
 use Rattle.std.proofs.lemmas.List.{take_rest}
-use Rattle.c62_listing_reader.specs.Text.{Line, lines_in}
+use Rattle.c62_listing_reader.specs.Text.{lines_in}
 use Rattle.c62_listing_reader.proofs.TextLemmas.{first_is, only_is, fed}
 use Rattle.c62_listing_reader.proofs.text.first_line.Goals as goal
 

@@ -1,0 +1,270 @@
+-- What a line without faults fulfils.
+use Rattle.std.proofs.Common.{arith, ◌≡◌, ℕ, ◌+◌, ◌≤◌, List, [], ◌∷◌, length, Option, Some, None, Bool, true, false, not, refl, sym, ap, ◌∙◌, subst}
+use Rattle.std.specs.Prelude.{◌&&◌, nat_le, nat_lt, nat_eq, if◌then◌else◌, is_some, is_none, codes, Result, Ok, Err}
+use Rattle.std.specs.List.{list_all, starts_with}
+use Rattle.std.proofs.lemmas.Bool.{and_parts, and_right, eqb-true, false≢true}
+use Rattle.std.proofs.lemmas.Bool.Decides.{nat_tests}
+use Rattle.std.proofs.lemmas.Option.{none-some}
+use Rattle.c62_read.specs.declared.fault.Cause.{Cause}
+use Rattle.c62_read.specs.declared.fault.Cause.TheVariants.{BadLabel, ParallelBar}
+use Rattle.c62_read.specs.Text.{is_allowed, tokens}
+use Rattle.c62_read.specs.Number.{is_label, spells}
+use Rattle.c62_read.specs.Line.{Says, head_of, label_front, line_of, rest_says as words_say, with_head, with_rest as label_with}
+use Rattle.c62_read.specs.Program.{Name, place_of}
+use Rattle.c62_read.specs.Walk.{is_instruction, is_unknown}
+use Rattle.c62_read.proofs.PlaceLemmas.{place_is}
+use Rattle.c62_read.proofs.SaysLemmas.{IsProper, proper}
+use Rattle.c62_listing_reader.specs.declared.fault.LineFault.{LineFault}
+use Rattle.c62_listing_reader.specs.declared.line.Front.{Front}
+use Rattle.c62_listing_reader.specs.declared.line.Front.TheVariants.{Empty, First, Beside, Label, Stray}
+use Rattle.c62_listing_reader.specs.declared.line.Above.{Above}
+use Rattle.c62_listing_reader.specs.Text.{Line, content, is_empty, is_ended}
+use Rattle.c62_listing_reader.specs.Begin.{front_of, has_colon, is_beside, is_gap, is_label_line, rest_of}
+use Rattle.c62_listing_reader.specs.Said.{Said, Drafts, opened, with_said, above_next, spelled_line, is_text}
+use Rattle.c62_listing_reader.specs.Faults.{is_taken, unit_said, unit_above, precedes, goes_on, is_misplaced, after_label, hindrance, cycles_added, is_alone, is_unfit, is_odd, unless_odd, unless_hindered, with_rest, rest_says, line_says, and_then, read_lines}
+
+-- all that is asked of a line
+pub record IsTold (labels : List Name) (drafts : Drafts) (above : Above) (line : Line) (below : List Line) (said : Said) : Type 0 where
+  pub front : said.front ≡ front_of (content line)
+  pub allowed : list_all is_allowed (content line) ≡ true
+  pub fits : length (content line) ≤ 255
+  pub placed : is_misplaced said.front above ≡ false
+  pub read : rest_says drafts (rest_of said.front (content line)) ≡ Ok (said.label, said.says)
+  pub known : is_unknown labels said.says ≡ false
+  pub few : (is_instruction said.says && nat_le 256 (length (opened drafts.current).placed)) ≡ false
+  pub begins : (not (is_gap said.front) && is_none drafts.current && nat_le 64 (length drafts.done)) ≡ false
+  pub spelled : is_text (content line) (spelled_line said.front said.label said.says) ≡ true
+  pub ended : is_ended line ≡ true
+  pub order : (is_beside said.front && precedes (unit_said said.says) (unit_above above)) ≡ false
+  pub pauses : goes_on said.says above ≡ false
+  pub between : is_alone said.front above below ≡ false
+  pub outside : (is_some said.label && is_some drafts.current) ≡ false
+  pub short : (opened drafts.current).cycles + cycles_added (is_beside said.front) said.says ≤ 2048
+
+pub if_err : {T E : Type 0} (b : Bool) (e : E) (y : Result T E) (s : T) → (if b then Err e else y) ≡ Ok s → (b ≡ false) × (y ≡ Ok s)
+if_err true e y s h = absurd cc
+if_err false e y s h = (refl, h)
+
+else_err : {T E : Type 0} (b : Bool) (e : E) (y : Result T E) (s : T) → (if b then y else Err e) ≡ Ok s → (b ≡ true) × (y ≡ Ok s)
+else_err true e y s h = (refl, h)
+else_err false e y s h = absurd cc
+
+if_some : {T : Type 0} (b : Bool) (x : T) (y : Option T) → (if b then Some x else y) ≡ None → (b ≡ false) × (y ≡ None)
+if_some true x y h = absurd cc
+if_some false x y h = (refl, h)
+
+if_true : (b y : Bool) → (if b then true else y) ≡ false → (b ≡ false) × (y ≡ false)
+if_true true y h = absurd cc
+if_true false y h = (refl, h)
+
+hindered : (o : Option Cause) (r : Result Said LineFault) (s : Said) → unless_hindered o r ≡ Ok s → (o ≡ None) × (r ≡ Ok s)
+hindered (Some cause) r s h = absurd cc
+hindered None r s h = (refl, h)
+
+unodd : (b : Bool) (x s : Said) → unless_odd b x ≡ Ok s → (b ≡ false) × (x ≡ s)
+unodd true x s h = absurd cc
+unodd false x s h = (refl, cc)
+
+pub not_false : (b : Bool) → not b ≡ false → b ≡ true
+not_false true h = refl
+not_false false h = absurd (false≢true (sym h))
+
+rest_told : (labels : List Name) (drafts : Drafts) (above : Above) (line : Line) (below : List Line) (front : Front) (read : Result (Option Name × Says) Cause) (said : Said)
+    → front ≡ front_of (content line) → list_all is_allowed (content line) ≡ true → nat_lt 255 (length (content line)) ≡ false → is_misplaced front above ≡ false
+    → rest_says drafts (rest_of front (content line)) ≡ read → with_rest labels drafts above line below front read ≡ Ok said
+    → IsTold labels drafts above line below said
+rest_told labels drafts above line below front (Err cause) said is allowed fits placed from h = absurd cc
+rest_told labels drafts above line below front (Ok (label, says)) said is allowed fits placed from h =
+    let one = hindered (hindrance labels drafts front says) (unless_odd (is_odd drafts above line below front label says) (record { front = front; label = label; says = says })) said h in
+    let known = if_some (is_unknown labels says) _ _ one.0 in
+    let few = if_some (is_instruction says && nat_le 256 (length (opened drafts.current).placed)) _ _ known.1 in
+    let begins = if_some (not (is_gap front) && is_none drafts.current && nat_le 64 (length drafts.done)) _ _ few.1 in
+    let two = unodd (is_odd drafts above line below front label says) (record { front = front; label = label; says = says }) said one.1 in
+    let spelled = if_true (not (is_text (content line) (spelled_line front label says))) (is_unfit drafts above line below front label says) two.0 in
+    let ended = if_true (not (is_ended line)) _ spelled.1 in
+    let falls = if_true (is_beside front && precedes (unit_said says) (unit_above above)) _ ended.1 in
+    let goes = if_true (goes_on says above) _ falls.1 in
+    let alone = if_true (is_alone front above below) _ goes.1 in
+    let inside = if_true (is_some label && is_some drafts.current) _ alone.1 in
+    let long : nat_lt 2048 ((opened drafts.current).cycles + cycles_added (is_beside front) says) ≡ false = inside.1 in
+    subst (IsTold labels drafts above line below) two.1 (record {
+      front = is;
+      allowed = allowed;
+      fits = grind (arith, nat_tests);
+      placed = placed;
+      read = from;
+      known = known.0;
+      few = few.0;
+      begins = begins.0;
+      spelled = not_false (is_text (content line) (spelled_line front label says)) spelled.0;
+      ended = not_false (is_ended line) ended.0;
+      order = falls.0;
+      pauses = goes.0;
+      between = alone.0;
+      outside = inside.0;
+      short = grind (arith, nat_tests);
+    })
+
+pub told : (labels : List Name) (drafts : Drafts) (above : Above) (line : Line) (below : List Line) (said : Said)
+    → line_says labels drafts above line below ≡ Ok said → IsTold labels drafts above line below said
+unfolding line_says
+told labels drafts above line below said h =
+    let allowed = else_err (list_all is_allowed (content line)) _ _ said h in
+    let short = if_err (nat_lt 255 (length (content line))) _ _ said allowed.1 in
+    let placed = if_err (is_misplaced (front_of (content line)) above) _ _ said short.1 in
+    rest_told labels drafts above line below (front_of (content line)) (rest_says drafts (rest_of (front_of (content line)) (content line))) said refl allowed.0 short.0 placed.0 refl placed.1
+
+-- ---- how it begins
+
+filled_front : (first beside label : Bool) → is_gap (if first then First else (if beside then Beside else (if label then Label else Stray))) ≡ false
+filled_front true beside label = refl
+filled_front false true label = refl
+filled_front false false true = refl
+filled_front false false false = refl
+
+-- an empty line is a gap, and no other
+pub gap_front : (bytes : List ℕ) → is_gap (front_of bytes) ≡ is_empty bytes
+gap_front [] = refl
+gap_front (b ∷ bytes) = filled_front (starts_with nat_eq (b ∷ bytes) (codes "   ")) (starts_with nat_eq (b ∷ bytes) (codes "|| ")) (is_label_line (b ∷ bytes))
+
+-- ---- what is read of it
+
+-- the answer of a line behind its front is that of its bytes by themselves
+pub plain_read : (taken colon : Bool) (read : Result (Option Name × Says) Cause) (found : Option Name × Says) → after_label taken colon read ≡ Ok found → read ≡ Ok found
+plain_read true colon (Ok read) found h = absurd cc
+plain_read false colon (Ok read) found h = h
+plain_read taken colon (Err ParallelBar) found h = absurd cc
+plain_read taken colon (Err BadLabel) found h = absurd cc
+plain_read true colon (Err _) found h = absurd cc
+plain_read false colon (Err _) found h = absurd cc
+
+-- a line's label stands in its label place
+pub record IsLine (line : List ℕ) (label : Option Name) (says : Says) : Type 0 where
+  pub words : List (List ℕ)
+  pub head : head_of line ≡ Ok (label, words)
+  pub rest : words_say words ≡ Ok says
+
+same_read : (one other : Option Name × Says) → ◌≡◌ {A = Result (Option Name × Says) Cause} (Ok one) (Ok other) → one ≡ other
+same_read one other h = cc
+
+rest_line : (line : List ℕ) (other : Option Name) (words : List (List ℕ)) (rest : Result Says Cause) (label : Option Name) (says : Says) → head_of line ≡ Ok (other, words)
+    → words_say words ≡ rest → label_with other rest ≡ Ok (label, says) → IsLine line label says
+rest_line line other words (Err cause) label says head is h = absurd cc
+rest_line line other words (Ok found) label says head is h =
+    let both : (other, found) ≡ (label, says) = same_read (other, found) (label, says) h in
+    let same : other ≡ label = ap (λ (read : Option Name × Says). read.0) both in
+    let said : found ≡ says = ap (λ (read : Option Name × Says). read.1) both in
+    record { words = words; head = subst (λ (name : Option Name). head_of line ≡ Ok (name, words)) same head; rest = subst (λ (s : Says). words_say words ≡ Ok s) said is }
+
+head_line : (line : List ℕ) (head : Result (Option Name × List (List ℕ)) Cause) (label : Option Name) (says : Says) → head_of line ≡ head → with_head head ≡ Ok (label, says)
+    → IsLine line label says
+head_line line (Err cause) label says is h = absurd cc
+head_line line (Ok (other, words)) label says is h = rest_line line other words (words_say words) label says is refl h
+
+pub line_parts : (line : List ℕ) (label : Option Name) (says : Says) → line_of line ≡ Ok (label, says) → IsLine line label says
+unfolding line_of
+line_parts line label says h = head_line line (head_of line) label says refl h
+
+-- ---- its label
+
+bars_are_no_label : is_label (124 ∷ 124 ∷ []) ≡ false
+unfolding is_label
+bars_are_no_label = refl
+
+no_front : (word : List ℕ) (words : List (List ℕ)) → is_label word ≡ false → (label_front (word ∷ words)).0 ≡ None
+unfolding label_front
+no_front word [] none = refl
+no_front word (colon ∷ words) none =
+    let test : (spells (codes ":") colon && is_label word) ≡ false = and_right (spells (codes ":") colon) (is_label word) none in
+    rw test refl
+
+bars_place : (rest : List ℕ) → place_of (124 ∷ 124 ∷ 32 ∷ rest) ≡ None
+unfolding place_of
+bars_place rest = no_front (124 ∷ 124 ∷ []) (tokens (32 ∷ rest)) bars_are_no_label
+
+-- a line that begins with bars has nothing in its label place
+beside_place : (bytes : List ℕ) → starts_with nat_eq bytes (codes "|| ") ≡ true → place_of bytes ≡ None
+beside_place [] h = absurd (false≢true h)
+beside_place (a ∷ []) h = absurd (false≢true (sym (and_right (nat_eq 124 a) false refl) ∙ h))
+beside_place (a ∷ b ∷ []) h = absurd (false≢true (sym (and_right (nat_eq 124 a) (nat_eq 124 b && false) (and_right (nat_eq 124 b) false refl)) ∙ h))
+beside_place (a ∷ b ∷ c ∷ rest) h =
+    let one = and_parts (nat_eq 124 a) _ h in
+    let two = and_parts (nat_eq 124 b) _ one.1 in
+    let three = and_parts (nat_eq 32 c) _ two.1 in
+    rw (sym (eqb-true 124 a one.0), sym (eqb-true 124 b two.0), sym (eqb-true 32 c three.0)) (bars_place rest)
+
+beside_test : (empty first beside label : Bool)
+    → Beside ≡ (if empty then Empty else (if first then First else (if beside then Beside else (if label then Label else Stray)))) → beside ≡ true
+beside_test true first beside label h = absurd cc
+beside_test false true beside label h = absurd cc
+beside_test false false true label h = refl
+beside_test false false false true h = absurd cc
+beside_test false false false false h = absurd cc
+
+beside_start : (bytes : List ℕ) → Beside ≡ front_of bytes → starts_with nat_eq bytes (codes "|| ") ≡ true
+beside_start bytes h = beside_test (is_empty bytes) (starts_with nat_eq bytes (codes "   ")) (starts_with nat_eq bytes (codes "|| ")) (is_label_line bytes) h
+
+empty_place : place_of [] ≡ None
+unfolding place_of label_front
+empty_place = refl
+
+gap_place : (bytes : List ℕ) → Empty ≡ front_of bytes → place_of bytes ≡ None
+gap_place [] h = empty_place
+gap_place (b ∷ bytes) h = absurd (false≢true (sym (gap_front (b ∷ bytes)) ∙ sym (ap is_gap h)))
+
+own_place : (bytes : List ℕ) (label : Option Name) (says : Says) (name : Name) → line_of bytes ≡ Ok (label, says) → place_of bytes ≡ Some name → is_some label ≡ true
+own_place bytes label says name read place =
+    let parts = line_parts bytes label says read in
+    ap is_some (sym (place_is bytes label parts.words parts.head) ∙ place)
+
+place_by : (front : Front) (bytes : List ℕ) (label : Option Name) (says : Says) (name : Name) → front ≡ front_of bytes → line_of (rest_of front bytes) ≡ Ok (label, says)
+    → place_of bytes ≡ Some name → (is_some label ≡ true) × (is_gap front ≡ false)
+place_by Empty bytes label says name is read place = absurd (none-some name (sym (gap_place bytes is) ∙ place))
+place_by Beside bytes label says name is read place = absurd (none-some name (sym (beside_place bytes (beside_start bytes is)) ∙ place))
+place_by First bytes label says name is read place = (own_place bytes label says name read place, refl)
+place_by Label bytes label says name is read place = (own_place bytes label says name read place, refl)
+place_by Stray bytes label says name is read place = (own_place bytes label says name read place, refl)
+
+pub read_line : (labels : List Name) (drafts : Drafts) (above : Above) (line : Line) (below : List Line) (said : Said) → IsTold labels drafts above line below said
+    → line_of (rest_of said.front (content line)) ≡ Ok (said.label, said.says)
+read_line labels drafts above line below said is =
+    let rest : List ℕ = rest_of said.front (content line) in
+    plain_read (is_taken (place_of rest) drafts) (has_colon rest) (line_of rest) (said.label, said.says) is.read
+
+-- a line with a label in its label place says a label, and belongs to a block
+pub has_name : (labels : List Name) (drafts : Drafts) (above : Above) (line : Line) (below : List Line) (said : Said) (name : Name)
+    → IsTold labels drafts above line below said → place_of (content line) ≡ Some name → (is_some said.label ≡ true) × (is_gap said.front ≡ false)
+has_name labels drafts above line below said name is place =
+    place_by said.front (content line) said.label said.says name is.front (read_line labels drafts above line below said is) place
+
+pub is_proper : (labels : List Name) (drafts : Drafts) (above : Above) (line : Line) (below : List Line) (said : Said) → IsTold labels drafts above line below said
+    → IsProper said.says
+is_proper labels drafts above line below said is =
+    let parts = line_parts (rest_of said.front (content line)) said.label said.says (read_line labels drafts above line below said is) in
+    proper parts.words said.says parts.rest
+
+-- ---- the first of more lines
+
+pub record IsBegun (labels : List Name) (aim : Name → ℕ) (number : ℕ) (drafts : Drafts) (above : Above) (line : Line) (below : List Line) (final : Drafts) : Type 0 where
+  pub said : Said
+  pub is : IsTold labels drafts above line below said
+  pub others : read_lines labels aim (number + 1) (with_said aim number said drafts) (above_next said.front said.says) below ≡ Ok final
+  pub says : line_says labels drafts above line below ≡ Ok said
+
+begun_by : (labels : List Name) (aim : Name → ℕ) (number : ℕ) (drafts : Drafts) (above : Above) (line : Line) (below : List Line) (final : Drafts) (says : Result Said LineFault)
+    → line_says labels drafts above line below ≡ says
+    → and_then number says (λ said. read_lines labels aim (number + 1) (with_said aim number said drafts) (above_next said.front said.says) below) ≡ Ok final
+    → IsBegun labels aim number drafts above line below final
+begun_by labels aim number drafts above line below final (Err fault) says h = absurd cc
+begun_by labels aim number drafts above line below final (Ok said) says h =
+    record { said = said; is = told labels drafts above line below said says; others = h; says = says }
+
+pub begun : (labels : List Name) (aim : Name → ℕ) (number : ℕ) (drafts : Drafts) (above : Above) (line : Line) (below : List Line) (final : Drafts)
+    → read_lines labels aim number drafts above (line ∷ below) ≡ Ok final → IsBegun labels aim number drafts above line below final
+unfolding read_lines
+begun labels aim number drafts above line below final h = begun_by labels aim number drafts above line below final (line_says labels drafts above line below) refl h
+
+pub over : (labels : List Name) (aim : Name → ℕ) (number : ℕ) (drafts : Drafts) (above : Above) (final : Drafts) → read_lines labels aim number drafts above [] ≡ Ok final
+    → drafts ≡ final
+unfolding read_lines
+over labels aim number drafts above final h = cc
