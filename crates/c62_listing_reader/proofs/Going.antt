@@ -37,7 +37,7 @@ pub record EndsWith (unit : Option FunctionalUnit) (draft : Draft) : Type 0 wher
   pub cycle : last.cycle + 1 ≡ draft.cycles
   pub same : last.parts.unit ≡ unit
 
-pub Follows : Above → Draft → Type 0
+unfoldable pub Follows : Above → Draft → Type 0
 Follows (Issue unit) draft = EndsWith unit draft
 Follows _ draft = Unit {0}
 
@@ -195,7 +195,7 @@ pub record IsGoing (drafts : Drafts) (above : Above) : Type 0 where
   pub closed : drafts.current ≡ None → is_issue above ≡ false
   pub few : length (all_drafts drafts) ≤ 64
 
-opened_fine : (current : Option Draft) → ((draft : Draft) → current ≡ Some draft → IsFine draft) → IsFine (opened current)
+pub opened_fine : (current : Option Draft) → ((draft : Draft) → current ≡ Some draft → IsFine draft) → IsFine (opened current)
 opened_fine None fine = empty_fine
 opened_fine (Some draft) fine = fine draft refl
 

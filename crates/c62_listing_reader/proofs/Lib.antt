@@ -1,7 +1,11 @@
 pub mod TextLemmas
+pub mod PauseLemmas
 pub mod ToldLemmas
 pub mod Going
+pub mod NamedLemmas
 pub mod ClosedLemmas
+pub mod ListedLemmas
+pub mod SameLemmas
 pub mod BlockLemmas
 pub mod ReadLemmas
 pub mod PacketLemmas

@@ -1,15 +1,16 @@
 -- What a line without faults fulfils.
-use Rattle.std.proofs.Common.{arith, ◌≡◌, ℕ, ◌+◌, ◌≤◌, List, [], ◌∷◌, length, Option, Some, None, Bool, true, false, not, refl, sym, ap, ◌∙◌, subst}
-use Rattle.std.specs.Prelude.{◌&&◌, nat_le, nat_lt, nat_eq, if◌then◌else◌, is_some, is_none, codes, Result, Ok, Err}
+use Rattle.std.proofs.Common.{arith, ◌≡◌, ℕ, ◌+◌, ◌≤◌, List, [], ◌∷◌, ◌++◌, length, Option, Some, None, Bool, true, false, not, refl, sym, ap, ◌∙◌, subst}
+use Rattle.std.specs.Prelude.{◌&&◌, nat_le, nat_lt, nat_eq, if◌then◌else◌, is_some, is_none, codes, decimal, Result, Ok, Err}
 use Rattle.std.specs.List.{list_all, starts_with}
 use Rattle.std.proofs.lemmas.Bool.{and_parts, and_right, eqb-true, false≢true}
 use Rattle.std.proofs.lemmas.Bool.Decides.{nat_tests}
 use Rattle.std.proofs.lemmas.Option.{none-some}
+use Rattle.std.proofs.lemmas.Slice.Eq.{bytes_eq-Decides}
 use Rattle.c62_read.specs.declared.fault.Cause.{Cause}
 use Rattle.c62_read.specs.declared.fault.Cause.TheVariants.{BadLabel, ParallelBar}
 use Rattle.c62_read.specs.Text.{is_allowed, tokens}
 use Rattle.c62_read.specs.Number.{is_label, spells}
-use Rattle.c62_read.specs.Line.{Says, head_of, label_front, line_of, rest_says as words_say, with_head, with_rest as label_with}
+use Rattle.c62_read.specs.Line.{Says, Nothing, Pause, Does, Jumps, head_of, label_front, line_of, rest_says as words_say, with_head, with_rest as label_with}
 use Rattle.c62_read.specs.Program.{Name, place_of}
 use Rattle.c62_read.specs.Walk.{is_instruction, is_unknown}
 use Rattle.c62_read.proofs.PlaceLemmas.{place_is}
@@ -22,6 +23,7 @@ use Rattle.c62_listing_reader.specs.Text.{Line, content, is_empty, is_ended}
 use Rattle.c62_listing_reader.specs.Begin.{front_of, has_colon, is_beside, is_gap, is_label_line, rest_of}
 use Rattle.c62_listing_reader.specs.Said.{Said, Drafts, opened, with_said, above_next, spelled_line, is_text}
 use Rattle.c62_listing_reader.specs.Faults.{is_taken, unit_said, unit_above, precedes, goes_on, is_misplaced, after_label, hindrance, cycles_added, is_alone, is_unfit, is_odd, unless_odd, unless_hindered, with_rest, rest_says, line_says, and_then, read_lines}
+use Rattle.c62_listing_reader.proofs.PauseLemmas.{IsShort, short}
 
 -- all that is asked of a line
 pub record IsTold (labels : List Name) (drafts : Drafts) (above : Above) (line : Line) (below : List Line) (said : Said) : Type 0 where
@@ -212,13 +214,13 @@ gap_place : (bytes : List ℕ) → Empty ≡ front_of bytes → place_of bytes �
 gap_place [] h = empty_place
 gap_place (b ∷ bytes) h = absurd (false≢true (sym (gap_front (b ∷ bytes)) ∙ sym (ap is_gap h)))
 
-own_place : (bytes : List ℕ) (label : Option Name) (says : Says) (name : Name) → line_of bytes ≡ Ok (label, says) → place_of bytes ≡ Some name → is_some label ≡ true
+own_place : (bytes : List ℕ) (label : Option Name) (says : Says) (name : Name) → line_of bytes ≡ Ok (label, says) → place_of bytes ≡ Some name → label ≡ Some name
 own_place bytes label says name read place =
     let parts = line_parts bytes label says read in
-    ap is_some (sym (place_is bytes label parts.words parts.head) ∙ place)
+    sym (place_is bytes label parts.words parts.head) ∙ place
 
 place_by : (front : Front) (bytes : List ℕ) (label : Option Name) (says : Says) (name : Name) → front ≡ front_of bytes → line_of (rest_of front bytes) ≡ Ok (label, says)
-    → place_of bytes ≡ Some name → (is_some label ≡ true) × (is_gap front ≡ false)
+    → place_of bytes ≡ Some name → (label ≡ Some name) × (is_gap front ≡ false)
 place_by Empty bytes label says name is read place = absurd (none-some name (sym (gap_place bytes is) ∙ place))
 place_by Beside bytes label says name is read place = absurd (none-some name (sym (beside_place bytes (beside_start bytes is)) ∙ place))
 place_by First bytes label says name is read place = (own_place bytes label says name read place, refl)
@@ -231,9 +233,9 @@ read_line labels drafts above line below said is =
     let rest : List ℕ = rest_of said.front (content line) in
     plain_read (is_taken (place_of rest) drafts) (has_colon rest) (line_of rest) (said.label, said.says) is.read
 
--- a line with a label in its label place says a label, and belongs to a block
+-- a line with a label in its label place says that label, and belongs to a block
 pub has_name : (labels : List Name) (drafts : Drafts) (above : Above) (line : Line) (below : List Line) (said : Said) (name : Name)
-    → IsTold labels drafts above line below said → place_of (content line) ≡ Some name → (is_some said.label ≡ true) × (is_gap said.front ≡ false)
+    → IsTold labels drafts above line below said → place_of (content line) ≡ Some name → (said.label ≡ Some name) × (is_gap said.front ≡ false)
 has_name labels drafts above line below said name is place =
     place_by said.front (content line) said.label said.says name is.front (read_line labels drafts above line below said is) place
 
@@ -242,6 +244,32 @@ pub is_proper : (labels : List Name) (drafts : Drafts) (above : Above) (line : L
 is_proper labels drafts above line below said is =
     let parts = line_parts (rest_of said.front (content line)) said.label said.says (read_line labels drafts above line below said is) in
     proper parts.words said.says parts.rest
+
+-- a line of NOP begins as the first of a packet
+pause_front : (front : Front) (bytes word : List ℕ) → bytes ≡ codes "   NOP " ++ word → front ≡ front_of bytes → rest_of front bytes ≡ bytes
+pause_front Beside bytes word is begins =
+    let first : First ≡ front_of bytes = ap front_of (sym is) in
+    absurd cc
+pause_front Empty bytes word is begins = refl
+pause_front First bytes word is begins = refl
+pause_front Label bytes word is begins = refl
+pause_front Stray bytes word is begins = refl
+
+short_by : (front : Front) (label : Option Name) (says : Says) (bytes : List ℕ) → front ≡ front_of bytes → is_text bytes (spelled_line front label says) ≡ true
+    → line_of (rest_of front bytes) ≡ Ok (label, says) → IsShort says
+short_by front label Nothing bytes begins spelled read = tt
+short_by front label (Does parts) bytes begins spelled read = tt
+short_by front label (Jumps parts target) bytes begins spelled read = tt
+short_by front (Some label) (Pause n) bytes begins spelled read = absurd (false≢true spelled)
+short_by front None (Pause n) bytes begins spelled read =
+    let is : bytes ≡ codes "   NOP " ++ decimal n = (bytes_eq-Decides bytes (codes "   NOP " ++ decimal n)).0 spelled in
+    let parts = line_parts bytes None (Pause n) (ap line_of (sym (pause_front front bytes (decimal n) is begins)) ∙ read) in
+    short bytes (decimal n) parts.words (Pause n) is parts.head parts.rest
+
+pub is_short : (labels : List Name) (drafts : Drafts) (above : Above) (line : Line) (below : List Line) (said : Said) → IsTold labels drafts above line below said
+    → IsShort said.says
+is_short labels drafts above line below said is =
+    short_by said.front said.label said.says (content line) is.front is.spelled (read_line labels drafts above line below said is)
 
 -- ---- the first of more lines
 

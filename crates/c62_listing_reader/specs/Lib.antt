@@ -5,3 +5,4 @@ pub mod Said
 pub mod Faults
 pub mod Fine
 pub mod Reading
+pub mod Laws

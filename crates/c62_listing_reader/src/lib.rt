@@ -4,6 +4,7 @@
 mod draft;
 mod fault;
 mod judge;
+pub mod laws;
 mod line;
 mod reader;
 mod spelled;

@@ -1,0 +1,115 @@
+-- A line of NOP says from one to nine cycles without an instruction.
+use Rattle.std.proofs.Common.{arith, ◌≡◌, ℕ, ◌≤◌, Bool, true, false, leb, ◌&&◌, List, [], ◌∷◌, ◌++◌, length, Option, Some, None, Result, Ok, Err, refl, sym, ap, ◌∙◌, subst}
+use Rattle.std.specs.Prelude.{ℤ, pos, negsuc, nat_lt, codes, if◌then◌else◌}
+use Rattle.std.specs.List.{list_all}
+use Rattle.std.proofs.lemmas.Bool.{and_parts, cond_both, false≢true, leb-true}
+use Rattle.std.proofs.lemmas.Option.{none-some}
+use Rattle.c62_read.specs.declared.fault.Cause.{Cause}
+use Rattle.c62_read.specs.declared.fault.Cause.TheVariants.{BadLabel, BadOperand, BadUnit, LineTooLong, NotAscii, ParallelBar}
+use Rattle.c62_read.specs.Text.{begins, is_allowed, tokens}
+use Rattle.c62_read.specs.Number.{is_label, number_of, spells}
+use Rattle.c62_read.specs.Operand.{Word}
+use Rattle.c62_read.specs.Mnemonic.{mnemonic_named, operation_named, pseudo_named}
+use Rattle.c62_read.specs.Unit.{unit_front}
+use Rattle.c62_read.specs.Line.{Says, Pause, behind_unit, condition_front, cycles_of, has_colon, head_of, instruction_of, is_bars, is_star, label_front, pause_of, rest_says, with_unit, without_colon}
+use Rattle.c62_read.proofs.SpelledTokens.{IsToken, tokens_behind, word_token}
+
+abbrev pub IsShort : Says → Type 0
+IsShort (Pause n) = (1 ≤ n) × (n ≤ 9)
+IsShort _ = Unit {0}
+
+abbrev OkShort : Result Says Cause → Type 0
+OkShort (Ok says) = IsShort says
+OkShort (Err cause) = Unit {0}
+
+-- ---- what stands behind the name
+
+cycles_short : (k : Option ℤ) → OkShort (cycles_of k)
+cycles_short (Some (pos n)) = cond_both (leb 1 n && leb n 9) (Ok (Pause n)) (Err BadOperand) OkShort
+    (λ is. let parts = and_parts (leb 1 n) (leb n 9) is in (leb-true 1 n parts.0, leb-true n 9 parts.1)) (λ _. tt)
+cycles_short (Some (negsuc n)) = tt
+cycles_short None = tt
+
+pause_short : (words : List Word) → OkShort (pause_of None words)
+unfolding pause_of
+pause_short [] = (omega arith, omega arith)
+pause_short (word ∷ []) = cycles_short (number_of word)
+pause_short (word ∷ next ∷ words) = tt
+
+short_if : (fits : Bool) (says : Result Says Cause) → OkShort says → OkShort (if fits then says else Err BadUnit)
+short_if true says is = is
+short_if false says is = tt
+
+-- what a test of the name that was found says
+abbrev named_by : {M F : Type 0} → Option M → (M → F → Result Says Cause) → F → Result Says Cause
+named_by None says found = Err BadUnit
+named_by (Some mnemonic) says found = says mnemonic found
+
+by_unit : {W : Type 0} (found : Option (Option W × List Word)) (says : Option (Option W × List Word) → Result Says Cause) → OkShort (says None)
+    → ((words : List Word) → OkShort (says (Some (None, words)))) → ((unit : W) (words : List Word) → OkShort (says (Some (Some unit, words)))) → OkShort (says found)
+by_unit None says none bare full = none
+by_unit (Some (None, words)) says none bare full = bare words
+by_unit (Some (Some unit, words)) says none bare full = full unit words
+
+nop_short : (words : List Word) → OkShort (rest_says (codes "NOP" ∷ words))
+unfolding rest_says condition_front instruction_of behind_unit mnemonic_named operation_named pseudo_named
+nop_short words =
+    by_unit (unit_front words) (named_by (mnemonic_named (codes "NOP")) (λ mnemonic. with_unit mnemonic None)) tt (λ rest. pause_short rest) (λ unit rest. short_if _ _ (pause_short rest))
+
+-- ---- the words of the line
+
+nop_token : IsToken (codes "NOP")
+nop_token = word_token (codes "NOP") (omega arith) refl
+
+nop_words : (word : List ℕ) → tokens (codes "   NOP " ++ word) ≡ codes "NOP" ∷ tokens word
+nop_words word =
+    tokens_behind (codes "   ") (codes "NOP " ++ word) refl
+    ∙ nop_token.splits (32 ∷ word) refl
+    ∙ ap (λ (words : List Word). codes "NOP" ∷ words) (tokens_behind (32 ∷ []) word refl)
+
+abbrev Head : Type 0
+Head = Result (Option Word × List Word) Cause
+
+same_head : (one other : Option Word × List Word) → ◌≡◌ {A = Head} (Ok one) (Ok other) → one ≡ other
+same_head one other h = cc
+
+colon_words : (colon : Bool) (label : Option Word) (front words : List Word) → ◌≡◌ {A = Head} (if colon then Err BadLabel else Ok (label, front)) (Ok (None, words))
+    → (label ≡ None) × (front ≡ words)
+colon_words true label front words h = absurd cc
+colon_words false label front words h =
+    let both = same_head (label, front) (None, words) h in
+    (ap (λ (head : Option Word × List Word). head.0) both, ap (λ (head : Option Word × List Word). head.1) both)
+
+plain_words : (front words : List Word) → without_colon (label_front front) ≡ Ok (None, words) → front ≡ words
+unfolding label_front
+plain_words [] words h = (colon_words (has_colon []) None [] words h).1
+plain_words (word ∷ []) words h = (colon_words (has_colon (word ∷ [])) None (word ∷ []) words h).1
+plain_words (word ∷ next ∷ rest) words h = go (spells (codes ":") next && is_label word) h
+  where
+    go : (is : Bool) → without_colon (if◌then◌else◌ {A = Option Word × List Word} is (Some word, rest) (None, word ∷ next ∷ rest)) ≡ Ok (None, words) → word ∷ next ∷ rest ≡ words
+    go true h = absurd (none-some word (sym (colon_words (has_colon rest) (Some word) rest words h).0))
+    go false h = (colon_words (has_colon (word ∷ next ∷ rest)) None (word ∷ next ∷ rest) words h).1
+
+head_words : (allowed long star bars : Bool) (line : List ℕ) (words : List Word) → star ≡ false
+    → (if allowed then (if long then Err LineTooLong
+    else (if star then Ok (None, [])
+    else (if bars then Err ParallelBar
+    else without_colon (label_front (tokens line)))))
+    else Err NotAscii) ≡ Ok (None, words) → tokens line ≡ words
+head_words false long star bars line words none h = absurd cc
+head_words true true star bars line words none h = absurd cc
+head_words true false true bars line words none h = absurd (false≢true (sym none))
+head_words true false false true line words none h = absurd cc
+head_words true false false false line words none h = plain_words (tokens line) words h
+
+line_words : (line : List ℕ) (words : List Word) → begins is_star line ≡ false → head_of line ≡ Ok (None, words) → tokens line ≡ words
+unfolding head_of
+line_words line words none h = head_words (list_all is_allowed line) (nat_lt 255 (length line)) (begins is_star line) (is_bars (tokens line)) line words none h
+
+-- what the line says is short
+pub short : (line word : List ℕ) (words : List Word) (says : Says) → line ≡ codes "   NOP " ++ word → head_of line ≡ Ok (None, words) → rest_says words ≡ Ok says → IsShort says
+short line word words says is head said =
+    let head_is : head_of (codes "   NOP " ++ word) ≡ Ok (None, words) = sym (ap head_of is) ∙ head in
+    let words_are : words ≡ codes "NOP" ∷ tokens word = sym (line_words (codes "   NOP " ++ word) words refl head_is) ∙ nop_words word in
+    let found : OkShort (Ok says) = subst OkShort (ap rest_says (sym words_are) ∙ said) (nop_short (tokens word)) in
+    found

@@ -1,0 +1,15 @@
+//! Laws of the definitions. The functions do nothing: what each ensures is a law.
+
+ghost use Rattle.std.specs.Prelude.{ℕ, List};
+ghost use Rattle.c62_packet.specs.Packed.{Packed};
+ghost use Rattle.c62_listing_reader.specs.Laws.{IsListedBack, AreOneReading};
+
+/// What is read of a text is listed as that text, byte for byte.
+pub fn what_is_read_is_listed_back()
+    ensures { (text : List ℕ) (packets : List Packed) → IsListedBack text packets }
+{}
+
+/// A text has one reading: packets that are read of it are equal, with the numbers of its lines.
+pub fn texts_have_one_reading()
+    ensures { (text : List ℕ) (packets others : List Packed) → AreOneReading text packets others }
+{}
