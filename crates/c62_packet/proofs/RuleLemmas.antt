@@ -57,6 +57,21 @@ none-issued test (x ∷ xs) none =
     let here : test x ≡ false = false_from_ne_true (test x) (none 0 x refl) in
     rw here (none-issued test xs (λ j s at. none (suc j) s at))
 
+-- a write doesn't land before it is issued
+and-false : (a b : Bool) → b ≡ false → (a && b) ≡ false
+and-false true b e = e
+and-false false b e = refl
+
+none-lands : (from cycle : ℕ) (reg : Reg) (writes : List (Reg × ℕ)) → cycle < from → list_any (is_landing from reg cycle) writes ≡ false
+none-lands from cycle reg [] late = refl
+none-lands from cycle reg (write ∷ writes) late =
+    let other : (from + write.1 == cycle) ≡ false = grind (arith, nat_tests) in
+    let here : is_landing from reg cycle write ≡ false = and-false (same_reg write.0 reg) (from + write.1 == cycle) other in
+    rw (here, none-lands from cycle reg writes late) refl
+
+pub lands-late : (reg : Reg) (cycle : ℕ) (q : Placed) → cycle < q.cycle → lands reg cycle q ≡ false
+lands-late reg cycle q late = none-lands q.cycle cycle reg (register_writes q.insn) late
+
 pub all-fail : {X : Type 0} (test : X → Bool) (xs : List X) → list_any test xs ≡ false → All (λ y. test y ≡ false) xs
 all-fail test [] h = All-nil (λ y. test y ≡ false)
 all-fail test (y ∷ xs) h =

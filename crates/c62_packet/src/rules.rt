@@ -113,6 +113,9 @@ fn is_landing(write: (Reg, u8), from: u16, reg: Reg, cycle: u32) -> bool
 fn lands(placed: &Placed, reg: Reg, cycle: u32) -> bool
     ensures { result ≡ lands reg cycle placed.now }
 {
+    if cycle < u32::from(placed.cycle) {
+        return false;
+    }
     let writes = placed.insn.writes();
     writes
         .as_slice()
