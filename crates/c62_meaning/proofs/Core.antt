@@ -1,24 +1,18 @@
 -- A run of the packets of a block does what its serial run does.
 use Rattle.std.proofs.Common.{◌≡◌, ℕ, zero, suc, ◌+◌, ◌*◌, ◌<◌, ◌≤◌, List, length, get_or, map, refl, sym, ◌∙◌, ap, subst, ⊎_elim, arith}
 use Rattle.std.specs.List.{flat_map}
-use Rattle.std.specs.Prelude.{fold, Option, Some, None, true, [], ◌∷◌}
-use Rattle.std.specs.List.Sorted.{IsStrictlyIncreasing}
-use Rattle.std.proofs.lemmas.Bool.{cases_eq, cond_both}
-use Rattle.std.proofs.lemmas.List.{length-set}
-use Rattle.c62_insn.specs.declared.register.Side.{Side}
-use Rattle.c62_insn.specs.declared.register.Side.TheVariants.{A, B}
+use Rattle.std.specs.Prelude.{true}
+use Rattle.std.proofs.lemmas.Bool.{cases_eq}
 use Rattle.c62_insn.specs.declared.register.Reg.{Reg}
-use Rattle.c62_insn.specs.declared.effect.Access.{Access as MemoryAccess}
 use Rattle.c62_insn.specs.Units.{index_of as unit_index}
 use Rattle.c62_insn.specs.Shape.{is_store}
 use Rattle.c62_insn.specs.Insn.{op_of, register_writes}
 use Rattle.c62_insn.proofs.UnitOrder.{index_of-below}
 use Rattle.c62_read.specs.declared.block.SerialInsn.{SerialInsn}
 use Rattle.c62_serial.specs.declared.serial.Exit.TheVariants.{Next}
-use Rattle.c62_serial.specs.State.{Machine, IsSound, first_of, index_of, word_in, byte_in}
-use Rattle.c62_serial.specs.Memory.{is_good, written}
-use Rattle.c62_serial.specs.Effect.{Act, act_of, is_fault}
-use Rattle.c62_serial.specs.Serial.{Ran, after_write, after_store, after_access, after_act, act_in, after_insn}
+use Rattle.c62_serial.specs.State.{Machine, IsSound, index_of, word_in, byte_in}
+use Rattle.c62_serial.specs.Effect.{Act, act_of}
+use Rattle.c62_serial.specs.Serial.{Ran, act_in, after_insn}
 use Rattle.c62_serial.proofs.MachineLemmas.{sound_act}
 use Rattle.c62_serial.proofs.RegisterLemmas.{index_within}
 use Rattle.c62_packet.specs.declared.placed.Placed.{Placed}

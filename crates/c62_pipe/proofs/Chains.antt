@@ -1,5 +1,5 @@
 -- Chains of packet blocks: how they go on, and that those of a program are the program's.
-use Rattle.std.proofs.Common.{◌≡◌, ◌≢◌, ℕ, ◌+◌, ◌*◌, ◌<◌, ◌≤◌, List, [], ◌∷◌, ◌++◌, length, Some, refl, ◌∙◌, sym, ap, subst, get_or, arith}
+use Rattle.std.proofs.Common.{◌≡◌, ◌≢◌, ℕ, ◌+◌, ◌*◌, ◌<◌, ◌≤◌, List, [], ◌∷◌, ◌++◌, length, refl, ◌∙◌, sym, ap, subst, get_or, arith}
 use Rattle.std.specs.Prelude.{sum_by}
 use Rattle.std.proofs.lemmas.List.{get_or_read, length-append}
 use Rattle.std.proofs.lemmas.List.Sums.{sum_by-append}
@@ -9,8 +9,8 @@ use Rattle.c62_serial.specs.declared.serial.Exit.{Exit}
 use Rattle.c62_serial.specs.declared.chain.End.TheVariants.{End as FellThrough, Limit}
 use Rattle.c62_serial.specs.declared.chain.Chain.{Chain}
 use Rattle.c62_serial.specs.State.{Machine, Contents, IsSound}
-use Rattle.c62_serial.specs.Serial.{Ran, serial}
-use Rattle.c62_serial.specs.Chain.{Blocks, Standing, Ended, At, Place, place_at, place_after, Leads, IsStopped, IsChain, chain_of, RunsProgram, serial_blocks, no_block as no_serial_block, block_of as serial_block_of}
+use Rattle.c62_serial.specs.Serial.{Ran}
+use Rattle.c62_serial.specs.Chain.{Standing, Ended, At, Place, place_at, place_after, Leads, IsStopped, IsChain, chain_of, serial_blocks, no_block as no_serial_block, block_of as serial_block_of}
 use Rattle.c62_serial.proofs.MachineLemmas.{sound_run}
 use Rattle.c62_serial.proofs.ChainLemmas.{leads_nowhere, leads_on, at_block, past_end, chain_along}
 use Rattle.c62_packet.specs.Packed.{Packed}

@@ -1,5 +1,5 @@
 -- Registers and memory at the end of a cycle.
-use Rattle.std.proofs.Common.{◌≡◌, ℕ, zero, suc, ◌+◌, ◌*◌, ◌<◌, ◌≤◌, Bool, true, false, List, [], ◌∷◌, ◌++◌, length, get_or, set, map, take, drop, cond, eqb, ltb, ◌&&◌, Option, Some, None, refl, sym, ◌∙◌, ap, subst, ◌⊎◌, inl, inr, ⊎_elim, arith}
+use Rattle.std.proofs.Common.{◌≡◌, ℕ, suc, ◌+◌, ◌*◌, ◌<◌, ◌≤◌, Bool, true, false, List, [], ◌∷◌, ◌++◌, length, get_or, set, map, take, drop, cond, eqb, ltb, ◌&&◌, Option, Some, None, refl, sym, ◌∙◌, ap, subst, ◌⊎◌, inl, inr, ⊎_elim, arith}
 use Rattle.std.specs.Prelude.{fold}
 use Rattle.std.specs.List.{flat_map}
 use Rattle.std.proofs.lemmas.Bool.{cases_eq, cases_order, cond-true, cond-false, eq-eqb, ne_eqb, eqb-true, lt-ltb, le-ltb, and_parts, and_right}
@@ -11,9 +11,9 @@ use Rattle.c62_insn.proofs.UnitOrder.{index_of-below}
 use Rattle.c62_serial.specs.State.{Machine, index_of, word_in, byte_in}
 use Rattle.c62_packet.specs.declared.placed.Placed.{Placed}
 use Rattle.c62_packet.specs.Packed.{listing_place}
-use Rattle.c62_meaning.specs.Landing.{Landing, later, latest, value_or, value_before}
-use Rattle.c62_meaning.specs.Packet.{Did, write_landing, access_landings, access_time, register_landings, memory_landings, word_before, byte_before}
-use Rattle.c62_meaning.proofs.Lookup.{In, In-flat_map, from_In-flat_map, In-append_left, latest_cases, LatestCases, last_value, InOrder, InOrder-append, latest_is_last}
+use Rattle.c62_meaning.specs.Landing.{Landing, later, latest, value_or}
+use Rattle.c62_meaning.specs.Packet.{Did, write_landing, access_time, register_landings, memory_landings, word_before, byte_before}
+use Rattle.c62_meaning.proofs.Lookup.{In, In-flat_map, from_In-flat_map, latest_cases, LatestCases, last_value, InOrder, InOrder-append, latest_is_last}
 use Rattle.c62_meaning.proofs.Landings.{from_In-writes, from_In-access, InOrder-access}
 use Rattle.c62_pipe.specs.Flight.{Slot, landed}
 use Rattle.c62_pipe.proofs.Order.{Ascends, In-take, In-parts, parts_at}

@@ -1,12 +1,11 @@
 -- The instructions of a packet block stand in rising places, of which each is one cycle and unit.
-use Rattle.std.proofs.Common.{◌≡◌, ℕ, zero, suc, ◌+◌, ◌*◌, ◌<◌, ◌≤◌, List, [], ◌∷◌, ◌++◌, length, map, take, drop, get_or, Some, None, refl, sym, ◌∙◌, ap, subst, ◌⊎◌, inl, inr, ⊎_elim, arith}
+use Rattle.std.proofs.Common.{◌≡◌, ℕ, suc, ◌+◌, ◌*◌, ◌<◌, ◌≤◌, List, [], ◌∷◌, ◌++◌, length, take, drop, get_or, Some, None, refl, sym, subst, ◌⊎◌, ⊎_elim, arith}
 use Rattle.std.specs.List.{AllPairs}
 use Rattle.std.proofs.lemmas.Bool.{cases_lt}
 use Rattle.std.proofs.lemmas.List.{take-append-drop, get_or-map}
-use Rattle.c62_insn.specs.declared.register.Unit.{Unit as FunctionalUnit}
 use Rattle.c62_insn.specs.Units.{index_of as unit_index}
 use Rattle.c62_insn.proofs.UnitOrder.{same_index, index_of-below}
-use Rattle.c62_insn.specs.PacketRules.{Issue, IsIssued}
+use Rattle.c62_insn.specs.PacketRules.{IsIssued}
 use Rattle.c62_packet.specs.declared.placed.Placed.{Placed}
 use Rattle.c62_packet.specs.Packed.{Packed, IsPacketBlock, issue_of, issued, listing_place}
 use Rattle.c62_meaning.proofs.Lookup.{In, Contains_from_In, In-append_left, In-append_right, In-append_cases}

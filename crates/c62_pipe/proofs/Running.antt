@@ -1,5 +1,5 @@
 -- A block of packets from one cycle to the next.
-use Rattle.std.proofs.Common.{◌≡◌, ℕ, zero, suc, ◌+◌, ◌-◌, ◌*◌, ◌%◌, ◌<◌, ◌≤◌, List, [], ◌∷◌, ◌++◌, length, length-append, get_or, set, map, take, drop, Option, Some, None, refl, sym, ◌∙◌, ap, subst, ◌⊎◌, inl, inr, ⊎_elim, arith}
+use Rattle.std.proofs.Common.{◌≡◌, ℕ, suc, ◌+◌, ◌-◌, ◌*◌, ◌%◌, ◌<◌, ◌≤◌, List, [], ◌∷◌, ◌++◌, length, length-append, get_or, take, drop, Option, Some, None, refl, sym, ◌∙◌, ap, subst, ◌⊎◌, inl, inr, ⊎_elim, arith}
 use Rattle.std.specs.Prelude.{◌↔◌, Contains, fold, slice_set}
 use Rattle.std.specs.List.{flat_map}
 use Rattle.std.specs.List.Sorted.{IsStrictlyIncreasing}
@@ -19,25 +19,25 @@ use Rattle.c62_insn.proofs.UnitOrder.{index_of-below}
 use Rattle.c62_serial.specs.declared.serial.Exit.{Exit}
 use Rattle.c62_serial.specs.declared.serial.Exit.TheVariants.{Next}
 use Rattle.c62_serial.specs.State.{Machine, Contents, IsSound, index_of, word_in, byte_in}
-use Rattle.c62_serial.specs.Memory.{is_good, written}
+use Rattle.c62_serial.specs.Memory.{is_good}
 use Rattle.c62_serial.specs.Faults.{after_fault, with_fault_if}
 use Rattle.c62_serial.specs.Effect.{Act, act_of, is_fault}
-use Rattle.c62_serial.specs.Serial.{Ran, after_store, after_access, exit_after}
+use Rattle.c62_serial.specs.Serial.{after_store, after_access, exit_after}
 use Rattle.c62_serial.proofs.FaultLemmas.{joined_rises}
 use Rattle.c62_serial.proofs.MemoryLemmas.{stores}
 use Rattle.c62_serial.proofs.RegisterLemmas.{index_within}
 use Rattle.c62_packet.specs.declared.placed.Placed.{Placed}
-use Rattle.c62_packet.specs.Packed.{Packed, IsPacketBlock, issue_of, AreDrained, listing_place}
-use Rattle.c62_meaning.specs.Landing.{Landing, latest, value_or, value_before}
-use Rattle.c62_meaning.specs.Packet.{Did, register_landings, memory_landings, access_landings, access_time, word_before, byte_before, IsRun}
-use Rattle.c62_meaning.specs.Meaning.{HasFaulted, exit_by, Leaves, IsMeaning}
+use Rattle.c62_packet.specs.Packed.{Packed, IsPacketBlock, issue_of, listing_place}
+use Rattle.c62_meaning.specs.Landing.{Landing, latest, value_or}
+use Rattle.c62_meaning.specs.Packet.{register_landings, memory_landings, access_landings, access_time, word_before, byte_before}
+use Rattle.c62_meaning.specs.Meaning.{HasFaulted, exit_by, IsMeaning}
 use Rattle.c62_meaning.proofs.Lookup.{In, Contains_from_In, In-append_right, In-append_cases, last_value, last_value-append}
 use Rattle.c62_meaning.proofs.Acting.{act_same}
 use Rattle.c62_meaning.proofs.Landings.{access-last, act_writes}
 use Rattle.c62_meaning.proofs.Runs.{the_run, the_run_runs}
 use Rattle.c62_meaning.proofs.Faulted.{lines_after, lines_hold}
 use Rattle.c62_pipe.specs.Flight.{Slot, Store, Flight, IsIdle, due, with_writes, FitsSlots, stores_at, stores_of, act_at, issued, landed, stored, at_end, after_end}
-use Rattle.c62_pipe.proofs.Order.{Ascends, ascends, AreParts, parts_at, In-take, In-parts}
+use Rattle.c62_pipe.proofs.Order.{Ascends, ascends, parts_at, In-take}
 use Rattle.c62_pipe.proofs.Slots.{due_of, due_in, due-set_same, due-set_other, length-writes, due_writes, act_soon, due_none, few_due, fits}
 use Rattle.c62_pipe.proofs.Landed.{last_pair, landed-last, word-next, byte-next}
 

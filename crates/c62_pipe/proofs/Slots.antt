@@ -1,6 +1,5 @@
 -- What the slots of the ring hold.
-use Rattle.std.proofs.Common.{◌≡◌, Bool, true, false, inl, inr, ℕ, zero, suc, ◌+◌, ◌-◌, ◌*◌, ◌%◌, ◌<◌, ◌≤◌, List, [], ◌∷◌, ◌++◌, length, get_or, set, cond, eqb, refl, sym, ◌∙◌, ap, subst, ⊎_elim, append_assoc, length-append, arith}
-use Rattle.std.specs.Prelude.{fold, All}
+use Rattle.std.proofs.Common.{◌≡◌, Bool, true, false, inl, inr, ℕ, ◌+◌, ◌-◌, ◌%◌, ◌<◌, ◌≤◌, List, [], ◌∷◌, ◌++◌, length, get_or, set, cond, eqb, refl, sym, ◌∙◌, ap, subst, ⊎_elim, append_assoc, length-append, arith}
 use Rattle.std.specs.List.{zip, flat_map}
 use Rattle.std.proofs.lemmas.Bool.{cases_eq, cases_lt, cond-true, cond-false, cond_both, eqb-true, eq-eqb, ne_eqb}
 use Rattle.std.proofs.lemmas.List.{append-nil, length-set, get_or-set_other, get_or_past}
@@ -9,14 +8,13 @@ use Rattle.std.proofs.lemmas.List.Elements.{All-from_get_or}
 use Rattle.c62_insn.specs.declared.register.Reg.{Reg}
 use Rattle.c62_insn.specs.declared.insn.Insn.{Insn}
 use Rattle.c62_insn.specs.Insn.{op_of, operands_of, register_writes}
-use Rattle.c62_insn.specs.Shape.{writes_of}
 use Rattle.c62_insn.proofs.InsnLemmas.{writes_delay}
 use Rattle.c62_serial.specs.Effect.{Act, no_act, runs, operand_values, act_on, act_of}
 use Rattle.c62_packet.specs.declared.placed.Placed.{Placed}
 use Rattle.c62_meaning.specs.Packet.{Did}
 use Rattle.c62_meaning.proofs.Lookup.{In, Contains_from_In}
 use Rattle.c62_meaning.proofs.Landings.{act_writes, Rising, rising_writes}
-use Rattle.c62_pipe.specs.Flight.{Slot, due, with_due, with_write, with_writes, FitsSlots}
+use Rattle.c62_pipe.specs.Flight.{Slot, due, with_write, with_writes, FitsSlots}
 
 -- of the writes of an instruction issued in this cycle, those that land at t
 abbrev pub due_of : ℕ → ℕ → List ((Reg × ℕ) × ℕ) → Slot

@@ -1,5 +1,5 @@
 -- Chains of packet blocks, each of which does what its packets mean (docs/REPORT.md, "Chains").
-use Rattle.std.specs.Prelude.{◌≡◌, ◌↔◌, ℕ, ◌<◌, List, [], length, sum_by, slice_get, slice_index_or, Some, None, IsTrue}
+use Rattle.std.specs.Prelude.{◌≡◌, ℕ, ◌<◌, List, [], length, sum_by, slice_get, slice_index_or, Some, None, IsTrue}
 use Rattle.c62_read.specs.Block.{Serial, branch_last, operations}
 use Rattle.c62_serial.specs.declared.chain.Chain.{Chain}
 use Rattle.c62_serial.specs.State.{Machine, Contents}

@@ -1,6 +1,6 @@
 //! The pipeline: packets issued cycle by cycle, their writes landing after their delays.
 
-ghost use Rattle.std.specs.Prelude.{◌≡◌, ℕ, fold, not, ◌+◌, ◌<◌, ◌≤◌, ◌++◌, [], length, IsTrue, IfSome, IfOk, OnErr};
+ghost use Rattle.std.specs.Prelude.{◌≡◌, ℕ, fold, not, ◌+◌, ◌<◌, ◌≤◌, ◌++◌, [], length, IsTrue, IfOk, OnErr};
 ghost use Rattle.c62_insn.specs.Insn.{op_of};
 ghost use Rattle.c62_serial.specs.State.{byte_in};
 ghost use Rattle.c62_serial.specs.Memory.{is_size, is_good};

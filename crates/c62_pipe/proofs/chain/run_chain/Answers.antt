@@ -1,9 +1,8 @@
-use Rattle.std.proofs.Common.{◌≡◌, ℕ, ◌+◌, ◌≤◌, length, refl, sym, ◌∙◌, subst, arith}
+use Rattle.std.proofs.Common.{◌≡◌, ◌+◌, ◌≤◌, refl, ◌∙◌, subst, arith}
 use Rattle.c62_serial.specs.declared.serial.Exit.{Exit}
-use Rattle.c62_serial.specs.declared.serial.Exit.TheVariants.{Next, Block, Register}
 use Rattle.c62_serial.specs.declared.chain.End.TheVariants.{Register as ToRegister}
 use Rattle.c62_serial.specs.Chain.{Ended}
-use Rattle.c62_pipe.proofs.Chains.{Turn, More, first_turn, block_more, packets_end, packets_fall_through, packets_at_limit}
+use Rattle.c62_pipe.proofs.Chains.{More, first_turn, block_more, packets_end, packets_fall_through, packets_at_limit}
 use Rattle.c62_pipe.proofs.chain.run_chain.Goals as goal
 
 pub loop-number-init : goal.loop-number-init

@@ -1,13 +1,12 @@
-use Rattle.std.proofs.Common.{◌≡◌, true, sym, ◌∙◌, ap, subst, List, [], ◌∷◌}
+use Rattle.std.proofs.Common.{◌≡◌, true, sym, ◌∙◌, ap, subst, [], ◌∷◌}
 use Rattle.c62_insn.specs.declared.action.Action.TheVariants.{Write, Transfer as Transfers}
 use Rattle.c62_insn.specs.Insn.{op_of}
 use Rattle.c62_insn.specs.Shape.{delay_of}
-use Rattle.c62_serial.specs.State.{word_in, byte_in}
+use Rattle.c62_serial.specs.State.{word_in}
 use Rattle.c62_serial.specs.Effect.{Act, runs, is_fault}
 use Rattle.c62_serial.specs.Faults.{with_fault_if}
-use Rattle.c62_serial.specs.Serial.{act_by}
 use Rattle.c62_serial.proofs.ActionLemmas.{act_of-action}
-use Rattle.c62_pipe.specs.Flight.{Slot, Flight, with_writes, FitsSlots, act_at, issued}
+use Rattle.c62_pipe.specs.Flight.{Flight, with_writes, FitsSlots, issued}
 use Rattle.c62_pipe.proofs.Slots.{room_for}
 use Rattle.c62_pipe.proofs.pipe.Pipe.issue.Goals as goal
 
