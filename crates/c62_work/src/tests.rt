@@ -145,3 +145,50 @@ fn finishing_what_a_side_began(rt: HostRuntime) -> Result<(), Fail> {
     assert_eq!(rt; board.length(), 3);
     Ok(())
 }
+
+/// The plan of the block of six, where memory is given.
+fn plan_of_six(alloc: Global) -> Option<Plan> {
+    let mut blocks = read_program(alloc, SIX.as_bytes()).ok()?.into_blocks();
+    Plan::new(alloc, blocks.pop()?).ok()
+}
+
+/// The plan of the block of six, asked for again where memory is refused.
+fn plan_again(rt: &impl Abort, alloc: Global) -> Result<Plan, Fail> {
+    match plan_of_six(alloc) {
+        Some(plan) => Ok(plan),
+        None => plan_of(rt, alloc, SIX),
+    }
+}
+
+/// An empty board of it with one ejection, made again where memory is refused.
+fn board_again(rt: &impl Abort, alloc: Global) -> Result<Board, Fail> {
+    match Board::new(alloc, plan_again(rt, alloc)?, 1) {
+        Ok(board) => Ok(board),
+        Err((plan, _)) => match Board::new(alloc, plan, 1) {
+            Ok(board) => Ok(board),
+            Err((_, error)) => Err(error.into()),
+        },
+    }
+}
+
+/// Wherever one allocation is refused, this passes too: turns stop behind whole steps and go on when they are called again,
+/// and finishing is refused or done.
+#[test]
+fn one_refused_growth(rt: HostRuntime) -> Result<(), Fail> {
+    let mut board = board_again(&rt, rt.alloc())?;
+    if turns(&mut board) == Turn::Memory {
+        let entries = board.journal().len();
+        assert!(rt; entries < 10 && entries != 5 && entries != 6);
+        assert!(rt; board.journal() == &JOURNAL[..entries]);
+        assert_eq!(rt; turns(&mut board), Turn::Done);
+    }
+    assert!(rt; board.complete());
+    let plan = plan_again(&rt, rt.alloc())?;
+    let board = board_again(&rt, rt.alloc())?;
+    let board = match finish(rt.alloc(), board, &plan) {
+        Ok(board) => board,
+        Err(_) => finish(rt.alloc(), board_again(&rt, rt.alloc())?, &plan)?,
+    };
+    has_cycles(&rt, &board);
+    Ok(())
+}
