@@ -162,22 +162,28 @@ fn turns_of_both_sides(rt: HostRuntime) -> Result<(), Fail> {
     Ok(())
 }
 
-#[test]
-fn two_ejections_and_one(rt: HostRuntime) -> Result<(), Fail> {
-    let mut board = board_of(&rt, rt.alloc(), SEVEN, 2)?;
-    for (k, want) in TWO_EJECTIONS.iter().enumerate() {
-        assert_eq!(rt; board.step(side_of(k)), *want);
+/// The steps of the sides in turn, from the first of these numbers on, answer this.
+fn takes_turns(rt: &impl Abort, board: &mut Board, from: usize, wanted: &[Turn]) {
+    for k in 0..wanted.len() {
+        assert!(rt; from < 100);
+        assert_eq!(rt; board.step(side_of(from + k)), wanted[k]);
     }
+}
+
+#[test]
+fn two_ejections(rt: HostRuntime) -> Result<(), Fail> {
+    let mut board = board_of(&rt, rt.alloc(), SEVEN, 2)?;
+    takes_turns(&rt, &mut board, 0, &TWO_EJECTIONS);
     assert_eq!(rt; board.budget(), 0);
     assert_eq!(rt; board.length(), 6);
+    Ok(())
+}
+
+#[test]
+fn one_ejection_of_two(rt: HostRuntime) -> Result<(), Fail> {
     let mut board = board_of(&rt, rt.alloc(), SEVEN, 1)?;
-    for (k, want) in TWO_EJECTIONS[..4]
-        .iter()
-        .chain(ONE_EJECTION.iter())
-        .enumerate()
-    {
-        assert_eq!(rt; board.step(side_of(k)), *want);
-    }
+    takes_turns(&rt, &mut board, 0, &TWO_EJECTIONS[..4]);
+    takes_turns(&rt, &mut board, 4, &ONE_EJECTION);
     assert_eq!(rt; board.budget(), 0);
     assert_eq!(rt; board.length(), 7);
     Ok(())
@@ -433,28 +439,44 @@ fn board_again(rt: &impl Abort, alloc: Global) -> Result<Board, Fail> {
     }
 }
 
-/// Wherever one allocation is refused, this passes too: what was handed over comes back, the board is as it was, and the
-/// call made again does what it does with ample memory.
+// Wherever one allocation is refused, the tests below pass too: what was handed over comes back, the board is as it was, and
+// the call made again does what it does with ample memory.
+
 #[test]
-fn one_refused_growth(rt: HostRuntime) -> Result<(), Fail> {
+fn a_refused_growth_of_steps(rt: HostRuntime) -> Result<(), Fail> {
     let mut board = board_again(&rt, rt.alloc())?;
     for (k, want) in TURNS.iter().enumerate() {
         assert_eq!(rt; step_again(&rt, &mut board, side_of(k)), *want);
     }
     assert!(rt; board.journal() == &JOURNAL[..]);
+    Ok(())
+}
+
+#[test]
+fn a_refused_growth_of_a_withdrawal(rt: HostRuntime) -> Result<(), Fail> {
     let mut board = replay_again(&rt, rt.alloc(), &JOURNAL[..4])?;
     assert_eq!(rt; withdraw_again(&rt, &mut board, 2), Ok(2));
     assert!(rt; board.journal() == &JOURNAL[..6]);
+    Ok(())
+}
+
+#[test]
+fn a_refused_growth_of_a_placing(rt: HostRuntime) -> Result<(), Fail> {
     let mut board = board_again(&rt, rt.alloc())?;
     let first = Spot { cycle: 0, unit: L1 };
     assert_eq!(rt; place_again(&rt, &mut board, 2), Ok(first));
+    Ok(())
+}
+
+#[test]
+fn a_refused_growth_of_a_proposal(rt: HostRuntime) -> Result<(), Fail> {
     let mut board = board_again(&rt, rt.alloc())?;
     let proposal = Proposal {
         number: 2,
-        spot: first,
+        spot: Spot { cycle: 0, unit: L1 },
         seen: 0,
     };
-    assert_eq!(rt; commit_again(&rt, &mut board, &proposal), Ok(first));
+    assert_eq!(rt; commit_again(&rt, &mut board, &proposal), Ok(proposal.spot));
     assert!(rt; board.journal() == &JOURNAL[..1]);
     Ok(())
 }

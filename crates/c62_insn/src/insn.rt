@@ -365,6 +365,7 @@ impl Insn {
     /// What the instruction does where registers have these words, those of A0 to A15 and B0 to B15:
     /// [`Insn::apply`] to them, together with the registers that are written. `None` where its
     /// condition does not hold.
+    #[inline(always)]
     pub fn action(&self, registers: &[u32; 32]) -> Option<Action>
         ensures runs { is_some result ≡ runs_with (word_at registers.now) (cond_of self.now) }
         ensures action { IfSome result (λ action. IsActionOf self.now (word_at registers.now) action) }

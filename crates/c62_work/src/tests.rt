@@ -145,3 +145,59 @@ fn finishing_what_a_side_began(rt: HostRuntime) -> Result<(), Fail> {
     assert_eq!(rt; board.length(), 3);
     Ok(())
 }
+
+/// The plan of the block of six, where memory is given.
+fn plan_of_six(alloc: Global) -> Option<Plan> {
+    let mut blocks = read_program(alloc, SIX.as_bytes()).ok()?.into_blocks();
+    Plan::new(alloc, blocks.pop()?).ok()
+}
+
+/// The plan of the block of six, asked for again where memory is refused.
+fn plan_again(rt: &impl Abort, alloc: Global) -> Result<Plan, Fail> {
+    match plan_of_six(alloc) {
+        Some(plan) => Ok(plan),
+        None => plan_of(rt, alloc, SIX),
+    }
+}
+
+/// An empty board of it with one ejection, made again where memory is refused.
+fn board_again(rt: &impl Abort, alloc: Global) -> Result<Board, Fail> {
+    match Board::new(alloc, plan_again(rt, alloc)?, 1) {
+        Ok(board) => Ok(board),
+        Err((plan, _)) => match Board::new(alloc, plan, 1) {
+            Ok(board) => Ok(board),
+            Err((_, error)) => Err(error.into()),
+        },
+    }
+}
+
+/// Where one allocation is refused, turns stop behind whole steps, and go on when they are called again.
+#[test]
+fn a_refused_growth_of_turns(rt: HostRuntime) -> Result<(), Fail> {
+    let mut board = board_again(&rt, rt.alloc())?;
+    if turns(&mut board) == Turn::Memory {
+        let entries = board.journal().len();
+        assert!(rt; entries < 10 && entries != 5 && entries != 6);
+        assert!(rt; board.journal() == &JOURNAL[..entries]);
+        assert_eq!(rt; turns(&mut board), Turn::Done);
+    }
+    assert!(rt; board.complete());
+    Ok(())
+}
+
+/// A finished board, finished again from an empty one where memory is refused.
+fn finish_again(rt: &impl Abort, alloc: Global, plan: &Plan) -> Result<Board, Fail> {
+    if let Ok(board) = finish(alloc, board_again(rt, alloc)?, plan) {
+        return Ok(board);
+    }
+    Ok(finish(alloc, board_again(rt, alloc)?, plan)?)
+}
+
+/// Where one allocation is refused, finishing is refused, and is done when it is asked for again.
+#[test]
+fn a_refused_growth_of_finishing(rt: HostRuntime) -> Result<(), Fail> {
+    let plan = plan_again(&rt, rt.alloc())?;
+    let board = finish_again(&rt, rt.alloc(), &plan)?;
+    has_cycles(&rt, &board);
+    Ok(())
+}

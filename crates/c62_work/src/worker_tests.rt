@@ -218,28 +218,28 @@ impl Watch<'_> {
     }
 }
 
-/// A number for a turn of a side: thousands for the side, hundreds for the turn.
-fn turn_number(side: Side, turn: u32) -> u64 {
+/// A number for what is told of a turn of a side: thousands for the side, and hundreds for the turn.
+fn turn_number(side: Side, turn: u32, what: u32) -> u64 {
     let thousands = match side {
         Side::A => 1000,
         Side::B => 2000,
     };
-    thousands + 100 * u64::from(turn)
+    thousands + 100 * u64::from(turn) + u64::from(what)
 }
 
 impl Gate for Watch<'_> {
     fn before(&self, side: Side, turn: u32) {
-        self.keep(turn_number(side, turn) + 1);
+        self.keep(turn_number(side, turn, 1));
     }
 
     fn after(&self, side: Side, turn: u32, came: &Turn) {
         let what = match came {
-            Turn::Placed(i, _) => 20 + u64::from(*i),
+            Turn::Placed(i, _) => 20 + u32::from(*i),
             Turn::Idle => 2,
             Turn::Done => 3,
             Turn::Ejected(_, _, _) | Turn::NoRoom(_) | Turn::Memory => 4,
         };
-        self.keep(turn_number(side, turn) + what);
+        self.keep(turn_number(side, turn, what));
     }
 }
 
