@@ -50,7 +50,7 @@ empty_fine = record {
   units = All-nil (λ (part : Part). is_some part.parts.unit ≡ true);
 }
 
-place_small : (letter : Letter) (side : Side) → place_of letter side < 8
+pub place_small : (letter : Letter) (side : Side) → place_of letter side < 8
 place_small L A = omega arith
 place_small S A = omega arith
 place_small M A = omega arith

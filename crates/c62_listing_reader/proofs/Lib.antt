@@ -6,6 +6,12 @@ pub mod NamedLemmas
 pub mod ClosedLemmas
 pub mod ListedLemmas
 pub mod SameLemmas
+pub mod UntoldLemmas
+pub mod BackLemmas
+pub mod BlocksLemmas
+pub mod LinesLemmas
+pub mod AlikeLemmas
+pub mod ReadBackLemmas
 pub mod BlockLemmas
 pub mod ReadLemmas
 pub mod PacketLemmas

@@ -143,14 +143,14 @@ begun_last name (draft ∷ drafts) last =
 
 -- ---- cycles without instructions
 
-abbrev rest_line : ℕ → List (List ℕ)
+abbrev pub rest_line : ℕ → List (List ℕ)
 rest_line rest = if rest == 0 then [] else pause_line rest ∷ []
 
 idle_by : (nines rest : ℕ) (cycles : ℕ) → cycles / 9 ≡ nines → cycles % 9 ≡ rest → idle_lines cycles ≡ replicate nines (pause_line 9) ++ rest_line rest
 idle_by nines rest cycles whole left =
     ap (λ (n : ℕ). replicate n (pause_line 9) ++ rest_line (cycles % 9)) whole ∙ ap (λ (n : ℕ). replicate nines (pause_line 9) ++ rest_line n) left
 
-rest_is : (n : ℕ) → 1 ≤ n → rest_line n ≡ pause_line n ∷ []
+pub rest_is : (n : ℕ) → 1 ≤ n → rest_line n ≡ pause_line n ∷ []
 rest_is n some =
     let test : (n == 0) ≡ false = grind (arith, nat_tests) in
     rw test refl
@@ -224,7 +224,7 @@ free_operands name other parts unit (Register target) is free = refl
 abbrev spelled_with : Parts → FunctionalUnit → Operands → List ℕ → List ℕ
 spelled_with parts unit operands text = condition_spelling parts.cond ++ mnemonic_of parts.op ++ codes " " ++ unit_spelling operands unit ++ codes " " ++ text
 
-does_text : (name other : ℕ → List ℕ) (parts : Parts) (unit : FunctionalUnit) → has_no_block parts.operands ≡ true → parts_spelling name parts unit ≡ parts_spelling other parts unit
+pub does_text : (name other : ℕ → List ℕ) (parts : Parts) (unit : FunctionalUnit) → has_no_block parts.operands ≡ true → parts_spelling name parts unit ≡ parts_spelling other parts unit
 does_text name other parts unit free =
     ap (spelled_with parts unit parts.operands) (free_operands name other parts unit parts.operands refl free)
 
@@ -574,7 +574,7 @@ module _ (name : ℕ → List ℕ) (labels : List Name) (aim : Name → ℕ) (ai
 
 -- ---- the text of lines that a line feed ends
 
-unreturned : (bytes : List ℕ) → ends_in_return bytes ≡ false → without_return bytes ≡ bytes
+pub unreturned : (bytes : List ℕ) → ends_in_return bytes ≡ false → without_return bytes ≡ bytes
 unreturned [] none = refl
 unreturned (b ∷ []) none = rw none refl
 unreturned (b ∷ c ∷ bytes) none = ap (λ (line : List ℕ). b ∷ line) (unreturned (c ∷ bytes) none)

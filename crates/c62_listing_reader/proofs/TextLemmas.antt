@@ -34,11 +34,11 @@ fed bytes = record { bytes = bytes; fed = true }
 
 -- ---- bytes without a line feed
 
-abbrev has_no_feed : List ℕ → Bool
+abbrev pub has_no_feed : List ℕ → Bool
 has_no_feed bytes = list_all (λ b. not (is_line_feed b)) bytes
 
 -- in front of a line feed they are a line
-before_feed : (line rest : List ℕ) → has_no_feed line ≡ true → lines_in (line ++ 10 ∷ rest) ≡ record { bytes = line; fed = true } ∷ lines_in rest
+pub before_feed : (line rest : List ℕ) → has_no_feed line ≡ true → lines_in (line ++ 10 ∷ rest) ≡ record { bytes = line; fed = true } ∷ lines_in rest
 before_feed [] rest none = refl
 before_feed (b ∷ line) rest none =
     let parts = and_parts (not (eqb b 10)) (has_no_feed line) none in

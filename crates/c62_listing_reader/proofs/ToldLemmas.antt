@@ -180,7 +180,7 @@ no_front word (colon ∷ words) none =
     let test : (spells (codes ":") colon && is_label word) ≡ false = and_right (spells (codes ":") colon) (is_label word) none in
     rw test refl
 
-bars_place : (rest : List ℕ) → place_of (124 ∷ 124 ∷ 32 ∷ rest) ≡ None
+pub bars_place : (rest : List ℕ) → place_of (124 ∷ 124 ∷ 32 ∷ rest) ≡ None
 unfolding place_of
 bars_place rest = no_front (124 ∷ 124 ∷ []) (tokens (32 ∷ rest)) bars_are_no_label
 
@@ -206,7 +206,7 @@ beside_test false false false false h = absurd cc
 beside_start : (bytes : List ℕ) → Beside ≡ front_of bytes → starts_with nat_eq bytes (codes "|| ") ≡ true
 beside_start bytes h = beside_test (is_empty bytes) (starts_with nat_eq bytes (codes "   ")) (starts_with nat_eq bytes (codes "|| ")) (is_label_line bytes) h
 
-empty_place : place_of [] ≡ None
+pub empty_place : place_of [] ≡ None
 unfolding place_of label_front
 empty_place = refl
 

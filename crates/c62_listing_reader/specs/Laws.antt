@@ -1,6 +1,13 @@
 -- The listing both ways.
-use Rattle.std.specs.Prelude.{◌≡◌, ℕ, List}
-use Rattle.c62_packet.specs.Packed.{Packed}
+use Rattle.std.specs.Prelude.{◌≡◌, ℕ, ◌<◌, ◌≤◌, List, length, map, All, Option, None, IsTrue}
+use Rattle.std.specs.List.{AllByRecursion, IsDistinct, flat_map}
+use Rattle.std.specs.Option.{option_to_list}
+use Rattle.std.specs.Str.{bytes_eq}
+use Rattle.c62_insn.specs.PacketRules.{Issue}
+use Rattle.c62_read.specs.Number.{is_label}
+use Rattle.c62_read.specs.Program.{Name}
+use Rattle.c62_packet.specs.Packed.{Packed, issues_of, IsPacketBlock}
+use Rattle.c62_packet.specs.Packets.{labels_of, is_closed}
 use Rattle.c62_listing.specs.Listing.{listing}
 use Rattle.c62_listing_reader.specs.Faults.{IsRead}
 
@@ -11,3 +18,36 @@ IsListedBack text packets = IsRead text packets → listing packets ≡ text
 -- a text has one reading, with the numbers of its lines
 abbrev pub AreOneReading : List ℕ → List Packed → List Packed → Type 0
 AreOneReading text packets others = IsRead text packets → IsRead text others → packets ≡ others
+
+-- ---- a listing is read back
+
+-- the labels that blocks have, in the order of the blocks
+abbrev pub labels_given : List Packed → List Name
+labels_given packets = flat_map option_to_list (labels_of packets)
+
+-- Packets that a listing shows whole: at most 64 packet blocks whose branches go to labelled blocks, with labels of which no two
+-- are the same, and with instructions in each block without a label.
+pub record AreShown (packets : List Packed) : Type 0 where
+  pub few : length packets ≤ 64
+  pub are_blocks : All IsPacketBlock packets
+  pub closed : IsTrue (is_closed packets)
+  pub labels : AllByRecursion (λ label. IsTrue (is_label label)) (labels_given packets)
+  pub distinct : IsDistinct bytes_eq (labels_given packets)
+  pub begun : AllByRecursion (λ block. block.label ≡ None → 0 < length block.placed) packets
+
+-- a block without the lines of its instructions
+pub record Unlined : Type 0 where
+  pub label : Option Name
+  pub cycles : ℕ
+  pub issues : List Issue
+
+abbrev pub unlined : Packed → Unlined
+unlined block = record { label = block.label; cycles = block.cycles; issues = issues_of block.placed }
+
+-- the same but for lines
+abbrev pub AreAlike : List Packed → List Packed → Type 0
+AreAlike packets others = map unlined packets ≡ map unlined others
+
+-- the listing of packets that it shows whole is read as these packets but for lines
+abbrev pub IsReadBack : List Packed → Type 0
+IsReadBack packets = AreShown packets → (others : List Packed) × IsRead (listing packets) others × AreAlike packets others

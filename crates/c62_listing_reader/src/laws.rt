@@ -2,7 +2,7 @@
 
 ghost use Rattle.std.specs.Prelude.{ℕ, List};
 ghost use Rattle.c62_packet.specs.Packed.{Packed};
-ghost use Rattle.c62_listing_reader.specs.Laws.{IsListedBack, AreOneReading};
+ghost use Rattle.c62_listing_reader.specs.Laws.{IsListedBack, AreOneReading, IsReadBack};
 
 /// What is read of a text is listed as that text, byte for byte.
 pub fn what_is_read_is_listed_back()
@@ -12,4 +12,9 @@ pub fn what_is_read_is_listed_back()
 /// A text has one reading: packets that are read of it are equal, with the numbers of its lines.
 pub fn texts_have_one_reading()
     ensures { (text : List ℕ) (packets others : List Packed) → AreOneReading text packets others }
+{}
+
+/// The listing of packets that it shows whole is read as these packets, but for the lines of their instructions.
+pub fn what_is_listed_is_read_back()
+    ensures { (packets : List Packed) → IsReadBack packets }
 {}
