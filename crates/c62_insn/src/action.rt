@@ -50,6 +50,7 @@ fn steps(registers: &[u32; 32], offset: Offset) -> u32
 }
 
 /// The load or store of a register at an address.
+#[inline(always)]
 fn transfer_of(
     registers: &[u32; 32],
     op: Op,
@@ -84,6 +85,7 @@ fn transfer_of(
 }
 
 /// What an operation does to its operands.
+#[inline(always)]
 pub(crate) fn act(registers: &[u32; 32], op: Op, operands: &Operands) -> Action
     ensures { IsAction op operands.now (word_at registers.now) result }
 {
