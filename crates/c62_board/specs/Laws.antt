@@ -1,5 +1,5 @@
 -- Laws of boards, in the words of the rules.
-use Rattle.std.specs.Prelude.{◌≡◌, ℕ, ◌*◌, ◌≤◌, List, [], ◌∷◌, length}
+use Rattle.std.specs.Prelude.{◌≡◌, ℕ, List, [], ◌∷◌}
 use Rattle.c62_insn.specs.declared.register.Side.{Side}
 use Rattle.c62_insn.specs.declared.insn.Insn.{Insn}
 use Rattle.c62_sheet.specs.declared.entry.Entry.{Entry}

@@ -1,21 +1,17 @@
 -- How much is left to do: each step that goes on and is not idle makes it less, and two sides are not idle at once.
-use Rattle.std.proofs.Common.{◌≡◌, ℕ, zero, suc, ◌+◌, ◌*◌, ◌<◌, ◌≤◌, ◌⊎◌, Bool, true, false, cond, List, [], ◌∷◌, length, Option, inl, inr, refl, ap, ◌∙◌, arith, length-set, add-one}
-use Rattle.std.specs.Prelude.{count_by, is_none}
+use Rattle.std.proofs.Common.{◌≡◌, ℕ, ◌+◌, ◌*◌, ◌<◌, ◌⊎◌, List, length, Option, inl, inr, refl, ap, ◌∙◌, arith, add-one}
 use Rattle.std.proofs.Math.Nat.{suc-mul}
-use Rattle.std.proofs.lemmas.Bool.{cases_eq}
-use Rattle.std.proofs.lemmas.List.Sums.{sum_by-cons, sum_by-set}
 use Rattle.c62_insn.specs.declared.register.Side.{Side}
 use Rattle.c62_insn.specs.declared.register.Side.TheVariants.{A, B}
 use Rattle.c62_insn.specs.declared.insn.Insn.{Insn}
 use Rattle.c62_read.specs.Block.{Serial}
 use Rattle.c62_depend.specs.Plan.{insns_of}
 use Rattle.c62_sheet.specs.declared.entry.Entry.{Entry}
-use Rattle.c62_sheet.specs.declared.entry.Entry.TheVariants.{Place, Withdraw}
 use Rattle.c62_sheet.specs.declared.entry.Spot.{Spot}
-use Rattle.c62_sheet.specs.Lawful.{Spots, spot_at, placed}
+use Rattle.c62_sheet.specs.Lawful.{Spots, placed}
 use Rattle.c62_sheet.specs.Least.{HasNoPick, IsComplete}
 use Rattle.c62_sheet.proofs.Picks.{some_ready}
-use Rattle.c62_sheet.specs.Journal.{after, replayed}
+use Rattle.c62_sheet.specs.Journal.{replayed}
 use Rattle.c62_board.specs.declared.turn.Turn.{Turn}
 use Rattle.c62_board.specs.declared.turn.Turn.TheVariants.{Placed, Ejected, Idle, Done, NoRoom, Memory}
 use Rattle.c62_board.specs.State.{BoardState, IsStep}

@@ -4,7 +4,6 @@ use Rattle.std.proofs.lemmas.Bool.{false≢true}
 use Rattle.c62_depend.specs.Plan.{insns_of}
 use Rattle.c62_depend.proofs.Plans.{many_insns}
 use Rattle.c62_sheet.specs.declared.entry.Entry.TheVariants.{Withdraw}
-use Rattle.c62_sheet.specs.declared.entry.Who.{Who}
 use Rattle.c62_sheet.specs.declared.entry.Who.TheVariants.{Tail}
 use Rattle.c62_sheet.specs.Lawful.{Placements}
 use Rattle.c62_board.specs.Withdrawal.{GoesWith}
