@@ -34,17 +34,15 @@ impl Lists {
     ghost use Rattle.c62_depend.specs.declared.links.Link.{Link as End};
     ghost use Rattle.c62_depend.specs.Lists.{AreLists};
 
-    /// No list, with room for where so many begin.
-    fn new(alloc: Global, count: usize) -> Result<Lists, AllocError>
+    /// No list, with room for so many, and for so many links in all.
+    fn new(alloc: Global, count: usize, links: usize) -> Result<Lists, AllocError>
         requires { count ≤ 256 }
         ensures { (f : ℕ → List End) → IfOk result (AreLists f 0) }
     {
+        let links = Vec::with_capacity(alloc, links)?;
         let mut starts = Vec::with_capacity(alloc, count + 1)?;
         starts.push(0)?;
-        Ok(Lists {
-            links: Vec::new(alloc),
-            starts,
-        })
+        Ok(Lists { links, starts })
     }
 
     /// Adds a list behind the others.
@@ -131,6 +129,11 @@ fn gather_followers(gathered: &mut Gathered, pairs: &[u8], uses: &[Uses], i: usi
 }
 
 impl Lists {
+    /// How many links the lists have in all.
+    fn link_count(&self) -> usize {
+        self.links.len()
+    }
+
     /// What each instruction depends on. The latencies are kept in `pairs`.
     fn needs(alloc: Global, pairs: &mut [u8], uses: &[Uses]) -> Result<Lists, AllocError>
         requires few { length uses.now ≤ 256 }
@@ -139,7 +142,7 @@ impl Lists {
         ensures pairs { IfOk result (λ lists. ArePairs (insns_in uses.now) (length uses.now) 0 pairs.new) }
     {
         let mut gathered = ArrayVec::new();
-        let mut all = Lists::new(alloc, uses.len())?;
+        let mut all = Lists::new(alloc, uses.len(), uses.len() * uses.len() / 2)?;
         for j in 0..uses.len() {
             gather_needs(&mut gathered, pairs, uses, j);
             all.push(gathered.as_slice())?;
@@ -147,14 +150,19 @@ impl Lists {
         Ok(all)
     }
 
-    /// What depends on each instruction.
-    fn followers(alloc: Global, pairs: &[u8], uses: &[Uses]) -> Result<Lists, AllocError>
+    /// What depends on each instruction: so many links.
+    fn followers(
+        alloc: Global,
+        links: usize,
+        pairs: &[u8],
+        uses: &[Uses],
+    ) -> Result<Lists, AllocError>
         requires few { length uses.now ≤ 256 }
         requires pairs { ArePairs (insns_in uses.now) (length uses.now) 0 pairs.now }
         ensures { IfOk result (AreLists (followers (insns_in uses.now)) (length uses.now)) }
     {
         let mut gathered = ArrayVec::new();
-        let mut all = Lists::new(alloc, uses.len())?;
+        let mut all = Lists::new(alloc, uses.len(), links)?;
         for i in 0..uses.len() {
             gather_followers(&mut gathered, pairs, uses, i);
             all.push(gathered.as_slice())?;
@@ -173,6 +181,6 @@ pub(crate) fn links(alloc: Global, uses: &[Uses]) -> Result<(Lists, Lists), Allo
 {
     let mut pairs: Vec<u8> = vec![in alloc; 0; uses.len() * 256]?;
     let needs = Lists::needs(alloc, &mut pairs, uses)?;
-    let followers = Lists::followers(alloc, &pairs, uses)?;
+    let followers = Lists::followers(alloc, needs.link_count(), &pairs, uses)?;
     Ok((needs, followers))
 }
