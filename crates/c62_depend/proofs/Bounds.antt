@@ -1,6 +1,6 @@
 -- The bounds that the sets of registers tell are those of the cases.
 use Rattle.std.proofs.Common.{◌≡◌, ℕ, suc, ◌+◌, ◌<◌, ◌≤◌, ℤ, pos, ◌-ℤ◌, ◌≤ℤ◌, Bool, true, false, List, [], ◌∷◌, Option, Some, None, refl, sym, ap, ◌∙◌, subst, arith, inl, inr, ◌⊎◌}
-use Rattle.std.specs.Prelude.{Contains, length, All, ◌==◌, ◌&&◌, ◌||◌, not}
+use Rattle.std.specs.Prelude.{Contains, length, All, ◌==◌, ◌&&◌, ◌||◌, not, if◌then◌else◌}
 use Rattle.std.specs.List.{list_any}
 use Rattle.std.proofs.lemmas.Int.{ints}
 use Rattle.std.proofs.lemmas.Bool.{both_ways, false_from_ne_true, not-true, or_cases, or_left, or_right, and_parts, cond_both}
@@ -20,11 +20,39 @@ use Rattle.c62_insn.proofs.InsnLemmas.{writes_delay_of}
 use Rattle.c62_depend.specs.declared.uses.Uses.{Uses}
 use Rattle.c62_depend.specs.declared.reg_set.RegSet.{RegSet}
 use Rattle.c62_depend.specs.RegSet.{reg_in, shares}
-use Rattle.c62_depend.specs.Uses.{are_apart, bound_if, told_awaited, told_spared, told_overwritten, told}
+use Rattle.c62_depend.specs.Uses.{are_apart}
 use Rattle.c62_depend.specs.Latency.{greater, read_after_write, write_after_read, write_after_write, by_registers, latency_of}
 use Rattle.c62_depend.proofs.RegSets.{shared, shares_one}
 use Rattle.c62_depend.proofs.Greatest.{IsGreatest, IsGreatest-is, IsGreatest-same, IsGreatest-greater, IsGreatest-one}
 use Rattle.c62_depend.proofs.Latencies.{some_under, under, ByRead, BySpared, ByWrites, ByRegisters, By, read-greatest, spared-greatest, writes-greatest, all-greatest}
+
+-- ---- what the sets tell
+
+abbrev pub bound_if : Bool → ℤ → Option ℤ
+bound_if applies bound = if applies then Some bound else None
+
+-- 1: the later one reads what the earlier one writes
+abbrev pub told_awaited : Uses → Uses → Option ℤ
+told_awaited p q = greater (bound_if (shares p.results q.reads) (pos (p.delay + 1))) (bound_if (shares p.at_once q.reads) (pos 1))
+
+-- 2: the later one writes what the earlier one reads
+abbrev pub told_spared : Uses → Uses → Option ℤ
+told_spared p q = greater (bound_if (shares p.reads q.at_once) (pos 0)) (bound_if (shares p.reads q.results) (pos 0 -ℤ pos q.delay))
+
+-- 3: both write one register, the earlier one with its delay, or at once
+abbrev pub told_after_result : Uses → Uses → Option ℤ
+told_after_result p q =
+    greater (bound_if (shares p.results q.at_once) (pos (p.delay + 1))) (bound_if (shares p.results q.results) (pos (p.delay + 1) -ℤ pos q.delay))
+
+abbrev pub told_after_at_once : Uses → Uses → Option ℤ
+told_after_at_once p q = greater (bound_if (shares p.at_once q.at_once) (pos 1)) (bound_if (shares p.at_once q.results) (pos 1 -ℤ pos q.delay))
+
+abbrev pub told_overwritten : Bool → Uses → Uses → Option ℤ
+told_overwritten exclusive p q = if exclusive then None else greater (told_after_result p q) (told_after_at_once p q)
+
+-- all three
+abbrev pub told : Bool → Uses → Uses → Option ℤ
+told exclusive p q = greater (told_awaited p q) (greater (told_spared p q) (told_overwritten exclusive p q))
 
 -- ---- the writes of an instruction
 
@@ -348,6 +376,20 @@ module _ (p q : Uses) where
     where
       first_told : shares p.results q.reads ≡ true → Awaited (pos (p.delay + 1))
       first_told e = inl (under _ (pos (p.delay + 1)) (pos (p.delay + 1)) e refl)
+
+      below : (b : ℤ) → b ≤ℤ pos (delay_of (op_of p.insn) + 1) → b ≤ℤ pos (p.delay + 1)
+      below b low = let own : p.delay ≡ delay_of (op_of p.insn) = p.delay_is in omega (arith, ints)
+
+  -- as little as that of a result which the second one writes over at once
+  pub overwritten_result_is : (exclusive disjoint : Bool) → exclusive ≡ false → shares p.results q.at_once ≡ true → Some (pos (p.delay + 1)) ≡ latency_of exclusive disjoint p.insn q.insn
+  unfolding ByRegisters Overwritten LandedResult
+  overwritten_result_is exclusive disjoint free h =
+      let landed : ByWrites p.insn q.insn (pos (p.delay + 1)) = from_overwritten (pos (p.delay + 1)) (landed_told h) in
+      IsGreatest-one (By exclusive disjoint p.insn q.insn) (Some (pos (p.delay + 1))) (latency_of exclusive disjoint p.insn q.insn)
+      (inl (inr (inr (free, landed))), λ b is. below b (bound_below exclusive disjoint b is)) (all-greatest p.insn q.insn exclusive disjoint)
+    where
+      landed_told : shares p.results q.at_once ≡ true → Overwritten (pos (p.delay + 1))
+      landed_told e = inl (inl (under _ (pos (p.delay + 1)) (pos (p.delay + 1)) e refl))
 
       below : (b : ℤ) → b ≤ℤ pos (delay_of (op_of p.insn) + 1) → b ≤ℤ pos (p.delay + 1)
       below b low = let own : p.delay ≡ delay_of (op_of p.insn) = p.delay_is in omega (arith, ints)

@@ -7,3 +7,5 @@ pub mod Units
 pub mod Plans
 pub mod Rules
 pub mod Bounds
+pub mod Numbers
+pub mod Lists

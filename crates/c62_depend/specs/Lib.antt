@@ -1,8 +1,10 @@
 pub mod RegSet
 pub mod Writes
 pub mod Uses
+pub mod Numbers
 pub mod Latency
 pub mod Links
+pub mod Lists
 pub mod Height
 pub mod Side
 pub mod Places

@@ -11,6 +11,7 @@ use Rattle.c62_depend.specs.declared.tables.Tables.{Tables}
 use Rattle.c62_depend.specs.Uses.{insns_in}
 use Rattle.c62_depend.specs.Latency.{latency}
 use Rattle.c62_depend.specs.Links.{needs, followers}
+use Rattle.c62_depend.specs.Lists.{AreLists}
 use Rattle.c62_depend.specs.Height.{height}
 use Rattle.c62_depend.specs.Side.{side, stands_on}
 use Rattle.c62_depend.specs.Places.{ArePlaces}
@@ -45,7 +46,7 @@ pub record IsPlan (block : List Insn) : Type 0 where
 -- the tables of a plan are those of its block
 pub record AreTables (block : List Insn) (tables : Tables) : Type 0 where
   pub insns : insns_in tables.uses.items ≡ block
-  pub needs : map (λ one. one.items) tables.needs.items ≡ map (needs block) (range_with_len 0 (length block))
-  pub followers : map (λ one. one.items) tables.followers.items ≡ map (followers block) (range_with_len 0 (length block))
+  pub needs : AreLists (needs block) (length block) tables.needs
+  pub followers : AreLists (followers block) (length block) tables.followers
   pub heights : tables.heights.items ≡ map (height block) (range_with_len 0 (length block))
   pub places : ArePlaces block (length block) tables.places.items

@@ -4,9 +4,10 @@ ghost use Rattle.std.specs.Prelude.{◌≡◌, ◌<◌, ◌≤◌, ◌≤ℤ◌,
 ghost use Rattle.std.specs.List.{range_with_len};
 ghost use Rattle.c62_depend.specs.Uses.{insns_in};
 ghost use Rattle.c62_depend.specs.Links.{followers};
+ghost use Rattle.c62_depend.specs.Lists.{AreLists};
 ghost use Rattle.c62_depend.specs.Height.{raised, longest, height, IsUsable};
 
-use crate::links::{Link, Links};
+use crate::links::{Link, Lists};
 use crate::uses::Uses;
 use std::alloc::{AllocError, Global};
 
@@ -34,16 +35,15 @@ fn longest(delay: u16, links: &[Link], heights: &[u16]) -> u16
 }
 
 /// The height of each instruction, found from the last one up.
-pub(crate) fn heights(alloc: Global, uses: &[Uses], links: &[Links]) -> Result<Vec<u16>, AllocError>
+pub(crate) fn heights(alloc: Global, uses: &[Uses], links: &Lists) -> Result<Vec<u16>, AllocError>
     requires few { length uses.now ≤ 256 }
-    requires links { map (λ one. one.items) links.now ≡ map (followers (insns_in uses.now)) (range_with_len 0 (length uses.now)) }
+    requires links { AreLists (followers (insns_in uses.now)) (length uses.now) links.now }
     ensures { IfOk result (λ heights. heights.items ≡ map (height (insns_in uses.now)) (range_with_len 0 (length uses.now))) }
 {
     let mut heights = vec![in alloc; 0; uses.len()]?;
     for i in (0..uses.len()).rev() {
         let delay = u16::from(uses[i].delay);
-        let followers = &links[i];
-        heights[i] = longest(delay, followers.as_slice(), &heights);
+        heights[i] = longest(delay, links.get(i), &heights);
     }
     Ok(heights)
 }

@@ -1,88 +1,90 @@
 //! How far two instructions of a block must stand apart.
+//!
+//! A bound is counted here as one number: 6 more than its cycles, which are -5 or more, and 0 where there is none.
 
-ghost use Rattle.std.specs.Prelude.{◌≡◌, ◌<◌, ◌≤ℤ◌, length, pos, negsuc, ◌+◌, Some, IfSome};
-ghost use Rattle.c62_depend.specs.Latency.{greater, access_after_store, store_after_load, before_branch, by_registers, by_order, latency_of, latency};
+ghost use Rattle.std.specs.Prelude.{◌≡◌, ◌<◌, ◌≤◌, ◌≤ℤ◌, ◌+◌, max, length, pos, negsuc, IfSome};
+ghost use Rattle.c62_depend.specs.Latency.{latency_of, latency};
 ghost use Rattle.c62_insn.specs.Dependence.{IsLatency};
-ghost use Rattle.c62_depend.specs.Uses.{insns_in, bound_if, told_awaited, told_spared, told_after_result, told_after_at_once, told_overwritten, told};
+ghost use Rattle.c62_depend.specs.Uses.{insns_in};
+ghost use Rattle.c62_depend.specs.Numbers.{as_bound, number_if, number_awaited, number_spared, number_after_result, number_after_at_once, number_overwritten, number_after_store, number_after_load, number_before_branch, number_of_registers, number_of_order};
 
 use crate::excuse::{are_disjoint, are_disjoint_in, are_exclusive, are_exclusive_in};
 use crate::uses::Uses;
 use c62_insn::Insn;
 
-/// The greater of two bounds, each of which may be absent.
-fn greater(a: Option<i32>, b: Option<i32>) -> Option<i32>
-    ensures { result ≡ greater a b }
+/// The bound that a number stands for, if any.
+#[inline(always)]
+pub(crate) fn as_bound(number: u8) -> Option<i32>
+    ensures { result ≡ as_bound number }
 {
-    match (a, b) {
-        (None, b) => b,
-        (Some(a), None) => Some(a),
-        (Some(a), Some(b)) => Some(a.max(b)),
+    if number == 0 {
+        None
+    } else {
+        Some(i32::from(number) - 6)
     }
 }
 
-/// A bound, where it applies.
-fn bound_if(applies: bool, bound: i32) -> Option<i32>
-    ensures { result ≡ bound_if applies bound }
+/// The greater of two bounds.
+fn greater(a: u8, b: u8) -> u8
+    ensures { result ≡ max a b }
 {
-    if applies { Some(bound) } else { None }
+    a.max(b)
+}
+
+/// A bound, where it applies.
+fn number_if(applies: bool, number: u8) -> u8
+    ensures { result ≡ number_if applies number }
+{
+    if applies { number } else { 0 }
 }
 
 /// Case 1: the second instruction reads what the first one writes, and so comes after the landing.
-fn read_after_write(first: &Uses, second: &Uses) -> Option<i32>
-    ensures { result ≡ told_awaited first.now second.now }
+fn read_after_write(first: &Uses, second: &Uses) -> u8
+    ensures { result ≡ number_awaited first.now second.now }
 {
     greater(
-        bound_if(
-            first.results.meets(second.reads),
-            i32::from(first.delay) + 1,
-        ),
-        bound_if(first.at_once.meets(second.reads), 1),
+        number_if(first.results.meets(second.reads), first.delay + 7),
+        number_if(first.at_once.meets(second.reads), 7),
     )
 }
 
 /// Case 2: the second instruction writes what the first one reads, and lands in its cycle or later.
-fn write_after_read(first: &Uses, second: &Uses) -> Option<i32>
-    ensures { result ≡ told_spared first.now second.now }
+fn write_after_read(first: &Uses, second: &Uses) -> u8
+    ensures { result ≡ number_spared first.now second.now }
 {
     greater(
-        bound_if(first.reads.meets(second.at_once), 0),
-        bound_if(first.reads.meets(second.results), -i32::from(second.delay)),
+        number_if(first.reads.meets(second.at_once), 6),
+        number_if(first.reads.meets(second.results), 6 - second.delay),
     )
 }
 
 /// The second instruction writes what the first one writes with its delay.
-fn write_after_result(first: &Uses, second: &Uses) -> Option<i32>
-    ensures { result ≡ told_after_result first.now second.now }
+fn write_after_result(first: &Uses, second: &Uses) -> u8
+    ensures { result ≡ number_after_result first.now second.now }
 {
-    let landed = i32::from(first.delay) + 1;
+    let landed = first.delay + 7;
     greater(
-        bound_if(first.results.meets(second.at_once), landed),
-        bound_if(
-            first.results.meets(second.results),
-            landed - i32::from(second.delay),
-        ),
+        number_if(first.results.meets(second.at_once), landed),
+        number_if(first.results.meets(second.results), landed - second.delay),
     )
 }
 
 /// The second instruction writes what the first one writes at once.
-fn write_after_at_once(first: &Uses, second: &Uses) -> Option<i32>
-    ensures { result ≡ told_after_at_once first.now second.now }
+fn write_after_at_once(first: &Uses, second: &Uses) -> u8
+    ensures { result ≡ number_after_at_once first.now second.now }
 {
     greater(
-        bound_if(first.at_once.meets(second.at_once), 1),
-        bound_if(
-            first.at_once.meets(second.results),
-            1 - i32::from(second.delay),
-        ),
+        number_if(first.at_once.meets(second.at_once), 7),
+        number_if(first.at_once.meets(second.results), 7 - second.delay),
     )
 }
 
 /// Case 3: both write one register, and the second lands later, unless the two are exclusive.
-fn write_after_write(exclusive: bool, first: &Uses, second: &Uses) -> Option<i32>
-    ensures { result ≡ told_overwritten exclusive first.now second.now }
+fn write_after_write(exclusive: bool, first: &Uses, second: &Uses) -> u8
+    ensures { result ≡ number_overwritten exclusive first.now second.now }
 {
     if exclusive {
-        None
+        0
     } else {
         greater(
             write_after_result(first, second),
@@ -92,32 +94,32 @@ fn write_after_write(exclusive: bool, first: &Uses, second: &Uses) -> Option<i32
 }
 
 /// Case 4: an access comes after a store, unless the two are disjoint.
-fn access_after_store(disjoint: bool, first: &Uses, second: &Uses) -> Option<i32>
-    ensures { result ≡ access_after_store disjoint first.now.insn second.now.insn }
+fn access_after_store(disjoint: bool, first: &Uses, second: &Uses) -> u8
+    ensures { result ≡ number_after_store disjoint first.now.insn second.now.insn }
 {
-    bound_if(
+    number_if(
         !disjoint && (first.stores && (second.loads || second.stores)),
-        1,
+        7,
     )
 }
 
 /// Case 5: a store comes with a load or after it, unless the two are disjoint.
-fn store_after_load(disjoint: bool, first: &Uses, second: &Uses) -> Option<i32>
-    ensures { result ≡ store_after_load disjoint first.now.insn second.now.insn }
+fn store_after_load(disjoint: bool, first: &Uses, second: &Uses) -> u8
+    ensures { result ≡ number_after_load disjoint first.now.insn second.now.insn }
 {
-    bound_if(!disjoint && (first.loads && second.stores), 0)
+    number_if(!disjoint && (first.loads && second.stores), 6)
 }
 
 /// Case 6: all has landed when a branch takes effect.
-fn before_branch(first: &Uses, second: &Uses) -> Option<i32>
-    ensures { result ≡ before_branch first.now.insn second.now.insn }
+fn before_branch(first: &Uses, second: &Uses) -> u8
+    ensures { result ≡ number_before_branch first.now.insn second.now.insn }
 {
-    bound_if(second.branches, i32::from(first.delay) - 5)
+    number_if(second.branches, first.delay + 1)
 }
 
 /// The greatest bound of the cases of registers.
-fn by_registers(exclusive: bool, first: &Uses, second: &Uses) -> Option<i32>
-    ensures { result ≡ told exclusive first.now second.now }
+fn by_registers(exclusive: bool, first: &Uses, second: &Uses) -> u8
+    ensures { result ≡ number_of_registers exclusive first.now second.now }
 {
     greater(
         read_after_write(first, second),
@@ -129,8 +131,8 @@ fn by_registers(exclusive: bool, first: &Uses, second: &Uses) -> Option<i32>
 }
 
 /// The greatest bound of the other cases.
-fn by_order(disjoint: bool, first: &Uses, second: &Uses) -> Option<i32>
-    ensures { result ≡ by_order disjoint first.now.insn second.now.insn }
+fn by_cases_of_order(disjoint: bool, first: &Uses, second: &Uses) -> u8
+    ensures { result ≡ number_of_order disjoint first.now.insn second.now.insn }
 {
     greater(
         access_after_store(disjoint, first, second),
@@ -141,28 +143,68 @@ fn by_order(disjoint: bool, first: &Uses, second: &Uses) -> Option<i32>
     )
 }
 
-/// The bound that a result sets which is awaited.
-fn bound_of_result(first: &Uses) -> Option<i32>
-    ensures { result ≡ Some (pos (first.now.delay + 1)) }
+/// The greatest bound of the other cases, which an instruction that neither accesses memory nor branches needn't be asked.
+#[inline(always)]
+fn by_order(disjoint: bool, first: &Uses, second: &Uses) -> u8
+    ensures { result ≡ number_of_order disjoint first.now.insn second.now.insn }
 {
-    Some(i32::from(first.delay) + 1)
+    if second.is_ordered() {
+        by_cases_of_order(disjoint, first, second)
+    } else {
+        0
+    }
+}
+
+/// The bound that a result sets which is awaited, or written over at once.
+#[inline(always)]
+fn after_result(first: &Uses) -> u8
+    ensures { result ≡ first.now.delay + 7 }
+{
+    7 + first.delay
+}
+
+/// The greatest bound of all cases.
+#[inline(never)]
+fn by_all(exclusive: bool, disjoint: bool, first: &Uses, second: &Uses) -> u8
+    ensures { as_bound result ≡ latency_of exclusive disjoint first.now.insn second.now.insn }
+{
+    greater(
+        by_registers(exclusive, first, second),
+        by_cases_of_order(disjoint, first, second),
+    )
 }
 
 /// By how much the cycle of the second instruction must at least exceed that of the first: the greatest bound of the
-/// cases that apply. No bound exceeds that of a result which the second one awaits.
-fn latency_between(exclusive: bool, disjoint: bool, first: &Uses, second: &Uses) -> Option<i32>
-    ensures { result ≡ latency_of exclusive disjoint first.now.insn second.now.insn }
+/// cases that apply. No bound exceeds that of a result which the second one awaits or writes over at once.
+#[inline(always)]
+fn number_between(exclusive: bool, disjoint: bool, first: &Uses, second: &Uses) -> u8
+    ensures { as_bound result ≡ latency_of exclusive disjoint first.now.insn second.now.insn }
 {
     if first.results.meets(second.reads) {
-        bound_of_result(first)
+        after_result(first)
+    } else if !exclusive && first.results.meets(second.at_once) {
+        after_result(first)
     } else if first.is_apart(second) {
         by_order(disjoint, first, second)
     } else {
-        greater(
-            by_registers(exclusive, first, second),
-            by_order(disjoint, first, second),
-        )
+        by_all(exclusive, disjoint, first, second)
     }
+}
+
+/// By how much the cycle of instruction `j` must at least exceed that of instruction `i`, which stands before it: the
+/// greatest bound of the cases that apply, as a number.
+#[inline(always)]
+pub(crate) fn latency_number(uses: &[Uses], i: usize, j: usize) -> u8
+    requires before { i < j }
+    requires within { j < length uses.now }
+    ensures { as_bound result ≡ latency (insns_in uses.now) i j }
+{
+    number_between(
+        are_exclusive(uses, i, j),
+        are_disjoint(uses, i, j),
+        &uses[i],
+        &uses[j],
+    )
 }
 
 /// By how much the cycle of instruction `j` must at least exceed that of instruction `i`, which stands before it: the
@@ -171,14 +213,8 @@ pub(crate) fn latency(uses: &[Uses], i: usize, j: usize) -> Option<i32>
     requires before { i < j }
     requires within { j < length uses.now }
     ensures latency { result ≡ latency (insns_in uses.now) i j }
-    ensures small { IfSome result (λ latency. (negsuc 4 ≤ℤ latency) × (latency ≤ℤ pos 5)) }
 {
-    latency_between(
-        are_exclusive(uses, i, j),
-        are_disjoint(uses, i, j),
-        &uses[i],
-        &uses[j],
-    )
+    as_bound(latency_number(uses, i, j))
 }
 
 /// By how much the cycle of instruction `j` of a block must at least exceed that of instruction `i`, which stands before
@@ -191,10 +227,10 @@ pub fn latency_in(block: &[Insn], i: usize, j: usize) -> Option<i32>
     ensures latency { result ≡ latency block.now i j }
     ensures small { IfSome result (λ latency. (negsuc 4 ≤ℤ latency) × (latency ≤ℤ pos 5)) }
 {
-    latency_between(
+    as_bound(number_between(
         are_exclusive_in(block, i, j),
         are_disjoint_in(block, i, j),
         &Uses::new(block[i]),
         &Uses::new(block[j]),
-    )
+    ))
 }

@@ -1,14 +1,16 @@
 //! The dependences of an instruction, as lists.
 
-ghost use Rattle.std.specs.Prelude.{◌≡◌, ◌<◌, ◌≤◌, ◌++◌, length, map, IfOk};
-ghost use Rattle.std.specs.List.{range_with_len};
+ghost use Rattle.std.specs.Prelude.{◌≡◌, ◌+◌, ◌*◌, ◌<◌, ◌≤◌, ◌++◌, ℕ, List, length, map, slice_index, IfOk, OnOk};
+ghost use Rattle.std.specs.List.{slice_range, range_with_len};
+ghost use Rattle.c62_insn.specs.declared.insn.Insn.{Insn};
 ghost use Rattle.c62_depend.specs.Uses.{insns_in};
+ghost use Rattle.c62_depend.specs.Numbers.{as_bound};
 ghost use Rattle.c62_depend.specs.Links.{linked, needs, followers};
+ghost use Rattle.c62_depend.specs.Lists.{ArePairs};
 
-use crate::latency::latency;
+use crate::latency::{as_bound, latency_number};
 use crate::uses::Uses;
 use arrayvec::ArrayVec;
-use smallvec::SmallVec;
 use std::alloc::{AllocError, Global};
 
 /// One end of a dependence: the number of the other instruction, and the latency of the dependence.
@@ -20,79 +22,165 @@ pub struct Link {
     pub latency: i32,
 }
 
-/// The dependences of one instruction.
-pub(crate) type Links = SmallVec<Link, 4>;
+/// The dependences of each instruction, those of one behind those of the one before it.
+#[derive(Drop)]
+pub(crate) struct Lists {
+    links: Vec<Link>,
+    /// Where the dependences of each instruction begin, and where all end.
+    starts: Vec<usize>,
+}
+
+impl Lists {
+    ghost use Rattle.c62_depend.specs.declared.links.Link.{Link as End};
+    ghost use Rattle.c62_depend.specs.Lists.{AreLists};
+
+    /// No list, with room for so many, and for so many links in all.
+    fn new(alloc: Global, count: usize, links: usize) -> Result<Lists, AllocError>
+        requires { count ≤ 256 }
+        ensures { (f : ℕ → List End) → IfOk result (AreLists f 0) }
+    {
+        let links = Vec::with_capacity(alloc, links)?;
+        let mut starts = Vec::with_capacity(alloc, count + 1)?;
+        starts.push(0)?;
+        Ok(Lists { links, starts })
+    }
+
+    /// Adds a list behind the others.
+    fn push(&mut self, links: &[Link]) -> Result<(), AllocError>
+        ensures { (f : ℕ → List End) (count : ℕ) → AreLists f count self.old → links.now ≡ f count → OnOk result (AreLists f (count + 1) self.new) }
+    {
+        self.links.extend_from_slice(links)?;
+        self.starts.push(self.links.len())?;
+        Ok(())
+    }
+
+    /// The list of number `i`.
+    pub fn get(&self, i: usize) -> &[Link]
+        requires within { i + 1 < length self.now.starts.items }
+        requires rising { slice_index self.now.starts.items i ≤ slice_index self.now.starts.items (i + 1) }
+        requires inside { slice_index self.now.starts.items (i + 1) ≤ length self.now.links.items }
+        ensures { result.now ≡ slice_range self.now.links.items (slice_index self.now.starts.items i) (slice_index self.now.starts.items (i + 1)) }
+    {
+        let start = self.starts[i];
+        let end = self.starts[i + 1];
+        &self.links[start..end]
+    }
+
+    /// Equal lists.
+    pub fn copy(&self, alloc: Global) -> Result<Lists, AllocError>
+        ensures { (f : ℕ → List End) (count : ℕ) → AreLists f count self.now → IfOk result (AreLists f count) }
+    {
+        let links = Vec::from_slice(alloc, &self.links)?;
+        let starts = Vec::from_slice(alloc, &self.starts)?;
+        Ok(Lists { links, starts })
+    }
+}
 
 /// Room to gather the dependences of one instruction: at most one for each instruction of a block.
 type Gathered = ArrayVec<Link, 256>;
 
-fn add(gathered: &mut Gathered, number: u16, latency: Option<i32>)
-    requires { length gathered.old.items < 256 }
-    ensures { gathered.new.items ≡ gathered.old.items ++ linked number latency }
+/// Where the latency of two instructions stands among those of all pairs.
+#[inline(always)]
+fn pair_at(i: usize, j: usize) -> usize
+    requires first { i < 256 }
+    requires second { j < 256 }
+    ensures { result ≡ j * 256 + i }
 {
-    if let Some(latency) = latency {
+    j * 256 + i
+}
+
+#[inline(always)]
+fn add(gathered: &mut Gathered, number: u16, latency: u8)
+    requires { length gathered.old.items < 256 }
+    ensures { gathered.new.items ≡ gathered.old.items ++ linked number (as_bound latency) }
+{
+    if let Some(latency) = as_bound(latency) {
         gathered.push(Link { number, latency });
     }
 }
 
-/// What instruction `j` depends on.
-fn needs_of(
-    alloc: Global,
-    gathered: &mut Gathered,
-    uses: &[Uses],
-    j: usize,
-) -> Result<Links, AllocError>
+/// Gathers what instruction `j` depends on, and keeps the latencies.
+fn gather_needs(gathered: &mut Gathered, pairs: &mut [u8], uses: &[Uses], j: usize)
     requires few { length uses.now ≤ 256 }
     requires within { j < length uses.now }
-    ensures { IfOk result (λ links. links.items ≡ needs (insns_in uses.now) j) }
+    requires before { ArePairs (insns_in uses.now) j 0 pairs.old }
+    ensures needs { gathered.new.items ≡ needs (insns_in uses.now) j }
+    ensures pairs { ArePairs (insns_in uses.now) (j + 1) 0 pairs.new }
 {
     gathered.clear();
     for i in 0..j {
-        add(gathered, i as u16, latency(uses, i, j));
+        let latency = latency_number(uses, i, j);
+        pairs[pair_at(i, j)] = latency;
+        add(gathered, i as u16, latency);
     }
-    SmallVec::from_slice(alloc, gathered.as_slice())
 }
 
-/// What depends on instruction `i`.
-fn followers_of(
-    alloc: Global,
-    gathered: &mut Gathered,
-    uses: &[Uses],
-    i: usize,
-) -> Result<Links, AllocError>
+/// Gathers what depends on instruction `i`, from the latencies.
+fn gather_followers(gathered: &mut Gathered, pairs: &[u8], uses: &[Uses], i: usize)
     requires few { length uses.now ≤ 256 }
     requires within { i < length uses.now }
-    ensures { IfOk result (λ links. links.items ≡ followers (insns_in uses.now) i) }
+    requires pairs { ArePairs (insns_in uses.now) (length uses.now) 0 pairs.now }
+    ensures { gathered.new.items ≡ followers (insns_in uses.now) i }
 {
     gathered.clear();
     for j in i + 1..uses.len() {
-        add(gathered, j as u16, latency(uses, i, j));
+        add(gathered, j as u16, pairs[pair_at(i, j)]);
     }
-    SmallVec::from_slice(alloc, gathered.as_slice())
 }
 
-/// What each instruction depends on.
-pub(crate) fn all_needs(alloc: Global, uses: &[Uses]) -> Result<Vec<Links>, AllocError>
-    requires { length uses.now ≤ 256 }
-    ensures { IfOk result (λ all. map (λ links. links.items) all.items ≡ map (needs (insns_in uses.now)) (range_with_len 0 (length uses.now))) }
-{
-    let mut gathered = ArrayVec::new();
-    let mut all = Vec::with_capacity(alloc, uses.len())?;
-    for j in 0..uses.len() {
-        all.push(needs_of(alloc, &mut gathered, uses, j)?)?;
+impl Lists {
+    /// How many links the lists have in all.
+    fn link_count(&self) -> usize {
+        self.links.len()
     }
-    Ok(all)
+
+    /// What each instruction depends on. The latencies are kept in `pairs`.
+    fn needs(alloc: Global, pairs: &mut [u8], uses: &[Uses]) -> Result<Lists, AllocError>
+        requires few { length uses.now ≤ 256 }
+        requires room { length pairs.old ≡ length uses.now * 256 }
+        ensures needs { IfOk result (AreLists (needs (insns_in uses.now)) (length uses.now)) }
+        ensures pairs { IfOk result (λ lists. ArePairs (insns_in uses.now) (length uses.now) 0 pairs.new) }
+    {
+        let mut gathered = ArrayVec::new();
+        let mut all = Lists::new(alloc, uses.len(), uses.len() * uses.len() / 2)?;
+        for j in 0..uses.len() {
+            gather_needs(&mut gathered, pairs, uses, j);
+            all.push(gathered.as_slice())?;
+        }
+        Ok(all)
+    }
+
+    /// What depends on each instruction: so many links.
+    fn followers(
+        alloc: Global,
+        links: usize,
+        pairs: &[u8],
+        uses: &[Uses],
+    ) -> Result<Lists, AllocError>
+        requires few { length uses.now ≤ 256 }
+        requires pairs { ArePairs (insns_in uses.now) (length uses.now) 0 pairs.now }
+        ensures { IfOk result (AreLists (followers (insns_in uses.now)) (length uses.now)) }
+    {
+        let mut gathered = ArrayVec::new();
+        let mut all = Lists::new(alloc, uses.len(), links)?;
+        for i in 0..uses.len() {
+            gather_followers(&mut gathered, pairs, uses, i);
+            all.push(gathered.as_slice())?;
+        }
+        Ok(all)
+    }
 }
 
-/// What depends on each instruction.
-pub(crate) fn all_followers(alloc: Global, uses: &[Uses]) -> Result<Vec<Links>, AllocError>
+ghost use Rattle.c62_depend.specs.Lists.{AreLists};
+
+/// What each instruction depends on, and what depends on each.
+pub(crate) fn links(alloc: Global, uses: &[Uses]) -> Result<(Lists, Lists), AllocError>
     requires { length uses.now ≤ 256 }
-    ensures { IfOk result (λ all. map (λ links. links.items) all.items ≡ map (followers (insns_in uses.now)) (range_with_len 0 (length uses.now))) }
+    ensures needs { IfOk result (λ both. AreLists (needs (insns_in uses.now)) (length uses.now) both.0) }
+    ensures followers { IfOk result (λ both. AreLists (followers (insns_in uses.now)) (length uses.now) both.1) }
 {
-    let mut gathered = ArrayVec::new();
-    let mut all = Vec::with_capacity(alloc, uses.len())?;
-    for i in 0..uses.len() {
-        all.push(followers_of(alloc, &mut gathered, uses, i)?)?;
-    }
-    Ok(all)
+    let mut pairs: Vec<u8> = vec![in alloc; 0; uses.len() * 256]?;
+    let needs = Lists::needs(alloc, &mut pairs, uses)?;
+    let followers = Lists::followers(alloc, needs.link_count(), &pairs, uses)?;
+    Ok((needs, followers))
 }

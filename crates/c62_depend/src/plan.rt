@@ -119,8 +119,7 @@ impl Plan {
         ensures { result.now ≡ needs (insns_of self.now) j }
     {
         let tables = &self.tables;
-        let links = &tables.needs[j as usize];
-        links.as_slice()
+        tables.needs.get(j as usize)
     }
 
     /// What depends on instruction `i`, by rising numbers, each with the latency to it.
@@ -129,8 +128,7 @@ impl Plan {
         ensures { result.now ≡ followers (insns_of self.now) i }
     {
         let tables = &self.tables;
-        let links = &tables.followers[i as usize];
-        links.as_slice()
+        tables.followers.get(i as usize)
     }
 
     /// By how much the cycle of instruction `j` must at least exceed that of instruction `i`: the greatest bound of the
@@ -166,10 +164,9 @@ impl Plan {
     pub fn copy(&self, alloc: Global) -> Result<Plan, AllocError>
         ensures { IfOk result (λ plan. plan ≡ self.now) }
     {
-        match Plan::new(alloc, self.block.copy(alloc)?) {
-            Ok(plan) => Ok(plan),
-            Err((_, error)) => Err(error),
-        }
+        let block = self.block.copy(alloc)?;
+        let tables = self.tables.copy(alloc)?;
+        Ok(Plan { block, tables })
     }
 
     /// Whether both are plans of one block, with the same label, instructions and lines.

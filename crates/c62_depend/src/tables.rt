@@ -1,10 +1,11 @@
 //! What a plan keeps beside its block.
 
-ghost use Rattle.std.specs.Prelude.{◌≡◌, ◌≤◌, length, IfOk};
+ghost use Rattle.std.specs.Prelude.{◌≡◌, ◌≤◌, List, length, IfOk};
+ghost use Rattle.c62_insn.specs.declared.insn.Insn.{Insn};
 ghost use Rattle.c62_depend.specs.Uses.{insns_in};
 
 use crate::height::heights;
-use crate::links::{Links, all_followers, all_needs};
+use crate::links::{Lists, links};
 use crate::side::{Place, places};
 use crate::uses::Uses;
 use c62_read::SerialInsn;
@@ -14,8 +15,8 @@ use std::alloc::{AllocError, Global};
 #[derive(Drop)]
 pub(crate) struct Tables {
     pub uses: Vec<Uses>,
-    pub needs: Vec<Links>,
-    pub followers: Vec<Links>,
+    pub needs: Lists,
+    pub followers: Lists,
     pub heights: Vec<u16>,
     pub places: Vec<Place>,
 }
@@ -39,8 +40,7 @@ impl Tables {
         ensures { IfOk result (λ tables. AreTables (unnumbered insns.now) tables) }
     {
         let uses = all_uses(alloc, insns)?;
-        let needs = all_needs(alloc, &uses)?;
-        let followers = all_followers(alloc, &uses)?;
+        let (needs, followers) = links(alloc, &uses)?;
         let heights = heights(alloc, &uses, &followers)?;
         let places = places(alloc, &uses)?;
         Ok(Tables {
@@ -49,6 +49,19 @@ impl Tables {
             followers,
             heights,
             places,
+        })
+    }
+
+    /// Equal tables.
+    pub fn copy(&self, alloc: Global) -> Result<Tables, AllocError>
+        ensures { (block : List Insn) → AreTables block self.now → IfOk result (AreTables block) }
+    {
+        Ok(Tables {
+            uses: Vec::from_slice(alloc, &self.uses)?,
+            needs: self.needs.copy(alloc)?,
+            followers: self.followers.copy(alloc)?,
+            heights: Vec::from_slice(alloc, &self.heights)?,
+            places: Vec::from_slice(alloc, &self.places)?,
         })
     }
 }

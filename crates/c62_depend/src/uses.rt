@@ -1,6 +1,6 @@
 //! What an instruction reads, writes and accesses.
 
-ghost use Rattle.std.specs.Prelude.{◌≡◌, ◌&&◌, ◌||◌, ◌==◌};
+ghost use Rattle.std.specs.Prelude.{◌≡◌, ◌≤◌, ◌&&◌, ◌||◌, ◌==◌};
 ghost use Rattle.std.specs.List.{list_any};
 ghost use Rattle.c62_insn.specs.Takes.{same_reg};
 ghost use Rattle.c62_insn.specs.declared.register.Reg.{Reg as Register};
@@ -13,7 +13,7 @@ use crate::reg_set::RegSet;
 use c62_insn::{Cond, Insn, Reg};
 
 /// An instruction, with what its dependences ask of it at hand.
-#[derive(Drop)]
+#[derive(Clone, Copy)]
 pub(crate) struct Uses {
     pub insn: Insn,
     /// The registers that are read, as operands or as the condition.
@@ -36,6 +36,7 @@ pub(crate) struct Uses {
     pub ghost written_are: { (reg : Register) → reg_in written reg ≡ (reg_in at_once reg || reg_in results reg) },
     pub ghost used_are: { (reg : Register) → reg_in used reg ≡ (reg_in reads reg || reg_in written reg) },
     pub ghost delay_is: { delay ≡ delay_of (op_of insn) },
+    pub ghost small: { delay ≤ 5 },
     pub ghost load_is: { loads ≡ is_load (op_of insn) },
     pub ghost store_is: { stores ≡ is_store (op_of insn) },
     pub ghost branch_is: { branches ≡ is_branch (op_of insn) },
@@ -110,6 +111,13 @@ impl Uses {
             stores: op.is_store(),
             branches: op.is_branch(),
         }
+    }
+
+    /// Whether some case asks this instruction, as the later one, for more than registers.
+    pub fn is_ordered(&self) -> bool
+        ensures { result ≡ (self.now.loads || (self.now.stores || self.now.branches)) }
+    {
+        self.loads || (self.stores || self.branches)
     }
 
     /// Whether neither instruction reads or writes a register that the other one writes.

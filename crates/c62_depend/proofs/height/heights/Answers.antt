@@ -7,7 +7,7 @@ use Rattle.c62_depend.specs.Links.{followers}
 use Rattle.c62_depend.specs.Height.{delay_in, delay_at, longest, IsUsable}
 use Rattle.c62_depend.proofs.Latencies.{insn_at}
 use Rattle.c62_depend.proofs.Heights.{AreHeightsFrom, usable, height_more, heights_all}
-use Rattle.c62_depend.proofs.Ranges.{made_long, made_at}
+use Rattle.c62_depend.proofs.Lists.{is_kept, list_is}
 use Rattle.c62_depend.proofs.height.heights.Goals as goal
 
 many : (uses : List Uses) → length (insns_in uses) ≡ length uses
@@ -22,29 +22,30 @@ delay_is : (uses : List Uses) (i delay : ℕ) (u : Uses) → i < length uses →
 delay_is uses i delay u within at e =
     e ∙ ap (λ (one : Uses). one.delay) (sym at) ∙ u.delay_is ∙ sym (ap delay_in (insn_at uses i u within at))
 
-pub bounds-links-i : goal.bounds-links-i
-bounds-links-i c =
-    let long = made_long (λ one. one.items) (followers (insns_in c.args.uses.now)) (length c.args.uses.now) c.args.links.now c.requires.links in
-    omega arith
+pub get-requires : goal.get-requires
+get-requires c =
+    let i = c.loop-i.i - 1 in
+    let kept = is_kept (followers (insns_in c.args.uses.now)) (length c.args.uses.now) i c.args.links.now c.requires.links (omega arith) in
+    record { within = kept.within; rising = kept.rising; inside = kept.inside }
 
 pub longest-requires : goal.longest-requires
 longest-requires c =
     let i = c.loop-i.i - 1 in
     let block = insns_in c.args.uses.now in
     let all = many c.args.uses.now in
-    let links = c.as_slice.ensures ∙ made_at (λ one. one.items) (followers block) (length c.args.uses.now) i c.args.links.now c.index-links-i.result c.requires.links (omega arith) c.index-links-i.is in
-    subst (λ (hs : List ℕ). All (IsUsable hs) c.as_slice.result.now) (sym c.deref.ensures.value)
-    (usable block i c.loop-i.heights.items c.as_slice.result.now (below c.args.uses.now c.loop-i.i c.loop-i.heights.items c.loop-i-test.true c.loop-i.invariant) (omega arith) links)
+    let links = c.get.ensures ∙ list_is (followers block) (length c.args.uses.now) i c.args.links.now c.requires.links (omega arith) in
+    subst (λ (hs : List ℕ). All (IsUsable hs) c.get.result.now) (sym c.deref.ensures.value)
+    (usable block i c.loop-i.heights.items c.get.result.now (below c.args.uses.now c.loop-i.i c.loop-i.heights.items c.loop-i-test.true c.loop-i.invariant) (omega arith) links)
 
 pub loop-i-preserved : goal.loop-i-preserved
 loop-i-preserved c =
     let i = c.loop-i.i - 1 in
     let block = insns_in c.args.uses.now in
     let all = many c.args.uses.now in
-    let links = c.as_slice.ensures ∙ made_at (λ one. one.items) (followers block) (length c.args.uses.now) i c.args.links.now c.index-links-i.result c.requires.links (omega arith) c.index-links-i.is in
+    let links = c.get.ensures ∙ list_is (followers block) (length c.args.uses.now) i c.args.links.now c.requires.links (omega arith) in
     let delay = delay_is c.args.uses.now i c.from-delay.result c.index-uses-i.result (omega arith) c.index-uses-i.is c.from-delay.ensures in
-    let found = c.longest.ensures ∙ ap (λ (hs : List ℕ). longest (slice_index hs) c.from-delay.result c.as_slice.result.now) c.deref.ensures.value in
-    height_more block i c.longest.result c.from-delay.result c.loop-i.heights.items c.as_slice.result.now
+    let found = c.longest.ensures ∙ ap (λ (hs : List ℕ). longest (slice_index hs) c.from-delay.result c.get.result.now) c.deref.ensures.value in
+    height_more block i c.longest.result c.from-delay.result c.loop-i.heights.items c.get.result.now
     (below c.args.uses.now c.loop-i.i c.loop-i.heights.items c.loop-i-test.true c.loop-i.invariant) (omega arith) delay links found
 
 pub returns : goal.returns

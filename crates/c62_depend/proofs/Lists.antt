@@ -1,0 +1,143 @@
+-- Lists that stand one after the other in one list, and the latencies of all pairs.
+use Rattle.std.proofs.Common.{◌≡◌, ℕ, zero, suc, ◌+◌, ◌-◌, ◌*◌, ◌<◌, ◌≤◌, List, [], ◌∷◌, ◌++◌, map, length, take, drop, set, refl, sym, ap, ◌∙◌, arith, inl, inr}
+use Rattle.std.specs.Prelude.{slice_index}
+use Rattle.std.specs.List.{flat_map, range_with_len, slice_range}
+use Rattle.std.proofs.lemmas.Bool.{cases_eq, cases_lt}
+use Rattle.std.proofs.lemmas.List.{append_assoc, length-append, length-set, get_or-set_other}
+use Rattle.std.proofs.lemmas.Grind.{get_or-set_at}
+use Rattle.std.proofs.lemmas.List.FromFn.{map-range_with_len_more, get_or-map-range_with_len, length-map-range_with_len}
+use Rattle.std.proofs.Math.Seq.{take-append_seam, drop-append_seam}
+use Rattle.c62_insn.specs.declared.insn.Insn.{Insn}
+use Rattle.c62_depend.specs.declared.links.Link.{Link}
+use Rattle.c62_depend.specs.declared.links.Lists.{Lists}
+use Rattle.c62_depend.specs.Latency.{latency}
+use Rattle.c62_depend.specs.Numbers.{as_bound}
+use Rattle.c62_depend.specs.Lists.{start_of, AreLists, pair_at, ArePairs}
+use Rattle.c62_depend.proofs.Ranges.{pieces_more}
+
+-- ---- lists one after the other
+
+-- a list more
+pub lists_more : (f : ℕ → List Link) (count : ℕ) (old new : Lists) (links : List Link) → AreLists f count old → links ≡ f count
+    → new.links.items ≡ old.links.items ++ links → new.starts.items ≡ old.starts.items ++ length new.links.items ∷ [] → AreLists f (count + 1) new
+lists_more f count old new links are is more next = record { links = all; starts = begin }
+  where
+    all : new.links.items ≡ flat_map f (range_with_len 0 (count + 1))
+    all = pieces_more f 0 count (count + 1) count old.links.items new.links.items (omega arith) refl are.links (more ∙ ap (λ (xs : List Link). old.links.items ++ xs) is)
+
+    begin : new.starts.items ≡ map (start_of f) (range_with_len 0 (count + 1 + 1))
+    begin =
+        next
+        ∙ ap (λ (xs : List ℕ). xs ++ length new.links.items ∷ []) are.starts
+        ∙ ap (λ (n : ℕ). map (start_of f) (range_with_len 0 (count + 1)) ++ n ∷ []) (ap length all)
+        ∙ sym (map-range_with_len_more (start_of f) 0 (count + 1) (count + 1) (omega arith))
+
+-- all lists, parted at the one of number j
+parted : {A : Type 0} (f : ℕ → List A) (a i n k j : ℕ) → a + i ≡ j → i + suc k ≡ n
+    → flat_map f (range_with_len a n) ≡ flat_map f (range_with_len a i) ++ (f j ++ flat_map f (range_with_len (j + 1) k))
+parted f a i zero k j at size = absurd (omega arith)
+parted {A} f a zero (suc m) k j at size =
+    let same : a ≡ j = omega arith in
+    let many : m ≡ k = omega arith in
+    ap (λ (x : ℕ). f x ++ flat_map f (range_with_len (x + 1) m)) same ∙ ap (λ (x : ℕ). f j ++ flat_map f (range_with_len (j + 1) x)) many
+parted {A} f a (suc i) (suc m) k j at size =
+    let rest : List A = f j ++ flat_map f (range_with_len (j + 1) k) in
+    ap (λ (xs : List A). f a ++ xs) (parted f (a + 1) i m k j (omega arith) (omega arith))
+    ∙ sym (append_assoc (f a) (flat_map f (range_with_len (a + 1) i)) rest)
+
+at_number : {A : Type 0} (f : ℕ → List A) (i n : ℕ) → i < n
+    → flat_map f (range_with_len 0 n) ≡ flat_map f (range_with_len 0 i) ++ (f i ++ flat_map f (range_with_len (i + 1) (n - (i + 1))))
+at_number f i n within = parted f 0 i n (n - (i + 1)) i (omega arith) (omega arith)
+
+start_more : (f : ℕ → List Link) (i : ℕ) → start_of f (i + 1) ≡ start_of f i + length (f i)
+start_more f i =
+    sym (ap length (pieces_more f 0 i (i + 1) i (flat_map f (range_with_len 0 i)) (flat_map f (range_with_len 0 i) ++ f i) (omega arith) refl refl refl))
+    ∙ length-append (flat_map f (range_with_len 0 i)) (f i)
+
+start_below : (f : ℕ → List Link) (i n : ℕ) → i < n → start_of f i + length (f i) ≤ start_of f n
+start_below f i n within =
+    let rest = flat_map f (range_with_len (i + 1) (n - (i + 1))) in
+    let whole : start_of f n ≡ start_of f i + length (f i ++ rest) = ap length (at_number f i n within) ∙ length-append (flat_map f (range_with_len 0 i)) (f i ++ rest) in
+    let parts : length (f i ++ rest) ≡ length (f i) + length rest = length-append (f i) rest in
+    omega arith
+
+part_is : {A : Type 0} (before piece rest : List A) → take (length (before ++ piece) - length before) (drop (length before) (before ++ (piece ++ rest))) ≡ piece
+part_is {A} before piece rest =
+    let long : length (before ++ piece) ≡ length before + length piece = length-append before piece in
+    let size : length (before ++ piece) - length before ≡ length piece = omega arith in
+    ap (take (length (before ++ piece) - length before)) (drop-append_seam before (piece ++ rest))
+    ∙ ap (λ (n : ℕ). take n (piece ++ rest)) size
+    ∙ take-append_seam piece rest
+
+start_at : (f : ℕ → List Link) (n k : ℕ) (lists : Lists) → AreLists f n lists → k ≤ n → slice_index lists.starts.items k ≡ start_of f k
+start_at f n k lists are within =
+    ap (λ (xs : List ℕ). slice_index xs k) are.starts ∙ get_or-map-range_with_len (start_of f) 0 (n + 1) k k 0 (omega arith) (omega arith)
+
+-- what holds of the list of number i
+pub record IsKept (lists : Lists) (i : ℕ) : Type 0 where
+  pub within : i + 1 < length lists.starts.items
+  pub rising : slice_index lists.starts.items i ≤ slice_index lists.starts.items (i + 1)
+  pub inside : slice_index lists.starts.items (i + 1) ≤ length lists.links.items
+
+pub is_kept : (f : ℕ → List Link) (n i : ℕ) (lists : Lists) → AreLists f n lists → i < n → IsKept lists i
+is_kept f n i lists are within =
+    let first : slice_index lists.starts.items i ≡ start_of f i = start_at f n i lists are (omega arith) in
+    let next : slice_index lists.starts.items (i + 1) ≡ start_of f (i + 1) = start_at f n (i + 1) lists are (omega arith) in
+    let more : start_of f (i + 1) ≡ start_of f i + length (f i) = start_more f i in
+    let below : start_of f i + length (f i) ≤ start_of f n = start_below f i n within in
+    let whole : length lists.links.items ≡ start_of f n = ap length are.links in
+    let long : length lists.starts.items ≡ n + 1 = ap length are.starts ∙ length-map-range_with_len (start_of f) 0 (n + 1) in
+    record { within = omega arith; rising = omega arith; inside = omega arith }
+
+pub list_is : (f : ℕ → List Link) (n i : ℕ) (lists : Lists) → AreLists f n lists → i < n
+    → slice_range lists.links.items (slice_index lists.starts.items i) (slice_index lists.starts.items (i + 1)) ≡ f i
+list_is f n i lists are within =
+    let before = flat_map f (range_with_len 0 i) in
+    let rest = flat_map f (range_with_len (i + 1) (n - (i + 1))) in
+    let first : slice_index lists.starts.items i ≡ length before = start_at f n i lists are (omega arith) in
+    let next : slice_index lists.starts.items (i + 1) ≡ length (before ++ f i) = start_at f n (i + 1) lists are (omega arith) ∙ start_more f i ∙ sym (length-append before (f i)) in
+    let whole : lists.links.items ≡ before ++ (f i ++ rest) = are.links ∙ at_number f i n within in
+    ap (λ (xs : List Link). slice_range xs (slice_index lists.starts.items i) (slice_index lists.starts.items (i + 1))) whole
+    ∙ ap (λ (a : ℕ). slice_range (before ++ (f i ++ rest)) a (slice_index lists.starts.items (i + 1))) first
+    ∙ ap (λ (b : ℕ). slice_range (before ++ (f i ++ rest)) (length before) b) next
+    ∙ part_is before (f i) rest
+
+-- ---- the latencies of all pairs
+
+pub no_pairs : (block : List Insn) (numbers : List ℕ) → length numbers ≡ length block * 256 → ArePairs block 0 0 numbers
+no_pairs block numbers long = record { long = long; before = λ a b less none. absurd (omega arith); here = λ a none. absurd (omega arith) }
+
+-- a pair more
+pub pairs_more : (block : List Insn) (j i n k : ℕ) (old new : List ℕ) → ArePairs block j i old → i < j → j < length block → length block ≤ 256
+    → as_bound n ≡ latency block i j → k ≡ j * 256 + i → new ≡ set old k n → ArePairs block j (i + 1) new
+pairs_more block j i n k old new are less within few is at e = rw e (record { long = length-set old k n ∙ are.long; before = others; here = row })
+  where
+    others : (a b : ℕ) → a < b → b < j → as_bound (slice_index (set old k n) (pair_at a b)) ≡ latency block a b
+    others a b low below =
+        ap as_bound (get_or-set_other old k (pair_at a b) n 0 (λ (same : b * 256 + a ≡ k). (omega arith)))
+        ∙ are.before a b low below
+
+    row : (a : ℕ) → a < i + 1 → as_bound (slice_index (set old k n) (pair_at a j)) ≡ latency block a j
+    row a low = elim (cases_eq a i) [
+      | inl same ↦
+          let long : length old ≡ length block * 256 = are.long in
+          ap as_bound (get_or-set_at old k (pair_at a j) n 0 (let there : j * 256 + a ≡ k = omega arith in there) (omega arith)) ∙ is ∙ ap (λ (x : ℕ). latency block x j) (sym same)
+      | inr other ↦
+          ap as_bound (get_or-set_other old k (pair_at a j) n 0 (λ (same : j * 256 + a ≡ k). other (omega arith))) ∙ are.here a (let lower : a < i = omega arith in lower)
+    ]
+
+-- all pairs of one later instruction more
+pub pairs_next : (block : List Insn) (j : ℕ) (numbers : List ℕ) → ArePairs block j j numbers → ArePairs block (j + 1) 0 numbers
+pairs_next block j numbers are = record { long = are.long; before = rows; here = λ a none. absurd (omega arith) }
+  where
+    rows : (a b : ℕ) → a < b → b < j + 1 → as_bound (slice_index numbers (pair_at a b)) ≡ latency block a b
+    rows a b low below = elim (cases_lt b j) [
+      | inl earlier ↦ are.before a b low earlier
+      | inr later ↦
+          let same : b ≡ j = omega arith in
+          ap (λ (x : ℕ). as_bound (slice_index numbers (pair_at a x))) same ∙ are.here a (omega arith) ∙ ap (λ (x : ℕ). latency block a x) (sym same)
+    ]
+
+pub pair_is : (block : List Insn) (n i j k : ℕ) (numbers : List ℕ) → ArePairs block n 0 numbers → i < j → j < n → k ≡ j * 256 + i
+    → as_bound (slice_index numbers k) ≡ latency block i j
+pair_is block n i j k numbers are less within at = ap (λ (m : ℕ). as_bound (slice_index numbers m)) at ∙ are.before i j less within

@@ -1,0 +1,27 @@
+-- Many lists of dependences, one after the other in one list; and the latencies of all pairs, as numbers.
+use Rattle.std.specs.Prelude.{◌≡◌, ℕ, ◌+◌, ◌*◌, ◌<◌, List, length, map, slice_index}
+use Rattle.std.specs.List.{flat_map, range_with_len}
+use Rattle.c62_insn.specs.declared.insn.Insn.{Insn}
+use Rattle.c62_depend.specs.declared.links.Link.{Link}
+use Rattle.c62_depend.specs.declared.links.Lists.{Lists}
+use Rattle.c62_depend.specs.Latency.{latency}
+use Rattle.c62_depend.specs.Numbers.{as_bound}
+
+-- where the list of number k begins
+abbrev pub start_of : (ℕ → List Link) → ℕ → ℕ
+start_of f k = length (flat_map f (range_with_len 0 k))
+
+-- the lists f 0, f 1 .. one after the other, so many of them
+pub record AreLists (f : ℕ → List Link) (count : ℕ) (lists : Lists) : Type 0 where
+  pub links : lists.links.items ≡ flat_map f (range_with_len 0 count)
+  pub starts : lists.starts.items ≡ map (start_of f) (range_with_len 0 (count + 1))
+
+-- where the number of the latency from i to j stands
+abbrev pub pair_at : ℕ → ℕ → ℕ
+pair_at i j = j * 256 + i
+
+-- the pairs whose later instruction stands before j, and those of j with the first i instructions, have their latencies
+pub record ArePairs (block : List Insn) (j i : ℕ) (numbers : List ℕ) : Type 0 where
+  pub long : length numbers ≡ length block * 256
+  pub before : (a b : ℕ) → a < b → b < j → as_bound (slice_index numbers (pair_at a b)) ≡ latency block a b
+  pub here : (a : ℕ) → a < i → as_bound (slice_index numbers (pair_at a j)) ≡ latency block a j
