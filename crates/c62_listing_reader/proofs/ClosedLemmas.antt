@@ -117,7 +117,7 @@ packets_stand labels (block ∷ packets) =
     (sym (list_all-map (λ (part : Part). target_stands labels part.parts.operands) part_of block.placed))
     ∙ ap (λ (others : Bool). stand_in labels (draft_of block) && others) (packets_stand labels packets)
 
-labels_same : (packets : List Packed) → packet_labels packets ≡ labels_in (map draft_of packets)
+pub labels_same : (packets : List Packed) → packet_labels packets ≡ labels_in (map draft_of packets)
 labels_same [] = refl
 labels_same (block ∷ packets) = ap (λ (labels : List (Option Name)). block.label ∷ labels) (labels_same packets)
 

@@ -20,7 +20,6 @@ use Rattle.c62_read.specs.Walk.{is_unknown}
 use Rattle.c62_read.proofs.SaysLemmas.{IsProper, has_no_block}
 use Rattle.c62_packet.specs.declared.placed.Placed.{Placed}
 use Rattle.c62_packet.specs.Packed.{Packed, StandAsWritten, IsPacketBlock}
-use Rattle.c62_packet.specs.Packets.{labels_of as packet_labels}
 use Rattle.c62_read.specs.Text.{without_return}
 use Rattle.c62_listing.specs.Listing.{pause_line, idle_lines, placed_lines, cycle_lines, label_lines, block_lines, parted_lines, all_lines, label_text, name_in, text_of, listing}
 use Rattle.c62_listing_reader.specs.declared.line.Front.{Front}
@@ -35,6 +34,7 @@ use Rattle.c62_listing_reader.specs.Fine.{IsFine}
 use Rattle.c62_listing_reader.proofs.PauseLemmas.{IsShort}
 use Rattle.c62_listing_reader.proofs.ToldLemmas.{IsTold, begun, over, gap_front, if_err, is_proper, is_short, not_false}
 use Rattle.c62_listing_reader.proofs.Going.{Follows, IsGoing, judged_fits, go, go-start, opened_fine}
+use Rattle.c62_listing_reader.proofs.ClosedLemmas.{labels_same}
 use Rattle.c62_listing_reader.proofs.NamedLemmas.{aims, labels_in, says_filled}
 
 -- ---- the lines of a block as it is read
@@ -630,10 +630,6 @@ all_ended labels aim number drafts above (line ∷ below) final h =
     (all_ended labels aim (number + 1) (with_said aim number said drafts) (above_next said.front said.says) below final start.others)
 
 -- ---- what is read
-
-labels_same : (packets : List Packed) → packet_labels packets ≡ labels_in (map draft_of packets)
-labels_same [] = refl
-labels_same (block ∷ packets) = ap (λ (labels : List (Option Name)). block.label ∷ labels) (labels_same packets)
 
 pub listed : (text : List ℕ) (packets : List Packed) → IsRead text packets → listing packets ≡ text
 listed text packets is =
