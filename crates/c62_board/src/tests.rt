@@ -145,6 +145,40 @@ fn withdraw(rt: &impl Abort, board: &mut Board, i: u16) -> Result<u16, WithdrawF
     board.withdraw(i, Who::A)
 }
 
+/// Blocks placed in the order of the text: the cycle of each instruction, and the length.
+const IN_ORDER: [(&str, &[u16], u16); 8] = [
+    ("MVK 3,A1\nADD A5,A1,A2\nLDW *A4,A5", &[0, 1, 0], 5),
+    ("LDW *A4,A5\nMVK 1,A5", &[0, 5], 6),
+    ("MPY A1,A1,A4\nADD A1,A1,A5\nSUB A1,A2,A3", &[0, 0, 1], 2),
+    ("ADD A1,B1,A2\nSUB A3,B3,A4", &[0, 1], 2),
+    (ONE_PATH, &[0, 1], 6),
+    ("LDW *A4,A5\nLDW *B4,B6", &[0, 0], 5),
+    (
+        "L1:\nMVK 0,A0\nMVK 1,A1\nMVK 2,A2\nMVK 3,A3\nMVK 4,A4\nMVK 5,A5\nMVK 6,A6\nMVK 7,A7\nB L1",
+        &[0, 1, 2, 3, 4, 5, 6, 7, 2],
+        8,
+    ),
+    ("L1: MPY A1,A2,A3\nB L1", &[0, 0], 6),
+];
+
+#[test]
+fn placings_in_order(rt: HostRuntime) -> Result<(), Fail> {
+    for (text, cycles, length) in &IN_ORDER {
+        let mut board = board_of(&rt, rt.alloc(), text, 0)?;
+        let mut i = 0;
+        for cycle in *cycles {
+            let Ok(spot) = place(&rt, &mut board, i) else {
+                return Err("an instruction found no room".into());
+            };
+            assert_eq!(rt; spot.cycle, *cycle, "{text}");
+            i = i.wrapping_add(1);
+        }
+        assert!(rt; board.complete());
+        assert_eq!(rt; board.length(), *length, "{text}");
+    }
+    Ok(())
+}
+
 #[test]
 fn turns_of_both_sides(rt: HostRuntime) -> Result<(), Fail> {
     let mut board = board_of(&rt, rt.alloc(), SIX, 1)?;
