@@ -143,12 +143,12 @@ fn by_cases_of_order(disjoint: bool, first: &Uses, second: &Uses) -> u8
     )
 }
 
-/// The greatest bound of the other cases, which an instruction that neither accesses memory nor branches needn't be asked.
+/// The greatest bound of the other cases, of which none applies without a branch or two accesses.
 #[inline(always)]
 fn by_order(disjoint: bool, first: &Uses, second: &Uses) -> u8
     ensures { result ≡ number_of_order disjoint first.now.insn second.now.insn }
 {
-    if second.is_ordered() {
+    if first.is_ordered(second) {
         by_cases_of_order(disjoint, first, second)
     } else {
         0

@@ -30,6 +30,8 @@ pub(crate) struct Uses {
     pub loads: bool,
     pub stores: bool,
     pub branches: bool,
+    /// Whether it loads or stores.
+    pub accesses: bool,
     pub ghost reads_are: { (reg : Register) → reg_in reads reg ≡ reads_register insn reg },
     pub ghost at_once_are: { (reg : Register) → reg_in at_once reg ≡ writes_with insn 0 reg },
     pub ghost results_are: { (reg : Register) → reg_in results reg ≡ writes_with insn (delay_of (op_of insn)) reg },
@@ -40,6 +42,7 @@ pub(crate) struct Uses {
     pub ghost load_is: { loads ≡ is_load (op_of insn) },
     pub ghost store_is: { stores ≡ is_store (op_of insn) },
     pub ghost branch_is: { branches ≡ is_branch (op_of insn) },
+    pub ghost access_is: { accesses ≡ (loads || stores) },
 }
 
 /// The register of the condition, where there is one.
@@ -99,6 +102,8 @@ impl Uses {
         let at_once = written(&insn, 0);
         let results = written(&insn, delay);
         let written = at_once.joined(results);
+        let loads = op.is_load();
+        let stores = op.is_store();
         Uses {
             insn,
             reads,
@@ -107,17 +112,19 @@ impl Uses {
             written,
             used: reads.joined(written),
             delay,
-            loads: op.is_load(),
-            stores: op.is_store(),
+            loads,
+            stores,
             branches: op.is_branch(),
+            accesses: loads || stores,
         }
     }
 
-    /// Whether some case asks this instruction, as the later one, for more than registers.
-    pub fn is_ordered(&self) -> bool
-        ensures { result ≡ (self.now.loads || (self.now.stores || self.now.branches)) }
+    /// Whether some case asks the two for more than registers.
+    #[inline(always)]
+    pub fn is_ordered(&self, later: &Uses) -> bool
+        ensures { result ≡ (later.now.branches || (self.now.accesses && later.now.accesses)) }
     {
-        self.loads || (self.stores || self.branches)
+        later.branches || (self.accesses && later.accesses)
     }
 
     /// Whether neither instruction reads or writes a register that the other one writes.
