@@ -7,3 +7,4 @@ pub mod Victims
 pub mod Turns
 pub mod Ejections
 pub mod Counting
+pub mod Landings

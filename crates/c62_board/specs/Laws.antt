@@ -1,10 +1,13 @@
 -- Laws of boards, in the words of the rules.
-use Rattle.std.specs.Prelude.{◌≡◌, ℕ, List, [], ◌∷◌}
+use Rattle.std.specs.Prelude.{◌≡◌, ℕ, ◌≤◌, List, [], ◌∷◌, Some, slice_get}
 use Rattle.c62_insn.specs.declared.register.Side.{Side}
 use Rattle.c62_insn.specs.declared.insn.Insn.{Insn}
+use Rattle.c62_insn.specs.Length.{landing_end}
+use Rattle.c62_sheet.specs.declared.entry.Spot.{Spot}
 use Rattle.c62_sheet.specs.declared.entry.Entry.{Entry}
 use Rattle.c62_sheet.specs.declared.entry.Entry.TheVariants.{Place, Withdraw}
-use Rattle.c62_sheet.specs.Lawful.{Spots}
+use Rattle.c62_sheet.specs.Lawful.{Spots, issue_at}
+use Rattle.c62_sheet.specs.Counts.{set_length}
 use Rattle.c62_board.specs.declared.turn.Turn.{Turn}
 use Rattle.c62_board.specs.Turn.{IsTurn}
 
@@ -23,3 +26,7 @@ abbrev pub HasOnlyPlaces : List Entry → Type 0
 HasOnlyPlaces [] = Unit {0}
 HasOnlyPlaces (Place i s who ∷ entries) = HasOnlyPlaces entries
 HasOnlyPlaces (Withdraw i who ∷ entries) = ⊥
+
+-- what number i writes from this spot has landed when the length of what is placed ends
+abbrev pub LandsWithin : List Insn → Spots → ℕ → Spot → Type 0
+LandsWithin block set i s = (insn : Insn) → slice_get block i ≡ Some insn → landing_end (issue_at insn s) ≤ set_length block set

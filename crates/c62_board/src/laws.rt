@@ -1,15 +1,16 @@
 //! Laws of boards, in the words of the rules.
 
-ghost use Rattle.std.specs.Prelude.{◌≡◌, ℕ, ◌*◌, ◌<◌, ◌≤◌, List, length};
+ghost use Rattle.std.specs.Prelude.{◌≡◌, ℕ, ◌+◌, ◌*◌, ◌<◌, ◌≤◌, List, length};
 ghost use Rattle.c62_insn.specs.declared.register.Side.{Side as SideOf};
 ghost use Rattle.c62_insn.specs.declared.insn.Insn.{Insn};
-ghost use Rattle.c62_sheet.specs.Lawful.{Spots};
+ghost use Rattle.c62_sheet.specs.Lawful.{Spots, IsAt};
+ghost use Rattle.c62_sheet.specs.Counts.{set_length};
 ghost use Rattle.c62_depend.specs.Plan.{insns_of};
 ghost use Rattle.c62_sheet.specs.Least.{IsPick, IsComplete};
 ghost use Rattle.c62_sheet.specs.declared.entry.Entry.{Entry as EntryOf};
 ghost use Rattle.c62_sheet.specs.declared.entry.Who.{Who as WhoOf};
 ghost use Rattle.c62_board.specs.Withdrawal.{Withdraws};
-ghost use Rattle.c62_board.specs.Laws.{HasOneTurn, HasTurn, HasOnlyPlaces};
+ghost use Rattle.c62_board.specs.Laws.{HasOneTurn, HasTurn, HasOnlyPlaces, LandsWithin};
 ghost use Rattle.c62_board.specs.State.{IsReadyNow, IsLeastNow};
 
 use crate::board::Board;
@@ -73,6 +74,22 @@ pub fn least_without_withdrawals(board: &Board, i: u16) -> Spot
 {
     board.plan();
     let Some(spot) = board.least(i) else {
+        unreachable!()
+    };
+    spot
+}
+
+/// On a complete board each instruction has its spot, this one. It has landed when the board's length ends, and that is at
+/// most five cycles for each instruction and five more.
+pub fn complete_board_has_length(board: &Board, i: u16) -> Spot
+    requires complete { IsComplete (insns_of board.now.plan) board.now.spots }
+    requires in_plan { i < length board.now.plan.insns }
+    ensures spot { IsAt board.now.spots i result }
+    ensures lands { LandsWithin (insns_of board.now.plan) board.now.spots i result }
+    ensures short { set_length (insns_of board.now.plan) board.now.spots ≤ 5 * length board.now.plan.insns + 5 }
+{
+    board.plan();
+    let Some(spot) = board.spot_of(i) else {
         unreachable!()
     };
     spot
