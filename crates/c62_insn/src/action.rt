@@ -100,9 +100,12 @@ pub(crate) fn act(registers: &[u32; 32], op: Op, operands: &Operands) -> Action
             Action::Write(d, op.result(word(registers, a), word_of(k)))
         }
         Operands::Two(a, d) => Action::Write(d, op.result(word(registers, a), 0)),
-        Operands::Field(a, k, m, d) => {
-            Action::Write(d, op.field(word(registers, a), word_of(k), word_of(m)))
-        }
+        Operands::Field {
+            source: a,
+            left: k,
+            right: m,
+            destination: d,
+        } => { Action::Write(d, op.field(word(registers, a), word_of(k), word_of(m))) }
         Operands::Constant(k, d) => {
             let old = if op.reads_destination() {
                 word(registers, d)
@@ -111,9 +114,12 @@ pub(crate) fn act(registers: &[u32; 32], op: Op, operands: &Operands) -> Action
             };
             Action::Write(d, op.result(word_of(k), old))
         }
-        Operands::Access(reg, base, form, offset) => {
-            Action::Transfer(transfer_of(registers, op, reg, base, form, offset))
-        }
+        Operands::Access {
+            register: reg,
+            base,
+            form,
+            offset,
+        } => { Action::Transfer(transfer_of(registers, op, reg, base, form, offset)) }
         Operands::Block(number) => Action::Branch(Target::Block(number)),
         Operands::Register(reg) => Action::Branch(Target::Register(word(registers, reg))),
     }

@@ -97,7 +97,11 @@ impl Operands {
             Operands::Three(a, _, d)
             | Operands::ConstantSecond(a, _, d)
             | Operands::Two(a, d)
-            | Operands::Field(a, _, _, d) => a.side != d.side,
+            | Operands::Field {
+                source: a,
+                destination: d,
+                ..
+            } => a.side != d.side,
             _ => false,
         }
     }
@@ -123,7 +127,7 @@ fn has_misplaced_register(op: Op, operands: Operands) -> bool
     ensures { result ≡ has_misplaced op operands }
 {
     match operands {
-        Operands::Access(_, base, _, offset) => !offset.lies_on(base.side),
+        Operands::Access { base, offset, .. } => !offset.lies_on(base.side),
         Operands::Register(target) => target.side == Side::A,
         _ => {
             op.is_first_fixed() && operands.is_first_across()

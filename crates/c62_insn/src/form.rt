@@ -272,9 +272,9 @@ impl Pattern {
             (Pattern::ConstantSource(_, _), Operands::ConstantFirst(_, _, _)) => true,
             (Pattern::SourceConstant(_, _), Operands::ConstantSecond(_, _, _)) => true,
             (Pattern::OneSource(_), Operands::Two(_, _)) => true,
-            (Pattern::SourceField(_), Operands::Field(_, _, _, _)) => true,
+            (Pattern::SourceField(_), Operands::Field { .. }) => true,
             (Pattern::ConstantAlone(_), Operands::Constant(_, _)) => true,
-            (Pattern::Address(_), Operands::Access(_, _, _, _)) => true,
+            (Pattern::Address(_), Operands::Access { .. }) => true,
             (Pattern::ToBlock, Operands::Block(_)) => true,
             (Pattern::ToRegister, Operands::Register(_)) => true,
             _ => false,
@@ -291,12 +291,22 @@ impl Pattern {
             ),
             (Pattern::SourceConstant(_, range), Operands::ConstantSecond(_, k, _)) =>
                 range.contains(k),
-            (Pattern::SourceField(range), Operands::Field(_, k, m, _)) => {
-                range.contains(k) && range.contains(m)
-            }
+            (
+                Pattern::SourceField(range),
+                Operands::Field {
+                    left: k,
+                    right: m,
+                    ..
+                },
+            ) => { range.contains(k) && range.contains(m) }
             (Pattern::ConstantAlone(range), Operands::Constant(k, _)) => range.contains(k),
-            (Pattern::Address(range), Operands::Access(_, _, _, Offset::Constant(k))) =>
-                range.contains(k),
+            (
+                Pattern::Address(range),
+                Operands::Access {
+                    offset: Offset::Constant(k),
+                    ..
+                },
+            ) => range.contains(k),
             _ => self.has_kind(operands),
         }
     }
@@ -317,10 +327,16 @@ impl Pattern {
             }
             (Pattern::OneSource(place), Operands::Two(a, d)) => place.admits(side, a)
                 && d.side == side,
-            (Pattern::SourceField(_), Operands::Field(a, _, _, d)) => a.side == side
-                && d.side == side,
+            (
+                Pattern::SourceField(_),
+                Operands::Field {
+                    source: a,
+                    destination: d,
+                    ..
+                },
+            ) => a.side == side && d.side == side,
             (Pattern::ConstantAlone(_), Operands::Constant(_, d)) => d.side == side,
-            (Pattern::Address(_), Operands::Access(_, base, _, offset)) => {
+            (Pattern::Address(_), Operands::Access { base, offset, .. }) => {
                 base.side == side && offset.lies_on(side)
             }
             (Pattern::ToBlock, Operands::Block(_)) => true,

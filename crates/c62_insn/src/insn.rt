@@ -159,14 +159,19 @@ impl Insn {
             Operands::ConstantFirst(_, a, _)
             | Operands::ConstantSecond(a, _, _)
             | Operands::Two(a, _)
-            | Operands::Field(a, _, _, _)
+            | Operands::Field { source: a, .. }
             | Operands::Register(a) => reads.push(a),
             Operands::Constant(_, d) => {
                 if self.op.reads_destination() {
                     reads.push(d);
                 }
             }
-            Operands::Access(reg, base, _, offset) => {
+            Operands::Access {
+                register: reg,
+                base,
+                offset,
+                ..
+            } => {
                 if self.op.is_store() {
                     reads.push(reg);
                 }
@@ -192,9 +197,14 @@ impl Insn {
             | Operands::ConstantFirst(_, _, d)
             | Operands::ConstantSecond(_, _, d)
             | Operands::Two(_, d)
-            | Operands::Field(_, _, _, d)
+            | Operands::Field { destination: d, .. }
             | Operands::Constant(_, d) => writes.push((d, self.op.delay())),
-            Operands::Access(reg, base, form, _) => {
+            Operands::Access {
+                register: reg,
+                base,
+                form,
+                ..
+            } => {
                 if form.changes_base() {
                     writes.push((base, 0));
                 }
@@ -214,7 +224,7 @@ impl Insn {
         ensures { result ≡ data_path_of (operands_of self) }
     {
         match self.operands {
-            Operands::Access(reg, _, _, _) => Some(reg.side),
+            Operands::Access { register: reg, .. } => Some(reg.side),
             _ => None,
         }
     }
@@ -279,9 +289,11 @@ impl Insn {
             Operands::ConstantFirst(k, _, _) => values.push(self.op.result(word_of(k), reads[0])),
             Operands::ConstantSecond(_, k, _) => values.push(self.op.result(reads[0], word_of(k))),
             Operands::Two(_, _) => values.push(self.op.result(reads[0], 0)),
-            Operands::Field(_, k, m, _) => values.push(
-                self.op.field(reads[0], word_of(k), word_of(m)),
-            ),
+            Operands::Field {
+                left: k,
+                right: m,
+                ..
+            } => values.push(self.op.field(reads[0], word_of(k), word_of(m))),
             Operands::Constant(k, _) => {
                 let old = if self.op.reads_destination() {
                     reads[0]
@@ -290,7 +302,7 @@ impl Insn {
                 };
                 values.push(self.op.result(word_of(k), old));
             }
-            Operands::Access(_, _, form, offset) => {
+            Operands::Access { form, offset, .. } => {
                 if form.changes_base() {
                     values.push(self.op.base_after(form, offset, reads));
                 }
@@ -305,7 +317,7 @@ impl Insn {
         ensures { result ≡ access_of (op_of self) (operands_of self) reads.now }
     {
         match self.operands {
-            Operands::Access(_, _, form, offset) => {
+            Operands::Access { form, offset, .. } => {
                 let after = self.op.base_after(form, offset, reads);
                 Some(Access {
                     address: form.address(reads[self.op.base_place()], after),

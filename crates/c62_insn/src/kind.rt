@@ -37,7 +37,7 @@ impl Operands {
             Operands::ConstantFirst(_, a, _)
             | Operands::ConstantSecond(a, _, _)
             | Operands::Two(a, _)
-            | Operands::Field(a, _, _, _) => a.side != side,
+            | Operands::Field { source: a, .. } => a.side != side,
             _ => false,
         }
     }

@@ -131,12 +131,22 @@ pub enum Operands {
     ConstantSecond(Reg, i64, Reg),
     /// A source and the destination.
     Two(Reg, Reg),
-    /// A source, the two constants of a field and the destination.
-    Field(Reg, i64, i64, Reg),
+    /// A source, how far it is shifted left and then right, and the destination.
+    Field {
+        source: Reg,
+        left: i64,
+        right: i64,
+        destination: Reg,
+    },
     /// A constant and the destination.
     Constant(i64, Reg),
-    /// The register that is loaded or stored, then base, address form and offset.
-    Access(Reg, Reg, AddressForm, Offset),
+    /// The register that is loaded or stored, and the address.
+    Access {
+        register: Reg,
+        base: Reg,
+        form: AddressForm,
+        offset: Offset,
+    },
     /// The number of the block that a branch goes to.
     Block(u8),
     /// The register that holds a branch's target.
@@ -285,9 +295,9 @@ impl Operands {
             | Operands::ConstantFirst(_, _, d)
             | Operands::ConstantSecond(_, _, d)
             | Operands::Two(_, d)
-            | Operands::Field(_, _, _, d)
+            | Operands::Field { destination: d, .. }
             | Operands::Constant(_, d) => Some(d.side),
-            Operands::Access(_, base, _, _) => Some(base.side),
+            Operands::Access { base, .. } => Some(base.side),
             Operands::Block(_) => None,
             Operands::Register(_) => Some(Side::B),
         }
@@ -308,13 +318,35 @@ impl Operands {
                 a.is_same(e) && k == m && d.is_same(g)
             }
             (Operands::Two(a, d), Operands::Two(e, g)) => a.is_same(e) && d.is_same(g),
-            (Operands::Field(a, k, m, d), Operands::Field(e, l, n, g)) => {
-                a.is_same(e) && k == l && m == n && d.is_same(g)
-            }
+            (
+                Operands::Field {
+                    source: a,
+                    left: k,
+                    right: m,
+                    destination: d,
+                },
+                Operands::Field {
+                    source: e,
+                    left: l,
+                    right: n,
+                    destination: g,
+                },
+            ) => { a.is_same(e) && k == l && m == n && d.is_same(g) }
             (Operands::Constant(k, d), Operands::Constant(m, g)) => k == m && d.is_same(g),
-            (Operands::Access(r, b, f, o), Operands::Access(s, c, g, p)) => {
-                r.is_same(s) && b.is_same(c) && f == g && o.is_same(&p)
-            }
+            (
+                Operands::Access {
+                    register: r,
+                    base: b,
+                    form: f,
+                    offset: o,
+                },
+                Operands::Access {
+                    register: s,
+                    base: c,
+                    form: g,
+                    offset: p,
+                },
+            ) => { r.is_same(s) && b.is_same(c) && f == g && o.is_same(&p) }
             (Operands::Block(m), Operands::Block(n)) => m == n,
             (Operands::Register(a), Operands::Register(e)) => a.is_same(e),
             _ => false,

@@ -227,12 +227,12 @@ fn push_operands(
             push_source(out, a)?;
             push_register(out, d)
         }
-        Operands::Field(a, left, right, d) => push_field(out, a, left, right, d),
+        Operands::Field { source: a, left, right, destination: d } => push_field(out, a, left, right, d),
         Operands::Constant(constant, d) => {
             push_first_constant(out, constant)?;
             push_register(out, d)
         }
-        Operands::Access(reg, base, form, offset) => push_access(
+        Operands::Access { register: reg, base, form, offset } => push_access(
             out,
             insn.op(),
             reg,

@@ -16,7 +16,7 @@ fn is_mismarked(written: Option<WrittenUnit>, operands: Operands) -> bool
             Mark::Plain => false,
             Mark::Cross => !operands.crosses_to(written.unit.side),
             Mark::Path(side) => match operands {
-                Operands::Access(reg, _, _, _) => reg.side != side,
+                Operands::Access { register: reg, .. } => reg.side != side,
                 _ => true,
             },
         },

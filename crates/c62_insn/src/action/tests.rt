@@ -65,7 +65,16 @@ fn writes(rt: HostRuntime) -> Result<(), Fail> {
         (Op::Sub, Operands::ConstantFirst(-1, A1, A1), 0xffff_fffc),
         (Op::Shl, Operands::ConstantSecond(A1, 4, A1), 0x30),
         (Op::Abs, Operands::Two(A1, A1), 3),
-        (Op::Extu, Operands::Field(A2, 8, 24, A1), 3),
+        (
+            Op::Extu,
+            Operands::Field {
+                source: A2,
+                left: 8,
+                right: 24,
+                destination: A1,
+            },
+            3,
+        ),
         (Op::Mvk, Operands::Constant(-2, A1), 0xffff_fffe),
         (Op::Addk, Operands::Constant(-2, A1), 1),
     ];
@@ -77,7 +86,12 @@ fn writes(rt: HostRuntime) -> Result<(), Fail> {
 
 #[test]
 fn transfers(rt: HostRuntime) -> Result<(), Fail> {
-    let load = Operands::Access(B4, A4, AddressForm::PostIncrement, Offset::Constant(1));
+    let load = Operands::Access {
+        register: B4,
+        base: A4,
+        form: AddressForm::PostIncrement,
+        offset: Offset::Constant(1),
+    };
     let loads = Transfer {
         access: Access {
             address: 0x100,
@@ -88,7 +102,12 @@ fn transfers(rt: HostRuntime) -> Result<(), Fail> {
         loads: Some(B4),
     };
     check(&rt, Op::Ldw, load, None, Some(Action::Transfer(loads)))?;
-    let store = Operands::Access(A2, A4, AddressForm::Minus, Offset::Register(A1));
+    let store = Operands::Access {
+        register: A2,
+        base: A4,
+        form: AddressForm::Minus,
+        offset: Offset::Register(A1),
+    };
     let stores = Transfer {
         access: Access {
             address: 0xfa,

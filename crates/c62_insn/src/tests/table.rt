@@ -1,6 +1,6 @@
 //! The instruction table of `docs/MACHINE.md`, row by row: each unit takes what its rows say, and refuses all else.
 
-use super::{A1, A2, A3, A4, B1, B2, B4, THREE, effect};
+use super::{A1, A2, A3, A4, B1, B2, B4, THREE, access, effect, field};
 use crate::fault::FormFault;
 use crate::insn::Insn;
 use crate::operands::{AddressForm, Offset, Op, Operands};
@@ -128,14 +128,33 @@ fn constants(row: Row, operands: Operands) -> Option<(i64, i64, i64, i64)> {
     match (row, operands) {
         (Row::Sources(_, _), Operands::Three(_, _, _))
         | (Row::Source, Operands::Two(_, _))
-        | (Row::Access, Operands::Access(_, _, _, Offset::Register(_)))
+        | (
+            Row::Access,
+            Operands::Access {
+                offset: Offset::Register(_),
+                ..
+            },
+        )
         | (Row::Label, Operands::Block(_))
         | (Row::Target, Operands::Register(_)) => Some((0, 0, 0, 0)),
         (Row::ConstantFirst(low, high, _), Operands::ConstantFirst(k, _, _))
         | (Row::ConstantSecond(_, low, high), Operands::ConstantSecond(_, k, _))
         | (Row::Constant(low, high), Operands::Constant(k, _)) => Some((low, high, k, k)),
-        (Row::Field, Operands::Field(_, k, m, _)) => Some((0, 31, k, m)),
-        (Row::Access, Operands::Access(_, _, _, Offset::Constant(k))) => Some((0, 31, k, k)),
+        (
+            Row::Field,
+            Operands::Field {
+                left: k,
+                right: m,
+                ..
+            },
+        ) => Some((0, 31, k, m)),
+        (
+            Row::Access,
+            Operands::Access {
+                offset: Offset::Constant(k),
+                ..
+            },
+        ) => Some((0, 31, k, k)),
         _ => None,
     }
 }
@@ -160,8 +179,15 @@ fn lies(row: Row, operands: Operands, side: Side) -> bool {
         }
         (Row::Source, Operands::Two(_, d)) | (Row::Constant(_, _), Operands::Constant(_, d)) =>
             d.side == side,
-        (Row::Field, Operands::Field(a, _, _, d)) => a.side == side && d.side == side,
-        (Row::Access, Operands::Access(_, base, _, offset)) => {
+        (
+            Row::Field,
+            Operands::Field {
+                source: a,
+                destination: d,
+                ..
+            },
+        ) => a.side == side && d.side == side,
+        (Row::Access, Operands::Access { base, offset, .. }) => {
             base.side == side
                 && match offset {
                     Offset::Register(reg) => reg.side == side,
@@ -227,13 +253,13 @@ fn check_constants(rt: &impl Abort, op: Op, a: Reg, d: Reg) {
     for k in CONSTANTS {
         check(rt, op, Operands::ConstantFirst(k, a, d));
         check(rt, op, Operands::ConstantSecond(a, k, d));
-        check(rt, op, Operands::Field(a, k, 0, d));
-        check(rt, op, Operands::Field(a, 31, k, d));
+        check(rt, op, field(a, k, 0, d));
+        check(rt, op, field(a, 31, k, d));
         check(rt, op, Operands::Constant(k, d));
         check(
             rt,
             op,
-            Operands::Access(d, a, AddressForm::Minus, Offset::Constant(k)),
+            access(d, a, AddressForm::Minus, Offset::Constant(k)),
         );
     }
 }
@@ -246,7 +272,7 @@ fn takes_what_the_table_says(rt: HostRuntime) {
                 for b in [A2, B2] {
                     check(&rt, op, Operands::Three(a, b, d));
                     for form in FORMS {
-                        check(&rt, op, Operands::Access(d, a, form, Offset::Register(b)));
+                        check(&rt, op, access(d, a, form, Offset::Register(b)));
                     }
                 }
                 check(&rt, op, Operands::Two(a, d));
@@ -285,7 +311,7 @@ fn misplaced_sources(rt: HostRuntime) {
         }
     }
     for op in [Op::Ext, Op::Extu] {
-        let field = Operands::Field(B1, 8, 8, A2);
+        let field = field(B1, 8, 8, A2);
         assert_eq!(rt; Insn::new(op, field, None, None).err(), side, "{op:?}");
     }
     for op in ADDRESSES {
@@ -294,7 +320,7 @@ fn misplaced_sources(rt: HostRuntime) {
     }
     for op in ACCESSES {
         for form in FORMS {
-            let offset = Operands::Access(A1, A4, form, Offset::Register(B2));
+            let offset = access(A1, A4, form, Offset::Register(B2));
             assert_eq!(rt; Insn::new(op, offset, None, None).err(), side, "{op:?}");
         }
     }
@@ -370,7 +396,7 @@ fn results_of_all_operations(rt: HostRuntime) -> Result<(), Fail> {
 #[test]
 fn sizes_of_accesses(rt: HostRuntime) -> Result<(), Fail> {
     let sizes = [1, 1, 2, 2, 4, 1, 2, 4];
-    let up = Operands::Access(A1, A4, AddressForm::PostIncrement, Offset::Constant(3));
+    let up = access(A1, A4, AddressForm::PostIncrement, Offset::Constant(3));
     for (op, size) in ACCESSES.into_iter().zip(sizes) {
         let reads: &[u32] = if LOADS.contains(&op) {
             &[0x1000]
