@@ -31,7 +31,7 @@ fn pause(cond: Option<Cond>, rest: Tokens<'_>) -> Result<What, Cause>
     let Some((word, rest)) = rest.split() else {
         return Ok(What::Nop(1));
     };
-    if rest.split().is_some() {
+    if rest.peek().is_some() {
         return Err(Cause::BadOperand);
     }
     let cycles = number(word).ok_or(Cause::BadOperand)?;
@@ -48,7 +48,7 @@ fn label_alone<'a>(rest: Tokens<'a>) -> Option<&'a [u8]>
     ensures label { IfSome result (λ word. IsTrue (is_label word.now)) }
 {
     let (word, rest) = rest.split()?;
-    if rest.split().is_some() || !is_label(word) {
+    if rest.peek().is_some() || !is_label(word) {
         None
     } else {
         Some(word)
@@ -183,9 +183,9 @@ fn closed_condition<'a>(negated: bool, rest: Tokens<'a>) -> Option<(Option<Cond>
 fn bracketed_condition<'a>(rest: Tokens<'a>) -> Option<(Option<Cond>, Tokens<'a>)>
     ensures { Finds result (bracketed_condition (words_left rest.entry)) }
 {
-    let (first, behind) = rest.split()?;
+    let first = rest.peek()?;
     if is_mark(b'!', first) {
-        closed_condition(true, behind)
+        closed_condition(true, rest.behind())
     } else {
         closed_condition(false, rest)
     }
@@ -196,11 +196,11 @@ fn bracketed_condition<'a>(rest: Tokens<'a>) -> Option<(Option<Cond>, Tokens<'a>
 fn first_condition<'a>(rest: Tokens<'a>) -> Option<(Option<Cond>, Tokens<'a>)>
     ensures { Finds result (condition_front (words_left rest.entry)) }
 {
-    let Some((first, behind)) = rest.split() else {
+    let Some(first) = rest.peek() else {
         return Some((None, rest));
     };
     if is_mark(b'[', first) {
-        bracketed_condition(behind)
+        bracketed_condition(rest.behind())
     } else {
         Some((None, rest))
     }
@@ -209,8 +209,8 @@ fn first_condition<'a>(rest: Tokens<'a>) -> Option<(Option<Cond>, Tokens<'a>)>
 fn begins_with_dot(rest: Tokens<'_>) -> bool
     ensures { result ≡ first_begins is_dot (words_left rest.entry) }
 {
-    match rest.split() {
-        Some((word, _)) => begins_with(b'.', word),
+    match rest.peek() {
+        Some(word) => begins_with(b'.', word),
         None => false,
     }
 }

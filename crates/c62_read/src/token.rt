@@ -22,16 +22,29 @@ pub(crate) fn has_byte(byte: u8, bytes: &[u8]) -> bool
     found
 }
 
+#[inline(always)]
 fn is_blank(b: u8) -> bool
     ensures { result ≡ is_blank b }
 {
     b == b' ' || b == b'\t'
 }
 
+// Each byte of a word stands at its own place, and a comma at every other place.
+static WORD_BYTES: [u8; 256] = *b"\
+    ,,,,,,,,,,,,,,,,,,,,,,,,,,,,,,,,\
+    ,,,,$,,,,,,,,,,,0123456789,,,,,,\
+    ,ABCDEFGHIJKLMNOPQRSTUVWXYZ,,,,_\
+    ,abcdefghijklmnopqrstuvwxyz,,,,,\
+    ,,,,,,,,,,,,,,,,,,,,,,,,,,,,,,,,\
+    ,,,,,,,,,,,,,,,,,,,,,,,,,,,,,,,,\
+    ,,,,,,,,,,,,,,,,,,,,,,,,,,,,,,,,\
+    ,,,,,,,,,,,,,,,,,,,,,,,,,,,,,,,,";
+
+#[inline(always)]
 pub(crate) fn is_word_byte(b: u8) -> bool
     ensures { result ≡ is_word_byte b }
 {
-    b.is_ascii_alphanumeric() || b == b'_' || b == b'$'
+    WORD_BYTES[usize::from(b)] != b','
 }
 
 fn is_sign(b: u8) -> bool
@@ -56,6 +69,7 @@ fn joins(b: u8, c: u8) -> bool
 }
 
 /// How many bytes of a word stand first.
+#[inline(always)]
 pub(crate) fn word_len(bytes: &[u8]) -> usize
     ensures within { result ≤ length bytes.now }
     ensures word { IsTrue (list_all is_word_byte (take result bytes.now)) }
@@ -108,11 +122,8 @@ pub(crate) fn from_token(line: &[u8]) -> &[u8]
 {
     let mut start = line;
     while let [b, rest @ ..] = start {
-        if *b == b';' {
-            return &[];
-        }
         if !is_blank(*b) {
-            return start;
+            return if *b == b';' { &[] } else { start };
         }
         start = rest;
     }
@@ -142,6 +153,22 @@ impl<'a> Tokens<'a> {
                 rest: &[],
             },
         }
+    }
+
+    /// The first token.
+    #[inline(always)]
+    #[tactic(auto, unfolding(crate::specs::Text::words_left))]
+    pub(crate) fn peek(self) -> Option<&'a [u8]>
+        ensures { MatchOption result (words_left self.entry ≡ []) (λ first. words_left self.entry ≡ first.now ∷ tokens self.entry.rest.now) }
+    {
+        self.first
+    }
+
+    /// What follows the first token.
+    pub(crate) fn behind(self) -> Tokens<'a>
+        ensures { words_left result ≡ tokens self.entry.rest.now }
+    {
+        Tokens::new(self.rest)
     }
 
     /// The first token, and the others.
