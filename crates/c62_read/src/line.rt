@@ -16,7 +16,7 @@ use crate::mnemonic::{Mnemonic, mnemonic_named};
 use crate::number::{is_label, number, register, spells};
 use crate::operand::read_operands;
 use crate::reading::{Reading, Statement};
-use crate::token::{Tokens, first_token, from_token, has_byte, is_allowed, is_mark};
+use crate::token::{Tokens, from_token, has_byte, is_allowed, is_mark};
 use crate::unit::{WrittenUnit, first_unit};
 use c62_insn::{Cond, Letter, Op, Operands};
 
@@ -255,14 +255,15 @@ pub(crate) fn first_label(rest: &[u8]) -> (Option<&[u8]>, &[u8])
     ensures value { label_front (tokens rest.now) ≡ (option_copied result.0, tokens result.1.now) }
     ensures label { IfSome result.0 (λ word. IsTrue (is_label word.now)) }
 {
-    let Some((name, behind)) = first_token(rest) else {
+    let line = Tokens::new(rest);
+    let Some((name, behind)) = line.split() else {
         return (None, rest);
     };
-    let Some((colon, behind)) = first_token(behind) else {
+    let Some(colon) = behind.peek() else {
         return (None, rest);
     };
     if is_mark(b':', colon) && is_label(name) {
-        (Some(name), behind)
+        (Some(name), behind.rest)
     } else {
         (None, rest)
     }
@@ -277,8 +278,8 @@ fn begins_with_bars(start: &[u8]) -> bool
     if !begins_with(b'|', start) {
         return false;
     }
-    match first_token(start) {
-        Some((word, _)) => spells(b"||", word),
+    match Tokens::new(start).peek() {
+        Some(word) => spells(b"||", word),
         None => false,
     }
 }
