@@ -1,6 +1,6 @@
 //! What a text says.
 
-ghost use Rattle.std.specs.Prelude.{◌≡◌, ℕ, Ok, Err, ◌≤◌, ◌<◌, ◌+◌, ◌^◌, ◌∷◌, ◌++◌, [], length, take, map, false, position, Some, None, MatchOption, MatchResult, IfSome, IfOk, IfErr, OnOk, IsTrue};
+ghost use Rattle.std.specs.Prelude.{◌≡◌, ◌==◌, ℕ, Ok, Err, ◌≤◌, ◌<◌, ◌+◌, ◌-◌, ◌^◌, ◌∷◌, ◌++◌, [], length, take, map, false, position, Some, None, MatchOption, MatchResult, IfSome, IfOk, IfErr, OnOk, IsTrue, slice_index};
 ghost use Rattle.std.specs.List.{list_any, list_all, position_or_len};
 ghost use Rattle.std.specs.Option.{option_copied, option_to_list};
 ghost use Rattle.std.specs.Str.{bytes_eq};
@@ -335,17 +335,38 @@ impl TextReader {
     }
 }
 
+/// Where the line begins that this place is in.
+fn line_start(text: &[u8], place: usize) -> usize
+    requires { place ≤ length text.now }
+    ensures within { result ≤ place }
+    ensures feed { 0 < result → slice_index text.now (result - 1) ≡ 10 }
+{
+    let mut start = place;
+    while 0 < start && text[start - 1] != b'\n' {
+        start -= 1;
+    }
+    start
+}
+
+/// A text without its first lines, as long as they have no colon, and so no label.
+fn from_colon(text: &[u8]) -> &[u8]
+    ensures same { labels_of (lines_of result.now) ≡ labels_of (lines_of text.now) }
+    ensures shorter { length result.now ≤ length text.now }
+{
+    &text[line_start(text, steps_before(b':', text))..]
+}
+
 /// The labels of all lines of a text.
 fn all_labels<'a>(alloc: Global, text: &'a [u8]) -> Result<Vec<&'a [u8]>, AllocError>
     ensures { IfOk result (λ labels. names labels.items ≡ labels_of (lines_of text.now)) }
 {
     let mut labels = Vec::new(alloc);
-    let mut rest = text;
+    let mut rest = from_colon(text);
     while let Some((line, after)) = first_line(rest) {
         if let Some(label) = label_place(line) {
             labels.push(label)?;
         }
-        rest = after;
+        rest = from_colon(after);
     }
     Ok(labels)
 }
@@ -365,20 +386,15 @@ fn label_is(label: &[u8], other: &Option<Label>) -> bool
     }
 }
 
-fn has_feed(bytes: &[u8]) -> bool
-    ensures { result ≡ list_any is_line_feed bytes.now }
-{
-    has_byte(b'\n', bytes)
-}
-
-/// How many bytes at the front have no line feed: the first one, or the end, is within a step of them.
-fn steps_before_feed(text: &[u8]) -> usize
+/// How many bytes at the front are not this one: the first that is, or the end, is within a step of them.
+#[inline(always)]
+fn steps_before(byte: u8, text: &[u8]) -> usize
     ensures within { result ≤ length text.now }
-    ensures none { list_any is_line_feed (take result text.now) ≡ false }
-    ensures near { position_or_len is_line_feed text.now < result + 16 }
+    ensures none { list_any (λ b. b == byte) (take result text.now) ≡ false }
+    ensures near { position_or_len (λ b. b == byte) text.now < result + 16 }
 {
     let mut start = 0;
-    while STEP <= text.len() - start && !has_feed(&text[start..start + STEP]) {
+    while STEP <= text.len() - start && !has_byte(byte, &text[start..start + STEP]) {
         start += STEP;
     }
     start
@@ -397,7 +413,7 @@ fn first_feed(text: &[u8]) -> Option<usize>
     ensures value { result ≡ position is_line_feed text.now }
     ensures within { IfSome result (λ place. place < length text.now) }
 {
-    let (front, rest) = text.split_at(steps_before_feed(text));
+    let (front, rest) = text.split_at(steps_before(b'\n', text));
     match feed_in(rest) {
         Some(place) => Some(front.len() + place),
         None => None,

@@ -12,6 +12,7 @@ pub(crate) fn is_allowed(b: u8) -> bool
 }
 
 /// Looks at every byte, whatever the others are: so the compiler compares many at once.
+#[inline(always)]
 pub(crate) fn has_byte(byte: u8, bytes: &[u8]) -> bool
     ensures { result ≡ list_any (λ b. b == byte) bytes.now }
 {
