@@ -20,6 +20,7 @@ pub mod SpelledUnits
 pub mod SpelledAddresses
 pub mod SpelledOperands
 pub mod HeadLemmas
+pub mod SkipLemmas
 pub mod NameLemmas
 pub mod EffectLaws
 pub mod SpelledLine

@@ -6,7 +6,7 @@ use Rattle.std.proofs.lemmas.List.Folds.{list_all-append}
 use Rattle.std.proofs.Math.Seq.{drop-cons, take-suc}
 use Rattle.std.proofs.lemmas.Bool.{and_from, and_parts, not-true}
 use Rattle.std.proofs.lemmas.Bool.Decides.{nat_tests}
-use Rattle.c62_read.specs.Text.{grow, put_back, begins, is_blank, is_solid, is_word_byte, is_double, joins, tokens}
+use Rattle.c62_read.specs.Text.{grow, put_back, begins, is_blank, is_solid, is_word_byte, is_double, joins, led_by, tokens}
 
 pub word_solid : (c : ℕ) → is_word_byte c ≡ true → is_solid c ≡ true
 word_solid c word = grind (arith, nat_tests)
@@ -97,3 +97,11 @@ joined_token (b ∷ []) n long solid joined words ends = absurd (omega arith)
 joined_token (b ∷ c ∷ more) n long solid joined words ends =
     let one_more : 1 + n ≡ suc n = omega arith in
     rw one_more (tokens_joined_word b c more n solid joined words ends)
+
+-- the tokens of what begins with a token, which is cut off
+pub led_by_token : (bytes : List ℕ) (n : ℕ) → n ≤ length bytes → (0 < length bytes → 0 < n)
+    → (0 < length bytes → tokens bytes ≡ take n bytes ∷ tokens (drop n bytes)) → led_by (take n bytes) (tokens (drop n bytes)) ≡ tokens bytes
+led_by_token [] zero within some token = refl
+led_by_token [] (suc n) within some token = absurd (omega (arith, within))
+led_by_token (b ∷ bytes) zero within some token = absurd (omega (arith, some (omega arith)))
+led_by_token (b ∷ bytes) (suc n) within some token = sym (token (omega arith))

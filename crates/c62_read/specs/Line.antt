@@ -26,6 +26,8 @@ use Rattle.c62_read.specs.declared.unit.Mark.TheVariants.{Plain, Cross, Path}
 use Rattle.c62_read.specs.declared.unit.WrittenUnit.{WrittenUnit}
 use Rattle.c62_read.specs.declared.reading.What.{What}
 use Rattle.c62_read.specs.declared.reading.What.TheVariants as what
+use Rattle.c62_read.specs.declared.reading.Statement.{Statement}
+use Rattle.c62_read.specs.declared.reading.Statement.TheVariants as statement
 use Rattle.c62_read.specs.Text.{begins, is_allowed, tokens}
 use Rattle.c62_read.specs.Number.{spells, number_of, register_of, is_label}
 use Rattle.c62_read.specs.Operand.{Word, operands_of}
@@ -55,8 +57,20 @@ said_of (what.Nop n) = Pause n
 said_of (what.Insn insn) = Does (parts_of insn)
 said_of (what.Jump insn label) = Jumps (parts_of insn) label
 
-abbrev pub said : Result What Cause → Result Says Cause
-said (Ok read) = Ok (said_of read)
+-- the same where a branch's label still stands in the line
+abbrev pub statement_of : Statement → Says
+statement_of statement.Empty = Nothing
+statement_of (statement.Nop n) = Pause n
+statement_of (statement.Insn insn) = Does (parts_of insn)
+statement_of (statement.Jump insn label) = Jumps (parts_of insn) label.now
+
+-- what a branch goes to is a label
+abbrev pub names_label : Statement → Bool
+names_label (statement.Jump insn label) = is_label label.now
+names_label _ = true
+
+abbrev pub said : Result Statement Cause → Result Says Cause
+said (Ok read) = Ok (statement_of read)
 said (Err cause) = Err cause
 
 -- ---- the form of an instruction

@@ -1,6 +1,5 @@
 -- The lines of a text, and the tokens of a line.
 use Rattle.std.specs.Prelude.{ℕ, Bool, false, not, ◌==◌, ◌&&◌, ◌||◌, nat_le, nat_lt, List, [], ◌∷◌, Option, Some, None, if◌then◌else◌}
-use Rattle.std.specs.Borrow.{Bor}
 use Rattle.c62_read.specs.declared.token.Tokens.{Tokens}
 use Rattle.std.specs.Char.{is_ascii_digit, is_ascii_alphanumeric}
 
@@ -76,10 +75,10 @@ tokens (b ∷ c ∷ rest) =
     else (if joins b c then grow b (tokens (c ∷ rest))
     else (b ∷ []) ∷ tokens (c ∷ rest))))
 
-abbrev pub led_by : Option (Bor (List ℕ)) → List (List ℕ) → List (List ℕ)
-led_by None others = []
-led_by (Some first) others = first.now ∷ others
+abbrev pub led_by : List ℕ → List (List ℕ) → List (List ℕ)
+led_by [] others = []
+led_by (b ∷ first) others = (b ∷ first) ∷ others
 
 -- the tokens that are left of a line
 unfoldable pub words_left : Tokens → List (List ℕ)
-words_left line = led_by line.first (tokens line.rest.now)
+words_left line = led_by line.first.now (tokens line.rest.now)

@@ -40,21 +40,9 @@ pub(crate) fn make(
     ensures fault { MatchResult result (λ insn. text_fault op operands cond written ≡ None) (λ fault. text_fault op operands cond written ≡ Some fault) }
     ensures parts { IfOk result (λ insn. parts_of insn ≡ parts_read op operands cond written) }
 {
-    match Insn::new(op, operands, cond, unit_written(written)) {
-        Ok(insn) => {
-            if is_mismarked(written, operands) {
-                Err(FormFault::BadSide)
-            } else {
-                Ok(insn)
-            }
-        }
-        Err(FormFault::NoUnit) => {
-            if is_mismarked(written, operands) {
-                Err(FormFault::BadSide)
-            } else {
-                Err(FormFault::NoUnit)
-            }
-        }
-        Err(fault) => Err(fault),
+    let made = Insn::new(op, operands, cond, unit_written(written));
+    if is_mismarked(written, operands) && matches!(made, Ok(_) | Err(FormFault::NoUnit)) {
+        return Err(FormFault::BadSide);
     }
+    made
 }

@@ -6,7 +6,7 @@ ghost use Rattle.std.specs.Option.{option_copied};
 ghost use Rattle.c62_read.specs.Text.{begins, tokens, is_allowed, is_solid, words_left};
 ghost use Rattle.c62_read.specs.Number.{is_label};
 ghost use Rattle.c62_read.specs.Operand.{Finds};
-ghost use Rattle.c62_read.specs.Line.{said, is_branch, label_alone, target_of, is_storing, letter_written, does, jumps, pause_of, behind_unit, instruction_of, conditional, closed_condition, bracketed_condition, condition_front, first_begins, rest_says, label_front, without_colon, has_colon, is_bars, is_star, head_of, line_of, said_of};
+ghost use Rattle.c62_read.specs.Line.{said, names_label, is_branch, label_alone, target_of, is_storing, letter_written, does, jumps, pause_of, behind_unit, instruction_of, conditional, closed_condition, bracketed_condition, condition_front, first_begins, rest_says, label_front, without_colon, has_colon, is_bars, is_star, head_of, line_of, said_of};
 ghost use Rattle.c62_read.specs.Unit.{is_dot};
 
 use crate::fault::{Cause, ReadFault};
@@ -15,28 +15,29 @@ use crate::label::Label;
 use crate::mnemonic::{Mnemonic, mnemonic_named};
 use crate::number::{is_label, number, register, spells};
 use crate::operand::read_operands;
-use crate::reading::{Reading, What};
-use crate::token::{Tokens, first_token, from_token, has_byte, is_allowed, is_mark};
+use crate::reading::{Reading, Statement};
+use crate::token::{Tokens, from_token, has_byte, is_allowed, is_mark};
 use crate::unit::{WrittenUnit, first_unit};
 use c62_insn::{Cond, Letter, Op, Operands};
 
 /// The number of cycles behind NOP, which takes no condition.
 #[tactic(auto, unfolding(crate::specs::Line::pause_of))]
-fn pause(cond: Option<Cond>, rest: Tokens<'_>) -> Result<What, Cause>
-    ensures { said result ≡ pause_of cond (words_left rest.entry) }
+fn pause<'a>(cond: Option<Cond>, rest: Tokens<'a>) -> Result<Statement<'a>, Cause>
+    ensures says { said result ≡ pause_of cond (words_left rest.entry) }
+    ensures label { IfOk result (λ what. IsTrue (names_label what)) }
 {
     if cond.is_some() {
         return Err(Cause::BadOperand);
     }
     let Some((word, rest)) = rest.split() else {
-        return Ok(What::Nop(1));
+        return Ok(Statement::Nop(1));
     };
-    if rest.split().is_some() {
+    if rest.peek().is_some() {
         return Err(Cause::BadOperand);
     }
     let cycles = number(word).ok_or(Cause::BadOperand)?;
     if 1 <= cycles && cycles <= 9 {
-        Ok(What::Nop(cycles as u8))
+        Ok(Statement::Nop(cycles as u8))
     } else {
         Err(Cause::BadOperand)
     }
@@ -48,7 +49,7 @@ fn label_alone<'a>(rest: Tokens<'a>) -> Option<&'a [u8]>
     ensures label { IfSome result (λ word. IsTrue (is_label word.now)) }
 {
     let (word, rest) = rest.split()?;
-    if rest.split().is_some() || !is_label(word) {
+    if rest.peek().is_some() || !is_label(word) {
         None
     } else {
         Some(word)
@@ -81,42 +82,49 @@ fn letter_written(written: Option<WrittenUnit>) -> Option<Letter>
     Some(written?.unit.letter)
 }
 
-fn does(
+fn does<'a>(
     cond: Option<Cond>,
     written: Option<WrittenUnit>,
     read: Option<(Op, Operands)>,
-) -> Result<What, Cause>
-    ensures { said result ≡ does cond written read }
+) -> Result<Statement<'a>, Cause>
+    ensures says { said result ≡ does cond written read }
+    ensures label { IfOk result (λ what. IsTrue (names_label what)) }
 {
     let Some(read) = read else {
         return Err(Cause::BadOperand);
     };
     let (op, operands) = read;
     match make(op, operands, cond, written) {
-        Ok(insn) => Ok(What::Insn(insn)),
+        Ok(insn) => Ok(Statement::Insn(insn)),
         Err(fault) => Err(Cause::Form(fault)),
     }
 }
 
-fn jumps(cond: Option<Cond>, written: Option<WrittenUnit>, label: &[u8]) -> Result<What, Cause>
+fn jumps<'a>(
+    cond: Option<Cond>,
+    written: Option<WrittenUnit>,
+    label: &'a [u8],
+) -> Result<Statement<'a>, Cause>
     requires { IsTrue (is_label label.now) }
-    ensures { said result ≡ jumps cond written label.now }
+    ensures says { said result ≡ jumps cond written label.now }
+    ensures label { IfOk result (λ what. IsTrue (names_label what)) }
 {
     match make(Op::B, Operands::Block(0), cond, written) {
-        Ok(insn) => Ok(What::Jump(insn, Label::new(label))),
+        Ok(insn) => Ok(Statement::Jump(insn, label)),
         Err(fault) => Err(Cause::Form(fault)),
     }
 }
 
 /// What stands behind the unit.
 #[tactic(auto, unfolding(crate::specs::Line::behind_unit))]
-fn behind_unit(
+fn behind_unit<'a>(
     mnemonic: Mnemonic,
     cond: Option<Cond>,
     written: Option<WrittenUnit>,
-    rest: Tokens<'_>,
-) -> Result<What, Cause>
-    ensures { said result ≡ behind_unit mnemonic cond written (words_left rest.entry) }
+    rest: Tokens<'a>,
+) -> Result<Statement<'a>, Cause>
+    ensures says { said result ≡ behind_unit mnemonic cond written (words_left rest.entry) }
+    ensures label { IfOk result (λ what. IsTrue (names_label what)) }
 {
     if matches!(mnemonic, Mnemonic::Nop) {
         return pause(cond, rest);
@@ -138,14 +146,15 @@ fn behind_unit(
 
 /// The instruction behind the condition.
 #[tactic(auto, unfolding(crate::specs::Line::instruction_of))]
-fn instruction(cond: Option<Cond>, rest: Tokens<'_>) -> Result<What, Cause>
-    ensures { said result ≡ instruction_of cond (words_left rest.entry) }
+fn instruction<'a>(cond: Option<Cond>, rest: Tokens<'a>) -> Result<Statement<'a>, Cause>
+    ensures says { said result ≡ instruction_of cond (words_left rest.entry) }
+    ensures label { IfOk result (λ what. IsTrue (names_label what)) }
 {
     let Some((name, rest)) = rest.split() else {
         return if cond.is_some() {
             Err(Cause::UnknownMnemonic)
         } else {
-            Ok(What::Empty)
+            Ok(Statement::Empty)
         };
     };
     let Some(mnemonic) = mnemonic_named(name) else {
@@ -183,9 +192,9 @@ fn closed_condition<'a>(negated: bool, rest: Tokens<'a>) -> Option<(Option<Cond>
 fn bracketed_condition<'a>(rest: Tokens<'a>) -> Option<(Option<Cond>, Tokens<'a>)>
     ensures { Finds result (bracketed_condition (words_left rest.entry)) }
 {
-    let (first, behind) = rest.split()?;
+    let first = rest.peek()?;
     if is_mark(b'!', first) {
-        closed_condition(true, behind)
+        closed_condition(true, rest.behind())
     } else {
         closed_condition(false, rest)
     }
@@ -196,11 +205,11 @@ fn bracketed_condition<'a>(rest: Tokens<'a>) -> Option<(Option<Cond>, Tokens<'a>
 fn first_condition<'a>(rest: Tokens<'a>) -> Option<(Option<Cond>, Tokens<'a>)>
     ensures { Finds result (condition_front (words_left rest.entry)) }
 {
-    let Some((first, behind)) = rest.split() else {
+    let Some(first) = rest.peek() else {
         return Some((None, rest));
     };
     if is_mark(b'[', first) {
-        bracketed_condition(behind)
+        bracketed_condition(rest.behind())
     } else {
         Some((None, rest))
     }
@@ -209,8 +218,8 @@ fn first_condition<'a>(rest: Tokens<'a>) -> Option<(Option<Cond>, Tokens<'a>)>
 fn begins_with_dot(rest: Tokens<'_>) -> bool
     ensures { result ≡ first_begins is_dot (words_left rest.entry) }
 {
-    match rest.split() {
-        Some((word, _)) => begins_with(b'.', word),
+    match rest.peek() {
+        Some(word) => begins_with(b'.', word),
         None => false,
     }
 }
@@ -226,8 +235,9 @@ pub(crate) fn begins_with(byte: u8, bytes: &[u8]) -> bool
 
 /// What stands behind the label.
 #[tactic(auto, unfolding(crate::specs::Line::rest_says))]
-pub(crate) fn read_rest(rest: &[u8]) -> Result<What, Cause>
-    ensures { said result ≡ rest_says (tokens rest.now) }
+pub(crate) fn read_rest(rest: &[u8]) -> Result<Statement<'_>, Cause>
+    ensures says { said result ≡ rest_says (tokens rest.now) }
+    ensures label { IfOk result (λ what. IsTrue (names_label what)) }
 {
     let rest = Tokens::new(rest);
     if begins_with_dot(rest) {
@@ -245,14 +255,15 @@ pub(crate) fn first_label(rest: &[u8]) -> (Option<&[u8]>, &[u8])
     ensures value { label_front (tokens rest.now) ≡ (option_copied result.0, tokens result.1.now) }
     ensures label { IfSome result.0 (λ word. IsTrue (is_label word.now)) }
 {
-    let Some((name, behind)) = first_token(rest) else {
+    let line = Tokens::new(rest);
+    let Some((name, behind)) = line.split() else {
         return (None, rest);
     };
-    let Some((colon, behind)) = first_token(behind) else {
+    let Some(colon) = behind.peek() else {
         return (None, rest);
     };
     if is_mark(b':', colon) && is_label(name) {
-        (Some(name), behind)
+        (Some(name), behind.rest)
     } else {
         (None, rest)
     }
@@ -267,8 +278,8 @@ fn begins_with_bars(start: &[u8]) -> bool
     if !begins_with(b'|', start) {
         return false;
     }
-    match first_token(start) {
-        Some((word, _)) => spells(b"||", word),
+    match Tokens::new(start).peek() {
+        Some(word) => spells(b"||", word),
         None => false,
     }
 }
@@ -353,7 +364,7 @@ pub fn read_insn(line: &[u8]) -> Result<Reading, ReadFault>
     match read_rest(rest) {
         Ok(what) => Ok(Reading {
             label: owned(label),
-            what,
+            what: what.owned(),
         }),
         Err(cause) => Err(ReadFault { line: 1, cause }),
     }

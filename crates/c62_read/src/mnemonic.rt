@@ -79,7 +79,11 @@ const WITH_A: [Op; 8] = [
     Op::Addaw,
 ];
 
+const WITH_B: [Op; 1] = [Op::B];
+
 const WITH_C: [Op; 5] = [Op::Cmpeq, Op::Cmpgt, Op::Cmplt, Op::Cmpgtu, Op::Cmpltu];
+
+const WITH_E: [Op; 2] = [Op::Ext, Op::Extu];
 
 const WITH_L: [Op; 5] = [Op::Ldb, Op::Ldbu, Op::Ldh, Op::Ldhu, Op::Ldw];
 
@@ -96,6 +100,8 @@ const WITH_M: [Op; 10] = [
     Op::Mpylh,
 ];
 
+const WITH_O: [Op; 1] = [Op::Or];
+
 const WITH_S: [Op; 8] = [
     Op::Sub,
     Op::Shl,
@@ -107,16 +113,23 @@ const WITH_S: [Op; 8] = [
     Op::Stw,
 ];
 
+const WITH_X: [Op; 1] = [Op::Xor];
+
 /// Operations among which each is whose name begins with this small letter, in their order.
 fn beginning_with(letter: u8) -> &'static [Op]
     ensures { filter (begins_so letter) result.now ≡ filter (begins_so letter) all_operations }
 {
     match letter {
         b'a' => &WITH_A,
+        b'b' => &WITH_B,
         b'c' => &WITH_C,
+        b'e' => &WITH_E,
         b'l' => &WITH_L,
         b'm' => &WITH_M,
+        b'n' | b'z' => &[],
+        b'o' => &WITH_O,
         b's' => &WITH_S,
+        b'x' => &WITH_X,
         _ => &OPERATIONS,
     }
 }

@@ -96,11 +96,11 @@ fn with_offset<'a>(base: Reg, form: AddressForm, rest: Tokens<'a>) -> Option<(Ad
     ensures { Finds result (with_offset base form (words_left rest.entry)) }
 {
     let offset = usual_offset(form);
-    let Some((bracket, inside)) = rest.split() else {
+    let Some(bracket) = rest.peek() else {
         return Some((Address { base, form, offset }, rest));
     };
     if is_mark(b'[', bracket) {
-        bracketed(base, form, inside)
+        bracketed(base, form, rest.behind())
     } else {
         Some((Address { base, form, offset }, rest))
     }
@@ -122,11 +122,11 @@ fn stepped_address<'a>(base: Reg, rest: Tokens<'a>) -> Option<(Address, Tokens<'
 {
     let form = AddressForm::Plus;
     let offset = usual_offset(form);
-    let Some((step, behind)) = rest.split() else {
+    let Some(step) = rest.peek() else {
         return Some((Address { base, form, offset }, rest));
     };
     match step_form(step) {
-        Some(form) => with_offset(base, form, behind),
+        Some(form) => with_offset(base, form, rest.behind()),
         None => Some((Address { base, form, offset }, rest)),
     }
 }
@@ -157,7 +157,7 @@ fn loaded(rest: Tokens<'_>) -> Option<Operands>
     let (address, rest) = read_address(rest)?;
     let (comma, rest) = rest.split()?;
     let (name, rest) = rest.split()?;
-    if rest.split().is_some() || !is_mark(b',', comma) {
+    if rest.peek().is_some() || !is_mark(b',', comma) {
         return None;
     }
     Some(access(register(name)?, address))
@@ -176,7 +176,7 @@ fn stored(rest: Tokens<'_>) -> Option<Operands>
     }
     let reg = register(name)?;
     let (address, rest) = read_address(rest)?;
-    if rest.split().is_some() {
+    if rest.peek().is_some() {
         return None;
     }
     Some(access(reg, address))
@@ -282,9 +282,9 @@ fn plain(rest: Tokens<'_>) -> Option<Operands>
 pub(crate) fn read_operands(store: bool, rest: Tokens<'_>) -> Option<Operands>
     ensures { result ≡ operands_of store (words_left rest.entry) }
 {
-    let (first, behind) = rest.split()?;
+    let first = rest.peek()?;
     if is_mark(b'*', first) {
-        if store { None } else { loaded(behind) }
+        if store { None } else { loaded(rest.behind()) }
     } else if store {
         stored(rest)
     } else {

@@ -1,6 +1,6 @@
 //! What a text says.
 
-ghost use Rattle.std.specs.Prelude.{◌≡◌, ℕ, Ok, Err, ◌≤◌, ◌<◌, ◌+◌, ◌^◌, ◌∷◌, ◌++◌, [], length, take, map, false, position, Some, None, MatchOption, MatchResult, IfSome, IfOk, IfErr, OnOk, IsTrue};
+ghost use Rattle.std.specs.Prelude.{◌≡◌, ◌==◌, ℕ, Ok, Err, ◌≤◌, ◌<◌, ◌+◌, ◌-◌, ◌^◌, ◌∷◌, ◌++◌, [], length, take, map, false, position, Some, None, MatchOption, MatchResult, IfSome, IfOk, IfErr, OnOk, IsTrue, slice_index};
 ghost use Rattle.std.specs.List.{list_any, list_all, position_or_len};
 ghost use Rattle.std.specs.Option.{option_copied, option_to_list};
 ghost use Rattle.std.specs.Str.{bytes_eq};
@@ -12,7 +12,7 @@ use crate::block::{Block, Program, SerialInsn};
 use crate::fault::{Cause, ReadFault};
 use crate::label::Label;
 use crate::line::{begins_with, first_label, owned, read_head, read_rest};
-use crate::reading::What;
+use crate::reading::Statement;
 use crate::token::has_byte;
 use c62_insn::{Insn, Op};
 use std::alloc::{AllocError, Global};
@@ -38,7 +38,7 @@ pub(crate) struct TextReader {
     pub current: Option<BlockReader>,
 }
 
-ghost use Rattle.c62_read.specs.Line.{said_of, parts_of, is_branch};
+ghost use Rattle.c62_read.specs.Line.{statement_of, names_label, parts_of, is_branch};
 ghost use Rattle.c62_read.specs.Program.{label_is, is_among, place_of, labels_of, Fails, target_number, aimed, numbered_of, block_parts, block_in, program_in};
 ghost use Rattle.c62_read.specs.Walk.{draft_of, drafts_of, new_draft, all_drafts, with_label, opened, with_insn, closed, with_says, is_taken, is_full, is_unknown, is_instruction, begins_block, hindrance, names, add_line, at_line, add_lines, no_drafts, is_whole};
 
@@ -54,11 +54,12 @@ impl BlockReader {
     }
 
     #[tactic(auto, using(std::proofs::lemmas::Grind::common_steps))]
-    fn add(&mut self, insn: Insn, line: u32, target: Option<Label>) -> Result<(), AllocError>
-        ensures { OnOk result (draft_of self.new ≡ with_insn (parts_of insn) line target (draft_of self.old)) }
+    fn add(&mut self, insn: Insn, line: u32, target: Option<&[u8]>) -> Result<(), AllocError>
+        requires { IfSome target (λ word. IsTrue (is_label word.now)) }
+        ensures { OnOk result (draft_of self.new ≡ with_insn (parts_of insn) line (option_copied target.entry) (draft_of self.old)) }
     {
         self.insns.push(SerialInsn { insn, line })?;
-        self.target = target;
+        self.target = owned(target);
         Ok(())
     }
 }
@@ -116,26 +117,13 @@ impl TextReader {
         Ok(())
     }
 
-    fn take_block(&mut self, alloc: Global) -> BlockReader
-        ensures block { draft_of result ≡ opened (drafts_of self.old).current }
-        ensures rest { drafts_of self.new ≡ record (drafts_of self.old) { current = None } }
+    /// The next instruction goes into the open block. Where none is open, one begins.
+    fn open_block(&mut self, alloc: Global)
+        ensures { drafts_of self.new ≡ record (drafts_of self.old) { current = Some (opened (drafts_of self.old).current) } }
     {
-        match self.current.take() {
-            Some(block) => block,
-            None => BlockReader::new(alloc, None),
+        if self.current.is_none() {
+            self.current = Some(BlockReader::new(alloc, None));
         }
-    }
-
-    fn put_block(&mut self, last: bool, block: BlockReader) -> Result<(), AllocError>
-        ensures { OnOk result (drafts_of self.new ≡ closed last (drafts_of self.old).done (draft_of block)) }
-    {
-        if last {
-            self.current = None;
-            self.done.push(block)?;
-        } else {
-            self.current = Some(block);
-        }
-        Ok(())
     }
 
     fn add_insn(
@@ -143,23 +131,30 @@ impl TextReader {
         alloc: Global,
         insn: Insn,
         line: u32,
-        target: Option<Label>,
+        target: Option<&[u8]>,
     ) -> Result<(), AllocError>
-        ensures { OnOk result (drafts_of self.new ≡ closed (is_branch (op_of insn)) (drafts_of self.old).done (with_insn (parts_of insn) line target (opened (drafts_of self.old).current))) }
+        requires { IfSome target (λ word. IsTrue (is_label word.now)) }
+        ensures { OnOk result (drafts_of self.new ≡ closed (is_branch (op_of insn)) (drafts_of self.old).done (with_insn (parts_of insn) line (option_copied target.entry) (opened (drafts_of self.old).current))) }
     {
-        let mut block = self.take_block(alloc);
-        block.add(insn, line, target)?;
-        self.put_block(matches!(insn.op(), Op::B), block)
+        self.open_block(alloc);
+        if let Some(block) = &mut self.current {
+            block.add(insn, line, target)?;
+        }
+        if matches!(insn.op(), Op::B) {
+            self.end_block()?;
+        }
+        Ok(())
     }
 
     #[tactic(auto, unfolding(crate::specs::Walk::with_says))]
-    fn add_what(&mut self, alloc: Global, line: u32, what: What) -> Result<(), AllocError>
-        ensures { OnOk result (drafts_of self.new ≡ with_says line (said_of what) (drafts_of self.old)) }
+    fn add_what(&mut self, alloc: Global, line: u32, what: Statement<'_>) -> Result<(), AllocError>
+        requires { IsTrue (names_label what) }
+        ensures { OnOk result (drafts_of self.new ≡ with_says line (statement_of what.entry) (drafts_of self.old)) }
     {
         match what {
-            What::Empty | What::Nop(_) => Ok(()),
-            What::Insn(insn) => self.add_insn(alloc, insn, line, None),
-            What::Jump(insn, label) => self.add_insn(alloc, insn, line, Some(label)),
+            Statement::Empty | Statement::Nop(_) => Ok(()),
+            Statement::Insn(insn) => self.add_insn(alloc, insn, line, None),
+            Statement::Jump(insn, label) => self.add_insn(alloc, insn, line, Some(label)),
         }
     }
 
@@ -207,8 +202,13 @@ impl TextReader {
 
     /// What stands against a line that says something by itself.
     #[tactic(auto, unfolding(crate::specs::Walk::hindrance))]
-    fn hindrance(&self, labels: &[&[u8]], label: Option<&[u8]>, what: &What) -> Option<Cause>
-        ensures { result ≡ hindrance (names labels.now) (option_copied label.entry) (said_of what.now) (drafts_of self.now) }
+    fn hindrance(
+        &self,
+        labels: &[&[u8]],
+        label: Option<&[u8]>,
+        what: &Statement<'_>,
+    ) -> Option<Cause>
+        ensures { result ≡ hindrance (names labels.now) (option_copied label.entry) (statement_of what.now) (drafts_of self.now) }
     {
         let is_instruction = is_instruction(what);
         if is_unknown(labels, what) {
@@ -225,18 +225,18 @@ impl TextReader {
     }
 }
 
-fn is_instruction(what: &What) -> bool
-    ensures { result ≡ is_instruction (said_of what.now) }
+fn is_instruction(what: &Statement<'_>) -> bool
+    ensures { result ≡ is_instruction (statement_of what.now) }
 {
-    matches!(what, What::Insn(_) | What::Jump(_, _))
+    matches!(what, Statement::Insn(_) | Statement::Jump(_, _))
 }
 
 /// Whether the line branches to a label that is not among these.
-fn is_unknown(labels: &[&[u8]], what: &What) -> bool
-    ensures { result ≡ is_unknown (names labels.now) (said_of what.now) }
+fn is_unknown(labels: &[&[u8]], what: &Statement<'_>) -> bool
+    ensures { result ≡ is_unknown (names labels.now) (statement_of what.now) }
 {
     match what {
-        What::Jump(_, label) => !is_among(label.as_bytes(), labels),
+        Statement::Jump(_, label) => !is_among(label, labels),
         _ => false,
     }
 }
@@ -272,11 +272,16 @@ pub fn label_place(line: &[u8]) -> Option<&[u8]>
 impl TextReader {
     /// What a line of the text says, where nothing stands against it.
     #[tactic(auto, unfolding(crate::specs::Walk::add_line))]
-    fn judge<'a>(&self, labels: &[&[u8]], line: &'a [u8]) -> Result<(Option<&'a [u8]>, What), Cause>
+    fn judge<'a>(
+        &self,
+        labels: &[&[u8]],
+        line: &'a [u8],
+    ) -> Result<(Option<&'a [u8]>, Statement<'a>), Cause>
         ensures said { (number : ℕ) → MatchResult result
-            (λ found. add_line (names labels.now) number line.now (drafts_of self.now) ≡ Ok (with_says number (said_of found.1) (with_label (option_copied found.0) (drafts_of self.now))))
+            (λ found. add_line (names labels.now) number line.now (drafts_of self.now) ≡ Ok (with_says number (statement_of found.1) (with_label (option_copied found.0) (drafts_of self.now))))
             (λ cause. add_line (names labels.now) number line.now (drafts_of self.now) ≡ Err cause) }
         ensures label { IfOk result (λ found. IfSome found.0 (λ word. IsTrue (is_label word.now))) }
+        ensures target { IfOk result (λ found. IsTrue (names_label found.1)) }
     {
         let (label, rest) = read_head(line)?;
         if self.is_taken(label) {
@@ -330,17 +335,38 @@ impl TextReader {
     }
 }
 
+/// Where the line begins that this place is in.
+fn line_start(text: &[u8], place: usize) -> usize
+    requires { place ≤ length text.now }
+    ensures within { result ≤ place }
+    ensures feed { 0 < result → slice_index text.now (result - 1) ≡ 10 }
+{
+    let mut start = place;
+    while 0 < start && text[start - 1] != b'\n' {
+        start -= 1;
+    }
+    start
+}
+
+/// A text without its first lines, as long as they have no colon, and so no label.
+fn from_colon(text: &[u8]) -> &[u8]
+    ensures same { labels_of (lines_of result.now) ≡ labels_of (lines_of text.now) }
+    ensures shorter { length result.now ≤ length text.now }
+{
+    &text[line_start(text, steps_before(b':', text))..]
+}
+
 /// The labels of all lines of a text.
 fn all_labels<'a>(alloc: Global, text: &'a [u8]) -> Result<Vec<&'a [u8]>, AllocError>
     ensures { IfOk result (λ labels. names labels.items ≡ labels_of (lines_of text.now)) }
 {
     let mut labels = Vec::new(alloc);
-    let mut rest = text;
+    let mut rest = from_colon(text);
     while let Some((line, after)) = first_line(rest) {
         if let Some(label) = label_place(line) {
             labels.push(label)?;
         }
-        rest = after;
+        rest = from_colon(after);
     }
     Ok(labels)
 }
@@ -360,20 +386,15 @@ fn label_is(label: &[u8], other: &Option<Label>) -> bool
     }
 }
 
-fn has_feed(bytes: &[u8]) -> bool
-    ensures { result ≡ list_any is_line_feed bytes.now }
-{
-    has_byte(b'\n', bytes)
-}
-
-/// How many bytes at the front have no line feed: the first one, or the end, is within a step of them.
-fn steps_before_feed(text: &[u8]) -> usize
+/// How many bytes at the front are not this one: the first that is, or the end, is within a step of them.
+#[inline(always)]
+fn steps_before(byte: u8, text: &[u8]) -> usize
     ensures within { result ≤ length text.now }
-    ensures none { list_any is_line_feed (take result text.now) ≡ false }
-    ensures near { position_or_len is_line_feed text.now < result + 16 }
+    ensures none { list_any (λ b. b == byte) (take result text.now) ≡ false }
+    ensures near { position_or_len (λ b. b == byte) text.now < result + 16 }
 {
     let mut start = 0;
-    while STEP <= text.len() - start && !has_feed(&text[start..start + STEP]) {
+    while STEP <= text.len() - start && !has_byte(byte, &text[start..start + STEP]) {
         start += STEP;
     }
     start
@@ -392,7 +413,7 @@ fn first_feed(text: &[u8]) -> Option<usize>
     ensures value { result ≡ position is_line_feed text.now }
     ensures within { IfSome result (λ place. place < length text.now) }
 {
-    let (front, rest) = text.split_at(steps_before_feed(text));
+    let (front, rest) = text.split_at(steps_before(b'\n', text));
     match feed_in(rest) {
         Some(place) => Some(front.len() + place),
         None => None,

@@ -16,6 +16,33 @@ pub enum What {
     Jump(Insn, Label),
 }
 
+/// What a line says behind its label, where a branch's label still stands in the line.
+#[derive(Clone, Copy)]
+pub(crate) enum Statement<'a> {
+    Empty,
+    Nop(u8),
+    Insn(Insn),
+    Jump(Insn, &'a [u8]),
+}
+
+impl Statement<'_> {
+    ghost use Rattle.std.specs.Prelude.{◌≡◌, IsTrue};
+    ghost use Rattle.c62_read.specs.Line.{said_of, statement_of, names_label};
+
+    /// The same with a label of its own.
+    pub(crate) fn owned(self) -> What
+        requires { IsTrue (names_label self) }
+        ensures { said_of result ≡ statement_of self.entry }
+    {
+        match self {
+            Statement::Empty => What::Empty,
+            Statement::Nop(cycles) => What::Nop(cycles),
+            Statement::Insn(insn) => What::Insn(insn),
+            Statement::Jump(insn, label) => What::Jump(insn, Label::new(label)),
+        }
+    }
+}
+
 /// What a line says.
 #[derive(Drop)]
 pub struct Reading {

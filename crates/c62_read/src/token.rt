@@ -12,6 +12,7 @@ pub(crate) fn is_allowed(b: u8) -> bool
 }
 
 /// Looks at every byte, whatever the others are: so the compiler compares many at once.
+#[inline(always)]
 pub(crate) fn has_byte(byte: u8, bytes: &[u8]) -> bool
     ensures { result ≡ list_any (λ b. b == byte) bytes.now }
 {
@@ -22,16 +23,29 @@ pub(crate) fn has_byte(byte: u8, bytes: &[u8]) -> bool
     found
 }
 
+#[inline(always)]
 fn is_blank(b: u8) -> bool
     ensures { result ≡ is_blank b }
 {
     b == b' ' || b == b'\t'
 }
 
+// Each byte of a word stands at its own place, and a comma at every other place.
+static WORD_BYTES: [u8; 256] = *b"\
+    ,,,,,,,,,,,,,,,,,,,,,,,,,,,,,,,,\
+    ,,,,$,,,,,,,,,,,0123456789,,,,,,\
+    ,ABCDEFGHIJKLMNOPQRSTUVWXYZ,,,,_\
+    ,abcdefghijklmnopqrstuvwxyz,,,,,\
+    ,,,,,,,,,,,,,,,,,,,,,,,,,,,,,,,,\
+    ,,,,,,,,,,,,,,,,,,,,,,,,,,,,,,,,\
+    ,,,,,,,,,,,,,,,,,,,,,,,,,,,,,,,,\
+    ,,,,,,,,,,,,,,,,,,,,,,,,,,,,,,,,";
+
+#[inline(always)]
 pub(crate) fn is_word_byte(b: u8) -> bool
     ensures { result ≡ is_word_byte b }
 {
-    b.is_ascii_alphanumeric() || b == b'_' || b == b'$'
+    WORD_BYTES[usize::from(b)] != b','
 }
 
 fn is_sign(b: u8) -> bool
@@ -56,6 +70,7 @@ fn joins(b: u8, c: u8) -> bool
 }
 
 /// How many bytes of a word stand first.
+#[inline(always)]
 pub(crate) fn word_len(bytes: &[u8]) -> usize
     ensures within { result ≤ length bytes.now }
     ensures word { IsTrue (list_all is_word_byte (take result bytes.now)) }
@@ -70,9 +85,10 @@ pub(crate) fn word_len(bytes: &[u8]) -> usize
 
 /// How many bytes the token has that stands first.
 fn token_len(bytes: &[u8]) -> usize
-    requires { IsTrue (begins is_solid bytes.now) }
+    requires { 0 < length bytes.now → IsTrue (begins is_solid bytes.now) }
     ensures within { result ≤ length bytes.now }
-    ensures token { tokens bytes.now ≡ take result bytes.now ∷ tokens (drop result bytes.now) }
+    ensures some { 0 < length bytes.now → 0 < result }
+    ensures token { 0 < length bytes.now → tokens bytes.now ≡ take result bytes.now ∷ tokens (drop result bytes.now) }
 {
     match bytes {
         [] => 0,
@@ -89,18 +105,6 @@ fn token_len(bytes: &[u8]) -> usize
     }
 }
 
-/// The first token of a line, and what follows it.
-pub(crate) fn first_token(line: &[u8]) -> Option<(&[u8], &[u8])>
-    ensures { MatchOption result (tokens line.now ≡ []) (λ found. tokens line.now ≡ found.0.now ∷ tokens found.1.now) }
-{
-    let start = from_token(line);
-    if start.is_empty() {
-        None
-    } else {
-        Some(start.split_at(token_len(start)))
-    }
-}
-
 /// The line from its first token on, and nothing where it has none.
 pub(crate) fn from_token(line: &[u8]) -> &[u8]
     ensures same { tokens result.now ≡ tokens line.now }
@@ -108,49 +112,61 @@ pub(crate) fn from_token(line: &[u8]) -> &[u8]
 {
     let mut start = line;
     while let [b, rest @ ..] = start {
-        if *b == b';' {
-            return &[];
-        }
         if !is_blank(*b) {
-            return start;
+            return if *b == b';' { &[] } else { start };
         }
         start = rest;
     }
     start
 }
 
-/// The tokens of a line from some place on, of which the first is cut off already: so each is cut off once.
+/// The tokens of a line from some place on, of which the first is cut off already: so each is cut off once. It is empty
+/// where none is left.
 #[derive(Clone, Copy)]
 pub(crate) struct Tokens<'a> {
-    pub first: Option<&'a [u8]>,
+    pub first: &'a [u8],
     pub rest: &'a [u8],
 }
 
 impl<'a> Tokens<'a> {
     /// All tokens of a line.
-    #[tactic(auto, unfolding(crate::specs::Text::words_left))]
+    #[tactic(auto, using(crate::proofs::TokenLemmas::led_by_token), unfolding(crate::specs::Text::words_left))]
     pub(crate) fn new(line: &'a [u8]) -> Tokens<'a>
         ensures { words_left result ≡ tokens line.now }
     {
-        match first_token(line) {
-            Some((first, rest)) => Tokens {
-                first: Some(first),
-                rest,
-            },
-            None => Tokens {
-                first: None,
-                rest: &[],
-            },
+        let start = from_token(line);
+        let (first, rest) = start.split_at(token_len(start));
+        Tokens { first, rest }
+    }
+
+    /// The first token.
+    #[inline(always)]
+    #[tactic(auto, unfolding(crate::specs::Text::words_left))]
+    pub(crate) fn peek(self) -> Option<&'a [u8]>
+        ensures { MatchOption result (words_left self.entry ≡ []) (λ first. words_left self.entry ≡ first.now ∷ tokens self.entry.rest.now) }
+    {
+        if self.first.is_empty() {
+            None
+        } else {
+            Some(self.first)
         }
     }
 
+    /// What follows the first token.
+    #[inline(always)]
+    pub(crate) fn behind(self) -> Tokens<'a>
+        ensures { words_left result ≡ tokens self.entry.rest.now }
+    {
+        Tokens::new(self.rest)
+    }
+
     /// The first token, and the others.
-    #[tactic(auto, unfolding(crate::specs::Text::words_left))]
+    #[inline(always)]
     pub(crate) fn split(self) -> Option<(&'a [u8], Tokens<'a>)>
         ensures { MatchOption result (words_left self.entry ≡ []) (λ found. words_left self.entry ≡ found.0.now ∷ words_left found.1) }
     {
-        let first = self.first?;
-        Some((first, Tokens::new(self.rest)))
+        let first = self.peek()?;
+        Some((first, self.behind()))
     }
 
     /// What is left of the first token, and the others.
@@ -162,7 +178,7 @@ impl<'a> Tokens<'a> {
             Tokens::new(self.rest)
         } else {
             Tokens {
-                first: Some(left),
+                first: left,
                 rest: self.rest,
             }
         }

@@ -92,11 +92,11 @@ fn begins_with_dot(word: &[u8]) -> bool
 }
 
 /// The unit that is written first, where one is, and what follows it. There is none where a dot begins no unit.
-#[tactic(auto, unfolding(crate::specs::Unit::unit_front, crate::specs::Text::words_left))]
+#[tactic(auto, unfolding(crate::specs::Unit::unit_front))]
 pub(crate) fn first_unit(rest: Tokens<'_>) -> Option<(Option<WrittenUnit>, Tokens<'_>)>
     ensures { Finds result (unit_front (words_left rest.entry)) }
 {
-    let Some(word) = rest.first else {
+    let Some(word) = rest.peek() else {
         return Some((None, rest));
     };
     if !begins_with_dot(word) {

@@ -8,11 +8,11 @@ pub returns-in-Some-clause-value : goal.returns-in-Some-clause-value
 returns-in-Some-clause-value c =
     let place : position is_line_feed c.split_at.result.1.now ≡ Some c.in-Some.place = sym c.in-Some.ensures.value in
     ap (λ (n : ℕ). Some (n + c.in-Some.place)) c.split_at.ensures.front_len
-    ∙ sym (later_is c.args.text.now c.steps_before_feed.result c.in-Some.place c.steps_before_feed.ensures.within c.steps_before_feed.ensures.none
+    ∙ sym (later_is c.args.text.now c.steps_before.result c.in-Some.place c.steps_before.ensures.within c.steps_before.ensures.none
     (ap (position is_line_feed) (sym c.split_at.ensures.back) ∙ place))
 
 pub returns-in-None-clause-value : goal.returns-in-None-clause-value
 returns-in-None-clause-value c =
     let none : position is_line_feed c.split_at.result.1.now ≡ None = sym c.in-None.ensures.value in
-    sym (later_none c.args.text.now c.steps_before_feed.result c.steps_before_feed.ensures.within c.steps_before_feed.ensures.none
+    sym (later_none c.args.text.now c.steps_before.result c.steps_before.ensures.within c.steps_before.ensures.none
     (ap (position is_line_feed) (sym c.split_at.ensures.back) ∙ none))
