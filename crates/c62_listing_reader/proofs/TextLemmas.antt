@@ -1,13 +1,15 @@
 -- The first line of a text.
-use Rattle.std.proofs.Common.{◌≡◌, ◌<◌, ◌≤◌, ℕ, ◌+◌, suc, Bool, true, false, not, eqb, List, [], ◌∷◌, ◌++◌, length, take, drop, get_or, Some, None, refl, sym, ap, ◌∙◌, arith}
-use Rattle.std.specs.Prelude.{position, nat_lt, if◌then◌else◌}
+use Rattle.std.proofs.Common.{◌≡◌, ◌<◌, ◌≤◌, ℕ, ◌+◌, suc, Bool, true, false, not, eqb, List, [], ◌∷◌, ◌++◌, length, take, drop, get_or, Option, Some, None, refl, sym, ap, ◌∙◌, arith}
+use Rattle.std.specs.Prelude.{◌&&◌, ◌||◌, position, nat_lt, if◌then◌else◌}
 use Rattle.std.specs.List.{list_all, before_first, position_or_len}
-use Rattle.std.proofs.lemmas.Bool.{and_from, and_parts, eqb-true, not-true, ltb-true, ltb-false}
+use Rattle.std.proofs.lemmas.Bool.{and_from, and_parts, eqb-true, false_from_ne_true, not-true, ltb-true, ltb-false}
 use Rattle.std.proofs.lemmas.List.{take_all}
 use Rattle.std.proofs.lemmas.List.Quantifiers.{position-Some}
-use Rattle.std.proofs.lemmas.List.Sums.{split_at_first}
+use Rattle.std.proofs.lemmas.List.Sums.{split_at_first, prefix_len_is}
+use Rattle.std.proofs.lemmas.Bool.Decides.{nat_tests}
+use Rattle.memchr.specs.Find.{IsFirstByte, is_byte}
 use Rattle.c62_read.specs.Text.{is_line_feed, without_return}
-use Rattle.c62_listing_reader.specs.Text.{Line, put, lines_in, ends_in_return}
+use Rattle.c62_listing_reader.specs.Text.{Line, put, lines_in, content, is_empty, ends_in_return, begin_filled}
 
 -- a line is without the carriage return that stands last
 pub without_last : (rest : List ℕ) (b : ℕ) → without_return (rest ++ b ∷ []) ≡ (if eqb b 13 then rest else (rest ++ b ∷ []))
@@ -68,6 +70,21 @@ none_before : (text : List ℕ) → has_no_feed (before_first is_line_feed text)
 none_before [] = refl
 none_before (b ∷ text) = none_more b text (is_line_feed b) refl (none_before text)
 
+pub feed_is : (text : List ℕ) (found : Option ℕ) → IsFirstByte (is_byte 10) text found → found ≡ position is_line_feed text
+feed_is text None h =
+    let len : position_or_len is_line_feed text ≡ length text
+    = prefix_len_is (λ b. not (is_line_feed b)) text (length text) 0 (omega arith) (λ j l. ap not (false_from_ne_true (is_line_feed (get_or text j 0)) (h j (omega arith) l)))
+    (λ l. absurd (omega (arith, l))) in
+    let test : nat_lt (length text) (length text) ≡ false = grind (arith, nat_tests) in
+    rw (len, test) refl
+feed_is text (Some k) h =
+    let low : k < length text = h.0.high in
+    let len : position_or_len is_line_feed text ≡ k
+    = prefix_len_is (λ b. not (is_line_feed b)) text k 0 (omega (arith, low)) (λ j l. ap not (false_from_ne_true (is_line_feed (get_or text j 0)) (h.0.before j (omega arith) l)))
+    (λ l. ap not h.1) in
+    let test : nat_lt k (length text) ≡ true = grind (arith, nat_tests) in
+    rw (len, test) refl
+
 place_is : (text : List ℕ) (k : ℕ) → position is_line_feed text ≡ Some k → (position_or_len is_line_feed text ≡ k) × (k < length text)
 place_is text k is = go (nat_lt (position_or_len is_line_feed text) (length text)) refl is
   where
@@ -103,3 +120,33 @@ none_is text is =
 pub only_is : (text : List ℕ) → 0 < length text → position is_line_feed text ≡ None → lines_in text ≡ record { bytes = text; fed = false } ∷ []
 only_is [] some is = absurd (omega arith)
 only_is (b ∷ text) some is = at_end b text (none_is (b ∷ text) is)
+
+-- ---- whether a text begins with a line that has bytes
+
+pub begin_one : (b : ℕ) → begin_filled (lines_in (b ∷ [])) ≡ not (eqb b 10)
+begin_one b = go (eqb b 10)
+  where
+    go : (feed : Bool) → begin_filled (if feed then fed [] ∷ [] else record { bytes = b ∷ []; fed = false } ∷ []) ≡ not feed
+    go true = refl
+    go false = refl
+
+pub begin_two : (b c : ℕ) (rest : List ℕ) → begin_filled (lines_in (b ∷ c ∷ rest)) ≡ (not (eqb b 10) && (not (eqb b 13) || not (eqb c 10)))
+begin_two b c rest = go (eqb b 10) (eqb c 10) (lines_in rest)
+  where
+    one : (return : Bool) → not (is_empty (if return then [] else b ∷ [])) ≡ (not return || false)
+    one true = refl
+    one false = refl
+
+    more : (return ended : Bool) (bytes : List ℕ) → not (is_empty (content (record { bytes = b ∷ c ∷ bytes; fed = ended }))) ≡ (not return || true)
+    more true true bytes = refl
+    more true false bytes = refl
+    more false true bytes = refl
+    more false false bytes = refl
+
+    go : (feed next : Bool) (lines : List Line)
+        → begin_filled (if feed then fed [] ∷ (if next then fed [] ∷ lines else put c lines) else put b (if next then fed [] ∷ lines else put c lines))
+        ≡ (not feed && (not (eqb b 13) || not next))
+    go true next lines = refl
+    go false true lines = one (eqb b 13)
+    go false false [] = more (eqb b 13) false []
+    go false false (line ∷ lines) = more (eqb b 13) line.fed line.bytes

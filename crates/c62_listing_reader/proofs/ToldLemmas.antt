@@ -7,7 +7,7 @@ use Rattle.std.proofs.lemmas.Bool.Decides.{nat_tests}
 use Rattle.std.proofs.lemmas.Option.{none-some}
 use Rattle.std.proofs.lemmas.Slice.Eq.{bytes_eq-Decides}
 use Rattle.c62_read.specs.declared.fault.Cause.{Cause}
-use Rattle.c62_read.specs.declared.fault.Cause.TheVariants.{BadLabel, ParallelBar}
+use Rattle.c62_read.specs.declared.fault.Cause.TheVariants.{BadLabel, DuplicateLabel, ParallelBar}
 use Rattle.c62_read.specs.Text.{is_allowed, tokens}
 use Rattle.c62_read.specs.Number.{is_label, spells}
 use Rattle.c62_read.specs.Line.{Says, Nothing, Pause, Does, Jumps, head_of, label_front, line_of, rest_says as words_say, with_head, with_rest as label_with}
@@ -232,6 +232,14 @@ pub read_line : (labels : List Name) (drafts : Drafts) (above : Above) (line : L
 read_line labels drafts above line below said is =
     let rest : List ℕ = rest_of said.front (content line) in
     plain_read (is_taken (place_of rest) drafts) (has_colon rest) (line_of rest) (said.label, said.says) is.read
+
+-- where a rest is read, its label place has the label that is read
+pub rest_read : (drafts : Drafts) (rest : List ℕ) (label : Option Name) (says : Says) (taken : Bool) → line_of rest ≡ Ok (label, says) → is_taken label drafts ≡ taken
+    → rest_says drafts rest ≡ (if taken then Err DuplicateLabel else Ok (label, says))
+rest_read drafts rest label says taken read is =
+    let parts = line_parts rest label says read in
+    let place : place_of rest ≡ label = place_is rest label parts.words parts.head in
+    ap (after_label (is_taken (place_of rest) drafts) (has_colon rest)) read ∙ rw (place, is) refl
 
 -- a line with a label in its label place says that label, and belongs to a block
 pub has_name : (labels : List Name) (drafts : Drafts) (above : Above) (line : Line) (below : List Line) (said : Said) (name : Name)

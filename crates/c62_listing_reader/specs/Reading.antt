@@ -24,7 +24,7 @@ abbrev pub drafts_of : Blocks → Drafts
 drafts_of blocks = record { done = map draft_open blocks.done.items; current = option_map draft_open blocks.current }
 
 abbrev pub said_by : Judged → Said
-said_by judged = record { front = judged.front; label = judged.label; says = said_of judged.what }
+said_by judged = record { front = judged.front; label = judged.reading.label; says = said_of judged.reading.what }
 
 abbrev pub entry_of : Named → Name × ℕ
 entry_of named = (named.label.now, named.number)

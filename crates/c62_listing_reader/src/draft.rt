@@ -134,20 +134,13 @@ impl Blocks {
         Ok(())
     }
 
-    pub fn take_block(&mut self, alloc: Global) -> OpenBlock
-        ensures block { draft_open result ≡ opened (drafts_of self.old).current }
-        ensures rest { drafts_of self.new ≡ record (drafts_of self.old) { current = None } }
+    /// Opens a block where none is open.
+    pub fn open_block(&mut self, alloc: Global)
+        ensures { drafts_of self.new ≡ record (drafts_of self.old) { current = Some (opened (drafts_of self.old).current) } }
     {
-        match self.current.take() {
-            Some(block) => block,
-            None => OpenBlock::new(alloc),
+        if self.current.is_none() {
+            self.current = Some(OpenBlock::new(alloc));
         }
-    }
-
-    pub fn put_block(&mut self, block: OpenBlock)
-        ensures { drafts_of self.new ≡ record (drafts_of self.old) { current = Some (draft_open block) } }
-    {
-        self.current = Some(block);
     }
 
     fn is_done(&self, label: &[u8]) -> bool

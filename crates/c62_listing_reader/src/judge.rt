@@ -3,13 +3,14 @@
 ghost use Rattle.std.specs.Prelude.{◌≡◌, ◌⊎◌, ◌≤◌, ◌+◌, ◌&&◌, not, Ok, Err, MatchResult, is_some, is_none, nat_le, nat_lt, length};
 ghost use Rattle.std.specs.List.{list_any};
 ghost use Rattle.std.specs.Str.{bytes_eq};
-ghost use Rattle.c62_read.specs.Line.{line_of, said_of};
+ghost use Rattle.c62_read.specs.Line.{said_of};
+ghost use Rattle.c62_read.specs.Program.{place_of};
 ghost use Rattle.c62_read.specs.Walk.{is_unknown, is_instruction};
 ghost use Rattle.c62_listing_reader.specs.Text.{lines_in, content};
 ghost use Rattle.c62_listing_reader.specs.Cut.{line_cut};
-ghost use Rattle.c62_listing_reader.specs.Begin.{rest_of, is_gap, is_beside};
+ghost use Rattle.c62_listing_reader.specs.Begin.{has_colon, rest_of, is_gap, is_beside};
 ghost use Rattle.c62_listing_reader.specs.Said.{labels_of, opened};
-ghost use Rattle.c62_listing_reader.specs.Faults.{is_issue, is_filled, unit_said, unit_above, precedes, goes_on, is_misplaced, after_label, hindrance, cycles_added, is_alone, is_unfit, is_odd, unless_odd, with_rest, rest_says, line_says};
+ghost use Rattle.c62_listing_reader.specs.Faults.{is_issue, is_filled, unit_said, unit_above, precedes, goes_on, is_misplaced, is_taken, after_label, hindrance, cycles_added, is_alone, is_unfit, is_odd, unless_odd, with_rest, rest_says, line_says};
 ghost use Rattle.c62_listing_reader.specs.Reading.{drafts_of, said_by, entries_of, read_as, Fails};
 
 use crate::draft::Blocks;
@@ -19,7 +20,6 @@ use crate::spelled::is_spelled;
 use crate::text::{Cut, begins_filled, content, is_ended};
 use c62_insn::Unit;
 use c62_read::{Cause, Label, Reading, What, label_place, read_insn};
-use std::alloc::Global;
 
 /// A label of the text, and the number of the block that it stands for.
 #[derive(Clone, Copy)]
@@ -32,8 +32,7 @@ pub struct Named<'a> {
 #[derive(Drop)]
 pub struct Judged {
     pub front: Front,
-    pub label: Option<Label>,
-    pub what: What,
+    pub reading: Reading,
 }
 
 fn is_issue(above: Above) -> bool
@@ -108,42 +107,52 @@ fn is_misplaced(front: Front, above: Above) -> bool
     }
 }
 
-/// The reading of a rest in which bars have no meaning. A label that is taken comes before all faults but a bad label.
-fn after_label(taken: bool, colon: bool, read: Result<Reading, Cause>) -> Result<Reading, Cause>
-    ensures { read_as result ≡ after_label taken colon (read_as read) }
+/// The fault of a rest in which bars have no meaning. A label that is taken comes before all faults but a bad label.
+fn fault_of_rest(blocks: &Blocks, rest: &[u8], cause: Cause) -> Cause
+    ensures { after_label (is_taken (place_of rest.now) (drafts_of blocks.now)) (has_colon rest.now) (Err cause) ≡ Err result }
 {
-    match read {
-        Err(Cause::ParallelBar) => Err(if colon {
-            Cause::BadLabel
-        } else {
-            Cause::UnknownMnemonic
-        }),
-        Err(Cause::BadLabel) => Err(Cause::BadLabel),
-        read => {
-            if taken {
-                Err(Cause::DuplicateLabel)
+    match cause {
+        Cause::ParallelBar => {
+            if has_colon(rest) {
+                Cause::BadLabel
             } else {
-                read
+                Cause::UnknownMnemonic
+            }
+        }
+        Cause::BadLabel => Cause::BadLabel,
+        cause => {
+            if blocks.is_taken(label_place(rest)) {
+                Cause::DuplicateLabel
+            } else {
+                cause
             }
         }
     }
 }
 
-fn read_line(rest: &[u8]) -> Result<Reading, Cause>
-    ensures { read_as result ≡ line_of rest.now }
+fn is_label_taken(blocks: &Blocks, label: &Option<Label>) -> bool
+    ensures { result ≡ is_taken label.now (drafts_of blocks.now) }
 {
-    match read_insn(rest) {
-        Ok(reading) => Ok(reading),
-        Err(fault) => Err(fault.cause),
+    match label {
+        Some(label) => blocks.is_taken(Some(label.as_bytes())),
+        None => false,
     }
 }
 
+/// What a rest says, in which bars have no meaning. The label that is read is the one in its label place.
 fn rest_says(blocks: &Blocks, rest: &[u8]) -> Result<Reading, Cause>
     ensures { read_as result ≡ rest_says (drafts_of blocks.now) rest.now }
 {
-    let taken = blocks.is_taken(label_place(rest));
-    let colon = has_colon(rest);
-    after_label(taken, colon, read_line(rest))
+    match read_insn(rest) {
+        Ok(reading) => {
+            if is_label_taken(blocks, &reading.label) {
+                Err(Cause::DuplicateLabel)
+            } else {
+                Ok(reading)
+            }
+        }
+        Err(fault) => Err(fault_of_rest(blocks, rest, fault.cause)),
+    }
 }
 
 fn any_is(label: &[u8], names: &[Named<'_>]) -> bool
@@ -274,7 +283,7 @@ fn is_unfit(blocks: &Blocks, above: Above, cut: &Cut<'_>, front: Front, reading:
 
 /// What a line says behind its front, where it is spelled so and fits its neighbours.
 fn fitted(
-    alloc: Global,
+    spelling: &mut String,
     blocks: &Blocks,
     above: Above,
     cut: &Cut<'_>,
@@ -285,22 +294,18 @@ fn fitted(
         (λ judged. unless_odd (is_odd (drafts_of blocks.now) above (line_cut cut.now) (lines_in cut.now.rest.now) front reading.label (said_of reading.what)) (record { front = front; label = reading.label; says = said_of reading.what }) ≡ Ok (said_by judged))
         (λ fault. Fails fault (unless_odd (is_odd (drafts_of blocks.now) above (line_cut cut.now) (lines_in cut.now.rest.now) front reading.label (said_of reading.what)) (record { front = front; label = reading.label; says = said_of reading.what }))) }
 {
-    let spelled = is_spelled(alloc, content(cut), front, &reading.label, &reading.what)?;
+    let spelled = is_spelled(spelling, content(cut), front, &reading.label, &reading.what)?;
     if !spelled {
         return Err(LineFault::Shape);
     }
     if is_unfit(blocks, above, cut, front, &reading) {
         return Err(LineFault::Shape);
     }
-    Ok(Judged {
-        front,
-        label: reading.label,
-        what: reading.what,
-    })
+    Ok(Judged { front, reading })
 }
 
 fn with_rest(
-    alloc: Global,
+    spelling: &mut String,
     names: &[Named<'_>],
     blocks: &Blocks,
     above: Above,
@@ -316,7 +321,7 @@ fn with_rest(
         Ok(reading) => {
             match hindrance(names, blocks, front, &reading.what) {
                 Some(cause) => Err(LineFault::Read(cause)),
-                None => fitted(alloc, blocks, above, cut, front, reading),
+                None => fitted(spelling, blocks, above, cut, front, reading),
             }
         }
     }
@@ -325,7 +330,7 @@ fn with_rest(
 /// What a line says, or its first fault.
 #[tactic(auto, unfolding(crate::specs::Faults::line_says))]
 pub fn judge(
-    alloc: Global,
+    spelling: &mut String,
     names: &[Named<'_>],
     blocks: &Blocks,
     above: Above,
@@ -346,5 +351,5 @@ pub fn judge(
     if is_misplaced(front, above) {
         return Err(LineFault::Shape);
     }
-    with_rest(alloc, names, blocks, above, cut, front)
+    with_rest(spelling, names, blocks, above, cut, front)
 }

@@ -10,7 +10,8 @@ ghost use Rattle.c62_listing_reader.specs.declared.fault.LineFault.TheVariants.{
 ghost use Rattle.c62_listing_reader.specs.declared.fault.ListFault.TheVariants.{Memory as NoMemory};
 ghost use Rattle.c62_listing_reader.specs.declared.line.Above.TheVariants.{Start};
 ghost use Rattle.c62_listing_reader.specs.Text.{lines_in};
-ghost use Rattle.c62_listing_reader.specs.Said.{Draft, Drafts as Placements, names_in, labels_of, aim_by, with_says, with_said, above_of, above_next, all_drafts, no_drafts};
+ghost use Rattle.c62_listing_reader.specs.Begin.{is_beside};
+ghost use Rattle.c62_listing_reader.specs.Said.{Draft, Drafts as Placements, names_in, labels_of, aim_by, with_label, with_says, with_said, above_of, above_next, all_drafts, no_drafts};
 ghost use Rattle.c62_listing_reader.specs.Faults.{Refusal, contents, draft_of, IsFaulted, IsFirstFaulty, IsRead, read_lines, cycles_added};
 ghost use Rattle.c62_listing_reader.specs.Fine.{IsFine};
 ghost use Rattle.c62_listing_reader.specs.Reading.{draft_open, drafts_of, said_by, entries_of, HasUnit, Fits, RefusesLines, RefusesBlocks, Refuses};
@@ -22,11 +23,14 @@ use crate::line::Above;
 use crate::text::{content, first_line};
 use c62_insn::{Insn, Operands};
 use c62_packet::{BlockFault, PacketBlock, Packets};
-use c62_read::{Cause, ReadFault, What, label_place};
+use c62_read::{Cause, ReadFault, Reading, What, label_place};
 use std::alloc::{AllocError, Global};
 
 /// The longest listing, in bytes.
 pub const MOST_BYTES: usize = 8_388_608;
+
+/// Room for the longest spelling of a line, in bytes.
+const LONGEST_LINE: usize = 64;
 
 /// The labels of all lines of a text.
 fn all_names<'a>(alloc: Global, text: &'a [u8]) -> Result<Vec<Named<'a>>, AllocError>
@@ -88,12 +92,12 @@ fn above_of(what: &What) -> Above
 
 /// What the next line asks of this one.
 fn above_next(judged: &Judged) -> Above
-    ensures { result ≡ above_next judged.now.front (said_of judged.now.what) }
+    ensures { result ≡ above_next judged.now.front (said_of judged.now.reading.what) }
 {
     if is_gap(judged.front) {
         Above::Start
     } else {
-        above_of(&judged.what)
+        above_of(&judged.reading.what)
     }
 }
 
@@ -103,24 +107,36 @@ impl OpenBlock {
         names: &[Named<'_>],
         beside: bool,
         line: u32,
-        what: What,
+        what: &What,
     ) -> Result<(), AllocError>
-        requires unit { HasUnit (said_of what) }
-        requires short { self.old.cycles + cycles_added beside (said_of what) ≤ 2048 }
-        ensures { OnOk result (draft_open self.new ≡ with_says (aim_by (entries_of names.now)) beside line (said_of what) (draft_open self.old)) }
+        requires unit { HasUnit (said_of what.now) }
+        requires short { self.old.cycles + cycles_added beside (said_of what.now) ≤ 2048 }
+        ensures { OnOk result (draft_open self.new ≡ with_says (aim_by (entries_of names.now)) beside line (said_of what.now) (draft_open self.old)) }
     {
         match what {
             What::Empty => Ok(()),
             What::Nop(cycles) => {
-                self.add_pause(cycles);
+                self.add_pause(*cycles);
                 Ok(())
             }
-            What::Insn(insn) => self.add_insn(beside, insn, line),
+            What::Insn(insn) => self.add_insn(beside, *insn, line),
             What::Jump(insn, target) => {
                 let number = number_of(names, target.as_bytes());
-                self.add_insn(beside, aimed(insn, number), line)
+                self.add_insn(beside, aimed(*insn, number), line)
             }
         }
+    }
+
+    /// Adds what a line of the block says.
+    fn add(&mut self, names: &[Named<'_>], line: u32, judged: Judged) -> Result<(), AllocError>
+        requires unit { HasUnit (said_of judged.reading.what) }
+        requires short { self.old.cycles + cycles_added (is_beside judged.front) (said_of judged.reading.what) ≤ 2048 }
+        ensures { OnOk result (draft_open self.new ≡ with_says (aim_by (entries_of names.now)) (is_beside judged.front) line (said_of judged.reading.what) (with_label judged.reading.label (draft_open self.old))) }
+    {
+        let Judged { front, reading } = judged;
+        let Reading { label, what } = reading;
+        self.add_label(label);
+        self.add_what(names, is_beside(front), line, &what)
     }
 }
 
@@ -139,11 +155,11 @@ impl Blocks {
         if is_gap(judged.front) {
             return self.end_block();
         }
-        let mut block = self.take_block(alloc);
-        block.add_label(judged.label);
-        block.add_what(names, is_beside(judged.front), line, judged.what)?;
-        self.put_block(block);
-        Ok(())
+        self.open_block(alloc);
+        match &mut self.current {
+            Some(block) => block.add(names, line, judged),
+            None => unreachable!(),
+        }
     }
 }
 
@@ -165,12 +181,13 @@ fn read_blocks(alloc: Global, names: &[Named<'_>], text: &[u8]) -> Result<Blocks
         × All IsFine (all_drafts (drafts_of blocks)) × (length (all_drafts (drafts_of blocks)) ≤ 64))
         (λ fault. RefusesLines (read_lines (labels_of (entries_of names.now)) (aim_by (entries_of names.now)) 1 no_drafts Start (lines_in text.now)) fault) }
 {
+    let mut spelling = String::with_capacity(alloc, LONGEST_LINE)?;
     let mut blocks = Blocks::new(alloc);
     let mut above = Above::Start;
     let mut number = 1;
     let mut rest = text;
     while let Some(cut) = first_line(rest) {
-        let judged = match judge(alloc, names, &blocks, above, &cut) {
+        let judged = match judge(&mut spelling, names, &blocks, above, &cut) {
             Ok(judged) => judged,
             Err(fault) => return Err(fault_of_line(number, fault)),
         };

@@ -11,7 +11,7 @@ use c62_insn::Insn;
 use c62_listing::push_spelling;
 use c62_read::{Label, What};
 use itoa::Buffer;
-use std::alloc::{AllocError, Global};
+use std::alloc::AllocError;
 
 fn front_text(front: Front) -> &'static str
     ensures { result.now ≡ front_spelling front }
@@ -24,7 +24,7 @@ fn front_text(front: Front) -> &'static str
 
 /// Whether the line is spelled as this instruction on its unit.
 fn is_issue(
-    alloc: Global,
+    spelling: &mut String,
     line: &[u8],
     front: Front,
     insn: Insn,
@@ -35,20 +35,20 @@ fn is_issue(
     let Some(unit) = insn.unit() else {
         return Ok(false);
     };
-    let mut spelled = String::with_capacity(alloc, 64)?;
-    spelled.push_str(front_text(front))?;
-    push_spelling(&mut spelled, insn, unit, target)?;
-    Ok(line == spelled.as_bytes())
+    spelling.clear();
+    spelling.push_str(front_text(front))?;
+    push_spelling(spelling, insn, unit, target)?;
+    Ok(line == spelling.as_bytes())
 }
 
-fn is_pause(alloc: Global, line: &[u8], cycles: u8) -> Result<bool, AllocError>
+fn is_pause(spelling: &mut String, line: &[u8], cycles: u8) -> Result<bool, AllocError>
     ensures { IfOk result (λ is. is ≡ is_text line.now (Some (codes "   NOP " ++ decimal cycles))) }
 {
     let mut buffer = Buffer::new();
-    let mut spelled = String::with_capacity(alloc, 16)?;
-    spelled.push_str("   NOP ")?;
-    spelled.push_str(buffer.format(cycles))?;
-    Ok(line == spelled.as_bytes())
+    spelling.clear();
+    spelling.push_str("   NOP ")?;
+    spelling.push_str(buffer.format(cycles))?;
+    Ok(line == spelling.as_bytes())
 }
 
 /// The label as a text.
@@ -61,18 +61,19 @@ fn label_text(label: &Label) -> &str
     }
 }
 
-fn is_heading(alloc: Global, line: &[u8], label: &Label) -> Result<bool, AllocError>
+fn is_heading(spelling: &mut String, line: &[u8], label: &Label) -> Result<bool, AllocError>
     ensures { IfOk result (λ is. is ≡ is_text line.now (Some (label.now ++ codes ":"))) }
 {
-    let mut spelled = String::with_capacity(alloc, 40)?;
-    spelled.push_str(label_text(label))?;
-    spelled.push_str(":")?;
-    Ok(line == spelled.as_bytes())
+    spelling.clear();
+    spelling.push_str(label_text(label))?;
+    spelling.push_str(":")?;
+    Ok(line == spelling.as_bytes())
 }
 
-/// Whether a line is the one spelling of what it says behind a label, or without one.
+/// Whether a line is the one spelling of what it says behind a label, or without one. That is written to `spelling`, which
+/// takes memory only where a line is longer than those before it.
 pub fn is_spelled(
-    alloc: Global,
+    spelling: &mut String,
     line: &[u8],
     front: Front,
     label: &Option<Label>,
@@ -81,13 +82,13 @@ pub fn is_spelled(
     ensures { IfOk result (λ is. is ≡ is_text line.now (spelled_line front label.now (said_of what.now))) }
 {
     match (label, what) {
-        (Some(label), What::Empty) => is_heading(alloc, line, label),
+        (Some(label), What::Empty) => is_heading(spelling, line, label),
         (Some(_), _) => Ok(false),
         (None, What::Empty) => Ok(front == Front::Empty && line.is_empty()),
-        (None, What::Nop(cycles)) => is_pause(alloc, line, *cycles),
-        (None, What::Insn(insn)) => is_issue(alloc, line, front, *insn, ""),
+        (None, What::Nop(cycles)) => is_pause(spelling, line, *cycles),
+        (None, What::Insn(insn)) => is_issue(spelling, line, front, *insn, ""),
         (None, What::Jump(insn, target)) => {
-            is_issue(alloc, line, front, *insn, label_text(target))
+            is_issue(spelling, line, front, *insn, label_text(target))
         }
     }
 }

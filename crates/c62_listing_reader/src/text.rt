@@ -5,6 +5,8 @@ ghost use Rattle.c62_read.specs.Text.{is_line_feed, without_return};
 ghost use Rattle.c62_listing_reader.specs.Text.{lines_in, content, ends_in_return, is_ended, is_empty, begin_filled};
 ghost use Rattle.c62_listing_reader.specs.Cut.{line_cut};
 
+use memchr::memchr;
+
 /// A line that is cut off a text, and the text behind it.
 #[derive(Clone, Copy)]
 pub struct Cut<'a> {
@@ -14,11 +16,12 @@ pub struct Cut<'a> {
     pub rest: &'a [u8],
 }
 
+/// Where the first line feed stands.
 fn feed_in(text: &[u8]) -> Option<usize>
     ensures value { result ≡ position is_line_feed text.now }
     ensures within { IfSome result (λ place. place < length text.now) }
 {
-    text.iter().position(|b| *b == b'\n')
+    memchr(b'\n', text)
 }
 
 /// The first line of a text.
@@ -87,11 +90,13 @@ pub fn is_ended(cut: &Cut<'_>) -> bool
 }
 
 /// Whether a text begins with a line that is not empty.
+#[tactic(auto, using(crate::proofs::TextLemmas::begin_one, crate::proofs::TextLemmas::begin_two))]
 pub fn begins_filled(text: &[u8]) -> bool
     ensures { result ≡ begin_filled (lines_in text.now) }
 {
-    match first_line(text) {
-        Some(cut) => !content(&cut).is_empty(),
-        None => false,
+    match text {
+        [] => false,
+        [b] => *b != b'\n',
+        [b, c, ..] => *b != b'\n' && (*b != b'\r' || *c != b'\n'),
     }
 }

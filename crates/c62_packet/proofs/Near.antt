@@ -1,7 +1,7 @@
--- What is issued more than four cycles later clashes with nothing.
-use Rattle.std.proofs.Common.{arith, ◌≡◌, ℕ, ◌+◌, ◌<◌, ◌≤◌, List, [], ◌∷◌, ◌++◌, length, get_or, take, drop, length-drop, Some, Bool, true, false, refl, sym, ap, ◌∙◌, leb}
-use Rattle.std.specs.Prelude.{◌==◌, ◌&&◌, nat_lt, find, option_map, sum_by, All}
-use Rattle.std.specs.List.{list_any, AllWithin}
+-- What is issued later than a cycle is no matter to it.
+use Rattle.std.proofs.Common.{arith, ◌≡◌, ℕ, ◌+◌, ◌<◌, ◌≤◌, List, [], ◌∷◌, ◌++◌, length, get_or, drop, length-drop, Some, Bool, false, refl, sym, ap, ◌∙◌, leb}
+use Rattle.std.specs.Prelude.{◌==◌, ◌&&◌, nat_lt, sum_by, take_while, All}
+use Rattle.std.specs.List.{list_any, prefix_len}
 use Rattle.std.specs.List.Sorted.{IsNonDecreasingBy}
 use Rattle.std.proofs.Math.Bool.{or-false}
 use Rattle.std.proofs.lemmas.Bool.{leb-false}
@@ -9,28 +9,48 @@ use Rattle.std.proofs.lemmas.Bool.Decides.{nat_tests}
 use Rattle.std.proofs.lemmas.List.{map-append, take-append-drop, get_or-drop}
 use Rattle.std.proofs.lemmas.List.Elements.{All-tail, All-weaker}
 use Rattle.std.proofs.lemmas.List.Folds.{list_any-append, list_any_none}
-use Rattle.std.proofs.lemmas.List.Sums.{sum_by-append, sum_by-cons}
+use Rattle.std.proofs.lemmas.List.Sums.{sum_by-append, sum_by-cons, prefix_len_stops}
 use Rattle.c62_insn.specs.declared.register.Reg.{Reg}
 use Rattle.c62_insn.specs.declared.register.Letter.{Letter}
 use Rattle.c62_insn.specs.declared.register.Letter.TheVariants.{L, S, M, D}
 use Rattle.c62_insn.specs.declared.register.Side.{Side}
 use Rattle.c62_insn.specs.declared.register.Side.TheVariants.{A, B}
-use Rattle.c62_insn.specs.Takes.{same_reg, same_side, same_unit}
+use Rattle.c62_insn.specs.Takes.{same_side, same_unit}
 use Rattle.c62_insn.specs.Shape.{data_path_of}
-use Rattle.c62_insn.specs.Insn.{operands_of, operand_reads, register_writes}
+use Rattle.c62_insn.specs.Insn.{operands_of, operand_reads}
 use Rattle.c62_insn.specs.Units.{place_of}
 use Rattle.c62_insn.specs.PacketRules.{reads_in}
-use Rattle.c62_insn.proofs.InsnLemmas.{timely_writes}
 use Rattle.c62_packet.specs.declared.placed.Placed.{Placed}
 use Rattle.c62_packet.specs.Packed.{issue_of, issued, listing_place, IsInListingOrder}
-use Rattle.c62_packet.specs.Clash.{shares_unit, shares_side, both_cross, shares_cross_path, same_path, shares_data_path, reads_beside, is_over_read, is_landing, lands, is_met, landing_beside, broken_beside}
+use Rattle.c62_packet.specs.Clash.{shares_unit, shares_side, both_cross, shares_cross_path, same_path, shares_data_path, reads_beside, is_over_read, lands, broken_by, broken_beside}
+use Rattle.c62_packet.proofs.RuleLemmas.{lands-late}
 
--- so much later
-abbrev IsFar : ℕ → Placed → Type 0
-IsFar cycle q = cycle + 4 < q.cycle
+abbrev IsLater : ℕ → Placed → Type 0
+IsLater cycle q = cycle < q.cycle
 
-any-near : (test : Placed → Bool) (near far : List Placed) → All (λ q. test q ≡ false) far → list_any test (near ++ far) ≡ list_any test near
-any-near test near far fail = list_any-append test near far ∙ (rw (list_any_none test far fail) (or-false (list_any test near)))
+-- those that are issued until a cycle stand first, and the others are issued later
+abbrev pub until : ℕ → List Placed → List Placed
+until cycle placed = take_while (λ p. leb p.cycle cycle) placed
+
+later : (cycle : ℕ) (placed : List Placed) → IsNonDecreasingBy (λ p. p.cycle) placed → All (IsLater cycle) (drop (prefix_len (λ p. leb p.cycle cycle) placed) placed)
+later cycle placed rise k d within =
+    let n = prefix_len (λ (p : Placed). leb p.cycle cycle) placed in
+    let at : get_or (drop n placed) k d ≡ get_or placed (n + k) d = get_or-drop n placed k d in
+    let low : n + k < length placed = omega (arith, within, length-drop n placed) in
+    let first : cycle < (get_or placed n d).cycle
+    = leb-false (get_or placed n d).cycle cycle (prefix_len_stops (λ (p : Placed). leb p.cycle cycle) placed d (omega (arith, low))) in
+    let up : (get_or placed n d).cycle ≤ (get_or placed (n + k) d).cycle = rise n (n + k) d (omega arith) low in
+    rw at (omega (arith, first, up))
+
+-- a test that all later ones fail
+any_until : (test : Placed → Bool) (cycle : ℕ) (placed : List Placed) → IsNonDecreasingBy (λ p. p.cycle) placed → ((q : Placed) → cycle < q.cycle → test q ≡ false)
+    → list_any test (until cycle placed) ≡ list_any test placed
+any_until test cycle placed rise fail =
+    let n = prefix_len (λ (p : Placed). leb p.cycle cycle) placed in
+    let far = drop n placed in
+    let none = All-weaker (IsLater cycle) (λ q. test q ≡ false) fail far (later cycle placed rise) in
+    sym (sym (ap (list_any test) (take-append-drop n placed)) ∙ list_any-append test (until cycle placed) far
+    ∙ (rw (list_any_none test far none) (or-false (list_any test (until cycle placed)))))
 
 not_same : (a b : ℕ) → (a ≡ b → ⊥) → (a == b) ≡ false
 not_same a b ne = grind (arith, nat_tests)
@@ -38,35 +58,44 @@ not_same a b ne = grind (arith, nat_tests)
 first_fails : (a b : Bool) → a ≡ false → (a && b) ≡ false
 first_fails a b e = rw e refl
 
-second_fails : (a b : Bool) → b ≡ false → (a && b) ≡ false
-second_fails true b e = e
-second_fails false b e = refl
+units_until : (p : Placed) (others : List Placed) → IsNonDecreasingBy (λ p. p.cycle) others
+    → list_any (shares_unit p) (until p.cycle others) ≡ list_any (shares_unit p) others
+units_until p others rise =
+    any_until (shares_unit p) p.cycle others rise
+    (λ q far. first_fails (q.cycle == p.cycle) (same_unit q.unit p.unit) (not_same q.cycle p.cycle (λ e. omega (arith, far, e))))
 
-far_unit : (p q : Placed) → IsFar p.cycle q → shares_unit p q ≡ false
-far_unit p q far = first_fails (q.cycle == p.cycle) (same_unit q.unit p.unit) (not_same q.cycle p.cycle (λ e. omega (arith, far, e)))
+cross_paths_until : (p : Placed) (others : List Placed) → IsNonDecreasingBy (λ p. p.cycle) others
+    → list_any (shares_cross_path p) (until p.cycle others) ≡ list_any (shares_cross_path p) others
+cross_paths_until p others rise =
+    any_until (shares_cross_path p) p.cycle others rise
+    (λ q far. first_fails (shares_side p q) (both_cross p q)
+    (first_fails (q.cycle == p.cycle) (same_side q.unit.side p.unit.side) (not_same q.cycle p.cycle (λ e. omega (arith, far, e)))))
 
-far_cross : (p q : Placed) → IsFar p.cycle q → shares_cross_path p q ≡ false
-far_cross p q far =
-    first_fails (shares_side p q) (both_cross p q)
-    (first_fails (q.cycle == p.cycle) (same_side q.unit.side p.unit.side) (not_same q.cycle p.cycle (λ e. omega (arith, far, e))))
+data_paths_until : (p : Placed) (others : List Placed) → IsNonDecreasingBy (λ p. p.cycle) others
+    → list_any (shares_data_path p) (until p.cycle others) ≡ list_any (shares_data_path p) others
+data_paths_until p others rise =
+    any_until (shares_data_path p) p.cycle others rise
+    (λ q far. first_fails (q.cycle == p.cycle) (same_path (data_path_of (operands_of q.insn)) (data_path_of (operands_of p.insn)))
+    (not_same q.cycle p.cycle (λ e. omega (arith, far, e))))
 
-far_path : (p q : Placed) → IsFar p.cycle q → shares_data_path p q ≡ false
-far_path p q far =
-    first_fails (q.cycle == p.cycle) (same_path (data_path_of (operands_of q.insn)) (data_path_of (operands_of p.insn)))
-    (not_same q.cycle p.cycle (λ e. omega (arith, far, e)))
+pub landings_until : (reg : Reg) (cycle : ℕ) (others : List Placed) → IsNonDecreasingBy (λ p. p.cycle) others
+    → list_any (lands reg cycle) (until cycle others) ≡ list_any (lands reg cycle) others
+landings_until reg cycle others rise = any_until (lands reg cycle) cycle others rise (λ q far. lands-late reg cycle q far)
 
-far_read : (p q : Placed) (reg : Reg) → IsFar p.cycle q → reads_in p.cycle reg (Some (issue_of q)) ≡ 0
+-- ---- reads
+
+far_read : (p q : Placed) (reg : Reg) → IsLater p.cycle q → reads_in p.cycle reg (Some (issue_of q)) ≡ 0
 far_read p q reg far = rw (not_same q.cycle p.cycle (λ e. omega (arith, far, e))) refl
 
-far_reads : (p : Placed) (reg : Reg) (far : List Placed) → All (IsFar p.cycle) far → sum_by (reads_in p.cycle reg) (issued far) ≡ 0
+far_reads : (p : Placed) (reg : Reg) (far : List Placed) → All (IsLater p.cycle) far → sum_by (reads_in p.cycle reg) (issued far) ≡ 0
 far_reads p reg [] are = refl
 far_reads p reg (q ∷ far) are =
     let here : reads_in p.cycle reg (Some (issue_of q)) ≡ 0 = far_read p q reg (are 0 q (omega arith)) in
-    let rest : sum_by (reads_in p.cycle reg) (issued far) ≡ 0 = far_reads p reg far (All-tail (IsFar p.cycle) q far are) in
+    let rest : sum_by (reads_in p.cycle reg) (issued far) ≡ 0 = far_reads p reg far (All-tail (IsLater p.cycle) q far are) in
     let split = sum_by-cons (reads_in p.cycle reg) (Some (issue_of q)) (issued far) in
     omega (arith, here, rest, split)
 
-near_reads : (p : Placed) (near far : List Placed) (reg : Reg) → All (IsFar p.cycle) far → reads_beside p (near ++ far) reg ≡ reads_beside p near reg
+near_reads : (p : Placed) (near far : List Placed) (reg : Reg) → All (IsLater p.cycle) far → reads_beside p near reg ≡ reads_beside p (near ++ far) reg
 near_reads p near far reg are =
     let parts = map-append (λ (q : Placed). Some (issue_of q)) near far in
     let sums : sum_by (reads_in p.cycle reg) (issued (near ++ far)) ≡ sum_by (reads_in p.cycle reg) (issued near) + sum_by (reads_in p.cycle reg) (issued far)
@@ -78,54 +107,18 @@ any_same : {X : Type 0} (f g : X → Bool) (xs : List X) → ((x : X) → f x �
 any_same f g [] e = refl
 any_same f g (x ∷ xs) e = rw (e x, any_same f g xs e) refl
 
-near_over : (p : Placed) (near far : List Placed) → All (IsFar p.cycle) far → is_over_read p (near ++ far) ≡ is_over_read p near
-near_over p near far are =
-    any_same (λ reg. nat_lt 4 (reads_beside p (near ++ far) reg)) (λ reg. nat_lt 4 (reads_beside p near reg)) (operand_reads p.insn)
-    (λ reg. ap (nat_lt 4) (near_reads p near far reg are))
+reads_until : (p : Placed) (others : List Placed) → IsNonDecreasingBy (λ p. p.cycle) others → is_over_read p (until p.cycle others) ≡ is_over_read p others
+reads_until p others rise =
+    let n = prefix_len (λ (q : Placed). leb q.cycle p.cycle) others in
+    any_same (λ reg. nat_lt 4 (reads_beside p (until p.cycle others) reg)) (λ reg. nat_lt 4 (reads_beside p others reg)) (operand_reads p.insn)
+    (λ reg. ap (nat_lt 4) (near_reads p (until p.cycle others) (drop n others) reg (later p.cycle others rise)
+    ∙ ap (λ (qs : List Placed). reads_beside p qs reg) (take-append-drop n others)))
 
-far_lands : (p q : Placed) (reg : Reg) (delay : ℕ) → delay ≤ 4 → IsFar p.cycle q → lands reg (p.cycle + delay) q ≡ false
-far_lands p q reg delay le far = none (register_writes q.insn)
-  where
-    none : (writes : List (Reg × ℕ)) → list_any (is_landing q.cycle reg (p.cycle + delay)) writes ≡ false
-    none [] = refl
-    none (write ∷ writes) =
-        let later : (q.cycle + write.1 == p.cycle + delay) ≡ false = not_same (q.cycle + write.1) (p.cycle + delay) (λ e. omega (arith, far, e, le)) in
-        rw (second_fails (same_reg write.0 reg) (q.cycle + write.1 == p.cycle + delay) later) (none writes)
+-- those of its own cycle are enough beside an instruction
+pub beside_enough : (p : Placed) (others : List Placed) → IsNonDecreasingBy (λ p. p.cycle) others → broken_by p (until p.cycle others) others ≡ broken_beside p others
+beside_enough p others rise = rw (units_until p others rise, cross_paths_until p others rise, data_paths_until p others rise, reads_until p others rise) refl
 
-near_met : (p : Placed) (near far : List Placed) (write : Reg × ℕ) → write.1 ≤ 4 → All (IsFar p.cycle) far → is_met p (near ++ far) write ≡ is_met p near write
-near_met p near far write le are =
-    any-near (lands write.0 (p.cycle + write.1)) near far
-    (All-weaker (IsFar p.cycle) (λ q. lands write.0 (p.cycle + write.1) q ≡ false) (λ q far. far_lands p q write.0 write.1 le far) far are)
-
-find_same : (f g : Reg × ℕ → Bool) (writes : List (Reg × ℕ)) → All (λ write. f write ≡ g write) writes → find f writes ≡ find g writes
-find_same f g [] e = refl
-find_same f g (write ∷ writes) e =
-    let here : f write ≡ g write = e 0 write (omega arith) in
-    rw (here, find_same f g writes (All-tail (λ w. f w ≡ g w) write writes e)) refl
-
-near_landing : (p : Placed) (near far : List Placed) → All (IsFar p.cycle) far → landing_beside p (near ++ far) ≡ landing_beside p near
-near_landing p near far are =
-    ap (option_map (λ (write : Reg × ℕ). p.cycle + write.1))
-    (find_same (is_met p (near ++ far)) (is_met p near) (register_writes p.insn)
-    (λ k d within. near_met p near far (get_or (register_writes p.insn) k d) (timely_writes p.insn k d within).0 are))
-
-near_broken : (p : Placed) (near far : List Placed) → All (IsFar p.cycle) far → broken_beside p (near ++ far) ≡ broken_beside p near
-near_broken p near far are =
-    let unit = any-near (shares_unit p) near far (All-weaker (IsFar p.cycle) (λ q. shares_unit p q ≡ false) (λ q h. far_unit p q h) far are) in
-    let cross = any-near (shares_cross_path p) near far (All-weaker (IsFar p.cycle) (λ q. shares_cross_path p q ≡ false) (λ q h. far_cross p q h) far are) in
-    let path = any-near (shares_data_path p) near far (All-weaker (IsFar p.cycle) (λ q. shares_data_path p q ≡ false) (λ q h. far_path p q h) far are) in
-    rw (unit, cross, path, near_over p near far are, near_landing p near far are) refl
-
--- what is before a point is enough, where all from it on is far
-pub near_enough : (p : Placed) (rest : List Placed) (i last : ℕ) → last ≡ p.cycle + 4 → AllWithin (λ q. leb q.cycle last ≡ false) rest i (length rest)
-    → broken_beside p (take i rest) ≡ broken_beside p rest
-near_enough p rest i last e far =
-    let are : All (IsFar p.cycle) (drop i rest) = λ k d within.
-    let at : get_or (drop i rest) k d ≡ get_or rest (i + k) d = get_or-drop i rest k d in
-    let low : i + k < length rest = omega (arith, within, length-drop i rest) in
-    let above : last < (get_or rest (i + k) d).cycle = leb-false (get_or rest (i + k) d).cycle last (far (i + k) d (omega arith) low) in
-    rw at (omega (arith, above, e)) in
-    sym (sym (ap (broken_beside p) (take-append-drop i rest)) ∙ near_broken p (take i rest) (drop i rest) are)
+-- ---- listing order
 
 place_small : (letter : Letter) (side : Side) → place_of letter side < 8
 place_small L A = omega arith

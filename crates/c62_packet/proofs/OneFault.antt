@@ -1,14 +1,12 @@
 -- A block has one fault at most, and a packet block has none.
-use Rattle.std.proofs.Common.{arith, ◌≡◌, ℕ, zero, suc, ◌<◌, List, refl, sym, ap, ◌∙◌, inl, inr, ◌⊎◌}
+use Rattle.std.proofs.Common.{arith, ◌≡◌, ℕ, zero, suc, List, refl, sym, ap, ◌∙◌, inl, inr}
 use Rattle.std.proofs.lemmas.Bool.{cases_lt}
 use Rattle.c62_packet.specs.declared.placed.Placed.{Placed}
 use Rattle.c62_packet.specs.declared.fault.PacketRule.{PacketRule}
 use Rattle.c62_packet.specs.declared.fault.PacketRule.TheVariants.{P1, P2, P3, P4, P5}
-use Rattle.c62_packet.specs.declared.fault.BlockFault.{BlockFault}
 use Rattle.c62_packet.specs.declared.fault.BlockFault.TheVariants.{TwoBranches, NotDrained, Unlawful}
 use Rattle.c62_packet.specs.Packed.{Packed, issued}
-use Rattle.c62_packet.specs.Rules.{AreKeptInEach}
-use Rattle.c62_packet.specs.Fault.{rank_of, IsFirstBroken, IsFault, HasNoFault, HasOneFault}
+use Rattle.c62_packet.specs.Fault.{rank_of, IsFirstBroken, HasNoFault, HasOneFault}
 use Rattle.c62_packet.proofs.Broken.{kept-each}
 
 pub no-fault : (block : Packed) → HasNoFault block

@@ -58,14 +58,18 @@ is_met p others write = list_any (lands write.0 (p.cycle + write.1)) others
 abbrev pub landing_beside : Placed → List Placed → Option ℕ
 landing_beside p others = option_map (λ write. p.cycle + write.1) (find (is_met p others) (register_writes p.insn))
 
--- what the instruction breaks together with others: the least cycle, and there the first rule
-abbrev pub broken_beside : Placed → List Placed → Option (ℕ × PacketRule)
-broken_beside p others =
-    if list_any (shares_unit p) others then Some (p.cycle, P1)
-    else (if list_any (shares_cross_path p) others then Some (p.cycle, P2)
-    else (if list_any (shares_data_path p) others then Some (p.cycle, P3)
-    else (if is_over_read p others then Some (p.cycle, P4)
+-- What the instruction breaks together with those beside it and with others: the least cycle, and there the first rule. The
+-- rules but the last speak of those beside it.
+abbrev pub broken_by : Placed → List Placed → List Placed → Option (ℕ × PacketRule)
+broken_by p beside others =
+    if list_any (shares_unit p) beside then Some (p.cycle, P1)
+    else (if list_any (shares_cross_path p) beside then Some (p.cycle, P2)
+    else (if list_any (shares_data_path p) beside then Some (p.cycle, P3)
+    else (if is_over_read p beside then Some (p.cycle, P4)
     else option_map (λ cycle. (cycle, P5)) (landing_beside p others))))
+
+abbrev pub broken_beside : Placed → List Placed → Option (ℕ × PacketRule)
+broken_beside p others = broken_by p others others
 
 abbrev pub is_before : ℕ × PacketRule → ℕ × PacketRule → Bool
 is_before (cycle, rule) (other, next) = if cycle == other then nat_lt (rank_of rule) (rank_of next) else nat_lt cycle other

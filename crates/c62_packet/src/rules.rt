@@ -1,16 +1,27 @@
 //! The first packet rule that placed instructions break.
 
-ghost use Rattle.std.specs.Prelude.{◌≡◌, ◌↔◌, ◌+◌, ◌<◌, ◌≤◌, All, drop, length, slice_get, Some, MatchOption};
+ghost use Rattle.std.specs.Prelude.{◌≡◌, ◌↔◌, ◌+◌, ◌<◌, ◌≤◌, All, length, nat_le, take_while, Some, MatchOption};
 ghost use Rattle.std.specs.List.{list_any};
+ghost use Rattle.std.specs.List.Sorted.{IsNonDecreasingBy};
 ghost use Rattle.c62_insn.specs.PacketRules.{reads_count, reads_in, KeepsPacketRules};
-ghost use Rattle.c62_packet.specs.declared.placed.Placed.{Placed as Placement};
 ghost use Rattle.c62_packet.specs.Packed.{issue_of, issued, IsInListingOrder};
 ghost use Rattle.c62_packet.specs.Fault.{rank_of, IsFirstBroken};
-ghost use Rattle.c62_packet.specs.Clash.{shares_unit, crosses, shares_side, both_cross, shares_cross_path, same_path, shares_data_path, reads_beside, is_over_read, is_landing, lands, is_met, landing_beside, broken_beside, is_before, earlier, broken};
+ghost use Rattle.c62_packet.specs.Clash.{shares_unit, crosses, shares_side, both_cross, shares_cross_path, same_path, shares_data_path, reads_beside, is_over_read, is_landing, lands, is_met, landing_beside, broken_by, broken_beside, is_before, earlier, broken};
 
 use crate::fault::PacketRule;
 use crate::placed::Placed;
 use c62_insn::{Reg, Side};
+
+/// Those of the instructions, whose cycles rise, that are issued in this cycle or before it.
+fn until(placed: &[Placed], cycle: u32) -> &[Placed]
+    ensures { result.now ≡ take_while (λ p. nat_le p.cycle cycle) placed.now }
+{
+    let mut count = 0;
+    while count < placed.len() && u32::from(placed[count].cycle) <= cycle {
+        count += 1;
+    }
+    &placed[..count]
+}
 
 fn shares_unit(placed: &Placed, other: &Placed) -> bool
     ensures { result ≡ shares_unit placed.now other.now }
@@ -113,9 +124,6 @@ fn is_landing(write: (Reg, u8), from: u16, reg: Reg, cycle: u32) -> bool
 fn lands(placed: &Placed, reg: Reg, cycle: u32) -> bool
     ensures { result ≡ lands reg cycle placed.now }
 {
-    if cycle < u32::from(placed.cycle) {
-        return false;
-    }
     let writes = placed.insn.writes();
     writes
         .as_slice()
@@ -123,17 +131,26 @@ fn lands(placed: &Placed, reg: Reg, cycle: u32) -> bool
         .any(|write| is_landing(*write, placed.cycle, reg, cycle))
 }
 
-/// Whether another write lands with this one.
+/// Whether another write lands with this one. Nothing lands before the cycle of its issue.
 fn is_met(placed: &Placed, others: &[Placed], write: (Reg, u8)) -> bool
+    requires { IsNonDecreasingBy (λ p. p.cycle) others.now }
     ensures { result ≡ is_met placed.now others.now write }
 {
     let cycle = u32::from(placed.cycle) + u32::from(write.1);
-    others.iter().any(|other| lands(other, write.0, cycle))
+    any_lands(until(others, cycle), write.0, cycle)
+}
+
+/// Whether a write of one of the instructions lands in this register in this cycle.
+fn any_lands(placed: &[Placed], reg: Reg, cycle: u32) -> bool
+    ensures { result ≡ list_any (lands reg cycle) placed.now }
+{
+    placed.iter().any(|each| lands(each, reg, cycle))
 }
 
 /// The least cycle in which a write of the instruction lands with another.
 fn landing_beside(placed: &Placed, others: &[Placed]) -> Option<u16>
-    requires { placed.now.cycle < 2048 }
+    requires short { placed.now.cycle < 2048 }
+    requires rising { IsNonDecreasingBy (λ p. p.cycle) others.now }
     ensures { result ≡ landing_beside placed.now others.now }
 {
     let writes = placed.insn.writes();
@@ -166,22 +183,24 @@ fn shares_a_data_path(placed: &Placed, others: &[Placed]) -> bool
     others.iter().any(|other| shares_data_path(placed, other))
 }
 
-/// The least cycle and there the first rule that an instruction breaks together with others.
-fn broken_beside(placed: &Placed, others: &[Placed]) -> Option<(u16, PacketRule)>
+/// The least cycle and there the first rule that an instruction breaks together with those beside it and with others, whose
+/// cycles rise. The rules but the last speak of those beside it.
+fn broken_by(placed: &Placed, beside: &[Placed], others: &[Placed]) -> Option<(u16, PacketRule)>
     requires short { placed.now.cycle < 2048 }
-    requires few { length others.now ≤ 256 }
-    ensures { result ≡ broken_beside placed.now others.now }
+    requires few { length beside.now ≤ 256 }
+    requires rising { IsNonDecreasingBy (λ p. p.cycle) others.now }
+    ensures { result ≡ broken_by placed.now beside.now others.now }
 {
-    if shares_a_unit(placed, others) {
+    if shares_a_unit(placed, beside) {
         return Some((placed.cycle, PacketRule::P1));
     }
-    if shares_a_cross_path(placed, others) {
+    if shares_a_cross_path(placed, beside) {
         return Some((placed.cycle, PacketRule::P2));
     }
-    if shares_a_data_path(placed, others) {
+    if shares_a_data_path(placed, beside) {
         return Some((placed.cycle, PacketRule::P3));
     }
-    if is_over_read(placed, others) {
+    if is_over_read(placed, beside) {
         return Some((placed.cycle, PacketRule::P4));
     }
     match landing_beside(placed, others) {
@@ -190,18 +209,14 @@ fn broken_beside(placed: &Placed, others: &[Placed]) -> Option<(u16, PacketRule)
     }
 }
 
-/// Those of the instructions behind one that may share a cycle or a landing with it.
-fn near(placed: &[Placed], at: usize) -> &[Placed]
-    requires at { at < length placed.now }
-    requires few { length placed.now ≤ 256 }
-    requires in_order { IsInListingOrder placed.now }
-    ensures same { (p : Placement) → slice_get placed.now at ≡ Some p → broken_beside p result.now ≡ broken_beside p (drop (at + 1) placed.now) }
-    ensures few { length result.now ≤ 256 }
+/// The same for an instruction and those behind it.
+fn broken_beside(placed: &Placed, others: &[Placed]) -> Option<(u16, PacketRule)>
+    requires short { placed.now.cycle < 2048 }
+    requires few { length others.now ≤ 256 }
+    requires rising { IsNonDecreasingBy (λ p. p.cycle) others.now }
+    ensures { result ≡ broken_beside placed.now others.now }
 {
-    let rest = &placed[at + 1..];
-    let last = u32::from(placed[at].cycle) + 4;
-    let end = rest.partition_point(|other| u32::from(other.cycle) <= last);
-    &rest[..end]
+    broken_by(placed, until(others, u32::from(placed.cycle)), others)
 }
 
 fn rank(rule: PacketRule) -> u8
@@ -256,7 +271,7 @@ pub fn first_broken(placed: &[Placed]) -> Option<(u16, PacketRule)>
     let mut at = placed.len();
     while at > 0 {
         at -= 1;
-        found = earlier(found, broken_beside(&placed[at], near(placed, at)));
+        found = earlier(found, broken_beside(&placed[at], &placed[at + 1..]));
     }
     found
 }

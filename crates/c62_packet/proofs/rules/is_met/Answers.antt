@@ -1,0 +1,15 @@
+use Rattle.std.proofs.Common.{rules, ◌≡◌, ◌+◌, ℕ, ap, ◌∙◌}
+use Rattle.std.specs.List.{list_any}
+use Rattle.c62_packet.specs.Clash.{lands}
+use Rattle.c62_packet.proofs.Near.{until, landings_until}
+use Rattle.c62_packet.proofs.rules.is_met.Goals as goal
+
+pub returns : goal.returns
+returns c =
+    let reg = c.args.write.0 in
+    let others = c.args.others.now in
+    let cycle = c.args.placed.now.cycle + c.args.write.1 in
+    let at = c.from.result + c.from-2.result in
+    let same : at ≡ cycle = search rules in
+    c.any_lands.ensures ∙ ap (list_any (lands reg at)) c.until.ensures
+    ∙ ap (λ (n : ℕ). list_any (lands reg n) (until n others)) same ∙ landings_until reg cycle others c.requires
