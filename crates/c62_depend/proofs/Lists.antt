@@ -3,7 +3,7 @@ use Rattle.std.proofs.Common.{◌≡◌, ℕ, zero, suc, ◌+◌, ◌-◌, ◌*�
 use Rattle.std.specs.Prelude.{slice_index}
 use Rattle.std.specs.List.{flat_map, range_with_len, slice_range}
 use Rattle.std.proofs.lemmas.Bool.{cases_eq, cases_lt}
-use Rattle.std.proofs.lemmas.List.{append_assoc, length-append, get_or-set_other, get_or-append_right}
+use Rattle.std.proofs.lemmas.List.{append_assoc, length-append, get_or-set_other, get_or-append_right, get_or-take, get_or-drop, length-take-le, length-drop}
 use Rattle.std.proofs.lemmas.Grind.{get_or-set_at}
 use Rattle.std.proofs.lemmas.List.FromFn.{map-range_with_len_more, get_or-map-range_with_len, length-map-range_with_len}
 use Rattle.std.proofs.Math.ListN.{get_or-append}
@@ -141,3 +141,16 @@ pairs_more block i row old new are wide few is e = rw e (record { long = all; ea
 pub pair_is : (block : List Insn) (n i j k : ℕ) (numbers : List ℕ) → ArePairs block n numbers → i < n → i < j → j < length block → k ≡ i * 256 + j
     → as_bound (slice_index numbers k) ≡ latency block i j
 pair_is block n i j k numbers are within less inside at = ap (λ (m : ℕ). as_bound (slice_index numbers m)) at ∙ are.each i j within less inside
+
+pub row_long : (i n : ℕ) (numbers : List ℕ) → length numbers ≡ n * 256 → i < n → length (slice_range numbers (i * 256) ((i + 1) * 256)) ≡ 256
+row_long i n numbers long within =
+    let rest : length (drop (i * 256) numbers) ≡ length numbers - i * 256 = length-drop (i * 256) numbers in
+    let wide : (i + 1) * 256 - i * 256 ≡ 256 = omega arith in
+    length-take-le ((i + 1) * 256 - i * 256) (drop (i * 256) numbers) (omega arith) ∙ wide
+
+-- the row of number i
+pub row_is : (block : List Insn) (n i : ℕ) (numbers row : List ℕ) → ArePairs block n numbers → length block ≡ n → n ≤ 256 → i < n
+    → row ≡ slice_range numbers (i * 256) ((i + 1) * 256) → IsRow block i n row
+row_is block n i numbers row are all few within e = rw e (λ b after before.
+    ap as_bound (get_or-take ((i + 1) * 256 - i * 256) (drop (i * 256) numbers) b 0 (omega arith) ∙ get_or-drop (i * 256) numbers b 0)
+    ∙ are.each i b within after (omega arith))

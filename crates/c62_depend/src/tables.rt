@@ -42,7 +42,7 @@ impl Tables {
         let uses = all_uses(alloc, insns)?;
         let (followers, pairs) = Lists::followers(alloc, &uses)?;
         let needs = Lists::needs(alloc, &followers, &pairs, &uses)?;
-        let heights = heights(alloc, &uses, &followers)?;
+        let heights = heights(alloc, &uses, &pairs)?;
         let places = places(alloc, &uses)?;
         Ok(Tables {
             uses,
