@@ -1,5 +1,5 @@
 -- Heights are what the rule says: the greatest of the delay and of each latency plus the height behind it.
-use Rattle.std.proofs.Common.{◌≡◌, ℕ, zero, suc, ◌+◌, ◌-◌, ◌*◌, ◌<◌, ◌≤◌, max, set, ℤ, pos, negsuc, ◌≤ℤ◌, List, [], ◌∷◌, length, map, Option, Some, None, refl, sym, ap, ◌∙◌, arith, inl, inr}
+use Rattle.std.proofs.Common.{◌≡◌, ℕ, zero, suc, ◌+◌, ◌-◌, ◌*◌, ◌<◌, ◌≤◌, max, set, ℤ, pos, negsuc, ◌≤ℤ◌, List, [], ◌∷◌, ◌++◌, length, map, Option, Some, None, refl, sym, ap, ◌∙◌, arith, inl, inr}
 use Rattle.std.specs.Prelude.{All, slice_get, slice_index}
 use Rattle.std.specs.List.{flat_map, range_with_len}
 use Rattle.std.proofs.lemmas.Int.{ints}
@@ -8,13 +8,16 @@ use Rattle.std.proofs.lemmas.List.{get_or-set_other}
 use Rattle.std.proofs.lemmas.Grind.{get_or-set_at}
 use Rattle.std.proofs.lemmas.List.FromFn.{fill_by_all}
 use Rattle.std.proofs.Math.ListN.{length-set}
+use Rattle.std.proofs.Math.Nat.{max-zero}
 use Rattle.std.proofs.lemmas.List.Elements.{All-nil, All-cons, All-append, All-head, All-tail, All-weaker}
 use Rattle.c62_insn.specs.declared.insn.Insn.{Insn}
 use Rattle.c62_insn.specs.Insn.{op_of}
 use Rattle.c62_depend.specs.declared.links.Link.{Link}
 use Rattle.c62_depend.specs.Latency.{latency}
 use Rattle.c62_depend.specs.Links.{linked, followers}
-use Rattle.c62_depend.specs.Height.{raised, delay_in, delay_at, longest, path_within, height, IsUsable}
+use Rattle.c62_depend.specs.Height.{raised, raised_by, delay_in, delay_at, longest, path_within, height, AreHeightsFrom}
+use Rattle.c62_depend.specs.Numbers.{as_bound}
+use Rattle.c62_depend.proofs.Ranges.{pieces_more}
 use Rattle.c62_depend.proofs.Latencies.{latency_small_at, delay_of-small}
 
 -- ---- the lists of dependences
@@ -107,52 +110,67 @@ height-small block i within = within-more block (length block) i within
 
 -- ---- the heights found from the last number up
 
--- the list has the heights of the numbers from i on
-pub record AreHeightsFrom (block : List Insn) (i : ℕ) (heights : List ℕ) : Type 0 where
-  pub long : length heights ≡ length block
-  pub are : (k : ℕ) → i ≤ k → k < length block → slice_index heights k ≡ height block k
+-- a dependence more, where there is one
+longest-more : (f : ℕ → ℕ) (least number : ℕ) (o : Option ℤ) (links : List Link)
+    → longest f least (links ++ linked number o) ≡ max (longest f least links) (raised_by o (f number))
+longest-more f least number None [] = sym (max-zero least)
+longest-more f least number (Some l) [] = refl
+longest-more f least number o (link ∷ links) = longest-more f (max least (raised link.latency (f link.number))) number o links
 
-pub no_heights : (block : List Insn) (n : ℕ) (heights : List ℕ) → length heights ≡ length block → n ≡ length block → AreHeightsFrom block n heights
-no_heights block n heights long all = record { long = long; are = λ k low high. absurd (omega arith) }
+-- the dependences of i with the instructions before j
+abbrev pub followers_before : List Insn → ℕ → ℕ → List Link
+followers_before block i j = flat_map (λ j. linked j (latency block i j)) (range_with_len (i + 1) (j - (i + 1)))
 
--- what depends on i has its height already
-pub usable : (block : List Insn) (i : ℕ) (heights : List ℕ) (links : List Link) → AreHeightsFrom block (i + 1) heights → length block ≤ 256
-    → links ≡ followers block i → All (IsUsable heights) links
-usable block i heights links from few e =
-    rw e (All-weaker (IsFollower block i) (IsUsable heights) each (followers block i) (followers-are block i))
-  where
-    each : (link : Link) → IsFollower block i link → IsUsable heights link
-    each link follows =
-        let small = latency_small_at block i link.number (Some link.latency) (sym follows.is) in
-        let after : i < link.number = follows.after in
-        let inside : link.number < length block = follows.within in
-        let high : height block link.number ≤ 5 * (length block - link.number) = height-small block link.number inside in
-        let here : slice_index heights link.number ≡ height block link.number = from.are link.number (omega arith) inside in
-        let long : length heights ≡ length block = from.long in
-        record { within = omega arith; low = rw here (omega arith); above = small.0; below = small.1 }
+pub first_height : (block : List Insn) (i most : ℕ) (heights : List ℕ) → most ≡ delay_at block i
+    → most ≡ longest (slice_index heights) (delay_at block i) (followers_before block i (i + 1))
+first_height block i most heights e =
+    let none : i + 1 - (i + 1) ≡ 0 = omega arith in
+    e ∙ sym (ap (λ (n : ℕ). longest (slice_index heights) (delay_at block i) (flat_map (λ j. linked j (latency block i j)) (range_with_len (i + 1) n))) none)
 
--- the height that the greatest over the list gives
-height_found : (block : List Insn) (i h delay : ℕ) (heights : List ℕ) (links : List Link) → AreHeightsFrom block (i + 1) heights → i < length block
-    → delay ≡ delay_at block i → links ≡ followers block i → h ≡ longest (slice_index heights) delay links → h ≡ height block i
-height_found block i h delay heights links from within d e found =
-    found
-    ∙ ap (λ (x : ℕ). longest (slice_index heights) x links) d
-    ∙ ap (longest (slice_index heights) (delay_at block i)) e
+-- an instruction more
+pub next_height : (block : List Insn) (i j number most : ℕ) (heights : List ℕ) → i < j → as_bound number ≡ latency block i j
+    → most ≡ longest (slice_index heights) (delay_at block i) (followers_before block i j)
+    → max most (raised_by (as_bound number) (slice_index heights j)) ≡ longest (slice_index heights) (delay_at block i) (followers_before block i (j + 1))
+next_height block i j number most heights after is before =
+    let old = followers_before block i j in
+    let more = pieces_more (λ j. linked j (latency block i j)) (i + 1) (j - (i + 1)) (j + 1 - (i + 1)) j old (old ++ linked j (latency block i j)) (omega arith) (omega arith) refl refl in
+    ap (λ (m : ℕ). max m (raised_by (as_bound number) (slice_index heights j))) before
+    ∙ ap (λ (o : Option ℤ). max (longest (slice_index heights) (delay_at block i) old) (raised_by o (slice_index heights j))) is
+    ∙ sym (longest-more (slice_index heights) (delay_at block i) j (latency block i j) old)
+    ∙ ap (longest (slice_index heights) (delay_at block i)) more
+
+-- a height behind i is small
+pub low_behind : (block : List Insn) (i j : ℕ) (heights : List ℕ) → AreHeightsFrom block (i + 1) heights → length block ≤ 256 → i < j → j < length block
+    → slice_index heights j ≤ 1280
+low_behind block i j heights from few after within =
+    let high : height block j ≤ 5 * (length block - j) = height-small block j within in
+    let here : slice_index heights j ≡ height block j = from.are j (omega arith) within in
+    omega arith
+
+-- the greatest over all that depend on i
+pub height_found : (block : List Insn) (i n : ℕ) (heights : List ℕ) → AreHeightsFrom block (i + 1) heights → i < length block → n ≡ length block
+    → longest (slice_index heights) (delay_at block i) (followers_before block i n) ≡ height block i
+unfolding followers
+height_found block i n heights from within all =
+    ap (λ (n : ℕ). longest (slice_index heights) (delay_at block i) (followers_before block i n)) all
     ∙ longest_same (slice_index heights) (height block) (delay_at block i) (followers block i)
     (All-weaker (IsFollower block i) (λ link. slice_index heights link.number ≡ height block link.number)
     (λ link follows. let after : i < link.number = follows.after in from.are link.number (omega arith) follows.within)
     (followers block i) (followers-are block i))
     ∙ sym (height-step block i within)
 
+pub no_heights : (block : List Insn) (n : ℕ) (heights : List ℕ) → length heights ≡ length block → n ≡ length block → AreHeightsFrom block n heights
+no_heights block n heights long all = record { long = long; are = λ k low high. absurd (omega arith) }
+
 -- one number further up
-pub height_more : (block : List Insn) (i h delay : ℕ) (heights : List ℕ) (links : List Link) → AreHeightsFrom block (i + 1) heights → i < length block
-    → delay ≡ delay_at block i → links ≡ followers block i → h ≡ longest (slice_index heights) delay links → AreHeightsFrom block i (set heights i h)
-height_more block i h delay heights links from within d e found = record {
+pub height_more : (block : List Insn) (i h : ℕ) (heights : List ℕ) → AreHeightsFrom block (i + 1) heights → i < length block
+    → h ≡ height block i → AreHeightsFrom block i (set heights i h)
+height_more block i h heights from within found = record {
   long = length-set heights i h ∙ from.long;
   are = λ k low high. elim (cases_eq k i) [
     | inl same ↦
         let long : length heights ≡ length block = from.long in
-        get_or-set_at heights i k h 0 same (omega arith) ∙ height_found block i h delay heights links from within d e found ∙ ap (height block) (sym same)
+        get_or-set_at heights i k h 0 same (omega arith) ∙ found ∙ ap (height block) (sym same)
     | inr other ↦ get_or-set_other heights i k h 0 other ∙ from.are k (omega arith) high
   ];
 }

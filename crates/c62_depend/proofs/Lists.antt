@@ -3,16 +3,17 @@ use Rattle.std.proofs.Common.{◌≡◌, ℕ, zero, suc, ◌+◌, ◌-◌, ◌*�
 use Rattle.std.specs.Prelude.{slice_index}
 use Rattle.std.specs.List.{flat_map, range_with_len, slice_range}
 use Rattle.std.proofs.lemmas.Bool.{cases_eq, cases_lt}
-use Rattle.std.proofs.lemmas.List.{append_assoc, length-append, length-set, get_or-set_other}
+use Rattle.std.proofs.lemmas.List.{append_assoc, length-append, get_or-set_other, get_or-append_right, get_or-take, get_or-drop, length-take-le, length-drop}
 use Rattle.std.proofs.lemmas.Grind.{get_or-set_at}
 use Rattle.std.proofs.lemmas.List.FromFn.{map-range_with_len_more, get_or-map-range_with_len, length-map-range_with_len}
+use Rattle.std.proofs.Math.ListN.{get_or-append}
 use Rattle.std.proofs.Math.Seq.{take-append_seam, drop-append_seam}
 use Rattle.c62_insn.specs.declared.insn.Insn.{Insn}
 use Rattle.c62_depend.specs.declared.links.Link.{Link}
 use Rattle.c62_depend.specs.declared.links.Lists.{Lists}
 use Rattle.c62_depend.specs.Latency.{latency}
 use Rattle.c62_depend.specs.Numbers.{as_bound}
-use Rattle.c62_depend.specs.Lists.{start_of, AreLists, pair_at, ArePairs}
+use Rattle.c62_depend.specs.Lists.{start_of, AreLists, IsRow, pair_at, ArePairs}
 use Rattle.c62_depend.proofs.Ranges.{pieces_more}
 
 -- ---- lists one after the other
@@ -104,40 +105,52 @@ list_is f n i lists are within =
 
 -- ---- the latencies of all pairs
 
-pub no_pairs : (block : List Insn) (numbers : List ℕ) → length numbers ≡ length block * 256 → ArePairs block 0 0 numbers
-no_pairs block numbers long = record { long = long; before = λ a b less none. absurd (omega arith); here = λ a none. absurd (omega arith) }
+-- a latency more
+pub row_more : (block : List Insn) (i j n : ℕ) (old new : List ℕ) → IsRow block i j old → j < length old
+    → as_bound n ≡ latency block i j → new ≡ set old j n → IsRow block i (j + 1) new
+row_more block i j n old new are within is e = rw e (λ b after before. elim (cases_eq b j) [
+  | inl same ↦ ap as_bound (get_or-set_at old j b n 0 same within) ∙ is ∙ ap (latency block i) (sym same)
+  | inr other ↦ ap as_bound (get_or-set_other old j b n 0 other) ∙ are b after (let lower : b < j = omega arith in lower)
+])
 
--- a pair more
-pub pairs_more : (block : List Insn) (j i n k : ℕ) (old new : List ℕ) → ArePairs block j i old → i < j → j < length block → length block ≤ 256
-    → as_bound n ≡ latency block i j → k ≡ j * 256 + i → new ≡ set old k n → ArePairs block j (i + 1) new
-pairs_more block j i n k old new are less within few is at e = rw e (record { long = length-set old k n ∙ are.long; before = others; here = row })
+pub no_pairs : (block : List Insn) (numbers : List ℕ) → numbers ≡ [] → ArePairs block 0 numbers
+no_pairs block numbers none = record { long = ap length none; each = λ i j low. absurd (omega arith) }
+
+-- a row more
+pub pairs_more : (block : List Insn) (i : ℕ) (row old new : List ℕ) → ArePairs block i old → length row ≡ 256 → length block ≤ 256
+    → IsRow block i (length block) row → new ≡ old ++ row → ArePairs block (i + 1) new
+pairs_more block i row old new are wide few is e = rw e (record { long = all; each = rows })
   where
-    others : (a b : ℕ) → a < b → b < j → as_bound (slice_index (set old k n) (pair_at a b)) ≡ latency block a b
-    others a b low below =
-        ap as_bound (get_or-set_other old k (pair_at a b) n 0 (λ (same : b * 256 + a ≡ k). (omega arith)))
-        ∙ are.before a b low below
+    long : length old ≡ i * 256
+    long = are.long
 
-    row : (a : ℕ) → a < i + 1 → as_bound (slice_index (set old k n) (pair_at a j)) ≡ latency block a j
-    row a low = elim (cases_eq a i) [
-      | inl same ↦
-          let long : length old ≡ length block * 256 = are.long in
-          ap as_bound (get_or-set_at old k (pair_at a j) n 0 (let there : j * 256 + a ≡ k = omega arith in there) (omega arith)) ∙ is ∙ ap (λ (x : ℕ). latency block x j) (sym same)
-      | inr other ↦
-          ap as_bound (get_or-set_other old k (pair_at a j) n 0 (λ (same : j * 256 + a ≡ k). other (omega arith))) ∙ are.here a (let lower : a < i = omega arith in lower)
-    ]
+    all : length (old ++ row) ≡ (i + 1) * 256
+    all = length-append old row ∙ (omega arith)
 
--- all pairs of one later instruction more
-pub pairs_next : (block : List Insn) (j : ℕ) (numbers : List ℕ) → ArePairs block j j numbers → ArePairs block (j + 1) 0 numbers
-pairs_next block j numbers are = record { long = are.long; before = rows; here = λ a none. absurd (omega arith) }
-  where
-    rows : (a b : ℕ) → a < b → b < j + 1 → as_bound (slice_index numbers (pair_at a b)) ≡ latency block a b
-    rows a b low below = elim (cases_lt b j) [
-      | inl earlier ↦ are.before a b low earlier
+    rows : (a b : ℕ) → a < i + 1 → a < b → b < length block → as_bound (slice_index (old ++ row) (pair_at a b)) ≡ latency block a b
+    rows a b low after within = elim (cases_lt a i) [
+      | inl earlier ↦ ap as_bound (get_or-append old row 0 (pair_at a b) (omega arith)) ∙ are.each a b earlier after within
       | inr later ↦
-          let same : b ≡ j = omega arith in
-          ap (λ (x : ℕ). as_bound (slice_index numbers (pair_at a x))) same ∙ are.here a (omega arith) ∙ ap (λ (x : ℕ). latency block a x) (sym same)
+          let same : a ≡ i = omega arith in
+          let place : pair_at a b - i * 256 ≡ b = omega arith in
+          ap as_bound (get_or-append_right old row (i * 256) (pair_at a b) 0 long (omega arith) ∙ ap (slice_index row) place)
+          ∙ is b (omega arith) within
+          ∙ ap (λ (x : ℕ). latency block x b) (sym same)
     ]
 
-pub pair_is : (block : List Insn) (n i j k : ℕ) (numbers : List ℕ) → ArePairs block n 0 numbers → i < j → j < n → k ≡ j * 256 + i
+pub pair_is : (block : List Insn) (n i j k : ℕ) (numbers : List ℕ) → ArePairs block n numbers → i < n → i < j → j < length block → k ≡ i * 256 + j
     → as_bound (slice_index numbers k) ≡ latency block i j
-pair_is block n i j k numbers are less within at = ap (λ (m : ℕ). as_bound (slice_index numbers m)) at ∙ are.before i j less within
+pair_is block n i j k numbers are within less inside at = ap (λ (m : ℕ). as_bound (slice_index numbers m)) at ∙ are.each i j within less inside
+
+pub row_long : (i n : ℕ) (numbers : List ℕ) → length numbers ≡ n * 256 → i < n → length (slice_range numbers (i * 256) ((i + 1) * 256)) ≡ 256
+row_long i n numbers long within =
+    let rest : length (drop (i * 256) numbers) ≡ length numbers - i * 256 = length-drop (i * 256) numbers in
+    let wide : (i + 1) * 256 - i * 256 ≡ 256 = omega arith in
+    length-take-le ((i + 1) * 256 - i * 256) (drop (i * 256) numbers) (omega arith) ∙ wide
+
+-- the row of number i
+pub row_is : (block : List Insn) (n i : ℕ) (numbers row : List ℕ) → ArePairs block n numbers → length block ≡ n → n ≤ 256 → i < n
+    → row ≡ slice_range numbers (i * 256) ((i + 1) * 256) → IsRow block i n row
+row_is block n i numbers row are all few within e = rw e (λ b after before.
+    ap as_bound (get_or-take ((i + 1) * 256 - i * 256) (drop (i * 256) numbers) b 0 (omega arith) ∙ get_or-drop (i * 256) numbers b 0)
+    ∙ are.each i b within after (omega arith))

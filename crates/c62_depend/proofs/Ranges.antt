@@ -1,10 +1,8 @@
 -- Lists that are made number by number.
-use Rattle.std.proofs.Common.{◌≡◌, ℕ, zero, suc, ◌+◌, ◌<◌, ◌≤◌, ℤ, Option, Some, None, List, [], ◌∷◌, ◌++◌, map, length, get_or, refl, sym, ap, ◌∙◌, arith}
+use Rattle.std.proofs.Common.{◌≡◌, ℕ, zero, suc, ◌+◌, ◌<◌, List, [], ◌∷◌, ◌++◌, map, length, get_or, refl, sym, ap, ◌∙◌, arith}
 use Rattle.std.specs.List.{flat_map, range_with_len}
 use Rattle.std.proofs.lemmas.Grind.{flat_map-append}
 use Rattle.std.proofs.lemmas.List.FromFn.{length-map-range_with_len, get_or-map-range_with_len}
-use Rattle.c62_depend.specs.declared.links.Link.{Link}
-use Rattle.c62_depend.specs.Links.{linked}
 
 pub range_more : (a n m j : ℕ) → a + n ≡ j → m ≡ n + 1 → range_with_len a m ≡ range_with_len a n ++ j ∷ []
 range_more a zero m j at next = rw (next) (ap (λ (k : ℕ). k ∷ []) (let same : a ≡ j = omega arith in same))
@@ -31,12 +29,3 @@ list_long f n ys e = ap length e ∙ length-map-range_with_len f 0 n
 
 pub list_at : {Y : Type 0} (f : ℕ → Y) (n i : ℕ) (ys : List Y) (y : Y) → ys ≡ map f (range_with_len 0 n) → i < n → y ≡ get_or ys i y → y ≡ f i
 list_at {Y} f n i ys y e within at = at ∙ ap (λ (zs : List Y). get_or zs i y) e ∙ get_or-map-range_with_len f 0 n i i y within (omega arith)
-
--- at most one dependence a number
-pub few_links : (o : ℕ → Option ℤ) (a n : ℕ) → length (flat_map (λ j. linked j (o j)) (range_with_len a n)) ≤ n
-few_links o a zero = omega arith
-few_links o a (suc n) = one_more (o a) (flat_map (λ j. linked j (o j)) (range_with_len (a + 1) n)) (few_links o (a + 1) n)
-  where
-    one_more : (p : Option ℤ) (rest : List Link) → length rest ≤ n → length (linked a p ++ rest) ≤ suc n
-    one_more None rest few = omega arith
-    one_more (Some l) rest few = omega arith

@@ -12,6 +12,11 @@ abbrev pub raised : ℤ → ℕ → ℕ
 raised (pos latency) height = latency + height
 raised (negsuc lead) height = height - suc lead
 
+-- a height with a latency before it, where there is one
+abbrev pub raised_by : Option ℤ → ℕ → ℕ
+raised_by None height = 0
+raised_by (Some latency) height = raised latency height
+
 abbrev pub delay_in : Option Insn → ℕ
 delay_in None = 0
 delay_in (Some insn) = delay_of (op_of insn)
@@ -33,12 +38,10 @@ path_within block (suc steps) i = longest (path_within block steps) (delay_at bl
 unfoldable pub height : List Insn → ℕ → ℕ
 height block i = path_within block (length block) i
 
--- a link whose number has a height among these that is small, and whose latency is small
-pub record IsUsable (heights : List ℕ) (link : Link) : Type 0 where
-  pub within : link.number < length heights
-  pub low : slice_index heights link.number ≤ 1280
-  pub above : negsuc 4 ≤ℤ link.latency
-  pub below : link.latency ≤ℤ pos 5
+-- the list has the heights of the numbers from i on
+pub record AreHeightsFrom (block : List Insn) (i : ℕ) (heights : List ℕ) : Type 0 where
+  pub long : length heights ≡ length block
+  pub are : (k : ℕ) → i ≤ k → k < length block → slice_index heights k ≡ height block k
 
 -- the rule of heights: the greatest of the delay and, over all that depend on i, the latency plus the height
 pub record IsHeight (block : List Insn) (i h : ℕ) : Type 0 where

@@ -16,12 +16,15 @@ pub record AreLists (f : ℕ → List Link) (count : ℕ) (lists : Lists) : Type
   pub links : lists.links.items ≡ flat_map f (range_with_len 0 count)
   pub starts : lists.starts.items ≡ map (start_of f) (range_with_len 0 (count + 1))
 
+-- the latencies from i to those before j, as numbers
+abbrev pub IsRow : List Insn → ℕ → ℕ → List ℕ → Type 0
+IsRow block i j row = (b : ℕ) → i < b → b < j → as_bound (slice_index row b) ≡ latency block i b
+
 -- where the number of the latency from i to j stands
 abbrev pub pair_at : ℕ → ℕ → ℕ
-pair_at i j = j * 256 + i
+pair_at i j = i * 256 + j
 
--- the pairs whose later instruction stands before j, and those of j with the first i instructions, have their latencies
-pub record ArePairs (block : List Insn) (j i : ℕ) (numbers : List ℕ) : Type 0 where
-  pub long : length numbers ≡ length block * 256
-  pub before : (a b : ℕ) → a < b → b < j → as_bound (slice_index numbers (pair_at a b)) ≡ latency block a b
-  pub here : (a : ℕ) → a < i → as_bound (slice_index numbers (pair_at a j)) ≡ latency block a j
+-- the latencies from the first numbers to all later ones, 256 places for each
+pub record ArePairs (block : List Insn) (count : ℕ) (numbers : List ℕ) : Type 0 where
+  pub long : length numbers ≡ count * 256
+  pub each : (i j : ℕ) → i < count → i < j → j < length block → as_bound (slice_index numbers (pair_at i j)) ≡ latency block i j

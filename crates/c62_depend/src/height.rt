@@ -1,49 +1,51 @@
 //! How urgent the instructions of a block are.
 
-ghost use Rattle.std.specs.Prelude.{◌≡◌, ◌<◌, ◌≤◌, ◌≤ℤ◌, pos, negsuc, length, map, All, IfOk, slice_index};
+ghost use Rattle.std.specs.Prelude.{◌≡◌, ◌<◌, ◌≤◌, ◌+◌, length, map, IfOk};
 ghost use Rattle.std.specs.List.{range_with_len};
 ghost use Rattle.c62_depend.specs.Uses.{insns_in};
-ghost use Rattle.c62_depend.specs.Links.{followers};
-ghost use Rattle.c62_depend.specs.Lists.{AreLists};
-ghost use Rattle.c62_depend.specs.Height.{raised, longest, height, IsUsable};
+ghost use Rattle.c62_depend.specs.Numbers.{as_bound};
+ghost use Rattle.c62_depend.specs.Lists.{IsRow, ArePairs};
+ghost use Rattle.c62_depend.specs.Height.{raised_by, height, AreHeightsFrom};
 
-use crate::links::{Link, Lists};
 use crate::uses::Uses;
 use std::alloc::{AllocError, Global};
 
-/// A height with a latency before it, and 0 where that is below 0.
-fn raised(latency: i32, height: u16) -> u16
-    requires above { negsuc 4 ≤ℤ latency }
-    requires below { latency ≤ℤ pos 5 }
-    requires low { height ≤ 1280 }
-    ensures { result ≡ raised latency height }
+/// A height with a latency before it, which is given as a number: 0 where that is below 0, or there is no latency.
+fn raised(number: u8, height: u16) -> u16
+    requires { height ≤ 1280 }
+    ensures { result ≡ raised_by (as_bound number) height }
 {
-    let sum = i32::from(height) + latency;
-    if sum < 0 { 0 } else { sum as u16 }
+    let sum = (height + u16::from(number)).saturating_sub(6);
+    if number == 0 { 0 } else { sum }
 }
 
-/// The greatest of a delay and, over the dependences of an instruction, the latency plus the height behind it.
-fn longest(delay: u16, links: &[Link], heights: &[u16]) -> u16
-    requires { All (IsUsable heights.now) links.now }
-    ensures { result ≡ longest (slice_index heights.now) delay links.now }
+/// The height of instruction `i`: the greatest of its delay and, over all that depend on it, the latency plus the height
+/// behind it.
+fn height(uses: &[Uses], row: &[u8], heights: &[u16], i: usize) -> u16
+    requires few { length uses.now ≤ 256 }
+    requires within { i < length uses.now }
+    requires wide { length row.now ≡ 256 }
+    requires row { IsRow (insns_in uses.now) i (length uses.now) row.now }
+    requires behind { AreHeightsFrom (insns_in uses.now) (i + 1) heights.now }
+    ensures { result ≡ height (insns_in uses.now) i }
 {
-    let mut most = delay;
-    for link in links {
-        most = most.max(raised(link.latency, heights[link.number as usize]));
+    let mut most = u16::from(uses[i].delay);
+    for j in i + 1..heights.len() {
+        most = most.max(raised(row[j], heights[j]));
     }
     most
 }
 
-/// The height of each instruction, found from the last one up.
-pub(crate) fn heights(alloc: Global, uses: &[Uses], links: &Lists) -> Result<Vec<u16>, AllocError>
+/// The height of each instruction, found from the last one up by the latencies of all pairs.
+pub(crate) fn heights(alloc: Global, uses: &[Uses], pairs: &[u8]) -> Result<Vec<u16>, AllocError>
     requires few { length uses.now ≤ 256 }
-    requires links { AreLists (followers (insns_in uses.now)) (length uses.now) links.now }
+    requires pairs { ArePairs (insns_in uses.now) (length uses.now) pairs.now }
     ensures { IfOk result (λ heights. heights.items ≡ map (height (insns_in uses.now)) (range_with_len 0 (length uses.now))) }
 {
     let mut heights = vec![in alloc; 0; uses.len()]?;
     for i in (0..uses.len()).rev() {
-        let delay = u16::from(uses[i].delay);
-        heights[i] = longest(delay, links.get(i), &heights);
+        let row = &pairs[i * 256..(i + 1) * 256];
+        heights[i] = height(uses, row, &heights, i);
     }
     Ok(heights)
 }

@@ -1,16 +1,15 @@
 //! The dependences of an instruction, as lists.
 
-ghost use Rattle.std.specs.Prelude.{◌≡◌, ◌+◌, ◌*◌, ◌<◌, ◌≤◌, ◌++◌, ℕ, List, length, map, slice_index, IfOk, OnOk};
+ghost use Rattle.std.specs.Prelude.{◌≡◌, ◌+◌, ◌*◌, ◌<◌, ◌≤◌, ◌++◌, ℕ, List, length, map, take, slice_index, IfOk, OnOk};
 ghost use Rattle.std.specs.List.{slice_range, range_with_len};
 ghost use Rattle.c62_insn.specs.declared.insn.Insn.{Insn};
 ghost use Rattle.c62_depend.specs.Uses.{insns_in};
 ghost use Rattle.c62_depend.specs.Numbers.{as_bound};
 ghost use Rattle.c62_depend.specs.Links.{linked, needs, followers};
-ghost use Rattle.c62_depend.specs.Lists.{ArePairs};
+ghost use Rattle.c62_depend.specs.Lists.{IsRow, ArePairs};
 
 use crate::latency::{as_bound, latency_number};
 use crate::uses::Uses;
-use arrayvec::ArrayVec;
 use std::alloc::{AllocError, Global};
 
 /// One end of a dependence: the number of the other instruction, and the latency of the dependence.
@@ -77,110 +76,112 @@ impl Lists {
 }
 
 /// Room to gather the dependences of one instruction: at most one for each instruction of a block.
-type Gathered = ArrayVec<Link, 256>;
+type Gathered = [Link; 256];
+
+const NONE_GATHERED: Gathered = [Link {
+    number: 0,
+    latency: 0,
+}; 256];
+
+/// The latencies from one instruction to the later ones, as numbers.
+type Row = [u8; 256];
 
 /// Where the latency of two instructions stands among those of all pairs.
 #[inline(always)]
 fn pair_at(i: usize, j: usize) -> usize
     requires first { i < 256 }
     requires second { j < 256 }
-    ensures { result ≡ j * 256 + i }
+    ensures { result ≡ i * 256 + j }
 {
-    j * 256 + i
+    i * 256 + j
 }
 
+/// Adds a dependence to those gathered, where there is one, and returns how many they are then.
 #[inline(always)]
-fn add(gathered: &mut Gathered, number: u16, latency: u8)
-    requires { length gathered.old.items < 256 }
-    ensures { gathered.new.items ≡ gathered.old.items ++ linked number (as_bound latency) }
+fn add(gathered: &mut Gathered, count: usize, number: u16, latency: u8) -> usize
+    requires { count < 256 }
+    ensures added { take result gathered.new ≡ take count gathered.old ++ linked number (as_bound latency) }
+    ensures one { result ≤ count + 1 }
 {
-    if let Some(latency) = as_bound(latency) {
-        gathered.push(Link { number, latency });
+    match as_bound(latency) {
+        Some(latency) => {
+            gathered[count] = Link { number, latency };
+            count + 1
+        }
+        None => count,
     }
 }
 
-/// Gathers what instruction `j` depends on, and keeps the latencies.
-fn gather_needs(gathered: &mut Gathered, pairs: &mut [u8], uses: &[Uses], j: usize)
-    requires few { length uses.now ≤ 256 }
-    requires within { j < length uses.now }
-    requires before { ArePairs (insns_in uses.now) j 0 pairs.old }
-    ensures needs { gathered.new.items ≡ needs (insns_in uses.now) j }
-    ensures pairs { ArePairs (insns_in uses.now) (j + 1) 0 pairs.new }
-{
-    gathered.clear();
-    for i in 0..j {
-        let latency = latency_number(uses, i, j);
-        pairs[pair_at(i, j)] = latency;
-        add(gathered, i as u16, latency);
-    }
-}
-
-/// Gathers what depends on instruction `i`, from the latencies.
-fn gather_followers(gathered: &mut Gathered, pairs: &[u8], uses: &[Uses], i: usize)
+/// Gathers what depends on instruction `i`, keeps the latencies, and returns how many depend on it.
+fn gather_followers(gathered: &mut Gathered, row: &mut Row, uses: &[Uses], i: usize) -> usize
     requires few { length uses.now ≤ 256 }
     requires within { i < length uses.now }
-    requires pairs { ArePairs (insns_in uses.now) (length uses.now) 0 pairs.now }
-    ensures { gathered.new.items ≡ followers (insns_in uses.now) i }
+    ensures count { result ≤ 256 }
+    ensures followers { take result gathered.new ≡ followers (insns_in uses.now) i }
+    ensures row { IsRow (insns_in uses.now) i (length uses.now) row.new }
 {
-    gathered.clear();
+    let mut count = 0;
     for j in i + 1..uses.len() {
-        add(gathered, j as u16, pairs[pair_at(i, j)]);
+        let latency = latency_number(uses, i, j);
+        row[j] = latency;
+        count = add(gathered, count, j as u16, latency);
     }
+    count
+}
+
+/// Gathers what instruction `j` depends on, from the latencies, and returns how many these are.
+fn gather_needs(gathered: &mut Gathered, pairs: &[u8], uses: &[Uses], j: usize) -> usize
+    requires few { length uses.now ≤ 256 }
+    requires within { j < length uses.now }
+    requires pairs { ArePairs (insns_in uses.now) (length uses.now) pairs.now }
+    ensures count { result ≤ 256 }
+    ensures needs { take result gathered.new ≡ needs (insns_in uses.now) j }
+{
+    let mut count = 0;
+    for i in 0..j {
+        count = add(gathered, count, i as u16, pairs[pair_at(i, j)]);
+    }
+    count
 }
 
 impl Lists {
-    /// How many links the lists have in all.
-    fn link_count(&self) -> usize {
-        self.links.len()
-    }
+    ghost use Rattle.c62_depend.specs.Lists.{AreLists};
 
-    /// What each instruction depends on. The latencies are kept in `pairs`.
-    fn needs(alloc: Global, pairs: &mut [u8], uses: &[Uses]) -> Result<Lists, AllocError>
-        requires few { length uses.now ≤ 256 }
-        requires room { length pairs.old ≡ length uses.now * 256 }
-        ensures needs { IfOk result (AreLists (needs (insns_in uses.now)) (length uses.now)) }
-        ensures pairs { IfOk result (λ lists. ArePairs (insns_in uses.now) (length uses.now) 0 pairs.new) }
+    /// What depends on each instruction; and the latencies of all pairs, as numbers.
+    pub fn followers(alloc: Global, uses: &[Uses]) -> Result<(Lists, Vec<u8>), AllocError>
+        requires { length uses.now ≤ 256 }
+        ensures followers { IfOk result (λ both. AreLists (followers (insns_in uses.now)) (length uses.now) both.0) }
+        ensures pairs { IfOk result (λ both. ArePairs (insns_in uses.now) (length uses.now) both.1.items) }
     {
-        let mut gathered = ArrayVec::new();
+        let mut gathered = NONE_GATHERED;
+        let mut row = [0; 256];
         let mut all = Lists::new(alloc, uses.len(), uses.len() * uses.len() / 2)?;
-        for j in 0..uses.len() {
-            gather_needs(&mut gathered, pairs, uses, j);
-            all.push(gathered.as_slice())?;
+        let mut pairs = Vec::with_capacity(alloc, uses.len() * 256)?;
+        for i in 0..uses.len() {
+            let count = gather_followers(&mut gathered, &mut row, uses, i);
+            all.push(&gathered[..count])?;
+            pairs.extend_from_slice(&row)?;
         }
-        Ok(all)
+        Ok((all, pairs))
     }
 
-    /// What depends on each instruction: so many links.
-    fn followers(
+    /// What each instruction depends on, as many links in all as in the lists of what depends on each.
+    pub fn needs(
         alloc: Global,
-        links: usize,
+        followers: &Lists,
         pairs: &[u8],
         uses: &[Uses],
     ) -> Result<Lists, AllocError>
         requires few { length uses.now ≤ 256 }
-        requires pairs { ArePairs (insns_in uses.now) (length uses.now) 0 pairs.now }
-        ensures { IfOk result (AreLists (followers (insns_in uses.now)) (length uses.now)) }
+        requires pairs { ArePairs (insns_in uses.now) (length uses.now) pairs.now }
+        ensures { IfOk result (AreLists (needs (insns_in uses.now)) (length uses.now)) }
     {
-        let mut gathered = ArrayVec::new();
-        let mut all = Lists::new(alloc, uses.len(), links)?;
-        for i in 0..uses.len() {
-            gather_followers(&mut gathered, pairs, uses, i);
-            all.push(gathered.as_slice())?;
+        let mut gathered = NONE_GATHERED;
+        let mut all = Lists::new(alloc, uses.len(), followers.links.len())?;
+        for j in 0..uses.len() {
+            let count = gather_needs(&mut gathered, pairs, uses, j);
+            all.push(&gathered[..count])?;
         }
         Ok(all)
     }
-}
-
-ghost use Rattle.c62_depend.specs.Lists.{AreLists};
-
-/// What each instruction depends on, and what depends on each.
-pub(crate) fn links(alloc: Global, uses: &[Uses]) -> Result<(Lists, Lists), AllocError>
-    requires { length uses.now ≤ 256 }
-    ensures needs { IfOk result (λ both. AreLists (needs (insns_in uses.now)) (length uses.now) both.0) }
-    ensures followers { IfOk result (λ both. AreLists (followers (insns_in uses.now)) (length uses.now) both.1) }
-{
-    let mut pairs: Vec<u8> = vec![in alloc; 0; uses.len() * 256]?;
-    let needs = Lists::needs(alloc, &mut pairs, uses)?;
-    let followers = Lists::followers(alloc, needs.link_count(), &pairs, uses)?;
-    Ok((needs, followers))
 }

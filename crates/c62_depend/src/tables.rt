@@ -5,7 +5,7 @@ ghost use Rattle.c62_insn.specs.declared.insn.Insn.{Insn};
 ghost use Rattle.c62_depend.specs.Uses.{insns_in};
 
 use crate::height::heights;
-use crate::links::{Lists, links};
+use crate::links::Lists;
 use crate::side::{Place, places};
 use crate::uses::Uses;
 use c62_read::SerialInsn;
@@ -40,8 +40,9 @@ impl Tables {
         ensures { IfOk result (λ tables. AreTables (unnumbered insns.now) tables) }
     {
         let uses = all_uses(alloc, insns)?;
-        let (needs, followers) = links(alloc, &uses)?;
-        let heights = heights(alloc, &uses, &followers)?;
+        let (followers, pairs) = Lists::followers(alloc, &uses)?;
+        let needs = Lists::needs(alloc, &followers, &pairs, &uses)?;
+        let heights = heights(alloc, &uses, &pairs)?;
         let places = places(alloc, &uses)?;
         Ok(Tables {
             uses,

@@ -1,5 +1,5 @@
 use Rattle.c62_depend.specs.Uses.{insns_in}
-use Rattle.c62_depend.proofs.Heights.{AreHeightsFrom}
+use Rattle.c62_depend.specs.Height.{AreHeightsFrom}
 use Rattle.c62_depend.proofs.height.heights.Given as goal
 
 abbrev pub invariant-loop-i : goal.invariant-loop-i

@@ -1,7 +1,7 @@
 use Rattle.c62_depend.specs.Uses.{insns_in}
 use Rattle.c62_depend.specs.Links.{needs}
-use Rattle.c62_depend.specs.Lists.{AreLists, ArePairs}
+use Rattle.c62_depend.specs.Lists.{AreLists}
 use Rattle.c62_depend.proofs.links.Lists.needs.Given as goal
 
 abbrev pub invariant-loop-j : goal.invariant-loop-j
-invariant-loop-j l = AreLists (needs (insns_in l.uses)) l.j l.all × ArePairs (insns_in l.uses) l.j 0 l.pairs
+invariant-loop-j l = AreLists (needs (insns_in l.uses)) l.j l.all

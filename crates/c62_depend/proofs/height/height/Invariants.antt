@@ -1,0 +1,8 @@
+use Rattle.std.proofs.Common.{◌≡◌, slice_index}
+use Rattle.c62_depend.specs.Uses.{insns_in}
+use Rattle.c62_depend.specs.Height.{delay_at, longest}
+use Rattle.c62_depend.proofs.Heights.{followers_before}
+use Rattle.c62_depend.proofs.height.height.Given as goal
+
+abbrev pub invariant-loop-j : goal.invariant-loop-j
+invariant-loop-j l = l.most ≡ longest (slice_index l.heights) (delay_at (insns_in l.uses) l.i) (followers_before (insns_in l.uses) l.i l.j)
