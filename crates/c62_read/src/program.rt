@@ -13,15 +13,12 @@ use crate::fault::{Cause, ReadFault};
 use crate::label::Label;
 use crate::line::{begins_with, first_label, owned, read_head, read_rest};
 use crate::reading::Statement;
-use crate::token::has_byte;
+use crate::token::{has_byte, steps_before};
 use c62_insn::{Insn, Op};
 use std::alloc::{AllocError, Global};
 
 /// The longest text, in bytes.
 pub const MOST_BYTES: usize = 1_048_576;
-
-/// How many bytes are compared at once.
-const STEP: usize = 16;
 
 /// A block as it is read, and the label that its last instruction branches to.
 #[derive(Drop)]
@@ -384,20 +381,6 @@ fn label_is(label: &[u8], other: &Option<Label>) -> bool
         Some(other) => other.as_bytes() == label,
         None => false,
     }
-}
-
-/// How many bytes at the front are not this one: the first that is, or the end, is within a step of them.
-#[inline(always)]
-fn steps_before(byte: u8, text: &[u8]) -> usize
-    ensures within { result ≤ length text.now }
-    ensures none { list_any (λ b. b == byte) (take result text.now) ≡ false }
-    ensures near { position_or_len (λ b. b == byte) text.now < result + 16 }
-{
-    let mut start = 0;
-    while STEP <= text.len() - start && !has_byte(byte, &text[start..start + STEP]) {
-        start += STEP;
-    }
-    start
 }
 
 /// Where the first line feed stands, looked for byte by byte.
