@@ -1,13 +1,13 @@
 -- Blocks as they are read.
-use Rattle.std.proofs.Common.{◌≡◌, ℕ, Bool, ◌||◌, List, [], ◌∷◌, refl, ap}
+use Rattle.std.proofs.Common.{◌≡◌, ℕ, Bool, ◌||◌, List, [], ◌∷◌, Option, Some, None, refl, ap}
 use Rattle.std.specs.Prelude.{map, position}
 use Rattle.std.specs.Borrow.{Bor}
 use Rattle.std.proofs.lemmas.List.{length-map}
 use Rattle.std.specs.List.{list_any, position_or_len}
 use Rattle.std.specs.Str.{bytes_eq}
 use Rattle.c62_read.specs.declared.program.BlockReader.{BlockReader}
-use Rattle.c62_read.specs.Program.{label_is, is_among}
-use Rattle.c62_read.specs.Walk.{draft_of, names}
+use Rattle.c62_read.specs.Program.{Draft, Name, label_is, is_among, target_number}
+use Rattle.c62_read.specs.Walk.{draft_of, names, number_among}
 
 -- the labels are those of the reader's blocks
 pub any_draft : (label : List ℕ) (blocks : List BlockReader)
@@ -20,13 +20,12 @@ pub any_name : (label : List ℕ) (labels : List (Bor (List ℕ))) → is_among 
 any_name label [] = refl
 any_name label (other ∷ labels) = ap (λ (others : Bool). bytes_eq other.now label || others) (any_name label labels)
 
-place_draft : (label : List ℕ) (blocks : List BlockReader)
-    → position_or_len (λ draft. label_is label draft.label) (map draft_of blocks) ≡ position_or_len (λ block. label_is label block.label) blocks
-place_draft label [] = refl
-place_draft label (block ∷ blocks) = rw (place_draft label blocks) refl
+place_label : (label : List ℕ) (drafts : List Draft)
+    → position_or_len (λ other. label_is label other) (map (λ draft. draft.label) drafts) ≡ position_or_len (λ draft. label_is label draft.label) drafts
+place_label label [] = refl
+place_label label (draft ∷ drafts) = rw (place_label label drafts) refl
 
--- the same of places
-pub position_draft : (label : List ℕ) (blocks : List BlockReader)
-    → position (λ draft. label_is label draft.label) (map draft_of blocks) ≡ position (λ block. label_is label block.label) blocks
-position_draft label blocks =
-    rw (place_draft label blocks, length-map blocks draft_of) refl
+-- the number of a block by the labels of all
+pub number_is : (drafts : List Draft) (target : Option Name) → number_among (map (λ draft. draft.label) drafts) target ≡ target_number drafts target
+number_is drafts None = refl
+number_is drafts (Some label) = rw (place_label label drafts, length-map drafts (λ (draft : Draft). draft.label)) refl

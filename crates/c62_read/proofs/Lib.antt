@@ -3,6 +3,7 @@ pub mod TokenLemmas
 pub mod NumberLemmas
 pub mod SourceLemmas
 pub mod ColonLemmas
+pub mod StepLemmas
 pub mod LineLemmas
 pub mod BlockLemmas
 pub mod ReadingLemmas

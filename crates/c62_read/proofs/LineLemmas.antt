@@ -9,6 +9,7 @@ use Rattle.std.proofs.lemmas.List.Quantifiers.{position-Some}
 use Rattle.std.proofs.lemmas.List.Folds.{list_any-append}
 use Rattle.std.proofs.lemmas.List.Sums.{prefix_len-le-length, split_at_first}
 use Rattle.c62_read.specs.Text.{grow, is_line_feed, lines_of, without_return}
+use Rattle.c62_read.proofs.StepLemmas.{place_later}
 
 -- a line is without the carriage return that stands last
 pub without_last : (rest : List ℕ) (b : ℕ) → without_return (rest ++ b ∷ []) ≡ (if eqb b 13 then rest else (rest ++ b ∷ []))
@@ -127,45 +128,7 @@ pub only_is : (text : List ℕ) → 0 < length text → position is_line_feed te
 only_is [] some is = absurd (omega arith)
 only_is (b ∷ text) some is = at_end b text (none_is (b ∷ text) is)
 
--- ---- a byte behind others
-
-module _ (test : ℕ → Bool) where
-  place_later : (n : ℕ) (text : List ℕ) → list_any test (take n text) ≡ false → n ≤ length text
-      → position_or_len test text ≡ n + position_or_len test (drop n text)
-  place_later zero text none within = omega arith
-  place_later (suc n) [] none within = absurd (omega arith)
-  place_later (suc n) (b ∷ text) none within = go (test b) none (place_later n text)
-    where
-      go : (feed : Bool) → (feed || list_any test (take n text)) ≡ false
-          → (list_any test (take n text) ≡ false → n ≤ length text
-          → position_or_len test text ≡ n + position_or_len test (drop n text))
-          → (if not feed then 1 + position_or_len test text else 0) ≡ suc n + position_or_len test (drop n text)
-      go true e others = absurd cc
-      go false e others = omega (arith, others e (omega arith))
-
-  pub none_more_steps : (text : List ℕ) (n k : ℕ) → list_any test (take n text) ≡ false → list_any test (take k (drop n text)) ≡ false
-      → list_any test (take (n + k) text) ≡ false
-  none_more_steps text n k front next =
-      ap (list_any test) (take-add n k text) ∙ list_any-append test (take n text) (take k (drop n text))
-      ∙ ap (λ (x : Bool). x || list_any test (take k (drop n text))) front ∙ next
-
-  within_next : (k : ℕ) (text : List ℕ) → list_any test (take k text) ≡ true → position_or_len test text < k
-  within_next zero text some = absurd cc
-  within_next (suc k) [] some = absurd cc
-  within_next (suc k) (b ∷ text) some = go (test b) some (within_next k text)
-    where
-      go : (feed : Bool) → (feed || list_any test (take k text)) ≡ true
-          → (list_any test (take k text) ≡ true → position_or_len test text < k)
-          → (if not feed then 1 + position_or_len test text else 0) < suc k
-      go true e others = omega arith
-      go false e others = omega (arith, others e)
-
-  pub near_feed : (text : List ℕ) (n k : ℕ) → n ≤ length text → list_any test (take n text) ≡ false
-      → list_any test (take k (drop n text)) ≡ true → position_or_len test text < n + k
-  near_feed text n k within none some = omega (arith, place_later n text none within, within_next k (drop n text) some)
-
-  pub near_end : (text : List ℕ) (n k : ℕ) → length text - n < k → position_or_len test text < n + k
-  near_end text n k short = omega (arith, prefix_len-le-length (λ (b : ℕ). not (test b)) text)
+-- ---- a line feed behind bytes without one
 
 pub later_is : (text : List ℕ) (n k : ℕ) → n ≤ length text → list_any is_line_feed (take n text) ≡ false
     → position is_line_feed (drop n text) ≡ Some k → position is_line_feed text ≡ Some (n + k)

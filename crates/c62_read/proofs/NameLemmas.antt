@@ -5,7 +5,9 @@ use Rattle.std.specs.Char.{to_ascii_lowercase}
 use Rattle.std.specs.List.{filter, find}
 use Rattle.std.specs.Str.{bytes_eq}
 use Rattle.std.proofs.lemmas.Bool.{and_parts, cases_Bool, eqb-true}
+use Rattle.std.proofs.lemmas.Slice.Eq.{bytes_eq-Decides}
 use Rattle.c62_insn.specs.declared.operands.Op.{Op}
+use Rattle.c62_insn.specs.declared.operands.Op.TheVariants.{Add}
 use Rattle.c62_insn.specs.Spelling.{mnemonic_of}
 use Rattle.c62_read.specs.Text.{begins}
 use Rattle.c62_read.specs.Number.{spells}
@@ -60,3 +62,19 @@ pub named_by : (ops : List Op) (name : List ℕ) (letter : ℕ) → 1 ≤ length
 named_by ops [] letter some is same = absurd (omega (arith, some))
 named_by ops (b ∷ rest) letter some is same =
     named_so ops b rest (subst (λ (l : ℕ). filter (begins_so l) ops ≡ filter (begins_so l) all_operations) is same)
+
+pub named : (op : Op) → operation_named (mnemonic_of op) ≡ Some op
+unfolding operation_named
+named Add = refl
+named _ = refl
+
+-- an operation whose very name this is
+pub named_in_capitals : (ops : List Op) (name : List ℕ) (op : Op) → find (λ o. bytes_eq (mnemonic_of o) name) ops ≡ Some op → operation_named name ≡ Some op
+named_in_capitals [] name op is = absurd cc
+named_in_capitals (x ∷ ops) name op is = go (bytes_eq (mnemonic_of x) name) refl is (named_in_capitals ops name op)
+  where
+    go : (same : Bool) → bytes_eq (mnemonic_of x) name ≡ same
+        → cond same (Some x) (find (λ o. bytes_eq (mnemonic_of o) name) ops) ≡ Some op
+        → (find (λ o. bytes_eq (mnemonic_of o) name) ops ≡ Some op → operation_named name ≡ Some op) → operation_named name ≡ Some op
+    go true e found others = ap operation_named (sym ((bytes_eq-Decides (mnemonic_of x) name).0 e)) ∙ named x ∙ found
+    go false e found others = others found

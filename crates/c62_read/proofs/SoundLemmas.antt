@@ -1,15 +1,15 @@
 -- The blocks that the reader makes have at most 256 instructions, and a branch only as their last.
-use Rattle.std.proofs.Common.{◌≡◌, ◌<◌, ℕ, zero, suc, true, ◌&&◌, List, [], ◌∷◌, length, refl, sym, ap, ◌∙◌, arith, leb, get_or}
+use Rattle.std.proofs.Common.{◌≡◌, ◌<◌, ℕ, zero, suc, true, ◌&&◌, List, [], ◌∷◌, ◌++◌, length, Option, refl, sym, ap, ◌∙◌, append_assoc, arith, leb, get_or}
 use Rattle.std.specs.Prelude.{map}
 use Rattle.std.specs.List.{list_all}
 use Rattle.std.proofs.lemmas.Bool.{and_from, and_parts}
-use Rattle.std.proofs.lemmas.List.{length-map}
+use Rattle.std.proofs.lemmas.List.{length-map, map-append}
 use Rattle.c62_insn.specs.declared.operands.Op.{Op}
 use Rattle.c62_insn.specs.Insn.{op_of}
 use Rattle.c62_read.specs.declared.block.SerialInsn.{SerialInsn}
 use Rattle.c62_read.specs.declared.program.BlockReader.{BlockReader}
-use Rattle.c62_read.specs.Block.{branch_last, is_block, operations}
-use Rattle.c62_read.specs.Program.{Numbered, aimed, numbered_of}
+use Rattle.c62_read.specs.Block.{Serial, branch_last, is_block, operations}
+use Rattle.c62_read.specs.Program.{BlockParts, Draft, Name, Numbered, aimed, block_in, block_parts, numbered_of}
 use Rattle.c62_read.specs.Walk.{draft_of, is_whole}
 
 read_operations : (insns : List SerialInsn) → map (λ (e : Numbered). e.parts.op) (map numbered_of insns) ≡ operations insns
@@ -32,9 +32,33 @@ aimed_block number insns old same whole =
     sym (read_operations insns) ∙ ap (map (λ (e : Numbered). e.parts.op)) same ∙ aimed_operations number (map numbered_of old) in
     and_from (leb (length insns) 256) (branch_last (operations insns)) (ap (λ (n : ℕ). leb n 256) count ∙ parts.0) (ap branch_last ops ∙ parts.1)
 
-pub whole_at : (blocks : List BlockReader) (i : ℕ) (d : BlockReader) → i < length blocks → list_all is_whole (map draft_of blocks) ≡ true
-    → is_whole (draft_of (get_or blocks i d)) ≡ true
-whole_at [] i d less all = absurd (omega arith)
-whole_at (block ∷ blocks) zero d less all = (and_parts (is_whole (draft_of block)) (list_all is_whole (map draft_of blocks)) all).0
-whole_at (block ∷ blocks) (suc i) d less all =
-    whole_at blocks i d (omega arith) (and_parts (is_whole (draft_of block)) (list_all is_whole (map draft_of blocks)) all).1
+-- what is aimed entry by entry
+pub all_aimed : (number : ℕ) (new old : List SerialInsn) → length new ≡ length old
+    → ((k : ℕ) (d : SerialInsn) → k < length old → numbered_of (get_or new k d) ≡ aimed number (numbered_of (get_or old k d)))
+    → map numbered_of new ≡ map (aimed number) (map numbered_of old)
+all_aimed number [] [] same at = refl
+all_aimed number [] (o ∷ old) same at = absurd (omega (arith, same))
+all_aimed number (n ∷ new) [] same at = absurd (omega (arith, same))
+all_aimed number (n ∷ new) (o ∷ old) same at =
+    let here : numbered_of n ≡ aimed number (numbered_of o) = at 0 n (omega arith) in
+    let others : map numbered_of new ≡ map (aimed number) (map numbered_of old) =
+    all_aimed number new old (omega (arith, same)) (λ k d less. at (suc k) d (omega (arith, less))) in
+    rw (here, others) refl
+
+-- the labels of the blocks as they are read
+pub labels_are : (blocks : List BlockReader) → map (λ block. block.label) blocks ≡ map (λ draft. draft.label) (map draft_of blocks)
+labels_are [] = refl
+labels_are (block ∷ blocks) = ap (λ (labels : List (Option Name)). block.label ∷ labels) (labels_are blocks)
+
+-- one block more is made
+pub one_made : (drafts : List Draft) (made now : List Serial) (block : BlockReader) (last : Serial) (old new : List BlockReader) (all : List BlockParts)
+    → now ≡ made ++ last ∷ [] → old ≡ block ∷ new → block_parts last ≡ block_in drafts (draft_of block)
+    → map block_parts made ++ map (block_in drafts) (map draft_of old) ≡ all
+    → map block_parts now ++ map (block_in drafts) (map draft_of new) ≡ all
+one_made drafts made now block last old new all pushed taken parts so_far =
+    let others : List BlockParts = map (block_in drafts) (map draft_of new) in
+    ap (λ (blocks : List Serial). map block_parts blocks ++ others) pushed
+    ∙ ap (λ (blocks : List BlockParts). blocks ++ others) (map-append block_parts made (last ∷ []))
+    ∙ append_assoc (map block_parts made) (block_parts last ∷ []) others
+    ∙ ap (λ (part : BlockParts). map block_parts made ++ part ∷ others) parts
+    ∙ sym (ap (λ (blocks : List BlockReader). map block_parts made ++ map (block_in drafts) (map draft_of blocks)) taken) ∙ so_far

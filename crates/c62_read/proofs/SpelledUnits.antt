@@ -18,6 +18,7 @@ use Rattle.c62_read.specs.declared.unit.Mark.{Mark}
 use Rattle.c62_read.specs.declared.unit.Mark.TheVariants.{Plain, Cross, Path}
 use Rattle.c62_read.specs.Text.{begins, is_word_byte, joins}
 use Rattle.c62_read.specs.Number.{spells}
+use Rattle.c62_read.proofs.NameLemmas.{named}
 use Rattle.c62_read.specs.Mnemonic.{mnemonic_named, operation_named}
 use Rattle.c62_read.specs.Unit.{is_dot, letter_of, side_numbered, mark_of, unit_split, unit_front}
 use Rattle.c62_read.proofs.SpelledTokens.{IsToken, led_token, word_token}
@@ -38,11 +39,6 @@ mnemonic_length _ = omega arith
 
 pub mnemonic_token : (op : Op) → IsToken (mnemonic_of op)
 mnemonic_token op = word_token (mnemonic_of op) (mnemonic_some op) (mnemonic_word op)
-
-named : (op : Op) → operation_named (mnemonic_of op) ≡ Some op
-unfolding operation_named
-named Add = refl
-named _ = refl
 
 pub mnemonic_back : (op : Op) → mnemonic_named (mnemonic_of op) ≡ Some (Operation op)
 unfolding mnemonic_named

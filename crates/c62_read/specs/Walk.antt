@@ -1,6 +1,6 @@
 -- How the reader goes over the lines of a text, once and from the first: what it has of the lines so far, and what the next
 -- line does to that. What a text says is defined without it (Program), and the two are proved equal.
-use Rattle.std.specs.Prelude.{◌≡◌, ℕ, ◌+◌, Bool, true, false, not, ◌&&◌, ◌||◌, nat_le, List, [], ◌∷◌, ◌++◌, length, map, Option, Some, None, is_some, is_none, option_map, Result, Ok, Err, if◌then◌else◌}
+use Rattle.std.specs.Prelude.{◌≡◌, ℕ, ◌+◌, Bool, true, false, not, ◌&&◌, ◌||◌, nat_le, List, [], ◌∷◌, ◌++◌, length, map, Option, Some, None, is_some, is_none, option_map, position, unwrap_or, Result, Ok, Err, if◌then◌else◌}
 use Rattle.std.specs.Borrow.{Bor}
 use Rattle.std.specs.List.{list_any}
 use Rattle.std.specs.Option.{option_to_list}
@@ -66,6 +66,11 @@ drafts_of text = record { done = map draft_of text.done.items; current = option_
 
 abbrev pub names : List (Bor (List ℕ)) → List Name
 names labels = map (λ label. label.now) labels
+
+-- the number of the block with this label, by the labels of all blocks
+abbrev pub number_among : List (Option Name) → Option Name → ℕ
+number_among labels None = 0
+number_among labels (Some label) = unwrap_or (position (λ other. label_is label other) labels) 0
 
 -- ---- the faults that need other lines
 

@@ -2,6 +2,7 @@
 
 ghost use Rattle.std.specs.Prelude.{◌≡◌, pos};
 ghost use Rattle.std.specs.List.{filter, find};
+ghost use Rattle.std.specs.Str.{bytes_eq};
 ghost use Rattle.c62_insn.specs.Spelling.{mnemonic_of};
 ghost use Rattle.c62_read.specs.Number.{spells};
 ghost use Rattle.c62_insn.specs.Word.{word, lo};
@@ -142,13 +143,28 @@ fn named_among(ops: &[Op], name: &[u8]) -> Option<Op>
         .find(|op| spells(op.mnemonic().as_bytes(), name))
 }
 
+/// The operation of this name in capitals, as most are written.
+fn in_capitals_among(ops: &[Op], name: &[u8]) -> Option<Op>
+    ensures { result ≡ find (λ op. bytes_eq (mnemonic_of op) name.now) ops.now }
+{
+    ops.iter()
+        .copied()
+        .find(|op| op.mnemonic().as_bytes() == name)
+}
+
 /// The operation of this name.
 fn operation_named(name: &[u8]) -> Option<Op>
     ensures { result ≡ operation_named name.now }
 {
     match name {
         [] => None,
-        [first, ..] => named_among(beginning_with(first.to_ascii_lowercase()), name),
+        [first, ..] => {
+            let ops = beginning_with(first.to_ascii_lowercase());
+            match in_capitals_among(ops, name) {
+                Some(op) => Some(op),
+                None => named_among(ops, name),
+            }
+        }
     }
 }
 

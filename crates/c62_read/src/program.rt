@@ -13,15 +13,12 @@ use crate::fault::{Cause, ReadFault};
 use crate::label::Label;
 use crate::line::{begins_with, first_label, owned, read_head, read_rest};
 use crate::reading::Statement;
-use crate::token::has_byte;
+use crate::token::{has_byte, steps_before};
 use c62_insn::{Insn, Op};
 use std::alloc::{AllocError, Global};
 
 /// The longest text, in bytes.
 pub const MOST_BYTES: usize = 1_048_576;
-
-/// How many bytes are compared at once.
-const STEP: usize = 16;
 
 /// A block as it is read, and the label that its last instruction branches to.
 #[derive(Drop)]
@@ -40,7 +37,7 @@ pub(crate) struct TextReader {
 
 ghost use Rattle.c62_read.specs.Line.{statement_of, names_label, parts_of, is_branch};
 ghost use Rattle.c62_read.specs.Program.{label_is, is_among, place_of, labels_of, Fails, target_number, aimed, numbered_of, block_parts, block_in, program_in};
-ghost use Rattle.c62_read.specs.Walk.{draft_of, drafts_of, new_draft, all_drafts, with_label, opened, with_insn, closed, with_says, is_taken, is_full, is_unknown, is_instruction, begins_block, hindrance, names, add_line, at_line, add_lines, no_drafts, is_whole};
+ghost use Rattle.c62_read.specs.Walk.{draft_of, drafts_of, new_draft, all_drafts, with_label, opened, with_insn, closed, with_says, is_taken, is_full, is_unknown, is_instruction, begins_block, hindrance, names, add_line, at_line, add_lines, no_drafts, is_whole, number_among};
 
 impl BlockReader {
     fn new(alloc: Global, label: Option<Label>) -> BlockReader
@@ -64,17 +61,24 @@ impl BlockReader {
     }
 }
 
+/// Aims the branches to labels among these at the block of this number.
+fn aim_all(entries: &mut [SerialInsn], number: u8)
+    ensures { map numbered_of entries.new ≡ map (aimed number) (map numbered_of entries.old) }
+{
+    for entry in entries.iter_mut() {
+        *entry = entry.aimed(number);
+    }
+}
+
 impl BlockReader {
     /// The block, with its branch aimed at the block of this number.
-    fn block(&self, alloc: Global, number: u8) -> Result<Block, AllocError>
-        requires { IsTrue (is_whole (draft_of self.now)) }
-        ensures { IfOk result (λ block. block_parts block ≡ record { label = self.now.label; insns = map (aimed number) (draft_of self.now).insns }) }
+    fn into_block(self, number: u8) -> Block
+        requires { IsTrue (is_whole (draft_of self)) }
+        ensures { block_parts result ≡ record { label = self.label; insns = map (aimed number) (draft_of self).insns } }
     {
-        let mut insns = Vec::with_capacity(alloc, self.insns.len())?;
-        for entry in &self.insns {
-            insns.push(entry.aimed(number))?;
-        }
-        Ok(Block::new(copied(&self.label), insns))
+        let mut insns = self.insns;
+        aim_all(&mut insns, number);
+        Block::new(self.label, insns)
     }
 }
 
@@ -386,20 +390,6 @@ fn label_is(label: &[u8], other: &Option<Label>) -> bool
     }
 }
 
-/// How many bytes at the front are not this one: the first that is, or the end, is within a step of them.
-#[inline(always)]
-fn steps_before(byte: u8, text: &[u8]) -> usize
-    ensures within { result ≤ length text.now }
-    ensures none { list_any (λ b. b == byte) (take result text.now) ≡ false }
-    ensures near { position_or_len (λ b. b == byte) text.now < result + 16 }
-{
-    let mut start = 0;
-    while STEP <= text.len() - start && !has_byte(byte, &text[start..start + STEP]) {
-        start += STEP;
-    }
-    start
-}
-
 /// Where the first line feed stands, looked for byte by byte.
 fn feed_in(bytes: &[u8]) -> Option<usize>
     ensures value { result ≡ position is_line_feed bytes.now }
@@ -465,24 +455,21 @@ fn read_drafts(alloc: Global, text: &[u8]) -> Result<TextReader, ReadFault>
     Ok(reader)
 }
 
-/// The place among the blocks of the one with this label.
-fn place_among(blocks: &[BlockReader], label: &[u8]) -> Option<usize>
-    ensures value { result ≡ position (λ block. label_is label.now block.label) blocks.now }
-    ensures bound { IfSome result (λ place. place < length blocks.now) }
+/// The place of this label among those of the blocks.
+fn place_among(labels: &[Option<Label>], label: &[u8]) -> Option<usize>
+    ensures value { result ≡ position (λ other. label_is label.now other) labels.now }
+    ensures bound { IfSome result (λ place. place < length labels.now) }
 {
-    blocks
-        .iter()
-        .position(|block| label_is(label, &block.label))
+    labels.iter().position(|other| label_is(label, other))
 }
 
-/// The number of the block with this label.
-#[tactic(auto, using(crate::proofs::BlockLemmas::position_draft))]
-fn target_number(blocks: &[BlockReader], target: &Option<Label>) -> u8
-    requires { length blocks.now ≤ 64 }
-    ensures { result ≡ target_number (map draft_of blocks.now) target.now }
+/// The number of the block with this label, where these are the labels of all blocks.
+fn target_number(labels: &[Option<Label>], target: &Option<Label>) -> u8
+    requires { length labels.now ≤ 64 }
+    ensures { result ≡ number_among labels.now target.now }
 {
     match target {
-        Some(label) => match place_among(blocks, label.as_bytes()) {
+        Some(label) => match place_among(labels, label.as_bytes()) {
             Some(place) => place as u8,
             None => 0,
         },
@@ -490,17 +477,29 @@ fn target_number(blocks: &[BlockReader], target: &Option<Label>) -> u8
     }
 }
 
-/// The blocks of a program.
-fn all_blocks(alloc: Global, blocks: &[BlockReader]) -> Result<Vec<Block>, AllocError>
-    requires few { length blocks.now ≤ 64 }
-    requires whole { IsTrue (list_all is_whole (map draft_of blocks.now)) }
-    ensures few { IfOk result (λ made. length made.items ≡ length blocks.now) }
-    ensures made { let drafts = map draft_of blocks.now in IfOk result (λ made. map block_parts made.items ≡ map (block_in drafts) drafts) }
+fn block_labels(alloc: Global, blocks: &[BlockReader]) -> Result<Vec<Option<Label>>, AllocError>
+    ensures { IfOk result (λ labels. labels.items ≡ map (λ block. block.label) blocks.now) }
 {
-    let mut made = Vec::with_capacity(alloc, blocks.len())?;
+    let mut labels = Vec::with_capacity(alloc, blocks.len())?;
     for block in blocks {
-        let number = target_number(blocks, &block.target);
-        made.push(block.block(alloc, number)?)?;
+        labels.push(copied(&block.label))?;
+    }
+    Ok(labels)
+}
+
+/// The blocks of a program.
+fn all_blocks(alloc: Global, blocks: Vec<BlockReader>) -> Result<Vec<Block>, AllocError>
+    requires few { length blocks.items ≤ 64 }
+    requires whole { IsTrue (list_all is_whole (map draft_of blocks.items)) }
+    ensures few { IfOk result (λ made. length made.items ≡ length blocks.items) }
+    ensures made { let drafts = map draft_of blocks.items in IfOk result (λ made. map block_parts made.items ≡ map (block_in drafts) drafts) }
+{
+    let labels = block_labels(alloc, &blocks)?;
+    let mut made = Vec::with_capacity(alloc, blocks.len())?;
+    let mut rest = blocks.into_iter();
+    while let Some(block) = rest.next() {
+        let number = target_number(&labels, &block.target);
+        made.push(block.into_block(number))?;
     }
     Ok(made)
 }
@@ -518,5 +517,5 @@ pub fn read_program(alloc: Global, text: &[u8]) -> Result<Program, ReadFault>
     }
     let mut reader = read_drafts(alloc, text)?;
     reader.end_block()?;
-    Ok(Program::new(all_blocks(alloc, &reader.done)?))
+    Ok(Program::new(all_blocks(alloc, reader.done)?))
 }

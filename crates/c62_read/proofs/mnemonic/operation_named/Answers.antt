@@ -1,7 +1,7 @@
 use Rattle.std.proofs.Common.{◌≡◌, [], sym, ap, ◌∙◌, arith}
 use Rattle.std.proofs.lemmas.List.{nil_from_length}
 use Rattle.c62_read.specs.Mnemonic.{operation_named}
-use Rattle.c62_read.proofs.NameLemmas.{named_by, named_none}
+use Rattle.c62_read.proofs.NameLemmas.{named_by, named_in_capitals, named_none}
 use Rattle.c62_read.proofs.mnemonic.operation_named.Goals as goal
 
 pub returns-in-empty : goal.returns-in-empty
@@ -9,8 +9,11 @@ returns-in-empty c =
     let none : c.args.name.now ≡ [] = nil_from_length c.args.name.now (omega (arith, c.in-empty.len_below)) in
     sym (ap operation_named none ∙ named_none)
 
-pub returns-in-len1-up : goal.returns-in-len1-up
-returns-in-len1-up c =
+pub returns-in-Some : goal.returns-in-Some
+returns-in-Some c = sym (named_in_capitals c.beginning_with-ops.result.now c.args.name.now c.in-Some.op (sym c.in-Some.ensures))
+
+pub returns-in-None : goal.returns-in-None
+returns-in-None c =
     c.named_among.ensures
-    ∙ named_by c.beginning_with.result.now c.args.name.now c.to_ascii_lowercase.result (omega (arith, c.in-len1-up.len_at_least))
-    c.to_ascii_lowercase.ensures.value c.beginning_with.ensures
+    ∙ named_by c.beginning_with-ops.result.now c.args.name.now c.to_ascii_lowercase.result (omega (arith, c.in-len1-up.len_at_least))
+    c.to_ascii_lowercase.ensures.value c.beginning_with-ops.ensures

@@ -1,10 +1,37 @@
-use Rattle.std.proofs.Common.{◌≡◌, sym, subst, true}
+use Rattle.std.proofs.Common.{◌≡◌, ℕ, suc, ◌+◌, List, [], ◌∷◌, length, length-append, true, map, sym, ap, arith, ◌∙◌}
+use Rattle.std.specs.List.{list_all}
+use Rattle.std.specs.Prelude.{Option}
+use Rattle.std.specs.Vec.Iter.{into_iter_items}
+use Rattle.std.proofs.lemmas.Bool.{and_parts}
 use Rattle.c62_read.specs.declared.program.BlockReader.{BlockReader}
-use Rattle.c62_read.specs.Walk.{draft_of, is_whole}
-use Rattle.c62_read.proofs.SoundLemmas.{whole_at}
+use Rattle.c62_read.specs.Program.{BlockParts, Draft, Name, aimed, block_in, block_parts, target_number}
+use Rattle.c62_read.specs.Walk.{draft_of, is_whole, number_among}
+use Rattle.c62_read.proofs.BlockLemmas.{number_is}
+use Rattle.c62_read.proofs.SoundLemmas.{labels_are, one_made}
 use Rattle.c62_read.proofs.program.all_blocks.Goals as goal
 
-pub block-requires : goal.block-requires
-block-requires c =
-    subst (λ (b : BlockReader). is_whole (draft_of b) ≡ true) (sym c.block-item.is)
-    (whole_at c.args.blocks.now c.loop-block.block-index c.block-item.result c.loop-block-test.true c.requires.whole)
+pub loop-block-preserved : goal.loop-block-preserved
+loop-block-preserved c =
+    let drafts = map draft_of c.args.blocks.items in
+    let block = c.in-Some.block in
+    let new = into_iter_items c.next.new.self in
+    let taken : into_iter_items c.loop-block.rest ≡ block ∷ new = c.in-Some.ensures.items in
+    let labels : c.deref-in-Some.result.now ≡ map (λ (draft : Draft). draft.label) drafts =
+    c.deref-in-Some.ensures.value ∙ c.in_ok-labels.ensures ∙ ap (map (λ (b : BlockReader). b.label)) c.deref.ensures.value
+    ∙ labels_are c.args.blocks.items in
+    let number : c.target_number-number.result ≡ target_number drafts block.target =
+    c.target_number-number.ensures ∙ ap (λ (ls : List (Option Name)). number_among ls block.target) labels ∙ number_is drafts block.target in
+    let made : block_parts c.into_block.result ≡ block_in drafts (draft_of block) =
+    c.into_block.ensures
+    ∙ ap (λ (n : ℕ). let made : BlockParts = record { label = block.label; insns = map (aimed n) (draft_of block).insns } in made) number in
+    let whole : list_all is_whole (draft_of block ∷ map draft_of new) ≡ true =
+    ap (λ (bs : List BlockReader). list_all is_whole (map draft_of bs)) (sym taken) ∙ c.loop-block.invariant.whole in
+    let pushed : length c.push.new.self.items ≡ length c.loop-block.made.items + 1 =
+    ap length c.in_ok-push.ensures.items ∙ length-append c.loop-block.made.items (c.into_block.result ∷ []) in
+    let before : length (into_iter_items c.loop-block.rest) ≡ suc (length new) = ap length taken in
+    record {
+      so_far = one_made drafts c.loop-block.made.items c.push.new.self.items block c.into_block.result (into_iter_items c.loop-block.rest) new
+          (map (block_in drafts) drafts) c.in_ok-push.ensures.items taken made c.loop-block.invariant.so_far;
+      count = omega (arith, pushed, before, c.loop-block.invariant.count);
+      whole = (and_parts (is_whole (draft_of block)) (list_all is_whole (map draft_of new)) whole).1;
+    }

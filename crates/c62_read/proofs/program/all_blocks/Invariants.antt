@@ -1,8 +1,18 @@
-use Rattle.std.proofs.Common.{◌≡◌, take}
+use Rattle.std.proofs.Common.{◌≡◌, ◌+◌, ◌++◌, length, true}
 use Rattle.std.specs.Prelude.{map}
+use Rattle.std.specs.List.{list_all}
+use Rattle.std.specs.Vec.Iter.{into_iter_items}
 use Rattle.c62_read.specs.Program.{block_in, block_parts}
-use Rattle.c62_read.specs.Walk.{draft_of}
+use Rattle.c62_read.specs.Walk.{draft_of, is_whole}
 use Rattle.c62_read.proofs.program.all_blocks.Given as goal
 
 abbrev pub invariant-loop-block : goal.invariant-loop-block
-invariant-loop-block l = map block_parts l.made.items ≡ map (block_in (map draft_of l.blocks)) (map draft_of (take l.block-index l.blocks))
+invariant-loop-block l = record {
+  so_far : map block_parts l.made.items ++ map (block_in (map draft_of l.fn.blocks.items)) (map draft_of (into_iter_items l.rest))
+      ≡ map (block_in (map draft_of l.fn.blocks.items)) (map draft_of l.fn.blocks.items);
+  count : length l.made.items + length (into_iter_items l.rest) ≡ length l.fn.blocks.items;
+  whole : list_all is_whole (map draft_of (into_iter_items l.rest)) ≡ true;
+}
+
+abbrev pub decreases-loop-block : goal.decreases-loop-block
+decreases-loop-block l = length (into_iter_items l.rest)

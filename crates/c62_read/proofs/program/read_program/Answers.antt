@@ -21,7 +21,7 @@ pub returns-clause-ok : goal.returns-clause-ok
 returns-clause-ok c =
     let drafts = drafts_of c.in_ok-reader.reader in
     let ended = c.in_ok-end_block.ensures in
-    let done : map draft_of c.deref.result.now ≡ all_drafts drafts = ap (map draft_of) c.deref.ensures.value ∙ ap (λ (d : Drafts). d.done) ended in
+    let done : map draft_of c.end_block.new.self.done.items ≡ all_drafts drafts = ap (λ (d : Drafts). d.done) ended in
     let made : map block_parts c.in_ok-all_blocks.field-0.items ≡ map (block_in (all_drafts drafts)) (all_drafts drafts) =
     subst (λ (ds : List Draft). map block_parts c.in_ok-all_blocks.field-0.items ≡ map (block_in ds) ds) done c.in_ok-all_blocks.ensures.made in
     program_read c.args.text.now c.if-text-gt-MOST_BYTES.false drafts c.in_ok-reader.ensures.ok
@@ -31,7 +31,7 @@ pub new-requires-clause-targets : goal.new-requires-clause-targets
 new-requires-clause-targets c =
     let drafts = drafts_of c.in_ok-reader.reader in
     let ended = c.in_ok-end_block.ensures in
-    let done : map draft_of c.deref.result.now ≡ all_drafts drafts = ap (map draft_of) c.deref.ensures.value ∙ ap (λ (d : Drafts). d.done) ended in
+    let done : map draft_of c.end_block.new.self.done.items ≡ all_drafts drafts = ap (λ (d : Drafts). d.done) ended in
     let made : map block_parts c.in_ok-all_blocks.field-0.items ≡ map (block_in (all_drafts drafts)) (all_drafts drafts) =
     subst (λ (ds : List Draft). map block_parts c.in_ok-all_blocks.field-0.items ≡ map (block_in ds) ds) done c.in_ok-all_blocks.ensures.made in
     let lines = lines_of c.args.text.now in

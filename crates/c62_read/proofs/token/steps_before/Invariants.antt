@@ -1,6 +1,6 @@
 use Rattle.std.proofs.Common.{◌≡◌, ◌≤◌, ◌-◌, length, take, eqb, false}
 use Rattle.std.specs.List.{list_any}
-use Rattle.c62_read.proofs.program.steps_before.Given as goal
+use Rattle.c62_read.proofs.token.steps_before.Given as goal
 
 abbrev pub invariant-loop-start : goal.invariant-loop-start
 invariant-loop-start l = record {
