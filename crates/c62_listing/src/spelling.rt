@@ -1,6 +1,6 @@
 //! Writes instructions.
 
-ghost use Rattle.std.specs.Prelude.{◌≡◌, ◌++◌, OnOk, codes, string_bytes};
+ghost use Rattle.std.specs.Prelude.{◌≡◌, ◌++◌, OnOk, codes, decimal, encode_utf8, string_bytes};
 ghost use Rattle.std.specs.Fmt.{signed_decimal};
 ghost use Rattle.c62_insn.specs.Insn.{op_of, operands_of};
 ghost use Rattle.c62_insn.specs.Spelling.{file_letter, side_digit, unit_letter, register_name, condition_spelling, unit_spelling, offset_spelling, sign_of, step_of, is_base_alone, address_spelling, access_spelling, field_spelling, operands_spelling, spelling};
@@ -9,41 +9,52 @@ use c62_insn::{AddressForm, Cond, Insn, Letter, Offset, Op, Operands, Reg, Side,
 use itoa::Buffer;
 use std::alloc::AllocError;
 
-fn file_letter(side: Side) -> &'static str
-    ensures { result.now ≡ file_letter side }
+fn file_letter(side: Side) -> char
+    ensures { encode_utf8 result ≡ file_letter side }
 {
     match side {
-        Side::A => "A",
-        Side::B => "B",
+        Side::A => 'A',
+        Side::B => 'B',
     }
 }
 
-fn side_digit(side: Side) -> &'static str
-    ensures { result.now ≡ side_digit side }
+fn side_digit(side: Side) -> char
+    ensures { encode_utf8 result ≡ side_digit side }
 {
     match side {
-        Side::A => "1",
-        Side::B => "2",
+        Side::A => '1',
+        Side::B => '2',
     }
 }
 
-fn unit_letter(letter: Letter) -> &'static str
-    ensures { result.now ≡ unit_letter letter }
+fn unit_letter(letter: Letter) -> char
+    ensures { encode_utf8 result ≡ unit_letter letter }
 {
     match letter {
-        Letter::L => "L",
-        Letter::S => "S",
-        Letter::M => "M",
-        Letter::D => "D",
+        Letter::L => 'L',
+        Letter::S => 'S',
+        Letter::M => 'M',
+        Letter::D => 'D',
     }
+}
+
+/// Appends the number of a register.
+#[tactic(auto, using(std::proofs::lemmas::Fmt::decimal_digit))]
+fn push_number(out: &mut String, number: u8) -> Result<(), AllocError>
+    ensures { OnOk result (string_bytes out.new ≡ string_bytes out.old ++ decimal number) }
+{
+    if number < 10 {
+        return out.push(char::from(b'0' + number));
+    }
+    let mut buffer = Buffer::new();
+    out.push_str(buffer.format(number))
 }
 
 pub(crate) fn push_register(out: &mut String, reg: Reg) -> Result<(), AllocError>
     ensures { OnOk result (string_bytes out.new ≡ string_bytes out.old ++ register_name reg) }
 {
-    let mut buffer = Buffer::new();
-    out.push_str(file_letter(reg.side))?;
-    out.push_str(buffer.format(reg.number))
+    out.push(file_letter(reg.side))?;
+    push_number(out, reg.number)
 }
 
 fn push_constant(out: &mut String, constant: i64) -> Result<(), AllocError>
@@ -67,15 +78,15 @@ fn push_condition(out: &mut String, cond: Option<Cond>) -> Result<(), AllocError
 fn push_unit(out: &mut String, insn: Insn, unit: Unit) -> Result<(), AllocError>
     ensures { OnOk result (string_bytes out.new ≡ string_bytes out.old ++ unit_spelling (operands_of insn) unit) }
 {
-    out.push_str(".")?;
-    out.push_str(unit_letter(unit.letter))?;
-    out.push_str(side_digit(unit.side))?;
+    out.push('.')?;
+    out.push(unit_letter(unit.letter))?;
+    out.push(side_digit(unit.side))?;
     if insn.crosses(unit) {
-        out.push_str("X")?;
+        out.push('X')?;
     }
     if let Some(path) = insn.data_path() {
-        out.push_str("T")?;
-        out.push_str(side_digit(path))?;
+        out.push('T')?;
+        out.push(side_digit(path))?;
     }
     Ok(())
 }
@@ -131,16 +142,16 @@ fn push_address(
 ) -> Result<(), AllocError>
     ensures { OnOk result (string_bytes out.new ≡ string_bytes out.old ++ address_spelling base form offset) }
 {
-    out.push_str("*")?;
+    out.push('*')?;
     if is_base_alone(form, offset) {
         return push_register(out, base);
     }
     out.push_str(sign(form))?;
     push_register(out, base)?;
     out.push_str(step(form))?;
-    out.push_str("[")?;
+    out.push('[')?;
     push_offset(out, offset)?;
-    out.push_str("]")
+    out.push(']')
 }
 
 /// A register with another operand behind it.
@@ -148,7 +159,7 @@ fn push_source(out: &mut String, reg: Reg) -> Result<(), AllocError>
     ensures { OnOk result (string_bytes out.new ≡ string_bytes out.old ++ register_name reg ++ codes ",") }
 {
     push_register(out, reg)?;
-    out.push_str(",")
+    out.push(',')
 }
 
 /// A constant with another operand behind it.
@@ -156,7 +167,7 @@ fn push_first_constant(out: &mut String, constant: i64) -> Result<(), AllocError
     ensures { OnOk result (string_bytes out.new ≡ string_bytes out.old ++ signed_decimal constant ++ codes ",") }
 {
     push_constant(out, constant)?;
-    out.push_str(",")
+    out.push(',')
 }
 
 fn push_field(
@@ -189,7 +200,7 @@ fn push_access(
         push_address(out, base, form, offset)
     } else {
         push_address(out, base, form, offset)?;
-        out.push_str(",")?;
+        out.push(',')?;
         push_register(out, reg)
     }
 }
@@ -256,8 +267,8 @@ pub fn push_spelling(
 {
     push_condition(out, insn.cond())?;
     out.push_str(insn.op().mnemonic())?;
-    out.push_str(" ")?;
+    out.push(' ')?;
     push_unit(out, insn, unit)?;
-    out.push_str(" ")?;
+    out.push(' ')?;
     push_operands(out, insn, unit.letter, label)
 }

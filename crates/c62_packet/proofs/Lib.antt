@@ -4,3 +4,4 @@ pub mod RuleLemmas
 pub mod Broken
 pub mod Near
 pub mod OneFault
+pub mod ReadLemmas

@@ -5,14 +5,16 @@ use Rattle.std.specs.List.{list_any}
 use Rattle.std.proofs.lemmas.Bool.{cases_eq, and_parts, or_parts, false≢true, false_from_ne_true}
 use Rattle.std.proofs.lemmas.Bool.Decides.{nat_tests}
 use Rattle.std.proofs.lemmas.List.Sums.{sum_by-cons}
-use Rattle.std.proofs.lemmas.List.Elements.{All-nil, All-cons, All-contains}
+use Rattle.std.proofs.lemmas.List.Elements.{All-nil, All-cons, All-contains, All-tail}
 use Rattle.std.proofs.lemmas.Option.{same_Some, none-some}
 use Rattle.c62_insn.specs.declared.register.Side.{Side}
 use Rattle.c62_insn.specs.declared.register.Reg.{Reg}
 use Rattle.c62_insn.specs.declared.register.Unit.{Unit as FunctionalUnit}
 use Rattle.c62_insn.specs.Takes.{same_reg, same_side, same_unit}
-use Rattle.c62_insn.specs.Shape.{data_path_of}
-use Rattle.c62_insn.specs.Insn.{operands_of, operand_reads, register_writes}
+use Rattle.c62_insn.specs.declared.operands.Op.{Op}
+use Rattle.c62_insn.specs.Shape.{data_path_of, delay_of}
+use Rattle.c62_insn.specs.Insn.{op_of, operands_of, operand_reads, register_writes}
+use Rattle.c62_insn.proofs.InsnLemmas.{timely_writes}
 use Rattle.c62_insn.specs.PacketRules.{Issue, IsIssued, UsesCrossPath, UsesDataPath, reads_count, reads_in, LandsIn}
 use Rattle.c62_insn.proofs.Registers.{same_reg-is, same_reg-refl, same_side-is, same_side-refl, same_unit-is, same_unit-refl}
 use Rattle.c62_packet.specs.declared.placed.Placed.{Placed}
@@ -71,6 +73,20 @@ none-lands from cycle reg (write ∷ writes) late =
 
 pub lands-late : (reg : Reg) (cycle : ℕ) (q : Placed) → cycle < q.cycle → lands reg cycle q ≡ false
 lands-late reg cycle q late = none-lands q.cycle cycle reg (register_writes q.insn) late
+
+-- nor later than the delay slots of its instruction last
+none-timely : (op : Op) (from cycle : ℕ) (reg : Reg) (writes : List (Reg × ℕ)) → All (λ write. write.1 ≤ delay_of op) writes → from + delay_of op < cycle
+    → list_any (is_landing from reg cycle) writes ≡ false
+none-timely op from cycle reg [] timely early = refl
+none-timely op from cycle reg (write ∷ writes) timely early =
+    let within : write.1 ≤ delay_of op = timely 0 write (omega arith) in
+    let other : (from + write.1 == cycle) ≡ false = grind (arith, nat_tests) in
+    let here : is_landing from reg cycle write ≡ false = and-false (same_reg write.0 reg) (from + write.1 == cycle) other in
+    rw (here, none-timely op from cycle reg writes (All-tail (λ w. w.1 ≤ delay_of op) write writes timely) early) refl
+
+pub lands-early : (reg : Reg) (cycle : ℕ) (q : Placed) → q.cycle + delay_of (op_of q.insn) < cycle → lands reg cycle q ≡ false
+lands-early reg cycle q early =
+    none-timely (op_of q.insn) q.cycle cycle reg (register_writes q.insn) (λ k d within. (timely_writes q.insn k d within).1) early
 
 pub all-fail : {X : Type 0} (test : X → Bool) (xs : List X) → list_any test xs ≡ false → All (λ y. test y ≡ false) xs
 all-fail test [] h = All-nil (λ y. test y ≡ false)

@@ -101,8 +101,20 @@ fn reads_beside(placed: &Placed, others: &[Placed], reg: Reg) -> usize
     count
 }
 
-/// Whether a register that an instruction reads is read more than four times in its cycle.
+/// Whether a register that an instruction reads is read more than four times in its cycle. One alone reads a register three
+/// times at most.
+#[tactic(auto, using(crate::proofs::ReadLemmas::reads_alone))]
 fn is_over_read(placed: &Placed, others: &[Placed]) -> bool
+    requires { length others.now ≤ 256 }
+    ensures { result ≡ is_over_read placed.now others.now }
+{
+    match others {
+        [] => false,
+        [_, ..] => is_read_too_often(placed, others),
+    }
+}
+
+fn is_read_too_often(placed: &Placed, others: &[Placed]) -> bool
     requires { length others.now ≤ 256 }
     ensures { result ≡ is_over_read placed.now others.now }
 {
@@ -120,10 +132,13 @@ fn is_landing(write: (Reg, u8), from: u16, reg: Reg, cycle: u32) -> bool
     write.0 == reg && u32::from(from) + u32::from(write.1) == cycle
 }
 
-/// Whether a write of the instruction lands in this register in this cycle.
+/// Whether a write of the instruction lands in this register in this cycle. None lands later than its delay slots last.
 fn lands(placed: &Placed, reg: Reg, cycle: u32) -> bool
     ensures { result ≡ lands reg cycle placed.now }
 {
+    if u32::from(placed.cycle) + u32::from(placed.insn.delay()) < cycle {
+        return false;
+    }
     let writes = placed.insn.writes();
     writes
         .as_slice()
