@@ -393,3 +393,13 @@ module _ (p q : Uses) where
 
       below : (b : ℤ) → b ≤ℤ pos (delay_of (op_of p.insn) + 1) → b ≤ℤ pos (p.delay + 1)
       below b low = let own : p.delay ≡ delay_of (op_of p.insn) = p.delay_is in omega (arith, ints)
+
+  -- and so of one that lands where the second one reads or writes at once
+  pub landed_is : (exclusive disjoint : Bool) → shares p.results (if exclusive then q.reads else q.read_or_at_once) ≡ true → Some (pos (p.delay + 1)) ≡ latency_of exclusive disjoint p.insn q.insn
+  landed_is true disjoint h = result_is true disjoint h
+  landed_is false disjoint h =
+      let found = shared p.results q.read_or_at_once h in
+      elim (or_cases (reg_in q.reads found.0) (reg_in q.at_once found.0) (sym (q.read_or_at_once_are found.0) ∙ found.2)) [
+        | inl read ↦ result_is false disjoint (shares_one p.results q.reads found.0 found.1 read)
+        | inr written ↦ overwritten_result_is false disjoint refl (shares_one p.results q.at_once found.0 found.1 written)
+      ]

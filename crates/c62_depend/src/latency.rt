@@ -2,7 +2,7 @@
 //!
 //! A bound is counted here as one number: 6 more than its cycles, which are -5 or more, and 0 where there is none.
 
-ghost use Rattle.std.specs.Prelude.{◌≡◌, ◌<◌, ◌≤◌, ◌≤ℤ◌, ◌+◌, max, length, pos, negsuc, IfSome};
+ghost use Rattle.std.specs.Prelude.{◌≡◌, ◌<◌, ◌≤◌, ◌≤ℤ◌, ◌+◌, max, length, slice_index_or, pos, negsuc, IfSome};
 ghost use Rattle.c62_depend.specs.Latency.{latency_of, latency};
 ghost use Rattle.c62_insn.specs.Dependence.{IsLatency};
 ghost use Rattle.c62_depend.specs.Uses.{insns_in};
@@ -170,7 +170,7 @@ fn by_all(exclusive: bool, disjoint: bool, first: &Uses, second: &Uses) -> u8
 {
     greater(
         by_registers(exclusive, first, second),
-        by_cases_of_order(disjoint, first, second),
+        by_order(disjoint, first, second),
     )
 }
 
@@ -180,9 +180,7 @@ fn by_all(exclusive: bool, disjoint: bool, first: &Uses, second: &Uses) -> u8
 fn number_between(exclusive: bool, disjoint: bool, first: &Uses, second: &Uses) -> u8
     ensures { as_bound result ≡ latency_of exclusive disjoint first.now.insn second.now.insn }
 {
-    if first.results.meets(second.reads) {
-        after_result(first)
-    } else if !exclusive && first.results.meets(second.at_once) {
+    if first.results.meets(second.awaited(exclusive)) {
         after_result(first)
     } else if first.is_apart(second) {
         by_order(disjoint, first, second)
@@ -191,18 +189,19 @@ fn number_between(exclusive: bool, disjoint: bool, first: &Uses, second: &Uses) 
     }
 }
 
-/// By how much the cycle of instruction `j` must at least exceed that of instruction `i`, which stands before it: the
-/// greatest bound of the cases that apply, as a number.
+/// By how much the cycle of instruction `j` must at least exceed that of instruction `i`, which is `first` and stands
+/// before it: the greatest bound of the cases that apply, as a number.
 #[inline(always)]
-pub(crate) fn latency_number(uses: &[Uses], i: usize, j: usize) -> u8
+pub(crate) fn latency_number(uses: &[Uses], first: &Uses, i: usize, j: usize) -> u8
     requires before { i < j }
     requires within { j < length uses.now }
+    requires first { first.now ≡ slice_index_or uses.now i first.now }
     ensures { as_bound result ≡ latency (insns_in uses.now) i j }
 {
     number_between(
         are_exclusive(uses, i, j),
         are_disjoint(uses, i, j),
-        &uses[i],
+        first,
         &uses[j],
     )
 }
@@ -214,7 +213,7 @@ pub(crate) fn latency(uses: &[Uses], i: usize, j: usize) -> Option<i32>
     requires within { j < length uses.now }
     ensures latency { result ≡ latency (insns_in uses.now) i j }
 {
-    as_bound(latency_number(uses, i, j))
+    as_bound(latency_number(uses, &uses[i], i, j))
 }
 
 /// By how much the cycle of instruction `j` of a block must at least exceed that of instruction `i`, which stands before

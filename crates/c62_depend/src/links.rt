@@ -120,9 +120,10 @@ fn gather_followers(gathered: &mut Gathered, row: &mut Row, uses: &[Uses], i: us
     ensures followers { take result gathered.new ≡ followers (insns_in uses.now) i }
     ensures row { IsRow (insns_in uses.now) i (length uses.now) row.new }
 {
+    let first = uses[i];
     let mut count = 0;
     for j in i + 1..uses.len() {
-        let latency = latency_number(uses, i, j);
+        let latency = latency_number(uses, &first, i, j);
         row[j] = latency;
         count = add(gathered, count, j as u16, latency);
     }

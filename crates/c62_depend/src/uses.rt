@@ -22,6 +22,8 @@ pub(crate) struct Uses {
     pub at_once: RegSet,
     /// The registers that are written with the delay of the instruction.
     pub results: RegSet,
+    /// The registers that are read, or written with no delay.
+    pub read_or_at_once: RegSet,
     /// The registers that are written.
     pub written: RegSet,
     /// The registers that are read or written.
@@ -35,6 +37,7 @@ pub(crate) struct Uses {
     pub ghost reads_are: { (reg : Register) → reg_in reads reg ≡ reads_register insn reg },
     pub ghost at_once_are: { (reg : Register) → reg_in at_once reg ≡ writes_with insn 0 reg },
     pub ghost results_are: { (reg : Register) → reg_in results reg ≡ writes_with insn (delay_of (op_of insn)) reg },
+    pub ghost read_or_at_once_are: { (reg : Register) → reg_in read_or_at_once reg ≡ (reg_in reads reg || reg_in at_once reg) },
     pub ghost written_are: { (reg : Register) → reg_in written reg ≡ (reg_in at_once reg || reg_in results reg) },
     pub ghost used_are: { (reg : Register) → reg_in used reg ≡ (reg_in reads reg || reg_in written reg) },
     pub ghost delay_is: { delay ≡ delay_of (op_of insn) },
@@ -91,6 +94,7 @@ fn written(insn: &Insn, delay: u8) -> RegSet
 }
 
 impl Uses {
+    ghost use Rattle.std.specs.Prelude.{if◌then◌else◌};
     ghost use Rattle.c62_depend.specs.Uses.{are_apart};
 
     pub fn new(insn: Insn) -> Uses
@@ -109,6 +113,7 @@ impl Uses {
             reads,
             at_once,
             results,
+            read_or_at_once: reads.joined(at_once),
             written,
             used: reads.joined(written),
             delay,
@@ -116,6 +121,19 @@ impl Uses {
             stores,
             branches: op.is_branch(),
             accesses: loads || stores,
+        }
+    }
+
+    /// The registers in which a result of an earlier instruction must have landed: those that are read and, unless the
+    /// two are exclusive, those that are written with no delay.
+    #[inline(always)]
+    pub fn awaited(&self, exclusive: bool) -> RegSet
+        ensures { result ≡ (if exclusive then self.now.reads else self.now.read_or_at_once) }
+    {
+        if exclusive {
+            self.reads
+        } else {
+            self.read_or_at_once
         }
     }
 

@@ -3,4 +3,4 @@ use Rattle.c62_depend.proofs.latency.by_all.Goals as goal
 
 pub returns : goal.returns
 returns c =
-    rw (c.greater.ensures, c.by_registers.ensures, c.by_cases_of_order.ensures) (all_is c.args.first.now c.args.second.now c.args.exclusive c.args.disjoint)
+    rw (c.greater.ensures, c.by_registers.ensures, c.by_order.ensures) (all_is c.args.first.now c.args.second.now c.args.exclusive c.args.disjoint)

@@ -10,9 +10,9 @@ returns c =
     let block = insns_in c.args.uses.now in
     let exclusive = are_exclusive block c.args.i c.args.j in
     let disjoint = are_disjoint block c.args.i c.args.j in
-    let u = c.index-uses-i.result in
+    let u = c.args.first.now in
     let v = c.index-uses-j.result in
     c.number_between.ensures
     ∙ ap (λ (t : Bool). latency_of t c.are_disjoint.result u.insn v.insn) c.are_exclusive.ensures
     ∙ ap (λ (t : Bool). latency_of exclusive t u.insn v.insn) c.are_disjoint.ensures
-    ∙ latency_at c.args.uses.now c.args.i c.args.j u v (latency_of exclusive disjoint u.insn v.insn) c.requires.before c.requires.within c.index-uses-i.is c.index-uses-j.is refl
+    ∙ latency_at c.args.uses.now c.args.i c.args.j u v (latency_of exclusive disjoint u.insn v.insn) c.requires.before c.requires.within c.requires.first c.index-uses-j.is refl
