@@ -238,19 +238,22 @@ fn push_operands(
             push_source(out, a)?;
             push_register(out, d)
         }
-        Operands::Field { source: a, left, right, destination: d } => push_field(out, a, left, right, d),
+        Operands::Field {
+            source: a,
+            left,
+            right,
+            destination: d,
+        } => push_field(out, a, left, right, d),
         Operands::Constant(constant, d) => {
             push_first_constant(out, constant)?;
             push_register(out, d)
         }
-        Operands::Access { register: reg, base, form, offset } => push_access(
-            out,
-            insn.op(),
-            reg,
+        Operands::Access {
+            register: reg,
             base,
             form,
             offset,
-        ),
+        } => push_access(out, insn.op(), reg, base, form, offset),
         Operands::Block(_) => out.push_str(label),
         Operands::Register(target) => push_register(out, target),
     }

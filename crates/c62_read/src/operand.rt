@@ -146,7 +146,12 @@ fn read_address<'a>(rest: Tokens<'a>) -> Option<(Address, Tokens<'a>)>
 fn access(reg: Reg, address: Address) -> Operands
     ensures { result ≡ access reg address }
 {
-    Operands::Access { register: reg, base: address.base, form: address.form, offset: address.offset }
+    Operands::Access {
+        register: reg,
+        base: address.base,
+        form: address.form,
+        offset: address.offset,
+    }
 }
 
 /// `address , register` behind the `*`
@@ -248,7 +253,12 @@ fn four_operands(a: Source, k: Source, m: Source, d: Source) -> Option<Operands>
         return None;
     };
     match (k, m) {
-        (Source::Constant(k), Source::Constant(m)) => Some(Operands::Field { source: a, left: k, right: m, destination: d }),
+        (Source::Constant(k), Source::Constant(m)) => Some(Operands::Field {
+            source: a,
+            left: k,
+            right: m,
+            destination: d,
+        }),
         _ => None,
     }
 }

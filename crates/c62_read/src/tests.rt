@@ -350,7 +350,12 @@ fn an_access(rt: HostRuntime) -> Result<(), Fail> {
         side: Side::B,
         number: 15,
     };
-    let operands = Operands::Access { register: loaded, base, form: AddressForm::PostIncrement, offset: Offset::Constant(3) };
+    let operands = Operands::Access {
+        register: loaded,
+        base,
+        form: AddressForm::PostIncrement,
+        offset: Offset::Constant(3),
+    };
     let want = Insn::new(Op::Ldh, operands, None, None)?;
     assert_eq!(rt; only(&rt, rt.alloc(), "LDH *A4++[3],B15 ; c")?, want);
     Ok(())

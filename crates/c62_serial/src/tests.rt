@@ -230,7 +230,12 @@ fn calls_of_instructions(rt: HostRuntime) -> Result<(), Fail> {
     state.set(a1, 5);
     state.set(A4, 8);
     assert!(&rt; &state.registers()[..6] == [0, 5, 0, 0, 8, 0].as_slice());
-    let address = Operands::Access { register: a1, base: A4, form: AddressForm::PreIncrement, offset: Offset::Register(a1) };
+    let address = Operands::Access {
+        register: a1,
+        base: A4,
+        form: AddressForm::PreIncrement,
+        offset: Offset::Register(a1),
+    };
     let cond = Cond {
         reg: a1,
         negated: true,
