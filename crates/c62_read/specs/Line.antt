@@ -165,6 +165,11 @@ behind_unit mnemonic cond written words = jumps_or_does (target_of mnemonic word
 
 -- ---- the steps in their order
 
+-- whether the unit, where one is written, may be written behind the mnemonic
+abbrev pub fits_behind : Mnemonic → Option WrittenUnit → Bool
+fits_behind mnemonic None = true
+fits_behind mnemonic (Some written) = unit_fits mnemonic written
+
 abbrev pub with_unit : Mnemonic → Option Condition → Option (Option WrittenUnit × List Word) → Result Says Cause
 with_unit mnemonic cond None = Err BadUnit
 with_unit mnemonic cond (Some (None, words)) = behind_unit mnemonic cond None words

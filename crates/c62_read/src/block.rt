@@ -19,9 +19,9 @@ pub struct SerialInsn {
 impl SerialInsn {
     ghost use Rattle.c62_read.specs.Program.{aimed, numbered_of};
 
-    /// A branch to a label goes to the block of this number.
-    pub(crate) fn aimed(self, number: u8) -> SerialInsn
-        ensures { numbered_of result ≡ aimed number (numbered_of self) }
+    /// Aims a branch to a label at the block of this number.
+    pub(crate) fn aim(&mut self, number: u8)
+        ensures { numbered_of self.new ≡ aimed number (numbered_of self.old) }
     {
         match self.insn.operands() {
             Operands::Block(_) => {
@@ -33,12 +33,9 @@ impl SerialInsn {
                 ) else {
                     unreachable!()
                 };
-                SerialInsn {
-                    insn,
-                    line: self.line,
-                }
+                self.insn = insn;
             }
-            _ => self,
+            _ => {}
         }
     }
 }

@@ -30,6 +30,7 @@ fn unit_written(written: Option<WrittenUnit>) -> Option<Unit>
 }
 
 /// The instruction of these parts, or the first fault of its form.
+#[inline(always)]
 #[tactic(auto, unfolding(crate::specs::Line::text_fault))]
 pub(crate) fn make(
     op: Op,

@@ -6,7 +6,7 @@ ghost use Rattle.std.specs.Option.{option_copied};
 ghost use Rattle.c62_read.specs.Text.{begins, tokens, is_allowed, is_solid, words_left};
 ghost use Rattle.c62_read.specs.Number.{is_label};
 ghost use Rattle.c62_read.specs.Operand.{Finds};
-ghost use Rattle.c62_read.specs.Line.{said, names_label, is_branch, label_alone, target_of, is_storing, letter_written, does, jumps, pause_of, behind_unit, instruction_of, conditional, closed_condition, bracketed_condition, condition_front, first_begins, rest_says, label_front, without_colon, has_colon, is_bars, is_star, head_of, line_of, said_of};
+ghost use Rattle.c62_read.specs.Line.{said, names_label, is_branch, label_alone, target_of, is_storing, letter_written, does, jumps, pause_of, fits_behind, behind_unit, instruction_of, conditional, closed_condition, bracketed_condition, condition_front, first_begins, rest_says, label_front, without_colon, has_colon, is_bars, is_star, head_of, line_of, said_of};
 ghost use Rattle.c62_read.specs.Unit.{is_dot};
 
 use crate::fault::{Cause, ReadFault};
@@ -144,6 +144,16 @@ fn behind_unit<'a>(
     }
 }
 
+/// Whether the unit, where one is written, may be written behind the mnemonic.
+fn fits(written: Option<WrittenUnit>, mnemonic: Mnemonic) -> bool
+    ensures { result ≡ fits_behind mnemonic written }
+{
+    match written {
+        Some(written) => written.fits(mnemonic),
+        None => true,
+    }
+}
+
 /// The instruction behind the condition.
 #[tactic(auto, unfolding(crate::specs::Line::instruction_of))]
 fn instruction<'a>(cond: Option<Cond>, rest: Tokens<'a>) -> Result<Statement<'a>, Cause>
@@ -160,17 +170,13 @@ fn instruction<'a>(cond: Option<Cond>, rest: Tokens<'a>) -> Result<Statement<'a>
     let Some(mnemonic) = mnemonic_named(name) else {
         return Err(Cause::UnknownMnemonic);
     };
-    match first_unit(rest) {
-        None => Err(Cause::BadUnit),
-        Some((None, rest)) => behind_unit(mnemonic, cond, None, rest),
-        Some((Some(written), rest)) => {
-            if written.fits(mnemonic) {
-                behind_unit(mnemonic, cond, Some(written), rest)
-            } else {
-                Err(Cause::BadUnit)
-            }
-        }
+    let Some((written, rest)) = first_unit(rest) else {
+        return Err(Cause::BadUnit);
+    };
+    if !fits(written, mnemonic) {
+        return Err(Cause::BadUnit);
     }
+    behind_unit(mnemonic, cond, written, rest)
 }
 
 /// `register ]`

@@ -188,6 +188,7 @@ fn stored(rest: Tokens<'_>) -> Option<Operands>
 }
 
 /// A register or a number
+#[inline(always)]
 #[tactic(auto, unfolding(crate::specs::Operand::source_of))]
 fn read_source(word: &[u8]) -> Option<Source>
     ensures { result ≡ source_of word.now }
@@ -199,6 +200,7 @@ fn read_source(word: &[u8]) -> Option<Source>
 }
 
 /// The first source, and what follows the comma behind it, where one is there
+#[inline(always)]
 fn first_source(rest: Tokens<'_>) -> Option<(Source, Option<Tokens<'_>>)>
     ensures { MatchOption result (sources_of (words_left rest.entry) ≡ None) (λ found. sources_of (words_left rest.entry) ≡ before_sources (Some found.0) (more_sources found.1)) }
 {

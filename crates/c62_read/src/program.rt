@@ -66,7 +66,7 @@ fn aim_all(entries: &mut [SerialInsn], number: u8)
     ensures { map numbered_of entries.new ≡ map (aimed number) (map numbered_of entries.old) }
 {
     for entry in entries.iter_mut() {
-        *entry = entry.aimed(number);
+        entry.aim(number);
     }
 }
 
