@@ -49,6 +49,16 @@ pub tokens_comment : (b : ℕ) (rest : List ℕ) → eqb b 59 ≡ true → token
 tokens_comment b [] comment = rw comment refl
 tokens_comment b (c ∷ rest) comment = rw comment refl
 
+blank_no_comment : (b : ℕ) → is_blank b ≡ true → eqb b 59 ≡ false
+blank_no_comment b blank = grind (arith, nat_tests)
+
+pub tokens_blanks : (n : ℕ) (bytes : List ℕ) → list_all is_blank (take n bytes) ≡ true → tokens (drop n bytes) ≡ tokens bytes
+tokens_blanks zero bytes blanks = refl
+tokens_blanks (suc n) [] blanks = refl
+tokens_blanks (suc n) (b ∷ bytes) blanks =
+    let parts = and_parts (is_blank b) (list_all is_blank (take n bytes)) blanks in
+    tokens_blanks n bytes parts.1 ∙ sym (tokens_blank b bytes (blank_no_comment b parts.0) parts.0)
+
 -- one more byte of a word
 pub words_more : (bytes : List ℕ) (n : ℕ) → n < length bytes → list_all is_word_byte (take n bytes) ≡ true → is_word_byte (get_or bytes n 0) ≡ true
     → list_all is_word_byte (take (n + 1) bytes) ≡ true

@@ -129,6 +129,7 @@ fn file(letter: u8) -> Option<Side>
 }
 
 /// The register that a word names, in either case: `A` or `B`, and a number from 0 to 15 without leading zeros.
+#[inline(always)]
 #[tactic(auto, unfolding(crate::specs::Number::register_of))]
 pub fn register(word: &[u8]) -> Option<Reg>
     ensures { result ≡ register_of word.now }

@@ -91,6 +91,7 @@ fn bracketed<'a>(base: Reg, form: AddressForm, rest: Tokens<'a>) -> Option<(Addr
 }
 
 /// `[ offset ]`, or nothing
+#[inline(always)]
 #[tactic(auto, unfolding(crate::specs::Operand::with_offset))]
 fn with_offset<'a>(base: Reg, form: AddressForm, rest: Tokens<'a>) -> Option<(Address, Tokens<'a>)>
     ensures { Finds result (with_offset base form (words_left rest.entry)) }
@@ -132,6 +133,7 @@ fn stepped_address<'a>(base: Reg, rest: Tokens<'a>) -> Option<(Address, Tokens<'
 }
 
 /// The address behind a `*`
+#[inline(always)]
 #[tactic(auto, unfolding(crate::specs::Operand::address_of))]
 fn read_address<'a>(rest: Tokens<'a>) -> Option<(Address, Tokens<'a>)>
     ensures { Finds result (address_of (words_left rest.entry)) }
