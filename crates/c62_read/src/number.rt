@@ -105,6 +105,7 @@ pub fn number(word: &[u8]) -> Option<i64>
 }
 
 /// The register of this number in a file, where the file has one.
+#[inline(always)]
 #[tactic(auto, unfolding(crate::specs::Number::numbered))]
 fn numbered(side: Side, number: u8) -> Option<Reg>
     ensures { result ≡ numbered side number }
@@ -117,6 +118,7 @@ fn numbered(side: Side, number: u8) -> Option<Reg>
 }
 
 /// The file that a letter names, in either case.
+#[inline(always)]
 #[tactic(auto, unfolding(crate::specs::Number::file_of))]
 fn file(letter: u8) -> Option<Side>
     ensures { result ≡ file_of letter }
