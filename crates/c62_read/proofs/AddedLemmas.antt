@@ -6,8 +6,8 @@ use Rattle.std.proofs.lemmas.Bool.{leb-false}
 use Rattle.c62_read.specs.declared.fault.Cause.{Cause}
 use Rattle.c62_read.specs.declared.fault.Cause.TheVariants.{DuplicateLabel, UnknownTarget, TooManyInstructions, TooManyBlocks}
 use Rattle.c62_read.specs.Line.{Parts, Says, Nothing, Pause, Does, Jumps, is_branch, head_of, rest_says}
-use Rattle.c62_read.specs.Program.{Name, Draft, and_then}
-use Rattle.c62_read.specs.Walk.{Drafts, add_line, add_lines, add_head, add_says, at_line, all_drafts, begins_block, closed, hindrance, is_full, is_instruction, is_taken, is_unknown, no_drafts, opened, unless_hindered, with_insn, with_label, with_says}
+use Rattle.c62_read.specs.Program.{Name, Draft}
+use Rattle.c62_read.specs.Walk.{Drafts, add_line, add_head, add_says, all_drafts, begins_block, closed, hindrance, is_full, is_instruction, is_taken, is_unknown, opened, unless_hindered, with_insn, with_label, with_says}
 
 -- the line says this, and nothing stands against it
 pub record IsAdded (labels : List Name) (number : ℕ) (line : List ℕ) (old new : Drafts) : Type 0 where
@@ -80,9 +80,6 @@ append_one done draft = length-append done (draft ∷ [])
 closed_length : (last : Bool) (done : List Draft) (draft : Draft) → length (all_drafts (closed last done draft)) ≡ length done + 1
 closed_length true done draft = omega (arith, length-append (done ++ draft ∷ []) [], append_one done draft)
 closed_length false done draft = append_one done draft
-
-open_length : (drafts : Drafts) → length (all_drafts drafts) ≡ length drafts.done + length (option_to_list drafts.current)
-open_length drafts = length-append drafts.done (option_to_list drafts.current)
 
 -- a line that begins no block adds none, and another adds one
 abbrev Grows : Option Name → Says → ℕ → Drafts → Type 0

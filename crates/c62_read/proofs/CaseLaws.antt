@@ -130,9 +130,6 @@ same_cond R false false x y z w e first second = second
 same_cond R true false x y z w e first second = absurd cc
 same_cond R false true x y z w e first second = absurd cc
 
-comma_same : (name w v : Word) → IsRecasedWord w v → spells name w ≡ spells name v
-comma_same name w v same = spells_same name w v same
-
 sign_same : (w v : Word) → IsRecasedWord w v → sign_form w ≡ sign_form v
 unfolding sign_form
 sign_same w v same = rw (

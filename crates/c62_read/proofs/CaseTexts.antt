@@ -5,7 +5,7 @@ use Rattle.c62_read.specs.Text.{lines_of}
 use Rattle.c62_read.specs.Operand.{Word}
 use Rattle.c62_read.specs.Line.{Parts, Says, Nothing, Pause, Does, Jumps, head_of, line_of, rest_says, with_head, with_rest}
 use Rattle.c62_read.specs.Program.{Name, fault_in, place_of}
-use Rattle.c62_read.specs.Laws.{AreRecased, CaseChangesNothing, IsRecased, in_small, small_labels, small_says, target_in}
+use Rattle.c62_read.specs.Laws.{AreRecased, CaseChangesNothing, IsRecased, small_labels, small_says, target_in}
 use Rattle.c62_read.proofs.AlikeLaws.{AreAlike, IsAlike, alike_programs}
 use Rattle.c62_read.proofs.CaseLaws.{Head, SameHead, head_same, label_in, line_same, says_in}
 use Rattle.c62_read.proofs.PlaceLemmas.{place_is}

@@ -1,13 +1,12 @@
 -- The first line of a text.
-use Rattle.std.proofs.Common.{◌≡◌, ◌<◌, ◌≤◌, ℕ, ◌+◌, ◌-◌, zero, suc, Bool, true, false, not, eqb, ◌&&◌, ◌||◌, List, [], ◌∷◌, ◌++◌, length, take, drop, Some, None, refl, sym, ap, ◌∙◌, arith, take-add}
+use Rattle.std.proofs.Common.{◌≡◌, ◌<◌, ◌≤◌, ℕ, ◌+◌, suc, Bool, true, false, not, eqb, ◌&&◌, List, [], ◌∷◌, ◌++◌, length, take, drop, Some, None, refl, sym, ap, ◌∙◌, arith}
 use Rattle.std.specs.Prelude.{position, nat_lt, if◌then◌else◌}
 use Rattle.std.specs.List.{list_all, list_any, before_first, position_or_len}
 use Rattle.std.proofs.Common.{get_or}
 use Rattle.std.proofs.lemmas.Bool.{and_from, and_parts, eqb-true, not-true, ltb-true, ltb-false, lt-ltb, le-ltb}
 use Rattle.std.proofs.lemmas.List.{length-drop, take_all}
 use Rattle.std.proofs.lemmas.List.Quantifiers.{position-Some}
-use Rattle.std.proofs.lemmas.List.Folds.{list_any-append}
-use Rattle.std.proofs.lemmas.List.Sums.{prefix_len-le-length, split_at_first}
+use Rattle.std.proofs.lemmas.List.Sums.{split_at_first}
 use Rattle.c62_read.specs.Text.{grow, is_line_feed, lines_of, without_return}
 use Rattle.c62_read.proofs.StepLemmas.{place_later}
 

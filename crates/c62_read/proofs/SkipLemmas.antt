@@ -1,12 +1,11 @@
 -- Lines without a colon have no label.
-use Rattle.std.proofs.Common.{◌≡◌, ℕ, zero, suc, ◌+◌, ◌-◌, ◌≤◌, ◌<◌, Bool, true, false, cond, not, eqb, ◌&&◌, ◌||◌, List, [], ◌∷◌, ◌++◌, length, get_or, take, drop, refl, sym, ap, ◌∙◌, arith, append_assoc}
+use Rattle.std.proofs.Common.{◌≡◌, ℕ, zero, suc, ◌-◌, ◌≤◌, ◌<◌, Bool, true, false, not, eqb, ◌&&◌, List, [], ◌∷◌, ◌++◌, length, get_or, take, drop, refl, sym, ap, ◌∙◌, arith}
 use Rattle.std.specs.List.{list_all, list_any}
-use Rattle.std.specs.Option.{option_to_list}
 use Rattle.std.proofs.lemmas.Bool.{and_from, and_parts, not-true, or_parts}
 use Rattle.std.proofs.lemmas.List.{take-append-drop}
 use Rattle.std.proofs.Math.Seq.{drop-cons}
-use Rattle.c62_read.specs.Text.{begins, grow, is_line_feed, lines_of}
-use Rattle.c62_read.specs.Program.{Name, labels_of, place_of}
+use Rattle.c62_read.specs.Text.{begins, is_line_feed, lines_of}
+use Rattle.c62_read.specs.Program.{labels_of}
 use Rattle.c62_read.proofs.HeadLemmas.{plain_place}
 
 abbrev has_colon_byte : List ℕ → Bool

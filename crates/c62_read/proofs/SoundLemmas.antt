@@ -1,7 +1,6 @@
 -- The blocks that the reader makes have at most 256 instructions, and a branch only as their last.
-use Rattle.std.proofs.Common.{◌≡◌, ◌<◌, ℕ, zero, suc, true, ◌&&◌, List, [], ◌∷◌, ◌++◌, length, Option, refl, sym, ap, ◌∙◌, append_assoc, arith, leb, get_or}
+use Rattle.std.proofs.Common.{◌≡◌, ◌<◌, ℕ, suc, true, ◌&&◌, List, [], ◌∷◌, ◌++◌, length, Option, refl, sym, ap, ◌∙◌, append_assoc, arith, leb, get_or}
 use Rattle.std.specs.Prelude.{map}
-use Rattle.std.specs.List.{list_all}
 use Rattle.std.proofs.lemmas.Bool.{and_from, and_parts}
 use Rattle.std.proofs.lemmas.List.{length-map, map-append}
 use Rattle.c62_insn.specs.declared.operands.Op.{Op}
@@ -10,7 +9,7 @@ use Rattle.c62_read.specs.declared.block.SerialInsn.{SerialInsn}
 use Rattle.c62_read.specs.declared.program.BlockReader.{BlockReader}
 use Rattle.c62_read.specs.Block.{Serial, branch_last, is_block, operations}
 use Rattle.c62_read.specs.Program.{BlockParts, Draft, Name, Numbered, aimed, block_in, block_parts, numbered_of}
-use Rattle.c62_read.specs.Walk.{draft_of, is_whole}
+use Rattle.c62_read.specs.Walk.{draft_of}
 
 read_operations : (insns : List SerialInsn) → map (λ (e : Numbered). e.parts.op) (map numbered_of insns) ≡ operations insns
 read_operations [] = refl

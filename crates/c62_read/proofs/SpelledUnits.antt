@@ -19,7 +19,7 @@ use Rattle.c62_read.specs.declared.unit.Mark.TheVariants.{Plain, Cross, Path}
 use Rattle.c62_read.specs.Text.{begins, is_word_byte, joins}
 use Rattle.c62_read.specs.Number.{spells}
 use Rattle.c62_read.proofs.NameLemmas.{named}
-use Rattle.c62_read.specs.Mnemonic.{mnemonic_named, operation_named}
+use Rattle.c62_read.specs.Mnemonic.{mnemonic_named}
 use Rattle.c62_read.specs.Unit.{is_dot, letter_of, side_numbered, mark_of, unit_split, unit_front}
 use Rattle.c62_read.proofs.SpelledTokens.{IsToken, led_token, word_token}
 

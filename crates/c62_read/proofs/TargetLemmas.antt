@@ -1,9 +1,8 @@
 -- Every branch to a label of a text that is read goes to a block that is there and has a label.
-use Rattle.std.proofs.Common.{◌≡◌, ◌<◌, ℕ, zero, suc, Bool, true, false, cond, ◌&&◌, ◌||◌, List, [], ◌∷◌, ◌++◌, length, Option, Some, None, refl, sym, ap, subst, ◌∙◌, arith}
+use Rattle.std.proofs.Common.{◌≡◌, ◌<◌, ℕ, Bool, true, false, ◌&&◌, ◌||◌, List, [], ◌∷◌, length, Option, Some, None, refl, sym, ap, ◌∙◌, arith}
 use Rattle.std.specs.Prelude.{map, option_map, is_some, if◌then◌else◌}
-use Rattle.std.specs.List.{flat_map, list_all, list_any, find, position_or_len, slice_get}
-use Rattle.std.specs.Str.{bytes_eq}
-use Rattle.std.proofs.lemmas.Bool.{and_from, and_parts, lt-ltb}
+use Rattle.std.specs.List.{flat_map, list_all, find, position_or_len, slice_get}
+use Rattle.std.proofs.lemmas.Bool.{and_from, lt-ltb}
 use Rattle.std.proofs.lemmas.List.{length-map}
 use Rattle.std.proofs.lemmas.List.Folds.{find_at, list_all-append, list_all-map}
 use Rattle.std.proofs.lemmas.Option.{slice_get-map, slice_get_within}
@@ -147,23 +146,3 @@ targets_read lines blocks none made =
     ∙ ap (λ (ls : List (Option Name)). list_all (λ (part : BlockParts). list_all (stands ls) part.insns) (map block_parts blocks)) labels
     ∙ ap (list_all (λ (part : BlockParts). list_all (stands drafts) part.insns)) made
     ∙ sym (items_stand drafts named) ∙ ap (list_all (item_stands drafts)) (its_items lines none) ∙ stand
-
--- ---- what a holder of a program knows of a branch
-
-all_at : {X : Type 0} (test : X → Bool) (xs : List X) (i : ℕ) (x : X) → slice_get xs i ≡ Some x → list_all test xs ≡ true → test x ≡ true
-all_at test [] i x at all = absurd cc
-all_at test (y ∷ xs) zero x at all = let same : y ≡ x = cc in subst (λ (z : _). test z ≡ true) same (and_parts (test y) (list_all test xs) all).0
-all_at test (y ∷ xs) (suc i) x at all = all_at test xs i x at (and_parts (test y) (list_all test xs) all).1
-
--- the block that an instruction branches to is one of the program's
-pub target_within : (blocks : List Serial) (i j : ℕ) (block : Serial) (entry : SerialInsn) (k : ℕ) → targets_stand blocks ≡ true
-    → slice_get blocks i ≡ Some block → slice_get block.insns j ≡ Some entry
-    → written_operands entry.insn ≡ Block k → k < length blocks
-unfolding targets_stand
-target_within blocks i j block entry k sound here there names =
-    let labels = labels_in blocks in
-    let insns = all_at (λ (b : Serial). list_all
-    (λ (e : SerialInsn). target_stands labels (written_operands e.insn)) b.insns) blocks i block here sound in
-    let stands_here = all_at (λ (e : SerialInsn). target_stands labels (written_operands e.insn)) block.insns j entry there insns in
-    let labelled : is_labelled (slice_get labels k) ≡ true = ap (target_stands labels) (sym names) ∙ stands_here in
-    omega (arith, within_by labels k (slice_get labels k) refl labelled, length-map blocks (λ (b : Serial). b.label))

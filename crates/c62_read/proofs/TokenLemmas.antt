@@ -1,10 +1,8 @@
 -- How the bytes of a token come together.
-use Rattle.std.proofs.Common.{◌≡◌, ℕ, zero, suc, ◌+◌, ◌<◌, ◌≤◌, true, false, eqb, ◌&&◌, List, [], ◌∷◌, ◌++◌, length, get_or, take, drop, refl, sym, ap, ◌∙◌, add-one, arith}
+use Rattle.std.proofs.Common.{◌≡◌, ℕ, zero, suc, ◌+◌, ◌<◌, ◌≤◌, true, false, eqb, ◌&&◌, List, [], ◌∷◌, ◌++◌, length, get_or, take, drop, refl, sym, ap, ◌∙◌, arith}
 use Rattle.std.specs.List.{list_all}
-use Rattle.std.proofs.lemmas.List.{nil_from_length, length-drop, take-append-drop}
-use Rattle.std.proofs.lemmas.List.Folds.{list_all-append}
-use Rattle.std.proofs.Math.Seq.{drop-cons, take-suc}
-use Rattle.std.proofs.lemmas.Bool.{and_from, and_parts, not-true}
+use Rattle.std.proofs.lemmas.List.{take-append-drop}
+use Rattle.std.proofs.lemmas.Bool.{and_parts, not-true}
 use Rattle.std.proofs.lemmas.Bool.Decides.{nat_tests}
 use Rattle.c62_read.specs.Text.{grow, put_back, begins, is_blank, is_solid, is_word_byte, is_double, joins, led_by, tokens}
 
@@ -49,18 +47,15 @@ pub tokens_comment : (b : ℕ) (rest : List ℕ) → eqb b 59 ≡ true → token
 tokens_comment b [] comment = rw comment refl
 tokens_comment b (c ∷ rest) comment = rw comment refl
 
--- one more byte of a word
-pub words_more : (bytes : List ℕ) (n : ℕ) → n < length bytes → list_all is_word_byte (take n bytes) ≡ true → is_word_byte (get_or bytes n 0) ≡ true
-    → list_all is_word_byte (take (n + 1) bytes) ≡ true
-words_more bytes n in_range so_far word =
-    rw (add-one, take-suc bytes n 0 in_range)
-    (list_all-append is_word_byte (take n bytes) (get_or bytes n 0 ∷ []) ∙ and_from _ _ so_far (and_from _ true word refl))
+blank_no_comment : (b : ℕ) → is_blank b ≡ true → eqb b 59 ≡ false
+blank_no_comment b blank = grind (arith, nat_tests)
 
-pub word_ends : (bytes : List ℕ) (n : ℕ) → n < length bytes → is_word_byte (get_or bytes n 0) ≡ false → begins is_word_byte (drop n bytes) ≡ false
-word_ends bytes n in_range other = rw (drop-cons bytes n 0 in_range) other
-
-pub word_is_all : (bytes : List ℕ) (n : ℕ) → length bytes ≤ n → begins is_word_byte (drop n bytes) ≡ false
-word_is_all bytes n all = let none : drop n bytes ≡ [] = nil_from_length (drop n bytes) (omega (arith, length-drop n bytes)) in rw none refl
+pub tokens_blanks : (n : ℕ) (bytes : List ℕ) → list_all is_blank (take n bytes) ≡ true → tokens (drop n bytes) ≡ tokens bytes
+tokens_blanks zero bytes blanks = refl
+tokens_blanks (suc n) [] blanks = refl
+tokens_blanks (suc n) (b ∷ bytes) blanks =
+    let parts = and_parts (is_blank b) (list_all is_blank (take n bytes)) blanks in
+    tokens_blanks n bytes parts.1 ∙ sym (tokens_blank b bytes (blank_no_comment b parts.0) parts.0)
 
 no_word_joins : (b c : ℕ) → is_word_byte b ≡ true → is_word_byte c ≡ false → joins b c ≡ false
 no_word_joins b c word other = grind (arith, nat_tests)

@@ -1,5 +1,5 @@
 -- The reader's walk over the lines of a text answers what the text says.
-use Rattle.std.proofs.Common.{◌≡◌, ◌≤◌, ◌<◌, ℕ, ◌+◌, Bool, true, false, cond, not, leb, ltb, ◌&&◌, ◌||◌, List, [], ◌∷◌, ◌++◌, length, Option, Some, None, Result, Ok, Err, refl, sym, ap, subst, ◌∙◌, arith, append_assoc, append-nil, length-append, inl, inr}
+use Rattle.std.proofs.Common.{◌≡◌, ◌≤◌, ℕ, ◌+◌, Bool, true, false, cond, leb, ltb, ◌&&◌, ◌||◌, List, [], ◌∷◌, ◌++◌, length, Option, Some, None, Result, Ok, Err, refl, sym, ap, subst, ◌∙◌, arith, append_assoc, append-nil, length-append, inl, inr}
 use Rattle.std.specs.Prelude.{is_none, is_some, option_map}
 use Rattle.std.specs.List.{flat_map, list_all, list_any}
 use Rattle.std.specs.Option.{option_to_list}
@@ -9,8 +9,8 @@ use Rattle.std.proofs.lemmas.List.Concat.{flat_map-append}
 use Rattle.std.proofs.lemmas.List.Folds.{list_any-append}
 use Rattle.c62_read.specs.declared.fault.Cause.{Cause}
 use Rattle.c62_read.specs.declared.fault.Cause.TheVariants.{DuplicateLabel, UnknownTarget, TooManyInstructions, TooManyBlocks}
-use Rattle.c62_read.specs.Line.{Parts, Says, Nothing, Pause, Does, Jumps, is_branch, head_of, line_of, rest_says, with_head}
-use Rattle.c62_read.specs.Program.{Name, Numbered, Item, Begins, Runs, Draft, Refusal, and_then, blocks_from, cut, fault_if, fault_in, fault_of, first_fault, first_of, glue, is_among, is_overfull, items_from, joined, label_is, label_items, labels_of, line_items, misses_label, piece_of, place_of, repeats_label, says_items, unless_refused}
+use Rattle.c62_read.specs.Line.{Parts, Says, Nothing, Pause, Does, Jumps, is_branch, head_of, line_of, rest_says}
+use Rattle.c62_read.specs.Program.{Name, Numbered, Item, Runs, Draft, Refusal, and_then, blocks_from, cut, fault_if, fault_in, fault_of, first_fault, first_of, glue, is_among, is_overfull, items_from, joined, label_is, label_items, labels_of, line_items, misses_label, piece_of, repeats_label, says_items, unless_refused}
 use Rattle.c62_read.specs.Walk.{is_whole, Drafts, add_head, add_line, add_lines, add_says, all_drafts, at_line, begins_block, closed, hindrance, is_full, is_instruction, is_taken, is_unknown, new_draft, no_drafts, opened, unless_hindered, with_insn, with_label, with_says}
 use Rattle.c62_read.proofs.AddedLemmas.{IsAdded, added_is, clear_parts, few_added, grows}
 use Rattle.c62_read.proofs.HeadLemmas.{line_by_head}

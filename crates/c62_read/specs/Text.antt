@@ -1,5 +1,5 @@
 -- The lines of a text, and the tokens of a line.
-use Rattle.std.specs.Prelude.{ℕ, Bool, false, not, ◌==◌, ◌&&◌, ◌||◌, nat_le, nat_lt, List, [], ◌∷◌, Option, Some, None, if◌then◌else◌}
+use Rattle.std.specs.Prelude.{ℕ, Bool, false, not, ◌==◌, ◌&&◌, ◌||◌, nat_le, nat_lt, List, [], ◌∷◌, if◌then◌else◌}
 use Rattle.c62_read.specs.declared.token.Tokens.{Tokens}
 use Rattle.std.specs.Char.{is_ascii_digit, is_ascii_alphanumeric}
 

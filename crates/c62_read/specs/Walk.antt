@@ -1,6 +1,6 @@
 -- How the reader goes over the lines of a text, once and from the first: what it has of the lines so far, and what the next
 -- line does to that. What a text says is defined without it (Program), and the two are proved equal.
-use Rattle.std.specs.Prelude.{◌≡◌, ℕ, ◌+◌, Bool, true, false, not, ◌&&◌, ◌||◌, nat_le, List, [], ◌∷◌, ◌++◌, length, map, Option, Some, None, is_some, is_none, option_map, position, unwrap_or, Result, Ok, Err, if◌then◌else◌}
+use Rattle.std.specs.Prelude.{ℕ, ◌+◌, Bool, true, false, not, ◌&&◌, ◌||◌, nat_le, List, [], ◌∷◌, ◌++◌, length, map, Option, Some, None, is_some, is_none, option_map, position, unwrap_or, Result, Ok, Err, if◌then◌else◌}
 use Rattle.std.specs.Borrow.{Bor}
 use Rattle.std.specs.List.{list_any}
 use Rattle.std.specs.Option.{option_to_list}
@@ -11,7 +11,7 @@ use Rattle.c62_read.specs.declared.program.BlockReader.{BlockReader}
 use Rattle.c62_read.specs.declared.program.TextReader.{TextReader}
 use Rattle.c62_read.specs.Block.{branch_last}
 use Rattle.c62_read.specs.Line.{Parts, Says, Nothing, Pause, Does, Jumps, is_branch, head_of, rest_says}
-use Rattle.c62_read.specs.Program.{Name, Numbered, Draft, Refusal, and_then, is_among, label_is, numbered_of}
+use Rattle.c62_read.specs.Program.{Name, Draft, Refusal, and_then, is_among, label_is, numbered_of}
 
 -- the blocks that are whole, and the one that the next instruction goes into
 pub record Drafts : Type 0 where

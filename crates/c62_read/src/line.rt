@@ -16,7 +16,7 @@ use crate::mnemonic::{Mnemonic, mnemonic_named};
 use crate::number::{is_label, number, register, spells};
 use crate::operand::read_operands;
 use crate::reading::{Reading, Statement};
-use crate::token::{STEP, Tokens, from_token, has_byte, is_allowed, is_mark};
+use crate::token::{STEP, Tokens, from_token, has_byte, is_allowed, is_mark, without_indent};
 use crate::unit::{WrittenUnit, first_unit};
 use c62_insn::{Cond, Letter, Op, Operands};
 
@@ -364,7 +364,7 @@ pub(crate) fn read_head(line: &[u8]) -> Result<(Option<&[u8]>, &[u8]), Cause>
     if begins_with(b'*', line) {
         return Ok((None, &[]));
     }
-    let start = from_token(line);
+    let start = from_token(without_indent(line));
     if begins_with_bars(start) {
         return Err(Cause::ParallelBar);
     }

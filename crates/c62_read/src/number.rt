@@ -105,6 +105,7 @@ pub fn number(word: &[u8]) -> Option<i64>
 }
 
 /// The register of this number in a file, where the file has one.
+#[inline(always)]
 #[tactic(auto, unfolding(crate::specs::Number::numbered))]
 fn numbered(side: Side, number: u8) -> Option<Reg>
     ensures { result ≡ numbered side number }
@@ -117,6 +118,7 @@ fn numbered(side: Side, number: u8) -> Option<Reg>
 }
 
 /// The file that a letter names, in either case.
+#[inline(always)]
 #[tactic(auto, unfolding(crate::specs::Number::file_of))]
 fn file(letter: u8) -> Option<Side>
     ensures { result ≡ file_of letter }
@@ -129,6 +131,7 @@ fn file(letter: u8) -> Option<Side>
 }
 
 /// The register that a word names, in either case: `A` or `B`, and a number from 0 to 15 without leading zeros.
+#[inline(always)]
 #[tactic(auto, unfolding(crate::specs::Number::register_of))]
 pub fn register(word: &[u8]) -> Option<Reg>
     ensures { result ≡ register_of word.now }

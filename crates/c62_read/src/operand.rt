@@ -77,6 +77,7 @@ fn offset(word: &[u8]) -> Option<Offset>
 }
 
 /// `offset ]`
+#[inline(always)]
 #[tactic(auto, unfolding(crate::specs::Operand::bracketed))]
 fn bracketed<'a>(base: Reg, form: AddressForm, rest: Tokens<'a>) -> Option<(Address, Tokens<'a>)>
     ensures { Finds result (bracketed base form (words_left rest.entry)) }
@@ -91,6 +92,7 @@ fn bracketed<'a>(base: Reg, form: AddressForm, rest: Tokens<'a>) -> Option<(Addr
 }
 
 /// `[ offset ]`, or nothing
+#[inline(always)]
 #[tactic(auto, unfolding(crate::specs::Operand::with_offset))]
 fn with_offset<'a>(base: Reg, form: AddressForm, rest: Tokens<'a>) -> Option<(Address, Tokens<'a>)>
     ensures { Finds result (with_offset base form (words_left rest.entry)) }
@@ -107,6 +109,7 @@ fn with_offset<'a>(base: Reg, form: AddressForm, rest: Tokens<'a>) -> Option<(Ad
 }
 
 /// `R [offset]` behind a sign
+#[inline(always)]
 #[tactic(auto, unfolding(crate::specs::Operand::signed_address))]
 fn signed_address<'a>(form: AddressForm, rest: Tokens<'a>) -> Option<(Address, Tokens<'a>)>
     ensures { Finds result (signed_address form (words_left rest.entry)) }
@@ -116,6 +119,7 @@ fn signed_address<'a>(form: AddressForm, rest: Tokens<'a>) -> Option<(Address, T
 }
 
 /// A step and an offset behind `R`, or nothing
+#[inline(always)]
 #[tactic(auto, unfolding(crate::specs::Operand::stepped_address))]
 fn stepped_address<'a>(base: Reg, rest: Tokens<'a>) -> Option<(Address, Tokens<'a>)>
     ensures { Finds result (stepped_address base (words_left rest.entry)) }
@@ -132,6 +136,7 @@ fn stepped_address<'a>(base: Reg, rest: Tokens<'a>) -> Option<(Address, Tokens<'
 }
 
 /// The address behind a `*`
+#[inline(always)]
 #[tactic(auto, unfolding(crate::specs::Operand::address_of))]
 fn read_address<'a>(rest: Tokens<'a>) -> Option<(Address, Tokens<'a>)>
     ensures { Finds result (address_of (words_left rest.entry)) }

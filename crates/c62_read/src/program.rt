@@ -130,6 +130,7 @@ impl TextReader {
         }
     }
 
+    #[inline(always)]
     fn add_insn(
         &mut self,
         alloc: Global,
@@ -275,6 +276,7 @@ pub fn label_place(line: &[u8]) -> Option<&[u8]>
 
 impl TextReader {
     /// What a line of the text says, where nothing stands against it.
+    #[inline(always)]
     #[tactic(auto, unfolding(crate::specs::Walk::add_line))]
     fn judge<'a>(
         &self,
@@ -399,6 +401,7 @@ fn feed_in(bytes: &[u8]) -> Option<usize>
 }
 
 /// Where the first line feed stands.
+#[inline(always)]
 fn first_feed(text: &[u8]) -> Option<usize>
     ensures value { result ≡ position is_line_feed text.now }
     ensures within { IfSome result (λ place. place < length text.now) }
@@ -422,6 +425,7 @@ fn without_return(line: &[u8]) -> &[u8]
 }
 
 /// The first line of a text, without its end, and the text after it.
+#[inline(always)]
 fn first_line(text: &[u8]) -> Option<(&[u8], &[u8])>
     ensures found { MatchOption result (lines_of text.now ≡ []) (λ found. lines_of text.now ≡ found.0.now ∷ lines_of found.1.now) }
     ensures shorter { IfSome result (λ found. length found.1.now < length text.now) }

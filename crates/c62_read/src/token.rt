@@ -138,6 +138,31 @@ fn token_len(bytes: &[u8]) -> usize
     }
 }
 
+/// How many blanks are skipped at once.
+const INDENT: usize = 8;
+
+#[inline(always)]
+fn are_blank(bytes: &[u8]) -> bool
+    ensures { result ≡ list_all is_blank bytes.now }
+{
+    let mut blank = true;
+    for b in bytes {
+        blank &= is_blank(*b);
+    }
+    blank
+}
+
+/// The line without the blanks that stand first, but for the last few of them.
+pub(crate) fn without_indent(line: &[u8]) -> &[u8]
+    ensures { tokens result.now ≡ tokens line.now }
+{
+    let mut start = line;
+    while INDENT <= start.len() && are_blank(&start[..INDENT]) {
+        start = &start[INDENT..];
+    }
+    start
+}
+
 /// The line from its first token on, and nothing where it has none.
 pub(crate) fn from_token(line: &[u8]) -> &[u8]
     ensures same { tokens result.now ≡ tokens line.now }
@@ -163,6 +188,7 @@ pub(crate) struct Tokens<'a> {
 
 impl<'a> Tokens<'a> {
     /// All tokens of a line.
+    #[inline(always)]
     #[tactic(auto, using(crate::proofs::TokenLemmas::led_by_token), unfolding(crate::specs::Text::words_left))]
     pub(crate) fn new(line: &'a [u8]) -> Tokens<'a>
         ensures { words_left result ≡ tokens line.now }

@@ -1,4 +1,4 @@
-use Rattle.std.proofs.Common.{◌≡◌, ◌-◌, ℕ, Bool, List, length, eqb, arith, sym, ap, ◌∙◌}
+use Rattle.std.proofs.Common.{◌-◌, ℕ, Bool, length, eqb, arith, sym, ap, ◌∙◌}
 use Rattle.std.specs.List.{list_any}
 use Rattle.std.proofs.lemmas.List.{take_rest}
 use Rattle.c62_read.proofs.StepLemmas.{any_behind, any_near}

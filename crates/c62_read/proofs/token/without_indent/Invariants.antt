@@ -1,0 +1,9 @@
+use Rattle.std.proofs.Common.{length, ◌≡◌}
+use Rattle.c62_read.specs.Text.{tokens}
+use Rattle.c62_read.proofs.token.without_indent.Given as goal
+
+abbrev pub invariant-loop-start : goal.invariant-loop-start
+invariant-loop-start l = tokens l.start ≡ tokens l.line
+
+abbrev pub decreases-loop-start : goal.decreases-loop-start
+decreases-loop-start l = length l.start
