@@ -27,7 +27,7 @@ use Rattle.c62_listing_reader.specs.Text.{Line, content}
 use Rattle.c62_listing_reader.specs.Begin.{front_of, has_colon, is_beside, is_gap, rest_of}
 use Rattle.c62_listing_reader.specs.Said.{Said, Part, Draft, Drafts, opened, with_part, with_says, with_said, above_of, above_next, spelled_line, is_text}
 use Rattle.c62_listing_reader.specs.Faults.{is_filled, is_issue, is_misplaced, is_taken, unit_said, unit_above, precedes, goes_on, cycles_added, after_label, rest_says, read_lines, line_says}
-use Rattle.c62_listing_reader.proofs.Going.{place_small}
+use Rattle.c62_packet.proofs.Near.{place_small}
 use Rattle.c62_listing_reader.proofs.ListedLemmas.{rest_is, rest_line}
 use Rattle.c62_listing_reader.proofs.ReadLemmas.{goes_on as reads_on}
 use Rattle.c62_listing_reader.proofs.TextLemmas.{fed}

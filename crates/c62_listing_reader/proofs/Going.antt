@@ -8,12 +8,8 @@ use Rattle.std.proofs.lemmas.Bool.Decides.{nat_tests}
 use Rattle.std.proofs.lemmas.Option.{same_Some, none-some}
 use Rattle.std.proofs.lemmas.List.Elements.{All-nil, All-cons, All-append, All-weaker}
 use Rattle.std.proofs.lemmas.List.Sorted.{IsNonDecreasingBy-push, IsNonDecreasingBy-short}
-use Rattle.c62_insn.specs.declared.register.Letter.{Letter}
-use Rattle.c62_insn.specs.declared.register.Letter.TheVariants.{L, S, M, D}
-use Rattle.c62_insn.specs.declared.register.Side.{Side}
-use Rattle.c62_insn.specs.declared.register.Side.TheVariants.{A, B}
 use Rattle.c62_insn.specs.declared.register.Unit.{Unit as FunctionalUnit}
-use Rattle.c62_insn.specs.Units.{place_of}
+use Rattle.c62_packet.proofs.Near.{place_small}
 use Rattle.c62_read.specs.Line.{Says, Nothing, Pause, Does, Jumps, Parts}
 use Rattle.c62_read.specs.Program.{Name}
 use Rattle.c62_read.specs.Walk.{is_instruction}
@@ -49,16 +45,6 @@ empty_fine = record {
   ordered = IsNonDecreasingBy-short part_place [] (omega arith);
   units = All-nil (λ (part : Part). is_some part.parts.unit ≡ true);
 }
-
-pub place_small : (letter : Letter) (side : Side) → place_of letter side < 8
-place_small L A = omega arith
-place_small S A = omega arith
-place_small M A = omega arith
-place_small D A = omega arith
-place_small L B = omega arith
-place_small S B = omega arith
-place_small M B = omega arith
-place_small D B = omega arith
 
 unit_small : (unit : Option FunctionalUnit) → unit_place unit < 8
 unit_small None = omega arith

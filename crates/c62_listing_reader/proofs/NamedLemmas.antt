@@ -47,10 +47,6 @@ named_last (first ∷ done) draft name is = named_last done draft name is
 
 -- ---- what a line does to the label of its block
 
-label_kept : (label : Option Name) (draft : Draft) → is_some label ≡ false → draft.label ≡ (with_label label draft).label
-label_kept None draft none = refl
-label_kept (Some label) draft none = absurd (false≢true (sym none))
-
 label_given : (label : Option Name) (draft : Draft) (name : Name) → label ≡ Some name → (with_label label draft).label ≡ Some name
 label_given None draft name is = absurd (none-some name is)
 label_given (Some label) draft name is = is

@@ -12,7 +12,7 @@ use Rattle.c62_listing_reader.specs.declared.fault.ListFault.TheVariants.{Read, 
 use Rattle.c62_listing_reader.specs.Text.{Line, lines_in}
 use Rattle.c62_listing_reader.specs.Said.{Said, Draft, Drafts, no_drafts, all_drafts, with_said, above_next, names_in, labels_of, aim_by}
 use Rattle.c62_listing_reader.specs.Faults.{Refusal, and_then, line_says, read_lines, contents, drafts_in, draft_of, IsRead}
-use Rattle.c62_listing_reader.specs.Reading.{RefusesLines, RefusesBlocks, Refuses}
+use Rattle.c62_listing_reader.specs.Reading.{RefusesBlocks, Refuses}
 
 pub goes_on : (labels : List Name) (aim : Name → ℕ) (number : ℕ) (line : Line) (below lines : List Line) (drafts : Drafts) (above : Above) (said : Said)
     → lines ≡ line ∷ below → line_says labels drafts above line below ≡ Ok said
@@ -40,14 +40,6 @@ pub of_lines : (text : List ℕ) (names : List (Name × ℕ)) (says : Result Dra
 of_lines text names says short named read =
     let test : nat_lt 8388608 (length text) ≡ false = grind (arith, nat_tests) in
     rw test (subst (λ (ns : List (Name × ℕ)). read_lines (labels_of ns) (aim_by ns) 1 no_drafts Start (lines_in text) ≡ says) named read)
-
-pub lines_refused : (text : List ℕ) (fault : ListFault) → RefusesLines (drafts_in text) fault → Refuses text fault
-lines_refused text (Read fault) h = h
-lines_refused text (Shape line) h = h
-lines_refused text Memory h = tt
-lines_refused text (Unlawful number cycle rule) h = absurd h
-lines_refused text (NotDrained number) h = absurd h
-lines_refused text (TwoBranches number) h = absurd h
 
 pub blocks_refused : (text : List ℕ) (drafts : Drafts) (fault : ListFault) → drafts_in text ≡ Ok drafts → RefusesBlocks (all_drafts drafts) fault → Refuses text fault
 blocks_refused text drafts (Read fault) said h = absurd h

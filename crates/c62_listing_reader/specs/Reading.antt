@@ -1,13 +1,14 @@
 -- What the reader holds, as the definitions see it.
 use Rattle.std.specs.Prelude.{◌≡◌, ◌⊎◌, ℕ, ◌+◌, ◌≤◌, IsTrue, is_some, List, map, Option, option_map, Result, Ok, Err}
 use Rattle.c62_read.specs.declared.fault.Cause.{Cause}
+use Rattle.c62_read.specs.declared.fault.ReadFault.{ReadFault}
 use Rattle.c62_read.specs.declared.reading.Reading.{Reading}
 use Rattle.c62_read.specs.Line.{Says, Does, Jumps, said_of}
 use Rattle.c62_read.specs.Program.{Name}
 use Rattle.c62_packet.specs.declared.fault.BlockFault.TheVariants.{TwoBranches, NotDrained, Unlawful}
 use Rattle.c62_listing_reader.specs.declared.draft.OpenBlock.{OpenBlock}
 use Rattle.c62_listing_reader.specs.declared.draft.Blocks.{Blocks}
-use Rattle.c62_listing_reader.specs.declared.judge.Judged.{Judged}
+use Rattle.c62_listing_reader.specs.declared.line.Front.{Front}
 use Rattle.c62_listing_reader.specs.declared.judge.Named.{Named}
 use Rattle.c62_listing_reader.specs.declared.fault.LineFault.{LineFault}
 use Rattle.c62_listing_reader.specs.declared.fault.LineFault.TheVariants.{Read as ReadLine, Shape as ShapeLine, Memory as MemoryLine}
@@ -23,8 +24,8 @@ draft_open block = record { label = block.label; cycles = block.cycles; placed =
 abbrev pub drafts_of : Blocks → Drafts
 drafts_of blocks = record { done = map draft_open blocks.done.items; current = option_map draft_open blocks.current }
 
-abbrev pub said_by : Judged → Said
-said_by judged = record { front = judged.front; label = judged.reading.label; says = said_of judged.reading.what }
+abbrev pub said_by : Front → Reading → Said
+said_by front reading = record { front = front; label = reading.label; says = said_of reading.what }
 
 abbrev pub entry_of : Named → Name × ℕ
 entry_of named = (named.label.now, named.number)
@@ -32,9 +33,9 @@ entry_of named = (named.label.now, named.number)
 abbrev pub entries_of : List Named → List (Name × ℕ)
 entries_of names = map entry_of names
 
-abbrev pub read_as : Result Reading Cause → Result (Option Name × Says) Cause
+abbrev pub read_as : Result Reading ReadFault → Result (Option Name × Says) Cause
 read_as (Ok reading) = Ok (reading.label, said_of reading.what)
-read_as (Err cause) = Err cause
+read_as (Err fault) = Err fault.cause
 
 -- memory may run out in place of any answer
 abbrev pub Fails : LineFault → Result Said LineFault → Type 0

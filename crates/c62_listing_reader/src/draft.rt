@@ -44,11 +44,11 @@ impl OpenBlock {
         }
     }
 
-    pub fn add_label(&mut self, label: Option<Label>)
-        ensures { draft_open self.new ≡ with_label label (draft_open self.old) }
+    pub fn add_label(&mut self, label: &Option<Label>)
+        ensures { draft_open self.new ≡ with_label label.now (draft_open self.old) }
     {
-        if label.is_some() {
-            self.label = label;
+        if let Some(label) = label {
+            self.label = Some(label.copy());
         }
     }
 

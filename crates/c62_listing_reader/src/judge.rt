@@ -1,38 +1,31 @@
 //! What a line of a listing says, or its first fault.
 
-ghost use Rattle.std.specs.Prelude.{◌≡◌, ◌⊎◌, ◌≤◌, ◌+◌, ◌&&◌, not, Ok, Err, MatchResult, is_some, is_none, nat_le, nat_lt, length};
+ghost use Rattle.std.specs.Prelude.{◌≡◌, ◌⊎◌, ◌≤◌, ◌+◌, ◌&&◌, not, Ok, Err, IfOk, IsOk, OnOk, MatchResult, is_some, is_none, nat_le, nat_lt, length};
 ghost use Rattle.std.specs.List.{list_any};
 ghost use Rattle.std.specs.Str.{bytes_eq};
-ghost use Rattle.c62_read.specs.Line.{said_of};
+ghost use Rattle.c62_read.specs.Line.{line_of, said_of};
 ghost use Rattle.c62_read.specs.Program.{place_of};
 ghost use Rattle.c62_read.specs.Walk.{is_unknown, is_instruction};
 ghost use Rattle.c62_listing_reader.specs.Text.{lines_in, content};
 ghost use Rattle.c62_listing_reader.specs.Cut.{line_cut};
-ghost use Rattle.c62_listing_reader.specs.Begin.{has_colon, rest_of, is_gap, is_beside};
+ghost use Rattle.c62_listing_reader.specs.Begin.{has_colon, front_of, rest_of, is_gap, is_beside};
 ghost use Rattle.c62_listing_reader.specs.Said.{labels_of, opened};
 ghost use Rattle.c62_listing_reader.specs.Faults.{is_issue, is_filled, unit_said, unit_above, precedes, goes_on, is_misplaced, is_taken, after_label, hindrance, cycles_added, is_alone, is_unfit, is_odd, unless_odd, with_rest, rest_says, line_says};
 ghost use Rattle.c62_listing_reader.specs.Reading.{drafts_of, said_by, entries_of, read_as, Fails};
 
 use crate::draft::Blocks;
 use crate::fault::LineFault;
-use crate::line::{Above, Front, all_allowed, beginning, has_colon, rest};
+use crate::line::{Above, Front, all_allowed, has_colon, rest};
 use crate::spelled::is_spelled;
 use crate::text::{Cut, begins_filled, content, is_ended};
 use c62_insn::Unit;
-use c62_read::{Cause, Label, Reading, What, label_place, read_insn};
+use c62_read::{Cause, Label, ReadFault, Reading, What, label_place};
 
 /// A label of the text, and the number of the block that it stands for.
 #[derive(Clone, Copy)]
 pub struct Named<'a> {
     pub label: &'a [u8],
     pub number: u32,
-}
-
-/// What a line says.
-#[derive(Drop)]
-pub struct Judged {
-    pub front: Front,
-    pub reading: Reading,
 }
 
 fn is_issue(above: Above) -> bool
@@ -136,22 +129,6 @@ fn is_label_taken(blocks: &Blocks, label: &Option<Label>) -> bool
     match label {
         Some(label) => blocks.is_taken(Some(label.as_bytes())),
         None => false,
-    }
-}
-
-/// What a rest says, in which bars have no meaning. The label that is read is the one in its label place.
-fn rest_says(blocks: &Blocks, rest: &[u8]) -> Result<Reading, Cause>
-    ensures { read_as result ≡ rest_says (drafts_of blocks.now) rest.now }
-{
-    match read_insn(rest) {
-        Ok(reading) => {
-            if is_label_taken(blocks, &reading.label) {
-                Err(Cause::DuplicateLabel)
-            } else {
-                Ok(reading)
-            }
-        }
-        Err(fault) => Err(fault_of_rest(blocks, rest, fault.cause)),
     }
 }
 
@@ -281,29 +258,50 @@ fn is_unfit(blocks: &Blocks, above: Above, cut: &Cut<'_>, front: Front, reading:
     is_too_long(blocks, front, &reading.what)
 }
 
-/// What a line says behind its front, where it is spelled so and fits its neighbours.
-fn fitted(
+/// Whether a line is spelled as what it says, and fits its neighbours.
+fn fit(
     spelling: &mut String,
     blocks: &Blocks,
     above: Above,
     cut: &Cut<'_>,
     front: Front,
-    reading: Reading,
-) -> Result<Judged, LineFault>
+    reading: &Reading,
+) -> Result<(), LineFault>
     ensures { MatchResult result
-        (λ judged. unless_odd (is_odd (drafts_of blocks.now) above (line_cut cut.now) (lines_in cut.now.rest.now) front reading.label (said_of reading.what)) (record { front = front; label = reading.label; says = said_of reading.what }) ≡ Ok (said_by judged))
-        (λ fault. Fails fault (unless_odd (is_odd (drafts_of blocks.now) above (line_cut cut.now) (lines_in cut.now.rest.now) front reading.label (said_of reading.what)) (record { front = front; label = reading.label; says = said_of reading.what }))) }
+        (λ _. unless_odd (is_odd (drafts_of blocks.now) above (line_cut cut.now) (lines_in cut.now.rest.now) front reading.now.label (said_of reading.now.what)) (said_by front reading.now) ≡ Ok (said_by front reading.now))
+        (λ fault. Fails fault (unless_odd (is_odd (drafts_of blocks.now) above (line_cut cut.now) (lines_in cut.now.rest.now) front reading.now.label (said_of reading.now.what)) (said_by front reading.now))) }
 {
     let spelled = is_spelled(spelling, content(cut), front, &reading.label, &reading.what)?;
     if !spelled {
         return Err(LineFault::Shape);
     }
-    if is_unfit(blocks, above, cut, front, &reading) {
+    if is_unfit(blocks, above, cut, front, reading) {
         return Err(LineFault::Shape);
     }
-    Ok(Judged { front, reading })
+    Ok(())
 }
 
+/// Whether nothing stands against a line that says this.
+fn with_reading(
+    spelling: &mut String,
+    names: &[Named<'_>],
+    blocks: &Blocks,
+    above: Above,
+    cut: &Cut<'_>,
+    front: Front,
+    reading: &Reading,
+) -> Result<(), LineFault>
+    ensures { MatchResult result
+        (λ _. with_rest (labels_of (entries_of names.now)) (drafts_of blocks.now) above (line_cut cut.now) (lines_in cut.now.rest.now) front (Ok (reading.now.label, said_of reading.now.what)) ≡ Ok (said_by front reading.now))
+        (λ fault. Fails fault (with_rest (labels_of (entries_of names.now)) (drafts_of blocks.now) above (line_cut cut.now) (lines_in cut.now.rest.now) front (Ok (reading.now.label, said_of reading.now.what)))) }
+{
+    match hindrance(names, blocks, front, &reading.what) {
+        Some(cause) => Err(LineFault::Read(cause)),
+        None => fit(spelling, blocks, above, cut, front, reading),
+    }
+}
+
+/// Whether nothing stands against a line whose rest reads so. The label that is read is the one in its label place.
 fn with_rest(
     spelling: &mut String,
     names: &[Named<'_>],
@@ -311,23 +309,31 @@ fn with_rest(
     above: Above,
     cut: &Cut<'_>,
     front: Front,
-) -> Result<Judged, LineFault>
-    ensures { MatchResult result
-        (λ judged. with_rest (labels_of (entries_of names.now)) (drafts_of blocks.now) above (line_cut cut.now) (lines_in cut.now.rest.now) front (rest_says (drafts_of blocks.now) (rest_of front (content (line_cut cut.now)))) ≡ Ok (said_by judged))
+    read: &Result<Reading, ReadFault>,
+) -> Result<(), LineFault>
+    requires { read_as read.now ≡ line_of (rest_of front (content (line_cut cut.now))) }
+    ensures judged { MatchResult result
+        (λ _. IfOk read.now (λ reading. with_rest (labels_of (entries_of names.now)) (drafts_of blocks.now) above (line_cut cut.now) (lines_in cut.now.rest.now) front (rest_says (drafts_of blocks.now) (rest_of front (content (line_cut cut.now)))) ≡ Ok (said_by front reading)))
         (λ fault. Fails fault (with_rest (labels_of (entries_of names.now)) (drafts_of blocks.now) above (line_cut cut.now) (lines_in cut.now.rest.now) front (rest_says (drafts_of blocks.now) (rest_of front (content (line_cut cut.now)))))) }
+    ensures ok { OnOk result (IsOk read.now) }
 {
-    match rest_says(blocks, rest(front, content(cut))) {
-        Err(cause) => Err(LineFault::Read(cause)),
+    match read {
+        Err(fault) => Err(LineFault::Read(fault_of_rest(
+            blocks,
+            rest(front, content(cut)),
+            fault.cause,
+        ))),
         Ok(reading) => {
-            match hindrance(names, blocks, front, &reading.what) {
-                Some(cause) => Err(LineFault::Read(cause)),
-                None => fitted(spelling, blocks, above, cut, front, reading),
+            if is_label_taken(blocks, &reading.label) {
+                Err(LineFault::Read(Cause::DuplicateLabel))
+            } else {
+                with_reading(spelling, names, blocks, above, cut, front, reading)
             }
         }
     }
 }
 
-/// What a line says, or its first fault.
+/// Whether nothing stands against a line whose rest reads so, or its first fault.
 #[tactic(auto, unfolding(crate::specs::Faults::line_says))]
 pub fn judge(
     spelling: &mut String,
@@ -335,10 +341,15 @@ pub fn judge(
     blocks: &Blocks,
     above: Above,
     cut: &Cut<'_>,
-) -> Result<Judged, LineFault>
-    ensures { MatchResult result
-        (λ judged. line_says (labels_of (entries_of names.now)) (drafts_of blocks.now) above (line_cut cut.now) (lines_in cut.now.rest.now) ≡ Ok (said_by judged))
+    front: Front,
+    read: &Result<Reading, ReadFault>,
+) -> Result<(), LineFault>
+    requires front { front ≡ front_of (content (line_cut cut.now)) }
+    requires read { read_as read.now ≡ line_of (rest_of front (content (line_cut cut.now))) }
+    ensures judged { MatchResult result
+        (λ _. IfOk read.now (λ reading. line_says (labels_of (entries_of names.now)) (drafts_of blocks.now) above (line_cut cut.now) (lines_in cut.now.rest.now) ≡ Ok (said_by front reading)))
         (λ fault. Fails fault (line_says (labels_of (entries_of names.now)) (drafts_of blocks.now) above (line_cut cut.now) (lines_in cut.now.rest.now))) }
+    ensures ok { OnOk result (IsOk read.now) }
 {
     let line = content(cut);
     if !all_allowed(line) {
@@ -347,9 +358,8 @@ pub fn judge(
     if line.len() > 255 {
         return Err(LineFault::Read(Cause::LineTooLong));
     }
-    let front = beginning(line);
     if is_misplaced(front, above) {
         return Err(LineFault::Shape);
     }
-    with_rest(spelling, names, blocks, above, cut, front)
+    with_rest(spelling, names, blocks, above, cut, front, read)
 }

@@ -2,7 +2,7 @@
 
 ghost use Rattle.std.specs.Prelude.{◌≡◌, ◌⊎◌, ◌+◌, ◌<◌, ◌≤◌, ◌++◌, ◌∷◌, [], All, List, length, map, OnOk, IfOk, MatchResult, Result, Ok, Err, IsTrue};
 ghost use Rattle.c62_insn.specs.Insn.{op_of, operands_of, cond_of, unit_of};
-ghost use Rattle.c62_read.specs.Line.{parts_of, said_of};
+ghost use Rattle.c62_read.specs.Line.{line_of, parts_of, said_of};
 ghost use Rattle.c62_read.specs.Program.{aimed_operands};
 ghost use Rattle.c62_packet.specs.Packed.{IsPacketBlock};
 ghost use Rattle.c62_packet.specs.Packets.{is_closed};
@@ -10,20 +10,20 @@ ghost use Rattle.c62_listing_reader.specs.declared.fault.LineFault.TheVariants.{
 ghost use Rattle.c62_listing_reader.specs.declared.fault.ListFault.TheVariants.{Memory as NoMemory};
 ghost use Rattle.c62_listing_reader.specs.declared.line.Above.TheVariants.{Start};
 ghost use Rattle.c62_listing_reader.specs.Text.{lines_in};
-ghost use Rattle.c62_listing_reader.specs.Begin.{is_beside};
+ghost use Rattle.c62_listing_reader.specs.Begin.{rest_of, is_beside};
 ghost use Rattle.c62_listing_reader.specs.Said.{Draft, Drafts as Placements, names_in, labels_of, aim_by, with_label, with_says, with_said, above_of, above_next, all_drafts, no_drafts};
 ghost use Rattle.c62_listing_reader.specs.Faults.{Refusal, contents, draft_of, IsFaulted, IsFirstFaulty, IsRead, read_lines, cycles_added};
 ghost use Rattle.c62_listing_reader.specs.Fine.{IsFine};
-ghost use Rattle.c62_listing_reader.specs.Reading.{draft_open, drafts_of, said_by, entries_of, HasUnit, Fits, RefusesLines, RefusesBlocks, Refuses};
+ghost use Rattle.c62_listing_reader.specs.Reading.{draft_open, drafts_of, said_by, read_as, entries_of, HasUnit, Fits, RefusesLines, RefusesBlocks, Refuses};
 
 use crate::draft::{Blocks, OpenBlock};
 use crate::fault::{LineFault, ListFault};
-use crate::judge::{Judged, Named, is_beside, is_gap, judge};
-use crate::line::Above;
+use crate::judge::{Named, is_beside, is_gap, judge};
+use crate::line::{Above, Front, beginning, rest};
 use crate::text::{content, first_line};
 use c62_insn::{Insn, Operands};
 use c62_packet::{BlockFault, PacketBlock, Packets};
-use c62_read::{Cause, ReadFault, Reading, What, label_place};
+use c62_read::{Cause, ReadFault, Reading, What, label_place, read_insn};
 use std::alloc::{AllocError, Global};
 
 /// The longest listing, in bytes.
@@ -90,14 +90,14 @@ fn above_of(what: &What) -> Above
     }
 }
 
-/// What the next line asks of this one.
-fn above_next(judged: &Judged) -> Above
-    ensures { result ≡ above_next judged.now.front (said_of judged.now.reading.what) }
+/// What the next line asks of one that begins and says so.
+fn above_next(front: Front, what: &What) -> Above
+    ensures { result ≡ above_next front (said_of what.now) }
 {
-    if is_gap(judged.front) {
+    if is_gap(front) {
         Above::Start
     } else {
-        above_of(&judged.reading.what)
+        above_of(what)
     }
 }
 
@@ -128,15 +128,19 @@ impl OpenBlock {
     }
 
     /// Adds what a line of the block says.
-    fn add(&mut self, names: &[Named<'_>], line: u32, judged: Judged) -> Result<(), AllocError>
-        requires unit { HasUnit (said_of judged.reading.what) }
-        requires short { self.old.cycles + cycles_added (is_beside judged.front) (said_of judged.reading.what) ≤ 2048 }
-        ensures { OnOk result (draft_open self.new ≡ with_says (aim_by (entries_of names.now)) (is_beside judged.front) line (said_of judged.reading.what) (with_label judged.reading.label (draft_open self.old))) }
+    fn add(
+        &mut self,
+        names: &[Named<'_>],
+        line: u32,
+        front: Front,
+        reading: &Reading,
+    ) -> Result<(), AllocError>
+        requires unit { HasUnit (said_of reading.now.what) }
+        requires short { self.old.cycles + cycles_added (is_beside front) (said_of reading.now.what) ≤ 2048 }
+        ensures { OnOk result (draft_open self.new ≡ with_says (aim_by (entries_of names.now)) (is_beside front) line (said_of reading.now.what) (with_label reading.now.label (draft_open self.old))) }
     {
-        let Judged { front, reading } = judged;
-        let Reading { label, what } = reading;
-        self.add_label(label);
-        self.add_what(names, is_beside(front), line, &what)
+        self.add_label(&reading.label);
+        self.add_what(names, is_beside(front), line, &reading.what)
     }
 }
 
@@ -147,20 +151,28 @@ impl Blocks {
         alloc: Global,
         names: &[Named<'_>],
         line: u32,
-        judged: Judged,
+        front: Front,
+        reading: &Reading,
     ) -> Result<(), AllocError>
-        requires { Fits (drafts_of self.old) (said_by judged) }
-        ensures { OnOk result (drafts_of self.new ≡ with_said (aim_by (entries_of names.now)) line (said_by judged) (drafts_of self.old)) }
+        requires { Fits (drafts_of self.old) (said_by front reading.now) }
+        ensures { OnOk result (drafts_of self.new ≡ with_said (aim_by (entries_of names.now)) line (said_by front reading.now) (drafts_of self.old)) }
     {
-        if is_gap(judged.front) {
+        if is_gap(front) {
             return self.end_block();
         }
         self.open_block(alloc);
         match &mut self.current {
-            Some(block) => block.add(names, line, judged),
+            Some(block) => block.add(names, line, front, reading),
             None => unreachable!(),
         }
     }
+}
+
+/// What the rest of a line says.
+fn read_rest(front: Front, line: &[u8]) -> Result<Reading, ReadFault>
+    ensures { read_as result ≡ line_of (rest_of front line.now) }
+{
+    read_insn(rest(front, line))
 }
 
 fn fault_of_line(line: u32, fault: LineFault) -> ListFault
@@ -187,12 +199,15 @@ fn read_blocks(alloc: Global, names: &[Named<'_>], text: &[u8]) -> Result<Blocks
     let mut number = 1;
     let mut rest = text;
     while let Some(cut) = first_line(rest) {
-        let judged = match judge(&mut spelling, names, &blocks, above, &cut) {
-            Ok(judged) => judged,
+        let front = beginning(content(&cut));
+        let read = read_rest(front, content(&cut));
+        match judge(&mut spelling, names, &blocks, above, &cut, front, &read) {
+            Ok(()) => {}
             Err(fault) => return Err(fault_of_line(number, fault)),
-        };
-        above = above_next(&judged);
-        blocks.add(alloc, names, number, judged)?;
+        }
+        let Ok(reading) = read else { unreachable!() };
+        above = above_next(front, &reading.what);
+        blocks.add(alloc, names, number, front, &reading)?;
         number += 1;
         rest = cut.rest;
     }

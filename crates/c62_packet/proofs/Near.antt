@@ -120,7 +120,7 @@ beside_enough p others rise = rw (units_until p others rise, cross_paths_until p
 
 -- ---- listing order
 
-place_small : (letter : Letter) (side : Side) → place_of letter side < 8
+pub place_small : (letter : Letter) (side : Side) → place_of letter side < 8
 place_small L A = omega arith
 place_small S A = omega arith
 place_small M A = omega arith

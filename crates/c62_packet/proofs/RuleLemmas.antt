@@ -117,9 +117,6 @@ pub record Tells {K : Type 0} (Is : K → Issue → Type 0) (test : Placed → P
   pub cycle : (p s : Placed) → test p s ≡ true → s.cycle ≡ p.cycle
   pub kind : (p s : Placed) → test p s ≡ true → (k : K) × Is k (issue_of p) × Is k (issue_of s)
 
-HasOneOfEach : {K : Type 0} → (K → Issue → Type 0) → ℕ → List Placed → Type 0
-HasOneOfEach {K} Is c xs = (k : K) → HasOneIn c (Is k) (issued xs)
-
 pub one-cons : {K : Type 0} (Is : K → Issue → Type 0) (test : Placed → Placed → Bool) → Tells Is test → (c : ℕ) (p : Placed) (xs : List Placed)
     → ((k : K) → HasOneIn c (Is k) (issued xs)) → (p.cycle ≡ c → list_any (test p) xs ≡ false) → (k : K) → HasOneIn c (Is k) (issued (p ∷ xs))
 one-cons {K} Is test tells c p xs old alone k = with_first

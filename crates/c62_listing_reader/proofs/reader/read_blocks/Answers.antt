@@ -1,10 +1,13 @@
-use Rattle.std.proofs.Common.{◌+◌, sym, ap, subst, arith, ◌∙◌, inl, inr}
+use Rattle.std.proofs.Common.{◌≡◌, ◌+◌, Result, Ok, sym, ap, subst, arith, ◌∙◌, inl, inr}
+use Rattle.std.specs.Prelude.{IfOk}
+use Rattle.c62_read.specs.declared.fault.ReadFault.{ReadFault}
+use Rattle.c62_read.specs.declared.reading.Reading.{Reading}
 use Rattle.c62_listing_reader.specs.declared.line.Above.{Above}
 use Rattle.c62_listing_reader.specs.declared.line.Above.TheVariants.{Start}
 use Rattle.c62_listing_reader.specs.Text.{lines_in}
 use Rattle.c62_listing_reader.specs.Cut.{line_cut}
 use Rattle.c62_listing_reader.specs.Said.{Drafts, no_drafts, with_said, labels_of, aim_by}
-use Rattle.c62_listing_reader.specs.Faults.{read_lines}
+use Rattle.c62_listing_reader.specs.Faults.{line_says, read_lines}
 use Rattle.c62_listing_reader.specs.Reading.{drafts_of, said_by, entries_of}
 use Rattle.c62_listing_reader.proofs.Going.{IsGoing, judged_fits, go, all-fine}
 use Rattle.c62_listing_reader.proofs.ReadLemmas.{goes_on, stops, is_done}
@@ -17,7 +20,7 @@ returns-in-Err c =
     let aim = aim_by names in
     let lines = lines_in c.loop-cut.rest.now in
     let drafts = drafts_of c.loop-cut.blocks in
-    c.fault_of_line.ensures (read_lines labels aim 1 no_drafts Start (lines_in c.args.text.now)) (elim c.in-Err.ensures [
+    c.fault_of_line.ensures (read_lines labels aim 1 no_drafts Start (lines_in c.args.text.now)) (elim c.in-Err.ensures.judged [
       | inl memory ↦ inl memory
       | inr says ↦ inr (sym c.loop-cut.invariant.lines
           ∙ stops labels aim c.loop-cut.number (line_cut c.in-Some.cut) (lines_in c.in-Some.cut.rest.now) lines drafts c.loop-cut.above c.in-Err.fault c.in-Some.ensures.found says)
@@ -26,7 +29,14 @@ returns-in-Err c =
 pub add-requires : goal.add-requires
 add-requires c =
     let labels = labels_of (entries_of c.args.names.now) in
-    let fits = judged_fits labels (drafts_of c.loop-cut.blocks) c.loop-cut.above (line_cut c.in-Some.cut) (lines_in c.in-Some.cut.rest.now) (said_by c.in-Ok.judged) c.in-Ok.ensures in
+    let drafts = drafts_of c.loop-cut.blocks in
+    let above = c.loop-cut.above in
+    let front = c.beginning-front.result in
+    let line = line_cut c.in-Some.cut in
+    let below = lines_in c.in-Some.cut.rest.now in
+    let judged = subst (λ (read : Result Reading ReadFault). IfOk read (λ reading. line_says labels drafts above line below ≡ Ok (said_by front reading)))
+    c.in-Ok-read.is c.in-Ok.ensures.judged in
+    let fits = judged_fits labels drafts above line below (said_by front c.in-Ok-read.reading) judged in
     record { unit = fits.unit; short = fits.short }
 
 pub loop-cut-preserved : goal.loop-cut-preserved
@@ -37,15 +47,18 @@ loop-cut-preserved c =
     let number = c.loop-cut.number in
     let drafts = drafts_of c.loop-cut.blocks in
     let above = c.loop-cut.above in
+    let front = c.beginning-front.result in
     let line = line_cut c.in-Some.cut in
     let below = lines_in c.in-Some.cut.rest.now in
-    let said = said_by c.in-Ok.judged in
+    let said = said_by front c.in-Ok-read.reading in
     let next = c.above_next-above.result in
-    let fits = judged_fits labels drafts above line below said c.in-Ok.ensures in
+    let judged = subst (λ (read : Result Reading ReadFault). IfOk read (λ reading. line_says labels drafts above line below ≡ Ok (said_by front reading)))
+    c.in-Ok-read.is c.in-Ok.ensures.judged in
+    let fits = judged_fits labels drafts above line below said judged in
     record {
       lines = ap (λ (d : Drafts). read_lines labels aim (number + 1) d next below) c.in_ok-add.ensures
           ∙ ap (λ (a : Above). read_lines labels aim (number + 1) (with_said aim number said drafts) a below) c.above_next-above.ensures
-          ∙ goes_on labels aim number line below (lines_in c.loop-cut.rest.now) drafts above said c.in-Some.ensures.found c.in-Ok.ensures
+          ∙ goes_on labels aim number line below (lines_in c.loop-cut.rest.now) drafts above said c.in-Some.ensures.found judged
           ∙ c.loop-cut.invariant.lines;
       going = subst (λ (d : Drafts). IsGoing d next) (sym c.in_ok-add.ensures)
           (subst (λ (a : Above). IsGoing (with_said aim number said drafts) a) (sym c.above_next-above.ensures)
