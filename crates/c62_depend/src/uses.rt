@@ -99,7 +99,6 @@ fn written(insn: &Insn, delay: u8) -> RegSet
 
 impl Uses {
     ghost use Rattle.std.specs.Prelude.{if◌then◌else◌};
-    ghost use Rattle.c62_depend.specs.Uses.{are_apart};
 
     pub fn new(insn: Insn) -> Uses
         ensures { result.insn ≡ insn }
@@ -150,12 +149,5 @@ impl Uses {
         ensures { result ≡ (later.now.branches || (self.now.accesses && later.now.accesses)) }
     {
         later.ordered[usize::from(self.accesses)]
-    }
-
-    /// Whether neither instruction reads or writes a register that the other one writes.
-    pub fn is_apart(&self, later: &Uses) -> bool
-        ensures { result ≡ are_apart self.now later.now }
-    {
-        !self.written.meets(later.used) && !later.written.meets(self.reads)
     }
 }
