@@ -20,7 +20,6 @@ use Rattle.c62_insn.proofs.InsnLemmas.{writes_delay_of}
 use Rattle.c62_depend.specs.declared.uses.Uses.{Uses}
 use Rattle.c62_depend.specs.declared.reg_set.RegSet.{RegSet}
 use Rattle.c62_depend.specs.RegSet.{reg_in, shares}
-use Rattle.c62_depend.specs.Uses.{are_apart}
 use Rattle.c62_depend.specs.Latency.{greater, read_after_write, write_after_read, write_after_write, by_registers, latency_of}
 use Rattle.c62_depend.proofs.RegSets.{shared, shares_one}
 use Rattle.c62_depend.proofs.Greatest.{IsGreatest, IsGreatest-is, IsGreatest-same, IsGreatest-greater, IsGreatest-one}
@@ -322,16 +321,34 @@ module _ (p q : Uses) where
   none_told false a b c d e f g h = rw (a, b, c, d, e, f, g, h) refl
 
   -- two instructions that are apart have no bound of registers
-  pub apart_is : (exclusive : Bool) → are_apart p q ≡ true → by_registers exclusive p.insn q.insn ≡ None
-  apart_is exclusive h =
-      let parts = and_parts (not (shares p.written q.used)) (not (shares q.written p.reads)) h in
-      let unused : shares p.written q.used ≡ false = not-true (shares p.written q.used) parts.0 in
-      let kept : shares q.written p.reads ≡ false = not-true (shares q.written p.reads) parts.1 in
+  pub apart_is : (exclusive : Bool) → shares p.written q.used ≡ false → shares q.written p.reads ≡ false → by_registers exclusive p.insn q.insn ≡ None
+  apart_is exclusive unused kept =
       sym (told_is exclusive) ∙ none_told exclusive
       (not_shared p.results q.reads (λ reg a b. shares_one p.written q.used reg (result_written p reg a) (read_used q reg b)) unused)
       (not_shared p.at_once q.reads (λ reg a b. shares_one p.written q.used reg (at_once_written p reg a) (read_used q reg b)) unused)
       (not_overwritten q.at_once (at_once_written q) kept)
       (not_overwritten q.results (result_written q) kept)
+      (not_shared p.results q.at_once (λ reg a b. shares_one p.written q.used reg (result_written p reg a) (written_used q reg (at_once_written q reg b))) unused)
+      (not_shared p.results q.results (λ reg a b. shares_one p.written q.used reg (result_written p reg a) (written_used q reg (result_written q reg b))) unused)
+      (not_shared p.at_once q.at_once (λ reg a b. shares_one p.written q.used reg (at_once_written p reg a) (written_used q reg (at_once_written q reg b))) unused)
+      (not_shared p.at_once q.results (λ reg a b. shares_one p.written q.used reg (at_once_written p reg a) (written_used q reg (result_written q reg b))) unused)
+
+  greater-none : (o : Option ℤ) → greater o None ≡ o
+  greater-none None = refl
+  greater-none (Some b) = refl
+
+  spared_told : (exclusive : Bool) → shares p.results q.reads ≡ false → shares p.at_once q.reads ≡ false
+      → shares p.results q.at_once ≡ false → shares p.results q.results ≡ false → shares p.at_once q.at_once ≡ false → shares p.at_once q.results ≡ false
+      → told exclusive p q ≡ told_spared p q
+  spared_told true a b e f g h = rw (a, b) (greater-none (told_spared p q))
+  spared_told false a b e f g h = rw (a, b, e, f, g, h) (greater-none (told_spared p q))
+
+  -- where the second one uses nothing that the first one writes, the second case alone can apply
+  pub unused_is : (exclusive : Bool) → shares p.written q.used ≡ false → by_registers exclusive p.insn q.insn ≡ told_spared p q
+  unused_is exclusive unused =
+      sym (told_is exclusive) ∙ spared_told exclusive
+      (not_shared p.results q.reads (λ reg a b. shares_one p.written q.used reg (result_written p reg a) (read_used q reg b)) unused)
+      (not_shared p.at_once q.reads (λ reg a b. shares_one p.written q.used reg (at_once_written p reg a) (read_used q reg b)) unused)
       (not_shared p.results q.at_once (λ reg a b. shares_one p.written q.used reg (result_written p reg a) (written_used q reg (at_once_written q reg b))) unused)
       (not_shared p.results q.results (λ reg a b. shares_one p.written q.used reg (result_written p reg a) (written_used q reg (result_written q reg b))) unused)
       (not_shared p.at_once q.at_once (λ reg a b. shares_one p.written q.used reg (at_once_written p reg a) (written_used q reg (at_once_written q reg b))) unused)

@@ -11,7 +11,7 @@ use Rattle.c62_depend.specs.declared.uses.Uses.{Uses}
 use Rattle.c62_depend.specs.RegSet.{shares}
 use Rattle.c62_depend.specs.Numbers.{as_bound, number_if, number_awaited, number_spared, number_after_result, number_after_at_once, number_overwritten, number_of_registers, number_of_order}
 use Rattle.c62_depend.specs.Latency.{greater, by_order, latency_of}
-use Rattle.c62_depend.proofs.Bounds.{bound_if, told_awaited, told_spared, told_after_result, told_after_at_once, told_overwritten, told, told_is}
+use Rattle.c62_depend.proofs.Bounds.{bound_if, told_awaited, told_spared, told_after_result, told_after_at_once, told_overwritten, told, told_is, unused_is}
 
 -- the bound of a number above 0
 some_number : (n : ℕ) → 0 < n → as_bound n ≡ Some (pos n -ℤ pos 6)
@@ -84,3 +84,11 @@ module _ (p q : Uses) where
   -- the number of a result that is awaited
   pub result_number : as_bound (p.delay + 7) ≡ Some (pos (p.delay + 1))
   result_number = as_bound-if true (p.delay + 7) (pos (p.delay + 1)) (omega arith) (omega (arith, ints))
+
+  -- where the second one uses nothing that the first one writes
+  pub unused_number : (n : ℕ) (exclusive disjoint : Bool) → shares p.written q.used ≡ false → n ≡ max (number_spared p q) (number_of_order disjoint p.insn q.insn)
+      → as_bound n ≡ latency_of exclusive disjoint p.insn q.insn
+  unused_number n exclusive disjoint unused e =
+      ap as_bound e
+      ∙ both _ _ _ _ spared (order_is disjoint)
+      ∙ sym (ap (λ (o : Option ℤ). greater o (by_order disjoint p.insn q.insn)) (unused_is p q exclusive unused))

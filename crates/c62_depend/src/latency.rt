@@ -182,10 +182,15 @@ fn number_between(exclusive: bool, disjoint: bool, first: &Uses, second: &Uses) 
 {
     if first.results.meets(second.awaited(exclusive)) {
         after_result(first)
-    } else if first.is_apart(second) {
-        by_order(disjoint, first, second)
-    } else {
+    } else if first.written.meets(second.used) {
         by_all(exclusive, disjoint, first, second)
+    } else if second.written.meets(first.reads) {
+        greater(
+            write_after_read(first, second),
+            by_order(disjoint, first, second),
+        )
+    } else {
+        by_order(disjoint, first, second)
     }
 }
 

@@ -1,6 +1,6 @@
 //! What an instruction reads, writes and accesses.
 
-ghost use Rattle.std.specs.Prelude.{◌≡◌, ◌≤◌, ◌&&◌, ◌||◌, ◌==◌};
+ghost use Rattle.std.specs.Prelude.{◌≡◌, ◌≤◌, ◌&&◌, ◌||◌, ◌==◌, [], ◌∷◌};
 ghost use Rattle.std.specs.List.{list_any};
 ghost use Rattle.c62_insn.specs.Takes.{same_reg};
 ghost use Rattle.c62_insn.specs.declared.register.Reg.{Reg as Register};
@@ -34,6 +34,9 @@ pub(crate) struct Uses {
     pub branches: bool,
     /// Whether it loads or stores.
     pub accesses: bool,
+    /// Whether some case asks more than registers of it behind an instruction that doesn't access memory, and behind one
+    /// that does.
+    pub ordered: [bool; 2],
     pub ghost reads_are: { (reg : Register) → reg_in reads reg ≡ reads_register insn reg },
     pub ghost at_once_are: { (reg : Register) → reg_in at_once reg ≡ writes_with insn 0 reg },
     pub ghost results_are: { (reg : Register) → reg_in results reg ≡ writes_with insn (delay_of (op_of insn)) reg },
@@ -46,6 +49,7 @@ pub(crate) struct Uses {
     pub ghost store_is: { stores ≡ is_store (op_of insn) },
     pub ghost branch_is: { branches ≡ is_branch (op_of insn) },
     pub ghost access_is: { accesses ≡ (loads || stores) },
+    pub ghost ordered_are: { ordered ≡ branches ∷ (branches || accesses) ∷ [] },
 }
 
 /// The register of the condition, where there is one.
@@ -95,7 +99,6 @@ fn written(insn: &Insn, delay: u8) -> RegSet
 
 impl Uses {
     ghost use Rattle.std.specs.Prelude.{if◌then◌else◌};
-    ghost use Rattle.c62_depend.specs.Uses.{are_apart};
 
     pub fn new(insn: Insn) -> Uses
         ensures { result.insn ≡ insn }
@@ -108,6 +111,8 @@ impl Uses {
         let written = at_once.joined(results);
         let loads = op.is_load();
         let stores = op.is_store();
+        let branches = op.is_branch();
+        let accesses = loads || stores;
         Uses {
             insn,
             reads,
@@ -119,8 +124,9 @@ impl Uses {
             delay,
             loads,
             stores,
-            branches: op.is_branch(),
-            accesses: loads || stores,
+            branches,
+            accesses,
+            ordered: [branches, branches || accesses],
         }
     }
 
@@ -142,13 +148,6 @@ impl Uses {
     pub fn is_ordered(&self, later: &Uses) -> bool
         ensures { result ≡ (later.now.branches || (self.now.accesses && later.now.accesses)) }
     {
-        later.branches || (self.accesses && later.accesses)
-    }
-
-    /// Whether neither instruction reads or writes a register that the other one writes.
-    pub fn is_apart(&self, later: &Uses) -> bool
-        ensures { result ≡ are_apart self.now later.now }
-    {
-        !self.written.meets(later.used) && !later.written.meets(self.reads)
+        later.ordered[usize::from(self.accesses)]
     }
 }
