@@ -117,6 +117,7 @@ pub(crate) fn word_len(bytes: &[u8]) -> usize
 }
 
 /// How many bytes the token has that stands first.
+#[inline(always)]
 fn token_len(bytes: &[u8]) -> usize
     requires { 0 < length bytes.now → IsTrue (begins is_solid bytes.now) }
     ensures within { result ≤ length bytes.now }
@@ -164,6 +165,7 @@ pub(crate) fn without_indent(line: &[u8]) -> &[u8]
 }
 
 /// The line from its first token on, and nothing where it has none.
+#[inline(always)]
 pub(crate) fn from_token(line: &[u8]) -> &[u8]
     ensures same { tokens result.now ≡ tokens line.now }
     ensures solid { 0 < length result.now → IsTrue (begins is_solid result.now) }
