@@ -117,7 +117,6 @@ pub(crate) fn word_len(bytes: &[u8]) -> usize
 }
 
 /// How many bytes the token has that stands first.
-#[inline(always)]
 fn token_len(bytes: &[u8]) -> usize
     requires { 0 < length bytes.now → IsTrue (begins is_solid bytes.now) }
     ensures within { result ≤ length bytes.now }
