@@ -82,6 +82,7 @@ fn letter_written(written: Option<WrittenUnit>) -> Option<Letter>
     Some(written?.unit.letter)
 }
 
+#[inline(always)]
 fn does<'a>(
     cond: Option<Cond>,
     written: Option<WrittenUnit>,
@@ -100,6 +101,7 @@ fn does<'a>(
     }
 }
 
+#[inline(always)]
 fn jumps<'a>(
     cond: Option<Cond>,
     written: Option<WrittenUnit>,
@@ -116,6 +118,7 @@ fn jumps<'a>(
 }
 
 /// What stands behind the unit.
+#[inline(always)]
 #[tactic(auto, unfolding(crate::specs::Line::behind_unit))]
 fn behind_unit<'a>(
     mnemonic: Mnemonic,
@@ -155,6 +158,7 @@ fn fits(written: Option<WrittenUnit>, mnemonic: Mnemonic) -> bool
 }
 
 /// The instruction behind the condition.
+#[inline(always)]
 #[tactic(auto, unfolding(crate::specs::Line::instruction_of))]
 fn instruction<'a>(cond: Option<Cond>, rest: Tokens<'a>) -> Result<Statement<'a>, Cause>
     ensures says { said result ≡ instruction_of cond (words_left rest.entry) }
@@ -240,6 +244,7 @@ pub(crate) fn begins_with(byte: u8, bytes: &[u8]) -> bool
 }
 
 /// What stands behind the label.
+#[inline(always)]
 #[tactic(auto, unfolding(crate::specs::Line::rest_says))]
 pub(crate) fn read_rest(rest: &[u8]) -> Result<Statement<'_>, Cause>
     ensures says { said result ≡ rest_says (tokens rest.now) }

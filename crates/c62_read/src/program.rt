@@ -151,6 +151,7 @@ impl TextReader {
         Ok(())
     }
 
+    #[inline(always)]
     #[tactic(auto, unfolding(crate::specs::Walk::with_says))]
     fn add_what(&mut self, alloc: Global, line: u32, what: Statement<'_>) -> Result<(), AllocError>
         requires { IsTrue (names_label what) }

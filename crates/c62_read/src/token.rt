@@ -164,6 +164,7 @@ pub(crate) fn without_indent(line: &[u8]) -> &[u8]
 }
 
 /// The line from its first token on, and nothing where it has none.
+#[inline(always)]
 pub(crate) fn from_token(line: &[u8]) -> &[u8]
     ensures same { tokens result.now ≡ tokens line.now }
     ensures solid { 0 < length result.now → IsTrue (begins is_solid result.now) }
