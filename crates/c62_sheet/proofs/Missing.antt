@@ -18,7 +18,6 @@ use Rattle.c62_depend.specs.Links.{linked, needs, followers}
 use Rattle.c62_depend.specs.Plan.{IsShort}
 use Rattle.c62_depend.proofs.Latencies.{latency-is, latency_late}
 use Rattle.c62_depend.proofs.Plans.{short_is}
-use Rattle.c62_depend.proofs.Ranges.{few_links}
 use Rattle.c62_depend.proofs.Rules.{needs_are, followers_are}
 use Rattle.c62_sheet.specs.declared.entry.Spot.{Spot}
 use Rattle.c62_sheet.specs.Lawful.{Spots, spot_at, placed, withdrawn, IsAt}
@@ -150,6 +149,15 @@ lacking-withdrawn block set i j s lt is =
     let step = lacking-placed block (withdrawn set i) i j s out (spot_at-withdrawn_same set i lt) in
     let back = ap (λ (x : Spots). lacking block x j) (placed-withdrawn set i s is) in
     omega (arith, step, back)
+
+-- at most one dependence a number
+few_links : (o : ℕ → Option ℤ) (a n : ℕ) → length (flat_map (λ j. linked j (o j)) (range_with_len a n)) ≤ n
+few_links o a zero = omega arith
+few_links o a (suc n) = one_more (o a) (flat_map (λ j. linked j (o j)) (range_with_len (a + 1) n)) (few_links o (a + 1) n)
+  where
+    one_more : (p : Option ℤ) (rest : List Link) → length rest ≤ n → length (linked a p ++ rest) ≤ suc n
+    one_more None rest few = omega arith
+    one_more (Some l) rest few = omega arith
 
 pub lacking-few : (block : List Insn) (set : Spots) (j : ℕ) → lacking block set j ≤ j
 unfolding needs
