@@ -2,7 +2,7 @@
 
 use crate::plan::Plan;
 use c62_insn::{Letter, Side, Unit};
-use c62_read::read_program;
+use c62_read::{Block, read_program};
 use std::alloc::Global;
 use std::process::Abort;
 use std::test::Fail;
@@ -91,6 +91,29 @@ fn plan_of(rt: &impl Abort, alloc: Global, text: &str) -> Result<Plan, Fail> {
     let mut blocks = read_program(alloc, text.as_bytes())?.into_blocks();
     assert_eq!(rt; blocks.len(), 1, "{text}");
     let block = blocks.pop().expect(rt, "a block");
+    match Plan::new(alloc, block) {
+        Ok(plan) => Ok(plan),
+        Err((_, error)) => Err(error.into()),
+    }
+}
+
+/// The only block of a text, read again where memory is refused.
+fn block_again(rt: &impl Abort, alloc: Global, text: &str) -> Result<Block, Fail> {
+    let program = match read_program(alloc, text.as_bytes()) {
+        Ok(program) => program,
+        Err(_) => read_program(alloc, text.as_bytes())?,
+    };
+    Ok(program.into_blocks().pop().expect(rt, "a block"))
+}
+
+/// The plan of a block, made again from the block that comes back where memory is refused.
+fn plan_again(rt: &impl Abort, alloc: Global, block: Block) -> Result<Plan, Fail> {
+    let count = block.insns().len();
+    let block = match Plan::new(alloc, block) {
+        Ok(plan) => return Ok(plan),
+        Err((block, _)) => block,
+    };
+    assert_eq!(rt; block.insns().len(), count);
     match Plan::new(alloc, block) {
         Ok(plan) => Ok(plan),
         Err((_, error)) => Err(error.into()),
@@ -225,5 +248,22 @@ fn a_full_block(rt: HostRuntime) -> Result<(), Fail> {
     let copy = plan.copy(rt.alloc())?;
     assert!(rt; copy.same(&plan));
     assert_eq!(rt; copy.needs(255).len(), 255);
+    Ok(())
+}
+
+#[test]
+fn where_memory_is_refused(rt: HostRuntime) -> Result<(), Fail> {
+    let block = block_again(&rt, rt.alloc(), "LDW *A4,A5\nADD A5,A5,A6")?;
+    let plan = plan_again(&rt, rt.alloc(), block)?;
+    assert_eq!(rt; plan.len(), 2);
+    assert_eq!(rt; plan.latency(0, 1), Some(5));
+    let copy = match plan.copy(rt.alloc()) {
+        Ok(copy) => copy,
+        Err(_) => plan.copy(rt.alloc())?,
+    };
+    assert!(rt; copy.same(&plan));
+    assert_eq!(rt; copy.len(), 2);
+    assert_eq!(rt; copy.height(0), 5);
+    assert_eq!(rt; copy.needs(1).len(), 1);
     Ok(())
 }
