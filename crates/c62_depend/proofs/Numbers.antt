@@ -14,7 +14,7 @@ use Rattle.c62_depend.specs.Latency.{greater, by_order, latency_of}
 use Rattle.c62_depend.proofs.Bounds.{bound_if, told_awaited, told_spared, told_after_result, told_after_at_once, told_overwritten, told, told_is, unused_is}
 
 -- the bound of a number above 0
-some_number : (n : ℕ) → 0 < n → as_bound n ≡ Some (pos n -ℤ pos 6)
+pub some_number : (n : ℕ) → 0 < n → as_bound n ≡ Some (pos n -ℤ pos 6)
 some_number n some = ap (λ (t : Bool). cond t None (Some (pos n -ℤ pos 6))) (ne_eqb n 0 (λ e. (let same : n ≡ 0 = e in omega arith)))
 
 -- the greater number is that of the greater bound

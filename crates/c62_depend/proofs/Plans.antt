@@ -1,7 +1,8 @@
 -- What always holds of a plan.
 use Rattle.std.proofs.Common.{◌≡◌, ℕ, zero, suc, ◌+◌, ◌*◌, ◌-◌, ◌<◌, ◌≤◌, ℤ, Bool, true, false, not, List, [], ◌∷◌, length, map, Option, Some, None, refl, sym, ap, ◌∙◌, subst, arith, inl, inr, ◌⊎◌}
-use Rattle.std.specs.Prelude.{◌&&◌, slice_get, nat_le, IsTrue}
+use Rattle.std.specs.Prelude.{◌&&◌, slice_get, nat_le, IsTrue, pos, ◌-ℤ◌}
 use Rattle.std.proofs.lemmas.Bool.{and_parts, both_ways, leb-true, not-true}
+use Rattle.std.proofs.lemmas.Int.{ints}
 use Rattle.std.proofs.lemmas.List.{length-map}
 use Rattle.std.proofs.lemmas.Option.{none-some, same_Some, slice_get_within, slice_get_cases}
 use Rattle.c62_insn.specs.declared.register.Side.{Side}
@@ -23,11 +24,13 @@ use Rattle.c62_insn.proofs.Registers.{same_side-is, same_side-refl, same_unit-re
 use Rattle.c62_read.specs.declared.block.SerialInsn.{SerialInsn}
 use Rattle.c62_read.specs.Block.{branch_last, operations, is_block}
 use Rattle.c62_depend.specs.Latency.{latency}
+use Rattle.c62_depend.specs.Numbers.{as_bound}
 use Rattle.c62_depend.specs.Height.{height}
 use Rattle.c62_depend.specs.Side.{branch_side, side_or, side_in, suits, side_at, suits_at, side, stands_on}
 use Rattle.c62_depend.specs.Plan.{IsShort, IsPlan, unnumbered}
 use Rattle.c62_depend.proofs.Latencies.{latency-is, bounds-small}
 use Rattle.c62_depend.proofs.Heights.{height-small}
+use Rattle.c62_depend.proofs.Numbers.{some_number}
 
 short_from : (block : List Insn) (i j : ℕ) (cycles : ℤ) → IsGreatestBound block i j cycles → IsShort block i j cycles
 short_from block i j cycles g =
@@ -36,6 +39,13 @@ short_from block i j cycles g =
 
 pub short_is : (block : List Insn) (i j : ℕ) (cycles : ℤ) → latency block i j ≡ Some cycles → IsShort block i j cycles
 short_is block i j cycles e = short_from block i j cycles (subst (IsLatency block i j) e (latency-is block i j))
+
+-- a latency as a number is small
+pub number_small : (block : List Insn) (i j n : ℕ) → as_bound n ≡ latency block i j → n ≤ 11
+number_small block i j zero e = omega arith
+number_small block i j (suc n) e =
+    let most = (short_is block i j (pos (suc n) -ℤ pos 6) (sym e ∙ some_number (suc n) (omega arith))).most in
+    omega (arith, ints, most)
 
 -- ---- units
 

@@ -143,7 +143,7 @@ fn by_cases_of_order(disjoint: bool, first: &Uses, second: &Uses) -> u8
     )
 }
 
-/// The greatest bound of the other cases, of which none applies without a branch or two accesses.
+/// The greatest bound of the other cases, of which none applies without a branch, or two accesses of which one stores.
 #[inline(always)]
 fn by_order(disjoint: bool, first: &Uses, second: &Uses) -> u8
     ensures { result ≡ number_of_order disjoint first.now.insn second.now.insn }

@@ -16,9 +16,9 @@ use std::alloc::{AllocError, Global};
 #[derive(Clone, Copy, Default, PartialEq, Eq, Debug)]
 pub struct Link {
     /// The number of the other instruction.
-    pub number: u16,
+    pub number: u8,
     /// The least number of cycles from the earlier instruction to the later one. It may be negative.
-    pub latency: i32,
+    pub latency: i8,
 }
 
 /// The dependences of each instruction, those of one behind those of the one before it.
@@ -98,14 +98,18 @@ fn pair_at(i: usize, j: usize) -> usize
 
 /// Adds a dependence to those gathered, where there is one, and returns how many they are then.
 #[inline(always)]
-fn add(gathered: &mut Gathered, count: usize, number: u16, latency: u8) -> usize
-    requires { count < 256 }
+fn add(gathered: &mut Gathered, count: usize, number: u8, latency: u8) -> usize
+    requires room { count < 256 }
+    requires small { latency ≤ 11 }
     ensures added { take result gathered.new ≡ take count gathered.old ++ linked number (as_bound latency) }
     ensures one { result ≤ count + 1 }
 {
     match as_bound(latency) {
         Some(latency) => {
-            gathered[count] = Link { number, latency };
+            gathered[count] = Link {
+                number,
+                latency: latency as i8,
+            };
             count + 1
         }
         None => count,
@@ -125,7 +129,7 @@ fn gather_followers(gathered: &mut Gathered, row: &mut Row, uses: &[Uses], i: us
     for j in i + 1..uses.len() {
         let latency = latency_number(uses, &first, i, j);
         row[j] = latency;
-        count = add(gathered, count, j as u16, latency);
+        count = add(gathered, count, j as u8, latency);
     }
     count
 }
@@ -140,7 +144,7 @@ fn gather_needs(gathered: &mut Gathered, pairs: &[u8], uses: &[Uses], j: usize) 
 {
     let mut count = 0;
     for i in 0..j {
-        count = add(gathered, count, i as u16, pairs[pair_at(i, j)]);
+        count = add(gathered, count, i as u8, pairs[pair_at(i, j)]);
     }
     count
 }

@@ -1,6 +1,6 @@
 //! What an instruction reads, writes and accesses.
 
-ghost use Rattle.std.specs.Prelude.{◌≡◌, ◌≤◌, ◌&&◌, ◌||◌, ◌==◌, [], ◌∷◌};
+ghost use Rattle.std.specs.Prelude.{◌≡◌, ◌≤◌, ◌&&◌, ◌||◌, ◌==◌, [], ◌∷◌, if◌then◌else◌};
 ghost use Rattle.std.specs.List.{list_any};
 ghost use Rattle.c62_insn.specs.Takes.{same_reg};
 ghost use Rattle.c62_insn.specs.declared.register.Reg.{Reg as Register};
@@ -32,11 +32,11 @@ pub(crate) struct Uses {
     pub loads: bool,
     pub stores: bool,
     pub branches: bool,
-    /// Whether it loads or stores.
-    pub accesses: bool,
-    /// Whether some case asks more than registers of it behind an instruction that doesn't access memory, and behind one
-    /// that does.
-    pub ordered: [bool; 2],
+    /// Whether it accesses memory: 0 where it doesn't, 1 where it loads, 2 where it stores.
+    pub access: u8,
+    /// Whether some case asks more than registers of it: behind an instruction that doesn't access memory, behind a load,
+    /// and behind a store.
+    pub ordered: [bool; 3],
     pub ghost reads_are: { (reg : Register) → reg_in reads reg ≡ reads_register insn reg },
     pub ghost at_once_are: { (reg : Register) → reg_in at_once reg ≡ writes_with insn 0 reg },
     pub ghost results_are: { (reg : Register) → reg_in results reg ≡ writes_with insn (delay_of (op_of insn)) reg },
@@ -48,8 +48,8 @@ pub(crate) struct Uses {
     pub ghost load_is: { loads ≡ is_load (op_of insn) },
     pub ghost store_is: { stores ≡ is_store (op_of insn) },
     pub ghost branch_is: { branches ≡ is_branch (op_of insn) },
-    pub ghost access_is: { accesses ≡ (loads || stores) },
-    pub ghost ordered_are: { ordered ≡ branches ∷ (branches || accesses) ∷ [] },
+    pub ghost access_is: { access ≡ (if stores then 2 else (if loads then 1 else 0)) },
+    pub ghost ordered_are: { ordered ≡ branches ∷ (branches || stores) ∷ (branches || (loads || stores)) ∷ [] },
 }
 
 /// The register of the condition, where there is one.
@@ -98,7 +98,7 @@ fn written(insn: &Insn, delay: u8) -> RegSet
 }
 
 impl Uses {
-    ghost use Rattle.std.specs.Prelude.{if◌then◌else◌};
+    ghost use Rattle.c62_depend.specs.Uses.{is_ordered};
 
     pub fn new(insn: Insn) -> Uses
         ensures { result.insn ≡ insn }
@@ -112,7 +112,13 @@ impl Uses {
         let loads = op.is_load();
         let stores = op.is_store();
         let branches = op.is_branch();
-        let accesses = loads || stores;
+        let access = if stores {
+            2
+        } else if loads {
+            1
+        } else {
+            0
+        };
         Uses {
             insn,
             reads,
@@ -125,8 +131,8 @@ impl Uses {
             loads,
             stores,
             branches,
-            accesses,
-            ordered: [branches, branches || accesses],
+            access,
+            ordered: [branches, branches || stores, branches || (loads || stores)],
         }
     }
 
@@ -146,8 +152,8 @@ impl Uses {
     /// Whether some case asks the two for more than registers.
     #[inline(always)]
     pub fn is_ordered(&self, later: &Uses) -> bool
-        ensures { result ≡ (later.now.branches || (self.now.accesses && later.now.accesses)) }
+        ensures { result ≡ is_ordered self.now later.now }
     {
-        later.ordered[usize::from(self.accesses)]
+        later.ordered[usize::from(self.access)]
     }
 }

@@ -32,7 +32,7 @@ fn bound_by(spots: &[Option<Spot>], link: Link) -> u16
 {
     match spots[usize::from(link.number)] {
         None => 0,
-        Some(spot) => first_after(spot.cycle, link.latency),
+        Some(spot) => first_after(spot.cycle, i32::from(link.latency)),
     }
 }
 

@@ -7,7 +7,11 @@ use Rattle.c62_depend.specs.Latency.{latency}
 use Rattle.c62_depend.specs.Links.{linked, followers}
 use Rattle.c62_depend.proofs.Ranges.{pieces_more}
 use Rattle.c62_depend.proofs.Lists.{row_more}
+use Rattle.c62_depend.proofs.Plans.{number_small}
 use Rattle.c62_depend.proofs.links.gather_followers.Goals as goal
+
+pub add-count-requires-clause-small : goal.add-count-requires-clause-small
+add-count-requires-clause-small c = number_small (insns_in c.args.uses.now) c.args.i c.loop-j.j c.latency_number-latency.result c.latency_number-latency.ensures
 
 pub loop-j-preserved : goal.loop-j-preserved
 loop-j-preserved c =

@@ -7,7 +7,16 @@ use Rattle.c62_depend.specs.Latency.{latency}
 use Rattle.c62_depend.specs.Links.{linked, needs}
 use Rattle.c62_depend.proofs.Ranges.{pieces_more}
 use Rattle.c62_depend.proofs.Lists.{pair_is}
+use Rattle.c62_depend.proofs.Plans.{number_small}
 use Rattle.c62_depend.proofs.links.gather_needs.Goals as goal
+
+pub add-count-requires-clause-small : goal.add-count-requires-clause-small
+add-count-requires-clause-small c =
+    let block = insns_in c.args.uses.now in
+    let all : length block ≡ length c.args.uses.now = length-map c.args.uses.now (λ (one : Uses). one.insn) in
+    let within = c.requires.within in
+    number_small block c.loop-i.i c.args.j _
+    (pair_is block (length c.args.uses.now) c.loop-i.i c.args.j c.pair_at.result c.args.pairs.now c.requires.pairs (omega arith) (omega arith) (omega arith) c.pair_at.ensures)
 
 pub loop-i-preserved : goal.loop-i-preserved
 loop-i-preserved c =
