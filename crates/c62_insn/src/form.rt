@@ -347,17 +347,29 @@ impl Pattern {
     }
 }
 
+impl Form {
+    ghost use Rattle.std.specs.Prelude.{◌&&◌};
+    ghost use Rattle.c62_insn.specs.Takes.{same_letter, holds_constants, registers_fit};
+
+    /// Whether `unit` takes these operands by the form. The letter is asked first, which tells most units apart.
+    #[inline(always)]
+    fn is_taken(&self, operands: Operands, unit: Unit) -> bool
+        ensures { result ≡ (holds_constants self.now.pattern operands && same_letter self.now.letter unit.letter && registers_fit self.now.pattern unit.side operands) }
+    {
+        if self.letter != unit.letter {
+            return false;
+        }
+        self.pattern.holds_constants(operands) && self.pattern.registers_fit(unit.side, operands)
+    }
+}
+
 ghost use Rattle.c62_insn.specs.Takes.{takes};
 
 /// Whether `unit` takes these operands of `op`.
 pub(crate) fn unit_takes(op: Op, operands: Operands, unit: Unit) -> bool
     ensures { result ≡ takes op operands unit }
 {
-    forms(op).iter().any(|form| {
-        form.pattern.holds_constants(operands)
-            && form.letter == unit.letter
-            && form.pattern.registers_fit(unit.side, operands)
-    })
+    forms(op).iter().any(|form| form.is_taken(operands, unit))
 }
 
 ghost use Rattle.c62_insn.specs.Units.{unit_in};
