@@ -5,3 +5,4 @@ pub mod Broken
 pub mod Near
 pub mod OneFault
 pub mod ReadLemmas
+pub mod TakenLemmas

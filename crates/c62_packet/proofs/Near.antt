@@ -25,7 +25,7 @@ use Rattle.c62_packet.specs.Packed.{issue_of, issued, listing_place, IsInListing
 use Rattle.c62_packet.specs.Clash.{shares_unit, shares_side, both_cross, shares_cross_path, same_path, shares_data_path, reads_beside, is_over_read, lands, broken_by, broken_beside}
 use Rattle.c62_packet.proofs.RuleLemmas.{lands-late}
 
-abbrev IsLater : ℕ → Placed → Type 0
+abbrev pub IsLater : ℕ → Placed → Type 0
 IsLater cycle q = cycle < q.cycle
 
 -- those that are issued until a cycle stand first, and the others are issued later
@@ -84,15 +84,15 @@ landings_until reg cycle others rise = any_until (lands reg cycle) cycle others 
 
 -- ---- reads
 
-far_read : (p q : Placed) (reg : Reg) → IsLater p.cycle q → reads_in p.cycle reg (Some (issue_of q)) ≡ 0
-far_read p q reg far = rw (not_same q.cycle p.cycle (λ e. omega (arith, far, e))) refl
+far_read : (cycle : ℕ) (q : Placed) (reg : Reg) → IsLater cycle q → reads_in cycle reg (Some (issue_of q)) ≡ 0
+far_read cycle q reg far = rw (not_same q.cycle cycle (λ e. omega (arith, far, e))) refl
 
-far_reads : (p : Placed) (reg : Reg) (far : List Placed) → All (IsLater p.cycle) far → sum_by (reads_in p.cycle reg) (issued far) ≡ 0
-far_reads p reg [] are = refl
-far_reads p reg (q ∷ far) are =
-    let here : reads_in p.cycle reg (Some (issue_of q)) ≡ 0 = far_read p q reg (are 0 q (omega arith)) in
-    let rest : sum_by (reads_in p.cycle reg) (issued far) ≡ 0 = far_reads p reg far (All-tail (IsLater p.cycle) q far are) in
-    let split = sum_by-cons (reads_in p.cycle reg) (Some (issue_of q)) (issued far) in
+pub far_reads : (cycle : ℕ) (reg : Reg) (far : List Placed) → All (IsLater cycle) far → sum_by (reads_in cycle reg) (issued far) ≡ 0
+far_reads cycle reg [] are = refl
+far_reads cycle reg (q ∷ far) are =
+    let here : reads_in cycle reg (Some (issue_of q)) ≡ 0 = far_read cycle q reg (are 0 q (omega arith)) in
+    let rest : sum_by (reads_in cycle reg) (issued far) ≡ 0 = far_reads cycle reg far (All-tail (IsLater cycle) q far are) in
+    let split = sum_by-cons (reads_in cycle reg) (Some (issue_of q)) (issued far) in
     omega (arith, here, rest, split)
 
 near_reads : (p : Placed) (near far : List Placed) (reg : Reg) → All (IsLater p.cycle) far → reads_beside p near reg ≡ reads_beside p (near ++ far) reg
@@ -100,7 +100,7 @@ near_reads p near far reg are =
     let parts = map-append (λ (q : Placed). Some (issue_of q)) near far in
     let sums : sum_by (reads_in p.cycle reg) (issued (near ++ far)) ≡ sum_by (reads_in p.cycle reg) (issued near) + sum_by (reads_in p.cycle reg) (issued far)
     = ap (sum_by (reads_in p.cycle reg)) parts ∙ sum_by-append (reads_in p.cycle reg) (issued near) (issued far) in
-    let none : sum_by (reads_in p.cycle reg) (issued far) ≡ 0 = far_reads p reg far are in
+    let none : sum_by (reads_in p.cycle reg) (issued far) ≡ 0 = far_reads p.cycle reg far are in
     omega (arith, sums, none)
 
 any_same : {X : Type 0} (f g : X → Bool) (xs : List X) → ((x : X) → f x ≡ g x) → list_any f xs ≡ list_any g xs

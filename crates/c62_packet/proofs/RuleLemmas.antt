@@ -196,7 +196,7 @@ tells_data_path = record {
 
 -- ---- the fourth rule: a sum of reads that the instruction adds to
 
-reads_here : (c : ℕ) (reg : Reg) (p : Placed) → p.cycle ≡ c → reads_in c reg (Some (issue_of p)) ≡ reads_count reg p.insn
+pub reads_here : (c : ℕ) (reg : Reg) (p : Placed) → p.cycle ≡ c → reads_in c reg (Some (issue_of p)) ≡ reads_count reg p.insn
 reads_here c reg p e = rw (same_number p.cycle c e) refl
 
 reads_elsewhere : (c : ℕ) (reg : Reg) (p : Placed) → (p.cycle ≡ c → ⊥) → reads_in c reg (Some (issue_of p)) ≡ 0

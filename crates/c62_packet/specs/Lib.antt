@@ -3,3 +3,5 @@ pub mod Rules
 pub mod Fault
 pub mod Clash
 pub mod Packets
+pub mod Taken
+pub mod Covers

@@ -8,6 +8,7 @@ mod length;
 mod packets;
 mod placed;
 mod rules;
+mod taken;
 
 pub use block::PacketBlock;
 pub use fault::{BlockFault, PacketRule};

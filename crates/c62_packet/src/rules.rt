@@ -1,6 +1,6 @@
 //! The first packet rule that placed instructions break.
 
-ghost use Rattle.std.specs.Prelude.{◌≡◌, ◌↔◌, ◌+◌, ◌<◌, ◌≤◌, All, length, nat_le, take_while, Some, MatchOption};
+ghost use Rattle.std.specs.Prelude.{◌≡◌, ◌↔◌, ◌+◌, ◌<◌, ◌≤◌, All, length, nat_le, take_while, Some, None, IsTrue, MatchOption};
 ghost use Rattle.std.specs.List.{list_any};
 ghost use Rattle.std.specs.List.Sorted.{IsNonDecreasingBy};
 ghost use Rattle.c62_insn.specs.PacketRules.{reads_count, reads_in, KeepsPacketRules};
@@ -10,6 +10,7 @@ ghost use Rattle.c62_packet.specs.Clash.{shares_unit, crosses, shares_side, both
 
 use crate::fault::PacketRule;
 use crate::placed::Placed;
+use crate::taken::Taken;
 use c62_insn::{Reg, Side};
 
 /// Those of the instructions, whose cycles rise, that are issued in this cycle or before it.
@@ -275,6 +276,22 @@ fn earlier(
     }
 }
 
+/// Whether each instruction takes units, paths, reads and landings that those behind it leave, so that none breaks a rule.
+fn are_apart(placed: &[Placed]) -> bool
+    ensures { IsTrue result → broken placed.now ≡ None }
+{
+    let mut taken = Taken::new();
+    let mut at = placed.len();
+    while at > 0 {
+        at -= 1;
+        match taken.with(&placed[at]) {
+            Some(more) => taken = more,
+            None => return false,
+        }
+    }
+    true
+}
+
 /// The least cycle in which a packet rule is broken, and there the first rule.
 pub fn first_broken(placed: &[Placed]) -> Option<(u16, PacketRule)>
     requires few { length placed.now ≤ 256 }
@@ -282,6 +299,9 @@ pub fn first_broken(placed: &[Placed]) -> Option<(u16, PacketRule)>
     requires in_order { IsInListingOrder placed.now }
     ensures { MatchOption result (KeepsPacketRules (issued placed.now)) (λ found. IsFirstBroken found.0 found.1 placed.now) }
 {
+    if are_apart(placed) {
+        return None;
+    }
     let mut found = None;
     let mut at = placed.len();
     while at > 0 {

@@ -1,4 +1,4 @@
-use Rattle.std.proofs.Common.{arith, ◌≡◌, ℕ, ◌+◌, ◌-◌, ◌<◌, ◌∙◌, List, length, drop, sym, ap, subst}
+use Rattle.std.proofs.Common.{arith, ◌≡◌, ℕ, ◌+◌, ◌-◌, ◌<◌, ◌∙◌, List, None, length, drop, sym, ap, subst}
 use Rattle.std.specs.List.Sorted.{IsNonDecreasingBy}
 use Rattle.std.proofs.lemmas.List.{take_rest}
 use Rattle.std.proofs.lemmas.List.Sorted.{IsNonDecreasingBy-drop}
@@ -32,3 +32,6 @@ loop-at-preserved c =
       omega (arith, c.loop-at.invariant.0),
       c.earlier-found.ensures ∙ broken-step placed at p c.loop-at.found c.broken_beside.result within c.index-placed-at.is so_far here,
     )
+
+pub returns-then-are_apart : goal.returns-then-are_apart
+returns-then-are_apart c = broken-first c.args.placed.now None (sym (c.are_apart.ensures c.if-are_apart.true))

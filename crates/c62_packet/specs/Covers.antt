@@ -1,0 +1,23 @@
+-- What instructions take that break no packet rule.
+use Rattle.std.specs.Prelude.{◌≡◌, ℕ, ◌+◌, ◌<◌, ◌≤◌, true, List, All, sum_by, Some, None}
+use Rattle.c62_insn.specs.declared.register.Side.{Side}
+use Rattle.c62_insn.specs.declared.register.Reg.{Reg}
+use Rattle.c62_insn.specs.Units.{index_of}
+use Rattle.c62_insn.specs.Shape.{data_path_of}
+use Rattle.c62_insn.specs.Insn.{operands_of, register_writes}
+use Rattle.c62_insn.specs.PacketRules.{reads_in}
+use Rattle.c62_packet.specs.declared.placed.Placed.{Placed}
+use Rattle.c62_packet.specs.declared.taken.Taken.{Taken}
+use Rattle.c62_packet.specs.Packed.{issued}
+use Rattle.c62_packet.specs.Clash.{crosses, broken}
+use Rattle.c62_packet.specs.Taken.{number_in, cross_place, path_place, most_reads, landed}
+
+-- Instructions that break no rule take at most this: in its cycle, before which none of them is issued, and from it on.
+pub record Covers (taken : Taken) (placed : List Placed) : Type 0 where
+  pub later : All (λ q. taken.cycle ≤ q.cycle) placed
+  pub units : All (λ q. q.cycle ≡ taken.cycle → number_in taken.places.bits (index_of q.unit) ≡ true) placed
+  pub cross_paths : All (λ q. q.cycle ≡ taken.cycle → crosses q ≡ true → number_in taken.places.bits (cross_place q.unit.side) ≡ true) placed
+  pub data_paths : All (λ q. (side : Side) → q.cycle ≡ taken.cycle → data_path_of (operands_of q.insn) ≡ Some side → number_in taken.places.bits (path_place side) ≡ true) placed
+  pub reads : (reg : Reg) → sum_by (reads_in taken.cycle reg) (issued placed) ≤ most_reads taken.reads.regs.bits taken.reads.again reg
+  pub landings : All (λ q. All (λ write. (k : ℕ) → k < 5 → q.cycle + write.1 ≡ taken.cycle + k → landed taken.landings.cycles k write.0 ≡ true) (register_writes q.insn)) placed
+  pub rules : broken placed ≡ None

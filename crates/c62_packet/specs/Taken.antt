@@ -1,0 +1,68 @@
+-- What placed instructions take, where each takes what the others leave.
+use Rattle.std.specs.Prelude.{◌≡◌, ℕ, ◌+◌, ◌-◌, ◌≤◌, Bool, true, false, ◌==◌, nat_lt, if◌then◌else◌, List, All, count_by, slice_index, Some}
+use Rattle.std.specs.Int.{bit_at}
+use Rattle.c62_insn.specs.declared.register.Side.{Side}
+use Rattle.c62_insn.specs.declared.register.Side.TheVariants.{A, B}
+use Rattle.c62_insn.specs.declared.register.Reg.{Reg}
+use Rattle.c62_insn.specs.Register.{register_index}
+use Rattle.c62_insn.specs.Takes.{same_reg}
+use Rattle.c62_insn.specs.Shape.{data_path_of}
+use Rattle.c62_insn.specs.Insn.{operands_of}
+use Rattle.c62_packet.specs.declared.placed.Placed.{Placed}
+use Rattle.c62_packet.specs.Clash.{crosses}
+
+abbrev pub number_in : ℕ → ℕ → Bool
+number_in bits number = bit_at bits number == 1
+
+-- a number more, which was not there
+pub record AddsNumber (old new number : ℕ) : Type 0 where
+  pub free : number_in old number ≡ false
+  pub added : number_in new number ≡ true
+  pub kept : (other : ℕ) → number_in old other ≡ true → number_in new other ≡ true
+
+abbrev pub cross_place : Side → ℕ
+cross_place A = 8
+cross_place B = 9
+
+abbrev pub path_place : Side → ℕ
+path_place A = 10
+path_place B = 11
+
+-- the cross path of an instruction that uses one, which no other used
+pub record AddsCrossPath (old new : ℕ) (p : Placed) : Type 0 where
+  pub free : crosses p ≡ true → number_in old (cross_place p.unit.side) ≡ false
+  pub added : crosses p ≡ true → number_in new (cross_place p.unit.side) ≡ true
+  pub kept : (other : ℕ) → number_in old other ≡ true → number_in new other ≡ true
+
+-- the data path of an instruction that uses one, which no other used
+pub record AddsDataPath (old new : ℕ) (p : Placed) : Type 0 where
+  pub free : (side : Side) → data_path_of (operands_of p.insn) ≡ Some side → number_in old (path_place side) ≡ false
+  pub added : (side : Side) → data_path_of (operands_of p.insn) ≡ Some side → number_in new (path_place side) ≡ true
+  pub kept : (other : ℕ) → number_in old other ≡ true → number_in new other ≡ true
+
+-- how often at most a register is read, where these are read, and so many reads are of one that another reads too
+abbrev pub most_reads : ℕ → ℕ → Reg → ℕ
+most_reads regs again reg = if number_in regs (register_index reg) then 1 + again else 0
+
+-- reads more
+abbrev pub AddsReads : ℕ → ℕ → ℕ → ℕ → List Reg → Type 0
+AddsReads old again new more reads = (reg : Reg) → most_reads old again reg + count_by (λ read. same_reg read reg) reads ≤ most_reads new more reg
+
+-- a write lands in this register so many cycles behind the first
+abbrev pub landed : List ℕ → ℕ → Reg → Bool
+landed cycles k reg = number_in (slice_index cycles k) (register_index reg)
+
+-- the registers of a cycle, counted from an earlier first
+abbrev pub shifted : List ℕ → ℕ → ℕ → ℕ
+shifted cycles gap k = if nat_lt k gap then 0 else slice_index cycles (k - gap)
+
+-- a landing more, where there was none
+pub record AddsLanding (old new : List ℕ) (write : Reg × ℕ) : Type 0 where
+  pub free : landed old write.1 write.0 ≡ false
+  pub added : landed new write.1 write.0 ≡ true
+  pub kept : (k : ℕ) (reg : Reg) → landed old k reg ≡ true → landed new k reg ≡ true
+
+pub record AddsLandings (old new : List ℕ) (writes : List (Reg × ℕ)) : Type 0 where
+  pub free : All (λ write. landed old write.1 write.0 ≡ false) writes
+  pub added : All (λ write. landed new write.1 write.0 ≡ true) writes
+  pub kept : (k : ℕ) (reg : Reg) → landed old k reg ≡ true → landed new k reg ≡ true
