@@ -206,6 +206,34 @@ beside_test false false false false h = absurd cc
 beside_start : (bytes : List ℕ) → Beside ≡ front_of bytes → starts_with nat_eq bytes (codes "|| ") ≡ true
 beside_start bytes h = beside_test (is_empty bytes) (starts_with nat_eq bytes (codes "   ")) (starts_with nat_eq bytes (codes "|| ")) (is_label_line bytes) h
 
+-- a line is allowed where its rest is read
+rest_allowed : (rest : List ℕ) (label : Option Name) (says : Says) → line_of rest ≡ Ok (label, says) → list_all is_allowed rest ≡ true
+unfolding line_of head_of
+rest_allowed rest label says read = by_test (list_all is_allowed rest) refl
+  where
+    by_test : (b : Bool) → list_all is_allowed rest ≡ b → b ≡ true
+    by_test true is = refl
+    by_test false is = absurd (let refused = rw is at read in cc)
+
+beside_allowed : (bytes : List ℕ) → starts_with nat_eq bytes (codes "|| ") ≡ true → list_all is_allowed (rest_of Beside bytes) ≡ true → list_all is_allowed bytes ≡ true
+beside_allowed [] h rest = absurd (false≢true h)
+beside_allowed (a ∷ []) h rest = absurd (false≢true (sym (and_right (nat_eq 124 a) false refl) ∙ h))
+beside_allowed (a ∷ b ∷ bytes) h rest =
+    let one = and_parts (nat_eq 124 a) _ h in
+    let two = and_parts (nat_eq 124 b) _ one.1 in
+    rw (sym (eqb-true 124 a one.0), sym (eqb-true 124 b two.0)) rest
+
+front_allowed : (front : Front) (bytes : List ℕ) → front ≡ front_of bytes → list_all is_allowed (rest_of front bytes) ≡ true → list_all is_allowed bytes ≡ true
+front_allowed Beside bytes is rest = beside_allowed bytes (beside_start bytes is) rest
+front_allowed Empty bytes is rest = rest
+front_allowed First bytes is rest = rest
+front_allowed Label bytes is rest = rest
+front_allowed Stray bytes is rest = rest
+
+pub line_allowed : (front : Front) (bytes : List ℕ) (label : Option Name) (says : Says) → front ≡ front_of bytes → line_of (rest_of front bytes) ≡ Ok (label, says)
+    → list_all is_allowed bytes ≡ true
+line_allowed front bytes label says is read = front_allowed front bytes is (rest_allowed (rest_of front bytes) label says read)
+
 pub empty_place : place_of [] ≡ None
 unfolding place_of label_front
 empty_place = refl

@@ -1,7 +1,8 @@
 //! What a line of a listing says, or its first fault.
 
 ghost use Rattle.std.specs.Prelude.{◌≡◌, ◌⊎◌, ◌≤◌, ◌+◌, ◌&&◌, not, Ok, Err, IfOk, IsOk, OnOk, MatchResult, is_some, is_none, nat_le, nat_lt, length};
-ghost use Rattle.std.specs.List.{list_any};
+ghost use Rattle.std.specs.List.{list_all, list_any};
+ghost use Rattle.c62_read.specs.Text.{is_allowed};
 ghost use Rattle.std.specs.Str.{bytes_eq};
 ghost use Rattle.c62_read.specs.Line.{line_of, said_of};
 ghost use Rattle.c62_read.specs.Program.{place_of};
@@ -333,6 +334,18 @@ fn with_rest(
     }
 }
 
+/// Whether all bytes of a line are allowed whose rest reads so. Those of a rest that is read are.
+fn has_text(line: &[u8], front: Front, read: &Result<Reading, ReadFault>) -> bool
+    requires front { front ≡ front_of line.now }
+    requires read { read_as read.now ≡ line_of (rest_of front line.now) }
+    ensures { result ≡ list_all is_allowed line.now }
+{
+    match read {
+        Ok(_) => true,
+        Err(_) => all_allowed(line),
+    }
+}
+
 /// Whether nothing stands against a line whose rest reads so, or its first fault.
 #[tactic(auto, unfolding(crate::specs::Faults::line_says))]
 pub fn judge(
@@ -352,7 +365,7 @@ pub fn judge(
     ensures ok { OnOk result (IsOk read.now) }
 {
     let line = content(cut);
-    if !all_allowed(line) {
+    if !has_text(line, front, read) {
         return Err(LineFault::Read(Cause::NotAscii));
     }
     if line.len() > 255 {
