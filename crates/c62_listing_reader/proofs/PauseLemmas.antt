@@ -8,7 +8,7 @@ use Rattle.c62_read.specs.declared.fault.Cause.{Cause}
 use Rattle.c62_read.specs.declared.fault.Cause.TheVariants.{BadLabel, BadOperand, BadUnit, LineTooLong, NotAscii, ParallelBar}
 use Rattle.c62_read.specs.Text.{begins, is_allowed, tokens}
 use Rattle.c62_read.specs.Number.{is_label, number_of, spells}
-use Rattle.c62_read.specs.Operand.{Word}
+use Rattle.c62_read.specs.Kind.{Word}
 use Rattle.c62_read.specs.Mnemonic.{mnemonic_named, operation_named, pseudo_named}
 use Rattle.c62_read.specs.Unit.{unit_front}
 use Rattle.c62_read.specs.Line.{Says, Pause, behind_unit, condition_front, cycles_of, has_colon, head_of, instruction_of, is_bars, is_star, label_front, pause_of, rest_says, with_unit, without_colon}

@@ -15,7 +15,7 @@ use Rattle.c62_insn.specs.Spelling.{spelling}
 use Rattle.c62_insn.specs.Takes.{takes}
 use Rattle.c62_read.specs.declared.fault.Cause.TheVariants.{LineTooLong, NotAscii, ParallelBar}
 use Rattle.c62_read.specs.Text.{begins, is_allowed, is_line_feed, tokens}
-use Rattle.c62_read.specs.Operand.{Word}
+use Rattle.c62_read.specs.Kind.{Word}
 use Rattle.c62_read.specs.Line.{Parts, Says, Pause, Does, Jumps, head_of, is_bars, is_star, label_front, line_of, without_colon}
 use Rattle.c62_read.specs.Program.{Name, place_of}
 use Rattle.c62_read.specs.Laws.{NamesTarget, parts_on, says_with, says_on}

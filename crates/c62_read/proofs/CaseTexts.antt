@@ -2,7 +2,7 @@
 use Rattle.std.proofs.Common.{◌≡◌, ℕ, List, [], ◌∷◌, Option, Some, None, Result, Ok, Err, refl, sym, ap, ◌∙◌}
 use Rattle.c62_read.specs.declared.fault.Cause.{Cause}
 use Rattle.c62_read.specs.Text.{lines_of}
-use Rattle.c62_read.specs.Operand.{Word}
+use Rattle.c62_read.specs.Kind.{Word}
 use Rattle.c62_read.specs.Line.{Parts, Says, Nothing, Pause, Does, Jumps, head_of, line_of, rest_says, with_head, with_rest}
 use Rattle.c62_read.specs.Program.{Name, fault_in, place_of}
 use Rattle.c62_read.specs.Laws.{AreRecased, CaseChangesNothing, IsRecased, small_labels, small_says, target_in}

@@ -8,7 +8,7 @@ use Rattle.c62_read.specs.declared.fault.Cause.{Cause}
 use Rattle.c62_read.specs.declared.fault.Cause.TheVariants.{ParallelBar}
 use Rattle.c62_read.specs.Text.{begins, is_allowed, lines_of, tokens}
 use Rattle.c62_read.specs.Number.{is_label, spells}
-use Rattle.c62_read.specs.Operand.{Word}
+use Rattle.c62_read.specs.Kind.{Word}
 use Rattle.c62_read.specs.Line.{Nothing, head_of, instruction_of, is_bars, is_star, condition_front, label_front, line_of, rest_says, with_head, without_colon}
 use Rattle.c62_read.specs.Program.{fault_in, place_of}
 use Rattle.c62_read.specs.Laws.{AreUncommented, Behind, CommentSaysNothing, CommentsSayNothing, IsReadable, IsUncommented, Same, StarSaysNothing, Whole}

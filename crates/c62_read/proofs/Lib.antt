@@ -1,7 +1,6 @@
 pub mod Registers
 pub mod TokenLemmas
 pub mod NumberLemmas
-pub mod SourceLemmas
 pub mod ColonLemmas
 pub mod StepLemmas
 pub mod LineLemmas
@@ -36,3 +35,4 @@ pub mod CaseBytes
 pub mod CaseLaws
 pub mod CaseTexts
 pub mod WrittenLines
+pub mod KindLemmas

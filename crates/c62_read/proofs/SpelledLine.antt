@@ -21,7 +21,7 @@ use Rattle.c62_insn.proofs.InsnLemmas.{faultless_on}
 use Rattle.c62_read.specs.declared.mnemonic.Mnemonic.TheVariants.{Operation}
 use Rattle.c62_read.specs.Text.{begins, is_blank, tokens}
 use Rattle.c62_read.specs.Number.{is_label, spells}
-use Rattle.c62_read.specs.Operand.{Word}
+use Rattle.c62_read.specs.Kind.{Word}
 use Rattle.c62_read.specs.Mnemonic.{mnemonic_named}
 use Rattle.c62_read.specs.Unit.{is_dot, unit_fits}
 use Rattle.c62_read.specs.Line.{Does, Jumps, Says, behind_unit, bracketed_condition, closed_condition, condition_front, first_begins, instruction_of, is_bars, is_star, line_of, parts_read, rest_says, with_mnemonic}

@@ -11,7 +11,7 @@ use Rattle.std.proofs.lemmas.List.Folds.{list_all-append}
 use Rattle.c62_read.specs.declared.mnemonic.Mnemonic.TheVariants.{Nop}
 use Rattle.c62_read.specs.Text.{begins, is_allowed, is_blank, is_word_byte, tokens}
 use Rattle.c62_read.specs.Number.{is_label}
-use Rattle.c62_read.specs.Operand.{Word}
+use Rattle.c62_read.specs.Kind.{Word}
 use Rattle.c62_read.specs.Mnemonic.{mnemonic_named, operation_named, pseudo_named}
 use Rattle.c62_read.specs.Unit.{unit_front}
 use Rattle.c62_read.specs.Line.{Nothing, Pause, behind_unit, condition_front, cycles_of, head_of, instruction_of, is_bars, is_star, label_front, pause_of, rest_says}

@@ -19,7 +19,7 @@ use Rattle.c62_insn.specs.Spelling.{register_name, spelling}
 use Rattle.c62_insn.specs.Takes.{takes}
 use Rattle.c62_read.specs.Text.{is_allowed, is_blank, lines_of}
 use Rattle.c62_read.specs.Number.{is_label, negative, number_of, register_of}
-use Rattle.c62_read.specs.Operand.{Word}
+use Rattle.c62_read.specs.Kind.{Word}
 use Rattle.c62_read.specs.Mnemonic.{exchanged}
 use Rattle.c62_read.specs.Line.{Parts, Says, Nothing, Pause, Does, Jumps, is_branch, line_of}
 use Rattle.c62_read.specs.declared.fault.Cause.{Cause}

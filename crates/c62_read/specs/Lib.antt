@@ -1,5 +1,6 @@
 pub mod Text
 pub mod Number
+pub mod Kind
 pub mod Operand
 pub mod Mnemonic
 pub mod Unit

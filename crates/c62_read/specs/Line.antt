@@ -1,8 +1,7 @@
 -- What a line says, and its first fault.
-use Rattle.std.specs.Prelude.{ℕ, ℤ, pos, negsuc, Bool, true, false, not, ◌==◌, ◌&&◌, nat_le, nat_lt, List, [], ◌∷◌, length, Option, Some, None, option_map, Result, Ok, Err, codes, if◌then◌else◌}
+use Rattle.std.specs.Prelude.{ℕ, pos, Bool, true, false, not, ◌==◌, ◌&&◌, nat_le, nat_lt, List, [], ◌∷◌, length, drop, Option, Some, None, option_map, Result, Ok, Err, codes, if◌then◌else◌}
 use Rattle.std.specs.List.{list_all, list_any}
 use Rattle.c62_insn.specs.declared.register.Side.{Side}
-use Rattle.c62_insn.specs.declared.register.Reg.{Reg}
 use Rattle.c62_insn.specs.declared.register.Cond.{Cond as Condition}
 use Rattle.c62_insn.specs.declared.register.Letter.{Letter}
 use Rattle.c62_insn.specs.declared.register.Unit.{Unit as FunctionalUnit}
@@ -29,8 +28,11 @@ use Rattle.c62_read.specs.declared.reading.What.TheVariants as what
 use Rattle.c62_read.specs.declared.reading.Statement.{Statement}
 use Rattle.c62_read.specs.declared.reading.Statement.TheVariants as statement
 use Rattle.c62_read.specs.Text.{begins, is_allowed, tokens}
-use Rattle.c62_read.specs.Number.{spells, number_of, register_of, is_label}
-use Rattle.c62_read.specs.Operand.{Word, operands_of}
+use Rattle.c62_read.specs.Number.{spells, is_label}
+use Rattle.c62_read.specs.declared.kind.Kind.{Kind}
+use Rattle.c62_read.specs.declared.kind.Kind.TheVariants.{Open, Close, Not, Register, Number}
+use Rattle.c62_read.specs.Kind.{Word, kinds_of}
+use Rattle.c62_read.specs.Operand.{operands_of}
 use Rattle.c62_read.specs.Mnemonic.{mnemonic_named, read_as}
 use Rattle.c62_read.specs.Unit.{is_dot, unit_front, unit_fits}
 
@@ -145,22 +147,20 @@ jumps cond written label = formed (text_fault Branch (Block 0) cond written) (Ju
 abbrev pub jumps_or_does : Option Word → Mnemonic → Option Condition → Option WrittenUnit → List Word → Result Says Cause
 jumps_or_does (Some label) mnemonic cond written words = jumps cond written label
 jumps_or_does None mnemonic cond written words =
-    does cond written (operands_written mnemonic written (operands_of (is_storing mnemonic) words))
+    does cond written (operands_written mnemonic written (operands_of (is_storing mnemonic) (kinds_of words)))
 
-abbrev pub cycles_of : Option ℤ → Result Says Cause
-cycles_of (Some (pos n)) = if nat_le 1 n && nat_le n 9 then Ok (Pause n) else Err BadOperand
-cycles_of (Some (negsuc n)) = Err BadOperand
-cycles_of None = Err BadOperand
+abbrev pub cycles_of : Kind → Result Says Cause
+cycles_of (Number (pos n)) = if nat_le 1 n && nat_le n 9 then Ok (Pause n) else Err BadOperand
+cycles_of _ = Err BadOperand
 
 -- the number of cycles behind NOP, which takes no condition
-unfoldable pub pause_of : Option Condition → List Word → Result Says Cause
-pause_of (Some cond) words = Err BadOperand
+unfoldable pub pause_of : Option Condition → List Kind → Result Says Cause
 pause_of None [] = Ok (Pause 1)
-pause_of None (word ∷ []) = cycles_of (number_of word)
-pause_of None (word ∷ next ∷ words) = Err BadOperand
+pause_of None (kind ∷ []) = cycles_of kind
+pause_of cond kinds = Err BadOperand
 
 unfoldable pub behind_unit : Mnemonic → Option Condition → Option WrittenUnit → List Word → Result Says Cause
-behind_unit NopName cond written words = pause_of cond words
+behind_unit NopName cond written words = pause_of cond (kinds_of words)
 behind_unit mnemonic cond written words = jumps_or_does (target_of mnemonic words) mnemonic cond written words
 
 -- ---- the steps in their order
@@ -186,26 +186,20 @@ instruction_of None [] = Ok Nothing
 instruction_of (Some cond) [] = Err UnknownMnemonic
 instruction_of cond (name ∷ words) = with_mnemonic cond (mnemonic_named name) words
 
-abbrev pub conditional : Bool → Option Reg → List Word → Option (Option Condition × List Word)
-conditional negated None words = None
-conditional negated (Some reg) words = Some (Some (record { reg = reg; negated = negated }), words)
+-- `[R]` or `[!R]`, and how many tokens it has; nothing, where no bracket stands first. There is no answer where a bracket
+-- begins no condition.
+unfoldable pub condition_of : List Kind → Option (Option Condition × ℕ)
+condition_of (Open ∷ Register reg ∷ Close ∷ kinds) = Some (Some (record { reg = reg; negated = false }), 3)
+condition_of (Open ∷ Not ∷ Register reg ∷ Close ∷ kinds) = Some (Some (record { reg = reg; negated = true }), 4)
+condition_of (Open ∷ kinds) = None
+condition_of kinds = Some (None, 0)
 
--- `register ]`
-unfoldable pub closed_condition : Bool → List Word → Option (Option Condition × List Word)
-closed_condition negated (name ∷ close ∷ words) = if spells (codes "]") close then conditional negated (register_of name) words else None
-closed_condition negated _ = None
+abbrev pub before_rest : List Word → Option Condition × ℕ → Option Condition × List Word
+before_rest words (cond, count) = (cond, drop count words)
 
--- `[!] register ]`
-unfoldable pub bracketed_condition : List Word → Option (Option Condition × List Word)
-bracketed_condition [] = None
-bracketed_condition (first ∷ words) =
-    if spells (codes "!") first then closed_condition true words else closed_condition false (first ∷ words)
-
--- The condition, where a bracket stands first, and the tokens behind it. There is no answer where the bracket begins no
--- condition.
+-- the condition, where one stands first, and the tokens behind it
 unfoldable pub condition_front : List Word → Option (Option Condition × List Word)
-condition_front [] = Some (None, [])
-condition_front (first ∷ words) = if spells (codes "[") first then bracketed_condition words else Some (None, first ∷ words)
+condition_front words = option_map (before_rest words) (condition_of (kinds_of words))
 
 abbrev pub with_condition : Option (Option Condition × List Word) → Result Says Cause
 with_condition None = Err BadOperand

@@ -4,6 +4,7 @@
 mod block;
 mod fault;
 mod form;
+mod kind;
 mod label;
 mod laws;
 mod line;

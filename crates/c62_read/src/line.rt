@@ -5,15 +5,17 @@ ghost use Rattle.std.specs.List.{list_all, list_any};
 ghost use Rattle.std.specs.Option.{option_copied};
 ghost use Rattle.c62_read.specs.Text.{begins, tokens, is_allowed, is_solid, words_left};
 ghost use Rattle.c62_read.specs.Number.{is_label};
+ghost use Rattle.c62_read.specs.Kind.{kinds_of};
 ghost use Rattle.c62_read.specs.Operand.{Finds};
-ghost use Rattle.c62_read.specs.Line.{said, names_label, is_branch, label_alone, target_of, is_storing, letter_written, does, jumps, pause_of, fits_behind, behind_unit, instruction_of, conditional, closed_condition, bracketed_condition, condition_front, first_begins, rest_says, label_front, without_colon, has_colon, is_bars, is_star, head_of, line_of, said_of};
+ghost use Rattle.c62_read.specs.Line.{said, names_label, is_branch, label_alone, target_of, is_storing, letter_written, does, jumps, pause_of, fits_behind, behind_unit, instruction_of, condition_front, first_begins, rest_says, label_front, without_colon, has_colon, is_bars, is_star, head_of, line_of, said_of};
 ghost use Rattle.c62_read.specs.Unit.{is_dot};
 
 use crate::fault::{Cause, ReadFault};
 use crate::form::make;
+use crate::kind::Kind;
 use crate::label::Label;
 use crate::mnemonic::{Mnemonic, mnemonic_named};
-use crate::number::{is_label, number, register, spells};
+use crate::number::{is_label, spells};
 use crate::operand::read_operands;
 use crate::reading::{Reading, Statement};
 use crate::token::{STEP, Tokens, from_token, has_byte, is_allowed, is_mark, without_indent};
@@ -22,24 +24,20 @@ use c62_insn::{Cond, Letter, Op, Operands};
 
 /// The number of cycles behind NOP, which takes no condition.
 #[tactic(auto, unfolding(crate::specs::Line::pause_of))]
-fn pause<'a>(cond: Option<Cond>, rest: Tokens<'a>) -> Result<Statement<'a>, Cause>
-    ensures says { said result ≡ pause_of cond (words_left rest.entry) }
+fn pause<'a>(cond: Option<Cond>, kinds: &[Kind]) -> Result<Statement<'a>, Cause>
+    ensures says { said result ≡ pause_of cond kinds.now }
     ensures label { IfOk result (λ what. IsTrue (names_label what)) }
 {
-    if cond.is_some() {
-        return Err(Cause::BadOperand);
-    }
-    let Some((word, rest)) = rest.split() else {
-        return Ok(Statement::Nop(1));
-    };
-    if rest.peek().is_some() {
-        return Err(Cause::BadOperand);
-    }
-    let cycles = number(word).ok_or(Cause::BadOperand)?;
-    if 1 <= cycles && cycles <= 9 {
-        Ok(Statement::Nop(cycles as u8))
-    } else {
-        Err(Cause::BadOperand)
+    match (cond, kinds) {
+        (None, []) => Ok(Statement::Nop(1)),
+        (None, [Kind::Number(cycles)]) => {
+            if 1 <= *cycles && *cycles <= 9 {
+                Ok(Statement::Nop(*cycles as u8))
+            } else {
+                Err(Cause::BadOperand)
+            }
+        }
+        _ => Err(Cause::BadOperand),
     }
 }
 
@@ -119,7 +117,7 @@ fn jumps<'a>(
 
 /// What stands behind the unit.
 #[inline(always)]
-#[tactic(auto, unfolding(crate::specs::Line::behind_unit))]
+#[tactic(auto, using(crate::proofs::KindLemmas::too_many_behind), unfolding(crate::specs::Line::behind_unit))]
 fn behind_unit<'a>(
     mnemonic: Mnemonic,
     cond: Option<Cond>,
@@ -129,13 +127,16 @@ fn behind_unit<'a>(
     ensures says { said result ≡ behind_unit mnemonic cond written (words_left rest.entry) }
     ensures label { IfOk result (λ what. IsTrue (names_label what)) }
 {
-    if matches!(mnemonic, Mnemonic::Nop) {
-        return pause(cond, rest);
-    }
     if let Some(label) = target(mnemonic, rest) {
         return jumps(cond, written, label);
     }
-    match read_operands(is_storing(mnemonic), rest) {
+    let Some(kinds) = rest.kinds() else {
+        return Err(Cause::BadOperand);
+    };
+    if matches!(mnemonic, Mnemonic::Nop) {
+        return pause(cond, &kinds);
+    }
+    match read_operands(is_storing(mnemonic), &kinds) {
         Some(operands) => {
             does(
                 cond,
@@ -183,45 +184,25 @@ fn instruction<'a>(cond: Option<Cond>, rest: Tokens<'a>) -> Result<Statement<'a>
     behind_unit(mnemonic, cond, written, rest)
 }
 
-/// `register ]`
-#[tactic(auto, unfolding(crate::specs::Line::closed_condition))]
-fn closed_condition<'a>(negated: bool, rest: Tokens<'a>) -> Option<(Option<Cond>, Tokens<'a>)>
-    ensures { Finds result (closed_condition negated (words_left rest.entry)) }
-{
-    let (name, rest) = rest.split()?;
-    let (close, rest) = rest.split()?;
-    if !is_mark(b']', close) {
-        return None;
-    }
-    let reg = register(name)?;
-    Some((Some(Cond { reg, negated }), rest))
-}
-
-/// `[!] register ]`
-#[tactic(auto, unfolding(crate::specs::Line::bracketed_condition))]
-fn bracketed_condition<'a>(rest: Tokens<'a>) -> Option<(Option<Cond>, Tokens<'a>)>
-    ensures { Finds result (bracketed_condition (words_left rest.entry)) }
-{
-    let first = rest.peek()?;
-    if is_mark(b'!', first) {
-        closed_condition(true, rest.behind())
-    } else {
-        closed_condition(false, rest)
-    }
-}
-
 /// The condition, where a bracket stands first, and what follows it. There is none where the bracket begins no condition.
-#[tactic(auto, unfolding(crate::specs::Line::condition_front))]
+#[tactic(auto, unfolding(crate::specs::Line::condition_of, crate::specs::Line::condition_front))]
 fn first_condition<'a>(rest: Tokens<'a>) -> Option<(Option<Cond>, Tokens<'a>)>
     ensures { Finds result (condition_front (words_left rest.entry)) }
 {
-    let Some(first) = rest.peek() else {
+    let Some((Kind::Open, inside)) = rest.split_kind() else {
         return Some((None, rest));
     };
-    if is_mark(b'[', first) {
-        bracketed_condition(rest.behind())
+    let (first, behind) = inside.split_kind()?;
+    let negated = matches!(first, Kind::Not);
+    let (name, behind) = if negated {
+        behind.split_kind()?
     } else {
-        Some((None, rest))
+        (first, behind)
+    };
+    let (close, behind) = behind.split_kind()?;
+    match (name, close) {
+        (Kind::Register(reg), Kind::Close) => Some((Some(Cond { reg, negated }), behind)),
+        _ => None,
     }
 }
 

@@ -1,10 +1,8 @@
 //! Operands as they are written, labels aside.
 
-ghost use Rattle.std.specs.Prelude.{◌≡◌, [], ◌∷◌, Some, None, MatchOption};
-ghost use Rattle.c62_read.specs.Text.{words_left};
+ghost use Rattle.std.specs.Prelude.{◌≡◌, true, false, Some, None, MatchOption};
 
-use crate::number::{number, register, spells};
-use crate::token::{Tokens, is_mark};
+use crate::kind::Kind;
 use c62_insn::{AddressForm, Offset, Operands, Reg};
 
 /// The address of a load or store.
@@ -15,45 +13,12 @@ pub(crate) struct Address {
     pub offset: Offset,
 }
 
-/// A register or a constant.
-#[derive(Clone, Copy)]
-pub(crate) enum Source {
-    Register(Reg),
-    Constant(i64),
-}
+ghost use Rattle.c62_read.specs.Operand.{address_with, usual_offset, with_offset, address_front, access, loaded, stored, operands_of};
 
-ghost use Rattle.c62_read.specs.Operand.{Finds, sign_form, step_form, usual_offset, offset_of, bracketed, with_offset, signed_address, stepped_address, address_of, access, loaded_of, stored_of, source_of, before_sources, sources_of, more_sources, operands_from, plain_of, operands_of};
-
-/// The form of an address that a sign before the base gives.
-#[tactic(auto, unfolding(crate::specs::Operand::sign_form))]
-fn sign_form(word: &[u8]) -> Option<AddressForm>
-    ensures { result ≡ sign_form word.now }
+fn address_with(base: Reg, form: AddressForm, offset: Offset) -> Address
+    ensures { result ≡ address_with base form offset }
 {
-    if is_mark(b'+', word) {
-        Some(AddressForm::Plus)
-    } else if is_mark(b'-', word) {
-        Some(AddressForm::Minus)
-    } else if spells(b"++", word) {
-        Some(AddressForm::PreIncrement)
-    } else if spells(b"--", word) {
-        Some(AddressForm::PreDecrement)
-    } else {
-        None
-    }
-}
-
-/// The form of an address that a step behind the base gives.
-#[tactic(auto, unfolding(crate::specs::Operand::step_form))]
-fn step_form(word: &[u8]) -> Option<AddressForm>
-    ensures { result ≡ step_form word.now }
-{
-    if spells(b"++", word) {
-        Some(AddressForm::PostIncrement)
-    } else if spells(b"--", word) {
-        Some(AddressForm::PostDecrement)
-    } else {
-        None
-    }
+    Address { base, form, offset }
 }
 
 /// The offset where none is written.
@@ -66,85 +31,54 @@ fn usual_offset(form: AddressForm) -> Offset
     }
 }
 
-#[tactic(auto, unfolding(crate::specs::Operand::offset_of))]
-fn offset(word: &[u8]) -> Option<Offset>
-    ensures { result ≡ offset_of word.now }
-{
-    match register(word) {
-        Some(reg) => Some(Offset::Register(reg)),
-        None => Some(Offset::Constant(number(word)?)),
-    }
-}
-
-/// `offset ]`
-#[inline(always)]
-#[tactic(auto, unfolding(crate::specs::Operand::bracketed))]
-fn bracketed<'a>(base: Reg, form: AddressForm, rest: Tokens<'a>) -> Option<(Address, Tokens<'a>)>
-    ensures { Finds result (bracketed base form (words_left rest.entry)) }
-{
-    let (word, rest) = rest.split()?;
-    let (close, rest) = rest.split()?;
-    if !is_mark(b']', close) {
-        return None;
-    }
-    let offset = offset(word)?;
-    Some((Address { base, form, offset }, rest))
-}
-
-/// `[ offset ]`, or nothing
+/// An address with the offset that stands behind its base in brackets, if one does, and what stands behind that.
 #[inline(always)]
 #[tactic(auto, unfolding(crate::specs::Operand::with_offset))]
-fn with_offset<'a>(base: Reg, form: AddressForm, rest: Tokens<'a>) -> Option<(Address, Tokens<'a>)>
-    ensures { Finds result (with_offset base form (words_left rest.entry)) }
+fn with_offset(base: Reg, form: AddressForm, kinds: &[Kind]) -> Option<(Address, &[Kind])>
+    ensures { MatchOption result (with_offset base form kinds.entry.now ≡ None) (λ found. with_offset base form kinds.entry.now ≡ Some (found.0, found.1.now)) }
 {
-    let offset = usual_offset(form);
-    let Some(bracket) = rest.peek() else {
-        return Some((Address { base, form, offset }, rest));
-    };
-    if is_mark(b'[', bracket) {
-        bracketed(base, form, rest.behind())
-    } else {
-        Some((Address { base, form, offset }, rest))
+    match *kinds {
+        [Kind::Open, Kind::Number(k), Kind::Close, ..] => {
+            Some((address_with(base, form, Offset::Constant(k)), &kinds[3..]))
+        }
+        [Kind::Open, Kind::Register(reg), Kind::Close, ..] => {
+            Some((address_with(base, form, Offset::Register(reg)), &kinds[3..]))
+        }
+        [Kind::Open, ..] => None,
+        _ => Some((address_with(base, form, usual_offset(form)), kinds)),
     }
 }
 
-/// `R [offset]` behind a sign
+/// The address behind a `*`, and what stands behind it.
 #[inline(always)]
-#[tactic(auto, unfolding(crate::specs::Operand::signed_address))]
-fn signed_address<'a>(form: AddressForm, rest: Tokens<'a>) -> Option<(Address, Tokens<'a>)>
-    ensures { Finds result (signed_address form (words_left rest.entry)) }
+#[tactic(auto, unfolding(crate::specs::Operand::address_front))]
+fn read_address(kinds: &[Kind]) -> Option<(Address, &[Kind])>
+    ensures { MatchOption result (address_front kinds.entry.now ≡ None) (λ found. address_front kinds.entry.now ≡ Some (found.0, found.1.now)) }
 {
-    let (name, rest) = rest.split()?;
-    with_offset(register(name)?, form, rest)
-}
-
-/// A step and an offset behind `R`, or nothing
-#[inline(always)]
-#[tactic(auto, unfolding(crate::specs::Operand::stepped_address))]
-fn stepped_address<'a>(base: Reg, rest: Tokens<'a>) -> Option<(Address, Tokens<'a>)>
-    ensures { Finds result (stepped_address base (words_left rest.entry)) }
-{
-    let form = AddressForm::Plus;
-    let offset = usual_offset(form);
-    let Some(step) = rest.peek() else {
-        return Some((Address { base, form, offset }, rest));
-    };
-    match step_form(step) {
-        Some(form) => with_offset(base, form, rest.behind()),
-        None => Some((Address { base, form, offset }, rest)),
-    }
-}
-
-/// The address behind a `*`
-#[inline(always)]
-#[tactic(auto, unfolding(crate::specs::Operand::address_of))]
-fn read_address<'a>(rest: Tokens<'a>) -> Option<(Address, Tokens<'a>)>
-    ensures { Finds result (address_of (words_left rest.entry)) }
-{
-    let (first, rest) = rest.split()?;
-    match sign_form(first) {
-        Some(form) => signed_address(form, rest),
-        None => stepped_address(register(first)?, rest),
+    match *kinds {
+        [Kind::Plus, Kind::Register(base), ..] => {
+            with_offset(base, AddressForm::Plus, &kinds[2..])
+        }
+        [Kind::Minus, Kind::Register(base), ..] => {
+            with_offset(base, AddressForm::Minus, &kinds[2..])
+        }
+        [Kind::Increment, Kind::Register(base), ..] => {
+            with_offset(base, AddressForm::PreIncrement, &kinds[2..])
+        }
+        [Kind::Decrement, Kind::Register(base), ..] => {
+            with_offset(base, AddressForm::PreDecrement, &kinds[2..])
+        }
+        [Kind::Register(base), Kind::Increment, ..] => {
+            with_offset(base, AddressForm::PostIncrement, &kinds[2..])
+        }
+        [Kind::Register(base), Kind::Decrement, ..] => {
+            with_offset(base, AddressForm::PostDecrement, &kinds[2..])
+        }
+        [Kind::Register(base), ..] => {
+            let form = AddressForm::Plus;
+            Some((address_with(base, form, usual_offset(form)), &kinds[1..]))
+        }
+        _ => None,
     }
 }
 
@@ -159,152 +93,77 @@ fn access(reg: Reg, address: Address) -> Operands
     }
 }
 
-/// `address , register` behind the `*`
-#[tactic(auto, unfolding(crate::specs::Operand::loaded_of))]
-fn loaded(rest: Tokens<'_>) -> Option<Operands>
-    ensures { result ≡ loaded_of (words_left rest.entry) }
+/// The address behind the `*` of a load, a comma and the register.
+fn loaded(kinds: &[Kind]) -> Option<Operands>
+    ensures { result ≡ loaded (address_front kinds.now) }
 {
-    let (address, rest) = read_address(rest)?;
-    let (comma, rest) = rest.split()?;
-    let (name, rest) = rest.split()?;
-    if rest.peek().is_some() || !is_mark(b',', comma) {
-        return None;
-    }
-    Some(access(register(name)?, address))
-}
-
-/// `register , * address`
-#[tactic(auto, unfolding(crate::specs::Operand::stored_of))]
-fn stored(rest: Tokens<'_>) -> Option<Operands>
-    ensures { result ≡ stored_of (words_left rest.entry) }
-{
-    let (name, rest) = rest.split()?;
-    let (comma, rest) = rest.split()?;
-    let (star, rest) = rest.split()?;
-    if !is_mark(b',', comma) || !is_mark(b'*', star) {
-        return None;
-    }
-    let reg = register(name)?;
-    let (address, rest) = read_address(rest)?;
-    if rest.peek().is_some() {
-        return None;
-    }
-    Some(access(reg, address))
-}
-
-/// A register or a number
-#[inline(always)]
-#[tactic(auto, unfolding(crate::specs::Operand::source_of))]
-fn read_source(word: &[u8]) -> Option<Source>
-    ensures { result ≡ source_of word.now }
-{
-    match register(word) {
-        Some(reg) => Some(Source::Register(reg)),
-        None => Some(Source::Constant(number(word)?)),
+    let (address, rest) = read_address(kinds)?;
+    match *rest {
+        [Kind::Comma, Kind::Register(reg)] => Some(access(reg, address)),
+        _ => None,
     }
 }
 
-/// The first source, and what follows the comma behind it, where one is there
-#[inline(always)]
-fn first_source(rest: Tokens<'_>) -> Option<(Source, Option<Tokens<'_>>)>
-    ensures { MatchOption result (sources_of (words_left rest.entry) ≡ None) (λ found. sources_of (words_left rest.entry) ≡ before_sources (Some found.0) (more_sources found.1)) }
+/// The address behind the `*` of a store of this register, and nothing else.
+fn stored(reg: Reg, kinds: &[Kind]) -> Option<Operands>
+    ensures { result ≡ stored reg (address_front kinds.now) }
 {
-    let (word, rest) = rest.split()?;
-    let Some((comma, rest)) = rest.split() else {
-        return Some((read_source(word)?, None));
-    };
-    if is_mark(b',', comma) {
-        Some((read_source(word)?, Some(rest)))
+    let (address, rest) = read_address(kinds)?;
+    if rest.is_empty() {
+        Some(access(reg, address))
     } else {
         None
     }
 }
 
-fn one_operand(a: Source) -> Option<Operands>
-    ensures { result ≡ operands_from (a ∷ []) }
+/// A register, a comma, `*` and an address.
+#[tactic(auto, unfolding(crate::specs::Operand::operands_of))]
+fn read_store(kinds: &[Kind]) -> Option<Operands>
+    ensures { result ≡ operands_of true kinds.now }
 {
-    match a {
-        Source::Register(a) => Some(Operands::Register(a)),
-        Source::Constant(_) => None,
-    }
-}
-
-fn two_operands(a: Source, d: Source) -> Option<Operands>
-    ensures { result ≡ operands_from (a ∷ d ∷ []) }
-{
-    match (a, d) {
-        (Source::Register(a), Source::Register(d)) => Some(Operands::Two(a, d)),
-        (Source::Constant(k), Source::Register(d)) => Some(Operands::Constant(k, d)),
-        (_, Source::Constant(_)) => None,
-    }
-}
-
-fn three_operands(a: Source, b: Source, d: Source) -> Option<Operands>
-    ensures { result ≡ operands_from (a ∷ b ∷ d ∷ []) }
-{
-    let Source::Register(d) = d else {
-        return None;
-    };
-    match (a, b) {
-        (Source::Register(a), Source::Register(b)) => Some(Operands::Three(a, b, d)),
-        (Source::Constant(k), Source::Register(a)) => Some(Operands::ConstantFirst(k, a, d)),
-        (Source::Register(a), Source::Constant(k)) => Some(Operands::ConstantSecond(a, k, d)),
-        (Source::Constant(_), Source::Constant(_)) => None,
-    }
-}
-
-fn four_operands(a: Source, k: Source, m: Source, d: Source) -> Option<Operands>
-    ensures { result ≡ operands_from (a ∷ k ∷ m ∷ d ∷ []) }
-{
-    let (Source::Register(a), Source::Register(d)) = (a, d) else {
-        return None;
-    };
-    match (k, m) {
-        (Source::Constant(k), Source::Constant(m)) => Some(Operands::Field {
-            source: a,
-            left: k,
-            right: m,
-            destination: d,
-        }),
+    match *kinds {
+        [Kind::Register(reg), Kind::Comma, Kind::Star, ..] => stored(reg, &kinds[3..]),
         _ => None,
     }
 }
 
-/// One to four registers and numbers, with commas between
-#[tactic(auto, using(crate::proofs::SourceLemmas::too_many), unfolding(crate::specs::Operand::plain_of))]
-fn plain(rest: Tokens<'_>) -> Option<Operands>
-    ensures { result ≡ plain_of (words_left rest.entry) }
+/// The operands of an instruction that is no store.
+#[tactic(auto, unfolding(crate::specs::Operand::operands_of))]
+fn read_others(kinds: &[Kind]) -> Option<Operands>
+    ensures { result ≡ operands_of false kinds.now }
 {
-    let (a, more) = first_source(rest)?;
-    let Some(rest) = more else {
-        return one_operand(a);
-    };
-    let (b, more) = first_source(rest)?;
-    let Some(rest) = more else {
-        return two_operands(a, b);
-    };
-    let (c, more) = first_source(rest)?;
-    let Some(rest) = more else {
-        return three_operands(a, b, c);
-    };
-    let (d, more) = first_source(rest)?;
-    match more {
-        None => four_operands(a, b, c, d),
-        Some(_) => None,
+    use Kind::{Comma, Number, Register, Star};
+    match *kinds {
+        [Star, ..] => loaded(&kinds[1..]),
+        [Register(a)] => Some(Operands::Register(a)),
+        [Register(a), Comma, Register(d)] => Some(Operands::Two(a, d)),
+        [Number(k), Comma, Register(d)] => Some(Operands::Constant(k, d)),
+        [Register(a), Comma, Register(b), Comma, Register(d)] => Some(Operands::Three(a, b, d)),
+        [Number(k), Comma, Register(a), Comma, Register(d)] => {
+            Some(Operands::ConstantFirst(k, a, d))
+        }
+        [Register(a), Comma, Number(k), Comma, Register(d)] => {
+            Some(Operands::ConstantSecond(a, k, d))
+        }
+        [Register(a), Comma, Number(k), Comma, Number(m), Comma, Register(d)] => {
+            Some(Operands::Field {
+                source: a,
+                left: k,
+                right: m,
+                destination: d,
+            })
+        }
+        _ => None,
     }
 }
 
 /// All operands but labels; those of a store begin with its register.
-#[tactic(auto, unfolding(crate::specs::Operand::operands_of))]
-pub(crate) fn read_operands(store: bool, rest: Tokens<'_>) -> Option<Operands>
-    ensures { result ≡ operands_of store (words_left rest.entry) }
+pub(crate) fn read_operands(store: bool, kinds: &[Kind]) -> Option<Operands>
+    ensures { result ≡ operands_of store kinds.now }
 {
-    let first = rest.peek()?;
-    if is_mark(b'*', first) {
-        if store { None } else { loaded(rest.behind()) }
-    } else if store {
-        stored(rest)
+    if store {
+        read_store(kinds)
     } else {
-        plain(rest)
+        read_others(kinds)
     }
 }

@@ -1,0 +1,84 @@
+-- More than eight tokens are no operands.
+use Rattle.std.proofs.Common.{◌≡◌, ℕ, ◌+◌, ◌≤◌, ◌<◌, Bool, true, false, List, [], ◌∷◌, length, Option, Some, None, Err, refl, arith}
+use Rattle.std.proofs.lemmas.List.{length-map}
+use Rattle.c62_insn.specs.declared.register.Reg.{Reg}
+use Rattle.c62_insn.specs.declared.register.Cond.{Cond as Condition}
+use Rattle.c62_insn.specs.declared.operands.AddressForm.{AddressForm}
+use Rattle.c62_read.specs.declared.fault.Cause.TheVariants.{BadOperand}
+use Rattle.c62_read.specs.declared.kind.Kind.{Kind}
+use Rattle.c62_read.specs.declared.kind.Kind.TheVariants.{Comma, Star, Open, Close, Plus, Minus, Increment, Decrement, Register, Number}
+use Rattle.c62_read.specs.declared.operand.Address.{Address}
+use Rattle.c62_read.specs.Operand.{address_front, loaded, operands_of, stored, with_offset}
+use Rattle.c62_read.specs.declared.mnemonic.Mnemonic.{Mnemonic}
+use Rattle.c62_read.specs.declared.mnemonic.Mnemonic.TheVariants.{Nop, Operation}
+use Rattle.c62_read.specs.declared.unit.WrittenUnit.{WrittenUnit}
+use Rattle.c62_read.specs.Kind.{Word, kind_of, kinds_of}
+use Rattle.c62_read.specs.Line.{behind_unit, is_storing, pause_of, target_of}
+
+-- so many tokens stand before what is left, if an address does
+abbrev Leaves : ℕ → List Kind → Option (Address × List Kind) → Type 0
+Leaves n kinds None = Unit {0}
+Leaves n kinds (Some (address, rest)) = length kinds ≤ length rest + n
+
+offset_leaves : (base : Reg) (form : AddressForm) (kinds : List Kind) → Leaves 3 kinds (with_offset base form kinds)
+unfolding with_offset
+offset_leaves base form (Open ∷ Number k ∷ Close ∷ rest) = omega arith
+offset_leaves base form (Open ∷ Register reg ∷ Close ∷ rest) = omega arith
+offset_leaves base form (Open ∷ rest) = tt
+offset_leaves base form kinds = omega arith
+
+more : (first second : Kind) (kinds : List Kind) (found : Option (Address × List Kind)) → Leaves 3 kinds found → Leaves 5 (first ∷ second ∷ kinds) found
+more first second kinds None within = tt
+more first second kinds (Some (address, rest)) within = omega (arith, within)
+
+address_leaves : (kinds : List Kind) → Leaves 5 kinds (address_front kinds)
+unfolding address_front
+address_leaves (Plus ∷ Register base ∷ rest) = more Plus (Register base) rest (address_front (Plus ∷ Register base ∷ rest)) (offset_leaves base _ rest)
+address_leaves (Minus ∷ Register base ∷ rest) = more Minus (Register base) rest (address_front (Minus ∷ Register base ∷ rest)) (offset_leaves base _ rest)
+address_leaves (Increment ∷ Register base ∷ rest) = more Increment (Register base) rest (address_front (Increment ∷ Register base ∷ rest)) (offset_leaves base _ rest)
+address_leaves (Decrement ∷ Register base ∷ rest) = more Decrement (Register base) rest (address_front (Decrement ∷ Register base ∷ rest)) (offset_leaves base _ rest)
+address_leaves (Register base ∷ Increment ∷ rest) = more (Register base) Increment rest (address_front (Register base ∷ Increment ∷ rest)) (offset_leaves base _ rest)
+address_leaves (Register base ∷ Decrement ∷ rest) = more (Register base) Decrement rest (address_front (Register base ∷ Decrement ∷ rest)) (offset_leaves base _ rest)
+address_leaves (Register base ∷ rest) = omega arith
+address_leaves _ = tt
+
+none_loaded : (kinds : List Kind) (found : Option (Address × List Kind)) → Leaves 5 kinds found → 7 < length kinds → loaded found ≡ None
+none_loaded kinds None within many = refl
+none_loaded kinds (Some (address, [])) within many = refl
+none_loaded kinds (Some (address, Comma ∷ Register reg ∷ [])) within many = absurd (omega (arith, within, many))
+none_loaded kinds (Some (address, rest)) within many = refl
+
+none_stored : (reg : Reg) (kinds : List Kind) (found : Option (Address × List Kind)) → Leaves 5 kinds found → 5 < length kinds → stored reg found ≡ None
+none_stored reg kinds None within many = refl
+none_stored reg kinds (Some (address, [])) within many = absurd (omega (arith, within, many))
+none_stored reg kinds (Some (address, kind ∷ rest)) within many = refl
+
+too_many : (store : Bool) (kinds : List Kind) → 8 < length kinds → operands_of store kinds ≡ None
+unfolding operands_of
+too_many true (Register reg ∷ Comma ∷ Star ∷ address) many = none_stored reg address (address_front address) (address_leaves address) (omega (arith, many))
+too_many false (Star ∷ address) many = none_loaded address (address_front address) (address_leaves address) (omega (arith, many))
+too_many false (Register a ∷ []) many = absurd (omega (arith, many))
+too_many false (Register a ∷ Comma ∷ Register d ∷ []) many = absurd (omega (arith, many))
+too_many false (Number k ∷ Comma ∷ Register d ∷ []) many = absurd (omega (arith, many))
+too_many false (Register a ∷ Comma ∷ Register b ∷ Comma ∷ Register d ∷ []) many = absurd (omega (arith, many))
+too_many false (Number k ∷ Comma ∷ Register a ∷ Comma ∷ Register d ∷ []) many = absurd (omega (arith, many))
+too_many false (Register a ∷ Comma ∷ Number k ∷ Comma ∷ Register d ∷ []) many = absurd (omega (arith, many))
+too_many false (Register a ∷ Comma ∷ Number k ∷ Comma ∷ Number m ∷ Comma ∷ Register d ∷ []) many = absurd (omega (arith, many))
+too_many store kinds many = refl
+
+too_long : (cond : Option Condition) (kinds : List Kind) → 8 < length kinds → pause_of cond kinds ≡ Err BadOperand
+unfolding pause_of
+too_long None [] many = absurd (omega (arith, many))
+too_long None (kind ∷ []) many = absurd (omega (arith, many))
+too_long cond kinds many = refl
+
+many_kinds : (words : List Word) → 8 < length words → 8 < length (kinds_of words)
+many_kinds words many = rw (length-map words kind_of) many
+
+pub too_many_behind : (mnemonic : Mnemonic) (cond : Option Condition) (written : Option WrittenUnit) (words : List Word) → target_of mnemonic words ≡ None
+    → 8 < length words → behind_unit mnemonic cond written words ≡ Err BadOperand
+unfolding behind_unit
+too_many_behind Nop cond written words none many = too_long cond (kinds_of words) (many_kinds words many)
+too_many_behind (Operation op) cond written words none many =
+    rw (none, too_many (is_storing (Operation op)) (kinds_of words) (many_kinds words many)) refl
+too_many_behind mnemonic cond written words none many = rw (too_many (is_storing mnemonic) (kinds_of words) (many_kinds words many)) refl

@@ -1,0 +1,47 @@
+-- What the tokens of a line are: marks, registers, numbers and names (docs/SERIAL_TEXT.md, "Tokens").
+use Rattle.std.specs.Prelude.{ℕ, ℤ, ◌==◌, List, [], ◌∷◌, map, Option, Some, None, if◌then◌else◌}
+use Rattle.c62_insn.specs.declared.register.Reg.{Reg}
+use Rattle.c62_read.specs.declared.kind.Kind.{Kind}
+use Rattle.c62_read.specs.declared.kind.Kind.TheVariants.{Comma, Star, Open, Close, Not, Plus, Minus, Increment, Decrement, Register, Number, Name}
+use Rattle.c62_read.specs.Number.{number_of, register_of}
+
+-- a token, as its bytes
+abbrev pub Word : Type 0
+Word = List ℕ
+
+-- `,` `*` `[` `]` `!` `+` `-`
+unfoldable pub single_mark : ℕ → Option Kind
+single_mark b =
+    if b == 44 then Some Comma
+    else (if b == 42 then Some Star
+    else (if b == 91 then Some Open
+    else (if b == 93 then Some Close
+    else (if b == 33 then Some Not
+    else (if b == 43 then Some Plus
+    else (if b == 45 then Some Minus
+    else None))))))
+
+-- `++` and `--`, by the byte that stands twice
+unfoldable pub double_mark : ℕ → Option Kind
+double_mark b = if b == 43 then Some Increment else (if b == 45 then Some Decrement else None)
+
+unfoldable pub mark_of : Word → Option Kind
+mark_of (b ∷ []) = single_mark b
+mark_of (b ∷ c ∷ []) = if b == c then double_mark b else None
+mark_of _ = None
+
+abbrev pub value_kind : Option Reg → Option ℤ → Kind
+value_kind (Some reg) number = Register reg
+value_kind None (Some k) = Number k
+value_kind None None = Name
+
+abbrev pub kind_by : Option Kind → Word → Kind
+kind_by (Some mark) word = mark
+kind_by None word = value_kind (register_of word) (number_of word)
+
+-- a mark, a register, a number, or else a name
+unfoldable pub kind_of : Word → Kind
+kind_of word = kind_by (mark_of word) word
+
+abbrev pub kinds_of : List Word → List Kind
+kinds_of words = map kind_of words
