@@ -119,10 +119,10 @@ joins_same b c d e first second =
 double_parts : (b c : ℕ) → is_double b c ≡ ((eqb b 43 && eqb c 43) || (eqb b 45 && eqb c 45) || (eqb b 124 && eqb c 124))
 double_parts b c = grind (arith, nat_tests)
 
-plus_same : (b c : ℕ) → Same b c → eqb b 43 ≡ eqb c 43
+pub plus_same : (b c : ℕ) → Same b c → eqb b 43 ≡ eqb c 43
 plus_same = test_same (λ x. eqb x 43) refl
 
-minus_same : (b c : ℕ) → Same b c → eqb b 45 ≡ eqb c 45
+pub minus_same : (b c : ℕ) → Same b c → eqb b 45 ≡ eqb c 45
 minus_same = test_same (λ x. eqb x 45) refl
 
 bar_same : (b c : ℕ) → Same b c → eqb b 124 ≡ eqb c 124

@@ -1,17 +1,14 @@
 -- Case changes nothing but labels.
-use Rattle.std.proofs.Common.{◌≡◌, ℕ, Bool, true, false, cond, eqb, ltb, ◌&&◌, ◌||◌, List, [], ◌∷◌, length, Option, Some, None, Result, Ok, Err, refl, sym, ap, subst, ◌∙◌, arith, inl, inr}
-use Rattle.std.specs.Prelude.{option_map, option_and_then, codes}
+use Rattle.std.proofs.Common.{◌≡◌, ℕ, zero, suc, Bool, true, false, cond, eqb, ltb, ◌&&◌, ◌||◌, List, [], ◌∷◌, length, Option, Some, None, Result, Ok, Err, refl, sym, ap, subst, ◌∙◌, arith, inl, inr}
+use Rattle.std.specs.Prelude.{drop, option_map, codes}
 use Rattle.std.specs.Char.{is_ascii_digit, to_ascii_lowercase}
 use Rattle.std.specs.List.{find, list_all}
 use Rattle.std.proofs.lemmas.Bool.{cases_Bool}
 use Rattle.c62_insn.specs.declared.register.Side.{Side}
-use Rattle.c62_insn.specs.declared.register.Reg.{Reg}
 use Rattle.c62_insn.specs.declared.register.Cond.{Cond as Condition}
 use Rattle.c62_insn.specs.declared.register.Letter.{Letter}
 use Rattle.c62_insn.specs.declared.operands.Op.{Op}
 use Rattle.c62_insn.specs.declared.operands.Op.TheVariants.{B as Branch}
-use Rattle.c62_insn.specs.declared.operands.AddressForm.{AddressForm}
-use Rattle.c62_insn.specs.declared.operands.Offset.{Offset}
 use Rattle.c62_insn.specs.declared.operands.Operands.{Operands}
 use Rattle.c62_insn.specs.declared.operands.Operands.TheVariants.{Block}
 use Rattle.c62_insn.specs.declared.fault.FormFault.{FormFault}
@@ -20,20 +17,21 @@ use Rattle.c62_read.specs.declared.fault.Cause.{Cause}
 use Rattle.c62_read.specs.declared.fault.Cause.TheVariants.{NotAscii, LineTooLong, BadLabel, BadUnit, ParallelBar, Directive}
 use Rattle.c62_read.specs.declared.mnemonic.Mnemonic.{Mnemonic}
 use Rattle.c62_read.specs.declared.mnemonic.Mnemonic.TheVariants.{Operation, Mv, Neg, Not, Zero, Mvkl, Mvkh, Nop}
-use Rattle.c62_read.specs.declared.operand.Address.{Address}
 use Rattle.c62_read.specs.declared.unit.Mark.{Mark}
 use Rattle.c62_read.specs.declared.unit.Mark.TheVariants.{Plain, Cross, Path}
 use Rattle.c62_read.specs.declared.unit.WrittenUnit.{WrittenUnit}
 use Rattle.c62_read.specs.Text.{grow, put_back, begins, is_allowed, is_blank, is_solid, is_double, joins, tokens}
-use Rattle.c62_read.specs.Number.{is_label, register_of, spells}
-use Rattle.c62_read.specs.Operand.{Word, address_by, address_of, bracketed, loaded_of, nothing_behind, offset_of, operands_from, operands_of, plain_of, register_behind, sign_form, signed_address, source_of, sources_of, step_form, stepped_address, stepped_by, stored_of, usual_address, with_offset}
+use Rattle.c62_read.specs.Number.{is_label, spells}
+use Rattle.c62_read.specs.declared.kind.Kind.{Kind}
+use Rattle.c62_read.specs.Kind.{Word, kind_by, kind_of, kinds_of, mark_of as written_mark, single_mark}
+use Rattle.c62_read.specs.Operand.{operands_of}
 use Rattle.c62_read.specs.Mnemonic.{all_operations, mnemonic_named, operation_named, pseudo_named}
 use Rattle.c62_read.specs.Unit.{is_dot, is_t, is_x, letter_of, mark_of, side_numbered, unit_fits, unit_front, unit_of, unit_split, with_left}
-use Rattle.c62_read.specs.Line.{Parts, Says, Nothing, Pause, Does, Jumps, behind_unit, bracketed_condition, closed_condition, condition_front, conditional, cycles_of, does, first_begins, formed, has_colon, head_of, instruction_of, is_bars, is_branch, is_star, is_storing, jumps_or_does, label_alone, label_front, line_of, operands_written, parts_read, pause_of, rest_says, target_of, text_fault, with_condition, with_head, with_mnemonic, with_rest, with_unit, without_colon}
+use Rattle.c62_read.specs.Line.{Parts, Says, Nothing, Pause, Does, Jumps, before_rest, behind_unit, condition_front, condition_of, does, first_begins, formed, has_colon, head_of, instruction_of, is_bars, is_branch, is_star, is_storing, jumps_or_does, label_alone, label_front, line_of, operands_written, parts_read, pause_of, rest_says, target_of, text_fault, with_condition, with_head, with_mnemonic, with_rest, with_unit, without_colon}
 use Rattle.c62_read.specs.Laws.{CaseSaysNothing, IsRecased, in_small, small_labels, small_says}
 use Rattle.c62_read.proofs.ColonLemmas.{begins_with}
 use Rattle.c62_read.proofs.TokenLemmas.{joined_word, tokens_alone, tokens_blank, tokens_comment, tokens_double, tokens_joined, tokens_last, word_solid}
-use Rattle.c62_read.proofs.CaseBytes.{IsRecasedWord, Same, all_same, allowed_same, begins_same, blank_same, comment_same, digit_same, double_same, fresh, joins_same, label_same, length_same, lowered, number_of_same, register_same, solid_same, spells_same, test_same}
+use Rattle.c62_read.proofs.CaseBytes.{IsRecasedWord, Same, all_same, allowed_same, begins_same, blank_same, comment_same, digit_same, double_same, fresh, joins_same, label_same, length_same, lowered, minus_same, number_of_same, plus_same, register_same, solid_same, spells_same, test_same}
 
 -- ---- tokens
 
@@ -130,194 +128,48 @@ same_cond R false false x y z w e first second = second
 same_cond R true false x y z w e first second = absurd cc
 same_cond R false true x y z w e first second = absurd cc
 
-sign_same : (w v : Word) → IsRecasedWord w v → sign_form w ≡ sign_form v
-unfolding sign_form
-sign_same w v same = rw (
-  spells_same (codes "+") w v same,
-  spells_same (codes "-") w v same,
-  spells_same (codes "++") w v same,
-  spells_same (codes "--") w v same,
-) refl
+-- ---- what tokens are
 
-step_same : (w v : Word) → IsRecasedWord w v → step_form w ≡ step_form v
-unfolding step_form
-step_same w v same = rw (spells_same (codes "++") w v same, spells_same (codes "--") w v same) refl
+single_same : (b c : ℕ) → Same b c → single_mark b ≡ single_mark c
+unfolding single_mark
+single_same b c same =
+    rw (
+      test_same (λ x. eqb x 44) refl b c same,
+      test_same (λ x. eqb x 42) refl b c same,
+      test_same (λ x. eqb x 91) refl b c same,
+      test_same (λ x. eqb x 93) refl b c same,
+      test_same (λ x. eqb x 33) refl b c same,
+      test_same (λ x. eqb x 43) refl b c same,
+      test_same (λ x. eqb x 45) refl b c same,
+    ) refl
 
-offset_same : (w v : Word) → IsRecasedWord w v → offset_of w ≡ offset_of v
-unfolding offset_of
-offset_same w v same = rw (register_same w v same, number_of_same w v same) refl
+told_same : (w v : Word) → IsRecasedWord w v → written_mark w ≡ written_mark v
+unfolding written_mark
+told_same [] [] same = refl
+told_same (b ∷ []) (c ∷ []) same = single_same b c same.0
+told_same (b ∷ d ∷ []) (c ∷ e ∷ []) same =
+    rw (plus_same b c same.0, plus_same d e same.2.0, minus_same b c same.0, minus_same d e same.2.0) refl
+told_same (b ∷ d ∷ x ∷ w) (c ∷ e ∷ y ∷ v) same = refl
+told_same [] (c ∷ v) same = absurd same
+told_same (b ∷ w) [] same = absurd same
+told_same (b ∷ []) (c ∷ e ∷ v) same = absurd same.2
+told_same (b ∷ d ∷ w) (c ∷ []) same = absurd same.2
+told_same (b ∷ d ∷ []) (c ∷ e ∷ y ∷ v) same = absurd same.2.2
+told_same (b ∷ d ∷ x ∷ w) (c ∷ e ∷ []) same = absurd same.2.2
 
-source_same : (w v : Word) → IsRecasedWord w v → source_of w ≡ source_of v
-unfolding source_of
-source_same w v same = rw (register_same w v same, number_of_same w v same) refl
+value_same : (mark : Option Kind) (w v : Word) → IsRecasedWord w v → kind_by mark w ≡ kind_by mark v
+value_same (Some kind) w v same = refl
+value_same None w v same = rw (register_same w v same, number_of_same w v same) refl
 
--- ---- addresses
+kind_same : (w v : Word) → IsRecasedWord w v → kind_of w ≡ kind_of v
+unfolding kind_of
+kind_same w v same = ap (λ (mark : Option Kind). kind_by mark w) (told_same w v same) ∙ value_same (written_mark v) w v same
 
-abbrev placed : Reg → AddressForm → Offset → Address
-placed base form offset = record { base = base; form = form; offset = offset }
-
-made_same : (base : Reg) (form : AddressForm) (offset : Option Offset) (ws vs : List Word) → AreRecased ws vs
-    → SameFound (option_map (λ o. (placed base form o, ws)) offset) (option_map (λ o. (placed base form o, vs)) offset)
-made_same base form None ws vs same = tt
-made_same base form (Some o) ws vs same = (refl, same)
-
-bracketed_same : (base : Reg) (form : AddressForm) (ws vs : List Word) → AreRecased ws vs
-    → SameFound (bracketed base form ws) (bracketed base form vs)
-unfolding bracketed
-bracketed_same base form [] [] same = tt
-bracketed_same base form (w ∷ []) (v ∷ []) same = tt
-bracketed_same base form (w ∷ c ∷ ws) (v ∷ d ∷ vs) same =
-    same_cond SameFound (spells (codes "]") c) (spells (codes "]") d) (option_map (λ o. (placed base form o, ws)) (offset_of w)) None
-    (option_map (λ o. (placed base form o, vs)) (offset_of v)) None (spells_same (codes "]") c d same.1.0)
-    (subst (λ (o : Option Offset). SameFound (option_map (λ o. (placed base form o, ws)) (offset_of w))
-    (option_map (λ o. (placed base form o, vs)) o)) (offset_same w v same.0)
-    (made_same base form (offset_of w) ws vs same.1.1)) tt
-bracketed_same base form [] (v ∷ vs) same = absurd same
-bracketed_same base form (w ∷ ws) [] same = absurd same
-bracketed_same base form (w ∷ []) (v ∷ d ∷ vs) same = absurd same.1
-bracketed_same base form (w ∷ c ∷ ws) (v ∷ []) same = absurd same.1
-
-with_offset_same : (base : Reg) (form : AddressForm) (ws vs : List Word) → AreRecased ws vs
-    → SameFound (with_offset base form ws) (with_offset base form vs)
-unfolding with_offset
-with_offset_same base form [] [] same = (refl, tt)
-with_offset_same base form (w ∷ ws) (v ∷ vs) same =
-    same_cond SameFound (spells (codes "[") w)
-    (spells (codes "[") v) (bracketed base form ws) (Some (usual_address base form, w ∷ ws)) (bracketed base form vs)
-    (Some (usual_address base form, v ∷ vs)) (spells_same (codes "[") w v same.0) (bracketed_same base form ws vs same.1) (refl, same)
-with_offset_same base form [] (v ∷ vs) same = absurd same
-with_offset_same base form (w ∷ ws) [] same = absurd same
-
--- what is made of a register, where there is one
-then_same : (reg : Option Reg) (f g : Reg → Option (Address × List Word)) → ((r : Reg) → SameFound (f r) (g r))
-    → SameFound (option_and_then f reg) (option_and_then g reg)
-then_same None f g each = tt
-then_same (Some r) f g each = each r
-
-signed_same : (form : AddressForm) (ws vs : List Word) → AreRecased ws vs → SameFound (signed_address form ws) (signed_address form vs)
-unfolding signed_address
-signed_same form [] [] same = tt
-signed_same form (w ∷ ws) (v ∷ vs) same =
-    subst (λ (reg : Option Reg). SameFound (option_and_then (λ base. with_offset base form ws) (register_of w))
-    (option_and_then (λ base. with_offset base form vs) reg)) (register_same w v same.0)
-    (then_same (register_of w) (λ base. with_offset base form ws) (λ base. with_offset base form vs)
-    (λ base. with_offset_same base form ws vs same.1))
-signed_same form [] (v ∷ vs) same = absurd same
-signed_same form (w ∷ ws) [] same = absurd same
-
-stepped_by_same : (base : Reg) (form : Option AddressForm) (ws vs xs ys : List Word) → AreRecased ws vs → AreRecased xs ys
-    → SameFound (stepped_by base form ws xs) (stepped_by base form vs ys)
-stepped_by_same base None ws vs xs ys same whole = (refl, whole)
-stepped_by_same base (Some form) ws vs xs ys same whole = with_offset_same base form ws vs same
-
-stepped_same : (base : Reg) (ws vs : List Word) → AreRecased ws vs → SameFound (stepped_address base ws) (stepped_address base vs)
-unfolding stepped_address
-stepped_same base [] [] same = (refl, tt)
-stepped_same base (w ∷ ws) (v ∷ vs) same =
-    subst (λ (form : Option AddressForm). SameFound (stepped_by base (step_form w) ws (w ∷ ws)) (stepped_by base form vs (v ∷ vs)))
-    (step_same w v same.0)
-    (stepped_by_same base (step_form w) ws vs (w ∷ ws) (v ∷ vs) same.1 same)
-stepped_same base [] (v ∷ vs) same = absurd same
-stepped_same base (w ∷ ws) [] same = absurd same
-
-by_same : (form : Option AddressForm) (w v : Word) (ws vs : List Word) → IsRecasedWord w v → AreRecased ws vs
-    → SameFound (address_by form w ws) (address_by form v vs)
-by_same (Some form) w v ws vs word same = signed_same form ws vs same
-by_same None w v ws vs word same =
-    subst (λ (reg : Option Reg). SameFound (option_and_then (λ base. stepped_address base ws) (register_of w))
-    (option_and_then (λ base. stepped_address base vs) reg)) (register_same w v word)
-    (then_same (register_of w) (λ base. stepped_address base ws) (λ base. stepped_address base vs) (λ base. stepped_same base ws vs same))
-
-address_same : (ws vs : List Word) → AreRecased ws vs → SameFound (address_of ws) (address_of vs)
-unfolding address_of
-address_same [] [] same = tt
-address_same (w ∷ ws) (v ∷ vs) same =
-    subst (λ (form : Option AddressForm). SameFound (address_by (sign_form w) w ws) (address_by form v vs)) (sign_same w v same.0)
-    (by_same (sign_form w) w v ws vs same.0 same.1)
-address_same [] (v ∷ vs) same = absurd same
-address_same (w ∷ ws) [] same = absurd same
-
--- ---- operands
-
-behind_by : (address : Address) (ws vs : List Word) → AreRecased ws vs → register_behind (address, ws) ≡ register_behind (address, vs)
-behind_by address [] [] same = refl
-behind_by address (c ∷ []) (d ∷ []) same = refl
-behind_by address (c ∷ w ∷ []) (d ∷ v ∷ []) same = rw (spells_same (codes ",") c d same.0, register_same w v same.1.0) refl
-behind_by address (c ∷ w ∷ x ∷ ws) (d ∷ v ∷ y ∷ vs) same = refl
-behind_by address [] (d ∷ vs) same = absurd same
-behind_by address (c ∷ ws) [] same = absurd same
-behind_by address (c ∷ []) (d ∷ v ∷ vs) same = absurd same.1
-behind_by address (c ∷ w ∷ ws) (d ∷ []) same = absurd same.1
-behind_by address (c ∷ w ∷ []) (d ∷ v ∷ y ∷ vs) same = absurd same.1.1
-behind_by address (c ∷ w ∷ x ∷ ws) (d ∷ v ∷ []) same = absurd same.1.1
-
-behind_same : (found other : Option (Address × List Word)) → SameFound found other
-    → option_and_then register_behind found ≡ option_and_then register_behind other
-behind_same None None same = refl
-behind_same (Some (a, ws)) (Some (b, vs)) same = ap (λ (address : Address). register_behind (address, ws)) same.0 ∙ behind_by b ws vs same.1
-behind_same None (Some (b, vs)) same = absurd same
-behind_same (Some (a, ws)) None same = absurd same
-
-nothing_by : (reg : Reg) (address : Address) (ws vs : List Word) → AreRecased ws vs
-    → nothing_behind reg (address, ws) ≡ nothing_behind reg (address, vs)
-nothing_by reg address [] [] same = refl
-nothing_by reg address (w ∷ ws) (v ∷ vs) same = refl
-nothing_by reg address [] (v ∷ vs) same = absurd same
-nothing_by reg address (w ∷ ws) [] same = absurd same
-
-nothing_same : (reg : Reg) (found other : Option (Address × List Word)) → SameFound found other
-    → option_and_then (nothing_behind reg) found ≡ option_and_then (nothing_behind reg) other
-nothing_same reg None None same = refl
-nothing_same reg (Some (a, ws)) (Some (b, vs)) same = ap (λ (address : Address). nothing_behind reg (address, ws)) same.0
-    ∙ nothing_by reg b ws vs same.1
-nothing_same reg None (Some (b, vs)) same = absurd same
-nothing_same reg (Some (a, ws)) None same = absurd same
-
-loaded_same : (ws vs : List Word) → AreRecased ws vs → loaded_of ws ≡ loaded_of vs
-unfolding loaded_of
-loaded_same ws vs same = behind_same (address_of ws) (address_of vs) (address_same ws vs same)
-
-stored_by : (reg : Option Reg) (found other : Option (Address × List Word)) → SameFound found other
-    → option_and_then (λ r. option_and_then (nothing_behind r) found) reg ≡ option_and_then (λ r. option_and_then (nothing_behind r) other) reg
-stored_by None found other same = refl
-stored_by (Some r) found other same = nothing_same r found other same
-
-stored_same : (ws vs : List Word) → AreRecased ws vs → stored_of ws ≡ stored_of vs
-unfolding stored_of
-stored_same [] [] same = refl
-stored_same (w ∷ []) (v ∷ []) same = refl
-stored_same (w ∷ c ∷ []) (v ∷ d ∷ []) same = refl
-stored_same (w ∷ c ∷ s ∷ ws) (v ∷ d ∷ t ∷ vs) same =
-    rw (spells_same (codes ",") c d same.1.0, spells_same (codes "*") s t same.1.1.0, register_same w v same.0)
-    (ap (λ (o : Option Operands). cond (spells (codes ",") d && spells (codes "*") t) o None)
-    (stored_by (register_of v) (address_of ws) (address_of vs) (address_same ws vs same.1.1.1)))
-stored_same [] (v ∷ vs) same = absurd same
-stored_same (w ∷ ws) [] same = absurd same
-stored_same (w ∷ []) (v ∷ d ∷ vs) same = absurd same.1
-stored_same (w ∷ c ∷ ws) (v ∷ []) same = absurd same.1
-stored_same (w ∷ c ∷ []) (v ∷ d ∷ t ∷ vs) same = absurd same.1.1
-stored_same (w ∷ c ∷ s ∷ ws) (v ∷ d ∷ []) same = absurd same.1.1
-
-sources_same : (ws vs : List Word) → AreRecased ws vs → sources_of ws ≡ sources_of vs
-sources_same [] [] same = refl
-sources_same (w ∷ []) (v ∷ []) same = rw (source_same w v same.0) refl
-sources_same (w ∷ c ∷ ws) (v ∷ d ∷ vs) same = rw (source_same w v same.0, spells_same (codes ",") c d same.1.0, sources_same ws vs same.1.1) refl
-sources_same [] (v ∷ vs) same = absurd same
-sources_same (w ∷ ws) [] same = absurd same
-sources_same (w ∷ []) (v ∷ d ∷ vs) same = absurd same.1
-sources_same (w ∷ c ∷ ws) (v ∷ []) same = absurd same.1
-
-plain_same : (ws vs : List Word) → AreRecased ws vs → plain_of ws ≡ plain_of vs
-unfolding plain_of
-plain_same ws vs same = ap (option_and_then operands_from) (sources_same ws vs same)
-
-operands_same : (store : Bool) (ws vs : List Word) → AreRecased ws vs → operands_of store ws ≡ operands_of store vs
-unfolding operands_of
-operands_same store [] [] same = refl
-operands_same store (w ∷ ws) (v ∷ vs) same =
-    rw (spells_same (codes "*") w v same.0, loaded_same ws vs same.1, stored_same (w ∷ ws) (v ∷ vs) same, plain_same (w ∷ ws) (v ∷ vs) same) refl
-operands_same store [] (v ∷ vs) same = absurd same
-operands_same store (w ∷ ws) [] same = absurd same
+kinds_same : (ws vs : List Word) → AreRecased ws vs → kinds_of ws ≡ kinds_of vs
+kinds_same [] [] same = refl
+kinds_same (w ∷ ws) (v ∷ vs) same = rw (kind_same w v same.0, kinds_same ws vs same.1) refl
+kinds_same [] (v ∷ vs) same = absurd same
+kinds_same (w ∷ ws) [] same = absurd same
 
 -- ---- mnemonics and units
 
@@ -492,25 +344,14 @@ jumps_small (Some label) (Some other) mnemonic cond written ws vs labels same =
     (ap (λ (l : Word). Jumps (parts_read Branch (Block 0) cond written) l) low)
 jumps_small None None mnemonic cond written ws vs labels same =
     ap (λ (operands : Option Operands). small (does cond written (operands_written mnemonic written operands)))
-    (operands_same (is_storing mnemonic) ws vs same)
+    (ap (operands_of (is_storing mnemonic)) (kinds_same ws vs same))
 jumps_small None (Some other) mnemonic cond written ws vs labels same = absurd cc
 jumps_small (Some label) None mnemonic cond written ws vs labels same = absurd cc
-
-pause_same : (cond : Option Condition) (ws vs : List Word) → AreRecased ws vs → pause_of cond ws ≡ pause_of cond vs
-unfolding pause_of
-pause_same (Some cond) ws vs same = refl
-pause_same None [] [] same = refl
-pause_same None (w ∷ []) (v ∷ []) same = ap cycles_of (number_of_same w v same.0)
-pause_same None (w ∷ x ∷ ws) (v ∷ y ∷ vs) same = refl
-pause_same None [] (v ∷ vs) same = absurd same
-pause_same None (w ∷ ws) [] same = absurd same
-pause_same None (w ∷ []) (v ∷ y ∷ vs) same = absurd same.1
-pause_same None (w ∷ x ∷ ws) (v ∷ []) same = absurd same.1
 
 behind_small : (mnemonic : Mnemonic) (cond : Option Condition) (written : Option WrittenUnit) (ws vs : List Word) → AreRecased ws vs
     → SmallSame (behind_unit mnemonic cond written ws) (behind_unit mnemonic cond written vs)
 unfolding behind_unit
-behind_small Nop cond written ws vs same = ap small (pause_same cond ws vs same)
+behind_small Nop cond written ws vs same = ap (λ (kinds : List Kind). small (pause_of cond kinds)) (kinds_same ws vs same)
 behind_small (Operation op) cond written ws vs same =
     jumps_small (target_of (Operation op) ws) (target_of (Operation op) vs) (Operation op) cond written ws vs
     (target_same (Operation op) ws vs same) same
@@ -560,44 +401,24 @@ instruction_small cond (w ∷ ws) [] same = absurd same
 
 -- ---- conditions
 
-conditional_by : (negated : Bool) (reg : Option Reg) (ws vs : List Word) → AreRecased ws vs
-    → SameFound (conditional negated reg ws) (conditional negated reg vs)
-conditional_by negated None ws vs same = tt
-conditional_by negated (Some reg) ws vs same = (refl, same)
+rest_same : (count : ℕ) (ws vs : List Word) → AreRecased ws vs → AreRecased (drop count ws) (drop count vs)
+rest_same zero ws vs same = same
+rest_same (suc count) [] [] same = tt
+rest_same (suc count) (w ∷ ws) (v ∷ vs) same = rest_same count ws vs same.1
+rest_same (suc count) [] (v ∷ vs) same = absurd same
+rest_same (suc count) (w ∷ ws) [] same = absurd same
 
-closed_same : (negated : Bool) (ws vs : List Word) → AreRecased ws vs → SameFound (closed_condition negated ws) (closed_condition negated vs)
-unfolding closed_condition
-closed_same negated [] [] same = tt
-closed_same negated (w ∷ []) (v ∷ []) same = tt
-closed_same negated (w ∷ c ∷ ws) (v ∷ d ∷ vs) same =
-    same_cond SameFound (spells (codes "]") c) (spells (codes "]") d) (conditional negated (register_of w) ws) None
-    (conditional negated (register_of v) vs) None (spells_same (codes "]") c d same.1.0)
-    (subst (λ (reg : Option Reg). SameFound (conditional negated (register_of w) ws) (conditional negated reg vs)) (register_same w v same.0)
-    (conditional_by negated (register_of w) ws vs same.1.1)) tt
-closed_same negated [] (v ∷ vs) same = absurd same
-closed_same negated (w ∷ ws) [] same = absurd same
-closed_same negated (w ∷ []) (v ∷ d ∷ vs) same = absurd same.1
-closed_same negated (w ∷ c ∷ ws) (v ∷ []) same = absurd same.1
-
-bracket_same : (ws vs : List Word) → AreRecased ws vs → SameFound (bracketed_condition ws) (bracketed_condition vs)
-unfolding bracketed_condition
-bracket_same [] [] same = tt
-bracket_same (w ∷ ws) (v ∷ vs) same =
-    same_cond SameFound (spells (codes "!") w) (spells (codes "!") v) (closed_condition true ws) (closed_condition false (w ∷ ws))
-    (closed_condition true vs) (closed_condition false (v ∷ vs))
-    (spells_same (codes "!") w v same.0) (closed_same true ws vs same.1) (closed_same false (w ∷ ws) (v ∷ vs) same)
-bracket_same [] (v ∷ vs) same = absurd same
-bracket_same (w ∷ ws) [] same = absurd same
+found_same : (found : Option (Option Condition × ℕ)) (ws vs : List Word) → AreRecased ws vs
+    → SameFound (option_map (before_rest ws) found) (option_map (before_rest vs) found)
+found_same None ws vs same = tt
+found_same (Some (cond, count)) ws vs same = (refl, rest_same count ws vs same)
 
 front_same : (ws vs : List Word) → AreRecased ws vs → SameFound (condition_front ws) (condition_front vs)
 unfolding condition_front
-front_same [] [] same = (refl, tt)
-front_same (w ∷ ws) (v ∷ vs) same =
-    same_cond SameFound (spells (codes "[") w)
-    (spells (codes "[") v) (bracketed_condition ws) (Some (None, w ∷ ws)) (bracketed_condition vs) (Some (None, v ∷ vs))
-    (spells_same (codes "[") w v same.0) (bracket_same ws vs same.1) (refl, same)
-front_same [] (v ∷ vs) same = absurd same
-front_same (w ∷ ws) [] same = absurd same
+front_same ws vs same =
+    subst (λ (kinds : List Kind). SameFound (option_map (before_rest ws) (condition_of (kinds_of ws)))
+    (option_map (before_rest vs) (condition_of kinds)))
+    (kinds_same ws vs same) (found_same (condition_of (kinds_of ws)) ws vs same)
 
 condition_small : (found other : Option (Option Condition × List Word)) → SameFound found other
     → SmallSame (with_condition found) (with_condition other)

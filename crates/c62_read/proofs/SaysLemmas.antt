@@ -1,6 +1,6 @@
 -- What lines may say: no instruction but a jump has a block for its operand.
 use Rattle.std.proofs.Common.{◌≡◌, Bool, true, false, not, cond, leb, ◌&&◌, List, [], ◌∷◌, Option, Some, None, Result, Ok, Err, refl, subst}
-use Rattle.std.specs.Prelude.{ℤ, pos, negsuc, option_map, option_and_then, codes}
+use Rattle.std.specs.Prelude.{ℤ, pos}
 use Rattle.std.proofs.lemmas.Bool.{cond_both}
 use Rattle.c62_insn.specs.declared.register.Reg.{Reg}
 use Rattle.c62_insn.specs.declared.register.Cond.{Cond as Condition}
@@ -18,11 +18,11 @@ use Rattle.c62_read.specs.declared.fault.Cause.TheVariants.{BadUnit, BadOperand,
 use Rattle.c62_read.specs.declared.mnemonic.Mnemonic.{Mnemonic}
 use Rattle.c62_read.specs.declared.mnemonic.Mnemonic.TheVariants.{Operation, Mv, Neg, Not, Zero, Mvkl, Mvkh, Nop}
 use Rattle.c62_read.specs.declared.operand.Address.{Address}
-use Rattle.c62_read.specs.declared.operand.Source.{Source}
-use Rattle.c62_read.specs.declared.operand.Source.TheVariants.{Register as FromRegister, Constant as FromConstant}
 use Rattle.c62_read.specs.declared.unit.WrittenUnit.{WrittenUnit}
-use Rattle.c62_read.specs.Number.{number_of, register_of, spells}
-use Rattle.c62_read.specs.Operand.{Word, access, address_of, loaded_of, nothing_behind, operands_from, operands_of, plain_of, register_behind, sources_of, stored_of}
+use Rattle.c62_read.specs.declared.kind.Kind.{Kind}
+use Rattle.c62_read.specs.declared.kind.Kind.TheVariants as kind
+use Rattle.c62_read.specs.Kind.{Word, kind_of, kinds_of}
+use Rattle.c62_read.specs.Operand.{address_front, loaded, operands_of, stored}
 use Rattle.c62_read.specs.Mnemonic.{constant_to_front, crossed_to_back, exchanged, in_order, mnemonic_named, read_as, with_kind, zero_in}
 use Rattle.c62_read.specs.Unit.{is_dot, unit_fits, unit_front}
 use Rattle.c62_read.specs.Line.{Says, Pause, Does, Jumps, behind_unit, condition_front, cycles_of, does, first_begins, formed, instruction_of, jumps_or_does, letter_written, operands_written, parts_read, pause_of, rest_says, target_of, text_fault, with_condition, with_mnemonic, with_unit, is_storing}
@@ -37,72 +37,26 @@ abbrev Found : Option Operands → Type 0
 Found None = Unit {0}
 Found (Some operands) = has_no_block operands ≡ true
 
-from_sources : (sources : List Source) → Found (operands_from sources)
-from_sources [] = tt
-from_sources (FromRegister a ∷ []) = refl
-from_sources (FromRegister a ∷ FromRegister d ∷ []) = refl
-from_sources (FromConstant k ∷ FromRegister d ∷ []) = refl
-from_sources (FromRegister a ∷ FromRegister b ∷ FromRegister d ∷ []) = refl
-from_sources (FromConstant k ∷ FromRegister a ∷ FromRegister d ∷ []) = refl
-from_sources (FromRegister a ∷ FromConstant k ∷ FromRegister d ∷ []) = refl
-from_sources (FromRegister a ∷ FromConstant k ∷ FromConstant m ∷ FromRegister d ∷ []) = refl
-from_sources _ = tt
+loaded_found : (found : Option (Address × List Kind)) → Found (loaded found)
+loaded_found (Some (address, kind.Comma ∷ kind.Register reg ∷ [])) = refl
+loaded_found _ = tt
 
-plain_found : (words : List Word) → Found (plain_of words)
-unfolding plain_of
-plain_found words = go (sources_of words)
-  where
-    go : (sources : Option (List Source)) → Found (option_and_then operands_from sources)
-    go None = tt
-    go (Some sources) = from_sources sources
+stored_found : (reg : Reg) (found : Option (Address × List Kind)) → Found (stored reg found)
+stored_found reg (Some (address, [])) = refl
+stored_found reg _ = tt
 
-access_found : (address : Address) (reg : Option Reg) → Found (option_map (λ r. access r address) reg)
-access_found address None = tt
-access_found address (Some reg) = refl
-
-behind_found : (found : Address × List Word) → Found (register_behind found)
-behind_found (address, []) = tt
-behind_found (address, comma ∷ []) = tt
-behind_found (address, comma ∷ name ∷ []) =
-    cond_both (spells (codes ",") comma) (option_map (λ reg. access reg address) (register_of name)) None Found
-    (λ _. access_found address (register_of name)) (λ _. tt)
-behind_found (address, comma ∷ name ∷ next ∷ words) = tt
-
-loaded_found : (words : List Word) → Found (loaded_of words)
-unfolding loaded_of
-loaded_found words = go (address_of words)
-  where
-    go : (found : Option (Address × List Word)) → Found (option_and_then register_behind found)
-    go None = tt
-    go (Some found) = behind_found found
-
-nothing_found : (reg : Reg) (found : Option (Address × List Word)) → Found (option_and_then (nothing_behind reg) found)
-nothing_found reg None = tt
-nothing_found reg (Some (address, [])) = refl
-nothing_found reg (Some (address, word ∷ words)) = tt
-
-stored_by : (reg : Option Reg) (found : Option (Address × List Word)) → Found (option_and_then (λ r. option_and_then (nothing_behind r) found) reg)
-stored_by None found = tt
-stored_by (Some reg) found = nothing_found reg found
-
-stored_found : (words : List Word) → Found (stored_of words)
-unfolding stored_of
-stored_found [] = tt
-stored_found (name ∷ []) = tt
-stored_found (name ∷ comma ∷ []) = tt
-stored_found (name ∷ comma ∷ star ∷ words) =
-    cond_both (spells (codes ",") comma && spells (codes "*") star)
-    (option_and_then (λ reg. option_and_then (nothing_behind reg) (address_of words)) (register_of name)) None Found
-    (λ _. stored_by (register_of name) (address_of words)) (λ _. tt)
-
-operands_found : (store : Bool) (words : List Word) → Found (operands_of store words)
+operands_found : (store : Bool) (kinds : List Kind) → Found (operands_of store kinds)
 unfolding operands_of
-operands_found store [] = tt
-operands_found store (first ∷ rest) =
-    cond_both (spells (codes "*") first) (cond store None (loaded_of rest)) (cond store (stored_of (first ∷ rest)) (plain_of (first ∷ rest))) Found
-    (λ _. cond_both store None (loaded_of rest) Found (λ _. tt) (λ _. loaded_found rest))
-    (λ _. cond_both store (stored_of (first ∷ rest)) (plain_of (first ∷ rest)) Found (λ _. stored_found (first ∷ rest))
-    (λ _. plain_found (first ∷ rest)))
+operands_found true (kind.Register reg ∷ kind.Comma ∷ kind.Star ∷ address) = stored_found reg (address_front address)
+operands_found false (kind.Star ∷ address) = loaded_found (address_front address)
+operands_found false (kind.Register a ∷ []) = refl
+operands_found false (kind.Register a ∷ kind.Comma ∷ kind.Register d ∷ []) = refl
+operands_found false (kind.Number k ∷ kind.Comma ∷ kind.Register d ∷ []) = refl
+operands_found false (kind.Register a ∷ kind.Comma ∷ kind.Register b ∷ kind.Comma ∷ kind.Register d ∷ []) = refl
+operands_found false (kind.Number k ∷ kind.Comma ∷ kind.Register a ∷ kind.Comma ∷ kind.Register d ∷ []) = refl
+operands_found false (kind.Register a ∷ kind.Comma ∷ kind.Number k ∷ kind.Comma ∷ kind.Register d ∷ []) = refl
+operands_found false (kind.Register a ∷ kind.Comma ∷ kind.Number k ∷ kind.Comma ∷ kind.Number m ∷ kind.Comma ∷ kind.Register d ∷ []) = refl
+operands_found store kinds = tt
 
 -- ---- what is made of them
 
@@ -188,25 +142,24 @@ behind_proper : (aim : Option Word) (mnemonic : Mnemonic) (cond : Option Conditi
 behind_proper (Some label) mnemonic cond written words =
     formed_proper (text_fault Branch (Block 0) cond written) (Jumps (parts_read Branch (Block 0) cond written) label) (refl, refl)
 behind_proper None mnemonic cond written words =
-    does_proper cond written (operands_written mnemonic written (operands_of (is_storing mnemonic) words))
-    (written_free mnemonic written (operands_of (is_storing mnemonic) words) (operands_found (is_storing mnemonic) words))
+    let kinds = kinds_of words in
+    does_proper cond written (operands_written mnemonic written (operands_of (is_storing mnemonic) kinds))
+    (written_free mnemonic written (operands_of (is_storing mnemonic) kinds) (operands_found (is_storing mnemonic) kinds))
 
-cycles_proper : (k : Option ℤ) → OkProper (cycles_of k)
-cycles_proper (Some (pos n)) = cond_both (leb 1 n && leb n 9) (Ok (Pause n)) (Err BadOperand) OkProper (λ _. tt) (λ _. tt)
-cycles_proper (Some (negsuc n)) = tt
-cycles_proper None = tt
+cycles_proper : (kind : Kind) → OkProper (cycles_of kind)
+cycles_proper (kind.Number (pos n)) = cond_both (leb 1 n && leb n 9) (Ok (Pause n)) (Err BadOperand) OkProper (λ _. tt) (λ _. tt)
+cycles_proper _ = tt
 
-pause_proper : (cond : Option Condition) (words : List Word) → OkProper (pause_of cond words)
+pause_proper : (cond : Option Condition) (kinds : List Kind) → OkProper (pause_of cond kinds)
 unfolding pause_of
-pause_proper (Some cond) words = tt
 pause_proper None [] = tt
-pause_proper None (word ∷ []) = cycles_proper (number_of word)
-pause_proper None (word ∷ next ∷ words) = tt
+pause_proper None (kind ∷ []) = cycles_proper kind
+pause_proper cond kinds = tt
 
 unit_proper : (mnemonic : Mnemonic) (cond : Option Condition) (written : Option WrittenUnit) (words : List Word)
     → OkProper (behind_unit mnemonic cond written words)
 unfolding behind_unit
-unit_proper Nop cond written words = pause_proper cond words
+unit_proper Nop cond written words = pause_proper cond (kinds_of words)
 unit_proper (Operation op) cond written words = behind_proper (target_of (Operation op) words) (Operation op) cond written words
 unit_proper Mv cond written words = behind_proper None Mv cond written words
 unit_proper Neg cond written words = behind_proper None Neg cond written words

@@ -11,16 +11,18 @@ use Rattle.c62_insn.specs.declared.register.Side.{Side}
 use Rattle.c62_insn.specs.declared.register.Side.TheVariants.{A, B}
 use Rattle.c62_insn.specs.declared.register.Reg.{Reg}
 use Rattle.c62_insn.specs.declared.operands.AddressForm.{AddressForm}
-use Rattle.c62_insn.specs.declared.operands.AddressForm.TheVariants.{Plus, Minus, PreIncrement, PreDecrement, PostIncrement, PostDecrement}
+use Rattle.c62_insn.specs.declared.operands.AddressForm.TheVariants as address_form
 use Rattle.c62_insn.specs.declared.operands.Offset.{Offset}
 use Rattle.c62_insn.specs.declared.operands.Offset.TheVariants.{Constant as ByConstant, Register as ByRegister}
 use Rattle.c62_insn.specs.declared.operands.Operands.TheVariants.{Access}
 use Rattle.c62_insn.specs.Spelling.{file_letter, register_name, offset_spelling, sign_of, step_of, is_base_alone, address_spelling, with_commas}
-use Rattle.c62_read.specs.declared.operand.Address.{Address}
 use Rattle.c62_read.specs.Text.{begins, is_word_byte, tokens}
-use Rattle.c62_read.specs.Operand.{Word, address_of, bracketed, loaded_of, operands_of, stored_of, offset_of, sign_form, signed_address, step_form, stepped_address, usual_address, with_offset}
+use Rattle.c62_read.specs.declared.kind.Kind.{Kind}
+use Rattle.c62_read.specs.declared.kind.Kind.TheVariants.{Comma, Star, Open, Close, Plus, Minus, Increment, Decrement, Register, Number}
+use Rattle.c62_read.specs.Kind.{Word, kind_of, kinds_of, mark_of, single_mark}
+use Rattle.c62_read.specs.Operand.{address_front, address_with, loaded, operands_of, stored, with_offset}
 use Rattle.c62_read.proofs.SpelledTokens.{IsToken, is_text, mark_alone, tokens_end}
-use Rattle.c62_read.proofs.SpelledNumbers.{fits, number_length, number_no_register, number_read, number_token, register_back, register_length, register_free, register_token}
+use Rattle.c62_read.proofs.SpelledNumbers.{fits, number_kind, number_length, number_token, register_kind, register_length, register_token}
 
 -- ---- offsets
 
@@ -36,23 +38,26 @@ offset_length : (offset : Offset) → offset_fits offset ≡ true → length (of
 offset_length (ByConstant k) inside = number_length k inside
 offset_length (ByRegister reg) inside = omega (arith, register_length reg)
 
-offset_back : (offset : Offset) → offset_fits offset ≡ true → offset_of (offset_spelling offset) ≡ Some offset
-unfolding offset_of
-offset_back (ByConstant k) inside = rw (number_no_register k inside, number_read k inside) refl
-offset_back (ByRegister reg) inside = rw (register_back reg) refl
+abbrev offset_kind : Offset → Kind
+offset_kind (ByConstant k) = Number k
+offset_kind (ByRegister reg) = Register reg
+
+offset_told : (offset : Offset) → offset_fits offset ≡ true → kind_of (offset_spelling offset) ≡ offset_kind offset
+offset_told (ByConstant k) inside = number_kind k inside
+offset_told (ByRegister reg) inside = register_kind reg
 
 -- ---- the words of an address
 
 abbrev with_sign : AddressForm → List Word → List Word
-with_sign Plus words = codes "+" ∷ words
-with_sign Minus words = codes "-" ∷ words
-with_sign PreIncrement words = codes "++" ∷ words
-with_sign PreDecrement words = codes "--" ∷ words
+with_sign address_form.Plus words = codes "+" ∷ words
+with_sign address_form.Minus words = codes "-" ∷ words
+with_sign address_form.PreIncrement words = codes "++" ∷ words
+with_sign address_form.PreDecrement words = codes "--" ∷ words
 with_sign _ words = words
 
 abbrev with_step : AddressForm → List Word → List Word
-with_step PostIncrement words = codes "++" ∷ words
-with_step PostDecrement words = codes "--" ∷ words
+with_step address_form.PostIncrement words = codes "++" ∷ words
+with_step address_form.PostDecrement words = codes "--" ∷ words
 with_step _ words = words
 
 -- behind the star, with what follows
@@ -69,23 +74,23 @@ tokens_bracket offset rest inside =
     ((offset_token offset inside).splits (93 ∷ rest) refl ∙ ap (λ (words : List Word). offset_spelling offset ∷ words) (mark_alone 93 rest refl))
 
 tokens_step : (form : AddressForm) (rest : List ℕ) → tokens (step_of form ++ 91 ∷ rest) ≡ with_step form (tokens (91 ∷ rest))
-tokens_step Plus rest = refl
+tokens_step address_form.Plus rest = refl
 tokens_step _ rest = refl
 
 step_ends : (form : AddressForm) (rest : List ℕ) → begins is_word_byte (step_of form ++ 91 ∷ rest) ≡ false
-step_ends Plus rest = refl
+step_ends address_form.Plus rest = refl
 step_ends _ rest = refl
 
 tokens_sign : (form : AddressForm) (side : Side) (rest : List ℕ)
     → tokens (sign_of form ++ (file_letter side ++ rest)) ≡ with_sign form (tokens (file_letter side ++ rest))
-tokens_sign Plus A rest = refl
-tokens_sign Plus B rest = refl
-tokens_sign Minus A rest = refl
-tokens_sign Minus B rest = refl
-tokens_sign PreIncrement A rest = refl
-tokens_sign PreIncrement B rest = refl
-tokens_sign PreDecrement A rest = refl
-tokens_sign PreDecrement B rest = refl
+tokens_sign address_form.Plus A rest = refl
+tokens_sign address_form.Plus B rest = refl
+tokens_sign address_form.Minus A rest = refl
+tokens_sign address_form.Minus B rest = refl
+tokens_sign address_form.PreIncrement A rest = refl
+tokens_sign address_form.PreIncrement B rest = refl
+tokens_sign address_form.PreDecrement A rest = refl
+tokens_sign address_form.PreDecrement B rest = refl
 tokens_sign _ side rest = refl
 
 sign_register : (form : AddressForm) (reg : Reg) (rest : List ℕ)
@@ -149,11 +154,11 @@ text_whole base form offset inside =
     appended a b first second = list_all-append is_text a b ∙ and_from (list_all is_text a) (list_all is_text b) first second
 
     text_sign : (form : AddressForm) → list_all is_text (codes "*" ++ sign_of form) ≡ true
-    text_sign Plus = refl
+    text_sign address_form.Plus = refl
     text_sign _ = refl
 
     text_step : (form : AddressForm) → list_all is_text (step_of form) ≡ true
-    text_step Plus = refl
+    text_step address_form.Plus = refl
     text_step _ = refl
 
 pub address_text : (base : Reg) (form : AddressForm) (offset : Offset) → offset_fits offset ≡ true
@@ -163,7 +168,7 @@ address_text base form offset inside =
     (λ _. (register_token base).plain) (λ _. text_whole base form offset inside)
 
 sign_length : (form : AddressForm) → length (sign_of form) + length (step_of form) ≤ 2
-sign_length Plus = omega arith
+sign_length address_form.Plus = omega arith
 sign_length _ = omega arith
 
 lengths : (s r t o : List ℕ) → length s + length t ≤ 2 → length r ≤ 3 → length o ≤ 11
@@ -182,97 +187,104 @@ address_length base form offset inside =
 
 -- ---- reading
 
-abbrev address : Reg → AddressForm → Offset → Address
-address base form offset = record { base = base; form = form; offset = offset }
+record MarksAreTold : Type 0 where
+  comma : kind_of (codes ",") ≡ Comma
+  star : kind_of (codes "*") ≡ Star
+  opening : kind_of (codes "[") ≡ Open
+  closing : kind_of (codes "]") ≡ Close
+  plus : kind_of (codes "+") ≡ Plus
+  minus : kind_of (codes "-") ≡ Minus
+  increment : kind_of (codes "++") ≡ Increment
+  decrement : kind_of (codes "--") ≡ Decrement
 
-bracket_back : (base : Reg) (form : AddressForm) (offset : Offset) (rest : List Word) → offset_fits offset ≡ true
-    → with_offset base form (codes "[" ∷ offset_spelling offset ∷ codes "]" ∷ rest) ≡ Some (address base form offset, rest)
-unfolding with_offset bracketed
-bracket_back base form offset rest inside = rw (offset_back offset inside) refl
+marks : MarksAreTold
+unfolding kind_of mark_of single_mark
+marks = record { comma = refl; star = refl; opening = refl; closing = refl; plus = refl; minus = refl; increment = refl; decrement = refl }
 
-signed_back : (base : Reg) (form : AddressForm) (offset : Offset) (rest : List Word) → offset_fits offset ≡ true
-    → signed_address form (register_name base ∷ codes "[" ∷ offset_spelling offset ∷ codes "]" ∷ rest) ≡ Some (address base form offset, rest)
-unfolding signed_address
-signed_back base form offset rest inside = rw (register_back base) (bracket_back base form offset rest inside)
+-- the base with its sign or step
+abbrev based : Reg → AddressForm → List Kind → List Kind
+based base address_form.Plus kinds = Plus ∷ Register base ∷ kinds
+based base address_form.Minus kinds = Minus ∷ Register base ∷ kinds
+based base address_form.PreIncrement kinds = Increment ∷ Register base ∷ kinds
+based base address_form.PreDecrement kinds = Decrement ∷ Register base ∷ kinds
+based base address_form.PostIncrement kinds = Register base ∷ Increment ∷ kinds
+based base address_form.PostDecrement kinds = Register base ∷ Decrement ∷ kinds
 
-no_sign : (reg : Reg) → sign_form (register_name reg) ≡ None
-unfolding sign_form
-no_sign reg = let free = register_free reg in rw (free.plus, free.minus, free.increment, free.decrement) refl
+based_told : (base : Reg) (form : AddressForm) (words : List Word)
+    → kinds_of (with_sign form (register_name base ∷ with_step form words)) ≡ based base form (kinds_of words)
+based_told base address_form.Plus words = rw (marks.plus, register_kind base) refl
+based_told base address_form.Minus words = rw (marks.minus, register_kind base) refl
+based_told base address_form.PreIncrement words = rw (marks.increment, register_kind base) refl
+based_told base address_form.PreDecrement words = rw (marks.decrement, register_kind base) refl
+based_told base address_form.PostIncrement words = rw (marks.increment, register_kind base) refl
+based_told base address_form.PostDecrement words = rw (marks.decrement, register_kind base) refl
 
-base_back : (base : Reg) (rest : List Word) → address_of (register_name base ∷ rest) ≡ stepped_address base rest
-unfolding address_of
-base_back base rest = rw (no_sign base, register_back base) refl
+abbrev address_kinds : Reg → AddressForm → Offset → List Kind → List Kind
+address_kinds base form offset rest =
+    cond (is_base_alone form offset) (Register base ∷ rest) (based base form (Open ∷ offset_kind offset ∷ Close ∷ rest))
 
-stepped_back : (base : Reg) (form : AddressForm) (step : Word) (offset : Offset) (rest : List Word) → offset_fits offset ≡ true
-    → step_form step ≡ Some form
-    → stepped_address base (step ∷ codes "[" ∷ offset_spelling offset ∷ codes "]" ∷ rest) ≡ Some (address base form offset, rest)
-unfolding stepped_address
-stepped_back base form step offset rest inside is = rw is (bracket_back base form offset rest inside)
-
-increments : step_form (codes "++") ≡ Some PostIncrement
-unfolding step_form
-increments = refl
-
-decrements : step_form (codes "--") ≡ Some PostDecrement
-unfolding step_form
-decrements = refl
-
-by_sign : (form : AddressForm) (sign : Word) (words : List Word) → sign_form sign ≡ Some form → address_of (sign ∷ words) ≡ signed_address form words
-unfolding address_of
-by_sign form sign words is = rw is refl
-
-signs : (sign_form (codes "+") ≡ Some Plus) × (sign_form (codes "-") ≡ Some Minus) × (sign_form (codes "++") ≡ Some PreIncrement) ×
-    (sign_form (codes "--") ≡ Some PreDecrement)
-unfolding sign_form
-signs = (refl, refl, refl, refl)
-
-plus_back : (base : Reg) (k : ℤ) (rest : List Word) (alone : Bool) → int_eq k (pos 0) ≡ alone → fits k ≡ true
-    → stepped_address base rest ≡ Some (usual_address base Plus, rest)
-    → address_of (cond alone (register_name base ∷ rest) (codes "+" ∷ register_name base ∷ codes "[" ∷ signed_decimal k ∷ codes "]" ∷ rest))
-    ≡ Some (address base Plus (ByConstant k), rest)
-plus_back base k rest true e inside ends =
-    let zero_is : k ≡ pos 0 = (Decides-int_eq k (pos 0)).0 e in
-    base_back base rest ∙ ends ∙ ap (λ (z : ℤ). Some (address base Plus (ByConstant z), rest)) (sym zero_is)
-plus_back base k rest false e inside ends =
-    by_sign Plus (codes "+") _ (signs.0) ∙ signed_back base Plus (ByConstant k) rest inside
+address_told : (base : Reg) (form : AddressForm) (offset : Offset) (words : List Word) → offset_fits offset ≡ true
+    → kinds_of (address_words base form offset words) ≡ address_kinds base form offset (kinds_of words)
+address_told base form offset words inside = by_alone (is_base_alone form offset)
+  where
+    by_alone : (alone : Bool)
+        → kinds_of (cond alone (register_name base ∷ words)
+        (with_sign form (register_name base ∷ with_step form (codes "[" ∷ offset_spelling offset ∷ codes "]" ∷ words))))
+        ≡ cond alone (Register base ∷ kinds_of words) (based base form (Open ∷ offset_kind offset ∷ Close ∷ kinds_of words))
+    by_alone true = rw (register_kind base) refl
+    by_alone false =
+        based_told base form (codes "[" ∷ offset_spelling offset ∷ codes "]" ∷ words)
+        ∙ rw (marks.opening, offset_told offset inside, marks.closing) refl
 
 -- an address reads as it, with what follows
-pub address_back : (base : Reg) (form : AddressForm) (offset : Offset) (rest : List Word) → offset_fits offset ≡ true
-    → stepped_address base rest ≡ Some (usual_address base Plus, rest)
-    → address_of (address_words base form offset rest) ≡ Some (address base form offset, rest)
-address_back base Plus (ByConstant k) rest inside ends = plus_back base k rest (int_eq k (pos 0)) refl inside ends
-address_back base Plus (ByRegister reg) rest inside ends = by_sign Plus (codes "+") _ signs.0 ∙ signed_back base Plus (ByRegister reg) rest inside
-address_back base Minus offset rest inside ends = by_sign Minus (codes "-") _ signs.1 ∙ signed_back base Minus offset rest inside
-address_back base PreIncrement offset rest inside ends = by_sign PreIncrement (codes "++") _ signs.2
-    ∙ signed_back base PreIncrement offset rest inside
-address_back base PreDecrement offset rest inside ends = by_sign PreDecrement (codes "--") _ signs.3
-    ∙ signed_back base PreDecrement offset rest inside
-address_back base PostIncrement offset rest inside ends = base_back base _
-    ∙ stepped_back base PostIncrement (codes "++") offset rest inside increments
-address_back base PostDecrement offset rest inside ends = base_back base _
-    ∙ stepped_back base PostDecrement (codes "--") offset rest inside decrements
+abbrev ReadsBack : Reg → AddressForm → Offset → List Kind → Type 0
+ReadsBack base form offset rest = address_front (address_kinds base form offset rest) ≡ Some (address_with base form offset, rest)
+
+abbrev EndsAddress : List Kind → Type 0
+EndsAddress rest = (base : Reg) → address_front (Register base ∷ rest) ≡ Some (address_with base address_form.Plus (ByConstant (pos 0)), rest)
+
+plus_back : (base : Reg) (k : ℤ) (rest : List Kind) (alone : Bool) → int_eq k (pos 0) ≡ alone → EndsAddress rest
+    → address_front (cond alone (Register base ∷ rest) (Plus ∷ Register base ∷ Open ∷ Number k ∷ Close ∷ rest))
+    ≡ Some (address_with base address_form.Plus (ByConstant k), rest)
+unfolding address_front with_offset
+plus_back base k rest true e ends =
+    let zero_is : k ≡ pos 0 = (Decides-int_eq k (pos 0)).0 e in
+    ends base ∙ ap (λ (z : ℤ). Some (address_with base address_form.Plus (ByConstant z), rest)) (sym zero_is)
+plus_back base k rest false e ends = refl
+
+address_back : (base : Reg) (form : AddressForm) (offset : Offset) (rest : List Kind) → EndsAddress rest → ReadsBack base form offset rest
+unfolding address_front with_offset
+address_back base address_form.Plus (ByConstant k) rest ends = plus_back base k rest (int_eq k (pos 0)) refl ends
+address_back base address_form.Plus (ByRegister reg) rest ends = refl
+address_back base address_form.Minus (ByConstant k) rest ends = refl
+address_back base address_form.Minus (ByRegister reg) rest ends = refl
+address_back base address_form.PreIncrement (ByConstant k) rest ends = refl
+address_back base address_form.PreIncrement (ByRegister reg) rest ends = refl
+address_back base address_form.PreDecrement (ByConstant k) rest ends = refl
+address_back base address_form.PreDecrement (ByRegister reg) rest ends = refl
+address_back base address_form.PostIncrement (ByConstant k) rest ends = refl
+address_back base address_form.PostIncrement (ByRegister reg) rest ends = refl
+address_back base address_form.PostDecrement (ByConstant k) rest ends = refl
+address_back base address_form.PostDecrement (ByRegister reg) rest ends = refl
 
 -- ---- loads and stores
 
-no_step : (rest : List Word) (base : Reg) → stepped_address base (codes "," ∷ rest) ≡ Some (usual_address base Plus, codes "," ∷ rest)
-unfolding stepped_address step_form
-no_step rest base = refl
+ends_at_comma : (rest : List Kind) → EndsAddress (Comma ∷ rest)
+unfolding address_front
+ends_at_comma rest base = refl
 
-nothing_left : (base : Reg) → stepped_address base [] ≡ Some (usual_address base Plus, [])
-unfolding stepped_address
-nothing_left base = refl
+ends_at_end : EndsAddress []
+unfolding address_front
+ends_at_end base = refl
 
-load_back : (reg base : Reg) (form : AddressForm) (offset : Offset) → offset_fits offset ≡ true
-    → loaded_of (address_words base form offset (codes "," ∷ register_name reg ∷ [])) ≡ Some (Access reg base form offset)
-unfolding loaded_of
-load_back reg base form offset inside =
-    rw (address_back base form offset (codes "," ∷ register_name reg ∷ []) inside (no_step (register_name reg ∷ []) base), register_back reg) refl
+load_back : (reg base : Reg) (form : AddressForm) (offset : Offset)
+    → loaded (address_front (address_kinds base form offset (Comma ∷ Register reg ∷ []))) ≡ Some (Access reg base form offset)
+load_back reg base form offset =
+    ap loaded (address_back base form offset (Comma ∷ Register reg ∷ []) (ends_at_comma (Register reg ∷ [])))
 
-store_back : (reg base : Reg) (form : AddressForm) (offset : Offset) → offset_fits offset ≡ true
-    → stored_of (register_name reg ∷ codes "," ∷ codes "*" ∷ address_words base form offset []) ≡ Some (Access reg base form offset)
-unfolding stored_of
-store_back reg base form offset inside =
-    rw (register_back reg, address_back base form offset [] inside (nothing_left base)) refl
+store_back : (reg base : Reg) (form : AddressForm) (offset : Offset)
+    → stored reg (address_front (address_kinds base form offset [])) ≡ Some (Access reg base form offset)
+store_back reg base form offset = ap (stored reg) (address_back base form offset [] ends_at_end)
 
 abbrev pub access_words : Bool → Reg → Reg → AddressForm → Offset → List Word
 access_words true reg base form offset = register_name reg ∷ codes "," ∷ codes "*" ∷ address_words base form offset []
@@ -280,10 +292,13 @@ access_words false reg base form offset = codes "*" ∷ address_words base form 
 
 -- the operands of a load or store read as they are
 pub access_back : (store : Bool) (reg base : Reg) (form : AddressForm) (offset : Offset) → offset_fits offset ≡ true
-    → operands_of store (access_words store reg base form offset) ≡ Some (Access reg base form offset)
+    → operands_of store (kinds_of (access_words store reg base form offset)) ≡ Some (Access reg base form offset)
 unfolding operands_of
-access_back true reg base form offset inside = rw (register_free reg).star (store_back reg base form offset inside)
-access_back false reg base form offset inside = load_back reg base form offset inside
+access_back true reg base form offset inside =
+    rw (register_kind reg, marks.comma, marks.star, address_told base form offset [] inside) (store_back reg base form offset)
+access_back false reg base form offset inside =
+    rw (marks.star, address_told base form offset (codes "," ∷ register_name reg ∷ []) inside, marks.comma, register_kind reg)
+    (load_back reg base form offset)
 
 abbrev pub access_text : Bool → Reg → Reg → AddressForm → Offset → List ℕ
 access_text store reg base form offset =

@@ -21,16 +21,17 @@ use Rattle.c62_insn.proofs.InsnLemmas.{faultless_on}
 use Rattle.c62_read.specs.declared.mnemonic.Mnemonic.TheVariants.{Operation}
 use Rattle.c62_read.specs.Text.{begins, is_blank, tokens}
 use Rattle.c62_read.specs.Number.{is_label, spells}
-use Rattle.c62_read.specs.Kind.{Word}
+use Rattle.c62_read.specs.declared.kind.Kind.TheVariants.{Open, Close, Not}
+use Rattle.c62_read.specs.Kind.{Word, kind_of, mark_of, single_mark}
 use Rattle.c62_read.specs.Mnemonic.{mnemonic_named}
 use Rattle.c62_read.specs.Unit.{is_dot, unit_fits}
-use Rattle.c62_read.specs.Line.{Does, Jumps, Says, behind_unit, bracketed_condition, closed_condition, condition_front, first_begins, instruction_of, is_bars, is_star, line_of, parts_read, rest_says, with_mnemonic}
+use Rattle.c62_read.specs.Line.{Does, Jumps, Says, behind_unit, condition_front, condition_of, first_begins, instruction_of, is_bars, is_star, line_of, parts_read, rest_says, with_mnemonic}
 use Rattle.c62_read.specs.Laws.{LineReadsBack, NamesTarget, says_with}
 use Rattle.c62_read.proofs.HeadLemmas.{all_weaker, allowed_text, head_plain, line_by_head, no_colon}
 use Rattle.c62_read.proofs.TokenLemmas.{tokens_blank}
 use Rattle.c62_read.proofs.SpelledTokens.{IsToken, is_text, mark_alone, tokens_behind}
-use Rattle.c62_read.proofs.SpelledNumbers.{register_back, register_free, register_length, register_token}
-use Rattle.c62_read.proofs.SpelledUnits.{mnemonic_back, mnemonic_length, mnemonic_no_bracket, mnemonic_no_dot, mnemonic_token, unit_back, unit_length, unit_token}
+use Rattle.c62_read.proofs.SpelledNumbers.{register_kind, register_length, register_token}
+use Rattle.c62_read.proofs.SpelledUnits.{mnemonic_back, mnemonic_kind, mnemonic_length, mnemonic_no_dot, mnemonic_token, unit_back, unit_length, unit_token}
 use Rattle.c62_read.proofs.SpelledOperands.{block_branch, does_back, jumps_back, spelled_label, spelled_operands, unit_written_fits, written_on}
 
 -- ---- the operation and what stands behind it
@@ -143,17 +144,29 @@ regrouped c m u o = simp append_assoc refl
 
 -- ---- what the words say
 
+bracket_kind : kind_of (codes "[") ≡ Open
+unfolding kind_of mark_of single_mark
+bracket_kind = refl
+
+bang_kind : kind_of (codes "!") ≡ Not
+unfolding kind_of mark_of single_mark
+bang_kind = refl
+
+close_kind : kind_of (codes "]") ≡ Close
+unfolding kind_of mark_of single_mark
+close_kind = refl
+
 front_by : (reg : Reg) (negated : Bool) (words : List Word)
     → condition_front (codes "[" ∷ bang negated (register_name reg ∷ codes "]" ∷ words))
     ≡ Some (Some (record { reg = reg; negated = negated }), words)
-unfolding condition_front bracketed_condition closed_condition
-front_by reg true words = rw (register_back reg) refl
-front_by reg false words = rw ((register_free reg).bang, register_back reg) refl
+unfolding condition_front condition_of
+front_by reg true words = rw (bracket_kind, bang_kind, register_kind reg, close_kind) refl
+front_by reg false words = rw (bracket_kind, register_kind reg, close_kind) refl
 
 front_back : (cond : Option Condition) (op : Op) (words : List Word)
     → condition_front (condition_words cond (mnemonic_of op ∷ words)) ≡ Some (cond, mnemonic_of op ∷ words)
-unfolding condition_front
-front_back None op words = rw (mnemonic_no_bracket op) refl
+unfolding condition_front condition_of
+front_back None op words = rw (mnemonic_kind op) refl
 front_back (Some c) op words = front_by c.reg c.negated (mnemonic_of op ∷ words)
 
 undirected : (cond : Option Condition) (op : Op) (words : List Word) → first_begins is_dot (condition_words cond (mnemonic_of op ∷ words)) ≡ false

@@ -1,7 +1,7 @@
 -- Numbers and registers read back.
 use Rattle.std.proofs.Common.{◌≡◌, ℕ, suc, ◌+◌, ◌-◌, ◌^◌, ◌/◌, ◌%◌, ◌<◌, ◌≤◌, Bool, true, false, eqb, ltb, leb, ◌&&◌, ◌||◌, List, [], ◌∷◌, ◌++◌, length, Option, Some, None, refl, sym, ap, subst, ◌∙◌, arith, inl, inr}
 use Rattle.std.specs.Prelude.{ℤ, pos, negsuc, ◌≤ℤ◌, int_le, option_map, option_and_then, codes, T}
-use Rattle.std.specs.Char.{digit_value, to_ascii_lowercase, is_ascii_digit}
+use Rattle.std.specs.Char.{digit_value, is_ascii_digit}
 use Rattle.std.specs.Fmt.{decimal, signed_decimal}
 use Rattle.std.specs.List.{list_all, starts_with}
 use Rattle.std.specs.Str.Parse.{AllDigits, digits_value}
@@ -13,7 +13,10 @@ use Rattle.c62_insn.specs.declared.register.Side.TheVariants.{A, B}
 use Rattle.c62_insn.specs.declared.register.Reg.{Reg}
 use Rattle.c62_insn.specs.Spelling.{file_letter, register_name}
 use Rattle.c62_read.specs.Text.{is_word_byte, joins}
-use Rattle.c62_read.specs.Number.{are_digits, decimal_of, file_of, in_file, in_range, magnitude_of, negative, number_of, numbered, register_of, signed_of, spells}
+use Rattle.c62_read.specs.declared.kind.Kind.{Kind}
+use Rattle.c62_read.specs.declared.kind.Kind.TheVariants.{Register, Number}
+use Rattle.c62_read.specs.Number.{are_digits, decimal_of, file_of, in_file, in_range, magnitude_of, negative, number_of, numbered, register_of, signed_of}
+use Rattle.c62_read.specs.Kind.{kind_of, mark_of, single_mark}
 use Rattle.c62_read.proofs.Registers.{numbered-known}
 use Rattle.c62_read.proofs.SpelledTokens.{IsToken, word_token, led_token}
 
@@ -199,30 +202,50 @@ no_register_by : (k : ℤ) → IsSpelled k → register_of (signed_decimal k) �
 no_register_by k (Digits d ds is first others short) = ap register_of is ∙ no_file d ds (digit_file d first)
 no_register_by k (Minus d ds is first others short) = ap register_of is ∙ no_file 45 (d ∷ ds) minus_file
 
-pub number_no_register : (k : ℤ) → fits k ≡ true → register_of (signed_decimal k) ≡ None
+number_no_register : (k : ℤ) → fits k ≡ true → register_of (signed_decimal k) ≡ None
 number_no_register k inside = no_register_by k (spelled k inside)
 
--- a number isn't a star
-digit_no_star : (d : ℕ) → is_ascii_digit d ≡ true → eqb (to_ascii_lowercase d) 42 ≡ false
-digit_no_star d digit = grind (arith, nat_tests)
+-- ---- marks
 
-no_star_by : (k : ℤ) → IsSpelled k → spells (codes "*") (signed_decimal k) ≡ false
-no_star_by k (Digits d ds is first others short) = ap (spells (codes "*")) is ∙ and_left (eqb (to_ascii_lowercase d) 42) _ (digit_no_star d first)
-no_star_by k (Minus d ds is first others short) = ap (spells (codes "*")) is
+no_single : (b : ℕ) → is_word_byte b ≡ true → single_mark b ≡ None
+unfolding single_mark
+no_single b word =
+    let comma : eqb b 44 ≡ false = grind (arith, nat_tests) in
+    let star : eqb b 42 ≡ false = grind (arith, nat_tests) in
+    let opening : eqb b 91 ≡ false = grind (arith, nat_tests) in
+    let closing : eqb b 93 ≡ false = grind (arith, nat_tests) in
+    let bang : eqb b 33 ≡ false = grind (arith, nat_tests) in
+    let plus : eqb b 43 ≡ false = grind (arith, nat_tests) in
+    let minus : eqb b 45 ≡ false = grind (arith, nat_tests) in
+    rw (comma, star, opening, closing, bang, plus, minus) refl
 
-pub number_no_star : (k : ℤ) → fits k ≡ true → spells (codes "*") (signed_decimal k) ≡ false
-number_no_star k inside = no_star_by k (spelled k inside)
+-- a word is no mark
+word_no_mark : (w : List ℕ) → list_all is_word_byte w ≡ true → mark_of w ≡ None
+unfolding mark_of
+word_no_mark [] words = refl
+word_no_mark (b ∷ []) words = no_single b (and_parts (is_word_byte b) true words).0
+word_no_mark (b ∷ c ∷ []) words =
+    let word : is_word_byte b ≡ true = (and_parts (is_word_byte b) (is_word_byte c && true) words).0 in
+    let plus : eqb b 43 ≡ false = grind (arith, nat_tests) in
+    let minus : eqb b 45 ≡ false = grind (arith, nat_tests) in
+    rw (plus, minus) refl
+word_no_mark (b ∷ c ∷ d ∷ w) words = refl
+
+negative_no_mark : (d : ℕ) (ds : List ℕ) → is_ascii_digit d ≡ true → mark_of (45 ∷ d ∷ ds) ≡ None
+unfolding mark_of
+negative_no_mark d [] digit = let other : eqb d 45 ≡ false = grind (arith, nat_tests) in rw other refl
+negative_no_mark d (e ∷ ds) digit = refl
+
+no_mark_by : (k : ℤ) → IsSpelled k → mark_of (signed_decimal k) ≡ None
+no_mark_by k (Digits d ds is first others short) = ap mark_of is ∙ word_no_mark (d ∷ ds) (digit_token d ds first others)
+no_mark_by k (Minus d ds is first others short) = ap mark_of is ∙ negative_no_mark d ds first
+
+-- a number is told as it
+pub number_kind : (k : ℤ) → fits k ≡ true → kind_of (signed_decimal k) ≡ Number k
+unfolding kind_of
+number_kind k inside = rw (no_mark_by k (spelled k inside), number_no_register k inside, number_read k inside) refl
 
 -- ---- registers
-
--- none of the marks that stand about registers
-pub record IsFree (w : List ℕ) : Type 0 where
-  pub star : spells (codes "*") w ≡ false
-  pub bang : spells (codes "!") w ≡ false
-  pub plus : spells (codes "+") w ≡ false
-  pub minus : spells (codes "-") w ≡ false
-  pub increment : spells (codes "++") w ≡ false
-  pub decrement : spells (codes "--") w ≡ false
 
 one_digit : (n : ℕ) → n < 10 → is_ascii_digit (48 + n) ≡ true
 one_digit n small = grind (arith, nat_tests)
@@ -282,10 +305,7 @@ register_length reg = omega (
   length-decimal-le 2 reg.number (omega arith) (omega (arith, reg.in_range)) (omega (arith, reg.in_range)),
 )
 
--- a register is no mark
-free_by : (side : Side) (ds : List ℕ) → IsFree (file_letter side ++ ds)
-free_by A ds = record { star = refl; bang = refl; plus = refl; minus = refl; increment = refl; decrement = refl }
-free_by B ds = record { star = refl; bang = refl; plus = refl; minus = refl; increment = refl; decrement = refl }
-
-pub register_free : (reg : Reg) → IsFree (register_name reg)
-register_free reg = free_by reg.side (decimal reg.number)
+-- a register is told as it
+pub register_kind : (reg : Reg) → kind_of (register_name reg) ≡ Register reg
+unfolding kind_of
+register_kind reg = rw (word_no_mark (register_name reg) (register_word reg), register_back reg) refl

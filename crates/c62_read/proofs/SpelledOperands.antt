@@ -24,19 +24,19 @@ use Rattle.c62_insn.specs.Spelling.{register_name, operands_spelling, with_comma
 use Rattle.c62_insn.specs.Takes.{same_side, same_letter, takes}
 use Rattle.c62_insn.proofs.FormLemmas.{access_on_d, constant_on_d, first_in_file, is_add, is_narrow, lets_first_cross, narrow_constants, taken_kind, taken_letter, uncrossed_on_d}
 use Rattle.c62_insn.proofs.Registers.{same_side-refl}
+use Rattle.c62_read.specs.declared.kind.Kind.{Kind}
 use Rattle.c62_read.specs.declared.mnemonic.Mnemonic.TheVariants.{Operation}
-use Rattle.c62_read.specs.declared.operand.Source.{Source}
-use Rattle.c62_read.specs.declared.operand.Source.TheVariants.{Register as FromRegister, Constant as FromConstant}
 use Rattle.c62_read.specs.declared.unit.WrittenUnit.{WrittenUnit}
 use Rattle.c62_read.specs.Text.{begins, is_word_byte, tokens}
 use Rattle.c62_read.specs.Number.{is_label, register_of}
-use Rattle.c62_read.specs.Operand.{Word, operands_from, operands_of}
+use Rattle.c62_read.specs.Kind.{Word, kinds_of}
+use Rattle.c62_read.specs.Operand.{operands_of}
 use Rattle.c62_read.specs.Mnemonic.{constant_to_front, crossed_to_back, exchanged, in_order, low_half, read_as, stands_on, with_kind}
 use Rattle.c62_read.specs.Unit.{mark_fits, unit_fits}
 use Rattle.c62_read.specs.Line.{Does, Jumps, does, formed, jumps_or_does, operands_written, behind_unit, is_branch, label_alone, misses, parts_read, target_of, text_fault}
 use Rattle.c62_read.proofs.SpelledTokens.{IsToken, is_text, text_commas, tokens_commas, tokens_end, word_token}
 use Rattle.c62_read.proofs.SpelledNumbers.{fits, register_back, register_length, register_token}
-use Rattle.c62_read.proofs.SpelledSources.{source_fits, sources_back, sources_length, sources_tokens, texts}
+use Rattle.c62_read.proofs.SpelledSources.{Source, FromConstant, FromRegister, source_fits, source_kinds, sources_length, sources_told, sources_tokens, texts}
 use Rattle.c62_read.proofs.SpelledAddresses.{access_back, access_bytes, access_length, access_text, access_tokens, offset_fits}
 use Rattle.c62_read.proofs.SpelledUnits.{mark_by, mark_on}
 
@@ -272,7 +272,7 @@ pub record IsSpelledOperands (op : Op) (operands : Operands) (text : List ℕ) :
   pub bytes : list_all is_text text ≡ true
   pub short : length text ≤ 48
   pub target : target_of (Operation op) (tokens text) ≡ None
-  pub read : option_and_then (read_as (Operation op) None) (operands_of (is_store op) (tokens text)) ≡ Some (op, operands)
+  pub read : option_and_then (read_as (Operation op) None) (operands_of (is_store op) (kinds_of (tokens text))) ≡ Some (op, operands)
 
 no_target : (op : Op) (words : List Word) → is_branch op ≡ false → target_of (Operation op) words ≡ None
 no_target op words other = rw other refl
@@ -284,7 +284,7 @@ with_order op operands written order kind = ap with_kind order ∙ rw kind refl
 
 -- operands that are these sources
 sourced : (op : Op) (operands written : Operands) (source : Source) (sources : List Source) → is_sourced operands ≡ true → has_kind op operands ≡ true
-    → list_all source_fits (source ∷ sources) ≡ true → length sources ≤ 3 → operands_from (source ∷ sources) ≡ Some written
+    → list_all source_fits (source ∷ sources) ≡ true → length sources ≤ 3 → operands_of false (source_kinds (source ∷ sources)) ≡ Some written
     → in_order op written ≡ (op, operands)
     → IsSpelledOperands op operands (with_commas (texts (source ∷ sources)))
 sourced op operands written source sources kind_sourced kind inside few are order =
@@ -294,7 +294,7 @@ sourced op operands written source sources kind_sourced kind inside few are orde
       bytes = text_commas (texts (source ∷ sources)) (sources_tokens (source ∷ sources) inside);
       short = omega (arith, sources_length (source ∷ sources) inside);
       target = no_target op (tokens (with_commas (texts (source ∷ sources)))) plain.branch;
-      read = rw (plain.store, tokens_are, sources_back source sources written inside are) (with_order op operands written order kind);
+      read = rw (plain.store, tokens_are, sources_told (source ∷ sources) inside, are) (with_order op operands written order kind);
     }
 
 fits_second : (k : ℤ) (a d : Reg) → fits k ≡ true → list_all source_fits (FromRegister a ∷ FromConstant k ∷ FromRegister d ∷ []) ≡ true
@@ -309,6 +309,7 @@ first_by : (op : Op) (unit : FunctionalUnit) (k : ℤ) (a d : Reg) (on_d : Bool)
     → IsSpelledOperands op (ConstantFirst k a d)
     (cond on_d (with_commas (texts (FromRegister a ∷ FromConstant k ∷ FromRegister d ∷ [])))
     (with_commas (texts (FromConstant k ∷ FromRegister a ∷ FromRegister d ∷ []))))
+unfolding operands_of
 first_by op unit k a d true e taking =
     let kind = taken_kind op (ConstantFirst k a d) unit taking in
     let inside = one_fits k (narrow_constants op (ConstantFirst k a d) unit taking) in
@@ -334,20 +335,22 @@ label_alone_none : (reg : Reg) → label_alone (register_name reg ∷ []) ≡ No
 label_alone_none reg = rw (no_label reg) refl
 
 branch_to_register : (target : Reg) → IsSpelledOperands Branch (Register target) (register_name target)
+unfolding operands_of
 branch_to_register target =
     let tokens_are = tokens_end (register_name target) (register_token target) in
     record {
       bytes = (register_token target).plain;
       short = omega (arith, register_length target);
       target = ap (target_of (Operation Branch)) tokens_are ∙ label_alone_none target;
-      read = ap (λ (words : List Word). option_and_then (read_as (Operation Branch) None) (operands_of false words)) tokens_are
-          ∙ ap (option_and_then (read_as (Operation Branch) None)) (sources_back (FromRegister target) [] (Register target) refl refl)
+      read = ap (λ (words : List Word). option_and_then (read_as (Operation Branch) None) (operands_of false (kinds_of words))) tokens_are
+          ∙ ap (λ (kinds : List Kind). option_and_then (read_as (Operation Branch) None) (operands_of false kinds)) (sources_told (FromRegister target ∷ []) refl)
           ∙ with_order Branch (Register target) (Register target) (register_order Branch target) refl;
     }
 
 -- whatever operands but a block
 pub spelled_operands : (name : ℕ → List ℕ) (op : Op) (operands : Operands) (unit : FunctionalUnit) → takes op operands unit ≡ true
     → ((number : ℕ) → operands ≡ Block number → ⊥) → IsSpelledOperands op operands (operands_spelling name op unit.letter operands)
+unfolding operands_of
 spelled_operands name op (Three a b d) unit taking other =
     sourced op (Three a b d) (Three a b d) (FromRegister a) (FromRegister b ∷ FromRegister d ∷ []) refl
     (taken_kind op (Three a b d) unit taking) refl (omega arith) refl
@@ -380,7 +383,7 @@ spelled_operands name op (Access reg base form offset) unit taking other =
       bytes = access_bytes (is_store op) reg base form offset inside;
       short = omega (arith, access_length (is_store op) reg base form offset inside);
       target = no_target op (tokens (access_text (is_store op) reg base form offset)) (access_no_branch op reg base form offset kind);
-      read = ap (λ (words : List Word). option_and_then (read_as (Operation op) None) (operands_of (is_store op) words)) tokens_are
+      read = ap (λ (words : List Word). option_and_then (read_as (Operation op) None) (operands_of (is_store op) (kinds_of words))) tokens_are
           ∙ ap (option_and_then (read_as (Operation op) None)) (access_back (is_store op) reg base form offset inside)
           ∙ with_order op (Access reg base form offset) (Access reg base form offset) (access_order op reg base form offset) kind;
     }
@@ -430,14 +433,14 @@ written_is op written (Some operands) = refl
 
 does_by : (op : Op) (operands : Operands) (cond : Option Condition) (unit : FunctionalUnit) (words : List Word)
     → form_fault op operands cond (Some unit) ≡ None
-    → target_of (Operation op) words ≡ None → option_and_then (read_as (Operation op) None) (operands_of (is_store op) words) ≡ Some (op, operands)
+    → target_of (Operation op) words ≡ None → option_and_then (read_as (Operation op) None) (operands_of (is_store op) (kinds_of words)) ≡ Some (op, operands)
     → behind_unit (Operation op) cond (Some (written_on operands unit)) words
     ≡ Ok (Does (parts_read op operands cond (Some (written_on operands unit))))
 unfolding behind_unit
 does_by op operands cond unit words none target read =
     let written = written_on operands unit in
     ap (λ (aim : Option Word). jumps_or_does aim (Operation op) cond (Some written) words) target
-    ∙ ap (does cond (Some written)) (written_is op written (operands_of (is_store op) words) ∙ read)
+    ∙ ap (does cond (Some written)) (written_is op written (operands_of (is_store op) (kinds_of words)) ∙ read)
     ∙ ap (λ (fault : Option FormFault). formed fault (Does (parts_read op operands cond (Some written)))) (no_fault op operands cond unit none)
 
 -- the words of operands other than a block

@@ -1,17 +1,21 @@
 -- Operands of registers and constants alone read back.
-use Rattle.std.proofs.Common.{◌≡◌, ℕ, ◌*◌, ◌≤◌, Bool, true, false, List, [], ◌∷◌, ◌++◌, length, Some, refl, arith, length-append}
-use Rattle.std.specs.Prelude.{map, codes}
+use Rattle.std.proofs.Common.{◌≡◌, ℕ, ◌*◌, ◌≤◌, Bool, true, false, List, [], ◌∷◌, ◌++◌, length, refl, arith, length-append}
+use Rattle.std.specs.Prelude.{ℤ, map, codes}
 use Rattle.std.specs.Fmt.{signed_decimal}
 use Rattle.std.specs.List.{list_all}
 use Rattle.std.proofs.lemmas.Bool.{and_parts}
-use Rattle.c62_insn.specs.declared.operands.Operands.{Operands}
+use Rattle.c62_insn.specs.declared.register.Reg.{Reg}
 use Rattle.c62_insn.specs.Spelling.{register_name, with_commas}
-use Rattle.c62_read.specs.declared.operand.Source.{Source}
-use Rattle.c62_read.specs.declared.operand.Source.TheVariants.{Register as FromRegister, Constant as FromConstant}
-use Rattle.c62_read.specs.Number.{spells}
-use Rattle.c62_read.specs.Operand.{operands_from, operands_of, plain_of, source_of, sources_of}
+use Rattle.c62_read.specs.declared.kind.Kind.{Kind}
+use Rattle.c62_read.specs.declared.kind.Kind.TheVariants.{Comma, Register, Number}
+use Rattle.c62_read.specs.Kind.{kind_of, kinds_of, mark_of, single_mark}
 use Rattle.c62_read.proofs.SpelledTokens.{IsToken, AllTokens, commas}
-use Rattle.c62_read.proofs.SpelledNumbers.{fits, number_length, number_no_register, number_no_star, number_read, number_token, register_back, register_length, register_free, register_token}
+use Rattle.c62_read.proofs.SpelledNumbers.{fits, number_kind, number_length, number_token, register_kind, register_length, register_token}
+
+-- a register or a constant
+pub data Source : Type 0 where
+  FromRegister : Reg → Source
+  FromConstant : ℤ → Source
 
 -- how a source is spelled
 abbrev pub source_text : Source → List ℕ
@@ -30,14 +34,13 @@ source_length : (source : Source) → source_fits source ≡ true → length (so
 source_length (FromRegister reg) inside = omega (arith, register_length reg)
 source_length (FromConstant k) inside = number_length k inside
 
-source_read : (source : Source) → source_fits source ≡ true → source_of (source_text source) ≡ Some source
-unfolding source_of
-source_read (FromRegister reg) inside = rw (register_back reg) refl
-source_read (FromConstant k) inside = rw (number_no_register k inside, number_read k inside) refl
+abbrev source_kind : Source → Kind
+source_kind (FromRegister reg) = Register reg
+source_kind (FromConstant k) = Number k
 
-source_no_star : (source : Source) → source_fits source ≡ true → spells (codes "*") (source_text source) ≡ false
-source_no_star (FromRegister reg) inside = (register_free reg).star
-source_no_star (FromConstant k) inside = number_no_star k inside
+source_told : (source : Source) → source_fits source ≡ true → kind_of (source_text source) ≡ source_kind source
+source_told (FromRegister reg) inside = register_kind reg
+source_told (FromConstant k) inside = number_kind k inside
 
 abbrev pub texts : List Source → List (List ℕ)
 texts sources = map source_text sources
@@ -48,29 +51,22 @@ sources_tokens (source ∷ sources) inside =
     let parts = and_parts (source_fits source) (list_all source_fits sources) inside in
     (source_token source parts.0, sources_tokens sources parts.1)
 
-sources_read : (source : Source) (sources : List Source) → list_all source_fits (source ∷ sources) ≡ true
-    → sources_of (commas (texts (source ∷ sources))) ≡ Some (source ∷ sources)
-sources_read source [] inside = rw (source_read source (and_parts (source_fits source) true inside).0) refl
-sources_read source (next ∷ sources) inside =
+comma_kind : kind_of (codes ",") ≡ Comma
+unfolding kind_of mark_of single_mark
+comma_kind = refl
+
+-- what sources with commas between are told as
+abbrev pub source_kinds : List Source → List Kind
+source_kinds [] = []
+source_kinds (source ∷ []) = source_kind source ∷ []
+source_kinds (source ∷ next ∷ sources) = source_kind source ∷ Comma ∷ source_kinds (next ∷ sources)
+
+pub sources_told : (sources : List Source) → list_all source_fits sources ≡ true → kinds_of (commas (texts sources)) ≡ source_kinds sources
+sources_told [] inside = refl
+sources_told (source ∷ []) inside = rw (source_told source (and_parts (source_fits source) true inside).0) refl
+sources_told (source ∷ next ∷ sources) inside =
     let parts = and_parts (source_fits source) (list_all source_fits (next ∷ sources)) inside in
-    rw (source_read source parts.0, sources_read next sources parts.1) refl
-
-plain_read : (source : Source) (sources : List Source) (operands : Operands) → list_all source_fits (source ∷ sources) ≡ true
-    → operands_from (source ∷ sources) ≡ Some operands
-    → plain_of (commas (texts (source ∷ sources))) ≡ Some operands
-unfolding plain_of
-plain_read source sources operands inside are = rw (sources_read source sources inside) are
-
--- operands that are these sources read as they are
-pub sources_back : (source : Source) (sources : List Source) (operands : Operands) → list_all source_fits (source ∷ sources) ≡ true
-    → operands_from (source ∷ sources) ≡ Some operands
-    → operands_of false (commas (texts (source ∷ sources))) ≡ Some operands
-unfolding operands_of
-sources_back source [] operands inside are =
-    rw (source_no_star source (and_parts (source_fits source) true inside).0) (plain_read source [] operands inside are)
-sources_back source (next ∷ sources) operands inside are =
-    rw (source_no_star source (and_parts (source_fits source) (list_all source_fits (next ∷ sources)) inside).0)
-    (plain_read source (next ∷ sources) operands inside are)
+    rw (source_told source parts.0, comma_kind, sources_told (next ∷ sources) parts.1) refl
 
 -- eleven bytes and a comma for each
 pub sources_length : (sources : List Source) → list_all source_fits sources ≡ true → length (with_commas (texts sources)) ≤ 12 * length sources

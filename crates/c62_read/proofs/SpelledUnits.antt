@@ -17,7 +17,9 @@ use Rattle.c62_read.specs.declared.mnemonic.Mnemonic.TheVariants.{Operation}
 use Rattle.c62_read.specs.declared.unit.Mark.{Mark}
 use Rattle.c62_read.specs.declared.unit.Mark.TheVariants.{Plain, Cross, Path}
 use Rattle.c62_read.specs.Text.{begins, is_word_byte, joins}
-use Rattle.c62_read.specs.Number.{spells}
+use Rattle.c62_read.specs.Number.{decimal_of, magnitude_of, number_of, register_of, signed_of}
+use Rattle.c62_read.specs.declared.kind.Kind.TheVariants.{Name}
+use Rattle.c62_read.specs.Kind.{kind_of, mark_of as written_mark, single_mark}
 use Rattle.c62_read.proofs.NameLemmas.{named}
 use Rattle.c62_read.specs.Mnemonic.{mnemonic_named}
 use Rattle.c62_read.specs.Unit.{is_dot, letter_of, side_numbered, mark_of, unit_split, unit_front}
@@ -49,9 +51,10 @@ pub mnemonic_no_dot : (op : Op) → begins is_dot (mnemonic_of op) ≡ false
 mnemonic_no_dot Add = refl
 mnemonic_no_dot _ = refl
 
-pub mnemonic_no_bracket : (op : Op) → spells (codes "[") (mnemonic_of op) ≡ false
-mnemonic_no_bracket Add = refl
-mnemonic_no_bracket _ = refl
+pub mnemonic_kind : (op : Op) → kind_of (mnemonic_of op) ≡ Name
+unfolding kind_of written_mark single_mark register_of number_of signed_of magnitude_of decimal_of
+mnemonic_kind Add = refl
+mnemonic_kind _ = refl
 
 -- ---- units
 

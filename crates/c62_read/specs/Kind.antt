@@ -1,5 +1,5 @@
 -- What the tokens of a line are: marks, registers, numbers and names (docs/SERIAL_TEXT.md, "Tokens").
-use Rattle.std.specs.Prelude.{ℕ, ℤ, ◌==◌, List, [], ◌∷◌, map, Option, Some, None, if◌then◌else◌}
+use Rattle.std.specs.Prelude.{ℕ, ℤ, ◌==◌, ◌&&◌, List, [], ◌∷◌, map, Option, Some, None, if◌then◌else◌}
 use Rattle.c62_insn.specs.declared.register.Reg.{Reg}
 use Rattle.c62_read.specs.declared.kind.Kind.{Kind}
 use Rattle.c62_read.specs.declared.kind.Kind.TheVariants.{Comma, Star, Open, Close, Not, Plus, Minus, Increment, Decrement, Register, Number, Name}
@@ -21,13 +21,13 @@ single_mark b =
     else (if b == 45 then Some Minus
     else None))))))
 
--- `++` and `--`, by the byte that stands twice
-unfoldable pub double_mark : ℕ → Option Kind
-double_mark b = if b == 43 then Some Increment else (if b == 45 then Some Decrement else None)
-
+-- one of these, `++` or `--`
 unfoldable pub mark_of : Word → Option Kind
 mark_of (b ∷ []) = single_mark b
-mark_of (b ∷ c ∷ []) = if b == c then double_mark b else None
+mark_of (b ∷ c ∷ []) =
+    if b == 43 && c == 43 then Some Increment
+    else (if b == 45 && c == 45 then Some Decrement
+    else None)
 mark_of _ = None
 
 abbrev pub value_kind : Option Reg → Option ℤ → Kind

@@ -36,7 +36,7 @@ pub(crate) enum Kind {
     Name,
 }
 
-ghost use Rattle.c62_read.specs.Kind.{single_mark, double_mark, mark_of, kind_of, kinds_of};
+ghost use Rattle.c62_read.specs.Kind.{single_mark, mark_of, kind_of, kinds_of};
 
 #[tactic(auto, unfolding(crate::specs::Kind::single_mark))]
 fn single_mark(b: u8) -> Option<Kind>
@@ -54,24 +54,14 @@ fn single_mark(b: u8) -> Option<Kind>
     }
 }
 
-#[tactic(auto, unfolding(crate::specs::Kind::double_mark))]
-fn double_mark(b: u8) -> Option<Kind>
-    ensures { result ≡ double_mark b }
-{
-    match b {
-        b'+' => Some(Kind::Increment),
-        b'-' => Some(Kind::Decrement),
-        _ => None,
-    }
-}
-
 #[tactic(auto, unfolding(crate::specs::Kind::mark_of))]
 fn mark(word: &[u8]) -> Option<Kind>
     ensures { result ≡ mark_of word.now }
 {
     match word {
         [b] => single_mark(*b),
-        [b, c] => { if *b == *c { double_mark(*b) } else { None } }
+        b"++" => Some(Kind::Increment),
+        b"--" => Some(Kind::Decrement),
         _ => None,
     }
 }
