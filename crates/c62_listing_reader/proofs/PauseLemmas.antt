@@ -1,40 +1,21 @@
 -- A line of NOP says from one to nine cycles without an instruction.
 use Rattle.std.proofs.Common.{arith, ◌≡◌, ℕ, ◌≤◌, Bool, true, false, leb, ◌&&◌, List, [], ◌∷◌, ◌++◌, length, Option, Some, None, Result, Ok, Err, refl, sym, ap, ◌∙◌, subst}
-use Rattle.std.specs.Prelude.{ℤ, pos, negsuc, nat_lt, codes, if◌then◌else◌}
+use Rattle.std.specs.Prelude.{pos, nat_lt, codes, if◌then◌else◌}
 use Rattle.std.specs.List.{list_all}
 use Rattle.std.proofs.lemmas.Bool.{and_parts, cond_both, false≢true, leb-true}
 use Rattle.std.proofs.lemmas.Option.{none-some}
 use Rattle.c62_read.specs.declared.fault.Cause.{Cause}
 use Rattle.c62_read.specs.declared.fault.Cause.TheVariants.{BadLabel, BadOperand, BadUnit, LineTooLong, NotAscii, ParallelBar}
 use Rattle.c62_read.specs.Text.{begins, is_allowed, tokens}
-use Rattle.c62_read.specs.Number.{is_label, number_of, spells}
+use Rattle.c62_read.specs.Number.{is_label, spells}
 use Rattle.c62_read.specs.Kind.{Word}
 use Rattle.c62_read.specs.Mnemonic.{mnemonic_named, operation_named, pseudo_named}
 use Rattle.c62_read.specs.Unit.{unit_front}
-use Rattle.c62_read.specs.Line.{Says, Pause, behind_unit, condition_front, cycles_of, has_colon, head_of, instruction_of, is_bars, is_star, label_front, pause_of, rest_says, with_unit, without_colon}
+use Rattle.c62_read.specs.Line.{Says, Pause, behind_unit, condition_front, condition_of, cycles_of, has_colon, head_of, instruction_of, is_bars, is_star, label_front, pause_of, rest_says, with_unit, without_colon}
+use Rattle.c62_read.proofs.PauseLemmas.{IsShort, OkShort, nop_kind, pause_short}
 use Rattle.c62_read.proofs.SpelledTokens.{IsToken, tokens_behind, word_token}
 
-abbrev pub IsShort : Says → Type 0
-IsShort (Pause n) = (1 ≤ n) × (n ≤ 9)
-IsShort _ = Unit {0}
-
-abbrev OkShort : Result Says Cause → Type 0
-OkShort (Ok says) = IsShort says
-OkShort (Err cause) = Unit {0}
-
 -- ---- what stands behind the name
-
-cycles_short : (k : Option ℤ) → OkShort (cycles_of k)
-cycles_short (Some (pos n)) = cond_both (leb 1 n && leb n 9) (Ok (Pause n)) (Err BadOperand) OkShort
-    (λ is. let parts = and_parts (leb 1 n) (leb n 9) is in (leb-true 1 n parts.0, leb-true n 9 parts.1)) (λ _. tt)
-cycles_short (Some (negsuc n)) = tt
-cycles_short None = tt
-
-pause_short : (words : List Word) → OkShort (pause_of None words)
-unfolding pause_of
-pause_short [] = (omega arith, omega arith)
-pause_short (word ∷ []) = cycles_short (number_of word)
-pause_short (word ∷ next ∷ words) = tt
 
 short_if : (fits : Bool) (says : Result Says Cause) → OkShort says → OkShort (if fits then says else Err BadUnit)
 short_if true says is = is
@@ -52,9 +33,9 @@ by_unit (Some (None, words)) says none bare full = bare words
 by_unit (Some (Some unit, words)) says none bare full = full unit words
 
 nop_short : (words : List Word) → OkShort (rest_says (codes "NOP" ∷ words))
-unfolding rest_says condition_front instruction_of behind_unit mnemonic_named operation_named pseudo_named
-nop_short words =
-    by_unit (unit_front words) (named_by (mnemonic_named (codes "NOP")) (λ mnemonic. with_unit mnemonic None)) tt (λ rest. pause_short rest) (λ unit rest. short_if _ _ (pause_short rest))
+unfolding rest_says condition_front condition_of instruction_of behind_unit mnemonic_named operation_named pseudo_named
+nop_short words = rw nop_kind
+    (by_unit (unit_front words) (named_by (mnemonic_named (codes "NOP")) (λ mnemonic. with_unit mnemonic None)) tt (λ rest. pause_short rest) (λ unit rest. short_if _ _ (pause_short rest)))
 
 -- ---- the words of the line
 

@@ -23,7 +23,8 @@ use Rattle.c62_listing_reader.specs.Text.{Line, content, is_empty, is_ended}
 use Rattle.c62_listing_reader.specs.Begin.{front_of, has_colon, is_beside, is_gap, is_label_line, rest_of}
 use Rattle.c62_listing_reader.specs.Said.{Said, Drafts, opened, with_said, above_next, spelled_line, is_text}
 use Rattle.c62_listing_reader.specs.Faults.{is_taken, unit_said, unit_above, precedes, goes_on, is_misplaced, after_label, hindrance, cycles_added, is_alone, is_unfit, is_odd, unless_odd, unless_hindered, with_rest, rest_says, line_says, and_then, read_lines}
-use Rattle.c62_listing_reader.proofs.PauseLemmas.{IsShort, short}
+use Rattle.c62_read.proofs.PauseLemmas.{IsShort}
+use Rattle.c62_listing_reader.proofs.PauseLemmas.{short}
 
 -- all that is asked of a line
 pub record IsTold (labels : List Name) (drafts : Drafts) (above : Above) (line : Line) (below : List Line) (said : Said) : Type 0 where

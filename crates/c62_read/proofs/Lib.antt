@@ -36,3 +36,4 @@ pub mod CaseLaws
 pub mod CaseTexts
 pub mod WrittenLines
 pub mod KindLemmas
+pub mod PauseLemmas

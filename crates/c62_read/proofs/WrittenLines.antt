@@ -10,15 +10,15 @@ use Rattle.std.proofs.lemmas.Fmt.{decimal_digit}
 use Rattle.std.proofs.lemmas.List.Folds.{list_all-append}
 use Rattle.c62_read.specs.declared.mnemonic.Mnemonic.TheVariants.{Nop}
 use Rattle.c62_read.specs.Text.{begins, is_allowed, is_blank, is_word_byte, tokens}
-use Rattle.c62_read.specs.Number.{decimal_of, is_label, magnitude_of, number_of, register_of, signed_of}
-use Rattle.c62_read.specs.declared.kind.Kind.TheVariants.{Name}
-use Rattle.c62_read.specs.Kind.{Word, kind_of, kinds_of, mark_of}
+use Rattle.c62_read.specs.Number.{is_label}
+use Rattle.c62_read.specs.Kind.{Word, kinds_of}
 use Rattle.c62_read.specs.Mnemonic.{mnemonic_named, operation_named, pseudo_named}
 use Rattle.c62_read.specs.Unit.{unit_front}
 use Rattle.c62_read.specs.Line.{Nothing, Pause, behind_unit, condition_front, condition_of, cycles_of, head_of, instruction_of, is_bars, is_star, label_front, pause_of, rest_says}
 use Rattle.c62_read.specs.Program.{place_of}
 use Rattle.c62_read.specs.Laws.{LabelReadsBack, PauseReadsBack}
 use Rattle.c62_read.proofs.HeadLemmas.{all_weaker, allowed_text, head_plain, line_by_head, no_colon}
+use Rattle.c62_read.proofs.PauseLemmas.{nop_kind}
 use Rattle.c62_read.proofs.SpelledNumbers.{fits, number_kind, number_token}
 use Rattle.c62_read.proofs.SpelledOperands.{label_parts, label_some, spelled_label}
 use Rattle.c62_read.proofs.SpelledTokens.{IsToken, is_text, tokens_behind, tokens_end, word_token}
@@ -45,10 +45,6 @@ nop_unit n small =
 pause_is : (n : ℕ) → 1 ≤ n → n ≤ 9 → pause_of None (kinds_of (decimal n ∷ [])) ≡ Ok (Pause n)
 unfolding pause_of
 pause_is n some small = ap cycles_of (number_kind (pos n) (small_fits n small)) ∙ rw (le-leb 1 n some, le-leb n 9 small) refl
-
-nop_kind : kind_of (codes "NOP") ≡ Name
-unfolding kind_of mark_of register_of number_of signed_of magnitude_of decimal_of
-nop_kind = refl
 
 nop_says : (n : ℕ) → 1 ≤ n → n ≤ 9 → rest_says (codes "NOP" ∷ decimal n ∷ []) ≡ Ok (Pause n)
 unfolding rest_says condition_front condition_of instruction_of behind_unit

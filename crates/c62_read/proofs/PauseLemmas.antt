@@ -1,0 +1,34 @@
+-- NOP says from one to nine cycles without an instruction.
+use Rattle.std.proofs.Common.{◌≡◌, ◌≤◌, leb, ◌&&◌, List, [], ◌∷◌, None, Result, Ok, Err, refl, arith}
+use Rattle.std.specs.Prelude.{pos, codes}
+use Rattle.std.proofs.lemmas.Bool.{and_parts, cond_both, leb-true}
+use Rattle.c62_read.specs.declared.fault.Cause.{Cause}
+use Rattle.c62_read.specs.declared.fault.Cause.TheVariants.{BadOperand}
+use Rattle.c62_read.specs.declared.kind.Kind.{Kind}
+use Rattle.c62_read.specs.declared.kind.Kind.TheVariants.{Name, Number}
+use Rattle.c62_read.specs.Number.{decimal_of, magnitude_of, number_of, register_of, signed_of}
+use Rattle.c62_read.specs.Kind.{Word, kind_of, kinds_of, mark_of}
+use Rattle.c62_read.specs.Line.{Says, Pause, cycles_of, pause_of}
+
+pub nop_kind : kind_of (codes "NOP") ≡ Name
+unfolding kind_of mark_of register_of number_of signed_of magnitude_of decimal_of
+nop_kind = refl
+
+abbrev pub IsShort : Says → Type 0
+IsShort (Pause n) = (1 ≤ n) × (n ≤ 9)
+IsShort _ = Unit {0}
+
+abbrev pub OkShort : Result Says Cause → Type 0
+OkShort (Ok says) = IsShort says
+OkShort (Err cause) = Unit {0}
+
+cycles_short : (kind : Kind) → OkShort (cycles_of kind)
+cycles_short (Number (pos n)) = cond_both (leb 1 n && leb n 9) (Ok (Pause n)) (Err BadOperand) OkShort
+    (λ is. let parts = and_parts (leb 1 n) (leb n 9) is in (leb-true 1 n parts.0, leb-true n 9 parts.1)) (λ _. tt)
+cycles_short _ = tt
+
+pub pause_short : (words : List Word) → OkShort (pause_of None (kinds_of words))
+unfolding pause_of
+pause_short [] = (omega arith, omega arith)
+pause_short (word ∷ []) = cycles_short (kind_of word)
+pause_short (word ∷ next ∷ words) = tt
