@@ -8,7 +8,7 @@ use Rattle.std.proofs.lemmas.List.{length-map}
 use Rattle.std.proofs.lemmas.List.Sums.{take_while-cons}
 use Rattle.c62_read.specs.Text.{is_word_byte}
 use Rattle.c62_read.specs.Number.{is_label}
-use Rattle.c62_read.specs.Line.{Nothing, condition_front, condition_of, head_of, instruction_of, label_front, line_of, rest_says as words_say}
+use Rattle.c62_read.specs.Line.{Nothing, head_of, label_front, line_of, rest_says as words_say}
 use Rattle.c62_read.specs.Program.{Name, label_is}
 use Rattle.c62_read.proofs.SpelledOperands.{label_parts, label_some}
 use Rattle.c62_read.proofs.WrittenLines.{label_back}
@@ -80,7 +80,7 @@ label_said labels done label below is few free =
 -- ---- an empty line
 
 gap_line : line_of [] ≡ Ok (None, Nothing)
-unfolding line_of head_of label_front words_say condition_front condition_of instruction_of
+unfolding line_of head_of label_front words_say
 gap_line = refl
 
 gap_said : (labels : List Name) (drafts : Drafts) (above : Above) (below : List Line) → is_filled above ≡ true → begin_filled below ≡ true → (opened drafts.current).cycles ≤ 2048

@@ -5,37 +5,13 @@ use Rattle.std.specs.List.{list_all}
 use Rattle.std.proofs.lemmas.Bool.{and_parts, cond_both, false≢true, leb-true}
 use Rattle.std.proofs.lemmas.Option.{none-some}
 use Rattle.c62_read.specs.declared.fault.Cause.{Cause}
-use Rattle.c62_read.specs.declared.fault.Cause.TheVariants.{BadLabel, BadOperand, BadUnit, LineTooLong, NotAscii, ParallelBar}
+use Rattle.c62_read.specs.declared.fault.Cause.TheVariants.{BadLabel, LineTooLong, NotAscii, ParallelBar}
 use Rattle.c62_read.specs.Text.{begins, is_allowed, tokens}
 use Rattle.c62_read.specs.Number.{is_label, spells}
 use Rattle.c62_read.specs.Kind.{Word}
-use Rattle.c62_read.specs.Mnemonic.{mnemonic_named, operation_named, pseudo_named}
-use Rattle.c62_read.specs.Unit.{unit_front}
-use Rattle.c62_read.specs.Line.{Says, Pause, behind_unit, condition_front, condition_of, cycles_of, has_colon, head_of, instruction_of, is_bars, is_star, label_front, pause_of, rest_says, with_unit, without_colon}
-use Rattle.c62_read.proofs.PauseLemmas.{IsShort, OkShort, nop_kind, pause_short}
+use Rattle.c62_read.specs.Line.{Says, has_colon, head_of, is_bars, is_star, label_front, rest_says, without_colon}
+use Rattle.c62_read.proofs.PauseLemmas.{IsShort, OkShort, nop_short}
 use Rattle.c62_read.proofs.SpelledTokens.{IsToken, tokens_behind, word_token}
-
--- ---- what stands behind the name
-
-short_if : (fits : Bool) (says : Result Says Cause) → OkShort says → OkShort (if fits then says else Err BadUnit)
-short_if true says is = is
-short_if false says is = tt
-
--- what a test of the name that was found says
-abbrev named_by : {M F : Type 0} → Option M → (M → F → Result Says Cause) → F → Result Says Cause
-named_by None says found = Err BadUnit
-named_by (Some mnemonic) says found = says mnemonic found
-
-by_unit : {W : Type 0} (found : Option (Option W × List Word)) (says : Option (Option W × List Word) → Result Says Cause) → OkShort (says None)
-    → ((words : List Word) → OkShort (says (Some (None, words)))) → ((unit : W) (words : List Word) → OkShort (says (Some (Some unit, words)))) → OkShort (says found)
-by_unit None says none bare full = none
-by_unit (Some (None, words)) says none bare full = bare words
-by_unit (Some (Some unit, words)) says none bare full = full unit words
-
-nop_short : (words : List Word) → OkShort (rest_says (codes "NOP" ∷ words))
-unfolding rest_says condition_front condition_of instruction_of behind_unit mnemonic_named operation_named pseudo_named
-nop_short words = rw nop_kind
-    (by_unit (unit_front words) (named_by (mnemonic_named (codes "NOP")) (λ mnemonic. with_unit mnemonic None)) tt (λ rest. pause_short rest) (λ unit rest. short_if _ _ (pause_short rest)))
 
 -- ---- the words of the line
 

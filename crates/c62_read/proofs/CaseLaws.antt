@@ -1,6 +1,6 @@
 -- Case changes nothing but labels.
 use Rattle.std.proofs.Common.{◌≡◌, ℕ, zero, suc, Bool, true, false, cond, eqb, ltb, ◌&&◌, ◌||◌, List, [], ◌∷◌, length, Option, Some, None, Result, Ok, Err, refl, sym, ap, subst, ◌∙◌, arith, inl, inr}
-use Rattle.std.specs.Prelude.{drop, option_map, codes}
+use Rattle.std.specs.Prelude.{drop, option_and_then, option_map, codes}
 use Rattle.std.specs.Char.{is_ascii_digit, to_ascii_lowercase}
 use Rattle.std.specs.List.{find, list_all}
 use Rattle.std.proofs.lemmas.Bool.{cases_Bool}
@@ -14,7 +14,7 @@ use Rattle.c62_insn.specs.declared.operands.Operands.TheVariants.{Block}
 use Rattle.c62_insn.specs.declared.fault.FormFault.{FormFault}
 use Rattle.c62_insn.specs.Spelling.{mnemonic_of}
 use Rattle.c62_read.specs.declared.fault.Cause.{Cause}
-use Rattle.c62_read.specs.declared.fault.Cause.TheVariants.{NotAscii, LineTooLong, BadLabel, BadUnit, ParallelBar, Directive}
+use Rattle.c62_read.specs.declared.fault.Cause.TheVariants.{NotAscii, LineTooLong, BadLabel, BadOperand, BadUnit, ParallelBar, Directive, UnknownMnemonic}
 use Rattle.c62_read.specs.declared.mnemonic.Mnemonic.{Mnemonic}
 use Rattle.c62_read.specs.declared.mnemonic.Mnemonic.TheVariants.{Operation, Mv, Neg, Not, Zero, Mvkl, Mvkh, Nop}
 use Rattle.c62_read.specs.declared.unit.Mark.{Mark}
@@ -26,8 +26,8 @@ use Rattle.c62_read.specs.declared.kind.Kind.{Kind}
 use Rattle.c62_read.specs.Kind.{Word, kind_by, kind_of, kinds_of, mark_of as written_mark, single_mark}
 use Rattle.c62_read.specs.Operand.{operands_of}
 use Rattle.c62_read.specs.Mnemonic.{all_operations, mnemonic_named, operation_named, pseudo_named}
-use Rattle.c62_read.specs.Unit.{is_dot, is_t, is_x, letter_of, mark_of, side_numbered, unit_fits, unit_front, unit_of, unit_split, with_left}
-use Rattle.c62_read.specs.Line.{Parts, Says, Nothing, Pause, Does, Jumps, before_rest, behind_unit, condition_front, condition_of, does, first_begins, formed, has_colon, head_of, instruction_of, is_bars, is_branch, is_star, is_storing, jumps_or_does, label_alone, label_front, line_of, operands_written, parts_read, pause_of, rest_says, target_of, text_fault, with_condition, with_head, with_mnemonic, with_rest, with_unit, without_colon}
+use Rattle.c62_read.specs.Unit.{is_dot, is_t, is_x, letter_of, mark_of, side_numbered, unit_front, unit_of, unit_split, with_left}
+use Rattle.c62_read.specs.Line.{Parts, Says, Nothing, Pause, Does, Jumps, and_read, before_rest, behind_unit, condition_front, condition_of, does, fits_behind, formed, has_colon, head_of, if_fitting, instruction_of, is_bars, is_branch, is_star, is_storing, jumps_or_does, label_alone, label_front, line_of, mnemonic_front, operands_written, or_fault, parts_read, pause_of, rest_says, target_of, text_fault, unit_behind, with_head, with_rest, without_colon}
 use Rattle.c62_read.specs.Laws.{CaseSaysNothing, IsRecased, in_small, small_labels, small_says}
 use Rattle.c62_read.proofs.ColonLemmas.{begins_with}
 use Rattle.c62_read.proofs.TokenLemmas.{joined_word, tokens_alone, tokens_blank, tokens_comment, tokens_double, tokens_joined, tokens_last, word_solid}
@@ -362,43 +362,6 @@ behind_small Zero cond written ws vs same = jumps_small None None Zero cond writ
 behind_small Mvkl cond written ws vs same = jumps_small None None Mvkl cond written ws vs refl same
 behind_small Mvkh cond written ws vs same = jumps_small None None Mvkh cond written ws vs refl same
 
-unit_by : (mnemonic : Mnemonic) (cond : Option Condition) (written : Option WrittenUnit) (ws vs : List Word) → AreRecased ws vs
-    → SmallSame (with_unit mnemonic cond (Some (written, ws))) (with_unit mnemonic cond (Some (written, vs)))
-unit_by mnemonic cond None ws vs same = behind_small mnemonic cond None ws vs same
-unit_by mnemonic cond (Some written) ws vs same =
-    same_cond SmallSame (unit_fits mnemonic written) (unit_fits mnemonic written) (behind_unit mnemonic cond (Some written) ws) (Err BadUnit)
-    (behind_unit mnemonic cond (Some written) vs) (Err BadUnit) refl (behind_small mnemonic cond (Some written) ws vs same) refl
-
-unit_small : (mnemonic : Mnemonic) (cond : Option Condition) (found other : Option (Option WrittenUnit × List Word)) → SameFound found other
-    → SmallSame (with_unit mnemonic cond found) (with_unit mnemonic cond other)
-unit_small mnemonic cond None None same = refl
-unit_small mnemonic cond (Some (written, ws)) (Some (other, vs)) same =
-    subst (λ (unit : Option WrittenUnit). SmallSame (with_unit mnemonic cond (Some (written, ws)))
-    (with_unit mnemonic cond (Some (unit, vs)))) same.0 (unit_by mnemonic cond written ws vs same.1)
-unit_small mnemonic cond None (Some (other, vs)) same = absurd same
-unit_small mnemonic cond (Some (written, ws)) None same = absurd same
-
-mnemonic_small : (cond : Option Condition) (mnemonic : Option Mnemonic) (ws vs : List Word) → AreRecased ws vs
-    → SmallSame (with_mnemonic cond mnemonic ws) (with_mnemonic cond mnemonic vs)
-mnemonic_small cond None ws vs same = refl
-mnemonic_small cond (Some mnemonic) ws vs same = unit_small mnemonic cond (unit_front ws) (unit_front vs) (unit_same ws vs same)
-
-named_small : (cond : Option Condition) (w v : Word) (ws vs : List Word) → IsRecasedWord w v → AreRecased ws vs
-    → SmallSame (with_mnemonic cond (mnemonic_named w) ws) (with_mnemonic cond (mnemonic_named v) vs)
-named_small cond w v ws vs word same =
-    subst (λ (mnemonic : Option Mnemonic). SmallSame (with_mnemonic cond (mnemonic_named w) ws) (with_mnemonic cond mnemonic vs))
-    (mnemonic_same w v word)
-    (mnemonic_small cond (mnemonic_named w) ws vs same)
-
-instruction_small : (cond : Option Condition) (ws vs : List Word) → AreRecased ws vs → SmallSame (instruction_of cond ws) (instruction_of cond vs)
-unfolding instruction_of
-instruction_small None [] [] same = refl
-instruction_small (Some cond) [] [] same = refl
-instruction_small None (w ∷ ws) (v ∷ vs) same = named_small None w v ws vs same.0 same.1
-instruction_small (Some cond) (w ∷ ws) (v ∷ vs) same = named_small (Some cond) w v ws vs same.0 same.1
-instruction_small cond [] (v ∷ vs) same = absurd same
-instruction_small cond (w ∷ ws) [] same = absurd same
-
 -- ---- conditions
 
 rest_same : (count : ℕ) (ws vs : List Word) → AreRecased ws vs → AreRecased (drop count ws) (drop count vs)
@@ -420,26 +383,57 @@ front_same ws vs same =
     (option_map (before_rest vs) (condition_of kinds)))
     (kinds_same ws vs same) (found_same (condition_of (kinds_of ws)) ws vs same)
 
-condition_small : (found other : Option (Option Condition × List Word)) → SameFound found other
-    → SmallSame (with_condition found) (with_condition other)
-condition_small None None same = refl
-condition_small (Some (cond, ws)) (Some (other, vs)) same =
-    subst (λ (c : Option Condition). SmallSame (instruction_of cond ws) (instruction_of c vs)) same.0 (instruction_small cond ws vs same.1)
-condition_small None (Some (other, vs)) same = absurd same
-condition_small (Some (cond, ws)) None same = absurd same
+-- ---- the steps in their order
 
-dots_same : (ws vs : List Word) → AreRecased ws vs → first_begins is_dot ws ≡ first_begins is_dot vs
-dots_same [] [] same = refl
-dots_same (w ∷ ws) (v ∷ vs) same = begins_same is_dot dot_same 32 w v same.0
-dots_same [] (v ∷ vs) same = absurd same
-dots_same (w ∷ ws) [] same = absurd same
+mnemonic_front_same : (ws vs : List Word) → AreRecased ws vs → SameFound (mnemonic_front ws) (mnemonic_front vs)
+mnemonic_front_same [] [] same = tt
+mnemonic_front_same (w ∷ ws) (v ∷ vs) same =
+    subst (λ (named : Option Mnemonic). SameFound (option_map (λ m. (m, ws)) (mnemonic_named w)) (option_map (λ m. (m, vs)) named))
+    (mnemonic_same w v same.0) (by_name (mnemonic_named w))
+  where
+    by_name : (named : Option Mnemonic) → SameFound (option_map (λ m. (m, ws)) named) (option_map (λ m. (m, vs)) named)
+    by_name None = tt
+    by_name (Some mnemonic) = (refl, same.1)
+mnemonic_front_same [] (v ∷ vs) same = absurd same
+mnemonic_front_same (w ∷ ws) [] same = absurd same
+
+fitting_same : (mnemonic : Mnemonic) (found other : Option (Option WrittenUnit × List Word)) → SameFound found other
+    → SameFound (option_and_then (if_fitting mnemonic) found) (option_and_then (if_fitting mnemonic) other)
+fitting_same mnemonic None None same = tt
+fitting_same mnemonic (Some (unit, ws)) (Some (written, vs)) same =
+    subst (λ (u : Option WrittenUnit). SameFound (if_fitting mnemonic (unit, ws)) (if_fitting mnemonic (u, vs))) same.0
+    (same_cond SameFound (fits_behind mnemonic unit) (fits_behind mnemonic unit) (Some (unit, ws)) None (Some (unit, vs)) None refl
+    (refl, same.1) tt)
+fitting_same mnemonic None (Some (written, vs)) same = absurd same
+fitting_same mnemonic (Some (unit, ws)) None same = absurd same
+
+-- a step that finds the same leads to the same
+step_same : {T : Type 0} (cause : Cause) (found other : Option (T × List Word)) (next : T × List Word → Result Says Cause) → SameFound found other
+    → ((x : T) (ws vs : List Word) → AreRecased ws vs → SmallSame (next (x, ws)) (next (x, vs)))
+    → SmallSame (and_read (or_fault cause found) next) (and_read (or_fault cause other) next)
+step_same cause None None next same each = refl
+step_same {T = T} cause (Some (x, ws)) (Some (y, vs)) next same each =
+    subst (λ (z : T). SmallSame (next (x, ws)) (next (z, vs))) same.0 (each x ws vs same.1)
+step_same cause None (Some (y, vs)) next same each = absurd same
+step_same cause (Some (x, ws)) None next same each = absurd same
+
+instruction_small : (ws vs : List Word) → AreRecased ws vs → SmallSame (instruction_of ws) (instruction_of vs)
+unfolding instruction_of
+instruction_small ws vs same =
+    step_same BadOperand (condition_front ws) (condition_front vs) _ (front_same ws vs same) (λ condition ws vs same.
+    step_same UnknownMnemonic (mnemonic_front ws) (mnemonic_front vs) _ (mnemonic_front_same ws vs same) (λ mnemonic ws vs same.
+    step_same BadUnit (unit_behind mnemonic ws) (unit_behind mnemonic vs) _
+    (fitting_same mnemonic (unit_front ws) (unit_front vs) (unit_same ws vs same)) (λ unit ws vs same.
+    behind_small mnemonic condition unit ws vs same)))
 
 rest_small : (ws vs : List Word) → AreRecased ws vs → SmallSame (rest_says ws) (rest_says vs)
 unfolding rest_says
-rest_small ws vs same =
-    same_cond SmallSame (first_begins is_dot ws) (first_begins is_dot vs) (Err Directive) (with_condition (condition_front ws)) (Err Directive)
-    (with_condition (condition_front vs))
-    (dots_same ws vs same) refl (condition_small (condition_front ws) (condition_front vs) (front_same ws vs same))
+rest_small [] [] same = refl
+rest_small (w ∷ ws) (v ∷ vs) same =
+    same_cond SmallSame (begins is_dot w) (begins is_dot v) (Err Directive) (instruction_of (w ∷ ws)) (Err Directive)
+    (instruction_of (v ∷ vs)) (begins_same is_dot dot_same 32 w v same.0) refl (instruction_small (w ∷ ws) (v ∷ vs) same)
+rest_small [] (v ∷ vs) same = absurd same
+rest_small (w ∷ ws) [] same = absurd same
 
 -- ---- the head of a line
 

@@ -9,7 +9,7 @@ use Rattle.c62_read.specs.declared.fault.Cause.TheVariants.{ParallelBar}
 use Rattle.c62_read.specs.Text.{begins, is_allowed, lines_of, tokens}
 use Rattle.c62_read.specs.Number.{is_label, spells}
 use Rattle.c62_read.specs.Kind.{Word}
-use Rattle.c62_read.specs.Line.{Nothing, head_of, instruction_of, is_bars, is_star, condition_front, condition_of, label_front, line_of, rest_says, with_head, without_colon}
+use Rattle.c62_read.specs.Line.{Nothing, head_of, is_bars, is_star, label_front, line_of, rest_says, with_head, without_colon}
 use Rattle.c62_read.specs.Program.{fault_in, place_of}
 use Rattle.c62_read.specs.Laws.{AreUncommented, Behind, CommentSaysNothing, CommentsSayNothing, IsReadable, IsUncommented, Same, StarSaysNothing, Whole}
 use Rattle.c62_read.proofs.CommentLemmas.{tokens-comment}
@@ -33,7 +33,7 @@ star_head : (line : List ℕ) → IsReadable line → begins is_star line ≡ tr
 star_head line readable star = head_is line readable ∙ ap (λ (b : Bool). head_from b (tokens line)) star
 
 nothing : rest_says [] ≡ Ok Nothing
-unfolding rest_says condition_front condition_of instruction_of
+unfolding rest_says
 nothing = refl
 
 star_line : (line : List ℕ) → IsReadable line → begins is_star line ≡ true → line_of line ≡ Ok (None, Nothing)

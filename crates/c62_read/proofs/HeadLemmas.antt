@@ -9,7 +9,7 @@ use Rattle.std.proofs.lemmas.List.Sums.{take_while-cons}
 use Rattle.c62_read.specs.Text.{begins, is_allowed, is_solid, tokens}
 use Rattle.c62_read.specs.Number.{spells}
 use Rattle.c62_read.specs.Kind.{Word}
-use Rattle.c62_read.specs.Line.{Says, Nothing, condition_front, condition_of, has_colon, head_of, instruction_of, is_bars, is_star, label_front, line_of, rest_says, without_colon}
+use Rattle.c62_read.specs.Line.{Says, Nothing, has_colon, head_of, is_bars, is_star, label_front, line_of, rest_says, without_colon}
 use Rattle.c62_read.specs.Program.{Name, place_of}
 use Rattle.c62_read.specs.Walk.{Drafts, add_line, hindrance, is_taken, with_says}
 use Rattle.c62_read.proofs.ColonLemmas.{begins_with, colons}
@@ -113,7 +113,7 @@ unfolding head_of label_front
 empty_head = refl
 
 empty_rest : rest_says [] ≡ Ok Nothing
-unfolding rest_says condition_of condition_front instruction_of
+unfolding rest_says
 empty_rest = refl
 
 pub empty_line : (labels : List Name) (number : ℕ) (line : List ℕ) (drafts : Drafts) → line ≡ [] → add_line labels number line drafts ≡ Ok drafts

@@ -3,12 +3,14 @@ use Rattle.std.proofs.Common.{◌≡◌, ◌≤◌, leb, ◌&&◌, List, [], ◌
 use Rattle.std.specs.Prelude.{pos, codes}
 use Rattle.std.proofs.lemmas.Bool.{and_parts, cond_both, leb-true}
 use Rattle.c62_read.specs.declared.fault.Cause.{Cause}
-use Rattle.c62_read.specs.declared.fault.Cause.TheVariants.{BadOperand}
+use Rattle.c62_read.specs.declared.fault.Cause.TheVariants.{BadOperand, BadUnit}
 use Rattle.c62_read.specs.declared.kind.Kind.{Kind}
 use Rattle.c62_read.specs.declared.kind.Kind.TheVariants.{Name, Number}
 use Rattle.c62_read.specs.Number.{decimal_of, magnitude_of, number_of, register_of, signed_of}
 use Rattle.c62_read.specs.Kind.{Word, kind_of, kinds_of, mark_of}
-use Rattle.c62_read.specs.Line.{Says, Pause, cycles_of, pause_of}
+use Rattle.c62_read.specs.declared.mnemonic.Mnemonic.TheVariants.{Nop}
+use Rattle.c62_read.specs.Mnemonic.{mnemonic_named, operation_named, pseudo_named}
+use Rattle.c62_read.specs.Line.{Says, Pause, and_read, behind_unit, condition_front, condition_of, cycles_of, instruction_of, or_fault, pause_of, rest_says, unit_behind}
 
 pub nop_kind : kind_of (codes "NOP") ≡ Name
 unfolding kind_of mark_of register_of number_of signed_of magnitude_of decimal_of
@@ -27,8 +29,17 @@ cycles_short (Number (pos n)) = cond_both (leb 1 n && leb n 9) (Ok (Pause n)) (E
     (λ is. let parts = and_parts (leb 1 n) (leb n 9) is in (leb-true 1 n parts.0, leb-true n 9 parts.1)) (λ _. tt)
 cycles_short _ = tt
 
-pub pause_short : (words : List Word) → OkShort (pause_of None (kinds_of words))
+pause_short : (words : List Word) → OkShort (pause_of None (kinds_of words))
 unfolding pause_of
 pause_short [] = (omega arith, omega arith)
 pause_short (word ∷ []) = cycles_short (kind_of word)
 pause_short (word ∷ next ∷ words) = tt
+
+step_short : {T : Type 0} (read : Result T Cause) (next : T → Result Says Cause) → ((found : T) → OkShort (next found)) → OkShort (and_read read next)
+step_short (Ok found) next short = short found
+step_short (Err cause) next short = tt
+
+-- what NOP says
+pub nop_short : (words : List Word) → OkShort (rest_says (codes "NOP" ∷ words))
+unfolding rest_says condition_front condition_of instruction_of behind_unit mnemonic_named operation_named pseudo_named
+nop_short words = rw nop_kind (step_short (or_fault BadUnit (unit_behind Nop words)) _ (λ unit. pause_short unit.1))

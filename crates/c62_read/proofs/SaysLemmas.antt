@@ -14,7 +14,7 @@ use Rattle.c62_insn.specs.declared.fault.FormFault.{FormFault}
 use Rattle.c62_insn.specs.Fault.{has_kind}
 use Rattle.c62_insn.specs.Takes.{same_side}
 use Rattle.c62_read.specs.declared.fault.Cause.{Cause}
-use Rattle.c62_read.specs.declared.fault.Cause.TheVariants.{BadUnit, BadOperand, Directive}
+use Rattle.c62_read.specs.declared.fault.Cause.TheVariants.{BadUnit, BadOperand, Directive, UnknownMnemonic}
 use Rattle.c62_read.specs.declared.mnemonic.Mnemonic.{Mnemonic}
 use Rattle.c62_read.specs.declared.mnemonic.Mnemonic.TheVariants.{Operation, Mv, Neg, Not, Zero, Mvkl, Mvkh, Nop}
 use Rattle.c62_read.specs.declared.operand.Address.{Address}
@@ -23,9 +23,10 @@ use Rattle.c62_read.specs.declared.kind.Kind.{Kind}
 use Rattle.c62_read.specs.declared.kind.Kind.TheVariants as kind
 use Rattle.c62_read.specs.Kind.{Word, kind_of, kinds_of}
 use Rattle.c62_read.specs.Operand.{address_front, loaded, operands_of, stored}
-use Rattle.c62_read.specs.Mnemonic.{constant_to_front, crossed_to_back, exchanged, in_order, mnemonic_named, read_as, with_kind, zero_in}
-use Rattle.c62_read.specs.Unit.{is_dot, unit_fits, unit_front}
-use Rattle.c62_read.specs.Line.{Says, Pause, Does, Jumps, behind_unit, condition_front, cycles_of, does, first_begins, formed, instruction_of, jumps_or_does, letter_written, operands_written, parts_read, pause_of, rest_says, target_of, text_fault, with_condition, with_mnemonic, with_unit, is_storing}
+use Rattle.c62_read.specs.Mnemonic.{constant_to_front, crossed_to_back, exchanged, in_order, read_as, with_kind, zero_in}
+use Rattle.c62_read.specs.Text.{begins}
+use Rattle.c62_read.specs.Unit.{is_dot}
+use Rattle.c62_read.specs.Line.{Says, Pause, Does, Jumps, and_read, behind_unit, condition_front, cycles_of, does, formed, instruction_of, is_storing, jumps_or_does, letter_written, mnemonic_front, operands_written, or_fault, parts_read, pause_of, rest_says, target_of, text_fault, unit_behind}
 
 abbrev pub has_no_block : Operands → Bool
 has_no_block (Block number) = false
@@ -168,34 +169,24 @@ unit_proper Zero cond written words = behind_proper None Zero cond written words
 unit_proper Mvkl cond written words = behind_proper None Mvkl cond written words
 unit_proper Mvkh cond written words = behind_proper None Mvkh cond written words
 
-with_unit_proper : (mnemonic : Mnemonic) (cond : Option Condition) (found : Option (Option WrittenUnit × List Word))
-    → OkProper (with_unit mnemonic cond found)
-with_unit_proper mnemonic cond None = tt
-with_unit_proper mnemonic cond (Some (None, words)) = unit_proper mnemonic cond None words
-with_unit_proper mnemonic cond (Some (Some written, words)) =
-    cond_both (unit_fits mnemonic written) (behind_unit mnemonic cond (Some written) words) (Err BadUnit) OkProper
-    (λ _. unit_proper mnemonic cond (Some written) words) (λ _. tt)
+step_proper : {T : Type 0} (read : Result T Cause) (next : T → Result Says Cause) → ((found : T) → OkProper (next found))
+    → OkProper (and_read read next)
+step_proper (Ok found) next proper = proper found
+step_proper (Err cause) next proper = tt
 
-mnemonic_proper : (cond : Option Condition) (mnemonic : Option Mnemonic) (words : List Word) → OkProper (with_mnemonic cond mnemonic words)
-mnemonic_proper cond None words = tt
-mnemonic_proper cond (Some mnemonic) words = with_unit_proper mnemonic cond (unit_front words)
-
-instruction_proper : (cond : Option Condition) (words : List Word) → OkProper (instruction_of cond words)
+instruction_proper : (words : List Word) → OkProper (instruction_of words)
 unfolding instruction_of
-instruction_proper None [] = tt
-instruction_proper (Some cond) [] = tt
-instruction_proper None (name ∷ words) = mnemonic_proper None (mnemonic_named name) words
-instruction_proper (Some cond) (name ∷ words) = mnemonic_proper (Some cond) (mnemonic_named name) words
-
-condition_proper : (found : Option (Option Condition × List Word)) → OkProper (with_condition found)
-condition_proper None = tt
-condition_proper (Some (cond, words)) = instruction_proper cond words
+instruction_proper words =
+    step_proper (or_fault BadOperand (condition_front words)) _ (λ condition.
+    step_proper (or_fault UnknownMnemonic (mnemonic_front condition.1)) _ (λ mnemonic.
+    step_proper (or_fault BadUnit (unit_behind mnemonic.0 mnemonic.1)) _ (λ unit.
+    unit_proper mnemonic.0 condition.0 unit.0 unit.1)))
 
 rest_proper : (words : List Word) → OkProper (rest_says words)
 unfolding rest_says
-rest_proper words =
-    cond_both (first_begins is_dot words) (Err Directive) (with_condition (condition_front words)) OkProper (λ _. tt)
-    (λ _. condition_proper (condition_front words))
+rest_proper [] = tt
+rest_proper (word ∷ words) =
+    cond_both (begins is_dot word) (Err Directive) (instruction_of (word ∷ words)) OkProper (λ _. tt) (λ _. instruction_proper (word ∷ words))
 
 -- what a line says is proper
 pub proper : (words : List Word) (says : Says) → rest_says words ≡ Ok says → IsProper says

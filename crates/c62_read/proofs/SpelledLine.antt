@@ -23,9 +23,8 @@ use Rattle.c62_read.specs.Text.{begins, is_blank, tokens}
 use Rattle.c62_read.specs.Number.{is_label, spells}
 use Rattle.c62_read.specs.declared.kind.Kind.TheVariants.{Open, Close, Not}
 use Rattle.c62_read.specs.Kind.{Word, kind_of, mark_of, single_mark}
-use Rattle.c62_read.specs.Mnemonic.{mnemonic_named}
-use Rattle.c62_read.specs.Unit.{is_dot, unit_fits}
-use Rattle.c62_read.specs.Line.{Does, Jumps, Says, behind_unit, condition_front, condition_of, first_begins, instruction_of, is_bars, is_star, line_of, parts_read, rest_says, with_mnemonic}
+use Rattle.c62_read.specs.Unit.{unit_fits}
+use Rattle.c62_read.specs.Line.{Does, Jumps, Says, behind_unit, condition_front, condition_of, instruction_of, is_bars, is_star, line_of, parts_read, rest_says, unit_behind}
 use Rattle.c62_read.specs.Laws.{LineReadsBack, NamesTarget, says_with}
 use Rattle.c62_read.proofs.HeadLemmas.{all_weaker, allowed_text, head_plain, line_by_head, no_colon}
 use Rattle.c62_read.proofs.TokenLemmas.{tokens_blank}
@@ -169,30 +168,24 @@ unfolding condition_front condition_of
 front_back None op words = rw (mnemonic_kind op) refl
 front_back (Some c) op words = front_by c.reg c.negated (mnemonic_of op ∷ words)
 
-undirected : (cond : Option Condition) (op : Op) (words : List Word) → first_begins is_dot (condition_words cond (mnemonic_of op ∷ words)) ≡ false
-undirected None op words = mnemonic_no_dot op
-undirected (Some c) op words = refl
-
-unit_says : (op : Op) (operands : Operands) (cond : Option Condition) (unit : FunctionalUnit) (words : List Word) (says : Says)
+unit_back_behind : (op : Op) (operands : Operands) (unit : FunctionalUnit) (words : List Word)
     → unit_fits (Operation op) (written_on operands unit) ≡ true
-    → behind_unit (Operation op) cond (Some (written_on operands unit)) words ≡ Ok says
-    → with_mnemonic cond (mnemonic_named (mnemonic_of op)) (unit_spelling operands unit ∷ words) ≡ Ok says
-unit_says op operands cond unit words says fits read = rw (mnemonic_back op, unit_back operands unit words, fits) read
+    → unit_behind (Operation op) (unit_spelling operands unit ∷ words) ≡ Some (Some (written_on operands unit), words)
+unit_back_behind op operands unit words fits = rw (unit_back operands unit words, fits) refl
 
 instruction_says : (op : Op) (operands : Operands) (cond : Option Condition) (unit : FunctionalUnit) (words : List Word) (says : Says)
     → unit_fits (Operation op) (written_on operands unit) ≡ true → behind_unit (Operation op) cond (Some (written_on operands unit)) words ≡ Ok says
-    → instruction_of cond (mnemonic_of op ∷ unit_spelling operands unit ∷ words) ≡ Ok says
+    → instruction_of (condition_words cond (mnemonic_of op ∷ unit_spelling operands unit ∷ words)) ≡ Ok says
 unfolding instruction_of
-instruction_says op operands None unit words says fits read = unit_says op operands None unit words says fits read
-instruction_says op operands (Some c) unit words says fits read = unit_says op operands (Some c) unit words says fits read
+instruction_says op operands cond unit words says fits read =
+    rw (front_back cond op (unit_spelling operands unit ∷ words), mnemonic_back op, unit_back_behind op operands unit words fits) read
 
 words_say : (op : Op) (operands : Operands) (cond : Option Condition) (unit : FunctionalUnit) (words : List Word) (says : Says)
     → unit_fits (Operation op) (written_on operands unit) ≡ true → behind_unit (Operation op) cond (Some (written_on operands unit)) words ≡ Ok says
     → rest_says (condition_words cond (mnemonic_of op ∷ unit_spelling operands unit ∷ words)) ≡ Ok says
 unfolding rest_says
-words_say op operands cond unit words says fits read =
-    rw (undirected cond op (unit_spelling operands unit ∷ words), front_back cond op (unit_spelling operands unit ∷ words))
-    (instruction_says op operands cond unit words says fits read)
+words_say op operands None unit words says fits read = rw (mnemonic_no_dot op) (instruction_says op operands None unit words says fits read)
+words_say op operands (Some c) unit words says fits read = instruction_says op operands (Some c) unit words says fits read
 
 -- ---- the bytes of a line
 

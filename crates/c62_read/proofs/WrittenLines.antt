@@ -108,7 +108,7 @@ unfolding label_front
 front_is label is = rw is refl
 
 nothing : rest_says [] ≡ Ok Nothing
-unfolding rest_says condition_front condition_of instruction_of
+unfolding rest_says
 nothing = refl
 
 label_head : (label : Word) → is_label label ≡ true → head_of (label ++ 58 ∷ []) ≡ Ok (Some label, [])

@@ -1,5 +1,5 @@
 -- What a line says, and its first fault.
-use Rattle.std.specs.Prelude.{ℕ, pos, Bool, true, false, not, ◌==◌, ◌&&◌, nat_le, nat_lt, List, [], ◌∷◌, length, drop, Option, Some, None, option_map, Result, Ok, Err, codes, if◌then◌else◌}
+use Rattle.std.specs.Prelude.{ℕ, pos, Bool, true, false, not, ◌==◌, ◌&&◌, nat_le, nat_lt, List, [], ◌∷◌, length, drop, Option, Some, None, option_map, option_and_then, Result, Ok, Err, codes, if◌then◌else◌}
 use Rattle.std.specs.List.{list_all, list_any}
 use Rattle.c62_insn.specs.declared.register.Side.{Side}
 use Rattle.c62_insn.specs.declared.register.Cond.{Cond as Condition}
@@ -163,28 +163,7 @@ unfoldable pub behind_unit : Mnemonic → Option Condition → Option WrittenUni
 behind_unit NopName cond written words = pause_of cond (kinds_of words)
 behind_unit mnemonic cond written words = jumps_or_does (target_of mnemonic words) mnemonic cond written words
 
--- ---- the steps in their order
-
--- whether the unit, where one is written, may be written behind the mnemonic
-abbrev pub fits_behind : Mnemonic → Option WrittenUnit → Bool
-fits_behind mnemonic None = true
-fits_behind mnemonic (Some written) = unit_fits mnemonic written
-
-abbrev pub with_unit : Mnemonic → Option Condition → Option (Option WrittenUnit × List Word) → Result Says Cause
-with_unit mnemonic cond None = Err BadUnit
-with_unit mnemonic cond (Some (None, words)) = behind_unit mnemonic cond None words
-with_unit mnemonic cond (Some (Some written, words)) =
-    if unit_fits mnemonic written then behind_unit mnemonic cond (Some written) words else Err BadUnit
-
-abbrev pub with_mnemonic : Option Condition → Option Mnemonic → List Word → Result Says Cause
-with_mnemonic cond None words = Err UnknownMnemonic
-with_mnemonic cond (Some mnemonic) words = with_unit mnemonic cond (unit_front words)
-
--- behind the condition
-unfoldable pub instruction_of : Option Condition → List Word → Result Says Cause
-instruction_of None [] = Ok Nothing
-instruction_of (Some cond) [] = Err UnknownMnemonic
-instruction_of cond (name ∷ words) = with_mnemonic cond (mnemonic_named name) words
+-- ---- what stands in front of the operands
 
 -- `[R]` or `[!R]`, and how many tokens it has; nothing, where no bracket stands first. There is no answer where a bracket
 -- begins no condition.
@@ -201,17 +180,49 @@ before_rest words (cond, count) = (cond, drop count words)
 unfoldable pub condition_front : List Word → Option (Option Condition × List Word)
 condition_front words = option_map (before_rest words) (condition_of (kinds_of words))
 
-abbrev pub with_condition : Option (Option Condition × List Word) → Result Says Cause
-with_condition None = Err BadOperand
-with_condition (Some (cond, words)) = instruction_of cond words
+-- the mnemonic that stands first, and the tokens behind it
+abbrev pub mnemonic_front : List Word → Option (Mnemonic × List Word)
+mnemonic_front [] = None
+mnemonic_front (name ∷ words) = option_map (λ mnemonic. (mnemonic, words)) (mnemonic_named name)
 
-abbrev pub first_begins : (ℕ → Bool) → List Word → Bool
-first_begins test [] = false
-first_begins test (word ∷ words) = begins test word
+-- whether the unit, where one is written, may be written behind the mnemonic
+abbrev pub fits_behind : Mnemonic → Option WrittenUnit → Bool
+fits_behind mnemonic None = true
+fits_behind mnemonic (Some written) = unit_fits mnemonic written
+
+abbrev pub if_fitting : Mnemonic → Option WrittenUnit × List Word → Option (Option WrittenUnit × List Word)
+if_fitting mnemonic (written, words) = if fits_behind mnemonic written then Some (written, words) else None
+
+-- the unit that is written behind the mnemonic, where one is, and the tokens behind it
+abbrev pub unit_behind : Mnemonic → List Word → Option (Option WrittenUnit × List Word)
+unit_behind mnemonic words = option_and_then (if_fitting mnemonic) (unit_front words)
+
+-- ---- the steps in their order
+
+-- what was read, or this fault
+abbrev pub or_fault : {T : Type 0} → Cause → Option T → Result T Cause
+or_fault cause None = Err cause
+or_fault cause (Some found) = Ok found
+
+-- what the next step makes of what was read; a fault stands
+abbrev pub and_read : {T S : Type 0} → Result T Cause → (T → Result S Cause) → Result S Cause
+and_read (Ok found) next = next found
+and_read (Err cause) next = Err cause
+
+-- the condition, the mnemonic, the unit and what stands behind it
+unfoldable pub instruction_of : List Word → Result Says Cause
+instruction_of words =
+    and_read (or_fault BadOperand (condition_front words)) (λ condition.
+    and_read (or_fault UnknownMnemonic (mnemonic_front condition.1)) (λ mnemonic.
+    and_read (or_fault BadUnit (unit_behind mnemonic.0 mnemonic.1)) (λ unit.
+    behind_unit mnemonic.0 condition.0 unit.0 unit.1)))
 
 -- behind the label
 unfoldable pub rest_says : List Word → Result Says Cause
-rest_says words = if first_begins is_dot words then Err Directive else with_condition (condition_front words)
+rest_says [] = Ok Nothing
+rest_says (word ∷ words) = if begins is_dot word then Err Directive else instruction_of (word ∷ words)
+
+-- ---- a line
 
 -- the label that stands first, and the tokens behind its colon
 unfoldable pub label_front : List Word → Option Word × List Word

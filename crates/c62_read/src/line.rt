@@ -7,7 +7,7 @@ ghost use Rattle.c62_read.specs.Text.{begins, tokens, is_allowed, is_solid, word
 ghost use Rattle.c62_read.specs.Number.{is_label};
 ghost use Rattle.c62_read.specs.Kind.{kinds_of};
 ghost use Rattle.c62_read.specs.Operand.{Finds};
-ghost use Rattle.c62_read.specs.Line.{said, names_label, is_branch, label_alone, target_of, is_storing, letter_written, does, jumps, pause_of, fits_behind, behind_unit, instruction_of, condition_front, first_begins, rest_says, label_front, without_colon, has_colon, is_bars, is_star, head_of, line_of, said_of};
+ghost use Rattle.c62_read.specs.Line.{said, names_label, is_branch, label_alone, target_of, is_storing, letter_written, does, jumps, pause_of, fits_behind, unit_behind, behind_unit, mnemonic_front, instruction_of, condition_front, rest_says, label_front, without_colon, has_colon, is_bars, is_star, head_of, line_of, said_of};
 ghost use Rattle.c62_read.specs.Unit.{is_dot};
 
 use crate::fault::{Cause, ReadFault};
@@ -148,42 +148,6 @@ fn behind_unit<'a>(
     }
 }
 
-/// Whether the unit, where one is written, may be written behind the mnemonic.
-fn fits(written: Option<WrittenUnit>, mnemonic: Mnemonic) -> bool
-    ensures { result ≡ fits_behind mnemonic written }
-{
-    match written {
-        Some(written) => written.fits(mnemonic),
-        None => true,
-    }
-}
-
-/// The instruction behind the condition.
-#[inline(always)]
-#[tactic(auto, unfolding(crate::specs::Line::instruction_of))]
-fn instruction<'a>(cond: Option<Cond>, rest: Tokens<'a>) -> Result<Statement<'a>, Cause>
-    ensures says { said result ≡ instruction_of cond (words_left rest.entry) }
-    ensures label { IfOk result (λ what. IsTrue (names_label what)) }
-{
-    let Some((name, rest)) = rest.split() else {
-        return if cond.is_some() {
-            Err(Cause::UnknownMnemonic)
-        } else {
-            Ok(Statement::Empty)
-        };
-    };
-    let Some(mnemonic) = mnemonic_named(name) else {
-        return Err(Cause::UnknownMnemonic);
-    };
-    let Some((written, rest)) = first_unit(rest) else {
-        return Err(Cause::BadUnit);
-    };
-    if !fits(written, mnemonic) {
-        return Err(Cause::BadUnit);
-    }
-    behind_unit(mnemonic, cond, written, rest)
-}
-
 /// The condition, where a bracket stands first, and what follows it. There is none where the bracket begins no condition.
 #[tactic(auto, unfolding(crate::specs::Line::condition_of, crate::specs::Line::condition_front))]
 fn first_condition<'a>(rest: Tokens<'a>) -> Option<(Option<Cond>, Tokens<'a>)>
@@ -206,13 +170,52 @@ fn first_condition<'a>(rest: Tokens<'a>) -> Option<(Option<Cond>, Tokens<'a>)>
     }
 }
 
-fn begins_with_dot(rest: Tokens<'_>) -> bool
-    ensures { result ≡ first_begins is_dot (words_left rest.entry) }
+/// The mnemonic that stands first, and what follows it.
+#[inline(always)]
+fn first_mnemonic<'a>(rest: Tokens<'a>) -> Option<(Mnemonic, Tokens<'a>)>
+    ensures { Finds result (mnemonic_front (words_left rest.entry)) }
 {
-    match rest.peek() {
-        Some(word) => begins_with(b'.', word),
-        None => false,
+    let (name, rest) = rest.split()?;
+    Some((mnemonic_named(name)?, rest))
+}
+
+/// Whether the unit, where one is written, may be written behind the mnemonic.
+fn fits(written: Option<WrittenUnit>, mnemonic: Mnemonic) -> bool
+    ensures { result ≡ fits_behind mnemonic written }
+{
+    match written {
+        Some(written) => written.fits(mnemonic),
+        None => true,
     }
+}
+
+/// The unit that is written behind the mnemonic, where one is, and what follows it.
+#[inline(always)]
+fn unit_behind<'a>(
+    mnemonic: Mnemonic,
+    rest: Tokens<'a>,
+) -> Option<(Option<WrittenUnit>, Tokens<'a>)>
+    ensures { Finds result (unit_behind mnemonic (words_left rest.entry)) }
+{
+    let (written, rest) = first_unit(rest)?;
+    if fits(written, mnemonic) {
+        Some((written, rest))
+    } else {
+        None
+    }
+}
+
+/// A condition, a mnemonic, a unit and operands.
+#[inline(always)]
+#[tactic(auto, unfolding(crate::specs::Line::instruction_of))]
+fn instruction<'a>(rest: Tokens<'a>) -> Result<Statement<'a>, Cause>
+    ensures says { said result ≡ instruction_of (words_left rest.entry) }
+    ensures label { IfOk result (λ what. IsTrue (names_label what)) }
+{
+    let (cond, rest) = first_condition(rest).ok_or(Cause::BadOperand)?;
+    let (mnemonic, rest) = first_mnemonic(rest).ok_or(Cause::UnknownMnemonic)?;
+    let (written, rest) = unit_behind(mnemonic, rest).ok_or(Cause::BadUnit)?;
+    behind_unit(mnemonic, cond, written, rest)
 }
 
 pub(crate) fn begins_with(byte: u8, bytes: &[u8]) -> bool
@@ -232,12 +235,13 @@ pub(crate) fn read_rest(rest: &[u8]) -> Result<Statement<'_>, Cause>
     ensures label { IfOk result (λ what. IsTrue (names_label what)) }
 {
     let rest = Tokens::new(rest);
-    if begins_with_dot(rest) {
-        return Err(Cause::Directive);
-    }
-    match first_condition(rest) {
-        None => Err(Cause::BadOperand),
-        Some((cond, rest)) => instruction(cond, rest),
+    match rest.peek() {
+        None => Ok(Statement::Empty),
+        Some(word) => if begins_with(b'.', word) {
+            Err(Cause::Directive)
+        } else {
+            instruction(rest)
+        },
     }
 }
 

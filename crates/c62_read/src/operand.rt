@@ -145,7 +145,15 @@ fn read_others(kinds: &[Kind]) -> Option<Operands>
         [Register(a), Comma, Number(k), Comma, Register(d)] => {
             Some(Operands::ConstantSecond(a, k, d))
         }
-        [Register(a), Comma, Number(k), Comma, Number(m), Comma, Register(d)] => {
+        [
+            Register(a),
+            Comma,
+            Number(k),
+            Comma,
+            Number(m),
+            Comma,
+            Register(d),
+        ] => {
             Some(Operands::Field {
                 source: a,
                 left: k,
