@@ -1,5 +1,6 @@
--- More than eight tokens are no operands.
+-- More than eight tokens are no operands, and a condition begins with a bracket.
 use Rattle.std.proofs.Common.{◌≡◌, ℕ, ◌+◌, ◌≤◌, ◌<◌, Bool, true, false, List, [], ◌∷◌, length, Option, Some, None, Err, refl, arith}
+use Rattle.std.specs.Prelude.{ℤ}
 use Rattle.std.proofs.lemmas.List.{length-map}
 use Rattle.c62_insn.specs.declared.register.Reg.{Reg}
 use Rattle.c62_insn.specs.declared.register.Cond.{Cond as Condition}
@@ -8,12 +9,13 @@ use Rattle.c62_read.specs.declared.fault.Cause.TheVariants.{BadOperand}
 use Rattle.c62_read.specs.declared.kind.Kind.{Kind}
 use Rattle.c62_read.specs.declared.kind.Kind.TheVariants.{Comma, Star, Open, Close, Plus, Minus, Increment, Decrement, Register, Number}
 use Rattle.c62_read.specs.declared.operand.Address.{Address}
+use Rattle.c62_read.specs.Number.{number_of, register_of}
 use Rattle.c62_read.specs.Operand.{address_front, loaded, operands_of, stored, with_offset}
 use Rattle.c62_read.specs.declared.mnemonic.Mnemonic.{Mnemonic}
 use Rattle.c62_read.specs.declared.mnemonic.Mnemonic.TheVariants.{Nop, Operation}
 use Rattle.c62_read.specs.declared.unit.WrittenUnit.{WrittenUnit}
-use Rattle.c62_read.specs.Kind.{Word, kind_of, kinds_of}
-use Rattle.c62_read.specs.Line.{behind_unit, is_storing, pause_of, target_of}
+use Rattle.c62_read.specs.Kind.{Word, first_is_open, is_open, kind_by, kind_of, kinds_of, mark_of, value_kind}
+use Rattle.c62_read.specs.Line.{behind_unit, condition_of, is_storing, pause_of, target_of}
 
 -- so many tokens stand before what is left, if an address does
 abbrev Leaves : ℕ → List Kind → Option (Address × List Kind) → Type 0
@@ -82,3 +84,21 @@ too_many_behind Nop cond written words none many = too_long cond (kinds_of words
 too_many_behind (Operation op) cond written words none many =
     rw (none, too_many (is_storing (Operation op)) (kinds_of words) (many_kinds words many)) refl
 too_many_behind mnemonic cond written words none many = rw (too_many (is_storing mnemonic) (kinds_of words) (many_kinds words many)) refl
+
+-- ---- a condition begins with a bracket
+
+other_kind : (mark : Option Kind) (word : Word) (kinds : List Kind) → is_open mark ≡ false → condition_of (kind_by mark word ∷ kinds) ≡ Some (None, 0)
+unfolding condition_of
+other_kind (Some Open) word kinds is = absurd cc
+other_kind (Some kind) word kinds is = refl
+other_kind None word kinds is = by_value (register_of word) (number_of word)
+  where
+    by_value : (reg : Option Reg) (number : Option ℤ) → condition_of (value_kind reg number ∷ kinds) ≡ Some (None, 0)
+    by_value (Some reg) number = refl
+    by_value None (Some k) = refl
+    by_value None None = refl
+
+pub no_bracket : (words : List Word) → first_is_open words ≡ false → condition_of (kinds_of words) ≡ Some (None, 0)
+unfolding kind_of condition_of
+no_bracket [] is = refl
+no_bracket (word ∷ words) is = other_kind (mark_of word) word (kinds_of words) is

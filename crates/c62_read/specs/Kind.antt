@@ -1,5 +1,5 @@
 -- What the tokens of a line are: marks, registers, numbers and names (docs/SERIAL_TEXT.md, "Tokens").
-use Rattle.std.specs.Prelude.{ℕ, ℤ, ◌==◌, ◌&&◌, List, [], ◌∷◌, map, Option, Some, None, if◌then◌else◌}
+use Rattle.std.specs.Prelude.{ℕ, ℤ, Bool, true, false, ◌==◌, ◌&&◌, List, [], ◌∷◌, map, Option, Some, None, if◌then◌else◌}
 use Rattle.c62_insn.specs.declared.register.Reg.{Reg}
 use Rattle.c62_read.specs.declared.kind.Kind.{Kind}
 use Rattle.c62_read.specs.declared.kind.Kind.TheVariants.{Comma, Star, Open, Close, Not, Plus, Minus, Increment, Decrement, Register, Number, Name}
@@ -45,3 +45,12 @@ kind_of word = kind_by (mark_of word) word
 
 abbrev pub kinds_of : List Word → List Kind
 kinds_of words = map kind_of words
+
+-- whether `[` stands first
+abbrev pub is_open : Option Kind → Bool
+is_open (Some Open) = true
+is_open _ = false
+
+abbrev pub first_is_open : List Word → Bool
+first_is_open [] = false
+first_is_open (word ∷ words) = is_open (mark_of word)

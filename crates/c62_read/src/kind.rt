@@ -54,8 +54,9 @@ fn single_mark(b: u8) -> Option<Kind>
     }
 }
 
+#[inline(always)]
 #[tactic(auto, unfolding(crate::specs::Kind::mark_of))]
-fn mark(word: &[u8]) -> Option<Kind>
+pub(crate) fn mark(word: &[u8]) -> Option<Kind>
     ensures { result ≡ mark_of word.now }
 {
     match word {

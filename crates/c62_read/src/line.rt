@@ -5,14 +5,14 @@ ghost use Rattle.std.specs.List.{list_all, list_any};
 ghost use Rattle.std.specs.Option.{option_copied};
 ghost use Rattle.c62_read.specs.Text.{begins, tokens, is_allowed, is_solid, words_left};
 ghost use Rattle.c62_read.specs.Number.{is_label};
-ghost use Rattle.c62_read.specs.Kind.{kinds_of};
+ghost use Rattle.c62_read.specs.Kind.{kinds_of, first_is_open};
 ghost use Rattle.c62_read.specs.Operand.{Finds};
 ghost use Rattle.c62_read.specs.Line.{said, names_label, is_branch, label_alone, target_of, is_storing, letter_written, does, jumps, pause_of, fits_behind, unit_behind, behind_unit, mnemonic_front, instruction_of, condition_front, rest_says, label_front, without_colon, has_colon, is_bars, is_star, head_of, line_of, said_of};
 ghost use Rattle.c62_read.specs.Unit.{is_dot};
 
 use crate::fault::{Cause, ReadFault};
 use crate::form::make;
-use crate::kind::Kind;
+use crate::kind::{Kind, mark};
 use crate::label::Label;
 use crate::mnemonic::{Mnemonic, mnemonic_named};
 use crate::number::{is_label, spells};
@@ -148,11 +148,25 @@ fn behind_unit<'a>(
     }
 }
 
+/// Whether a bracket stands first.
+#[inline(always)]
+fn opens_bracket(rest: Tokens<'_>) -> bool
+    ensures { result ≡ first_is_open (words_left rest.entry) }
+{
+    match rest.peek() {
+        Some(word) => matches!(mark(word), Some(Kind::Open)),
+        None => false,
+    }
+}
+
 /// The condition, where a bracket stands first, and what follows it. There is none where the bracket begins no condition.
-#[tactic(auto, unfolding(crate::specs::Line::condition_of, crate::specs::Line::condition_front))]
+#[tactic(auto, using(crate::proofs::KindLemmas::no_bracket), unfolding(crate::specs::Line::condition_of, crate::specs::Line::condition_front))]
 fn first_condition<'a>(rest: Tokens<'a>) -> Option<(Option<Cond>, Tokens<'a>)>
     ensures { Finds result (condition_front (words_left rest.entry)) }
 {
+    if !opens_bracket(rest) {
+        return Some((None, rest));
+    }
     let Some((Kind::Open, inside)) = rest.split_kind() else {
         return Some((None, rest));
     };
