@@ -27,7 +27,8 @@ use Rattle.c62_read.specs.declared.unit.WrittenUnit.{WrittenUnit}
 use Rattle.c62_read.specs.Text.{grow, put_back, begins, is_allowed, is_blank, is_solid, is_double, joins, tokens}
 use Rattle.c62_read.specs.Number.{is_label, register_of, spells}
 use Rattle.c62_read.specs.Operand.{Word, address_by, address_of, bracketed, loaded_of, nothing_behind, offset_of, operands_from, operands_of, plain_of, register_behind, sign_form, signed_address, source_of, sources_of, step_form, stepped_address, stepped_by, stored_of, usual_address, with_offset}
-use Rattle.c62_read.specs.Mnemonic.{all_operations, mnemonic_named, operation_named, pseudo_named}
+use Rattle.c62_insn.specs.Table.{all_operations}
+use Rattle.c62_read.specs.Mnemonic.{mnemonic_named, operation_named, pseudo_named}
 use Rattle.c62_read.specs.Unit.{is_dot, is_t, is_x, letter_of, mark_of, side_numbered, unit_fits, unit_front, unit_of, unit_split, with_left}
 use Rattle.c62_read.specs.Line.{Parts, Says, Nothing, Pause, Does, Jumps, behind_unit, bracketed_condition, closed_condition, condition_front, conditional, cycles_of, does, first_begins, formed, has_colon, head_of, instruction_of, is_bars, is_branch, is_star, is_storing, jumps_or_does, label_alone, label_front, line_of, operands_written, parts_read, pause_of, rest_says, target_of, text_fault, with_condition, with_head, with_mnemonic, with_rest, with_unit, without_colon}
 use Rattle.c62_read.specs.Laws.{CaseSaysNothing, IsRecased, in_small, small_labels, small_says}

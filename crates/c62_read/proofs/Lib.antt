@@ -1,3 +1,4 @@
+mod AimLemmas
 pub mod Registers
 pub mod TokenLemmas
 pub mod NumberLemmas
