@@ -1,4 +1,3 @@
-mod AimLemmas
 pub mod Registers
 pub mod TokenLemmas
 pub mod NumberLemmas
