@@ -59,7 +59,7 @@ field_of _ a k m = shifted_right (shifted_left a k) m
 
 -- the bytes of an access
 abbrev pub size_of : Op → ℕ
-size_of op = bytes_of (row_of op).class
+size_of op = bytes_of (row_of op).memory
 
 -- whether it runs, its condition's register having this value (SPRU189, "Conditional Operations")
 abbrev pub runs_of : Option Condition → Option ℕ → Bool

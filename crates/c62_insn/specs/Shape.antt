@@ -5,13 +5,14 @@ use Rattle.c62_insn.specs.declared.register.Side.{Side}
 use Rattle.c62_insn.specs.declared.register.Side.TheVariants.{B}
 use Rattle.c62_insn.specs.declared.register.Reg.{Reg}
 use Rattle.c62_insn.specs.declared.operands.Op.{Op}
+use Rattle.c62_insn.specs.declared.operands.Op.TheVariants.{B as Branch}
 use Rattle.c62_insn.specs.declared.operands.AddressForm.{AddressForm}
 use Rattle.c62_insn.specs.declared.operands.AddressForm.TheVariants.{Plus, Minus}
 use Rattle.c62_insn.specs.declared.operands.Offset.{Offset}
 use Rattle.c62_insn.specs.declared.operands.Offset.TheVariants.{Constant as ByConstant, Register as ByRegister}
 use Rattle.c62_insn.specs.declared.operands.Operands.{Operands}
 use Rattle.c62_insn.specs.declared.operands.Operands.TheVariants.{Three, ConstantFirst, ConstantSecond, Two, Field, Constant, Access, Block, Register}
-use Rattle.c62_insn.specs.Table.{row_of, loads, stores, branches}
+use Rattle.c62_insn.specs.Table.{row_of, loads, stores}
 use Rattle.c62_insn.specs.Takes.{same_side}
 
 -- the delay slots of an operation's result (SPRU189, "Delay Slots")
@@ -19,13 +20,14 @@ abbrev pub delay_of : Op → ℕ
 delay_of op = (row_of op).delay
 
 abbrev pub is_store : Op → Bool
-is_store op = stores (row_of op).class
+is_store op = stores (row_of op).memory
 
 abbrev pub is_load : Op → Bool
-is_load op = loads (row_of op).class
+is_load op = loads (row_of op).memory
 
 abbrev pub is_branch : Op → Bool
-is_branch op = branches (row_of op).class
+is_branch Branch = true
+is_branch _ = false
 
 -- the side of an instruction, where its operands decide it
 abbrev pub side_of : Operands → Option Side

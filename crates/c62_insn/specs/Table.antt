@@ -11,8 +11,8 @@ use Rattle.c62_insn.specs.declared.form.Range.{Range}
 use Rattle.c62_insn.specs.declared.form.Pattern.{Pattern}
 use Rattle.c62_insn.specs.declared.form.Pattern.TheVariants.{TwoSources, ConstantSource, SourceConstant, OneSource, SourceField, ConstantAlone, Address, ToBlock, ToRegister}
 use Rattle.c62_insn.specs.declared.form.Form.{Form}
-use Rattle.c62_insn.specs.declared.table.Class.{Class}
-use Rattle.c62_insn.specs.declared.table.Class.TheVariants.{Computes, Loads, Stores, Branches}
+use Rattle.c62_insn.specs.declared.table.Memory.{Memory}
+use Rattle.c62_insn.specs.declared.table.Memory.TheVariants.{Unused, Loads, Stores}
 use Rattle.c62_insn.specs.declared.table.Row.{Row as WrittenRow}
 
 -- the ranges of constants: -16..15, -15..16, 0..31, -32768..32767 and 0..65535
@@ -42,27 +42,23 @@ on_ls operands = record { letter = L; pattern = operands } ∷ record { letter =
 pub record Row : Type 0 where
   pub name : List ℕ
   pub delay : ℕ
-  pub class : Class
+  pub memory : Memory
   pub destination_is_source : Bool
   pub first_is_fixed : Bool
   pub second_is_fixed : Bool
   pub forms : List Form
 
--- whether an operation loads, stores or branches
-abbrev pub loads : Class → Bool
+-- whether an operation loads, and whether it stores
+abbrev pub loads : Memory → Bool
 loads (Loads _) = true
 loads _ = false
 
-abbrev pub stores : Class → Bool
+abbrev pub stores : Memory → Bool
 stores (Stores _) = true
 stores _ = false
 
-abbrev pub branches : Class → Bool
-branches Branches = true
-branches _ = false
-
 -- the bytes of an access
-abbrev pub bytes_of : Class → ℕ
+abbrev pub bytes_of : Memory → ℕ
 bytes_of (Loads bytes) = bytes
 bytes_of (Stores bytes) = bytes
 bytes_of _ = 4
@@ -72,7 +68,7 @@ abbrev pub said_by : WrittenRow → Row
 said_by row = record {
   name = row.name.now;
   delay = row.delay;
-  class = row.class;
+  memory = row.memory;
   destination_is_source = row.destination_is_source;
   first_is_fixed = row.first_is_fixed;
   second_is_fixed = row.second_is_fixed;
@@ -80,11 +76,11 @@ said_by row = record {
 }
 
 -- a row of an operation whose destination is no source, and whose sources are not fixed
-abbrev pub usual : List ℕ → ℕ → Class → List Form → Row
-usual name delay class forms = record {
+abbrev pub usual : List ℕ → ℕ → Memory → List Form → Row
+usual name delay memory forms = record {
   name = name;
   delay = delay;
-  class = class;
+  memory = memory;
   destination_is_source = false;
   first_is_fixed = false;
   second_is_fixed = false;
@@ -93,10 +89,10 @@ usual name delay class forms = record {
 
 -- operations whose result comes at once, and multiplies, whose result comes a cycle later
 abbrev pub single_cycle : List ℕ → List Form → Row
-single_cycle name forms = usual name 0 Computes forms
+single_cycle name forms = usual name 0 Unused forms
 
 abbrev pub multiply : List ℕ → List Form → Row
-multiply name forms = usual name 1 Computes forms
+multiply name forms = usual name 1 Unused forms
 
 -- one whose destination is a source too
 abbrev pub updating : List ℕ → List Form → Row
@@ -173,7 +169,7 @@ row_of Ldw = load (codes "LDW") 4
 row_of Stb = store (codes "STB") 1
 row_of Sth = store (codes "STH") 2
 row_of Stw = store (codes "STW") 4
-row_of B = usual (codes "B") 5 Branches (on S ToBlock ++ on S ToRegister)
+row_of B = usual (codes "B") 5 Unused (on S ToBlock ++ on S ToRegister)
 
 -- the operations in the order of the table
 abbrev pub all_operations : List Op

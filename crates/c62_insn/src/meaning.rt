@@ -5,7 +5,7 @@ ghost use Rattle.c62_insn.specs.Effect.{result_of, field_of, low_bytes_of, size_
 ghost use Rattle.c62_insn.specs.Shape.{offset_reads};
 
 use crate::operands::{AddressForm, Offset, Op};
-use crate::table::{Class, row_of};
+use crate::table::{Memory, row_of};
 use crate::word::{
     absolute, add_halves, high, joined, low, multiply, multiply_mixed, multiply_mixed_first,
     multiply_unsigned, shift_left, shift_right, shift_right_unsigned, subtract_halves, word_of,
@@ -77,8 +77,8 @@ impl Op {
     pub(crate) fn size(self) -> u8
         ensures { result ≡ size_of self }
     {
-        match row_of(self).class {
-            Class::Loads(bytes) | Class::Stores(bytes) => bytes,
+        match row_of(self).memory {
+            Memory::Loads(bytes) | Memory::Stores(bytes) => bytes,
             _ => 4,
         }
     }

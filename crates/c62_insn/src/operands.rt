@@ -3,7 +3,7 @@
 ghost use Rattle.std.specs.Prelude.{◌≡◌, ◌↔◌, IsTrue};
 
 use crate::register::{Reg, Side};
-use crate::table::{Class, row_of};
+use crate::table::{Memory, row_of};
 
 /// An operation, with what it gives modulo 2^32 (`docs/MACHINE.md`, "Instruction table"; SPRU189,
 /// "Individual Instruction Descriptions").
@@ -222,21 +222,21 @@ impl Op {
     pub fn is_store(self) -> bool
         ensures { result ≡ is_store self }
     {
-        matches!(row_of(self).class, Class::Stores(_))
+        matches!(row_of(self).memory, Memory::Stores(_))
     }
 
     /// Whether this is `LDB`, `LDBU`, `LDH`, `LDHU` or `LDW`.
     pub fn is_load(self) -> bool
         ensures { result ≡ is_load self }
     {
-        matches!(row_of(self).class, Class::Loads(_))
+        matches!(row_of(self).memory, Memory::Loads(_))
     }
 
     /// Whether this is `B`, to a block or to a register.
     pub fn is_branch(self) -> bool
         ensures { result ≡ is_branch self }
     {
-        matches!(row_of(self).class, Class::Branches)
+        matches!(self, Op::B)
     }
 
     /// Whether both are one operation.

@@ -12,17 +12,15 @@ use crate::form::{Form, Range};
 use crate::operands::Op;
 use crate::register::Letter;
 
-/// What an operation does.
+/// How an operation uses memory.
 #[derive(Clone, Copy, PartialEq, Eq, Debug)]
-pub(crate) enum Class {
-    /// It computes its destination.
-    Computes,
+pub(crate) enum Memory {
+    /// Not at all.
+    Unused,
     /// It loads so many bytes.
     Loads(u8),
     /// It stores so many bytes.
     Stores(u8),
-    /// It branches.
-    Branches,
 }
 
 /// What the table says of an operation.
@@ -32,7 +30,7 @@ pub(crate) struct Row {
     pub name: &'static str,
     /// The delay slots of the result, in cycles.
     pub delay: u8,
-    pub class: Class,
+    pub memory: Memory,
     /// Whether the destination is a source too.
     pub destination_is_source: bool,
     /// Whether no form lets the first source cross, and it is an error of its side to lie across.
@@ -69,13 +67,13 @@ macro_rules! forms {
 
 /// A row of an operation whose destination is no source, and whose sources are not fixed.
 #[inline(always)]
-fn usual(name: &'static str, delay: u8, class: Class, forms: &'static [Form]) -> Row
-    ensures { said_by result ≡ usual name.now delay class forms.now }
+fn usual(name: &'static str, delay: u8, memory: Memory, forms: &'static [Form]) -> Row
+    ensures { said_by result ≡ usual name.now delay memory forms.now }
 {
     Row {
         name,
         delay,
-        class,
+        memory,
         destination_is_source: false,
         first_is_fixed: false,
         second_is_fixed: false,
@@ -87,14 +85,14 @@ fn usual(name: &'static str, delay: u8, class: Class, forms: &'static [Form]) ->
 fn single_cycle(name: &'static str, forms: &'static [Form]) -> Row
     ensures { said_by result ≡ single_cycle name.now forms.now }
 {
-    usual(name, 0, Class::Computes, forms)
+    usual(name, 0, Memory::Unused, forms)
 }
 
 #[inline(always)]
 fn multiply(name: &'static str, forms: &'static [Form]) -> Row
     ensures { said_by result ≡ multiply name.now forms.now }
 {
-    usual(name, 1, Class::Computes, forms)
+    usual(name, 1, Memory::Unused, forms)
 }
 
 /// A row of an operation whose destination is a source too.
@@ -162,14 +160,14 @@ fn address_sum(name: &'static str) -> Row
 fn load(name: &'static str, bytes: u8) -> Row
     ensures { said_by result ≡ load name.now bytes }
 {
-    usual(name, 4, Class::Loads(bytes), forms![D: Address(UCST5)])
+    usual(name, 4, Memory::Loads(bytes), forms![D: Address(UCST5)])
 }
 
 #[inline(always)]
 fn store(name: &'static str, bytes: u8) -> Row
     ensures { said_by result ≡ store name.now bytes }
 {
-    usual(name, 0, Class::Stores(bytes), forms![D: Address(UCST5)])
+    usual(name, 0, Memory::Stores(bytes), forms![D: Address(UCST5)])
 }
 
 /// The row of `op`.
@@ -243,7 +241,7 @@ pub(crate) fn row_of(op: Op) -> Row
         Op::Stb => store("STB", 1),
         Op::Sth => store("STH", 2),
         Op::Stw => store("STW", 4),
-        Op::B => usual("B", 5, Class::Branches, forms![S: ToBlock, S: ToRegister]),
+        Op::B => usual("B", 5, Memory::Unused, forms![S: ToBlock, S: ToRegister]),
     }
 }
 
