@@ -56,9 +56,9 @@ is_within range = int_le (negsuc 32767) range.low && int_le range.high (pos 6553
 -- what each form keeps: on .D nothing crosses, and only ADD has a constant first
 abbrev keeps : Op → Letter → Pattern → Bool
 keeps op letter (TwoSources first second) = (is_own first || lets_first_cross op) && (not (same_letter letter D) || is_own first && is_own second)
-keeps op letter (ConstantSource range place) = is_within range && (not (same_letter letter D) || is_own place && is_add op)
-keeps op letter (SourceConstant place range) = is_within range && (not (same_letter letter D) || is_own place)
-keeps op letter (OneSource place) = not (same_letter letter D) || is_own place
+keeps op letter (ConstantSource range reach) = is_within range && (not (same_letter letter D) || is_own reach && is_add op)
+keeps op letter (SourceConstant reach range) = is_within range && (not (same_letter letter D) || is_own reach)
+keeps op letter (OneSource reach) = not (same_letter letter D) || is_own reach
 keeps op letter (SourceField range) = is_within range
 keeps op letter (ConstantAlone range) = is_within range
 keeps op letter (Address range) = same_letter letter D && is_within range
@@ -127,25 +127,25 @@ first_in_file op unit a b d taking fixed =
 at_d : (letter : Letter) (x : Bool) → same_letter letter D ≡ true → (not (same_letter letter D) || x) ≡ true → x ≡ true
 at_d letter x is_d or = rw is_d at or
 
-own_place : (place : Reach) (side : Side) (reg : Reg) → is_own place ≡ true → may_lie place side reg ≡ true → not (same_side reg.side side) ≡ false
-own_place Own side reg own lies = not_from_true (same_side reg.side side) lies
-own_place Crossing side reg own lies = absurd cc
+own_reach : (reach : Reach) (side : Side) (reg : Reg) → is_own reach ≡ true → may_lie reach side reg ≡ true → not (same_side reg.side side) ≡ false
+own_reach Own side reg own lies = not_from_true (same_side reg.side side) lies
+own_reach Crossing side reg own lies = absurd cc
 
 none_crosses : (op : Op) (pattern : Pattern) (unit : FunctionalUnit) (operands : Operands)
     → holds_constants pattern operands ≡ true → registers_fit pattern unit.side operands ≡ true → keeps op unit.letter pattern ≡ true → same_letter unit.letter D ≡ true
     → crosses_to unit.side operands ≡ false
 none_crosses op (TwoSources first second) unit (Three a b d) holds lies kept is_d =
-    let places = at_d unit.letter (is_own first && is_own second) is_d (and_parts (is_own first || lets_first_cross op) _ kept).1 in
-    let own = and_parts (is_own first) (is_own second) places in
+    let owns = at_d unit.letter (is_own first && is_own second) is_d (and_parts (is_own first || lets_first_cross op) _ kept).1 in
+    let own = and_parts (is_own first) (is_own second) owns in
     let both = and_parts (may_lie first unit.side a) (may_lie second unit.side b) (and_parts (may_lie first unit.side a && may_lie second unit.side b) (same_side d.side unit.side) lies).0 in
-    or_from _ _ (own_place first unit.side a own.0 both.0) (own_place second unit.side b own.1 both.1)
-none_crosses op (ConstantSource range place) unit (ConstantFirst k a d) holds lies kept is_d =
-    let places = at_d unit.letter (is_own place && is_add op) is_d (and_parts (is_within range) _ kept).1 in
-    own_place place unit.side a (and_parts (is_own place) (is_add op) places).0 (and_parts (may_lie place unit.side a) (same_side d.side unit.side) lies).0
-none_crosses op (SourceConstant place range) unit (ConstantSecond a k d) holds lies kept is_d =
-    own_place place unit.side a (at_d unit.letter (is_own place) is_d (and_parts (is_within range) _ kept).1) (and_parts (may_lie place unit.side a) (same_side d.side unit.side) lies).0
-none_crosses op (OneSource place) unit (Two a d) holds lies kept is_d =
-    own_place place unit.side a (at_d unit.letter (is_own place) is_d kept) (and_parts (may_lie place unit.side a) (same_side d.side unit.side) lies).0
+    or_from _ _ (own_reach first unit.side a own.0 both.0) (own_reach second unit.side b own.1 both.1)
+none_crosses op (ConstantSource range reach) unit (ConstantFirst k a d) holds lies kept is_d =
+    let owns = at_d unit.letter (is_own reach && is_add op) is_d (and_parts (is_within range) _ kept).1 in
+    own_reach reach unit.side a (and_parts (is_own reach) (is_add op) owns).0 (and_parts (may_lie reach unit.side a) (same_side d.side unit.side) lies).0
+none_crosses op (SourceConstant reach range) unit (ConstantSecond a k d) holds lies kept is_d =
+    own_reach reach unit.side a (at_d unit.letter (is_own reach) is_d (and_parts (is_within range) _ kept).1) (and_parts (may_lie reach unit.side a) (same_side d.side unit.side) lies).0
+none_crosses op (OneSource reach) unit (Two a d) holds lies kept is_d =
+    own_reach reach unit.side a (at_d unit.letter (is_own reach) is_d kept) (and_parts (may_lie reach unit.side a) (same_side d.side unit.side) lies).0
 none_crosses op (SourceField range) unit (Field a k m d) holds lies kept is_d = not_from_true _ (and_parts (same_side a.side unit.side) (same_side d.side unit.side) lies).0
 none_crosses op (ConstantAlone range) unit (Constant k d) holds lies kept is_d = refl
 none_crosses op (Address range) unit (Access reg base form offset) holds lies kept is_d = refl
@@ -160,8 +160,8 @@ uncrossed_on_d op operands unit taking is_d =
 
 add_alone : (op : Op) (pattern : Pattern) (letter : Letter) (k : ℤ) (a d : Reg)
     → holds_constants pattern (ConstantFirst k a d) ≡ true → keeps op letter pattern ≡ true → same_letter letter D ≡ true → is_add op ≡ true
-add_alone op (ConstantSource range place) letter k a d holds kept is_d =
-    (and_parts (is_own place) (is_add op) (at_d letter (is_own place && is_add op) is_d (and_parts (is_within range) _ kept).1)).1
+add_alone op (ConstantSource range reach) letter k a d holds kept is_d =
+    (and_parts (is_own reach) (is_add op) (at_d letter (is_own reach && is_add op) is_d (and_parts (is_within range) _ kept).1)).1
 add_alone op _ letter k a d holds kept is_d = absurd cc
 
 -- on .D only ADD has a constant first
@@ -213,8 +213,8 @@ narrow_one range k within inside = and_from (is_narrow k) true (narrow_in range 
 
 all_narrow : (op : Op) (pattern : Pattern) (letter : Letter) (operands : Operands)
     → holds_constants pattern operands ≡ true → keeps op letter pattern ≡ true → list_all is_narrow (constants_of operands) ≡ true
-all_narrow op (ConstantSource range place) letter (ConstantFirst k a d) holds kept = narrow_one range k (and_parts (is_within range) _ kept).0 holds
-all_narrow op (SourceConstant place range) letter (ConstantSecond a k d) holds kept = narrow_one range k (and_parts (is_within range) _ kept).0 holds
+all_narrow op (ConstantSource range reach) letter (ConstantFirst k a d) holds kept = narrow_one range k (and_parts (is_within range) _ kept).0 holds
+all_narrow op (SourceConstant reach range) letter (ConstantSecond a k d) holds kept = narrow_one range k (and_parts (is_within range) _ kept).0 holds
 all_narrow op (SourceField range) letter (Field a k m d) holds kept =
     let both = and_parts (in_range range k) (in_range range m) holds in
     and_from (is_narrow k) (list_all is_narrow (m ∷ [])) (narrow_in range k kept both.0) (narrow_one range m kept both.1)
@@ -250,8 +250,8 @@ taken_letter op operands unit taking =
     (and_parts (holds_constants form.pattern operands && same_letter form.letter unit.letter) (registers_fit form.pattern unit.side operands) here).0).1) taking
 
 kind_held : (pattern : Pattern) (operands : Operands) → holds_constants pattern operands ≡ true → same_kind pattern operands ≡ true
-kind_held (ConstantSource range place) (ConstantFirst k a d) holds = refl
-kind_held (SourceConstant place range) (ConstantSecond a k d) holds = refl
+kind_held (ConstantSource range reach) (ConstantFirst k a d) holds = refl
+kind_held (SourceConstant reach range) (ConstantSecond a k d) holds = refl
 kind_held (SourceField range) (Field a k m d) holds = refl
 kind_held (ConstantAlone range) (Constant k d) holds = refl
 kind_held (Address range) (Access reg base form offset) holds = refl

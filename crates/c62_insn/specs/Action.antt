@@ -1,5 +1,5 @@
 -- What an action tells of an instruction: its writes, their values, its access and its branch are those of Shape and Effect.
-use Rattle.std.specs.Prelude.{◌≡◌, ℕ, Bool, List, [], ◌∷◌, ◌++◌, map, Option, Some, None, option_map, slice_index}
+use Rattle.std.specs.Prelude.{◌≡◌, ℕ, Bool, if◌then◌else◌, List, [], ◌∷◌, ◌++◌, map, Option, Some, None, option_map, slice_index}
 use Rattle.c62_insn.specs.declared.register.Reg.{Reg}
 use Rattle.c62_insn.specs.declared.register.Cond.{Cond as Condition}
 use Rattle.c62_insn.specs.declared.operands.Op.{Op}
@@ -67,6 +67,16 @@ access_in _ = None
 abbrev pub target_in : Action → Option Target
 target_in (Branch target) = Some target
 target_in _ = None
+
+-- what an instruction does with the words of its reads where it runs, and nothing where it does not
+abbrev pub values_where : Bool → Insn → List ℕ → List ℕ
+values_where runs insn reads = if runs then values_of (op_of insn) (operands_of insn) reads else []
+
+abbrev pub access_where : Bool → Insn → List ℕ → Option MemoryAccess
+access_where runs insn reads = if runs then access_of (op_of insn) (operands_of insn) reads else None
+
+abbrev pub target_where : Bool → Insn → List ℕ → Option Target
+target_where runs insn reads = if runs then target_of (operands_of insn) reads else None
 
 -- the action of an operation on these operands, where registers have these words
 pub record IsAction (op : Op) (operands : Operands) (words : Reg → ℕ) (action : Action) : Type 0 where

@@ -4,7 +4,7 @@ use Rattle.std.specs.Prelude.{ℕ, ◌+◌, ◌-◌, ◌*◌, ◌/◌, ◌%◌, 
 use Rattle.std.specs.Int.{cast_signed, w8}
 use Rattle.c62_insn.specs.declared.register.Cond.{Cond as Condition}
 use Rattle.c62_insn.specs.declared.operands.Op.{Op}
-use Rattle.c62_insn.specs.declared.operands.Op.TheVariants.{Add, Sub, And, Or, Xor, Cmpeq, Cmpgt, Cmplt, Cmpgtu, Cmpltu, Abs, Shl, Shr, Shru, Extu, Add2, Sub2, Mvk, Mvklh, Addk, Mpy, Mpyu, Mpyus, Mpysu, Mpyh, Mpyhu, Mpyhl, Mpylh, Addab, Addah, Addaw, Ldb, Ldbu, Ldh, Ldhu, Stb, Sth}
+use Rattle.c62_insn.specs.declared.operands.Op.TheVariants.{Add, Sub, And, Or, Xor, Abs, Add2, Sub2, Cmpeq, Cmpgt, Cmplt, Cmpgtu, Cmpltu, Shl, Shr, Shru, Extu, Mvk, Mvklh, Addk, Mpy, Mpyu, Mpyus, Mpysu, Mpyh, Mpyhu, Mpyhl, Mpylh, Addab, Addah, Addaw, Ldb, Ldh}
 use Rattle.c62_insn.specs.declared.operands.AddressForm.{AddressForm}
 use Rattle.c62_insn.specs.declared.operands.AddressForm.TheVariants.{Plus, PreIncrement, PostIncrement, PostDecrement}
 use Rattle.c62_insn.specs.declared.operands.Offset.{Offset}
@@ -15,6 +15,7 @@ use Rattle.c62_insn.specs.declared.effect.Access.{Access as MemoryAccess}
 use Rattle.c62_insn.specs.declared.effect.Target.{Target}
 use Rattle.c62_insn.specs.declared.effect.Target.TheVariants.{Block as ToBlock, Register as ToRegister}
 use Rattle.c62_insn.specs.Word.{word, sg, sg_half, lo, hi, sum, difference, shifted_left, shifted_right, half_sums, half_differences}
+use Rattle.c62_insn.specs.Table.{row_of, bytes_of}
 use Rattle.c62_insn.specs.Shape.{is_store, changes_base}
 
 -- the result of an operation on the words of its operands, constants too, in the order of the table
@@ -24,17 +25,17 @@ result_of Sub a b = difference a b
 result_of And a b = bit_and a b
 result_of Or a b = bit_or a b
 result_of Xor a b = bit_xor a b
+result_of Abs a _ = min (unsigned_abs (sg a)) (2 ^ 31 - 1)
+result_of Add2 a b = half_sums a b
+result_of Sub2 a b = half_differences a b
 result_of Cmpeq a b = if a == b then 1 else 0
 result_of Cmpgt a b = if int_lt (sg b) (sg a) then 1 else 0
 result_of Cmplt a b = if int_lt (sg a) (sg b) then 1 else 0
 result_of Cmpgtu a b = if nat_lt b a then 1 else 0
 result_of Cmpltu a b = if nat_lt a b then 1 else 0
-result_of Abs a _ = min (unsigned_abs (sg a)) (2 ^ 31 - 1)
 result_of Shl a count = shifted_left a (count % 64)
 result_of Shr a count = shifted_right a (count % 64)
 result_of Shru a count = a / 2 ^ (count % 64)
-result_of Add2 a b = half_sums a b
-result_of Sub2 a b = half_differences a b
 result_of Mvk k _ = k
 result_of Mvklh k d = lo k * 2 ^ 16 + lo d
 result_of Addk k d = sum d k
@@ -58,13 +59,7 @@ field_of _ a k m = shifted_right (shifted_left a k) m
 
 -- the bytes of an access
 abbrev pub size_of : Op → ℕ
-size_of Ldb = 1
-size_of Ldbu = 1
-size_of Stb = 1
-size_of Ldh = 2
-size_of Ldhu = 2
-size_of Sth = 2
-size_of _ = 4
+size_of op = bytes_of (row_of op).memory
 
 -- whether it runs, its condition's register having this value (SPRU189, "Conditional Operations")
 abbrev pub runs_of : Option Condition → Option ℕ → Bool
@@ -89,14 +84,14 @@ address_of PostIncrement base after = base
 address_of PostDecrement base after = base
 address_of _ base after = after
 
--- the place of the base among the reads
-abbrev pub base_place : Op → ℕ
-base_place op = if is_store op then 1 else 0
+-- the index of the base among the reads
+abbrev pub base_index : Op → ℕ
+base_index op = if is_store op then 1 else 0
 
 -- the base moved by the offset times the size
 abbrev pub base_after : Op → AddressForm → Offset → List ℕ → ℕ
 base_after op form offset reads =
-    moved form (slice_index reads (base_place op)) ((offset_value offset (slice_index reads (base_place op + 1)) * size_of op) % 2 ^ 32)
+    moved form (slice_index reads (base_index op)) ((offset_value offset (slice_index reads (base_index op + 1)) * size_of op) % 2 ^ 32)
 
 -- the values written, without that of a load's destination
 abbrev pub values_of : Op → Operands → List ℕ → List ℕ
@@ -120,7 +115,7 @@ stored op reads = if is_store op then Some (low_bytes_of op (slice_index reads 0
 -- the access of a load or store
 abbrev pub access_of : Op → Operands → List ℕ → Option MemoryAccess
 access_of op (Access _ _ form offset) reads =
-    Some (record { address = address_of form (slice_index reads (base_place op)) (base_after op form offset reads); size = size_of op; value = stored op reads })
+    Some (record { address = address_of form (slice_index reads (base_index op)) (base_after op form offset reads); size = size_of op; value = stored op reads })
 access_of op _ reads = None
 
 -- where a branch goes

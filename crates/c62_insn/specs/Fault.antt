@@ -8,12 +8,11 @@ use Rattle.c62_insn.specs.declared.register.Reg.{Reg}
 use Rattle.c62_insn.specs.declared.register.Cond.{Cond as Condition}
 use Rattle.c62_insn.specs.declared.register.Unit.{Unit as FunctionalUnit}
 use Rattle.c62_insn.specs.declared.operands.Op.{Op}
-use Rattle.c62_insn.specs.declared.operands.Op.TheVariants.{Shl, Shr, Shru, Ext, Extu, Sub2, Addab, Addah, Addaw}
 use Rattle.c62_insn.specs.declared.operands.Operands.{Operands}
 use Rattle.c62_insn.specs.declared.operands.Operands.TheVariants.{Three, ConstantFirst, ConstantSecond, Two, Field, Access, Register}
 use Rattle.c62_insn.specs.declared.fault.FormFault.{FormFault}
 use Rattle.c62_insn.specs.declared.fault.FormFault.TheVariants.{NoUnit, ConstantRange, TwoCrossed, BadSide, BadCondition}
-use Rattle.c62_insn.specs.Table.{forms_of}
+use Rattle.c62_insn.specs.Table.{row_of, forms_of}
 use Rattle.c62_insn.specs.Units.{all_units}
 use Rattle.c62_insn.specs.Takes.{same_side, same_kind, holds_constants, offset_on, takes}
 use Rattle.c62_insn.specs.Shape.{is_load, is_store, is_branch, side_of}
@@ -68,23 +67,11 @@ two_crossed op operands =
 
 -- operations whose first source no form lets cross
 abbrev pub is_first_fixed : Op → Bool
-is_first_fixed Ext = true
-is_first_fixed Extu = true
-is_first_fixed Sub2 = true
-is_first_fixed Addab = true
-is_first_fixed Addah = true
-is_first_fixed Addaw = true
-is_first_fixed _ = false
+is_first_fixed op = (row_of op).first_is_fixed
 
 -- operations whose second source no form lets cross: the count of a shift, and a source of ADDAB, ADDAH and ADDAW
 abbrev pub is_second_fixed : Op → Bool
-is_second_fixed Shl = true
-is_second_fixed Shr = true
-is_second_fixed Shru = true
-is_second_fixed Addab = true
-is_second_fixed Addah = true
-is_second_fixed Addaw = true
-is_second_fixed _ = false
+is_second_fixed op = (row_of op).second_is_fixed
 
 -- whether such a source lies across, an offset register on the other side than its base, or a branch register in file A
 abbrev pub has_misplaced : Op → Operands → Bool

@@ -1,7 +1,9 @@
 -- What SPRU189 says of all instructions, as laws above the definitions. What each operation takes, and its result, is a row
 -- of the table, which the tests compare with the page.
 use Rattle.std.specs.Prelude.{◌≡◌, ◌≢◌, ◌⊎◌, ℕ, ◌+◌, ◌-◌, ◌%◌, ◌^◌, ◌<◌, ◌≤◌, ◌==◌, ℤ, pos, ◌*ℤ◌, neg_ℤ, false, not, ◌||◌, nat_lt, if◌then◌else◌, [], ◌∷◌, map, All, Some, None, IsTrue}
+use Rattle.std.specs.List.{filter}
 use Rattle.std.specs.List.Sorted.{IsStrictlyIncreasing}
+use Rattle.std.specs.Str.{bytes_eq}
 use Rattle.c62_insn.specs.declared.register.Side.{Side}
 use Rattle.c62_insn.specs.declared.register.Reg.{Reg}
 use Rattle.c62_insn.specs.declared.register.Letter.TheVariants.{M, D}
@@ -15,13 +17,18 @@ use Rattle.c62_insn.specs.declared.operands.Operands.TheVariants.{Three, Constan
 use Rattle.c62_insn.specs.declared.fault.FormFault.TheVariants.{NoUnit}
 use Rattle.c62_insn.specs.declared.insn.Insn.{Insn}
 use Rattle.c62_insn.specs.declared.form.Range.{Range}
-use Rattle.c62_insn.specs.Table.{scst5, ucst5, scst16, ucst16}
+use Rattle.c62_insn.specs.Table.{all_operations, scst5, ucst5, scst16, ucst16}
 use Rattle.c62_insn.specs.Takes.{takes, has_letter}
 use Rattle.c62_insn.specs.Fault.{form_fault}
 use Rattle.c62_insn.specs.Shape.{side_of, delay_of, is_load, is_branch, changes_base, data_path_of, crosses_to}
+use Rattle.c62_insn.specs.Spelling.{mnemonic_of}
 use Rattle.c62_insn.specs.Insn.{op_of, operands_of, unit_of, register_writes}
 use Rattle.c62_insn.specs.Word.{word, sg_half, lo, hi, sum, difference}
 use Rattle.c62_insn.specs.Effect.{result_of, values_of, moved, address_of}
+
+-- an operation stands in the table once, under a name that no other one has
+abbrev pub StandsOnce : Op → Type 0
+StandsOnce op = filter (λ other. bytes_eq (mnemonic_of other) (mnemonic_of op)) all_operations ≡ op ∷ []
 
 -- some unit takes the instruction: the written one, where one is written ("Mapping Between Instructions and Functional Units")
 abbrev pub HasUnit : Insn → Type 0

@@ -5,46 +5,25 @@ use Rattle.c62_insn.specs.declared.register.Side.{Side}
 use Rattle.c62_insn.specs.declared.register.Side.TheVariants.{B}
 use Rattle.c62_insn.specs.declared.register.Reg.{Reg}
 use Rattle.c62_insn.specs.declared.operands.Op.{Op}
-use Rattle.c62_insn.specs.declared.operands.Op.TheVariants.{Mvklh, Addk, Mpy, Mpyu, Mpyus, Mpysu, Mpyh, Mpyhu, Mpyhl, Mpylh, Ldb, Ldbu, Ldh, Ldhu, Ldw, Stb, Sth, Stw, B as Branch}
+use Rattle.c62_insn.specs.declared.operands.Op.TheVariants.{B as Branch}
 use Rattle.c62_insn.specs.declared.operands.AddressForm.{AddressForm}
 use Rattle.c62_insn.specs.declared.operands.AddressForm.TheVariants.{Plus, Minus}
 use Rattle.c62_insn.specs.declared.operands.Offset.{Offset}
 use Rattle.c62_insn.specs.declared.operands.Offset.TheVariants.{Constant as ByConstant, Register as ByRegister}
 use Rattle.c62_insn.specs.declared.operands.Operands.{Operands}
 use Rattle.c62_insn.specs.declared.operands.Operands.TheVariants.{Three, ConstantFirst, ConstantSecond, Two, Field, Constant, Access, Block, Register}
+use Rattle.c62_insn.specs.Table.{row_of, loads, stores}
 use Rattle.c62_insn.specs.Takes.{same_side}
 
 -- the delay slots of an operation's result (SPRU189, "Delay Slots")
 abbrev pub delay_of : Op → ℕ
-delay_of Mpy = 1
-delay_of Mpyu = 1
-delay_of Mpyus = 1
-delay_of Mpysu = 1
-delay_of Mpyh = 1
-delay_of Mpyhu = 1
-delay_of Mpyhl = 1
-delay_of Mpylh = 1
-delay_of Ldb = 4
-delay_of Ldbu = 4
-delay_of Ldh = 4
-delay_of Ldhu = 4
-delay_of Ldw = 4
-delay_of Branch = 5
-delay_of _ = 0
+delay_of op = (row_of op).delay
 
 abbrev pub is_store : Op → Bool
-is_store Stb = true
-is_store Sth = true
-is_store Stw = true
-is_store _ = false
+is_store op = stores (row_of op).memory
 
 abbrev pub is_load : Op → Bool
-is_load Ldb = true
-is_load Ldbu = true
-is_load Ldh = true
-is_load Ldhu = true
-is_load Ldw = true
-is_load _ = false
+is_load op = loads (row_of op).memory
 
 abbrev pub is_branch : Op → Bool
 is_branch Branch = true
@@ -64,9 +43,7 @@ side_of (Register _) = Some B
 
 -- whether the destination is a source too
 abbrev pub reads_destination : Op → Bool
-reads_destination Addk = true
-reads_destination Mvklh = true
-reads_destination _ = false
+reads_destination op = (row_of op).destination_is_source
 
 abbrev pub offset_reads : Offset → List Reg
 offset_reads (ByConstant _) = []

@@ -10,7 +10,6 @@ use Rattle.c62_insn.specs.declared.register.Reg.{Reg}
 use Rattle.c62_insn.specs.declared.register.Cond.{Cond as Condition}
 use Rattle.c62_insn.specs.declared.register.Unit.{Unit as FunctionalUnit}
 use Rattle.c62_insn.specs.declared.operands.Op.{Op}
-use Rattle.c62_insn.specs.declared.operands.Op.TheVariants.{Add, Sub, And, Or, Xor, Cmpeq, Cmpgt, Cmplt, Cmpgtu, Cmpltu, Abs, Shl, Shr, Shru, Ext, Extu, Add2, Sub2, Mvk, Mvklh, Addk, Mpy, Mpyu, Mpyus, Mpysu, Mpyh, Mpyhu, Mpyhl, Mpylh, Addab, Addah, Addaw, Ldb, Ldbu, Ldh, Ldhu, Ldw, Stb, Sth, Stw, B as Branch}
 use Rattle.c62_insn.specs.declared.operands.AddressForm.{AddressForm}
 use Rattle.c62_insn.specs.declared.operands.AddressForm.TheVariants.{Plus, Minus, PreIncrement, PreDecrement, PostIncrement, PostDecrement}
 use Rattle.c62_insn.specs.declared.operands.Offset.{Offset}
@@ -18,53 +17,14 @@ use Rattle.c62_insn.specs.declared.operands.Offset.TheVariants.{Constant as ByCo
 use Rattle.c62_insn.specs.declared.operands.Operands.{Operands}
 use Rattle.c62_insn.specs.declared.operands.Operands.TheVariants.{Three, ConstantFirst, ConstantSecond, Two, Field, Constant, Access, Block, Register}
 use Rattle.c62_insn.specs.declared.insn.Insn.{Insn}
+use Rattle.c62_insn.specs.Table.{row_of}
 use Rattle.c62_insn.specs.Takes.{same_letter}
 use Rattle.c62_insn.specs.Shape.{is_store, data_path_of, crosses_to}
 use Rattle.c62_insn.specs.Insn.{op_of, operands_of, cond_of}
 
 -- the name of an operation
 abbrev pub mnemonic_of : Op → List ℕ
-mnemonic_of Add = codes "ADD"
-mnemonic_of Sub = codes "SUB"
-mnemonic_of And = codes "AND"
-mnemonic_of Or = codes "OR"
-mnemonic_of Xor = codes "XOR"
-mnemonic_of Cmpeq = codes "CMPEQ"
-mnemonic_of Cmpgt = codes "CMPGT"
-mnemonic_of Cmplt = codes "CMPLT"
-mnemonic_of Cmpgtu = codes "CMPGTU"
-mnemonic_of Cmpltu = codes "CMPLTU"
-mnemonic_of Abs = codes "ABS"
-mnemonic_of Shl = codes "SHL"
-mnemonic_of Shr = codes "SHR"
-mnemonic_of Shru = codes "SHRU"
-mnemonic_of Ext = codes "EXT"
-mnemonic_of Extu = codes "EXTU"
-mnemonic_of Add2 = codes "ADD2"
-mnemonic_of Sub2 = codes "SUB2"
-mnemonic_of Mvk = codes "MVK"
-mnemonic_of Mvklh = codes "MVKLH"
-mnemonic_of Addk = codes "ADDK"
-mnemonic_of Mpy = codes "MPY"
-mnemonic_of Mpyu = codes "MPYU"
-mnemonic_of Mpyus = codes "MPYUS"
-mnemonic_of Mpysu = codes "MPYSU"
-mnemonic_of Mpyh = codes "MPYH"
-mnemonic_of Mpyhu = codes "MPYHU"
-mnemonic_of Mpyhl = codes "MPYHL"
-mnemonic_of Mpylh = codes "MPYLH"
-mnemonic_of Addab = codes "ADDAB"
-mnemonic_of Addah = codes "ADDAH"
-mnemonic_of Addaw = codes "ADDAW"
-mnemonic_of Ldb = codes "LDB"
-mnemonic_of Ldbu = codes "LDBU"
-mnemonic_of Ldh = codes "LDH"
-mnemonic_of Ldhu = codes "LDHU"
-mnemonic_of Ldw = codes "LDW"
-mnemonic_of Stb = codes "STB"
-mnemonic_of Sth = codes "STH"
-mnemonic_of Stw = codes "STW"
-mnemonic_of Branch = codes "B"
+mnemonic_of op = (row_of op).name
 
 -- a register file, and the number of its units and of its data path
 abbrev pub file_letter : Side → List ℕ

@@ -18,6 +18,7 @@ use Rattle.c62_insn.specs.declared.form.Reach.TheVariants.{Own, Crossing}
 use Rattle.c62_insn.specs.declared.form.Range.{Range}
 use Rattle.c62_insn.specs.declared.form.Pattern.{Pattern}
 use Rattle.c62_insn.specs.declared.form.Pattern.TheVariants.{TwoSources, ConstantSource, SourceConstant, OneSource, SourceField, ConstantAlone, Address, ToBlock, ToRegister}
+use Rattle.c62_insn.specs.declared.form.Form.{Form}
 use Rattle.c62_insn.specs.Table.{forms_of}
 
 abbrev pub same_side : Side → Side → Bool
@@ -81,9 +82,9 @@ offset_on side (ByRegister reg) = same_side reg.side side
 -- whether the registers lie as the pattern wants them on a unit of this side
 abbrev pub registers_fit : Pattern → Side → Operands → Bool
 registers_fit (TwoSources first second) side (Three a b d) = may_lie first side a && may_lie second side b && same_side d.side side
-registers_fit (ConstantSource _ place) side (ConstantFirst _ a d) = may_lie place side a && same_side d.side side
-registers_fit (SourceConstant place _) side (ConstantSecond a _ d) = may_lie place side a && same_side d.side side
-registers_fit (OneSource place) side (Two a d) = may_lie place side a && same_side d.side side
+registers_fit (ConstantSource _ reach) side (ConstantFirst _ a d) = may_lie reach side a && same_side d.side side
+registers_fit (SourceConstant reach _) side (ConstantSecond a _ d) = may_lie reach side a && same_side d.side side
+registers_fit (OneSource reach) side (Two a d) = may_lie reach side a && same_side d.side side
 registers_fit (SourceField _) side (Field a _ _ d) = same_side a.side side && same_side d.side side
 registers_fit (ConstantAlone _) side (Constant _ d) = same_side d.side side
 registers_fit (Address _) side (Access _ base _ offset) = same_side base.side side && offset_on side offset
@@ -91,10 +92,13 @@ registers_fit ToBlock side (Block _) = true
 registers_fit ToRegister side (Register target) = same_side side B && same_side target.side B
 registers_fit _ _ _ = false
 
--- whether this unit takes the operands
+-- whether this unit takes the operands by one form, and by any
+abbrev pub takes_by : Form → Operands → FunctionalUnit → Bool
+takes_by form operands unit =
+    holds_constants form.pattern operands && same_letter form.letter unit.letter && registers_fit form.pattern unit.side operands
+
 abbrev pub takes : Op → Operands → FunctionalUnit → Bool
-takes op operands unit =
-    list_any (λ form. holds_constants form.pattern operands && same_letter form.letter unit.letter && registers_fit form.pattern unit.side operands) (forms_of op)
+takes op operands unit = list_any (λ form. takes_by form operands unit) (forms_of op)
 
 -- the written unit, where one is written, and else any
 abbrev pub is_written : Option FunctionalUnit → FunctionalUnit → Bool

@@ -7,9 +7,10 @@ ghost use Rattle.c62_insn.specs.Units.{all_units};
 ghost use Rattle.c62_insn.specs.Takes.{takes};
 ghost use Rattle.std.specs.List.{list_any};
 
-use crate::form::{forms, unit_takes};
+use crate::form::unit_takes;
 use crate::operands::{Op, Operands};
 use crate::register::{Cond, Side, Unit};
+use crate::table::{forms, row_of};
 use thiserror::Error;
 
 /// Why parts make no instruction (`docs/MACHINE.md`, "Form faults"). Where several faults apply,
@@ -71,20 +72,14 @@ impl Op {
     fn is_first_fixed(self) -> bool
         ensures { result ≡ is_first_fixed self }
     {
-        matches!(
-            self,
-            Op::Ext | Op::Extu | Op::Sub2 | Op::Addab | Op::Addah | Op::Addaw
-        )
+        row_of(self).first_is_fixed
     }
 
     /// Whether no form lets the second source cross.
     fn is_second_fixed(self) -> bool
         ensures { result ≡ is_second_fixed self }
     {
-        matches!(
-            self,
-            Op::Shl | Op::Shr | Op::Shru | Op::Addab | Op::Addah | Op::Addaw
-        )
+        row_of(self).second_is_fixed
     }
 }
 

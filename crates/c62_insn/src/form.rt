@@ -1,7 +1,8 @@
-//! The forms that each operation takes: a unit's letter and a pattern of operands.
+//! The forms of operations, each a unit's letter and a pattern of operands, and what they take.
 
 use crate::operands::{Offset, Op, Operands};
 use crate::register::{Letter, Reg, Side, Unit};
+use crate::table::forms;
 use crate::unit_set::UnitSet;
 use bitflags::Flags;
 
@@ -52,174 +53,6 @@ pub(crate) struct Form {
 }
 
 ghost use Rattle.std.specs.Prelude.{◌≡◌};
-ghost use Rattle.c62_insn.specs.Table.{forms_of};
-
-/// -16 to 15
-const SCST5: Range = Range { low: -16, high: 15 };
-/// -15 to 16, for a subtraction that is made as an addition
-const NEGATED: Range = Range { low: -15, high: 16 };
-/// 0 to 31
-const UCST5: Range = Range { low: 0, high: 31 };
-/// -32768 to 32767
-const SCST16: Range = Range {
-    low: -32768,
-    high: 32767,
-};
-/// 0 to 65535
-const UCST16: Range = Range {
-    low: 0,
-    high: 65535,
-};
-
-const L_CROSSING: Form = Form {
-    letter: Letter::L,
-    pattern: Pattern::TwoSources(Reach::Own, Reach::Crossing),
-};
-
-const S_CROSSING: Form = Form {
-    letter: Letter::S,
-    pattern: Pattern::TwoSources(Reach::Own, Reach::Crossing),
-};
-
-const M_CROSSING: Form = Form {
-    letter: Letter::M,
-    pattern: Pattern::TwoSources(Reach::Own, Reach::Crossing),
-};
-
-const L_CROSSING_FIRST: Form = Form {
-    letter: Letter::L,
-    pattern: Pattern::TwoSources(Reach::Crossing, Reach::Own),
-};
-
-const S_CROSSING_FIRST: Form = Form {
-    letter: Letter::S,
-    pattern: Pattern::TwoSources(Reach::Crossing, Reach::Own),
-};
-
-const D_OWN: Form = Form {
-    letter: Letter::D,
-    pattern: Pattern::TwoSources(Reach::Own, Reach::Own),
-};
-
-const L_SCST5: Form = Form {
-    letter: Letter::L,
-    pattern: Pattern::ConstantSource(SCST5, Reach::Crossing),
-};
-
-const S_SCST5: Form = Form {
-    letter: Letter::S,
-    pattern: Pattern::ConstantSource(SCST5, Reach::Crossing),
-};
-
-const M_SCST5: Form = Form {
-    letter: Letter::M,
-    pattern: Pattern::ConstantSource(SCST5, Reach::Crossing),
-};
-
-const D_UCST5_FIRST: Form = Form {
-    letter: Letter::D,
-    pattern: Pattern::ConstantSource(UCST5, Reach::Own),
-};
-
-const D_UCST5: Form = Form {
-    letter: Letter::D,
-    pattern: Pattern::SourceConstant(Reach::Own, UCST5),
-};
-
-const S_UCST5: Form = Form {
-    letter: Letter::S,
-    pattern: Pattern::SourceConstant(Reach::Crossing, UCST5),
-};
-
-const L_NEGATED: Form = Form {
-    letter: Letter::L,
-    pattern: Pattern::SourceConstant(Reach::Crossing, NEGATED),
-};
-
-const S_NEGATED: Form = Form {
-    letter: Letter::S,
-    pattern: Pattern::SourceConstant(Reach::Crossing, NEGATED),
-};
-
-const L_TWO: Form = Form {
-    letter: Letter::L,
-    pattern: Pattern::OneSource(Reach::Crossing),
-};
-
-const S_FIELD: Form = Form {
-    letter: Letter::S,
-    pattern: Pattern::SourceField(UCST5),
-};
-
-const S_SCST16: Form = Form {
-    letter: Letter::S,
-    pattern: Pattern::ConstantAlone(SCST16),
-};
-
-const S_UCST16: Form = Form {
-    letter: Letter::S,
-    pattern: Pattern::ConstantAlone(UCST16),
-};
-
-const D_ACCESS: Form = Form {
-    letter: Letter::D,
-    pattern: Pattern::Address(UCST5),
-};
-
-const S_BLOCK: Form = Form {
-    letter: Letter::S,
-    pattern: Pattern::ToBlock,
-};
-
-const S_REGISTER: Form = Form {
-    letter: Letter::S,
-    pattern: Pattern::ToRegister,
-};
-
-/// The forms of `op`.
-pub(crate) fn forms(op: Op) -> &'static [Form]
-    ensures { result.now ≡ forms_of op }
-{
-    match op {
-        Op::Add => &[
-            L_CROSSING,
-            S_CROSSING,
-            L_SCST5,
-            S_SCST5,
-            D_OWN,
-            D_UCST5_FIRST,
-        ],
-        Op::Sub => &[
-            L_CROSSING,
-            L_CROSSING_FIRST,
-            S_CROSSING,
-            D_OWN,
-            L_SCST5,
-            S_SCST5,
-            D_UCST5,
-            L_NEGATED,
-            S_NEGATED,
-        ],
-        Op::And | Op::Or | Op::Xor => &[L_CROSSING, S_CROSSING, L_SCST5, S_SCST5],
-        Op::Cmpeq | Op::Cmpgt | Op::Cmplt => &[L_CROSSING, L_SCST5],
-        Op::Cmpgtu | Op::Cmpltu => &[L_CROSSING],
-        Op::Abs => &[L_TWO],
-        Op::Shl | Op::Shr | Op::Shru => &[S_CROSSING_FIRST, S_UCST5],
-        Op::Ext | Op::Extu => &[S_FIELD],
-        Op::Add2 | Op::Sub2 => &[S_CROSSING],
-        Op::Mvk | Op::Addk => &[S_SCST16],
-        Op::Mvklh => &[S_UCST16],
-        Op::Mpy => &[M_CROSSING, M_SCST5],
-        Op::Mpyu | Op::Mpyus | Op::Mpysu | Op::Mpyh | Op::Mpyhu | Op::Mpyhl | Op::Mpylh => &[
-            M_CROSSING,
-        ],
-        Op::Addab | Op::Addah | Op::Addaw => &[D_OWN, D_UCST5],
-        Op::Ldb | Op::Ldbu | Op::Ldh | Op::Ldhu | Op::Ldw | Op::Stb | Op::Sth | Op::Stw => &[
-            D_ACCESS,
-        ],
-        Op::B => &[S_BLOCK, S_REGISTER],
-    }
-}
 
 impl Reach {
     ghost use Rattle.c62_insn.specs.Takes.{may_lie};
@@ -319,13 +152,13 @@ impl Pattern {
             (Pattern::TwoSources(first, second), Operands::Three(a, b, d)) => {
                 first.admits(side, a) && second.admits(side, b) && d.side == side
             }
-            (Pattern::ConstantSource(_, place), Operands::ConstantFirst(_, a, d)) => {
-                place.admits(side, a) && d.side == side
+            (Pattern::ConstantSource(_, reach), Operands::ConstantFirst(_, a, d)) => {
+                reach.admits(side, a) && d.side == side
             }
-            (Pattern::SourceConstant(place, _), Operands::ConstantSecond(a, _, d)) => {
-                place.admits(side, a) && d.side == side
+            (Pattern::SourceConstant(reach, _), Operands::ConstantSecond(a, _, d)) => {
+                reach.admits(side, a) && d.side == side
             }
-            (Pattern::OneSource(place), Operands::Two(a, d)) => place.admits(side, a)
+            (Pattern::OneSource(reach), Operands::Two(a, d)) => reach.admits(side, a)
                 && d.side == side,
             (
                 Pattern::SourceField(_),
@@ -348,13 +181,12 @@ impl Pattern {
 }
 
 impl Form {
-    ghost use Rattle.std.specs.Prelude.{◌&&◌};
-    ghost use Rattle.c62_insn.specs.Takes.{same_letter, holds_constants, registers_fit};
+    ghost use Rattle.c62_insn.specs.Takes.{takes_by};
 
     /// Whether `unit` takes these operands by the form. The letter is asked first, which tells most units apart.
     #[inline(always)]
     fn is_taken(&self, operands: Operands, unit: Unit) -> bool
-        ensures { result ≡ (holds_constants self.now.pattern operands && same_letter self.now.letter unit.letter && registers_fit self.now.pattern unit.side operands) }
+        ensures { result ≡ takes_by self.now operands unit }
     {
         if self.letter != unit.letter {
             return false;

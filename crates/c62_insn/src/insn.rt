@@ -56,14 +56,14 @@ fn is_written(written: Option<Unit>, unit: Unit) -> bool
 
 impl Insn {
     ghost use Rattle.std.specs.Prelude.{ℕ, true, false, ◌==◌, length, is_some, [], if◌then◌else◌};
-    ghost use Rattle.c62_insn.specs.Insn.{op_of, operands_of, cond_of, unit_of};
+    ghost use Rattle.c62_insn.specs.Insn.{op_of, operands_of, cond_of, unit_of, HasParts};
     ghost use Rattle.c62_insn.specs.Takes.{takes};
     ghost use Rattle.c62_insn.specs.Stands.{may_stand};
     ghost use Rattle.c62_insn.specs.Units.{unit_in};
     ghost use Rattle.c62_insn.specs.declared.register.Unit.{Unit as FunctionalUnit};
     ghost use Rattle.arrayvec.specs.ArrayVec.{array_vec_len};
     ghost use Rattle.c62_insn.specs.Effect.{runs_of, values_of, access_of, target_of, loaded_of};
-    ghost use Rattle.c62_insn.specs.Action.{word_at, runs_with, IsActionOf};
+    ghost use Rattle.c62_insn.specs.Action.{word_at, runs_with, values_where, access_where, target_where, IsActionOf};
     ghost use Rattle.c62_insn.specs.Shape.{reads_of, writes_of, delay_of, data_path_of, crosses_to};
 
     /// The instruction of these parts.
@@ -83,7 +83,7 @@ impl Insn {
         unit: Option<Unit>,
     ) -> Result<Insn, FormFault>
         ensures made { IsOk result ↔ (form_fault op operands cond unit ≡ None) }
-        ensures parts { IfOk result (λ insn. (op_of insn ≡ op) × (operands_of insn ≡ operands) × (cond_of insn ≡ cond) × (unit_of insn ≡ unit)) }
+        ensures parts { IfOk result (HasParts op operands cond unit) }
         ensures fault { IfErr result (λ fault. form_fault op operands cond unit ≡ Some fault) }
     {
         match find_fault(op, operands, cond, unit) {
@@ -320,7 +320,7 @@ impl Insn {
             Operands::Access { form, offset, .. } => {
                 let after = self.op.base_after(form, offset, reads);
                 Some(Access {
-                    address: form.address(reads[self.op.base_place()], after),
+                    address: form.address(reads[self.op.base_index()], after),
                     size: self.op.size(),
                     value: if self.op.is_store() {
                         Some(self.op.low_bytes(reads[0]))
@@ -352,9 +352,9 @@ impl Insn {
         requires cond { is_some inputs.now.cond ≡ is_some (cond_of self.now) }
         requires reads { array_vec_len inputs.now.reads ≡ length (reads_of (op_of self.now) (operands_of self.now)) }
         ensures runs { result.runs ≡ runs_of (cond_of self.now) inputs.now.cond }
-        ensures values { result.values.items ≡ (if result.runs then values_of (op_of self.now) (operands_of self.now) inputs.now.reads.items else []) }
-        ensures access { result.access ≡ (if result.runs then access_of (op_of self.now) (operands_of self.now) inputs.now.reads.items else None) }
-        ensures target { result.target ≡ (if result.runs then target_of (operands_of self.now) inputs.now.reads.items else None) }
+        ensures values { result.values.items ≡ values_where result.runs self.now inputs.now.reads.items }
+        ensures access { result.access ≡ access_where result.runs self.now inputs.now.reads.items }
+        ensures target { result.target ≡ target_where result.runs self.now inputs.now.reads.items }
     {
         if self.runs(inputs.cond) {
             let reads = inputs.reads.as_slice();

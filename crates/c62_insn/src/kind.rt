@@ -5,9 +5,9 @@ ghost use Rattle.c62_insn.specs.Fault.{has_kind};
 ghost use Rattle.c62_insn.specs.Shape.{crosses_to};
 ghost use Rattle.c62_insn.specs.Takes.{has_letter};
 
-use crate::form::forms;
 use crate::operands::{Op, Operands};
 use crate::register::{Letter, Side};
+use crate::table::forms;
 
 impl Op {
     /// Whether some form of the operation has operands of this kind and number, with constants of any value.

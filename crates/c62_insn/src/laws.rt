@@ -6,11 +6,14 @@ ghost use Rattle.c62_insn.specs.declared.register.Reg.{Reg as Register};
 ghost use Rattle.c62_insn.specs.declared.insn.Insn.{Insn};
 ghost use Rattle.c62_insn.specs.declared.operands.Op.{Op as Operation};
 ghost use Rattle.c62_insn.specs.declared.operands.Op.TheVariants.{B as Branch};
+ghost use Rattle.c62_insn.specs.Table.{all_operations};
 ghost use Rattle.c62_insn.specs.Insn.{op_of, operand_reads, register_writes};
 ghost use Rattle.c62_insn.specs.PacketRules.{Issue, Issues, reads_count};
 ghost use Rattle.c62_insn.specs.Breaches.{TwoOnOneUnit, TwoOverCrossPath, TwoOverDataPath, FiveReads, TwoLandings};
 ghost use Rattle.c62_insn.specs.Part.{PartKeepsRules, AnyOrderKeepsRules, AnyOrderIsAsLong};
-ghost use Rattle.c62_insn.specs.Laws.{HasUnit, StandsOnOneSide, HasRisingDelays, WritesInTime, WritesBaseFirst, CrossesNotToD, WritesOwnSide, HasDelayOfKind, UsesItsPath, MovesBase, Mirrors, HasRangesOfBits, CrossesSecond, MultipliesByConstant, SubtractsByAdding, AddsHalves, ShiftsOut};
+ghost use Rattle.c62_insn.specs.Laws.{StandsOnce, HasUnit, StandsOnOneSide, HasRisingDelays, WritesInTime, WritesBaseFirst, CrossesNotToD, WritesOwnSide, HasDelayOfKind, UsesItsPath, MovesBase, Mirrors, HasRangesOfBits, CrossesSecond, MultipliesByConstant, SubtractsByAdding, AddsHalves, ShiftsOut};
+
+use crate::operands::Op;
 
 /// Part of what keeps the packet rules keeps them, under whatever numbers it is issued: the rules ask neither for
 /// the order of what is issued nor for numbers under which nothing is.
@@ -31,6 +34,13 @@ pub fn breaches()
 /// Instructions of which at most one is a branch take as long in whatever order they are listed.
 pub fn any_order_is_as_long()
     ensures { (issues others : List Issue) → AnyOrderIsAsLong issues others }
+{}
+
+/// Each operation stands in the instruction table once, and has a name of its own; [`Op::ALL`](crate::Op::ALL) is
+/// the table's order.
+pub fn lists_each_operation()
+    ensures all { Op.ALL ≡ all_operations }
+    ensures once { (op : Operation) → StandsOnce op }
 {}
 
 /// Some unit takes every instruction: the written one, where one is written.

@@ -1,10 +1,11 @@
 //! What each operation computes.
 
 ghost use Rattle.std.specs.Prelude.{◌≡◌, ◌<◌, ◌+◌, ◌≤◌, length};
-ghost use Rattle.c62_insn.specs.Effect.{result_of, field_of, low_bytes_of, size_of, offset_value, moved, address_of, base_place, base_after, loaded_of};
+ghost use Rattle.c62_insn.specs.Effect.{result_of, field_of, low_bytes_of, size_of, offset_value, moved, address_of, base_index, base_after, loaded_of};
 ghost use Rattle.c62_insn.specs.Shape.{offset_reads};
 
 use crate::operands::{AddressForm, Offset, Op};
+use crate::table::{Memory, row_of};
 use crate::word::{
     absolute, add_halves, high, joined, low, multiply, multiply_mixed, multiply_mixed_first,
     multiply_unsigned, shift_left, shift_right, shift_right_unsigned, subtract_halves, word_of,
@@ -65,9 +66,9 @@ impl Op {
     pub(crate) fn low_bytes(self, v: u32) -> u32
         ensures { result ≡ low_bytes_of self v }
     {
-        match self {
-            Op::Ldb | Op::Ldbu | Op::Stb => v % 0x100,
-            Op::Ldh | Op::Ldhu | Op::Sth => v % 0x1_0000,
+        match self.size() {
+            1 => v % 0x100,
+            2 => v % 0x1_0000,
             _ => v,
         }
     }
@@ -76,31 +77,30 @@ impl Op {
     pub(crate) fn size(self) -> u8
         ensures { result ≡ size_of self }
     {
-        match self {
-            Op::Ldb | Op::Ldbu | Op::Stb => 1,
-            Op::Ldh | Op::Ldhu | Op::Sth => 2,
+        match row_of(self).memory {
+            Memory::Loads(bytes) | Memory::Stores(bytes) => bytes,
             _ => 4,
         }
     }
 
-    /// The place of the base among the reads.
-    pub(crate) fn base_place(self) -> usize
-        ensures { result ≡ base_place self }
+    /// The index of the base among the reads.
+    pub(crate) fn base_index(self) -> usize
+        ensures { result ≡ base_index self }
     {
         if self.is_store() { 1 } else { 0 }
     }
 
     /// The base after the access, of the values read.
     pub(crate) fn base_after(self, form: AddressForm, offset: Offset, reads: &[u32]) -> u32
-        requires { base_place self + 1 + length (offset_reads offset) ≤ length reads.now }
+        requires { base_index self + 1 + length (offset_reads offset) ≤ length reads.now }
         ensures { result ≡ base_after self form offset reads.now }
     {
-        let place = self.base_place();
+        let base = self.base_index();
         let steps = match offset {
             Offset::Constant(k) => word_of(k),
-            Offset::Register(_) => reads[place + 1],
+            Offset::Register(_) => reads[base + 1],
         };
-        form.moved(reads[place], steps.wrapping_mul(u32::from(self.size())))
+        form.moved(reads[base], steps.wrapping_mul(u32::from(self.size())))
     }
 
     /// What a load writes, of the bytes that it read.

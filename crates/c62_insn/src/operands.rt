@@ -3,6 +3,7 @@
 ghost use Rattle.std.specs.Prelude.{◌≡◌, ◌↔◌, IsTrue};
 
 use crate::register::{Reg, Side};
+use crate::table::{Memory, row_of};
 
 /// An operation, with what it gives modulo 2^32 (`docs/MACHINE.md`, "Instruction table"; SPRU189,
 /// "Individual Instruction Descriptions").
@@ -18,6 +19,12 @@ pub enum Op {
     Or,
     /// `XOR`: the bits that one source alone has.
     Xor,
+    /// `ABS`: the absolute value; 2^31 - 1 of -2^31.
+    Abs,
+    /// `ADD2`: the sums of the halves, without carry between them.
+    Add2,
+    /// `SUB2`: the differences of the halves, without borrow between them.
+    Sub2,
     /// `CMPEQ`: 1 where the sources are equal, else 0.
     Cmpeq,
     /// `CMPGT`: 1 where the first source is above the second as a signed number, else 0.
@@ -28,8 +35,6 @@ pub enum Op {
     Cmpgtu,
     /// `CMPLTU`: 1 where the first source is below the second as an unsigned number, else 0.
     Cmpltu,
-    /// `ABS`: the absolute value; 2^31 - 1 of -2^31.
-    Abs,
     /// `SHL`: the first source, shifted left by the low six bits of the second.
     Shl,
     /// `SHR`: the first source, shifted right with its sign by the low six bits of the second.
@@ -40,10 +45,6 @@ pub enum Op {
     Ext,
     /// `EXTU`: shifted left by the first constant, then right by the second.
     Extu,
-    /// `ADD2`: the sums of the halves, without carry between them.
-    Add2,
-    /// `SUB2`: the differences of the halves, without borrow between them.
-    Sub2,
     /// `MVK`: the constant.
     Mvk,
     /// `MVKLH`: the constant as the upper half; the destination keeps its lower one.
@@ -155,6 +156,7 @@ pub enum Operands {
 
 impl Op {
     ghost use Rattle.c62_insn.specs.Shape.{delay_of, is_store, is_load, is_branch, reads_destination};
+    ghost use Rattle.c62_insn.specs.Spelling.{mnemonic_of};
 
     /// All 41 operations, in the order of `docs/MACHINE.md`, "Instruction table".
     pub const ALL: [Op; 41] = [
@@ -163,19 +165,19 @@ impl Op {
         Op::And,
         Op::Or,
         Op::Xor,
+        Op::Abs,
+        Op::Add2,
+        Op::Sub2,
         Op::Cmpeq,
         Op::Cmpgt,
         Op::Cmplt,
         Op::Cmpgtu,
         Op::Cmpltu,
-        Op::Abs,
         Op::Shl,
         Op::Shr,
         Op::Shru,
         Op::Ext,
         Op::Extu,
-        Op::Add2,
-        Op::Sub2,
         Op::Mvk,
         Op::Mvklh,
         Op::Addk,
@@ -201,38 +203,33 @@ impl Op {
         Op::B,
     ];
 
+    /// The name in assembly text, in capitals.
+    pub fn mnemonic(self) -> &'static str
+        ensures { result.now ≡ mnemonic_of self }
+    {
+        row_of(self).name
+    }
+
     /// The delay slots of the result, in cycles: 1 for a multiply, 4 for a load, 5 for a branch, else
     /// 0 (SPRU189, "Delay Slots").
     pub fn delay(self) -> u8
         ensures { result ≡ delay_of self }
     {
-        match self {
-            Op::Mpy
-            | Op::Mpyu
-            | Op::Mpyus
-            | Op::Mpysu
-            | Op::Mpyh
-            | Op::Mpyhu
-            | Op::Mpyhl
-            | Op::Mpylh => 1,
-            Op::Ldb | Op::Ldbu | Op::Ldh | Op::Ldhu | Op::Ldw => 4,
-            Op::B => 5,
-            _ => 0,
-        }
+        row_of(self).delay
     }
 
     /// Whether this is `STB`, `STH` or `STW`.
     pub fn is_store(self) -> bool
         ensures { result ≡ is_store self }
     {
-        matches!(self, Op::Stb | Op::Sth | Op::Stw)
+        matches!(row_of(self).memory, Memory::Stores(_))
     }
 
     /// Whether this is `LDB`, `LDBU`, `LDH`, `LDHU` or `LDW`.
     pub fn is_load(self) -> bool
         ensures { result ≡ is_load self }
     {
-        matches!(self, Op::Ldb | Op::Ldbu | Op::Ldh | Op::Ldhu | Op::Ldw)
+        matches!(row_of(self).memory, Memory::Loads(_))
     }
 
     /// Whether this is `B`, to a block or to a register.
@@ -253,7 +250,7 @@ impl Op {
     pub(crate) fn reads_destination(self) -> bool
         ensures { result ≡ reads_destination self }
     {
-        matches!(self, Op::Addk | Op::Mvklh)
+        row_of(self).destination_is_source
     }
 }
 

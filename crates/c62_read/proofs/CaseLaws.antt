@@ -25,7 +25,8 @@ use Rattle.c62_read.specs.Number.{is_label, spells}
 use Rattle.c62_read.specs.declared.kind.Kind.{Kind}
 use Rattle.c62_read.specs.Kind.{Word, kind_by, kind_of, kinds_of, mark_of as written_mark, single_mark}
 use Rattle.c62_read.specs.Operand.{operands_of}
-use Rattle.c62_read.specs.Mnemonic.{all_operations, mnemonic_named, operation_named, pseudo_named}
+use Rattle.c62_insn.specs.Table.{all_operations}
+use Rattle.c62_read.specs.Mnemonic.{mnemonic_named, operation_named, pseudo_named}
 use Rattle.c62_read.specs.Unit.{is_dot, is_t, is_x, letter_of, mark_of, side_numbered, unit_front, unit_of, unit_split, with_left}
 use Rattle.c62_read.specs.Line.{Parts, Says, Nothing, Pause, Does, Jumps, and_read, before_rest, behind_unit, condition_front, condition_of, does, fits_behind, formed, has_colon, head_of, if_fitting, instruction_of, is_bars, is_branch, is_star, is_storing, jumps_or_does, label_alone, label_front, line_of, mnemonic_front, operands_written, or_fault, parts_read, pause_of, rest_says, target_of, text_fault, unit_behind, with_head, with_rest, without_colon}
 use Rattle.c62_read.specs.Laws.{CaseSaysNothing, IsRecased, in_small, small_labels, small_says}

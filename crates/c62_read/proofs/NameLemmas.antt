@@ -11,7 +11,8 @@ use Rattle.c62_insn.specs.declared.operands.Op.TheVariants.{Add}
 use Rattle.c62_insn.specs.Spelling.{mnemonic_of}
 use Rattle.c62_read.specs.Text.{begins}
 use Rattle.c62_read.specs.Number.{spells}
-use Rattle.c62_read.specs.Mnemonic.{all_operations, begins_so, operation_named}
+use Rattle.c62_insn.specs.Table.{all_operations}
+use Rattle.c62_read.specs.Mnemonic.{begins_so, operation_named}
 
 -- what passes a test is found among those that pass a weaker one
 find_filter : (test weaker : Op → Bool) → ((x : Op) → test x ≡ true → weaker x ≡ true) → (xs : List Op)

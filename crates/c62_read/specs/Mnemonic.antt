@@ -6,23 +6,18 @@ use Rattle.c62_insn.specs.declared.register.Letter.{Letter}
 use Rattle.c62_insn.specs.declared.register.Letter.TheVariants.{L, S, D}
 use Rattle.c62_insn.specs.declared.register.Reg.{Reg}
 use Rattle.c62_insn.specs.declared.operands.Op.{Op}
-use Rattle.c62_insn.specs.declared.operands.Op.TheVariants.{Add, Sub, And, Or, Xor, Cmpeq, Cmpgt, Cmplt, Cmpgtu, Cmpltu, Abs, Shl, Shr, Shru, Ext, Extu, Add2, Sub2, Mvk, Mvklh, Addk, Mpy, Mpyu, Mpyus, Mpysu, Mpyh, Mpyhu, Mpyhl, Mpylh, Addab, Addah, Addaw, Ldb, Ldbu, Ldh, Ldhu, Ldw, Stb, Sth, Stw, B}
+use Rattle.c62_insn.specs.declared.operands.Op.TheVariants.{Add, Sub, And, Or, Xor, Cmpeq, Cmpgt, Cmplt, Cmpgtu, Cmpltu, Add2, Mvk, Mvklh, Mpy, Mpyu, Mpyus, Mpysu, Mpyh, Mpyhu, Mpyhl, Mpylh}
 use Rattle.c62_insn.specs.declared.operands.Operands.{Operands}
 use Rattle.c62_insn.specs.declared.operands.Operands.TheVariants.{Three, ConstantFirst, ConstantSecond, Two, Constant, Register}
 use Rattle.c62_insn.specs.Fault.{has_kind}
 use Rattle.c62_insn.specs.Spelling.{mnemonic_of}
+use Rattle.c62_insn.specs.Table.{all_operations}
 use Rattle.c62_insn.specs.Takes.{same_side, same_letter, has_letter}
 use Rattle.c62_insn.specs.Word.{word, lo, hi, sg_half}
 use Rattle.c62_read.specs.declared.mnemonic.Mnemonic.{Mnemonic}
 use Rattle.c62_read.specs.declared.mnemonic.Mnemonic.TheVariants.{Operation, Mv, Neg, Not, Zero, Mvkl, Mvkh, Nop}
 use Rattle.c62_read.specs.Number.{spells}
 use Rattle.c62_read.specs.Text.{begins}
-
-abbrev pub all_operations : List Op
-all_operations =
-    Add ∷ Sub ∷ And ∷ Or ∷ Xor ∷ Cmpeq ∷ Cmpgt ∷ Cmplt ∷ Cmpgtu ∷ Cmpltu ∷ Abs ∷ Shl ∷ Shr ∷ Shru ∷ Ext ∷ Extu ∷ Add2 ∷ Sub2
-    ∷ Mvk ∷ Mvklh ∷ Addk ∷ Mpy ∷ Mpyu ∷ Mpyus ∷ Mpysu ∷ Mpyh ∷ Mpyhu ∷ Mpyhl ∷ Mpylh ∷ Addab ∷ Addah ∷ Addaw
-    ∷ Ldb ∷ Ldbu ∷ Ldh ∷ Ldhu ∷ Ldw ∷ Stb ∷ Sth ∷ Stw ∷ B ∷ []
 
 unfoldable pub operation_named : List ℕ → Option Op
 operation_named name = find (λ op. spells (mnemonic_of op) name) all_operations

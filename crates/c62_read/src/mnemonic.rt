@@ -4,6 +4,7 @@ ghost use Rattle.std.specs.Prelude.{◌≡◌, pos};
 ghost use Rattle.std.specs.List.{filter, find};
 ghost use Rattle.std.specs.Str.{bytes_eq};
 ghost use Rattle.c62_insn.specs.Spelling.{mnemonic_of};
+ghost use Rattle.c62_insn.specs.Table.{all_operations};
 ghost use Rattle.c62_read.specs.Number.{spells};
 ghost use Rattle.c62_insn.specs.Word.{word, lo};
 
@@ -23,51 +24,7 @@ pub(crate) enum Mnemonic {
     Nop,
 }
 
-ghost use Rattle.c62_read.specs.Mnemonic.{all_operations, begins_so, operation_named, pseudo_named, mnemonic_named, stands_on, exchanged, low_half, signed_low_half, high_half, constant_to_front, crossed_to_back, in_order, with_kind, zero_in, read_as};
-
-const OPERATIONS: [Op; 41] = [
-    Op::Add,
-    Op::Sub,
-    Op::And,
-    Op::Or,
-    Op::Xor,
-    Op::Cmpeq,
-    Op::Cmpgt,
-    Op::Cmplt,
-    Op::Cmpgtu,
-    Op::Cmpltu,
-    Op::Abs,
-    Op::Shl,
-    Op::Shr,
-    Op::Shru,
-    Op::Ext,
-    Op::Extu,
-    Op::Add2,
-    Op::Sub2,
-    Op::Mvk,
-    Op::Mvklh,
-    Op::Addk,
-    Op::Mpy,
-    Op::Mpyu,
-    Op::Mpyus,
-    Op::Mpysu,
-    Op::Mpyh,
-    Op::Mpyhu,
-    Op::Mpyhl,
-    Op::Mpylh,
-    Op::Addab,
-    Op::Addah,
-    Op::Addaw,
-    Op::Ldb,
-    Op::Ldbu,
-    Op::Ldh,
-    Op::Ldhu,
-    Op::Ldw,
-    Op::Stb,
-    Op::Sth,
-    Op::Stw,
-    Op::B,
-];
+ghost use Rattle.c62_read.specs.Mnemonic.{begins_so, operation_named, pseudo_named, mnemonic_named, stands_on, exchanged, low_half, signed_low_half, high_half, constant_to_front, crossed_to_back, in_order, with_kind, zero_in, read_as};
 
 const WITH_A: [Op; 8] = [
     Op::Add,
@@ -105,10 +62,10 @@ const WITH_O: [Op; 1] = [Op::Or];
 
 const WITH_S: [Op; 8] = [
     Op::Sub,
+    Op::Sub2,
     Op::Shl,
     Op::Shr,
     Op::Shru,
-    Op::Sub2,
     Op::Stb,
     Op::Sth,
     Op::Stw,
@@ -131,7 +88,7 @@ fn beginning_with(letter: u8) -> &'static [Op]
         b'o' => &WITH_O,
         b's' => &WITH_S,
         b'x' => &WITH_X,
-        _ => &OPERATIONS,
+        _ => &Op::ALL,
     }
 }
 

@@ -1,0 +1,10 @@
+use Rattle.std.proofs.Common.{sym, ◌∙◌}
+use Rattle.std.proofs.lemmas.Bool.{false≢true}
+use Rattle.c62_insn.proofs.AimLemmas.{aimed}
+use Rattle.c62_listing_reader.proofs.reader.aimed.Goals as goal
+
+pub unreachable-requires : goal.unreachable-requires
+unreachable-requires c =
+    let is = sym c.operands.ensures ∙ c.in-Block.is in
+    false≢true (c.in_default-new.ensures.made.1
+    (rw (c.op.ensures, c.cond.ensures, c.unit.ensures) (aimed c.args.insn c.in-Block.field-0 c.args.number is)))
