@@ -4,9 +4,11 @@
 mod block;
 mod fault;
 mod form;
+mod jump;
 mod label;
 mod laws;
 mod line;
+mod missed;
 mod mnemonic;
 pub mod number;
 mod operand;
