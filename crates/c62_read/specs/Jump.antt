@@ -1,4 +1,4 @@
--- The number by which labels are told apart fast.
+-- Numbers by which labels are told apart fast.
 use Rattle.std.specs.Prelude.{ℕ, ◌+◌, ◌*◌, ◌%◌, ◌^◌, List, [], ◌∷◌}
 
 abbrev pub key_from : ℕ → List ℕ → ℕ

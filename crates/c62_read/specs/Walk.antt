@@ -107,8 +107,8 @@ hindrance label says drafts =
 
 -- ---- lines
 
--- What a line says, as far as that comes to be asked, and the blocks with it, or the line's first fault. A branch to no label
--- is left out here: it comes behind the faults that keep a line from being asked, and before the others.
+-- What a line says, and the blocks with it or what is wrong with the line but for a branch to no label. Such a branch comes
+-- before the counts, and behind the faults of lines that here say nothing.
 pub record Step : Type 0 where
   pub says : Says
   pub drafts : Result Drafts Cause
@@ -137,7 +137,7 @@ abbrev pub at_line : {T : Type 0} → ℕ → Result T Cause → Result T Refusa
 at_line number (Ok value) = Ok value
 at_line number (Err cause) = Err (number, cause)
 
--- goes on behind a line that does not branch to a label that is none of these
+-- the fault of a line, which may be a branch to none of these labels, or what comes behind it
 abbrev pub after_step : List Name → ℕ → Step → (Drafts → Result Drafts Refusal) → Result Drafts Refusal
 after_step labels number step next =
     if is_unknown labels step.says then Err (number, UnknownTarget) else and_then (at_line number step.drafts) next
@@ -152,7 +152,7 @@ add_lines labels number (line ∷ lines) drafts =
 abbrev pub no_drafts : Drafts
 no_drafts = record { done = []; current = None }
 
--- ---- branches that are kept until the labels are known
+-- ---- branches that wait until the labels are known
 
 -- a line, and the label that it branches to
 pub record Asked : Type 0 where
@@ -166,7 +166,7 @@ asked_in number says = []
 abbrev pub asked_of : Jump → Asked
 asked_of jump = record { line = jump.line; target = jump.target }
 
--- those that go to none of these labels
+-- the branches to none of these labels
 abbrev pub missed : List Name → List Asked → List Asked
 missed labels asked = filter (λ branch. not (is_among branch.target labels)) asked
 
@@ -174,7 +174,7 @@ abbrev pub first_line : List Asked → Option ℕ
 first_line [] = None
 first_line (branch ∷ others) = Some branch.line
 
--- a branch to no label in this line is a fault in place of what is found else
+-- a branch to no label, in this line, comes before another answer
 abbrev pub unless_missed : {T : Type 0} → Option ℕ → Result T Refusal → Result T Refusal
 unless_missed None answer = answer
 unless_missed (Some line) answer = Err (line, UnknownTarget)

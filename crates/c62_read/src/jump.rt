@@ -15,7 +15,7 @@ pub(crate) struct Jump {
     pub ghost keyed: { key ≡ key_of target },
 }
 
-/// The number by which labels are told apart fast: the last eight bytes.
+/// A number by which labels are told apart fast: their last eight bytes.
 pub(crate) fn key_of(label: &[u8]) -> u64
     ensures { result ≡ key_of label.now }
 {
