@@ -4,5 +4,6 @@ pub mod Begin
 pub mod Said
 pub mod Faults
 pub mod Fine
+pub mod Named
 pub mod Reading
 pub mod Laws

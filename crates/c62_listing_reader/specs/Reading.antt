@@ -9,11 +9,12 @@ use Rattle.c62_packet.specs.declared.fault.BlockFault.TheVariants.{TwoBranches, 
 use Rattle.c62_listing_reader.specs.declared.draft.OpenBlock.{OpenBlock}
 use Rattle.c62_listing_reader.specs.declared.draft.Blocks.{Blocks}
 use Rattle.c62_listing_reader.specs.declared.line.Front.{Front}
-use Rattle.c62_listing_reader.specs.declared.judge.Named.{Named}
+use Rattle.c62_listing_reader.specs.declared.names.Names.{Names}
 use Rattle.c62_listing_reader.specs.declared.fault.LineFault.{LineFault}
 use Rattle.c62_listing_reader.specs.declared.fault.LineFault.TheVariants.{Read as ReadLine, Shape as ShapeLine, Memory as MemoryLine}
 use Rattle.c62_listing_reader.specs.declared.fault.ListFault.{ListFault}
 use Rattle.c62_listing_reader.specs.declared.fault.ListFault.TheVariants.{Read, Unlawful as UnlawfulBlock, NotDrained as Undrained, TwoBranches as Branches, Shape, Memory}
+use Rattle.c62_listing_reader.specs.Named.{entry_of}
 use Rattle.c62_listing_reader.specs.Said.{Said, part_of, Draft, Drafts, opened}
 use Rattle.c62_listing_reader.specs.Begin.{is_beside}
 use Rattle.c62_listing_reader.specs.Faults.{Refusal, drafts_in, IsFirstFaulty, IsFaulty, cycles_added}
@@ -27,11 +28,8 @@ drafts_of blocks = record { done = map draft_open blocks.done.items; current = o
 abbrev pub said_by : Front → Reading → Said
 said_by front reading = record { front = front; label = reading.label; says = said_of reading.what }
 
-abbrev pub entry_of : Named → Name × ℕ
-entry_of named = (named.label.now, named.number)
-
-abbrev pub entries_of : List Named → List (Name × ℕ)
-entries_of names = map entry_of names
+abbrev pub entries_of : Names → List (Name × ℕ)
+entries_of names = map entry_of names.all.items
 
 abbrev pub read_as : Result Reading ReadFault → Result (Option Name × Says) Cause
 read_as (Ok reading) = Ok (reading.label, said_of reading.what)

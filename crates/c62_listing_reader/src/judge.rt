@@ -1,9 +1,8 @@
 //! What a line of a listing says, or its first fault.
 
 ghost use Rattle.std.specs.Prelude.{◌≡◌, ◌⊎◌, ◌≤◌, ◌+◌, ◌&&◌, not, Ok, Err, IfOk, IsOk, OnOk, MatchResult, is_some, is_none, nat_le, nat_lt, length};
-ghost use Rattle.std.specs.List.{list_all, list_any};
+ghost use Rattle.std.specs.List.{list_all};
 ghost use Rattle.c62_read.specs.Text.{is_allowed};
-ghost use Rattle.std.specs.Str.{bytes_eq};
 ghost use Rattle.c62_read.specs.Line.{line_of, said_of};
 ghost use Rattle.c62_read.specs.Program.{place_of};
 ghost use Rattle.c62_read.specs.Walk.{is_unknown, is_instruction};
@@ -17,17 +16,11 @@ ghost use Rattle.c62_listing_reader.specs.Reading.{drafts_of, said_by, entries_o
 use crate::draft::Blocks;
 use crate::fault::LineFault;
 use crate::line::{Above, Front, all_allowed, has_colon, rest};
+use crate::names::Names;
 use crate::spelled::is_spelled;
 use crate::text::{Cut, begins_filled, content, is_ended};
 use c62_insn::Unit;
 use c62_read::{Cause, Label, ReadFault, Reading, What, label_place};
-
-/// A label of the text, and the number of the block that it stands for.
-#[derive(Clone, Copy)]
-pub struct Named<'a> {
-    pub label: &'a [u8],
-    pub number: u32,
-}
 
 fn is_issue(above: Above) -> bool
     ensures { result ≡ is_issue above }
@@ -133,19 +126,12 @@ fn is_label_taken(blocks: &Blocks, label: &Option<Label>) -> bool
     }
 }
 
-fn any_is(label: &[u8], names: &[Named<'_>]) -> bool
-    ensures { result ≡ list_any (λ other. bytes_eq other.label.now label.now) names.now }
-{
-    names.iter().any(|other| other.label == label)
-}
-
 /// Whether a branch goes to a label that no line has.
-#[tactic(auto, using(crate::proofs::NameLemmas::any_named))]
-fn is_unknown(names: &[Named<'_>], what: &What) -> bool
+fn is_unknown(names: &Names<'_>, what: &What) -> bool
     ensures { result ≡ is_unknown (labels_of (entries_of names.now)) (said_of what.now) }
 {
     match what {
-        What::Jump(_, label) => !any_is(label.as_bytes(), names),
+        What::Jump(_, label) => !names.has(label.as_bytes()),
         _ => false,
     }
 }
@@ -178,7 +164,7 @@ fn begins_one_more(blocks: &Blocks, front: Front) -> bool
 }
 
 /// What stands against a line that says something by itself.
-fn hindrance(names: &[Named<'_>], blocks: &Blocks, front: Front, what: &What) -> Option<Cause>
+fn hindrance(names: &Names<'_>, blocks: &Blocks, front: Front, what: &What) -> Option<Cause>
     ensures { result ≡ hindrance (labels_of (entries_of names.now)) (drafts_of blocks.now) front (said_of what.now) }
 {
     if is_unknown(names, what) {
@@ -285,7 +271,7 @@ fn fit(
 /// Whether nothing stands against a line that says this.
 fn with_reading(
     spelling: &mut String,
-    names: &[Named<'_>],
+    names: &Names<'_>,
     blocks: &Blocks,
     above: Above,
     cut: &Cut<'_>,
@@ -305,7 +291,7 @@ fn with_reading(
 /// Whether nothing stands against a line whose rest reads so. The label that is read is the one in its label place.
 fn with_rest(
     spelling: &mut String,
-    names: &[Named<'_>],
+    names: &Names<'_>,
     blocks: &Blocks,
     above: Above,
     cut: &Cut<'_>,
@@ -350,7 +336,7 @@ fn has_text(line: &[u8], front: Front, read: &Result<Reading, ReadFault>) -> boo
 #[tactic(auto, unfolding(crate::specs::Faults::line_says))]
 pub fn judge(
     spelling: &mut String,
-    names: &[Named<'_>],
+    names: &Names<'_>,
     blocks: &Blocks,
     above: Above,
     cut: &Cut<'_>,

@@ -6,6 +6,7 @@ mod fault;
 mod judge;
 pub mod laws;
 mod line;
+mod names;
 mod reader;
 mod spelled;
 mod text;

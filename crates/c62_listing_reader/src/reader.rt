@@ -11,6 +11,7 @@ ghost use Rattle.c62_listing_reader.specs.declared.fault.ListFault.TheVariants.{
 ghost use Rattle.c62_listing_reader.specs.declared.line.Above.TheVariants.{Start};
 ghost use Rattle.c62_listing_reader.specs.Text.{lines_in};
 ghost use Rattle.c62_listing_reader.specs.Begin.{rest_of, is_beside};
+ghost use Rattle.c62_listing_reader.specs.Named.{entry_of};
 ghost use Rattle.c62_listing_reader.specs.Said.{Draft, Drafts as Placements, names_in, labels_of, aim_by, with_label, with_says, with_said, above_of, above_next, all_drafts, no_drafts};
 ghost use Rattle.c62_listing_reader.specs.Faults.{Refusal, contents, draft_of, IsFaulted, IsFirstFaulty, IsRead, read_lines, cycles_added};
 ghost use Rattle.c62_listing_reader.specs.Fine.{IsFine};
@@ -18,8 +19,9 @@ ghost use Rattle.c62_listing_reader.specs.Reading.{draft_open, drafts_of, said_b
 
 use crate::draft::{Blocks, OpenBlock};
 use crate::fault::{LineFault, ListFault};
-use crate::judge::{Named, is_beside, is_gap, judge};
+use crate::judge::{is_beside, is_gap, judge};
 use crate::line::{Above, Front, beginning, rest};
+use crate::names::{Named, Names};
 use crate::text::{content, first_line};
 use c62_insn::{Insn, Operands};
 use c62_packet::{BlockFault, PacketBlock, Packets};
@@ -35,7 +37,7 @@ const LONGEST_LINE: usize = 64;
 /// The labels of all lines of a text.
 fn all_names<'a>(alloc: Global, text: &'a [u8]) -> Result<Vec<Named<'a>>, AllocError>
     requires { length text.now ≤ 8388608 }
-    ensures { IfOk result (λ names. entries_of names.items ≡ names_in 0 (contents text.now)) }
+    ensures { IfOk result (λ names. map entry_of names.items ≡ names_in 0 (contents text.now)) }
 {
     let mut names = Vec::new(alloc);
     let mut rest = text;
@@ -52,15 +54,14 @@ fn all_names<'a>(alloc: Global, text: &'a [u8]) -> Result<Vec<Named<'a>>, AllocE
 }
 
 /// The number of the block that a label stands for.
-fn number_of(names: &[Named<'_>], label: &[u8]) -> u8
+#[tactic(auto, using(crate::proofs::NameLemmas::aimed_by))]
+fn number_of(names: &Names<'_>, label: &[u8]) -> u8
     ensures { result ≡ aim_by (entries_of names.now) label.now }
 {
-    for named in names {
-        if named.label == label {
-            return named.number.min(255) as u8;
-        }
+    match names.number(label) {
+        Some(number) => number.min(255) as u8,
+        None => 0,
     }
-    0
 }
 
 /// A branch to a label goes to the block of this number.
@@ -104,7 +105,7 @@ fn above_next(front: Front, what: &What) -> Above
 impl OpenBlock {
     fn add_what(
         &mut self,
-        names: &[Named<'_>],
+        names: &Names<'_>,
         beside: bool,
         line: u32,
         what: &What,
@@ -130,7 +131,7 @@ impl OpenBlock {
     /// Adds what a line of the block says.
     fn add(
         &mut self,
-        names: &[Named<'_>],
+        names: &Names<'_>,
         line: u32,
         front: Front,
         reading: &Reading,
@@ -149,7 +150,7 @@ impl Blocks {
     fn add(
         &mut self,
         alloc: Global,
-        names: &[Named<'_>],
+        names: &Names<'_>,
         line: u32,
         front: Front,
         reading: &Reading,
@@ -186,7 +187,7 @@ fn fault_of_line(line: u32, fault: LineFault) -> ListFault
 }
 
 /// The blocks that the lines say.
-fn read_blocks(alloc: Global, names: &[Named<'_>], text: &[u8]) -> Result<Blocks, ListFault>
+fn read_blocks(alloc: Global, names: &Names<'_>, text: &[u8]) -> Result<Blocks, ListFault>
     requires { length text.now ≤ 8388608 }
     ensures { MatchResult result
         (λ blocks. (read_lines (labels_of (entries_of names.now)) (aim_by (entries_of names.now)) 1 no_drafts Start (lines_in text.now) ≡ Ok (drafts_of blocks))
@@ -282,7 +283,7 @@ pub fn read_listing(alloc: Global, text: &[u8]) -> Result<Packets, ListFault>
             cause: Cause::TextTooLong,
         }));
     }
-    let names = all_names(alloc, text)?;
+    let names = Names::new(alloc, all_names(alloc, text)?)?;
     let mut blocks = read_blocks(alloc, &names, text)?;
     blocks.end_block()?;
     packets_of(alloc, blocks.done)

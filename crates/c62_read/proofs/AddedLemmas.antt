@@ -4,73 +4,68 @@ use Rattle.std.specs.Prelude.{is_none}
 use Rattle.std.specs.Option.{option_to_list}
 use Rattle.std.proofs.lemmas.Bool.{leb-false}
 use Rattle.c62_read.specs.declared.fault.Cause.{Cause}
-use Rattle.c62_read.specs.declared.fault.Cause.TheVariants.{DuplicateLabel, UnknownTarget, TooManyInstructions, TooManyBlocks}
+use Rattle.c62_read.specs.declared.fault.Cause.TheVariants.{DuplicateLabel, TooManyInstructions, TooManyBlocks}
 use Rattle.c62_read.specs.Line.{Parts, Says, Nothing, Pause, Does, Jumps, is_branch, head_of, rest_says}
 use Rattle.c62_read.specs.Program.{Name, Draft}
-use Rattle.c62_read.specs.Walk.{Drafts, add_line, add_head, add_says, all_drafts, begins_block, closed, hindrance, is_full, is_instruction, is_taken, is_unknown, opened, unless_hindered, with_insn, with_label, with_says}
+use Rattle.c62_read.specs.Walk.{Drafts, add_line, add_head, add_says, all_drafts, begins_block, closed, hindrance, is_full, is_instruction, is_taken, opened, refused, unless_hindered, with_insn, with_label, with_says}
 
 -- the line says this, and nothing stands against it
-pub record IsAdded (labels : List Name) (number : ℕ) (line : List ℕ) (old new : Drafts) : Type 0 where
+pub record IsAdded (number : ℕ) (line : List ℕ) (old new : Drafts) : Type 0 where
   pub label : Option Name
   pub words : List (List ℕ)
   pub says : Says
   pub head : head_of line ≡ Ok (label, words)
   pub rest : rest_says words ≡ Ok says
   pub free : is_taken label old ≡ false
-  pub clear : hindrance labels label says old ≡ None
+  pub clear : hindrance label says old ≡ None
   pub is : new ≡ with_says number says (with_label label old)
 
-module _ (labels : List Name) (number : ℕ) (line : List ℕ) (old new : Drafts) where
+module _ (number : ℕ) (line : List ℕ) (old new : Drafts) where
   by_hindrance : (label : Option Name) (words : List (List ℕ)) (says : Says) → head_of line ≡ Ok (label, words) → rest_says words ≡ Ok says
       → is_taken label old ≡ false
-      → (h : Option Cause) → hindrance labels label says old ≡ h → unless_hindered h (with_says number says (with_label label old)) ≡ Ok new
-      → IsAdded labels number line old new
+      → (h : Option Cause) → hindrance label says old ≡ h → unless_hindered h (with_says number says (with_label label old)) ≡ Ok new
+      → IsAdded number line old new
   by_hindrance label words says head rest free (Some cause) e added = absurd cc
   by_hindrance label words says head rest free None e added =
       record { label = label; words = words; says = says; head = head; rest = rest; free = free; clear = e; is = cc }
 
   by_says : (label : Option Name) (words : List (List ℕ)) → head_of line ≡ Ok (label, words) → is_taken label old ≡ false
-      → (said : Result Says Cause) → rest_says words ≡ said → add_says labels number label old said ≡ Ok new → IsAdded labels number line old new
+      → (said : Result Says Cause) → rest_says words ≡ said → (add_says number label old said).drafts ≡ Ok new → IsAdded number line old new
   by_says label words head free (Err cause) e added = absurd cc
-  by_says label words head free (Ok says) e added = by_hindrance label words says head e free (hindrance labels label says old) refl added
+  by_says label words head free (Ok says) e added = by_hindrance label words says head e free (hindrance label says old) refl added
 
   by_label : (label : Option Name) (words : List (List ℕ)) → head_of line ≡ Ok (label, words)
-      → (taken : Bool) → is_taken label old ≡ taken → cond taken (Err DuplicateLabel) (add_says labels number label old (rest_says words)) ≡ Ok new
-      → IsAdded labels number line old new
+      → (taken : Bool) → is_taken label old ≡ taken → (cond taken (refused DuplicateLabel) (add_says number label old (rest_says words))).drafts ≡ Ok new
+      → IsAdded number line old new
   by_label label words head true e added = absurd cc
   by_label label words head false e added = by_says label words head e (rest_says words) refl added
 
-  by_head : (head : Result (Option Name × List (List ℕ)) Cause) → head_of line ≡ head → add_head labels number old head ≡ Ok new
-      → IsAdded labels number line old new
+  by_head : (head : Result (Option Name × List (List ℕ)) Cause) → head_of line ≡ head → (add_head number old head).drafts ≡ Ok new
+      → IsAdded number line old new
   by_head (Err cause) e added = absurd cc
   by_head (Ok (label, words)) e added = by_label label words e (is_taken label old) refl added
 
-  pub added_is : add_line labels number line old ≡ Ok new → IsAdded labels number line old new
+  pub added_is : (add_line number line old).drafts ≡ Ok new → IsAdded number line old new
   unfolding add_line
   added_is added = by_head (head_of line) refl added
 
 -- ---- what no hindrance says
 
-pub record IsClear (labels : List Name) (label : Option Name) (says : Says) (old : Drafts) : Type 0 where
-  pub known : is_unknown labels says ≡ false
+pub record IsClear (label : Option Name) (says : Says) (old : Drafts) : Type 0 where
   pub room : (is_instruction says && is_none label && is_full old.current) ≡ false
   pub blocks : (begins_block label says old && leb 64 (length (all_drafts old))) ≡ false
 
-clear_by : (unknown full many : Bool)
-    → cond unknown (Some UnknownTarget) (cond full (Some TooManyInstructions) (cond many (Some TooManyBlocks) None)) ≡ None
-    → (unknown ≡ false) × (full ≡ false) × (many ≡ false)
-clear_by true full many e = absurd cc
-clear_by false true many e = absurd cc
-clear_by false false true e = absurd cc
-clear_by false false false e = (refl, refl, refl)
+clear_by : (full many : Bool) → cond full (Some TooManyInstructions) (cond many (Some TooManyBlocks) None) ≡ None → (full ≡ false) × (many ≡ false)
+clear_by true many e = absurd cc
+clear_by false true e = absurd cc
+clear_by false false e = (refl, refl)
 
-pub clear_parts : (labels : List Name) (label : Option Name) (says : Says) (old : Drafts) → hindrance labels label says old ≡ None
-    → IsClear labels label says old
+pub clear_parts : (label : Option Name) (says : Says) (old : Drafts) → hindrance label says old ≡ None → IsClear label says old
 unfolding hindrance
-clear_parts labels label says old clear =
-    let parts = clear_by (is_unknown labels says) (is_instruction says && is_none label && is_full old.current)
+clear_parts label says old clear =
+    let parts = clear_by (is_instruction says && is_none label && is_full old.current)
     (begins_block label says old && leb 64 (length (all_drafts old))) clear in
-    record { known = parts.0; room = parts.1; blocks = parts.2 }
+    record { room = parts.0; blocks = parts.1 }
 
 -- ---- how many blocks there are
 
@@ -123,9 +118,9 @@ within : (begins : Bool) (n m : ℕ) → n ≤ 64 → (begins && leb 64 n) ≡ f
 within true n m few room grown = let less : n < 64 = leb-false 64 n room in omega arith
 within false n m few room grown = omega arith
 
-pub few_added : (labels : List Name) (number : ℕ) (line : List ℕ) (old new : Drafts) → IsAdded labels number line old new
+pub few_added : (number : ℕ) (line : List ℕ) (old new : Drafts) → IsAdded number line old new
     → length (all_drafts old) ≤ 64 → length (all_drafts new) ≤ 64
-few_added labels number line old new added few =
-    let clear = clear_parts labels added.label added.says old added.clear in
+few_added number line old new added few =
+    let clear = clear_parts added.label added.says old added.clear in
     subst (λ (drafts : Drafts). length (all_drafts drafts) ≤ 64) (sym added.is)
     (within (begins_block added.label added.says old) (length (all_drafts old)) _ few clear.blocks (grows added.label added.says number old))

@@ -116,6 +116,6 @@ empty_rest : rest_says [] ≡ Ok Nothing
 unfolding rest_says
 empty_rest = refl
 
-pub empty_line : (labels : List Name) (number : ℕ) (line : List ℕ) (drafts : Drafts) → line ≡ [] → add_line labels number line drafts ≡ Ok drafts
+pub empty_line : (number : ℕ) (line : List ℕ) (drafts : Drafts) → line ≡ [] → add_line number line drafts ≡ record { says = Nothing; drafts = Ok drafts }
 unfolding add_line hindrance is_taken with_says
-empty_line labels number line drafts none = rw (none, empty_head, empty_rest) refl
+empty_line number line drafts none = rw (none, empty_head, empty_rest) refl

@@ -5,6 +5,7 @@ pub mod ColonLemmas
 pub mod StepLemmas
 pub mod LineLemmas
 pub mod BlockLemmas
+pub mod MissedLemmas
 pub mod ReadingLemmas
 pub mod AddedLemmas
 pub mod SoundLemmas

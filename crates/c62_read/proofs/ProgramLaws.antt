@@ -16,10 +16,11 @@ use Rattle.c62_read.specs.Block.{branch_last}
 use Rattle.c62_read.specs.Line.{Says, Nothing, Pause, Does, Jumps, line_of}
 use Rattle.c62_read.specs.Program.{Begins, BlockParts, Draft, Item, Name, Numbered, Runs, aimed, block_in, blocks_from, is_among, items_from, label_is, label_items, labels_of, line_items, says_items, target_number}
 use Rattle.c62_read.specs.Laws.{HasCutBlocks, HasItsLabels, HasRisingLines, HasTargets, IsItsLines, ReadsAsItsLine, begin_well, block_named, ends_in_branch, instruction_at, instructions_in, instructions_of, items_of, may_begin, settled}
+use Rattle.c62_read.specs.Walk.{own_labels}
 use Rattle.c62_read.proofs.CutLemmas.{cut_begins, cut_ends, drafts_begin, ends_last}
 use Rattle.c62_read.proofs.FaultLemmas.{distinct_labels, known_target}
 use Rattle.c62_read.proofs.ProgramLemmas.{IsProgram, its_items, position_block, program_is_cut}
-use Rattle.c62_read.proofs.WalkLemmas.{has_label, has_own, is_read, own}
+use Rattle.c62_read.proofs.WalkLemmas.{has_label, has_own, is_read}
 
 -- ---- instructions
 
@@ -236,7 +237,7 @@ has_cut_blocks text blocks e =
 
 -- ---- labels
 
-own_blocks : (all drafts : List Draft) → flat_map (λ (block : BlockParts). option_to_list block.label) (map (block_in all) drafts) ≡ own drafts
+own_blocks : (all drafts : List Draft) → flat_map (λ (block : BlockParts). option_to_list block.label) (map (block_in all) drafts) ≡ own_labels drafts
 own_blocks all [] = refl
 own_blocks all (draft ∷ drafts) = ap (λ (labels : List Name). option_to_list draft.label ++ labels) (own_blocks all drafts)
 

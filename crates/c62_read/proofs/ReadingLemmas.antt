@@ -1,28 +1,55 @@
 -- Reading the lines of a text one after the other.
-use Rattle.std.proofs.Common.{◌≡◌, ◌≤◌, ◌<◌, ℕ, ◌+◌, List, [], ◌∷◌, length, Result, Ok, Err, refl, sym, ap, ◌∙◌, inl, inr}
+use Rattle.std.proofs.Common.{◌≡◌, ◌≤◌, ◌<◌, ℕ, ◌+◌, List, [], ◌∷◌, ◌++◌, length, Result, Ok, Err, refl, sym, ap, ◌∙◌, append_assoc, inl, inr}
 use Rattle.std.specs.Prelude.{map}
+use Rattle.std.specs.Option.{option_to_list}
 use Rattle.std.proofs.lemmas.Bool.{lt-ltb, le-ltb}
 use Rattle.c62_read.specs.declared.fault.Cause.{Cause}
 use Rattle.c62_read.specs.declared.fault.Cause.TheVariants.{TextTooLong}
 use Rattle.c62_read.specs.declared.fault.ReadFault.{ReadFault}
 use Rattle.c62_read.specs.Text.{lines_of}
-use Rattle.c62_read.proofs.WalkLemmas.{walk_says}
-use Rattle.c62_read.specs.Program.{Name, BlockParts, Refusal, Fails, and_then, block_in, drafts_in, labels_of, program_in}
-use Rattle.c62_read.specs.Walk.{Drafts, add_line, add_lines, all_drafts, at_line, no_drafts}
+use Rattle.c62_read.specs.Program.{Name, BlockParts, Refusal, Fails, and_then, block_in, drafts_in, labels_of, place_of, program_in}
+use Rattle.c62_read.specs.Walk.{Asked, Drafts, add_line, add_lines, all_drafts, asked_in, at_line, first_line, missed, no_drafts, own_labels, unless_missed}
+use Rattle.c62_read.proofs.AddedLemmas.{added_is}
+use Rattle.c62_read.proofs.MissedLemmas.{missed_then}
+use Rattle.c62_read.proofs.WalkLemmas.{own_added, walk_says}
 
-module _ (labels : List Name) (number : ℕ) (line : List ℕ) (lines all : List (List ℕ)) (old : Drafts) (first : all ≡ line ∷ lines) where
-  pub goes_on : (new : Drafts) → add_line labels number line old ≡ Ok new → add_lines labels (number + 1) lines new ≡ add_lines labels number all old
+module _ (labels : List Name) (number : ℕ) (line : List ℕ) (lines all : List (List ℕ)) (old : Drafts) (first : all ≡ line ∷ lines)
+    (asked now : List Asked) (kept : now ≡ asked ++ asked_in number (add_line number line old).says) where
+  -- the answer, but for the branches that are kept
+  stepped : unless_missed (first_line (missed labels asked)) (add_lines labels number all old)
+      ≡ unless_missed (first_line (missed labels now))
+      (and_then (at_line number (add_line number line old).drafts) (λ more. add_lines labels (number + 1) lines more))
   unfolding add_lines
+  stepped =
+      ap (λ (ls : List (List ℕ)). unless_missed (first_line (missed labels asked)) (add_lines labels number ls old)) first
+      ∙ missed_then labels asked number (add_line number line old).says
+      (and_then (at_line number (add_line number line old).drafts) (λ more. add_lines labels (number + 1) lines more))
+      ∙ ap (λ (branches : List Asked). unless_missed (first_line (missed labels branches))
+      (and_then (at_line number (add_line number line old).drafts) (λ more. add_lines labels (number + 1) lines more))) (sym kept)
+
+  pub goes_on : (new : Drafts) → (add_line number line old).drafts ≡ Ok new
+      → unless_missed (first_line (missed labels now)) (add_lines labels (number + 1) lines new)
+      ≡ unless_missed (first_line (missed labels asked)) (add_lines labels number all old)
   goes_on new added =
-      sym (ap (λ (ls : List (List ℕ)). add_lines labels number ls old) first
-      ∙ ap (λ (r : Result Drafts Cause). and_then (at_line number r) (λ more. add_lines labels (number + 1) lines more)) added)
+      sym (stepped
+      ∙ ap (λ (r : Result Drafts Cause). unless_missed (first_line (missed labels now))
+      (and_then (at_line number r) (λ more. add_lines labels (number + 1) lines more))) added)
 
-  pub stops : (fault : ReadFault) → Fails fault (at_line number (add_line labels number line old)) → Fails fault (add_lines labels number all old)
-  unfolding add_lines
-  stops fault (inl memory) = inl memory
-  stops fault (inr refused) =
-      inr (ap (λ (ls : List (List ℕ)). add_lines labels number ls old) first
-      ∙ ap (λ (r : Result Drafts Refusal). and_then r (λ more. add_lines labels (number + 1) lines more)) refused)
+  pub stops : (cause : Cause) → (add_line number line old).drafts ≡ Err cause
+      → unless_missed (first_line (missed labels now)) (Err (number, cause))
+      ≡ unless_missed (first_line (missed labels asked)) (add_lines labels number all old)
+  stops cause refused =
+      sym (stepped
+      ∙ ap (λ (r : Result Drafts Cause). unless_missed (first_line (missed labels now))
+      (and_then (at_line number r) (λ more. add_lines labels (number + 1) lines more))) refused)
+
+  -- the labels that the blocks have and those of the lines that are left
+  pub labels_stay : (new : Drafts) → (add_line number line old).drafts ≡ Ok new
+      → own_labels (all_drafts new) ++ labels_of lines ≡ own_labels (all_drafts old) ++ labels_of all
+  labels_stay new added =
+      ap (λ (labels : List Name). labels ++ labels_of lines) (own_added number line old new (added_is number line old new added))
+      ∙ append_assoc (own_labels (all_drafts old)) (option_to_list (place_of line)) (labels_of lines)
+      ∙ ap (λ (ls : List (List ℕ)). own_labels (all_drafts old) ++ labels_of ls) (sym first)
 
 pub is_done : (labels : List Name) (number : ℕ) (lines : List (List ℕ)) (drafts : Drafts) → lines ≡ []
     → add_lines labels number lines drafts ≡ Ok drafts

@@ -10,8 +10,8 @@ use Rattle.std.proofs.lemmas.List.Folds.{list_any-append}
 use Rattle.c62_read.specs.declared.fault.Cause.{Cause}
 use Rattle.c62_read.specs.declared.fault.Cause.TheVariants.{DuplicateLabel, UnknownTarget, TooManyInstructions, TooManyBlocks}
 use Rattle.c62_read.specs.Line.{Parts, Says, Nothing, Pause, Does, Jumps, is_branch, head_of, line_of, rest_says}
-use Rattle.c62_read.specs.Program.{Name, Numbered, Item, Runs, Draft, Refusal, and_then, blocks_from, cut, fault_if, fault_in, fault_of, first_fault, first_of, glue, is_among, is_overfull, items_from, joined, label_is, label_items, labels_of, line_items, misses_label, piece_of, repeats_label, says_items, unless_refused}
-use Rattle.c62_read.specs.Walk.{is_whole, Drafts, add_head, add_line, add_lines, add_says, all_drafts, at_line, begins_block, closed, hindrance, is_full, is_instruction, is_taken, is_unknown, new_draft, no_drafts, opened, unless_hindered, with_insn, with_label, with_says}
+use Rattle.c62_read.specs.Program.{Name, Numbered, Item, Runs, Draft, Refusal, and_then, blocks_from, cut, fault_if, fault_in, fault_of, first_fault, first_of, glue, is_among, is_overfull, items_from, joined, label_is, label_items, labels_of, line_items, misses_label, piece_of, place_of, repeats_label, says_items, unless_refused}
+use Rattle.c62_read.specs.Walk.{is_whole, Drafts, add_head, add_line, add_lines, add_says, all_drafts, at_line, begins_block, closed, hindrance, is_full, is_instruction, is_taken, is_unknown, new_draft, no_drafts, opened, own_labels, refused, Step, unless_hindered, with_insn, with_label, with_says}
 use Rattle.c62_read.proofs.AddedLemmas.{IsAdded, added_is, clear_parts, few_added, grows}
 use Rattle.c62_read.proofs.HeadLemmas.{line_by_head}
 use Rattle.c62_read.proofs.CutLemmas.{all_whole, cut_ends, ends_last}
@@ -104,16 +104,12 @@ items_more number (first ∷ before) line =
 abbrev pub has_label : Name → List Draft → Bool
 has_label label drafts = list_any (λ draft. label_is label draft.label) drafts
 
--- the labels of blocks
-abbrev pub own : List Draft → List Name
-own drafts = flat_map (λ draft. option_to_list draft.label) drafts
-
-pub has_own : (label : Name) (drafts : List Draft) → has_label label drafts ≡ is_among label (own drafts)
+pub has_own : (label : Name) (drafts : List Draft) → has_label label drafts ≡ is_among label (own_labels drafts)
 has_own label [] = refl
 has_own label (draft ∷ drafts) = go draft.label (has_own label drafts)
   where
-    go : (first : Option Name) → has_label label drafts ≡ is_among label (own drafts)
-        → (label_is label first || has_label label drafts) ≡ is_among label (option_to_list first ++ own drafts)
+    go : (first : Option Name) → has_label label drafts ≡ is_among label (own_labels drafts)
+        → (label_is label first || has_label label drafts) ≡ is_among label (option_to_list first ++ own_labels drafts)
     go None e = e
     go (Some first) e = ap (λ (others : Bool). bytes_eq first label || others) e
 
@@ -122,7 +118,7 @@ pub record Stands (before : List (List ℕ)) (drafts : Drafts) : Type 0 where
   pub cuts : (items : List Item) → cut (items_from 1 before ++ items) ≡ ahead drafts items
   pub few : length (all_drafts drafts) ≤ 64
   pub small : list_any is_overfull (all_drafts drafts) ≡ false
-  pub labels : own (all_drafts drafts) ≡ labels_of before
+  pub labels : own_labels (all_drafts drafts) ≡ labels_of before
 
 pub stands_first : Stands [] no_drafts
 stands_first = record { cuts = λ items. refl; few = omega arith; small = refl; labels = refl }
@@ -198,21 +194,21 @@ many_by n m true few e =
     ]
 many_by n m false few e = le-ltb 64 m (omega (arith, few, e))
 
-own_append : (drafts others : List Draft) → own (drafts ++ others) ≡ own drafts ++ own others
+own_append : (drafts others : List Draft) → own_labels (drafts ++ others) ≡ own_labels drafts ++ own_labels others
 own_append drafts others = flat_map-append (λ (draft : Draft). option_to_list draft.label) drafts others
 
-one_own : (done : List Draft) (draft : Draft) → own (done ++ draft ∷ []) ≡ own done ++ option_to_list draft.label
-one_own done draft = own_append done (draft ∷ []) ∙ ap (λ (labels : List Name). own done ++ labels) (append-nil (option_to_list draft.label))
+one_own : (done : List Draft) (draft : Draft) → own_labels (done ++ draft ∷ []) ≡ own_labels done ++ option_to_list draft.label
+one_own done draft = own_append done (draft ∷ []) ∙ ap (λ (labels : List Name). own_labels done ++ labels) (append-nil (option_to_list draft.label))
 
-closed_own : (last : Bool) (done : List Draft) (draft : Draft) → own (all_drafts (closed last done draft)) ≡ own done ++ option_to_list draft.label
-closed_own true done draft = ap own (append-nil (done ++ draft ∷ [])) ∙ one_own done draft
+closed_own : (last : Bool) (done : List Draft) (draft : Draft) → own_labels (all_drafts (closed last done draft)) ≡ own_labels done ++ option_to_list draft.label
+closed_own true done draft = ap own_labels (append-nil (done ++ draft ∷ [])) ∙ one_own done draft
 closed_own false done draft = one_own done draft
 
-open_own : (done : List Draft) (current : Option Draft) → own done ++ option_to_list (opened current).label ≡ own (done ++ option_to_list current)
-open_own done None = append-nil (own done) ∙ sym (ap own (append-nil done))
+open_own : (done : List Draft) (current : Option Draft) → own_labels done ++ option_to_list (opened current).label ≡ own_labels (done ++ option_to_list current)
+open_own done None = append-nil (own_labels done) ∙ sym (ap own_labels (append-nil done))
 open_own done (Some draft) = sym (one_own done draft)
 
-says_keeps : (number : ℕ) (says : Says) (drafts : Drafts) → own (all_drafts (with_says number says drafts)) ≡ own (all_drafts drafts)
+says_keeps : (number : ℕ) (says : Says) (drafts : Drafts) → own_labels (all_drafts (with_says number says drafts)) ≡ own_labels (all_drafts drafts)
 unfolding with_says
 says_keeps number Nothing drafts = refl
 says_keeps number (Pause n) drafts = refl
@@ -221,13 +217,20 @@ says_keeps number (Does parts) drafts = closed_own (is_branch parts.op) drafts.d
 says_keeps number (Jumps parts target) drafts =
     closed_own (is_branch parts.op) drafts.done (with_insn parts number (Some target) (opened drafts.current)) ∙ open_own drafts.done drafts.current
 
-label_keeps : (new : Option Name) (drafts : Drafts) → own (all_drafts (with_label new drafts)) ≡ own (all_drafts drafts) ++ option_to_list new
-label_keeps None drafts = sym (append-nil (own (all_drafts drafts)))
+label_keeps : (new : Option Name) (drafts : Drafts) → own_labels (all_drafts (with_label new drafts)) ≡ own_labels (all_drafts drafts) ++ option_to_list new
+label_keeps None drafts = sym (append-nil (own_labels (all_drafts drafts)))
 label_keeps (Some new) drafts = one_own (all_drafts drafts) (new_draft (Some new))
+
+pub own_added : (number : ℕ) (line : List ℕ) (old new : Drafts) → IsAdded number line old new
+    → own_labels (all_drafts new) ≡ own_labels (all_drafts old) ++ option_to_list (place_of line)
+own_added number line old new added =
+    ap (λ (drafts : Drafts). own_labels (all_drafts drafts)) added.is ∙ says_keeps number added.says (with_label added.label old)
+    ∙ label_keeps added.label old
+    ∙ ap (λ (label : Option Name). own_labels (all_drafts old) ++ option_to_list label) (sym (place_is line added.label added.words added.head))
 
 chain : (unknown full many : Bool)
     → first_of (fault_if unknown UnknownTarget ∷ fault_if full TooManyInstructions ∷ fault_if many TooManyBlocks ∷ [])
-    ≡ cond unknown (Some UnknownTarget) (cond full (Some TooManyInstructions) (cond many (Some TooManyBlocks) None))
+    ≡ first_of (fault_if unknown UnknownTarget ∷ cond full (Some TooManyInstructions) (cond many (Some TooManyBlocks) None) ∷ [])
 chain true full many = refl
 chain false true many = refl
 chain false false true = refl
@@ -288,13 +291,13 @@ module _ (before : List (List ℕ)) (line : List ℕ) (old : Drafts) (stands : S
         → first_of (fault_if (misses_label labels (Ok (label, says))) UnknownTarget
         ∷ fault_if (list_any is_overfull (blocks_from (more before line))) TooManyInstructions
         ∷ fault_if (ltb 64 (length (blocks_from (more before line)))) TooManyBlocks ∷ [])
-        ≡ hindrance labels label says old
+        ≡ first_of (fault_if (is_unknown labels says) UnknownTarget ∷ hindrance label says old ∷ [])
     unfolding hindrance
     hindrance_is labels = rw (misses_is labels says, over_is, many_is)
         (chain (is_unknown labels says) (is_instruction says && is_none label && is_full old.current)
         (begins_block label says old && leb 64 (length (all_drafts old))))
 
-    own_more : own (all_drafts new) ≡ labels_of (more before line)
+    own_more : own_labels (all_drafts new) ≡ labels_of (more before line)
     own_more =
         says_keeps number says (with_label label old) ∙ label_keeps label old
         ∙ ap (λ (labels : List Name). labels ++ option_to_list label) stands.labels
@@ -309,41 +312,46 @@ module _ (labels : List Name) (before : List (List ℕ)) (line : List ℕ) (old 
   abbrev here : ℕ
   here = length before + 1
 
+  -- what a step meets, where these are the labels
+  abbrev met : Step → Option Cause
+  met step = first_of (fault_if (is_unknown labels step.says) UnknownTarget ∷ fault_in step.drafts ∷ [])
+
   says_fault : (label : Option Name) (words : List (List ℕ)) → head_of line ≡ Ok (label, words) → is_taken label old ≡ false
-      → (said : Result Says Cause) → rest_says words ≡ said → fault_of labels before line ≡ fault_in (add_says labels here label old said)
+      → (said : Result Says Cause) → rest_says words ≡ said → fault_of labels before line ≡ met (add_says here label old said)
   unfolding fault_of
   says_fault label words head free (Err cause) rest =
       rw (head, taken_is before line old stands label words head ∙ free, line_refused line label words cause head rest) refl
   says_fault label words head free (Ok says) rest =
       rw (head, taken_is before line old stands label words head ∙ free, line_by_head line label words says head rest)
       (hindrance_is before line old stands label words head says rest labels
-      ∙ sym (hindered (hindrance labels label says old) (with_says here says (with_label label old))))
+      ∙ ap (λ (h : Option Cause). first_of (fault_if (is_unknown labels says) UnknownTarget ∷ h ∷ []))
+      (sym (hindered (hindrance label says old) (with_says here says (with_label label old)))))
 
   label_fault : (label : Option Name) (words : List (List ℕ)) → head_of line ≡ Ok (label, words) → (taken : Bool) → is_taken label old ≡ taken
-      → fault_of labels before line ≡ fault_in (cond taken (Err DuplicateLabel) (add_says labels here label old (rest_says words)))
+      → fault_of labels before line ≡ met (cond taken (refused DuplicateLabel) (add_says here label old (rest_says words)))
   unfolding fault_of
   label_fault label words head true e = rw (head, taken_is before line old stands label words head ∙ e) refl
   label_fault label words head false e = says_fault label words head e (rest_says words) refl
 
   head_fault : (head : Result (Option Name × List (List ℕ)) Cause) → head_of line ≡ head
-      → fault_of labels before line ≡ fault_in (add_head labels here old head)
+      → fault_of labels before line ≡ met (add_head here old head)
   unfolding fault_of
   head_fault (Err cause) e = rw e refl
   head_fault (Ok (label, words)) e = label_fault label words e (is_taken label old) refl
 
   -- the line's fault is what the walk meets
-  fault_same : fault_of labels before line ≡ fault_in (add_line labels here line old)
+  fault_same : fault_of labels before line ≡ met (add_line here line old)
   unfolding add_line
   fault_same = head_fault (head_of line) refl
 
-  next_stands : (new : Drafts) → IsAdded labels here line old new → Stands (more before line) new
+  next_stands : (new : Drafts) → IsAdded here line old new → Stands (more before line) new
   next_stands new added =
-      let clear = clear_parts labels added.label added.says old added.clear in
+      let clear = clear_parts added.label added.says old added.clear in
       let small = over_says added.label added.says here old stands.small ∙ clear.room in
       subst (Stands (more before line)) (sym added.is)
       (record {
         cuts = cuts_more before line old stands added.label added.words added.head added.says added.rest;
-        few = subst (λ (d : Drafts). length (all_drafts d) ≤ 64) added.is (few_added labels here line old new added stands.few);
+        few = subst (λ (d : Drafts). length (all_drafts d) ≤ 64) added.is (few_added here line old new added stands.few);
         small = small;
         labels = own_more before line old stands added.label added.words added.head added.says added.rest;
       })
@@ -362,16 +370,24 @@ module _ (labels : List Name) where
   Answers before lines drafts =
       finish (add_lines labels (length before + 1) lines drafts) ≡ unless_refused (first_fault labels before lines) (blocks_from (before ++ lines))
 
-  walk_by : (before : List (List ℕ)) (line : List ℕ) (lines : List (List ℕ)) (old : Drafts) → Stands before old
+  -- by whether the line branches to no label, and what it adds
+  walk_by : (before : List (List ℕ)) (line : List ℕ) (lines : List (List ℕ)) (old : Drafts) (stands : Stands before old)
       → ((new : Drafts) → Stands (more before line) new → Answers (more before line) lines new)
-      → (added : Result Drafts Cause) → add_line labels (length before + 1) line old ≡ added
-      → finish (and_then (at_line (length before + 1) added) (λ drafts. add_lines labels ((length before + 1) + 1) lines drafts))
+      → (unknown : Bool) → is_unknown labels (add_line (length before + 1) line old).says ≡ unknown
+      → (added : Result Drafts Cause) → (add_line (length before + 1) line old).drafts ≡ added
+      → finish (cond unknown (Err (length before + 1, UnknownTarget))
+      (and_then (at_line (length before + 1) added) (λ drafts. add_lines labels ((length before + 1) + 1) lines drafts)))
       ≡ unless_refused (first_of (option_map (λ cause. (length before + 1, cause)) (fault_of labels before line) ∷ first_fault labels
       (more before line) lines ∷ [])) (blocks_from (before ++ line ∷ lines))
-  walk_by before line lines old stands later (Err cause) e =
-      let fault : fault_of labels before line ≡ Some cause = fault_same labels before line old stands ∙ ap fault_in e in rw fault refl
-  walk_by before line lines old stands later (Ok new) e =
-      let none : fault_of labels before line ≡ None = fault_same labels before line old stands ∙ ap fault_in e in
+  walk_by before line lines old stands later true u added e =
+      let fault : fault_of labels before line ≡ Some UnknownTarget =
+      fault_same labels before line old stands
+      ∙ ap (λ (b : Bool). first_of (fault_if b UnknownTarget ∷ fault_in (add_line (length before + 1) line old).drafts ∷ [])) u in
+      rw fault refl
+  walk_by before line lines old stands later false u (Err cause) e =
+      let fault : fault_of labels before line ≡ Some cause = fault_same labels before line old stands ∙ rw (u, e) refl in rw fault refl
+  walk_by before line lines old stands later false u (Ok new) e =
+      let none : fault_of labels before line ≡ None = fault_same labels before line old stands ∙ rw (u, e) refl in
       let count : (length before + 1) + 1 ≡ length (more before line) + 1 = omega (arith, length-append before (line ∷ [])) in
       let faults : Option Refusal = first_fault labels (more before line) lines in
       let whole : unless_refused faults (blocks_from (more before line ++ lines))
@@ -379,7 +395,7 @@ module _ (labels : List Name) where
       ap (λ (ls : List (List ℕ)). unless_refused faults (blocks_from ls)) (append_assoc before (line ∷ []) lines)
       ∙ ap (λ (f : Option Refusal). unless_refused f (blocks_from (before ++ line ∷ lines))) (sym (only_other faults)) in
       ap (λ (n : ℕ). finish (add_lines labels n lines new)) count
-      ∙ later new (next_stands labels before line old stands new (added_is labels (length before + 1) line old new e))
+      ∙ later new (next_stands labels before line old stands new (added_is (length before + 1) line old new e))
       ∙ rw none whole
 
   walk_is : (lines before : List (List ℕ)) (old : Drafts) → Stands before old → Answers before lines old
@@ -387,7 +403,7 @@ module _ (labels : List Name) where
   walk_is [] before old stands = ap (λ (ds : List Draft). Ok ds) (sym (ap blocks_from (append-nil before) ∙ blocks_are before old stands.cuts))
   walk_is (line ∷ lines) before old stands =
       walk_by before line lines old stands (λ new there. walk_is lines (more before line) new there)
-      (add_line labels (length before + 1) line old) refl
+      (is_unknown labels (add_line (length before + 1) line old).says) refl (add_line (length before + 1) line old).drafts refl
 
 -- the walk over all lines of a text
 pub walk_says : (lines : List (List ℕ))
@@ -400,14 +416,16 @@ module _ (labels : List Name) where
   last_by : (before : List (List ℕ)) (line : List ℕ) (lines : List (List ℕ)) (old new : Drafts) → Stands before old
       → ((next : Drafts) → Stands (more before line) next → add_lines labels (length (more before line) + 1) lines next ≡ Ok new
       → Stands (more before line ++ lines) new)
-      → (added : Result Drafts Cause) → add_line labels (length before + 1) line old ≡ added
-      → and_then (at_line (length before + 1) added) (λ drafts. add_lines labels ((length before + 1) + 1) lines drafts) ≡ Ok new
+      → (unknown : Bool) (added : Result Drafts Cause) → (add_line (length before + 1) line old).drafts ≡ added
+      → cond unknown (Err (length before + 1, UnknownTarget))
+      (and_then (at_line (length before + 1) added) (λ drafts. add_lines labels ((length before + 1) + 1) lines drafts)) ≡ Ok new
       → Stands (before ++ line ∷ lines) new
-  last_by before line lines old new stands later (Err cause) e is = absurd cc
-  last_by before line lines old new stands later (Ok next) e is =
+  last_by before line lines old new stands later true added e is = absurd cc
+  last_by before line lines old new stands later false (Err cause) e is = absurd cc
+  last_by before line lines old new stands later false (Ok next) e is =
       let count : (length before + 1) + 1 ≡ length (more before line) + 1 = omega (arith, length-append before (line ∷ [])) in
       subst (λ (ls : List (List ℕ)). Stands ls new) (append_assoc before (line ∷ []) lines)
-      (later next (next_stands labels before line old stands next (added_is labels (length before + 1) line old next e))
+      (later next (next_stands labels before line old stands next (added_is (length before + 1) line old next e))
       (ap (λ (n : ℕ). add_lines labels n lines next) (sym count) ∙ is))
 
   last_stands : (lines before : List (List ℕ)) (old new : Drafts) → Stands before old → add_lines labels (length before + 1) lines old ≡ Ok new
@@ -418,7 +436,7 @@ module _ (labels : List Name) where
       subst (λ (drafts : Drafts). Stands (before ++ []) drafts) same (subst (λ (ls : List (List ℕ)). Stands ls old) (sym (append-nil before)) stands)
   last_stands (line ∷ lines) before old new stands is =
       last_by before line lines old new stands (λ next there. last_stands lines (more before line) next new there)
-      (add_line labels (length before + 1) line old) refl is
+      (is_unknown labels (add_line (length before + 1) line old).says) (add_line (length before + 1) line old).drafts refl is
 
   pub at_end : (lines : List (List ℕ)) (drafts : Drafts) → add_lines labels 1 lines no_drafts ≡ Ok drafts → Stands lines drafts
   at_end lines drafts is = last_stands lines [] no_drafts drafts stands_first is
@@ -432,7 +450,7 @@ module _ (labels : List Name) where
 -- what the blocks of lines without a fault have
 pub record IsRead (lines : List (List ℕ)) : Type 0 where
   pub few : length (blocks_from lines) ≤ 64
-  pub labels : own (blocks_from lines) ≡ labels_of lines
+  pub labels : own_labels (blocks_from lines) ≡ labels_of lines
 
 pub is_read : (lines : List (List ℕ)) → first_fault (labels_of lines) [] lines ≡ None → IsRead lines
 is_read lines none = go (add_lines (labels_of lines) 1 lines no_drafts) refl
@@ -443,7 +461,7 @@ is_read lines none = go (add_lines (labels_of lines) 1 lines no_drafts) refl
     go (Ok drafts) e is =
         let stands = at_end (labels_of lines) lines drafts e in
         let same = blocks_are lines drafts stands.cuts in
-        record { few = subst (λ (ds : List Draft). length ds ≤ 64) (sym same) stands.few; labels = ap own same ∙ stands.labels }
+        record { few = subst (λ (ds : List Draft). length ds ≤ 64) (sym same) stands.few; labels = ap own_labels same ∙ stands.labels }
 
 refused_none : (fault : Option Refusal) (drafts others : List Draft) → unless_refused fault drafts ≡ Ok others → (fault ≡ None) × (drafts ≡ others)
 refused_none None drafts others e = let same : drafts ≡ others = cc in (refl, same)

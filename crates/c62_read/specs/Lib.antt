@@ -7,5 +7,6 @@ pub mod Unit
 pub mod Line
 pub mod Block
 pub mod Program
+pub mod Jump
 pub mod Walk
 pub mod Laws

@@ -1,12 +1,13 @@
 -- How the reader goes over the lines of a text, once and from the first: what it has of the lines so far, and what the next
 -- line does to that. What a text says is defined without it (Program), and the two are proved equal.
 use Rattle.std.specs.Prelude.{ℕ, ◌+◌, Bool, true, false, not, ◌&&◌, ◌||◌, nat_le, List, [], ◌∷◌, ◌++◌, length, map, Option, Some, None, is_some, is_none, option_map, position, unwrap_or, Result, Ok, Err, if◌then◌else◌}
-use Rattle.std.specs.Borrow.{Bor}
-use Rattle.std.specs.List.{list_any}
+use Rattle.std.specs.List.{filter, flat_map, list_any}
 use Rattle.std.specs.Option.{option_to_list}
 use Rattle.c62_insn.specs.declared.operands.Op.{Op}
 use Rattle.c62_read.specs.declared.fault.Cause.{Cause}
 use Rattle.c62_read.specs.declared.fault.Cause.TheVariants.{DuplicateLabel, UnknownTarget, TooManyInstructions, TooManyBlocks}
+use Rattle.c62_read.specs.declared.fault.ReadFault.{ReadFault}
+use Rattle.c62_read.specs.declared.jump.Jump.{Jump}
 use Rattle.c62_read.specs.declared.program.BlockReader.{BlockReader}
 use Rattle.c62_read.specs.declared.program.TextReader.{TextReader}
 use Rattle.c62_read.specs.Block.{branch_last}
@@ -30,6 +31,10 @@ new_draft label = record { label = label; insns = []; target = None }
 
 abbrev pub all_drafts : Drafts → List Draft
 all_drafts drafts = drafts.done ++ option_to_list drafts.current
+
+-- the labels of blocks
+abbrev pub own_labels : List Draft → List Name
+own_labels drafts = flat_map (λ draft. option_to_list draft.label) drafts
 
 -- a label begins a block
 abbrev pub with_label : Option Name → Drafts → Drafts
@@ -64,9 +69,6 @@ draft_of block = record { label = block.label; insns = map numbered_of block.ins
 abbrev pub drafts_of : TextReader → Drafts
 drafts_of text = record { done = map draft_of text.done.items; current = option_map draft_of text.current }
 
-abbrev pub names : List (Bor (List ℕ)) → List Name
-names labels = map (λ label. label.now) labels
-
 -- the number of the block with this label, by the labels of all blocks
 abbrev pub number_among : List (Option Name) → Option Name → ℕ
 number_among labels None = 0
@@ -96,43 +98,86 @@ is_full (Some draft) = nat_le 256 (length draft.insns)
 abbrev pub begins_block : Option Name → Says → Drafts → Bool
 begins_block label says drafts = is_some label || is_instruction says && is_none drafts.current
 
--- what stands against a line that says something by itself: a branch to no label, a 257th instruction of a block, a 65th block
-unfoldable pub hindrance : List Name → Option Name → Says → Drafts → Option Cause
-hindrance labels label says drafts =
-    if is_unknown labels says then Some UnknownTarget
-    else (if is_instruction says && is_none label && is_full drafts.current then Some TooManyInstructions
+-- what stands against a line that says something by itself: a 257th instruction of a block, a 65th block
+unfoldable pub hindrance : Option Name → Says → Drafts → Option Cause
+hindrance label says drafts =
+    if is_instruction says && is_none label && is_full drafts.current then Some TooManyInstructions
     else (if begins_block label says drafts && nat_le 64 (length (all_drafts drafts)) then Some TooManyBlocks
-    else None))
+    else None)
 
 -- ---- lines
+
+-- What a line says, and the blocks with it or what is wrong with the line but for a branch to no label. Such a branch comes
+-- before the counts, and behind the faults of lines that here say nothing.
+pub record Step : Type 0 where
+  pub says : Says
+  pub drafts : Result Drafts Cause
+
+abbrev pub refused : Cause → Step
+refused cause = record { says = Nothing; drafts = Err cause }
 
 abbrev pub unless_hindered : Option Cause → Drafts → Result Drafts Cause
 unless_hindered (Some cause) drafts = Err cause
 unless_hindered None drafts = Ok drafts
 
-abbrev pub add_says : List Name → ℕ → Option Name → Drafts → Result Says Cause → Result Drafts Cause
-add_says labels number label drafts (Err cause) = Err cause
-add_says labels number label drafts (Ok says) =
-    unless_hindered (hindrance labels label says drafts) (with_says number says (with_label label drafts))
+abbrev pub add_says : ℕ → Option Name → Drafts → Result Says Cause → Step
+add_says number label drafts (Err cause) = refused cause
+add_says number label drafts (Ok says) =
+    record { says = says; drafts = unless_hindered (hindrance label says drafts) (with_says number says (with_label label drafts)) }
 
-abbrev pub add_head : List Name → ℕ → Drafts → Result (Option Name × List (List ℕ)) Cause → Result Drafts Cause
-add_head labels number drafts (Err cause) = Err cause
-add_head labels number drafts (Ok (label, words)) =
-    if is_taken label drafts then Err DuplicateLabel else add_says labels number label drafts (rest_says words)
+abbrev pub add_head : ℕ → Drafts → Result (Option Name × List (List ℕ)) Cause → Step
+add_head number drafts (Err cause) = refused cause
+add_head number drafts (Ok (label, words)) =
+    if is_taken label drafts then refused DuplicateLabel else add_says number label drafts (rest_says words)
 
--- the blocks with what the line of this number says, or the line's first fault; the labels are those of the text
-unfoldable pub add_line : List Name → ℕ → List ℕ → Drafts → Result Drafts Cause
-add_line labels number line drafts = add_head labels number drafts (head_of line)
+unfoldable pub add_line : ℕ → List ℕ → Drafts → Step
+add_line number line drafts = add_head number drafts (head_of line)
 
 abbrev pub at_line : {T : Type 0} → ℕ → Result T Cause → Result T Refusal
 at_line number (Ok value) = Ok value
 at_line number (Err cause) = Err (number, cause)
 
--- the blocks with what these lines say, of which the first has this number, or the first faulty line with its fault
+-- the fault of a line, which may be a branch to none of these labels, or what comes behind it
+abbrev pub after_step : List Name → ℕ → Step → (Drafts → Result Drafts Refusal) → Result Drafts Refusal
+after_step labels number step next =
+    if is_unknown labels step.says then Err (number, UnknownTarget) else and_then (at_line number step.drafts) next
+
+-- The blocks with what these lines say, of which the first has this number, or the first faulty line with its fault. The labels
+-- are those of the text.
 unfoldable pub add_lines : List Name → ℕ → List (List ℕ) → Drafts → Result Drafts Refusal
 add_lines labels number [] drafts = Ok drafts
 add_lines labels number (line ∷ lines) drafts =
-    and_then (at_line number (add_line labels number line drafts)) (λ more. add_lines labels (number + 1) lines more)
+    after_step labels number (add_line number line drafts) (λ more. add_lines labels (number + 1) lines more)
 
 abbrev pub no_drafts : Drafts
 no_drafts = record { done = []; current = None }
+
+-- ---- branches that wait until the labels are known
+
+-- a line, and the label that it branches to
+pub record Asked : Type 0 where
+  pub line : ℕ
+  pub target : Name
+
+abbrev pub asked_in : ℕ → Says → List Asked
+asked_in number (Jumps parts target) = record { line = number; target = target } ∷ []
+asked_in number says = []
+
+abbrev pub asked_of : Jump → Asked
+asked_of jump = record { line = jump.line; target = jump.target }
+
+-- the branches to none of these labels
+abbrev pub missed : List Name → List Asked → List Asked
+missed labels asked = filter (λ branch. not (is_among branch.target labels)) asked
+
+abbrev pub first_line : List Asked → Option ℕ
+first_line [] = None
+first_line (branch ∷ others) = Some branch.line
+
+-- a branch to no label, in this line, comes before another answer
+abbrev pub unless_missed : {T : Type 0} → Option ℕ → Result T Refusal → Result T Refusal
+unless_missed None answer = answer
+unless_missed (Some line) answer = Err (line, UnknownTarget)
+
+abbrev pub failed : ReadFault → Result Drafts Refusal
+failed fault = Err (fault.line, fault.cause)

@@ -4,10 +4,12 @@
 mod block;
 mod fault;
 mod form;
+mod jump;
 mod kind;
 mod label;
 mod laws;
 mod line;
+mod missed;
 mod mnemonic;
 pub mod number;
 mod operand;

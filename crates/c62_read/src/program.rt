@@ -3,15 +3,16 @@
 ghost use Rattle.std.specs.Prelude.{◌≡◌, ◌==◌, ℕ, Ok, Err, ◌≤◌, ◌<◌, ◌+◌, ◌-◌, ◌^◌, ◌∷◌, ◌++◌, [], length, take, map, false, position, Some, None, MatchOption, MatchResult, IfSome, IfOk, IfErr, OnOk, IsTrue, slice_index};
 ghost use Rattle.std.specs.List.{list_any, list_all, position_or_len};
 ghost use Rattle.std.specs.Option.{option_copied, option_to_list};
-ghost use Rattle.std.specs.Str.{bytes_eq};
 ghost use Rattle.c62_insn.specs.Insn.{op_of};
 ghost use Rattle.c62_read.specs.Number.{is_label};
 ghost use Rattle.c62_read.specs.Text.{is_line_feed, lines_of, without_return};
 
 use crate::block::{Block, Program, SerialInsn};
 use crate::fault::{Cause, ReadFault};
+use crate::jump::Jump;
 use crate::label::Label;
 use crate::line::{begins_with, first_label, owned, read_head, read_rest};
+use crate::missed::{first_branch, leave_out_label};
 use crate::reading::Statement;
 use crate::token::{has_byte, steps_before};
 use c62_insn::{Insn, Op};
@@ -37,7 +38,7 @@ pub(crate) struct TextReader {
 
 ghost use Rattle.c62_read.specs.Line.{statement_of, names_label, parts_of, is_branch};
 ghost use Rattle.c62_read.specs.Program.{label_is, is_among, place_of, labels_of, Fails, target_number, aimed, numbered_of, block_parts, block_in, program_in};
-ghost use Rattle.c62_read.specs.Walk.{draft_of, drafts_of, new_draft, all_drafts, with_label, opened, with_insn, closed, with_says, is_taken, is_full, is_unknown, is_instruction, begins_block, hindrance, names, add_line, at_line, add_lines, no_drafts, is_whole, number_among};
+ghost use Rattle.c62_read.specs.Walk.{draft_of, drafts_of, new_draft, all_drafts, own_labels, with_label, opened, with_insn, closed, with_says, is_taken, is_full, is_instruction, begins_block, hindrance, refused, unless_hindered, add_says, add_line, add_lines, no_drafts, is_whole, number_among, asked_in, asked_of, missed, first_line, unless_missed, failed};
 
 impl BlockReader {
     fn new(alloc: Global, label: Option<Label>) -> BlockReader
@@ -208,18 +209,11 @@ impl TextReader {
 
     /// What stands against a line that says something by itself.
     #[tactic(auto, unfolding(crate::specs::Walk::hindrance))]
-    fn hindrance(
-        &self,
-        labels: &[&[u8]],
-        label: Option<&[u8]>,
-        what: &Statement<'_>,
-    ) -> Option<Cause>
-        ensures { result ≡ hindrance (names labels.now) (option_copied label.entry) (statement_of what.now) (drafts_of self.now) }
+    fn hindrance(&self, label: Option<&[u8]>, what: &Statement<'_>) -> Option<Cause>
+        ensures { result ≡ hindrance (option_copied label.entry) (statement_of what.now) (drafts_of self.now) }
     {
         let is_instruction = is_instruction(what);
-        if is_unknown(labels, what) {
-            Some(Cause::UnknownTarget)
-        } else if is_instruction && label.is_none() && self.is_full() {
+        if is_instruction && label.is_none() && self.is_full() {
             Some(Cause::TooManyInstructions)
         } else if (label.is_some() || is_instruction && self.current.is_none())
             && self.blocks() >= 64
@@ -237,27 +231,15 @@ fn is_instruction(what: &Statement<'_>) -> bool
     matches!(what, Statement::Insn(_) | Statement::Jump(_, _))
 }
 
-/// Whether the line branches to a label that is not among these.
-fn is_unknown(labels: &[&[u8]], what: &Statement<'_>) -> bool
-    ensures { result ≡ is_unknown (names labels.now) (statement_of what.now) }
+/// Keeps the branch of a line, where it is one to a label.
+fn keep_jump(jumps: &mut Vec<Jump>, line: u32, what: &Statement<'_>) -> Result<(), AllocError>
+    requires { IsTrue (names_label what.now) }
+    ensures { OnOk result (map asked_of jumps.new.items ≡ map asked_of jumps.old.items ++ asked_in line (statement_of what.now)) }
 {
-    match what {
-        Statement::Jump(_, label) => !is_among(label, labels),
-        _ => false,
+    if let Statement::Jump(_, label) = what {
+        jumps.push(Jump::new(line, label))?;
     }
-}
-
-fn any_is(label: &[u8], labels: &[&[u8]]) -> bool
-    ensures { result ≡ list_any (λ other. bytes_eq other.now label.now) labels.now }
-{
-    labels.iter().any(|other| *other == label)
-}
-
-#[tactic(auto, using(crate::proofs::BlockLemmas::any_name))]
-fn is_among(label: &[u8], labels: &[&[u8]]) -> bool
-    ensures { result ≡ is_among label.now (names labels.now) }
-{
-    any_is(label, labels)
+    Ok(())
 }
 
 /// The label in a line's label place, decided for the line alone: the part left of its first colon, without the blanks
@@ -276,17 +258,13 @@ pub fn label_place(line: &[u8]) -> Option<&[u8]>
 }
 
 impl TextReader {
-    /// What a line of the text says, where nothing stands against it.
+    /// What a line of the text says by itself, where no earlier line has its label.
     #[inline(always)]
     #[tactic(auto, unfolding(crate::specs::Walk::add_line))]
-    fn judge<'a>(
-        &self,
-        labels: &[&[u8]],
-        line: &'a [u8],
-    ) -> Result<(Option<&'a [u8]>, Statement<'a>), Cause>
+    fn judge<'a>(&self, line: &'a [u8]) -> Result<(Option<&'a [u8]>, Statement<'a>), Cause>
         ensures said { (number : ℕ) → MatchResult result
-            (λ found. add_line (names labels.now) number line.now (drafts_of self.now) ≡ Ok (with_says number (statement_of found.1) (with_label (option_copied found.0) (drafts_of self.now))))
-            (λ cause. add_line (names labels.now) number line.now (drafts_of self.now) ≡ Err cause) }
+            (λ found. add_line number line.now (drafts_of self.now) ≡ add_says number (option_copied found.0) (drafts_of self.now) (Ok (statement_of found.1)))
+            (λ cause. add_line number line.now (drafts_of self.now) ≡ refused cause) }
         ensures label { IfOk result (λ found. IfSome found.0 (λ word. IsTrue (is_label word.now))) }
         ensures target { IfOk result (λ found. IsTrue (names_label found.1)) }
     {
@@ -294,51 +272,85 @@ impl TextReader {
         if self.is_taken(label) {
             return Err(Cause::DuplicateLabel);
         }
-        let what = read_rest(rest)?;
-        match self.hindrance(labels, label, &what) {
-            Some(cause) => Err(cause),
-            None => Ok((label, what)),
+        Ok((label, read_rest(rest)?))
+    }
+
+    /// Adds what a line says, or answers what stands against it.
+    fn add_said(
+        &mut self,
+        alloc: Global,
+        number: u32,
+        label: Option<&[u8]>,
+        what: Statement<'_>,
+    ) -> Result<Option<Cause>, AllocError>
+        requires label { IfSome label (λ word. IsTrue (is_label word.now)) }
+        requires target { IsTrue (names_label what) }
+        ensures said { IfOk result (λ fault. (add_says number (option_copied label.entry) (drafts_of self.old) (Ok (statement_of what.entry))).drafts ≡ unless_hindered fault (drafts_of self.new)) }
+        ensures kept { IfOk result (λ fault. IfSome fault (λ _. drafts_of self.new ≡ drafts_of self.old)) }
+    {
+        match self.hindrance(label, &what) {
+            Some(cause) => Ok(Some(cause)),
+            None => {
+                self.add_label(alloc, owned(label))?;
+                self.add_what(alloc, number, what)?;
+                Ok(None)
+            }
         }
     }
 
     fn add_text(
         &mut self,
         alloc: Global,
-        labels: &[&[u8]],
+        jumps: &mut Vec<Jump>,
         number: u32,
         line: &[u8],
-    ) -> Result<(), ReadFault>
-        ensures ok { OnOk result (add_line (names labels.now) number line.now (drafts_of self.old) ≡ Ok (drafts_of self.new)) }
-        ensures err { IfErr result (λ fault. Fails fault (at_line number (add_line (names labels.now) number line.now (drafts_of self.old)))) }
+    ) -> Result<Option<Cause>, AllocError>
+        ensures said { IfOk result (λ fault. (add_line number line.now (drafts_of self.old)).drafts ≡ unless_hindered fault (drafts_of self.new)) }
+        ensures asked { OnOk result (map asked_of jumps.new.items ≡ map asked_of jumps.old.items ++ asked_in number (add_line number line.now (drafts_of self.old)).says) }
+        ensures kept { IfOk result (λ fault. IfSome fault (λ _. drafts_of self.new ≡ drafts_of self.old)) }
     {
-        match self.judge(labels, line) {
+        match self.judge(line) {
             Ok((label, what)) => {
-                self.add_label(alloc, owned(label))?;
-                self.add_what(alloc, number, what)?;
-                Ok(())
+                keep_jump(jumps, number, &what)?;
+                self.add_said(alloc, number, label, what)
             }
-            Err(cause) => Err(ReadFault {
-                line: number,
-                cause,
-            }),
+            Err(cause) => Ok(Some(cause)),
         }
     }
 
-    /// An empty line says nothing.
+    /// Adds what a line says, and keeps its branch to a label, which may stand further down. Answers what is wrong with the
+    /// line but for that label.
     fn add_line(
         &mut self,
         alloc: Global,
-        labels: &[&[u8]],
+        jumps: &mut Vec<Jump>,
         number: u32,
         line: &[u8],
-    ) -> Result<(), ReadFault>
-        ensures ok { OnOk result (add_line (names labels.now) number line.now (drafts_of self.old) ≡ Ok (drafts_of self.new)) }
-        ensures err { IfErr result (λ fault. Fails fault (at_line number (add_line (names labels.now) number line.now (drafts_of self.old)))) }
+    ) -> Result<Option<Cause>, AllocError>
+        ensures said { IfOk result (λ fault. (add_line number line.now (drafts_of self.old)).drafts ≡ unless_hindered fault (drafts_of self.new)) }
+        ensures asked { OnOk result (map asked_of jumps.new.items ≡ map asked_of jumps.old.items ++ asked_in number (add_line number line.now (drafts_of self.old)).says) }
+        ensures kept { IfOk result (λ fault. IfSome fault (λ _. drafts_of self.new ≡ drafts_of self.old)) }
     {
         match line {
-            [] => Ok(()),
-            [_, ..] => self.add_text(alloc, labels, number, line),
+            // An empty line says nothing.
+            [] => Ok(None),
+            [_, ..] => self.add_text(alloc, jumps, number, line),
         }
+    }
+
+    fn has_label(&self, label: &[u8]) -> bool
+        ensures { result ≡ is_among label.now (own_labels (all_drafts (drafts_of self.now))) }
+    {
+        self.is_taken(Some(label))
+    }
+
+    /// The line of the first branch to a label that neither a block nor a line of this rest of the text has.
+    fn first_missed(&self, mut jumps: Vec<Jump>, rest: &[u8]) -> Option<u32>
+        ensures { result ≡ first_line (missed (own_labels (all_drafts (drafts_of self.now)) ++ labels_of (lines_of rest.now)) (map asked_of jumps.items)) }
+    {
+        jumps.retain(|jump| !self.has_label(jump.target.as_bytes()));
+        leave_out_labels(&mut jumps, rest);
+        first_branch(&jumps)
     }
 }
 
@@ -363,19 +375,18 @@ fn from_colon(text: &[u8]) -> &[u8]
     &text[line_start(text, steps_before(b':', text))..]
 }
 
-/// The labels of all lines of a text.
-fn all_labels<'a>(alloc: Global, text: &'a [u8]) -> Result<Vec<&'a [u8]>, AllocError>
-    ensures { IfOk result (λ labels. names labels.items ≡ labels_of (lines_of text.now)) }
+/// Leaves out the branches to labels that the lines of a text have.
+fn leave_out_labels(jumps: &mut Vec<Jump>, text: &[u8])
+    ensures { map asked_of jumps.new.items ≡ missed (labels_of (lines_of text.now)) (map asked_of jumps.old.items) }
 {
-    let mut labels = Vec::new(alloc);
     let mut rest = from_colon(text);
     while let Some((line, after)) = first_line(rest) {
-        if let Some(label) = label_place(line) {
-            labels.push(label)?;
+        if jumps.is_empty() {
+            return;
         }
+        leave_out_label(jumps, label_place(line));
         rest = from_colon(after);
     }
-    Ok(labels)
 }
 
 fn any_labelled(blocks: &[BlockReader], label: &[u8]) -> bool
@@ -440,6 +451,19 @@ fn first_line(text: &[u8]) -> Option<(&[u8], &[u8])>
     }
 }
 
+/// A fault, or that of a branch to no label, which stands in no later line and comes before the counts in its own.
+fn earlier(missed: Option<u32>, fault: ReadFault) -> ReadFault
+    ensures { failed result ≡ unless_missed missed (failed fault) }
+{
+    match missed {
+        Some(line) => ReadFault {
+            line,
+            cause: Cause::UnknownTarget,
+        },
+        None => fault,
+    }
+}
+
 /// The blocks of a text as they are read.
 fn read_drafts(alloc: Global, text: &[u8]) -> Result<TextReader, ReadFault>
     requires { length text.now ≤ 1048576 }
@@ -448,16 +472,35 @@ fn read_drafts(alloc: Global, text: &[u8]) -> Result<TextReader, ReadFault>
     ensures ok { IfOk result (λ reader. add_lines (labels_of (lines_of text.now)) 1 (lines_of text.now) no_drafts ≡ Ok (drafts_of reader)) }
     ensures err { IfErr result (λ fault. Fails fault (add_lines (labels_of (lines_of text.now)) 1 (lines_of text.now) no_drafts)) }
 {
-    let labels = all_labels(alloc, text)?;
     let mut reader = TextReader::new(alloc);
+    let mut jumps = Vec::new(alloc);
     let mut rest = text;
     let mut number = 1;
     while let Some((line, after)) = first_line(rest) {
-        reader.add_line(alloc, &labels, number, line)?;
-        number += 1;
-        rest = after;
+        match reader.add_line(alloc, &mut jumps, number, line)? {
+            None => {
+                number += 1;
+                rest = after;
+            }
+            Some(cause) => {
+                let missed = reader.first_missed(jumps, rest);
+                return Err(earlier(
+                    missed,
+                    ReadFault {
+                        line: number,
+                        cause,
+                    },
+                ));
+            }
+        }
     }
-    Ok(reader)
+    match reader.first_missed(jumps, &[]) {
+        Some(line) => Err(ReadFault {
+            line,
+            cause: Cause::UnknownTarget,
+        }),
+        None => Ok(reader),
+    }
 }
 
 /// The place of this label among those of the blocks.

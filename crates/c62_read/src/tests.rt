@@ -2,6 +2,7 @@
 
 mod limits;
 mod order;
+mod targets;
 
 use crate::block::Block;
 use crate::line::read_insn;

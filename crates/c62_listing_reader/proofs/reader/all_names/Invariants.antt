@@ -1,12 +1,12 @@
-use Rattle.std.proofs.Common.{◌≡◌, ◌+◌, ◌++◌, ◌≤◌, length}
+use Rattle.std.proofs.Common.{◌≡◌, ◌+◌, ◌++◌, ◌≤◌, length, map}
 use Rattle.c62_listing_reader.specs.Said.{names_in}
 use Rattle.c62_listing_reader.specs.Faults.{contents}
-use Rattle.c62_listing_reader.specs.Reading.{entries_of}
+use Rattle.c62_listing_reader.specs.Named.{entry_of}
 use Rattle.c62_listing_reader.proofs.reader.all_names.Given as goal
 
 abbrev pub invariant-loop-cut : goal.invariant-loop-cut
 invariant-loop-cut l = record {
-  named : entries_of l.names.items ++ names_in l.number (contents l.rest) ≡ names_in 0 (contents l.text);
+  named : map entry_of l.names.items ++ names_in l.number (contents l.rest) ≡ names_in 0 (contents l.text);
   bound : l.number + length l.rest ≤ length l.text;
 }
 

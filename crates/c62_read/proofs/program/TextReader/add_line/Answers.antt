@@ -1,10 +1,10 @@
-use Rattle.std.proofs.Common.{◌≡◌, [], arith}
+use Rattle.std.proofs.Common.{◌≡◌, [], arith, rules}
 use Rattle.std.proofs.lemmas.List.{nil_from_length}
-use Rattle.c62_read.specs.Walk.{drafts_of, names}
+use Rattle.c62_read.specs.Walk.{drafts_of}
 use Rattle.c62_read.proofs.HeadLemmas.{empty_line}
 use Rattle.c62_read.proofs.program.TextReader.add_line.Goals as goal
 
-pub returns-in-empty-clause-ok : goal.returns-in-empty-clause-ok
-returns-in-empty-clause-ok c =
+pub returns-in-empty : goal.returns-in-empty
+returns-in-empty c =
     let none : c.args.line.now ≡ [] = nil_from_length c.args.line.now (omega (arith, c.in-empty.len_below)) in
-    empty_line (names c.args.labels.now) c.args.number c.args.line.now (drafts_of c.args.self.now) none
+    search (empty_line c.args.number c.args.line.now (drafts_of c.args.self.now) none, rules)

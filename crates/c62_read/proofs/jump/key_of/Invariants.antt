@@ -1,0 +1,6 @@
+use Rattle.std.proofs.Common.{◌≡◌, drop}
+use Rattle.c62_read.specs.Jump.{key_from}
+use Rattle.c62_read.proofs.jump.key_of.Given as goal
+
+abbrev pub invariant-loop-byte : goal.invariant-loop-byte
+invariant-loop-byte l = key_from l.key (drop l.byte-index l.label) ≡ key_from 0 l.label

@@ -1,0 +1,8 @@
+use Rattle.std.proofs.Common.{◌∙◌}
+use Rattle.c62_read.specs.Walk.{all_drafts, drafts_of, is_taken}
+use Rattle.c62_read.proofs.WalkLemmas.{has_own}
+use Rattle.c62_read.proofs.program.TextReader.has_label.Goals as goal
+
+pub returns : goal.returns
+unfolding is_taken
+returns c = c.is_taken.ensures ∙ has_own c.args.label.now (all_drafts (drafts_of c.args.self.now))
