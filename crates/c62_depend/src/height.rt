@@ -3,7 +3,7 @@
 ghost use Rattle.std.specs.Prelude.{◌≡◌, ◌<◌, ◌≤◌, ◌+◌, length, IfOk};
 ghost use Rattle.c62_depend.specs.Uses.{insns_in};
 ghost use Rattle.c62_depend.specs.Numbers.{as_bound};
-ghost use Rattle.c62_depend.specs.declared.limits.TheConstants.{MOST_CYCLES};
+ghost use Rattle.c62_depend.specs.declared.limits.TheConstants.{ISSUE_CYCLES};
 ghost use Rattle.c62_depend.specs.Lists.{IsRow, ArePairs};
 ghost use Rattle.c62_depend.specs.Height.{raised_by, height, first_heights, AreHeightsFrom};
 
@@ -13,7 +13,7 @@ use std::alloc::{AllocError, Global};
 
 /// A height with a latency before it, which is given as a number: 0 where that is below 0, or there is no latency.
 fn raised(number: u8, height: u16) -> u16
-    requires { height ≤ MOST_CYCLES }
+    requires { height ≤ ISSUE_CYCLES }
     ensures { result ≡ raised_by (as_bound number) height }
 {
     let sum = (height + u16::from(number)).saturating_sub(6);

@@ -8,7 +8,7 @@ use Rattle.c62_serial.specs.State.{Machine, index_of, word_in, byte_in}
 use Rattle.c62_serial.specs.Memory.{is_good, bytes_of}
 use Rattle.c62_serial.specs.Effect.{Act, act_of}
 use Rattle.c62_packet.specs.declared.placed.Placed.{Placed}
-use Rattle.c62_packet.specs.Packed.{listing_place}
+use Rattle.c62_packet.specs.Packed.{listing_position}
 use Rattle.c62_meaning.specs.Landing.{Landing, value_before}
 
 -- what each instruction of a block did
@@ -37,7 +37,7 @@ access_landings time (Some access) = stored_landings time access.address access.
 
 -- when an access is made: in the order of the cycles of issue, and in a cycle in that of the eight units, .D1 before .D2
 abbrev pub access_time : Placed → ℕ
-access_time p = listing_place p
+access_time p = listing_position p
 
 abbrev pub register_landings : Did → Placed → List Landing
 register_landings did p = map (write_landing p.cycle) (did p).writes

@@ -10,7 +10,7 @@ use Rattle.c62_insn.specs.Units.{index_of as unit_index}
 use Rattle.c62_insn.proofs.UnitOrder.{index_of-below}
 use Rattle.c62_serial.specs.State.{Machine, index_of, word_in, byte_in}
 use Rattle.c62_packet.specs.declared.placed.Placed.{Placed}
-use Rattle.c62_packet.specs.Packed.{listing_place}
+use Rattle.c62_packet.specs.Packed.{listing_position}
 use Rattle.c62_meaning.specs.Landing.{Landing, later, latest, value_or}
 use Rattle.c62_meaning.specs.Packet.{Did, write_landing, access_time, register_landings, memory_landings, word_before, byte_before}
 use Rattle.c62_meaning.proofs.Lookup.{In, In-flat_map, from_In-flat_map, latest_cases, LatestCases, last_value, InOrder, InOrder-append, latest_is_last}
@@ -208,9 +208,9 @@ in_order did a (p ∷ ps) h =
     (in_order did a ps h.1)
     (λ v w k l e f.
     let r = from_In-flat_map (memory_landings did) w ps l in
-    let tv : v.time ≡ listing_place p = (from_In-access (access_time p) (did p).access v k).at in
-    let tw : w.time ≡ listing_place r.0 = (from_In-access (access_time r.0) (did r.0).access w r.2).at in
-    let less : listing_place p < listing_place r.0 = h.0 r.0 r.1 in omega arith)
+    let tv : v.time ≡ listing_position p = (from_In-access (access_time p) (did p).access v k).at in
+    let tw : w.time ≡ listing_position r.0 = (from_In-access (access_time r.0) (did r.0).access w r.2).at in
+    let less : listing_position p < listing_position r.0 = h.0 r.0 r.1 in omega arith)
 
 -- memory before the next cycle: the stores of all that was issued, one after the other
 pub byte-next : (block : List Placed) (opening : Machine) (did : Did) (c n a : ℕ) → Ascends block → ((p : Placed) → In p (take n block) → p.cycle ≤ c)

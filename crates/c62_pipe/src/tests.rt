@@ -2,7 +2,7 @@
 
 ghost use Rattle.std.specs.Prelude.{◌≡◌, ◌+◌, ◌≤◌, length, All, Some, IfOk, IfSome, OnSome};
 ghost use Rattle.c62_insn.specs.Insn.{unit_of};
-ghost use Rattle.c62_packet.specs.Packed.{listing_place, IsInListingOrder, StandAsWritten};
+ghost use Rattle.c62_packet.specs.Packed.{listing_position, IsInListingOrder, StandAsWritten};
 
 use crate::chain::run_chain;
 use crate::pipe::Pipe;
@@ -75,11 +75,11 @@ fn add(placed: &mut Vec<Placed>, last: u32, new: Placed) -> Option<u32>
     requires written { unit_of new.insn ≡ Some new.unit }
     requires as_written { StandAsWritten placed.old.items }
     requires in_order { IsInListingOrder placed.old.items }
-    requires below { All (λ p. listing_place p ≤ last) placed.old.items }
+    requires below { All (λ p. listing_position p ≤ last) placed.old.items }
     requires few { length placed.old.items ≤ 256 }
     ensures as_written { OnSome result (StandAsWritten placed.new.items) }
     ensures in_order { OnSome result (IsInListingOrder placed.new.items) }
-    ensures below { IfSome result (λ place. All (λ p. listing_place p ≤ place) placed.new.items) }
+    ensures below { IfSome result (λ place. All (λ p. listing_position p ≤ place) placed.new.items) }
     ensures few { OnSome result (length placed.new.items ≤ 256) }
 {
     let place = 8 * u32::from(new.cycle) + u32::from(new.unit.index());

@@ -1,7 +1,7 @@
 //! The first cycle that the dependences of an instruction allow.
 
 ghost use Rattle.std.specs.Prelude.{◌≡◌, ℕ, ◌<◌, ◌≤◌, ℤ, pos, negsuc, ◌≤ℤ◌, ◌+ℤ◌, length};
-ghost use Rattle.c62_depend.specs.declared.limits.TheConstants.{MOST_CYCLES};
+ghost use Rattle.c62_depend.specs.declared.limits.TheConstants.{ISSUE_CYCLES};
 ghost use Rattle.c62_depend.specs.Plan.{insns_of};
 ghost use Rattle.c62_sheet.specs.Lawful.{IsLawful};
 ghost use Rattle.c62_sheet.specs.Least.{IsEarly};
@@ -12,7 +12,7 @@ use c62_depend::{Link, Plan};
 
 /// The first cycle that exceeds another by a latency.
 fn first_after(cycle: u16, latency: i32) -> u16
-    requires early { cycle < MOST_CYCLES }
+    requires early { cycle < ISSUE_CYCLES }
     requires above { negsuc 4 ≤ℤ latency }
     requires below { latency ≤ℤ pos 5 }
     ensures after { (pos cycle +ℤ latency) ≤ℤ pos result }
