@@ -19,12 +19,12 @@ Did = Placed → Act
 
 -- a write of an instruction issued in this cycle lands after its delay
 abbrev pub write_landing : ℕ → (Reg × ℕ) × ℕ → Landing
-write_landing cycle write = record { place = index_of write.0.0; time = cycle + write.0.1; value = write.1 }
+write_landing cycle write = record { cell = index_of write.0.0; time = cycle + write.0.1; value = write.1 }
 
 -- bytes from an address on, all stored at one time
 abbrev pub byte_landings : ℕ → ℕ → List ℕ → List Landing
 byte_landings time address [] = []
-byte_landings time address (byte ∷ bytes) = record { place = address; time = time; value = byte } ∷ byte_landings time (address + 1) bytes
+byte_landings time address (byte ∷ bytes) = record { cell = address; time = time; value = byte } ∷ byte_landings time (address + 1) bytes
 
 abbrev pub stored_landings : ℕ → ℕ → ℕ → Option ℕ → List Landing
 stored_landings time address size None = []

@@ -1,4 +1,4 @@
--- The instructions of a packet block stand in rising places, of which each is one cycle and unit.
+-- The instructions of a packet block stand in rising positions, of which each is one cycle and unit.
 use Rattle.std.proofs.Common.{◌≡◌, ℕ, suc, ◌+◌, ◌*◌, ◌<◌, ◌≤◌, List, [], ◌∷◌, ◌++◌, length, take, drop, get_or, Some, None, refl, sym, subst, ◌⊎◌, ⊎_elim, arith}
 use Rattle.std.specs.List.{AllPairs}
 use Rattle.std.proofs.lemmas.Bool.{cases_lt}
@@ -10,7 +10,7 @@ use Rattle.c62_packet.specs.declared.placed.Placed.{Placed}
 use Rattle.c62_packet.specs.Packed.{Packed, IsPacketBlock, issue_of, issued, listing_position}
 use Rattle.c62_meaning.proofs.Lookup.{In, Contains_from_In, In-append_left, In-append_right, In-append_cases}
 
--- each later one has a greater place
+-- each later one has a greater position
 abbrev pub Ascends : List Placed → Type 0
 Ascends [] = Unit {0}
 Ascends (p ∷ ps) = ((q : Placed) → In q ps → listing_position p < listing_position q) × Ascends ps
@@ -22,10 +22,10 @@ ascends_from (p ∷ ps) h = (
   ascends_from ps (λ i j d l u. h (suc i) (suc j) d (omega arith) (omega arith)),
 )
 
--- two instructions of a packet block do not stand in one place
-places_differ : (block : Packed) → IsPacketBlock block → (i j : ℕ) (d : Placed) → i < j → j < length block.placed
+-- two instructions of a packet block do not stand in one position
+positions_differ : (block : Packed) → IsPacketBlock block → (i j : ℕ) (d : Placed) → i < j → j < length block.placed
     → listing_position (get_or block.placed i d) ≡ listing_position (get_or block.placed j d) → ⊥
-places_differ block h i j d l u e =
+positions_differ block h i j d l u e =
     let p = get_or block.placed i d in
     let q = get_or block.placed j d in
     let pu : unit_index p.unit < 8 = index_of-below p.unit in
@@ -43,7 +43,7 @@ ascends block h = ascends_from block.placed (λ i j d l u.
     ⊎_elim {C = listing_position (get_or block.placed i d) < listing_position (get_or block.placed j d)}
     (λ lt. lt)
     (λ ge. let le : listing_position (get_or block.placed i d) ≤ listing_position (get_or block.placed j d) = h.in_order i j d (omega arith) u in
-    absurd (places_differ block h i j d l u (omega arith)))
+    absurd (positions_differ block h i j d l u (omega arith)))
     (cases_lt (listing_position (get_or block.placed i d)) (listing_position (get_or block.placed j d))))
 
 pub record AreParts (xs ys : List Placed) : Type 0 where

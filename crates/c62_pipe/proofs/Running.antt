@@ -57,14 +57,14 @@ pub record Running (block : List Placed) (opening : Machine) (cycle next : ℕ) 
   pub leads : exit ≡ exit_by (the_run block opening) (take next block)
   pub enough : length block ≤ next + room
 
-place_of : (p : Placed) → (8 * p.cycle ≤ listing_position p) × (listing_position p < 8 * p.cycle + 8)
-place_of p = let b : unit_index p.unit < 8 = index_of-below p.unit in (omega arith, omega arith)
+position_of : (p : Placed) → (8 * p.cycle ≤ listing_position p) × (listing_position p < 8 * p.cycle + 8)
+position_of p = let b : unit_index p.unit < 8 = index_of-below p.unit in (omega arith, omega arith)
 
 -- ---- the start
 
-nothing_before : (place : ℕ) (ls : List Landing) → latest place 0 ls ≡ None
-nothing_before place [] = refl
-nothing_before place (x ∷ xs) = cond-false _ _ _ (and_right _ _ (le-ltb x.time 0 (omega arith))) ∙ nothing_before place xs
+nothing_before : (cell : ℕ) (ls : List Landing) → latest cell 0 ls ≡ None
+nothing_before cell [] = refl
+nothing_before cell (x ∷ xs) = cond-false _ _ _ (and_right _ _ (le-ltb x.time 0 (omega arith))) ∙ nothing_before cell xs
 
 pub start : (block : List Placed) (opening : Machine) (flight : Flight) (room : ℕ) → IsSound opening → length flight.slots ≡ 5 → ((t : ℕ) → due flight.slots t ≡ []) → flight.stores ≡ []
     → length block ≤ room → Running block opening 0 0 flight opening Next room
@@ -137,7 +137,7 @@ pub record IsReady (p : Placed) (machine : Machine) (flight : Flight) (room : �
 pub is_ready : (block : List Placed) (opening : Machine) (cycle next : ℕ) (flight : Flight) (machine : Machine) (exit : Exit) (room : ℕ) (p : Placed)
     → Running block opening cycle next flight machine exit room → next < length block → In p (drop next block) → p.cycle ≡ cycle → IsReady p machine flight room
 is_ready block opening cycle next flight machine exit room p h l i e =
-    let at = place_of p in
+    let at = position_of p in
     record {
       enough = let r : length block ≤ next + room = h.enough in omega arith;
       few = (let r : 8 * cycle + length flight.stores ≤ listing_position p = h.few p i in let b : listing_position p < 8 * p.cycle + 8 = at.1 in omega arith);
@@ -265,12 +265,12 @@ end_step block opening cycle next flight machine exit room ascends h late =
           (λ s.
           let z : length (due (slice_set flight.slots (cycle % 5) []) t) ≡ 0 = ap length (due-set_same flight.slots t cycle [] h.slots (omega arith)) in
           let a : cycle < p.cycle = late p k in
-          let b : 8 * p.cycle ≤ listing_position p = (place_of p).0 in omega arith)
+          let b : 8 * p.cycle ≤ listing_position p = (position_of p).0 in omega arith)
           (λ ne.
           let z : length (due (slice_set flight.slots (cycle % 5) []) t) ≡ length (due flight.slots t) = ap length (due-set_other flight.slots t cycle [] (λ f. ne (omega arith))) in
           let was : 8 * t + length (due flight.slots t) ≤ listing_position p + 32 = h.space t p (omega arith) (omega arith) k in omega arith)
           (cases_eq t (cycle + 5));
-      few = λ p k. let a : cycle < p.cycle = late p k in let b : 8 * p.cycle ≤ listing_position p = (place_of p).0 in omega arith;
+      few = λ p k. let a : cycle < p.cycle = late p k in let b : 8 * p.cycle ≤ listing_position p = (position_of p).0 in omega arith;
       early = λ p k. let a : p.cycle ≤ cycle = h.early p k in omega arith;
       lines = h.lines;
       leads = h.leads;
@@ -352,7 +352,7 @@ pub ahead : (block : List Placed) (opening : Machine) (cycle next : ℕ) (flight
     → Running block opening cycle next flight machine exit room → next < length block → get_or block next p ≡ p → cycle ≤ p.cycle
 ahead block opening cycle next flight machine exit room p h l found =
     let f : 8 * cycle + length flight.stores ≤ listing_position p = h.few p (next_in block next p l found) in
-    let b : listing_position p < 8 * p.cycle + 8 = (place_of p).1 in omega arith
+    let b : listing_position p < 8 * p.cycle + 8 = (position_of p).1 in omega arith
 
 -- all that is not issued comes later, where the next instruction does
 late_next : (block : List Placed) (cycle next : ℕ) (p : Placed) → Ascends block → next < length block → get_or block next p ≡ p → cycle < p.cycle
@@ -365,8 +365,8 @@ late_next block cycle next p ascends l found later q k =
     go rest (inl s) = subst (λ (z : Placed). cycle < z.cycle) s later
     go rest (inr i) =
         let less : listing_position p < listing_position q = (subst Ascends rest (parts_at block next ascends).back).0 q i in
-        let a : 8 * p.cycle ≤ listing_position p = (place_of p).0 in
-        let b : listing_position q < 8 * q.cycle + 8 = (place_of q).1 in
+        let a : 8 * p.cycle ≤ listing_position p = (position_of p).0 in
+        let b : listing_position q < 8 * q.cycle + 8 = (position_of q).1 in
         omega arith
 
 pub begins : (block : Packed) (opening : Contents) (flight : Flight) (state : Contents) → IsSound opening.machine → length flight.slots ≡ 5 → ((t : ℕ) → due flight.slots t ≡ [])

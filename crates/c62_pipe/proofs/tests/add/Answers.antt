@@ -8,16 +8,16 @@ use Rattle.c62_packet.specs.Packed.{listing_position, IsInListingOrder}
 use Rattle.c62_pipe.proofs.tests.add.Goals as goal
 
 abbrev AreBelow : ℕ → List Placed → Type 0
-AreBelow place items = All (λ p. listing_position p ≤ place) items
+AreBelow position items = All (λ p. listing_position p ≤ position) items
 
 in_order : (items : List Placed) (new : Placed) (last : ℕ) → IsInListingOrder items → AreBelow last items → last ≤ listing_position new → IsInListingOrder (items ++ new ∷ [])
 in_order items new last h below le =
     IsNonDecreasingBy-push listing_position items new h
     (λ d l. let b : listing_position (get_or items (length items - 1) d) ≤ last = below (length items - 1) d (omega arith) in omega arith)
 
-below_more : (items : List Placed) (new : Placed) (last place : ℕ) → AreBelow last items → last ≤ place → listing_position new ≤ place → AreBelow place (items ++ new ∷ [])
-below_more items new last place below le at =
-    let P : Placed → Type 0 = λ p. listing_position p ≤ place in
+below_more : (items : List Placed) (new : Placed) (last position : ℕ) → AreBelow last items → last ≤ position → listing_position new ≤ position → AreBelow position (items ++ new ∷ [])
+below_more items new last position below le at =
+    let P : Placed → Type 0 = λ p. listing_position p ≤ position in
     All-append P items (new ∷ []) (λ k d l. let b : listing_position (get_or items k d) ≤ last = below k d l in omega arith) (All-cons P new [] at (All-nil P))
 
 pub returns-in-Ok-clause-in_order : goal.returns-in-Ok-clause-in_order
