@@ -6,10 +6,12 @@ use Rattle.c62_insn.specs.Length.{landing_end}
 use Rattle.c62_sheet.specs.declared.entry.Spot.{Spot}
 use Rattle.c62_sheet.specs.declared.entry.Entry.{Entry}
 use Rattle.c62_sheet.specs.declared.entry.Entry.TheVariants.{Place, Withdraw}
+use Rattle.c62_sheet.specs.declared.entry.Who.{Who}
 use Rattle.c62_sheet.specs.Lawful.{Spots, issue_at}
 use Rattle.c62_sheet.specs.Counts.{set_length}
 use Rattle.c62_board.specs.declared.turn.Turn.{Turn}
 use Rattle.c62_board.specs.Turn.{IsTurn}
+use Rattle.c62_board.specs.Withdrawal.{Withdraws}
 
 -- a side has one turn at most, with one list of entries, and one budget is left
 abbrev pub HasOneTurn : List Insn → Spots → ℕ → Side → Type 0
@@ -20,6 +22,10 @@ HasOneTurn block set budget side =
 -- it is a turn of the side, with some list of entries, and some budget is left
 abbrev pub HasTurn : List Insn → Spots → ℕ → Side → Turn → Type 0
 HasTurn block set budget side turn = (entries : List Entry) × ((left : ℕ) × IsTurn block set budget side turn entries left)
+
+-- whoever does it, some entries withdraw i with all that goes with it
+abbrev pub HasWithdrawals : List Insn → Spots → ℕ → Type 0
+HasWithdrawals block set i = (who : Who) → (entries : List Entry) × Withdraws block set i who entries
 
 -- nothing was withdrawn
 abbrev pub HasOnlyPlaces : List Entry → Type 0

@@ -5,7 +5,7 @@ use Rattle.c62_sheet.specs.declared.entry.Entry.{Entry}
 use Rattle.c62_sheet.specs.Lawful.{Spots}
 use Rattle.c62_sheet.specs.Journal.{replayed, Permits, IsLegal}
 
--- the entries before place k are legal, and the one there is not
+-- the entries before index k are legal, and the one there is not
 pub record IsFirstBad (block : List Insn) (set : Spots) (entries : List Entry) (k : ℕ) : Type 0 where
   pub entry : Entry
   pub there : slice_get entries k ≡ Some entry

@@ -31,6 +31,10 @@ pub record IsEjection (block : List Insn) (set : Spots) (budget : ℕ) (side : S
   pub least : IsLeast block (replayed set withdrawals) i s
   pub entries_are : entries ≡ withdrawals ++ Place i s (who_of side) ∷ []
 
+-- some entries do so
+abbrev pub EjectsTo : List Insn → Spots → ℕ → Side → ℕ → ℕ → Spot → Type 0
+EjectsTo block set budget side q i s = (entries : List Entry) × IsEjection block set budget side q i s entries
+
 -- the pick of the side has no spot
 pub record IsStuck (block : List Insn) (set : Spots) (side : Side) (i : ℕ) : Type 0 where
   pub pick : IsPick block set side i

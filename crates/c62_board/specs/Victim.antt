@@ -41,6 +41,10 @@ IsFirstBelow block set i cycle n first = MatchOption first ((k : ℕ) → k < n 
 abbrev pub HasNoVictim : List Insn → Spots → ℕ → Type 0
 HasNoVictim block set i = (early q : ℕ) → IsEarly block set i early → IsInTheWay block set i early q → ⊥
 
+-- the victim of i, or that there is none
+abbrev pub FindsVictim : List Insn → Spots → ℕ → Option ℕ → Type 0
+FindsVictim block set i found = MatchOption found (HasNoVictim block set i) (IsVictim block set i)
+
 -- q is ejected for i: ejections are left, the least spot of i is later than its early cycle, and q is its victim
 pub record IsEjected (block : List Insn) (set : Spots) (budget i q : ℕ) : Type 0 where
   pub left : 0 < budget
@@ -50,3 +54,7 @@ pub record IsEjected (block : List Insn) (set : Spots) (budget i q : ℕ) : Type
   pub is_early : IsEarly block set i early
   pub late : early < least.cycle
   pub victim : IsVictim block set i q
+
+-- the number that is ejected for i, or that there is none
+abbrev pub FindsEjected : List Insn → Spots → ℕ → ℕ → Option ℕ → Type 0
+FindsEjected block set budget i found = MatchOption found ((q : ℕ) → IsEjected block set budget i q → ⊥) (IsEjected block set budget i)

@@ -1,5 +1,5 @@
 -- What is withdrawn with a number (docs/SCHEDULING.md, "Withdrawing").
-use Rattle.std.specs.Prelude.{◌≡◌, ◌⊎◌, ℕ, zero, suc, ◌+◌, ◌≤◌, ◌++◌, Bool, false, List, [], ◌∷◌, length, slice_index_or, if◌then◌else◌, IsSome, Vec, vec_capacity}
+use Rattle.std.specs.Prelude.{◌≡◌, ◌⊎◌, ℕ, zero, suc, ◌+◌, ◌≤◌, ◌++◌, Bool, false, List, [], ◌∷◌, length, slice_index_or, if◌then◌else◌, IsSome, Vec, vec_len, vec_capacity}
 use Rattle.std.specs.declared.alloc.Global.{Global}
 use Rattle.c62_insn.specs.declared.insn.Insn.{Insn}
 use Rattle.c62_sheet.specs.declared.entry.Entry.{Entry}
@@ -8,12 +8,16 @@ use Rattle.c62_sheet.specs.declared.entry.Who.{Who}
 use Rattle.c62_depend.specs.Plan.{insns_of}
 use Rattle.c62_sheet.specs.Lawful.{Spots, spot_at, Placements}
 use Rattle.c62_sheet.specs.Journal.{replayed, IsLegal}
-use Rattle.c62_board.specs.Chain.{Leads}
+use Rattle.c62_board.specs.Chain.{Leads, Marks}
 
 -- j goes with i: it is placed, and a chain of dependences leads to it from i
 pub record GoesWith (block : List Insn) (set : Spots) (i j : ℕ) : Type 0 where
   pub taken : IsSome (spot_at set j)
   pub led : Leads block i j
+
+-- marked are the numbers that go with i, and no others
+abbrev pub MarksGoing : List Insn → Spots → ℕ → List Bool → Type 0
+MarksGoing block set i marks = Marks block (GoesWith block set i) marks
 
 -- the entries withdraw each number below n that goes with i and no other, highest first
 abbrev pub WithdrawsBelow : List Insn → Spots → ℕ → Who → ℕ → List Entry → Type 0
@@ -35,6 +39,10 @@ withdrawals marks who (suc n) = if slice_index_or marks n false then Withdraw n 
 abbrev pub marked_below : List Bool → ℕ → ℕ
 marked_below marks zero = 0
 marked_below marks (suc n) = marked_below marks n + (if slice_index_or marks n false then 1 else 0)
+
+-- the journal has room for the withdrawals of the marked numbers below n
+abbrev pub HasRoomForMarked : Vec Entry Global → List Bool → ℕ → Type 0
+HasRoomForMarked journal marks n = vec_len journal + marked_below marks n ≤ vec_capacity journal
 
 -- what goes with i was taken out, which legal withdrawals do too
 pub record IsLeft (block : List Insn) (old : Spots) (i : ℕ) (who : Who) (new : Spots) : Type 0 where

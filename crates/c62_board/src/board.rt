@@ -1,19 +1,17 @@
 //! The board.
 
-ghost use Rattle.std.specs.Prelude.{◌≡◌, ◌≢◌, ◌<◌, ◌≤◌, ◌↔◌, ℕ, None, List, [], ◌∷◌, length, IsTrue, IsSome, IfOk, IfErr, OnOk, OnErr, MatchResult, MatchOption};
+ghost use Rattle.std.specs.Prelude.{◌≡◌, ◌≢◌, ◌<◌, ◌≤◌, ◌↔◌, None, List, [], ◌∷◌, length, IsTrue, IsSome, IfOk, IfErr, OnOk, OnErr};
 ghost use Rattle.c62_depend.specs.Plan.{insns_of, IsPlan};
 ghost use Rattle.c62_sheet.specs.Lawful.{spot_at, IsLawful};
-ghost use Rattle.c62_sheet.specs.Least.{IsReady, IsLeast, HasNoSpot, IsPick, HasNoPick, IsComplete};
-ghost use Rattle.c62_sheet.specs.Check.{IsOpen, IsRefused};
+ghost use Rattle.c62_sheet.specs.Least.{IsReady, FindsLeast, IsPick, Picks, IsComplete};
+ghost use Rattle.c62_sheet.specs.Check.{Judges};
 ghost use Rattle.c62_sheet.specs.Counts.{AreCounts, set_length};
 ghost use Rattle.c62_sheet.specs.Journal.{IsLegal, replayed};
 ghost use Rattle.c62_board.specs.Replay.{IsFirstBad};
 ghost use Rattle.c62_sheet.specs.declared.entry.Spot.{Spot as SpotOf};
-ghost use Rattle.c62_sheet.specs.declared.entry.Entry.{Entry as EntryOf};
-ghost use Rattle.c62_board.specs.Chain.{Marks};
-ghost use Rattle.c62_board.specs.Withdrawal.{GoesWith, marked_below};
-ghost use Rattle.c62_board.specs.Victim.{IsVictim, HasNoVictim, IsEjected};
-ghost use Rattle.c62_board.specs.Turn.{IsChoice, IsPlaced, IsEjection};
+ghost use Rattle.c62_board.specs.Withdrawal.{MarksGoing, marked_below};
+ghost use Rattle.c62_board.specs.Victim.{FindsVictim, IsEjected, FindsEjected};
+ghost use Rattle.c62_board.specs.Turn.{IsChoice, IsPlaced, EjectsTo};
 ghost use Rattle.c62_board.specs.Laws.{HasTurn};
 
 use crate::fault::{CommitFault, PlaceFault, ReplayFault, WithdrawFault};
@@ -75,7 +73,7 @@ impl Board {
     ///
     /// # Errors
     ///
-    /// The plan as it was, with the place of the first entry that is not legal, or where memory ran out.
+    /// The plan as it was, with the index of the first entry that is not legal, or where memory ran out.
     pub fn replay(
         alloc: Global,
         plan: Plan,
@@ -151,8 +149,7 @@ impl Board {
     /// The first rule against it, in the order of [`Rule`](c62_sheet::Rule), with its cycle.
     pub fn check(&self, i: u16, spot: Spot) -> Result<(), Unlawful>
         requires { i < length self.now.plan.insns }
-        ensures { MatchResult result (λ _. IsOpen (insns_of self.now.plan) self.now.spots i spot)
-            (IsRefused (insns_of self.now.plan) self.now.spots i spot) }
+        ensures { Judges (insns_of self.now.plan) self.now.spots i spot result }
     {
         self.sheet.check(i, spot)
     }
@@ -170,16 +167,14 @@ impl Board {
     pub fn least(&self, i: u16) -> Option<Spot>
         requires in_plan { i < length self.now.plan.insns }
         requires ready { IsReady (insns_of self.now.plan) self.now.spots i }
-        ensures { MatchOption result (HasNoSpot (insns_of self.now.plan) self.now.spots i)
-            (IsLeast (insns_of self.now.plan) self.now.spots i) }
+        ensures { FindsLeast (insns_of self.now.plan) self.now.spots i result }
     {
         self.sheet.least(i)
     }
 
     /// The ready instruction of a side that is greatest in height, for a tie the lowest. `None` where none is ready.
     pub fn pick(&self, side: Side) -> Option<u16>
-        ensures { MatchOption result (HasNoPick (insns_of self.now.plan) self.now.spots side)
-            (IsPick (insns_of self.now.plan) self.now.spots side) }
+        ensures { Picks (insns_of self.now.plan) self.now.spots side result }
     {
         self.sheet.pick(side)
     }
@@ -213,8 +208,7 @@ impl Board {
         requires in_plan { i < length self.now.plan.insns }
         requires ready { IsReady (insns_of self.now.plan) self.now.spots i }
         requires has_spot { (s : SpotOf) × IsLeastNow self.now i s }
-        ensures { MatchOption result (HasNoVictim (insns_of self.now.plan) self.now.spots i)
-            (IsVictim (insns_of self.now.plan) self.now.spots i) }
+        ensures { FindsVictim (insns_of self.now.plan) self.now.spots i result }
     {
         victim::victim(&self.sheet, i)
     }
@@ -243,7 +237,7 @@ impl Board {
 
     /// Withdraws what goes with an instruction, which is marked.
     fn withdraw_marked(&mut self, marks: &[bool], i: u16, who: Who)
-        requires marked { Marks (insns_of self.old.plan) (GoesWith (insns_of self.old.plan) self.old.spots i) marks.now }
+        requires marked { MarksGoing (insns_of self.old.plan) self.old.spots i marks.now }
         requires many { length self.old.plan.insns ≤ length marks.now }
         requires room { marked_below marks.now (length self.old.plan.insns) ≤ self.old.room }
         ensures withdrawn { IsWithdrawal self.old i who (marked_below marks.now (length self.old.plan.insns)) self.new }
@@ -335,8 +329,7 @@ impl Board {
     fn ejected_for(&self, i: u16, least: Spot) -> Option<u16>
         requires ready { IsReadyNow self.now i }
         requires least { IsLeastNow self.now i least }
-        ensures { MatchOption result ((q : ℕ) → IsEjected (insns_of self.now.plan) self.now.spots self.now.budget i q → ⊥)
-            (IsEjected (insns_of self.now.plan) self.now.spots self.now.budget i) }
+        ensures { FindsEjected (insns_of self.now.plan) self.now.spots self.now.budget i result }
     {
         if self.budget == 0 || least.cycle <= self.sheet.early(i) {
             return None;
@@ -413,7 +406,7 @@ impl Board {
     fn spot_without(self, q: u16, i: u16, side: Side) -> Spot
         requires pick { IsPick (insns_of self.plan) self.spots side i }
         requires ejected { IsEjected (insns_of self.plan) self.spots self.budget i q }
-        ensures { (entries : List EntryOf) × IsEjection (insns_of self.plan) self.spots self.budget side q i result entries }
+        ensures { EjectsTo (insns_of self.plan) self.spots self.budget side q i result }
     {
         let marks = withdrawal::going_with(&self.sheet, q);
         let mut sheet = self.sheet;
@@ -447,7 +440,7 @@ impl Board {
     }
 }
 
-/// Makes the changes of entries one after another. Where one is not legal, answers the place of the first such.
+/// Makes the changes of entries one after another. Where one is not legal, answers the index of the first such.
 fn play(sheet: &mut Sheet, entries: &[Entry]) -> Result<(), usize>
     ensures plan { sheet.new.plan ≡ sheet.old.plan }
     ensures legal { OnOk result (IsLegal (insns_of sheet.old.plan) sheet.old.spots entries.now) }

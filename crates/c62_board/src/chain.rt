@@ -5,10 +5,10 @@ ghost use Rattle.std.specs.List.{list_any};
 ghost use Rattle.c62_depend.specs.Plan.{insns_of};
 ghost use Rattle.c62_board.specs.Chain.{Leads, Marks};
 
-use c62_depend::{Link, Plan};
+use c62_depend::{Link, MOST_INSTRUCTIONS, Plan};
 
 /// One mark for each number that a block may have.
-pub(crate) type Chained = [bool; 256];
+pub(crate) type Chained = [bool; MOST_INSTRUCTIONS];
 
 /// Whether the other end of some dependence is marked.
 fn is_any_marked(links: &[Link], marks: &[bool]) -> bool
@@ -24,7 +24,7 @@ pub(crate) fn led_from(plan: &Plan, i: u16) -> Chained
     ensures { Marks (insns_of plan.now) (Leads (insns_of plan.now) i) result }
 {
     let n = plan.len();
-    let mut marks = [false; 256];
+    let mut marks = [false; MOST_INSTRUCTIONS];
     marks[i as usize] = true;
     for j in i + 1..n {
         marks[j as usize] = is_any_marked(plan.needs(j), &marks);
@@ -38,7 +38,7 @@ pub(crate) fn leading_to(plan: &Plan, i: u16) -> Chained
     ensures { Marks (insns_of plan.now) (λ k. Leads (insns_of plan.now) k i) result }
 {
     let n = plan.len();
-    let mut marks = [false; 256];
+    let mut marks = [false; MOST_INSTRUCTIONS];
     marks[i as usize] = true;
     for k in (0..i).rev() {
         marks[k as usize] = is_any_marked(plan.followers(k), &marks);

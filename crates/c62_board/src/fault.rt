@@ -44,7 +44,7 @@ pub enum WithdrawFault {
 /// Why a list of entries is not replayed.
 #[derive(Clone, Copy, PartialEq, Eq, Debug, Error)]
 pub enum ReplayFault {
-    /// The entry at this place, from 0, is the first that is not legal.
+    /// The entry at this index, from 0, is the first that is not legal.
     #[error("BadEntry {0}")]
     BadEntry(usize),
     /// Memory ran out.

@@ -7,10 +7,7 @@ ghost use Rattle.c62_sheet.specs.Lawful.{Spots, IsAt};
 ghost use Rattle.c62_sheet.specs.Counts.{set_length};
 ghost use Rattle.c62_depend.specs.Plan.{insns_of};
 ghost use Rattle.c62_sheet.specs.Least.{IsPick, IsComplete};
-ghost use Rattle.c62_sheet.specs.declared.entry.Entry.{Entry as EntryOf};
-ghost use Rattle.c62_sheet.specs.declared.entry.Who.{Who as WhoOf};
-ghost use Rattle.c62_board.specs.Withdrawal.{Withdraws};
-ghost use Rattle.c62_board.specs.Laws.{HasOneTurn, HasTurn, HasOnlyPlaces, LandsWithin};
+ghost use Rattle.c62_board.specs.Laws.{HasOneTurn, HasTurn, HasWithdrawals, HasOnlyPlaces, LandsWithin};
 ghost use Rattle.c62_board.specs.State.{IsReadyNow, IsLeastNow};
 
 use crate::board::Board;
@@ -36,7 +33,7 @@ pub fn has_a_turn(board: Board, side: Side) -> Turn
 /// Whatever room there is, some entries withdraw an instruction with all that goes with it.
 pub fn has_withdrawals(board: &Board, i: u16)
     requires { i < length board.now.plan.insns }
-    ensures { (who : WhoOf) → (entries : List EntryOf) × Withdraws (insns_of board.now.plan) board.now.spots i who entries }
+    ensures { HasWithdrawals (insns_of board.now.plan) board.now.spots i }
 {
     going_with(board.sheet(), i);
 }

@@ -1,10 +1,10 @@
 //! Which placed instruction makes way for a more urgent one.
 
-ghost use Rattle.std.specs.Prelude.{◌↔◌, ◌+◌, ◌<◌, ◌≤◌, IsTrue, length, MatchOption};
+ghost use Rattle.std.specs.Prelude.{◌↔◌, ◌+◌, ◌<◌, ◌≤◌, IsTrue, length};
 ghost use Rattle.c62_depend.specs.Plan.{insns_of};
 ghost use Rattle.c62_sheet.specs.Least.{IsReady, IsAfter};
 ghost use Rattle.c62_board.specs.Chain.{Leads, Marks};
-ghost use Rattle.c62_board.specs.Victim.{IsInTheWay, IsVictim, HasNoVictim, IsFirstBelow};
+ghost use Rattle.c62_board.specs.Victim.{IsInTheWay, FindsVictim, IsFirstBelow};
 
 use crate::chain::leading_to;
 use c62_sheet::Sheet;
@@ -68,8 +68,7 @@ fn first_up_to(
 pub(crate) fn victim(sheet: &Sheet, i: u16) -> Option<u16>
     requires in_plan { i < length sheet.now.plan.insns }
     requires ready { IsReady (insns_of sheet.now.plan) sheet.now.spots i }
-    ensures { MatchOption result (HasNoVictim (insns_of sheet.now.plan) sheet.now.spots i)
-        (IsVictim (insns_of sheet.now.plan) sheet.now.spots i) }
+    ensures { FindsVictim (insns_of sheet.now.plan) sheet.now.spots i result }
 {
     let plan = sheet.plan();
     let n = plan.len();

@@ -1,11 +1,11 @@
 //! What is withdrawn with an instruction.
 
-ghost use Rattle.std.specs.Prelude.{◌≡◌, ◌↔◌, ◌+◌, ◌++◌, ◌<◌, ◌≤◌, IsTrue, IsSome, length, vec_len, vec_capacity};
+ghost use Rattle.std.specs.Prelude.{◌≡◌, ◌↔◌, ◌++◌, ◌<◌, ◌≤◌, IsTrue, IsSome, length, vec_capacity};
 ghost use Rattle.c62_depend.specs.Plan.{insns_of};
 ghost use Rattle.c62_sheet.specs.Lawful.{spot_at};
-ghost use Rattle.c62_board.specs.Chain.{Leads, Marks, IsMarked};
+ghost use Rattle.c62_board.specs.Chain.{IsMarked};
 ghost use Rattle.c62_sheet.specs.declared.entry.Who.{Who as WhoOf};
-ghost use Rattle.c62_board.specs.Withdrawal.{GoesWith, TakesOut, IsLeft, marked_below, withdrawals};
+ghost use Rattle.c62_board.specs.Withdrawal.{MarksGoing, HasRoomForMarked, TakesOut, IsLeft, marked_below, withdrawals};
 
 use crate::chain::{Chained, led_from};
 use c62_sheet::{Entry, Sheet, Who};
@@ -22,7 +22,7 @@ fn is_marked_and_placed(sheet: &Sheet, marks: &[bool], j: u16) -> bool
 /// Marks what goes with instruction `i`.
 pub(crate) fn going_with(sheet: &Sheet, i: u16) -> Chained
     requires { i < length sheet.now.plan.insns }
-    ensures { Marks (insns_of sheet.now.plan) (GoesWith (insns_of sheet.now.plan) sheet.now.spots i) result }
+    ensures { MarksGoing (insns_of sheet.now.plan) sheet.now.spots i result }
 {
     let plan = sheet.plan();
     let n = plan.len();
@@ -48,7 +48,7 @@ pub(crate) fn count_marked(marks: &[bool], n: u16) -> u16
 /// Writes the withdrawals of the marked numbers below `n`, highest first, into a journal that has room.
 fn write_marked(journal: &mut Vec<Entry>, marks: &[bool], n: u16, who: Who)
     requires many { n ≤ length marks.now }
-    requires room { vec_len journal.old + marked_below marks.now n ≤ vec_capacity journal.old }
+    requires room { HasRoomForMarked journal.old marks.now n }
     ensures entries { journal.new.items ≡ journal.old.items ++ withdrawals marks.now who n }
     ensures room { vec_capacity journal.old ≤ vec_capacity journal.new }
 {
@@ -63,7 +63,7 @@ fn write_marked(journal: &mut Vec<Entry>, marks: &[bool], n: u16, who: Who)
 
 /// Takes out the marked instructions, highest first.
 pub(crate) fn leave_out(sheet: &mut Sheet, marks: &[bool], i: u16)
-    requires marked { Marks (insns_of sheet.old.plan) (GoesWith (insns_of sheet.old.plan) sheet.old.spots i) marks.now }
+    requires marked { MarksGoing (insns_of sheet.old.plan) sheet.old.spots i marks.now }
     requires many { length sheet.old.plan.insns ≤ length marks.now }
     ensures plan { sheet.new.plan ≡ sheet.old.plan }
     ensures left { (who : WhoOf) → IsLeft (insns_of sheet.old.plan) sheet.old.spots i who sheet.new.spots }
@@ -83,9 +83,9 @@ pub(crate) fn take_out_marked(
     i: u16,
     who: Who,
 )
-    requires marked { Marks (insns_of sheet.old.plan) (GoesWith (insns_of sheet.old.plan) sheet.old.spots i) marks.now }
+    requires marked { MarksGoing (insns_of sheet.old.plan) sheet.old.spots i marks.now }
     requires many { length sheet.old.plan.insns ≤ length marks.now }
-    requires room { vec_len journal.old + marked_below marks.now (length sheet.old.plan.insns) ≤ vec_capacity journal.old }
+    requires room { HasRoomForMarked journal.old marks.now (length sheet.old.plan.insns) }
     ensures { TakesOut sheet.old journal.old i who sheet.new journal.new }
 {
     write_marked(journal, marks, sheet.plan().len(), who);

@@ -60,11 +60,11 @@ IsGiven-none : {X : Type 0} (f : X → Option ℤ) (b : ℤ) → IsGiven f [] b 
 IsGiven-none f b w = absurd (omega (arith, w.1.1))
 
 IsGiven-cases : {X : Type 0} (f : X → Option ℤ) (x : X) (xs : List X) (b : ℤ) → IsGiven f (x ∷ xs) b → (f x ≡ Some b) ⊎ IsGiven f xs b
-IsGiven-cases {X} f x xs b w = by_place w.0 w.1.0 w.1.1 w.1.2 w.2
+IsGiven-cases {X} f x xs b w = by_position w.0 w.1.0 w.1.1 w.1.2 w.2
   where
-    by_place : (y : X) (k : ℕ) → k < length (x ∷ xs) → slice_index_or (x ∷ xs) k y ≡ y → f y ≡ Some b → (f x ≡ Some b) ⊎ IsGiven f xs b
-    by_place y zero lt e g = inl (ap f e ∙ g)
-    by_place y (suc k) lt e g = inr (y, (k, omega arith, e), g)
+    by_position : (y : X) (k : ℕ) → k < length (x ∷ xs) → slice_index_or (x ∷ xs) k y ≡ y → f y ≡ Some b → (f x ≡ Some b) ⊎ IsGiven f xs b
+    by_position y zero lt e g = inl (ap f e ∙ g)
+    by_position y (suc k) lt e g = inr (y, (k, omega arith, e), g)
 
 IsGiven-first : {X : Type 0} (f : X → Option ℤ) (x : X) (xs : List X) (b : ℤ) → f x ≡ Some b → IsGiven f (x ∷ xs) b
 IsGiven-first f x xs b e = (x, (0, omega arith, refl), e)

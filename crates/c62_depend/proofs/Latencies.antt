@@ -218,7 +218,7 @@ pub latency-small : (block : List Insn) (i j : ℕ) (o : Option ℤ) → IsLaten
 latency-small block i j None h = tt
 latency-small block i j (Some m) h = bounds-small block i j m h.applies
 
--- the instruction of the uses at a place
+-- the instruction of the uses at an index
 pub insn_at : (uses : List Uses) (i : ℕ) (u : Uses) → i < length uses → u ≡ get_or uses i u → slice_get (insns_in uses) i ≡ Some u.insn
 insn_at uses i u within at =
     slice_get-map (λ (one : Uses). one.insn) uses i

@@ -132,8 +132,8 @@ pairs_more block i row old new are wide few is e = rw e (record { long = all; ea
       | inl earlier ↦ ap as_bound (get_or-append old row 0 (pair_at a b) (omega arith)) ∙ are.each a b earlier after within
       | inr later ↦
           let same : a ≡ i = omega arith in
-          let place : pair_at a b - i * 256 ≡ b = omega arith in
-          ap as_bound (get_or-append_right old row (i * 256) (pair_at a b) 0 long (omega arith) ∙ ap (slice_index row) place)
+          let column : pair_at a b - i * 256 ≡ b = omega arith in
+          ap as_bound (get_or-append_right old row (i * 256) (pair_at a b) 0 long (omega arith) ∙ ap (slice_index row) column)
           ∙ is b (omega arith) within
           ∙ ap (λ (x : ℕ). latency block x b) (sym same)
     ]

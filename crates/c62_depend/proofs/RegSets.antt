@@ -15,14 +15,14 @@ use Rattle.c62_insn.specs.Register.{first_of, register_index}
 use Rattle.c62_depend.specs.declared.reg_set.RegSet.{RegSet}
 use Rattle.c62_depend.specs.RegSet.{reg_in, shares}
 
-one_place : (s t : Side) (m n : ℕ) → m < 16 → n < 16 → first_of s + m ≡ first_of t + n → (same_side s t && (m == n)) ≡ true
-one_place A A m n low below e = grind (arith, nat_tests)
-one_place A B m n low below e = absurd (omega arith)
-one_place B A m n low below e = absurd (omega arith)
-one_place B B m n low below e = let same : m ≡ n = omega arith in grind (arith, nat_tests)
+one_index : (s t : Side) (m n : ℕ) → m < 16 → n < 16 → first_of s + m ≡ first_of t + n → (same_side s t && (m == n)) ≡ true
+one_index A A m n low below e = grind (arith, nat_tests)
+one_index A B m n low below e = absurd (omega arith)
+one_index B A m n low below e = absurd (omega arith)
+one_index B B m n low below e = let same : m ≡ n = omega arith in grind (arith, nat_tests)
 
-pub place-within : (reg : Reg) → register_index reg < 32
-place-within reg = on reg.side reg.number reg.in_range
+pub index-within : (reg : Reg) → register_index reg < 32
+index-within reg = on reg.side reg.number reg.in_range
   where
     on : (s : Side) (n : ℕ) → n < 16 → first_of s + n < 32
     on A n low = omega arith
@@ -33,7 +33,7 @@ pub with_one : (n k : ℕ) (reg other : Reg) → k ≡ register_index reg
 with_one n k reg other is = by_test (same_reg reg other) refl
   where
     within : k < 32
-    within = rw is (place-within reg)
+    within = rw is (index-within reg)
 
     or_true : (t : Bool) → (t || true) ≡ true
     or_true true = refl
@@ -54,7 +54,7 @@ with_one n k reg other is = by_test (same_reg reg other) refl
       where
         both : register_index other ≡ k → ⊥
         both same =
-            let one : same_reg reg other ≡ true = one_place reg.side other.side reg.number other.number reg.in_range other.in_range (sym (same ∙ is)) in
+            let one : same_reg reg other ≡ true = one_index reg.side other.side reg.number other.number reg.in_range other.in_range (sym (same ∙ is)) in
             let clash : true ≡ false = sym one ∙ e in
             cc
 

@@ -11,21 +11,21 @@ use Rattle.c62_insn.specs.Takes.{same_side}
 use Rattle.c62_insn.specs.Stands.{may_stand}
 use Rattle.c62_insn.specs.Units.{unit_in}
 use Rattle.c62_depend.specs.declared.uses.Uses.{Uses}
-use Rattle.c62_depend.specs.declared.side.Place.{Place}
+use Rattle.c62_depend.specs.declared.side.UnitChoice.{UnitChoice}
 use Rattle.c62_depend.specs.Uses.{insns_in}
 use Rattle.c62_depend.specs.Side.{side_in, side_at, suits_at, side, stands_on}
-use Rattle.c62_depend.specs.Places.{IsPlace, ArePlaces}
+use Rattle.c62_depend.specs.UnitChoices.{IsUnitChoice, AreUnitChoices}
 use Rattle.c62_depend.proofs.Latencies.{insn_at}
 
 -- whether an instruction of this side may stand on a unit
 abbrev pub stands : Insn → Side → FunctionalUnit → Bool
 stands insn side unit = same_side unit.side side && may_stand insn unit
 
--- the place of an instruction, from its parts
-pub place_from : (uses : List Uses) (i : ℕ) (u : Uses) (s : Side) (units : UnitSet) → i < length uses → u ≡ get_or uses i u → s ≡ side_in (insns_in uses) u.insn
-    → ((unit : FunctionalUnit) → unit_in units unit ≡ stands u.insn s unit) → IsPlace (insns_in uses) i (record { side = s; units = units })
+-- the choice of an instruction, from its parts
+pub choice_from : (uses : List Uses) (i : ℕ) (u : Uses) (s : Side) (units : UnitSet) → i < length uses → u ≡ get_or uses i u → s ≡ side_in (insns_in uses) u.insn
+    → ((unit : FunctionalUnit) → unit_in units unit ≡ stands u.insn s unit) → IsUnitChoice (insns_in uses) i (record { side = s; units = units })
 unfolding side stands_on
-place_from uses i u s units within at is units_are =
+choice_from uses i u s units within at is units_are =
     let here : slice_get (insns_in uses) i ≡ Some u.insn = insn_at uses i u within at in
     record {
       side = is ∙ sym (ap (side_at (insns_in uses)) here);
@@ -47,11 +47,11 @@ each_more {X} P xs ys x before added one k d within =
           subst (λ (n : ℕ). P n (get_or (xs ++ x ∷ []) n d)) (sym last) (subst (P (length xs)) (sym (get_or_push xs x d (length xs) refl)) one)
     ])
 
-pub no_places : (block : List Insn) → ArePlaces block 0 []
-no_places block = record { long = refl; each = λ k d within. absurd (omega arith) }
+pub no_choices : (block : List Insn) → AreUnitChoices block 0 []
+no_choices block = record { long = refl; each = λ k d within. absurd (omega arith) }
 
-pub places_more : (block : List Insn) (n : ℕ) (xs ys : List Place) (x : Place) → ArePlaces block n xs → ys ≡ xs ++ x ∷ [] → IsPlace block n x → ArePlaces block (n + 1) ys
-places_more block n xs ys x before added one = record {
+pub choices_more : (block : List Insn) (n : ℕ) (xs ys : List UnitChoice) (x : UnitChoice) → AreUnitChoices block n xs → ys ≡ xs ++ x ∷ [] → IsUnitChoice block n x → AreUnitChoices block (n + 1) ys
+choices_more block n xs ys x before added one = record {
   long = ap length added ∙ length-append xs (x ∷ []) ∙ ap (λ (m : ℕ). m + 1) before.long;
-  each = each_more (IsPlace block) xs ys x before.each added (subst (λ (m : ℕ). IsPlace block m x) (sym before.long) one);
+  each = each_more (IsUnitChoice block) xs ys x before.each added (subst (λ (m : ℕ). IsUnitChoice block m x) (sym before.long) one);
 }

@@ -1,5 +1,6 @@
 -- How urgent an instruction is: the longest path of latencies that begins with it.
-use Rattle.std.specs.Prelude.{◌≡◌, ◌⊎◌, ℕ, zero, suc, ◌+◌, ◌-◌, ◌<◌, ◌≤◌, slice_index, max, ℤ, pos, negsuc, ◌+ℤ◌, ◌≤ℤ◌, List, length, Option, Some, None, slice_get, fold}
+use Rattle.std.specs.Prelude.{◌≡◌, ◌⊎◌, ℕ, zero, suc, ◌+◌, ◌-◌, ◌<◌, ◌≤◌, slice_index, max, ℤ, pos, negsuc, ◌+ℤ◌, ◌≤ℤ◌, List, length, map, Option, Some, None, slice_get, fold}
+use Rattle.std.specs.List.{range_with_len}
 use Rattle.c62_insn.specs.declared.insn.Insn.{Insn}
 use Rattle.c62_insn.specs.Shape.{delay_of}
 use Rattle.c62_insn.specs.Insn.{op_of}
@@ -37,6 +38,10 @@ path_within block (suc steps) i = longest (path_within block steps) (delay_at bl
 -- the height of number i: no path has more instructions than the block
 unfoldable pub height : List Insn → ℕ → ℕ
 height block i = path_within block (length block) i
+
+-- the heights of the first numbers
+abbrev pub first_heights : List Insn → ℕ → List ℕ
+first_heights block count = map (height block) (range_with_len 0 count)
 
 -- the list has the heights of the numbers from i on
 pub record AreHeightsFrom (block : List Insn) (i : ℕ) (heights : List ℕ) : Type 0 where

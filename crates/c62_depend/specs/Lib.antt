@@ -7,6 +7,6 @@ pub mod Links
 pub mod Lists
 pub mod Height
 pub mod Side
-pub mod Places
+pub mod UnitChoices
 pub mod Plan
 pub mod Laws

@@ -1,20 +1,20 @@
 -- What always holds of the plan of a block.
 use Rattle.std.specs.Prelude.{◌≡◌, ℕ, ◌+◌, ◌*◌, ◌<◌, ◌≤◌, ℤ, pos, negsuc, ◌≤ℤ◌, List, length, map, Some, slice_get, IsTrue}
-use Rattle.std.specs.List.{range_with_len}
 use Rattle.c62_insn.specs.declared.register.Unit.{Unit as FunctionalUnit}
 use Rattle.c62_insn.specs.declared.insn.Insn.{Insn}
 use Rattle.c62_insn.specs.Shape.{is_branch}
 use Rattle.c62_insn.specs.Insn.{op_of}
 use Rattle.c62_read.specs.declared.block.SerialInsn.{SerialInsn}
 use Rattle.c62_read.specs.Block.{Serial}
+use Rattle.c62_depend.specs.declared.limits.TheConstants.{MOST_INSTRUCTIONS}
 use Rattle.c62_depend.specs.declared.tables.Tables.{Tables}
 use Rattle.c62_depend.specs.Uses.{insns_in}
 use Rattle.c62_depend.specs.Latency.{latency}
 use Rattle.c62_depend.specs.Links.{needs, followers}
 use Rattle.c62_depend.specs.Lists.{AreLists}
-use Rattle.c62_depend.specs.Height.{height}
+use Rattle.c62_depend.specs.Height.{height, first_heights}
 use Rattle.c62_depend.specs.Side.{side, stands_on}
-use Rattle.c62_depend.specs.Places.{ArePlaces}
+use Rattle.c62_depend.specs.UnitChoices.{AreUnitChoices}
 
 -- the instructions of a list with lines
 abbrev pub unnumbered : List SerialInsn → List Insn
@@ -32,7 +32,7 @@ pub record IsShort (block : List Insn) (i j : ℕ) (latency : ℤ) : Type 0 wher
   pub most : latency ≤ℤ pos 5
 
 pub record IsPlan (block : List Insn) : Type 0 where
-  pub few : length block ≤ 256
+  pub few : length block ≤ MOST_INSTRUCTIONS
   -- a branch stands only as the last
   pub branch : (i : ℕ) (insn : Insn) → slice_get block i ≡ Some insn → IsTrue (is_branch (op_of insn)) → i + 1 ≡ length block
   -- an instruction depends on earlier ones alone, by a latency of -5 to 5
@@ -48,5 +48,5 @@ pub record AreTables (block : List Insn) (tables : Tables) : Type 0 where
   pub insns : insns_in tables.uses.items ≡ block
   pub needs : AreLists (needs block) (length block) tables.needs
   pub followers : AreLists (followers block) (length block) tables.followers
-  pub heights : tables.heights.items ≡ map (height block) (range_with_len 0 (length block))
-  pub places : ArePlaces block (length block) tables.places.items
+  pub heights : tables.heights.items ≡ first_heights block (length block)
+  pub choices : AreUnitChoices block (length block) tables.choices.items

@@ -6,6 +6,10 @@ use Rattle.c62_insn.specs.declared.insn.Insn.{Insn}
 use Rattle.c62_insn.specs.Takes.{same_reg}
 use Rattle.c62_insn.specs.Insn.{register_writes}
 
+-- whether a write is one of the register with this delay
+abbrev pub is_write_with : ℕ → Reg → Reg × ℕ → Bool
+is_write_with delay reg write = same_reg write.0 reg && (write.1 == delay)
+
 -- whether the instruction writes the register with this delay
 abbrev pub writes_with : Insn → ℕ → Reg → Bool
-writes_with insn delay reg = list_any (λ write. same_reg write.0 reg && (write.1 == delay)) (register_writes insn)
+writes_with insn delay reg = list_any (is_write_with delay reg) (register_writes insn)

@@ -1,18 +1,19 @@
 //! How urgent the instructions of a block are.
 
-ghost use Rattle.std.specs.Prelude.{◌≡◌, ◌<◌, ◌≤◌, ◌+◌, length, map, IfOk};
-ghost use Rattle.std.specs.List.{range_with_len};
+ghost use Rattle.std.specs.Prelude.{◌≡◌, ◌<◌, ◌≤◌, ◌+◌, length, IfOk};
 ghost use Rattle.c62_depend.specs.Uses.{insns_in};
 ghost use Rattle.c62_depend.specs.Numbers.{as_bound};
+ghost use Rattle.c62_depend.specs.declared.limits.TheConstants.{ISSUE_CYCLES};
 ghost use Rattle.c62_depend.specs.Lists.{IsRow, ArePairs};
-ghost use Rattle.c62_depend.specs.Height.{raised_by, height, AreHeightsFrom};
+ghost use Rattle.c62_depend.specs.Height.{raised_by, height, first_heights, AreHeightsFrom};
 
+use crate::limits::MOST_INSTRUCTIONS;
 use crate::uses::Uses;
 use std::alloc::{AllocError, Global};
 
 /// A height with a latency before it, which is given as a number: 0 where that is below 0, or there is no latency.
 fn raised(number: u8, height: u16) -> u16
-    requires { height ≤ 1280 }
+    requires { height ≤ ISSUE_CYCLES }
     ensures { result ≡ raised_by (as_bound number) height }
 {
     let sum = (height + u16::from(number)).saturating_sub(6);
@@ -22,9 +23,9 @@ fn raised(number: u8, height: u16) -> u16
 /// The height of instruction `i`: the greatest of its delay and, over all that depend on it, the latency plus the height
 /// behind it.
 fn height(uses: &[Uses], row: &[u8], heights: &[u16], i: usize) -> u16
-    requires few { length uses.now ≤ 256 }
+    requires few { length uses.now ≤ MOST_INSTRUCTIONS }
     requires within { i < length uses.now }
-    requires wide { length row.now ≡ 256 }
+    requires wide { length row.now ≡ MOST_INSTRUCTIONS }
     requires row { IsRow (insns_in uses.now) i (length uses.now) row.now }
     requires behind { AreHeightsFrom (insns_in uses.now) (i + 1) heights.now }
     ensures { result ≡ height (insns_in uses.now) i }
@@ -38,13 +39,13 @@ fn height(uses: &[Uses], row: &[u8], heights: &[u16], i: usize) -> u16
 
 /// The height of each instruction, found from the last one up by the latencies of all pairs.
 pub(crate) fn heights(alloc: Global, uses: &[Uses], pairs: &[u8]) -> Result<Vec<u16>, AllocError>
-    requires few { length uses.now ≤ 256 }
+    requires few { length uses.now ≤ MOST_INSTRUCTIONS }
     requires pairs { ArePairs (insns_in uses.now) (length uses.now) pairs.now }
-    ensures { IfOk result (λ heights. heights.items ≡ map (height (insns_in uses.now)) (range_with_len 0 (length uses.now))) }
+    ensures { IfOk result (λ heights. heights.items ≡ first_heights (insns_in uses.now) (length uses.now)) }
 {
     let mut heights = vec![in alloc; 0; uses.len()]?;
     for i in (0..uses.len()).rev() {
-        let row = &pairs[i * 256..(i + 1) * 256];
+        let row = &pairs[i * MOST_INSTRUCTIONS..(i + 1) * MOST_INSTRUCTIONS];
         heights[i] = height(uses, row, &heights, i);
     }
     Ok(heights)

@@ -5,6 +5,7 @@ mod excuse;
 mod height;
 mod latency;
 pub mod laws;
+mod limits;
 mod links;
 mod plan;
 mod reg_set;
@@ -14,6 +15,7 @@ mod tables;
 mod uses;
 
 pub use latency::latency_in;
+pub use limits::{ISSUE_CYCLES, MOST_INSTRUCTIONS};
 pub use links::Link;
 pub use plan::Plan;
 

@@ -1,7 +1,6 @@
 //! The dependences of an instruction, as lists.
 
-ghost use Rattle.std.specs.Prelude.{◌≡◌, ◌+◌, ◌*◌, ◌<◌, ◌≤◌, ◌++◌, ℕ, List, length, map, take, slice_index, IfOk, OnOk};
-ghost use Rattle.std.specs.List.{slice_range, range_with_len};
+ghost use Rattle.std.specs.Prelude.{◌≡◌, ◌+◌, ◌*◌, ◌<◌, ◌≤◌, ◌++◌, ℕ, List, length, map, take, IfOk, OnOk};
 ghost use Rattle.c62_insn.specs.declared.insn.Insn.{Insn};
 ghost use Rattle.c62_depend.specs.Uses.{insns_in};
 ghost use Rattle.c62_depend.specs.Numbers.{as_bound};
@@ -9,6 +8,7 @@ ghost use Rattle.c62_depend.specs.Links.{linked, needs, followers};
 ghost use Rattle.c62_depend.specs.Lists.{IsRow, ArePairs};
 
 use crate::latency::{as_bound, latency_number};
+use crate::limits::MOST_INSTRUCTIONS;
 use crate::uses::Uses;
 use std::alloc::{AllocError, Global};
 
@@ -31,11 +31,11 @@ pub(crate) struct Lists {
 
 impl Lists {
     ghost use Rattle.c62_depend.specs.declared.links.Link.{Link as End};
-    ghost use Rattle.c62_depend.specs.Lists.{AreLists};
+    ghost use Rattle.c62_depend.specs.Lists.{AreLists, AddsList, AreSameLists, start_in, list_in};
 
     /// No list, with room for so many, and for so many links in all.
     fn new(alloc: Global, count: usize, links: usize) -> Result<Lists, AllocError>
-        requires { count ≤ 256 }
+        requires { count ≤ MOST_INSTRUCTIONS }
         ensures { (f : ℕ → List End) → IfOk result (AreLists f 0) }
     {
         let links = Vec::with_capacity(alloc, links)?;
@@ -46,7 +46,7 @@ impl Lists {
 
     /// Adds a list behind the others.
     fn push(&mut self, links: &[Link]) -> Result<(), AllocError>
-        ensures { (f : ℕ → List End) (count : ℕ) → AreLists f count self.old → links.now ≡ f count → OnOk result (AreLists f (count + 1) self.new) }
+        ensures { OnOk result (AddsList links.now self.old self.new) }
     {
         self.links.extend_from_slice(links)?;
         self.starts.push(self.links.len())?;
@@ -56,9 +56,9 @@ impl Lists {
     /// The list of number `i`.
     pub fn get(&self, i: usize) -> &[Link]
         requires within { i + 1 < length self.now.starts.items }
-        requires rising { slice_index self.now.starts.items i ≤ slice_index self.now.starts.items (i + 1) }
-        requires inside { slice_index self.now.starts.items (i + 1) ≤ length self.now.links.items }
-        ensures { result.now ≡ slice_range self.now.links.items (slice_index self.now.starts.items i) (slice_index self.now.starts.items (i + 1)) }
+        requires rising { start_in self.now i ≤ start_in self.now (i + 1) }
+        requires inside { start_in self.now (i + 1) ≤ length self.now.links.items }
+        ensures { result.now ≡ list_in self.now i }
     {
         let start = self.starts[i];
         let end = self.starts[i + 1];
@@ -67,7 +67,7 @@ impl Lists {
 
     /// Equal lists.
     pub fn copy(&self, alloc: Global) -> Result<Lists, AllocError>
-        ensures { (f : ℕ → List End) (count : ℕ) → AreLists f count self.now → IfOk result (AreLists f count) }
+        ensures { IfOk result (AreSameLists self.now) }
     {
         let links = Vec::from_slice(alloc, &self.links)?;
         let starts = Vec::from_slice(alloc, &self.starts)?;
@@ -76,30 +76,30 @@ impl Lists {
 }
 
 /// Room to gather the dependences of one instruction: at most one for each instruction of a block.
-type Gathered = [Link; 256];
+type Gathered = [Link; MOST_INSTRUCTIONS];
 
 const NONE_GATHERED: Gathered = [Link {
     number: 0,
     latency: 0,
-}; 256];
+}; MOST_INSTRUCTIONS];
 
 /// The latencies from one instruction to the later ones, as numbers.
-type Row = [u8; 256];
+type Row = [u8; MOST_INSTRUCTIONS];
 
 /// Where the latency of two instructions stands among those of all pairs.
 #[inline(always)]
 fn pair_at(i: usize, j: usize) -> usize
-    requires first { i < 256 }
-    requires second { j < 256 }
-    ensures { result ≡ i * 256 + j }
+    requires first { i < MOST_INSTRUCTIONS }
+    requires second { j < MOST_INSTRUCTIONS }
+    ensures { result ≡ i * MOST_INSTRUCTIONS + j }
 {
-    i * 256 + j
+    i * MOST_INSTRUCTIONS + j
 }
 
 /// Adds a dependence to those gathered, where there is one, and returns how many they are then.
 #[inline(always)]
 fn add(gathered: &mut Gathered, count: usize, number: u8, latency: u8) -> usize
-    requires room { count < 256 }
+    requires room { count < MOST_INSTRUCTIONS }
     requires small { latency ≤ 11 }
     ensures added { take result gathered.new ≡ take count gathered.old ++ linked number (as_bound latency) }
     ensures one { result ≤ count + 1 }
@@ -118,9 +118,9 @@ fn add(gathered: &mut Gathered, count: usize, number: u8, latency: u8) -> usize
 
 /// Gathers what depends on instruction `i`, keeps the latencies, and returns how many depend on it.
 fn gather_followers(gathered: &mut Gathered, row: &mut Row, uses: &[Uses], i: usize) -> usize
-    requires few { length uses.now ≤ 256 }
+    requires few { length uses.now ≤ MOST_INSTRUCTIONS }
     requires within { i < length uses.now }
-    ensures count { result ≤ 256 }
+    ensures count { result ≤ MOST_INSTRUCTIONS }
     ensures followers { take result gathered.new ≡ followers (insns_in uses.now) i }
     ensures row { IsRow (insns_in uses.now) i (length uses.now) row.new }
 {
@@ -136,10 +136,10 @@ fn gather_followers(gathered: &mut Gathered, row: &mut Row, uses: &[Uses], i: us
 
 /// Gathers what instruction `j` depends on, from the latencies, and returns how many these are.
 fn gather_needs(gathered: &mut Gathered, pairs: &[u8], uses: &[Uses], j: usize) -> usize
-    requires few { length uses.now ≤ 256 }
+    requires few { length uses.now ≤ MOST_INSTRUCTIONS }
     requires within { j < length uses.now }
     requires pairs { ArePairs (insns_in uses.now) (length uses.now) pairs.now }
-    ensures count { result ≤ 256 }
+    ensures count { result ≤ MOST_INSTRUCTIONS }
     ensures needs { take result gathered.new ≡ needs (insns_in uses.now) j }
 {
     let mut count = 0;
@@ -154,14 +154,14 @@ impl Lists {
 
     /// What depends on each instruction; and the latencies of all pairs, as numbers.
     pub fn followers(alloc: Global, uses: &[Uses]) -> Result<(Lists, Vec<u8>), AllocError>
-        requires { length uses.now ≤ 256 }
+        requires { length uses.now ≤ MOST_INSTRUCTIONS }
         ensures followers { IfOk result (λ both. AreLists (followers (insns_in uses.now)) (length uses.now) both.0) }
         ensures pairs { IfOk result (λ both. ArePairs (insns_in uses.now) (length uses.now) both.1.items) }
     {
         let mut gathered = NONE_GATHERED;
-        let mut row = [0; 256];
+        let mut row = [0; MOST_INSTRUCTIONS];
         let mut all = Lists::new(alloc, uses.len(), uses.len() * uses.len() / 2)?;
-        let mut pairs = Vec::with_capacity(alloc, uses.len() * 256)?;
+        let mut pairs = Vec::with_capacity(alloc, uses.len() * MOST_INSTRUCTIONS)?;
         for i in 0..uses.len() {
             let count = gather_followers(&mut gathered, &mut row, uses, i);
             all.push(&gathered[..count])?;
@@ -177,7 +177,7 @@ impl Lists {
         pairs: &[u8],
         uses: &[Uses],
     ) -> Result<Lists, AllocError>
-        requires few { length uses.now ≤ 256 }
+        requires few { length uses.now ≤ MOST_INSTRUCTIONS }
         requires pairs { ArePairs (insns_in uses.now) (length uses.now) pairs.now }
         ensures { IfOk result (AreLists (needs (insns_in uses.now)) (length uses.now)) }
     {

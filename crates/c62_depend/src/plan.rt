@@ -90,7 +90,7 @@ impl Plan {
         ensures { result ≡ side (insns_of self.now) i }
     {
         let tables = &self.tables;
-        tables.places[i as usize].side
+        tables.choices[i as usize].side
     }
 
     /// The units that instruction `i` may stand on: those of its side that take it, and only the written one where one
@@ -100,7 +100,7 @@ impl Plan {
         ensures { (unit : FunctionalUnit) → unit_in result unit ≡ stands_on (insns_of self.now) i unit }
     {
         let tables = &self.tables;
-        tables.places[i as usize].units
+        tables.choices[i as usize].units
     }
 
     /// The height of instruction `i`, in cycles: the greatest of its delay and, over the instructions that depend on it,

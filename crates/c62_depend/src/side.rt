@@ -9,7 +9,7 @@ ghost use Rattle.c62_insn.specs.Units.{unit_in};
 ghost use Rattle.c62_insn.specs.Stands.{may_stand};
 ghost use Rattle.c62_depend.specs.Uses.{insns_in};
 ghost use Rattle.c62_depend.specs.Side.{is_side, count_on, branch_side, side_in};
-ghost use Rattle.c62_depend.specs.Places.{IsPlace, ArePlaces};
+ghost use Rattle.c62_depend.specs.UnitChoices.{IsUnitChoice, AreUnitChoices};
 
 use crate::uses::Uses;
 use bitflags::Flags;
@@ -77,35 +77,35 @@ fn units_on(insn: Insn, side: Side) -> UnitSet
     units
 }
 
-/// Where an instruction may stand.
+/// The side of an instruction, and the units of it on which the instruction may stand.
 #[derive(Clone, Copy)]
-pub(crate) struct Place {
+pub(crate) struct UnitChoice {
     pub side: Side,
     pub units: UnitSet,
 }
 
-impl Place {
-    /// Where instruction `i` may stand.
-    pub fn new(uses: &[Uses], i: usize) -> Place
+impl UnitChoice {
+    /// The side and the units of instruction `i`.
+    pub fn new(uses: &[Uses], i: usize) -> UnitChoice
         requires { i < length uses.now }
-        ensures { IsPlace (insns_in uses.now) i result }
+        ensures { IsUnitChoice (insns_in uses.now) i result }
     {
         let insn = uses[i].insn;
         let side = side(uses, insn);
-        Place {
+        UnitChoice {
             side,
             units: units_on(insn, side),
         }
     }
 }
 
-/// Where each instruction may stand.
-pub(crate) fn places(alloc: Global, uses: &[Uses]) -> Result<Vec<Place>, AllocError>
-    ensures { IfOk result (λ places. ArePlaces (insns_in uses.now) (length uses.now) places.items) }
+/// The side and the units of each instruction.
+pub(crate) fn unit_choices(alloc: Global, uses: &[Uses]) -> Result<Vec<UnitChoice>, AllocError>
+    ensures { IfOk result (λ choices. AreUnitChoices (insns_in uses.now) (length uses.now) choices.items) }
 {
-    let mut places = Vec::with_capacity(alloc, uses.len())?;
+    let mut choices = Vec::with_capacity(alloc, uses.len())?;
     for i in 0..uses.len() {
-        places.push(Place::new(uses, i))?;
+        choices.push(UnitChoice::new(uses, i))?;
     }
-    Ok(places)
+    Ok(choices)
 }

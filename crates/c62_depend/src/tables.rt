@@ -2,11 +2,12 @@
 
 ghost use Rattle.std.specs.Prelude.{◌≡◌, ◌≤◌, List, length, IfOk};
 ghost use Rattle.c62_insn.specs.declared.insn.Insn.{Insn};
+ghost use Rattle.c62_depend.specs.declared.limits.TheConstants.{MOST_INSTRUCTIONS};
 ghost use Rattle.c62_depend.specs.Uses.{insns_in};
 
 use crate::height::heights;
 use crate::links::Lists;
-use crate::side::{Place, places};
+use crate::side::{UnitChoice, unit_choices};
 use crate::uses::Uses;
 use c62_read::SerialInsn;
 use std::alloc::{AllocError, Global};
@@ -18,7 +19,7 @@ pub(crate) struct Tables {
     pub needs: Lists,
     pub followers: Lists,
     pub heights: Vec<u16>,
-    pub places: Vec<Place>,
+    pub choices: Vec<UnitChoice>,
 }
 
 fn all_uses(alloc: Global, insns: &[SerialInsn]) -> Result<Vec<Uses>, AllocError>
@@ -36,20 +37,20 @@ ghost use Rattle.c62_depend.specs.Plan.{unnumbered, AreTables};
 impl Tables {
     /// The tables of these instructions.
     pub fn new(alloc: Global, insns: &[SerialInsn]) -> Result<Tables, AllocError>
-        requires { length insns.now ≤ 256 }
+        requires { length insns.now ≤ MOST_INSTRUCTIONS }
         ensures { IfOk result (λ tables. AreTables (unnumbered insns.now) tables) }
     {
         let uses = all_uses(alloc, insns)?;
         let (followers, pairs) = Lists::followers(alloc, &uses)?;
         let needs = Lists::needs(alloc, &followers, &pairs, &uses)?;
         let heights = heights(alloc, &uses, &pairs)?;
-        let places = places(alloc, &uses)?;
+        let choices = unit_choices(alloc, &uses)?;
         Ok(Tables {
             uses,
             needs,
             followers,
             heights,
-            places,
+            choices,
         })
     }
 
@@ -62,7 +63,7 @@ impl Tables {
             needs: self.needs.copy(alloc)?,
             followers: self.followers.copy(alloc)?,
             heights: Vec::from_slice(alloc, &self.heights)?,
-            places: Vec::from_slice(alloc, &self.places)?,
+            choices: Vec::from_slice(alloc, &self.choices)?,
         })
     }
 }

@@ -1,4 +1,4 @@
-//! Worked blocks: their dependences, heights and places.
+//! Worked blocks: their dependences, heights, sides and units.
 
 use crate::plan::Plan;
 use c62_insn::{Letter, Side, Unit};

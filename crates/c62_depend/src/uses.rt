@@ -2,12 +2,11 @@
 
 ghost use Rattle.std.specs.Prelude.{◌≡◌, ◌≤◌, ◌&&◌, ◌||◌, ◌==◌, [], ◌∷◌, if◌then◌else◌};
 ghost use Rattle.std.specs.List.{list_any};
-ghost use Rattle.c62_insn.specs.Takes.{same_reg};
 ghost use Rattle.c62_insn.specs.declared.register.Reg.{Reg as Register};
 ghost use Rattle.c62_insn.specs.Shape.{delay_of, is_load, is_store, is_branch};
 ghost use Rattle.c62_insn.specs.Insn.{op_of, is_condition_on, reads_register};
 ghost use Rattle.c62_depend.specs.RegSet.{reg_in};
-ghost use Rattle.c62_depend.specs.Writes.{writes_with};
+ghost use Rattle.c62_depend.specs.Writes.{is_write_with, writes_with};
 
 use crate::reg_set::RegSet;
 use c62_insn::{Cond, Insn, Reg};
@@ -76,7 +75,7 @@ fn reads(insn: &Insn) -> RegSet
 
 /// The set with the register of a write added, where the write has this delay.
 fn with_write(set: RegSet, write: (Reg, u8), delay: u8) -> RegSet
-    ensures { (reg : Register) → reg_in result reg ≡ (reg_in set reg || (same_reg write.0 reg && (write.1 == delay))) }
+    ensures { (reg : Register) → reg_in result reg ≡ (reg_in set reg || is_write_with delay reg write) }
 {
     if write.1 == delay {
         set.with(write.0)

@@ -21,6 +21,10 @@ pause_line cycles = codes "   NOP " ++ decimal cycles
 abbrev pub idle_lines : ℕ → List (List ℕ)
 idle_lines cycles = replicate (cycles / 9) (pause_line 9) ++ (if cycles % 9 == 0 then [] else pause_line (cycles % 9) ∷ [])
 
+-- what is written of an instruction, with what stands before it and the line's end
+abbrev pub whole_line : (ℕ → List ℕ) → List ℕ → Placed → List ℕ
+whole_line name front p = front ++ spelling name p.insn p.unit ++ codes "\n"
+
 -- Where the cycles below `next` are written, the lines up to an instruction: three spaces before the first of a packet, and
 -- bars before the others.
 abbrev pub placed_lines : (ℕ → List ℕ) → ℕ → Placed → List (List ℕ)

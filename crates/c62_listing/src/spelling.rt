@@ -1,9 +1,11 @@
 //! Writes instructions.
 
-ghost use Rattle.std.specs.Prelude.{◌≡◌, ◌++◌, OnOk, codes, decimal, encode_utf8, string_bytes};
+ghost use Rattle.std.specs.Prelude.{◌≡◌, ◌++◌, OnOk, codes, decimal, encode_utf8};
 ghost use Rattle.std.specs.Fmt.{signed_decimal};
 ghost use Rattle.c62_insn.specs.Insn.{op_of, operands_of};
-ghost use Rattle.c62_insn.specs.Spelling.{file_letter, side_digit, unit_letter, register_name, condition_spelling, unit_spelling, offset_spelling, sign_of, step_of, is_base_alone, address_spelling, access_spelling, field_spelling, operands_spelling, spelling};
+ghost use Rattle.c62_insn.specs.Spelling.{file_letter, side_digit, unit_letter, register_name, condition_spelling, unit_spelling, offset_spelling, sign_of, step_of, is_base_alone, address_spelling, access_spelling, field_spelling, spelling};
+ghost use Rattle.c62_listing.specs.Names.{operands_to};
+ghost use Rattle.c62_listing.specs.Written.{AddsText};
 
 use c62_insn::{AddressForm, Cond, Insn, Letter, Offset, Op, Operands, Reg, Side, Unit};
 use itoa::Buffer;
@@ -41,7 +43,7 @@ fn unit_letter(letter: Letter) -> char
 /// Appends the number of a register.
 #[tactic(auto, using(std::proofs::lemmas::Fmt::decimal_digit))]
 fn push_number(out: &mut String, number: u8) -> Result<(), AllocError>
-    ensures { OnOk result (string_bytes out.new ≡ string_bytes out.old ++ decimal number) }
+    ensures { OnOk result (AddsText out.old (decimal number) out.new) }
 {
     if number < 10 {
         return out.push(char::from(b'0' + number));
@@ -51,21 +53,21 @@ fn push_number(out: &mut String, number: u8) -> Result<(), AllocError>
 }
 
 pub(crate) fn push_register(out: &mut String, reg: Reg) -> Result<(), AllocError>
-    ensures { OnOk result (string_bytes out.new ≡ string_bytes out.old ++ register_name reg) }
+    ensures { OnOk result (AddsText out.old (register_name reg) out.new) }
 {
     out.push(file_letter(reg.side))?;
     push_number(out, reg.number)
 }
 
 fn push_constant(out: &mut String, constant: i64) -> Result<(), AllocError>
-    ensures { OnOk result (string_bytes out.new ≡ string_bytes out.old ++ signed_decimal constant) }
+    ensures { OnOk result (AddsText out.old (signed_decimal constant) out.new) }
 {
     let mut buffer = Buffer::new();
     out.push_str(buffer.format(constant))
 }
 
 fn push_condition(out: &mut String, cond: Option<Cond>) -> Result<(), AllocError>
-    ensures { OnOk result (string_bytes out.new ≡ string_bytes out.old ++ condition_spelling cond) }
+    ensures { OnOk result (AddsText out.old (condition_spelling cond) out.new) }
 {
     if let Some(cond) = cond {
         out.push_str(if cond.negated { "[!" } else { "[" })?;
@@ -76,7 +78,7 @@ fn push_condition(out: &mut String, cond: Option<Cond>) -> Result<(), AllocError
 }
 
 fn push_unit(out: &mut String, insn: Insn, unit: Unit) -> Result<(), AllocError>
-    ensures { OnOk result (string_bytes out.new ≡ string_bytes out.old ++ unit_spelling (operands_of insn) unit) }
+    ensures { OnOk result (AddsText out.old (unit_spelling (operands_of insn) unit) out.new) }
 {
     out.push('.')?;
     out.push(unit_letter(unit.letter))?;
@@ -92,7 +94,7 @@ fn push_unit(out: &mut String, insn: Insn, unit: Unit) -> Result<(), AllocError>
 }
 
 fn push_offset(out: &mut String, offset: Offset) -> Result<(), AllocError>
-    ensures { OnOk result (string_bytes out.new ≡ string_bytes out.old ++ offset_spelling offset) }
+    ensures { OnOk result (AddsText out.old (offset_spelling offset) out.new) }
 {
     match offset {
         Offset::Constant(constant) => push_constant(out, constant),
@@ -140,7 +142,7 @@ fn push_address(
     form: AddressForm,
     offset: Offset,
 ) -> Result<(), AllocError>
-    ensures { OnOk result (string_bytes out.new ≡ string_bytes out.old ++ address_spelling base form offset) }
+    ensures { OnOk result (AddsText out.old (address_spelling base form offset) out.new) }
 {
     out.push('*')?;
     if is_base_alone(form, offset) {
@@ -156,7 +158,7 @@ fn push_address(
 
 /// A register with another operand behind it.
 fn push_source(out: &mut String, reg: Reg) -> Result<(), AllocError>
-    ensures { OnOk result (string_bytes out.new ≡ string_bytes out.old ++ register_name reg ++ codes ",") }
+    ensures { OnOk result (AddsText out.old (register_name reg ++ codes ",") out.new) }
 {
     push_register(out, reg)?;
     out.push(',')
@@ -164,7 +166,7 @@ fn push_source(out: &mut String, reg: Reg) -> Result<(), AllocError>
 
 /// A constant with another operand behind it.
 fn push_first_constant(out: &mut String, constant: i64) -> Result<(), AllocError>
-    ensures { OnOk result (string_bytes out.new ≡ string_bytes out.old ++ signed_decimal constant ++ codes ",") }
+    ensures { OnOk result (AddsText out.old (signed_decimal constant ++ codes ",") out.new) }
 {
     push_constant(out, constant)?;
     out.push(',')
@@ -177,7 +179,7 @@ fn push_field(
     right: i64,
     destination: Reg,
 ) -> Result<(), AllocError>
-    ensures { OnOk result (string_bytes out.new ≡ string_bytes out.old ++ field_spelling source left right destination) }
+    ensures { OnOk result (AddsText out.old (field_spelling source left right destination) out.new) }
 {
     push_source(out, source)?;
     push_first_constant(out, left)?;
@@ -193,7 +195,7 @@ fn push_access(
     form: AddressForm,
     offset: Offset,
 ) -> Result<(), AllocError>
-    ensures { OnOk result (string_bytes out.new ≡ string_bytes out.old ++ access_spelling op reg (address_spelling base form offset)) }
+    ensures { OnOk result (AddsText out.old (access_spelling op reg (address_spelling base form offset)) out.new) }
 {
     if op.is_store() {
         push_source(out, reg)?;
@@ -211,7 +213,7 @@ fn push_operands(
     letter: Letter,
     label: &str,
 ) -> Result<(), AllocError>
-    ensures { OnOk result (string_bytes out.new ≡ string_bytes out.old ++ operands_spelling (λ _. label.now) (op_of insn) letter (operands_of insn)) }
+    ensures { OnOk result (AddsText out.old (operands_to label.now insn letter) out.new) }
 {
     match insn.operands() {
         Operands::Three(a, b, d) => {
@@ -266,7 +268,7 @@ pub fn push_spelling(
     unit: Unit,
     label: &str,
 ) -> Result<(), AllocError>
-    ensures { OnOk result (string_bytes out.new ≡ string_bytes out.old ++ spelling (λ _. label.now) insn unit) }
+    ensures { OnOk result (AddsText out.old (spelling (λ _. label.now) insn unit) out.new) }
 {
     push_condition(out, insn.cond())?;
     out.push_str(insn.op().mnemonic())?;

@@ -3,11 +3,12 @@
 ghost use Rattle.std.specs.Prelude.{◌≡◌, ◌+◌, ◌*◌, ◌≤◌, ◌++◌, IfOk, OnOk, All, length, codes, string_bytes, IsTrue};
 ghost use Rattle.std.specs.Option.{option_copied};
 ghost use Rattle.c62_insn.specs.Insn.{operands_of};
-ghost use Rattle.c62_insn.specs.Spelling.{spelling};
+ghost use Rattle.c62_packet.specs.declared.limits.TheConstants.{MOST_BLOCKS};
 ghost use Rattle.c62_packet.specs.Packed.{IsPacketBlock};
 ghost use Rattle.c62_packet.specs.Packets.{is_closed};
-ghost use Rattle.c62_listing.specs.Listing.{name_in, pause_line, idle_lines, placed_lines, cycle_lines, label_lines, block_lines, parted_lines, text_of, listing};
+ghost use Rattle.c62_listing.specs.Listing.{name_in, pause_line, idle_lines, whole_line, placed_lines, cycle_lines, label_lines, block_lines, parted_lines, listing};
 ghost use Rattle.c62_listing.specs.Names.{target_name};
+ghost use Rattle.c62_listing.specs.Written.{AddsText, AddsLines};
 
 use crate::spelling::push_spelling;
 use c62_insn::{Insn, Operands};
@@ -17,7 +18,7 @@ use itoa::Buffer;
 use std::alloc::{AllocError, Global};
 
 fn push_pause(out: &mut String, cycles: u32) -> Result<(), AllocError>
-    ensures { OnOk result (string_bytes out.new ≡ string_bytes out.old ++ pause_line cycles ++ codes "\n") }
+    ensures { OnOk result (AddsText out.old (pause_line cycles ++ codes "\n") out.new) }
 {
     let mut buffer = Buffer::new();
     out.push_str("   NOP ")?;
@@ -27,7 +28,7 @@ fn push_pause(out: &mut String, cycles: u32) -> Result<(), AllocError>
 
 /// Appends so many cycles without an instruction.
 fn push_idle(out: &mut String, cycles: u32) -> Result<(), AllocError>
-    ensures { OnOk result (string_bytes out.new ≡ string_bytes out.old ++ text_of (idle_lines cycles)) }
+    ensures { OnOk result (AddsLines out.old (idle_lines cycles) out.new) }
 {
     for _ in 0..cycles / 9 {
         push_pause(out, 9)?;
@@ -79,7 +80,7 @@ fn push_line(
     blocks: &[PacketBlock],
     placed: &Placed,
 ) -> Result<(), AllocError>
-    ensures { OnOk result (string_bytes out.new ≡ string_bytes out.old ++ front.now ++ spelling (name_in blocks.now) placed.now.insn placed.now.unit ++ codes "\n") }
+    ensures { OnOk result (AddsText out.old (whole_line (name_in blocks.now) front.now placed.now) out.new) }
 {
     out.push_str(front)?;
     push_spelling(
@@ -98,7 +99,7 @@ fn push_placed(
     next: u32,
     placed: &Placed,
 ) -> Result<(), AllocError>
-    ensures { OnOk result (string_bytes out.new ≡ string_bytes out.old ++ text_of (placed_lines (name_in blocks.now) next placed.now)) }
+    ensures { OnOk result (AddsLines out.old (placed_lines (name_in blocks.now) next placed.now) out.new) }
 {
     let cycle = u32::from(placed.cycle);
     if cycle < next {
@@ -116,7 +117,7 @@ fn push_cycles(
     length: u16,
     placed: &[Placed],
 ) -> Result<(), AllocError>
-    ensures { OnOk result (string_bytes out.new ≡ string_bytes out.old ++ text_of (cycle_lines (name_in blocks.now) 0 length placed.now)) }
+    ensures { OnOk result (AddsLines out.old (cycle_lines (name_in blocks.now) 0 length placed.now) out.new) }
 {
     let mut next = 0;
     for each in placed {
@@ -127,7 +128,7 @@ fn push_cycles(
 }
 
 fn push_label(out: &mut String, label: Option<&Label>) -> Result<(), AllocError>
-    ensures { OnOk result (string_bytes out.new ≡ string_bytes out.old ++ text_of (label_lines (option_copied label.entry))) }
+    ensures { OnOk result (AddsLines out.old (label_lines (option_copied label.entry)) out.new) }
 {
     if let Some(label) = label {
         out.push_str(label_text(label))?;
@@ -142,7 +143,7 @@ fn push_block(
     blocks: &[PacketBlock],
     block: &PacketBlock,
 ) -> Result<(), AllocError>
-    ensures { OnOk result (string_bytes out.new ≡ string_bytes out.old ++ text_of (block_lines (name_in blocks.now) block.now)) }
+    ensures { OnOk result (AddsLines out.old (block_lines (name_in blocks.now) block.now) out.new) }
 {
     push_label(out, block.label())?;
     push_cycles(out, blocks, block.length(), block.placed())
@@ -150,7 +151,7 @@ fn push_block(
 
 /// Room for the text: a line has at most 48 bytes and nine of idle cycles before it.
 fn room(blocks: &[PacketBlock]) -> usize
-    requires few { length blocks.now ≤ 64 }
+    requires few { length blocks.now ≤ MOST_BLOCKS }
     requires sound { All IsPacketBlock blocks.now }
 {
     let mut room = 0;
@@ -166,7 +167,7 @@ fn push_parted(
     blocks: &[PacketBlock],
     rest: &[PacketBlock],
 ) -> Result<(), AllocError>
-    ensures { OnOk result (string_bytes out.new ≡ string_bytes out.old ++ text_of (parted_lines (name_in blocks.now) rest.now)) }
+    ensures { OnOk result (AddsLines out.old (parted_lines (name_in blocks.now) rest.now) out.new) }
 {
     for block in rest {
         out.push_str("\n")?;
@@ -176,7 +177,7 @@ fn push_parted(
 }
 
 fn push_all(out: &mut String, blocks: &[PacketBlock]) -> Result<(), AllocError>
-    ensures { OnOk result (string_bytes out.new ≡ string_bytes out.old ++ listing blocks.now) }
+    ensures { OnOk result (AddsText out.old (listing blocks.now) out.new) }
 {
     match blocks {
         [] => Ok(()),

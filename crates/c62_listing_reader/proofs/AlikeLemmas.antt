@@ -12,7 +12,7 @@ use Rattle.c62_insn.specs.Shape.{is_branch}
 use Rattle.c62_insn.specs.Units.{index_of}
 use Rattle.c62_read.specs.Program.{Name}
 use Rattle.c62_packet.specs.declared.placed.Placed.{Placed}
-use Rattle.c62_packet.specs.Packed.{Packed, IsInListingOrder, IsPacketBlock, is_branching, issue_of, issued, issues_of, listing_place}
+use Rattle.c62_packet.specs.Packed.{Packed, IsInListingOrder, IsPacketBlock, is_branching, issue_of, issued, issues_of, listing_position}
 use Rattle.c62_listing_reader.specs.Said.{Part, part_of, Draft}
 use Rattle.c62_listing_reader.specs.Faults.{draft_of}
 use Rattle.c62_listing_reader.specs.Laws.{AreAlike, Unlined, unlined as unlined_block}
@@ -84,7 +84,7 @@ branches_by (p ∷ placed) (q ∷ other) same =
 abbrev issue_place : Issue → ℕ
 issue_place issue = 8 * issue.cycle + index_of issue.unit
 
-place_at : (placed other : List Placed) (i : ℕ) (d : Placed) → issues_of other ≡ issues_of placed → listing_place (get_or other i d) ≡ listing_place (get_or placed i d)
+place_at : (placed other : List Placed) (i : ℕ) (d : Placed) → issues_of other ≡ issues_of placed → listing_position (get_or other i d) ≡ listing_position (get_or placed i d)
 place_at placed other i d same =
     sym (ap issue_place (get_or-map issue_of other i d)) ∙ ap (λ (issues : List Issue). issue_place (get_or issues i (issue_of d))) same ∙ ap issue_place (get_or-map issue_of placed i d)
 
@@ -94,7 +94,7 @@ length_by placed other same = sym (length-map other issue_of) ∙ ap length same
 order_by : (placed other : List Placed) → issues_of other ≡ issues_of placed → IsInListingOrder placed → IsInListingOrder other
 order_by placed other same up i j d le within =
     let count = length_by placed other same in
-    let rises : listing_place (get_or placed i d) ≤ listing_place (get_or placed j d) = up i j d le (omega (arith, count, within)) in
+    let rises : listing_position (get_or placed i d) ≤ listing_position (get_or placed j d) = up i j d le (omega (arith, count, within)) in
     omega (arith, rises, place_at placed other i d same, place_at placed other j d same)
 
 block_by : (block : Packed) (other : List Placed) → issues_of other ≡ issues_of block.placed → IsPacketBlock block

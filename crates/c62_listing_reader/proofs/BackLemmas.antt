@@ -17,7 +17,7 @@ use Rattle.c62_read.specs.Program.{Name, is_among}
 use Rattle.c62_read.specs.Laws.{NamesTarget, parts_on, says_with, says_on}
 use Rattle.c62_read.specs.Walk.{is_instruction, is_unknown}
 use Rattle.c62_packet.specs.declared.placed.Placed.{Placed}
-use Rattle.c62_packet.specs.Packed.{listing_place}
+use Rattle.c62_packet.specs.Packed.{listing_position}
 use Rattle.c62_listing.specs.Listing.{pause_line, idle_lines, cycle_lines}
 use Rattle.c62_listing_reader.specs.declared.line.Front.{Front}
 use Rattle.c62_listing_reader.specs.declared.line.Front.TheVariants.{First, Beside}
@@ -415,7 +415,7 @@ module _ (name : ℕ → List ℕ) (labels : List Name) (aim : Name → ℕ) (do
 -- each stands behind the one before it in a listing
 unfoldable pub AreBehind : Placed → List Placed → Type 0
 AreBehind q [] = Unit {0}
-AreBehind q (p ∷ placed) = (listing_place q ≤ listing_place p) × AreBehind p placed
+AreBehind q (p ∷ placed) = (listing_position q ≤ listing_position p) × AreBehind p placed
 
 last_of : (before : List Placed) (q : Placed) (cycles : ℕ) (above : Above) → IsLast (before ++ q ∷ []) cycles above → (q.cycle + 1 ≡ cycles) × (above ≡ Issue (Some q.unit))
 unfolding IsLast

@@ -5,21 +5,21 @@ use Rattle.std.proofs.lemmas.List.{length-map}
 use Rattle.std.proofs.lemmas.List.{get_or-map}
 use Rattle.c62_insn.specs.Insn.{unit_of}
 use Rattle.c62_packet.specs.declared.placed.Placed.{Placed}
-use Rattle.c62_packet.specs.Packed.{listing_place, IsInListingOrder, StandAsWritten}
+use Rattle.c62_packet.specs.Packed.{listing_position, IsInListingOrder, StandAsWritten}
 use Rattle.c62_listing_reader.specs.Said.{part_of}
-use Rattle.c62_listing_reader.specs.Fine.{unit_place, part_place}
+use Rattle.c62_listing_reader.specs.Fine.{unit_index, part_position}
 
-same_place : (p : Placed) → unit_of p.insn ≡ Some p.unit → part_place (part_of p) ≡ listing_place p
-same_place p e = ap (λ (n : ℕ). 8 * p.cycle + n) (ap unit_place e)
+same_place : (p : Placed) → unit_of p.insn ≡ Some p.unit → part_position (part_of p) ≡ listing_position p
+same_place p e = ap (λ (n : ℕ). 8 * p.cycle + n) (ap unit_index e)
 
-pub in_order : (placed : List Placed) → StandAsWritten placed → IsNonDecreasingBy part_place (map part_of placed) → IsInListingOrder placed
+pub in_order : (placed : List Placed) → StandAsWritten placed → IsNonDecreasingBy part_position (map part_of placed) → IsInListingOrder placed
 in_order placed written up i j d le within =
     let low : i < length placed = omega (arith, le, within) in
     let all : length (map part_of placed) ≡ length placed = length-map placed part_of in
-    let places : part_place (get_or (map part_of placed) i (part_of d)) ≤ part_place (get_or (map part_of placed) j (part_of d))
+    let places : part_position (get_or (map part_of placed) i (part_of d)) ≤ part_position (get_or (map part_of placed) j (part_of d))
     = up i j (part_of d) le (omega (arith, within, all)) in
-    let at_i : part_place (get_or (map part_of placed) i (part_of d)) ≡ listing_place (get_or placed i d)
-    = ap part_place (get_or-map part_of placed i d (part_of d) low) ∙ same_place (get_or placed i d) (written i d low) in
-    let at_j : part_place (get_or (map part_of placed) j (part_of d)) ≡ listing_place (get_or placed j d)
-    = ap part_place (get_or-map part_of placed j d (part_of d) within) ∙ same_place (get_or placed j d) (written j d within) in
+    let at_i : part_position (get_or (map part_of placed) i (part_of d)) ≡ listing_position (get_or placed i d)
+    = ap part_position (get_or-map part_of placed i d (part_of d) low) ∙ same_place (get_or placed i d) (written i d low) in
+    let at_j : part_position (get_or (map part_of placed) j (part_of d)) ≡ listing_position (get_or placed j d)
+    = ap part_position (get_or-map part_of placed j d (part_of d) within) ∙ same_place (get_or placed j d) (written j d within) in
     omega (arith, places, at_i, at_j)

@@ -21,7 +21,7 @@ use Rattle.c62_listing_reader.specs.Text.{Line, content}
 use Rattle.c62_listing_reader.specs.Begin.{is_gap, is_beside}
 use Rattle.c62_listing_reader.specs.Said.{Said, Part, Draft, Drafts, all_drafts, opened, with_part, with_pause, with_label, with_says, with_said, above_of, above_next, jump_to, issue_line, spelled_line, is_text}
 use Rattle.c62_listing_reader.specs.Faults.{is_issue, unit_said, unit_above, precedes, is_misplaced, cycles_added, line_says}
-use Rattle.c62_listing_reader.specs.Fine.{unit_place, part_place, IsFine}
+use Rattle.c62_listing_reader.specs.Fine.{unit_index, part_position, IsFine}
 use Rattle.c62_listing_reader.specs.Reading.{HasUnit}
 use Rattle.c62_listing_reader.proofs.ToldLemmas.{not_false, told}
 
@@ -42,11 +42,11 @@ empty_fine = record {
   few = omega arith;
   short = omega arith;
   below = All-nil (λ (part : Part). part.cycle < 0);
-  ordered = IsNonDecreasingBy-short part_place [] (omega arith);
+  ordered = IsNonDecreasingBy-short part_position [] (omega arith);
   units = All-nil (λ (part : Part). is_some part.parts.unit ≡ true);
 }
 
-unit_small : (unit : Option FunctionalUnit) → unit_place unit < 8
+unit_small : (unit : Option FunctionalUnit) → unit_index unit < 8
 unit_small None = omega arith
 unit_small (Some unit) = place_small unit.letter unit.side
 
@@ -76,15 +76,15 @@ first_fine parts line draft few le unit fine =
       below = All-append (λ (part : Part). part.cycle < draft.cycles + 1) draft.placed (new ∷ [])
           (All-weaker (λ (part : Part). part.cycle < draft.cycles) (λ (part : Part). part.cycle < draft.cycles + 1) (λ part lt. omega (arith, lt)) draft.placed fine.below)
           (All-cons (λ (part : Part). part.cycle < draft.cycles + 1) new [] (omega arith) (All-nil (λ (part : Part). part.cycle < draft.cycles + 1)));
-      ordered = IsNonDecreasingBy-push part_place draft.placed new fine.ordered (λ d some.
+      ordered = IsNonDecreasingBy-push part_position draft.placed new fine.ordered (λ d some.
           let low : (get_or draft.placed (length draft.placed - 1) d).cycle < draft.cycles = fine.below (length draft.placed - 1) d (omega (arith, some)) in
-          let small : unit_place (get_or draft.placed (length draft.placed - 1) d).parts.unit < 8 = unit_small (get_or draft.placed (length draft.placed - 1) d).parts.unit in
+          let small : unit_index (get_or draft.placed (length draft.placed - 1) d).parts.unit < 8 = unit_small (get_or draft.placed (length draft.placed - 1) d).parts.unit in
           omega (arith, low, small));
       units = All-append (λ (part : Part). is_some part.parts.unit ≡ true) draft.placed (new ∷ []) fine.units
           (All-cons (λ (part : Part). is_some part.parts.unit ≡ true) new [] unit (All-nil (λ (part : Part). is_some part.parts.unit ≡ true)));
     }
 
-not_before : (unit above : Option FunctionalUnit) → is_some unit ≡ true → is_some above ≡ true → precedes unit above ≡ false → unit_place above ≤ unit_place unit
+not_before : (unit above : Option FunctionalUnit) → is_some unit ≡ true → is_some above ≡ true → precedes unit above ≡ false → unit_index above ≤ unit_index unit
 not_before (Some unit) (Some above) u a h = grind (arith, nat_tests)
 not_before None above u a h = absurd (false≢true u)
 not_before (Some unit) None u a h = absurd (false≢true a)
@@ -100,15 +100,15 @@ beside_fine parts line above draft few unit order ends fine =
     ap (λ (n : ℕ). get_or draft.placed n d) place ∙ ap (λ (parts : List Part). get_or parts (length ends.before) d) ends.is ∙ get_or-append_seam ends.before ends.last [] d in
     let last_unit : is_some ends.last.parts.unit ≡ true =
     subst (λ (part : Part). is_some part.parts.unit ≡ true) (at_last ends.last) (fine.units (length draft.placed - 1) ends.last (omega (arith, count))) in
-    let higher : unit_place ends.last.parts.unit ≤ unit_place parts.unit =
+    let higher : unit_index ends.last.parts.unit ≤ unit_index parts.unit =
     not_before parts.unit ends.last.parts.unit unit last_unit (ap (precedes parts.unit) ends.same ∙ order) in
     record {
       few = one_more draft.placed new few;
       short = fine.short;
       below = All-append (λ (part : Part). part.cycle < draft.cycles) draft.placed (new ∷ []) fine.below
           (All-cons (λ (part : Part). part.cycle < draft.cycles) new [] (omega (arith, some)) (All-nil (λ (part : Part). part.cycle < draft.cycles)));
-      ordered = IsNonDecreasingBy-push part_place draft.placed new fine.ordered (λ d more.
-          subst (λ (part : Part). 8 * part.cycle + unit_place part.parts.unit ≤ 8 * (draft.cycles - 1) + unit_place parts.unit) (sym (at_last d))
+      ordered = IsNonDecreasingBy-push part_position draft.placed new fine.ordered (λ d more.
+          subst (λ (part : Part). 8 * part.cycle + unit_index part.parts.unit ≤ 8 * (draft.cycles - 1) + unit_index parts.unit) (sym (at_last d))
           (omega (arith, higher, ends.cycle)));
       units = All-append (λ (part : Part). is_some part.parts.unit ≡ true) draft.placed (new ∷ []) fine.units
           (All-cons (λ (part : Part). is_some part.parts.unit ≡ true) new [] unit (All-nil (λ (part : Part). is_some part.parts.unit ≡ true)));

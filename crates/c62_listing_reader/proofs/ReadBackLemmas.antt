@@ -19,7 +19,7 @@ use Rattle.c62_read.specs.Block.{is_labelled, target_stands}
 use Rattle.c62_read.specs.Number.{is_label}
 use Rattle.c62_read.specs.Program.{Name, is_among, label_is}
 use Rattle.c62_packet.specs.declared.placed.Placed.{Placed}
-use Rattle.c62_packet.specs.Packed.{Packed, IsPacketBlock, issue_of, listing_place}
+use Rattle.c62_packet.specs.Packed.{Packed, IsPacketBlock, issue_of, listing_position}
 use Rattle.c62_packet.specs.Packets.{labels_of as packet_labels}
 use Rattle.c62_listing.specs.Listing.{all_lines, label_text, listing, name_in}
 use Rattle.c62_listing_reader.specs.declared.line.Above.TheVariants.{Start}
@@ -135,15 +135,15 @@ module _ (packets : List Packed) (shown : AreShown packets) where
   each P all [] are = tt
   each P all (block ∷ blocks) are = (all block are.0, each P all blocks are.1)
 
-  behind_by : (q : Placed) (placed : List Placed) → IsNonDecreasingBy listing_place (q ∷ placed) → AreBehind q placed
+  behind_by : (q : Placed) (placed : List Placed) → IsNonDecreasingBy listing_position (q ∷ placed) → AreBehind q placed
   unfolding AreBehind
   behind_by q [] up = tt
   behind_by q (p ∷ placed) up =
-      let first : listing_place q ≤ listing_place p = up 0 1 q (omega arith) (omega arith) in
+      let first : listing_position q ≤ listing_position p = up 0 1 q (omega arith) (omega arith) in
       (first, behind_by p placed (λ i j d le within. up (suc i) (suc j) d (omega (arith, le)) (omega (arith, within))))
 
-  order_by : (all : List Placed) → IsNonDecreasingBy listing_place all → (p : Placed) (rest : List Placed) → all ≡ p ∷ rest → AreBehind p rest
-  order_by all up p rest is = behind_by p rest (subst (IsNonDecreasingBy listing_place) is up)
+  order_by : (all : List Placed) → IsNonDecreasingBy listing_position all → (p : Placed) (rest : List Placed) → all ≡ p ∷ rest → AreBehind p rest
+  order_by all up p rest is = behind_by p rest (subst (IsNonDecreasingBy listing_position) is up)
 
   within_by : (cycles : ℕ) (placed : List Placed) → All (λ p. landing_end (issue_of p) ≤ cycles) placed → All (λ p. p.cycle + 1 ≤ cycles) placed
   within_by cycles [] all = All-nil (λ (p : Placed). p.cycle + 1 ≤ cycles)

@@ -10,6 +10,7 @@ use Rattle.c62_read.specs.Text.{is_allowed}
 use Rattle.c62_read.specs.Line.{Says, Nothing, Pause, Does, Jumps, line_of}
 use Rattle.c62_read.specs.Program.{Name, place_of, label_is}
 use Rattle.c62_read.specs.Walk.{is_unknown, is_instruction}
+use Rattle.c62_packet.specs.declared.limits.TheConstants.{MOST_BLOCKS, MOST_CYCLES, MOST_INSTRUCTIONS}
 use Rattle.c62_packet.specs.declared.placed.Placed.{Placed}
 use Rattle.c62_packet.specs.declared.fault.BlockFault.{BlockFault}
 use Rattle.c62_packet.specs.Packed.{Packed, StandAsWritten, IsPacketBlock}
@@ -18,6 +19,7 @@ use Rattle.c62_listing_reader.specs.declared.line.Front.{Front}
 use Rattle.c62_listing_reader.specs.declared.line.Front.TheVariants.{Beside, Stray}
 use Rattle.c62_listing_reader.specs.declared.line.Above.{Above}
 use Rattle.c62_listing_reader.specs.declared.line.Above.TheVariants.{Start, Pause as PauseAbove, Issue}
+use Rattle.c62_listing_reader.specs.declared.reader.TheConstants.{MOST_BYTES}
 use Rattle.c62_listing_reader.specs.declared.fault.LineFault.{LineFault}
 use Rattle.c62_listing_reader.specs.declared.fault.LineFault.TheVariants.{Read, Shape}
 use Rattle.c62_listing_reader.specs.Text.{Line, lines_in, content, is_ended, begin_filled}
@@ -60,10 +62,13 @@ is_misplaced Stray above = true
 is_misplaced Beside above = not (is_issue above)
 is_misplaced _ above = false
 
+abbrev pub is_given : Name → List Draft → Bool
+is_given label drafts = list_any (λ draft. label_is label draft.label) drafts
+
 -- whether a block has this label already
 abbrev pub is_taken : Option Name → Drafts → Bool
 is_taken None drafts = false
-is_taken (Some label) drafts = list_any (λ draft. label_is label draft.label) (all_drafts drafts)
+is_taken (Some label) drafts = is_given label (all_drafts drafts)
 
 -- What the rest of a line says where bars have no meaning in it, with a label that is taken before all but a bad label.
 abbrev pub after_label : Bool → Bool → Result (Option Name × Says) Cause → Result (Option Name × Says) Cause
@@ -71,12 +76,20 @@ after_label taken colon (Err ParallelBar) = Err (if colon then BadLabel else Unk
 after_label taken colon (Err BadLabel) = Err BadLabel
 after_label taken colon read = if taken then Err DuplicateLabel else read
 
--- what stands against a line that says something: a branch to no label, a 257th instruction of a block, a 65th block
+-- an instruction of a block that has the most already
+abbrev pub is_one_more : Drafts → Says → Bool
+is_one_more drafts says = is_instruction says && nat_le MOST_INSTRUCTIONS (length (opened drafts.current).placed)
+
+-- the line begins a block, and there are the most already
+abbrev pub begins_one_more : Drafts → Front → Bool
+begins_one_more drafts front = not (is_gap front) && is_none drafts.current && nat_le MOST_BLOCKS (length drafts.done)
+
+-- what stands against a line that says something: a branch to no label, an instruction too many, a block too many
 abbrev pub hindrance : List Name → Drafts → Front → Says → Option Cause
 hindrance labels drafts front says =
     if is_unknown labels says then Some UnknownTarget
-    else (if is_instruction says && nat_le 256 (length (opened drafts.current).placed) then Some TooManyInstructions
-    else (if not (is_gap front) && is_none drafts.current && nat_le 64 (length drafts.done) then Some TooManyBlocks
+    else (if is_one_more drafts says then Some TooManyInstructions
+    else (if begins_one_more drafts front then Some TooManyBlocks
     else None))
 
 abbrev pub cycles_added : Bool → Says → ℕ
@@ -88,6 +101,10 @@ cycles_added beside says = if beside then 0 else 1
 abbrev pub is_alone : Front → Above → List Line → Bool
 is_alone front above below = is_gap front && not (is_filled above && begin_filled below)
 
+-- the line makes its block too long
+abbrev pub is_too_long : Drafts → Front → Says → Bool
+is_too_long drafts front says = nat_lt MOST_CYCLES ((opened drafts.current).cycles + cycles_added (is_beside front) says)
+
 -- The line does not fit its neighbours: it does not end as it should, gives a unit that stands before the one above it in a
 -- packet, goes on with a pause, is an empty line alone, has a label in a block that is begun, or makes its block too long.
 abbrev pub is_unfit : Drafts → Above → Line → List Line → Front → Option Name → Says → Bool
@@ -97,7 +114,7 @@ is_unfit drafts above line below front label says =
     else (if goes_on says above then true
     else (if is_alone front above below then true
     else (if is_some label && is_some drafts.current then true
-    else nat_lt 2048 ((opened drafts.current).cycles + cycles_added (is_beside front) says)))))
+    else is_too_long drafts front says))))
 
 -- the line is not the one spelling of what it says, or does not fit its neighbours
 abbrev pub is_odd : Drafts → Above → Line → List Line → Front → Option Name → Says → Bool
@@ -118,8 +135,12 @@ with_rest labels drafts above line below front (Ok (label, says)) =
     unless_hindered (hindrance labels drafts front says)
     (unless_odd (is_odd drafts above line below front label says) (record { front = front; label = label; says = says }))
 
+-- what the rest of a line says that reads so
+abbrev pub rest_read_as : Drafts → List ℕ → Result (Option Name × Says) Cause → Result (Option Name × Says) Cause
+rest_read_as drafts rest read = after_label (is_taken (place_of rest) drafts) (has_colon rest) read
+
 abbrev pub rest_says : Drafts → List ℕ → Result (Option Name × Says) Cause
-rest_says drafts rest = after_label (is_taken (place_of rest) drafts) (has_colon rest) (line_of rest)
+rest_says drafts rest = rest_read_as drafts rest (line_of rest)
 
 -- what a line says, or its first fault
 unfoldable pub line_says : List Name → Drafts → Above → Line → List Line → Result Said LineFault
@@ -148,7 +169,7 @@ abbrev pub contents : List ℕ → List (List ℕ)
 contents text = map content (lines_in text)
 
 abbrev pub most_bytes : ℕ
-most_bytes = 8388608
+most_bytes = MOST_BYTES
 
 abbrev pub drafts_in : List ℕ → Result Drafts Refusal
 drafts_in text =

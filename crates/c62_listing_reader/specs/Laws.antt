@@ -6,6 +6,7 @@ use Rattle.std.specs.Str.{bytes_eq}
 use Rattle.c62_insn.specs.PacketRules.{Issue}
 use Rattle.c62_read.specs.Number.{is_label}
 use Rattle.c62_read.specs.Program.{Name}
+use Rattle.c62_packet.specs.declared.limits.TheConstants.{MOST_BLOCKS}
 use Rattle.c62_packet.specs.Packed.{Packed, issues_of, IsPacketBlock}
 use Rattle.c62_packet.specs.Packets.{labels_of, is_closed}
 use Rattle.c62_listing.specs.Listing.{listing}
@@ -25,10 +26,10 @@ AreOneReading text packets others = IsRead text packets → IsRead text others �
 abbrev pub labels_given : List Packed → List Name
 labels_given packets = flat_map option_to_list (labels_of packets)
 
--- Packets that a listing shows whole: at most 64 packet blocks whose branches go to labelled blocks, with labels of which no two
+-- Packets that a listing shows whole: few packet blocks whose branches go to labelled blocks, with labels of which no two
 -- are the same, and with instructions in each block without a label.
 pub record AreShown (packets : List Packed) : Type 0 where
-  pub few : length packets ≤ 64
+  pub few : length packets ≤ MOST_BLOCKS
   pub are_blocks : All IsPacketBlock packets
   pub closed : IsTrue (is_closed packets)
   pub labels : AllByRecursion (λ label. IsTrue (is_label label)) (labels_given packets)

@@ -1,10 +1,13 @@
 -- What the reader holds, as the definitions see it.
-use Rattle.std.specs.Prelude.{◌≡◌, ◌⊎◌, ℕ, ◌+◌, ◌≤◌, IsTrue, is_some, List, map, Option, option_map, Result, Ok, Err}
+use Rattle.std.specs.Prelude.{◌≡◌, ◌⊎◌, ℕ, ◌+◌, ◌≤◌, Bool, IsTrue, is_some, List, map, Option, option_map, Result, Ok, Err, MatchResult}
 use Rattle.c62_read.specs.declared.fault.Cause.{Cause}
 use Rattle.c62_read.specs.declared.fault.ReadFault.{ReadFault}
 use Rattle.c62_read.specs.declared.reading.Reading.{Reading}
 use Rattle.c62_read.specs.Line.{Says, Does, Jumps, said_of}
 use Rattle.c62_read.specs.Program.{Name}
+use Rattle.c62_packet.specs.declared.limits.TheConstants.{MOST_CYCLES}
+use Rattle.c62_packet.specs.declared.fault.BlockFault.{BlockFault}
+use Rattle.c62_packet.specs.Packed.{Packed, IsPacketBlock}
 use Rattle.c62_packet.specs.declared.fault.BlockFault.TheVariants.{TwoBranches, NotDrained, Unlawful}
 use Rattle.c62_listing_reader.specs.declared.draft.OpenBlock.{OpenBlock}
 use Rattle.c62_listing_reader.specs.declared.draft.Blocks.{Blocks}
@@ -15,9 +18,14 @@ use Rattle.c62_listing_reader.specs.declared.fault.LineFault.TheVariants.{Read a
 use Rattle.c62_listing_reader.specs.declared.fault.ListFault.{ListFault}
 use Rattle.c62_listing_reader.specs.declared.fault.ListFault.TheVariants.{Read, Unlawful as UnlawfulBlock, NotDrained as Undrained, TwoBranches as Branches, Shape, Memory}
 use Rattle.c62_listing_reader.specs.Named.{entry_of}
-use Rattle.c62_listing_reader.specs.Said.{Said, part_of, Draft, Drafts, opened}
+use Rattle.c62_listing_reader.specs.declared.line.Above.{Above}
+use Rattle.c62_listing_reader.specs.declared.line.Above.TheVariants.{Start}
+use Rattle.c62_listing_reader.specs.declared.text.Cut.{Cut}
+use Rattle.c62_listing_reader.specs.Text.{lines_in}
+use Rattle.c62_listing_reader.specs.Cut.{line_cut}
+use Rattle.c62_listing_reader.specs.Said.{Said, part_of, Draft, Drafts, opened, no_drafts, labels_of, aim_by, with_says, with_line, with_said}
 use Rattle.c62_listing_reader.specs.Begin.{is_beside}
-use Rattle.c62_listing_reader.specs.Faults.{Refusal, drafts_in, IsFirstFaulty, IsFaulty, cycles_added}
+use Rattle.c62_listing_reader.specs.Faults.{Refusal, drafts_in, draft_of, read_lines, with_rest, is_unfit, is_odd, unless_odd, IsFaulted, IsFirstFaulty, IsFaulty, cycles_added}
 
 abbrev pub draft_open : OpenBlock → Draft
 draft_open block = record { label = block.label; cycles = block.cycles; placed = map part_of block.placed.items }
@@ -39,12 +47,36 @@ read_as (Err fault) = Err fault.cause
 abbrev pub Fails : LineFault → Result Said LineFault → Type 0
 Fails fault says = (fault ≡ MemoryLine) ⊎ (says ≡ Err fault)
 
+-- the blocks that the lines of a text say, where labels stand for these numbers, or the first faulty line with its fault
+abbrev pub lines_read : Names → List ℕ → Result Drafts Refusal
+lines_read names text = read_lines (labels_of (entries_of names)) (aim_by (entries_of names)) 1 no_drafts Start (lines_in text)
+
+-- the open block has what a line says too
+abbrev pub AddsSays : Names → Bool → ℕ → Says → Draft → Draft → Type 0
+AddsSays names beside line says old new = new ≡ with_says (aim_by (entries_of names)) beside line says old
+
+-- it has the line's label too
+abbrev pub AddsLine : Names → ℕ → Said → Draft → Draft → Type 0
+AddsLine names line said old new = new ≡ with_line (aim_by (entries_of names)) line said old
+
+-- the blocks have what a line says too
+abbrev pub AddsSaid : Names → ℕ → Said → Drafts → Drafts → Type 0
+AddsSaid names line said old new = new ≡ with_said (aim_by (entries_of names)) line said old
+
 -- what a refusal says of lines, of blocks and of a text
 abbrev pub RefusesLines : Result Drafts Refusal → ListFault → Type 0
 RefusesLines says (Read fault) = says ≡ Err (fault.line, ReadLine fault.cause)
 RefusesLines says (Shape line) = says ≡ Err (line, ShapeLine)
 RefusesLines says Memory = Unit {0}
 RefusesLines says _ = ⊥
+
+-- the answer is right wherever the line of this number has this fault, or memory ran out
+abbrev pub TellsOfLine : ℕ → LineFault → ListFault → Type 0
+TellsOfLine line fault told = (says : Result Drafts Refusal) → (fault ≡ MemoryLine) ⊎ (says ≡ Err (line, fault)) → RefusesLines says told
+
+-- the packet block of a draft, or its fault
+abbrev pub IsBlockOf : Draft → Result Packed BlockFault → Type 0
+IsBlockOf draft made = MatchResult made (λ packed. (draft_of packed ≡ draft) × IsPacketBlock packed) (IsFaulted draft)
 
 abbrev pub RefusesBlocks : List Draft → ListFault → Type 0
 RefusesBlocks drafts (Branches number) = IsFirstFaulty drafts number TwoBranches
@@ -61,6 +93,24 @@ Refuses text (Undrained number) = IsFaulty text number NotDrained
 Refuses text (UnlawfulBlock number cycle rule) = IsFaulty text number (Unlawful cycle rule)
 Refuses text Memory = Unit {0}
 
+-- where the text says this of a line, the line is judged so: nothing stands against it, or a fault
+abbrev pub Judges : Result Said LineFault → Said → Result Unit LineFault → Type 0
+Judges says said verdict = MatchResult verdict (λ _. says ≡ Ok said) (λ fault. Fails fault says)
+
+-- a line that reads so does not fit its neighbours
+abbrev pub is_unfit_here : Drafts → Above → Cut → Front → Reading → Bool
+is_unfit_here drafts above cut front reading = is_unfit drafts above (line_cut cut) (lines_in cut.rest.now) front reading.label (said_of reading.what)
+
+-- what such a line says, where nothing stands against what it says by itself
+abbrev pub fitting : Drafts → Above → Cut → Front → Reading → Result Said LineFault
+fitting drafts above cut front reading =
+    unless_odd (is_odd drafts above (line_cut cut) (lines_in cut.rest.now) front reading.label (said_of reading.what)) (said_by front reading)
+
+-- what a line says whose rest says this
+abbrev pub saying : Names → Drafts → Above → Cut → Front → Result (Option Name × Says) Cause → Result Said LineFault
+saying names drafts above cut front read =
+    with_rest (labels_of (entries_of names)) drafts above (line_cut cut) (lines_in cut.rest.now) front read
+
 -- an instruction has its unit written
 abbrev pub HasUnit : Says → Type 0
 HasUnit (Does parts) = IsTrue (is_some parts.unit)
@@ -70,4 +120,4 @@ HasUnit _ = Unit {0}
 -- what a line says fits into the block that is open
 pub record Fits (drafts : Drafts) (said : Said) : Type 0 where
   pub unit : HasUnit said.says
-  pub short : (opened drafts.current).cycles + cycles_added (is_beside said.front) said.says ≤ 2048
+  pub short : (opened drafts.current).cycles + cycles_added (is_beside said.front) said.says ≤ MOST_CYCLES

@@ -3,6 +3,8 @@ use Rattle.std.specs.Prelude.{ℕ, ◌+◌, ◌-◌, min, Bool, true, false, if�
 use Rattle.std.specs.Option.{option_to_list}
 use Rattle.std.specs.Str.{bytes_eq}
 use Rattle.c62_insn.specs.declared.register.Unit.{Unit as FunctionalUnit}
+use Rattle.c62_insn.specs.declared.insn.Insn.{Insn}
+use Rattle.c62_insn.specs.Insn.{unit_of}
 use Rattle.c62_insn.specs.Spelling.{condition_spelling, mnemonic_of, unit_spelling, operands_spelling}
 use Rattle.c62_read.specs.Line.{Parts, parts_of, Says, Nothing, Pause, Does, Jumps}
 use Rattle.c62_read.specs.Program.{Name, place_of, aimed_operands}
@@ -47,9 +49,17 @@ no_drafts = record { done = []; current = None }
 abbrev pub all_drafts : Drafts → List Draft
 all_drafts drafts = drafts.done ++ option_to_list drafts.current
 
+-- no block is open then
+abbrev pub ended : Drafts → Drafts
+ended drafts = record { done = all_drafts drafts; current = None }
+
 abbrev pub opened : Option Draft → Draft
 opened None = record { label = None; cycles = 0; placed = [] }
 opened (Some draft) = draft
+
+-- a block is open then
+abbrev pub begun : Drafts → Drafts
+begun drafts = record drafts { current = Some (opened drafts.current) }
 
 -- an instruction beside another stands in the last cycle written, and each other in the next one
 abbrev pub with_part : Bool → Parts → ℕ → Draft → Draft
@@ -65,9 +75,13 @@ abbrev pub with_label : Option Name → Draft → Draft
 with_label None draft = draft
 with_label (Some label) draft = record { label = Some label; cycles = draft.cycles; placed = draft.placed }
 
+-- a branch to a block goes to the one of this number
+abbrev pub aimed_parts : ℕ → Parts → Parts
+aimed_parts number parts = record { op = parts.op; operands = aimed_operands number parts.operands; cond = parts.cond; unit = parts.unit }
+
 -- a jump to a label is a branch to the block that its label stands for
 abbrev pub jump_to : (Name → ℕ) → Parts → Name → Parts
-jump_to aim parts target = record { op = parts.op; operands = aimed_operands (aim target) parts.operands; cond = parts.cond; unit = parts.unit }
+jump_to aim parts target = aimed_parts (aim target) parts
 
 abbrev pub with_says : (Name → ℕ) → Bool → ℕ → Says → Draft → Draft
 with_says aim beside line Nothing draft = draft
@@ -75,11 +89,15 @@ with_says aim beside line (Pause n) draft = with_pause n draft
 with_says aim beside line (Does parts) draft = with_part beside parts line draft
 with_says aim beside line (Jumps parts target) draft = with_part beside (jump_to aim parts target) line draft
 
+-- the block with what a line of it says
+abbrev pub with_line : (Name → ℕ) → ℕ → Said → Draft → Draft
+with_line aim line said draft = with_says aim (is_beside said.front) line said.says (with_label said.label draft)
+
 -- the blocks with what the line of this number says; an empty line ends a block
 abbrev pub with_said : (Name → ℕ) → ℕ → Said → Drafts → Drafts
 with_said aim line said drafts =
-    if is_gap said.front then record { done = all_drafts drafts; current = None }
-    else record { done = drafts.done; current = Some (with_says aim (is_beside said.front) line said.says (with_label said.label (opened drafts.current))) }
+    if is_gap said.front then ended drafts
+    else record { done = drafts.done; current = Some (with_line aim line said (opened drafts.current)) }
 
 abbrev pub above_of : Says → Above
 above_of Nothing = Heading
@@ -113,7 +131,7 @@ abbrev pub number_of : List (Name × ℕ) → Name → ℕ
 number_of [] label = 0
 number_of (entry ∷ names) label = if bytes_eq entry.0 label then entry.1 else number_of names label
 
--- the block that a branch to this label goes to; there are 64 at most
+-- the block that a branch to this label goes to; no text has more
 abbrev pub aim_by : List (Name × ℕ) → Name → ℕ
 aim_by names label = min 255 (number_of names label)
 
@@ -132,6 +150,10 @@ front_spelling _ = codes "   "
 abbrev pub issue_line : Front → Name → Parts → Option FunctionalUnit → Option (List ℕ)
 issue_line front target parts None = None
 issue_line front target parts (Some unit) = Some (front_spelling front ++ parts_spelling (λ _. target) parts unit)
+
+-- the same of an instruction that is read
+abbrev pub insn_line : Front → Name → Insn → Option (List ℕ)
+insn_line front target insn = issue_line front target (parts_of insn) (unit_of insn)
 
 abbrev pub empty_line : Front → Option (List ℕ)
 empty_line Empty = Some []

@@ -1,6 +1,7 @@
 //! The blocks of a listing as they are read.
 
 ghost use Rattle.std.specs.Prelude.{◌≡◌, ◌+◌, ◌≤◌, length, OnOk, IsTrue, is_some, true, false, None, Some, nat_le, if◌then◌else◌};
+ghost use Rattle.c62_packet.specs.declared.limits.TheConstants.{MOST_CYCLES};
 ghost use Rattle.c62_packet.specs.Packed.{StandAsWritten};
 ghost use Rattle.std.specs.List.{list_any};
 ghost use Rattle.std.specs.Option.{option_copied, option_to_list};
@@ -9,7 +10,7 @@ ghost use Rattle.c62_read.specs.Line.{parts_of};
 ghost use Rattle.c62_read.specs.Program.{label_is};
 
 use c62_insn::Insn;
-use c62_packet::Placed;
+use c62_packet::{MOST_BLOCKS, Placed};
 use c62_read::Label;
 use std::alloc::{AllocError, Global};
 
@@ -30,9 +31,8 @@ pub struct Blocks {
 }
 
 impl OpenBlock {
-    ghost use Rattle.c62_listing_reader.specs.Said.{with_part, with_pause, with_label, opened, all_drafts, no_drafts};
-    ghost use Rattle.c62_listing_reader.specs.Faults.{is_taken};
-    ghost use Rattle.c62_listing_reader.specs.Reading.{draft_open, drafts_of};
+    ghost use Rattle.c62_listing_reader.specs.Said.{with_part, with_pause, with_label, opened};
+    ghost use Rattle.c62_listing_reader.specs.Reading.{draft_open};
 
     fn new(alloc: Global) -> OpenBlock
         ensures { draft_open result ≡ opened None }
@@ -53,7 +53,7 @@ impl OpenBlock {
     }
 
     pub fn add_pause(&mut self, cycles: u8)
-        requires { self.old.cycles + cycles ≤ 2048 }
+        requires { self.old.cycles + cycles ≤ MOST_CYCLES }
         ensures { draft_open self.new ≡ with_pause cycles (draft_open self.old) }
     {
         self.cycles += u16::from(cycles);
@@ -81,7 +81,7 @@ impl OpenBlock {
     #[tactic(auto, using(std::proofs::lemmas::Grind::common_steps))]
     fn add_first(&mut self, insn: Insn, line: u32) -> Result<(), AllocError>
         requires unit { IsTrue (is_some (unit_of insn)) }
-        requires short { self.old.cycles + 1 ≤ 2048 }
+        requires short { self.old.cycles + 1 ≤ MOST_CYCLES }
         ensures { OnOk result (draft_open self.new ≡ with_part false (parts_of insn) line (draft_open self.old)) }
     {
         let Some(unit) = insn.unit() else {
@@ -99,7 +99,7 @@ impl OpenBlock {
 
     pub fn add_insn(&mut self, beside: bool, insn: Insn, line: u32) -> Result<(), AllocError>
         requires unit { IsTrue (is_some (unit_of insn)) }
-        requires short { self.old.cycles + (if beside then 0 else 1) ≤ 2048 }
+        requires short { self.old.cycles + (if beside then 0 else 1) ≤ MOST_CYCLES }
         ensures { OnOk result (draft_open self.new ≡ with_part beside (parts_of insn) line (draft_open self.old)) }
     {
         if beside {
@@ -111,8 +111,8 @@ impl OpenBlock {
 }
 
 impl Blocks {
-    ghost use Rattle.c62_listing_reader.specs.Said.{with_part, with_pause, with_label, opened, all_drafts, no_drafts};
-    ghost use Rattle.c62_listing_reader.specs.Faults.{is_taken};
+    ghost use Rattle.c62_listing_reader.specs.Said.{opened, begun, ended, no_drafts};
+    ghost use Rattle.c62_listing_reader.specs.Faults.{is_given, is_taken};
     ghost use Rattle.c62_listing_reader.specs.Reading.{draft_open, drafts_of};
 
     pub fn new(alloc: Global) -> Blocks
@@ -126,7 +126,7 @@ impl Blocks {
 
     /// Ends the block that is open.
     pub fn end_block(&mut self) -> Result<(), AllocError>
-        ensures { OnOk result (drafts_of self.new ≡ record { done = all_drafts (drafts_of self.old); current = None }) }
+        ensures { OnOk result (drafts_of self.new ≡ ended (drafts_of self.old)) }
     {
         if let Some(block) = self.current.take() {
             self.done.push(block)?;
@@ -136,7 +136,7 @@ impl Blocks {
 
     /// Opens a block where none is open.
     pub fn open_block(&mut self, alloc: Global)
-        ensures { drafts_of self.new ≡ record (drafts_of self.old) { current = Some (opened (drafts_of self.old).current) } }
+        ensures { drafts_of self.new ≡ begun (drafts_of self.old) }
     {
         if self.current.is_none() {
             self.current = Some(OpenBlock::new(alloc));
@@ -144,13 +144,13 @@ impl Blocks {
     }
 
     fn is_done(&self, label: &[u8]) -> bool
-        ensures { result ≡ list_any (λ draft. label_is label.now draft.label) (drafts_of self.now).done }
+        ensures { result ≡ is_given label.now (drafts_of self.now).done }
     {
         any_labelled(&self.done, label)
     }
 
     fn is_current(&self, label: &[u8]) -> bool
-        ensures { result ≡ list_any (λ draft. label_is label.now draft.label) (option_to_list (drafts_of self.now).current) }
+        ensures { result ≡ is_given label.now (option_to_list (drafts_of self.now).current) }
     {
         match &self.current {
             Some(block) => label_is(label, &block.label),
@@ -168,11 +168,11 @@ impl Blocks {
         }
     }
 
-    /// Whether there are 64 blocks that are over.
+    /// Whether as many blocks are over as there may be.
     pub fn is_full(&self) -> bool
-        ensures { result ≡ nat_le 64 (length (drafts_of self.now).done) }
+        ensures { result ≡ nat_le MOST_BLOCKS (length (drafts_of self.now).done) }
     {
-        64 <= self.done.len()
+        MOST_BLOCKS <= self.done.len()
     }
 
     /// How many instructions the open block has.

@@ -1,7 +1,7 @@
 //! What a line of a listing says, or its first fault.
 
-ghost use Rattle.std.specs.Prelude.{◌≡◌, ◌⊎◌, ◌≤◌, ◌+◌, ◌&&◌, not, Ok, Err, IfOk, IsOk, OnOk, MatchResult, is_some, is_none, nat_le, nat_lt, length};
-ghost use Rattle.std.specs.List.{list_all};
+ghost use Rattle.std.specs.Prelude.{◌≡◌, ◌≤◌, ◌&&◌, not, Ok, Err, IfOk, IsOk, OnOk, MatchResult, is_some, is_none};
+ghost use Rattle.std.specs.List.{list_all, list_any};
 ghost use Rattle.c62_read.specs.Text.{is_allowed};
 ghost use Rattle.c62_read.specs.Line.{line_of, said_of};
 ghost use Rattle.c62_read.specs.Program.{place_of};
@@ -9,9 +9,9 @@ ghost use Rattle.c62_read.specs.Walk.{is_unknown, is_instruction};
 ghost use Rattle.c62_listing_reader.specs.Text.{lines_in, content};
 ghost use Rattle.c62_listing_reader.specs.Cut.{line_cut};
 ghost use Rattle.c62_listing_reader.specs.Begin.{has_colon, front_of, rest_of, is_gap, is_beside};
-ghost use Rattle.c62_listing_reader.specs.Said.{labels_of, opened};
-ghost use Rattle.c62_listing_reader.specs.Faults.{is_issue, is_filled, unit_said, unit_above, precedes, goes_on, is_misplaced, is_taken, after_label, hindrance, cycles_added, is_alone, is_unfit, is_odd, unless_odd, with_rest, rest_says, line_says};
-ghost use Rattle.c62_listing_reader.specs.Reading.{drafts_of, said_by, entries_of, read_as, Fails};
+ghost use Rattle.c62_listing_reader.specs.Said.{labels_of};
+ghost use Rattle.c62_listing_reader.specs.Faults.{is_issue, is_filled, unit_said, unit_above, precedes, goes_on, is_misplaced, is_taken, rest_read_as, is_one_more, begins_one_more, hindrance, cycles_added, is_alone, is_too_long, with_rest, rest_says, line_says};
+ghost use Rattle.c62_listing_reader.specs.Reading.{drafts_of, said_by, entries_of, read_as, Fails, Judges, is_unfit_here, fitting, saying};
 
 use crate::draft::Blocks;
 use crate::fault::LineFault;
@@ -20,6 +20,7 @@ use crate::names::Names;
 use crate::spelled::is_spelled;
 use crate::text::{Cut, begins_filled, content, is_ended};
 use c62_insn::Unit;
+use c62_packet::{MOST_CYCLES, MOST_INSTRUCTIONS};
 use c62_read::{Cause, Label, ReadFault, Reading, What, label_place};
 
 fn is_issue(above: Above) -> bool
@@ -96,7 +97,7 @@ fn is_misplaced(front: Front, above: Above) -> bool
 
 /// The fault of a rest in which bars have no meaning. A label that is taken comes before all faults but a bad label.
 fn fault_of_rest(blocks: &Blocks, rest: &[u8], cause: Cause) -> Cause
-    ensures { after_label (is_taken (place_of rest.now) (drafts_of blocks.now)) (has_colon rest.now) (Err cause) ≡ Err result }
+    ensures { rest_read_as (drafts_of blocks.now) rest.now (Err cause) ≡ Err result }
 {
     match cause {
         Cause::ParallelBar => {
@@ -142,11 +143,11 @@ fn is_instruction(what: &What) -> bool
     matches!(what, What::Insn(_) | What::Jump(_, _))
 }
 
-/// Whether the line is the 257th instruction of its block.
+/// Whether the line is an instruction of a block that has as many as it may.
 fn is_one_more(blocks: &Blocks, what: &What) -> bool
-    ensures { result ≡ (is_instruction (said_of what.now) && nat_le 256 (length (opened (drafts_of blocks.now).current).placed)) }
+    ensures { result ≡ is_one_more (drafts_of blocks.now) (said_of what.now) }
 {
-    is_instruction(what) && 256 <= blocks.count()
+    is_instruction(what) && MOST_INSTRUCTIONS <= blocks.count()
 }
 
 /// Whether the line begins a block.
@@ -156,9 +157,9 @@ fn begins_block(blocks: &Blocks, front: Front) -> bool
     !is_gap(front) && blocks.current.is_none()
 }
 
-/// Whether the line begins the 65th block.
+/// Whether the line begins a block behind as many as there may be.
 fn begins_one_more(blocks: &Blocks, front: Front) -> bool
-    ensures { result ≡ (not (is_gap front) && is_none (drafts_of blocks.now).current && nat_le 64 (length (drafts_of blocks.now).done)) }
+    ensures { result ≡ begins_one_more (drafts_of blocks.now) front }
 {
     begins_block(blocks, front) && blocks.is_full()
 }
@@ -218,14 +219,15 @@ fn is_inside(label: &Option<Label>, blocks: &Blocks) -> bool
 
 /// Whether the line makes its block too long.
 fn is_too_long(blocks: &Blocks, front: Front, what: &What) -> bool
-    ensures { result ≡ nat_lt 2048 ((opened (drafts_of blocks.now).current).cycles + cycles_added (is_beside front) (said_of what.now)) }
+    ensures { result ≡ is_too_long (drafts_of blocks.now) front (said_of what.now) }
 {
-    2048 < u32::from(blocks.cycles()) + u32::from(cycles_added(is_beside(front), what))
+    let cycles = u32::from(blocks.cycles()) + u32::from(cycles_added(is_beside(front), what));
+    u32::from(MOST_CYCLES) < cycles
 }
 
 /// Whether a line does not fit its neighbours.
 fn is_unfit(blocks: &Blocks, above: Above, cut: &Cut<'_>, front: Front, reading: &Reading) -> bool
-    ensures { result ≡ is_unfit (drafts_of blocks.now) above (line_cut cut.now) (lines_in cut.now.rest.now) front reading.now.label (said_of reading.now.what) }
+    ensures { result ≡ is_unfit_here (drafts_of blocks.now) above cut.now front reading.now }
 {
     if !is_ended(cut) {
         return true;
@@ -254,9 +256,7 @@ fn fit(
     front: Front,
     reading: &Reading,
 ) -> Result<(), LineFault>
-    ensures { MatchResult result
-        (λ _. unless_odd (is_odd (drafts_of blocks.now) above (line_cut cut.now) (lines_in cut.now.rest.now) front reading.now.label (said_of reading.now.what)) (said_by front reading.now) ≡ Ok (said_by front reading.now))
-        (λ fault. Fails fault (unless_odd (is_odd (drafts_of blocks.now) above (line_cut cut.now) (lines_in cut.now.rest.now) front reading.now.label (said_of reading.now.what)) (said_by front reading.now))) }
+    ensures { Judges (fitting (drafts_of blocks.now) above cut.now front reading.now) (said_by front reading.now) result }
 {
     let spelled = is_spelled(spelling, content(cut), front, &reading.label, &reading.what)?;
     if !spelled {
@@ -278,9 +278,8 @@ fn with_reading(
     front: Front,
     reading: &Reading,
 ) -> Result<(), LineFault>
-    ensures { MatchResult result
-        (λ _. with_rest (labels_of (entries_of names.now)) (drafts_of blocks.now) above (line_cut cut.now) (lines_in cut.now.rest.now) front (Ok (reading.now.label, said_of reading.now.what)) ≡ Ok (said_by front reading.now))
-        (λ fault. Fails fault (with_rest (labels_of (entries_of names.now)) (drafts_of blocks.now) above (line_cut cut.now) (lines_in cut.now.rest.now) front (Ok (reading.now.label, said_of reading.now.what)))) }
+    ensures { Judges (saying names.now (drafts_of blocks.now) above cut.now front (Ok (reading.now.label, said_of reading.now.what)))
+        (said_by front reading.now) result }
 {
     match hindrance(names, blocks, front, &reading.what) {
         Some(cause) => Err(LineFault::Read(cause)),

@@ -1,21 +1,17 @@
 //! Reads listings.
 
-ghost use Rattle.std.specs.Prelude.{◌≡◌, ◌⊎◌, ◌+◌, ◌<◌, ◌≤◌, ◌++◌, ◌∷◌, [], All, List, length, map, OnOk, IfOk, MatchResult, Result, Ok, Err, IsTrue};
-ghost use Rattle.c62_insn.specs.Insn.{op_of, operands_of, cond_of, unit_of};
+ghost use Rattle.std.specs.Prelude.{◌≡◌, ◌+◌, ◌<◌, ◌≤◌, ◌++◌, ◌∷◌, [], All, List, length, map, OnOk, IfOk, MatchResult, Ok, IsTrue};
 ghost use Rattle.c62_read.specs.Line.{line_of, parts_of, said_of};
-ghost use Rattle.c62_read.specs.Program.{aimed_operands};
+ghost use Rattle.c62_packet.specs.declared.limits.TheConstants.{MOST_BLOCKS, MOST_CYCLES};
 ghost use Rattle.c62_packet.specs.Packed.{IsPacketBlock};
 ghost use Rattle.c62_packet.specs.Packets.{is_closed};
-ghost use Rattle.c62_listing_reader.specs.declared.fault.LineFault.TheVariants.{Memory as OutOfMemory};
 ghost use Rattle.c62_listing_reader.specs.declared.fault.ListFault.TheVariants.{Memory as NoMemory};
-ghost use Rattle.c62_listing_reader.specs.declared.line.Above.TheVariants.{Start};
-ghost use Rattle.c62_listing_reader.specs.Text.{lines_in};
 ghost use Rattle.c62_listing_reader.specs.Begin.{rest_of, is_beside};
 ghost use Rattle.c62_listing_reader.specs.Named.{entry_of};
-ghost use Rattle.c62_listing_reader.specs.Said.{Draft, Drafts as Placements, names_in, labels_of, aim_by, with_label, with_says, with_said, above_of, above_next, all_drafts, no_drafts};
-ghost use Rattle.c62_listing_reader.specs.Faults.{Refusal, contents, draft_of, IsFaulted, IsFirstFaulty, IsRead, read_lines, cycles_added};
+ghost use Rattle.c62_listing_reader.specs.Said.{Draft, names_in, aimed_parts, aim_by, above_of, above_next, all_drafts};
+ghost use Rattle.c62_listing_reader.specs.Faults.{contents, draft_of, IsFirstFaulty, IsRead, cycles_added};
 ghost use Rattle.c62_listing_reader.specs.Fine.{IsFine};
-ghost use Rattle.c62_listing_reader.specs.Reading.{draft_open, drafts_of, said_by, read_as, entries_of, HasUnit, Fits, RefusesLines, RefusesBlocks, Refuses};
+ghost use Rattle.c62_listing_reader.specs.Reading.{draft_open, drafts_of, said_by, read_as, entries_of, HasUnit, Fits, lines_read, AddsSays, AddsLine, AddsSaid, RefusesLines, TellsOfLine, IsBlockOf, RefusesBlocks, Refuses};
 
 use crate::draft::{Blocks, OpenBlock};
 use crate::fault::{LineFault, ListFault};
@@ -36,7 +32,7 @@ const LONGEST_LINE: usize = 64;
 
 /// The labels of all lines of a text.
 fn all_names<'a>(alloc: Global, text: &'a [u8]) -> Result<Vec<Named<'a>>, AllocError>
-    requires { length text.now ≤ 8388608 }
+    requires { length text.now ≤ MOST_BYTES }
     ensures { IfOk result (λ names. map entry_of names.items ≡ names_in 0 (contents text.now)) }
 {
     let mut names = Vec::new(alloc);
@@ -66,7 +62,7 @@ fn number_of(names: &Names<'_>, label: &[u8]) -> u8
 
 /// A branch to a label goes to the block of this number.
 fn aimed(insn: Insn, number: u8) -> Insn
-    ensures { parts_of result ≡ record { op = op_of insn; operands = aimed_operands number (operands_of insn); cond = cond_of insn; unit = unit_of insn } }
+    ensures { parts_of result ≡ aimed_parts number (parts_of insn) }
 {
     match insn.operands() {
         Operands::Block(_) => {
@@ -111,8 +107,8 @@ impl OpenBlock {
         what: &What,
     ) -> Result<(), AllocError>
         requires unit { HasUnit (said_of what.now) }
-        requires short { self.old.cycles + cycles_added beside (said_of what.now) ≤ 2048 }
-        ensures { OnOk result (draft_open self.new ≡ with_says (aim_by (entries_of names.now)) beside line (said_of what.now) (draft_open self.old)) }
+        requires short { self.old.cycles + cycles_added beside (said_of what.now) ≤ MOST_CYCLES }
+        ensures { OnOk result (AddsSays names.now beside line (said_of what.now) (draft_open self.old) (draft_open self.new)) }
     {
         match what {
             What::Empty => Ok(()),
@@ -137,8 +133,8 @@ impl OpenBlock {
         reading: &Reading,
     ) -> Result<(), AllocError>
         requires unit { HasUnit (said_of reading.now.what) }
-        requires short { self.old.cycles + cycles_added (is_beside front) (said_of reading.now.what) ≤ 2048 }
-        ensures { OnOk result (draft_open self.new ≡ with_says (aim_by (entries_of names.now)) (is_beside front) line (said_of reading.now.what) (with_label reading.now.label (draft_open self.old))) }
+        requires short { self.old.cycles + cycles_added (is_beside front) (said_of reading.now.what) ≤ MOST_CYCLES }
+        ensures { OnOk result (AddsLine names.now line (said_by front reading.now) (draft_open self.old) (draft_open self.new)) }
     {
         self.add_label(&reading.label);
         self.add_what(names, is_beside(front), line, &reading.what)
@@ -156,7 +152,7 @@ impl Blocks {
         reading: &Reading,
     ) -> Result<(), AllocError>
         requires { Fits (drafts_of self.old) (said_by front reading.now) }
-        ensures { OnOk result (drafts_of self.new ≡ with_said (aim_by (entries_of names.now)) line (said_by front reading.now) (drafts_of self.old)) }
+        ensures { OnOk result (AddsSaid names.now line (said_by front reading.now) (drafts_of self.old) (drafts_of self.new)) }
     {
         if is_gap(front) {
             return self.end_block();
@@ -177,7 +173,7 @@ fn read_rest(front: Front, line: &[u8]) -> Result<Reading, ReadFault>
 }
 
 fn fault_of_line(line: u32, fault: LineFault) -> ListFault
-    ensures { (says : Result Placements Refusal) → (fault ≡ OutOfMemory) ⊎ (says ≡ Err (line, fault)) → RefusesLines says result }
+    ensures { TellsOfLine line fault result }
 {
     match fault {
         LineFault::Read(cause) => ListFault::Read(ReadFault { line, cause }),
@@ -188,11 +184,11 @@ fn fault_of_line(line: u32, fault: LineFault) -> ListFault
 
 /// The blocks that the lines say.
 fn read_blocks(alloc: Global, names: &Names<'_>, text: &[u8]) -> Result<Blocks, ListFault>
-    requires { length text.now ≤ 8388608 }
+    requires { length text.now ≤ MOST_BYTES }
     ensures { MatchResult result
-        (λ blocks. (read_lines (labels_of (entries_of names.now)) (aim_by (entries_of names.now)) 1 no_drafts Start (lines_in text.now) ≡ Ok (drafts_of blocks))
-        × All IsFine (all_drafts (drafts_of blocks)) × (length (all_drafts (drafts_of blocks)) ≤ 64))
-        (λ fault. RefusesLines (read_lines (labels_of (entries_of names.now)) (aim_by (entries_of names.now)) 1 no_drafts Start (lines_in text.now)) fault) }
+        (λ blocks. (lines_read names.now text.now ≡ Ok (drafts_of blocks))
+        × All IsFine (all_drafts (drafts_of blocks)) × (length (all_drafts (drafts_of blocks)) ≤ MOST_BLOCKS))
+        (λ fault. RefusesLines (lines_read names.now text.now) fault) }
 {
     let mut spelling = String::with_capacity(alloc, LONGEST_LINE)?;
     let mut blocks = Blocks::new(alloc);
@@ -228,13 +224,13 @@ fn fault_of_block(number: u8, fault: BlockFault) -> ListFault
 /// The packet block of a block as it was read.
 fn packet_block(block: OpenBlock) -> Result<PacketBlock, BlockFault>
     requires { IsFine (draft_open block) }
-    ensures { MatchResult result (λ packed. (draft_of packed ≡ draft_open block) × IsPacketBlock packed) (λ fault. IsFaulted (draft_open block) fault) }
+    ensures { IsBlockOf (draft_open block) result }
 {
     PacketBlock::new(block.label, block.cycles, block.placed)
 }
 
 fn put(packets: &mut Packets, block: PacketBlock) -> Result<(), ListFault>
-    requires { length packets.old < 64 }
+    requires { length packets.old < MOST_BLOCKS }
     ensures { MatchResult result (λ _. packets.new ≡ packets.old ++ block ∷ []) (λ fault. fault ≡ NoMemory) }
 {
     match packets.push(block) {
@@ -245,7 +241,7 @@ fn put(packets: &mut Packets, block: PacketBlock) -> Result<(), ListFault>
 
 /// The packets of blocks as they were read.
 fn packets_of(alloc: Global, blocks: Vec<OpenBlock>) -> Result<Packets, ListFault>
-    requires few { length blocks.items ≤ 64 }
+    requires few { length blocks.items ≤ MOST_BLOCKS }
     requires fine { All IsFine (map draft_open blocks.items) }
     ensures { MatchResult result
         (λ packets. (map draft_of packets ≡ map draft_open blocks.items) × All IsPacketBlock packets)
@@ -270,7 +266,7 @@ fn packets_of(alloc: Global, blocks: Vec<OpenBlock>) -> Result<Packets, ListFaul
 ///
 /// # Errors
 ///
-/// `Read` with `TextTooLong` where the text has more than 8,388,608 bytes. Else the first fault of the first faulty line.
+/// `Read` with `TextTooLong` where the text has more than [`MOST_BYTES`] bytes. Else the first fault of the first faulty line.
 /// Else, for the first faulty block, `TwoBranches`, `NotDrained` or `Unlawful`. `Memory` where memory ran out
 /// (`docs/LISTING.md`, "Faults of a line" and "Faults of a block").
 pub fn read_listing(alloc: Global, text: &[u8]) -> Result<Packets, ListFault>

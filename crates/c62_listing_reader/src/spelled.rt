@@ -2,9 +2,8 @@
 
 ghost use Rattle.std.specs.Prelude.{◌≡◌, ◌++◌, [], OnOk, IfOk, codes, decimal, string_bytes};
 ghost use Rattle.std.specs.Option.{option_copied};
-ghost use Rattle.c62_insn.specs.Insn.{unit_of};
-ghost use Rattle.c62_read.specs.Line.{parts_of, said_of};
-ghost use Rattle.c62_listing_reader.specs.Said.{front_spelling, issue_line, spelled_line, is_text};
+ghost use Rattle.c62_read.specs.Line.{said_of};
+ghost use Rattle.c62_listing_reader.specs.Said.{front_spelling, insn_line, spelled_line, is_text};
 
 use crate::line::Front;
 use c62_insn::Insn;
@@ -30,7 +29,7 @@ fn is_issue(
     insn: Insn,
     target: &str,
 ) -> Result<bool, AllocError>
-    ensures { IfOk result (λ is. is ≡ is_text line.now (issue_line front target.now (parts_of insn) (unit_of insn))) }
+    ensures { IfOk result (λ is. is ≡ is_text line.now (insn_line front target.now insn)) }
 {
     let Some(unit) = insn.unit() else {
         return Ok(false);

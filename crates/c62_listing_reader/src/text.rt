@@ -3,7 +3,7 @@
 ghost use Rattle.std.specs.Prelude.{◌≡◌, ◌∷◌, [], ◌<◌, length, position, IfSome, MatchOption};
 ghost use Rattle.c62_read.specs.Text.{is_line_feed, without_return};
 ghost use Rattle.c62_listing_reader.specs.Text.{lines_in, content, ends_in_return, is_ended, is_empty, begin_filled};
-ghost use Rattle.c62_listing_reader.specs.Cut.{line_cut};
+ghost use Rattle.c62_listing_reader.specs.Cut.{line_cut, CutsFirst};
 
 use memchr::memchr;
 
@@ -19,14 +19,14 @@ pub struct Cut<'a> {
 /// Where the first line feed stands.
 fn feed_in(text: &[u8]) -> Option<usize>
     ensures value { result ≡ position is_line_feed text.now }
-    ensures within { IfSome result (λ place. place < length text.now) }
+    ensures within { IfSome result (λ index. index < length text.now) }
 {
     memchr(b'\n', text)
 }
 
 /// The first line of a text.
 pub fn first_line(text: &[u8]) -> Option<Cut<'_>>
-    ensures found { MatchOption result (lines_in text.now ≡ []) (λ cut. lines_in text.now ≡ line_cut cut ∷ lines_in cut.rest.now) }
+    ensures found { CutsFirst text.now result }
     ensures shorter { IfSome result (λ cut. length cut.rest.now < length text.now) }
 {
     if text.is_empty() {

@@ -57,14 +57,14 @@ sound_at b sound (suc i) = sound_act (b.entry i).line (serial_act b i) (machine_
 
 -- ---- registers and memory of the serial run, by landings
 
-pub state_word : (b : Numbered) → IsSound b.opening → (i place : ℕ) → place < 32
-    → get_or (machine_at b i).registers place 0 ≡ last_value place (upto (reg_writes b) i) (get_or b.opening.registers place 0)
-state_word b sound zero place l = refl
-state_word b sound (suc i) place l =
+pub state_word : (b : Numbered) → IsSound b.opening → (i cell : ℕ) → cell < 32
+    → get_or (machine_at b i).registers cell 0 ≡ last_value cell (upto (reg_writes b) i) (get_or b.opening.registers cell 0)
+state_word b sound zero cell l = refl
+state_word b sound (suc i) cell l =
     let n : length (machine_at b i).registers ≡ 32 = (sound_at b sound i).registers in
-    writes-last (b.at i).cycle place (serial_act b i).writes (machine_at b i).registers (omega arith)
-    ∙ ap (λ u. last_value place (reg_writes b i) u) (state_word b sound i place l)
-    ∙ sym (last_value-append place (upto (reg_writes b) i) (reg_writes b i) (get_or b.opening.registers place 0))
+    writes-last (b.at i).cycle cell (serial_act b i).writes (machine_at b i).registers (omega arith)
+    ∙ ap (λ u. last_value cell (reg_writes b i) u) (state_word b sound i cell l)
+    ∙ sym (last_value-append cell (upto (reg_writes b) i) (reg_writes b i) (get_or b.opening.registers cell 0))
 
 pub state_byte : (b : Numbered) → IsSound b.opening → (i a : ℕ) → byte_in (machine_at b i) a ≡ last_value a (upto (byte_writes b) i) (byte_in b.opening a)
 state_byte b sound zero a = refl
@@ -75,17 +75,17 @@ state_byte b sound (suc i) a =
 
 -- ---- order
 
--- All that the proof needs of the dependences: what the instructions of the serial run did comes in order, place by place.
+-- All that the proof needs of the dependences: what the instructions of the serial run did comes in order, cell by cell.
 pub record IsOrdered (b : Numbered) : Type 0 where
-  pub reg_order : (j k : ℕ) (v w : Landing) → j < k → k < b.count → In v (reg_writes b j) → In w (reg_writes b k) → v.place ≡ w.place → v.time < w.time
-  pub byte_order : (j k : ℕ) (v w : Landing) → j < k → k < b.count → In v (byte_writes b j) → In w (byte_writes b k) → v.place ≡ w.place → v.time < w.time
-  pub reg_read : (j k : ℕ) (v : Landing) (reg : Reg) → j < k → k < b.count → In v (reg_writes b j) → Reads (b.entry k).insn reg → v.place ≡ index_of reg
+  pub reg_order : (j k : ℕ) (v w : Landing) → j < k → k < b.count → In v (reg_writes b j) → In w (reg_writes b k) → v.cell ≡ w.cell → v.time < w.time
+  pub byte_order : (j k : ℕ) (v w : Landing) → j < k → k < b.count → In v (byte_writes b j) → In w (byte_writes b k) → v.cell ≡ w.cell → v.time < w.time
+  pub reg_read : (j k : ℕ) (v : Landing) (reg : Reg) → j < k → k < b.count → In v (reg_writes b j) → Reads (b.entry k).insn reg → v.cell ≡ index_of reg
       → v.time < (b.at k).cycle
-  pub reg_kept : (j k : ℕ) (w : Landing) (reg : Reg) → j < k → k < b.count → Reads (b.entry j).insn reg → In w (reg_writes b k) → w.place ≡ index_of reg
+  pub reg_kept : (j k : ℕ) (w : Landing) (reg : Reg) → j < k → k < b.count → Reads (b.entry j).insn reg → In w (reg_writes b k) → w.cell ≡ index_of reg
       → (b.at j).cycle ≤ w.time
-  pub byte_read : (j k : ℕ) (v : Landing) → j < k → k < b.count → In v (byte_writes b j) → LoadsByte (b.entry k).insn (word_in (machine_at b k)) v.place
+  pub byte_read : (j k : ℕ) (v : Landing) → j < k → k < b.count → In v (byte_writes b j) → LoadsByte (b.entry k).insn (word_in (machine_at b k)) v.cell
       → v.time < 8 * (b.at k).cycle
-  pub byte_kept : (j k : ℕ) (w : Landing) → j < k → k < b.count → LoadsByte (b.entry j).insn (word_in (machine_at b j)) w.place → In w (byte_writes b k)
+  pub byte_kept : (j k : ℕ) (w : Landing) → j < k → k < b.count → LoadsByte (b.entry j).insn (word_in (machine_at b j)) w.cell → In w (byte_writes b k)
       → 8 * (b.at j).cycle ≤ w.time
 
 -- the packets hold the instructions of these numbers, in any order
@@ -133,9 +133,9 @@ those_bytes block b did t is agree = record {
         let h' : In w (memory_landings did (b.at i)) = subst (λ q. In w (memory_landings did q)) e h in
         (i, l, subst (λ (a : Act). In w (access_landings (access_time (b.at i)) a.access)) (agree i l (subst (λ (q : Placed). q.cycle < t) e early)) h')
 
-ordered_regs : (b : Numbered) (place : ℕ) → IsOrdered b → AreOrdered (reg_writes b) b.count place
-ordered_regs b place o = record {
-  own = λ j l. InOrder-act place (b.at j).cycle (b.entry j).insn (word_in (machine_at b j)) (byte_in (machine_at b j));
+ordered_regs : (b : Numbered) (cell : ℕ) → IsOrdered b → AreOrdered (reg_writes b) b.count cell
+ordered_regs b cell o = record {
+  own = λ j l. InOrder-act cell (b.at j).cycle (b.entry j).insn (word_in (machine_at b j)) (byte_in (machine_at b j));
   ordered = λ j k v w l u c d p q. o.reg_order j k v w l u c d (p ∙ sym q);
 }
 
@@ -175,18 +175,18 @@ byte_same block b did i a is o sound l agree loads =
     lookup (byte_writes b) b.count a i (8 * (b.at i).cycle) (flat_map (memory_landings did) block) (byte_in b.opening a) (ordered_bytes b a o)
     (record {
       below = omega arith;
-      before = λ j w lt h p. o.byte_read j i w lt l h (at_place w p);
+      before = λ j w lt h p. o.byte_read j i w lt l h (at_cell w p);
       after = λ j w ge u h p.
           ⊎_elim {C = 8 * (b.at i).cycle ≤ w.time}
           (λ e. absurd (load_not_store (op_of (b.entry i).insn) (is_loads (b.entry i).insn (word_in (machine_at b i)) a loads) (itself w (subst (λ k. In w (byte_writes b k)) (sym e) h))))
-          (λ ne. o.byte_kept i j w (omega arith) u (at_place w p) h)
+          (λ ne. o.byte_kept i j w (omega arith) u (at_cell w p) h)
           (cases_eq i j);
     })
     (those_bytes block b did (b.at i).cycle is agree)
     ∙ sym (state_byte b sound i a)
   where
-    at_place : (w : Landing) → w.place ≡ a → LoadsByte (b.entry i).insn (word_in (machine_at b i)) w.place
-    at_place w p = subst (λ q. LoadsByte (b.entry i).insn (word_in (machine_at b i)) q) (sym p) loads
+    at_cell : (w : Landing) → w.cell ≡ a → LoadsByte (b.entry i).insn (word_in (machine_at b i)) w.cell
+    at_cell w p = subst (λ q. LoadsByte (b.entry i).insn (word_in (machine_at b i)) q) (sym p) loads
 
     itself : (w : Landing) → In w (byte_writes b i) → is_store (op_of (b.entry i).insn) ≡ true
     itself w h =

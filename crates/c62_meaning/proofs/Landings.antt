@@ -1,4 +1,4 @@
--- The landings of an instruction are of what it writes and stores, and those of one place come in the order of time.
+-- The landings of an instruction are of what it writes and stores, and those of one cell come in the order of time.
 use Rattle.std.proofs.Common.{◌≡◌, ℕ, zero, suc, ◌+◌, ◌-◌, ◌<◌, ◌≤◌, Bool, true, false, List, [], ◌∷◌, ◌++◌, length, map, get_or, set, cond, eqb, Option, Some, None, refl, sym, ◌∙◌, ap, subst, ◌⊎◌, inl, inr, ⊎_elim, arith}
 use Rattle.std.specs.Prelude.{fold, if◌then◌else◌}
 use Rattle.std.specs.List.{zip}
@@ -42,9 +42,9 @@ writes-last cycle k (w ∷ ws) rs l =
         (cases_eq (index_of w.0.0) k)
 
 pub from_In-writes : (cycle : ℕ) (ws : List ((Reg × ℕ) × ℕ)) (l : Landing) → In l (map (write_landing cycle) ws)
-    → (w : (Reg × ℕ) × ℕ) × In w ws × (l.place ≡ index_of w.0.0) × (l.time ≡ cycle + w.0.1)
+    → (w : (Reg × ℕ) × ℕ) × In w ws × (l.cell ≡ index_of w.0.0) × (l.time ≡ cycle + w.0.1)
 from_In-writes cycle [] l h = absurd h
-from_In-writes cycle (w ∷ ws) l (inl e) = (w, inl refl, ap (λ (u : Landing). u.place) (sym e), ap (λ (u : Landing). u.time) (sym e))
+from_In-writes cycle (w ∷ ws) l (inl e) = (w, inl refl, ap (λ (u : Landing). u.cell) (sym e), ap (λ (u : Landing). u.time) (sym e))
 from_In-writes cycle (w ∷ ws) l (inr h) = let r = from_In-writes cycle ws l h in (r.0, inr r.1, r.2, r.3)
 
 In-zip : (ks : List (Reg × ℕ)) (vs : List ℕ) (w : (Reg × ℕ) × ℕ) → In w (zip ks vs) → In w.0 ks
@@ -89,22 +89,22 @@ rising_writes op (Access reg base form offset) = rising_access (changes_base for
 rising_writes op (Block number) = tt
 rising_writes op (Register target) = tt
 
-InOrder-zip : (place cycle : ℕ) (ks : List (Reg × ℕ)) (vs : List ℕ) → Rising ks → InOrder place (map (write_landing cycle) (zip ks vs))
-InOrder-zip place cycle [] vs h = tt
-InOrder-zip place cycle (k ∷ ks) [] h = tt
-InOrder-zip place cycle (k ∷ ks) (v ∷ vs) h = (
+InOrder-zip : (cell cycle : ℕ) (ks : List (Reg × ℕ)) (vs : List ℕ) → Rising ks → InOrder cell (map (write_landing cycle) (zip ks vs))
+InOrder-zip cell cycle [] vs h = tt
+InOrder-zip cell cycle (k ∷ ks) [] h = tt
+InOrder-zip cell cycle (k ∷ ks) (v ∷ vs) h = (
   (λ l i p q.
       let s = from_In-writes cycle (zip ks vs) l i in
       let d : k.1 < s.0.0.1 = h.0 s.0.0 (In-zip ks vs s.0 s.1) in
       let t : l.time ≡ cycle + s.0.0.1 = s.3 in omega arith),
-  InOrder-zip place cycle ks vs h.1,
+  InOrder-zip cell cycle ks vs h.1,
 )
 
-pub InOrder-act : (place cycle : ℕ) (insn : Insn) (word : Reg → ℕ) (byte : ℕ → ℕ) → InOrder place (map (write_landing cycle) (act_of insn word byte).writes)
-InOrder-act place cycle insn word byte =
-    let P : Act → Type 0 = λ a. InOrder place (map (write_landing cycle) a.writes) in
+pub InOrder-act : (cell cycle : ℕ) (insn : Insn) (word : Reg → ℕ) (byte : ℕ → ℕ) → InOrder cell (map (write_landing cycle) (act_of insn word byte).writes)
+InOrder-act cell cycle insn word byte =
+    let P : Act → Type 0 = λ a. InOrder cell (map (write_landing cycle) a.writes) in
     cond_both (runs word insn) (act_on insn (operand_values word insn) byte) no_act P
-    (λ t. InOrder-zip place cycle (register_writes insn) _ (rising_writes (op_of insn) (operands_of insn))) (λ t. tt)
+    (λ t. InOrder-zip cell cycle (register_writes insn) _ (rising_writes (op_of insn) (operands_of insn))) (λ t. tt)
 
 -- ---- memory
 
@@ -164,20 +164,20 @@ pub record IsStoredBy (time : ℕ) (o : Option MemoryAccess) (l : Landing) : Typ
   pub accesses : o ≡ Some access
   pub stores : access.value ≡ Some value
   pub good : is_good access.address access.size ≡ true
-  pub low : access.address ≤ l.place
-  pub high : l.place < access.address + access.size
+  pub low : access.address ≤ l.cell
+  pub high : l.cell < access.address + access.size
   pub at : l.time ≡ time
 
 from_In-bytes : (time address : ℕ) (bytes : List ℕ) (l : Landing) → In l (byte_landings time address bytes)
-    → (address ≤ l.place) × (l.place < address + length bytes) × (l.time ≡ time)
+    → (address ≤ l.cell) × (l.cell < address + length bytes) × (l.time ≡ time)
 from_In-bytes time address [] l h = absurd h
 from_In-bytes time address (b ∷ bs) l (inl e) =
-    let p : address ≡ l.place = ap (λ (u : Landing). u.place) e in
+    let p : address ≡ l.cell = ap (λ (u : Landing). u.cell) e in
     (omega arith, omega arith, ap (λ (u : Landing). u.time) (sym e))
 from_In-bytes time address (b ∷ bs) l (inr h) =
     let r = from_In-bytes time (address + 1) bs l h in
-    let low : address + 1 ≤ l.place = r.0 in
-    let high : l.place < address + 1 + length bs = r.1 in
+    let low : address + 1 ≤ l.cell = r.0 in
+    let high : l.cell < address + 1 + length bs = r.1 in
     (omega arith, omega arith, r.2)
 
 pub from_In-access : (time : ℕ) (o : Option MemoryAccess) (l : Landing) → In l (access_landings time o) → IsStoredBy time o l
@@ -192,30 +192,30 @@ from_In-access time (Some access) l h = of_value access.value refl h
         cond_both (is_good access.address access.size) (byte_landings time access.address (bytes_of access.size value)) [] P
         (λ good k.
         let r = from_In-bytes time access.address (bytes_of access.size value) l k in
-        let high : l.place < access.address + length (bytes_of access.size value) = r.1 in
+        let high : l.cell < access.address + length (bytes_of access.size value) = r.1 in
         record { access = access; value = value; accesses = refl; stores = e; good = good; low = r.0; high = omega arith; at = r.2 })
         (λ bad k. absurd k) h
 
-InOrder-bytes : (place time address : ℕ) (bytes : List ℕ) → InOrder place (byte_landings time address bytes)
-InOrder-bytes place time address [] = tt
-InOrder-bytes place time address (b ∷ bs) = (
+InOrder-bytes : (cell time address : ℕ) (bytes : List ℕ) → InOrder cell (byte_landings time address bytes)
+InOrder-bytes cell time address [] = tt
+InOrder-bytes cell time address (b ∷ bs) = (
   (λ l k p q.
       let s = from_In-bytes time (address + 1) bs l k in
-      let low : address + 1 ≤ l.place = s.0 in absurd (omega arith)),
-  InOrder-bytes place time (address + 1) bs,
+      let low : address + 1 ≤ l.cell = s.0 in absurd (omega arith)),
+  InOrder-bytes cell time (address + 1) bs,
 )
 
--- the bytes of one store have places of their own
-pub InOrder-access : (place time : ℕ) (o : Option MemoryAccess) → InOrder place (access_landings time o)
-InOrder-access place time None = tt
-InOrder-access place time (Some access) = of_value access.value
+-- the bytes of one store have cells of their own
+pub InOrder-access : (cell time : ℕ) (o : Option MemoryAccess) → InOrder cell (access_landings time o)
+InOrder-access cell time None = tt
+InOrder-access cell time (Some access) = of_value access.value
   where
-    of_value : (value : Option ℕ) → InOrder place (stored_landings time access.address access.size value)
+    of_value : (value : Option ℕ) → InOrder cell (stored_landings time access.address access.size value)
     of_value None = tt
     of_value (Some value) =
-        let P : List Landing → Type 0 = λ ls. InOrder place ls in
+        let P : List Landing → Type 0 = λ ls. InOrder cell ls in
         cond_both (is_good access.address access.size) (byte_landings time access.address (bytes_of access.size value)) [] P
-        (λ good. InOrder-bytes place time access.address (bytes_of access.size value)) (λ bad. tt)
+        (λ good. InOrder-bytes cell time access.address (bytes_of access.size value)) (λ bad. tt)
 
 -- the access of an act is that of its instruction, which runs
 pub act_accesses : (insn : Insn) (word : Reg → ℕ) (byte : ℕ → ℕ) (access : MemoryAccess) → (act_of insn word byte).access ≡ Some access

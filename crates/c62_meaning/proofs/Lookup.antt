@@ -42,36 +42,36 @@ from_In-flat_map f y [] h = absurd h
 from_In-flat_map f y (z ∷ xs) h =
     ⊎_elim (λ a. (z, inl refl, a)) (λ b. let r = from_In-flat_map f y xs b in (r.0, inr r.1, r.2)) (In-append_cases y (f z) (flat_map f xs) h)
 
--- w is the landing at this place before t of the greatest time
-pub record IsLatest (place t : ℕ) (ls : List Landing) (w : Landing) : Type 0 where
+-- w is the landing at this cell before t of the greatest time
+pub record IsLatest (cell t : ℕ) (ls : List Landing) (w : Landing) : Type 0 where
   pub inside : In w ls
-  pub here : w.place ≡ place
+  pub here : w.cell ≡ cell
   pub early : w.time < t
-  pub last : (v : Landing) → In v ls → v.place ≡ place → v.time < t → v.time ≤ w.time
+  pub last : (v : Landing) → In v ls → v.cell ≡ cell → v.time < t → v.time ≤ w.time
 
 abbrev pub NoneBefore : ℕ → ℕ → List Landing → Type 0
-NoneBefore place t ls = (v : Landing) → In v ls → v.place ≡ place → v.time < t → ⊥
+NoneBefore cell t ls = (v : Landing) → In v ls → v.cell ≡ cell → v.time < t → ⊥
 
 abbrev pub LatestCases : ℕ → ℕ → List Landing → Type 0
-LatestCases place t ls = (NoneBefore place t ls × (latest place t ls ≡ None)) ⊎ ((w : Landing) × IsLatest place t ls w × (latest place t ls ≡ Some w))
+LatestCases cell t ls = (NoneBefore cell t ls × (latest cell t ls ≡ None)) ⊎ ((w : Landing) × IsLatest cell t ls w × (latest cell t ls ≡ Some w))
 
-latest_skip : (place t : ℕ) (x : Landing) (xs : List Landing) → (x.place ≡ place → x.time < t → ⊥) → latest place t (x ∷ xs) ≡ latest place t xs → LatestCases place t xs → LatestCases place t (x ∷ xs)
-latest_skip place t x xs out same (inl (none, e)) =
-    inl ((λ v h p l. ⊎_elim (λ q. out (ap (λ (u : Landing). u.place) q ∙ p) (subst (λ (u : Landing). u.time < t) (sym q) l)) (λ k. none v k p l) h), same ∙ e)
-latest_skip place t x xs out same (inr (w, i, e)) =
+latest_skip : (cell t : ℕ) (x : Landing) (xs : List Landing) → (x.cell ≡ cell → x.time < t → ⊥) → latest cell t (x ∷ xs) ≡ latest cell t xs → LatestCases cell t xs → LatestCases cell t (x ∷ xs)
+latest_skip cell t x xs out same (inl (none, e)) =
+    inl ((λ v h p l. ⊎_elim (λ q. out (ap (λ (u : Landing). u.cell) q ∙ p) (subst (λ (u : Landing). u.time < t) (sym q) l)) (λ k. none v k p l) h), same ∙ e)
+latest_skip cell t x xs out same (inr (w, i, e)) =
     inr (
       w,
       record {
         inside = inr i.inside;
         here = i.here;
         early = i.early;
-        last = λ v h p l. ⊎_elim (λ q. absurd (out (ap (λ (u : Landing). u.place) q ∙ p) (subst (λ (u : Landing). u.time < t) (sym q) l))) (λ k. i.last v k p l) h;
+        last = λ v h p l. ⊎_elim (λ q. absurd (out (ap (λ (u : Landing). u.cell) q ∙ p) (subst (λ (u : Landing). u.time < t) (sym q) l))) (λ k. i.last v k p l) h;
       },
       same ∙ e,
     )
 
-latest_take : (place t : ℕ) (x : Landing) (xs : List Landing) → x.place ≡ place → x.time < t → latest place t (x ∷ xs) ≡ Some (later x (latest place t xs)) → LatestCases place t xs → LatestCases place t (x ∷ xs)
-latest_take place t x xs here early same (inl (none, e)) =
+latest_take : (cell t : ℕ) (x : Landing) (xs : List Landing) → x.cell ≡ cell → x.time < t → latest cell t (x ∷ xs) ≡ Some (later x (latest cell t xs)) → LatestCases cell t xs → LatestCases cell t (x ∷ xs)
+latest_take cell t x xs here early same (inl (none, e)) =
     inr (
       x,
       record {
@@ -82,7 +82,7 @@ latest_take place t x xs here early same (inl (none, e)) =
       },
       same ∙ ap (λ o. Some (later x o)) e,
     )
-latest_take place t x xs here early same (inr (w, i, e)) =
+latest_take cell t x xs here early same (inr (w, i, e)) =
     ⊎_elim
     (λ lt. inr (
       x,
@@ -106,42 +106,42 @@ latest_take place t x xs here early same (inr (w, i, e)) =
     ))
     (cases_lt w.time x.time)
 
-pub latest_cases : (place t : ℕ) (ls : List Landing) → LatestCases place t ls
-latest_cases place t [] = inl ((λ v h p l. h), refl)
-latest_cases place t (x ∷ xs) =
+pub latest_cases : (cell t : ℕ) (ls : List Landing) → LatestCases cell t ls
+latest_cases cell t [] = inl ((λ v h p l. h), refl)
+latest_cases cell t (x ∷ xs) =
     ⊎_elim
-    (λ e. let b = and_parts _ _ e in latest_take place t x xs (eqb-true _ _ b.0) (ltb-true _ _ b.1) (cond-true _ _ _ e) (latest_cases place t xs))
-    (λ e. latest_skip place t x xs (λ p l. false≢true (sym e ∙ and_from _ _ (eq-eqb _ _ p) (lt-ltb _ _ l))) (cond-false _ _ _ e) (latest_cases place t xs))
-    (cases_Bool (eqb x.place place && ltb x.time t))
+    (λ e. let b = and_parts _ _ e in latest_take cell t x xs (eqb-true _ _ b.0) (ltb-true _ _ b.1) (cond-true _ _ _ e) (latest_cases cell t xs))
+    (λ e. latest_skip cell t x xs (λ p l. false≢true (sym e ∙ and_from _ _ (eq-eqb _ _ p) (lt-ltb _ _ l))) (cond-false _ _ _ e) (latest_cases cell t xs))
+    (cases_Bool (eqb x.cell cell && ltb x.time t))
 
--- the value that the writes leave at a place
+-- the value that the writes leave at a cell
 abbrev pub last_value : ℕ → List Landing → ℕ → ℕ
-last_value place [] old = old
-last_value place (w ∷ ws) old = last_value place ws (cond (eqb w.place place) w.value old)
+last_value cell [] old = old
+last_value cell (w ∷ ws) old = last_value cell ws (cond (eqb w.cell cell) w.value old)
 
--- the writes of this place come in the order of time
+-- the writes of this cell come in the order of time
 abbrev pub InOrder : ℕ → List Landing → Type 0
-InOrder place [] = Unit {0}
-InOrder place (w ∷ ws) = ((v : Landing) → In v ws → w.place ≡ place → v.place ≡ place → w.time < v.time) × InOrder place ws
+InOrder cell [] = Unit {0}
+InOrder cell (w ∷ ws) = ((v : Landing) → In v ws → w.cell ≡ cell → v.cell ≡ cell → w.time < v.time) × InOrder cell ws
 
-pub record IsLast (place : ℕ) (ls : List Landing) (w : Landing) : Type 0 where
+pub record IsLast (cell : ℕ) (ls : List Landing) (w : Landing) : Type 0 where
   pub inside : In w ls
-  pub here : w.place ≡ place
-  pub last : (v : Landing) → In v ls → v.place ≡ place → (v.time < w.time) ⊎ (v ≡ w)
+  pub here : w.cell ≡ cell
+  pub last : (v : Landing) → In v ls → v.cell ≡ cell → (v.time < w.time) ⊎ (v ≡ w)
 
 abbrev pub LastCases : ℕ → List Landing → ℕ → Type 0
-LastCases place ls old = (((v : Landing) → In v ls → v.place ≡ place → ⊥) × (last_value place ls old ≡ old)) ⊎ ((w : Landing) × IsLast place ls w × (last_value place ls old ≡ w.value))
+LastCases cell ls old = (((v : Landing) → In v ls → v.cell ≡ cell → ⊥) × (last_value cell ls old ≡ old)) ⊎ ((w : Landing) × IsLast cell ls w × (last_value cell ls old ≡ w.value))
 
-last_cases : (place : ℕ) (ls : List Landing) (old : ℕ) → InOrder place ls → LastCases place ls old
-last_cases place [] old o = inl ((λ v h p. h), refl)
-last_cases place (x ∷ xs) old o =
+last_cases : (cell : ℕ) (ls : List Landing) (old : ℕ) → InOrder cell ls → LastCases cell ls old
+last_cases cell [] old o = inl ((λ v h p. h), refl)
+last_cases cell (x ∷ xs) old o =
     ⊎_elim
-    (λ p. last_take place x xs old p o (last_cases place xs x.value o.1))
-    (λ p. last_skip place x xs old p (last_cases place xs old o.1))
-    (cases_eq x.place place)
+    (λ p. last_take cell x xs old p o (last_cases cell xs x.value o.1))
+    (λ p. last_skip cell x xs old p (last_cases cell xs old o.1))
+    (cases_eq x.cell cell)
   where
-    last_take : (place : ℕ) (x : Landing) (xs : List Landing) (old : ℕ) → x.place ≡ place → InOrder place (x ∷ xs) → LastCases place xs x.value → LastCases place (x ∷ xs) old
-    last_take place x xs old here o (inl (none, e)) =
+    last_take : (cell : ℕ) (x : Landing) (xs : List Landing) (old : ℕ) → x.cell ≡ cell → InOrder cell (x ∷ xs) → LastCases cell xs x.value → LastCases cell (x ∷ xs) old
+    last_take cell x xs old here o (inl (none, e)) =
         inr (
           x,
           record {
@@ -149,9 +149,9 @@ last_cases place (x ∷ xs) old o =
             here = here;
             last = λ v h p. ⊎_elim (λ q. inr (sym q)) (λ k. absurd (none v k p)) h;
           },
-          ap (λ u. last_value place xs u) (cond-true _ _ _ (eq-eqb _ _ here)) ∙ e,
+          ap (λ u. last_value cell xs u) (cond-true _ _ _ (eq-eqb _ _ here)) ∙ e,
         )
-    last_take place x xs old here o (inr (w, i, e)) =
+    last_take cell x xs old here o (inr (w, i, e)) =
         inr (
           w,
           record {
@@ -159,34 +159,34 @@ last_cases place (x ∷ xs) old o =
             here = i.here;
             last = λ v h p. ⊎_elim (λ q. inl (subst (λ (u : Landing). u.time < w.time) q (o.0 w i.inside here i.here))) (λ k. i.last v k p) h;
           },
-          ap (λ u. last_value place xs u) (cond-true _ _ _ (eq-eqb _ _ here)) ∙ e,
+          ap (λ u. last_value cell xs u) (cond-true _ _ _ (eq-eqb _ _ here)) ∙ e,
         )
 
-    last_skip : (place : ℕ) (x : Landing) (xs : List Landing) (old : ℕ) → (x.place ≡ place → ⊥) → LastCases place xs old → LastCases place (x ∷ xs) old
-    last_skip place x xs old out (inl (none, e)) =
-        inl ((λ v h p. ⊎_elim (λ q. out (ap (λ (u : Landing). u.place) q ∙ p)) (λ k. none v k p) h), ap (λ u. last_value place xs u) (cond-false _ _ _ (ne_eqb _ _ out)) ∙ e)
-    last_skip place x xs old out (inr (w, i, e)) =
+    last_skip : (cell : ℕ) (x : Landing) (xs : List Landing) (old : ℕ) → (x.cell ≡ cell → ⊥) → LastCases cell xs old → LastCases cell (x ∷ xs) old
+    last_skip cell x xs old out (inl (none, e)) =
+        inl ((λ v h p. ⊎_elim (λ q. out (ap (λ (u : Landing). u.cell) q ∙ p)) (λ k. none v k p) h), ap (λ u. last_value cell xs u) (cond-false _ _ _ (ne_eqb _ _ out)) ∙ e)
+    last_skip cell x xs old out (inr (w, i, e)) =
         inr (
           w,
           record {
             inside = inr i.inside;
             here = i.here;
-            last = λ v h p. ⊎_elim (λ q. absurd (out (ap (λ (u : Landing). u.place) q ∙ p))) (λ k. i.last v k p) h;
+            last = λ v h p. ⊎_elim (λ q. absurd (out (ap (λ (u : Landing). u.cell) q ∙ p))) (λ k. i.last v k p) h;
           },
-          ap (λ u. last_value place xs u) (cond-false _ _ _ (ne_eqb _ _ out)) ∙ e,
+          ap (λ u. last_value cell xs u) (cond-false _ _ _ (ne_eqb _ _ out)) ∙ e,
         )
 
 -- Of writes `ls` in serial order, and landings `ms` of which those before t are the same ones, the greatest is the last.
-pub record IsSeen (place t : ℕ) (ls ms : List Landing) : Type 0 where
-  pub in_order : InOrder place ls
-  pub in_time : (w : Landing) → In w ls → w.place ≡ place → w.time < t
-  pub landed : (w : Landing) → In w ls → w.place ≡ place → w.time < t → In w ms
-  pub no_other : (w : Landing) → In w ms → w.place ≡ place → w.time < t → In w ls
+pub record IsSeen (cell t : ℕ) (ls ms : List Landing) : Type 0 where
+  pub in_order : InOrder cell ls
+  pub in_time : (w : Landing) → In w ls → w.cell ≡ cell → w.time < t
+  pub landed : (w : Landing) → In w ls → w.cell ≡ cell → w.time < t → In w ms
+  pub no_other : (w : Landing) → In w ms → w.cell ≡ cell → w.time < t → In w ls
 
-pub latest_is_last : (place t : ℕ) (ls ms : List Landing) (old : ℕ) → IsSeen place t ls ms → value_or (latest place t ms) old ≡ last_value place ls old
-latest_is_last place t ls ms old s = go (latest_cases place t ms) (last_cases place ls old s.in_order)
+pub latest_is_last : (cell t : ℕ) (ls ms : List Landing) (old : ℕ) → IsSeen cell t ls ms → value_or (latest cell t ms) old ≡ last_value cell ls old
+latest_is_last cell t ls ms old s = go (latest_cases cell t ms) (last_cases cell ls old s.in_order)
   where
-    go : LatestCases place t ms → LastCases place ls old → value_or (latest place t ms) old ≡ last_value place ls old
+    go : LatestCases cell t ms → LastCases cell ls old → value_or (latest cell t ms) old ≡ last_value cell ls old
     go (inl (none, e)) (inl (none', e')) = rw e (sym e')
     go (inl (none, e)) (inr (w, i, e')) =
         absurd (none w (s.landed w i.inside i.here (s.in_time w i.inside i.here)) i.here (s.in_time w i.inside i.here))
@@ -197,24 +197,24 @@ latest_is_last place t ls ms old s = go (latest_cases place t ms) (last_cases pl
         let same : v ≡ w = ⊎_elim {C = v ≡ w} (λ lt. absurd (omega arith)) (λ q. q) (i.last v (s.no_other v j.inside j.here j.early) j.here) in
         rw e (ap (λ (u : Landing). u.value) same ∙ sym e')
 
-pub last_value-append : (place : ℕ) (ls ms : List Landing) (old : ℕ) → last_value place (ls ++ ms) old ≡ last_value place ms (last_value place ls old)
-last_value-append place [] ms old = refl
-last_value-append place (x ∷ xs) ms old = last_value-append place xs ms (cond (eqb x.place place) x.value old)
+pub last_value-append : (cell : ℕ) (ls ms : List Landing) (old : ℕ) → last_value cell (ls ++ ms) old ≡ last_value cell ms (last_value cell ls old)
+last_value-append cell [] ms old = refl
+last_value-append cell (x ∷ xs) ms old = last_value-append cell xs ms (cond (eqb x.cell cell) x.value old)
 
-pub InOrder-append : (place : ℕ) (ls ms : List Landing) → InOrder place ls → InOrder place ms → ((v w : Landing) → In v ls → In w ms → v.place ≡ place → w.place ≡ place → v.time < w.time) → InOrder place (ls ++ ms)
-InOrder-append place [] ms o p h = p
-InOrder-append place (x ∷ xs) ms o p h = (
+pub InOrder-append : (cell : ℕ) (ls ms : List Landing) → InOrder cell ls → InOrder cell ms → ((v w : Landing) → In v ls → In w ms → v.cell ≡ cell → w.cell ≡ cell → v.time < w.time) → InOrder cell (ls ++ ms)
+InOrder-append cell [] ms o p h = p
+InOrder-append cell (x ∷ xs) ms o p h = (
   (λ v k a b. ⊎_elim (λ c. o.0 v c a b) (λ c. h x v (inl refl) c a b) (In-append_cases v xs ms k)),
-  InOrder-append place xs ms o.1 p (λ v w a b. h v w (inr a) b),
+  InOrder-append cell xs ms o.1 p (λ v w a b. h v w (inr a) b),
 )
 
 -- A lookup sees only the landings before t.
-pub latest-append : (place t : ℕ) (ls ms ns : List Landing) → latest place t ms ≡ latest place t ns → latest place t (ls ++ ms) ≡ latest place t (ls ++ ns)
-latest-append place t [] ms ns e = e
-latest-append place t (x ∷ xs) ms ns e =
-    ap (λ o. cond (eqb x.place place && ltb x.time t) (Some (later x o)) o) (latest-append place t xs ms ns e)
+pub latest-append : (cell t : ℕ) (ls ms ns : List Landing) → latest cell t ms ≡ latest cell t ns → latest cell t (ls ++ ms) ≡ latest cell t (ls ++ ns)
+latest-append cell t [] ms ns e = e
+latest-append cell t (x ∷ xs) ms ns e =
+    ap (λ o. cond (eqb x.cell cell && ltb x.time t) (Some (later x o)) o) (latest-append cell t xs ms ns e)
 
-pub latest-late : (place t : ℕ) (ls ms : List Landing) → ((w : Landing) → In w ls → t ≤ w.time) → latest place t (ls ++ ms) ≡ latest place t ms
-latest-late place t [] ms h = refl
-latest-late place t (x ∷ xs) ms h =
-    cond-false _ _ _ (and_right _ _ (le-ltb _ _ (h x (inl refl)))) ∙ latest-late place t xs ms (λ w k. h w (inr k))
+pub latest-late : (cell t : ℕ) (ls ms : List Landing) → ((w : Landing) → In w ls → t ≤ w.time) → latest cell t (ls ++ ms) ≡ latest cell t ms
+latest-late cell t [] ms h = refl
+latest-late cell t (x ∷ xs) ms h =
+    cond-false _ _ _ (and_right _ _ (le-ltb _ _ (h x (inl refl)))) ∙ latest-late cell t xs ms (λ w k. h w (inr k))

@@ -90,7 +90,7 @@ one_meaning block cycles opening one other p q =
 
 abbrev made : List Placed → ℕ → Machine → Did → Machine
 made block cycles opening did = record {
-  registers = map (λ place. value_before place cycles (flat_map (register_landings did) block) (get_or opening.registers place 0)) (range_with_len 0 (length opening.registers));
+  registers = map (λ cell. value_before cell cycles (flat_map (register_landings did) block) (get_or opening.registers cell 0)) (range_with_len 0 (length opening.registers));
   memory = map (λ a. byte_before block opening did cycles a) (range_with_len 0 (length opening.memory));
   faults = lines_after did opening.faults block;
 }
@@ -108,7 +108,7 @@ made_leaves block cycles opening did sound = record {
   sound = made_sound block cycles opening did sound;
   words = λ reg.
       let l : index_of reg < length opening.registers = (let r : index_of reg < 32 = index_within reg in let n : length opening.registers ≡ 32 = sound.registers in omega arith) in
-      get_or-map-range_with_len (λ place. value_before place cycles (flat_map (register_landings did) block) (get_or opening.registers place 0)) 0 (length opening.registers) (index_of reg) (index_of reg) 0 l (omega arith);
+      get_or-map-range_with_len (λ cell. value_before cell cycles (flat_map (register_landings did) block) (get_or opening.registers cell 0)) 0 (length opening.registers) (index_of reg) (index_of reg) 0 l (omega arith);
   bytes = λ a u.
       let l : a < length opening.memory = (let n : length opening.memory ≡ 65536 = sound.memory in omega arith) in
       get_or-map-range_with_len (λ a. byte_before block opening did cycles a) 0 (length opening.memory) a a 0 l (omega arith);

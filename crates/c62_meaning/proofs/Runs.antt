@@ -17,15 +17,15 @@ use Rattle.c62_meaning.proofs.Landings.{from_In-writes, from_In-access}
 abbrev pub Same : List Placed → Did → Did → ℕ → Type 0
 Same block did did' t = (p : Placed) → In p block → p.cycle < t → did p ≡ did' p
 
-same_latest : (block : List Placed) (did did' : Did) (t place : ℕ) → Same block did did' t
-    → latest place t (flat_map (register_landings did) block) ≡ latest place t (flat_map (register_landings did') block)
-same_latest [] did did' t place same = refl
-same_latest (p ∷ ps) did did' t place same =
-    let rest = same_latest ps did did' t place (λ q h l. same q (inr h) l) in
-    ⊎_elim {C = latest place t (flat_map (register_landings did) (p ∷ ps)) ≡ latest place t (flat_map (register_landings did') (p ∷ ps))}
-    (λ lt. latest-append place t (register_landings did p) _ _ rest ∙ ap (λ (a : Act). latest place t (map (write_landing p.cycle) a.writes ++ flat_map (register_landings did') ps)) (same p (inl refl) lt))
-    (λ ge. latest-late place t (register_landings did p) _ (λ w h. let s = from_In-writes p.cycle (did p).writes w h in let e : w.time ≡ p.cycle + s.0.0.1 = s.3 in omega arith)
-    ∙ rest ∙ sym (latest-late place t (register_landings did' p) _ (λ w h. let s = from_In-writes p.cycle (did' p).writes w h in let e : w.time ≡ p.cycle + s.0.0.1 = s.3 in omega arith)))
+same_latest : (block : List Placed) (did did' : Did) (t cell : ℕ) → Same block did did' t
+    → latest cell t (flat_map (register_landings did) block) ≡ latest cell t (flat_map (register_landings did') block)
+same_latest [] did did' t cell same = refl
+same_latest (p ∷ ps) did did' t cell same =
+    let rest = same_latest ps did did' t cell (λ q h l. same q (inr h) l) in
+    ⊎_elim {C = latest cell t (flat_map (register_landings did) (p ∷ ps)) ≡ latest cell t (flat_map (register_landings did') (p ∷ ps))}
+    (λ lt. latest-append cell t (register_landings did p) _ _ rest ∙ ap (λ (a : Act). latest cell t (map (write_landing p.cycle) a.writes ++ flat_map (register_landings did') ps)) (same p (inl refl) lt))
+    (λ ge. latest-late cell t (register_landings did p) _ (λ w h. let s = from_In-writes p.cycle (did p).writes w h in let e : w.time ≡ p.cycle + s.0.0.1 = s.3 in omega arith)
+    ∙ rest ∙ sym (latest-late cell t (register_landings did' p) _ (λ w h. let s = from_In-writes p.cycle (did' p).writes w h in let e : w.time ≡ p.cycle + s.0.0.1 = s.3 in omega arith)))
     (cases_lt p.cycle t)
 
 same_stored : (block : List Placed) (did did' : Did) (t a : ℕ) → Same block did did' t

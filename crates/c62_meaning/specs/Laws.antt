@@ -1,11 +1,13 @@
 -- What packet meaning amounts to, as laws above its definition.
 use Rattle.std.specs.Prelude.{◌≡◌, ◌↔◌, ℕ, ◌≤ℤ◌, ◌+ℤ◌, ℤ, pos, List, length, map, Contains, slice_get, Some}
+use Rattle.c62_insn.specs.declared.register.Reg.{Reg}
 use Rattle.c62_insn.specs.declared.insn.Insn.{Insn}
 use Rattle.c62_insn.specs.Insn.{op_of, operands_of, cond_of}
 use Rattle.c62_insn.specs.Dependence.{Bounds}
 use Rattle.c62_insn.specs.Length.{length_of}
 use Rattle.c62_read.specs.declared.block.SerialInsn.{SerialInsn}
 use Rattle.c62_serial.specs.State.{Machine, IsSound}
+use Rattle.c62_serial.specs.Effect.{act_of}
 use Rattle.c62_serial.specs.Serial.{Ran, serial}
 use Rattle.c62_packet.specs.declared.placed.Placed.{Placed}
 use Rattle.c62_packet.specs.Packed.{issues_of}
@@ -26,6 +28,10 @@ pub record IsSameInsn (one other : Insn) : Type 0 where
   pub op : op_of one ≡ op_of other
   pub operands : operands_of one ≡ operands_of other
   pub cond : cond_of one ≡ cond_of other
+
+-- both do the same where registers have these words and memory these bytes
+abbrev pub ActsAlike : Insn → Insn → Type 0
+ActsAlike one other = (word : Reg → ℕ) (byte : ℕ → ℕ) → act_of one word byte ≡ act_of other word byte
 
 -- an instruction of a block stands in its packets
 pub record StandsAs (entry : SerialInsn) (p : Placed) : Type 0 where

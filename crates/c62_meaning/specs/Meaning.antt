@@ -2,6 +2,7 @@
 -- "Packets"). It is a relation with one solution.
 use Rattle.std.specs.Prelude.{◌≡◌, ◌⊎◌, ◌↔◌, ℕ, ◌<◌, List, Contains, fold, IsTrue}
 use Rattle.c62_insn.specs.declared.register.Reg.{Reg}
+use Rattle.c62_serial.specs.declared.state.TheConstants.{MEMORY_BYTES}
 use Rattle.c62_serial.specs.declared.serial.Exit.{Exit}
 use Rattle.c62_serial.specs.declared.serial.Exit.TheVariants.{Next}
 use Rattle.c62_serial.specs.State.{Machine, IsSound, word_in, byte_in}
@@ -25,7 +26,7 @@ exit_by did block = fold (λ exit p. exit_after exit (did p).target) Next block
 pub record Leaves (block : List Placed) (cycles : ℕ) (opening : Machine) (did : Did) (ran : Ran) : Type 0 where
   pub sound : IsSound ran.machine
   pub words : (reg : Reg) → word_in ran.machine reg ≡ word_before block opening did cycles reg
-  pub bytes : (address : ℕ) → address < 65536 → byte_in ran.machine address ≡ byte_before block opening did cycles address
+  pub bytes : (address : ℕ) → address < MEMORY_BYTES → byte_in ran.machine address ≡ byte_before block opening did cycles address
   pub faults : (line : ℕ) → Contains ran.machine.faults line ↔ (Contains opening.faults line ⊎ HasFaulted block did line)
   pub exit : ran.exit ≡ exit_by did block
 

@@ -8,7 +8,7 @@ use Rattle.c62_serial.specs.State.{Machine, index_of, word_in, byte_in}
 use Rattle.c62_serial.specs.Memory.{is_good, bytes_of}
 use Rattle.c62_serial.specs.Effect.{Act, act_of}
 use Rattle.c62_packet.specs.declared.placed.Placed.{Placed}
-use Rattle.c62_packet.specs.Packed.{listing_place}
+use Rattle.c62_packet.specs.Packed.{listing_position}
 use Rattle.c62_meaning.specs.Landing.{Landing, value_before}
 
 -- what each instruction of a block did
@@ -19,12 +19,12 @@ Did = Placed → Act
 
 -- a write of an instruction issued in this cycle lands after its delay
 abbrev pub write_landing : ℕ → (Reg × ℕ) × ℕ → Landing
-write_landing cycle write = record { place = index_of write.0.0; time = cycle + write.0.1; value = write.1 }
+write_landing cycle write = record { cell = index_of write.0.0; time = cycle + write.0.1; value = write.1 }
 
 -- bytes from an address on, all stored at one time
 abbrev pub byte_landings : ℕ → ℕ → List ℕ → List Landing
 byte_landings time address [] = []
-byte_landings time address (byte ∷ bytes) = record { place = address; time = time; value = byte } ∷ byte_landings time (address + 1) bytes
+byte_landings time address (byte ∷ bytes) = record { cell = address; time = time; value = byte } ∷ byte_landings time (address + 1) bytes
 
 abbrev pub stored_landings : ℕ → ℕ → ℕ → Option ℕ → List Landing
 stored_landings time address size None = []
@@ -37,7 +37,7 @@ access_landings time (Some access) = stored_landings time access.address access.
 
 -- when an access is made: in the order of the cycles of issue, and in a cycle in that of the eight units, .D1 before .D2
 abbrev pub access_time : Placed → ℕ
-access_time p = listing_place p
+access_time p = listing_position p
 
 abbrev pub register_landings : Did → Placed → List Landing
 register_landings did p = map (write_landing p.cycle) (did p).writes

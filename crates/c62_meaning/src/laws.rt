@@ -1,30 +1,30 @@
 //! Laws of packet meaning. The functions do nothing: what each ensures is a law, proved of the
 //! definitions that other contracts cite.
 
-ghost use Rattle.std.specs.Prelude.{◌≡◌, ℕ, List, IsTrue};
-ghost use Rattle.c62_insn.specs.declared.register.Reg.{Reg};
+ghost use Rattle.std.specs.Prelude.{ℕ, List, IsTrue};
 ghost use Rattle.c62_insn.specs.declared.insn.Insn.{Insn};
 ghost use Rattle.c62_read.specs.declared.block.SerialInsn.{SerialInsn};
 ghost use Rattle.c62_read.specs.Block.{branch_last, operations};
 ghost use Rattle.c62_serial.specs.State.{Machine, IsSound};
-ghost use Rattle.c62_serial.specs.Effect.{act_of};
 ghost use Rattle.c62_packet.specs.declared.placed.Placed.{Placed};
-ghost use Rattle.c62_meaning.specs.Laws.{HasOneMeaning, IsSameInsn, IsPacked, AreSerial};
+ghost use Rattle.c62_meaning.specs.Laws.{HasOneMeaning, IsSameInsn, ActsAlike, IsPacked, AreSerial};
 
 /// Every block of packets has just one meaning, whatever its instructions do and wherever they are
 /// placed.
 pub fn has_one_meaning()
-    ensures { (block : List Placed) (cycles : ℕ) (opening : Machine) → IsSound opening → HasOneMeaning block cycles opening }
+    ensures { (block : List Placed) (cycles : ℕ) (opening : Machine) → IsSound opening
+        → HasOneMeaning block cycles opening }
 {}
 
 /// Packets are serial: where they hold the instructions of a block so that every dependence keeps its
 /// distance, they leave what the block leaves one instruction after the other, in registers, memory
 /// and faulted lines, and go on where it does, from every machine.
 pub fn packets_are_serial()
-    ensures { (insns : List SerialInsn) (block : List Placed) → IsTrue (branch_last (operations insns)) → IsPacked insns block → AreSerial insns block }
+    ensures { (insns : List SerialInsn) (block : List Placed) → IsTrue (branch_last (operations insns))
+        → IsPacked insns block → AreSerial insns block }
 {}
 
 /// What an instruction does is the same on whichever unit it is written.
 pub fn acts_alike_on_all_units()
-    ensures { (one other : Insn) (word : Reg → ℕ) (byte : ℕ → ℕ) → IsSameInsn one other → act_of one word byte ≡ act_of other word byte }
+    ensures { (one other : Insn) → IsSameInsn one other → ActsAlike one other }
 {}

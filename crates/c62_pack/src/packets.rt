@@ -60,7 +60,8 @@ pub fn packets_at(alloc: Global, plan: &Plan, spots: &[Spot]) -> Result<PacketBl
     ensures packets { IfOk result (ArePackets plan.now (map Some spots.now)) }
     ensures serial { IfOk result (λ block. AreSerial plan.now.insns block.placed) }
     ensures block { IfOk result (IsBlockPacked plan.now) }
-    ensures fault { MatchResult result (λ _. IsLawful (insns_of plan.now) (map Some spots.now)) (IsAtFault plan.now spots.now) }
+    ensures fault { MatchResult result (λ _. IsLawful (insns_of plan.now) (map Some spots.now))
+        (IsAtFault plan.now spots.now) }
 {
     if !are_lawful(plan, spots) {
         return Err(AtFault::NotLawful);

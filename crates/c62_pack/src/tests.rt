@@ -5,7 +5,7 @@ use crate::packets::{packets_at, packets_of};
 use c62_board::{Board, Spot, Who};
 use c62_depend::Plan;
 use c62_insn::{Letter, Reg, Side, Unit};
-use c62_packet::{PacketBlock, Packets};
+use c62_packet::{MOST_BLOCKS, PacketBlock, Packets};
 use c62_pipe::run_chain;
 use c62_read::{Block, read_program};
 use c62_serial::{Chain, End, State, run_program};
@@ -148,7 +148,7 @@ fn packets(rt: &impl Abort, alloc: Global, text: &str) -> Result<Packets, Fail> 
     for block in read_program(alloc, text.as_bytes())?.into_blocks() {
         let board = board_of(rt, alloc, block)?;
         assert!(rt; board.complete());
-        assert!(rt; packets.len() < 64);
+        assert!(rt; packets.len() < MOST_BLOCKS);
         match packets.push(packets_of(alloc, &board)?) {
             Ok(()) => {}
             Err((_, error)) => return Err(error.into()),

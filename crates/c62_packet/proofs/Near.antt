@@ -21,7 +21,7 @@ use Rattle.c62_insn.specs.Insn.{operands_of, operand_reads}
 use Rattle.c62_insn.specs.Units.{place_of}
 use Rattle.c62_insn.specs.PacketRules.{reads_in}
 use Rattle.c62_packet.specs.declared.placed.Placed.{Placed}
-use Rattle.c62_packet.specs.Packed.{issue_of, issued, listing_place, IsInListingOrder}
+use Rattle.c62_packet.specs.Packed.{issue_of, issued, listing_position, IsInListingOrder}
 use Rattle.c62_packet.specs.Clash.{shares_unit, shares_side, both_cross, shares_cross_path, same_path, shares_data_path, reads_beside, is_over_read, lands, broken_by, broken_beside}
 use Rattle.c62_packet.proofs.RuleLemmas.{lands-late}
 
@@ -133,6 +133,6 @@ place_small D B = omega arith
 -- in listing order the cycles rise
 pub cycles_rise : (placed : List Placed) → IsInListingOrder placed → IsNonDecreasingBy (λ (p : Placed). p.cycle) placed
 cycles_rise placed order i j d le within =
-    let places : listing_place (get_or placed i d) ≤ listing_place (get_or placed j d) = order i j d le within in
+    let order_is : listing_position (get_or placed i d) ≤ listing_position (get_or placed j d) = order i j d le within in
     let small = place_small (get_or placed j d).unit.letter (get_or placed j d).unit.side in
-    omega (arith, places, small)
+    omega (arith, order_is, small)

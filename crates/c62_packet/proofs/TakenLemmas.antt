@@ -26,7 +26,7 @@ use Rattle.c62_packet.specs.declared.fault.PacketRule.TheVariants.{P4}
 use Rattle.c62_packet.specs.Packed.{issue_of, issued}
 use Rattle.c62_packet.specs.Rules.{IsKept}
 use Rattle.c62_packet.specs.Clash.{shares_unit, crosses, shares_cross_path, shares_data_path, is_over_read, lands, is_met, landing_beside, broken_beside}
-use Rattle.c62_packet.specs.Taken.{number_in, AddsNumber, cross_place, path_place, AddsCrossPath, AddsDataPath, most_reads, AddsReads, landed, shifted, AddsLanding, AddsLandings}
+use Rattle.c62_packet.specs.Taken.{number_in, AddsNumber, cross_number, path_number, AddsCrossPath, AddsDataPath, most_reads, AddsReads, landed, shifted, AddsLanding, AddsLandings}
 use Rattle.c62_packet.specs.Covers.{Covers}
 use Rattle.c62_packet.proofs.RuleLemmas.{tells_unit, tells_cross_path, tells_data_path, reads-own, reads_here, lands-is}
 use Rattle.c62_packet.proofs.Near.{far_reads}
@@ -225,9 +225,9 @@ landing-adds cycles new write within adds = record {
 pub record AddsPlaced (old new : Taken) (units paths : ℕ) (p : Placed) : Type 0 where
   pub cycle : old.cycle ≡ p.cycle
   pub same : new.cycle ≡ p.cycle
-  pub unit : AddsNumber old.places.bits units (index_of p.unit)
+  pub unit : AddsNumber old.resources.bits units (index_of p.unit)
   pub cross_path : AddsCrossPath units paths p
-  pub data_path : AddsDataPath paths new.places.bits p
+  pub data_path : AddsDataPath paths new.resources.bits p
   pub reads : AddsReads old.reads.regs.bits old.reads.again new.reads.regs.bits new.reads.again (operand_reads p.insn)
   pub landings : AddsLandings old.landings.cycles new.landings.cycles (register_writes p.insn)
 
@@ -241,15 +241,15 @@ pub covers-cons : (old new : Taken) (units paths : ℕ) (p : Placed) (rest : Lis
 covers-cons old new units paths p rest adds covers = record {
   later = All-cons (λ (q : Placed). new.cycle ≤ q.cycle) p rest (let e = adds.same in omega arith)
       (λ i d within. (let far : old.cycle ≤ (get_or rest i d).cycle = covers.later i d within in omega (arith, far, adds.same, adds.cycle)));
-  units = All-cons (λ (q : Placed). q.cycle ≡ new.cycle → number_in new.places.bits (index_of q.unit) ≡ true) p rest
+  units = All-cons (λ (q : Placed). q.cycle ≡ new.cycle → number_in new.resources.bits (index_of q.unit) ≡ true) p rest
       (λ e. from_paths (index_of p.unit) (adds.cross_path.kept (index_of p.unit) adds.unit.added))
       (λ i d within e. from_old (index_of (get_or rest i d).unit) (covers.units i d within (e ∙ one_cycle)));
-  cross_paths = All-cons (λ (q : Placed). q.cycle ≡ new.cycle → crosses q ≡ true → number_in new.places.bits (cross_place q.unit.side) ≡ true) p rest
-      (λ e is. from_paths (cross_place p.unit.side) (adds.cross_path.added is))
-      (λ i d within e is. from_old (cross_place (get_or rest i d).unit.side) (covers.cross_paths i d within (e ∙ one_cycle) is));
-  data_paths = All-cons (λ (q : Placed). (side : Side) → q.cycle ≡ new.cycle → data_path_of (operands_of q.insn) ≡ Some side → number_in new.places.bits (path_place side) ≡ true) p rest
+  cross_paths = All-cons (λ (q : Placed). q.cycle ≡ new.cycle → crosses q ≡ true → number_in new.resources.bits (cross_number q.unit.side) ≡ true) p rest
+      (λ e is. from_paths (cross_number p.unit.side) (adds.cross_path.added is))
+      (λ i d within e is. from_old (cross_number (get_or rest i d).unit.side) (covers.cross_paths i d within (e ∙ one_cycle) is));
+  data_paths = All-cons (λ (q : Placed). (side : Side) → q.cycle ≡ new.cycle → data_path_of (operands_of q.insn) ≡ Some side → number_in new.resources.bits (path_number side) ≡ true) p rest
       (λ side e is. adds.data_path.added side is)
-      (λ i d within side e is. from_old (path_place side) (covers.data_paths i d within side (e ∙ one_cycle) is));
+      (λ i d within side e is. from_old (path_number side) (covers.data_paths i d within side (e ∙ one_cycle) is));
   reads = reads;
   landings = All-cons
       (λ (q : Placed). All (λ (write : Reg × ℕ). (k : ℕ) → k < 5 → q.cycle + write.1 ≡ new.cycle + k → landed new.landings.cycles k write.0 ≡ true) (register_writes q.insn)) p rest
@@ -263,13 +263,13 @@ covers-cons old new units paths p rest adds covers = record {
     one_cycle : new.cycle ≡ old.cycle
     one_cycle = adds.same ∙ sym adds.cycle
 
-    from_paths : (n : ℕ) → number_in paths n ≡ true → number_in new.places.bits n ≡ true
+    from_paths : (n : ℕ) → number_in paths n ≡ true → number_in new.resources.bits n ≡ true
     from_paths n is = adds.data_path.kept n is
 
     from_units : (n : ℕ) → number_in units n ≡ true → number_in paths n ≡ true
     from_units n is = adds.cross_path.kept n is
 
-    from_old : (n : ℕ) → number_in old.places.bits n ≡ true → number_in new.places.bits n ≡ true
+    from_old : (n : ℕ) → number_in old.resources.bits n ≡ true → number_in new.resources.bits n ≡ true
     from_old n is = from_paths n (from_units n (adds.unit.kept n is))
 
     reads : (reg : Reg) → sum_by (reads_in new.cycle reg) (issued (p ∷ rest)) ≤ most_reads new.reads.regs.bits new.reads.again reg
@@ -304,7 +304,7 @@ covers-cons old new units paths p rest adds covers = record {
         let at : write.1 ≡ k = omega (arith, same, adds.same) in
         subst (λ (n : ℕ). landed new.landings.cycles n write.0 ≡ true) at (adds.landings.added j e inner)
 
-    -- an old place that one takes is not free
+    -- an old number that one takes is not free
     taken_by : (test : Placed → Bool) → ((q : Placed) → Contains rest q → test q ≡ true → ⊥) → list_any test rest ≡ false
     taken_by test clash = list_any_none test rest (λ i d within.
         false_from_ne_true (test (get_or rest i d)) (λ met. clash (get_or rest i d) (i, within, get_or_self i d within) met))
@@ -316,28 +316,28 @@ covers-cons old new units paths p rest adds covers = record {
     unit_free = taken_by (shares_unit p) (λ q at met.
         let kind = tells_unit.kind p q met in
         let cycle : q.cycle ≡ old.cycle = tells_unit.cycle p q met ∙ sym adds.cycle in
-        let there : number_in old.places.bits (index_of q.unit) ≡ true
-        = All-contains (λ (s : Placed). s.cycle ≡ old.cycle → number_in old.places.bits (index_of s.unit) ≡ true) rest q covers.units at cycle in
-        false≢true (sym adds.unit.free ∙ subst (λ u. number_in old.places.bits (index_of u) ≡ true) (kind.2 ∙ sym kind.1) there))
+        let there : number_in old.resources.bits (index_of q.unit) ≡ true
+        = All-contains (λ (s : Placed). s.cycle ≡ old.cycle → number_in old.resources.bits (index_of s.unit) ≡ true) rest q covers.units at cycle in
+        false≢true (sym adds.unit.free ∙ subst (λ u. number_in old.resources.bits (index_of u) ≡ true) (kind.2 ∙ sym kind.1) there))
 
     cross_path_free : list_any (shares_cross_path p) rest ≡ false
     cross_path_free = taken_by (shares_cross_path p) (λ q at met.
         let kind = tells_cross_path.kind p q met in
         let cycle : q.cycle ≡ old.cycle = tells_cross_path.cycle p q met ∙ sym adds.cycle in
-        let there : number_in old.places.bits (cross_place q.unit.side) ≡ true
-        = All-contains (λ (s : Placed). s.cycle ≡ old.cycle → crosses s ≡ true → number_in old.places.bits (cross_place s.unit.side) ≡ true) rest q covers.cross_paths at cycle kind.2.1 in
-        let here : number_in old.places.bits (cross_place p.unit.side) ≡ true
-        = subst (λ (side : Side). number_in old.places.bits (cross_place side) ≡ true) (kind.2.0 ∙ sym kind.1.0) there in
-        false≢true (sym (adds.cross_path.free kind.1.1) ∙ adds.unit.kept (cross_place p.unit.side) here))
+        let there : number_in old.resources.bits (cross_number q.unit.side) ≡ true
+        = All-contains (λ (s : Placed). s.cycle ≡ old.cycle → crosses s ≡ true → number_in old.resources.bits (cross_number s.unit.side) ≡ true) rest q covers.cross_paths at cycle kind.2.1 in
+        let here : number_in old.resources.bits (cross_number p.unit.side) ≡ true
+        = subst (λ (side : Side). number_in old.resources.bits (cross_number side) ≡ true) (kind.2.0 ∙ sym kind.1.0) there in
+        false≢true (sym (adds.cross_path.free kind.1.1) ∙ adds.unit.kept (cross_number p.unit.side) here))
 
     data_path_free : list_any (shares_data_path p) rest ≡ false
     data_path_free = taken_by (shares_data_path p) (λ q at met.
         let kind = tells_data_path.kind p q met in
         let cycle : q.cycle ≡ old.cycle = tells_data_path.cycle p q met ∙ sym adds.cycle in
-        let there : number_in old.places.bits (path_place kind.0) ≡ true
-        = All-contains (λ (s : Placed). (side : Side) → s.cycle ≡ old.cycle → data_path_of (operands_of s.insn) ≡ Some side → number_in old.places.bits (path_place side) ≡ true)
+        let there : number_in old.resources.bits (path_number kind.0) ≡ true
+        = All-contains (λ (s : Placed). (side : Side) → s.cycle ≡ old.cycle → data_path_of (operands_of s.insn) ≡ Some side → number_in old.resources.bits (path_number side) ≡ true)
         rest q covers.data_paths at kind.0 cycle kind.2 in
-        false≢true (sym (adds.data_path.free kind.0 kind.1) ∙ from_units (path_place kind.0) (adds.unit.kept (path_place kind.0) there)))
+        false≢true (sym (adds.data_path.free kind.0 kind.1) ∙ from_units (path_number kind.0) (adds.unit.kept (path_number kind.0) there)))
 
     not_over_read : is_over_read p rest ≡ false
     not_over_read = reads-own p.cycle p rest few_reads refl

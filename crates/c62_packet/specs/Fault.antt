@@ -1,6 +1,7 @@
 -- What stands against a block that is written with so many cycles (docs/LISTING.md, "Faults of a block").
-use Rattle.std.specs.Prelude.{◌≡◌, ◌⊎◌, ℕ, ◌<◌, List}
+use Rattle.std.specs.Prelude.{◌≡◌, ◌⊎◌, ℕ, ◌<◌, List, Option, MatchOption}
 use Rattle.c62_insn.specs.Length.{length_of}
+use Rattle.c62_insn.specs.PacketRules.{KeepsPacketRules}
 use Rattle.c62_packet.specs.declared.placed.Placed.{Placed}
 use Rattle.c62_packet.specs.declared.fault.PacketRule.{PacketRule}
 use Rattle.c62_packet.specs.declared.fault.PacketRule.TheVariants.{P1, P2, P3, P4, P5}
@@ -29,6 +30,10 @@ IsBefore cycle rule other next = (cycle < other) ⊎ ((cycle ≡ other) × (rank
 pub record IsFirstBroken (cycle : ℕ) (rule : PacketRule) (placed : List Placed) : Type 0 where
   pub broken : IsKept rule cycle (issued placed) → ⊥
   pub first : (earlier : ℕ) (other : PacketRule) → IsBefore earlier other cycle rule → IsKept other earlier (issued placed)
+
+-- the first such cycle and rule, or that all rules are kept
+abbrev pub FindsBroken : List Placed → Option (ℕ × PacketRule) → Type 0
+FindsBroken placed found = MatchOption found (KeepsPacketRules (issued placed)) (λ first. IsFirstBroken first.0 first.1 placed)
 
 -- the first fault: too many branches, then cycles that are not the length, then the packet rules
 abbrev pub IsFault : ℕ → List Placed → BlockFault → Type 0

@@ -6,6 +6,7 @@ use Rattle.c62_insn.specs.Shape.{is_branch}
 use Rattle.c62_insn.specs.Insn.{op_of, unit_of}
 use Rattle.c62_insn.specs.PacketRules.{Issue, Issues, KeepsPacketRules}
 use Rattle.c62_insn.specs.Length.{landing_end, length_of}
+use Rattle.c62_packet.specs.declared.limits.TheConstants.{MOST_CYCLES, MOST_INSTRUCTIONS}
 use Rattle.c62_packet.specs.declared.placed.Placed.{Placed}
 
 -- a block's label, its cycles, and its instructions where they are placed
@@ -24,12 +25,12 @@ issues_of placed = map issue_of placed
 abbrev pub issued : List Placed → Issues
 issued placed = map (λ p. Some (issue_of p)) placed
 
--- the place in a listing: by cycle, and in a cycle by unit, of which there are eight
-abbrev pub listing_place : Placed → ℕ
-listing_place p = 8 * p.cycle + index_of p.unit
+-- the position in a listing: by cycle, and in a cycle by unit, of which there are eight
+abbrev pub listing_position : Placed → ℕ
+listing_position p = 8 * p.cycle + index_of p.unit
 
 abbrev pub IsInListingOrder : List Placed → Type 0
-IsInListingOrder placed = IsNonDecreasingBy listing_place placed
+IsInListingOrder placed = IsNonDecreasingBy listing_position placed
 
 -- each instruction's written unit is the one that it stands on
 abbrev pub StandAsWritten : List Placed → Type 0
@@ -52,7 +53,7 @@ pub record IsPacketBlock (block : Packed) : Type 0 where
   pub as_written : StandAsWritten block.placed
   pub rules : KeepsPacketRules (issued block.placed)
   pub one_branch : HaveOneBranch block.placed
-  pub few : length block.placed ≤ 256
+  pub few : length block.placed ≤ MOST_INSTRUCTIONS
   pub own_length : block.cycles ≡ length_of (issues_of block.placed)
-  pub short : block.cycles ≤ 2048
+  pub short : block.cycles ≤ MOST_CYCLES
   pub drained : AreDrained block.cycles block.placed

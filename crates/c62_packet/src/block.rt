@@ -2,6 +2,7 @@
 
 ghost use Rattle.std.specs.Prelude.{◌≡◌, ◌≤◌, length, Some, MatchResult};
 ghost use Rattle.std.specs.Option.{option_copied};
+ghost use Rattle.c62_packet.specs.declared.limits.TheConstants.{MOST_CYCLES, MOST_INSTRUCTIONS};
 ghost use Rattle.c62_packet.specs.Packed.{Packed, IsPacketBlock, IsInListingOrder, StandAsWritten};
 ghost use Rattle.c62_packet.specs.Fault.{IsFault};
 
@@ -14,8 +15,8 @@ use std::marker::Model;
 
 /// A block of execute packets: its label, where it has one, its length in cycles, and its
 /// instructions in listing order, by cycle and in a cycle by unit. It keeps the packet rules in each
-/// cycle, has at most one branch, 256 instructions and 2,048 cycles, and nothing lands in the cycle
-/// of its length or later. The written unit of each instruction is the one that it stands on.
+/// cycle, has at most one branch, [`MOST_INSTRUCTIONS`](crate::MOST_INSTRUCTIONS) instructions and
+/// [`MOST_CYCLES`](crate::MOST_CYCLES) cycles, and nothing lands in the cycle of its length or later. The written unit of each instruction is the one that it stands on.
 #[derive(Drop)]
 pub struct PacketBlock {
     label: Option<Label>,
@@ -45,8 +46,8 @@ impl PacketBlock {
         cycles: u16,
         placed: Vec<Placed>,
     ) -> Result<PacketBlock, BlockFault>
-        requires few { length placed.items ≤ 256 }
-        requires short { cycles ≤ 2048 }
+        requires few { length placed.items ≤ MOST_INSTRUCTIONS }
+        requires short { cycles ≤ MOST_CYCLES }
         requires in_order { IsInListingOrder placed.items }
         requires as_written { StandAsWritten placed.items }
         ensures { MatchResult result

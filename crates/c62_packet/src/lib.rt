@@ -5,6 +5,7 @@ mod block;
 mod fault;
 pub mod laws;
 mod length;
+mod limits;
 mod packets;
 mod placed;
 mod rules;
@@ -13,6 +14,7 @@ mod taken;
 pub use block::PacketBlock;
 pub use fault::{BlockFault, PacketRule};
 pub use length::cycles_of;
+pub use limits::{MOST_BLOCKS, MOST_CYCLES, MOST_INSTRUCTIONS};
 pub use packets::Packets;
 pub use placed::Placed;
 

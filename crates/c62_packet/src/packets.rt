@@ -4,6 +4,7 @@ ghost use Rattle.std.specs.Prelude.{◌≡◌, ◌<◌, ◌≤◌, ◌++◌, ◌
 ghost use Rattle.std.specs.List.{list_all};
 ghost use Rattle.c62_insn.specs.Insn.{operands_of};
 ghost use Rattle.c62_read.specs.Block.{target_stands};
+ghost use Rattle.c62_packet.specs.declared.limits.TheConstants.{MOST_BLOCKS};
 ghost use Rattle.c62_packet.specs.Packed.{Packed, IsPacketBlock};
 ghost use Rattle.c62_packet.specs.Packets.{labels_of, is_closed};
 
@@ -13,7 +14,7 @@ use c62_insn::Operands;
 use std::alloc::{AllocError, Global};
 use std::marker::Model;
 
-/// At most 64 packet blocks, numbered from 0 in their order.
+/// At most [`MOST_BLOCKS`](crate::MOST_BLOCKS) packet blocks, numbered from 0 in their order.
 #[derive(Drop)]
 pub struct Packets {
     blocks: Vec<PacketBlock>,
@@ -24,7 +25,7 @@ impl Model for Packets {
 
     ghost view = { λ packets. packets.blocks.items };
 
-    ghost invariant = { λ packets. (length packets.blocks.items ≤ 64) × All IsPacketBlock packets.blocks.items };
+    ghost invariant = { λ packets. (length packets.blocks.items ≤ MOST_BLOCKS) × All IsPacketBlock packets.blocks.items };
 }
 
 impl Packets {
@@ -37,10 +38,10 @@ impl Packets {
         }
     }
 
-    /// How many blocks there are, at most 64.
+    /// How many blocks there are, at most [`MOST_BLOCKS`](crate::MOST_BLOCKS).
     pub fn len(&self) -> usize
         ensures len { result ≡ length self.now }
-        ensures few { length self.now ≤ 64 }
+        ensures few { length self.now ≤ MOST_BLOCKS }
     {
         self.blocks.len()
     }
@@ -51,7 +52,7 @@ impl Packets {
     ///
     /// The block as it was, where memory ran out; the list is then unchanged.
     pub fn push(&mut self, block: PacketBlock) -> Result<(), (PacketBlock, AllocError)>
-        requires { length self.old < 64 }
+        requires { length self.old < MOST_BLOCKS }
         ensures { MatchResult result
             (λ _. self.new ≡ self.old ++ block ∷ [])
             (λ back. (back.0 ≡ block) × (self.new ≡ self.old)) }
@@ -66,7 +67,7 @@ impl Packets {
     /// The blocks in their order, each of which is a packet block.
     pub fn blocks(&self) -> &[PacketBlock]
         ensures same { result.now ≡ self.now }
-        ensures few { length self.now ≤ 64 }
+        ensures few { length self.now ≤ MOST_BLOCKS }
         ensures sound { All IsPacketBlock self.now }
     {
         &self.blocks

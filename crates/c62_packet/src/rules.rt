@@ -1,11 +1,12 @@
 //! The first packet rule that placed instructions break.
 
-ghost use Rattle.std.specs.Prelude.{◌≡◌, ◌↔◌, ◌+◌, ◌<◌, ◌≤◌, All, length, nat_le, take_while, Some, None, IsTrue, MatchOption};
+ghost use Rattle.std.specs.Prelude.{◌≡◌, ◌↔◌, ◌+◌, ◌<◌, ◌≤◌, All, length, nat_le, take_while, Some, None, IsTrue};
 ghost use Rattle.std.specs.List.{list_any};
 ghost use Rattle.std.specs.List.Sorted.{IsNonDecreasingBy};
 ghost use Rattle.c62_insn.specs.PacketRules.{reads_count, reads_in, KeepsPacketRules};
+ghost use Rattle.c62_packet.specs.declared.limits.TheConstants.{MOST_CYCLES, MOST_INSTRUCTIONS};
 ghost use Rattle.c62_packet.specs.Packed.{issue_of, issued, IsInListingOrder};
-ghost use Rattle.c62_packet.specs.Fault.{rank_of, IsFirstBroken};
+ghost use Rattle.c62_packet.specs.Fault.{rank_of, FindsBroken};
 ghost use Rattle.c62_packet.specs.Clash.{shares_unit, crosses, shares_side, both_cross, shares_cross_path, same_path, shares_data_path, reads_beside, is_over_read, is_landing, lands, is_met, landing_beside, broken_by, broken_beside, is_before, earlier, broken};
 
 use crate::fault::PacketRule;
@@ -92,7 +93,7 @@ fn reads_in(placed: &Placed, cycle: u16, reg: Reg) -> usize
 
 /// How often a register is read in the cycle of an instruction, by it and by others.
 fn reads_beside(placed: &Placed, others: &[Placed], reg: Reg) -> usize
-    requires { length others.now ≤ 256 }
+    requires { length others.now ≤ MOST_INSTRUCTIONS }
     ensures { result ≡ reads_beside placed.now others.now reg }
 {
     let mut count = reads(placed, reg);
@@ -106,7 +107,7 @@ fn reads_beside(placed: &Placed, others: &[Placed], reg: Reg) -> usize
 /// times at most.
 #[tactic(auto, using(crate::proofs::ReadLemmas::reads_alone))]
 fn is_over_read(placed: &Placed, others: &[Placed]) -> bool
-    requires { length others.now ≤ 256 }
+    requires { length others.now ≤ MOST_INSTRUCTIONS }
     ensures { result ≡ is_over_read placed.now others.now }
 {
     match others {
@@ -116,7 +117,7 @@ fn is_over_read(placed: &Placed, others: &[Placed]) -> bool
 }
 
 fn is_read_too_often(placed: &Placed, others: &[Placed]) -> bool
-    requires { length others.now ≤ 256 }
+    requires { length others.now ≤ MOST_INSTRUCTIONS }
     ensures { result ≡ is_over_read placed.now others.now }
 {
     let reads = placed.insn.reads();
@@ -165,7 +166,7 @@ fn any_lands(placed: &[Placed], reg: Reg, cycle: u32) -> bool
 
 /// The least cycle in which a write of the instruction lands with another.
 fn landing_beside(placed: &Placed, others: &[Placed]) -> Option<u16>
-    requires short { placed.now.cycle < 2048 }
+    requires short { placed.now.cycle < MOST_CYCLES }
     requires rising { IsNonDecreasingBy (λ p. p.cycle) others.now }
     ensures { result ≡ landing_beside placed.now others.now }
 {
@@ -202,8 +203,8 @@ fn shares_a_data_path(placed: &Placed, others: &[Placed]) -> bool
 /// The least cycle and there the first rule that an instruction breaks together with those beside it and with others, whose
 /// cycles rise. The rules but the last speak of those beside it.
 fn broken_by(placed: &Placed, beside: &[Placed], others: &[Placed]) -> Option<(u16, PacketRule)>
-    requires short { placed.now.cycle < 2048 }
-    requires few { length beside.now ≤ 256 }
+    requires short { placed.now.cycle < MOST_CYCLES }
+    requires few { length beside.now ≤ MOST_INSTRUCTIONS }
     requires rising { IsNonDecreasingBy (λ p. p.cycle) others.now }
     ensures { result ≡ broken_by placed.now beside.now others.now }
 {
@@ -227,8 +228,8 @@ fn broken_by(placed: &Placed, beside: &[Placed], others: &[Placed]) -> Option<(u
 
 /// The same for an instruction and those behind it.
 fn broken_beside(placed: &Placed, others: &[Placed]) -> Option<(u16, PacketRule)>
-    requires short { placed.now.cycle < 2048 }
-    requires few { length others.now ≤ 256 }
+    requires short { placed.now.cycle < MOST_CYCLES }
+    requires few { length others.now ≤ MOST_INSTRUCTIONS }
     requires rising { IsNonDecreasingBy (λ p. p.cycle) others.now }
     ensures { result ≡ broken_beside placed.now others.now }
 {
@@ -294,10 +295,10 @@ fn are_apart(placed: &[Placed]) -> bool
 
 /// The least cycle in which a packet rule is broken, and there the first rule.
 pub fn first_broken(placed: &[Placed]) -> Option<(u16, PacketRule)>
-    requires few { length placed.now ≤ 256 }
-    requires short { All (λ p. p.cycle < 2048) placed.now }
+    requires few { length placed.now ≤ MOST_INSTRUCTIONS }
+    requires short { All (λ p. p.cycle < MOST_CYCLES) placed.now }
     requires in_order { IsInListingOrder placed.now }
-    ensures { MatchOption result (KeepsPacketRules (issued placed.now)) (λ found. IsFirstBroken found.0 found.1 placed.now) }
+    ensures { FindsBroken placed.now result }
 {
     if are_apart(placed) {
         return None;

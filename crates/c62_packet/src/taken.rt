@@ -1,10 +1,7 @@
 //! What placed instructions take: units and paths, reads of registers, and landings.
 
-ghost use Rattle.std.specs.Prelude.{ℕ, ◌≡◌, ◌+◌, ◌<◌, ◌≤◌, ◌∷◌, [], List, length, true, IfSome, MatchOption};
-ghost use Rattle.c62_insn.specs.declared.register.Reg.{Reg as Register};
-ghost use Rattle.c62_packet.specs.declared.placed.Placed.{Placed as PlacedInsn};
-ghost use Rattle.c62_packet.specs.Taken.{number_in, AddsNumber, cross_place, path_place, AddsCrossPath, AddsDataPath, most_reads, AddsReads, landed, shifted, AddsLanding, AddsLandings};
-ghost use Rattle.c62_insn.specs.Register.{register_index};
+ghost use Rattle.std.specs.Prelude.{◌≡◌, ◌+◌, ◌<◌, ◌≤◌, ◌∷◌, [], length, IfSome, MatchOption};
+ghost use Rattle.c62_packet.specs.Taken.{HasNumber, AddsNumber, cross_number, path_number, AddsCrossPath, AddsDataPath, AddsReads, shifted, AreShifted, AddsLanding, AddsLandings};
 
 use crate::placed::Placed;
 use c62_insn::{Reg, Side};
@@ -19,7 +16,7 @@ impl NumberSet {
     /// The set with a number added that it does not have.
     fn adding(self, number: u8) -> Option<NumberSet>
         requires { number < 32 }
-        ensures { MatchOption result (number_in self.bits number ≡ true) (λ set. AddsNumber self.bits set.bits number) }
+        ensures { MatchOption result (HasNumber self.bits number) (λ set. AddsNumber self.bits set.bits number) }
     {
         if self.bits >> number & 1 == 1 {
             return None;
@@ -30,9 +27,9 @@ impl NumberSet {
     }
 }
 
-/// The place of a cross path behind those of the eight units.
-fn cross_place(side: Side) -> u8
-    ensures { result ≡ cross_place side }
+/// The number of a cross path, behind those of the eight units.
+fn cross_number(side: Side) -> u8
+    ensures { result ≡ cross_number side }
 {
     match side {
         Side::A => 8,
@@ -40,9 +37,9 @@ fn cross_place(side: Side) -> u8
     }
 }
 
-/// The place of a data path behind those of the cross paths.
-fn path_place(side: Side) -> u8
-    ensures { result ≡ path_place side }
+/// The number of a data path, behind those of the cross paths.
+fn path_number(side: Side) -> u8
+    ensures { result ≡ path_number side }
 {
     match side {
         Side::A => 10,
@@ -50,22 +47,22 @@ fn path_place(side: Side) -> u8
     }
 }
 
-fn with_cross_path(places: NumberSet, placed: &Placed) -> Option<NumberSet>
-    ensures { IfSome result (λ set. AddsCrossPath places.bits set.bits placed.now) }
+fn with_cross_path(resources: NumberSet, placed: &Placed) -> Option<NumberSet>
+    ensures { IfSome result (λ set. AddsCrossPath resources.bits set.bits placed.now) }
 {
     if placed.insn.crosses(placed.unit) {
-        places.adding(cross_place(placed.unit.side))
+        resources.adding(cross_number(placed.unit.side))
     } else {
-        Some(places)
+        Some(resources)
     }
 }
 
-fn with_data_path(places: NumberSet, placed: &Placed) -> Option<NumberSet>
-    ensures { IfSome result (λ set. AddsDataPath places.bits set.bits placed.now) }
+fn with_data_path(resources: NumberSet, placed: &Placed) -> Option<NumberSet>
+    ensures { IfSome result (λ set. AddsDataPath resources.bits set.bits placed.now) }
 {
     match placed.insn.data_path() {
-        Some(side) => places.adding(path_place(side)),
-        None => Some(places),
+        Some(side) => resources.adding(path_number(side)),
+        None => Some(resources),
     }
 }
 
@@ -128,7 +125,7 @@ impl Landings {
 
     /// The landings from an earlier cycle on.
     fn from_earlier(&self, gap: u16) -> Landings
-        ensures { (k : ℕ) (reg : Register) → k < 5 → landed result.cycles k reg ≡ (number_in (shifted self.now.cycles gap k) (register_index reg)) }
+        ensures { AreShifted self.now.cycles gap result.cycles }
     {
         Landings {
             cycles: [
@@ -170,14 +167,15 @@ impl Landings {
 #[derive(Clone, Copy)]
 pub(crate) struct Taken {
     cycle: u16,
-    places: NumberSet,
+    /// The units, the cross paths and the data paths that are taken in the cycle, each by its number.
+    resources: NumberSet,
     reads: Reads,
     landings: Landings,
     pub ghost few: { reads.again ≤ 3 },
 }
 
 impl Taken {
-    ghost use Rattle.c62_packet.specs.Covers.{Covers};
+    ghost use Rattle.c62_packet.specs.Covers.{Covers, CoversTheSame, CoversMore};
 
     /// What no instructions take.
     pub fn new() -> Taken
@@ -185,7 +183,7 @@ impl Taken {
     {
         Taken {
             cycle: u16::MAX,
-            places: NumberSet { bits: 0 },
+            resources: NumberSet { bits: 0 },
             reads: Reads {
                 regs: NumberSet { bits: 0 },
                 again: 0,
@@ -198,14 +196,14 @@ impl Taken {
     fn from_cycle(&self, cycle: u16) -> Taken
         requires { cycle ≤ self.now.cycle }
         ensures same { result.cycle ≡ cycle }
-        ensures covers { (rest : List PlacedInsn) → Covers self.now rest → Covers result rest }
+        ensures covers { CoversTheSame self.now result }
     {
         if cycle == self.cycle {
             return *self;
         }
         Taken {
             cycle,
-            places: NumberSet { bits: 0 },
+            resources: NumberSet { bits: 0 },
             reads: Reads {
                 regs: NumberSet { bits: 0 },
                 again: 0,
@@ -217,15 +215,15 @@ impl Taken {
     /// What is taken with an instruction before the others. `None` where it may break a packet rule
     /// together with them.
     pub fn with(&self, placed: &Placed) -> Option<Taken>
-        ensures { IfSome result (λ taken. (rest : List PlacedInsn) → Covers self.now rest → Covers taken (placed.now ∷ rest)) }
+        ensures { IfSome result (λ taken. CoversMore self.now taken placed.now) }
     {
         if self.cycle < placed.cycle {
             return None;
         }
         let here = self.from_cycle(placed.cycle);
-        let units = here.places.adding(placed.unit.index())?;
+        let units = here.resources.adding(placed.unit.index())?;
         let paths = with_cross_path(units, placed)?;
-        let places = with_data_path(paths, placed)?;
+        let resources = with_data_path(paths, placed)?;
         let reads = here.reads.with_all(placed.insn.reads().as_slice());
         let landings = here.landings.with_all(placed.insn.writes().as_slice())?;
         if 3 < reads.again {
@@ -233,7 +231,7 @@ impl Taken {
         }
         Some(Taken {
             cycle: placed.cycle,
-            places,
+            resources,
             reads,
             landings,
         })

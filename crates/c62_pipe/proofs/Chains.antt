@@ -10,7 +10,7 @@ use Rattle.c62_serial.specs.declared.chain.End.TheVariants.{End as FellThrough, 
 use Rattle.c62_serial.specs.declared.chain.Chain.{Chain}
 use Rattle.c62_serial.specs.State.{Machine, Contents, IsSound}
 use Rattle.c62_serial.specs.Serial.{Ran}
-use Rattle.c62_serial.specs.Chain.{Standing, Ended, At, Place, place_at, place_after, Leads, IsStopped, IsChain, chain_of, serial_blocks, no_block as no_serial_block, block_of as serial_block_of}
+use Rattle.c62_serial.specs.Chain.{Standing, Ended, At, Position, position_at, position_after, Leads, IsStopped, IsChain, chain_of, serial_blocks, no_block as no_serial_block, block_of as serial_block_of}
 use Rattle.c62_serial.proofs.MachineLemmas.{sound_run}
 use Rattle.c62_serial.proofs.ChainLemmas.{leads_nowhere, leads_on, at_block, past_end, chain_along}
 use Rattle.c62_packet.specs.Packed.{Packed}
@@ -23,7 +23,7 @@ use Rattle.c62_pipe.specs.Chain.{no_block, block_of, packet_blocks, cycles_taken
 -- where a run stands after some blocks
 pub record Turn (packets : List Packed) (opening machine : Machine) (number blocks cycles limit : ℕ) : Type 0 where
   pub numbers : List ℕ
-  pub stands : Leads (length packets) (packet_blocks packets) opening (place_at (length packets) 0) numbers machine (place_at (length packets) number)
+  pub stands : Leads (length packets) (packet_blocks packets) opening (position_at (length packets) 0) numbers machine (position_at (length packets) number)
   pub counted : length numbers ≡ blocks
   pub taken : cycles ≡ cycles_taken packets numbers
   pub few : cycles ≤ 2048 * blocks
@@ -32,7 +32,7 @@ pub record Turn (packets : List Packed) (opening machine : Machine) (number bloc
 pub first_turn : (packets : List Packed) (machine : Machine) (limit : ℕ) → Turn packets machine machine 0 0 0 limit
 first_turn packets machine limit = record {
   numbers = [];
-  stands = leads_nowhere (length packets) (packet_blocks packets) machine (place_at (length packets) 0);
+  stands = leads_nowhere (length packets) (packet_blocks packets) machine (position_at (length packets) 0);
   counted = refl;
   taken = refl;
   few = omega arith;
@@ -42,7 +42,7 @@ first_turn packets machine limit = record {
 -- the blocks so far, with one more
 pub record More (packets : List Packed) (opening next : Machine) (number blocks cycles : ℕ) (exit : Exit) : Type 0 where
   pub numbers : List ℕ
-  pub stands : Leads (length packets) (packet_blocks packets) opening (place_at (length packets) 0) numbers next (place_after (length packets) number exit)
+  pub stands : Leads (length packets) (packet_blocks packets) opening (position_at (length packets) 0) numbers next (position_after (length packets) number exit)
   pub counted : length numbers ≡ blocks
   pub taken : cycles ≡ cycles_taken packets numbers
   pub few : cycles ≤ 2048 * blocks
@@ -54,7 +54,7 @@ pub block_more : (packets all : List Packed) (opening machine next : Machine) (b
 block_more packets all opening machine next blocks number cycles limit taken block exit e h found turn did t small =
     let inside : number < length packets = rw (← e) h in
     let same : block ≡ block_of packets number = rw (← e) (get_or_read all number block h found no_block) in
-    let P : Place → Type 0 = λ place. Leads (length packets) (packet_blocks packets) opening (place_at (length packets) 0) turn.numbers machine place in
+    let P : Position → Type 0 = λ position. Leads (length packets) (packet_blocks packets) opening (position_at (length packets) 0) turn.numbers machine position in
     let here = subst P (at_block (length packets) number inside) turn.stands in
     let Q : Packed → Type 0 = λ b. IsMeaning b.placed b.cycles machine (record { machine = next; exit = exit }) in
     let is : IsMeaning (block_of packets number).placed (block_of packets number).cycles machine (record { machine = next; exit = exit }) = subst Q same did in
@@ -65,19 +65,19 @@ block_more packets all opening machine next blocks number cycles limit taken blo
     let few : cycles ≤ 2048 * blocks = turn.few in
     record {
       numbers = turn.numbers ++ number ∷ [];
-      stands = leads_on (length packets) (packet_blocks packets) opening machine (place_at (length packets) 0) turn.numbers number (record { machine = next; exit = exit }) here is;
+      stands = leads_on (length packets) (packet_blocks packets) opening machine (position_at (length packets) 0) turn.numbers number (record { machine = next; exit = exit }) here is;
       counted = omega (arith, length-append turn.numbers (number ∷ []), turn.counted);
       taken = omega arith;
       few = omega arith;
     }
 
 -- a run that ended is the chain
-pub packets_end : (packets : List Packed) (opening machine : Machine) (numbers : List ℕ) (place : Place) (limit cycles : ℕ) (chain : Chain)
-    → Leads (length packets) (packet_blocks packets) opening (place_at (length packets) 0) numbers machine place
-    → IsStopped limit (length numbers) place → chain ≡ chain_of (record { numbers = numbers; machine = machine; place = place }) → cycles ≡ cycles_taken packets numbers
+pub packets_end : (packets : List Packed) (opening machine : Machine) (numbers : List ℕ) (position : Position) (limit cycles : ℕ) (chain : Chain)
+    → Leads (length packets) (packet_blocks packets) opening (position_at (length packets) 0) numbers machine position
+    → IsStopped limit (length numbers) position → chain ≡ chain_of (record { numbers = numbers; machine = machine; position = position }) → cycles ≡ cycles_taken packets numbers
     → RunsPackets packets opening limit chain cycles machine
-packets_end packets opening machine numbers place limit cycles chain leads stopped told taken = record {
-  standing = record { numbers = numbers; machine = machine; place = place };
+packets_end packets opening machine numbers position limit cycles chain leads stopped told taken = record {
+  standing = record { numbers = numbers; machine = machine; position = position };
   whole = record { stands = leads; stopped = stopped };
   told = told;
   taken = taken;
@@ -89,7 +89,7 @@ pub packets_fall_through : (packets all : List Packed) (opening machine : Machin
     → Turn packets opening machine number blocks cycles limit → RunsPackets packets opening limit (record { blocks = blocks; stop = FellThrough }) cycles machine
 packets_fall_through packets all opening machine number blocks cycles limit e past turn =
     let beyond : length packets ≤ number = rw (← e) past in
-    let P : Place → Type 0 = λ place. Leads (length packets) (packet_blocks packets) opening (place_at (length packets) 0) turn.numbers machine place in
+    let P : Position → Type 0 = λ position. Leads (length packets) (packet_blocks packets) opening (position_at (length packets) 0) turn.numbers machine position in
     packets_end packets opening machine turn.numbers (Ended FellThrough) limit cycles (record { blocks = blocks; stop = FellThrough })
     (subst P (past_end (length packets) number beyond) turn.stands) (omega (arith, turn.counted, turn.within)) (rw turn.counted refl) turn.taken
 
@@ -98,7 +98,7 @@ pub packets_at_limit : (packets all : List Packed) (opening machine : Machine) (
     → Turn packets opening machine number limit cycles limit → RunsPackets packets opening limit (record { blocks = limit; stop = Limit }) cycles machine
 packets_at_limit packets all opening machine number cycles limit e h turn =
     let inside : number < length packets = rw (← e) h in
-    let P : Place → Type 0 = λ place. Leads (length packets) (packet_blocks packets) opening (place_at (length packets) 0) turn.numbers machine place in
+    let P : Position → Type 0 = λ position. Leads (length packets) (packet_blocks packets) opening (position_at (length packets) 0) turn.numbers machine position in
     packets_end packets opening machine turn.numbers (At number) limit cycles (record { blocks = limit; stop = Limit })
     (subst P (at_block (length packets) number inside) turn.stands) turn.counted (rw turn.counted refl) turn.taken
 
@@ -109,7 +109,7 @@ pub packets_lack_room : (packets all : List Packed) (opening : Machine) (number 
 packets_lack_room packets all opening number blocks cycles limit block left e h found turn below full =
     let inside : number < length packets = rw (← e) h in
     let same : block ≡ block_of packets number = rw (← e) (get_or_read all number block h found no_block) in
-    let P : Place → Type 0 = λ place. Leads (length packets) (packet_blocks packets) opening (place_at (length packets) 0) turn.numbers left.machine place in
+    let P : Position → Type 0 = λ position. Leads (length packets) (packet_blocks packets) opening (position_at (length packets) 0) turn.numbers left.machine position in
     record {
       number = number;
       start = record {

@@ -10,7 +10,7 @@ use Rattle.c62_insn.specs.Units.{index_of as unit_index}
 use Rattle.c62_insn.proofs.UnitOrder.{index_of-below}
 use Rattle.c62_serial.specs.State.{Machine, index_of, word_in, byte_in}
 use Rattle.c62_packet.specs.declared.placed.Placed.{Placed}
-use Rattle.c62_packet.specs.Packed.{listing_place}
+use Rattle.c62_packet.specs.Packed.{listing_position}
 use Rattle.c62_meaning.specs.Landing.{Landing, later, latest, value_or}
 use Rattle.c62_meaning.specs.Packet.{Did, write_landing, access_time, register_landings, memory_landings, word_before, byte_before}
 use Rattle.c62_meaning.proofs.Lookup.{In, In-flat_map, from_In-flat_map, latest_cases, LatestCases, last_value, InOrder, InOrder-append, latest_is_last}
@@ -25,10 +25,10 @@ abbrev or_else : Option Landing → Option Landing → Option Landing
 or_else (Some w) o = Some w
 or_else None o = o
 
--- of the landings at this place and time, the last in the list
+-- of the landings at this cell and time, the last in the list
 abbrev last_at : ℕ → ℕ → List Landing → Option Landing
-last_at place t [] = None
-last_at place t (w ∷ ws) = or_else (last_at place t ws) (cond (eqb w.place place && eqb w.time t) (Some w) None)
+last_at cell t [] = None
+last_at cell t (w ∷ ws) = or_else (last_at cell t ws) (cond (eqb w.cell cell && eqb w.time t) (Some w) None)
 
 or_none : (o : Option Landing) → or_else o None ≡ o
 or_none None = refl
@@ -38,21 +38,21 @@ value_or_else : (o p : Option Landing) (old : ℕ) → value_or (or_else o p) ol
 value_or_else None p old = refl
 value_or_else (Some w) p old = refl
 
-time_of_last : (place t : ℕ) (x w : Landing) (o : Option Landing) → ((v : Landing) → o ≡ Some v → v.time ≡ t) → (b : Bool) → (eqb x.place place && eqb x.time t) ≡ b
+time_of_last : (cell t : ℕ) (x w : Landing) (o : Option Landing) → ((v : Landing) → o ≡ Some v → v.time ≡ t) → (b : Bool) → (eqb x.cell cell && eqb x.time t) ≡ b
     → or_else o (cond b (Some x) None) ≡ Some w → w.time ≡ t
-time_of_last place t x w (Some v) rest b h e = rest w e
-time_of_last place t x w None rest true h e =
-    let same : x ≡ w = cc in ap (λ (u : Landing). u.time) (sym same) ∙ eqb-true x.time t (and_parts (eqb x.place place) (eqb x.time t) h).1
-time_of_last place t x w None rest false h e = cc
+time_of_last cell t x w (Some v) rest b h e = rest w e
+time_of_last cell t x w None rest true h e =
+    let same : x ≡ w = cc in ap (λ (u : Landing). u.time) (sym same) ∙ eqb-true x.time t (and_parts (eqb x.cell cell) (eqb x.time t) h).1
+time_of_last cell t x w None rest false h e = cc
 
-last_at_time : (place t : ℕ) (ls : List Landing) (w : Landing) → last_at place t ls ≡ Some w → w.time ≡ t
-last_at_time place t [] w e = cc
-last_at_time place t (x ∷ xs) w e = time_of_last place t x w (last_at place t xs) (λ v h. last_at_time place t xs v h) (eqb x.place place && eqb x.time t) refl e
+last_at_time : (cell t : ℕ) (ls : List Landing) (w : Landing) → last_at cell t ls ≡ Some w → w.time ≡ t
+last_at_time cell t [] w e = cc
+last_at_time cell t (x ∷ xs) w e = time_of_last cell t x w (last_at cell t xs) (λ v h. last_at_time cell t xs v h) (eqb x.cell cell && eqb x.time t) refl e
 
-latest_time : (place t : ℕ) (ls : List Landing) (y : Landing) → latest place t ls ≡ Some y → y.time < t
-latest_time place t ls y e = go (latest_cases place t ls)
+latest_time : (cell t : ℕ) (ls : List Landing) (y : Landing) → latest cell t ls ≡ Some y → y.time < t
+latest_time cell t ls y e = go (latest_cases cell t ls)
   where
-    go : LatestCases place t ls → y.time < t
+    go : LatestCases cell t ls → y.time < t
     go (inl (none, q)) = cc
     go (inr (w, i, q)) = let same : w ≡ y = cc in subst (λ (u : Landing). u.time < t) same i.early
 
@@ -67,120 +67,120 @@ merge_now x None None h k = refl
 merge_now x None (Some y) h k = ap Some (cond-true _ x y (lt-ltb y.time x.time (k y refl)))
 
 -- one landing more before the next time
-head_next : (place t : ℕ) (x : Landing) (xs : List Landing) → (latest place (suc t) xs ≡ or_else (last_at place t xs) (latest place t xs)) → (x.place ≡ place) ⊎ (x.place ≡ place → ⊥)
-    → (x.time < t) ⊎ ((x.time ≡ t) ⊎ (t < x.time)) → latest place (suc t) (x ∷ xs) ≡ or_else (last_at place t (x ∷ xs)) (latest place t (x ∷ xs))
-head_next place t x xs rest (inr ne) order =
-    let p : eqb x.place place ≡ false = ne_eqb _ _ ne in
-    rw p (rest ∙ ap (λ o. or_else o (latest place t xs)) (sym (or_none (last_at place t xs))))
-head_next place t x xs rest (inl e) (inl lt) =
-    let p : eqb x.place place ≡ true = eq-eqb _ _ e in
+head_next : (cell t : ℕ) (x : Landing) (xs : List Landing) → (latest cell (suc t) xs ≡ or_else (last_at cell t xs) (latest cell t xs)) → (x.cell ≡ cell) ⊎ (x.cell ≡ cell → ⊥)
+    → (x.time < t) ⊎ ((x.time ≡ t) ⊎ (t < x.time)) → latest cell (suc t) (x ∷ xs) ≡ or_else (last_at cell t (x ∷ xs)) (latest cell t (x ∷ xs))
+head_next cell t x xs rest (inr ne) order =
+    let p : eqb x.cell cell ≡ false = ne_eqb _ _ ne in
+    rw p (rest ∙ ap (λ o. or_else o (latest cell t xs)) (sym (or_none (last_at cell t xs))))
+head_next cell t x xs rest (inl e) (inl lt) =
+    let p : eqb x.cell cell ≡ true = eq-eqb _ _ e in
     let q : ltb x.time (suc t) ≡ true = lt-ltb _ _ (omega arith) in
     let r : ltb x.time t ≡ true = lt-ltb _ _ lt in
     let s : eqb x.time t ≡ false = ne_eqb _ _ (λ (f : x.time ≡ t). omega arith) in
     rw (p, q, r, s) (
     ap (λ o. Some (later x o)) rest
-    ∙ merge_early x (last_at place t xs) (latest place t xs) (λ v h. let f : v.time ≡ t = last_at_time place t xs v h in omega arith)
-    ∙ ap (λ o. or_else o (Some (later x (latest place t xs)))) (sym (or_none (last_at place t xs))))
-head_next place t x xs rest (inl e) (inr (inl at)) =
-    let p : eqb x.place place ≡ true = eq-eqb _ _ e in
+    ∙ merge_early x (last_at cell t xs) (latest cell t xs) (λ v h. let f : v.time ≡ t = last_at_time cell t xs v h in omega arith)
+    ∙ ap (λ o. or_else o (Some (later x (latest cell t xs)))) (sym (or_none (last_at cell t xs))))
+head_next cell t x xs rest (inl e) (inr (inl at)) =
+    let p : eqb x.cell cell ≡ true = eq-eqb _ _ e in
     let q : ltb x.time (suc t) ≡ true = lt-ltb _ _ (omega arith) in
     let r : ltb x.time t ≡ false = le-ltb _ _ (omega arith) in
     let s : eqb x.time t ≡ true = eq-eqb _ _ at in
     rw (p, q, r, s) (
     ap (λ o. Some (later x o)) rest
-    ∙ merge_now x (last_at place t xs) (latest place t xs) (λ v h. let f : v.time ≡ t = last_at_time place t xs v h in omega arith)
-    (λ y h. let f : y.time < t = latest_time place t xs y h in omega arith)
-    ∙ sym (some_else (last_at place t xs)))
+    ∙ merge_now x (last_at cell t xs) (latest cell t xs) (λ v h. let f : v.time ≡ t = last_at_time cell t xs v h in omega arith)
+    (λ y h. let f : y.time < t = latest_time cell t xs y h in omega arith)
+    ∙ sym (some_else (last_at cell t xs)))
   where
-    some_else : (o : Option Landing) → or_else (or_else o (Some x)) (latest place t xs) ≡ or_else o (Some x)
+    some_else : (o : Option Landing) → or_else (or_else o (Some x)) (latest cell t xs) ≡ or_else o (Some x)
     some_else None = refl
     some_else (Some v) = refl
-head_next place t x xs rest (inl e) (inr (inr gt)) =
-    let p : eqb x.place place ≡ true = eq-eqb _ _ e in
+head_next cell t x xs rest (inl e) (inr (inr gt)) =
+    let p : eqb x.cell cell ≡ true = eq-eqb _ _ e in
     let q : ltb x.time (suc t) ≡ false = le-ltb _ _ (omega arith) in
     let r : ltb x.time t ≡ false = le-ltb _ _ (omega arith) in
     let s : eqb x.time t ≡ false = ne_eqb _ _ (λ (f : x.time ≡ t). omega arith) in
-    rw (p, q, r, s) (rest ∙ ap (λ o. or_else o (latest place t xs)) (sym (or_none (last_at place t xs))))
+    rw (p, q, r, s) (rest ∙ ap (λ o. or_else o (latest cell t xs)) (sym (or_none (last_at cell t xs))))
 
 -- what stands before the next time is what landed at this one, else what stood before
-latest-next : (place t : ℕ) (ls : List Landing) → latest place (suc t) ls ≡ or_else (last_at place t ls) (latest place t ls)
-latest-next place t [] = refl
-latest-next place t (x ∷ xs) = head_next place t x xs (latest-next place t xs) (cases_eq x.place place) order
+latest-next : (cell t : ℕ) (ls : List Landing) → latest cell (suc t) ls ≡ or_else (last_at cell t ls) (latest cell t ls)
+latest-next cell t [] = refl
+latest-next cell t (x ∷ xs) = head_next cell t x xs (latest-next cell t xs) (cases_eq x.cell cell) order
   where
     order : (x.time < t) ⊎ ((x.time ≡ t) ⊎ (t < x.time))
     order = ⊎_elim {C = (x.time < t) ⊎ ((x.time ≡ t) ⊎ (t < x.time))} (λ e. inr (inl e)) (λ o. ⊎_elim {C = (x.time < t) ⊎ ((x.time ≡ t) ⊎ (t < x.time))} (λ l. inl l) (λ g. inr (inr g)) o) (cases_order x.time t)
 
-last_at-append : (place t : ℕ) (xs ys : List Landing) → last_at place t (xs ++ ys) ≡ or_else (last_at place t ys) (last_at place t xs)
-last_at-append place t [] ys = sym (or_none (last_at place t ys))
-last_at-append place t (x ∷ xs) ys =
-    ap (λ o. or_else o (cond (eqb x.place place && eqb x.time t) (Some x) None)) (last_at-append place t xs ys)
-    ∙ assoc (last_at place t ys)
+last_at-append : (cell t : ℕ) (xs ys : List Landing) → last_at cell t (xs ++ ys) ≡ or_else (last_at cell t ys) (last_at cell t xs)
+last_at-append cell t [] ys = sym (or_none (last_at cell t ys))
+last_at-append cell t (x ∷ xs) ys =
+    ap (λ o. or_else o (cond (eqb x.cell cell && eqb x.time t) (Some x) None)) (last_at-append cell t xs ys)
+    ∙ assoc (last_at cell t ys)
   where
-    assoc : (o : Option Landing) → or_else (or_else o (last_at place t xs)) (cond (eqb x.place place && eqb x.time t) (Some x) None)
-        ≡ or_else o (or_else (last_at place t xs) (cond (eqb x.place place && eqb x.time t) (Some x) None))
+    assoc : (o : Option Landing) → or_else (or_else o (last_at cell t xs)) (cond (eqb x.cell cell && eqb x.time t) (Some x) None)
+        ≡ or_else o (or_else (last_at cell t xs) (cond (eqb x.cell cell && eqb x.time t) (Some x) None))
     assoc None = refl
     assoc (Some v) = refl
 
-none_at : (place t : ℕ) (ls : List Landing) → ((w : Landing) → In w ls → w.time ≡ t → ⊥) → last_at place t ls ≡ None
-none_at place t [] h = refl
-none_at place t (x ∷ xs) h =
+none_at : (cell t : ℕ) (ls : List Landing) → ((w : Landing) → In w ls → w.time ≡ t → ⊥) → last_at cell t ls ≡ None
+none_at cell t [] h = refl
+none_at cell t (x ∷ xs) h =
     let s : eqb x.time t ≡ false = ne_eqb _ _ (h x (inl refl)) in
-    ap (λ o. or_else o (cond (eqb x.place place && eqb x.time t) (Some x) None)) (none_at place t xs (λ w k. h w (inr k)))
+    ap (λ o. or_else o (cond (eqb x.cell cell && eqb x.time t) (Some x) None)) (none_at cell t xs (λ w k. h w (inr k)))
     ∙ cond-false _ _ _ (and_right _ _ s)
 
 -- ---- what a slot leaves in a register
 
 abbrev pub last_pair : ℕ → Slot → ℕ → ℕ
-last_pair place [] old = old
-last_pair place (x ∷ xs) old = last_pair place xs (cond (eqb (index_of x.0) place) x.1 old)
+last_pair cell [] old = old
+last_pair cell (x ∷ xs) old = last_pair cell xs (cond (eqb (index_of x.0) cell) x.1 old)
 
-pub landed-last : (place : ℕ) (slot : Slot) (registers : List ℕ) → place < length registers → get_or (fold landed registers slot) place 0 ≡ last_pair place slot (get_or registers place 0)
-landed-last place [] registers l = refl
-landed-last place (x ∷ xs) registers l =
-    let l' : place < length (set registers (index_of x.0) x.1) = rw length-set l in
-    landed-last place xs (set registers (index_of x.0) x.1) l' ∙ ap (λ v. last_pair place xs v) one
+pub landed-last : (cell : ℕ) (slot : Slot) (registers : List ℕ) → cell < length registers → get_or (fold landed registers slot) cell 0 ≡ last_pair cell slot (get_or registers cell 0)
+landed-last cell [] registers l = refl
+landed-last cell (x ∷ xs) registers l =
+    let l' : cell < length (set registers (index_of x.0) x.1) = rw length-set l in
+    landed-last cell xs (set registers (index_of x.0) x.1) l' ∙ ap (λ v. last_pair cell xs v) one
   where
-    one : get_or (set registers (index_of x.0) x.1) place 0 ≡ cond (eqb (index_of x.0) place) x.1 (get_or registers place 0)
+    one : get_or (set registers (index_of x.0) x.1) cell 0 ≡ cond (eqb (index_of x.0) cell) x.1 (get_or registers cell 0)
     one =
-        ⊎_elim {C = get_or (set registers (index_of x.0) x.1) place 0 ≡ cond (eqb (index_of x.0) place) x.1 (get_or registers place 0)}
-        (λ e. get_or-set_at registers (index_of x.0) place x.1 0 (sym e) (subst (λ i. i < length registers) (sym e) l) ∙ sym (cond-true _ _ _ (eq-eqb _ _ e)))
-        (λ ne. get_or-set_other registers (index_of x.0) place x.1 0 (λ e. ne (sym e)) ∙ sym (cond-false _ _ _ (ne_eqb _ _ ne)))
-        (cases_eq (index_of x.0) place)
+        ⊎_elim {C = get_or (set registers (index_of x.0) x.1) cell 0 ≡ cond (eqb (index_of x.0) cell) x.1 (get_or registers cell 0)}
+        (λ e. get_or-set_at registers (index_of x.0) cell x.1 0 (sym e) (subst (λ i. i < length registers) (sym e) l) ∙ sym (cond-true _ _ _ (eq-eqb _ _ e)))
+        (λ ne. get_or-set_other registers (index_of x.0) cell x.1 0 (λ e. ne (sym e)) ∙ sym (cond-false _ _ _ (ne_eqb _ _ ne)))
+        (cases_eq (index_of x.0) cell)
 
-last_pair-append : (place : ℕ) (xs ys : Slot) (old : ℕ) → last_pair place (xs ++ ys) old ≡ last_pair place ys (last_pair place xs old)
-last_pair-append place [] ys old = refl
-last_pair-append place (x ∷ xs) ys old = last_pair-append place xs ys (cond (eqb (index_of x.0) place) x.1 old)
+last_pair-append : (cell : ℕ) (xs ys : Slot) (old : ℕ) → last_pair cell (xs ++ ys) old ≡ last_pair cell ys (last_pair cell xs old)
+last_pair-append cell [] ys old = refl
+last_pair-append cell (x ∷ xs) ys old = last_pair-append cell xs ys (cond (eqb (index_of x.0) cell) x.1 old)
 
-head_pair : (place t c : ℕ) (w : (Reg × ℕ) × ℕ) (slot : Slot) (a : Option Landing) (old : ℕ) → ((u : ℕ) → last_pair place slot u ≡ value_or a u)
-    → (x y : Bool) → eqb (index_of w.0.0) place ≡ y
-    → last_pair place (cond x ((w.0.0, w.1) ∷ slot) slot) old ≡ value_or (or_else a (cond (y && x) (Some (write_landing c w)) None)) old
-head_pair place t c w slot a old rest true true e =
-    rest (cond (eqb (index_of w.0.0) place) w.1 old) ∙ ap (λ v. value_or a v) (cond-true _ _ _ e) ∙ sym (value_or_else a (Some (write_landing c w)) old)
-head_pair place t c w slot a old rest true false e =
-    rest (cond (eqb (index_of w.0.0) place) w.1 old) ∙ ap (λ v. value_or a v) (cond-false _ _ _ e) ∙ sym (value_or_else a None old)
-head_pair place t c w slot a old rest false true e = rest old ∙ sym (value_or_else a None old)
-head_pair place t c w slot a old rest false false e = rest old ∙ sym (value_or_else a None old)
+head_pair : (cell t c : ℕ) (w : (Reg × ℕ) × ℕ) (slot : Slot) (a : Option Landing) (old : ℕ) → ((u : ℕ) → last_pair cell slot u ≡ value_or a u)
+    → (x y : Bool) → eqb (index_of w.0.0) cell ≡ y
+    → last_pair cell (cond x ((w.0.0, w.1) ∷ slot) slot) old ≡ value_or (or_else a (cond (y && x) (Some (write_landing c w)) None)) old
+head_pair cell t c w slot a old rest true true e =
+    rest (cond (eqb (index_of w.0.0) cell) w.1 old) ∙ ap (λ v. value_or a v) (cond-true _ _ _ e) ∙ sym (value_or_else a (Some (write_landing c w)) old)
+head_pair cell t c w slot a old rest true false e =
+    rest (cond (eqb (index_of w.0.0) cell) w.1 old) ∙ ap (λ v. value_or a v) (cond-false _ _ _ e) ∙ sym (value_or_else a None old)
+head_pair cell t c w slot a old rest false true e = rest old ∙ sym (value_or_else a None old)
+head_pair cell t c w slot a old rest false false e = rest old ∙ sym (value_or_else a None old)
 
-pairs_of : (place t c : ℕ) (ws : List ((Reg × ℕ) × ℕ)) (old : ℕ) → last_pair place (due_of t c ws) old ≡ value_or (last_at place t (map (write_landing c) ws)) old
-pairs_of place t c [] old = refl
-pairs_of place t c (w ∷ ws) old =
-    head_pair place t c w (due_of t c ws) (last_at place t (map (write_landing c) ws)) old (λ u. pairs_of place t c ws u)
-    (eqb (c + w.0.1) t) (eqb (index_of w.0.0) place) refl
+pairs_of : (cell t c : ℕ) (ws : List ((Reg × ℕ) × ℕ)) (old : ℕ) → last_pair cell (due_of t c ws) old ≡ value_or (last_at cell t (map (write_landing c) ws)) old
+pairs_of cell t c [] old = refl
+pairs_of cell t c (w ∷ ws) old =
+    head_pair cell t c w (due_of t c ws) (last_at cell t (map (write_landing c) ws)) old (λ u. pairs_of cell t c ws u)
+    (eqb (c + w.0.1) t) (eqb (index_of w.0.0) cell) refl
 
-pairs_in : (place t : ℕ) (did : Did) (ps : List Placed) (old : ℕ) → last_pair place (due_in did t ps) old ≡ value_or (last_at place t (flat_map (register_landings did) ps)) old
-pairs_in place t did [] old = refl
-pairs_in place t did (p ∷ ps) old =
-    last_pair-append place (due_of t p.cycle (did p).writes) (due_in did t ps) old
-    ∙ pairs_in place t did ps (last_pair place (due_of t p.cycle (did p).writes) old)
-    ∙ ap (λ v. value_or (last_at place t (flat_map (register_landings did) ps)) v) (pairs_of place t p.cycle (did p).writes old)
-    ∙ sym (value_or_else (last_at place t (flat_map (register_landings did) ps)) (last_at place t (register_landings did p)) old)
-    ∙ sym (ap (λ o. value_or o old) (last_at-append place t (register_landings did p) (flat_map (register_landings did) ps)))
+pairs_in : (cell t : ℕ) (did : Did) (ps : List Placed) (old : ℕ) → last_pair cell (due_in did t ps) old ≡ value_or (last_at cell t (flat_map (register_landings did) ps)) old
+pairs_in cell t did [] old = refl
+pairs_in cell t did (p ∷ ps) old =
+    last_pair-append cell (due_of t p.cycle (did p).writes) (due_in did t ps) old
+    ∙ pairs_in cell t did ps (last_pair cell (due_of t p.cycle (did p).writes) old)
+    ∙ ap (λ v. value_or (last_at cell t (flat_map (register_landings did) ps)) v) (pairs_of cell t p.cycle (did p).writes old)
+    ∙ sym (value_or_else (last_at cell t (flat_map (register_landings did) ps)) (last_at cell t (register_landings did p)) old)
+    ∙ sym (ap (λ o. value_or o old) (last_at-append cell t (register_landings did p) (flat_map (register_landings did) ps)))
 
 -- a register before the next cycle is what landed in this one, else what it was
 pub word-next : (block : List Placed) (opening : Machine) (did : Did) (c n : ℕ) (reg : Reg) → ((p : Placed) → In p (drop n block) → c < p.cycle)
     → word_before block opening did (suc c) reg ≡ last_pair (index_of reg) (due_in did c (take n block)) (word_before block opening did c reg)
 word-next block opening did c n reg late =
-    let place : ℕ = index_of reg in
+    let cell : ℕ = index_of reg in
     let old : ℕ = word_in opening reg in
     let front = flat_map (register_landings did) (take n block) in
     let back = flat_map (register_landings did) (drop n block) in
@@ -208,9 +208,9 @@ in_order did a (p ∷ ps) h =
     (in_order did a ps h.1)
     (λ v w k l e f.
     let r = from_In-flat_map (memory_landings did) w ps l in
-    let tv : v.time ≡ listing_place p = (from_In-access (access_time p) (did p).access v k).at in
-    let tw : w.time ≡ listing_place r.0 = (from_In-access (access_time r.0) (did r.0).access w r.2).at in
-    let less : listing_place p < listing_place r.0 = h.0 r.0 r.1 in omega arith)
+    let tv : v.time ≡ listing_position p = (from_In-access (access_time p) (did p).access v k).at in
+    let tw : w.time ≡ listing_position r.0 = (from_In-access (access_time r.0) (did r.0).access w r.2).at in
+    let less : listing_position p < listing_position r.0 = h.0 r.0 r.1 in omega arith)
 
 -- memory before the next cycle: the stores of all that was issued, one after the other
 pub byte-next : (block : List Placed) (opening : Machine) (did : Did) (c n a : ℕ) → Ascends block → ((p : Placed) → In p (take n block) → p.cycle ≤ c)

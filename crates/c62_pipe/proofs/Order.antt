@@ -1,4 +1,4 @@
--- The instructions of a packet block stand in rising places, of which each is one cycle and unit.
+-- The instructions of a packet block stand in rising positions, of which each is one cycle and unit.
 use Rattle.std.proofs.Common.{◌≡◌, ℕ, suc, ◌+◌, ◌*◌, ◌<◌, ◌≤◌, List, [], ◌∷◌, ◌++◌, length, take, drop, get_or, Some, None, refl, sym, subst, ◌⊎◌, ⊎_elim, arith}
 use Rattle.std.specs.List.{AllPairs}
 use Rattle.std.proofs.lemmas.Bool.{cases_lt}
@@ -7,25 +7,25 @@ use Rattle.c62_insn.specs.Units.{index_of as unit_index}
 use Rattle.c62_insn.proofs.UnitOrder.{same_index, index_of-below}
 use Rattle.c62_insn.specs.PacketRules.{IsIssued}
 use Rattle.c62_packet.specs.declared.placed.Placed.{Placed}
-use Rattle.c62_packet.specs.Packed.{Packed, IsPacketBlock, issue_of, issued, listing_place}
+use Rattle.c62_packet.specs.Packed.{Packed, IsPacketBlock, issue_of, issued, listing_position}
 use Rattle.c62_meaning.proofs.Lookup.{In, Contains_from_In, In-append_left, In-append_right, In-append_cases}
 
--- each later one has a greater place
+-- each later one has a greater position
 abbrev pub Ascends : List Placed → Type 0
 Ascends [] = Unit {0}
-Ascends (p ∷ ps) = ((q : Placed) → In q ps → listing_place p < listing_place q) × Ascends ps
+Ascends (p ∷ ps) = ((q : Placed) → In q ps → listing_position p < listing_position q) × Ascends ps
 
-ascends_from : (ps : List Placed) → AllPairs (λ p q. listing_place p < listing_place q) ps → Ascends ps
+ascends_from : (ps : List Placed) → AllPairs (λ p q. listing_position p < listing_position q) ps → Ascends ps
 ascends_from [] h = tt
 ascends_from (p ∷ ps) h = (
-  (λ q k. let c = Contains_from_In q ps k in let P : Placed → Type 0 = λ z. listing_place p < listing_place z in subst P c.2 (h 0 (suc c.0) q (omega arith) (omega (arith, c.1)))),
+  (λ q k. let c = Contains_from_In q ps k in let P : Placed → Type 0 = λ z. listing_position p < listing_position z in subst P c.2 (h 0 (suc c.0) q (omega arith) (omega (arith, c.1)))),
   ascends_from ps (λ i j d l u. h (suc i) (suc j) d (omega arith) (omega arith)),
 )
 
--- two instructions of a packet block do not stand in one place
-places_differ : (block : Packed) → IsPacketBlock block → (i j : ℕ) (d : Placed) → i < j → j < length block.placed
-    → listing_place (get_or block.placed i d) ≡ listing_place (get_or block.placed j d) → ⊥
-places_differ block h i j d l u e =
+-- two instructions of a packet block do not stand in one position
+positions_differ : (block : Packed) → IsPacketBlock block → (i j : ℕ) (d : Placed) → i < j → j < length block.placed
+    → listing_position (get_or block.placed i d) ≡ listing_position (get_or block.placed j d) → ⊥
+positions_differ block h i j d l u e =
     let p = get_or block.placed i d in
     let q = get_or block.placed j d in
     let pu : unit_index p.unit < 8 = index_of-below p.unit in
@@ -40,16 +40,16 @@ places_differ block h i j d l u e =
 
 pub ascends : (block : Packed) → IsPacketBlock block → Ascends block.placed
 ascends block h = ascends_from block.placed (λ i j d l u.
-    ⊎_elim {C = listing_place (get_or block.placed i d) < listing_place (get_or block.placed j d)}
+    ⊎_elim {C = listing_position (get_or block.placed i d) < listing_position (get_or block.placed j d)}
     (λ lt. lt)
-    (λ ge. let le : listing_place (get_or block.placed i d) ≤ listing_place (get_or block.placed j d) = h.in_order i j d (omega arith) u in
-    absurd (places_differ block h i j d l u (omega arith)))
-    (cases_lt (listing_place (get_or block.placed i d)) (listing_place (get_or block.placed j d))))
+    (λ ge. let le : listing_position (get_or block.placed i d) ≤ listing_position (get_or block.placed j d) = h.in_order i j d (omega arith) u in
+    absurd (positions_differ block h i j d l u (omega arith)))
+    (cases_lt (listing_position (get_or block.placed i d)) (listing_position (get_or block.placed j d))))
 
 pub record AreParts (xs ys : List Placed) : Type 0 where
   pub front : Ascends xs
   pub back : Ascends ys
-  pub across : (p q : Placed) → In p xs → In q ys → listing_place p < listing_place q
+  pub across : (p q : Placed) → In p xs → In q ys → listing_position p < listing_position q
 
 pub parts : (xs ys : List Placed) → Ascends (xs ++ ys) → AreParts xs ys
 parts [] ys h = record { front = tt; back = h; across = λ p q a b. absurd a }
@@ -59,8 +59,8 @@ parts (x ∷ xs) ys h =
       front = ((λ q k. h.0 q (In-append_left q xs ys k)), r.front);
       back = r.back;
       across = λ p q a b.
-          ⊎_elim {C = listing_place p < listing_place q}
-          (λ e. let P : Placed → Type 0 = λ z. listing_place z < listing_place q in subst P e (h.0 q (In-append_right q xs ys b)))
+          ⊎_elim {C = listing_position p < listing_position q}
+          (λ e. let P : Placed → Type 0 = λ z. listing_position z < listing_position q in subst P e (h.0 q (In-append_right q xs ys b)))
           (λ k. r.across p q k b) a;
     }
 

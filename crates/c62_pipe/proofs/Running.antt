@@ -27,7 +27,7 @@ use Rattle.c62_serial.proofs.FaultLemmas.{joined_rises}
 use Rattle.c62_serial.proofs.MemoryLemmas.{stores}
 use Rattle.c62_serial.proofs.RegisterLemmas.{index_within}
 use Rattle.c62_packet.specs.declared.placed.Placed.{Placed}
-use Rattle.c62_packet.specs.Packed.{Packed, IsPacketBlock, issue_of, listing_place}
+use Rattle.c62_packet.specs.Packed.{Packed, IsPacketBlock, issue_of, listing_position}
 use Rattle.c62_meaning.specs.Landing.{Landing, latest, value_or}
 use Rattle.c62_meaning.specs.Packet.{register_landings, memory_landings, access_landings, access_time, word_before, byte_before}
 use Rattle.c62_meaning.specs.Meaning.{HasFaulted, exit_by, IsMeaning}
@@ -50,21 +50,21 @@ pub record Running (block : List Placed) (opening : Machine) (cycle next : ℕ) 
   pub pending : (a : ℕ) → get_or (fold stored machine.memory flight.stores) a 0 ≡ last_value a (flat_map (memory_landings (the_run block opening)) (take next block)) (byte_in opening a)
   pub slots : length flight.slots ≡ 5
   pub flying : (t : ℕ) → cycle ≤ t → t < cycle + 5 → due flight.slots t ≡ due_in (the_run block opening) t (take next block)
-  pub space : (t : ℕ) (p : Placed) → cycle ≤ t → t < cycle + 5 → In p (drop next block) → 8 * t + length (due flight.slots t) ≤ listing_place p + 32
-  pub few : (p : Placed) → In p (drop next block) → 8 * cycle + length flight.stores ≤ listing_place p
+  pub space : (t : ℕ) (p : Placed) → cycle ≤ t → t < cycle + 5 → In p (drop next block) → 8 * t + length (due flight.slots t) ≤ listing_position p + 32
+  pub few : (p : Placed) → In p (drop next block) → 8 * cycle + length flight.stores ≤ listing_position p
   pub early : (p : Placed) → In p (take next block) → p.cycle ≤ cycle
   pub lines : machine.faults ≡ lines_after (the_run block opening) opening.faults (take next block)
   pub leads : exit ≡ exit_by (the_run block opening) (take next block)
   pub enough : length block ≤ next + room
 
-place_of : (p : Placed) → (8 * p.cycle ≤ listing_place p) × (listing_place p < 8 * p.cycle + 8)
-place_of p = let b : unit_index p.unit < 8 = index_of-below p.unit in (omega arith, omega arith)
+position_of : (p : Placed) → (8 * p.cycle ≤ listing_position p) × (listing_position p < 8 * p.cycle + 8)
+position_of p = let b : unit_index p.unit < 8 = index_of-below p.unit in (omega arith, omega arith)
 
 -- ---- the start
 
-nothing_before : (place : ℕ) (ls : List Landing) → latest place 0 ls ≡ None
-nothing_before place [] = refl
-nothing_before place (x ∷ xs) = cond-false _ _ _ (and_right _ _ (le-ltb x.time 0 (omega arith))) ∙ nothing_before place xs
+nothing_before : (cell : ℕ) (ls : List Landing) → latest cell 0 ls ≡ None
+nothing_before cell [] = refl
+nothing_before cell (x ∷ xs) = cond-false _ _ _ (and_right _ _ (le-ltb x.time 0 (omega arith))) ∙ nothing_before cell xs
 
 pub start : (block : List Placed) (opening : Machine) (flight : Flight) (room : ℕ) → IsSound opening → length flight.slots ≡ 5 → ((t : ℕ) → due flight.slots t ≡ []) → flight.stores ≡ []
     → length block ≤ room → Running block opening 0 0 flight opening Next room
@@ -137,15 +137,15 @@ pub record IsReady (p : Placed) (machine : Machine) (flight : Flight) (room : �
 pub is_ready : (block : List Placed) (opening : Machine) (cycle next : ℕ) (flight : Flight) (machine : Machine) (exit : Exit) (room : ℕ) (p : Placed)
     → Running block opening cycle next flight machine exit room → next < length block → In p (drop next block) → p.cycle ≡ cycle → IsReady p machine flight room
 is_ready block opening cycle next flight machine exit room p h l i e =
-    let at = place_of p in
+    let at = position_of p in
     record {
       enough = let r : length block ≤ next + room = h.enough in omega arith;
-      few = (let r : 8 * cycle + length flight.stores ≤ listing_place p = h.few p i in let b : listing_place p < 8 * p.cycle + 8 = at.1 in omega arith);
+      few = (let r : 8 * cycle + length flight.stores ≤ listing_position p = h.few p i in let b : listing_position p < 8 * p.cycle + 8 = at.1 in omega arith);
       fits = fits p.cycle (act_at p machine).writes flight.slots h.slots (act_soon p.insn (word_in machine) (byte_in machine))
           (λ t. few_due t p.cycle p.insn (word_in machine) (byte_in machine))
           (λ t from below.
-          let r : 8 * t + length (due flight.slots t) ≤ listing_place p + 32 = h.space t p (omega arith) (omega arith) i in
-          let b : listing_place p < 8 * p.cycle + 8 = at.1 in omega arith);
+          let r : 8 * t + length (due flight.slots t) ≤ listing_position p + 32 = h.space t p (omega arith) (omega arith) i in
+          let b : listing_position p < 8 * p.cycle + 8 = at.1 in omega arith);
     }
 
 pub issue_step : (block : List Placed) (opening : Machine) (cycle next : ℕ) (flight : Flight) (machine : Machine) (exit : Exit) (room room' : ℕ) (p : Placed) → Ascends block
@@ -158,7 +158,7 @@ issue_step block opening cycle next flight machine exit room room' p ascends h l
     let inside : In p (drop next block) = subst (λ ps. In p ps) (sym rest) (inl refl) in
     let whole : In p block = In-drop block next p inside in
     let same : act_at p machine ≡ the_run block opening p = does block opening cycle next flight machine exit room p h whole e in
-    let later : (q : Placed) → In q (drop (next + 1) block) → listing_place p < listing_place q = λ q k. (subst Ascends rest (parts_at block next ascends).back).0 q k in
+    let later : (q : Placed) → In q (drop (next + 1) block) → listing_position p < listing_position q = λ q k. (subst Ascends rest (parts_at block next ascends).back).0 q k in
     let back : (q : Placed) → In q (drop (next + 1) block) → In q (drop next block) = λ q k. subst (λ ps. In q ps) (sym rest) (inr k) in
     record {
       within = omega arith;
@@ -189,14 +189,14 @@ issue_step block opening cycle next flight machine exit room room' p ascends h l
           let size : length (due (with_writes p.cycle (act_at p machine).writes flight.slots) t) ≡ length (due flight.slots t) + length (due_of t p.cycle (act_at p machine).writes)
           = ap length grown ∙ length-append (due flight.slots t) (due_of t p.cycle (act_at p machine).writes) in
           let one : length (due_of t p.cycle (act_at p machine).writes) ≤ 1 = few_due t p.cycle p.insn (word_in machine) (byte_in machine) in
-          let was : 8 * t + length (due flight.slots t) ≤ listing_place p + 32 = h.space t p from below inside in
-          let less : listing_place p < listing_place q = later q k in
+          let was : 8 * t + length (due flight.slots t) ≤ listing_position p + 32 = h.space t p from below inside in
+          let less : listing_position p < listing_position q = later q k in
           omega arith;
       few = λ q k.
           let size : length (flight.stores ++ stores_of (act_at p machine).access) ≡ length flight.stores + length (stores_of (act_at p machine).access) = length-append flight.stores (stores_of (act_at p machine).access) in
           let one : length (stores_of (act_at p machine).access) ≤ 1 = few_stores (act_at p machine).access in
-          let was : 8 * cycle + length flight.stores ≤ listing_place p = h.few p inside in
-          let less : listing_place p < listing_place q = later q k in
+          let was : 8 * cycle + length flight.stores ≤ listing_position p = h.few p inside in
+          let less : listing_position p < listing_position q = later q k in
           omega arith;
       early = λ q k. ⊎_elim {C = q.cycle ≤ cycle} (λ a. h.early q a) (λ a. last_early q a) (In-append_cases q (take next block) (p ∷ []) (subst (λ ps. In q ps) more k));
       lines =
@@ -261,16 +261,16 @@ end_step block opening cycle next flight machine exit room ascends h late =
       pending = h.pending;
       slots = length-set flight.slots (cycle % 5) [] ∙ h.slots;
       flying = λ t from below. flown t from below (cases_eq t (cycle + 5));
-      space = λ t p from below k. ⊎_elim {C = 8 * t + length (due (slice_set flight.slots (cycle % 5) []) t) ≤ listing_place p + 32}
+      space = λ t p from below k. ⊎_elim {C = 8 * t + length (due (slice_set flight.slots (cycle % 5) []) t) ≤ listing_position p + 32}
           (λ s.
           let z : length (due (slice_set flight.slots (cycle % 5) []) t) ≡ 0 = ap length (due-set_same flight.slots t cycle [] h.slots (omega arith)) in
           let a : cycle < p.cycle = late p k in
-          let b : 8 * p.cycle ≤ listing_place p = (place_of p).0 in omega arith)
+          let b : 8 * p.cycle ≤ listing_position p = (position_of p).0 in omega arith)
           (λ ne.
           let z : length (due (slice_set flight.slots (cycle % 5) []) t) ≡ length (due flight.slots t) = ap length (due-set_other flight.slots t cycle [] (λ f. ne (omega arith))) in
-          let was : 8 * t + length (due flight.slots t) ≤ listing_place p + 32 = h.space t p (omega arith) (omega arith) k in omega arith)
+          let was : 8 * t + length (due flight.slots t) ≤ listing_position p + 32 = h.space t p (omega arith) (omega arith) k in omega arith)
           (cases_eq t (cycle + 5));
-      few = λ p k. let a : cycle < p.cycle = late p k in let b : 8 * p.cycle ≤ listing_place p = (place_of p).0 in omega arith;
+      few = λ p k. let a : cycle < p.cycle = late p k in let b : 8 * p.cycle ≤ listing_position p = (position_of p).0 in omega arith;
       early = λ p k. let a : p.cycle ≤ cycle = h.early p k in omega arith;
       lines = h.lines;
       leads = h.leads;
@@ -351,8 +351,8 @@ next_in block next p l found = subst (λ ps. In p ps) (sym (drop_more block next
 pub ahead : (block : List Placed) (opening : Machine) (cycle next : ℕ) (flight : Flight) (machine : Machine) (exit : Exit) (room : ℕ) (p : Placed)
     → Running block opening cycle next flight machine exit room → next < length block → get_or block next p ≡ p → cycle ≤ p.cycle
 ahead block opening cycle next flight machine exit room p h l found =
-    let f : 8 * cycle + length flight.stores ≤ listing_place p = h.few p (next_in block next p l found) in
-    let b : listing_place p < 8 * p.cycle + 8 = (place_of p).1 in omega arith
+    let f : 8 * cycle + length flight.stores ≤ listing_position p = h.few p (next_in block next p l found) in
+    let b : listing_position p < 8 * p.cycle + 8 = (position_of p).1 in omega arith
 
 -- all that is not issued comes later, where the next instruction does
 late_next : (block : List Placed) (cycle next : ℕ) (p : Placed) → Ascends block → next < length block → get_or block next p ≡ p → cycle < p.cycle
@@ -364,9 +364,9 @@ late_next block cycle next p ascends l found later q k =
     go : drop next block ≡ p ∷ drop (next + 1) block → In q (p ∷ drop (next + 1) block) → cycle < q.cycle
     go rest (inl s) = subst (λ (z : Placed). cycle < z.cycle) s later
     go rest (inr i) =
-        let less : listing_place p < listing_place q = (subst Ascends rest (parts_at block next ascends).back).0 q i in
-        let a : 8 * p.cycle ≤ listing_place p = (place_of p).0 in
-        let b : listing_place q < 8 * q.cycle + 8 = (place_of q).1 in
+        let less : listing_position p < listing_position q = (subst Ascends rest (parts_at block next ascends).back).0 q i in
+        let a : 8 * p.cycle ≤ listing_position p = (position_of p).0 in
+        let b : listing_position q < 8 * q.cycle + 8 = (position_of q).1 in
         omega arith
 
 pub begins : (block : Packed) (opening : Contents) (flight : Flight) (state : Contents) → IsSound opening.machine → length flight.slots ≡ 5 → ((t : ℕ) → due flight.slots t ≡ [])

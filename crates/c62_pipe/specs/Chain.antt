@@ -1,6 +1,7 @@
 -- Chains of packet blocks, each of which does what its packets mean (docs/REPORT.md, "Chains").
 use Rattle.std.specs.Prelude.{◌≡◌, ℕ, ◌<◌, List, [], length, sum_by, slice_get, slice_index_or, Some, None, IsTrue}
 use Rattle.c62_read.specs.Block.{Serial, branch_last, operations}
+use Rattle.c62_serial.specs.declared.serial.Exit.{Exit}
 use Rattle.c62_serial.specs.declared.chain.Chain.{Chain}
 use Rattle.c62_serial.specs.State.{Machine, Contents}
 use Rattle.c62_serial.specs.Chain.{Blocks, Standing, IsChain, IsBlockStart, RunsProgram, chain_of}
@@ -13,6 +14,10 @@ no_block = record { label = None; cycles = 0; placed = [] }
 
 abbrev pub block_of : List Packed → ℕ → Packed
 block_of packets number = slice_index_or packets number no_block
+
+-- from this machine the packets leave that one, and go on there
+abbrev pub Does : Packed → Machine → Machine → Exit → Type 0
+Does block opening final exit = IsMeaning block.placed block.cycles opening (record { machine = final; exit = exit })
 
 abbrev pub packet_blocks : List Packed → Blocks
 packet_blocks packets number before ran = IsMeaning (block_of packets number).placed (block_of packets number).cycles before ran

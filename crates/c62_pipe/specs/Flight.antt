@@ -1,11 +1,16 @@
 -- What is in flight between two cycles: writes by the cycle of their landing, and the stores of the packet.
 use Rattle.std.specs.Prelude.{◌≡◌, ℕ, ◌+◌, ◌%◌, ◌≤◌, List, [], ◌∷◌, ◌++◌, length, All, fold, slice_set, slice_index_or, Option, Some, None, IsTrue}
 use Rattle.c62_insn.specs.declared.register.Reg.{Reg}
+use Rattle.c62_insn.specs.declared.action.Action.TheVariants.{Transfer as Transfers}
+use Rattle.c62_insn.specs.declared.action.Transfer.{Transfer}
 use Rattle.c62_insn.specs.declared.effect.Access.{Access as MemoryAccess}
+use Rattle.c62_insn.specs.Insn.{op_of}
 use Rattle.c62_packet.specs.declared.placed.Placed.{Placed}
 use Rattle.c62_serial.specs.State.{Machine, index_of, word_in, byte_in}
 use Rattle.c62_serial.specs.Memory.{is_size, written}
-use Rattle.c62_serial.specs.Effect.{Act, act_of}
+use Rattle.c62_serial.specs.Faults.{with_fault_if}
+use Rattle.c62_serial.specs.Effect.{Act, act_of, is_fault}
+use Rattle.c62_serial.specs.Serial.{act_by}
 
 -- the registers that get a value in one cycle, in the order of issue
 abbrev pub Slot : Type 0
@@ -70,6 +75,18 @@ with_stores stores flight = record { slots = flight.slots; stores = stores }
 abbrev pub issued : ℕ → Act → Flight → Flight
 issued cycle act flight = record { slots = with_writes cycle act.writes flight.slots; stores = flight.stores ++ stores_of act.access }
 
+-- what a load or a store does on this machine
+abbrev pub transfer_at : Placed → Transfer → Machine → Act
+transfer_at p transfer machine = act_by (op_of p.insn) (Transfers transfer) (byte_in machine)
+
+-- there is room for the writes of what an instruction did
+abbrev pub FitsWrites : Placed → Act → Flight → Type 0
+FitsWrites p act flight = FitsSlots (with_writes p.cycle act.writes flight.slots)
+
+-- the machine after the access of an instruction is noted, which may fault
+abbrev pub with_fault_of : Placed → Option MemoryAccess → Machine → Machine
+with_fault_of p access machine = with_fault_if p.line (is_fault access) machine
+
 -- registers after a landing
 abbrev pub landed : List ℕ → Reg × ℕ → List ℕ
 landed registers write = slice_set registers (index_of write.0) write.1
@@ -77,6 +94,14 @@ landed registers write = slice_set registers (index_of write.0) write.1
 -- memory after a store
 abbrev pub stored : List ℕ → Store → List ℕ
 stored memory store = written store.0 store.1 store.2 memory
+
+-- the machine after these stores
+abbrev pub after_stores : List Store → Machine → Machine
+after_stores stores machine = record machine { memory = fold stored machine.memory stores }
+
+-- the machine after these landings
+abbrev pub after_landings : Slot → Machine → Machine
+after_landings writes machine = record machine { registers = fold landed machine.registers writes }
 
 -- the machine at the end of a cycle: the stores are made, and what is due lands
 abbrev pub at_end : ℕ → Flight → Machine → Machine

@@ -10,6 +10,6 @@ ghost use Rattle.c62_pipe.specs.Chain.{ArePacked, RunsAsProgram};
 /// Packets of a program's blocks, in which every dependence keeps its distance, run as the program
 /// does: the same chain and the same machine, from every machine and under every limit.
 pub fn packets_run_as_their_program()
-    ensures { (program : List Serial) (packets : List Packed) (opening final : Machine) (limit : ℕ) (chain : ChainValue) → ArePacked program packets → IsSound opening
-        → RunsAsProgram program packets opening limit chain final }
+    ensures { (program : List Serial) (packets : List Packed) (opening final : Machine) (limit : ℕ) (chain : ChainValue)
+        → ArePacked program packets → IsSound opening → RunsAsProgram program packets opening limit chain final }
 {}

@@ -1,15 +1,15 @@
 //! The pipeline: packets issued cycle by cycle, their writes landing after their delays.
 
-ghost use Rattle.std.specs.Prelude.{◌≡◌, ℕ, fold, not, ◌+◌, ◌<◌, ◌≤◌, ◌++◌, [], length, IsTrue, IfOk, OnErr};
+ghost use Rattle.std.specs.Prelude.{◌≡◌, not, ◌+◌, ◌<◌, ◌≤◌, ◌++◌, [], length, IsTrue, IfOk, OnErr};
 ghost use Rattle.c62_insn.specs.Insn.{op_of};
+ghost use Rattle.c62_packet.specs.declared.limits.TheConstants.{MOST_CYCLES};
 ghost use Rattle.c62_serial.specs.State.{byte_in};
 ghost use Rattle.c62_serial.specs.Memory.{is_size, is_good};
 ghost use Rattle.c62_serial.specs.Faults.{with_fault_if};
-ghost use Rattle.c62_serial.specs.Effect.{loaded, is_fault};
-ghost use Rattle.c62_insn.specs.declared.action.Action.TheVariants.{Transfer as Transfers};
-ghost use Rattle.c62_serial.specs.Serial.{act_by, exit_after};
-ghost use Rattle.c62_meaning.specs.Meaning.{IsMeaning};
-ghost use Rattle.c62_pipe.specs.Flight.{IsIdle, stored, FitsSlots, with_writes, stores_of, act_at, issued, with_stores, at_end, after_end};
+ghost use Rattle.c62_serial.specs.Effect.{loaded};
+ghost use Rattle.c62_serial.specs.Serial.{exit_after};
+ghost use Rattle.c62_pipe.specs.Flight.{IsIdle, stores_of, act_at, transfer_at, FitsWrites, with_fault_of, issued, with_stores, after_stores, at_end, after_end};
+ghost use Rattle.c62_pipe.specs.Chain.{Does};
 
 use crate::ring::Ring;
 use arrayvec::ArrayVec;
@@ -68,7 +68,7 @@ impl Pipe {
         requires room { 0 < state.old.room }
         requires few { length self.old.stores < 8 }
         ensures loaded { result ≡ loaded (byte_in state.old.machine) (op_of placed.now.insn) (Some access) }
-        ensures machine { state.new.machine ≡ with_fault_if placed.now.line (is_fault (Some access)) state.old.machine }
+        ensures machine { state.new.machine ≡ with_fault_of placed.now (Some access) state.old.machine }
         ensures room { state.old.room ≤ state.new.room + 1 }
         ensures flight { self.new ≡ with_stores (self.old.stores ++ stores_of (Some access)) self.old }
     {
@@ -93,10 +93,10 @@ impl Pipe {
         requires size { IsTrue (is_size transfer.access.size) }
         requires room { 0 < state.old.room }
         requires few { length self.old.stores < 8 }
-        requires fits { FitsSlots (with_writes placed.now.cycle (act_by (op_of placed.now.insn) (Transfers transfer) (byte_in state.old.machine)).writes self.old.slots) }
-        ensures machine { state.new.machine ≡ with_fault_if placed.now.line (is_fault (Some transfer.access)) state.old.machine }
+        requires fits { FitsWrites placed.now (transfer_at placed.now transfer state.old.machine) self.old }
+        ensures machine { state.new.machine ≡ with_fault_of placed.now (Some transfer.access) state.old.machine }
         ensures room { state.old.room ≤ state.new.room + 1 }
-        ensures flight { self.new ≡ issued placed.now.cycle (act_by (op_of placed.now.insn) (Transfers transfer) (byte_in state.old.machine)) self.old }
+        ensures flight { self.new ≡ issued placed.now.cycle (transfer_at placed.now transfer state.old.machine) self.old }
     {
         let loaded = self.access(placed, transfer.access, state);
         if let Some((base, word)) = transfer.base {
@@ -116,9 +116,9 @@ impl Pipe {
     fn issue(&mut self, placed: &Placed, state: &mut State) -> Option<Target>
         requires room { 0 < state.old.room }
         requires few { length self.old.stores < 8 }
-        requires fits { FitsSlots (with_writes placed.now.cycle (act_at placed.now state.old.machine).writes self.old.slots) }
+        requires fits { FitsWrites placed.now (act_at placed.now state.old.machine) self.old }
         ensures target { result ≡ (act_at placed.now state.old.machine).target }
-        ensures machine { state.new.machine ≡ with_fault_if placed.now.line (is_fault (act_at placed.now state.old.machine).access) state.old.machine }
+        ensures machine { state.new.machine ≡ with_fault_of placed.now (act_at placed.now state.old.machine).access state.old.machine }
         ensures room { state.old.room ≤ state.new.room + 1 }
         ensures flight { self.new ≡ issued placed.now.cycle (act_at placed.now state.old.machine) self.old }
     {
@@ -139,7 +139,7 @@ impl Pipe {
     /// Makes the stores of the packet, in the order of its units.
     fn make_stores(&mut self, state: &mut State)
         ensures flight { self.new ≡ with_stores [] self.old }
-        ensures state { state.new ≡ record state.old { machine = record state.old.machine { memory = fold stored state.old.machine.memory self.old.stores } } }
+        ensures state { state.new ≡ record state.old { machine = after_stores self.old.stores state.old.machine } }
     {
         for (address, size, value) in self.stores.as_slice() {
             let _ = state.store(*address, *size, *value);
@@ -169,8 +169,8 @@ impl Pipe {
         requires { IsIdle self.old }
         ensures idle { IsIdle self.new }
         ensures cycles { IfOk result (λ ran. ran.1 ≡ block.now.cycles) }
-        ensures short { IfOk result (λ ran. ran.1 ≤ 2048) }
-        ensures meaning { IfOk result (λ ran. IsMeaning block.now.placed block.now.cycles state.old.machine (record { machine = state.new.machine; exit = ran.0 })) }
+        ensures short { IfOk result (λ ran. ran.1 ≤ MOST_CYCLES) }
+        ensures meaning { IfOk result (λ ran. Does block.now state.old.machine state.new.machine ran.0) }
         ensures full { OnErr result (state.old.room < length block.now.placed) }
         ensures err { OnErr result (state.new ≡ state.old) }
     {
@@ -208,8 +208,8 @@ impl Pipe {
     /// `AllocError` where that room was missing and memory runs out. The state is then as before.
     pub fn run(block: &PacketBlock, state: &mut State) -> Result<(Exit, u32), AllocError>
         ensures cycles { IfOk result (λ ran. ran.1 ≡ block.now.cycles) }
-        ensures short { IfOk result (λ ran. ran.1 ≤ 2048) }
-        ensures meaning { IfOk result (λ ran. IsMeaning block.now.placed block.now.cycles state.old.machine (record { machine = state.new.machine; exit = ran.0 })) }
+        ensures short { IfOk result (λ ran. ran.1 ≤ MOST_CYCLES) }
+        ensures meaning { IfOk result (λ ran. Does block.now state.old.machine state.new.machine ran.0) }
         ensures full { OnErr result (state.old.room < length block.now.placed) }
         ensures err { OnErr result (state.new ≡ state.old) }
     {

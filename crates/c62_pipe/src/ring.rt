@@ -1,7 +1,7 @@
 //! Writes in flight, by the cycle in which they land.
 
-ghost use Rattle.std.specs.Prelude.{◌≡◌, ℕ, ◌+◌, ◌<◌, ◌≤◌, ◌%◌, ◌++◌, [], List, length, fold, slice_set};
-ghost use Rattle.c62_pipe.specs.Flight.{Slot as Writes, due, landed, with_due};
+ghost use Rattle.std.specs.Prelude.{◌≡◌, ℕ, ◌+◌, ◌<◌, ◌≤◌, ◌%◌, ◌++◌, [], List, length, slice_set};
+ghost use Rattle.c62_pipe.specs.Flight.{Slot as Writes, due, with_due, after_landings};
 
 use crate::slot::Slot;
 use c62_insn::Reg;
@@ -57,7 +57,7 @@ impl Ring {
     /// Puts what is due in this cycle into its registers, and empties the slot.
     pub fn land(&mut self, cycle: u16, state: &mut State)
         ensures ring { self.new ≡ slice_set self.old (cycle % 5) [] }
-        ensures state { state.new ≡ record state.old { machine = record state.old.machine { registers = fold landed state.old.machine.registers (due self.old cycle) } } }
+        ensures state { state.new ≡ record state.old { machine = after_landings (due self.old cycle) state.old.machine } }
     {
         let slot = &mut self.slots[usize::from(cycle) % CYCLES];
         for (reg, value) in slot.writes() {

@@ -2,13 +2,13 @@
 
 ghost use Rattle.std.specs.Prelude.{◌≡◌, ◌+◌, ◌≤◌, length, All, Some, IfOk, IfSome, OnSome};
 ghost use Rattle.c62_insn.specs.Insn.{unit_of};
-ghost use Rattle.c62_packet.specs.Packed.{listing_place, IsInListingOrder, StandAsWritten};
+ghost use Rattle.c62_packet.specs.Packed.{listing_position, IsInListingOrder, StandAsWritten};
 
 use crate::chain::run_chain;
 use crate::pipe::Pipe;
 use c62_insn::Reg;
 use c62_insn::Side::{self, A, B};
-use c62_packet::{PacketBlock, Packets, Placed};
+use c62_packet::{MOST_BLOCKS, MOST_CYCLES, MOST_INSTRUCTIONS, PacketBlock, Packets, Placed};
 use c62_read::{Label, What, read_insn};
 use c62_serial::{Chain, End, Exit, State};
 use std::alloc::Global;
@@ -69,25 +69,25 @@ const CHAINS: [&str; 9] = [
     "MVK .S1 1,A1 | limit=0 | 0 limit 0",
 ];
 
-/// Adds an instruction to those of a block. The place of the last one was `last`; the answer is the
-/// place of this one, and `None` where it does not stand after that, or there is no room.
+/// Adds an instruction to those of a block. The position of the last one was `last`; the answer is the
+/// position of this one, and `None` where it does not stand after that, or there is no room.
 fn add(placed: &mut Vec<Placed>, last: u32, new: Placed) -> Option<u32>
     requires written { unit_of new.insn ≡ Some new.unit }
     requires as_written { StandAsWritten placed.old.items }
     requires in_order { IsInListingOrder placed.old.items }
-    requires below { All (λ p. listing_place p ≤ last) placed.old.items }
-    requires few { length placed.old.items ≤ 256 }
+    requires below { All (λ p. listing_position p ≤ last) placed.old.items }
+    requires few { length placed.old.items ≤ MOST_INSTRUCTIONS }
     ensures as_written { OnSome result (StandAsWritten placed.new.items) }
     ensures in_order { OnSome result (IsInListingOrder placed.new.items) }
-    ensures below { IfSome result (λ place. All (λ p. listing_place p ≤ place) placed.new.items) }
-    ensures few { OnSome result (length placed.new.items ≤ 256) }
+    ensures below { IfSome result (λ position. All (λ p. listing_position p ≤ position) placed.new.items) }
+    ensures few { OnSome result (length placed.new.items ≤ MOST_INSTRUCTIONS) }
 {
-    let place = 8 * u32::from(new.cycle) + u32::from(new.unit.index());
-    if place < last || placed.len() == 256 {
+    let position = 8 * u32::from(new.cycle) + u32::from(new.unit.index());
+    if position < last || placed.len() == MOST_INSTRUCTIONS {
         return None;
     }
     match placed.push(new) {
-        Ok(()) => Some(place),
+        Ok(()) => Some(position),
         Err(_) => None,
     }
 }
@@ -156,7 +156,7 @@ fn block(alloc: Global, text: &str) -> Option<PacketBlock> {
             last = add(&mut placed, last, new)?;
         }
     }
-    if cycles > 2048 {
+    if cycles > MOST_CYCLES {
         return None;
     }
     PacketBlock::new(label, cycles, placed).ok()
@@ -170,7 +170,7 @@ fn packets(rt: &impl Abort, alloc: Global, text: &str) -> Result<Packets, Fail> 
     }
     for part in text.split("//") {
         let block = block(alloc, part).ok_or("a block")?;
-        assert!(rt; packets.len() < 64);
+        assert!(rt; packets.len() < MOST_BLOCKS);
         match packets.push(block) {
             Ok(()) => {}
             Err((_, error)) => return Err(error)?,
@@ -196,12 +196,12 @@ struct Opening {
 
 impl Opening {
     /// Sets a register, a word of memory or the limit.
-    fn set(&mut self, place: &str, value: u32) -> Result<(), Fail> {
-        if let Some(address) = place.strip_prefix('@') {
+    fn set(&mut self, name: &str, value: u32) -> Result<(), Fail> {
+        if let Some(address) = name.strip_prefix('@') {
             let _ = self.state.poke(u32::from_str_radix(address, 16)?, value);
-        } else if let Some(digits) = place.strip_prefix('A') {
+        } else if let Some(digits) = name.strip_prefix('A') {
             self.state.set(register(A, digits)?, value);
-        } else if let Some(digits) = place.strip_prefix('B') {
+        } else if let Some(digits) = name.strip_prefix('B') {
             self.state.set(register(B, digits)?, value);
         } else {
             self.limit = value;
@@ -215,8 +215,8 @@ impl Opening {
             limit: 1000,
         };
         for setting in settings.split_whitespace() {
-            let (place, value) = setting.split_once('=').expect(rt, "a setting");
-            opening.set(place, u32::from_str_radix(value, 16)?)?;
+            let (name, value) = setting.split_once('=').expect(rt, "a setting");
+            opening.set(name, u32::from_str_radix(value, 16)?)?;
         }
         Ok(opening)
     }

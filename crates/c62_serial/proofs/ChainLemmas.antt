@@ -11,130 +11,130 @@ use Rattle.c62_serial.specs.declared.chain.Chain.{Chain}
 use Rattle.c62_serial.specs.State.{Machine, Contents, IsSound}
 use Rattle.c62_serial.specs.Serial.{Ran, serial}
 use Rattle.c62_serial.proofs.MachineLemmas.{sound_run}
-use Rattle.c62_serial.specs.Chain.{Blocks, Standing, Ended, At, Place, place_at, place_after, Leads, IsStopped, IsChain, IsDetermined, chain_of, RunsProgram, LacksRoom, no_block, block_of, serial_blocks}
+use Rattle.c62_serial.specs.Chain.{Blocks, Standing, Ended, At, Position, position_at, position_after, Leads, IsStopped, IsChain, IsDetermined, chain_of, RunsProgram, LacksRoom, no_block, block_of, serial_blocks}
 
 -- ---- one block more
 
 -- a chain that has not begun
-pub leads_nowhere : (count : ℕ) (Does : Blocks) (machine : Machine) (place : Place) → Leads count Does machine place [] machine place
+pub leads_nowhere : (count : ℕ) (Does : Blocks) (machine : Machine) (position : Position) → Leads count Does machine position [] machine position
 unfolding Leads
-leads_nowhere count Does machine place = (refl, refl)
+leads_nowhere count Does machine position = (refl, refl)
 
-pub leads_on : (count : ℕ) (Does : Blocks) (opening machine : Machine) (place : Place) (numbers : List ℕ) (number : ℕ) (ran : Ran)
-    → Leads count Does opening place numbers machine (At number) → Does number machine ran
-    → Leads count Does opening place (numbers ++ number ∷ []) ran.machine (place_after count number ran.exit)
+pub leads_on : (count : ℕ) (Does : Blocks) (opening machine : Machine) (position : Position) (numbers : List ℕ) (number : ℕ) (ran : Ran)
+    → Leads count Does opening position numbers machine (At number) → Does number machine ran
+    → Leads count Does opening position (numbers ++ number ∷ []) ran.machine (position_after count number ran.exit)
 unfolding Leads
-leads_on count Does opening machine place [] number ran leads does = (sym leads.1, ran, rw (← leads.0) does, (refl, refl))
-leads_on count Does opening machine place (first ∷ numbers) number ran leads does =
-    (leads.0, leads.1, leads.2, leads_on count Does leads.1.machine machine (place_after count first leads.1.exit) numbers number ran leads.3 does)
+leads_on count Does opening machine position [] number ran leads does = (sym leads.1, ran, rw (← leads.0) does, (refl, refl))
+leads_on count Does opening machine position (first ∷ numbers) number ran leads does =
+    (leads.0, leads.1, leads.2, leads_on count Does leads.1.machine machine (position_after count first leads.1.exit) numbers number ran leads.3 does)
 
 -- where a block of this number is, the chain stands at it
-pub at_block : (count number : ℕ) → number < count → place_at count number ≡ At number
+pub at_block : (count number : ℕ) → number < count → position_at count number ≡ At number
 at_block count number h = let e : nat_lt number count ≡ true = grind (arith, nat_tests) in rw e refl
 
-pub past_end : (count number : ℕ) → count ≤ number → place_at count number ≡ Ended FellThrough
+pub past_end : (count number : ℕ) → count ≤ number → position_at count number ≡ Ended FellThrough
 past_end count number h = let e : nat_lt number count ≡ false = grind (arith, nat_tests) in rw e refl
 
 -- ---- a chain stays among its blocks
 
 -- a block of this chain, or an end
-abbrev pub IsPlace : ℕ → Place → Type 0
-IsPlace count (At number) = number < count
-IsPlace count (Ended stop) = Unit {0}
+abbrev pub IsPosition : ℕ → Position → Type 0
+IsPosition count (At number) = number < count
+IsPosition count (Ended stop) = Unit {0}
 
-pub is_place_at : (count number : ℕ) → IsPlace count (place_at count number)
-is_place_at count number = either (nat_lt number count) refl
+pub is_position_at : (count number : ℕ) → IsPosition count (position_at count number)
+is_position_at count number = either (nat_lt number count) refl
   where
-    either : (b : Bool) → nat_lt number count ≡ b → IsPlace count (if b then At number else Ended FellThrough)
+    either : (b : Bool) → nat_lt number count ≡ b → IsPosition count (if b then At number else Ended FellThrough)
     either true e = grind (arith, nat_tests)
     either false e = tt
 
-pub is_place_after : (count number : ℕ) (exit : Exit) → IsPlace count (place_after count number exit)
-is_place_after count number Next = is_place_at count (number + 1)
-is_place_after count number (Block target) = is_place_at count target
-is_place_after count number (Register value) = tt
+pub is_position_after : (count number : ℕ) (exit : Exit) → IsPosition count (position_after count number exit)
+is_position_after count number Next = is_position_at count (number + 1)
+is_position_after count number (Block target) = is_position_at count target
+is_position_after count number (Register value) = tt
 
-at_its_block : (count number : ℕ) (place : Place) → IsPlace count place → place ≡ At number → number < count
-at_its_block count number place h e = let P : Place → Type 0 = λ other. IsPlace count other in subst P e h
+at_its_block : (count number : ℕ) (position : Position) → IsPosition count position → position ≡ At number → number < count
+at_its_block count number position h e = let P : Position → Type 0 = λ other. IsPosition count other in subst P e h
 
 -- ---- one outcome
 
-number_at : Place → ℕ
+number_at : Position → ℕ
 number_at (At number) = number
 number_at (Ended stop) = 0
 
-same_number : (place : Place) (one other : ℕ) → place ≡ At one → place ≡ At other → one ≡ other
+same_number : (position : Position) (one other : ℕ) → position ≡ At one → position ≡ At other → one ≡ other
 unfolding number_at
-same_number place one other e f = ap number_at (sym e ∙ f)
+same_number position one other e f = ap number_at (sym e ∙ f)
 
-within : (limit blocks : ℕ) (place : Place) → IsStopped limit blocks place → blocks ≤ limit
+within : (limit blocks : ℕ) (position : Position) → IsStopped limit blocks position → blocks ≤ limit
 within limit blocks (At number) h = omega (arith, h)
 within limit blocks (Ended stop) h = h
 
-at_limit : (limit blocks number : ℕ) (place : Place) → IsStopped limit blocks place → place ≡ At number → blocks ≡ limit
-at_limit limit blocks number place h e = let P : Place → Type 0 = λ other. IsStopped limit blocks other in subst P e h
+at_limit : (limit blocks number : ℕ) (position : Position) → IsStopped limit blocks position → position ≡ At number → blocks ≡ limit
+at_limit limit blocks number position h e = let P : Position → Type 0 = λ other. IsStopped limit blocks other in subst P e h
 
-stops_later : (limit done : ℕ) (place : Place) (number : ℕ) (numbers : List ℕ)
-    → IsStopped limit (done + length (number ∷ numbers)) place → IsStopped limit (done + 1 + length numbers) place
-stops_later limit done place number numbers h =
+stops_later : (limit done : ℕ) (position : Position) (number : ℕ) (numbers : List ℕ)
+    → IsStopped limit (done + length (number ∷ numbers)) position → IsStopped limit (done + 1 + length numbers) position
+stops_later limit done position number numbers h =
     let e : done + length (number ∷ numbers) ≡ done + 1 + length numbers = omega arith in
-    let P : ℕ → Type 0 = λ blocks. IsStopped limit blocks place in subst P e h
+    let P : ℕ → Type 0 = λ blocks. IsStopped limit blocks position in subst P e h
 
 abbrev longer : ℕ → Standing → Standing
-longer number standing = record { numbers = number ∷ standing.numbers; machine = standing.machine; place = standing.place }
+longer number standing = record { numbers = number ∷ standing.numbers; machine = standing.machine; position = standing.position }
 
-same_end : (count : ℕ) (Does : Blocks) → IsDetermined count Does → (opening : Machine) (place : Place) (limit done : ℕ)
-    → (numbers others : List ℕ) (final final' : Machine) (last last' : Place) → IsSound opening → IsPlace count place
-    → Leads count Does opening place numbers final last → IsStopped limit (done + length numbers) last
-    → Leads count Does opening place others final' last' → IsStopped limit (done + length others) last'
-    → (let standing : Standing = record { numbers = numbers; machine = final; place = last } in standing) ≡ record { numbers = others; machine = final'; place = last' }
+same_end : (count : ℕ) (Does : Blocks) → IsDetermined count Does → (opening : Machine) (position : Position) (limit done : ℕ)
+    → (numbers others : List ℕ) (final final' : Machine) (last last' : Position) → IsSound opening → IsPosition count position
+    → Leads count Does opening position numbers final last → IsStopped limit (done + length numbers) last
+    → Leads count Does opening position others final' last' → IsStopped limit (done + length others) last'
+    → (let standing : Standing = record { numbers = numbers; machine = final; position = last } in standing) ≡ record { numbers = others; machine = final'; position = last' }
 unfolding Leads
-same_end count Does determined opening place limit done [] [] final final' last last' sound at leads stop leads' stop' = rw (leads.0, leads'.0, leads.1, leads'.1) refl
-same_end count Does determined opening place limit done [] (n' ∷ ns') final final' last last' sound at leads stop leads' stop' =
+same_end count Does determined opening position limit done [] [] final final' last last' sound at leads stop leads' stop' = rw (leads.0, leads'.0, leads.1, leads'.1) refl
+same_end count Does determined opening position limit done [] (n' ∷ ns') final final' last last' sound at leads stop leads' stop' =
     let e : done + 0 ≡ limit = at_limit limit (done + 0) n' last stop (leads.1 ∙ leads'.0) in
     let f : done + length (n' ∷ ns') ≤ limit = within limit (done + length (n' ∷ ns')) last' stop' in
     absurd (omega arith)
-same_end count Does determined opening place limit done (n ∷ ns) [] final final' last last' sound at leads stop leads' stop' =
+same_end count Does determined opening position limit done (n ∷ ns) [] final final' last last' sound at leads stop leads' stop' =
     let e : done + 0 ≡ limit = at_limit limit (done + 0) n last' stop' (leads'.1 ∙ leads.0) in
     let f : done + length (n ∷ ns) ≤ limit = within limit (done + length (n ∷ ns)) last stop in
     absurd (omega arith)
-same_end count Does determined opening place limit done (n ∷ ns) (n' ∷ ns') final final' last last' sound at leads stop leads' stop' =
-    let h : n < count = at_its_block count n place at leads.0 in
-    let e : n' ≡ n = same_number place n' n leads'.0 leads.0 in
+same_end count Does determined opening position limit done (n ∷ ns) (n' ∷ ns') final final' last last' sound at leads stop leads' stop' =
+    let h : n < count = at_its_block count n position at leads.0 in
+    let e : n' ≡ n = same_number position n' n leads'.0 leads.0 in
     let DoesIt : ℕ → Type 0 = λ number. Does number opening leads'.1 in
     let f : leads'.1 ≡ leads.1 = determined.one n opening leads'.1 leads.1 h sound (subst DoesIt e leads'.2) leads.2 in
-    let FromNumber : ℕ → Type 0 = λ number. Leads count Does leads'.1.machine (place_after count number leads'.1.exit) ns' final' last' in
-    let FromRan : Ran → Type 0 = λ ran. Leads count Does ran.machine (place_after count n ran.exit) ns' final' last' in
-    let rest = same_end count Does determined leads.1.machine (place_after count n leads.1.exit) limit (done + 1) ns ns' final final' last last'
-    (determined.sound n opening leads.1 h sound leads.2) (is_place_after count n leads.1.exit) leads.3 (stops_later limit done last n ns stop)
+    let FromNumber : ℕ → Type 0 = λ number. Leads count Does leads'.1.machine (position_after count number leads'.1.exit) ns' final' last' in
+    let FromRan : Ran → Type 0 = λ ran. Leads count Does ran.machine (position_after count n ran.exit) ns' final' last' in
+    let rest = same_end count Does determined leads.1.machine (position_after count n leads.1.exit) limit (done + 1) ns ns' final final' last last'
+    (determined.sound n opening leads.1 h sound leads.2) (is_position_after count n leads.1.exit) leads.3 (stops_later limit done last n ns stop)
     (subst FromRan f (subst FromNumber e leads'.3)) (stops_later limit done last' n' ns' stop') in
-    ap (longer n) rest ∙ ap (λ (number : ℕ). longer number (record { numbers = ns'; machine = final'; place = last' })) (sym e)
+    ap (longer n) rest ∙ ap (λ (number : ℕ). longer number (record { numbers = ns'; machine = final'; position = last' })) (sym e)
 
 -- the chain under a limit is one, where each block has one outcome
 pub one_chain : (count : ℕ) (Does : Blocks) (opening : Machine) (limit : ℕ) (one other : Standing) → IsDetermined count Does → IsSound opening
     → IsChain count Does opening limit one → IsChain count Does opening limit other → one ≡ other
 one_chain count Does opening limit one other determined sound h k =
-    let Stopped : Place → ℕ → Type 0 = λ place blocks. IsStopped limit blocks place in
-    same_end count Does determined opening (place_at count 0) limit 0 one.numbers other.numbers one.machine other.machine one.place other.place sound (is_place_at count 0)
-    h.stands (subst (Stopped one.place) (omega arith) h.stopped) k.stands (subst (Stopped other.place) (omega arith) k.stopped)
+    let Stopped : Position → ℕ → Type 0 = λ position blocks. IsStopped limit blocks position in
+    same_end count Does determined opening (position_at count 0) limit 0 one.numbers other.numbers one.machine other.machine one.position other.position sound (is_position_at count 0)
+    h.stands (subst (Stopped one.position) (omega arith) h.stopped) k.stands (subst (Stopped other.position) (omega arith) k.stopped)
 
 -- ---- what holds of each block holds of the chain
 
 -- what blocks do is also what others do
-pub leads_along : (count : ℕ) (Does Other : Blocks) (opening final : Machine) (place last : Place) (numbers : List ℕ)
+pub leads_along : (count : ℕ) (Does Other : Blocks) (opening final : Machine) (position last : Position) (numbers : List ℕ)
     → ((number : ℕ) (before : Machine) (ran : Ran) → number < count → IsSound before → Does number before ran → IsSound ran.machine × Other number before ran)
-    → IsSound opening → IsPlace count place → Leads count Does opening place numbers final last → Leads count Other opening place numbers final last
+    → IsSound opening → IsPosition count position → Leads count Does opening position numbers final last → Leads count Other opening position numbers final last
 unfolding Leads
-leads_along count Does Other opening final place last [] also sound at leads = leads
-leads_along count Does Other opening final place last (number ∷ numbers) also sound at leads =
-    let both = also number opening leads.1 (at_its_block count number place at leads.0) sound leads.2 in
-    (leads.0, leads.1, both.1, leads_along count Does Other leads.1.machine final (place_after count number leads.1.exit) last numbers also both.0 (is_place_after count number leads.1.exit) leads.3)
+leads_along count Does Other opening final position last [] also sound at leads = leads
+leads_along count Does Other opening final position last (number ∷ numbers) also sound at leads =
+    let both = also number opening leads.1 (at_its_block count number position at leads.0) sound leads.2 in
+    (leads.0, leads.1, both.1, leads_along count Does Other leads.1.machine final (position_after count number leads.1.exit) last numbers also both.0 (is_position_after count number leads.1.exit) leads.3)
 
 pub chain_along : (count : ℕ) (Does Other : Blocks) (opening : Machine) (limit : ℕ) (standing : Standing)
     → ((number : ℕ) (before : Machine) (ran : Ran) → number < count → IsSound before → Does number before ran → IsSound ran.machine × Other number before ran)
     → IsSound opening → IsChain count Does opening limit standing → IsChain count Other opening limit standing
 chain_along count Does Other opening limit standing also sound chain = record {
-  stands = leads_along count Does Other opening standing.machine (place_at count 0) standing.place standing.numbers also sound (is_place_at count 0) chain.stands;
+  stands = leads_along count Does Other opening standing.machine (position_at count 0) standing.position standing.numbers also sound (is_position_at count 0) chain.stands;
   stopped = chain.stopped;
 }
 
@@ -150,12 +150,12 @@ serial_determined program = record {
 -- where a run stands after some blocks
 pub record Turn (program : List Serial) (opening machine : Machine) (number blocks limit : ℕ) : Type 0 where
   pub numbers : List ℕ
-  pub stands : Leads (length program) (serial_blocks program) opening (place_at (length program) 0) numbers machine (place_at (length program) number)
+  pub stands : Leads (length program) (serial_blocks program) opening (position_at (length program) 0) numbers machine (position_at (length program) number)
   pub counted : length numbers ≡ blocks
   pub within : blocks ≤ limit
 
 pub first_turn : (program : List Serial) (machine : Machine) (limit : ℕ) → Turn program machine machine 0 0 limit
-first_turn program machine limit = record { numbers = []; stands = leads_nowhere (length program) (serial_blocks program) machine (place_at (length program) 0); counted = refl; within = omega arith }
+first_turn program machine limit = record { numbers = []; stands = leads_nowhere (length program) (serial_blocks program) machine (position_at (length program) 0); counted = refl; within = omega arith }
 
 abbrev ran_of : Machine → Exit → Ran
 ran_of machine exit = record { machine = machine; exit = exit }
@@ -165,26 +165,26 @@ pub block_more : (program all : List Serial) (opening machine next : Machine) (b
     → all ≡ program → number < length all → block ≡ get_or all number block → Turn program opening machine number blocks limit
     → next ≡ (serial block.insns machine).machine → exit ≡ (serial block.insns machine).exit
     → (numbers : List ℕ) × (length numbers ≡ blocks + 1)
-    × Leads (length program) (serial_blocks program) opening (place_at (length program) 0) numbers next (place_after (length program) number exit)
+    × Leads (length program) (serial_blocks program) opening (position_at (length program) 0) numbers next (position_after (length program) number exit)
 block_more program all opening machine next blocks number limit block exit e h found turn moved left =
     let count : ℕ = length program in
     let inside : number < length program = rw (← e) h in
     let same : block ≡ block_of program number = rw (← e) (get_or_read all number block h found no_block) in
     let did : ran_of next exit ≡ serial (block_of program number).insns machine = rw (← same) (rw (moved, left) refl) in
-    let P : Place → Type 0 = λ place. Leads (length program) (serial_blocks program) opening (place_at (length program) 0) turn.numbers machine place in
+    let P : Position → Type 0 = λ position. Leads (length program) (serial_blocks program) opening (position_at (length program) 0) turn.numbers machine position in
     let here = subst P (at_block (length program) number inside) turn.stands in (
       turn.numbers ++ number ∷ [],
       omega (arith, length-append turn.numbers (number ∷ []), turn.counted),
-      leads_on (length program) (serial_blocks program) opening machine (place_at (length program) 0) turn.numbers number (ran_of next exit) here did,
+      leads_on (length program) (serial_blocks program) opening machine (position_at (length program) 0) turn.numbers number (ran_of next exit) here did,
     )
 
 -- a run that ended is the program's chain
-pub program_ends : (program : List Serial) (opening machine : Machine) (numbers : List ℕ) (place : Place) (limit : ℕ) (chain : Chain)
-    → Leads (length program) (serial_blocks program) opening (place_at (length program) 0) numbers machine place
-    → IsStopped limit (length numbers) place → chain ≡ chain_of (record { numbers = numbers; machine = machine; place = place })
+pub program_ends : (program : List Serial) (opening machine : Machine) (numbers : List ℕ) (position : Position) (limit : ℕ) (chain : Chain)
+    → Leads (length program) (serial_blocks program) opening (position_at (length program) 0) numbers machine position
+    → IsStopped limit (length numbers) position → chain ≡ chain_of (record { numbers = numbers; machine = machine; position = position })
     → RunsProgram program opening limit chain machine
-program_ends program opening machine numbers place limit chain leads stopped told = record {
-  standing = record { numbers = numbers; machine = machine; place = place };
+program_ends program opening machine numbers position limit chain leads stopped told = record {
+  standing = record { numbers = numbers; machine = machine; position = position };
   whole = record { stands = leads; stopped = stopped };
   told = told;
   left = refl;
@@ -195,7 +195,7 @@ pub program_falls_through : (program all : List Serial) (opening machine : Machi
     → Turn program opening machine number blocks limit → RunsProgram program opening limit (record { blocks = blocks; stop = FellThrough }) machine
 program_falls_through program all opening machine number blocks limit e past turn =
     let beyond : length program ≤ number = rw (← e) past in
-    let P : Place → Type 0 = λ place. Leads (length program) (serial_blocks program) opening (place_at (length program) 0) turn.numbers machine place in
+    let P : Position → Type 0 = λ position. Leads (length program) (serial_blocks program) opening (position_at (length program) 0) turn.numbers machine position in
     program_ends program opening machine turn.numbers (Ended FellThrough) limit (record { blocks = blocks; stop = FellThrough })
     (subst P (past_end (length program) number beyond) turn.stands) (omega (arith, turn.counted, turn.within)) (rw turn.counted refl)
 
@@ -204,7 +204,7 @@ pub program_at_limit : (program all : List Serial) (opening machine : Machine) (
     → Turn program opening machine number limit limit → RunsProgram program opening limit (record { blocks = limit; stop = Limit }) machine
 program_at_limit program all opening machine number limit e h turn =
     let inside : number < length program = rw (← e) h in
-    let P : Place → Type 0 = λ place. Leads (length program) (serial_blocks program) opening (place_at (length program) 0) turn.numbers machine place in
+    let P : Position → Type 0 = λ position. Leads (length program) (serial_blocks program) opening (position_at (length program) 0) turn.numbers machine position in
     program_ends program opening machine turn.numbers (At number) limit (record { blocks = limit; stop = Limit })
     (subst P (at_block (length program) number inside) turn.stands) turn.counted (rw turn.counted refl)
 
@@ -215,7 +215,7 @@ pub program_lacks_room : (program all : List Serial) (opening : Machine) (number
 program_lacks_room program all opening number blocks limit block left e h found turn below full =
     let inside : number < length program = rw (← e) h in
     let same : block ≡ block_of program number = rw (← e) (get_or_read all number block h found no_block) in
-    let P : Place → Type 0 = λ place. Leads (length program) (serial_blocks program) opening (place_at (length program) 0) turn.numbers left.machine place in
+    let P : Position → Type 0 = λ position. Leads (length program) (serial_blocks program) opening (position_at (length program) 0) turn.numbers left.machine position in
     record {
       number = number;
       start = record {

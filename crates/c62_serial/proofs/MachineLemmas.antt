@@ -71,7 +71,7 @@ same_machine one other sound sound' same = made registers memory faults
     register : (k : ℕ) → k < length one.registers → get_or one.registers k 0 ≡ get_or other.registers k 0
     register k h =
         let found = register_at k (rw (← sound.registers) h) in
-        let P : ℕ → Type 0 = λ place. get_or one.registers place 0 ≡ get_or other.registers place 0 in
+        let P : ℕ → Type 0 = λ index. get_or one.registers index 0 ≡ get_or other.registers index 0 in
         subst P found.1 (same.words found.0)
 
     registers : one.registers ≡ other.registers
@@ -125,25 +125,25 @@ byte_written address start size value memory l = either (is_good start size) ref
     Left : Type 0
     Left = get_or (written start size value memory) address 0 ≡ unwrap_or (stored_by start size (Some value) address) (get_or memory address 0)
 
-    place : is_good start size ≡ true → (address < start) ⊎ (start ≤ address) → (address < start + size) ⊎ (start + size ≤ address) → Left
-    place good (inl below) _ =
+    by_side : is_good start size ≡ true → (address < start) ⊎ (start ≤ address) → (address < start + size) ⊎ (start + size ≤ address) → Left
+    by_side good (inl below) _ =
         let e : nat_le start address ≡ false = grind (arith, nat_tests) in
         let f = (stores memory start size value l good).outside address (inl below) in
         rw (good, e) (rw good at f)
-    place good (inr from) (inl inside) =
+    by_side good (inr from) (inl inside) =
         let e : nat_le start address ≡ true = grind (arith, nat_tests) in
         let g : nat_lt address (start + size) ≡ true = grind (arith, nat_tests) in
         let sum : start + (address - start) ≡ address = omega arith in
         let f = (stores memory start size value l good).inside (address - start) (omega arith) in
         rw (good, e, g) (rw (good, sum) at f)
-    place good (inr from) (inr past) =
+    by_side good (inr from) (inr past) =
         let e : nat_le start address ≡ true = grind (arith, nat_tests) in
         let g : nat_lt address (start + size) ≡ false = grind (arith, nat_tests) in
         let f = (stores memory start size value l good).outside address (inr past) in
         rw (good, e, g) (rw good at f)
 
     either : (b : Bool) → is_good start size ≡ b → Left
-    either true good = place good (cases_lt address start) (cases_lt address (start + size))
+    either true good = by_side good (cases_lt address start) (cases_lt address (start + size))
     either false bad = rw bad refl
 
 byte_stored : (address start size : ℕ) (value : Option ℕ) (memory : List ℕ) → length memory ≡ 65536

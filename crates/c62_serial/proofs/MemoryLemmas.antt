@@ -13,12 +13,12 @@ pub length-bytes_of : (size value : ℕ) → length (bytes_of size value) ≡ si
 length-bytes_of zero value = refl
 length-bytes_of (suc size) value = ap suc (length-bytes_of size (value / 256))
 
-pub byte_of : (size value place : ℕ) → place < size → get_or (bytes_of size value) place 0 ≡ value / 256 ^ place % 256
-byte_of zero value place h = absurd (omega arith)
+pub byte_of : (size value offset : ℕ) → offset < size → get_or (bytes_of size value) offset 0 ≡ value / 256 ^ offset % 256
+byte_of zero value offset h = absurd (omega arith)
 byte_of (suc size) value zero h = omega arith
-byte_of (suc size) value (suc place) h =
-    let e : value / 256 / 256 ^ place ≡ value / 256 ^ suc place = div-div-eq-div-mul value 256 (256 ^ place) ∙ ap (λ n. value / n) (mul_comm 256 (256 ^ place) ∙ sym (pow-suc 256 place)) in
-    byte_of size (value / 256) place (omega arith) ∙ ap (λ n. n % 256) e
+byte_of (suc size) value (suc offset) h =
+    let e : value / 256 / 256 ^ offset ≡ value / 256 ^ suc offset = div-div-eq-div-mul value 256 (256 ^ offset) ∙ ap (λ n. value / n) (mul_comm 256 (256 ^ offset) ∙ sym (pow-suc 256 offset)) in
+    byte_of size (value / 256) offset (omega arith) ∙ ap (λ n. n % 256) e
 
 pub is_within : (address size : ℕ) → is_good address size ≡ true → address + size ≤ 65536
 is_within address size h =
@@ -34,28 +34,28 @@ length-put memory bytes address size b h =
 front_length : (memory bytes : List ℕ) (address : ℕ) → address ≤ length memory → length (take address memory ++ bytes) ≡ address + length bytes
 front_length memory bytes address h = simp (length-append, length-take) (omega arith)
 
-put_inside : (memory bytes : List ℕ) (address size place : ℕ) → length bytes ≡ size → address + size ≤ length memory → place < size
-    → get_or (put address bytes size memory) (address + place) 0 ≡ get_or bytes place 0
-put_inside memory bytes address size place b h l =
-    let e : address + place - address ≡ place = omega arith in
-    let f = get_or-append_right (take address memory) bytes address (address + place) 0 (length-take-le address memory (omega arith)) (omega arith) in
-    get_or_append_left (take address memory ++ bytes) (drop (address + size) memory) 0 (address + place)
+put_inside : (memory bytes : List ℕ) (address size offset : ℕ) → length bytes ≡ size → address + size ≤ length memory → offset < size
+    → get_or (put address bytes size memory) (address + offset) 0 ≡ get_or bytes offset 0
+put_inside memory bytes address size offset b h l =
+    let e : address + offset - address ≡ offset = omega arith in
+    let f = get_or-append_right (take address memory) bytes address (address + offset) 0 (length-take-le address memory (omega arith)) (omega arith) in
+    get_or_append_left (take address memory ++ bytes) (drop (address + size) memory) 0 (address + offset)
     (omega (arith, front_length memory bytes address (omega arith)))
     ∙ rw e at f
 
-put_before : (memory bytes : List ℕ) (address size place : ℕ) → length bytes ≡ size → address + size ≤ length memory → place < address
-    → get_or (put address bytes size memory) place 0 ≡ get_or memory place 0
-put_before memory bytes address size place b h l =
-    get_or_append_left (take address memory ++ bytes) (drop (address + size) memory) 0 place (omega (arith, front_length memory bytes address (omega arith)))
-    ∙ get_or_append_left (take address memory) bytes 0 place (omega (arith, length-take-le address memory (omega arith)))
-    ∙ get_or-take address memory place 0 l
+put_before : (memory bytes : List ℕ) (address size other : ℕ) → length bytes ≡ size → address + size ≤ length memory → other < address
+    → get_or (put address bytes size memory) other 0 ≡ get_or memory other 0
+put_before memory bytes address size other b h l =
+    get_or_append_left (take address memory ++ bytes) (drop (address + size) memory) 0 other (omega (arith, front_length memory bytes address (omega arith)))
+    ∙ get_or_append_left (take address memory) bytes 0 other (omega (arith, length-take-le address memory (omega arith)))
+    ∙ get_or-take address memory other 0 l
 
-put_after : (memory bytes : List ℕ) (address size place : ℕ) → length bytes ≡ size → address + size ≤ length memory → address + size ≤ place
-    → get_or (put address bytes size memory) place 0 ≡ get_or memory place 0
-put_after memory bytes address size place b h l =
-    let e : address + size + (place - (address + size)) ≡ place = omega arith in
-    let f = get_or-drop (address + size) memory (place - (address + size)) 0 in
-    get_or-append_right (take address memory ++ bytes) (drop (address + size) memory) (address + size) place 0
+put_after : (memory bytes : List ℕ) (address size other : ℕ) → length bytes ≡ size → address + size ≤ length memory → address + size ≤ other
+    → get_or (put address bytes size memory) other 0 ≡ get_or memory other 0
+put_after memory bytes address size other b h l =
+    let e : address + size + (other - (address + size)) ≡ other = omega arith in
+    let f = get_or-drop (address + size) memory (other - (address + size)) 0 in
+    get_or-append_right (take address memory ++ bytes) (drop (address + size) memory) (address + size) other 0
     (omega (arith, front_length memory bytes address (omega arith))) l
     ∙ rw e at f
 
@@ -65,10 +65,10 @@ stores memory address size value l good =
     let h : address + size ≤ length memory = omega (arith, is_within address size good) in
     record {
       size_stays = rw good (length-put memory (bytes_of size value) address size b h);
-      inside = λ place i. rw good (put_inside memory (bytes_of size value) address size place b h i ∙ byte_of size value place i);
-      outside = λ place o. rw good (elim o [
-        | inl i ↦ put_before memory (bytes_of size value) address size place b h i
-        | inr i ↦ put_after memory (bytes_of size value) address size place b h i
+      inside = λ offset i. rw good (put_inside memory (bytes_of size value) address size offset b h i ∙ byte_of size value offset i);
+      outside = λ other o. rw good (elim o [
+        | inl i ↦ put_before memory (bytes_of size value) address size other b h i
+        | inr i ↦ put_after memory (bytes_of size value) address size other b h i
       ]);
     }
 

@@ -1,4 +1,4 @@
--- Registers stand at places of their own.
+-- Each register has an index of its own.
 use Rattle.std.proofs.Common.{◌≡◌, ◌≢◌, ℕ, ◌+◌, ◌-◌, ◌<◌, true, inl, inr, arith}
 use Rattle.std.specs.Prelude.{◌==◌, ◌&&◌}
 use Rattle.std.proofs.lemmas.Bool.{cases_lt}
@@ -29,9 +29,9 @@ within_file B n h = omega arith
 pub index_within : (reg : Reg) → index_of reg < 32
 index_within reg = within_file reg.side reg.number reg.in_range
 
--- the register at a place
-pub register_at : (place : ℕ) → place < 32 → (reg : Reg) × (index_of reg ≡ place)
-register_at place h = elim (cases_lt place 16) [
-  | inl l ↦ (record { side = A; number = place; in_range = l }, omega arith)
-  | inr l ↦ (let m : place - 16 < 16 = omega arith in (record { side = B; number = place - 16; in_range = m }, omega arith))
+-- the register at an index
+pub register_at : (index : ℕ) → index < 32 → (reg : Reg) × (index_of reg ≡ index)
+register_at index h = elim (cases_lt index 16) [
+  | inl l ↦ (record { side = A; number = index; in_range = l }, omega arith)
+  | inr l ↦ (let m : index - 16 < 16 = omega arith in (record { side = B; number = index - 16; in_range = m }, omega arith))
 ]

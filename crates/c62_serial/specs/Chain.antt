@@ -16,55 +16,55 @@ abbrev pub Blocks : Type 1
 Blocks = ℕ → Machine → Ran → Type 0
 
 -- where a chain stands: at the start of a block, or at its end
-pub data Place : Type 0 where
-  At : ℕ → Place
-  Ended : End → Place
+pub data Position : Type 0 where
+  At : ℕ → Position
+  Ended : End → Position
 
 -- the numbers of the blocks that were run, the machine after them, and where the chain stands
 pub record Standing : Type 0 where
   pub numbers : List ℕ
   pub machine : Machine
-  pub place : Place
+  pub position : Position
 
 -- at the block of this number; past the last block the chain ends
-abbrev pub place_at : ℕ → ℕ → Place
-place_at count number = if nat_lt number count then At number else Ended FellThrough
+abbrev pub position_at : ℕ → ℕ → Position
+position_at count number = if nat_lt number count then At number else Ended FellThrough
 
 -- the exit chooses the next of so many blocks
-abbrev pub place_after : ℕ → ℕ → Exit → Place
-place_after count number Next = place_at count (number + 1)
-place_after count number (Block target) = place_at count target
-place_after count number (Register value) = Ended (ToRegister value)
+abbrev pub position_after : ℕ → ℕ → Exit → Position
+position_after count number Next = position_at count (number + 1)
+position_after count number (Block target) = position_at count target
+position_after count number (Register value) = Ended (ToRegister value)
 
--- From a machine and a place the blocks of these numbers, each where the chain stands, lead to a machine and a place.
-unfoldable pub Leads : ℕ → Blocks → Machine → Place → List ℕ → Machine → Place → Type 0
-Leads count Does machine place [] final last = (final ≡ machine) × (last ≡ place)
-Leads count Does machine place (number ∷ numbers) final last =
-    (place ≡ At number) × (ran : Ran) × Does number machine ran
-    × Leads count Does ran.machine (place_after count number ran.exit) numbers final last
+-- From a machine and a position the blocks of these numbers, each where the chain stands, lead to a machine and a position.
+unfoldable pub Leads : ℕ → Blocks → Machine → Position → List ℕ → Machine → Position → Type 0
+Leads count Does machine position [] final last = (final ≡ machine) × (last ≡ position)
+Leads count Does machine position (number ∷ numbers) final last =
+    (position ≡ At number) × (ran : Ran) × Does number machine ran
+    × Leads count Does ran.machine (position_after count number ran.exit) numbers final last
 
 -- a chain of so many blocks comes to stand there, from block 0 on
 abbrev pub Stands : ℕ → Blocks → Machine → Standing → Type 0
 Stands count Does opening standing =
-    Leads count Does opening (place_at count 0) standing.numbers standing.machine standing.place
+    Leads count Does opening (position_at count 0) standing.numbers standing.machine standing.position
 
 -- what the limit says: where a block would follow, as many were run as it allows
-abbrev pub IsStopped : ℕ → ℕ → Place → Type 0
+abbrev pub IsStopped : ℕ → ℕ → Position → Type 0
 IsStopped limit blocks (At number) = blocks ≡ limit
 IsStopped limit blocks (Ended stop) = blocks ≤ limit
 
 -- the whole chain under a limit
 pub record IsChain (count : ℕ) (Does : Blocks) (opening : Machine) (limit : ℕ) (standing : Standing) : Type 0 where
   pub stands : Stands count Does opening standing
-  pub stopped : IsStopped limit (length standing.numbers) standing.place
+  pub stopped : IsStopped limit (length standing.numbers) standing.position
 
 -- the chain's end: where a block would follow, the limit
-abbrev pub end_of : Place → End
+abbrev pub end_of : Position → End
 end_of (At number) = Limit
 end_of (Ended stop) = stop
 
 abbrev pub chain_of : Standing → Chain
-chain_of standing = record { blocks = length standing.numbers; stop = end_of standing.place }
+chain_of standing = record { blocks = length standing.numbers; stop = end_of standing.position }
 
 -- the chain under a limit is this one, and leaves this machine
 pub record RunsChain (count : ℕ) (Does : Blocks) (opening : Machine) (limit : ℕ) (chain : Chain) (final : Machine)
@@ -85,7 +85,7 @@ pub record IsDetermined (count : ℕ) (Does : Blocks) : Type 0 where
 pub record IsBlockStart (count : ℕ) (Does : Blocks) (opening : Machine) (limit number : ℕ) (machine : Machine)
     : Type 0 where
   pub numbers : List ℕ
-  pub stands : Stands count Does opening (record { numbers = numbers; machine = machine; place = At number })
+  pub stands : Stands count Does opening (record { numbers = numbers; machine = machine; position = At number })
   pub fewer : length numbers < limit
 
 -- ---- the blocks of a program

@@ -1,6 +1,7 @@
 -- The set of lines whose accesses faulted, as a rising list (docs/MACHINE.md, "Memory").
-use Rattle.std.specs.Prelude.{ℕ, nat_lt, Bool, List, ◌∷◌, ◌++◌, filter, if◌then◌else◌}
+use Rattle.std.specs.Prelude.{ℕ, nat_lt, Bool, not, List, ◌∷◌, ◌++◌, filter, if◌then◌else◌}
 use Rattle.c62_serial.specs.State.{Machine}
+use Rattle.c62_serial.specs.Memory.{is_good, with_bytes}
 
 -- the lines with this one among them: those below it, itself, those above it
 abbrev pub joined : ℕ → List ℕ → List ℕ
@@ -15,3 +16,7 @@ after_fault lines line fault = if fault then joined line lines else lines
 
 abbrev pub with_fault_if : ℕ → Bool → Machine → Machine
 with_fault_if line fault machine = record machine { faults = after_fault machine.faults line fault }
+
+-- the machine after a store of the low bytes of a value, which may fault
+abbrev pub with_store : ℕ → ℕ → ℕ → ℕ → Machine → Machine
+with_store line address size value machine = with_fault_if line (not (is_good address size)) (with_bytes address size value machine)

@@ -6,6 +6,7 @@ use Rattle.c62_insn.specs.declared.register.Reg.{Reg}
 use Rattle.c62_insn.specs.declared.effect.Access.{Access as MemoryAccess}
 use Rattle.c62_insn.specs.Takes.{same_reg}
 use Rattle.c62_read.specs.declared.block.SerialInsn.{SerialInsn}
+use Rattle.c62_serial.specs.declared.state.TheConstants.{MEMORY_BYTES}
 use Rattle.c62_serial.specs.declared.serial.Exit.TheVariants.{Next}
 use Rattle.c62_serial.specs.State.{Machine, word_in, byte_in, with_word}
 use Rattle.c62_serial.specs.Memory.{is_good, read, written}
@@ -16,14 +17,14 @@ use Rattle.c62_serial.specs.Serial.{Ran, after_act, after_insn, serial}
 -- memory after a store: its bytes stand in it, the lowest first, and all others are as they were
 pub record StoresItsBytes (memory : List ℕ) (address size value : ℕ) : Type 0 where
   pub size_stays : length (written address size value memory) ≡ length memory
-  pub inside : (place : ℕ) → place < size → slice_index (written address size value memory) (address + place) ≡ value / 256 ^ place % 256
-  pub outside : (place : ℕ) → (place < address) ⊎ (address + size ≤ place)
-      → slice_index (written address size value memory) place ≡ slice_index memory place
+  pub inside : (offset : ℕ) → offset < size → slice_index (written address size value memory) (address + offset) ≡ value / 256 ^ offset % 256
+  pub outside : (other : ℕ) → (other < address) ⊎ (address + size ≤ other)
+      → slice_index (written address size value memory) other ≡ slice_index memory other
 
 -- a load of what was stored gives its low bytes
 abbrev pub LoadsWhatWasStored : List ℕ → ℕ → ℕ → ℕ → Type 0
 LoadsWhatWasStored memory address size value =
-    read (λ place. slice_index (written address size value memory) place) address size ≡ Some (value % 2 ^ (8 * size))
+    read (λ byte. slice_index (written address size value memory) byte) address size ≡ Some (value % 2 ^ (8 * size))
 
 -- a stored word is its four bytes, stored one by one
 abbrev pub StoresWordAsBytes : List ℕ → ℕ → ℕ → Type 0
@@ -44,7 +45,7 @@ pub record JoinsLines (lines : List ℕ) (line : ℕ) : Type 0 where
 -- the machines hold the same words and bytes, and the same lines faulted
 pub record HoldsTheSame (one other : Machine) : Type 0 where
   pub words : (reg : Reg) → word_in one reg ≡ word_in other reg
-  pub bytes : (address : ℕ) → address < 65536 → byte_in one address ≡ byte_in other address
+  pub bytes : (address : ℕ) → address < MEMORY_BYTES → byte_in one address ≡ byte_in other address
   pub faults : (line : ℕ) → Contains one.faults line ↔ Contains other.faults line
 
 -- the last value of these writes to a register, where one of them writes it
@@ -53,9 +54,9 @@ last_written reg [] = None
 last_written reg (write ∷ writes) =
     option_or (last_written reg writes) (if same_reg write.0.0 reg then Some write.1 else None)
 
--- the byte that a store of this value puts at a place from its address on
+-- the byte that a store of this value puts so far from its address on
 abbrev pub stored_byte : ℕ → ℕ → ℕ
-stored_byte value place = value / 256 ^ place % 256
+stored_byte value offset = value / 256 ^ offset % 256
 
 -- the byte that an access stores at an address, where it stores one there
 abbrev pub stored_by : ℕ → ℕ → Option ℕ → ℕ → Option ℕ

@@ -1,5 +1,6 @@
 -- Accesses to memory: little endian, aligned by size, within 65,536 bytes (docs/MACHINE.md, "Memory").
 use Rattle.std.specs.Prelude.{ℕ, zero, suc, ◌+◌, ◌*◌, ◌/◌, ◌%◌, nat_le, Bool, ◌==◌, ◌&&◌, ◌||◌, List, [], ◌∷◌, ◌++◌, take, drop, Option, Some, None, if◌then◌else◌}
+use Rattle.c62_serial.specs.declared.state.TheConstants.{MEMORY_BYTES}
 use Rattle.c62_serial.specs.State.{Machine}
 
 abbrev pub is_size : ℕ → Bool
@@ -7,7 +8,7 @@ is_size size = size == 1 || size == 2 || size == 4
 
 -- the access lies on its size and within memory; any other faults
 abbrev pub is_good : ℕ → ℕ → Bool
-is_good address size = address % size == 0 && nat_le (address + size) 65536
+is_good address size = address % size == 0 && nat_le (address + size) MEMORY_BYTES
 
 -- bytes as a number, the lowest first
 abbrev pub number_of : List ℕ → ℕ

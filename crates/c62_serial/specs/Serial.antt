@@ -5,9 +5,12 @@ use Rattle.std.specs.Option.{option_to_list}
 use Rattle.c62_insn.specs.declared.register.Reg.{Reg}
 use Rattle.c62_insn.specs.declared.operands.Op.{Op}
 use Rattle.c62_insn.specs.declared.action.Action.{Action}
+use Rattle.c62_insn.specs.declared.action.Action.TheVariants.{Transfer as Transfers}
+use Rattle.c62_insn.specs.declared.action.Transfer.{Transfer}
 use Rattle.c62_insn.specs.declared.effect.Access.{Access as MemoryAccess}
 use Rattle.c62_insn.specs.declared.effect.Target.{Target}
 use Rattle.c62_insn.specs.declared.effect.Target.TheVariants.{Block as ToBlock, Register as ToRegister}
+use Rattle.c62_insn.specs.Insn.{op_of}
 use Rattle.c62_insn.specs.Action.{writes_in, values_in, access_in, target_in}
 use Rattle.c62_read.specs.declared.block.SerialInsn.{SerialInsn}
 use Rattle.c62_serial.specs.declared.serial.Exit.{Exit}
@@ -60,6 +63,10 @@ act_by op action byte = record {
 abbrev pub after_action : ℕ → Op → Action → Machine → Machine
 after_action line op action machine = after_act line (act_by op action (byte_in machine)) machine
 
+-- the same of its load or store
+abbrev pub after_transfer : SerialInsn → Transfer → Machine → Machine
+after_transfer entry transfer machine = after_action entry.line (op_of entry.insn) (Transfers transfer) machine
+
 abbrev pub exit_to : Target → Exit
 exit_to (ToBlock number) = Block number
 exit_to (ToRegister value) = Register value
@@ -72,6 +79,10 @@ exit_after exit (Some target) = exit_to target
 -- an instruction acts on what a run left
 abbrev pub act_in : Machine → SerialInsn → Act
 act_in machine entry = act_of entry.insn (word_in machine) (byte_in machine)
+
+-- the machine after an instruction
+abbrev pub after_entry : SerialInsn → Machine → Machine
+after_entry entry machine = after_act entry.line (act_in machine entry) machine
 
 abbrev pub after_insn : Ran → SerialInsn → Ran
 after_insn ran entry = let act = act_in ran.machine entry in

@@ -1,7 +1,8 @@
 -- What the machine holds (docs/MACHINE.md, "Register files and units" and "Memory").
-use Rattle.std.specs.Prelude.{◌≡◌, ℕ, List, [], length, slice_index, slice_set, All, Option, Some, None}
+use Rattle.std.specs.Prelude.{◌≡◌, ℕ, ◌+◌, List, [], length, slice_index, slice_set, All, Option, Some, None}
 use Rattle.std.specs.List.Sorted.{IsStrictlyIncreasing}
 use Rattle.c62_insn.specs.declared.register.Reg.{Reg}
+use Rattle.c62_serial.specs.declared.state.TheConstants.{MEMORY_BYTES}
 pub use Rattle.c62_insn.specs.Register.{first_of, register_index as index_of}
 
 -- the words of A0 to A15 and B0 to B15, the bytes of memory, and the lines whose accesses faulted
@@ -15,10 +16,14 @@ pub record Contents : Type 0 where
   pub machine : Machine
   pub room : ℕ
 
+-- how many lines have faulted or may, before room for more is made
+abbrev pub line_capacity : Contents → ℕ
+line_capacity state = length state.machine.faults + state.room
+
 -- what holds of every state: each line that faulted stands once
 pub record IsSound (machine : Machine) : Type 0 where
   pub registers : length machine.registers ≡ 32
-  pub memory : length machine.memory ≡ 65536
+  pub memory : length machine.memory ≡ MEMORY_BYTES
   pub rising : IsStrictlyIncreasing machine.faults
 
 -- the machine before anything was set

@@ -6,6 +6,7 @@ ghost use Rattle.std.specs.List.Sorted.{IsStrictlyIncreasing};
 ghost use Rattle.c62_insn.specs.declared.register.Reg.{Reg as Register};
 ghost use Rattle.c62_read.specs.declared.block.SerialInsn.{SerialInsn};
 ghost use Rattle.c62_read.specs.Block.{Serial};
+ghost use Rattle.c62_serial.specs.declared.state.TheConstants.{MEMORY_BYTES};
 ghost use Rattle.c62_serial.specs.State.{Machine, IsSound};
 ghost use Rattle.c62_serial.specs.Memory.{is_size, is_good};
 ghost use Rattle.c62_serial.specs.Effect.{Act};
@@ -15,25 +16,26 @@ ghost use Rattle.c62_serial.specs.Laws.{StoresItsBytes, LoadsWhatWasStored, Stor
 
 /// A store puts its bytes into memory, the lowest first, and changes no other.
 pub fn stores_its_bytes()
-    ensures { (memory : List ℕ) (address size value : ℕ) → length memory ≡ 65536
+    ensures { (memory : List ℕ) (address size value : ℕ) → length memory ≡ MEMORY_BYTES
         → IsTrue (is_good address size) → StoresItsBytes memory address size value }
 {}
 
 /// A load of what was stored gives the low bytes of the value.
 pub fn loads_what_was_stored()
-    ensures { (memory : List ℕ) (address size value : ℕ) → length memory ≡ 65536
+    ensures { (memory : List ℕ) (address size value : ℕ) → length memory ≡ MEMORY_BYTES
         → IsTrue (is_size size) → IsTrue (is_good address size) → LoadsWhatWasStored memory address size value }
 {}
 
 /// A word is stored as its four bytes are, one by one.
 pub fn stores_word_as_bytes()
-    ensures { (memory : List ℕ) (address value : ℕ) → length memory ≡ 65536
+    ensures { (memory : List ℕ) (address value : ℕ) → length memory ≡ MEMORY_BYTES
         → IsTrue (is_good address 4) → StoresWordAsBytes memory address value }
 {}
 
 /// A register holds the word that was put into it, and the others keep theirs.
 pub fn holds_its_word()
-    ensures { (machine : Machine) (reg : Register) (value : ℕ) → IsSound machine → HoldsItsWord machine reg value }
+    ensures { (machine : Machine) (reg : Register) (value : ℕ) → IsSound machine
+        → HoldsItsWord machine reg value }
 {}
 
 /// The faulted lines rise, and a line that joins them is one of them beside those that were.
@@ -43,7 +45,8 @@ pub fn joins_lines()
 
 /// A run keeps a machine sound: its registers and its bytes are as many, and its faulted lines rise.
 pub fn keeps_machines_sound()
-    ensures act { (line : ℕ) (act : Act) (machine : Machine) → IsSound machine → IsSound (after_act line act machine) }
+    ensures act { (line : ℕ) (act : Act) (machine : Machine) → IsSound machine
+        → IsSound (after_act line act machine) }
     ensures run { (insns : List SerialInsn) (machine : Machine) → IsSound machine
         → IsSound (serial insns machine).machine }
 {}

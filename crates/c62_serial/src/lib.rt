@@ -10,7 +10,7 @@ mod state;
 
 pub use chain::{Chain, End, run_program};
 pub use serial::{Exit, run_block};
-pub use state::State;
+pub use state::{MEMORY_BYTES, State};
 
 #[cfg(test)]
 mod tests;

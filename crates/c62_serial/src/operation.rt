@@ -3,8 +3,8 @@
 ghost use Rattle.std.specs.Prelude.{◌≡◌, ◌+◌, ◌<◌, ◌≤◌, length, not, map, option_map, IsTrue};
 ghost use Rattle.c62_insn.specs.Insn.{op_of, cond_of};
 ghost use Rattle.c62_serial.specs.State.{word_in, byte_in};
-ghost use Rattle.c62_serial.specs.Memory.{is_size, is_good, read, with_bytes};
-ghost use Rattle.c62_serial.specs.Faults.{with_fault_if};
+ghost use Rattle.c62_serial.specs.Memory.{is_size, is_good, read};
+ghost use Rattle.c62_serial.specs.Faults.{with_fault_if, with_store};
 ghost use Rattle.c62_serial.specs.Effect.{extended, operand_values};
 
 use crate::state::State;
@@ -72,7 +72,7 @@ impl State {
     pub fn make_store(&mut self, line: u32, address: u32, size: u8, value: u32)
         requires size { IsTrue (is_size size) }
         requires room { 0 < self.old.room }
-        ensures machine { self.new.machine ≡ with_fault_if line (not (is_good address size)) (with_bytes address size value self.old.machine) }
+        ensures machine { self.new.machine ≡ with_store line address size value self.old.machine }
         ensures room { self.old.room ≤ self.new.room + 1 }
     {
         if !self.store(address, size, value) {

@@ -18,11 +18,9 @@ pub enum Exit {
     Register(u32),
 }
 
-ghost use Rattle.c62_insn.specs.declared.action.Action.TheVariants.{Transfer as Transfers};
-ghost use Rattle.c62_insn.specs.Insn.{op_of};
 ghost use Rattle.c62_serial.specs.State.{with_write};
 ghost use Rattle.c62_serial.specs.Memory.{is_size};
-ghost use Rattle.c62_serial.specs.Serial.{after_act, after_action, exit_to, act_in, serial};
+ghost use Rattle.c62_serial.specs.Serial.{after_transfer, after_entry, exit_to, act_in, serial};
 
 /// The exit of a branch that goes there.
 impl From<Target> for Exit {
@@ -49,7 +47,7 @@ fn write(write: Option<(Reg, u32)>, state: &mut State)
 fn make_transfer(entry: &SerialInsn, transfer: Transfer, state: &mut State)
     requires size { IsTrue (is_size transfer.access.size) }
     requires room { 0 < state.old.room }
-    ensures machine { state.new.machine ≡ after_action entry.now.line (op_of entry.now.insn) (Transfers transfer) state.old.machine }
+    ensures machine { state.new.machine ≡ after_transfer entry.now transfer state.old.machine }
     ensures room { state.old.room ≤ state.new.room + 1 }
 {
     let Access {
@@ -74,7 +72,7 @@ fn make_transfer(entry: &SerialInsn, transfer: Transfer, state: &mut State)
 /// Runs an instruction. Answers where its branch goes, where it is a branch that ran.
 fn run_insn(entry: &SerialInsn, state: &mut State) -> Option<Target>
     requires { 0 < state.old.room }
-    ensures machine { state.new.machine ≡ after_act entry.now.line (act_in state.old.machine entry.now) state.old.machine }
+    ensures machine { state.new.machine ≡ after_entry entry.now state.old.machine }
     ensures target { result ≡ (act_in state.old.machine entry.now).target }
     ensures room { state.old.room ≤ state.new.room + 1 }
 {

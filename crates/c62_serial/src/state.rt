@@ -9,7 +9,8 @@ use std::marker::Model;
 
 const WORD: u8 = 4;
 
-const MEMORY: usize = 65_536;
+/// How many bytes of memory there are.
+pub const MEMORY_BYTES: usize = 65_536;
 
 /// Thirty-two registers, 65,536 bytes of memory, and the lines whose accesses faulted, each once and
 /// rising. It has room for some more such lines; all calls but [`State::new`] and [`State::room`] take
@@ -37,7 +38,7 @@ impl Model for State {
         IsSound (record { registers = state.registers; memory = state.memory.items; faults = state.faults.items }) };
 }
 
-ghost use Rattle.c62_serial.specs.State.{Machine, IsSound, IsZero, word_in, byte_in, with_word};
+ghost use Rattle.c62_serial.specs.State.{Machine, IsSound, line_capacity, IsZero, word_in, byte_in, with_word};
 ghost use Rattle.c62_serial.specs.Memory.{is_size, is_good, number_of, bytes_from, bytes_of, read, put, with_bytes};
 ghost use Rattle.c62_serial.specs.Faults.{joined, with_fault};
 
@@ -47,14 +48,14 @@ fn is_good(address: u32, size: u8) -> bool
     ensures { result ≡ is_good address size }
 {
     let size = u32::from(size);
-    address % size == 0 && address <= MEMORY as u32 - size
+    address % size == 0 && address <= MEMORY_BYTES as u32 - size
 }
 
-/// The bytes from a place on as a number, the lowest first.
+/// The bytes from an address on as a number, the lowest first.
 fn number_at(memory: &[u8], at: usize, size: u8) -> u32
     requires size { IsTrue (is_size size) }
     requires within { at + size ≤ length memory.now }
-    ensures { result ≡ number_of (bytes_from (λ place. slice_index memory.now place) at size) }
+    ensures { result ≡ number_of (bytes_from (λ byte. slice_index memory.now byte) at size) }
 {
     match size {
         1 => u32::from(memory[at]),
@@ -63,7 +64,7 @@ fn number_at(memory: &[u8], at: usize, size: u8) -> u32
     }
 }
 
-/// Puts the low bytes of a value from a place on, the lowest first.
+/// Puts the low bytes of a value from an address on, the lowest first.
 fn put(memory: &mut [u8], at: usize, size: u8, value: u32)
     requires size { IsTrue (is_size size) }
     requires within { at + size ≤ length memory.old }
@@ -77,11 +78,11 @@ fn put(memory: &mut [u8], at: usize, size: u8, value: u32)
     }
 }
 
-/// The place for a line among rising lines, where it is not among them.
-fn new_place(lines: &[u32], line: u32) -> Option<usize>
+/// The index for a line among rising lines, where it is not among them.
+fn new_index(lines: &[u32], line: u32) -> Option<usize>
     requires { IsStrictlyIncreasing lines.now }
     ensures { MatchOption result (joined line lines.now ≡ lines.now)
-        (λ place. (place ≤ length lines.now) × (joined line lines.now ≡ insert lines.now place line)) }
+        (λ index. (index ≤ length lines.now) × (joined line lines.now ≡ insert lines.now index line)) }
 {
     lines.binary_search(&line).err()
 }
@@ -97,7 +98,7 @@ impl State {
     {
         Ok(State {
             registers: [0; 32],
-            memory: vec![in alloc; 0; MEMORY]?,
+            memory: vec![in alloc; 0; MEMORY_BYTES]?,
             faults: Vec::new(alloc),
         })
     }
@@ -188,11 +189,11 @@ impl State {
     pub fn fault(&mut self, line: u32)
         requires { 0 < self.old.room }
         ensures machine { self.new.machine ≡ with_fault line self.old.machine }
-        ensures room { length self.new.machine.faults + self.new.room ≡ length self.old.machine.faults + self.old.room }
+        ensures room { line_capacity self.new ≡ line_capacity self.old }
         ensures one_at_most { self.old.room ≤ self.new.room + 1 }
     {
-        if let Some(place) = new_place(&self.faults, line) {
-            let Ok(()) = self.faults.insert(place, line) else {
+        if let Some(index) = new_index(&self.faults, line) {
+            let Ok(()) = self.faults.insert(index, line) else {
                 unreachable!()
             };
         }

@@ -91,12 +91,12 @@ struct Opening {
 
 impl Opening {
     /// Sets a register, a word of memory or the limit.
-    fn set(&mut self, place: &str, value: u32) -> Result<(), Fail> {
-        if let Some(address) = place.strip_prefix('@') {
+    fn set(&mut self, name: &str, value: u32) -> Result<(), Fail> {
+        if let Some(address) = name.strip_prefix('@') {
             let _ = self.state.poke(u32::from_str_radix(address, 16)?, value);
-        } else if let Some(digits) = place.strip_prefix('A') {
+        } else if let Some(digits) = name.strip_prefix('A') {
             self.state.set(register(A, digits)?, value);
-        } else if let Some(digits) = place.strip_prefix('B') {
+        } else if let Some(digits) = name.strip_prefix('B') {
             self.state.set(register(B, digits)?, value);
         } else {
             self.limit = value;
@@ -110,8 +110,8 @@ impl Opening {
             limit: 1000,
         };
         for setting in settings.split_whitespace() {
-            let (place, value) = setting.split_once('=').expect(rt, "a setting");
-            opening.set(place, u32::from_str_radix(value, 16)?)?;
+            let (name, value) = setting.split_once('=').expect(rt, "a setting");
+            opening.set(name, u32::from_str_radix(value, 16)?)?;
         }
         Ok(opening)
     }
@@ -252,10 +252,10 @@ fn calls_of_instructions(rt: HostRuntime) -> Result<(), Fail> {
         (Op::Ldh, 8, 2, 0x2380),
         (Op::Ldw, 0xfffe, 4, 0),
     ];
-    for (op, place, size, want) in rows {
+    for (op, at, size, want) in rows {
         let insn = Insn::new(op, address, None, None)?;
         state.room(1)?;
-        assert_eq!(&rt; state.make_load(insn, 1, place, size), want, "at {place}");
+        assert_eq!(&rt; state.make_load(insn, 1, at, size), want, "at {at}");
     }
     assert!(&rt; state.faults() == [1, 2].as_slice());
     Ok(())

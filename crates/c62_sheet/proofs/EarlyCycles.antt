@@ -1,21 +1,18 @@
 -- The first cycle in which all bounds are kept, as far as a walk has come.
-use Rattle.std.proofs.Common.{arith, ◌≡◌, ℕ, max, ◌+◌, ◌*◌, ◌<◌, ◌≤◌, ℤ, pos, negsuc, ◌≤ℤ◌, ◌+ℤ◌, List, length, get_or, Option, Some, None, inl, inr, sym, ap, subst, ◌∙◌}
-use Rattle.std.specs.Prelude.{Contains}
+use Rattle.std.proofs.Common.{arith, ◌≡◌, ℕ, max, ◌+◌, ◌<◌, ◌≤◌, ℤ, pos, ◌≤ℤ◌, ◌+ℤ◌, List, length, get_or, Option, Some, None, inl, inr, sym, ap, subst, ◌∙◌}
 use Rattle.std.proofs.lemmas.Bool.{cases_eq}
 use Rattle.std.proofs.lemmas.Int.{ints}
 use Rattle.std.proofs.lemmas.List.{get_or_default}
 use Rattle.std.proofs.lemmas.List.Elements.{Contains-get_or}
 use Rattle.std.proofs.lemmas.Option.{same_Some, none-some}
 use Rattle.c62_insn.specs.declared.insn.Insn.{Insn}
-use Rattle.c62_insn.specs.Dependence.{Bounds, IsGreatestBound}
 use Rattle.c62_depend.specs.declared.links.Link.{Link}
-use Rattle.c62_depend.specs.Latency.{latency}
 use Rattle.c62_depend.specs.Links.{needs}
 use Rattle.c62_depend.specs.Plan.{IsShort}
 use Rattle.c62_depend.proofs.Plans.{short_is}
 use Rattle.c62_sheet.specs.declared.entry.Spot.{Spot}
-use Rattle.c62_sheet.specs.Lawful.{Spots, IsAt, spot_at}
-use Rattle.c62_sheet.specs.Least.{IsAfter, IsEarly}
+use Rattle.c62_sheet.specs.Lawful.{Spots}
+use Rattle.c62_sheet.specs.Least.{IsEarly}
 use Rattle.c62_sheet.specs.Early.{IsAfterLink, IsBoundBy}
 use Rattle.c62_sheet.proofs.Missing.{latency_from, greatest_at, need_of, need_is}
 

@@ -12,7 +12,7 @@ use Rattle.c62_insn.specs.declared.register.Reg.{Reg}
 use Rattle.c62_insn.specs.declared.insn.Insn.{Insn}
 use Rattle.c62_insn.specs.PacketRules.{Issue, Issues, reads_in}
 use Rattle.c62_sheet.specs.declared.entry.Spot.{Spot}
-use Rattle.c62_sheet.specs.Lawful.{Spots, IsAt, nothing_placed, issues, IsLawful}
+use Rattle.c62_sheet.specs.Lawful.{IsAt, nothing_placed, issues, IsLawful}
 use Rattle.c62_sheet.proofs.Sets.{nothing_at}
 use Rattle.c62_sheet.proofs.IssuesOf.{issued-placement}
 

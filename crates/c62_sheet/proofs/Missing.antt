@@ -1,13 +1,12 @@
 -- Counts of missing numbers, and how they change along the dependences.
 use Rattle.std.proofs.Common.{arith, ◌≡◌, ◌≢◌, ℕ, zero, suc, ◌+◌, ◌-◌, ◌<◌, ◌≤◌, ℤ, pos, Bool, true, false, cond, List, [], ◌∷◌, ◌++◌, length, get_or, Option, Some, None, refl, sym, ap, ◌∙◌, subst, inl, inr, ◌⊎◌, length-set, take, get_or-set_same, get_or-set_other}
-use Rattle.std.specs.Prelude.{Contains, count_by, sum_by, is_some, is_none, IsSome, ◌==◌, eqb, MatchOption, slice_index, slice_set}
+use Rattle.std.specs.Prelude.{Contains, count_by, is_some, is_none, IsSome, ◌==◌, eqb, slice_index, slice_set}
 use Rattle.std.specs.List.{flat_map, range_with_len}
-use Rattle.std.proofs.lemmas.Bool.{cases_eq, cases_lt, cases_Bool, false≢true, eqb-true, eq-eqb}
+use Rattle.std.proofs.lemmas.Bool.{cases_eq, cases_lt, cases_Bool, eqb-true, eq-eqb}
 use Rattle.std.proofs.lemmas.Bool.Decides.{nat_tests}
 use Rattle.std.proofs.lemmas.List.{get_or_past, get_or_default, take_all}
 use Rattle.std.proofs.lemmas.List.Sums.{sum_by-cons, sum_by-append, sum_by_more, sum_by-take-le, get_or-le-sum_by, count_by-le-length}
 use Rattle.std.proofs.lemmas.List.Elements.{All-contains, Contains-get_or}
-use Rattle.std.proofs.lemmas.Option.{none-some}
 use Rattle.c62_insn.specs.declared.register.Side.TheVariants.{A}
 use Rattle.c62_insn.specs.declared.register.Letter.TheVariants.{L}
 use Rattle.c62_insn.specs.declared.insn.Insn.{Insn}

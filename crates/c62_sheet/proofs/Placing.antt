@@ -1,25 +1,21 @@
 -- What adding one triple to a lawful set asks, and what taking one out leaves.
-use Rattle.std.proofs.Common.{arith, ◌≡◌, ◌≢◌, ℕ, ◌+◌, ◌*◌, ◌<◌, ◌≤◌, ℤ, pos, ◌-ℤ◌, List, length, Option, Some, None, Bool, true, false, refl, sym, ap, ◌∙◌, subst, inl, inr, ◌⊎◌, length-set}
-use Rattle.std.specs.Prelude.{Contains, IsTrue, IsSome, slice_get, slice_set, slice_index_or, option_map, sum_by}
+use Rattle.std.proofs.Common.{arith, ◌≡◌, ◌≢◌, ℕ, ◌+◌, ◌*◌, ◌<◌, ◌≤◌, pos, ◌-ℤ◌, List, length, Some, None, false, refl, sym, ap, ◌∙◌, subst, inl, inr, length-set}
+use Rattle.std.specs.Prelude.{Contains, IsSome, slice_get, slice_set, slice_index_or, option_map, sum_by}
 use Rattle.std.proofs.lemmas.Bool.{cases_eq, cases_lt, false≢true}
 use Rattle.std.proofs.lemmas.Int.{ints}
-use Rattle.std.proofs.lemmas.Option.{same_Some, none-some}
-use Rattle.c62_insn.specs.declared.register.Side.{Side}
+use Rattle.std.proofs.lemmas.Option.{none-some}
 use Rattle.c62_insn.specs.declared.register.Reg.{Reg}
-use Rattle.c62_insn.specs.declared.register.Unit.{Unit as FunctionalUnit}
 use Rattle.c62_insn.specs.declared.insn.Insn.{Insn}
 use Rattle.c62_insn.specs.Insn.{register_writes}
-use Rattle.c62_insn.specs.PacketRules.{Issue, Issues, IsIssued, AtMostOne, UsesCrossPath, UsesDataPath, KeepsPacketRules, reads_in, LandsIn}
+use Rattle.c62_insn.specs.PacketRules.{Issue, Issues, IsIssued, AtMostOne, UsesCrossPath, UsesDataPath, KeepsPacketRules, reads_in}
 use Rattle.c62_insn.specs.Dependence.{WriteAfterWrite, Bounds, Depends, are_exclusive}
-use Rattle.c62_depend.specs.Side.{stands_on}
 use Rattle.c62_sheet.specs.declared.resource.Resource.{Resource}
 use Rattle.c62_sheet.specs.declared.resource.Resource.TheVariants.{OnUnit, CrossPath, DataPath}
 use Rattle.c62_sheet.specs.declared.entry.Spot.{Spot}
-use Rattle.c62_sheet.specs.declared.entry.Rule.{Rule}
 use Rattle.c62_sheet.specs.declared.entry.Rule.TheVariants.{Placed, Unit as WrongUnit, Limit, Missing, Delay, P1, P2, P3, P4, P5}
 use Rattle.c62_sheet.specs.Lawful.{Spots, IsAt, spot_at, placed, withdrawn, issue_at, issues, IsLawful}
-use Rattle.c62_sheet.specs.Least.{IsReady, IsAfter, IsLast}
-use Rattle.c62_sheet.specs.Check.{Meets, ReadsTooOften, LandsTogether, Breaks, turn_of}
+use Rattle.c62_sheet.specs.Least.{IsAfter, IsLast}
+use Rattle.c62_sheet.specs.Check.{Meets, LandsTogether}
 use Rattle.c62_sheet.specs.Packet.{KeepsAll, Fits}
 use Rattle.c62_sheet.proofs.Optional.{some_is, none_not_some}
 use Rattle.c62_insn.proofs.Parts.{part-without, part-keeps}

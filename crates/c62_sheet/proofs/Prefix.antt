@@ -1,11 +1,9 @@
 -- The first numbers of a set.
 use Rattle.std.proofs.Common.{arith, ◌≡◌, ◌≢◌, ℕ, zero, suc, ◌+◌, ◌<◌, ◌≤◌, List, [], ◌∷◌, length, map, Option, Some, None, refl, sym, ap, subst, ◌∙◌, inl, inr, get_or, get_or-set_same, get_or-set_other, length-set, take, replicate}
 use Rattle.std.specs.Prelude.{slice_set}
-use Rattle.std.proofs.lemmas.Bool.{cases_eq, cases_lt}
+use Rattle.std.proofs.lemmas.Bool.{cases_eq}
 use Rattle.std.proofs.lemmas.List.{ext_get_or, set-set, set-get_or, get_or-take, get_or-replicate, length-take, length-replicate}
-use Rattle.std.proofs.lemmas.Option.{none-some}
 use Rattle.c62_insn.specs.declared.insn.Insn.{Insn}
-use Rattle.c62_insn.specs.Dependence.{Depends}
 use Rattle.c62_sheet.specs.declared.entry.Spot.{Spot}
 use Rattle.c62_sheet.specs.Lawful.{Spots, spot_at, withdrawn, nothing_placed, IsLawful}
 use Rattle.c62_sheet.specs.Least.{IsLast}

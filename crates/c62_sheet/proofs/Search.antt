@@ -1,5 +1,5 @@
 -- A search through the cycles, and in each through the units.
-use Rattle.std.proofs.Common.{arith, ◌≡◌, ℕ, ◌+◌, ◌*◌, ◌<◌, ◌≤◌, List, length, get_or, Some, None, inl, inr, ◌⊎◌, sym, ap, subst, refl, ◌∙◌}
+use Rattle.std.proofs.Common.{arith, ◌≡◌, ℕ, ◌+◌, ◌*◌, ◌<◌, ◌≤◌, List, length, get_or, Some, inl, inr, ◌⊎◌, sym, ap, subst, ◌∙◌}
 use Rattle.std.specs.Prelude.{slice_get}
 use Rattle.std.proofs.lemmas.Bool.{cases_lt, cases_eq}
 use Rattle.std.proofs.lemmas.Int.{ints}
@@ -9,7 +9,7 @@ use Rattle.c62_insn.specs.Units.{index_of}
 use Rattle.c62_insn.specs.Units.{all_units}
 use Rattle.c62_insn.proofs.UnitOrder.{same_index, index_of-below, index_of-listed}
 use Rattle.c62_sheet.specs.declared.entry.Spot.{Spot}
-use Rattle.c62_sheet.specs.Lawful.{Spots, spot_at, placed, IsLawful}
+use Rattle.c62_sheet.specs.Lawful.{Spots, placed, IsLawful}
 use Rattle.c62_sheet.specs.Least.{IsReady, IsAfter, IsEarly, IsLeast, HasNoSpot}
 use Rattle.c62_sheet.specs.Packet.{Fits}
 use Rattle.c62_sheet.proofs.Sets.{spot_at-placed_same}

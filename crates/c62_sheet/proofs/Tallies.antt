@@ -1,6 +1,6 @@
 -- Counts of the numbers that are such, and the length of what is placed, as far as a walk has come.
-use Rattle.std.proofs.Common.{arith, ◌≡◌, ℕ, zero, suc, ◌+◌, ◌<◌, ◌≤◌, max, List, [], ◌∷◌, ◌++◌, length, drop, get_or, Option, Some, None, Bool, true, false, cond, refl, sym, ap, ◌∙◌, inl, inr, ◌⊎◌, subst, add-one, add-zero}
-use Rattle.std.specs.Prelude.{IsTrue, IsSome, ◌↔◌, find, option_map, slice_get}
+use Rattle.std.proofs.Common.{arith, ◌≡◌, ℕ, zero, suc, ◌+◌, ◌<◌, ◌≤◌, max, List, [], ◌∷◌, length, drop, get_or, Option, Some, None, Bool, true, false, cond, refl, sym, ap, ◌∙◌, inl, inr, subst, add-one, add-zero}
+use Rattle.std.specs.Prelude.{IsTrue, find, option_map, slice_get}
 use Rattle.std.specs.Option.{option_map_or}
 use Rattle.std.proofs.lemmas.Bool.{false≢true}
 use Rattle.std.proofs.Math.Seq.{drop-cons}
@@ -11,10 +11,10 @@ use Rattle.c62_insn.specs.declared.insn.Insn.{Insn}
 use Rattle.c62_insn.specs.Shape.{is_branch}
 use Rattle.c62_insn.specs.Insn.{op_of}
 use Rattle.c62_insn.specs.PacketRules.{Issue, Issues, issued}
-use Rattle.c62_insn.specs.Length.{landing_end, last_landing_end, length_of}
+use Rattle.c62_insn.specs.Length.{landing_end, last_landing_end}
 use Rattle.c62_sheet.specs.declared.entry.Spot.{Spot}
 use Rattle.c62_sheet.specs.Lawful.{Spots, spot_at, issue_at, issues}
-use Rattle.c62_sheet.specs.Counts.{HasCount, set_length}
+use Rattle.c62_sheet.specs.Counts.{HasCount}
 use Rattle.c62_sheet.proofs.IssuesOf.{length-issues, issue-at}
 
 -- a count is no more than how many are asked

@@ -1,5 +1,5 @@
 -- The rules in the order in which they are asked.
-use Rattle.std.proofs.Common.{arith, ◌≡◌, ℕ, zero, suc, ◌+◌, ◌*◌, ◌<◌, ◌≤◌, ℤ, pos, ◌≤ℤ◌, ◌<ℤ◌, ◌+ℤ◌, List, length, Option, Some, None, Bool, true, false, refl, sym, ap, ◌∙◌, subst, inl, inr}
+use Rattle.std.proofs.Common.{arith, ◌≡◌, ℕ, zero, suc, ◌+◌, ◌*◌, ◌<◌, ◌≤◌, ℤ, pos, ◌≤ℤ◌, ◌<ℤ◌, ◌+ℤ◌, List, length, Some, None, true, refl, sym, ap, ◌∙◌, subst, inl, inr}
 use Rattle.std.specs.Prelude.{IsSome, slice_get}
 use Rattle.std.proofs.lemmas.Bool.{cases_eq, cases_Bool, cases_lt, false≢true}
 use Rattle.std.proofs.lemmas.Int.{by_lt_z, ints}
@@ -7,16 +7,15 @@ use Rattle.c62_insn.specs.declared.insn.Insn.{Insn}
 use Rattle.c62_insn.specs.Dependence.{Depends}
 use Rattle.c62_depend.specs.Side.{stands_on}
 use Rattle.c62_sheet.specs.declared.entry.Spot.{Spot}
-use Rattle.c62_sheet.specs.declared.entry.Unlawful.{Unlawful}
 use Rattle.c62_sheet.specs.declared.entry.Rule.{Rule}
 use Rattle.c62_sheet.specs.declared.entry.Rule.TheVariants.{Placed, Unit as WrongUnit, Limit, Missing, Delay, P1, P2, P3, P4, P5}
-use Rattle.c62_sheet.specs.Lawful.{Spots, spot_at, placed, IsLawful}
+use Rattle.c62_sheet.specs.Lawful.{Spots, spot_at, IsLawful}
 use Rattle.c62_sheet.specs.Least.{IsAfter, IsEarly}
 use Rattle.c62_sheet.specs.Check.{LacksSome, Breaks, turn_of, IsFirst, IsTold, IsOpen, IsRefused}
 use Rattle.c62_sheet.specs.Packet.{KeepsAll, BreaksFirst, Fits}
 use Rattle.c62_sheet.proofs.Optional.{some_from_not_none, none_from_not_some, none_not_some}
 use Rattle.c62_sheet.proofs.Used.{insn_at}
-use Rattle.c62_sheet.proofs.Placing.{lawful_from_fits, fits_from_lawful, after_from_lawful, founded_from_lawful, within_from_lawful, never_together, no_dependent, lands_alone, rules_from_keeps}
+use Rattle.c62_sheet.proofs.Placing.{lawful_from_fits, fits_from_lawful, after_from_lawful, founded_from_lawful, within_from_lawful, never_together}
 
 rule_of : ℕ → Rule
 rule_of zero = Placed

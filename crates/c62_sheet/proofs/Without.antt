@@ -5,7 +5,7 @@ use Rattle.std.proofs.lemmas.Bool.{cases_eq}
 use Rattle.c62_insn.specs.declared.register.Unit.{Unit as FunctionalUnit}
 use Rattle.c62_insn.specs.declared.insn.Insn.{Insn}
 use Rattle.c62_insn.specs.PacketRules.{KeepsPacketRules}
-use Rattle.c62_sheet.specs.Lawful.{Spots, spot_at, placed, withdrawn, issues, IsLawful}
+use Rattle.c62_sheet.specs.Lawful.{Spots, spot_at, withdrawn, issues, IsLawful}
 use Rattle.c62_sheet.specs.Least.{IsReady, IsAfter, FitsWithout}
 use Rattle.c62_sheet.specs.Packet.{Fits}
 use Rattle.c62_insn.proofs.Parts.{part-without, part-keeps}

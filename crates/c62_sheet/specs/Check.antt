@@ -1,6 +1,6 @@
 -- Why a placement is refused: the ten rules in the order in which they are asked (docs/SCHEDULING.md, "Why a spot is
 -- refused").
-use Rattle.std.specs.Prelude.{◌≡◌, ◌≢◌, ℕ, ◌*◌, ◌<◌, ◌≤◌, false, List, length, Some, None, sum_by, slice_get, IsSome}
+use Rattle.std.specs.Prelude.{◌≡◌, ◌≢◌, ℕ, ◌*◌, ◌<◌, ◌≤◌, false, List, length, Some, None, sum_by, slice_get, IsSome, Result, MatchResult}
 use Rattle.c62_insn.specs.declared.register.Side.{Side}
 use Rattle.c62_insn.specs.declared.register.Reg.{Reg}
 use Rattle.c62_insn.specs.declared.insn.Insn.{Insn}
@@ -59,7 +59,7 @@ Breaks block set i s P3 = (side : Side) × Meets (UsesDataPath side) block set i
 Breaks block set i s P4 = ReadsTooOften block set i s
 Breaks block set i s P5 = (cycle : ℕ) × LandsTogether block set i s cycle
 
--- the place of a rule in the order in which they are asked
+-- the position of a rule in the order in which they are asked
 abbrev pub turn_of : Rule → ℕ
 turn_of Placed = 0
 turn_of WrongUnit = 1
@@ -98,3 +98,7 @@ pub record IsRefused (block : List Insn) (set : Spots) (i : ℕ) (s : Spot) (why
   pub unlawful : IsOpen block set i s → ⊥
   pub first : IsFirst block set i s why.rule
   pub told : IsTold block set i s why.rule why.cycle
+
+-- whether the triple may be added, or why not
+abbrev pub Judges : List Insn → Spots → ℕ → Spot → Result Unit Unlawful → Type 0
+Judges block set i s verdict = MatchResult verdict (λ _. IsOpen block set i s) (IsRefused block set i s)

@@ -20,6 +20,10 @@ pub record Placements : Type 0 where
 abbrev pub nothing_placed : ℕ → Spots
 nothing_placed count = replicate count None
 
+-- a plan of which nothing is placed
+abbrev pub empty_sheet : Serial → Placements
+empty_sheet plan = record { plan = plan; spots = nothing_placed (length plan.insns) }
+
 -- the spot of a number, where it is placed
 abbrev pub spot_at : Spots → ℕ → Option Spot
 spot_at set i = slice_index_or set i None

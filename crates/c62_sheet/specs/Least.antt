@@ -1,5 +1,5 @@
 -- What may be placed next, and where (docs/SCHEDULING.md, "Ready and early" and "Least spot").
-use Rattle.std.specs.Prelude.{◌≡◌, ℕ, ◌<◌, ◌≤◌, ◌⊎◌, ℤ, pos, ◌≤ℤ◌, ◌+ℤ◌, List, length, None, IsSome, IsTrue}
+use Rattle.std.specs.Prelude.{◌≡◌, ℕ, ◌<◌, ◌≤◌, ◌⊎◌, ℤ, pos, ◌≤ℤ◌, ◌+ℤ◌, List, length, Option, None, MatchOption, IsSome, IsTrue}
 use Rattle.c62_insn.specs.declared.register.Side.{Side}
 use Rattle.c62_insn.specs.declared.register.Unit.{Unit as FunctionalUnit}
 use Rattle.c62_insn.specs.declared.insn.Insn.{Insn}
@@ -38,6 +38,10 @@ pub record IsLeast (block : List Insn) (set : Spots) (i : ℕ) (s : Spot) : Type
 abbrev pub HasNoSpot : List Insn → Spots → ℕ → Type 0
 HasNoSpot block set i = (t : Spot) → IsLawful block (placed set i t) → ⊥
 
+-- the first spot, or that there is none
+abbrev pub FindsLeast : List Insn → Spots → ℕ → Option Spot → Type 0
+FindsLeast block set i found = MatchOption found (HasNoSpot block set i) (IsLeast block set i)
+
 -- a ready number of a side
 pub record IsReadyOn (block : List Insn) (set : Spots) (of : Side) (i : ℕ) : Type 0 where
   pub within : i < length block
@@ -56,6 +60,10 @@ pub record IsPick (block : List Insn) (set : Spots) (of : Side) (i : ℕ) : Type
 -- no number of a side is ready
 abbrev pub HasNoPick : List Insn → Spots → Side → Type 0
 HasNoPick block set of = (k : ℕ) → IsReadyOn block set of k → ⊥
+
+-- the pick of a side, or that there is none
+abbrev pub Picks : List Insn → Spots → Side → Option ℕ → Type 0
+Picks block set of found = MatchOption found (HasNoPick block set of) (IsPick block set of)
 
 -- no placed number depends on i
 abbrev pub IsLast : List Insn → Spots → ℕ → Type 0

@@ -1,12 +1,13 @@
 -- What the placed instructions of a block use in a cycle.
-use Rattle.std.specs.Prelude.{◌≡◌, ℕ, ◌+◌, ◌<◌, ◌≤◌, Bool, false, ◌&&◌, ◌==◌, nat_le, List, Option, Some, None, slice_get, sum_by, IsTrue, if◌then◌else◌}
+use Rattle.std.specs.Prelude.{◌≡◌, ℕ, ◌+◌, ◌<◌, ◌≤◌, Bool, false, ◌&&◌, ◌==◌, nat_le, List, Option, Some, None, slice_get, sum_by, IsTrue, MatchOption, if◌then◌else◌}
+use Rattle.std.specs.List.{list_all}
 use Rattle.c62_insn.specs.declared.register.Side.{Side}
 use Rattle.c62_insn.specs.declared.register.Reg.{Reg}
 use Rattle.c62_insn.specs.declared.register.Unit.{Unit as FunctionalUnit}
 use Rattle.c62_insn.specs.declared.insn.Insn.{Insn}
 use Rattle.c62_insn.specs.Takes.{same_side, same_unit}
 use Rattle.c62_insn.specs.Shape.{crosses_to, data_path_of}
-use Rattle.c62_insn.specs.Insn.{operands_of}
+use Rattle.c62_insn.specs.Insn.{operands_of, operand_reads}
 use Rattle.c62_insn.specs.PacketRules.{Issues, reads_count, reads_in}
 use Rattle.c62_depend.specs.Side.{stands_on}
 use Rattle.c62_sheet.specs.declared.resource.Resource.{Resource}
@@ -31,6 +32,10 @@ abbrev pub uses_in : Resource → ℕ → Insn → Option Spot → Bool
 uses_in resource cycle insn None = false
 uses_in resource cycle insn (Some spot) = (spot.cycle == cycle) && uses_on resource insn spot.unit
 
+-- something holds of the instruction of a number
+abbrev pub OfNumber : List Insn → ℕ → (Insn → Type 0) → Type 0
+OfNumber block k Holds = (insn : Insn) → slice_get block k ≡ Some insn → Holds insn
+
 -- some placed instruction of a block uses a resource in a cycle
 abbrev pub IsUsed : List Insn → Spots → ℕ → Resource → Type 0
 IsUsed block set cycle resource = (k : ℕ) × (insn : Insn) × (slice_get block k ≡ Some insn) × IsTrue (uses_in resource cycle insn (spot_at set k))
@@ -43,6 +48,10 @@ reads_at cycle reg insn (Some spot) = if spot.cycle == cycle then reads_count re
 -- whether a register can be read in a cycle as often as one more instruction does
 abbrev pub has_read_left : Issues → Insn → ℕ → Reg → Bool
 has_read_left issues insn cycle reg = nat_le (sum_by (reads_in cycle reg) issues + reads_count reg insn) 4
+
+-- the same of all registers that the instruction reads
+abbrev pub has_reads_left : Issues → Insn → ℕ → Bool
+has_reads_left issues insn cycle = list_all (has_read_left issues insn cycle) (operand_reads insn)
 
 -- an instruction at a spot wants a resource that is used
 abbrev pub Wants : List Insn → Spots → Insn → Spot → Resource → Type 0
@@ -58,6 +67,10 @@ pub record BreaksFirst (block : List Insn) (set : Spots) (i : ℕ) (s : Spot) (r
   pub few : turn_of rule < 9
   pub broken : Breaks block set i s rule
   pub kept : (earlier : Rule) → 5 ≤ turn_of earlier → turn_of earlier < turn_of rule → Breaks block set i s earlier → ⊥
+
+-- the first that does, where there is one
+abbrev pub TellsFirst : List Insn → Spots → ℕ → Spot → Option Rule → Type 0
+TellsFirst block set i s found = MatchOption found (KeepsAll block set i s) (BreaksFirst block set i s)
 
 -- number i may stand on the unit, and none of P1 to P4 speaks against the triple
 pub record Fits (block : List Insn) (set : Spots) (i : ℕ) (s : Spot) : Type 0 where

@@ -3,6 +3,7 @@
 ghost use Rattle.std.specs.Prelude.{◌≡◌, ◌↔◌, ◌<◌, ◌≤◌, length, IsTrue};
 ghost use Rattle.c62_insn.specs.Insn.{register_writes};
 ghost use Rattle.c62_insn.specs.Length.{greatest_delay, landing_end};
+ghost use Rattle.c62_depend.specs.declared.limits.TheConstants.{ISSUE_CYCLES};
 ghost use Rattle.c62_depend.specs.Plan.{insns_of};
 ghost use Rattle.c62_sheet.specs.Lawful.{issue_at, IsLawful};
 ghost use Rattle.c62_sheet.specs.Least.{IsReadyOn, IsComplete};
@@ -75,7 +76,7 @@ fn greatest_delay(insn: Insn) -> u8
 
 /// The cycle after the last landing of an instruction at a spot.
 fn landing_end(insn: Insn, spot: Spot) -> u16
-    requires { spot.cycle < 1280 }
+    requires { spot.cycle < ISSUE_CYCLES }
     ensures { result ≡ landing_end (issue_at insn spot) }
 {
     spot.cycle + u16::from(greatest_delay(insn)) + 1

@@ -1,18 +1,18 @@
 //! The first cycle that the dependences of an instruction allow.
 
 ghost use Rattle.std.specs.Prelude.{◌≡◌, ℕ, ◌<◌, ◌≤◌, ℤ, pos, negsuc, ◌≤ℤ◌, ◌+ℤ◌, length};
+ghost use Rattle.c62_depend.specs.declared.limits.TheConstants.{ISSUE_CYCLES};
 ghost use Rattle.c62_depend.specs.Plan.{insns_of};
-ghost use Rattle.c62_sheet.specs.declared.entry.Spot.{Spot as Place};
-ghost use Rattle.c62_sheet.specs.Lawful.{IsAt, IsLawful};
+ghost use Rattle.c62_sheet.specs.Lawful.{IsLawful};
 ghost use Rattle.c62_sheet.specs.Least.{IsEarly};
-ghost use Rattle.c62_sheet.specs.Early.{IsBoundBy};
+ghost use Rattle.c62_sheet.specs.Early.{IsPlacedEarly, IsBoundBy};
 
 use crate::entry::Spot;
 use c62_depend::{Link, Plan};
 
 /// The first cycle that exceeds another by a latency.
 fn first_after(cycle: u16, latency: i32) -> u16
-    requires early { cycle < 1280 }
+    requires early { cycle < ISSUE_CYCLES }
     requires above { negsuc 4 ≤ℤ latency }
     requires below { latency ≤ℤ pos 5 }
     ensures after { (pos cycle +ℤ latency) ≤ℤ pos result }
@@ -25,7 +25,7 @@ fn first_after(cycle: u16, latency: i32) -> u16
 /// The first cycle in which the latency from another instruction is over: 0 where that is not placed.
 fn bound_by(spots: &[Option<Spot>], link: Link) -> u16
     requires within { link.number < length spots.now }
-    requires early { (s : Place) → IsAt spots.now link.number s → s.cycle < 1280 }
+    requires early { IsPlacedEarly spots.now link.number }
     requires above { negsuc 4 ≤ℤ link.latency }
     requires below { link.latency ≤ℤ pos 5 }
     ensures { IsBoundBy spots.now link result }

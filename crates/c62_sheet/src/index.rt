@@ -4,7 +4,7 @@ ghost use Rattle.std.specs.Prelude.{◌≡◌, ℕ, ◌+◌, ◌<◌, ◌≤◌,
 ghost use Rattle.c62_depend.specs.Plan.{insns_of};
 ghost use Rattle.c62_depend.specs.Links.{followers};
 ghost use Rattle.c62_sheet.specs.Lawful.{nothing_placed};
-ghost use Rattle.c62_sheet.specs.Index.{times, lacking, IsIndex};
+ghost use Rattle.c62_sheet.specs.Index.{times, lacking, IsFirstIndex, AreLower, AreHigher};
 
 use c62_depend::Plan;
 use std::alloc::{AllocError, Global};
@@ -19,7 +19,7 @@ fn count_needs(plan: &Plan, j: u16) -> u16
 
 /// The index while nothing is placed.
 pub(crate) fn all_missing(alloc: Global, plan: &Plan) -> Result<Vec<u16>, AllocError>
-    ensures { IfOk result (λ missing. IsIndex (insns_of plan.now) (nothing_placed (length (insns_of plan.now))) missing.items) }
+    ensures { IfOk result (λ missing. IsFirstIndex (insns_of plan.now) missing.items) }
 {
     let mut missing = Vec::with_capacity(alloc, usize::from(plan.len()))?;
     for j in 0..plan.len() {
@@ -31,7 +31,7 @@ pub(crate) fn all_missing(alloc: Global, plan: &Plan) -> Result<Vec<u16>, AllocE
 /// Makes an index the one while nothing is placed.
 pub(crate) fn reset(plan: &Plan, missing: &mut [u16])
     requires { length missing.old ≡ length (insns_of plan.now) }
-    ensures { IsIndex (insns_of plan.now) (nothing_placed (length (insns_of plan.now))) missing.new }
+    ensures { IsFirstIndex (insns_of plan.now) missing.new }
 {
     for j in 0..plan.len() {
         missing[usize::from(j)] = count_needs(plan, j);
@@ -43,7 +43,7 @@ pub(crate) fn lower_followers(plan: &Plan, missing: &mut [u16], i: u16)
     requires sized { length missing.old ≡ length (insns_of plan.now) }
     requires in_plan { i < length plan.now.insns }
     requires counted { (j : ℕ) → times j (followers (insns_of plan.now) i) ≤ slice_index missing.old j }
-    ensures { (j : ℕ) → slice_index missing.new j + times j (followers (insns_of plan.now) i) ≡ slice_index missing.old j }
+    ensures { AreLower (followers (insns_of plan.now) i) missing.old missing.new }
 {
     let followers = plan.followers(i);
     for link in followers {
@@ -56,7 +56,7 @@ pub(crate) fn raise_followers(plan: &Plan, missing: &mut [u16], i: u16)
     requires sized { length missing.old ≡ length (insns_of plan.now) }
     requires in_plan { i < length plan.now.insns }
     requires room { (j : ℕ) → slice_index missing.old j + times j (followers (insns_of plan.now) i) < 2 ^ 16 }
-    ensures { (j : ℕ) → slice_index missing.new j ≡ slice_index missing.old j + times j (followers (insns_of plan.now) i) }
+    ensures { AreHigher (followers (insns_of plan.now) i) missing.old missing.new }
 {
     let followers = plan.followers(i);
     for link in followers {

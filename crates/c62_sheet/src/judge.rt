@@ -1,6 +1,6 @@
 //! Which placements are lawful, what is ready, and where it goes.
 
-ghost use Rattle.std.specs.Prelude.{◌≡◌, ◌↔◌, ℕ, ◌<◌, ◌≤◌, ◌∷◌, length, None, IfSome, IsTrue, MatchOption, MatchResult, take};
+ghost use Rattle.std.specs.Prelude.{◌≡◌, ◌↔◌, ℕ, ◌<◌, ◌≤◌, ◌∷◌, length, None, IfSome, IsTrue, take};
 ghost use Rattle.c62_insn.specs.PacketRules.{KeepsPacketRules};
 ghost use Rattle.c62_depend.specs.Plan.{insns_of};
 ghost use Rattle.c62_insn.specs.declared.register.Unit.{Unit as FunctionalUnit};
@@ -8,15 +8,15 @@ ghost use Rattle.c62_insn.specs.Units.{unit_in};
 ghost use Rattle.c62_depend.specs.Height.{height};
 ghost use Rattle.c62_depend.specs.Side.{stands_on};
 ghost use Rattle.c62_sheet.specs.Lawful.{spot_at, withdrawn, issues, IsLawful};
-ghost use Rattle.c62_sheet.specs.Least.{IsReady, IsReadyOn, IsAfter, IsLeast, HasNoSpot, IsPick, HasNoPick, IsLast, FitsWithout};
-ghost use Rattle.c62_sheet.specs.Check.{IsOpen, IsRefused};
+ghost use Rattle.c62_sheet.specs.Least.{IsReady, IsReadyOn, IsAfter, IsLeast, FindsLeast, Picks, IsLast, FitsWithout};
+ghost use Rattle.c62_sheet.specs.Check.{Judges};
 ghost use Rattle.c62_sheet.specs.Index.{IsIndex};
 ghost use Rattle.c62_sheet.specs.Packet.{Fits};
 
 use crate::early::early;
 use crate::entry::{Rule, Spot, Unlawful};
 use crate::packet::rule_against;
-use c62_depend::Plan;
+use c62_depend::{MOST_INSTRUCTIONS, Plan};
 use c62_insn::{Side, Unit, UnitSet};
 
 /// Whether instruction `i` may be placed at a spot, or the first rule against it.
@@ -30,7 +30,7 @@ pub(crate) fn check(
     requires lawful { IsLawful (insns_of plan.now) spots.now }
     requires index { IsIndex (insns_of plan.now) spots.now missing.now }
     requires in_plan { i < length plan.now.insns }
-    ensures { MatchResult result (λ _. IsOpen (insns_of plan.now) spots.now i spot) (IsRefused (insns_of plan.now) spots.now i spot) }
+    ensures { Judges (insns_of plan.now) spots.now i spot result }
 {
     let cycle = spot.cycle;
     if spots[usize::from(i)].is_some() {
@@ -97,7 +97,7 @@ pub(crate) fn least(plan: &Plan, spots: &[Option<Spot>], i: u16) -> Option<Spot>
     requires lawful { IsLawful (insns_of plan.now) spots.now }
     requires in_plan { i < length plan.now.insns }
     requires ready { IsReady (insns_of plan.now) spots.now i }
-    ensures { MatchOption result (HasNoSpot (insns_of plan.now) spots.now i) (IsLeast (insns_of plan.now) spots.now i) }
+    ensures { FindsLeast (insns_of plan.now) spots.now i result }
 {
     let units = plan.units(i);
     for cycle in early(plan, spots, i)..5 * plan.len() {
@@ -133,7 +133,7 @@ pub(crate) fn fits_without(plan: &Plan, spots: &[Option<Spot>], i: u16, cycle: u
     ensures { IsTrue result ↔ FitsWithout (insns_of plan.now) spots.now i cycle q }
 {
     let count = usize::from(plan.len());
-    let mut rest = [None; 256];
+    let mut rest = [None; MOST_INSTRUCTIONS];
     copy_without(spots, q, &mut rest);
     let units = plan.units(i);
     for unit in Unit::ALL {
@@ -176,7 +176,7 @@ pub(crate) fn is_ready_on(
 pub(crate) fn pick(plan: &Plan, spots: &[Option<Spot>], missing: &[u16], of: Side) -> Option<u16>
     requires sized { length spots.now ≡ length (insns_of plan.now) }
     requires index { IsIndex (insns_of plan.now) spots.now missing.now }
-    ensures { MatchOption result (HasNoPick (insns_of plan.now) spots.now of) (IsPick (insns_of plan.now) spots.now of) }
+    ensures { Picks (insns_of plan.now) spots.now of result }
 {
     let mut best = None;
     for k in 0..plan.len() {

@@ -2,19 +2,19 @@
 //! walking what is placed. P5 needs no walk: two writes that would land together break the dependences between them
 //! ([`laws::never_land_together`](crate::laws::never_land_together)).
 
-ghost use Rattle.std.specs.Prelude.{◌≡◌, ◌↔◌, ℕ, ◌+◌, ◌<◌, ◌≤◌, length, Some, None, MatchOption, IsTrue, slice_get, sum_by};
-ghost use Rattle.std.specs.List.{list_all};
-ghost use Rattle.c62_insn.specs.declared.insn.Insn.{Insn as Instruction};
-ghost use Rattle.c62_insn.specs.Insn.{operand_reads};
+ghost use Rattle.std.specs.Prelude.{◌≡◌, ◌↔◌, ℕ, ◌+◌, ◌<◌, ◌≤◌, length, None, IsTrue, sum_by};
 ghost use Rattle.c62_insn.specs.PacketRules.{KeepsPacketRules, reads_count, reads_in};
 ghost use Rattle.c62_depend.specs.Plan.{insns_of};
 ghost use Rattle.c62_sheet.specs.Lawful.{issues, spot_at};
-ghost use Rattle.c62_sheet.specs.Packet.{is_path, uses_on, uses_in, IsUsed, Wants, reads_at, has_read_left, KeepsAll, BreaksFirst};
+ghost use Rattle.c62_sheet.specs.Packet.{is_path, uses_on, uses_in, IsUsed, Wants, reads_at, OfNumber, has_read_left, has_reads_left, TellsFirst};
 
 use crate::entry::{Rule, Spot};
 use crate::resource::Resource;
-use c62_depend::Plan;
+use c62_depend::{MOST_INSTRUCTIONS, Plan};
 use c62_insn::{Insn, Reg, Side, Unit};
+
+/// The most reads of one register in a cycle, lawful or not: three by each instruction of a block.
+const MOST_READS: usize = 3 * MOST_INSTRUCTIONS;
 
 fn is_path(path: Option<Side>, side: Side) -> bool
     ensures { result ≡ is_path side path }
@@ -39,7 +39,7 @@ fn uses(insn: Insn, unit: Unit, resource: Resource) -> bool
 /// Whether instruction `k`, placed so or not at all, uses a resource in a cycle.
 fn uses_in(plan: &Plan, k: u16, spot: Option<Spot>, cycle: u16, resource: Resource) -> bool
     requires { k < length plan.now.insns }
-    ensures { (insn : Instruction) → slice_get (insns_of plan.now) k ≡ Some insn → result ≡ uses_in resource cycle insn spot }
+    ensures { OfNumber (insns_of plan.now) k (λ insn. result ≡ uses_in resource cycle insn spot) }
 {
     match spot {
         None => false,
@@ -86,7 +86,7 @@ fn count_own(insn: Insn, reg: Reg) -> usize
 /// The same of instruction `k`, placed so or not at all, in a cycle.
 fn count_in(plan: &Plan, k: u16, spot: Option<Spot>, cycle: u16, reg: Reg) -> usize
     requires { k < length plan.now.insns }
-    ensures own { (insn : Instruction) → slice_get (insns_of plan.now) k ≡ Some insn → result ≡ reads_at cycle reg insn spot }
+    ensures own { OfNumber (insns_of plan.now) k (λ insn. result ≡ reads_at cycle reg insn spot) }
     ensures few { result ≤ 3 }
 {
     match spot {
@@ -99,7 +99,7 @@ fn count_in(plan: &Plan, k: u16, spot: Option<Spot>, cycle: u16, reg: Reg) -> us
 fn count_reads(plan: &Plan, spots: &[Option<Spot>], cycle: u16, reg: Reg) -> usize
     requires { length spots.now ≡ length (insns_of plan.now) }
     ensures sum { result ≡ sum_by (reads_in cycle reg) (issues (insns_of plan.now) spots.now) }
-    ensures few { result ≤ 768 }
+    ensures few { result ≤ MOST_READS }
 {
     let mut count = 0;
     for k in 0..plan.len() {
@@ -119,7 +119,7 @@ fn has_read_left(plan: &Plan, spots: &[Option<Spot>], insn: Insn, cycle: u16, re
 /// Whether the operands of an instruction can all be read in a cycle.
 fn has_reads_left(plan: &Plan, spots: &[Option<Spot>], insn: Insn, cycle: u16) -> bool
     requires { length spots.now ≡ length (insns_of plan.now) }
-    ensures { result ≡ list_all (has_read_left (issues (insns_of plan.now) spots.now) insn cycle) (operand_reads insn) }
+    ensures { result ≡ has_reads_left (issues (insns_of plan.now) spots.now) insn cycle }
 {
     let reads = insn.reads();
     reads
@@ -134,7 +134,7 @@ pub(crate) fn rule_against(plan: &Plan, spots: &[Option<Spot>], i: u16, spot: Sp
     requires rules { KeepsPacketRules (issues (insns_of plan.now) spots.now) }
     requires in_plan { i < length plan.now.insns }
     requires free { spot_at spots.now i ≡ None }
-    ensures { MatchOption result (KeepsAll (insns_of plan.now) spots.now i spot) (BreaksFirst (insns_of plan.now) spots.now i spot) }
+    ensures { TellsFirst (insns_of plan.now) spots.now i spot result }
 {
     let insn = plan.insn(i);
     if is_used(plan, spots, spot.cycle, Resource::OnUnit(spot.unit)) {

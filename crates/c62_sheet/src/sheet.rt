@@ -1,11 +1,11 @@
 //! A lawful set of placements.
 
-ghost use Rattle.std.specs.Prelude.{◌≡◌, ◌↔◌, ℕ, ◌<◌, ◌≤◌, length, None, IsTrue, IsSome, IfOk, IfErr, MatchOption, MatchResult};
+ghost use Rattle.std.specs.Prelude.{◌≡◌, ◌↔◌, ℕ, ◌<◌, ◌≤◌, length, None, IsTrue, IsSome, IfOk, IfErr};
 ghost use Rattle.std.specs.Bool.{OnTrue, OnFalse};
 ghost use Rattle.c62_depend.specs.Plan.{insns_of, IsPlan};
-ghost use Rattle.c62_sheet.specs.Lawful.{spot_at, placed, withdrawn, nothing_placed, IsLawful};
-ghost use Rattle.c62_sheet.specs.Least.{IsReady, IsAfter, IsEarly, IsLeast, HasNoSpot, IsPick, HasNoPick, IsLast, IsComplete, FitsWithout};
-ghost use Rattle.c62_sheet.specs.Check.{IsOpen, IsRefused};
+ghost use Rattle.c62_sheet.specs.Lawful.{spot_at, placed, withdrawn, nothing_placed, empty_sheet, IsLawful};
+ghost use Rattle.c62_sheet.specs.Least.{IsReady, IsAfter, IsEarly, FindsLeast, Picks, IsLast, IsComplete, FitsWithout};
+ghost use Rattle.c62_sheet.specs.Check.{IsOpen, Judges};
 ghost use Rattle.c62_sheet.specs.Counts.{AreCounts, set_length};
 ghost use Rattle.c62_sheet.specs.Journal.{after, PermitsPlace, PermitsWithdraw, Permits};
 
@@ -53,7 +53,7 @@ impl Sheet {
     ///
     /// The plan as it was, where memory ran out.
     pub fn new(alloc: Global, plan: Plan) -> Result<Sheet, (Plan, AllocError)>
-        ensures ok { IfOk result (λ sheet. sheet ≡ record { plan = plan; spots = nothing_placed (length plan.insns) }) }
+        ensures ok { IfOk result (λ sheet. sheet ≡ empty_sheet plan) }
         ensures back { IfErr result (λ back. back.0 ≡ plan) }
     {
         let Ok(spots) = vec![in alloc; None; usize::from(plan.len())] else {
@@ -95,8 +95,7 @@ impl Sheet {
     /// The first rule against it, in the order of [`Rule`](crate::Rule), with its cycle.
     pub fn check(&self, i: u16, spot: Spot) -> Result<(), Unlawful>
         requires { i < length self.now.plan.insns }
-        ensures { MatchResult result (λ _. IsOpen (insns_of self.now.plan) self.now.spots i spot)
-            (IsRefused (insns_of self.now.plan) self.now.spots i spot) }
+        ensures { Judges (insns_of self.now.plan) self.now.spots i spot result }
     {
         judge::check(&self.plan, &self.spots, &self.missing, i, spot)
     }
@@ -122,16 +121,14 @@ impl Sheet {
     pub fn least(&self, i: u16) -> Option<Spot>
         requires in_plan { i < length self.now.plan.insns }
         requires ready { IsReady (insns_of self.now.plan) self.now.spots i }
-        ensures { MatchOption result (HasNoSpot (insns_of self.now.plan) self.now.spots i)
-            (IsLeast (insns_of self.now.plan) self.now.spots i) }
+        ensures { FindsLeast (insns_of self.now.plan) self.now.spots i result }
     {
         judge::least(&self.plan, &self.spots, i)
     }
 
     /// The ready instruction of a side that is greatest in height, for a tie the lowest. `None` where none is ready.
     pub fn pick(&self, side: Side) -> Option<u16>
-        ensures { MatchOption result (HasNoPick (insns_of self.now.plan) self.now.spots side)
-            (IsPick (insns_of self.now.plan) self.now.spots side) }
+        ensures { Picks (insns_of self.now.plan) self.now.spots side result }
     {
         judge::pick(&self.plan, &self.spots, &self.missing, side)
     }

@@ -8,7 +8,7 @@ ghost use Rattle.c62_sheet.specs.Least.{IsReady};
 use crate::early::early;
 use crate::entry::Spot;
 use crate::packet::rule_against;
-use c62_depend::Plan;
+use c62_depend::{MOST_INSTRUCTIONS, Plan};
 
 /// Whether the set with ready instruction `i` at a spot is lawful.
 fn is_lawful_with(plan: &Plan, spots: &[Option<Spot>], i: u16, spot: Spot) -> bool
@@ -29,7 +29,7 @@ fn is_lawful_with(plan: &Plan, spots: &[Option<Spot>], i: u16, spot: Spot) -> bo
     rule_against(plan, spots, i, spot).is_none()
 }
 
-/// Whether these spots, that of instruction `i` at place `i`, are a lawful set in which every instruction of the plan is
+/// Whether these spots, that of instruction `i` at index `i`, are a lawful set in which every instruction of the plan is
 /// placed (`docs/SCHEDULING.md`, "Lawful"). This takes no memory.
 pub fn are_lawful(plan: &Plan, spots: &[Spot]) -> bool
     ensures { IsTrue result ↔ IsLawful (insns_of plan.now) (map Some spots.now) }
@@ -38,7 +38,7 @@ pub fn are_lawful(plan: &Plan, spots: &[Spot]) -> bool
     if spots.len() != count {
         return false;
     }
-    let mut set = [None; 256];
+    let mut set = [None; MOST_INSTRUCTIONS];
     for i in 0..plan.len() {
         let spot = spots[usize::from(i)];
         if !is_lawful_with(plan, &set[..count], i, spot) {

@@ -3,11 +3,18 @@ use Rattle.std.specs.Prelude.{◌≡◌, ◌≢◌, ◌<◌, ◌≤◌, ℕ, pos
 use Rattle.std.specs.Str.{bytes_eq}
 use Rattle.std.specs.Str.Parse.{digits_value, signed_digits_value, without_leading_plus}
 use Rattle.std.specs.Option.{option_map_or}
-use Rattle.clap.specs.Words.{App, Kinds, Row, Rule, Text, all_of, first_of, new_app, new_rule, with_rule, with_subcommand, fault_of, subcommand_of}
+use Rattle.clap.specs.Words.{App, Kinds, Row, Rule, Text, all_of, first_of, new_app, new_rule, with_rule, with_subcommand, fault_of, found_of, kind_of, rows_of, subcommand_of}
+use Rattle.clap.specs.declared.builder.command.Command.{Command}
+use Rattle.clap.specs.declared.builder.command.Command.TheViews.{out-Command}
+use Rattle.clap.specs.declared.parser.matches.ArgMatches.{ArgMatches}
+use Rattle.clap.specs.declared.error.Error.{Error}
+use Rattle.clap.specs.declared.error.kind.ErrorKind.TheVariants.{OutOfMemory}
 use Rattle.clap.specs.declared.builder.action.ArgAction.TheVariants.{SetTrue, Append}
 use Rattle.clap.specs.declared.builder.value_parser.ValueParser.TheVariants.{Signed}
 use Rattle.c62_read.specs.Number.{are_digits}
 use Rattle.c62_tool.specs.declared.setting.Setting.{Setting}
+use Rattle.c62_tool.specs.declared.setting.SettingError.{SettingError}
+use Rattle.c62_tool.specs.declared.setting.SettingError.TheVariants.{Bad}
 use Rattle.c62_tool.specs.declared.schedule.Packing.{Packing}
 use Rattle.c62_tool.specs.declared.command.Start.{Start}
 use Rattle.c62_tool.specs.declared.command.Request.{Request}
@@ -15,6 +22,10 @@ use Rattle.c62_tool.specs.declared.command.Request.TheVariants.{Pack, Run, Seria
 use Rattle.c62_tool.specs.Settings.{settings_of, IsFirstBad}
 
 -- ---- what clap takes
+
+-- no argument of a command is also one of its subcommands
+abbrev pub IsLocal : Command → Type 0
+IsLocal command = (out-Command command).has_globals ≡ false
 
 -- `--turns`
 abbrev pub turns_rule : Rule
@@ -117,6 +128,18 @@ plain_packing = record { turns = true; budget = 0 }
 abbrev pub setting_words : List Row → List Text
 setting_words rows = unwrap_or (all_of (codes "settings") rows) []
 
+-- what clap found for the arguments of a command
+abbrev pub found_rows : ArgMatches → List Row
+found_rows matches = rows_of (found_of matches)
+
+-- the words among that which are to be settings
+abbrev pub words_of : ArgMatches → List Text
+words_of matches = setting_words (found_rows matches)
+
+-- a subcommand by its name, with what was found for its arguments
+abbrev pub named_rows : Text → ArgMatches → Option (Text × List Row)
+named_rows name matches = Some (name, found_rows matches)
+
 -- which report a subcommand asks for, with these settings
 abbrev pub report_asked : Text → List Row → List Setting → Ask
 report_asked name rows settings =
@@ -145,9 +168,17 @@ abbrev pub HasFirstBad : Option (Text × List Row) → ℕ → Type 0
 HasFirstBad None k = ⊥
 HasFirstBad (Some (name, rows)) k = (bytes_eq name (codes "pack") ≡ false) × IsFirstBad (setting_words rows) k
 
+-- an error that blames a setting blames the first bad one of the subcommand
+abbrev pub IsBadIn : Option (Text × List Row) → SettingError → Type 0
+IsBadIn found error = (k : ℕ) → error ≡ Bad k → HasFirstBad found k
+
 -- clap takes the words, and setting k is the first bad one
 abbrev pub HasBadSetting : List Text → ℕ → Type 0
 HasBadSetting words k = (0 < length words) × (fault_of tool_app words ≡ []) × HasFirstBad (subcommand_of tool_app words) k
+
+-- an error of clap that is no want of memory says that clap doesn't take the words
+abbrev pub IsBlame : List Text → Error → Type 0
+IsBlame words error = kind_of error ≢ OutOfMemory → fault_of tool_app words ≢ []
 
 -- there are words, and clap doesn't take them
 abbrev pub IsUnknown : List Text → Type 0

@@ -4,6 +4,7 @@ use Rattle.std.specs.List.{flat_map, range_with_len}
 use Rattle.c62_insn.specs.declared.register.Side.{Side}
 use Rattle.c62_insn.specs.declared.register.Side.TheVariants.{A, B}
 use Rattle.c62_insn.specs.Spelling.{file_letter}
+use Rattle.c62_serial.specs.declared.state.TheConstants.{MEMORY_BYTES}
 use Rattle.c62_serial.specs.declared.chain.Chain.{Chain}
 use Rattle.c62_serial.specs.declared.chain.End.{End}
 use Rattle.c62_serial.specs.declared.chain.End.TheVariants.{End as FellThrough, Register as ToRegister, Limit}
@@ -43,7 +44,7 @@ unfoldable pub word_lines : Machine → ℕ → List ℕ
 word_lines machine count = flat_map (word_line machine) (range_with_len 0 count)
 
 abbrev pub memory_words : ℕ
-memory_words = 16384
+memory_words = MEMORY_BYTES / 4
 
 abbrev pub fault_line : ℕ → List ℕ
 fault_line number = line (codes "fault " ++ decimal number)

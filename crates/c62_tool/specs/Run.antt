@@ -1,5 +1,5 @@
 -- What the program does to its streams.
-use Rattle.std.specs.Prelude.{◌≡◌, ◌≢◌, ◌⊎◌, ℕ, ◌+◌, ◌<◌, ◌≤◌, List, [], length, map, fold, codes, Option, Some, None, Result, IfSome, IsErrAnd, Ok, Err}
+use Rattle.std.specs.Prelude.{◌≡◌, ◌≢◌, ◌⊎◌, ℕ, ◌+◌, ◌<◌, ◌≤◌, List, [], length, map, take, fold, codes, Option, Some, None, Result, IfSome, IsErrAnd, Ok, Err}
 use Rattle.std.specs.Io.KnownBytes.{Appends, Consumes, Keeps}
 use Rattle.std.specs.Option.{IsSomeAnd}
 use Rattle.std.specs.Global.{Vec}
@@ -63,10 +63,18 @@ IsSettingFailure (setting.Bad k) f = f ≡ Setting k
 abbrev pub TakesAtMost : ℕ → Option (List ℕ) → Option (List ℕ) → Type 0
 TakesAtMost n old new = (bytes : List ℕ) × Consumes old new bytes × (length bytes ≤ n)
 
+-- the text is what known bytes begin with, as far as one byte past a limit
+abbrev pub BeginsAll : ℕ → Option (List ℕ) → List ℕ → Type 0
+BeginsAll limit all text = IfSome all (λ bytes. text ≡ take (limit + 1) bytes)
+
 -- the most bytes that a text may have: a listing, or serial text
 abbrev pub limit_of : Ask → ℕ
 limit_of (ListingReport blocks settings) = most_listing_bytes
 limit_of _ = most_bytes
+
+-- where the words ask for something, no more is taken than one byte past the limit of that
+abbrev pub TakesAsked : List Text → Option (List ℕ) → Option (List ℕ) → Type 0
+TakesAsked words old new = (ask : Ask) → asked words ≡ Some ask → TakesAtMost (limit_of ask + 1) old new
 
 -- ---- answers
 
@@ -179,6 +187,10 @@ pub record Answers (ask : Ask) (text : List ℕ) (old new : Option (List ℕ)) :
 abbrev pub Does : Ask → Option (List ℕ) → Option (List ℕ) → Option (List ℕ) → Type 0
 Does ask text old new = IfSome text (λ bytes. Answers ask bytes old new)
 
+-- the words ask for something, and that was done
+abbrev pub IsDone : List Text → Option (List ℕ) → Option (List ℕ) → Option (List ℕ) → Type 0
+IsDone words text old new = IsSomeAnd (asked words) (λ ask. Does ask text old new)
+
 -- the text is refused, where it is known, and the message tells its fault
 abbrev pub IsRefused : Ask → Option (List ℕ) → List ℕ → Type 0
 IsRefused ask text message = IfSome text (λ bytes. IsRefusedText ask bytes message)
@@ -253,7 +265,7 @@ streams input output errors = record { input = input; output = output; errors = 
 pub record IsRun (words : List Text) (old new : Streams) (status : ℕ) : Type 0 where
   pub known : status ≤ 4
   -- What the words ask for was written, and nothing is told.
-  pub done : status ≡ 0 → IsSomeAnd (asked words) (λ ask. Does ask old.input old.output new.output)
+  pub done : status ≡ 0 → IsDone words old.input old.output new.output
   pub silent : status ≡ 0 → Keeps old.errors new.errors
   -- The text is refused, and its fault is told.
   pub refused : status ≡ 1 → TellsOf (AsksInVain (asked words) old.input) old.errors new.errors
@@ -266,7 +278,7 @@ pub record IsRun (words : List Text) (old new : Streams) (status : ℕ) : Type 0
   pub stream : status ≡ 4 → Tells old.errors new.errors (codes "input\n") ⊎ Tells old.errors new.errors (codes "output\n")
   -- Nothing is written but an answer, and one byte past the limit of a text is the last that is read.
   pub quiet : 0 < status → status < 4 → Keeps old.output new.output
-  pub most : (ask : Ask) → asked words ≡ Some ask → TakesAtMost (limit_of ask + 1) old.input new.input
+  pub most : TakesAsked words old.input new.input
 
 -- the same of a run on these bytes, which wrote these to its output and its error stream
 pub record IsRunOnBytes (words : List Text) (input output errors : List ℕ) (status : ℕ) : Type 0 where

@@ -5,6 +5,8 @@ use Rattle.c62_insn.specs.Word.{word}
 use Rattle.c62_read.specs.Number.{number_of, register_of}
 use Rattle.c62_tool.specs.declared.setting.Setting.{Setting}
 use Rattle.c62_tool.specs.declared.setting.Setting.TheVariants.{Register, Word}
+use Rattle.c62_tool.specs.declared.setting.SettingError.{SettingError}
+use Rattle.c62_tool.specs.declared.setting.SettingError.TheVariants.{Bad}
 
 -- a multiple of 4 from 0 to below 65,536
 abbrev pub word_address : ℤ → Option ℕ
@@ -14,9 +16,9 @@ word_address z =
 
 -- `@ADDRESS`, or the name of a register, is set to this value
 unfoldable pub set_to : List ℕ → ℕ → Option Setting
-set_to place value =
-    if starts_with nat_eq place (64 ∷ []) then option_map (λ address. Word address value) (option_and_then word_address (number_of (drop 1 place)))
-    else option_map (λ reg. Register reg value) (register_of place)
+set_to name value =
+    if starts_with nat_eq name (64 ∷ []) then option_map (λ address. Word address value) (option_and_then word_address (number_of (drop 1 name)))
+    else option_map (λ reg. Register reg value) (register_of name)
 
 -- the setting that a word says: what stands before its first `=` is set to the number behind, modulo 2^32
 unfoldable pub setting_of : List ℕ → Option Setting
@@ -32,6 +34,10 @@ abbrev pub settings_of : List (List ℕ) → Option (List Setting)
 settings_of [] = Some []
 settings_of (text ∷ texts) = and_setting (setting_of text) (settings_of texts)
 
+-- each word is a setting, in this order
+abbrev pub AreSettings : List (List ℕ) → List Setting → Type 0
+AreSettings texts settings = settings_of texts ≡ Some settings
+
 -- number k, from 1, is the first of these words that is no setting
 pub record IsFirstBad (texts : List (List ℕ)) (k : ℕ) : Type 0 where
   pub before : List (List ℕ)
@@ -41,3 +47,7 @@ pub record IsFirstBad (texts : List (List ℕ)) (k : ℕ) : Type 0 where
   pub number : k ≡ length before + 1
   pub good : IsTrue (is_some (settings_of before))
   pub bad : setting_of text ≡ None
+
+-- an error that blames a word blames the first of these that is no setting
+abbrev pub IsBadAmong : List (List ℕ) → SettingError → Type 0
+IsBadAmong texts error = (k : ℕ) → error ≡ Bad k → IsFirstBad texts k

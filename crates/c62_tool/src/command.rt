@@ -1,12 +1,9 @@
 //! What the words of the command line ask for.
 
 ghost use Rattle.std.specs.Prelude.{◌≡◌, ◌≢◌, ℕ, IfOk, IfErr, IsOkAnd, Some, None, false, true, map, option_map, length, [], codes};
-ghost use Rattle.clap.specs.Words.{app_of, found_of, kind_of, rows_of, rule_of, subcommand_of, subcommand_rows_of, fault_of};
-ghost use Rattle.clap.specs.declared.builder.command.Command.TheViews.{out-Command as fields_of};
-ghost use Rattle.clap.specs.declared.error.kind.ErrorKind.TheVariants.{OutOfMemory};
-ghost use Rattle.c62_tool.specs.CommandLine.{turns_rule, eject_rule, blocks_rule, settings_rule, pack_app, run_app, serial_app, sim_app, bare_app, packing_app, tool_app, with_packing, with_start, is_set, blocks_of, budget_of, packing_of, plain_packing, setting_words, ask_in, ask_of, asked, HasFirstBad};
-ghost use Rattle.c62_tool.specs.Settings.{settings_of, IsFirstBad};
-ghost use Rattle.c62_tool.specs.declared.setting.SettingError.TheVariants.{Bad};
+ghost use Rattle.clap.specs.Words.{app_of, rule_of, subcommand_of, subcommand_rows_of, fault_of};
+ghost use Rattle.c62_tool.specs.CommandLine.{turns_rule, eject_rule, blocks_rule, settings_rule, pack_app, run_app, serial_app, sim_app, bare_app, packing_app, tool_app, with_packing, with_start, is_set, blocks_of, budget_of, packing_of, plain_packing, IsLocal, found_rows, words_of, named_rows, ask_in, ask_of, asked, IsBadIn, IsBlame};
+ghost use Rattle.c62_tool.specs.Settings.{AreSettings, IsBadAmong};
 ghost use Rattle.c62_tool.specs.Run.{Blames};
 
 use crate::failure::Failure;
@@ -104,7 +101,7 @@ fn settings_words<'a>(alloc: Global) -> Arg<'a>
 /// The command with the options of packing.
 fn with_packing<'a>(alloc: Global, command: Command<'a>) -> Result<Command<'a>, AllocError>
     ensures app { IfOk result (λ c. app_of c ≡ with_packing (app_of command.entry)) }
-    ensures local { (fields_of command.entry).has_globals ≡ false → IfOk result (λ c. (fields_of c).has_globals ≡ false) }
+    ensures local { IsLocal command.entry → IfOk result IsLocal }
 {
     command.arg(turns_flag(alloc))?.arg(eject_option(alloc))
 }
@@ -112,7 +109,7 @@ fn with_packing<'a>(alloc: Global, command: Command<'a>) -> Result<Command<'a>, 
 /// The command with the limit of blocks and the settings.
 fn with_start<'a>(alloc: Global, command: Command<'a>) -> Result<Command<'a>, AllocError>
     ensures app { IfOk result (λ c. app_of c ≡ with_start (app_of command.entry)) }
-    ensures local { (fields_of command.entry).has_globals ≡ false → IfOk result (λ c. (fields_of c).has_globals ≡ false) }
+    ensures local { IsLocal command.entry → IfOk result IsLocal }
 {
     command
         .arg(blocks_option(alloc))?
@@ -121,7 +118,7 @@ fn with_start<'a>(alloc: Global, command: Command<'a>) -> Result<Command<'a>, Al
 
 fn pack_command<'a>(alloc: Global) -> Result<Command<'a>, AllocError>
     ensures app { IfOk result (λ c. app_of c ≡ pack_app) }
-    ensures local { IfOk result (λ c. (fields_of c).has_globals ≡ false) }
+    ensures local { IfOk result IsLocal }
 {
     let command = Command::new(alloc, "pack")
         .about("Reads serial text and writes its listing")
@@ -132,7 +129,7 @@ fn pack_command<'a>(alloc: Global) -> Result<Command<'a>, AllocError>
 
 fn run_command<'a>(alloc: Global) -> Result<Command<'a>, AllocError>
     ensures app { IfOk result (λ c. app_of c ≡ run_app) }
-    ensures local { IfOk result (λ c. (fields_of c).has_globals ≡ false) }
+    ensures local { IfOk result IsLocal }
 {
     let command = Command::new(alloc, "run")
         .about("Packs serial text, runs the packets and reports the end")
@@ -143,7 +140,7 @@ fn run_command<'a>(alloc: Global) -> Result<Command<'a>, AllocError>
 
 fn serial_command<'a>(alloc: Global) -> Result<Command<'a>, AllocError>
     ensures app { IfOk result (λ c. app_of c ≡ serial_app) }
-    ensures local { IfOk result (λ c. (fields_of c).has_globals ≡ false) }
+    ensures local { IfOk result IsLocal }
 {
     let command = Command::new(alloc, "serial")
         .about("Runs serial text, one instruction after the other, and reports the end")
@@ -154,7 +151,7 @@ fn serial_command<'a>(alloc: Global) -> Result<Command<'a>, AllocError>
 
 fn sim_command<'a>(alloc: Global) -> Result<Command<'a>, AllocError>
     ensures app { IfOk result (λ c. app_of c ≡ sim_app) }
-    ensures local { IfOk result (λ c. (fields_of c).has_globals ≡ false) }
+    ensures local { IfOk result IsLocal }
 {
     let command = Command::new(alloc, "sim")
         .about("Reads a listing, runs its packets and reports the end")
@@ -166,7 +163,7 @@ fn sim_command<'a>(alloc: Global) -> Result<Command<'a>, AllocError>
 /// The program with no subcommand yet.
 fn bare_command<'a>(alloc: Global) -> Command<'a>
     ensures app { app_of result ≡ bare_app }
-    ensures local { (fields_of result).has_globals ≡ false }
+    ensures local { IsLocal result }
 {
     Command::new(alloc, "c62")
         .about("Packs and runs TMS320C62x instructions")
@@ -179,7 +176,7 @@ fn bare_command<'a>(alloc: Global) -> Command<'a>
 /// The program with the subcommands that pack.
 fn packing_command<'a>(alloc: Global) -> Result<Command<'a>, AllocError>
     ensures app { IfOk result (λ c. app_of c ≡ packing_app) }
-    ensures local { IfOk result (λ c. (fields_of c).has_globals ≡ false) }
+    ensures local { IfOk result IsLocal }
 {
     bare_command(alloc)
         .subcommand(pack_command(alloc)?)?
@@ -198,7 +195,7 @@ fn tool_command<'a>(alloc: Global) -> Result<Command<'a>, AllocError>
 fn matches_of<'a, S: AsStr>(alloc: Global, words: &'a [S]) -> Result<ArgMatches<'a>, Error>
     ensures ok { IfOk result (λ m. subcommand_rows_of m ≡ subcommand_of tool_app (map S.text words.entry.now)) }
     ensures taken { IfOk result (λ _. fault_of tool_app (map S.text words.entry.now) ≡ []) }
-    ensures err { IfErr result (λ e. kind_of e ≢ OutOfMemory → fault_of tool_app (map S.text words.entry.now) ≢ []) }
+    ensures err { IfErr result (IsBlame (map S.text words.entry.now)) }
 {
     let command = tool_command(alloc)?;
     command.try_get_matches_from(words)
@@ -206,7 +203,7 @@ fn matches_of<'a, S: AsStr>(alloc: Global, words: &'a [S]) -> Result<ArgMatches<
 
 /// Whether a flag was set.
 fn is_set(matches: &ArgMatches<'_>, flag: &str) -> bool
-    ensures { result ≡ is_set flag.now (rows_of (found_of matches.now)) }
+    ensures { result ≡ is_set flag.now (found_rows matches.now) }
 {
     match matches.get_str(flag) {
         Some(text) => text == "true",
@@ -216,7 +213,7 @@ fn is_set(matches: &ArgMatches<'_>, flag: &str) -> bool
 
 /// The limit of blocks.
 fn blocks_in(matches: &ArgMatches<'_>) -> u32
-    ensures { result ≡ blocks_of (rows_of (found_of matches.now)) }
+    ensures { result ≡ blocks_of (found_rows matches.now) }
 {
     match matches.get_str("blocks") {
         Some(text) => text.parse().unwrap_or(DEFAULT_BLOCKS),
@@ -226,7 +223,7 @@ fn blocks_in(matches: &ArgMatches<'_>) -> u32
 
 /// How many ejections a block may have.
 fn budget_in(matches: &ArgMatches<'_>) -> u16
-    ensures { result ≡ budget_of (rows_of (found_of matches.now)) }
+    ensures { result ≡ budget_of (found_rows matches.now) }
 {
     match matches.get_str("eject") {
         Some(text) => text.parse().unwrap_or(0),
@@ -235,7 +232,7 @@ fn budget_in(matches: &ArgMatches<'_>) -> u16
 }
 
 fn packing_in(matches: &ArgMatches<'_>) -> Packing
-    ensures { result ≡ packing_of (rows_of (found_of matches.now)) }
+    ensures { result ≡ packing_of (found_rows matches.now) }
 {
     Packing {
         turns: is_set(matches, "turns"),
@@ -245,8 +242,8 @@ fn packing_in(matches: &ArgMatches<'_>) -> Packing
 
 /// The settings, in their order.
 fn settings_in(alloc: Global, matches: &ArgMatches<'_>) -> Result<Vec<Setting>, SettingError>
-    ensures ok { IfOk result (λ settings. settings_of (setting_words (rows_of (found_of matches.now))) ≡ Some settings.items) }
-    ensures err { IfErr result (λ error. (k : ℕ) → error ≡ Bad k → IsFirstBad (setting_words (rows_of (found_of matches.now))) k) }
+    ensures ok { IfOk result (λ settings. AreSettings (words_of matches.now) settings.items) }
+    ensures err { IfErr result (IsBadAmong (words_of matches.now)) }
 {
     match matches.get_strs("settings") {
         Some(texts) => read_settings(alloc, texts),
@@ -256,9 +253,9 @@ fn settings_in(alloc: Global, matches: &ArgMatches<'_>) -> Result<Vec<Setting>, 
 
 /// Where a run begins, by the options of its subcommand.
 fn start_in(alloc: Global, matches: &ArgMatches<'_>) -> Result<Start, SettingError>
-    ensures blocks { IfOk result (λ start. start.blocks ≡ blocks_of (rows_of (found_of matches.now))) }
-    ensures settings { IfOk result (λ start. settings_of (setting_words (rows_of (found_of matches.now))) ≡ Some start.settings.items) }
-    ensures err { IfErr result (λ error. (k : ℕ) → error ≡ Bad k → IsFirstBad (setting_words (rows_of (found_of matches.now))) k) }
+    ensures blocks { IfOk result (λ start. start.blocks ≡ blocks_of (found_rows matches.now)) }
+    ensures settings { IfOk result (λ start. AreSettings (words_of matches.now) start.settings.items) }
+    ensures err { IfErr result (IsBadAmong (words_of matches.now)) }
 {
     Ok(Start {
         blocks: blocks_in(matches),
@@ -268,8 +265,8 @@ fn start_in(alloc: Global, matches: &ArgMatches<'_>) -> Result<Start, SettingErr
 
 /// What the subcommand of this name asks for.
 fn request_named(alloc: Global, name: &str, found: &ArgMatches<'_>) -> Result<Request, SettingError>
-    ensures ok { IfOk result (λ request. ask_in (Some (name.now, rows_of (found_of found.now))) ≡ Some (ask_of request)) }
-    ensures err { IfErr result (λ error. (k : ℕ) → error ≡ Bad k → HasFirstBad (Some (name.now, rows_of (found_of found.now))) k) }
+    ensures ok { IfOk result (λ request. ask_in (named_rows name.now found.now) ≡ Some (ask_of request)) }
+    ensures err { IfErr result (IsBadIn (named_rows name.now found.now)) }
 {
     if name == "pack" {
         return Ok(Request::Pack(packing_in(found)));
@@ -287,7 +284,7 @@ fn request_named(alloc: Global, name: &str, found: &ArgMatches<'_>) -> Result<Re
 /// What the subcommand that was read asks for.
 fn request_in(alloc: Global, matches: &ArgMatches<'_>) -> Result<Request, SettingError>
     ensures ok { IfOk result (λ request. ask_in (subcommand_rows_of matches.now) ≡ Some (ask_of request)) }
-    ensures err { IfErr result (λ error. (k : ℕ) → error ≡ Bad k → HasFirstBad (subcommand_rows_of matches.now) k) }
+    ensures err { IfErr result (IsBadIn (subcommand_rows_of matches.now)) }
 {
     match matches.subcommand() {
         None => Ok(Request::Pack(PLAIN)),

@@ -1,7 +1,8 @@
 //! Reads a text that may be too long.
 
-ghost use Rattle.std.specs.Prelude.{◌≡◌, ◌≤◌, ◌+◌, take, IfOk, IfSome};
-ghost use Rattle.c62_tool.specs.Run.{TakesAtMost};
+ghost use Rattle.std.specs.Prelude.{◌≤◌, ◌+◌, IfOk};
+ghost use Rattle.c62_listing_reader.specs.declared.reader.TheConstants.{MOST_BYTES};
+ghost use Rattle.c62_tool.specs.Run.{TakesAtMost, BeginsAll};
 
 use std::alloc::{AllocError, Global};
 use std::io::Read;
@@ -28,8 +29,8 @@ pub fn read_text<R: Read>(
     reader: &mut R,
     limit: usize,
 ) -> Result<Vec<u8>, InputError>
-    requires { limit ≤ 8388608 }
-    ensures front { IfOk result (λ text. IfSome (R.remaining reader.old) (λ all. text.items ≡ take (limit + 1) all)) }
+    requires { limit ≤ MOST_BYTES }
+    ensures front { IfOk result (λ text. BeginsAll limit (R.remaining reader.old) text.items) }
     ensures most { TakesAtMost (limit + 1) (R.remaining reader.old) (R.remaining reader.new) }
 {
     let mut text = Vec::new(alloc);

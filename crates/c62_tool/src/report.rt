@@ -6,12 +6,12 @@ ghost use Rattle.c62_insn.specs.Spelling.{file_letter, register_name};
 ghost use Rattle.c62_tool.specs.Report.{hex_digit, hex, line, value_line, register_line, file_lines, word_line, word_lines, fault_line, exit_line, machine_lines, serial_report, packet_report};
 
 use c62_insn::{Reg, Side};
-use c62_serial::{Chain, End, State};
+use c62_serial::{Chain, End, MEMORY_BYTES, State};
 use itoa::Buffer;
 use std::alloc::{AllocError, Global};
 
 /// How many words memory has.
-const MEMORY_WORDS: u32 = 16_384;
+const MEMORY_WORDS: u32 = MEMORY_BYTES as u32 / 4;
 
 fn hex_digit(digit: u8) -> u8
     requires { digit < 16 }
@@ -108,7 +108,7 @@ fn push_word_line(out: &mut Vec<u8>, address: u32, value: u32) -> Result<(), All
 
 /// The first words of memory.
 fn push_words(out: &mut Vec<u8>, state: &State, count: u32) -> Result<(), AllocError>
-    requires { count ≤ 16384 }
+    requires { count ≤ MEMORY_WORDS }
     ensures { OnOk result (out.new.items ≡ out.old.items ++ word_lines state.now.machine count) }
 {
     for k in 0..count {

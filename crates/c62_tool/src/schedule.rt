@@ -4,6 +4,7 @@ ghost use Rattle.std.specs.Prelude.{◌≡◌, ◌<◌, ◌++◌, ◌∷◌, [],
 ghost use Rattle.c62_sheet.specs.Least.{IsComplete};
 ghost use Rattle.c62_depend.specs.Plan.{insns_of};
 ghost use Rattle.c62_board.specs.State.{IsSound};
+ghost use Rattle.c62_packet.specs.declared.limits.TheConstants.{MOST_BLOCKS};
 ghost use Rattle.c62_packet.specs.Packed.{Packed};
 ghost use Rattle.c62_pack.specs.Packets.{ArePackets};
 ghost use Rattle.c62_meaning.specs.Laws.{AreSerial};
@@ -82,7 +83,7 @@ fn board_of<H: AllocGlobal + Threads + Wait + Sync>(
 /// Appends the packets of a complete board.
 fn push_packets(alloc: Global, packets: &mut Packets, board: &Board) -> Result<(), AllocError>
     requires complete { IsComplete (insns_of board.now.plan) board.now.spots }
-    requires few { length packets.old < 64 }
+    requires few { length packets.old < MOST_BLOCKS }
     ensures pushed { OnOk result ((packed : Packed) × ArePackets board.now.plan board.now.spots packed
         × AreSerial board.now.plan.insns packed.placed × IsBlockPacked board.now.plan packed × (packets.new ≡ packets.old ++ packed ∷ [])) }
 {

@@ -3,7 +3,7 @@
 ghost use Rattle.std.specs.Prelude.{◌≡◌, ◌==◌, ℕ, map, Some, IfOk, IfErr};
 ghost use Rattle.std.specs.List.{position};
 ghost use Rattle.c62_tool.specs.declared.setting.SettingError.TheVariants.{Memory};
-ghost use Rattle.c62_tool.specs.Settings.{word_address, set_to, setting_of, settings_of, IsFirstBad};
+ghost use Rattle.c62_tool.specs.Settings.{word_address, set_to, setting_of, AreSettings, IsBadAmong};
 
 use c62_insn::{Reg, word_of};
 use c62_read::number::{number, register};
@@ -44,14 +44,14 @@ fn word_address(number: i64) -> Option<u32>
     }
 }
 
-/// What is set where this place gets the value.
+/// What is set where the register of this name, or the word at this address behind an `@`, gets the value.
 #[tactic(auto, unfolding(crate::specs::Settings::set_to))]
-fn set_to(place: &[u8], value: u32) -> Option<Setting>
-    ensures { result ≡ set_to place.now value }
+fn set_to(name: &[u8], value: u32) -> Option<Setting>
+    ensures { result ≡ set_to name.now value }
 {
-    match place.strip_prefix(b"@") {
+    match name.strip_prefix(b"@") {
         Some(address) => Some(Setting::Word(word_address(number(address)?)?, value)),
-        None => Some(Setting::Register(register(place)?, value)),
+        None => Some(Setting::Register(register(name)?, value)),
     }
 }
 
@@ -73,8 +73,8 @@ fn read_setting(text: &[u8]) -> Option<Setting>
 
 /// The settings that the words say, in their order.
 pub fn read_settings(alloc: Global, texts: &[&str]) -> Result<Vec<Setting>, SettingError>
-    ensures ok { IfOk result (λ settings. settings_of (map (λ text. text.now) texts.now) ≡ Some settings.items) }
-    ensures err { IfErr result (λ error. (k : ℕ) → error ≡ SettingError.Bad k → IsFirstBad (map (λ text. text.now) texts.now) k) }
+    ensures ok { IfOk result (λ settings. AreSettings (map (λ text. text.now) texts.now) settings.items) }
+    ensures err { IfErr result (IsBadAmong (map (λ text. text.now) texts.now)) }
 {
     let mut settings = Vec::new(alloc);
     for text in texts {

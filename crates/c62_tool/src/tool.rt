@@ -1,10 +1,9 @@
 //! The run over a reader and writers.
 
-ghost use Rattle.std.specs.Prelude.{◌≡◌, ◌+◌, None, Some, IfErr, OnOk, map};
+ghost use Rattle.std.specs.Prelude.{◌≡◌, ◌+◌, None, IfErr, OnOk, map};
 ghost use Rattle.std.specs.Io.KnownBytes.{Appends, Keeps};
-ghost use Rattle.std.specs.Option.{IsSomeAnd};
-ghost use Rattle.c62_tool.specs.Run.{TakesAtMost, Does, Fails, HasFailed, IsRun, IsRunOnBytes, limit_of, streams};
-ghost use Rattle.c62_tool.specs.CommandLine.{Ask, ask_of, asked};
+ghost use Rattle.c62_tool.specs.Run.{TakesAtMost, TakesAsked, Does, IsDone, Fails, HasFailed, IsRun, IsRunOnBytes, limit_of, streams};
+ghost use Rattle.c62_tool.specs.CommandLine.{ask_of, asked};
 
 use crate::answer::{answer, limit_of};
 use crate::command::{Request, command_of};
@@ -38,8 +37,10 @@ fn perform<H: AllocGlobal + Threads + Wait + Sync, R: Read, W: Write>(
     reader: &mut R,
     output: &mut W,
 ) -> Result<(), Failure>
-    ensures ok { OnOk result (Does (ask_of request.now) (R.remaining reader.old) (W.contents output.old) (W.contents output.new)) }
-    ensures err { IfErr result (λ f. Fails f (ask_of request.now) (R.remaining reader.old) (W.contents output.old) (W.contents output.new)) }
+    ensures ok { OnOk result (Does (ask_of request.now) (R.remaining reader.old) (W.contents output.old)
+        (W.contents output.new)) }
+    ensures err { IfErr result (λ f. Fails f (ask_of request.now) (R.remaining reader.old) (W.contents output.old)
+        (W.contents output.new)) }
     ensures most { TakesAtMost (limit_of (ask_of request.now) + 1) (R.remaining reader.old) (R.remaining reader.new) }
 {
     let text = read_text(rt.alloc(), reader, limit_of(request))?;
@@ -54,10 +55,12 @@ fn run<H: AllocGlobal + Threads + Wait + Sync, S: AsStr, R: Read, W: Write>(
     reader: &mut R,
     output: &mut W,
 ) -> Result<(), Failure>
-    ensures ok { OnOk result (IsSomeAnd (asked (map S.text words.now)) (λ ask. Does ask (R.remaining reader.old) (W.contents output.old) (W.contents output.new))) }
-    ensures err { IfErr result (λ f. HasFailed f (map S.text words.now) (R.remaining reader.old) (W.contents output.old) (W.contents output.new)) }
+    ensures ok { OnOk result (IsDone (map S.text words.now) (R.remaining reader.old) (W.contents output.old)
+        (W.contents output.new)) }
+    ensures err { IfErr result (λ f. HasFailed f (map S.text words.now) (R.remaining reader.old)
+        (W.contents output.old) (W.contents output.new)) }
     ensures unread { asked (map S.text words.now) ≡ None → Keeps (R.remaining reader.old) (R.remaining reader.new) }
-    ensures most { (ask : Ask) → asked (map S.text words.now) ≡ Some ask → TakesAtMost (limit_of ask + 1) (R.remaining reader.old) (R.remaining reader.new) }
+    ensures most { TakesAsked (map S.text words.now) (R.remaining reader.old) (R.remaining reader.new) }
 {
     let request = command_of(rt.alloc(), words)?;
     perform(rt, &request, reader, output)

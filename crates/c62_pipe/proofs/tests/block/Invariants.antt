@@ -1,12 +1,12 @@
 use Rattle.std.proofs.Common.{◌≤◌, length}
 use Rattle.std.specs.Prelude.{All}
-use Rattle.c62_packet.specs.Packed.{listing_place, IsInListingOrder, StandAsWritten}
+use Rattle.c62_packet.specs.Packed.{listing_position, IsInListingOrder, StandAsWritten}
 use Rattle.c62_pipe.proofs.tests.block.Given as goal
 
 abbrev pub invariant-loop-row : goal.invariant-loop-row
 invariant-loop-row l = record {
   as_written : StandAsWritten l.placed.items;
   in_order : IsInListingOrder l.placed.items;
-  below : All (λ p. listing_place p ≤ l.last) l.placed.items;
+  below : All (λ p. listing_position p ≤ l.last) l.placed.items;
   few : length l.placed.items ≤ 256;
 }

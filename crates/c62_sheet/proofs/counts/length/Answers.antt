@@ -1,10 +1,9 @@
 use Rattle.std.proofs.Common.{arith, rules, ◌≡◌, ◌+◌, ◌<◌, ◌∙◌, ap, sym, max, length, get_or, None, Some, true, false}
 use Rattle.c62_insn.specs.Shape.{is_branch}
 use Rattle.c62_insn.specs.Insn.{op_of}
-use Rattle.c62_insn.specs.Length.{landing_end}
 use Rattle.c62_depend.specs.Plan.{insns_of}
 use Rattle.c62_depend.proofs.Plans.{many_insns}
-use Rattle.c62_sheet.specs.Lawful.{spot_at, issue_at}
+use Rattle.c62_sheet.specs.Lawful.{spot_at}
 use Rattle.c62_sheet.proofs.Optional.{none_from_no_value}
 use Rattle.c62_sheet.proofs.Tallies.{length_from, length_skip, length_more, length_branch, length_end}
 use Rattle.c62_sheet.proofs.counts.length.Goals as goal

@@ -1,7 +1,7 @@
-use Rattle.std.proofs.Common.{arith, rules, ◌≡◌, ◌<◌, ℕ, max, length, pos}
+use Rattle.std.proofs.Common.{arith, rules, ◌≡◌, max, pos}
 use Rattle.c62_depend.specs.Plan.{insns_of}
 use Rattle.c62_depend.specs.declared.links.Link.{Link}
-use Rattle.c62_sheet.proofs.EarlyCycles.{early-none, early-more, early_of, need_at}
+use Rattle.c62_sheet.proofs.EarlyCycles.{early-more, early_of, need_at}
 use Rattle.c62_sheet.proofs.early.early.Goals as goal
 
 abbrev none : Link

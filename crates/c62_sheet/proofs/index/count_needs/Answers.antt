@@ -1,8 +1,8 @@
-use Rattle.std.proofs.Common.{arith, ◌≤◌, length, ap, ◌∙◌, sym}
+use Rattle.std.proofs.Common.{arith, length, ap, ◌∙◌}
 use Rattle.c62_depend.specs.Plan.{insns_of}
 use Rattle.c62_depend.specs.Links.{needs}
 use Rattle.c62_depend.specs.declared.links.Link.{Link}
-use Rattle.std.proofs.Common.{List, ◌≡◌}
+use Rattle.std.proofs.Common.{◌≡◌}
 use Rattle.c62_sheet.specs.Lawful.{nothing_placed}
 use Rattle.c62_sheet.proofs.Sets.{nothing_at}
 use Rattle.c62_sheet.proofs.Missing.{lacking-nothing, needs-few}

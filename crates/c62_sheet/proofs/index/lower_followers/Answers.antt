@@ -1,8 +1,6 @@
-use Rattle.std.proofs.Common.{arith, ◌<◌, ◌≡◌, ◌≤◌, ℕ, length, get_or, pos, ap}
+use Rattle.std.proofs.Common.{arith, pos}
 use Rattle.c62_depend.specs.Plan.{insns_of}
-use Rattle.c62_depend.specs.Links.{followers}
 use Rattle.c62_depend.specs.declared.links.Link.{Link}
-use Rattle.c62_sheet.specs.Index.{times}
 use Rattle.c62_sheet.proofs.Missing.{follower_at, lowered_some}
 use Rattle.c62_sheet.proofs.index.lower_followers.Goals as goal
 

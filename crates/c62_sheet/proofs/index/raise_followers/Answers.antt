@@ -1,7 +1,6 @@
-use Rattle.std.proofs.Common.{arith, ◌≡◌, ℕ, List, get_or, pos, sym, subst, refl, ap}
-use Rattle.std.specs.Prelude.{slice_index, slice_set, ◌+◌, ◌<◌}
+use Rattle.std.proofs.Common.{arith, ◌≡◌, ℕ, get_or, pos, sym, subst, refl, ap}
+use Rattle.std.specs.Prelude.{slice_index, slice_set, ◌+◌}
 use Rattle.c62_depend.specs.Plan.{insns_of}
-use Rattle.c62_depend.specs.Links.{followers}
 use Rattle.c62_depend.specs.declared.links.Link.{Link}
 use Rattle.c62_sheet.specs.Index.{times}
 use Rattle.std.proofs.Common.{take}

@@ -1,11 +1,10 @@
-use Rattle.std.proofs.Common.{arith, ◌≡◌, ◌<◌, ◌≤◌, ◌*◌, refl, sym, ◌∙◌, length, ap, false, true, get_or, None}
-use Rattle.std.proofs.lemmas.Bool.{false≢true}
+use Rattle.std.proofs.Common.{arith, ◌≡◌, ◌<◌, ◌≤◌, ◌*◌, refl, sym, ◌∙◌, length, ap, true, get_or, None}
 use Rattle.c62_insn.specs.declared.insn.Insn.{Insn}
 use Rattle.std.proofs.Common.{List}
 use Rattle.c62_depend.specs.Plan.{insns_of}
 use Rattle.c62_depend.specs.Side.{stands_on}
 use Rattle.c62_depend.proofs.Plans.{many_insns}
-use Rattle.c62_sheet.specs.declared.entry.Rule.TheVariants.{Placed, Unit as WrongUnit, Limit, Missing as Lacks, Delay}
+use Rattle.c62_sheet.specs.declared.entry.Rule.TheVariants.{Missing as Lacks, Delay}
 use Rattle.c62_sheet.specs.Lawful.{spot_at}
 use Rattle.c62_sheet.proofs.Optional.{none_is}
 use Rattle.c62_sheet.proofs.Missing.{lacks_at, lacks_none}

@@ -1,4 +1,4 @@
-use Rattle.std.proofs.Common.{arith, ◌≡◌, ◌<◌, ◌∙◌, ap, sym, subst, refl, length, take, get_or}
+use Rattle.std.proofs.Common.{arith, ◌≡◌, ◌∙◌, ap, sym, subst, refl, length, take, get_or}
 use Rattle.std.proofs.lemmas.Bool.{false≢true}
 use Rattle.c62_insn.specs.declared.register.Letter.TheVariants.{L}
 use Rattle.c62_insn.specs.declared.register.Side.TheVariants.{A}

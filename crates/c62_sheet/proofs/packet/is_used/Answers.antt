@@ -1,4 +1,4 @@
-use Rattle.std.proofs.Common.{arith, refl, None}
+use Rattle.std.proofs.Common.{arith, refl}
 use Rattle.c62_depend.specs.Plan.{insns_of}
 use Rattle.c62_depend.proofs.Plans.{many_insns}
 use Rattle.c62_sheet.proofs.Used.{used-here}

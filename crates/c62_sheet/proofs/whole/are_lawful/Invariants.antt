@@ -1,4 +1,4 @@
-use Rattle.std.proofs.Common.{◌≡◌, ◌≤◌, length, map, take, Some}
+use Rattle.std.proofs.Common.{◌≡◌, length, map, take, Some}
 use Rattle.c62_depend.specs.Plan.{insns_of}
 use Rattle.c62_sheet.specs.Lawful.{IsLawful}
 use Rattle.c62_sheet.proofs.Prefix.{IsUpTo}

@@ -11,9 +11,9 @@ returns c = λ rest covers.
     (record {
       cycle = c.from_cycle-here.ensures.same;
       same = refl;
-      unit = subst (AddsNumber here.places.bits c.in_ok-units.units.bits) c.index.ensures c.in_ok-units.ensures;
+      unit = subst (AddsNumber here.resources.bits c.in_ok-units.units.bits) c.index.ensures c.in_ok-units.ensures;
       cross_path = c.in_ok-paths.ensures;
-      data_path = c.in_ok-places.ensures;
+      data_path = c.in_ok-resources.ensures;
       reads = subst (AddsReads here.reads.regs.bits here.reads.again reads.regs.bits reads.again) (c.as_slice.ensures.value ∙ c.reads.ensures) c.with_all-reads.ensures;
       landings = subst (AddsLandings here.landings.cycles c.in_ok-landings.landings.cycles) (c.as_slice-2.ensures.value ∙ c.writes.ensures) c.in_ok-landings.ensures;
     })

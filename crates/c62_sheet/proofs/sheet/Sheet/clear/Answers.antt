@@ -1,4 +1,4 @@
-use Rattle.std.proofs.Common.{arith, ◌≡◌, ◌∙◌, ap, length, ℕ, Option}
+use Rattle.std.proofs.Common.{arith, ◌≡◌, ◌∙◌, ap, length, Option}
 use Rattle.std.proofs.lemmas.List.{with_items_is}
 use Rattle.c62_depend.specs.Plan.{insns_of}
 use Rattle.c62_sheet.specs.declared.entry.Spot.{Spot}

@@ -1,11 +1,8 @@
 use Rattle.std.proofs.Common.{arith, ◌≡◌, ◌<◌, ◌∙◌, ap, length, ℕ}
-use Rattle.std.specs.Prelude.{slice_index}
 use Rattle.std.proofs.lemmas.List.{with_items_is}
 use Rattle.c62_depend.specs.Plan.{insns_of}
-use Rattle.c62_depend.specs.Links.{followers}
 use Rattle.c62_depend.proofs.Plans.{many_insns}
 use Rattle.c62_sheet.specs.Check.{IsOpen}
-use Rattle.c62_sheet.specs.Index.{times}
 use Rattle.c62_sheet.proofs.Missing.{counted_enough, index-placed}
 use Rattle.c62_sheet.proofs.sheet.Sheet.put.Goals as goal
 

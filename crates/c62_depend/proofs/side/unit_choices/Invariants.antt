@@ -1,0 +1,6 @@
+use Rattle.c62_depend.specs.Uses.{insns_in}
+use Rattle.c62_depend.specs.UnitChoices.{AreUnitChoices}
+use Rattle.c62_depend.proofs.side.unit_choices.Given as goal
+
+abbrev pub invariant-loop-i : goal.invariant-loop-i
+invariant-loop-i l = AreUnitChoices (insns_in l.uses) l.i l.choices.items
