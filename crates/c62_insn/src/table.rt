@@ -30,10 +30,11 @@ pub(crate) struct Row {
     pub name: &'static str,
     /// The delay slots of the result, in cycles.
     pub delay: u8,
+    /// How it uses memory.
     pub memory: Memory,
     /// Whether the destination is a source too.
     pub destination_is_source: bool,
-    /// Whether no form lets the first source cross, and it is an error of its side to lie across.
+    /// Whether no form lets the first source cross, so that it is `BadSide` where it lies across.
     pub first_is_fixed: bool,
     /// The same of the second source.
     pub second_is_fixed: bool,
