@@ -21,7 +21,7 @@ fn told(alloc: Global, text: &[u8]) -> Result<String, Fail> {
 }
 
 /// Listings.
-const LISTINGS: [&str; 14] = [
+const LISTINGS: [&str; 15] = [
     "",
     "   MVK .S1 5,A1\n   MVK .S1 7,A2\n   ADD .L1 A1,A2,A3\n",
     "   LDW .D1T1 *A4,A5\n   NOP 4\n   ADD .L1 A5,A5,A6\n",
@@ -33,6 +33,7 @@ const LISTINGS: [&str; 14] = [
     "L1:\n   SUB .L1 A1,1,A1\n   [A1] B .S2 L1\n   NOP 5\n",
     "L1:\n   MPY .M1 A1,A2,A3\n|| B .S2 END\n   NOP 5\n\nL2:\n\nEND:\n   MVK .S1 1,A1\n",
     "L1:\n   MVK .S1 1,A1\n\n   MVK .S1 2,A2\n\nl1:\n   MVK .S1 3,A3\n",
+    "Z:\n   MPY .M1 A1,A2,A3\n|| B .S2 M\n   NOP 5\n\nM:\n   MPY .M1 A1,A2,A3\n|| B .S2 A\n   NOP 5\n\nA:\n   MPY .M1 A1,A2,A3\n|| B .S2 Z\n   NOP 5\n",
     "   MVK .S1 1,A1\n   NOP 9\n   NOP 9\n   NOP 1\n   MVK .S1 2,A2\n",
     "   MPY .M1X A5,B1,A2\n|| ADD .L2X B2,A2,B3\n|| LDW .D2T2 *B4,B5\n   ADD .L1X A1,B1,A3\n   ADD .L1 A3,A3,A4\n|| MPY .M1 A2,A2,A6\n   NOP 2\n",
     "   ADD .L1X A1,B1,A3\n|| ADD .L2X B2,A2,B3\n|| LDW .D2T2 *B4,B5\n   ADD .L1 A3,A3,A4\n|| MPY .M1X A5,B1,A2\n   NOP 1\n   MPY .M1 A2,A2,A6\n   NOP 1\n",
@@ -153,7 +154,7 @@ fn refuses_what_is_no_listing(rt: HostRuntime) -> Result<(), Fail> {
 }
 
 /// Lines alike, how many there are, the text behind them, and why all this is refused; nothing where it is read.
-const LONG: [(&str, u32, &str, &str); 16] = [
+const LONG: [(&str, u32, &str, &str); 18] = [
     (" ", 255, "\n", "line 1: Shape"),
     (" ", 256, "\n", "line 1: LineTooLong"),
     (" ", 256, "\x7f\n", "line 1: NotAscii"),
@@ -181,6 +182,18 @@ const LONG: [(&str, u32, &str, &str); 16] = [
         256,
         "   NOP 1\n",
         "block 0: NotDrained",
+    ),
+    (
+        "   B .S2 Q\n",
+        256,
+        "\nP:\n\nQ:\n   FOO\n",
+        "line 261: UnknownMnemonic",
+    ),
+    (
+        "   B .S2 Q\n",
+        256,
+        "\nP:\n\nq:\n   FOO\n",
+        "line 1: UnknownTarget",
     ),
     ("   NOP 9\n", 227, "   NOP 5\n", "block 0: NotDrained"),
     ("   NOP 9\n", 227, "   NOP 6\n", "line 228: Shape"),

@@ -10,7 +10,7 @@ use Rattle.c62_read.specs.Text.{begins, is_allowed, is_solid, tokens}
 use Rattle.c62_read.specs.Number.{spells}
 use Rattle.c62_read.specs.Kind.{Word}
 use Rattle.c62_read.specs.Line.{Says, Nothing, has_colon, head_of, is_bars, is_star, label_front, line_of, rest_says, without_colon}
-use Rattle.c62_read.specs.Program.{Name, place_of}
+use Rattle.c62_read.specs.Program.{place_of}
 use Rattle.c62_read.specs.Walk.{Drafts, add_line, hindrance, is_taken, with_says}
 use Rattle.c62_read.proofs.ColonLemmas.{begins_with, colons}
 use Rattle.c62_read.proofs.SpelledTokens.{is_text}

@@ -1,4 +1,4 @@
-use Rattle.std.proofs.Common.{◌≡◌, ℕ, List, []}
+use Rattle.std.proofs.Common.{[]}
 use Rattle.c62_listing_reader.specs.declared.names.Named.{Named}
 use Rattle.c62_listing_reader.proofs.NameLemmas.{numbers_more}
 use Rattle.c62_listing_reader.proofs.names.first_numbers.Goals as goal

@@ -1,4 +1,4 @@
-use Rattle.std.proofs.Common.{◌≡◌, List, [], ◌∷◌, not, sym, ap, subst, ◌∙◌, rules}
+use Rattle.std.proofs.Common.{◌≡◌, [], ◌∷◌, not, sym, ap, ◌∙◌, rules}
 use Rattle.std.specs.List.{filter, list_any}
 use Rattle.std.specs.Prelude.{map}
 use Rattle.std.proofs.lemmas.Fn.{filter_same}

@@ -1,9 +1,9 @@
-use Rattle.std.proofs.Common.{◌≡◌, ◌++◌, ℕ, List, [], Option, Some, None, Result, Ok, Err, sym, ap, subst, arith, inr, ◌∙◌}
+use Rattle.std.proofs.Common.{◌≡◌, ◌++◌, ℕ, List, [], Option, None, Ok, Err, sym, ap, subst, arith, inr, ◌∙◌}
 use Rattle.std.specs.Prelude.{IfSome, map}
 use Rattle.c62_read.specs.declared.fault.Cause.{Cause}
 use Rattle.c62_read.specs.Text.{lines_of}
-use Rattle.c62_read.specs.Program.{Name, Refusal, labels_of}
-use Rattle.c62_read.specs.Walk.{Drafts, add_line, add_lines, all_drafts, asked_of, drafts_of, first_line, missed, no_drafts, own_labels, unless_hindered, unless_missed}
+use Rattle.c62_read.specs.Program.{Name, labels_of}
+use Rattle.c62_read.specs.Walk.{Drafts, add_line, add_lines, all_drafts, asked_of, drafts_of, first_line, missed, own_labels, unless_hindered, unless_missed}
 use Rattle.c62_read.proofs.ReadingLemmas.{goes_on, is_done, labels_stay, stops}
 use Rattle.c62_read.proofs.WalkLemmas.{at_end, whole_blocks}
 use Rattle.c62_read.proofs.program.read_drafts.Goals as goal
