@@ -280,6 +280,11 @@ fn a_chain_of_256(rt: HostRuntime) -> Result<(), Fail> {
     assert_eq!(rt; withdraw(&rt, &mut board, 0), Ok(256));
     assert_eq!(rt; board.journal().len(), 1022);
     assert_eq!(rt; board.counts().placed_a, 0);
+    let plan = plan_of(&rt, rt.alloc(), &text)?;
+    let Ok(again) = Board::replay(rt.alloc(), plan, 0, board.journal()) else {
+        return Err("the entries are legal".into());
+    };
+    assert_eq!(rt; again.journal().len(), 1022);
     Ok(())
 }
 

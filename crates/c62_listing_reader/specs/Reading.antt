@@ -52,16 +52,16 @@ abbrev pub lines_read : Names → List ℕ → Result Drafts Refusal
 lines_read names text = read_lines (labels_of (entries_of names)) (aim_by (entries_of names)) 1 no_drafts Start (lines_in text)
 
 -- the open block has what a line says too
-abbrev pub AddsSays : Names → Bool → ℕ → Says → Draft → Draft → Type 0
-AddsSays names beside line says old new = new ≡ with_says (aim_by (entries_of names)) beside line says old
+abbrev pub AddsSays : Names → Bool → ℕ → Says → OpenBlock → OpenBlock → Type 0
+AddsSays names beside line says old new = draft_open new ≡ with_says (aim_by (entries_of names)) beside line says (draft_open old)
 
 -- it has the line's label too
-abbrev pub AddsLine : Names → ℕ → Said → Draft → Draft → Type 0
-AddsLine names line said old new = new ≡ with_line (aim_by (entries_of names)) line said old
+abbrev pub AddsLine : Names → ℕ → Said → OpenBlock → OpenBlock → Type 0
+AddsLine names line said old new = draft_open new ≡ with_line (aim_by (entries_of names)) line said (draft_open old)
 
 -- the blocks have what a line says too
-abbrev pub AddsSaid : Names → ℕ → Said → Drafts → Drafts → Type 0
-AddsSaid names line said old new = new ≡ with_said (aim_by (entries_of names)) line said old
+abbrev pub AddsSaid : Names → ℕ → Said → Blocks → Blocks → Type 0
+AddsSaid names line said old new = drafts_of new ≡ with_said (aim_by (entries_of names)) line said (drafts_of old)
 
 -- what a refusal says of lines, of blocks and of a text
 abbrev pub RefusesLines : Result Drafts Refusal → ListFault → Type 0

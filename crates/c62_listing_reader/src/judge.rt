@@ -256,7 +256,8 @@ fn fit(
     front: Front,
     reading: &Reading,
 ) -> Result<(), LineFault>
-    ensures { Judges (fitting (drafts_of blocks.now) above cut.now front reading.now) (said_by front reading.now) result }
+    ensures { Judges (fitting (drafts_of blocks.now) above cut.now front reading.now)
+        (said_by front reading.now) result }
 {
     let spelled = is_spelled(spelling, content(cut), front, &reading.label, &reading.what)?;
     if !spelled {
@@ -278,8 +279,8 @@ fn with_reading(
     front: Front,
     reading: &Reading,
 ) -> Result<(), LineFault>
-    ensures { Judges (saying names.now (drafts_of blocks.now) above cut.now front (Ok (reading.now.label, said_of reading.now.what)))
-        (said_by front reading.now) result }
+    ensures { Judges (saying names.now (drafts_of blocks.now) above cut.now front
+        (Ok (reading.now.label, said_of reading.now.what))) (said_by front reading.now) result }
 {
     match hindrance(names, blocks, front, &reading.what) {
         Some(cause) => Err(LineFault::Read(cause)),
@@ -298,9 +299,10 @@ fn with_rest(
     read: &Result<Reading, ReadFault>,
 ) -> Result<(), LineFault>
     requires { read_as read.now ≡ line_of (rest_of front (content (line_cut cut.now))) }
-    ensures judged { MatchResult result
-        (λ _. IfOk read.now (λ reading. with_rest (labels_of (entries_of names.now)) (drafts_of blocks.now) above (line_cut cut.now) (lines_in cut.now.rest.now) front (rest_says (drafts_of blocks.now) (rest_of front (content (line_cut cut.now)))) ≡ Ok (said_by front reading)))
-        (λ fault. Fails fault (with_rest (labels_of (entries_of names.now)) (drafts_of blocks.now) above (line_cut cut.now) (lines_in cut.now.rest.now) front (rest_says (drafts_of blocks.now) (rest_of front (content (line_cut cut.now)))))) }
+    ensures judged { let line = line_cut cut.now in
+        let says = with_rest (labels_of (entries_of names.now)) (drafts_of blocks.now) above line (lines_in cut.now.rest.now)
+        front (rest_says (drafts_of blocks.now) (rest_of front (content line))) in
+        MatchResult result (λ _. IfOk read.now (λ reading. says ≡ Ok (said_by front reading))) (λ fault. Fails fault says) }
     ensures ok { OnOk result (IsOk read.now) }
 {
     match read {
@@ -344,9 +346,9 @@ pub fn judge(
 ) -> Result<(), LineFault>
     requires front { front ≡ front_of (content (line_cut cut.now)) }
     requires read { read_as read.now ≡ line_of (rest_of front (content (line_cut cut.now))) }
-    ensures judged { MatchResult result
-        (λ _. IfOk read.now (λ reading. line_says (labels_of (entries_of names.now)) (drafts_of blocks.now) above (line_cut cut.now) (lines_in cut.now.rest.now) ≡ Ok (said_by front reading)))
-        (λ fault. Fails fault (line_says (labels_of (entries_of names.now)) (drafts_of blocks.now) above (line_cut cut.now) (lines_in cut.now.rest.now))) }
+    ensures judged { let says = line_says (labels_of (entries_of names.now)) (drafts_of blocks.now) above (line_cut cut.now)
+        (lines_in cut.now.rest.now) in
+        MatchResult result (λ _. IfOk read.now (λ reading. says ≡ Ok (said_by front reading))) (λ fault. Fails fault says) }
     ensures ok { OnOk result (IsOk read.now) }
 {
     let line = content(cut);

@@ -108,7 +108,7 @@ impl OpenBlock {
     ) -> Result<(), AllocError>
         requires unit { HasUnit (said_of what.now) }
         requires short { self.old.cycles + cycles_added beside (said_of what.now) ≤ MOST_CYCLES }
-        ensures { OnOk result (AddsSays names.now beside line (said_of what.now) (draft_open self.old) (draft_open self.new)) }
+        ensures { OnOk result (AddsSays names.now beside line (said_of what.now) self.old self.new) }
     {
         match what {
             What::Empty => Ok(()),
@@ -134,7 +134,7 @@ impl OpenBlock {
     ) -> Result<(), AllocError>
         requires unit { HasUnit (said_of reading.now.what) }
         requires short { self.old.cycles + cycles_added (is_beside front) (said_of reading.now.what) ≤ MOST_CYCLES }
-        ensures { OnOk result (AddsLine names.now line (said_by front reading.now) (draft_open self.old) (draft_open self.new)) }
+        ensures { OnOk result (AddsLine names.now line (said_by front reading.now) self.old self.new) }
     {
         self.add_label(&reading.label);
         self.add_what(names, is_beside(front), line, &reading.what)
@@ -152,7 +152,7 @@ impl Blocks {
         reading: &Reading,
     ) -> Result<(), AllocError>
         requires { Fits (drafts_of self.old) (said_by front reading.now) }
-        ensures { OnOk result (AddsSaid names.now line (said_by front reading.now) (drafts_of self.old) (drafts_of self.new)) }
+        ensures { OnOk result (AddsSaid names.now line (said_by front reading.now) self.old self.new) }
     {
         if is_gap(front) {
             return self.end_block();

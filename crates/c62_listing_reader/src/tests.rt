@@ -2,7 +2,7 @@
 
 use crate::{ListFault, read_listing};
 use c62_listing::list;
-use c62_packet::Packets;
+use c62_packet::{MOST_BLOCKS, Packets};
 use std::alloc::Global;
 use std::test::Fail;
 
@@ -239,6 +239,24 @@ fn keeps_limits(rt: HostRuntime) -> Result<(), Fail> {
             "{line} {count} times and {rest} is {told}"
         );
     }
+    Ok(())
+}
+
+/// A listing of as many blocks as there may be, each of as many instructions and cycles as it may have.
+#[test]
+fn reads_the_greatest_size(rt: HostRuntime) -> Result<(), Fail> {
+    let mut block = repeated(rt.alloc(), "   MVK .S1 1,A1\n", 255, "")?;
+    let idle = repeated(rt.alloc(), "   NOP 9\n", 199, "   NOP 1\n")?;
+    block.push_str(&idle)?;
+    block.push_str("   MVK .S1 1,A1\n")?;
+    let mut text = String::new(rt.alloc());
+    text.push_str(&block)?;
+    for _ in 1..MOST_BLOCKS {
+        text.push_str("\n")?;
+        text.push_str(&block)?;
+    }
+    let told = told(rt.alloc(), text.as_bytes())?;
+    assert!(rt; told.as_str() == text.as_str());
     Ok(())
 }
 

@@ -29,8 +29,8 @@ use Rattle.c62_meaning.specs.Meaning.{exit_by}
 use Rattle.c62_meaning.specs.Laws.{IsSameInsn, StandsAs, cycles_of}
 use Rattle.c62_packet.specs.Packed.{issue_of}
 use Rattle.c62_meaning.proofs.Lookup.{In, Contains_from_In}
-use Rattle.c62_meaning.proofs.Core.{Numbered, ran_at, machine_at, serial_act, IsBlock, IsOver}
-use Rattle.c62_meaning.proofs.Base.{KeepsBounds}
+use Rattle.c62_meaning.proofs.SameRuns.{Numbered, ran_at, machine_at, serial_act, IsBlock, IsOver}
+use Rattle.c62_meaning.proofs.CellOrder.{KeepsBounds}
 
 -- ---- the exit
 

@@ -10,7 +10,7 @@ use Rattle.c62_packet.specs.declared.placed.Placed.{Placed}
 use Rattle.c62_meaning.specs.Packet.{Did}
 use Rattle.c62_meaning.specs.Meaning.{HasFaulted}
 use Rattle.c62_meaning.proofs.Lookup.{In, In_from_Contains, Contains_from_In}
-use Rattle.c62_meaning.proofs.Core.{Numbered, machine_at, serial_act, IsBlock}
+use Rattle.c62_meaning.proofs.SameRuns.{Numbered, machine_at, serial_act, IsBlock}
 use Rattle.c62_meaning.proofs.Ends.{AllStand, AllAgree}
 
 -- ---- one more line

@@ -1,10 +1,10 @@
 pub mod Lookup
-pub mod Upto
+pub mod WritesBelow
 pub mod Acting
 pub mod Landings
-pub mod Core
-pub mod Base
+pub mod SameRuns
+pub mod CellOrder
 pub mod Runs
 pub mod Ends
 pub mod Faulted
-pub mod Main
+pub mod SerialPackets

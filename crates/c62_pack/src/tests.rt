@@ -5,7 +5,7 @@ use crate::packets::{packets_at, packets_of};
 use c62_board::{Board, Spot, Who};
 use c62_depend::Plan;
 use c62_insn::{Letter, Reg, Side, Unit};
-use c62_packet::{MOST_BLOCKS, PacketBlock, Packets};
+use c62_packet::{MOST_BLOCKS, MOST_INSTRUCTIONS, PacketBlock, Packets};
 use c62_pipe::run_chain;
 use c62_read::{Block, read_program};
 use c62_serial::{Chain, End, State, run_program};
@@ -267,5 +267,32 @@ fn packets_at_spots(rt: HostRuntime) -> Result<(), Fail> {
             )
         );
     }
+    Ok(())
+}
+
+/// As many instructions as a block can have, each in a cycle of its own.
+#[test]
+fn a_full_block(rt: HostRuntime) -> Result<(), Fail> {
+    let mut text = String::new(rt.alloc());
+    for _ in 0..MOST_INSTRUCTIONS {
+        text.push_str("ADD A1,A2,A1\n")?;
+    }
+    let board = board_of(&rt, rt.alloc(), block_of(&rt, rt.alloc(), &text)?)?;
+    assert!(rt; board.complete());
+    let block = packets_of(rt.alloc(), &board)?;
+    assert_eq!(rt; block.placed().len(), MOST_INSTRUCTIONS);
+    assert_eq!(rt; block.length(), 256);
+    let mut spots = Vec::new(rt.alloc());
+    for placed in block.placed() {
+        spots.push(Spot {
+            cycle: placed.cycle,
+            unit: placed.unit,
+        })?;
+    }
+    let Ok(same) = packets_at(rt.alloc(), board.plan(), &spots) else {
+        return Err("the spots are lawful".into());
+    };
+    assert_eq!(rt; same.placed().len(), MOST_INSTRUCTIONS);
+    assert_eq!(rt; same.length(), 256);
     Ok(())
 }

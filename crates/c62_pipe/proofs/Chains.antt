@@ -15,7 +15,7 @@ use Rattle.c62_serial.proofs.MachineLemmas.{sound_run}
 use Rattle.c62_serial.proofs.ChainLemmas.{leads_nowhere, leads_on, at_block, past_end, chain_along}
 use Rattle.c62_packet.specs.Packed.{Packed}
 use Rattle.c62_meaning.specs.Meaning.{IsMeaning}
-use Rattle.c62_meaning.proofs.Main.{are_serial}
+use Rattle.c62_meaning.proofs.SerialPackets.{are_serial}
 use Rattle.c62_pipe.specs.Chain.{no_block, block_of, packet_blocks, cycles_taken, RunsPackets, LacksRoom, IsBlockPacked, ArePacked, RunsAsProgram}
 
 -- ---- the run of a chain

@@ -87,6 +87,14 @@ FitsWrites p act flight = FitsSlots (with_writes p.cycle act.writes flight.slots
 abbrev pub with_fault_of : Placed → Option MemoryAccess → Machine → Machine
 with_fault_of p access machine = with_fault_if p.line (is_fault access) machine
 
+-- the machine after an instruction is issued: at once it only notes a fault
+abbrev pub after_issue : Placed → Machine → Machine
+after_issue p machine = with_fault_of p (act_at p machine).access machine
+
+-- what is in flight after an instruction's load or store
+abbrev pub with_transfer : Placed → Transfer → Machine → Flight → Flight
+with_transfer p transfer machine flight = issued p.cycle (transfer_at p transfer machine) flight
+
 -- registers after a landing
 abbrev pub landed : List ℕ → Reg × ℕ → List ℕ
 landed registers write = slice_set registers (index_of write.0) write.1

@@ -8,7 +8,7 @@ ghost use Rattle.c62_serial.specs.Memory.{is_size, is_good};
 ghost use Rattle.c62_serial.specs.Faults.{with_fault_if};
 ghost use Rattle.c62_serial.specs.Effect.{loaded};
 ghost use Rattle.c62_serial.specs.Serial.{exit_after};
-ghost use Rattle.c62_pipe.specs.Flight.{IsIdle, stores_of, act_at, transfer_at, FitsWrites, with_fault_of, issued, with_stores, after_stores, at_end, after_end};
+ghost use Rattle.c62_pipe.specs.Flight.{IsIdle, stores_of, act_at, transfer_at, FitsWrites, with_fault_of, after_issue, with_transfer, issued, with_stores, after_stores, at_end, after_end};
 ghost use Rattle.c62_pipe.specs.Chain.{Does};
 
 use crate::ring::Ring;
@@ -96,7 +96,7 @@ impl Pipe {
         requires fits { FitsWrites placed.now (transfer_at placed.now transfer state.old.machine) self.old }
         ensures machine { state.new.machine ≡ with_fault_of placed.now (Some transfer.access) state.old.machine }
         ensures room { state.old.room ≤ state.new.room + 1 }
-        ensures flight { self.new ≡ issued placed.now.cycle (transfer_at placed.now transfer state.old.machine) self.old }
+        ensures flight { self.new ≡ with_transfer placed.now transfer state.old.machine self.old }
     {
         let loaded = self.access(placed, transfer.access, state);
         if let Some((base, word)) = transfer.base {
@@ -118,7 +118,7 @@ impl Pipe {
         requires few { length self.old.stores < 8 }
         requires fits { FitsWrites placed.now (act_at placed.now state.old.machine) self.old }
         ensures target { result ≡ (act_at placed.now state.old.machine).target }
-        ensures machine { state.new.machine ≡ with_fault_of placed.now (act_at placed.now state.old.machine).access state.old.machine }
+        ensures machine { state.new.machine ≡ after_issue placed.now state.old.machine }
         ensures room { state.old.room ≤ state.new.room + 1 }
         ensures flight { self.new ≡ issued placed.now.cycle (act_at placed.now state.old.machine) self.old }
     {

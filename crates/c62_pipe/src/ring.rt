@@ -57,7 +57,8 @@ impl Ring {
     /// Puts what is due in this cycle into its registers, and empties the slot.
     pub fn land(&mut self, cycle: u16, state: &mut State)
         ensures ring { self.new ≡ slice_set self.old (cycle % 5) [] }
-        ensures state { state.new ≡ record state.old { machine = after_landings (due self.old cycle) state.old.machine } }
+        ensures state { state.new
+            ≡ record state.old { machine = after_landings (due self.old cycle) state.old.machine } }
     {
         let slot = &mut self.slots[usize::from(cycle) % CYCLES];
         for (reg, value) in slot.writes() {

@@ -297,6 +297,48 @@ fn runs_a_block(rt: HostRuntime) -> Result<(), Fail> {
     Ok(())
 }
 
+/// A block of as many instructions and cycles as one can have, in which every access faults.
+fn greatest_block(alloc: Global) -> Result<PacketBlock, Fail> {
+    let mut text = String::new(alloc);
+    for _ in 1..MOST_INSTRUCTIONS {
+        text.push_str("LDH .D1T1 *A4,A5/")?;
+    }
+    for _ in 0..198 {
+        text.push_str("NOP 9/")?;
+    }
+    text.push_str("NOP 6/LDH .D1T1 *A4,A5/NOP 4")?;
+    Ok(block(alloc, &text).ok_or("a block")?)
+}
+
+#[test]
+fn greatest_size(rt: HostRuntime) -> Result<(), Fail> {
+    let mut packets = Packets::new(rt.alloc());
+    for _ in 0..MOST_BLOCKS {
+        let block = greatest_block(rt.alloc())?;
+        assert_eq!(rt; block.length(), MOST_CYCLES);
+        assert!(rt; packets.len() < MOST_BLOCKS);
+        match packets.push(block) {
+            Ok(()) => {}
+            Err((_, error)) => return Err(error)?,
+        }
+    }
+    let closed = packets.closed();
+    assert!(rt; closed);
+    let mut state = State::new(rt.alloc())?;
+    state.set(A4, 1);
+    let block = greatest_block(rt.alloc())?;
+    assert_eq!(rt; Pipe::run(&block, &mut state)?, (Exit::Next, 2_048));
+    let (chain, cycles) = run_chain(&packets, &mut state, 1000)?;
+    let want = Chain {
+        blocks: 64,
+        stop: End::End,
+    };
+    assert_eq!(rt; chain, want);
+    assert_eq!(rt; cycles, 131_072);
+    assert_eq!(rt; state.faults().len(), MOST_INSTRUCTIONS);
+    Ok(())
+}
+
 /// Want of memory leaves the state as it was.
 #[test]
 fn want_of_memory(rt: HostRuntime) {

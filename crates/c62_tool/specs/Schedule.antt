@@ -1,7 +1,8 @@
 -- How the blocks of a program become packets (docs/SCHEDULING.md, "Turns", "Finishing" and "Two workers").
-use Rattle.std.specs.Prelude.{◌≡◌, ◌≢◌, ℕ, true, List, [], ◌∷◌}
+use Rattle.std.specs.Prelude.{◌≡◌, ◌≢◌, ℕ, true, List, [], ◌∷◌, ◌++◌}
 use Rattle.c62_read.specs.Block.{Serial}
 use Rattle.c62_depend.specs.Plan.{insns_of}
+use Rattle.c62_sheet.specs.Lawful.{Spots}
 use Rattle.c62_sheet.specs.Least.{IsComplete}
 use Rattle.c62_board.specs.declared.turn.Turn.{Turn}
 use Rattle.c62_board.specs.declared.turn.Turn.TheVariants.{Memory}
@@ -38,6 +39,11 @@ pub record IsScheduled (packing : Packing) (block : Serial) (packed : Packed) : 
   pub packets : ArePackets block board.spots packed
   pub serial : AreSerial block.insns packed.placed
   pub keeps : IsBlockPacked block packed
+
+-- the packets of these spots stand behind the others
+abbrev pub AddsPackets : Serial → Spots → List Packed → List Packed → Type 0
+AddsPackets block spots old new =
+    (packed : Packed) × ArePackets block spots packed × AreSerial block.insns packed.placed × IsBlockPacked block packed × (new ≡ old ++ packed ∷ [])
 
 -- block by block
 abbrev pub AreScheduled : Packing → List Serial → List Packed → Type 0

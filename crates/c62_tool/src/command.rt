@@ -1,6 +1,6 @@
 //! What the words of the command line ask for.
 
-ghost use Rattle.std.specs.Prelude.{◌≡◌, ◌≢◌, ℕ, IfOk, IfErr, IsOkAnd, Some, None, false, true, map, option_map, length, [], codes};
+ghost use Rattle.std.specs.Prelude.{◌≡◌, IfOk, IfErr, Some, false, map, []};
 ghost use Rattle.clap.specs.Words.{app_of, rule_of, subcommand_of, subcommand_rows_of, fault_of};
 ghost use Rattle.c62_tool.specs.CommandLine.{turns_rule, eject_rule, blocks_rule, settings_rule, pack_app, run_app, serial_app, sim_app, bare_app, packing_app, tool_app, with_packing, with_start, is_set, blocks_of, budget_of, packing_of, plain_packing, IsLocal, found_rows, words_of, named_rows, ask_in, ask_of, asked, IsBadIn, IsBlame};
 ghost use Rattle.c62_tool.specs.Settings.{AreSettings, IsBadAmong};

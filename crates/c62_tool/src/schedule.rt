@@ -1,16 +1,12 @@
 //! Packs the blocks of a program.
 
-ghost use Rattle.std.specs.Prelude.{◌≡◌, ◌<◌, ◌++◌, ◌∷◌, [], length, IfOk, IsTrue, OnOk};
+ghost use Rattle.std.specs.Prelude.{◌≡◌, ◌<◌, length, IfOk, IsTrue, OnOk};
 ghost use Rattle.c62_sheet.specs.Least.{IsComplete};
 ghost use Rattle.c62_depend.specs.Plan.{insns_of};
 ghost use Rattle.c62_board.specs.State.{IsSound};
 ghost use Rattle.c62_packet.specs.declared.limits.TheConstants.{MOST_BLOCKS};
-ghost use Rattle.c62_packet.specs.Packed.{Packed};
-ghost use Rattle.c62_pack.specs.Packets.{ArePackets};
-ghost use Rattle.c62_meaning.specs.Laws.{AreSerial};
 ghost use Rattle.c62_packet.specs.Packets.{is_closed};
-ghost use Rattle.c62_pipe.specs.Chain.{IsBlockPacked};
-ghost use Rattle.c62_tool.specs.Schedule.{AreScheduled, IsMade, IsTurned};
+ghost use Rattle.c62_tool.specs.Schedule.{AreScheduled, AddsPackets, IsMade, IsTurned};
 
 use c62_board::{Board, Turn};
 use c62_depend::Plan;
@@ -84,8 +80,7 @@ fn board_of<H: AllocGlobal + Threads + Wait + Sync>(
 fn push_packets(alloc: Global, packets: &mut Packets, board: &Board) -> Result<(), AllocError>
     requires complete { IsComplete (insns_of board.now.plan) board.now.spots }
     requires few { length packets.old < MOST_BLOCKS }
-    ensures pushed { OnOk result ((packed : Packed) × ArePackets board.now.plan board.now.spots packed
-        × AreSerial board.now.plan.insns packed.placed × IsBlockPacked board.now.plan packed × (packets.new ≡ packets.old ++ packed ∷ [])) }
+    ensures pushed { OnOk result (AddsPackets board.now.plan board.now.spots packets.old packets.new) }
 {
     match packets.push(packets_of(alloc, board)?) {
         Ok(()) => Ok(()),

@@ -27,9 +27,9 @@ use Rattle.c62_meaning.specs.Packet.{Did, register_landings, word_before, byte_b
 use Rattle.c62_meaning.specs.Meaning.{HasFaulted, exit_by, Leaves, IsMeaning}
 use Rattle.c62_meaning.specs.Laws.{HasOneMeaning, IsPlacing, IsPacked, cycles_of, AreSerial}
 use Rattle.c62_meaning.proofs.Lookup.{In, In_from_Contains, Contains_from_In}
-use Rattle.c62_meaning.proofs.Core.{Numbered, ran_at, IsBlock, IsOrdered, RunsAt, IsOver, sound_at, agrees, word_end, byte_end}
+use Rattle.c62_meaning.proofs.SameRuns.{Numbered, ran_at, IsBlock, IsOrdered, RunsAt, IsOver, sound_at, agrees, word_end, byte_end}
 use Rattle.c62_meaning.proofs.Acting.{same_act}
-use Rattle.c62_meaning.proofs.Base.{KeepsBounds, ordered}
+use Rattle.c62_meaning.proofs.CellOrder.{KeepsBounds, ordered}
 use Rattle.c62_meaning.proofs.Runs.{the_run, the_run_runs, one_run, same_words, same_bytes}
 use Rattle.c62_meaning.proofs.Ends.{AllStand, AllAgree, BranchLast, exit_end, over}
 use Rattle.c62_meaning.proofs.Faulted.{faults_end, lines_after, lines_rise, lines_hold}

@@ -19,7 +19,7 @@ use Rattle.c62_packet.specs.declared.placed.Placed.{Placed}
 use Rattle.c62_meaning.specs.Landing.{Landing}
 use Rattle.c62_meaning.specs.Packet.{Did, write_landing, access_landings, access_time, register_landings, memory_landings, word_before, byte_before}
 use Rattle.c62_meaning.proofs.Lookup.{In, In-flat_map, from_In-flat_map, last_value, last_value-append}
-use Rattle.c62_meaning.proofs.Upto.{upto, AreOrdered, AreThose, lookup}
+use Rattle.c62_meaning.proofs.WritesBelow.{upto, AreOrdered, AreThose, lookup}
 use Rattle.c62_meaning.proofs.Acting.{Reads, LoadsByte, act_same, is_loads, load_not_store}
 use Rattle.c62_meaning.proofs.Landings.{writes-last, access-last, from_In-writes, from_In-access, InOrder-act, InOrder-access, act_writes, stores_byte}
 

@@ -20,7 +20,7 @@ use Rattle.c62_meaning.specs.Packet.{access_time}
 use Rattle.c62_meaning.proofs.Lookup.{In, Contains_from_In}
 use Rattle.c62_meaning.proofs.Acting.{Reads, is_loads}
 use Rattle.c62_meaning.proofs.Landings.{from_In-writes, from_In-access, act_writes, stores_byte}
-use Rattle.c62_meaning.proofs.Core.{Numbered, machine_at, serial_act, reg_writes, byte_writes, IsOrdered}
+use Rattle.c62_meaning.proofs.SameRuns.{Numbered, machine_at, serial_act, reg_writes, byte_writes, IsOrdered}
 
 -- whatever bounds the distance of two instructions of a block is kept
 pub record KeepsBounds (b : Numbered) : Type 0 where
