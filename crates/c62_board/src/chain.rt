@@ -5,7 +5,8 @@ ghost use Rattle.std.specs.List.{list_any};
 ghost use Rattle.c62_depend.specs.Plan.{insns_of};
 ghost use Rattle.c62_board.specs.Chain.{Leads, Marks};
 
-use c62_depend::{Link, MOST_INSTRUCTIONS, Plan};
+use c62_depend::{Link, Plan};
+use c62_read::MOST_INSTRUCTIONS;
 
 /// One mark for each number that a block may have.
 pub(crate) type Chained = [bool; MOST_INSTRUCTIONS];

@@ -2,7 +2,7 @@
 use Rattle.std.specs.Prelude.{◌≡◌, ℕ, ◌+◌, ◌*◌, ◌<◌, List, length, map, slice_index}
 use Rattle.std.specs.List.{flat_map, range_with_len, slice_range}
 use Rattle.c62_insn.specs.declared.insn.Insn.{Insn}
-use Rattle.c62_depend.specs.declared.limits.TheConstants.{MOST_INSTRUCTIONS}
+use Rattle.c62_read.specs.declared.limits.TheConstants.{MOST_INSTRUCTIONS}
 use Rattle.c62_depend.specs.declared.links.Link.{Link}
 use Rattle.c62_depend.specs.declared.links.Lists.{Lists}
 use Rattle.c62_depend.specs.Latency.{latency}

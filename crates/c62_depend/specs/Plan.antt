@@ -6,7 +6,7 @@ use Rattle.c62_insn.specs.Shape.{is_branch}
 use Rattle.c62_insn.specs.Insn.{op_of}
 use Rattle.c62_read.specs.declared.block.SerialInsn.{SerialInsn}
 use Rattle.c62_read.specs.Block.{Serial}
-use Rattle.c62_depend.specs.declared.limits.TheConstants.{MOST_INSTRUCTIONS}
+use Rattle.c62_read.specs.declared.limits.TheConstants.{MOST_INSTRUCTIONS}
 use Rattle.c62_depend.specs.declared.tables.Tables.{Tables}
 use Rattle.c62_depend.specs.Uses.{insns_in}
 use Rattle.c62_depend.specs.Latency.{latency}

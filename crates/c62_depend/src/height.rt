@@ -7,8 +7,8 @@ ghost use Rattle.c62_depend.specs.declared.limits.TheConstants.{ISSUE_CYCLES};
 ghost use Rattle.c62_depend.specs.Lists.{IsRow, ArePairs};
 ghost use Rattle.c62_depend.specs.Height.{raised_by, height, first_heights, AreHeightsFrom};
 
-use crate::limits::MOST_INSTRUCTIONS;
 use crate::uses::Uses;
+use c62_read::MOST_INSTRUCTIONS;
 use std::alloc::{AllocError, Global};
 
 /// A height with a latency before it, which is given as a number: 0 where that is below 0, or there is no latency.

@@ -15,7 +15,7 @@ mod tables;
 mod uses;
 
 pub use latency::latency_in;
-pub use limits::{ISSUE_CYCLES, MOST_INSTRUCTIONS};
+pub use limits::ISSUE_CYCLES;
 pub use links::Link;
 pub use plan::Plan;
 

@@ -8,8 +8,8 @@ ghost use Rattle.c62_depend.specs.Links.{linked, needs, followers};
 ghost use Rattle.c62_depend.specs.Lists.{IsRow, ArePairs};
 
 use crate::latency::{as_bound, latency_number};
-use crate::limits::MOST_INSTRUCTIONS;
 use crate::uses::Uses;
+use c62_read::MOST_INSTRUCTIONS;
 use std::alloc::{AllocError, Global};
 
 /// One end of a dependence: the number of the other instruction, and the latency of the dependence.

@@ -3,7 +3,7 @@
 ghost use Rattle.std.specs.Prelude.{◌≡◌, ◌+◌, ◌*◌, ◌≤◌, ◌++◌, IfOk, OnOk, All, length, codes, string_bytes, IsTrue};
 ghost use Rattle.std.specs.Option.{option_copied};
 ghost use Rattle.c62_insn.specs.Insn.{operands_of};
-ghost use Rattle.c62_packet.specs.declared.limits.TheConstants.{MOST_BLOCKS};
+ghost use Rattle.c62_read.specs.declared.limits.TheConstants.{MOST_BLOCKS};
 ghost use Rattle.c62_packet.specs.Packed.{IsPacketBlock};
 ghost use Rattle.c62_packet.specs.Packets.{is_closed};
 ghost use Rattle.c62_listing.specs.Listing.{name_in, pause_line, idle_lines, whole_line, placed_lines, cycle_lines, label_lines, block_lines, parted_lines, listing};

@@ -10,7 +10,8 @@ use Rattle.c62_read.specs.Text.{is_allowed}
 use Rattle.c62_read.specs.Line.{Says, Nothing, Pause, Does, Jumps, line_of}
 use Rattle.c62_read.specs.Program.{Name, place_of, label_is}
 use Rattle.c62_read.specs.Walk.{is_unknown, is_instruction}
-use Rattle.c62_packet.specs.declared.limits.TheConstants.{MOST_BLOCKS, MOST_CYCLES, MOST_INSTRUCTIONS}
+use Rattle.c62_read.specs.declared.limits.TheConstants.{MOST_BLOCKS, MOST_INSTRUCTIONS}
+use Rattle.c62_packet.specs.declared.limits.TheConstants.{MOST_CYCLES}
 use Rattle.c62_packet.specs.declared.placed.Placed.{Placed}
 use Rattle.c62_packet.specs.declared.fault.BlockFault.{BlockFault}
 use Rattle.c62_packet.specs.Packed.{Packed, StandAsWritten, IsPacketBlock}

@@ -3,7 +3,8 @@ use Rattle.std.specs.Prelude.{◌≡◌, ℕ, ◌+◌, ◌*◌, ◌<◌, ◌≤�
 use Rattle.std.specs.List.Sorted.{IsNonDecreasingBy}
 use Rattle.c62_insn.specs.declared.register.Unit.{Unit as FunctionalUnit}
 use Rattle.c62_insn.specs.Units.{index_of}
-use Rattle.c62_packet.specs.declared.limits.TheConstants.{MOST_CYCLES, MOST_INSTRUCTIONS}
+use Rattle.c62_read.specs.declared.limits.TheConstants.{MOST_INSTRUCTIONS}
+use Rattle.c62_packet.specs.declared.limits.TheConstants.{MOST_CYCLES}
 use Rattle.c62_listing_reader.specs.Said.{Part, Draft}
 
 abbrev pub unit_index : Option FunctionalUnit → ℕ

@@ -6,7 +6,7 @@ use Rattle.std.specs.Str.{bytes_eq}
 use Rattle.c62_insn.specs.PacketRules.{Issue}
 use Rattle.c62_read.specs.Number.{is_label}
 use Rattle.c62_read.specs.Program.{Name}
-use Rattle.c62_packet.specs.declared.limits.TheConstants.{MOST_BLOCKS}
+use Rattle.c62_read.specs.declared.limits.TheConstants.{MOST_BLOCKS}
 use Rattle.c62_packet.specs.Packed.{Packed, issues_of, IsPacketBlock}
 use Rattle.c62_packet.specs.Packets.{labels_of, is_closed}
 use Rattle.c62_listing.specs.Listing.{listing}

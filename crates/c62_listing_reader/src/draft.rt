@@ -10,8 +10,8 @@ ghost use Rattle.c62_read.specs.Line.{parts_of};
 ghost use Rattle.c62_read.specs.Program.{label_is};
 
 use c62_insn::Insn;
-use c62_packet::{MOST_BLOCKS, Placed};
-use c62_read::Label;
+use c62_packet::Placed;
+use c62_read::{Label, MOST_BLOCKS};
 use std::alloc::{AllocError, Global};
 
 /// A block as it is read: its label, the cycles that are written, and its instructions.

@@ -20,8 +20,8 @@ use crate::names::Names;
 use crate::spelled::is_spelled;
 use crate::text::{Cut, begins_filled, content, is_ended};
 use c62_insn::Unit;
-use c62_packet::{MOST_CYCLES, MOST_INSTRUCTIONS};
-use c62_read::{Cause, Label, ReadFault, Reading, What, label_place};
+use c62_packet::MOST_CYCLES;
+use c62_read::{Cause, Label, MOST_INSTRUCTIONS, ReadFault, Reading, What, label_place};
 
 fn is_issue(above: Above) -> bool
     ensures { result ≡ is_issue above }

@@ -1,8 +1,16 @@
 //! Laws of the definitions. The functions do nothing: what each ensures is a law.
 
-ghost use Rattle.std.specs.Prelude.{ℕ, List};
+ghost use Rattle.std.specs.Prelude.{◌≡◌, ℕ, List};
+ghost use Rattle.c62_packet.specs.declared.limits.TheConstants.{MOST_CYCLES};
 ghost use Rattle.c62_packet.specs.Packed.{Packed};
+ghost use Rattle.c62_listing_reader.specs.declared.reader.TheConstants.{MOST_BYTES};
 ghost use Rattle.c62_listing_reader.specs.Laws.{IsListedBack, AreOneReading, IsReadBack};
+
+/// A listing has at most 8,388,608 bytes, and a block of it 2,048 cycles.
+pub fn limits_are()
+    ensures bytes { MOST_BYTES ≡ 8388608 }
+    ensures cycles { MOST_CYCLES ≡ 2048 }
+{}
 
 /// What is read of a text is listed as that text, byte for byte.
 pub fn what_is_read_is_listed_back()

@@ -2,7 +2,8 @@
 
 ghost use Rattle.std.specs.Prelude.{◌≡◌, ◌+◌, ◌<◌, ◌≤◌, ◌++◌, ◌∷◌, [], All, List, length, map, OnOk, IfOk, MatchResult, Ok, IsTrue};
 ghost use Rattle.c62_read.specs.Line.{line_of, parts_of, said_of};
-ghost use Rattle.c62_packet.specs.declared.limits.TheConstants.{MOST_BLOCKS, MOST_CYCLES};
+ghost use Rattle.c62_read.specs.declared.limits.TheConstants.{MOST_BLOCKS};
+ghost use Rattle.c62_packet.specs.declared.limits.TheConstants.{MOST_CYCLES};
 ghost use Rattle.c62_packet.specs.Packed.{IsPacketBlock};
 ghost use Rattle.c62_packet.specs.Packets.{is_closed};
 ghost use Rattle.c62_listing_reader.specs.declared.fault.ListFault.TheVariants.{Memory as NoMemory};

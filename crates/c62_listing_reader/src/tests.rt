@@ -2,7 +2,8 @@
 
 use crate::{ListFault, read_listing};
 use c62_listing::list;
-use c62_packet::{MOST_BLOCKS, Packets};
+use c62_packet::Packets;
+use c62_read::MOST_BLOCKS;
 use std::alloc::Global;
 use std::test::Fail;
 

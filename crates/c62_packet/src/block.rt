@@ -2,7 +2,8 @@
 
 ghost use Rattle.std.specs.Prelude.{◌≡◌, ◌≤◌, length, Some, MatchResult};
 ghost use Rattle.std.specs.Option.{option_copied};
-ghost use Rattle.c62_packet.specs.declared.limits.TheConstants.{MOST_CYCLES, MOST_INSTRUCTIONS};
+ghost use Rattle.c62_read.specs.declared.limits.TheConstants.{MOST_INSTRUCTIONS};
+ghost use Rattle.c62_packet.specs.declared.limits.TheConstants.{MOST_CYCLES};
 ghost use Rattle.c62_packet.specs.Packed.{Packed, IsPacketBlock, IsInListingOrder, StandAsWritten};
 ghost use Rattle.c62_packet.specs.Fault.{IsFault};
 
@@ -15,7 +16,7 @@ use std::marker::Model;
 
 /// A block of execute packets: its label, where it has one, its length in cycles, and its
 /// instructions in listing order, by cycle and in a cycle by unit. It keeps the packet rules in each
-/// cycle, has at most one branch, [`MOST_INSTRUCTIONS`](crate::MOST_INSTRUCTIONS) instructions and
+/// cycle, has at most one branch, [`MOST_INSTRUCTIONS`](c62_read::MOST_INSTRUCTIONS) instructions and
 /// [`MOST_CYCLES`](crate::MOST_CYCLES) cycles, and nothing lands in the cycle of its length or later. The written unit of each instruction is the one that it stands on.
 #[derive(Drop)]
 pub struct PacketBlock {

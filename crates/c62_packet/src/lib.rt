@@ -14,7 +14,7 @@ mod taken;
 pub use block::PacketBlock;
 pub use fault::{BlockFault, PacketRule};
 pub use length::cycles_of;
-pub use limits::{MOST_BLOCKS, MOST_CYCLES, MOST_INSTRUCTIONS};
+pub use limits::MOST_CYCLES;
 pub use packets::Packets;
 pub use placed::Placed;
 

@@ -4,7 +4,7 @@ ghost use Rattle.std.specs.Prelude.{◌≡◌, ◌<◌, ◌≤◌, ◌++◌, ◌
 ghost use Rattle.std.specs.List.{list_all};
 ghost use Rattle.c62_insn.specs.Insn.{operands_of};
 ghost use Rattle.c62_read.specs.Block.{target_stands};
-ghost use Rattle.c62_packet.specs.declared.limits.TheConstants.{MOST_BLOCKS};
+ghost use Rattle.c62_read.specs.declared.limits.TheConstants.{MOST_BLOCKS};
 ghost use Rattle.c62_packet.specs.Packed.{Packed, IsPacketBlock};
 ghost use Rattle.c62_packet.specs.Packets.{labels_of, is_closed};
 
@@ -14,7 +14,7 @@ use c62_insn::Operands;
 use std::alloc::{AllocError, Global};
 use std::marker::Model;
 
-/// At most [`MOST_BLOCKS`](crate::MOST_BLOCKS) packet blocks, numbered from 0 in their order.
+/// At most [`MOST_BLOCKS`](c62_read::MOST_BLOCKS) packet blocks, numbered from 0 in their order.
 #[derive(Drop)]
 pub struct Packets {
     blocks: Vec<PacketBlock>,
@@ -38,7 +38,7 @@ impl Packets {
         }
     }
 
-    /// How many blocks there are, at most [`MOST_BLOCKS`](crate::MOST_BLOCKS).
+    /// How many blocks there are, at most [`MOST_BLOCKS`](c62_read::MOST_BLOCKS).
     pub fn len(&self) -> usize
         ensures len { result ≡ length self.now }
         ensures few { length self.now ≤ MOST_BLOCKS }

@@ -4,7 +4,8 @@ ghost use Rattle.std.specs.Prelude.{◌≡◌, ◌↔◌, ◌+◌, ◌<◌, ◌�
 ghost use Rattle.std.specs.List.{list_any};
 ghost use Rattle.std.specs.List.Sorted.{IsNonDecreasingBy};
 ghost use Rattle.c62_insn.specs.PacketRules.{reads_count, reads_in, KeepsPacketRules};
-ghost use Rattle.c62_packet.specs.declared.limits.TheConstants.{MOST_CYCLES, MOST_INSTRUCTIONS};
+ghost use Rattle.c62_read.specs.declared.limits.TheConstants.{MOST_INSTRUCTIONS};
+ghost use Rattle.c62_packet.specs.declared.limits.TheConstants.{MOST_CYCLES};
 ghost use Rattle.c62_packet.specs.Packed.{issue_of, issued, IsInListingOrder};
 ghost use Rattle.c62_packet.specs.Fault.{rank_of, FindsBroken};
 ghost use Rattle.c62_packet.specs.Clash.{shares_unit, crosses, shares_side, both_cross, shares_cross_path, same_path, shares_data_path, reads_beside, is_over_read, is_landing, lands, is_met, landing_beside, broken_by, broken_beside, is_before, earlier, broken};

@@ -5,6 +5,7 @@ use Rattle.c62_insn.specs.declared.operands.Op.{Op}
 use Rattle.c62_insn.specs.declared.operands.Operands.{Operands}
 use Rattle.c62_insn.specs.declared.operands.Operands.TheVariants.{Block as BlockNumber}
 use Rattle.c62_insn.specs.Insn.{op_of, operands_of}
+use Rattle.c62_read.specs.declared.limits.TheConstants.{MOST_INSTRUCTIONS}
 use Rattle.c62_read.specs.declared.block.SerialInsn.{SerialInsn}
 use Rattle.c62_read.specs.Line.{is_branch}
 
@@ -24,7 +25,7 @@ operations insns = map (λ entry. op_of entry.insn) insns
 
 -- at most 256 instructions, and a branch only as the last
 abbrev pub is_block : List SerialInsn → Bool
-is_block insns = nat_le (length insns) 256 && branch_last (operations insns)
+is_block insns = nat_le (length insns) MOST_INSTRUCTIONS && branch_last (operations insns)
 
 -- ---- branches to labels
 

@@ -5,6 +5,7 @@ use Rattle.std.specs.Option.{option_to_list}
 use Rattle.std.specs.Str.{bytes_eq}
 use Rattle.c62_insn.specs.declared.operands.Operands.{Operands}
 use Rattle.c62_insn.specs.declared.operands.Operands.TheVariants.{Block}
+use Rattle.c62_read.specs.declared.limits.TheConstants.{MOST_BLOCKS, MOST_BYTES, MOST_INSTRUCTIONS}
 use Rattle.c62_read.specs.declared.fault.Cause.{Cause}
 use Rattle.c62_read.specs.declared.fault.Cause.TheVariants.{DuplicateLabel, UnknownTarget, TooManyInstructions, TooManyBlocks, TextTooLong, Memory}
 use Rattle.c62_read.specs.declared.fault.ReadFault.{ReadFault}
@@ -123,7 +124,7 @@ misses_label labels (Ok (label, Jumps parts target)) = not (is_among target labe
 misses_label labels said = false
 
 abbrev pub is_overfull : Draft → Bool
-is_overfull draft = nat_lt 256 (length draft.insns)
+is_overfull draft = nat_lt MOST_INSTRUCTIONS (length draft.insns)
 
 -- What is wrong with a line that stands behind these, in the order in which it is told: the line's head by itself, a label
 -- that an earlier line has, the rest of the line by itself, a branch to no label of the text, the 257th instruction of a
@@ -135,7 +136,7 @@ fault_of labels before line =
     ∷ fault_in (line_of line)
     ∷ fault_if (misses_label labels (line_of line)) UnknownTarget
     ∷ fault_if (list_any is_overfull (blocks_from (before ++ line ∷ []))) TooManyInstructions
-    ∷ fault_if (nat_lt 64 (length (blocks_from (before ++ line ∷ [])))) TooManyBlocks
+    ∷ fault_if (nat_lt MOST_BLOCKS (length (blocks_from (before ++ line ∷ [])))) TooManyBlocks
     ∷ [])
 
 -- the number of a line, from 1, and its fault; a fault of no line has 0
@@ -153,7 +154,7 @@ unless_refused None value = Ok value
 unless_refused (Some refusal) value = Err refusal
 
 abbrev pub most_bytes : ℕ
-most_bytes = 1048576
+most_bytes = MOST_BYTES
 
 -- the blocks of a text with the labels that they branch to, or its first fault
 unfoldable pub drafts_in : List ℕ → Result (List Draft) Refusal

@@ -4,6 +4,7 @@ use Rattle.std.specs.Prelude.{ℕ, ◌+◌, Bool, true, false, not, ◌&&◌, �
 use Rattle.std.specs.List.{filter, flat_map, list_any}
 use Rattle.std.specs.Option.{option_to_list}
 use Rattle.c62_insn.specs.declared.operands.Op.{Op}
+use Rattle.c62_read.specs.declared.limits.TheConstants.{MOST_BLOCKS, MOST_INSTRUCTIONS}
 use Rattle.c62_read.specs.declared.fault.Cause.{Cause}
 use Rattle.c62_read.specs.declared.fault.Cause.TheVariants.{DuplicateLabel, UnknownTarget, TooManyInstructions, TooManyBlocks}
 use Rattle.c62_read.specs.declared.fault.ReadFault.{ReadFault}
@@ -24,7 +25,7 @@ draft_operations draft = map (λ entry. entry.parts.op) draft.insns
 
 -- at most 256 instructions, and a branch only as the last
 abbrev pub is_whole : Draft → Bool
-is_whole draft = nat_le (length draft.insns) 256 && branch_last (draft_operations draft)
+is_whole draft = nat_le (length draft.insns) MOST_INSTRUCTIONS && branch_last (draft_operations draft)
 
 abbrev pub new_draft : Option Name → Draft
 new_draft label = record { label = label; insns = []; target = None }
@@ -92,7 +93,7 @@ is_instruction _ = true
 
 abbrev pub is_full : Option Draft → Bool
 is_full None = false
-is_full (Some draft) = nat_le 256 (length draft.insns)
+is_full (Some draft) = nat_le MOST_INSTRUCTIONS (length draft.insns)
 
 -- whether the line begins a block: by its label, or by an instruction where no block is open
 abbrev pub begins_block : Option Name → Says → Drafts → Bool
@@ -102,7 +103,7 @@ begins_block label says drafts = is_some label || is_instruction says && is_none
 unfoldable pub hindrance : Option Name → Says → Drafts → Option Cause
 hindrance label says drafts =
     if is_instruction says && is_none label && is_full drafts.current then Some TooManyInstructions
-    else (if begins_block label says drafts && nat_le 64 (length (all_drafts drafts)) then Some TooManyBlocks
+    else (if begins_block label says drafts && nat_le MOST_BLOCKS (length (all_drafts drafts)) then Some TooManyBlocks
     else None)
 
 -- ---- lines

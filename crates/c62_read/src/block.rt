@@ -2,6 +2,7 @@
 
 ghost use Rattle.std.specs.Prelude.{◌≡◌, ◌≤◌, length, Some, None, List, map, true, IfOk, IsTrue};
 ghost use Rattle.std.specs.Option.{option_copied};
+ghost use Rattle.c62_read.specs.declared.limits.TheConstants.{MOST_BLOCKS};
 ghost use Rattle.c62_read.specs.Block.{Serial, is_block, targets_stand};
 
 use crate::label::Label;
@@ -102,12 +103,12 @@ impl Model for Program {
 
     ghost view = { λ program. program.blocks.items };
 
-    ghost invariant = { λ program. (length program.blocks.items ≤ 64) × (targets_stand program.blocks.items ≡ true) };
+    ghost invariant = { λ program. (length program.blocks.items ≤ MOST_BLOCKS) × (targets_stand program.blocks.items ≡ true) };
 }
 
 impl Program {
     pub(crate) fn new(blocks: Vec<Block>) -> Program
-        requires few { length blocks.items ≤ 64 }
+        requires few { length blocks.items ≤ MOST_BLOCKS }
         requires targets { IsTrue (targets_stand blocks.items) }
         ensures { result ≡ blocks.items }
     {
@@ -117,7 +118,7 @@ impl Program {
     /// The blocks in their order, at most 64. Every branch to a label names the number of one that has a label.
     pub fn blocks(&self) -> &[Block]
         ensures same { result.now ≡ self.now }
-        ensures few { length self.now ≤ 64 }
+        ensures few { length self.now ≤ MOST_BLOCKS }
         ensures sound { IsTrue (targets_stand self.now) }
     {
         &self.blocks
@@ -126,7 +127,7 @@ impl Program {
     /// Hands over the blocks in their order, with what `blocks` tells of them. It takes no memory.
     pub fn into_blocks(self) -> Vec<Block>
         ensures same { result.items ≡ self }
-        ensures few { length result.items ≤ 64 }
+        ensures few { length result.items ≤ MOST_BLOCKS }
         ensures sound { IsTrue (targets_stand result.items) }
     {
         self.blocks

@@ -6,9 +6,17 @@ ghost use Rattle.c62_insn.specs.declared.register.Reg.{Reg as Register};
 ghost use Rattle.c62_insn.specs.declared.register.Unit.{Unit as FunctionalUnit};
 ghost use Rattle.c62_insn.specs.declared.insn.Insn.{Insn};
 ghost use Rattle.c62_insn.specs.declared.operands.Op.{Op as Operation};
+ghost use Rattle.c62_read.specs.declared.limits.TheConstants.{MOST_BYTES, MOST_INSTRUCTIONS, MOST_BLOCKS};
 ghost use Rattle.c62_read.specs.Text.{begins, is_blank, tokens};
 ghost use Rattle.c62_read.specs.Line.{is_star};
 ghost use Rattle.c62_read.specs.Laws.{LineReadsBack, PauseReadsBack, LabelReadsBack, NumberReadsBack, RegisterReadsBack, IsReadable, StarSaysNothing, CommentSaysNothing, CommentsSayNothing, CaseSaysNothing, CaseChangesNothing, IsRecased, IsItsLines, HasTargets, HasRisingLines, ReadsAsItsLine, HasCutBlocks, HasItsLabels, KeepsEffect, KeepEffects};
+
+/// A text has at most 1,048,576 bytes, a block 256 instructions, and a program 64 blocks.
+pub fn limits_are()
+    ensures bytes { MOST_BYTES ≡ 1048576 }
+    ensures instructions { MOST_INSTRUCTIONS ≡ 256 }
+    ensures blocks { MOST_BLOCKS ≡ 64 }
+{}
 
 /// The tokens of a line are its bytes in their order, less blanks and what follows a `;`.
 pub fn tokens_are_the_bytes()

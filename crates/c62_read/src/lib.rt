@@ -8,6 +8,7 @@ mod jump;
 mod kind;
 mod label;
 mod laws;
+mod limits;
 mod line;
 mod missed;
 mod mnemonic;
@@ -25,12 +26,13 @@ pub use laws::{
     a_program_is_its_lines, blocks_are_cut_by_labels_and_branches, branches_have_targets,
     case_changes_no_program, case_says_nothing, comments_change_no_line,
     comments_change_no_program, comments_say_nothing, exchanged_operations_keep_the_effect,
-    instructions_read_as_their_lines, labels_are_distinct, labels_read_back, lines_rise,
-    numbers_read_back, pauses_read_back, pseudo_operations_keep_the_effect, registers_read_back,
-    spelled_lines_read_back, star_lines_say_nothing, tokens_are_the_bytes,
+    instructions_read_as_their_lines, labels_are_distinct, labels_read_back, limits_are,
+    lines_rise, numbers_read_back, pauses_read_back, pseudo_operations_keep_the_effect,
+    registers_read_back, spelled_lines_read_back, star_lines_say_nothing, tokens_are_the_bytes,
 };
+pub use limits::{MOST_BLOCKS, MOST_BYTES, MOST_INSTRUCTIONS};
 pub use line::read_insn;
-pub use program::{MOST_BYTES, label_place, read_program};
+pub use program::{label_place, read_program};
 pub use reading::{Reading, What};
 
 #[cfg(test)]

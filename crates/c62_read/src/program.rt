@@ -11,15 +11,13 @@ use crate::block::{Block, Program, SerialInsn};
 use crate::fault::{Cause, ReadFault};
 use crate::jump::Jump;
 use crate::label::Label;
+use crate::limits::{MOST_BLOCKS, MOST_BYTES, MOST_INSTRUCTIONS};
 use crate::line::{begins_with, first_label, owned, read_head, read_rest};
 use crate::missed::{first_branch, leave_out_label};
 use crate::reading::Statement;
 use crate::token::{has_byte, steps_before};
 use c62_insn::{Insn, Op};
 use std::alloc::{AllocError, Global};
-
-/// The longest text, in bytes.
-pub const MOST_BYTES: usize = 1_048_576;
 
 /// A block as it is read, and the label that its last instruction branches to.
 #[derive(Drop)]
@@ -195,7 +193,7 @@ impl TextReader {
         ensures { result ≡ is_full (drafts_of self.now).current }
     {
         match &self.current {
-            Some(block) => block.insns.len() >= 256,
+            Some(block) => block.insns.len() >= MOST_INSTRUCTIONS,
             None => false,
         }
     }
@@ -216,7 +214,7 @@ impl TextReader {
         if is_instruction && label.is_none() && self.is_full() {
             Some(Cause::TooManyInstructions)
         } else if (label.is_some() || is_instruction && self.current.is_none())
-            && self.blocks() >= 64
+            && self.blocks() >= MOST_BLOCKS
         {
             Some(Cause::TooManyBlocks)
         } else {
@@ -466,8 +464,8 @@ fn earlier(missed: Option<u32>, fault: ReadFault) -> ReadFault
 
 /// The blocks of a text as they are read.
 fn read_drafts(alloc: Global, text: &[u8]) -> Result<TextReader, ReadFault>
-    requires { length text.now ≤ 1048576 }
-    ensures few { IfOk result (λ reader. length (all_drafts (drafts_of reader)) ≤ 64) }
+    requires { length text.now ≤ MOST_BYTES }
+    ensures few { IfOk result (λ reader. length (all_drafts (drafts_of reader)) ≤ MOST_BLOCKS) }
     ensures whole { IfOk result (λ reader. IsTrue (list_all is_whole (all_drafts (drafts_of reader)))) }
     ensures ok { IfOk result (λ reader. add_lines (labels_of (lines_of text.now)) 1 (lines_of text.now) no_drafts ≡ Ok (drafts_of reader)) }
     ensures err { IfErr result (λ fault. Fails fault (add_lines (labels_of (lines_of text.now)) 1 (lines_of text.now) no_drafts)) }
@@ -513,7 +511,7 @@ fn place_among(labels: &[Option<Label>], label: &[u8]) -> Option<usize>
 
 /// The number of the block with this label, where these are the labels of all blocks.
 fn target_number(labels: &[Option<Label>], target: &Option<Label>) -> u8
-    requires { length labels.now ≤ 64 }
+    requires { length labels.now ≤ MOST_BLOCKS }
     ensures { result ≡ number_among labels.now target.now }
 {
     match target {
@@ -537,7 +535,7 @@ fn block_labels(alloc: Global, blocks: &[BlockReader]) -> Result<Vec<Option<Labe
 
 /// The blocks of a program.
 fn all_blocks(alloc: Global, blocks: Vec<BlockReader>) -> Result<Vec<Block>, AllocError>
-    requires few { length blocks.items ≤ 64 }
+    requires few { length blocks.items ≤ MOST_BLOCKS }
     requires whole { IsTrue (list_all is_whole (map draft_of blocks.items)) }
     ensures few { IfOk result (λ made. length made.items ≡ length blocks.items) }
     ensures made { let drafts = map draft_of blocks.items in IfOk result (λ made. map block_parts made.items ≡ map (block_in drafts) drafts) }

@@ -16,8 +16,9 @@ ghost use Rattle.c62_sheet.specs.Packet.{Fits};
 use crate::early::early;
 use crate::entry::{Rule, Spot, Unlawful};
 use crate::packet::rule_against;
-use c62_depend::{MOST_INSTRUCTIONS, Plan};
+use c62_depend::Plan;
 use c62_insn::{Side, Unit, UnitSet};
+use c62_read::MOST_INSTRUCTIONS;
 
 /// Whether instruction `i` may be placed at a spot, or the first rule against it.
 pub(crate) fn check(

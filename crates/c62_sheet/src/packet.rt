@@ -10,8 +10,9 @@ ghost use Rattle.c62_sheet.specs.Packet.{is_path, uses_on, uses_in, IsUsed, Want
 
 use crate::entry::{Rule, Spot};
 use crate::resource::Resource;
-use c62_depend::{MOST_INSTRUCTIONS, Plan};
+use c62_depend::Plan;
 use c62_insn::{Insn, Reg, Side, Unit};
+use c62_read::MOST_INSTRUCTIONS;
 
 /// The most reads of one register in a cycle, lawful or not: three by each instruction of a block.
 const MOST_READS: usize = 3 * MOST_INSTRUCTIONS;

@@ -8,7 +8,8 @@ ghost use Rattle.c62_sheet.specs.Least.{IsReady};
 use crate::early::early;
 use crate::entry::Spot;
 use crate::packet::rule_against;
-use c62_depend::{MOST_INSTRUCTIONS, Plan};
+use c62_depend::Plan;
+use c62_read::MOST_INSTRUCTIONS;
 
 /// Whether the set with ready instruction `i` at a spot is lawful.
 fn is_lawful_with(plan: &Plan, spots: &[Option<Spot>], i: u16, spot: Spot) -> bool

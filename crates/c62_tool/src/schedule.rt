@@ -4,7 +4,7 @@ ghost use Rattle.std.specs.Prelude.{◌≡◌, ◌<◌, length, IfOk, IsTrue, On
 ghost use Rattle.c62_sheet.specs.Least.{IsComplete};
 ghost use Rattle.c62_depend.specs.Plan.{insns_of};
 ghost use Rattle.c62_board.specs.State.{IsSound};
-ghost use Rattle.c62_packet.specs.declared.limits.TheConstants.{MOST_BLOCKS};
+ghost use Rattle.c62_read.specs.declared.limits.TheConstants.{MOST_BLOCKS};
 ghost use Rattle.c62_packet.specs.Packets.{is_closed};
 ghost use Rattle.c62_tool.specs.Schedule.{AreScheduled, AddsPackets, IsMade, IsTurned};
 
