@@ -1,5 +1,6 @@
 -- More than eight tokens are no operands, and a condition begins with a bracket.
-use Rattle.std.proofs.Common.{◌≡◌, ℕ, ◌+◌, ◌≤◌, ◌<◌, Bool, true, false, List, [], ◌∷◌, length, Option, Some, None, Err, refl, arith}
+use Rattle.std.proofs.Common.{◌≡◌, ℕ, ◌+◌, ◌≤◌, ◌<◌, Bool, true, false, List, [], ◌∷◌, length, Option, Some, None, Err, cond, eqb, refl, sym, ap, subst, ◌∙◌, inl, inr, arith}
+use Rattle.std.proofs.lemmas.Bool.{cases_Bool, eqb-true}
 use Rattle.std.specs.Prelude.{ℤ}
 use Rattle.std.proofs.lemmas.List.{length-map}
 use Rattle.c62_insn.specs.declared.register.Reg.{Reg}
@@ -7,14 +8,16 @@ use Rattle.c62_insn.specs.declared.register.Cond.{Cond as Condition}
 use Rattle.c62_insn.specs.declared.operands.AddressForm.{AddressForm}
 use Rattle.c62_read.specs.declared.fault.Cause.TheVariants.{BadOperand}
 use Rattle.c62_read.specs.declared.kind.Kind.{Kind}
-use Rattle.c62_read.specs.declared.kind.Kind.TheVariants.{Comma, Star, Open, Close, Plus, Minus, Increment, Decrement, Register, Number}
+use Rattle.c62_read.specs.declared.kind.Kind.TheVariants.{Comma, Star, Open, Close, Not, Plus, Minus, Increment, Decrement, Register, Number}
 use Rattle.c62_read.specs.declared.operand.Address.{Address}
 use Rattle.c62_read.specs.Number.{number_of, register_of}
 use Rattle.c62_read.specs.Operand.{address_front, loaded, operands_of, stored, with_offset}
 use Rattle.c62_read.specs.declared.mnemonic.Mnemonic.{Mnemonic}
 use Rattle.c62_read.specs.declared.mnemonic.Mnemonic.TheVariants.{Nop, Operation}
 use Rattle.c62_read.specs.declared.unit.WrittenUnit.{WrittenUnit}
-use Rattle.c62_read.specs.Kind.{Word, first_is_open, is_open, kind_by, kind_of, kinds_of, mark_of, value_kind}
+use Rattle.c62_read.specs.Kind.{Word, first_is_open, is_open, kind_by, kind_of, kinds_of, lone_mark, mark_of, single_mark, value_kind}
+use Rattle.c62_read.specs.Text.{tokens}
+use Rattle.c62_read.proofs.SpelledTokens.{is_mark, mark_alone}
 use Rattle.c62_read.specs.Line.{behind_unit, condition_of, is_storing, pause_of, target_of}
 
 -- so many tokens stand before what is left, if an address does
@@ -102,3 +105,30 @@ pub no_bracket : (words : List Word) → first_is_open words ≡ false → condi
 unfolding kind_of condition_of
 no_bracket [] is = refl
 no_bracket (word ∷ words) is = other_kind (mark_of word) word (kinds_of words) is
+
+-- ---- marks that stand alone
+
+one_mark : (c : ℕ) (kind : Kind) (rest : List ℕ) → is_mark c ≡ true → kind_of (c ∷ []) ≡ kind → kinds_of (tokens (c ∷ rest)) ≡ kind ∷ kinds_of (tokens rest)
+one_mark c kind rest mark is = ap kinds_of (mark_alone c rest mark) ∙ ap (λ (k : Kind). k ∷ kinds_of (tokens rest)) is
+
+abbrev StandsAlone : ℕ → List ℕ → Option Kind → Type 0
+StandsAlone b rest None = Unit {0}
+StandsAlone b rest (Some kind) = kinds_of (tokens (b ∷ rest)) ≡ kind ∷ kinds_of (tokens rest)
+
+stands_alone : (b : ℕ) (rest : List ℕ) → StandsAlone b rest (lone_mark b)
+unfolding kind_of mark_of single_mark
+stands_alone b rest =
+    either 44 Comma _ refl refl (either 42 Star _ refl refl (either 91 Open _ refl refl (either 93 Close _ refl refl (either 33 Not None refl refl tt))))
+  where
+    either : (c : ℕ) (kind : Kind) (other : Option Kind) → is_mark c ≡ true → kind_of (c ∷ []) ≡ kind → StandsAlone b rest other
+        → StandsAlone b rest (cond (eqb b c) (Some kind) other)
+    either c kind other mark is later =
+        elim (cases_Bool (eqb b c)) [
+          | inl same ↦ rw same (subst (λ (x : ℕ). StandsAlone x rest (Some kind)) (sym (eqb-true b c same)) (one_mark c kind rest mark is))
+          | inr differs ↦ rw differs later
+        ]
+
+pub lone_is : (line rest : List ℕ) (b : ℕ) (kind : Kind) → line ≡ b ∷ rest → lone_mark b ≡ Some kind → kinds_of (tokens line) ≡ kind ∷ kinds_of (tokens rest)
+lone_is line rest b kind are is =
+    let alone : StandsAlone b rest (Some kind) = subst (StandsAlone b rest) is (stands_alone b rest) in
+    ap (λ (bytes : List ℕ). kinds_of (tokens bytes)) are ∙ alone

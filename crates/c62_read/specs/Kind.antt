@@ -1,5 +1,5 @@
 -- What the tokens of a line are: marks, registers, numbers and names (docs/SERIAL_TEXT.md, "Tokens").
-use Rattle.std.specs.Prelude.{ℕ, ℤ, Bool, true, false, ◌==◌, ◌&&◌, List, [], ◌∷◌, map, Option, Some, None, if◌then◌else◌}
+use Rattle.std.specs.Prelude.{◌≡◌, ◌<◌, length, ℕ, ℤ, Bool, true, false, ◌==◌, ◌&&◌, List, [], ◌∷◌, map, Option, Some, None, if◌then◌else◌}
 use Rattle.c62_insn.specs.declared.register.Reg.{Reg}
 use Rattle.c62_read.specs.declared.kind.Kind.{Kind}
 use Rattle.c62_read.specs.declared.kind.Kind.TheVariants.{Comma, Star, Open, Close, Not, Plus, Minus, Increment, Decrement, Register, Number, Name}
@@ -54,3 +54,18 @@ is_open _ = false
 abbrev pub first_is_open : List Word → Bool
 first_is_open [] = false
 first_is_open (word ∷ words) = is_open (mark_of word)
+
+-- the marks that are never part of a longer token
+abbrev pub lone_mark : ℕ → Option Kind
+lone_mark b =
+    if b == 44 then Some Comma
+    else (if b == 42 then Some Star
+    else (if b == 91 then Some Open
+    else (if b == 93 then Some Close
+    else (if b == 33 then Some Not
+    else None))))
+
+-- these are what the tokens are, or there are more than eight of those
+abbrev pub HoldsKinds : Bool → List Kind → List Word → Type 0
+HoldsKinds true kinds words = kinds ≡ kinds_of words
+HoldsKinds false kinds words = 8 < length words

@@ -1,10 +1,10 @@
 //! What a token is, whatever the case of its letters.
 
 ghost use Rattle.std.specs.Prelude.{◌≡◌, ◌<◌, ◌++◌, [], ◌∷◌, length, map, MatchOption};
-ghost use Rattle.c62_read.specs.Text.{words_left};
+ghost use Rattle.c62_read.specs.Text.{tokens, words_left};
 
 use crate::number::{number, register};
-use crate::token::Tokens;
+use crate::token::{Tokens, from_token, token_len};
 use arrayvec::ArrayVec;
 use c62_insn::Reg;
 
@@ -36,8 +36,9 @@ pub(crate) enum Kind {
     Name,
 }
 
-ghost use Rattle.c62_read.specs.Kind.{single_mark, mark_of, kind_of, kinds_of};
+ghost use Rattle.c62_read.specs.Kind.{lone_mark, single_mark, mark_of, kind_of, kinds_of, HoldsKinds};
 
+#[inline(always)]
 #[tactic(auto, unfolding(crate::specs::Kind::single_mark))]
 fn single_mark(b: u8) -> Option<Kind>
     ensures { result ≡ single_mark b }
@@ -69,6 +70,7 @@ pub(crate) fn mark(word: &[u8]) -> Option<Kind>
 
 impl Kind {
     /// What the token of these bytes is.
+    #[inline(always)]
     #[tactic(auto, unfolding(crate::specs::Kind::kind_of))]
     pub(crate) fn of(word: &[u8]) -> Kind
         ensures { result ≡ kind_of word.now }
@@ -85,6 +87,36 @@ impl Kind {
     }
 }
 
+/// The mark that is a token wherever it stands.
+#[inline(always)]
+fn lone_mark(b: u8) -> Option<Kind>
+    ensures { result ≡ lone_mark b }
+{
+    match b {
+        b',' => Some(Kind::Comma),
+        b'*' => Some(Kind::Star),
+        b'[' => Some(Kind::Open),
+        b']' => Some(Kind::Close),
+        b'!' => Some(Kind::Not),
+        _ => None,
+    }
+}
+
+/// What the first token of a line is, and what follows it.
+#[inline(always)]
+#[tactic(auto, using(crate::proofs::KindLemmas::lone_is))]
+fn next_kind(line: &[u8]) -> Option<(Kind, &[u8])>
+    ensures { MatchOption result (tokens line.now ≡ []) (λ found. kinds_of (tokens line.now) ≡ found.0 ∷ kinds_of (tokens found.1.now)) }
+{
+    let start = from_token(line);
+    let (first, rest) = start.split_first()?;
+    if let Some(mark) = lone_mark(*first) {
+        return Some((mark, rest));
+    }
+    let (word, rest) = start.split_at(token_len(start));
+    Some((Kind::of(word), rest))
+}
+
 impl<'a> Tokens<'a> {
     /// What the first token is, and the others.
     #[inline(always)]
@@ -96,18 +128,25 @@ impl<'a> Tokens<'a> {
         Some((Kind::of(word), self.behind()))
     }
 
-    /// What the tokens are. None where more than eight are left: no line has so many operands.
-    pub(crate) fn kinds(self) -> Option<ArrayVec<Kind, 8>>
-        ensures { MatchOption result (8 < length (words_left self.entry)) (λ kinds. kinds.items ≡ kinds_of (words_left self.entry)) }
+    /// Adds what the tokens are. False where these are more than there is room for: no line has so many operands.
+    #[inline(always)]
+    #[tactic(auto, unfolding(crate::specs::Text::words_left))]
+    pub(crate) fn add_kinds(self, kinds: &mut ArrayVec<Kind, 8>) -> bool
+        requires { kinds.old.items ≡ [] }
+        ensures { HoldsKinds result kinds.new.items (words_left self.entry) }
     {
-        let mut kinds = ArrayVec::new();
-        let mut rest = self;
-        while let Some((word, others)) = rest.split() {
-            if kinds.try_push(Kind::of(word)).is_err() {
-                return None;
-            }
-            rest = others;
+        if self.first.is_empty() {
+            return true;
         }
-        Some(kinds)
+        kinds.push(Kind::of(self.first));
+        let mut rest = self.rest;
+        while let Some((kind, behind)) = next_kind(rest) {
+            if kinds.is_full() {
+                return false;
+            }
+            kinds.push(kind);
+            rest = behind;
+        }
+        true
     }
 }

@@ -20,6 +20,7 @@ use crate::operand::read_operands;
 use crate::reading::{Reading, Statement};
 use crate::token::{STEP, Tokens, from_token, has_byte, is_allowed, is_mark, without_indent};
 use crate::unit::{WrittenUnit, first_unit};
+use arrayvec::ArrayVec;
 use c62_insn::{Cond, Letter, Op, Operands};
 
 /// The number of cycles behind NOP, which takes no condition.
@@ -130,9 +131,10 @@ fn behind_unit<'a>(
     if let Some(label) = target(mnemonic, rest) {
         return jumps(cond, written, label);
     }
-    let Some(kinds) = rest.kinds() else {
+    let mut kinds = ArrayVec::new();
+    if !rest.add_kinds(&mut kinds) {
         return Err(Cause::BadOperand);
-    };
+    }
     if matches!(mnemonic, Mnemonic::Nop) {
         return pause(cond, &kinds);
     }

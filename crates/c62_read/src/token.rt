@@ -117,7 +117,8 @@ pub(crate) fn word_len(bytes: &[u8]) -> usize
 }
 
 /// How many bytes the token has that stands first.
-fn token_len(bytes: &[u8]) -> usize
+#[inline(always)]
+pub(crate) fn token_len(bytes: &[u8]) -> usize
     requires { 0 < length bytes.now → IsTrue (begins is_solid bytes.now) }
     ensures within { result ≤ length bytes.now }
     ensures some { 0 < length bytes.now → 0 < result }
