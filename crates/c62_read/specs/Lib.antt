@@ -9,4 +9,5 @@ pub mod Block
 pub mod Program
 pub mod Jump
 pub mod Walk
+pub mod Reading
 pub mod Laws

@@ -1,5 +1,6 @@
 -- What the tokens behind a mnemonic and its unit say as operands (docs/SERIAL_TEXT.md, "Operands").
 use Rattle.std.specs.Prelude.{◌≡◌, ℕ, pos, Bool, true, false, List, [], ◌∷◌, Option, Some, None}
+use Rattle.std.specs.Borrow.{Bor}
 use Rattle.c62_insn.specs.declared.register.Reg.{Reg}
 use Rattle.c62_insn.specs.declared.operands.AddressForm.{AddressForm}
 use Rattle.c62_insn.specs.declared.operands.AddressForm.TheVariants as form
@@ -17,6 +18,11 @@ use Rattle.c62_read.specs.Text.{words_left}
 abbrev pub Finds : {T : Type 0} → Option (T × Tokens) → Option (T × List (List ℕ)) → Type 0
 Finds None said = said ≡ None
 Finds (Some found) said = said ≡ Some (found.0, words_left found.1)
+
+-- a thing at the front of a list, and the list behind it
+abbrev pub FindsBefore : {T E : Type 0} → Option (T × Bor (List E)) → Option (T × List E) → Type 0
+FindsBefore None said = said ≡ None
+FindsBefore (Some found) said = said ≡ Some (found.0, found.1.now)
 
 -- ---- addresses
 

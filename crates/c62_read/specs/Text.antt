@@ -1,5 +1,6 @@
 -- The lines of a text, and the tokens of a line.
-use Rattle.std.specs.Prelude.{ℕ, Bool, false, not, ◌==◌, ◌&&◌, ◌||◌, nat_le, nat_lt, List, [], ◌∷◌, if◌then◌else◌}
+use Rattle.std.specs.Prelude.{◌≡◌, Option, Some, None, ℕ, Bool, false, not, ◌==◌, ◌&&◌, ◌||◌, nat_le, nat_lt, List, [], ◌∷◌, if◌then◌else◌}
+use Rattle.std.specs.Borrow.{Bor}
 use Rattle.c62_read.specs.declared.token.Tokens.{Tokens}
 use Rattle.std.specs.Char.{is_ascii_digit, is_ascii_alphanumeric}
 
@@ -82,3 +83,13 @@ led_by (b ∷ first) others = (b ∷ first) ∷ others
 -- the tokens that are left of a line
 unfoldable pub words_left : Tokens → List (List ℕ)
 words_left line = led_by line.first.now (tokens line.rest.now)
+
+-- what a line is cut into: its first token and the others, where it has one
+abbrev pub IsCutOff : Option (Bor (List ℕ) × Tokens) → List (List ℕ) → Type 0
+IsCutOff None words = words ≡ []
+IsCutOff (Some found) words = words ≡ found.0.now ∷ words_left found.1
+
+-- the first token of these, where there is one, before what the rest of the line has
+abbrev pub IsFirst : Option (Bor (List ℕ)) → List ℕ → List (List ℕ) → Type 0
+IsFirst None rest words = words ≡ []
+IsFirst (Some first) rest words = words ≡ first.now ∷ tokens rest

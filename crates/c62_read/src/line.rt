@@ -8,6 +8,7 @@ ghost use Rattle.c62_read.specs.Number.{is_label};
 ghost use Rattle.c62_read.specs.Kind.{kinds_of, first_is_open};
 ghost use Rattle.c62_read.specs.Operand.{Finds};
 ghost use Rattle.c62_read.specs.Line.{said, names_label, is_branch, label_alone, target_of, is_storing, letter_written, does, jumps, pause_of, fits_behind, unit_behind, behind_unit, mnemonic_front, instruction_of, condition_front, rest_says, label_front, without_colon, has_colon, is_bars, is_star, head_of, line_of, said_of};
+ghost use Rattle.c62_read.specs.Reading.{IsHead};
 ghost use Rattle.c62_read.specs.Unit.{is_dot};
 
 use crate::fault::{Cause, ReadFault};
@@ -342,7 +343,7 @@ fn has_colon(rest: &[u8]) -> bool
 /// The label that stands first and what follows its colon. No other colon may stand before the comment.
 #[tactic(auto, using(crate::proofs::HeadLemmas::head_without_colon))]
 fn read_label(start: &[u8]) -> Result<(Option<&[u8]>, &[u8]), Cause>
-    ensures value { MatchResult result (λ head. without_colon (label_front (tokens start.now)) ≡ Ok (option_copied head.0, tokens head.1.now)) (λ cause. without_colon (label_front (tokens start.now)) ≡ Err cause) }
+    ensures value { IsHead result (without_colon (label_front (tokens start.now))) }
     ensures label { IfOk result (λ head. IfSome head.0 (λ word. IsTrue (is_label word.now))) }
 {
     if !has_byte(b':', start) {
@@ -358,7 +359,7 @@ fn read_label(start: &[u8]) -> Result<(Option<&[u8]>, &[u8]), Cause>
 /// The label of a line and what follows it.
 #[tactic(auto, unfolding(crate::specs::Line::head_of))]
 pub(crate) fn read_head(line: &[u8]) -> Result<(Option<&[u8]>, &[u8]), Cause>
-    ensures value { MatchResult result (λ head. head_of line.now ≡ Ok (option_copied head.0, tokens head.1.now)) (λ cause. head_of line.now ≡ Err cause) }
+    ensures value { IsHead result (head_of line.now) }
     ensures label { IfOk result (λ head. IfSome head.0 (λ word. IsTrue (is_label word.now))) }
 {
     if !all_allowed(line) {

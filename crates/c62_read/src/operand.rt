@@ -13,7 +13,7 @@ pub(crate) struct Address {
     pub offset: Offset,
 }
 
-ghost use Rattle.c62_read.specs.Operand.{address_with, usual_offset, with_offset, address_front, access, loaded, stored, operands_of};
+ghost use Rattle.c62_read.specs.Operand.{FindsBefore, address_with, usual_offset, with_offset, address_front, access, loaded, stored, operands_of};
 
 fn address_with(base: Reg, form: AddressForm, offset: Offset) -> Address
     ensures { result ≡ address_with base form offset }
@@ -35,7 +35,7 @@ fn usual_offset(form: AddressForm) -> Offset
 #[inline(always)]
 #[tactic(auto, unfolding(crate::specs::Operand::with_offset))]
 fn with_offset(base: Reg, form: AddressForm, kinds: &[Kind]) -> Option<(Address, &[Kind])>
-    ensures { MatchOption result (with_offset base form kinds.entry.now ≡ None) (λ found. with_offset base form kinds.entry.now ≡ Some (found.0, found.1.now)) }
+    ensures { FindsBefore result (with_offset base form kinds.entry.now) }
 {
     match *kinds {
         [Kind::Open, Kind::Number(k), Kind::Close, ..] => {
@@ -53,7 +53,7 @@ fn with_offset(base: Reg, form: AddressForm, kinds: &[Kind]) -> Option<(Address,
 #[inline(always)]
 #[tactic(auto, unfolding(crate::specs::Operand::address_front))]
 fn read_address(kinds: &[Kind]) -> Option<(Address, &[Kind])>
-    ensures { MatchOption result (address_front kinds.entry.now ≡ None) (λ found. address_front kinds.entry.now ≡ Some (found.0, found.1.now)) }
+    ensures { FindsBefore result (address_front kinds.entry.now) }
 {
     match *kinds {
         [Kind::Plus, Kind::Register(base), ..] => {

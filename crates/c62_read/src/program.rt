@@ -38,6 +38,8 @@ ghost use Rattle.c62_read.specs.Line.{statement_of, names_label, parts_of, is_br
 ghost use Rattle.c62_read.specs.Program.{label_is, is_among, place_of, labels_of, Fails, target_number, aimed, numbered_of, block_parts, block_in, program_in};
 ghost use Rattle.c62_read.specs.Walk.{draft_of, drafts_of, new_draft, all_drafts, own_labels, with_label, opened, with_insn, closed, with_says, is_taken, is_full, is_instruction, begins_block, hindrance, refused, unless_hindered, add_says, add_line, add_lines, no_drafts, is_whole, number_among, asked_in, asked_of, missed, first_line, unless_missed, failed};
 
+ghost use Rattle.c62_read.specs.Reading.{line_step, said_step, LeadsTo, KeepsJump, still_missed, text_read};
+
 impl BlockReader {
     fn new(alloc: Global, label: Option<Label>) -> BlockReader
         ensures { draft_of result ≡ new_draft label }
@@ -283,7 +285,7 @@ impl TextReader {
     ) -> Result<Option<Cause>, AllocError>
         requires label { IfSome label (λ word. IsTrue (is_label word.now)) }
         requires target { IsTrue (names_label what) }
-        ensures said { IfOk result (λ fault. (add_says number (option_copied label.entry) (drafts_of self.old) (Ok (statement_of what.entry))).drafts ≡ unless_hindered fault (drafts_of self.new)) }
+        ensures said { IfOk result (λ fault. LeadsTo (said_step number label.entry what.entry self.old) fault self.new) }
         ensures kept { IfOk result (λ fault. IfSome fault (λ _. drafts_of self.new ≡ drafts_of self.old)) }
     {
         match self.hindrance(label, &what) {
@@ -303,8 +305,8 @@ impl TextReader {
         number: u32,
         line: &[u8],
     ) -> Result<Option<Cause>, AllocError>
-        ensures said { IfOk result (λ fault. (add_line number line.now (drafts_of self.old)).drafts ≡ unless_hindered fault (drafts_of self.new)) }
-        ensures asked { OnOk result (map asked_of jumps.new.items ≡ map asked_of jumps.old.items ++ asked_in number (add_line number line.now (drafts_of self.old)).says) }
+        ensures said { IfOk result (λ fault. LeadsTo (line_step number line.now self.old) fault self.new) }
+        ensures asked { OnOk result (KeepsJump number (line_step number line.now self.old) jumps.old.items jumps.new.items) }
         ensures kept { IfOk result (λ fault. IfSome fault (λ _. drafts_of self.new ≡ drafts_of self.old)) }
     {
         match self.judge(line) {
@@ -325,8 +327,8 @@ impl TextReader {
         number: u32,
         line: &[u8],
     ) -> Result<Option<Cause>, AllocError>
-        ensures said { IfOk result (λ fault. (add_line number line.now (drafts_of self.old)).drafts ≡ unless_hindered fault (drafts_of self.new)) }
-        ensures asked { OnOk result (map asked_of jumps.new.items ≡ map asked_of jumps.old.items ++ asked_in number (add_line number line.now (drafts_of self.old)).says) }
+        ensures said { IfOk result (λ fault. LeadsTo (line_step number line.now self.old) fault self.new) }
+        ensures asked { OnOk result (KeepsJump number (line_step number line.now self.old) jumps.old.items jumps.new.items) }
         ensures kept { IfOk result (λ fault. IfSome fault (λ _. drafts_of self.new ≡ drafts_of self.old)) }
     {
         match line {
@@ -344,7 +346,7 @@ impl TextReader {
 
     /// The line of the first branch to a label that neither a block nor a line of this rest of the text has.
     fn first_missed(&self, mut jumps: Vec<Jump>, rest: &[u8]) -> Option<u32>
-        ensures { result ≡ first_line (missed (own_labels (all_drafts (drafts_of self.now)) ++ labels_of (lines_of rest.now)) (map asked_of jumps.items)) }
+        ensures { result ≡ first_line (still_missed self.now rest.now jumps.items) }
     {
         jumps.retain(|jump| !self.has_label(jump.target.as_bytes()));
         leave_out_labels(&mut jumps, rest);
@@ -467,8 +469,8 @@ fn read_drafts(alloc: Global, text: &[u8]) -> Result<TextReader, ReadFault>
     requires { length text.now ≤ MOST_BYTES }
     ensures few { IfOk result (λ reader. length (all_drafts (drafts_of reader)) ≤ MOST_BLOCKS) }
     ensures whole { IfOk result (λ reader. IsTrue (list_all is_whole (all_drafts (drafts_of reader)))) }
-    ensures ok { IfOk result (λ reader. add_lines (labels_of (lines_of text.now)) 1 (lines_of text.now) no_drafts ≡ Ok (drafts_of reader)) }
-    ensures err { IfErr result (λ fault. Fails fault (add_lines (labels_of (lines_of text.now)) 1 (lines_of text.now) no_drafts)) }
+    ensures ok { IfOk result (λ reader. text_read text.now ≡ Ok (drafts_of reader)) }
+    ensures err { IfErr result (λ fault. Fails fault (text_read text.now)) }
 {
     let mut reader = TextReader::new(alloc);
     let mut jumps = Vec::new(alloc);

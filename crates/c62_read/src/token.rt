@@ -3,7 +3,7 @@
 ghost use Rattle.std.specs.Prelude.{◌≡◌, ◌==◌, ◌≤◌, ◌<◌, length, take, drop, MatchOption, IsTrue, false, [], ◌∷◌, ◌+◌};
 ghost use Rattle.std.specs.List.{list_all, list_any, position_or_len};
 ghost use Rattle.c62_read.specs.Number.{spells};
-ghost use Rattle.c62_read.specs.Text.{begins, is_allowed, is_blank, is_solid, is_word_byte, is_sign, is_double, joins, tokens, words_left, put_back};
+ghost use Rattle.c62_read.specs.Text.{begins, is_allowed, is_blank, is_solid, is_word_byte, is_sign, is_double, joins, tokens, words_left, put_back, IsFirst, IsCutOff};
 
 pub(crate) fn is_allowed(b: u8) -> bool
     ensures { result ≡ is_allowed b }
@@ -204,7 +204,7 @@ impl<'a> Tokens<'a> {
     #[inline(always)]
     #[tactic(auto, unfolding(crate::specs::Text::words_left))]
     pub(crate) fn peek(self) -> Option<&'a [u8]>
-        ensures { MatchOption result (words_left self.entry ≡ []) (λ first. words_left self.entry ≡ first.now ∷ tokens self.entry.rest.now) }
+        ensures { IsFirst result self.entry.rest.now (words_left self.entry) }
     {
         if self.first.is_empty() {
             None
@@ -224,7 +224,7 @@ impl<'a> Tokens<'a> {
     /// The first token, and the others.
     #[inline(always)]
     pub(crate) fn split(self) -> Option<(&'a [u8], Tokens<'a>)>
-        ensures { MatchOption result (words_left self.entry ≡ []) (λ found. words_left self.entry ≡ found.0.now ∷ words_left found.1) }
+        ensures { IsCutOff result (words_left self.entry) }
     {
         let first = self.peek()?;
         Some((first, self.behind()))

@@ -24,7 +24,7 @@ pub(crate) struct WrittenUnit {
     pub mark: Mark,
 }
 
-ghost use Rattle.c62_read.specs.Operand.{Finds};
+ghost use Rattle.c62_read.specs.Operand.{Finds, FindsBefore};
 ghost use Rattle.c62_read.specs.Unit.{letter_of, side_numbered, mark_of, unit_split, is_dot, unit_front, is_access, mark_fits, unit_fits};
 
 #[tactic(auto, unfolding(crate::specs::Unit::letter_of))]
@@ -68,7 +68,7 @@ fn mark_of(bytes: &[u8]) -> Option<(Mark, &[u8])>
 /// The unit that these bytes begin with, and what is left behind it.
 #[tactic(auto, unfolding(crate::specs::Unit::unit_split))]
 fn unit_split(bytes: &[u8]) -> Option<(WrittenUnit, &[u8])>
-    ensures { MatchOption result (unit_split bytes.now ≡ None) (λ found. unit_split bytes.now ≡ Some (found.0, found.1.now)) }
+    ensures { FindsBefore result (unit_split bytes.now) }
 {
     match bytes {
         [_, letter, number, rest @ ..] => {
