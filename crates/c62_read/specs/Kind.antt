@@ -3,6 +3,9 @@ use Rattle.std.specs.Prelude.{◌≡◌, ◌<◌, length, ℕ, ℤ, Bool, true, 
 use Rattle.c62_insn.specs.declared.register.Reg.{Reg}
 use Rattle.c62_read.specs.declared.kind.Kind.{Kind}
 use Rattle.c62_read.specs.declared.kind.Kind.TheVariants.{Comma, Star, Open, Close, Not, Plus, Minus, Increment, Decrement, Register, Number, Name}
+use Rattle.std.specs.Borrow.{Bor}
+use Rattle.c62_read.specs.declared.token.Tokens.{Tokens}
+use Rattle.c62_read.specs.Text.{tokens, words_left}
 use Rattle.c62_read.specs.Number.{number_of, register_of}
 
 -- a token, as its bytes
@@ -64,6 +67,16 @@ lone_mark b =
     else (if b == 93 then Some Close
     else (if b == 33 then Some Not
     else None))))
+
+-- what the first token of a line is, and the line behind it, where it has one
+abbrev pub IsFirstKind : Option (Kind × Bor (List ℕ)) → List Word → Type 0
+IsFirstKind None words = words ≡ []
+IsFirstKind (Some found) words = kinds_of words ≡ found.0 ∷ kinds_of (tokens found.1.now)
+
+-- what the first token of these is, and the others
+abbrev pub IsKindCutOff : Option (Kind × Tokens) → Tokens → Type 0
+IsKindCutOff None line = words_left line ≡ []
+IsKindCutOff (Some found) line = (words_left line ≡ line.first.now ∷ words_left found.1) × (found.0 ≡ kind_of line.first.now)
 
 -- these are what the tokens are, or there are more than eight of those
 abbrev pub HoldsKinds : Bool → List Kind → List Word → Type 0

@@ -2,15 +2,17 @@
 use Rattle.std.specs.Prelude.{◌≡◌, ℕ, List, [], ◌∷◌, ◌++◌, map, Option, Some, None, MatchResult, Result, Ok, Err}
 use Rattle.std.specs.Borrow.{Bor}
 use Rattle.std.specs.Option.{option_copied}
+use Rattle.c62_insn.specs.declared.insn.Insn.{Insn}
+use Rattle.c62_insn.specs.Insn.{op_of}
 use Rattle.c62_read.specs.declared.fault.Cause.{Cause}
 use Rattle.c62_read.specs.declared.jump.Jump.{Jump}
+use Rattle.c62_read.specs.declared.program.BlockReader.{BlockReader}
 use Rattle.c62_read.specs.declared.program.TextReader.{TextReader}
 use Rattle.c62_read.specs.declared.reading.Statement.{Statement}
 use Rattle.c62_read.specs.Text.{lines_of, tokens}
-use Rattle.c62_read.specs.Line.{statement_of}
-use Rattle.c62_read.specs.Program.{labels_of}
-use Rattle.c62_read.specs.Walk.{Asked, Drafts, Step, add_line, add_lines, add_says, all_drafts, asked_in, asked_of, drafts_of, missed, no_drafts, own_labels, unless_hindered}
-use Rattle.c62_read.specs.Program.{Refusal}
+use Rattle.c62_read.specs.Line.{Says, is_branch, parts_of, statement_of}
+use Rattle.c62_read.specs.Walk.{Asked, Drafts, Step, add_line, add_lines, add_says, all_drafts, asked_in, asked_of, closed, draft_of, drafts_of, missed, no_drafts, opened, own_labels, unless_hindered, with_insn}
+use Rattle.c62_read.specs.Program.{BlockParts, Draft, Refusal, aimed, block_in, labels_of}
 
 -- the head of a line, or its fault
 abbrev pub IsHead : Result (Option (Bor (List ℕ)) × Bor (List ℕ)) Cause → Result (Option (List ℕ) × List (List ℕ)) Cause → Type 0
@@ -28,9 +30,9 @@ said_step number label what text = add_says number (option_copied label) (drafts
 abbrev pub LeadsTo : Step → Option Cause → TextReader → Type 0
 LeadsTo step fault text = step.drafts ≡ unless_hindered fault (drafts_of text)
 
--- the branches that wait are the old ones and the step's
-abbrev pub KeepsJump : ℕ → Step → List Jump → List Jump → Type 0
-KeepsJump number step old new = map asked_of new ≡ map asked_of old ++ asked_in number step.says
+-- the branches that wait are the old ones and that of what is said
+abbrev pub KeepsJump : ℕ → Says → List Jump → List Jump → Type 0
+KeepsJump number says old new = map asked_of new ≡ map asked_of old ++ asked_in number says
 
 -- the branches that no label of the blocks, nor of this rest of the text, answers
 abbrev pub still_missed : TextReader → List ℕ → List Jump → List Asked
@@ -39,3 +41,33 @@ still_missed text rest jumps = missed (own_labels (all_drafts (drafts_of text)) 
 -- the blocks that the lines of a text say, or its first fault
 abbrev pub text_read : List ℕ → Result Drafts Refusal
 text_read text = add_lines (labels_of (lines_of text)) 1 (lines_of text) no_drafts
+
+-- the first line of a text and the text behind it, where it has a line
+abbrev pub IsFirstLine : Option (Bor (List ℕ) × Bor (List ℕ)) → List (List ℕ) → Type 0
+IsFirstLine None lines = lines ≡ []
+IsFirstLine (Some found) lines = lines ≡ found.0.now ∷ lines_of found.1.now
+
+-- ---- blocks
+
+-- a block with one more instruction, which branches to this label, if it branches to one
+abbrev pub with_read : Insn → ℕ → Option (Bor (List ℕ)) → Draft → Draft
+with_read insn line target draft = with_insn (parts_of insn) line (option_copied target) draft
+
+-- the blocks with one more instruction
+abbrev pub with_next : Insn → ℕ → Option (Bor (List ℕ)) → Drafts → Drafts
+with_next insn line target drafts = closed (is_branch (op_of insn)) drafts.done (with_read insn line target (opened drafts.current))
+
+-- the blocks where none is open, or where one is
+abbrev pub all_closed : Drafts → Drafts
+all_closed drafts = record { done = all_drafts drafts; current = None }
+
+abbrev pub one_open : Drafts → Drafts
+one_open drafts = record drafts { current = Some (opened drafts.current) }
+
+-- a block whose branch goes to the block of this number
+abbrev pub aimed_block : ℕ → BlockReader → BlockParts
+aimed_block number block = record { label = block.label; insns = map (aimed number) (draft_of block).insns }
+
+-- the blocks of a program, each branch aimed
+abbrev pub aimed_blocks : List Draft → List BlockParts
+aimed_blocks drafts = map (block_in drafts) drafts

@@ -36,7 +36,7 @@ pub(crate) enum Kind {
     Name,
 }
 
-ghost use Rattle.c62_read.specs.Kind.{lone_mark, single_mark, mark_of, kind_of, kinds_of, HoldsKinds};
+ghost use Rattle.c62_read.specs.Kind.{lone_mark, single_mark, mark_of, kind_of, IsFirstKind, IsKindCutOff, HoldsKinds};
 
 #[inline(always)]
 #[tactic(auto, unfolding(crate::specs::Kind::single_mark))]
@@ -106,7 +106,7 @@ fn lone_mark(b: u8) -> Option<Kind>
 #[inline(always)]
 #[tactic(auto, using(crate::proofs::KindLemmas::lone_is))]
 fn next_kind(line: &[u8]) -> Option<(Kind, &[u8])>
-    ensures { MatchOption result (tokens line.now ≡ []) (λ found. kinds_of (tokens line.now) ≡ found.0 ∷ kinds_of (tokens found.1.now)) }
+    ensures { IsFirstKind result (tokens line.now) }
 {
     let start = from_token(line);
     let (first, rest) = start.split_first()?;
@@ -122,7 +122,7 @@ impl<'a> Tokens<'a> {
     #[inline(always)]
     #[tactic(auto, unfolding(crate::specs::Text::words_left))]
     pub(crate) fn split_kind(self) -> Option<(Kind, Tokens<'a>)>
-        ensures { MatchOption result (words_left self.entry ≡ []) (λ found. (words_left self.entry ≡ self.entry.first.now ∷ words_left found.1) × (found.0 ≡ kind_of self.entry.first.now)) }
+        ensures { IsKindCutOff result self.entry }
     {
         let word = self.peek()?;
         Some((Kind::of(word), self.behind()))

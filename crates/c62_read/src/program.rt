@@ -37,8 +37,7 @@ pub(crate) struct TextReader {
 ghost use Rattle.c62_read.specs.Line.{statement_of, names_label, parts_of, is_branch};
 ghost use Rattle.c62_read.specs.Program.{label_is, is_among, place_of, labels_of, Fails, target_number, aimed, numbered_of, block_parts, block_in, program_in};
 ghost use Rattle.c62_read.specs.Walk.{draft_of, drafts_of, new_draft, all_drafts, own_labels, with_label, opened, with_insn, closed, with_says, is_taken, is_full, is_instruction, begins_block, hindrance, refused, unless_hindered, add_says, add_line, add_lines, no_drafts, is_whole, number_among, asked_in, asked_of, missed, first_line, unless_missed, failed};
-
-ghost use Rattle.c62_read.specs.Reading.{line_step, said_step, LeadsTo, KeepsJump, still_missed, text_read};
+ghost use Rattle.c62_read.specs.Reading.{line_step, said_step, LeadsTo, KeepsJump, still_missed, text_read, IsFirstLine, with_read, with_next, all_closed, one_open, aimed_block, aimed_blocks};
 
 impl BlockReader {
     fn new(alloc: Global, label: Option<Label>) -> BlockReader
@@ -54,7 +53,7 @@ impl BlockReader {
     #[tactic(auto, using(std::proofs::lemmas::Grind::common_steps))]
     fn add(&mut self, insn: Insn, line: u32, target: Option<&[u8]>) -> Result<(), AllocError>
         requires { IfSome target (λ word. IsTrue (is_label word.now)) }
-        ensures { OnOk result (draft_of self.new ≡ with_insn (parts_of insn) line (option_copied target.entry) (draft_of self.old)) }
+        ensures { OnOk result (draft_of self.new ≡ with_read insn line target.entry (draft_of self.old)) }
     {
         self.insns.push(SerialInsn { insn, line })?;
         self.target = owned(target);
@@ -75,7 +74,7 @@ impl BlockReader {
     /// The block, with its branch aimed at the block of this number.
     fn into_block(self, number: u8) -> Block
         requires { IsTrue (is_whole (draft_of self)) }
-        ensures { block_parts result ≡ record { label = self.label; insns = map (aimed number) (draft_of self).insns } }
+        ensures { block_parts result ≡ aimed_block number self }
     {
         let mut insns = self.insns;
         aim_all(&mut insns, number);
@@ -104,7 +103,7 @@ impl TextReader {
 
     /// Ends the block that is open.
     fn end_block(&mut self) -> Result<(), AllocError>
-        ensures { OnOk result (drafts_of self.new ≡ record { done = all_drafts (drafts_of self.old); current = None }) }
+        ensures { OnOk result (drafts_of self.new ≡ all_closed (drafts_of self.old)) }
     {
         if let Some(block) = self.current.take() {
             self.done.push(block)?;
@@ -124,7 +123,7 @@ impl TextReader {
 
     /// The next instruction goes into the open block. Where none is open, one begins.
     fn open_block(&mut self, alloc: Global)
-        ensures { drafts_of self.new ≡ record (drafts_of self.old) { current = Some (opened (drafts_of self.old).current) } }
+        ensures { drafts_of self.new ≡ one_open (drafts_of self.old) }
     {
         if self.current.is_none() {
             self.current = Some(BlockReader::new(alloc, None));
@@ -140,7 +139,7 @@ impl TextReader {
         target: Option<&[u8]>,
     ) -> Result<(), AllocError>
         requires { IfSome target (λ word. IsTrue (is_label word.now)) }
-        ensures { OnOk result (drafts_of self.new ≡ closed (is_branch (op_of insn)) (drafts_of self.old).done (with_insn (parts_of insn) line (option_copied target.entry) (opened (drafts_of self.old).current))) }
+        ensures { OnOk result (drafts_of self.new ≡ with_next insn line target.entry (drafts_of self.old)) }
     {
         self.open_block(alloc);
         if let Some(block) = &mut self.current {
@@ -234,7 +233,7 @@ fn is_instruction(what: &Statement<'_>) -> bool
 /// Keeps the branch of a line, where it is one to a label.
 fn keep_jump(jumps: &mut Vec<Jump>, line: u32, what: &Statement<'_>) -> Result<(), AllocError>
     requires { IsTrue (names_label what.now) }
-    ensures { OnOk result (map asked_of jumps.new.items ≡ map asked_of jumps.old.items ++ asked_in line (statement_of what.now)) }
+    ensures { OnOk result (KeepsJump line (statement_of what.now) jumps.old.items jumps.new.items) }
 {
     if let Statement::Jump(_, label) = what {
         jumps.push(Jump::new(line, label))?;
@@ -306,7 +305,7 @@ impl TextReader {
         line: &[u8],
     ) -> Result<Option<Cause>, AllocError>
         ensures said { IfOk result (λ fault. LeadsTo (line_step number line.now self.old) fault self.new) }
-        ensures asked { OnOk result (KeepsJump number (line_step number line.now self.old) jumps.old.items jumps.new.items) }
+        ensures asked { OnOk result (KeepsJump number (line_step number line.now self.old).says jumps.old.items jumps.new.items) }
         ensures kept { IfOk result (λ fault. IfSome fault (λ _. drafts_of self.new ≡ drafts_of self.old)) }
     {
         match self.judge(line) {
@@ -328,7 +327,7 @@ impl TextReader {
         line: &[u8],
     ) -> Result<Option<Cause>, AllocError>
         ensures said { IfOk result (λ fault. LeadsTo (line_step number line.now self.old) fault self.new) }
-        ensures asked { OnOk result (KeepsJump number (line_step number line.now self.old) jumps.old.items jumps.new.items) }
+        ensures asked { OnOk result (KeepsJump number (line_step number line.now self.old).says jumps.old.items jumps.new.items) }
         ensures kept { IfOk result (λ fault. IfSome fault (λ _. drafts_of self.new ≡ drafts_of self.old)) }
     {
         match line {
@@ -439,7 +438,7 @@ fn without_return(line: &[u8]) -> &[u8]
 /// The first line of a text, without its end, and the text after it.
 #[inline(always)]
 fn first_line(text: &[u8]) -> Option<(&[u8], &[u8])>
-    ensures found { MatchOption result (lines_of text.now ≡ []) (λ found. lines_of text.now ≡ found.0.now ∷ lines_of found.1.now) }
+    ensures found { IsFirstLine result (lines_of text.now) }
     ensures shorter { IfSome result (λ found. length found.1.now < length text.now) }
 {
     if text.is_empty() {
@@ -540,7 +539,7 @@ fn all_blocks(alloc: Global, blocks: Vec<BlockReader>) -> Result<Vec<Block>, All
     requires few { length blocks.items ≤ MOST_BLOCKS }
     requires whole { IsTrue (list_all is_whole (map draft_of blocks.items)) }
     ensures few { IfOk result (λ made. length made.items ≡ length blocks.items) }
-    ensures made { let drafts = map draft_of blocks.items in IfOk result (λ made. map block_parts made.items ≡ map (block_in drafts) drafts) }
+    ensures made { IfOk result (λ made. map block_parts made.items ≡ aimed_blocks (map draft_of blocks.items)) }
 {
     let labels = block_labels(alloc, &blocks)?;
     let mut made = Vec::with_capacity(alloc, blocks.len())?;
