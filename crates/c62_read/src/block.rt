@@ -42,7 +42,7 @@ impl SerialInsn {
 }
 
 /// A block: its label, where it has one, and its instructions with their lines.
-#[derive(Drop)]
+#[derive(Debug, Drop)]
 pub struct Block {
     label: Option<Label>,
     insns: Vec<SerialInsn>,
@@ -93,7 +93,7 @@ impl Block {
 }
 
 /// The blocks of a text, in their order.
-#[derive(Drop)]
+#[derive(Debug, Drop)]
 pub struct Program {
     blocks: Vec<Block>,
 }

@@ -1,12 +1,14 @@
 //! Labels.
 
-ghost use Rattle.std.specs.Prelude.{◌≡◌, ◌≤◌, ℕ, List, take, true, IsTrue};
+ghost use Rattle.std.specs.Prelude.{◌≡◌, ◌≤◌, ℕ, List, nat_eq, take, true, IsTrue};
+ghost use Rattle.std.specs.Cmp.{partial_equiv_from_equiv};
+ghost use Rattle.std.specs.Cmp.Lexicographic.{pointwise, nat_list_eq_equiv};
 ghost use Rattle.c62_read.specs.Number.{is_label};
 
 use std::marker::Model;
 
 /// A label: at most 32 letters, digits, `_` and `$`, not beginning with a digit, that spell no register.
-#[derive(Drop)]
+#[derive(Debug, Drop)]
 pub struct Label {
     bytes: [u8; 32],
     len: usize,
@@ -51,4 +53,19 @@ impl Label {
             len: self.len,
         }
     }
+}
+
+/// Labels are the same where they have the same bytes: their case counts.
+impl PartialEq for Label {
+    ghost eq = { pointwise nat_eq };
+
+    ghost laws = { partial_equiv_from_equiv nat_list_eq_equiv };
+
+    fn eq(&self, other: &Label) -> bool {
+        self.as_bytes() == other.as_bytes()
+    }
+}
+
+impl Eq for Label {
+    ghost laws = { nat_list_eq_equiv };
 }

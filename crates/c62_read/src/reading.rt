@@ -4,7 +4,7 @@ use crate::label::Label;
 use c62_insn::Insn;
 
 /// What a line says behind its label.
-#[derive(Drop)]
+#[derive(PartialEq, Eq, Debug, Drop)]
 pub enum What {
     /// Nothing, or a comment.
     Empty,
@@ -44,7 +44,7 @@ impl Statement<'_> {
 }
 
 /// What a line says.
-#[derive(Drop)]
+#[derive(PartialEq, Eq, Debug, Drop)]
 pub struct Reading {
     pub label: Option<Label>,
     pub what: What,
