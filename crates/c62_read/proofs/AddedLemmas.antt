@@ -1,5 +1,6 @@
 -- What a line that is added owes.
-use Rattle.std.proofs.Common.{◌≡◌, ◌≤◌, ◌<◌, ℕ, ◌+◌, Bool, true, false, cond, ◌&&◌, List, [], ◌∷◌, ◌++◌, length, Option, Some, None, Result, Ok, Err, refl, sym, subst, arith, length-append, leb}
+use Rattle.std.proofs.Common.{◌≡◌, ◌≤◌, ◌<◌, ℕ, ◌+◌, Bool, true, false, cond, ◌&&◌, List, [], ◌∷◌, ◌++◌, length, Option, Some, None, Result, Ok, Err}
+use Rattle.std.proofs.Common.{refl, sym, subst, arith, length-append, leb}
 use Rattle.std.specs.Prelude.{is_none}
 use Rattle.std.specs.Option.{option_to_list}
 use Rattle.std.proofs.lemmas.Bool.{leb-false}
@@ -7,7 +8,8 @@ use Rattle.c62_read.specs.declared.fault.Cause.{Cause}
 use Rattle.c62_read.specs.declared.fault.Cause.TheVariants.{DuplicateLabel, TooManyInstructions, TooManyBlocks}
 use Rattle.c62_read.specs.Line.{Parts, Says, Nothing, Pause, Does, Jumps, is_branch, head_of, rest_says}
 use Rattle.c62_read.specs.Program.{Name, Draft}
-use Rattle.c62_read.specs.Walk.{Drafts, add_line, add_head, add_says, all_drafts, begins_block, closed, hindrance, is_full, is_instruction, is_taken, opened, refused, unless_hindered, with_insn, with_label, with_says}
+use Rattle.c62_read.specs.Walk.{Drafts, add_line, add_head, add_says, all_drafts, begins_block, closed, hindrance, is_full, is_instruction, is_taken}
+use Rattle.c62_read.specs.Walk.{opened, refused, unless_hindered, with_insn, with_label, with_says}
 
 -- the line says this, and nothing stands against it
 pub record IsAdded (number : ℕ) (line : List ℕ) (old new : Drafts) : Type 0 where
@@ -35,7 +37,8 @@ module _ (number : ℕ) (line : List ℕ) (old new : Drafts) where
   by_says label words head free (Ok says) e added = by_hindrance label words says head e free (hindrance label says old) refl added
 
   by_label : (label : Option Name) (words : List (List ℕ)) → head_of line ≡ Ok (label, words)
-      → (taken : Bool) → is_taken label old ≡ taken → (cond taken (refused DuplicateLabel) (add_says number label old (rest_says words))).drafts ≡ Ok new
+      → (taken : Bool) → is_taken label old ≡ taken
+      → (cond taken (refused DuplicateLabel) (add_says number label old (rest_says words))).drafts ≡ Ok new
       → IsAdded number line old new
   by_label label words head true e added = absurd cc
   by_label label words head false e added = by_says label words head e (rest_says words) refl added

@@ -8,7 +8,8 @@ use Rattle.c62_read.specs.declared.fault.Cause.{Cause}
 use Rattle.c62_read.specs.declared.fault.Cause.TheVariants.{DuplicateLabel, UnknownTarget, TooManyInstructions, TooManyBlocks}
 use Rattle.c62_read.specs.Text.{lines_of}
 use Rattle.c62_read.specs.Line.{Says, head_of, line_of}
-use Rattle.c62_read.specs.Program.{Item, Name, Refusal, cut, drafts_in, fault_if, fault_in, fault_of, first_fault, first_of, is_among, is_overfull, items_from, labels_of, misses_label, place_of, program_in}
+use Rattle.c62_read.specs.Program.{Item, Name, Refusal, cut, drafts_in, fault_if, fault_in, fault_of, first_fault, first_of, is_among, is_overfull}
+use Rattle.c62_read.specs.Program.{items_from, labels_of, misses_label, place_of, program_in}
 
 pub record IsAlike (line other : List ℕ) : Type 0 where
   pub head : fault_in (head_of line) ≡ fault_in (head_of other)
@@ -57,7 +58,8 @@ told labels head earlier place said items =
     ∷ [])
 
 fault_told : (labels : List Name) (before : List (List ℕ)) (line : List ℕ)
-    → fault_of labels before line ≡ told labels (fault_in (head_of line)) (labels_of before) (place_of line) (line_of line) (items_from 1 (before ++ line ∷ []))
+    → fault_of labels before line
+    ≡ told labels (fault_in (head_of line)) (labels_of before) (place_of line) (line_of line) (items_from 1 (before ++ line ∷ []))
 unfolding fault_of
 fault_told labels before line = refl
 
@@ -72,7 +74,8 @@ alike_fault labels before others line other alike last =
     ∙ ap (λ (head : Option Cause). told labels head earlier (place_of line) (line_of line) items) last.head
     ∙ ap (λ (names : List Name). told labels (fault_in (head_of other)) names (place_of line) (line_of line) items) (alike_labels before others alike)
     ∙ ap (λ (place : Option Name). told labels (fault_in (head_of other)) (labels_of others) place (line_of line) items) last.place
-    ∙ ap (λ (said : Result (Option Name × Says) Cause). told labels (fault_in (head_of other)) (labels_of others) (place_of other) said items) last.said
+    ∙ ap (λ (said : Result (Option Name
+    × Says) Cause). told labels (fault_in (head_of other)) (labels_of others) (place_of other) said items) last.said
     ∙ ap (λ (all : List Item). told labels (fault_in (head_of other)) (labels_of others) (place_of other) (line_of other) all) same
     ∙ sym (fault_told labels others other)
 
@@ -86,7 +89,8 @@ alike_faults labels before earlier [] [] first alike = refl
 alike_faults labels before earlier (line ∷ lines) (other ∷ others) first alike =
     let count = alike_length before earlier first in
     let here = alike_fault labels before earlier line other first alike.0 in
-    let later = alike_faults labels (before ++ line ∷ []) (earlier ++ other ∷ []) lines others (alike_more before earlier line other first alike.0) alike.1 in
+    let later = alike_faults labels (before ++ line ∷ []) (earlier ++ other ∷ []) lines others
+    (alike_more before earlier line other first alike.0) alike.1 in
     ap (λ (n : ℕ). at_first n (fault_of labels before line) (first_fault labels (before ++ line ∷ []) lines)) count
     ∙ ap (λ (fault : Option Cause). at_first (length earlier) fault (first_fault labels (before ++ line ∷ []) lines)) here
     ∙ ap (λ (fault : Option Refusal). at_first (length earlier) (fault_of labels earlier other) fault) later

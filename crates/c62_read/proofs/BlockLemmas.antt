@@ -14,7 +14,8 @@ any_draft label [] = refl
 any_draft label (block ∷ blocks) = ap (λ (others : Bool). label_is label block.label || others) (any_draft label blocks)
 
 place_label : (label : List ℕ) (drafts : List Draft)
-    → position_or_len (λ other. label_is label other) (map (λ draft. draft.label) drafts) ≡ position_or_len (λ draft. label_is label draft.label) drafts
+    → position_or_len (λ other. label_is label other) (map (λ draft. draft.label) drafts)
+    ≡ position_or_len (λ draft. label_is label draft.label) drafts
 place_label label [] = refl
 place_label label (draft ∷ drafts) = rw (place_label label drafts) refl
 

@@ -1,5 +1,6 @@
 -- Words that are the same but for the case of their letters spell the same.
-use Rattle.std.proofs.Common.{◌≡◌, ℕ, ◌+◌, ◌-◌, ◌*◌, ◌<◌, ◌≤◌, ◌⊎◌, Bool, true, false, not, cond, eqb, ltb, ◌&&◌, ◌||◌, List, [], ◌∷◌, length, drop, Option, None, refl, sym, ap, ◌∙◌, arith, inl, inr}
+use Rattle.std.proofs.Common.{◌≡◌, ℕ, ◌+◌, ◌-◌, ◌*◌, ◌<◌, ◌≤◌, ◌⊎◌, Bool, true, false, not, cond, eqb, ltb, ◌&&◌, ◌||◌, List, [], ◌∷◌, length, drop}
+use Rattle.std.proofs.Common.{Option, None, refl, sym, ap, ◌∙◌, arith, inl, inr}
 use Rattle.std.specs.Prelude.{map, option_and_then, codes}
 use Rattle.std.specs.Char.{digit_value, to_ascii_lowercase, is_ascii_digit}
 use Rattle.std.specs.List.{list_all, starts_with}
@@ -9,7 +10,8 @@ use Rattle.std.proofs.lemmas.Bool.{agree_below, agree_below_at, cases_Bool, case
 use Rattle.std.proofs.lemmas.Bool.Decides.{nat_tests}
 use Rattle.c62_insn.specs.declared.register.Side.{Side}
 use Rattle.c62_read.specs.Text.{begins, is_allowed, is_blank, is_solid, is_sign, is_word_byte, is_double, joins}
-use Rattle.c62_read.specs.Number.{are_digits, decimal_of, file_of, hexadecimal_of, in_file, in_range, is_label, magnitude_of, number_of, register_of, signed_of, spells}
+use Rattle.c62_read.specs.Number.{are_digits, decimal_of, file_of, hexadecimal_of, in_file, in_range, is_label, magnitude_of, number_of, register_of}
+use Rattle.c62_read.specs.Number.{signed_of, spells}
 use Rattle.c62_read.specs.Laws.{IsRecased}
 use mathlib.Core.Bool.{beq}
 

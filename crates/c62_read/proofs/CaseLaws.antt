@@ -1,5 +1,6 @@
 -- Case changes nothing but labels.
-use Rattle.std.proofs.Common.{◌≡◌, ℕ, zero, suc, Bool, true, false, cond, eqb, ltb, ◌&&◌, ◌||◌, List, [], ◌∷◌, length, Option, Some, None, Result, Ok, Err, refl, sym, ap, subst, ◌∙◌, arith, inl, inr}
+use Rattle.std.proofs.Common.{◌≡◌, ℕ, zero, suc, Bool, true, false, cond, eqb, ltb, ◌&&◌, ◌||◌, List, [], ◌∷◌, length, Option, Some, None, Result, Ok}
+use Rattle.std.proofs.Common.{Err, refl, sym, ap, subst, ◌∙◌, arith, inl, inr}
 use Rattle.std.specs.Prelude.{drop, option_and_then, option_map, codes}
 use Rattle.std.specs.Char.{is_ascii_digit, to_ascii_lowercase}
 use Rattle.std.specs.List.{find, list_all}
@@ -14,7 +15,8 @@ use Rattle.c62_insn.specs.declared.operands.Operands.TheVariants.{Block}
 use Rattle.c62_insn.specs.declared.fault.FormFault.{FormFault}
 use Rattle.c62_insn.specs.Spelling.{mnemonic_of}
 use Rattle.c62_read.specs.declared.fault.Cause.{Cause}
-use Rattle.c62_read.specs.declared.fault.Cause.TheVariants.{NotAscii, LineTooLong, BadLabel, BadOperand, BadUnit, ParallelBar, Directive, UnknownMnemonic}
+use Rattle.c62_read.specs.declared.fault.Cause.TheVariants.{NotAscii, LineTooLong, BadLabel, BadOperand, BadUnit, ParallelBar, Directive}
+use Rattle.c62_read.specs.declared.fault.Cause.TheVariants.{UnknownMnemonic}
 use Rattle.c62_read.specs.declared.mnemonic.Mnemonic.{Mnemonic}
 use Rattle.c62_read.specs.declared.mnemonic.Mnemonic.TheVariants.{Operation, Mv, Neg, Not, Zero, Mvkl, Mvkh, Nop}
 use Rattle.c62_read.specs.declared.unit.Mark.{Mark}
@@ -28,11 +30,17 @@ use Rattle.c62_read.specs.Operand.{operands_of}
 use Rattle.c62_insn.specs.Table.{all_operations}
 use Rattle.c62_read.specs.Mnemonic.{mnemonic_named, operation_named, pseudo_named}
 use Rattle.c62_read.specs.Unit.{is_dot, is_t, is_x, letter_of, mark_of, side_numbered, unit_front, unit_of, unit_split, with_left}
-use Rattle.c62_read.specs.Line.{Parts, Says, Nothing, Pause, Does, Jumps, and_read, before_rest, behind_unit, condition_front, condition_of, does, fits_behind, formed, has_colon, head_of, if_fitting, instruction_of, is_bars, is_branch, is_star, is_storing, jumps_or_does, label_alone, label_front, line_of, mnemonic_front, operands_written, or_fault, parts_read, pause_of, rest_says, target_of, text_fault, unit_behind, with_head, with_rest, without_colon}
+use Rattle.c62_read.specs.Line.{Parts, Says, Nothing, Pause, Does, Jumps, and_read, before_rest, behind_unit, condition_front, condition_of, does}
+use Rattle.c62_read.specs.Line.{fits_behind, formed, has_colon, head_of, if_fitting, instruction_of, is_bars, is_branch, is_star, is_storing}
+use Rattle.c62_read.specs.Line.{jumps_or_does, label_alone, label_front, line_of, mnemonic_front, operands_written, or_fault, parts_read, pause_of}
+use Rattle.c62_read.specs.Line.{rest_says, target_of, text_fault, unit_behind, with_head, with_rest, without_colon}
 use Rattle.c62_read.specs.Laws.{CaseSaysNothing, IsRecased, in_small, small_labels, small_says}
 use Rattle.c62_read.proofs.ColonLemmas.{begins_with}
-use Rattle.c62_read.proofs.TokenLemmas.{joined_word, tokens_alone, tokens_blank, tokens_comment, tokens_double, tokens_joined, tokens_last, word_solid}
-use Rattle.c62_read.proofs.CaseBytes.{IsRecasedWord, Same, all_same, allowed_same, begins_same, blank_same, comment_same, digit_same, double_same, fresh, joins_same, label_same, length_same, lowered, minus_same, number_of_same, plus_same, register_same, solid_same, spells_same, test_same}
+use Rattle.c62_read.proofs.TokenLemmas.{joined_word, tokens_alone, tokens_blank, tokens_comment, tokens_double, tokens_joined, tokens_last}
+use Rattle.c62_read.proofs.TokenLemmas.{word_solid}
+use Rattle.c62_read.proofs.CaseBytes.{IsRecasedWord, Same, all_same, allowed_same, begins_same, blank_same, comment_same, digit_same, double_same}
+use Rattle.c62_read.proofs.CaseBytes.{fresh, joins_same, label_same, length_same, lowered, minus_same, number_of_same, plus_same, register_same}
+use Rattle.c62_read.proofs.CaseBytes.{solid_same, spells_same, test_same}
 
 -- ---- tokens
 

@@ -9,7 +9,8 @@ use Rattle.std.proofs.lemmas.List.Sums.{take_while-cons}
 use Rattle.c62_read.specs.Text.{grow, is_blank, is_solid, is_word_byte, is_double, joins, tokens}
 use Rattle.c62_read.specs.Number.{spells}
 use Rattle.c62_read.specs.Line.{has_colon}
-use Rattle.c62_read.proofs.TokenLemmas.{tokens_joined, tokens_alone, tokens_double, tokens_last, tokens_blank, tokens_comment, joined_word, word_solid}
+use Rattle.c62_read.proofs.TokenLemmas.{tokens_joined, tokens_alone, tokens_double, tokens_last, tokens_blank, tokens_comment, joined_word}
+use Rattle.c62_read.proofs.TokenLemmas.{word_solid}
 
 abbrev is_colon : List ℕ → Bool
 is_colon word = spells (codes ":") word

@@ -1,5 +1,6 @@
 -- Comments change neither a line nor a program.
-use Rattle.std.proofs.Common.{◌≡◌, ℕ, Bool, true, false, cond, ◌&&◌, List, [], ◌∷◌, ◌++◌, length, Option, None, Result, Ok, Err, refl, sym, ap, subst, ◌∙◌, arith, length-append}
+use Rattle.std.proofs.Common.{◌≡◌, ℕ, Bool, true, false, cond, ◌&&◌, List, [], ◌∷◌, ◌++◌, length, Option, None, Result, Ok, Err, refl, sym, ap, subst}
+use Rattle.std.proofs.Common.{◌∙◌, arith, length-append}
 use Rattle.std.specs.Prelude.{codes, IsTrue}
 use Rattle.std.specs.List.{list_all}
 use Rattle.std.proofs.lemmas.Bool.{and_parts, and_right, eqb-true, le-ltb}
@@ -11,7 +12,8 @@ use Rattle.c62_read.specs.Number.{is_label, spells}
 use Rattle.c62_read.specs.Kind.{Word}
 use Rattle.c62_read.specs.Line.{Nothing, head_of, is_bars, is_star, label_front, line_of, rest_says, with_head, without_colon}
 use Rattle.c62_read.specs.Program.{fault_in, place_of}
-use Rattle.c62_read.specs.Laws.{AreUncommented, Behind, CommentSaysNothing, CommentsSayNothing, IsReadable, IsUncommented, Same, StarSaysNothing, Whole}
+use Rattle.c62_read.specs.Laws.{AreUncommented, Behind, CommentSaysNothing, CommentsSayNothing, IsReadable, IsUncommented, Same, StarSaysNothing}
+use Rattle.c62_read.specs.Laws.{Whole}
 use Rattle.c62_read.proofs.CommentLemmas.{tokens-comment}
 use Rattle.c62_read.proofs.AlikeLaws.{AreAlike, IsAlike, alike_programs}
 use Rattle.c62_read.proofs.SpelledTokens.{mark_alone}

@@ -6,7 +6,8 @@ use Rattle.std.proofs.Math.Nat.{mod-eq_of_lt, mul_comm}
 use Rattle.std.proofs.lemmas.Bool.{cases_Bool, eqb-true}
 use Rattle.std.proofs.lemmas.Nat.{and_comm, or_comm, xor_comm}
 use Rattle.c62_insn.specs.declared.operands.Op.{Op}
-use Rattle.c62_insn.specs.declared.operands.Op.TheVariants.{Add, And, Or, Xor, Add2, Cmpeq, Cmpgt, Cmplt, Cmpgtu, Cmpltu, Mpy, Mpyu, Mpyus, Mpysu, Mpyh, Mpyhu, Mpyhl, Mpylh}
+use Rattle.c62_insn.specs.declared.operands.Op.TheVariants.{Add, And, Or, Xor, Add2, Cmpeq, Cmpgt, Cmplt, Cmpgtu, Cmpltu, Mpy, Mpyu, Mpyus, Mpysu}
+use Rattle.c62_insn.specs.declared.operands.Op.TheVariants.{Mpyh, Mpyhu, Mpyhl, Mpylh}
 use Rattle.c62_insn.specs.Effect.{result_of}
 use Rattle.c62_insn.specs.Word.{hi, lo, sg_half, sum, word}
 use Rattle.c62_read.specs.Mnemonic.{exchanged}

@@ -1,5 +1,6 @@
 -- What lines without a fault have.
-use Rattle.std.proofs.Common.{◌≡◌, ℕ, zero, suc, ◌+◌, Bool, true, false, List, [], ◌∷◌, ◌++◌, length, Option, Some, None, Result, Ok, Err, refl, sym, ap, subst, ◌∙◌, arith, append_assoc, append-nil}
+use Rattle.std.proofs.Common.{◌≡◌, ℕ, zero, suc, ◌+◌, Bool, true, false, List, [], ◌∷◌, ◌++◌, length, Option, Some, None, Result, Ok, Err, refl, sym}
+use Rattle.std.proofs.Common.{ap, subst, ◌∙◌, arith, append_assoc, append-nil}
 use Rattle.std.specs.Prelude.{Contains, option_map}
 use Rattle.std.specs.List.{AllByRecursion, IsDistinct, list_any}
 use Rattle.std.specs.Option.{option_to_list}
@@ -8,14 +9,16 @@ use Rattle.std.proofs.lemmas.Bool.{not-false, or_parts}
 use Rattle.c62_read.specs.declared.fault.Cause.{Cause}
 use Rattle.c62_read.specs.declared.fault.Cause.TheVariants.{DuplicateLabel, UnknownTarget, TooManyInstructions, TooManyBlocks}
 use Rattle.c62_read.specs.Line.{Parts, Says, Nothing, Pause, Does, Jumps, head_of, line_of, rest_says, with_head, with_rest}
-use Rattle.c62_read.specs.Program.{Name, fault_if, fault_of, first_fault, first_of, is_among, items_from, labels_of, line_items, misses_label, place_of, repeats_label, says_items}
+use Rattle.c62_read.specs.Program.{Name, fault_if, fault_of, first_fault, first_of, is_among, items_from, labels_of, line_items, misses_label}
+use Rattle.c62_read.specs.Program.{place_of, repeats_label, says_items}
 use Rattle.c62_read.proofs.CutLemmas.{AllFit, all_fit}
 use Rattle.c62_read.proofs.SaysLemmas.{proper}
 
 -- ---- a line
 
 none_of : (head rest : Option Cause) (repeats misses over many : Bool)
-    → first_of (head ∷ fault_if repeats DuplicateLabel ∷ rest ∷ fault_if misses UnknownTarget ∷ fault_if over TooManyInstructions ∷ fault_if many TooManyBlocks ∷ []) ≡ None
+    → first_of (head ∷ fault_if repeats DuplicateLabel ∷ rest ∷ fault_if misses UnknownTarget ∷ fault_if over TooManyInstructions
+    ∷ fault_if many TooManyBlocks ∷ []) ≡ None
     → (repeats ≡ false) × (misses ≡ false)
 none_of (Some cause) rest repeats misses over many e = absurd cc
 none_of None rest true misses over many e = absurd cc

@@ -1,5 +1,6 @@
 -- Lines without a label.
-use Rattle.std.proofs.Common.{◌≡◌, ℕ, ◌≤◌, ◌<◌, Bool, true, false, cond, not, eqb, ◌||◌, List, [], ◌∷◌, length, Option, None, Ok, refl, ap, ◌∙◌, arith}
+use Rattle.std.proofs.Common.{◌≡◌, ℕ, ◌≤◌, ◌<◌, Bool, true, false, cond, not, eqb, ◌||◌, List, [], ◌∷◌, length, Option, None, Ok, refl, ap, ◌∙◌}
+use Rattle.std.proofs.Common.{arith}
 use Rattle.std.specs.Prelude.{take_while, codes}
 use Rattle.std.specs.Char.{to_ascii_lowercase}
 use Rattle.std.specs.List.{list_all, list_any}
@@ -116,6 +117,7 @@ empty_rest : rest_says [] ≡ Ok Nothing
 unfolding rest_says
 empty_rest = refl
 
-pub empty_line : (number : ℕ) (line : List ℕ) (drafts : Drafts) → line ≡ [] → add_line number line drafts ≡ record { says = Nothing; drafts = Ok drafts }
+pub empty_line : (number : ℕ) (line : List ℕ) (drafts : Drafts) → line ≡ []
+    → add_line number line drafts ≡ record { says = Nothing; drafts = Ok drafts }
 unfolding add_line hindrance is_taken with_says
 empty_line number line drafts none = rw (none, empty_head, empty_rest) refl

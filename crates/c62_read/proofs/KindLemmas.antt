@@ -1,5 +1,6 @@
 -- More than eight tokens are no operands, and a condition begins with a bracket.
-use Rattle.std.proofs.Common.{◌≡◌, ℕ, ◌+◌, ◌≤◌, ◌<◌, Bool, true, false, List, [], ◌∷◌, length, Option, Some, None, Err, cond, eqb, refl, sym, ap, subst, ◌∙◌, inl, inr, arith}
+use Rattle.std.proofs.Common.{◌≡◌, ℕ, ◌+◌, ◌≤◌, ◌<◌, Bool, true, false, List, [], ◌∷◌, length, Option, Some, None, Err, cond, eqb, refl, sym, ap}
+use Rattle.std.proofs.Common.{subst, ◌∙◌, inl, inr, arith}
 use Rattle.std.proofs.lemmas.Bool.{cases_Bool, eqb-true}
 use Rattle.std.specs.Prelude.{ℤ}
 use Rattle.std.proofs.lemmas.List.{length-map}
@@ -32,18 +33,25 @@ offset_leaves base form (Open ∷ Register reg ∷ Close ∷ rest) = omega arith
 offset_leaves base form (Open ∷ rest) = tt
 offset_leaves base form kinds = omega arith
 
-more : (first second : Kind) (kinds : List Kind) (found : Option (Address × List Kind)) → Leaves 3 kinds found → Leaves 5 (first ∷ second ∷ kinds) found
+more : (first second : Kind) (kinds : List Kind) (found : Option (Address × List Kind)) → Leaves 3 kinds found
+    → Leaves 5 (first ∷ second ∷ kinds) found
 more first second kinds None within = tt
 more first second kinds (Some (address, rest)) within = omega (arith, within)
 
 address_leaves : (kinds : List Kind) → Leaves 5 kinds (address_front kinds)
 unfolding address_front
-address_leaves (Plus ∷ Register base ∷ rest) = more Plus (Register base) rest (address_front (Plus ∷ Register base ∷ rest)) (offset_leaves base _ rest)
-address_leaves (Minus ∷ Register base ∷ rest) = more Minus (Register base) rest (address_front (Minus ∷ Register base ∷ rest)) (offset_leaves base _ rest)
-address_leaves (Increment ∷ Register base ∷ rest) = more Increment (Register base) rest (address_front (Increment ∷ Register base ∷ rest)) (offset_leaves base _ rest)
-address_leaves (Decrement ∷ Register base ∷ rest) = more Decrement (Register base) rest (address_front (Decrement ∷ Register base ∷ rest)) (offset_leaves base _ rest)
-address_leaves (Register base ∷ Increment ∷ rest) = more (Register base) Increment rest (address_front (Register base ∷ Increment ∷ rest)) (offset_leaves base _ rest)
-address_leaves (Register base ∷ Decrement ∷ rest) = more (Register base) Decrement rest (address_front (Register base ∷ Decrement ∷ rest)) (offset_leaves base _ rest)
+address_leaves (Plus ∷ Register base ∷ rest) =
+    more Plus (Register base) rest (address_front (Plus ∷ Register base ∷ rest)) (offset_leaves base _ rest)
+address_leaves (Minus ∷ Register base ∷ rest) =
+    more Minus (Register base) rest (address_front (Minus ∷ Register base ∷ rest)) (offset_leaves base _ rest)
+address_leaves (Increment ∷ Register base ∷ rest) =
+    more Increment (Register base) rest (address_front (Increment ∷ Register base ∷ rest)) (offset_leaves base _ rest)
+address_leaves (Decrement ∷ Register base ∷ rest) =
+    more Decrement (Register base) rest (address_front (Decrement ∷ Register base ∷ rest)) (offset_leaves base _ rest)
+address_leaves (Register base ∷ Increment ∷ rest) =
+    more (Register base) Increment rest (address_front (Register base ∷ Increment ∷ rest)) (offset_leaves base _ rest)
+address_leaves (Register base ∷ Decrement ∷ rest) =
+    more (Register base) Decrement rest (address_front (Register base ∷ Decrement ∷ rest)) (offset_leaves base _ rest)
 address_leaves (Register base ∷ rest) = omega arith
 address_leaves _ = tt
 
@@ -53,14 +61,16 @@ none_loaded kinds (Some (address, [])) within many = refl
 none_loaded kinds (Some (address, Comma ∷ Register reg ∷ [])) within many = absurd (omega (arith, within, many))
 none_loaded kinds (Some (address, rest)) within many = refl
 
-none_stored : (reg : Reg) (kinds : List Kind) (found : Option (Address × List Kind)) → Leaves 5 kinds found → 5 < length kinds → stored reg found ≡ None
+none_stored : (reg : Reg) (kinds : List Kind) (found : Option (Address × List Kind)) → Leaves 5 kinds found → 5 < length kinds
+    → stored reg found ≡ None
 none_stored reg kinds None within many = refl
 none_stored reg kinds (Some (address, [])) within many = absurd (omega (arith, within, many))
 none_stored reg kinds (Some (address, kind ∷ rest)) within many = refl
 
 too_many : (store : Bool) (kinds : List Kind) → 8 < length kinds → operands_of store kinds ≡ None
 unfolding operands_of
-too_many true (Register reg ∷ Comma ∷ Star ∷ address) many = none_stored reg address (address_front address) (address_leaves address) (omega (arith, many))
+too_many true (Register reg ∷ Comma ∷ Star ∷ address) many =
+    none_stored reg address (address_front address) (address_leaves address) (omega (arith, many))
 too_many false (Star ∷ address) many = none_loaded address (address_front address) (address_leaves address) (omega (arith, many))
 too_many false (Register a ∷ []) many = absurd (omega (arith, many))
 too_many false (Register a ∷ Comma ∷ Register d ∷ []) many = absurd (omega (arith, many))
@@ -80,7 +90,8 @@ too_long cond kinds many = refl
 many_kinds : (words : List Word) → 8 < length words → 8 < length (kinds_of words)
 many_kinds words many = rw (length-map words kind_of) many
 
-pub too_many_behind : (mnemonic : Mnemonic) (cond : Option Condition) (written : Option WrittenUnit) (words : List Word) → target_of mnemonic words ≡ None
+pub too_many_behind : (mnemonic : Mnemonic) (cond : Option Condition) (written : Option WrittenUnit) (words : List Word)
+    → target_of mnemonic words ≡ None
     → 8 < length words → behind_unit mnemonic cond written words ≡ Err BadOperand
 unfolding behind_unit
 too_many_behind Nop cond written words none many = too_long cond (kinds_of words) (many_kinds words many)
@@ -108,7 +119,8 @@ no_bracket (word ∷ words) is = other_kind (mark_of word) word (kinds_of words)
 
 -- ---- marks that stand alone
 
-one_mark : (c : ℕ) (kind : Kind) (rest : List ℕ) → is_mark c ≡ true → kind_of (c ∷ []) ≡ kind → kinds_of (tokens (c ∷ rest)) ≡ kind ∷ kinds_of (tokens rest)
+one_mark : (c : ℕ) (kind : Kind) (rest : List ℕ) → is_mark c ≡ true → kind_of (c ∷ []) ≡ kind
+    → kinds_of (tokens (c ∷ rest)) ≡ kind ∷ kinds_of (tokens rest)
 one_mark c kind rest mark is = ap kinds_of (mark_alone c rest mark) ∙ ap (λ (k : Kind). k ∷ kinds_of (tokens rest)) is
 
 abbrev StandsAlone : ℕ → List ℕ → Option Kind → Type 0
@@ -118,7 +130,8 @@ StandsAlone b rest (Some kind) = kinds_of (tokens (b ∷ rest)) ≡ kind ∷ kin
 stands_alone : (b : ℕ) (rest : List ℕ) → StandsAlone b rest (lone_mark b)
 unfolding kind_of mark_of single_mark
 stands_alone b rest =
-    either 44 Comma _ refl refl (either 42 Star _ refl refl (either 91 Open _ refl refl (either 93 Close _ refl refl (either 33 Not None refl refl tt))))
+    either 44 Comma _ refl refl (either 42 Star _ refl refl (either 91 Open _ refl refl (either 93 Close _ refl refl
+    (either 33 Not None refl refl tt))))
   where
     either : (c : ℕ) (kind : Kind) (other : Option Kind) → is_mark c ≡ true → kind_of (c ∷ []) ≡ kind → StandsAlone b rest other
         → StandsAlone b rest (cond (eqb b c) (Some kind) other)
@@ -128,7 +141,8 @@ stands_alone b rest =
           | inr differs ↦ rw differs later
         ]
 
-pub lone_is : (line rest : List ℕ) (b : ℕ) (kind : Kind) → line ≡ b ∷ rest → lone_mark b ≡ Some kind → kinds_of (tokens line) ≡ kind ∷ kinds_of (tokens rest)
+pub lone_is : (line rest : List ℕ) (b : ℕ) (kind : Kind) → line ≡ b ∷ rest → lone_mark b ≡ Some kind
+    → kinds_of (tokens line) ≡ kind ∷ kinds_of (tokens rest)
 lone_is line rest b kind are is =
     let alone : StandsAlone b rest (Some kind) = subst (StandsAlone b rest) is (stands_alone b rest) in
     ap (λ (bytes : List ℕ). kinds_of (tokens bytes)) are ∙ alone

@@ -1,5 +1,6 @@
 -- The first line of a text.
-use Rattle.std.proofs.Common.{◌≡◌, ◌<◌, ◌≤◌, ℕ, ◌+◌, suc, Bool, true, false, not, eqb, ◌&&◌, List, [], ◌∷◌, ◌++◌, length, take, drop, Some, None, refl, sym, ap, ◌∙◌, arith}
+use Rattle.std.proofs.Common.{◌≡◌, ◌<◌, ◌≤◌, ℕ, ◌+◌, suc, Bool, true, false, not, eqb, ◌&&◌, List, [], ◌∷◌, ◌++◌, length, take, drop, Some, None}
+use Rattle.std.proofs.Common.{refl, sym, ap, ◌∙◌, arith}
 use Rattle.std.specs.Prelude.{position, nat_lt, if◌then◌else◌}
 use Rattle.std.specs.List.{list_all, list_any, before_first, position_or_len}
 use Rattle.std.proofs.Common.{get_or}
@@ -141,5 +142,6 @@ pub later_none : (text : List ℕ) (n : ℕ) → n ≤ length text → list_any 
     → position is_line_feed (drop n text) ≡ None → position is_line_feed text ≡ None
 later_none text n within none is =
     let past : length (drop n text) ≤ position_or_len is_line_feed (drop n text) = past_is (drop n text) is in
-    let more : length text ≤ position_or_len is_line_feed text = omega (arith, place_later is_line_feed n text none within, past, length-drop n text) in
+    let more : length text ≤ position_or_len is_line_feed text =
+    omega (arith, place_later is_line_feed n text none within, past, length-drop n text) in
     rw (le-ltb (position_or_len is_line_feed text) (length text) more) refl

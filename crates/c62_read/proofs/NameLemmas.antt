@@ -1,5 +1,6 @@
 -- An operation is found among those whose names begin so.
-use Rattle.std.proofs.Common.{◌≡◌, ◌≤◌, ℕ, length, get_or, subst, arith, Bool, true, false, cond, eqb, List, [], ◌∷◌, Option, Some, None, refl, sym, ap, ◌∙◌, inl, inr}
+use Rattle.std.proofs.Common.{◌≡◌, ◌≤◌, ℕ, length, get_or, subst, arith, Bool, true, false, cond, eqb, List, [], ◌∷◌, Option, Some, None, refl, sym}
+use Rattle.std.proofs.Common.{ap, ◌∙◌, inl, inr}
 use Rattle.std.specs.Prelude.{map}
 use Rattle.std.specs.Char.{to_ascii_lowercase}
 use Rattle.std.specs.List.{filter, find}
@@ -70,7 +71,8 @@ named Add = refl
 named _ = refl
 
 -- an operation whose very name this is
-pub named_in_capitals : (ops : List Op) (name : List ℕ) (op : Op) → find (λ o. bytes_eq (mnemonic_of o) name) ops ≡ Some op → operation_named name ≡ Some op
+pub named_in_capitals : (ops : List Op) (name : List ℕ) (op : Op) → find (λ o. bytes_eq (mnemonic_of o) name) ops ≡ Some op
+    → operation_named name ≡ Some op
 named_in_capitals [] name op is = absurd cc
 named_in_capitals (x ∷ ops) name op is = go (bytes_eq (mnemonic_of x) name) refl is (named_in_capitals ops name op)
   where

@@ -10,7 +10,8 @@ use Rattle.c62_read.specs.Number.{decimal_of, magnitude_of, number_of, register_
 use Rattle.c62_read.specs.Kind.{Word, kind_of, kinds_of, mark_of}
 use Rattle.c62_read.specs.declared.mnemonic.Mnemonic.TheVariants.{Nop}
 use Rattle.c62_read.specs.Mnemonic.{mnemonic_named, operation_named, pseudo_named}
-use Rattle.c62_read.specs.Line.{Says, Pause, and_read, behind_unit, condition_front, condition_of, cycles_of, instruction_of, or_fault, pause_of, rest_says, unit_behind}
+use Rattle.c62_read.specs.Line.{Says, Pause, and_read, behind_unit, condition_front, condition_of, cycles_of, instruction_of, or_fault, pause_of}
+use Rattle.c62_read.specs.Line.{rest_says, unit_behind}
 
 pub nop_kind : kind_of (codes "NOP") ≡ Name
 unfolding kind_of mark_of register_of number_of signed_of magnitude_of decimal_of

@@ -1,5 +1,6 @@
 -- Laws of programs: their instructions, their blocks and their labels are those of their lines.
-use Rattle.std.proofs.Common.{◌≡◌, ℕ, zero, suc, ◌+◌, ◌<◌, ◌≤◌, Bool, true, ◌&&◌, List, [], ◌∷◌, ◌++◌, length, get_or, Option, Some, None, Result, Ok, Err, refl, sym, ap, subst, ◌∙◌, arith, inl, inr}
+use Rattle.std.proofs.Common.{◌≡◌, ℕ, zero, suc, ◌+◌, ◌<◌, ◌≤◌, Bool, true, ◌&&◌, List, [], ◌∷◌, ◌++◌, length, get_or, Option, Some, None, Result, Ok}
+use Rattle.std.proofs.Common.{Err, refl, sym, ap, subst, ◌∙◌, arith, inl, inr}
 use Rattle.std.specs.Prelude.{map, position, slice_get, Contains}
 use Rattle.std.specs.List.{IsDistinct, flat_map, list_all, position_or_len}
 use Rattle.std.specs.Str.{bytes_eq}
@@ -14,8 +15,10 @@ use Rattle.c62_read.specs.declared.fault.Cause.{Cause}
 use Rattle.c62_read.specs.Text.{lines_of}
 use Rattle.c62_read.specs.Block.{branch_last}
 use Rattle.c62_read.specs.Line.{Says, Nothing, Pause, Does, Jumps, line_of}
-use Rattle.c62_read.specs.Program.{Begins, BlockParts, Draft, Item, Name, Numbered, Runs, aimed, block_in, blocks_from, is_among, items_from, label_is, label_items, labels_of, line_items, says_items, target_number}
-use Rattle.c62_read.specs.Laws.{HasCutBlocks, HasItsLabels, HasRisingLines, HasTargets, IsItsLines, ReadsAsItsLine, begin_well, block_named, ends_in_branch, instruction_at, instructions_in, instructions_of, items_of, may_begin, settled}
+use Rattle.c62_read.specs.Program.{Begins, BlockParts, Draft, Item, Name, Numbered, Runs, aimed, block_in, blocks_from, is_among, items_from}
+use Rattle.c62_read.specs.Program.{label_is, label_items, labels_of, line_items, says_items, target_number}
+use Rattle.c62_read.specs.Laws.{HasCutBlocks, HasItsLabels, HasRisingLines, HasTargets, IsItsLines, ReadsAsItsLine, begin_well, block_named}
+use Rattle.c62_read.specs.Laws.{ends_in_branch, instruction_at, instructions_in, instructions_of, items_of, may_begin, settled}
 use Rattle.c62_read.specs.Walk.{own_labels}
 use Rattle.c62_read.proofs.CutLemmas.{cut_begins, cut_ends, drafts_begin, ends_last}
 use Rattle.c62_read.proofs.FaultLemmas.{distinct_labels, known_target}

@@ -5,7 +5,8 @@ use Rattle.std.specs.List.{flat_map, position_or_len}
 use Rattle.std.proofs.lemmas.List.{length-map}
 use Rattle.c62_read.specs.declared.fault.Cause.TheVariants.{TextTooLong}
 use Rattle.c62_read.specs.Text.{lines_of}
-use Rattle.c62_read.specs.Program.{BlockParts, Draft, Name, Refusal, and_then, block_in, blocks_from, drafts_in, first_fault, items_from, label_is, labels_of, program_in, target_number, unless_refused}
+use Rattle.c62_read.specs.Program.{BlockParts, Draft, Name, Refusal, and_then, block_in, blocks_from, drafts_in, first_fault, items_from, label_is}
+use Rattle.c62_read.specs.Program.{labels_of, program_in, target_number, unless_refused}
 use Rattle.c62_read.specs.Laws.{block_named, items_of, settled}
 use Rattle.c62_read.proofs.CutLemmas.{aim_at, cut_items, draft_items}
 use Rattle.c62_read.proofs.FaultLemmas.{items_fit}

@@ -8,7 +8,8 @@ use Rattle.c62_read.specs.declared.fault.Cause.TheVariants.{TextTooLong}
 use Rattle.c62_read.specs.declared.fault.ReadFault.{ReadFault}
 use Rattle.c62_read.specs.Text.{lines_of}
 use Rattle.c62_read.specs.Program.{Name, BlockParts, Refusal, Fails, and_then, block_in, drafts_in, labels_of, place_of, program_in}
-use Rattle.c62_read.specs.Walk.{Asked, Drafts, add_line, add_lines, all_drafts, asked_in, at_line, first_line, missed, no_drafts, own_labels, unless_missed}
+use Rattle.c62_read.specs.Walk.{Asked, Drafts, add_line, add_lines, all_drafts, asked_in, at_line, first_line, missed, no_drafts, own_labels}
+use Rattle.c62_read.specs.Walk.{unless_missed}
 use Rattle.c62_read.proofs.AddedLemmas.{added_is}
 use Rattle.c62_read.proofs.MissedLemmas.{missed_then}
 use Rattle.c62_read.proofs.WalkLemmas.{own_added, walk_says}

@@ -26,7 +26,9 @@ use Rattle.c62_read.specs.Operand.{address_front, loaded, operands_of, stored}
 use Rattle.c62_read.specs.Mnemonic.{constant_to_front, crossed_to_back, exchanged, in_order, read_as, with_kind, zero_in}
 use Rattle.c62_read.specs.Text.{begins}
 use Rattle.c62_read.specs.Unit.{is_dot}
-use Rattle.c62_read.specs.Line.{Says, Pause, Does, Jumps, and_read, behind_unit, condition_front, cycles_of, does, formed, instruction_of, is_storing, jumps_or_does, letter_written, mnemonic_front, operands_written, or_fault, parts_read, pause_of, rest_says, target_of, text_fault, unit_behind}
+use Rattle.c62_read.specs.Line.{Says, Pause, Does, Jumps, and_read, behind_unit, condition_front, cycles_of, does, formed, instruction_of, is_storing}
+use Rattle.c62_read.specs.Line.{jumps_or_does, letter_written, mnemonic_front, operands_written, or_fault, parts_read, pause_of, rest_says, target_of}
+use Rattle.c62_read.specs.Line.{text_fault, unit_behind}
 
 abbrev pub has_no_block : Operands → Bool
 has_no_block (Block number) = false

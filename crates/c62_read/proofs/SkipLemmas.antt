@@ -1,5 +1,6 @@
 -- Lines without a colon have no label.
-use Rattle.std.proofs.Common.{◌≡◌, ℕ, zero, suc, ◌-◌, ◌≤◌, ◌<◌, Bool, true, false, not, eqb, ◌&&◌, List, [], ◌∷◌, ◌++◌, length, get_or, take, drop, refl, sym, ap, ◌∙◌, arith}
+use Rattle.std.proofs.Common.{◌≡◌, ℕ, zero, suc, ◌-◌, ◌≤◌, ◌<◌, Bool, true, false, not, eqb, ◌&&◌, List, [], ◌∷◌, ◌++◌, length, get_or, take, drop}
+use Rattle.std.proofs.Common.{refl, sym, ap, ◌∙◌, arith}
 use Rattle.std.specs.List.{list_all, list_any}
 use Rattle.std.proofs.lemmas.Bool.{and_from, and_parts, not-true, or_parts}
 use Rattle.std.proofs.lemmas.List.{take-append-drop}
@@ -38,7 +39,13 @@ skipped (b ∷ front) rest none =
     by_byte false true e f colon later =
         record { line = later.line; lines = later.lines; is = rw (e, f) later.is; plain = later.plain; others = later.others }
     by_byte false false e f colon later =
-        record { line = b ∷ later.line; lines = later.lines; is = rw (e, f, later.is) refl; plain = rw (colon, later.plain) refl; others = later.others }
+        record {
+          line = b ∷ later.line;
+          lines = later.lines;
+          is = rw (e, f, later.is) refl;
+          plain = rw (colon, later.plain) refl;
+          others = later.others;
+        }
 
 labels_plain : (lines others : List (List ℕ)) → list_all (λ l. not (has_colon_byte l)) lines ≡ true → labels_of (lines ++ others) ≡ labels_of others
 labels_plain [] others plain = refl

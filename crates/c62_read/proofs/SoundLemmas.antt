@@ -50,7 +50,8 @@ labels_are [] = refl
 labels_are (block ∷ blocks) = ap (λ (labels : List (Option Name)). block.label ∷ labels) (labels_are blocks)
 
 -- one block more is made
-pub one_made : (drafts : List Draft) (made now : List Serial) (block : BlockReader) (last : Serial) (old new : List BlockReader) (all : List BlockParts)
+pub one_made : (drafts : List Draft) (made now : List Serial) (block : BlockReader) (last : Serial) (old new : List BlockReader)
+    (all : List BlockParts)
     → now ≡ made ++ last ∷ [] → old ≡ block ∷ new → block_parts last ≡ block_in drafts (draft_of block)
     → map block_parts made ++ map (block_in drafts) (map draft_of old) ≡ all
     → map block_parts now ++ map (block_in drafts) (map draft_of new) ≡ all

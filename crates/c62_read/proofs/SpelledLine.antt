@@ -1,5 +1,6 @@
 -- The line that spells an instruction reads as it.
-use Rattle.std.proofs.Common.{◌≡◌, ℕ, ◌≤◌, Bool, true, false, cond, List, [], ◌∷◌, ◌++◌, length, Option, Some, None, Ok, refl, sym, ap, subst, ◌∙◌, arith, append_assoc, length-append}
+use Rattle.std.proofs.Common.{◌≡◌, ℕ, ◌≤◌, Bool, true, false, cond, List, [], ◌∷◌, ◌++◌, length, Option, Some, None, Ok, refl, sym, ap, subst, ◌∙◌}
+use Rattle.std.proofs.Common.{arith, append_assoc, length-append}
 use Rattle.std.specs.Prelude.{codes}
 use Rattle.std.specs.List.{list_all}
 use Rattle.std.proofs.lemmas.Bool.{and_from, and_parts}
@@ -24,13 +25,15 @@ use Rattle.c62_read.specs.Number.{is_label, spells}
 use Rattle.c62_read.specs.declared.kind.Kind.TheVariants.{Open, Close, Not}
 use Rattle.c62_read.specs.Kind.{Word, kind_of, mark_of, single_mark}
 use Rattle.c62_read.specs.Unit.{unit_fits}
-use Rattle.c62_read.specs.Line.{Does, Jumps, Says, behind_unit, condition_front, condition_of, instruction_of, is_bars, is_star, line_of, parts_read, rest_says, unit_behind}
+use Rattle.c62_read.specs.Line.{Does, Jumps, Says, behind_unit, condition_front, condition_of, instruction_of, is_bars, is_star, line_of, parts_read}
+use Rattle.c62_read.specs.Line.{rest_says, unit_behind}
 use Rattle.c62_read.specs.Laws.{LineReadsBack, NamesTarget, says_with}
 use Rattle.c62_read.proofs.HeadLemmas.{all_weaker, allowed_text, head_plain, line_by_head, no_colon}
 use Rattle.c62_read.proofs.TokenLemmas.{tokens_blank}
 use Rattle.c62_read.proofs.SpelledTokens.{IsToken, is_text, mark_alone, tokens_behind}
 use Rattle.c62_read.proofs.SpelledNumbers.{register_kind, register_length, register_token}
-use Rattle.c62_read.proofs.SpelledUnits.{mnemonic_back, mnemonic_kind, mnemonic_length, mnemonic_no_dot, mnemonic_token, unit_back, unit_length, unit_token}
+use Rattle.c62_read.proofs.SpelledUnits.{mnemonic_back, mnemonic_kind, mnemonic_length, mnemonic_no_dot, mnemonic_token, unit_back, unit_length}
+use Rattle.c62_read.proofs.SpelledUnits.{unit_token}
 use Rattle.c62_read.proofs.SpelledOperands.{block_branch, does_back, jumps_back, spelled_label, spelled_operands, unit_written_fits, written_on}
 
 -- ---- the operation and what stands behind it

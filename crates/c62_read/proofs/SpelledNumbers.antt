@@ -1,5 +1,6 @@
 -- Numbers and registers read back.
-use Rattle.std.proofs.Common.{◌≡◌, ℕ, suc, ◌+◌, ◌-◌, ◌^◌, ◌/◌, ◌%◌, ◌<◌, ◌≤◌, Bool, true, false, eqb, ltb, leb, ◌&&◌, ◌||◌, List, [], ◌∷◌, ◌++◌, length, Option, Some, None, refl, sym, ap, subst, ◌∙◌, arith, inl, inr}
+use Rattle.std.proofs.Common.{◌≡◌, ℕ, suc, ◌+◌, ◌-◌, ◌^◌, ◌/◌, ◌%◌, ◌<◌, ◌≤◌, Bool, true, false, eqb, ltb, leb, ◌&&◌, ◌||◌, List, [], ◌∷◌, ◌++◌}
+use Rattle.std.proofs.Common.{length, Option, Some, None, refl, sym, ap, subst, ◌∙◌, arith, inl, inr}
 use Rattle.std.specs.Prelude.{ℤ, pos, negsuc, ◌≤ℤ◌, int_le, option_map, option_and_then, codes, T}
 use Rattle.std.specs.Char.{digit_value, is_ascii_digit}
 use Rattle.std.specs.Fmt.{decimal, signed_decimal}
@@ -15,7 +16,8 @@ use Rattle.c62_insn.specs.Spelling.{file_letter, register_name}
 use Rattle.c62_read.specs.Text.{is_word_byte, joins}
 use Rattle.c62_read.specs.declared.kind.Kind.{Kind}
 use Rattle.c62_read.specs.declared.kind.Kind.TheVariants.{Register, Number}
-use Rattle.c62_read.specs.Number.{are_digits, decimal_of, file_of, in_file, in_range, magnitude_of, negative, number_of, numbered, register_of, signed_of}
+use Rattle.c62_read.specs.Number.{are_digits, decimal_of, file_of, in_file, in_range, magnitude_of, negative, number_of, numbered, register_of}
+use Rattle.c62_read.specs.Number.{signed_of}
 use Rattle.c62_read.specs.Kind.{kind_of, mark_of, single_mark}
 use Rattle.c62_read.proofs.Registers.{numbered-known}
 use Rattle.c62_read.proofs.SpelledTokens.{IsToken, word_token, led_token}

@@ -1,5 +1,6 @@
 -- The operands of an instruction on a unit that takes it read back.
-use Rattle.std.proofs.Common.{◌≡◌, ℕ, ◌%◌, ◌≤◌, Bool, true, false, not, cond, leb, ◌&&◌, ◌||◌, List, [], ◌∷◌, length, Option, Some, None, Ok, refl, sym, ap, subst, ◌∙◌, arith, inl, inr}
+use Rattle.std.proofs.Common.{◌≡◌, ℕ, ◌%◌, ◌≤◌, Bool, true, false, not, cond, leb, ◌&&◌, ◌||◌, List, [], ◌∷◌, length, Option, Some, None, Ok, refl}
+use Rattle.std.proofs.Common.{sym, ap, subst, ◌∙◌, arith, inl, inr}
 use Rattle.std.specs.Prelude.{ℤ, pos, negsuc, int_le, is_some, option_and_then}
 use Rattle.std.specs.Char.{is_ascii_digit}
 use Rattle.std.specs.List.{list_all}
@@ -11,7 +12,8 @@ use Rattle.c62_insn.specs.declared.register.Letter.{Letter}
 use Rattle.c62_insn.specs.declared.register.Letter.TheVariants.{S, D}
 use Rattle.c62_insn.specs.declared.register.Unit.{Unit as FunctionalUnit}
 use Rattle.c62_insn.specs.declared.operands.Op.{Op}
-use Rattle.c62_insn.specs.declared.operands.Op.TheVariants.{Add, Sub, Shl, Shr, Shru, Mvklh, Addab, Addah, Addaw, Ldb, Ldbu, Ldh, Ldhu, Ldw, Stb, Sth, Stw, B as Branch}
+use Rattle.c62_insn.specs.declared.operands.Op.TheVariants.{Add, Sub, Shl, Shr, Shru, Mvklh, Addab, Addah, Addaw, Ldb, Ldbu, Ldh, Ldhu, Ldw, Stb, Sth}
+use Rattle.c62_insn.specs.declared.operands.Op.TheVariants.{Stw, B as Branch}
 use Rattle.c62_insn.specs.declared.operands.AddressForm.{AddressForm}
 use Rattle.c62_insn.specs.declared.operands.Offset.{Offset}
 use Rattle.c62_insn.specs.declared.operands.Offset.TheVariants.{Constant as ByConstant, Register as ByRegister}
@@ -22,7 +24,8 @@ use Rattle.c62_insn.specs.Fault.{form_fault, has_kind}
 use Rattle.c62_insn.specs.Shape.{crosses_to, data_path_of, is_load, is_store}
 use Rattle.c62_insn.specs.Spelling.{register_name, operands_spelling, with_commas}
 use Rattle.c62_insn.specs.Takes.{same_side, same_letter, takes}
-use Rattle.c62_insn.proofs.FormLemmas.{access_on_d, constant_on_d, first_in_file, is_add, is_narrow, lets_first_cross, narrow_constants, taken_kind, taken_letter, uncrossed_on_d}
+use Rattle.c62_insn.proofs.FormLemmas.{access_on_d, constant_on_d, first_in_file, is_add, is_narrow, lets_first_cross, narrow_constants, taken_kind}
+use Rattle.c62_insn.proofs.FormLemmas.{taken_letter, uncrossed_on_d}
 use Rattle.c62_insn.proofs.Registers.{same_side-refl}
 use Rattle.c62_read.specs.declared.kind.Kind.{Kind}
 use Rattle.c62_read.specs.declared.mnemonic.Mnemonic.TheVariants.{Operation}
@@ -33,10 +36,12 @@ use Rattle.c62_read.specs.Kind.{Word, kinds_of}
 use Rattle.c62_read.specs.Operand.{operands_of}
 use Rattle.c62_read.specs.Mnemonic.{constant_to_front, crossed_to_back, exchanged, in_order, low_half, read_as, stands_on, with_kind}
 use Rattle.c62_read.specs.Unit.{mark_fits, unit_fits}
-use Rattle.c62_read.specs.Line.{Does, Jumps, does, formed, jumps_or_does, operands_written, behind_unit, is_branch, label_alone, misses, parts_read, target_of, text_fault}
+use Rattle.c62_read.specs.Line.{Does, Jumps, does, formed, jumps_or_does, operands_written, behind_unit, is_branch, label_alone, misses, parts_read}
+use Rattle.c62_read.specs.Line.{target_of, text_fault}
 use Rattle.c62_read.proofs.SpelledTokens.{IsToken, is_text, text_commas, tokens_commas, tokens_end, word_token}
 use Rattle.c62_read.proofs.SpelledNumbers.{fits, register_back, register_length, register_token}
-use Rattle.c62_read.proofs.SpelledSources.{Source, FromConstant, FromRegister, source_fits, source_kinds, sources_length, sources_told, sources_tokens, texts}
+use Rattle.c62_read.proofs.SpelledSources.{Source, FromConstant, FromRegister, source_fits, source_kinds, sources_length, sources_told}
+use Rattle.c62_read.proofs.SpelledSources.{sources_tokens, texts}
 use Rattle.c62_read.proofs.SpelledAddresses.{access_back, access_bytes, access_length, access_text, access_tokens, offset_fits}
 use Rattle.c62_read.proofs.SpelledUnits.{mark_by, mark_on}
 
@@ -343,7 +348,8 @@ branch_to_register target =
       short = omega (arith, register_length target);
       target = ap (target_of (Operation Branch)) tokens_are ∙ label_alone_none target;
       read = ap (λ (words : List Word). option_and_then (read_as (Operation Branch) None) (operands_of false (kinds_of words))) tokens_are
-          ∙ ap (λ (kinds : List Kind). option_and_then (read_as (Operation Branch) None) (operands_of false kinds)) (sources_told (FromRegister target ∷ []) refl)
+          ∙ ap (λ (kinds : List Kind). option_and_then (read_as (Operation Branch) None) (operands_of false kinds)) (sources_told
+          (FromRegister target ∷ []) refl)
           ∙ with_order Branch (Register target) (Register target) (register_order Branch target) refl;
     }
 
@@ -433,7 +439,8 @@ written_is op written (Some operands) = refl
 
 does_by : (op : Op) (operands : Operands) (cond : Option Condition) (unit : FunctionalUnit) (words : List Word)
     → form_fault op operands cond (Some unit) ≡ None
-    → target_of (Operation op) words ≡ None → option_and_then (read_as (Operation op) None) (operands_of (is_store op) (kinds_of words)) ≡ Some (op, operands)
+    → target_of (Operation op) words ≡ None
+    → option_and_then (read_as (Operation op) None) (operands_of (is_store op) (kinds_of words)) ≡ Some (op, operands)
     → behind_unit (Operation op) cond (Some (written_on operands unit)) words
     ≡ Ok (Does (parts_read op operands cond (Some (written_on operands unit))))
 unfolding behind_unit

@@ -11,7 +11,8 @@ use Rattle.c62_insn.specs.declared.operands.Operands.TheVariants.{Three, Constan
 use Rattle.c62_insn.specs.Insn.{operands_of as written_operands}
 use Rattle.c62_read.specs.declared.block.SerialInsn.{SerialInsn}
 use Rattle.c62_read.specs.Block.{Serial, is_labelled, labels_in, target_stands, targets_stand}
-use Rattle.c62_read.specs.Program.{Begins, BlockParts, Draft, Item, Name, Numbered, Runs, block_in, block_parts, blocks_from, first_fault, is_among, items_from, label_is, label_items, labels_of, numbered_of, target_number}
+use Rattle.c62_read.specs.Program.{Begins, BlockParts, Draft, Item, Name, Numbered, Runs, block_in, block_parts, blocks_from, first_fault, is_among}
+use Rattle.c62_read.specs.Program.{items_from, label_is, label_items, labels_of, numbered_of, target_number}
 use Rattle.c62_read.specs.Laws.{block_named, items_of, settled}
 use Rattle.c62_read.proofs.CutLemmas.{AllFit, Fits}
 use Rattle.c62_read.proofs.FaultLemmas.{items_fit}

@@ -1,5 +1,6 @@
 -- The reader's walk over the lines of a text answers what the text says.
-use Rattle.std.proofs.Common.{◌≡◌, ◌≤◌, ℕ, ◌+◌, Bool, true, false, cond, leb, ltb, ◌&&◌, ◌||◌, List, [], ◌∷◌, ◌++◌, length, Option, Some, None, Result, Ok, Err, refl, sym, ap, subst, ◌∙◌, arith, append_assoc, append-nil, length-append, inl, inr}
+use Rattle.std.proofs.Common.{◌≡◌, ◌≤◌, ℕ, ◌+◌, Bool, true, false, cond, leb, ltb, ◌&&◌, ◌||◌, List, [], ◌∷◌, ◌++◌, length, Option, Some, None}
+use Rattle.std.proofs.Common.{Result, Ok, Err, refl, sym, ap, subst, ◌∙◌, arith, append_assoc, append-nil, length-append, inl, inr}
 use Rattle.std.specs.Prelude.{is_none, is_some, option_map}
 use Rattle.std.specs.List.{list_all, list_any}
 use Rattle.std.specs.Option.{option_to_list}
@@ -10,8 +11,12 @@ use Rattle.std.proofs.lemmas.List.Folds.{list_any-append}
 use Rattle.c62_read.specs.declared.fault.Cause.{Cause}
 use Rattle.c62_read.specs.declared.fault.Cause.TheVariants.{DuplicateLabel, UnknownTarget, TooManyInstructions, TooManyBlocks}
 use Rattle.c62_read.specs.Line.{Parts, Says, Nothing, Pause, Does, Jumps, is_branch, head_of, line_of, rest_says}
-use Rattle.c62_read.specs.Program.{Name, Numbered, Item, Runs, Draft, Refusal, and_then, blocks_from, cut, fault_if, fault_in, fault_of, first_fault, first_of, glue, is_among, is_overfull, items_from, joined, label_is, label_items, labels_of, line_items, misses_label, piece_of, place_of, repeats_label, says_items, unless_refused}
-use Rattle.c62_read.specs.Walk.{is_whole, Drafts, add_head, add_line, add_lines, add_says, all_drafts, at_line, begins_block, closed, hindrance, is_full, is_instruction, is_taken, is_unknown, new_draft, no_drafts, opened, own_labels, refused, Step, unless_hindered, with_insn, with_label, with_says}
+use Rattle.c62_read.specs.Program.{Name, Numbered, Item, Runs, Draft, Refusal, and_then, blocks_from, cut, fault_if, fault_in, fault_of, first_fault}
+use Rattle.c62_read.specs.Program.{first_of, glue, is_among, is_overfull, items_from, joined, label_is, label_items, labels_of, line_items}
+use Rattle.c62_read.specs.Program.{misses_label, piece_of, place_of, repeats_label, says_items, unless_refused}
+use Rattle.c62_read.specs.Walk.{is_whole, Drafts, add_head, add_line, add_lines, add_says, all_drafts, at_line, begins_block, closed, hindrance}
+use Rattle.c62_read.specs.Walk.{is_full, is_instruction, is_taken, is_unknown, new_draft, no_drafts, opened, own_labels, refused, Step}
+use Rattle.c62_read.specs.Walk.{unless_hindered, with_insn, with_label, with_says}
 use Rattle.c62_read.proofs.AddedLemmas.{IsAdded, added_is, clear_parts, few_added, grows}
 use Rattle.c62_read.proofs.HeadLemmas.{line_by_head}
 use Rattle.c62_read.proofs.CutLemmas.{all_whole, cut_ends, ends_last}
@@ -200,11 +205,13 @@ own_append drafts others = flat_map-append (λ (draft : Draft). option_to_list d
 one_own : (done : List Draft) (draft : Draft) → own_labels (done ++ draft ∷ []) ≡ own_labels done ++ option_to_list draft.label
 one_own done draft = own_append done (draft ∷ []) ∙ ap (λ (labels : List Name). own_labels done ++ labels) (append-nil (option_to_list draft.label))
 
-closed_own : (last : Bool) (done : List Draft) (draft : Draft) → own_labels (all_drafts (closed last done draft)) ≡ own_labels done ++ option_to_list draft.label
+closed_own : (last : Bool) (done : List Draft) (draft : Draft)
+    → own_labels (all_drafts (closed last done draft)) ≡ own_labels done ++ option_to_list draft.label
 closed_own true done draft = ap own_labels (append-nil (done ++ draft ∷ [])) ∙ one_own done draft
 closed_own false done draft = one_own done draft
 
-open_own : (done : List Draft) (current : Option Draft) → own_labels done ++ option_to_list (opened current).label ≡ own_labels (done ++ option_to_list current)
+open_own : (done : List Draft) (current : Option Draft)
+    → own_labels done ++ option_to_list (opened current).label ≡ own_labels (done ++ option_to_list current)
 open_own done None = append-nil (own_labels done) ∙ sym (ap own_labels (append-nil done))
 open_own done (Some draft) = sym (one_own done draft)
 
@@ -217,7 +224,8 @@ says_keeps number (Does parts) drafts = closed_own (is_branch parts.op) drafts.d
 says_keeps number (Jumps parts target) drafts =
     closed_own (is_branch parts.op) drafts.done (with_insn parts number (Some target) (opened drafts.current)) ∙ open_own drafts.done drafts.current
 
-label_keeps : (new : Option Name) (drafts : Drafts) → own_labels (all_drafts (with_label new drafts)) ≡ own_labels (all_drafts drafts) ++ option_to_list new
+label_keeps : (new : Option Name) (drafts : Drafts)
+    → own_labels (all_drafts (with_label new drafts)) ≡ own_labels (all_drafts drafts) ++ option_to_list new
 label_keeps None drafts = sym (append-nil (own_labels (all_drafts drafts)))
 label_keeps (Some new) drafts = one_own (all_drafts drafts) (new_draft (Some new))
 

@@ -1,5 +1,6 @@
 -- Lines of a pause and of a label read back.
-use Rattle.std.proofs.Common.{◌≡◌, ℕ, ◌+◌, ◌≤◌, true, false, eqb, List, [], ◌∷◌, ◌++◌, length, Option, Some, None, Ok, refl, ap, ◌∙◌, arith, length-append}
+use Rattle.std.proofs.Common.{◌≡◌, ℕ, ◌+◌, ◌≤◌, true, false, eqb, List, [], ◌∷◌, ◌++◌, length, Option, Some, None, Ok, refl, ap, ◌∙◌, arith}
+use Rattle.std.proofs.Common.{length-append}
 use Rattle.std.specs.Prelude.{pos, codes}
 use Rattle.std.specs.Char.{to_ascii_lowercase}
 use Rattle.std.specs.Fmt.{decimal}
@@ -14,7 +15,8 @@ use Rattle.c62_read.specs.Number.{is_label}
 use Rattle.c62_read.specs.Kind.{Word, kinds_of}
 use Rattle.c62_read.specs.Mnemonic.{mnemonic_named, operation_named, pseudo_named}
 use Rattle.c62_read.specs.Unit.{unit_front}
-use Rattle.c62_read.specs.Line.{Nothing, Pause, behind_unit, condition_front, condition_of, cycles_of, head_of, instruction_of, is_bars, is_star, label_front, pause_of, rest_says}
+use Rattle.c62_read.specs.Line.{Nothing, Pause, behind_unit, condition_front, condition_of, cycles_of, head_of, instruction_of, is_bars, is_star}
+use Rattle.c62_read.specs.Line.{label_front, pause_of, rest_says}
 use Rattle.c62_read.specs.Program.{place_of}
 use Rattle.c62_read.specs.Laws.{LabelReadsBack, PauseReadsBack}
 use Rattle.c62_read.proofs.HeadLemmas.{all_weaker, allowed_text, head_plain, line_by_head, no_colon}

@@ -1,5 +1,7 @@
 -- Laws of lines: what is spelled reads back.
-use Rattle.std.specs.Prelude.{◌≡◌, ℕ, ◌+◌, ◌≤◌, ◌<◌, ◌^◌, nat_lt, Bool, true, false, ◌&&◌, ◌||◌, ℤ, pos, ◌≤ℤ◌, List, [], ◌∷◌, ◌++◌, length, map, option_map, position, unwrap_or, slice_get, Contains, Option, Some, None, is_some, Result, Ok, Err, codes, decimal, IsTrue}
+use Rattle.std.specs.Prelude.{◌≡◌, ℕ, ◌+◌, ◌≤◌, ◌<◌, ◌^◌, nat_lt, Bool, true, false, ◌&&◌, ◌||◌, ℤ, pos, ◌≤ℤ◌, List, [], ◌∷◌, ◌++◌, length, map}
+use Rattle.std.specs.Prelude.{option_map, position, unwrap_or, slice_get, Contains, Option, Some, None, is_some, Result, Ok, Err, codes, decimal}
+use Rattle.std.specs.Prelude.{IsTrue}
 use Rattle.std.specs.Char.{to_ascii_lowercase}
 use Rattle.std.specs.Fmt.{signed_decimal}
 use Rattle.std.specs.List.{IsDistinct, flat_map, list_all}
@@ -24,7 +26,8 @@ use Rattle.c62_read.specs.Mnemonic.{exchanged}
 use Rattle.c62_read.specs.Line.{Parts, Says, Nothing, Pause, Does, Jumps, is_branch, line_of}
 use Rattle.c62_read.specs.declared.fault.Cause.{Cause}
 use Rattle.c62_read.specs.Block.{branch_last}
-use Rattle.c62_read.specs.Program.{BlockParts, Item, Name, Numbered, Runs, items_from, label_is, label_items, labels_of, most_bytes, place_of, program_in}
+use Rattle.c62_read.specs.Program.{BlockParts, Item, Name, Numbered, Runs, items_from, label_is, label_items, labels_of, most_bytes, place_of}
+use Rattle.c62_read.specs.Program.{program_in}
 
 -- the decimal spelling of a number reads as it
 abbrev pub NumberReadsBack : ℤ → Type 0
@@ -53,7 +56,8 @@ NamesTarget name operands = (number : ℕ) → operands ≡ Block number → IsT
 -- the line that spells an instruction on a unit, with at most a hundred blanks before it, says that instruction on that unit
 abbrev pub LineReadsBack : (ℕ → Word) → Insn → FunctionalUnit → List ℕ → Type 0
 LineReadsBack name insn unit blanks =
-    IsTrue (takes (op_of insn) (operands_of insn) unit) → NamesTarget name (operands_of insn) → IsTrue (list_all is_blank blanks) → length blanks ≤ 100
+    IsTrue (takes (op_of insn) (operands_of insn) unit) → NamesTarget name (operands_of insn) → IsTrue (list_all is_blank blanks)
+    → length blanks ≤ 100
     → line_of (blanks ++ spelling name insn unit) ≡ Ok (None, says_on name insn unit)
 
 -- the line that spells so many cycles without an instruction says them
@@ -102,7 +106,8 @@ CommentsSayNothing text other =
 -- hexadecimal number is a small letter.
 abbrev pub IsRecased : ℕ → List ℕ → List ℕ → Type 0
 IsRecased before [] [] = Unit {0}
-IsRecased before (b ∷ line) (c ∷ other) = (to_ascii_lowercase b ≡ to_ascii_lowercase c) × (before ≡ 48 → to_ascii_lowercase b ≡ 120 → b ≡ c) × IsRecased b line other
+IsRecased before (b ∷ line) (c ∷ other) =
+    (to_ascii_lowercase b ≡ to_ascii_lowercase c) × (before ≡ 48 → to_ascii_lowercase b ≡ 120 → b ≡ c) × IsRecased b line other
 IsRecased before _ _ = ⊥
 
 -- what is said, with the labels in small letters
@@ -120,7 +125,8 @@ small_labels (Err cause) = Err cause
 -- case says nothing but in labels, which keep theirs
 abbrev pub CaseSaysNothing : List ℕ → List ℕ → Type 0
 CaseSaysNothing line other =
-    (small_labels (line_of line) ≡ small_labels (line_of other)) × ((parts : Parts) → line_of line ≡ Ok (None, Does parts) → line_of other ≡ Ok (None, Does parts))
+    (small_labels (line_of line) ≡ small_labels (line_of other)) × ((parts : Parts) → line_of line ≡ Ok (None, Does parts)
+    → line_of other ≡ Ok (None, Does parts))
 
 -- the label that a line branches to, if it says so
 abbrev pub target_in : Result (Option Word × Says) Cause → Option Name

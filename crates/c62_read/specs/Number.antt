@@ -1,5 +1,6 @@
 -- What a word says as a number, as a register or as a label.
-use Rattle.std.specs.Prelude.{ℕ, ◌-◌, ◌≡◌, refl, ℤ, pos, neg_ℤ, int_le, Bool, true, false, not, ◌==◌, ◌&&◌, ◌||◌, nat_le, nat_lt, List, [], ◌∷◌, length, map, drop, Option, Some, None, is_some, option_map, option_and_then, nat_eq, codes, if◌then◌else◌}
+use Rattle.std.specs.Prelude.{ℕ, ◌-◌, ◌≡◌, refl, ℤ, pos, neg_ℤ, int_le, Bool, true, false, not, ◌==◌, ◌&&◌, ◌||◌, nat_le, nat_lt, List, [], ◌∷◌}
+use Rattle.std.specs.Prelude.{length, map, drop, Option, Some, None, is_some, option_map, option_and_then, nat_eq, codes, if◌then◌else◌}
 use Rattle.std.specs.List.{list_all, starts_with}
 use Rattle.std.specs.Char.{digit_value, to_ascii_lowercase, is_ascii_digit}
 use Rattle.std.specs.Str.{bytes_eq}

@@ -1,5 +1,6 @@
 -- What a text says: its blocks, or its first fault.
-use Rattle.std.specs.Prelude.{◌≡◌, ◌⊎◌, ℕ, ◌+◌, Bool, false, not, nat_lt, List, [], ◌∷◌, ◌++◌, length, map, Option, Some, None, is_some, unwrap_or, position, option_map, Result, Ok, Err, if◌then◌else◌}
+use Rattle.std.specs.Prelude.{◌≡◌, ◌⊎◌, ℕ, ◌+◌, Bool, false, not, nat_lt, List, [], ◌∷◌, ◌++◌, length, map, Option, Some, None, is_some, unwrap_or}
+use Rattle.std.specs.Prelude.{position, option_map, Result, Ok, Err, if◌then◌else◌}
 use Rattle.std.specs.List.{list_any}
 use Rattle.std.specs.Option.{option_to_list}
 use Rattle.std.specs.Str.{bytes_eq}
@@ -175,7 +176,15 @@ aimed_operands number operands = operands
 -- a branch to a label goes to the block of this number
 abbrev pub aimed : ℕ → Numbered → Numbered
 aimed number entry =
-    record { parts = record { op = entry.parts.op; operands = aimed_operands number entry.parts.operands; cond = entry.parts.cond; unit = entry.parts.unit }; line = entry.line }
+    record {
+      parts = record {
+        op = entry.parts.op;
+        operands = aimed_operands number entry.parts.operands;
+        cond = entry.parts.cond;
+        unit = entry.parts.unit;
+      };
+      line = entry.line;
+    }
 
 -- a block as a program has it, by its parts
 pub record BlockParts : Type 0 where

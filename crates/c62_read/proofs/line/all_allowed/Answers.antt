@@ -20,7 +20,8 @@ loop-start-preserved c =
     let start = c.loop-start.start in
     let step : (start + 16) - start ≡ 16 = omega arith in
     let next : list_all is_allowed (take 16 (drop start line)) ≡ true =
-    ap (λ (n : ℕ). list_all is_allowed (take n (drop start line))) (sym step) ∙ sym c.are_allowed-in-loop-start.ensures ∙ c.if-not-are_allowed.false in
+    ap (λ (n : ℕ). list_all is_allowed (take n (drop start line))) (sym step) ∙ sym c.are_allowed-in-loop-start.ensures
+    ∙ c.if-not-are_allowed.false in
     record {
       within = omega (arith, c.loop-start-test.true, c.loop-start.invariant.within);
       so_far = all_more_steps is_allowed line start 16 c.loop-start.invariant.so_far next;

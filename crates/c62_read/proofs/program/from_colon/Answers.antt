@@ -10,4 +10,5 @@ returns-clause-same c =
     let text = c.args.text.now in
     let start = c.line_start.result in
     ap (λ (rest : List ℕ). labels_of (lines_of rest)) (take_rest text start)
-    ∙ skipped_labels text start c.steps_before.result c.line_start.ensures.within c.steps_before.ensures.within c.line_start.ensures.feed c.steps_before.ensures.none
+    ∙ skipped_labels text start c.steps_before.result c.line_start.ensures.within c.steps_before.ensures.within c.line_start.ensures.feed
+    c.steps_before.ensures.none

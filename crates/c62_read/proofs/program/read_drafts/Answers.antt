@@ -3,7 +3,8 @@ use Rattle.std.specs.Prelude.{IfSome, map}
 use Rattle.c62_read.specs.declared.fault.Cause.{Cause}
 use Rattle.c62_read.specs.Text.{lines_of}
 use Rattle.c62_read.specs.Program.{Name, labels_of}
-use Rattle.c62_read.specs.Walk.{Drafts, add_line, add_lines, all_drafts, asked_of, drafts_of, first_line, missed, own_labels, unless_hindered, unless_missed}
+use Rattle.c62_read.specs.Walk.{Drafts, add_line, add_lines, all_drafts, asked_of, drafts_of, first_line, missed, own_labels, unless_hindered}
+use Rattle.c62_read.specs.Walk.{unless_missed}
 use Rattle.c62_read.proofs.ReadingLemmas.{goes_on, is_done, labels_stay, stops}
 use Rattle.c62_read.proofs.WalkLemmas.{at_end, whole_blocks}
 use Rattle.c62_read.proofs.program.read_drafts.Goals as goal
@@ -49,7 +50,8 @@ returns-in-Some-2-clause-err c =
     let found : c.first_missed-missed.result ≡ first_line (missed labels now) =
     c.first_missed-missed.ensures ∙ ap (λ (names : List Name). first_line (missed names now)) known in
     inr (sym c.loop-line.invariant.so_far
-    ∙ sym (stops labels number line (lines_of c.in-Some.after.now) all old c.in-Some.ensures.found asked now c.in_ok-add_line.ensures.asked cause refused)
+    ∙ sym (stops labels number line
+    (lines_of c.in-Some.after.now) all old c.in-Some.ensures.found asked now c.in_ok-add_line.ensures.asked cause refused)
     ∙ ap (λ (at : Option ℕ). unless_missed {T = Drafts} at (Err (number, cause))) (sym found) ∙ sym c.earlier.ensures)
 
 pub returns-in-None-first_missed-clause-ok : goal.returns-in-None-first_missed-clause-ok
