@@ -21,7 +21,7 @@ use Rattle.c62_read.specs.declared.operand.Address.{Address}
 use Rattle.c62_read.specs.declared.unit.WrittenUnit.{WrittenUnit}
 use Rattle.c62_read.specs.declared.kind.Kind.{Kind}
 use Rattle.c62_read.specs.declared.kind.Kind.TheVariants as kind
-use Rattle.c62_read.specs.Kind.{Word, kind_of, kinds_of}
+use Rattle.c62_read.specs.Kind.{Word, kinds_of}
 use Rattle.c62_read.specs.Operand.{address_front, loaded, operands_of, stored}
 use Rattle.c62_read.specs.Mnemonic.{constant_to_front, crossed_to_back, exchanged, in_order, read_as, with_kind, zero_in}
 use Rattle.c62_read.specs.Text.{begins}

@@ -14,7 +14,6 @@ use Rattle.c62_insn.specs.declared.register.Side.TheVariants.{A, B}
 use Rattle.c62_insn.specs.declared.register.Reg.{Reg}
 use Rattle.c62_insn.specs.Spelling.{file_letter, register_name}
 use Rattle.c62_read.specs.Text.{is_word_byte, joins}
-use Rattle.c62_read.specs.declared.kind.Kind.{Kind}
 use Rattle.c62_read.specs.declared.kind.Kind.TheVariants.{Register, Number}
 use Rattle.c62_read.specs.Number.{are_digits, decimal_of, file_of, in_file, in_range, magnitude_of, negative, number_of, numbered, register_of}
 use Rattle.c62_read.specs.Number.{signed_of}
