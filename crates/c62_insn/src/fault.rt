@@ -57,7 +57,7 @@ fn is_in_some_range(op: Op, operands: Operands) -> bool
 fn is_out_of_range(op: Op, operands: Operands) -> bool
     ensures { result ≡ constant_out_of_range op operands }
 {
-    op.has_kind(operands) && !is_in_some_range(op, operands)
+    !is_in_some_range(op, operands) && op.has_kind(operands)
 }
 
 impl Op {

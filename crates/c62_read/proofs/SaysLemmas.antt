@@ -1,6 +1,6 @@
 -- What lines may say: no instruction but a jump has a block for its operand.
-use Rattle.std.proofs.Common.{◌≡◌, Bool, true, false, not, cond, leb, ◌&&◌, List, [], ◌∷◌, Option, Some, None, Result, Ok, Err, refl, subst}
-use Rattle.std.specs.Prelude.{ℤ, pos}
+use Rattle.std.proofs.Common.{◌≡◌, Bool, true, false, not, cond, leb, ◌&&◌, List, [], ◌∷◌, Option, Some, None, Result, Ok, Err, refl, sym, ap, subst, ◌∙◌}
+use Rattle.std.specs.Prelude.{ℤ, pos, option_and_then}
 use Rattle.std.proofs.lemmas.Bool.{cond_both}
 use Rattle.c62_insn.specs.declared.register.Reg.{Reg}
 use Rattle.c62_insn.specs.declared.register.Cond.{Cond as Condition}
@@ -11,6 +11,10 @@ use Rattle.c62_insn.specs.declared.operands.Op.TheVariants.{B as Branch}
 use Rattle.c62_insn.specs.declared.operands.Operands.{Operands}
 use Rattle.c62_insn.specs.declared.operands.Operands.TheVariants.{Three, ConstantFirst, ConstantSecond, Two, Field, Constant, Access, Block, Register}
 use Rattle.c62_insn.specs.declared.fault.FormFault.{FormFault}
+use Rattle.c62_insn.specs.declared.insn.Insn.{Insn}
+use Rattle.c62_insn.specs.Insn.{op_of, operands_of as operands_of_insn}
+use Rattle.c62_insn.proofs.FormLemmas.{taken_kind}
+use Rattle.c62_insn.proofs.InsnLemmas.{has_unit}
 use Rattle.c62_insn.specs.Fault.{has_kind}
 use Rattle.c62_insn.specs.Takes.{same_side}
 use Rattle.c62_read.specs.declared.fault.Cause.{Cause}
@@ -23,10 +27,10 @@ use Rattle.c62_read.specs.declared.kind.Kind.{Kind}
 use Rattle.c62_read.specs.declared.kind.Kind.TheVariants as kind
 use Rattle.c62_read.specs.Kind.{Word, kinds_of}
 use Rattle.c62_read.specs.Operand.{address_front, loaded, operands_of, stored}
-use Rattle.c62_read.specs.Mnemonic.{constant_to_front, crossed_to_back, exchanged, in_order, read_as, with_kind, zero_in}
+use Rattle.c62_read.specs.Mnemonic.{constant_to_front, crossed_to_back, exchanged, in_order, stands_for, with_kind, zero_in}
 use Rattle.c62_read.specs.Text.{begins}
 use Rattle.c62_read.specs.Unit.{is_dot}
-use Rattle.c62_read.specs.Line.{Says, Pause, Does, Jumps, and_read, behind_unit, condition_front, cycles_of, does, formed, instruction_of, is_storing}
+use Rattle.c62_read.specs.Line.{Parts, parts_of, Says, Pause, Does, Jumps, and_read, behind_unit, condition_front, cycles_of, does, formed, instruction_of, is_storing}
 use Rattle.c62_read.specs.Line.{jumps_or_does, letter_written, mnemonic_front, operands_written, or_fault, parts_read, pause_of, rest_says, target_of}
 use Rattle.c62_read.specs.Line.{text_fault, unit_behind}
 
@@ -101,22 +105,30 @@ zero_free (Some S) d = refl
 zero_free (Some M) d = refl
 zero_free (Some D) d = refl
 
-read_free : (mnemonic : Mnemonic) (letter : Option Letter) (operands : Operands) → has_no_block operands ≡ true
-    → Made (read_as mnemonic letter operands)
-unfolding read_as
-read_free (Operation op) letter operands free = kind_made (in_order op operands) (in_order_free op operands free)
-read_free Mv letter (Two x d) free = refl
-read_free Neg letter (Two x d) free = refl
-read_free Not letter (Two x d) free = refl
-read_free Zero letter (Register d) free = zero_free letter d
-read_free Mvkl letter (Constant k d) free = refl
-read_free Mvkh letter (Constant k d) free = refl
-read_free _ letter operands free = tt
+made_some : (found : Op × Operands) → Ordered found → Made (Some found)
+made_some (op, operands) free = free
+
+stands_free : (mnemonic : Mnemonic) (letter : Option Letter) (operands : Operands) → has_no_block operands ≡ true
+    → Made (stands_for mnemonic letter operands)
+unfolding stands_for
+stands_free (Operation op) letter operands free = made_some (in_order op operands) (in_order_free op operands free)
+stands_free Mv letter (Two x d) free = refl
+stands_free Neg letter (Two x d) free = refl
+stands_free Not letter (Two x d) free = refl
+stands_free Zero letter (Register d) free = zero_free letter d
+stands_free Mvkl letter (Constant k d) free = refl
+stands_free Mvkh letter (Constant k d) free = refl
+stands_free _ letter operands free = tt
+
+kind_free : (found : Option (Op × Operands)) → Made found → Made (option_and_then with_kind found)
+kind_free None free = tt
+kind_free (Some (op, operands)) free = kind_made (op, operands) free
 
 written_free : (mnemonic : Mnemonic) (written : Option WrittenUnit) (operands : Option Operands) → Found operands
     → Made (operands_written mnemonic written operands)
 written_free mnemonic written None free = tt
-written_free mnemonic written (Some operands) free = read_free mnemonic (letter_written written) operands free
+written_free mnemonic written (Some operands) free =
+    kind_free (stands_for mnemonic (letter_written written) operands) (stands_free mnemonic (letter_written written) operands free)
 
 -- ---- what a line says
 
@@ -193,3 +205,16 @@ rest_proper (word ∷ words) =
 -- what a line says is proper
 pub proper : (words : List Word) (says : Says) → rest_says words ≡ Ok says → IsProper says
 proper words says e = let found : OkProper (Ok says) = subst OkProper e (rest_proper words) in found
+
+-- the operands of an instruction are of a kind that its operation has
+made_kind : (insn : Insn) (op : Op) (operands : Operands) (cond : Option Condition) (written : Option WrittenUnit)
+    → parts_of insn ≡ parts_read op operands cond written → has_kind op operands ≡ true
+made_kind insn op operands cond written are =
+    let unit = has_unit insn in
+    sym (ap (λ (parts : Parts). has_kind parts.op parts.operands) are) ∙ taken_kind (op_of insn) (operands_of_insn insn) unit.0 unit.1
+
+pub made_says : (insn : Insn) (op : Op) (operands : Operands) (cond : Option Condition) (written : Option WrittenUnit)
+    → text_fault op operands cond written ≡ None → parts_of insn ≡ parts_read op operands cond written
+    → does cond written (with_kind (op, operands)) ≡ Ok (Does (parts_of insn))
+made_says insn op operands cond written none are =
+    rw (made_kind insn op operands cond written are, none) (ap (λ (parts : Parts). let said : Result Says Cause = Ok (Does parts) in said) (sym are))

@@ -34,7 +34,7 @@ use Rattle.c62_read.specs.Text.{begins, is_word_byte, tokens}
 use Rattle.c62_read.specs.Number.{is_label, register_of}
 use Rattle.c62_read.specs.Kind.{Word, kinds_of}
 use Rattle.c62_read.specs.Operand.{operands_of}
-use Rattle.c62_read.specs.Mnemonic.{constant_to_front, crossed_to_back, exchanged, in_order, low_half, read_as, stands_on, with_kind}
+use Rattle.c62_read.specs.Mnemonic.{constant_to_front, crossed_to_back, exchanged, in_order, low_half, stands_for, stands_on, with_kind}
 use Rattle.c62_read.specs.Unit.{mark_fits, unit_fits}
 use Rattle.c62_read.specs.Line.{Does, Jumps, does, formed, jumps_or_does, operands_written, behind_unit, is_branch, label_alone, misses, parts_read}
 use Rattle.c62_read.specs.Line.{target_of, text_fault}
@@ -270,6 +270,10 @@ offset_taken : (op : Op) (unit : FunctionalUnit) (reg base : Reg) (form : Addres
 offset_taken op unit reg base form (ByConstant k) taking = one_fits k (narrow_constants op (Access reg base form (ByConstant k)) unit taking)
 offset_taken op unit reg base form (ByRegister offset) taking = refl
 
+-- what an operation and written operands stand for
+abbrev read_as : Op → Operands → Option (Op × Operands)
+read_as op operands = option_and_then with_kind (stands_for (Operation op) None operands)
+
 -- ---- operands, by their kind
 
 -- the text of operands, and what stands behind the unit
@@ -277,14 +281,14 @@ pub record IsSpelledOperands (op : Op) (operands : Operands) (text : List ℕ) :
   pub bytes : list_all is_text text ≡ true
   pub short : length text ≤ 48
   pub target : target_of (Operation op) (tokens text) ≡ None
-  pub read : option_and_then (read_as (Operation op) None) (operands_of (is_store op) (kinds_of (tokens text))) ≡ Some (op, operands)
+  pub read : option_and_then (read_as op) (operands_of (is_store op) (kinds_of (tokens text))) ≡ Some (op, operands)
 
 no_target : (op : Op) (words : List Word) → is_branch op ≡ false → target_of (Operation op) words ≡ None
 no_target op words other = rw other refl
 
 with_order : (op : Op) (operands : Operands) (written : Operands) → in_order op written ≡ (op, operands) → has_kind op operands ≡ true
-    → read_as (Operation op) None written ≡ Some (op, operands)
-unfolding read_as
+    → read_as op written ≡ Some (op, operands)
+unfolding stands_for
 with_order op operands written order kind = ap with_kind order ∙ rw kind refl
 
 -- operands that are these sources
@@ -347,8 +351,8 @@ branch_to_register target =
       bytes = (register_token target).plain;
       short = omega (arith, register_length target);
       target = ap (target_of (Operation Branch)) tokens_are ∙ label_alone_none target;
-      read = ap (λ (words : List Word). option_and_then (read_as (Operation Branch) None) (operands_of false (kinds_of words))) tokens_are
-          ∙ ap (λ (kinds : List Kind). option_and_then (read_as (Operation Branch) None) (operands_of false kinds)) (sources_told
+      read = ap (λ (words : List Word). option_and_then (read_as Branch) (operands_of false (kinds_of words))) tokens_are
+          ∙ ap (λ (kinds : List Kind). option_and_then (read_as Branch) (operands_of false kinds)) (sources_told
           (FromRegister target ∷ []) refl)
           ∙ with_order Branch (Register target) (Register target) (register_order Branch target) refl;
     }
@@ -389,8 +393,8 @@ spelled_operands name op (Access reg base form offset) unit taking other =
       bytes = access_bytes (is_store op) reg base form offset inside;
       short = omega (arith, access_length (is_store op) reg base form offset inside);
       target = no_target op (tokens (access_text (is_store op) reg base form offset)) (access_no_branch op reg base form offset kind);
-      read = ap (λ (words : List Word). option_and_then (read_as (Operation op) None) (operands_of (is_store op) (kinds_of words))) tokens_are
-          ∙ ap (option_and_then (read_as (Operation op) None)) (access_back (is_store op) reg base form offset inside)
+      read = ap (λ (words : List Word). option_and_then (read_as op) (operands_of (is_store op) (kinds_of words))) tokens_are
+          ∙ ap (option_and_then (read_as op)) (access_back (is_store op) reg base form offset inside)
           ∙ with_order op (Access reg base form offset) (Access reg base form offset) (access_order op reg base form offset) kind;
     }
 spelled_operands name op (Block number) unit taking other = absurd (other number refl)
@@ -432,15 +436,15 @@ block_branch op number unit taking = block_op op number (taken_kind op (Block nu
 -- ---- behind the unit
 
 written_is : (op : Op) (written : WrittenUnit) (operands : Option Operands)
-    → operands_written (Operation op) (Some written) operands ≡ option_and_then (read_as (Operation op) None) operands
-unfolding read_as
+    → operands_written (Operation op) (Some written) operands ≡ option_and_then (read_as op) operands
+unfolding stands_for
 written_is op written None = refl
 written_is op written (Some operands) = refl
 
 does_by : (op : Op) (operands : Operands) (cond : Option Condition) (unit : FunctionalUnit) (words : List Word)
     → form_fault op operands cond (Some unit) ≡ None
     → target_of (Operation op) words ≡ None
-    → option_and_then (read_as (Operation op) None) (operands_of (is_store op) (kinds_of words)) ≡ Some (op, operands)
+    → option_and_then (read_as op) (operands_of (is_store op) (kinds_of words)) ≡ Some (op, operands)
     → behind_unit (Operation op) cond (Some (written_on operands unit)) words
     ≡ Ok (Does (parts_read op operands cond (Some (written_on operands unit))))
 unfolding behind_unit

@@ -35,7 +35,7 @@ use Rattle.c62_read.specs.declared.kind.Kind.{Kind}
 use Rattle.c62_read.specs.declared.kind.Kind.TheVariants.{Open, Close, Not, Register, Number}
 use Rattle.c62_read.specs.Kind.{Word, kinds_of}
 use Rattle.c62_read.specs.Operand.{operands_of}
-use Rattle.c62_read.specs.Mnemonic.{mnemonic_named, read_as}
+use Rattle.c62_read.specs.Mnemonic.{mnemonic_named, stands_for, with_kind}
 use Rattle.c62_read.specs.Unit.{is_dot, unit_front, unit_fits}
 
 -- an instruction by its parts
@@ -135,9 +135,13 @@ is_storing _ = false
 abbrev pub letter_written : Option WrittenUnit → Option Letter
 letter_written written = option_map (λ w. w.unit.letter) written
 
+-- the operation and operands that a mnemonic with these operands stands for
+abbrev pub standing : Mnemonic → Option WrittenUnit → Option Operands → Option (Op × Operands)
+standing mnemonic written operands = option_and_then (stands_for mnemonic (letter_written written)) operands
+
+-- the same, where the operation has such operands
 abbrev pub operands_written : Mnemonic → Option WrittenUnit → Option Operands → Option (Op × Operands)
-operands_written mnemonic written None = None
-operands_written mnemonic written (Some operands) = read_as mnemonic (letter_written written) operands
+operands_written mnemonic written operands = option_and_then with_kind (standing mnemonic written operands)
 
 abbrev pub does : Option Condition → Option WrittenUnit → Option (Op × Operands) → Result Says Cause
 does cond written None = Err BadOperand

@@ -121,14 +121,13 @@ zero_in (Some L) d = (Sub, Three d d d)
 zero_in (Some D) d = (Sub, Three d d d)
 zero_in _ d = (Mvk, Constant (pos 0) d)
 
--- The operation and operands that a mnemonic with these operands stands for, and none where it has no such operands.
--- The letter is that of the written unit.
-unfoldable pub read_as : Mnemonic → Option Letter → Operands → Option (Op × Operands)
-read_as (Operation op) letter operands = with_kind (in_order op operands)
-read_as Mv letter (Two x d) = Some (Add, ConstantFirst (pos 0) x d)
-read_as Neg letter (Two x d) = Some (Sub, ConstantFirst (pos 0) x d)
-read_as Not letter (Two x d) = Some (Xor, ConstantFirst (negsuc 0) x d)
-read_as Zero letter (Register d) = Some (zero_in letter d)
-read_as Mvkl letter (Constant k d) = Some (Mvk, Constant (signed_low_half k) d)
-read_as Mvkh letter (Constant k d) = Some (Mvklh, Constant (high_half k) d)
-read_as _ letter operands = None
+-- The operation and operands that a mnemonic with these operands stands for. The letter is that of the written unit.
+unfoldable pub stands_for : Mnemonic → Option Letter → Operands → Option (Op × Operands)
+stands_for (Operation op) letter operands = Some (in_order op operands)
+stands_for Mv letter (Two x d) = Some (Add, ConstantFirst (pos 0) x d)
+stands_for Neg letter (Two x d) = Some (Sub, ConstantFirst (pos 0) x d)
+stands_for Not letter (Two x d) = Some (Xor, ConstantFirst (negsuc 0) x d)
+stands_for Zero letter (Register d) = Some (zero_in letter d)
+stands_for Mvkl letter (Constant k d) = Some (Mvk, Constant (signed_low_half k) d)
+stands_for Mvkh letter (Constant k d) = Some (Mvklh, Constant (high_half k) d)
+stands_for _ letter operands = None

@@ -6,8 +6,9 @@ ghost use Rattle.std.specs.Option.{option_copied};
 ghost use Rattle.c62_read.specs.Text.{begins, tokens, is_allowed, is_solid, words_left};
 ghost use Rattle.c62_read.specs.Number.{is_label};
 ghost use Rattle.c62_read.specs.Kind.{kinds_of, first_is_open};
-ghost use Rattle.c62_read.specs.Operand.{Finds};
-ghost use Rattle.c62_read.specs.Line.{said, names_label, is_branch, label_alone, target_of, is_storing, letter_written, does, jumps, pause_of, fits_behind, unit_behind, behind_unit, mnemonic_front, instruction_of, condition_front, rest_says, label_front, without_colon, has_colon, is_bars, is_star, head_of, line_of, said_of};
+ghost use Rattle.c62_read.specs.Mnemonic.{with_kind};
+ghost use Rattle.c62_read.specs.Operand.{Finds, operands_of};
+ghost use Rattle.c62_read.specs.Line.{said, names_label, is_branch, label_alone, target_of, is_storing, letter_written, standing, does, jumps, pause_of, fits_behind, unit_behind, behind_unit, mnemonic_front, instruction_of, condition_front, rest_says, label_front, without_colon, has_colon, is_bars, is_star, head_of, line_of, said_of};
 ghost use Rattle.c62_read.specs.Reading.{IsHead};
 ghost use Rattle.c62_read.specs.Unit.{is_dot};
 
@@ -82,23 +83,40 @@ fn letter_written(written: Option<WrittenUnit>) -> Option<Letter>
     Some(written?.unit.letter)
 }
 
+/// The instruction, where its operation has such operands.
 #[inline(always)]
 fn does<'a>(
     cond: Option<Cond>,
     written: Option<WrittenUnit>,
-    read: Option<(Op, Operands)>,
+    read: (Op, Operands),
 ) -> Result<Statement<'a>, Cause>
-    ensures says { said result ≡ does cond written read }
+    ensures says { said result ≡ does cond written (with_kind read) }
     ensures label { IfOk result (λ what. IsTrue (names_label what)) }
 {
-    let Some(read) = read else {
-        return Err(Cause::BadOperand);
-    };
     let (op, operands) = read;
     match make(op, operands, cond, written) {
         Ok(insn) => Ok(Statement::Insn(insn)),
-        Err(fault) => Err(Cause::Form(fault)),
+        Err(fault) => {
+            if op.has_kind(operands) {
+                Err(Cause::Form(fault))
+            } else {
+                Err(Cause::BadOperand)
+            }
+        }
     }
+}
+
+/// The operation and operands that the mnemonic and the tokens behind it stand for.
+#[inline(always)]
+fn stands_for(
+    mnemonic: Mnemonic,
+    written: Option<WrittenUnit>,
+    kinds: &[Kind],
+) -> Option<(Op, Operands)>
+    ensures { result ≡ standing mnemonic written (operands_of (is_storing mnemonic) kinds.now) }
+{
+    let operands = read_operands(is_storing(mnemonic), kinds)?;
+    mnemonic.stands_for(letter_written(written), operands)
 }
 
 #[inline(always)]
@@ -139,14 +157,8 @@ fn behind_unit<'a>(
     if matches!(mnemonic, Mnemonic::Nop) {
         return pause(cond, &kinds);
     }
-    match read_operands(is_storing(mnemonic), &kinds) {
-        Some(operands) => {
-            does(
-                cond,
-                written,
-                mnemonic.read_as(letter_written(written), operands),
-            )
-        }
+    match stands_for(mnemonic, written, &kinds) {
+        Some(read) => does(cond, written, read),
         None => Err(Cause::BadOperand),
     }
 }

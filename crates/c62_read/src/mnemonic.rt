@@ -24,7 +24,7 @@ pub(crate) enum Mnemonic {
     Nop,
 }
 
-ghost use Rattle.c62_read.specs.Mnemonic.{begins_so, operation_named, pseudo_named, mnemonic_named, stands_on, exchanged, low_half, signed_low_half, high_half, constant_to_front, crossed_to_back, in_order, with_kind, zero_in, read_as};
+ghost use Rattle.c62_read.specs.Mnemonic.{begins_so, operation_named, pseudo_named, mnemonic_named, stands_on, exchanged, low_half, signed_low_half, high_half, constant_to_front, crossed_to_back, in_order, zero_in, stands_for};
 
 const WITH_A: [Op; 8] = [
     Op::Add,
@@ -262,17 +262,6 @@ fn in_order(op: Op, operands: Operands) -> (Op, Operands)
     }
 }
 
-fn with_kind(read: (Op, Operands)) -> Option<(Op, Operands)>
-    ensures { result ≡ with_kind read }
-{
-    let (op, operands) = read;
-    if op.has_kind(operands) {
-        Some((op, operands))
-    } else {
-        None
-    }
-}
-
 fn zero_in(letter: Option<Letter>, d: Reg) -> (Op, Operands)
     ensures { result ≡ zero_in letter d }
 {
@@ -300,18 +289,18 @@ impl Mnemonic {
         }
     }
 
-    /// The operation and operands that the mnemonic with these operands stands for, where it may have them. `letter`
-    /// is that of the written unit.
-    #[tactic(auto, unfolding(crate::specs::Mnemonic::read_as))]
-    pub(crate) fn read_as(
+    /// The operation and operands that the mnemonic with these operands stands for. `letter` is that of the written unit.
+    #[inline(always)]
+    #[tactic(auto, unfolding(crate::specs::Mnemonic::stands_for))]
+    pub(crate) fn stands_for(
         self,
         letter: Option<Letter>,
         operands: Operands,
     ) -> Option<(Op, Operands)>
-        ensures { result ≡ read_as self letter operands }
+        ensures { result ≡ stands_for self letter operands }
     {
         match (self, operands) {
-            (Mnemonic::Operation(op), _) => with_kind(in_order(op, operands)),
+            (Mnemonic::Operation(op), _) => Some(in_order(op, operands)),
             (Mnemonic::Mv, Operands::Two(x, d)) => {
                 Some((Op::Add, Operands::ConstantFirst(0, x, d)))
             }
