@@ -1,6 +1,6 @@
 -- Which operands a form takes, and so which units an instruction may stand on (docs/MACHINE.md, "Instruction table" and
 -- "Cross paths"; SPRU189, "Register File Cross Paths" and "Mapping Between Instructions and Functional Units").
-use Rattle.std.specs.Prelude.{Bool, true, false, ◌&&◌, ◌==◌, ℤ, int_le, Option, Some, None}
+use Rattle.std.specs.Prelude.{Bool, true, false, ◌&&◌, ◌||◌, ◌==◌, ℤ, int_le, Option, Some, None}
 use Rattle.std.specs.List.{list_any}
 use Rattle.c62_insn.specs.declared.register.Side.{Side}
 use Rattle.c62_insn.specs.declared.register.Side.TheVariants.{A, B}
@@ -96,6 +96,11 @@ registers_fit _ _ _ = false
 abbrev pub takes_by : Form → Operands → FunctionalUnit → Bool
 takes_by form operands unit =
     holds_constants form.pattern operands && same_letter form.letter unit.letter && registers_fit form.pattern unit.side operands
+
+-- whether some unit takes them by the form
+abbrev pub takes_somewhere : Form → Operands → Bool
+takes_somewhere form operands =
+    holds_constants form.pattern operands && (registers_fit form.pattern A operands || registers_fit form.pattern B operands)
 
 abbrev pub takes : Op → Operands → FunctionalUnit → Bool
 takes op operands unit = list_any (λ form. takes_by form operands unit) (forms_of op)

@@ -4,7 +4,8 @@ ghost use Rattle.std.specs.Prelude.{◌≡◌};
 ghost use Rattle.c62_insn.specs.Fault.{form_fault, bad_condition, in_some_range, constant_out_of_range, accesses_or_branches, first_source, second_source, lies_across, two_crossed, is_first_fixed, is_second_fixed, has_misplaced, is_other_side, bad_side, no_unit};
 ghost use Rattle.c62_insn.specs.Shape.{side_of};
 ghost use Rattle.c62_insn.specs.Units.{all_units};
-ghost use Rattle.c62_insn.specs.Takes.{takes};
+ghost use Rattle.c62_insn.specs.Table.{forms_of};
+ghost use Rattle.c62_insn.specs.Takes.{takes, takes_somewhere};
 ghost use Rattle.std.specs.List.{list_any};
 
 use crate::form::unit_takes;
@@ -141,10 +142,20 @@ fn is_on_bad_side(op: Op, operands: Operands, unit: Option<Unit>) -> bool
         }
 }
 
+/// Whether some form takes these operands on a side.
+fn has_taking_form(op: Op, operands: Operands) -> bool
+    ensures { result ≡ list_any (λ form. takes_somewhere form operands) (forms_of op) }
+{
+    forms(op)
+        .iter()
+        .any(|form| form.is_taken_somewhere(operands))
+}
+
+/// Whether some unit takes these operands.
 fn is_taken(op: Op, operands: Operands) -> bool
     ensures { result ≡ list_any (takes op operands) all_units }
 {
-    Unit::ALL.iter().any(|unit| unit_takes(op, operands, *unit))
+    has_taking_form(op, operands)
 }
 
 fn has_no_unit(op: Op, operands: Operands, unit: Option<Unit>) -> bool

@@ -181,7 +181,18 @@ impl Pattern {
 }
 
 impl Form {
-    ghost use Rattle.c62_insn.specs.Takes.{takes_by};
+    ghost use Rattle.c62_insn.specs.Takes.{takes_by, takes_somewhere};
+
+    /// Whether some unit takes these operands by the form.
+    #[inline(always)]
+    pub(crate) fn is_taken_somewhere(&self, operands: Operands) -> bool
+        ensures { result ≡ takes_somewhere self.now operands }
+    {
+        let pattern = self.pattern;
+        pattern.holds_constants(operands)
+            && (pattern.registers_fit(Side::A, operands)
+                || pattern.registers_fit(Side::B, operands))
+    }
 
     /// Whether `unit` takes these operands by the form. The letter is asked first, which tells most units apart.
     #[inline(always)]

@@ -175,6 +175,7 @@ fn opens_bracket(rest: Tokens<'_>) -> bool
 }
 
 /// The condition, where a bracket stands first, and what follows it. There is none where the bracket begins no condition.
+#[inline(always)]
 #[tactic(auto, using(crate::proofs::KindLemmas::no_bracket), unfolding(crate::specs::Line::condition_of, crate::specs::Line::condition_front))]
 fn first_condition<'a>(rest: Tokens<'a>) -> Option<(Option<Cond>, Tokens<'a>)>
     ensures { Finds result (condition_front (words_left rest.entry)) }
@@ -209,6 +210,7 @@ fn first_mnemonic<'a>(rest: Tokens<'a>) -> Option<(Mnemonic, Tokens<'a>)>
 }
 
 /// Whether the unit, where one is written, may be written behind the mnemonic.
+#[inline(always)]
 fn fits(written: Option<WrittenUnit>, mnemonic: Mnemonic) -> bool
     ensures { result ≡ fits_behind mnemonic written }
 {

@@ -94,6 +94,7 @@ fn is_double(b: u8, c: u8) -> bool
 }
 
 /// Whether two neighbours are of one token that is no double.
+#[inline(always)]
 fn joins(b: u8, c: u8) -> bool
     ensures { result ≡ joins b c }
 {

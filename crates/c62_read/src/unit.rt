@@ -92,6 +92,7 @@ fn begins_with_dot(word: &[u8]) -> bool
 }
 
 /// The unit that is written first, where one is, and what follows it. There is none where a dot begins no unit.
+#[inline(always)]
 #[tactic(auto, unfolding(crate::specs::Unit::unit_front))]
 pub(crate) fn first_unit(rest: Tokens<'_>) -> Option<(Option<WrittenUnit>, Tokens<'_>)>
     ensures { Finds result (unit_front (words_left rest.entry)) }
