@@ -149,7 +149,7 @@ part-keeps issues others part keeps = record {
 
 -- ---- any order
 
--- where a number goes when i and j change places
+-- where a number goes when i and j are exchanged
 exchanged : ℕ → ℕ → ℕ → ℕ
 exchanged i j k = if k == j then i else if k == i then j else k
 

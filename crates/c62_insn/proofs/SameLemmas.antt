@@ -30,11 +30,11 @@ same_condition op operands cond test unit other c e h =
     subst (λ (t : Option Condition). (k : form_fault op operands t other ≡ None) → made op operands cond unit h ≡ made op operands t other k) c
     (λ k. same_unit op operands cond unit other e h k)
 
-same_operands : (op : Op) (operands places : Operands) (cond test : Option Condition) (unit other : Option FunctionalUnit)
-    → operands ≡ places → cond ≡ test → unit ≡ other
-    → (h : form_fault op operands cond unit ≡ None) (k : form_fault op places test other ≡ None)
-    → made op operands cond unit h ≡ made op places test other k
-same_operands op operands places cond test unit other p c e h =
+same_operands : (op : Op) (operands others : Operands) (cond test : Option Condition) (unit other : Option FunctionalUnit)
+    → operands ≡ others → cond ≡ test → unit ≡ other
+    → (h : form_fault op operands cond unit ≡ None) (k : form_fault op others test other ≡ None)
+    → made op operands cond unit h ≡ made op others test other k
+same_operands op operands others cond test unit other p c e h =
     subst (λ (q : Operands). (k : form_fault op q test other ≡ None) → made op operands cond unit h ≡ made op q test other k) p
     (λ k. same_condition op operands cond test unit other c e h k)
 

@@ -5,7 +5,7 @@ use Rattle.c62_insn.specs.declared.register.Letter.TheVariants.{L, S, M, D}
 use Rattle.c62_insn.specs.declared.register.Side.{Side}
 use Rattle.c62_insn.specs.declared.register.Side.TheVariants.{A, B}
 use Rattle.c62_insn.specs.declared.register.Unit.{Unit as FunctionalUnit}
-use Rattle.c62_insn.specs.Units.{all_units, place_of, index_of}
+use Rattle.c62_insn.specs.Units.{all_units, index_on, index_of}
 
 unit_of_parts : Letter → Side → FunctionalUnit
 unit_of_parts letter side = record { letter = letter; side = side }
@@ -13,39 +13,39 @@ unit_of_parts letter side = record { letter = letter; side = side }
 unit_at : ℕ → FunctionalUnit → FunctionalUnit
 unit_at k d = get_or all_units k d
 
-unit_at-place_of : (letter : Letter) (side : Side) (d : FunctionalUnit) → unit_at (place_of letter side) d ≡ unit_of_parts letter side
+unit_at-index_on : (letter : Letter) (side : Side) (d : FunctionalUnit) → unit_at (index_on letter side) d ≡ unit_of_parts letter side
 unfolding unit_at unit_of_parts
-unit_at-place_of L A d = refl
-unit_at-place_of S A d = refl
-unit_at-place_of M A d = refl
-unit_at-place_of D A d = refl
-unit_at-place_of L B d = refl
-unit_at-place_of S B d = refl
-unit_at-place_of M B d = refl
-unit_at-place_of D B d = refl
+unit_at-index_on L A d = refl
+unit_at-index_on S A d = refl
+unit_at-index_on M A d = refl
+unit_at-index_on D A d = refl
+unit_at-index_on L B d = refl
+unit_at-index_on S B d = refl
+unit_at-index_on M B d = refl
+unit_at-index_on D B d = refl
 
 unit_at-index_of : (unit d : FunctionalUnit) → unit_at (index_of unit) d ≡ unit
 unfolding unit_of_parts
-unit_at-index_of unit d = unit_at-place_of unit.letter unit.side d
+unit_at-index_of unit d = unit_at-index_on unit.letter unit.side d
 
--- units of one place are one
+-- units of one index are one
 pub same_index : (u v : FunctionalUnit) → index_of u ≡ index_of v → u ≡ v
 same_index u v e = sym (unit_at-index_of u u) ∙ ap (λ (k : ℕ). unit_at k u) e ∙ unit_at-index_of v u
 
-place_of-below : (letter : Letter) (side : Side) → place_of letter side < 8
-place_of-below L A = omega arith
-place_of-below S A = omega arith
-place_of-below M A = omega arith
-place_of-below D A = omega arith
-place_of-below L B = omega arith
-place_of-below S B = omega arith
-place_of-below M B = omega arith
-place_of-below D B = omega arith
+index_on-below : (letter : Letter) (side : Side) → index_on letter side < 8
+index_on-below L A = omega arith
+index_on-below S A = omega arith
+index_on-below M A = omega arith
+index_on-below D A = omega arith
+index_on-below L B = omega arith
+index_on-below S B = omega arith
+index_on-below M B = omega arith
+index_on-below D B = omega arith
 
 pub index_of-below : (unit : FunctionalUnit) → index_of unit < 8
-index_of-below unit = place_of-below unit.letter unit.side
+index_of-below unit = index_on-below unit.letter unit.side
 
--- the units stand in their list by their places
+-- the units stand in their list by their indices
 pub index_of-listed : (k : ℕ) (d : FunctionalUnit) → k < 8 → index_of (get_or all_units k d) ≡ k
 index_of-listed zero d lt = refl
 index_of-listed (suc zero) d lt = refl

@@ -42,7 +42,7 @@ constant_out_of_range op operands = has_kind op operands && not (in_some_range o
 abbrev pub accesses_or_branches : Op → Bool
 accesses_or_branches op = is_load op || is_store op || is_branch op
 
--- the register in the place of the first source, and of the second
+-- the register that stands as the first source, and as the second
 abbrev pub first_source : Operands → Option Reg
 first_source (Three a _ _) = Some a
 first_source (ConstantSecond a _ _) = Some a

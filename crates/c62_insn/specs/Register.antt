@@ -4,11 +4,11 @@ use Rattle.c62_insn.specs.declared.register.Side.{Side}
 use Rattle.c62_insn.specs.declared.register.Side.TheVariants.{A, B}
 use Rattle.c62_insn.specs.declared.register.Reg.{Reg}
 
--- the place of the first register of a file
+-- the index of the first register of a file
 abbrev pub first_of : Side → ℕ
 first_of A = 0
 first_of B = 16
 
--- the place of a register in A0 to A15, B0 to B15
+-- the index of a register in A0 to A15, B0 to B15
 abbrev pub register_index : Reg → ℕ
 register_index reg = first_of reg.side + reg.number

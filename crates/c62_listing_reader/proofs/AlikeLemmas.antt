@@ -81,12 +81,12 @@ branches_by (p ∷ placed) (q ∷ other) same =
     let one : one_branch (issue_of p) ≡ one_branch (issue_of q) = ap one_branch here in
     omega (arith, one, branches_by placed other rest, sum_by-cons (λ (r : Placed). one_branch (issue_of r)) p placed, sum_by-cons (λ (r : Placed). one_branch (issue_of r)) q other)
 
-abbrev issue_place : Issue → ℕ
-issue_place issue = 8 * issue.cycle + index_of issue.unit
+abbrev issue_position : Issue → ℕ
+issue_position issue = 8 * issue.cycle + index_of issue.unit
 
 place_at : (placed other : List Placed) (i : ℕ) (d : Placed) → issues_of other ≡ issues_of placed → listing_position (get_or other i d) ≡ listing_position (get_or placed i d)
 place_at placed other i d same =
-    sym (ap issue_place (get_or-map issue_of other i d)) ∙ ap (λ (issues : List Issue). issue_place (get_or issues i (issue_of d))) same ∙ ap issue_place (get_or-map issue_of placed i d)
+    sym (ap issue_position (get_or-map issue_of other i d)) ∙ ap (λ (issues : List Issue). issue_position (get_or issues i (issue_of d))) same ∙ ap issue_position (get_or-map issue_of placed i d)
 
 length_by : (placed other : List Placed) → issues_of other ≡ issues_of placed → length other ≡ length placed
 length_by placed other same = sym (length-map other issue_of) ∙ ap length same ∙ length-map placed issue_of

@@ -27,12 +27,12 @@ use Rattle.c62_listing_reader.specs.Text.{Line, content}
 use Rattle.c62_listing_reader.specs.Begin.{front_of, has_colon, is_beside, is_gap, rest_of}
 use Rattle.c62_listing_reader.specs.Said.{Said, Part, Draft, Drafts, opened, with_part, with_says, with_said, above_of, above_next, spelled_line, is_text}
 use Rattle.c62_listing_reader.specs.Faults.{is_filled, is_issue, is_misplaced, is_taken, unit_said, unit_above, precedes, goes_on, cycles_added, after_label, rest_says, read_lines, line_says}
-use Rattle.c62_packet.proofs.Near.{place_small}
+use Rattle.c62_insn.proofs.UnitOrder.{index_of-below}
 use Rattle.c62_listing_reader.proofs.ListedLemmas.{rest_is, rest_line}
 use Rattle.c62_listing_reader.proofs.ReadLemmas.{goes_on as reads_on}
 use Rattle.c62_listing_reader.proofs.TextLemmas.{fed}
 use Rattle.c62_listing_reader.proofs.UntoldLemmas.{IsPlain, are_allowed, beside_plain, fed_content, fed_ended, first_plain, line_read, pause_plain, untold}
-use Rattle.c62_read.specs.Program.{place_of}
+use Rattle.c62_read.specs.Program.{label_field}
 
 -- ---- lines that lead on
 
@@ -88,9 +88,9 @@ pub record IsWelcome (labels : List Name) (drafts : Drafts) (above : Above) (fro
   pub gap : is_gap front ≡ false
   pub short : (opened drafts.current).cycles + cycles_added (is_beside front) says ≤ 2048
 
-read_plain : (drafts : Drafts) (rest : List ℕ) (says : Says) (place : Option Name) → place_of rest ≡ place → place ≡ None
-    → after_label (is_taken (place_of rest) drafts) (has_colon rest) (Ok (None, says)) ≡ Ok (None, says)
-read_plain drafts rest says place is none = rw (is ∙ none) refl
+read_plain : (drafts : Drafts) (rest : List ℕ) (says : Says) (field : Option Name) → label_field rest ≡ field → field ≡ None
+    → after_label (is_taken (label_field rest) drafts) (has_colon rest) (Ok (None, says)) ≡ Ok (None, says)
+read_plain drafts rest says field is none = rw (is ∙ none) refl
 
 plain_said : (labels : List Name) (drafts : Drafts) (above : Above) (bytes : List ℕ) (front : Front) (says : Says) (below : List Line) → IsPlain bytes front says
     → IsWelcome labels drafts above front says
@@ -98,9 +98,9 @@ plain_said : (labels : List Name) (drafts : Drafts) (above : Above) (bytes : Lis
 plain_said labels drafts above bytes front says below plain welcome =
     let same : bytes ≡ content (fed bytes) = sym (fed_content bytes plain.allowed) in
     let rest : List ℕ = rest_of front bytes in
-    let place = line_read rest None says plain.line in
+    let field = line_read rest None says plain.line in
     let read : rest_says drafts rest ≡ Ok (None, says) =
-    ap (after_label (is_taken (place_of rest) drafts) (has_colon rest)) plain.line ∙ read_plain drafts rest says None place.place refl in
+    ap (after_label (is_taken (label_field rest) drafts) (has_colon rest)) plain.line ∙ read_plain drafts rest says None field.field refl in
     let full : nat_le 64 (length drafts.done) ≡ false = lt-leb 64 (length drafts.done) welcome.blocks in
     untold labels drafts above (fed bytes) below (record { front = front; label = None; says = says }) (record {
       front = plain.begins ∙ ap front_of same;
@@ -423,9 +423,6 @@ last_of [] q cycles above is = is
 last_of (p ∷ []) q cycles above is = is
 last_of (p ∷ next ∷ before) q cycles above is = last_of (next ∷ before) q cycles above is
 
-pub index_small : (unit : FunctionalUnit) → index_of unit < 8
-index_small unit = place_small unit.letter unit.side
-
 module _ (name : ℕ → List ℕ) (labels : List Name) (aim : Name → ℕ) (done : List Draft) (few : length done < 64) (label : Option Name) where
   abbrev In : ℕ → List Placed → Drafts → Above → Type 0
   In cycles placed = IsIn done label cycles placed
@@ -473,8 +470,8 @@ module _ (name : ℕ → List ℕ) (labels : List Name) (aim : Name → ℕ) (do
       let so_far : List Placed = before ++ q ∷ [] in
       let one : length so_far ≡ length before + 1 = length-append before (q ∷ []) in
       let last = last_of before q (q.cycle + 1) above over.last in
-      let q_small = index_small q.unit in
-      let p_small = index_small p.unit in
+      let q_small = index_of-below q.unit in
+      let p_small = index_of-below p.unit in
       let here : p.cycle + 1 ≤ cycles = within 0 p (omega arith) in
       let same_cycle : nat_lt p.cycle (q.cycle + 1) ≡ true → p.cycle ≡ q.cycle = λ less. (let lt = ltb-true p.cycle (q.cycle + 1) less in omega (arith, lt, order.0, q_small, p_small)) in
       let first = placed_by (nat_lt p.cycle (q.cycle + 1)) (q.cycle + 1) so_far p number drafts above (map fed (cycle_lines name (p.cycle + 1) cycles rest) ++ below) refl

@@ -23,7 +23,7 @@ use Rattle.c62_listing_reader.specs.Begin.{front_of, has_colon}
 use Rattle.c62_listing_reader.specs.Said.{Draft, Drafts, no_drafts, all_drafts, opened, is_text}
 use Rattle.c62_listing_reader.specs.Faults.{is_filled, is_taken, rest_says, line_says}
 use Rattle.c62_listing_reader.proofs.TextLemmas.{fed}
-use Rattle.c62_listing_reader.proofs.ToldLemmas.{empty_place}
+use Rattle.c62_listing_reader.proofs.ToldLemmas.{empty_field}
 use Rattle.c62_listing_reader.proofs.UntoldLemmas.{are_allowed, fed_content, fed_ended, line_read, same_bytes, untold}
 use Rattle.c62_listing_reader.proofs.BackLemmas.{AreBehind, IsCalm, IsIn, IsSayable, Leads, key_of, no_lines, one_line, start_leads, then_lines, unlined}
 
@@ -86,7 +86,7 @@ gap_line = refl
 gap_said : (labels : List Name) (drafts : Drafts) (above : Above) (below : List Line) → is_filled above ≡ true → begin_filled below ≡ true → (opened drafts.current).cycles ≤ 2048
     → line_says labels drafts above (fed []) below ≡ Ok (record { front = Empty; label = None; says = Nothing })
 gap_said labels drafts above below filled begins short =
-    let says : rest_says drafts [] ≡ Ok (None, Nothing) = rw (gap_line, empty_place) refl in
+    let says : rest_says drafts [] ≡ Ok (None, Nothing) = rw (gap_line, empty_field) refl in
     untold labels drafts above (fed []) below (record { front = Empty; label = None; says = Nothing }) (record {
       front = refl;
       allowed = refl;

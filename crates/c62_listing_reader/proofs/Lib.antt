@@ -1,7 +1,7 @@
 pub mod TextLemmas
 pub mod PauseLemmas
 pub mod ToldLemmas
-pub mod Going
+pub mod FineBlocks
 pub mod NamedLemmas
 pub mod ClosedLemmas
 pub mod ListedLemmas

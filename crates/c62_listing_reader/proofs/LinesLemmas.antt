@@ -16,7 +16,7 @@ use Rattle.c62_insn.specs.Takes.{takes}
 use Rattle.c62_read.specs.Line.{Says, Nothing}
 use Rattle.c62_read.specs.Laws.{NamesTarget}
 use Rattle.c62_read.specs.Number.{is_label}
-use Rattle.c62_read.specs.Program.{Name, is_among, label_is, place_of}
+use Rattle.c62_read.specs.Program.{Name, is_among, label_is, label_field}
 use Rattle.c62_read.proofs.SpelledOperands.{label_parts}
 use Rattle.c62_read.proofs.WrittenLines.{label_back}
 use Rattle.c62_packet.specs.declared.placed.Placed.{Placed}
@@ -28,20 +28,21 @@ use Rattle.c62_listing_reader.specs.declared.line.Front.TheVariants.{First, Besi
 use Rattle.c62_listing_reader.specs.Text.{is_empty}
 use Rattle.c62_listing_reader.specs.Said.{named, number_after, names_in, labels_of, number_of}
 use Rattle.c62_listing_reader.proofs.ListedLemmas.{rest_is, rest_line}
-use Rattle.c62_listing_reader.proofs.ToldLemmas.{empty_place}
+use Rattle.c62_listing_reader.proofs.ToldLemmas.{empty_field}
 use Rattle.c62_listing_reader.proofs.UntoldLemmas.{IsPlain, are_allowed, beside_plain, first_plain, line_read, pause_plain}
-use Rattle.c62_listing_reader.proofs.BackLemmas.{AreBehind, index_small}
+use Rattle.c62_insn.proofs.UnitOrder.{index_of-below}
+use Rattle.c62_listing_reader.proofs.BackLemmas.{AreBehind}
 use Rattle.c62_listing_reader.proofs.BlocksLemmas.{HasLines, is_line}
 use Rattle.std.proofs.lemmas.Slice.Eq.{bytes_eq-Decides}
 
 -- ---- the lines of a block but its label
 
 abbrev is_plain : List ℕ → Bool
-is_plain bytes = is_line bytes && is_none (place_of bytes)
+is_plain bytes = is_line bytes && is_none (label_field bytes)
 
 plain_by : (bytes : List ℕ) (front : Front) (says : Says) → IsPlain bytes front says → is_plain bytes ≡ true
 plain_by bytes front says is =
-    and_from (is_line bytes) (is_none (place_of bytes)) (and_from (are_allowed bytes) (not (is_empty bytes)) is.allowed (ap not is.filled)) (ap is_none is.place)
+    and_from (is_line bytes) (is_none (label_field bytes)) (and_from (are_allowed bytes) (not (is_empty bytes)) is.allowed (ap not is.filled)) (ap is_none is.field)
 
 -- its unit takes its operands, and a branch goes by a label
 pub record IsWritable (name : ℕ → List ℕ) (p : Placed) : Type 0 where
@@ -82,7 +83,7 @@ plain_lines : (lines : List (List ℕ)) → list_all is_plain lines ≡ true →
 plain_lines [] all = refl
 plain_lines (bytes ∷ lines) all =
     let parts = and_parts (is_plain bytes) (list_all is_plain lines) all in
-    and_from (is_line bytes) (list_all is_line lines) (and_parts (is_line bytes) (is_none (place_of bytes)) parts.0).0 (plain_lines lines parts.1)
+    and_from (is_line bytes) (list_all is_line lines) (and_parts (is_line bytes) (is_none (label_field bytes)) parts.0).0 (plain_lines lines parts.1)
 
 -- ---- all lines of a block
 
@@ -137,7 +138,7 @@ all_allowed name (block ∷ packets) has =
 
 -- ---- their labels
 
-none_is : (place : Option Name) → is_none place ≡ true → place ≡ None
+none_is : (field : Option Name) → is_none field ≡ true → field ≡ None
 none_is None is = refl
 none_is (Some name) is = absurd (false≢true is)
 
@@ -148,9 +149,9 @@ plain_names : (number : ℕ) (lines more : List (List ℕ)) → list_all is_plai
 plain_names number [] more all = refl
 plain_names number (bytes ∷ lines) more all =
     let parts = and_parts (is_plain bytes) (list_all is_plain lines) all in
-    let here = and_parts (is_line bytes) (is_none (place_of bytes)) parts.0 in
+    let here = and_parts (is_line bytes) (is_none (label_field bytes)) parts.0 in
     let filled : is_empty bytes ≡ false = not-true (is_empty bytes) (and_parts (are_allowed bytes) (not (is_empty bytes)) here.0).1 in
-    ap (λ (place : Option Name). named place number ++ names_in (number_after bytes number) (lines ++ more)) (none_is (place_of bytes) here.1)
+    ap (λ (field : Option Name). named field number ++ names_in (number_after bytes number) (lines ++ more)) (none_is (label_field bytes) here.1)
     ∙ ap (λ (n : ℕ). names_in n (lines ++ more)) (after_filled bytes number filled)
     ∙ plain_names number lines more parts.1
 
@@ -163,7 +164,7 @@ label_names : (number : ℕ) (label : Option Name) (more : List (List ℕ)) → 
     → names_in number (label_lines label ++ more) ≡ named label number ++ names_in number more
 label_names number None more is = refl
 label_names number (Some label) more is =
-    ap (λ (place : Option Name). named place number ++ names_in (number_after (label ++ 58 ∷ []) number) more) (label_back label (is label refl)).1
+    ap (λ (field : Option Name). named field number ++ names_in (number_after (label ++ 58 ∷ []) number) more) (label_back label (is label refl)).1
     ∙ ap (λ (n : ℕ). named (Some label) number ++ names_in n more) (after_filled (label ++ 58 ∷ []) number (filled_label label))
 
 -- what the names of a listing ask of a block
@@ -180,7 +181,7 @@ block_names name number block more is =
     ∙ ap (λ (names : List (Name × ℕ)). named block.label number ++ names) (plain_names number cycles more (cycles_plain name 0 block.cycles block.placed is.writable))
 
 gap_names : (number : ℕ) (more : List (List ℕ)) → names_in number ([] ∷ more) ≡ names_in (number + 1) more
-gap_names number more = ap (λ (place : Option Name). named place number ++ names_in (number + 1) more) empty_place
+gap_names number more = ap (λ (field : Option Name). named field number ++ names_in (number + 1) more) empty_field
 
 parted_names : (name : ℕ → List ℕ) (number : ℕ) (blocks : List Packed) → AllByRecursion (IsTellable name) blocks
     → names_in number (parted_lines name blocks) ≡ names_from (number + 1) (packet_labels blocks)
@@ -210,9 +211,9 @@ member_at P (Some other ∷ labels) zero label at all = let same : other ≡ lab
 member_at P (None ∷ labels) (suc k) label at all = member_at P labels k label at all
 member_at P (Some other ∷ labels) (suc k) label at all = member_at P labels k label at all.1
 
-pub record IsNumbered (names : List (Name × ℕ)) (label : Name) (place : ℕ) : Type 0 where
+pub record IsNumbered (names : List (Name × ℕ)) (label : Name) (block : ℕ) : Type 0 where
   pub known : is_among label (labels_of names) ≡ true
-  pub number : number_of names label ≡ place
+  pub number : number_of names label ≡ block
 
 other_first : (other label : Name) (at : ℕ) (names : List (Name × ℕ)) (number : ℕ) → bytes_eq other label ≡ false → IsNumbered names label number → IsNumbered ((other, at) ∷ names) label number
 other_first other label at names number apart is = record {
@@ -310,7 +311,7 @@ cycles_length name q cycles (p ∷ placed) are order within low =
     let here : p.cycle + 1 ≤ cycles = within 0 p (omega arith) in
     let rest = cycles_length name p cycles placed (All-tail (IsWritable name) p placed are) order.1 (All-tail (λ (r : Placed). r.cycle + 1 ≤ cycles) p placed within) here in
     let both = text_both (placed_lines name (q.cycle + 1) p) (cycle_lines name (p.cycle + 1) cycles placed) in
-    let rises : q.cycle ≤ p.cycle = (let q_small = index_small q.unit in let p_small = index_small p.unit in omega (arith, order.0, q_small, p_small)) in
+    let rises : q.cycle ≤ p.cycle = (let q_small = index_of-below q.unit in let p_small = index_of-below p.unit in omega (arith, order.0, q_small, p_small)) in
     go (nat_lt p.cycle (q.cycle + 1)) refl (placed_length name (nat_lt p.cycle (q.cycle + 1)) (p.cycle - (q.cycle + 1)) p (are 0 p (omega arith))) rest both here rises
   where
     go : (b : Bool) → nat_lt p.cycle (q.cycle + 1) ≡ b → text_length (placed_lines name (q.cycle + 1) p) ≤ 256 + (if b then 0 else 9 * (p.cycle - (q.cycle + 1)))

@@ -33,7 +33,7 @@ use Rattle.c62_listing_reader.specs.Faults.{is_issue, is_filled, goes_on, is_mis
 use Rattle.c62_listing_reader.specs.Fine.{IsFine}
 use Rattle.c62_read.proofs.PauseLemmas.{IsShort}
 use Rattle.c62_listing_reader.proofs.ToldLemmas.{IsTold, begun, over, gap_front, if_err, is_proper, is_short, not_false}
-use Rattle.c62_listing_reader.proofs.Going.{Follows, IsGoing, judged_fits, go, go-start, opened_fine}
+use Rattle.c62_listing_reader.proofs.FineBlocks.{Follows, IsGoing, judged_fits, go, go-start, opened_fine}
 use Rattle.c62_listing_reader.proofs.ClosedLemmas.{labels_same}
 use Rattle.c62_listing_reader.proofs.NamedLemmas.{aims, labels_in, says_filled}
 

@@ -9,7 +9,7 @@ use Rattle.std.proofs.lemmas.List.{length-map}
 use Rattle.std.proofs.lemmas.Option.{none-some, slice_get_within}
 use Rattle.std.proofs.lemmas.Slice.Eq.{bytes_eq-Decides}
 use Rattle.c62_read.specs.Line.{Parts, Says, Nothing, Pause, Does, Jumps}
-use Rattle.c62_read.specs.Program.{Name, is_among, place_of}
+use Rattle.c62_read.specs.Program.{Name, is_among, label_field}
 use Rattle.c62_listing_reader.specs.declared.line.Front.{Front}
 use Rattle.c62_listing_reader.specs.declared.line.Front.TheVariants.{Empty, First, Beside, Label, Stray}
 use Rattle.c62_listing_reader.specs.declared.line.Above.{Above}
@@ -18,7 +18,7 @@ use Rattle.c62_listing_reader.specs.Text.{Line, content, is_empty, begin_filled}
 use Rattle.c62_listing_reader.specs.Begin.{is_beside, is_gap}
 use Rattle.c62_listing_reader.specs.Said.{Said, Draft, Drafts, no_drafts, all_drafts, opened, with_part, with_label, with_says, with_said, above_of, above_next, jump_to, named, number_after, names_in, labels_of, number_of, aim_by}
 use Rattle.c62_listing_reader.specs.Faults.{is_filled, is_alone, read_lines}
-use Rattle.c62_listing_reader.proofs.Going.{IsGoing, judged_fits, go, go-start}
+use Rattle.c62_listing_reader.proofs.FineBlocks.{IsGoing, judged_fits, go, go-start}
 use Rattle.c62_listing_reader.proofs.ToldLemmas.{begun, over, gap_front, has_name, not_false}
 
 -- ---- blocks with labels
@@ -149,8 +149,8 @@ pub AllNamed : Drafts → List (Name × ℕ) → Type 0
 AllNamed final [] = Unit {0}
 AllNamed final (entry ∷ names) = IsNamed (all_drafts final) entry.1 entry.0 × AllNamed final names
 
-all_named : (final : Drafts) (place : Option Name) (number : ℕ) (names : List (Name × ℕ)) → ((name : Name) → place ≡ Some name → IsNamed (all_drafts final) number name)
-    → AllNamed final names → AllNamed final (named place number ++ names)
+all_named : (final : Drafts) (field : Option Name) (number : ℕ) (names : List (Name × ℕ)) → ((name : Name) → field ≡ Some name → IsNamed (all_drafts final) number name)
+    → AllNamed final names → AllNamed final (named field number ++ names)
 unfolding AllNamed
 all_named final None number names here others = others
 all_named final (Some name) number names here others = (here name refl, others)
@@ -177,14 +177,14 @@ are_named labels aim line number drafts above (first ∷ below) final counted h 
     let counted_on : IsCounted (with_said aim line said drafts) (above_next said.front said.says) (number_after (content first) number) =
     subst (λ (b : Bool). IsCounted (with_said aim line said drafts) (above_next said.front said.says) (after_gap b number)) gap step.counted in
     let rest = are_named labels aim (line + 1) (number_after (content first) number) (with_said aim line said drafts) (above_next said.front said.says) below final counted_on start.others in
-    let here : (name : Name) → place_of (content first) ≡ Some name → IsNamed (all_drafts final) number name =
-    λ name place. (
-    let has = has_name labels drafts above first below said name start.is place in
+    let here : (name : Name) → label_field (content first) ≡ Some name → IsNamed (all_drafts final) number name =
+    λ name field. (
+    let has = has_name labels drafts above first below said name start.is field in
     rest.keeps number name (step.names name has.0 has.1)
     ) in
     record {
       keeps = λ i name is. rest.keeps i name (step.keeps i name is);
-      names = all_named final (place_of (content first)) number (names_in (number_after (content first) number) (map content below)) here rest.names;
+      names = all_named final (label_field (content first)) number (names_in (number_after (content first) number) (map content below)) here rest.names;
     }
 
 -- ---- there are few blocks

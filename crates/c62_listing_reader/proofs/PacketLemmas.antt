@@ -36,14 +36,14 @@ pub first_faulty : (done : List Packed) (left : List OpenBlock) (block : OpenBlo
 first_faulty done left block all number fault whole count are faulted =
     let rest : List Draft = map draft_open (reverse left) in
     let split : map draft_of done ++ draft_open block ∷ rest ≡ all = sym (ap (λ (ds : List Draft). map draft_of done ++ ds) (reversed left block)) ∙ whole in
-    let place : length (map draft_of done) ≡ number = length-map done draft_of ∙ sym count in
+    let before_it : length (map draft_of done) ≡ number = length-map done draft_of ∙ sym count in
     record {
       draft = draft_open block;
       at = ap (λ (ds : List Draft). slice_get ds number) (sym split)
-          ∙ ap (slice_get (map draft_of done ++ draft_open block ∷ rest)) (sym place) ∙ at_seam (map draft_of done) (draft_open block) rest;
+          ∙ ap (slice_get (map draft_of done ++ draft_open block ∷ rest)) (sym before_it) ∙ at_seam (map draft_of done) (draft_open block) rest;
       faulted = faulted;
       blocks = done;
-      before = sym (ap (take number) (sym split) ∙ ap (λ (n : ℕ). take n (map draft_of done ++ draft_open block ∷ rest)) (sym place)
+      before = sym (ap (take number) (sym split) ∙ ap (λ (n : ℕ). take n (map draft_of done ++ draft_open block ∷ rest)) (sym before_it)
           ∙ take-append_seam (map draft_of done) (draft_open block ∷ rest));
       are_blocks = are;
     }

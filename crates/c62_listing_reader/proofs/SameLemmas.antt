@@ -20,8 +20,8 @@ same_insn a b e = same_parts a b (ap (λ (parts : Parts). parts.op) e) (ap (λ (
 abbrev placed_at : Insn → ℕ → ℕ → FunctionalUnit → Placed
 placed_at insn line cycle unit = record { insn = insn; line = line; cycle = cycle; unit = unit }
 
-same_place : (p q : Placed) → unit_of p.insn ≡ Some p.unit → unit_of q.insn ≡ Some q.unit → part_of p ≡ part_of q → p ≡ q
-same_place p q first other e =
+same_position : (p q : Placed) → unit_of p.insn ≡ Some p.unit → unit_of q.insn ≡ Some q.unit → part_of p ≡ part_of q → p ≡ q
+same_position p q first other e =
     let insn : p.insn ≡ q.insn = same_insn p.insn q.insn (ap (λ (part : Part). part.parts) e) in
     let unit : p.unit ≡ q.unit = same_Some p.unit q.unit (sym first ∙ ap unit_of insn ∙ other) in
     ap (λ (i : Insn). placed_at i p.line p.cycle p.unit) insn
@@ -29,15 +29,15 @@ same_place p q first other e =
     ∙ ap (λ (cycle : ℕ). placed_at q.insn q.line cycle p.unit) (ap (λ (part : Part). part.cycle) e)
     ∙ ap (λ (u : FunctionalUnit). placed_at q.insn q.line q.cycle u) unit
 
-same_placed : (placed other : List Placed) → StandAsWritten placed → StandAsWritten other → map part_of placed ≡ map part_of other → placed ≡ other
-same_placed [] [] first last e = refl
-same_placed [] (q ∷ other) first last e = absurd cc
-same_placed (p ∷ placed) [] first last e = absurd cc
-same_placed (p ∷ placed) (q ∷ other) first last e =
+same_positiond : (placed other : List Placed) → StandAsWritten placed → StandAsWritten other → map part_of placed ≡ map part_of other → placed ≡ other
+same_positiond [] [] first last e = refl
+same_positiond [] (q ∷ other) first last e = absurd cc
+same_positiond (p ∷ placed) [] first last e = absurd cc
+same_positiond (p ∷ placed) (q ∷ other) first last e =
     let here : part_of p ≡ part_of q = cc in
     let rest : map part_of placed ≡ map part_of other = cc in
-    let one : p ≡ q = same_place p q (first 0 p (omega arith)) (last 0 q (omega arith)) here in
-    let more : placed ≡ other = same_placed placed other (All-tail (λ (r : Placed). unit_of r.insn ≡ Some r.unit) p placed first)
+    let one : p ≡ q = same_position p q (first 0 p (omega arith)) (last 0 q (omega arith)) here in
+    let more : placed ≡ other = same_positiond placed other (All-tail (λ (r : Placed). unit_of r.insn ≡ Some r.unit) p placed first)
     (All-tail (λ (r : Placed). unit_of r.insn ≡ Some r.unit) q other last) rest in
     ap (λ (r : Placed). r ∷ placed) one ∙ ap (λ (rs : List Placed). q ∷ rs) more
 
@@ -46,7 +46,7 @@ packed_of label cycles placed = record { label = label; cycles = cycles; placed 
 
 same_block : (block other : Packed) → IsPacketBlock block → IsPacketBlock other → draft_of block ≡ draft_of other → block ≡ other
 same_block block other first last e =
-    let placed : block.placed ≡ other.placed = same_placed block.placed other.placed first.as_written last.as_written (ap (λ (draft : Draft). draft.placed) e) in
+    let placed : block.placed ≡ other.placed = same_positiond block.placed other.placed first.as_written last.as_written (ap (λ (draft : Draft). draft.placed) e) in
     ap (λ (label : Option Name). packed_of label block.cycles block.placed) (ap (λ (draft : Draft). draft.label) e)
     ∙ ap (λ (cycles : ℕ). packed_of other.label cycles block.placed) (ap (λ (draft : Draft). draft.cycles) e)
     ∙ ap (λ (ps : List Placed). packed_of other.label other.cycles ps) placed

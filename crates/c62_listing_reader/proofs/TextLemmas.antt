@@ -85,8 +85,8 @@ feed_is text (Some k) h =
     let test : nat_lt k (length text) ≡ true = grind (arith, nat_tests) in
     rw (len, test) refl
 
-place_is : (text : List ℕ) (k : ℕ) → position is_line_feed text ≡ Some k → (position_or_len is_line_feed text ≡ k) × (k < length text)
-place_is text k is = go (nat_lt (position_or_len is_line_feed text) (length text)) refl is
+position_is : (text : List ℕ) (k : ℕ) → position is_line_feed text ≡ Some k → (position_or_len is_line_feed text ≡ k) × (k < length text)
+position_is text k is = go (nat_lt (position_or_len is_line_feed text) (length text)) refl is
   where
     go : (within : Bool) → nat_lt (position_or_len is_line_feed text) (length text) ≡ within → (if within then Some (position_or_len is_line_feed text) else None) ≡ Some k
         → (position_or_len is_line_feed text ≡ k) × (k < length text)
@@ -96,13 +96,13 @@ place_is text k is = go (nat_lt (position_or_len is_line_feed text) (length text
 pub first_is : (text : List ℕ) (k : ℕ) → position is_line_feed text ≡ Some k
     → lines_in text ≡ record { bytes = take k text; fed = true } ∷ lines_in (drop (k + 1) text)
 first_is text k is =
-    let place = position_or_len is_line_feed text in
-    let parts = place_is text k is in
-    let less : place < length text = omega (arith, parts.0, parts.1) in
-    let feed : get_or text place 0 ≡ 10 = rw parts.0 (eqb-true (get_or text k 0) 10 (position-Some is_line_feed text k 0 is).1) in
-    let split : text ≡ take place text ++ 10 ∷ drop (place + 1) text =
-    split_at_first is_line_feed text 0 less ∙ ap (λ (b : ℕ). take place text ++ b ∷ drop (place + 1) text) feed in
-    ap lines_in split ∙ before_feed (take place text) (drop (place + 1) text) (none_before text)
+    let index = position_or_len is_line_feed text in
+    let parts = position_is text k is in
+    let less : index < length text = omega (arith, parts.0, parts.1) in
+    let feed : get_or text index 0 ≡ 10 = rw parts.0 (eqb-true (get_or text k 0) 10 (position-Some is_line_feed text k 0 is).1) in
+    let split : text ≡ take index text ++ 10 ∷ drop (index + 1) text =
+    split_at_first is_line_feed text 0 less ∙ ap (λ (b : ℕ). take index text ++ b ∷ drop (index + 1) text) feed in
+    ap lines_in split ∙ before_feed (take index text) (drop (index + 1) text) (none_before text)
     ∙ ap (λ (n : ℕ). fed (take n text) ∷ lines_in (drop (n + 1) text)) parts.0
 
 past_is : (text : List ℕ) → position is_line_feed text ≡ None → length text ≤ position_or_len is_line_feed text

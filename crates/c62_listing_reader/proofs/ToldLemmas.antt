@@ -11,9 +11,9 @@ use Rattle.c62_read.specs.declared.fault.Cause.TheVariants.{BadLabel, DuplicateL
 use Rattle.c62_read.specs.Text.{is_allowed, tokens}
 use Rattle.c62_read.specs.Number.{is_label, spells}
 use Rattle.c62_read.specs.Line.{Says, Nothing, Pause, Does, Jumps, head_of, label_front, line_of, rest_says as words_say, with_head, with_rest as label_with}
-use Rattle.c62_read.specs.Program.{Name, place_of}
+use Rattle.c62_read.specs.Program.{Name, label_field}
 use Rattle.c62_read.specs.Walk.{is_instruction, is_unknown}
-use Rattle.c62_read.proofs.PlaceLemmas.{place_is}
+use Rattle.c62_read.proofs.LabelFields.{field_is}
 use Rattle.c62_read.proofs.SaysLemmas.{IsProper, proper}
 use Rattle.c62_listing_reader.specs.declared.fault.LineFault.{LineFault}
 use Rattle.c62_listing_reader.specs.declared.line.Front.{Front}
@@ -141,7 +141,7 @@ plain_read taken colon (Err BadLabel) found h = absurd cc
 plain_read true colon (Err _) found h = absurd cc
 plain_read false colon (Err _) found h = absurd cc
 
--- a line's label stands in its label place
+-- a line's label stands in its label field
 pub record IsLine (line : List ℕ) (label : Option Name) (says : Says) : Type 0 where
   pub words : List (List ℕ)
   pub head : head_of line ≡ Ok (label, words)
@@ -181,20 +181,20 @@ no_front word (colon ∷ words) none =
     let test : (spells (codes ":") colon && is_label word) ≡ false = and_right (spells (codes ":") colon) (is_label word) none in
     rw test refl
 
-pub bars_place : (rest : List ℕ) → place_of (124 ∷ 124 ∷ 32 ∷ rest) ≡ None
-unfolding place_of
-bars_place rest = no_front (124 ∷ 124 ∷ []) (tokens (32 ∷ rest)) bars_are_no_label
+pub bars_field : (rest : List ℕ) → label_field (124 ∷ 124 ∷ 32 ∷ rest) ≡ None
+unfolding label_field
+bars_field rest = no_front (124 ∷ 124 ∷ []) (tokens (32 ∷ rest)) bars_are_no_label
 
--- a line that begins with bars has nothing in its label place
-beside_place : (bytes : List ℕ) → starts_with nat_eq bytes (codes "|| ") ≡ true → place_of bytes ≡ None
-beside_place [] h = absurd (false≢true h)
-beside_place (a ∷ []) h = absurd (false≢true (sym (and_right (nat_eq 124 a) false refl) ∙ h))
-beside_place (a ∷ b ∷ []) h = absurd (false≢true (sym (and_right (nat_eq 124 a) (nat_eq 124 b && false) (and_right (nat_eq 124 b) false refl)) ∙ h))
-beside_place (a ∷ b ∷ c ∷ rest) h =
+-- a line that begins with bars has nothing in its label field
+beside_field : (bytes : List ℕ) → starts_with nat_eq bytes (codes "|| ") ≡ true → label_field bytes ≡ None
+beside_field [] h = absurd (false≢true h)
+beside_field (a ∷ []) h = absurd (false≢true (sym (and_right (nat_eq 124 a) false refl) ∙ h))
+beside_field (a ∷ b ∷ []) h = absurd (false≢true (sym (and_right (nat_eq 124 a) (nat_eq 124 b && false) (and_right (nat_eq 124 b) false refl)) ∙ h))
+beside_field (a ∷ b ∷ c ∷ rest) h =
     let one = and_parts (nat_eq 124 a) _ h in
     let two = and_parts (nat_eq 124 b) _ one.1 in
     let three = and_parts (nat_eq 32 c) _ two.1 in
-    rw (sym (eqb-true 124 a one.0), sym (eqb-true 124 b two.0), sym (eqb-true 32 c three.0)) (bars_place rest)
+    rw (sym (eqb-true 124 a one.0), sym (eqb-true 124 b two.0), sym (eqb-true 32 c three.0)) (bars_field rest)
 
 beside_test : (empty first beside label : Bool)
     → Beside ≡ (if empty then Empty else (if first then First else (if beside then Beside else (if label then Label else Stray)))) → beside ≡ true
@@ -235,46 +235,46 @@ pub line_allowed : (front : Front) (bytes : List ℕ) (label : Option Name) (say
     → list_all is_allowed bytes ≡ true
 line_allowed front bytes label says is read = front_allowed front bytes is (rest_allowed (rest_of front bytes) label says read)
 
-pub empty_place : place_of [] ≡ None
-unfolding place_of label_front
-empty_place = refl
+pub empty_field : label_field [] ≡ None
+unfolding label_field label_front
+empty_field = refl
 
-gap_place : (bytes : List ℕ) → Empty ≡ front_of bytes → place_of bytes ≡ None
-gap_place [] h = empty_place
-gap_place (b ∷ bytes) h = absurd (false≢true (sym (gap_front (b ∷ bytes)) ∙ sym (ap is_gap h)))
+gap_field : (bytes : List ℕ) → Empty ≡ front_of bytes → label_field bytes ≡ None
+gap_field [] h = empty_field
+gap_field (b ∷ bytes) h = absurd (false≢true (sym (gap_front (b ∷ bytes)) ∙ sym (ap is_gap h)))
 
-own_place : (bytes : List ℕ) (label : Option Name) (says : Says) (name : Name) → line_of bytes ≡ Ok (label, says) → place_of bytes ≡ Some name → label ≡ Some name
-own_place bytes label says name read place =
+own_field : (bytes : List ℕ) (label : Option Name) (says : Says) (name : Name) → line_of bytes ≡ Ok (label, says) → label_field bytes ≡ Some name → label ≡ Some name
+own_field bytes label says name read field =
     let parts = line_parts bytes label says read in
-    sym (place_is bytes label parts.words parts.head) ∙ place
+    sym (field_is bytes label parts.words parts.head) ∙ field
 
-place_by : (front : Front) (bytes : List ℕ) (label : Option Name) (says : Says) (name : Name) → front ≡ front_of bytes → line_of (rest_of front bytes) ≡ Ok (label, says)
-    → place_of bytes ≡ Some name → (label ≡ Some name) × (is_gap front ≡ false)
-place_by Empty bytes label says name is read place = absurd (none-some name (sym (gap_place bytes is) ∙ place))
-place_by Beside bytes label says name is read place = absurd (none-some name (sym (beside_place bytes (beside_start bytes is)) ∙ place))
-place_by First bytes label says name is read place = (own_place bytes label says name read place, refl)
-place_by Label bytes label says name is read place = (own_place bytes label says name read place, refl)
-place_by Stray bytes label says name is read place = (own_place bytes label says name read place, refl)
+field_by : (front : Front) (bytes : List ℕ) (label : Option Name) (says : Says) (name : Name) → front ≡ front_of bytes → line_of (rest_of front bytes) ≡ Ok (label, says)
+    → label_field bytes ≡ Some name → (label ≡ Some name) × (is_gap front ≡ false)
+field_by Empty bytes label says name is read field = absurd (none-some name (sym (gap_field bytes is) ∙ field))
+field_by Beside bytes label says name is read field = absurd (none-some name (sym (beside_field bytes (beside_start bytes is)) ∙ field))
+field_by First bytes label says name is read field = (own_field bytes label says name read field, refl)
+field_by Label bytes label says name is read field = (own_field bytes label says name read field, refl)
+field_by Stray bytes label says name is read field = (own_field bytes label says name read field, refl)
 
 pub read_line : (labels : List Name) (drafts : Drafts) (above : Above) (line : Line) (below : List Line) (said : Said) → IsTold labels drafts above line below said
     → line_of (rest_of said.front (content line)) ≡ Ok (said.label, said.says)
 read_line labels drafts above line below said is =
     let rest : List ℕ = rest_of said.front (content line) in
-    plain_read (is_taken (place_of rest) drafts) (has_colon rest) (line_of rest) (said.label, said.says) is.read
+    plain_read (is_taken (label_field rest) drafts) (has_colon rest) (line_of rest) (said.label, said.says) is.read
 
--- where a rest is read, its label place has the label that is read
+-- where a rest is read, its label field has the label that is read
 pub rest_read : (drafts : Drafts) (rest : List ℕ) (label : Option Name) (says : Says) (taken : Bool) → line_of rest ≡ Ok (label, says) → is_taken label drafts ≡ taken
     → rest_says drafts rest ≡ (if taken then Err DuplicateLabel else Ok (label, says))
 rest_read drafts rest label says taken read is =
     let parts = line_parts rest label says read in
-    let place : place_of rest ≡ label = place_is rest label parts.words parts.head in
-    ap (after_label (is_taken (place_of rest) drafts) (has_colon rest)) read ∙ rw (place, is) refl
+    let field : label_field rest ≡ label = field_is rest label parts.words parts.head in
+    ap (after_label (is_taken (label_field rest) drafts) (has_colon rest)) read ∙ rw (field, is) refl
 
--- a line with a label in its label place says that label, and belongs to a block
+-- a line with a label in its label field says that label, and belongs to a block
 pub has_name : (labels : List Name) (drafts : Drafts) (above : Above) (line : Line) (below : List Line) (said : Said) (name : Name)
-    → IsTold labels drafts above line below said → place_of (content line) ≡ Some name → (said.label ≡ Some name) × (is_gap said.front ≡ false)
-has_name labels drafts above line below said name is place =
-    place_by said.front (content line) said.label said.says name is.front (read_line labels drafts above line below said is) place
+    → IsTold labels drafts above line below said → label_field (content line) ≡ Some name → (said.label ≡ Some name) × (is_gap said.front ≡ false)
+has_name labels drafts above line below said name is field =
+    field_by said.front (content line) said.label said.says name is.front (read_line labels drafts above line below said is) field
 
 pub is_proper : (labels : List Name) (drafts : Drafts) (above : Above) (line : Line) (below : List Line) (said : Said) → IsTold labels drafts above line below said
     → IsProper said.says

@@ -17,9 +17,9 @@ use Rattle.c62_read.specs.declared.fault.Cause.TheVariants.{LineTooLong, NotAsci
 use Rattle.c62_read.specs.Text.{begins, is_allowed, is_line_feed, tokens}
 use Rattle.c62_read.specs.Kind.{Word}
 use Rattle.c62_read.specs.Line.{Parts, Says, Pause, Does, Jumps, head_of, is_bars, is_star, label_front, line_of, without_colon}
-use Rattle.c62_read.specs.Program.{Name, place_of}
+use Rattle.c62_read.specs.Program.{Name, label_field}
 use Rattle.c62_read.specs.Laws.{NamesTarget, parts_on, says_with, says_on}
-use Rattle.c62_read.proofs.PlaceLemmas.{place_is}
+use Rattle.c62_read.proofs.LabelFields.{field_is}
 use Rattle.c62_read.proofs.SaysLemmas.{has_no_block}
 use Rattle.c62_read.proofs.SpelledLine.{spelled_back}
 use Rattle.c62_read.proofs.WrittenLines.{pause_back}
@@ -33,7 +33,7 @@ use Rattle.c62_listing_reader.specs.Said.{Said, Drafts, opened, parts_spelling, 
 use Rattle.c62_listing_reader.specs.Faults.{is_misplaced, cycles_added, hindrance, is_unfit, is_odd, rest_says, with_rest, line_says}
 use Rattle.c62_listing_reader.proofs.ListedLemmas.{does_text, unreturned}
 use Rattle.c62_listing_reader.proofs.TextLemmas.{before_feed, fed, has_no_feed}
-use Rattle.c62_listing_reader.proofs.ToldLemmas.{IsTold, bars_place, line_parts}
+use Rattle.c62_listing_reader.proofs.ToldLemmas.{IsTold, bars_field, line_parts}
 
 -- ---- the lines of a text that is made of lines
 
@@ -108,17 +108,17 @@ readable_by : (line : List ℕ) (label : Option Word) (words : List Word) → he
 unfolding head_of
 readable_by line label words h = head_readable (list_all is_allowed line) (nat_lt 255 (length line)) (begins is_star line) (is_bars (tokens line)) line label words h
 
--- a line that is read may be read, and its label place has its label
+-- a line that is read may be read, and its label field has its label
 pub record IsRead (line : List ℕ) (label : Option Name) : Type 0 where
   pub allowed : are_allowed line ≡ true
   pub fits : length line ≤ 255
-  pub place : place_of line ≡ label
+  pub field : label_field line ≡ label
 
 pub line_read : (line : List ℕ) (label : Option Name) (says : Says) → line_of line ≡ Ok (label, says) → IsRead line label
 line_read line label says h =
     let parts = line_parts line label says h in
     let readable = readable_by line label parts.words parts.head in
-    record { allowed = readable.0; fits = ltb-false 255 (length line) readable.1; place = place_is line label parts.words parts.head }
+    record { allowed = readable.0; fits = ltb-false 255 (length line) readable.1; field = field_is line label parts.words parts.head }
 
 -- ---- the lines of a block but its label
 
@@ -127,7 +127,7 @@ pub record IsPlain (bytes : List ℕ) (front : Front) (says : Says) : Type 0 whe
   pub fits : length bytes ≤ 255
   pub begins : front ≡ front_of bytes
   pub line : line_of (rest_of front bytes) ≡ Ok (None, says)
-  pub place : place_of bytes ≡ None
+  pub field : label_field bytes ≡ None
   pub spelled : is_text bytes (spelled_line front None says) ≡ true
   pub filled : is_empty bytes ≡ false
 
@@ -138,7 +138,7 @@ pub pause_plain : (n : ℕ) → 1 ≤ n → n ≤ 9 → IsPlain (pause_line n) F
 pause_plain n some few =
     let line : line_of (pause_line n) ≡ Ok (None, Pause n) = pause_back n (codes "   ") some few refl (omega arith) in
     let read = line_read (pause_line n) None (Pause n) line in
-    record { allowed = read.allowed; fits = read.fits; begins = refl; line = line; place = read.place; spelled = same_bytes (pause_line n); filled = refl }
+    record { allowed = read.allowed; fits = read.fits; begins = refl; line = line; field = read.field; spelled = same_bytes (pause_line n); filled = refl }
 
 -- what says an instruction is spelled as it
 does_spelled : (name : ℕ → List ℕ) (front : Front) (parts : Parts) (unit : FunctionalUnit) → has_no_block parts.operands ≡ true → parts.unit ≡ Some unit
@@ -175,7 +175,7 @@ first_plain name insn unit taking names =
     let bytes : List ℕ = codes "   " ++ spelling name insn unit in
     let line : line_of bytes ≡ Ok (None, says_on name insn unit) = spelled_back name insn unit (codes "   ") taking names refl (omega arith) in
     let read = line_read bytes None (says_on name insn unit) line in
-    record { allowed = read.allowed; fits = read.fits; begins = refl; line = line; place = read.place; spelled = line_spelled name First insn unit; filled = refl }
+    record { allowed = read.allowed; fits = read.fits; begins = refl; line = line; field = read.field; spelled = line_spelled name First insn unit; filled = refl }
 
 pub beside_plain : (name : ℕ → List ℕ) (insn : Insn) (unit : FunctionalUnit) → takes (op_of insn) (operands_of insn) unit ≡ true → NamesTarget name (operands_of insn)
     → IsPlain (codes "|| " ++ spelling name insn unit) Beside (says_on name insn unit)
@@ -185,4 +185,4 @@ beside_plain name insn unit taking names =
     let longer : line_of (codes "   " ++ text) ≡ Ok (None, says_on name insn unit) = spelled_back name insn unit (codes "   ") taking names refl (omega arith) in
     let read = line_read (codes " " ++ text) None (says_on name insn unit) line in
     let long = line_read (codes "   " ++ text) None (says_on name insn unit) longer in
-    record { allowed = read.allowed; fits = long.fits; begins = refl; line = line; place = bars_place text; spelled = line_spelled name Beside insn unit; filled = refl }
+    record { allowed = read.allowed; fits = long.fits; begins = refl; line = line; field = bars_field text; spelled = line_spelled name Beside insn unit; filled = refl }

@@ -8,7 +8,7 @@ use Rattle.c62_read.specs.declared.fault.Cause.{Cause}
 use Rattle.c62_read.specs.declared.fault.Cause.TheVariants.{NotAscii, LineTooLong, BadLabel, DuplicateLabel, UnknownMnemonic, ParallelBar, UnknownTarget, TooManyInstructions, TooManyBlocks, TextTooLong}
 use Rattle.c62_read.specs.Text.{is_allowed}
 use Rattle.c62_read.specs.Line.{Says, Nothing, Pause, Does, Jumps, line_of}
-use Rattle.c62_read.specs.Program.{Name, place_of, label_is}
+use Rattle.c62_read.specs.Program.{Name, label_field, label_is}
 use Rattle.c62_read.specs.Walk.{is_unknown, is_instruction}
 use Rattle.c62_read.specs.declared.limits.TheConstants.{MOST_BLOCKS, MOST_INSTRUCTIONS}
 use Rattle.c62_packet.specs.declared.limits.TheConstants.{MOST_CYCLES}
@@ -138,7 +138,7 @@ with_rest labels drafts above line below front (Ok (label, says)) =
 
 -- what the rest of a line says that reads so
 abbrev pub rest_read_as : Drafts → List ℕ → Result (Option Name × Says) Cause → Result (Option Name × Says) Cause
-rest_read_as drafts rest read = after_label (is_taken (place_of rest) drafts) (has_colon rest) read
+rest_read_as drafts rest read = after_label (is_taken (label_field rest) drafts) (has_colon rest) read
 
 abbrev pub rest_says : Drafts → List ℕ → Result (Option Name × Says) Cause
 rest_says drafts rest = rest_read_as drafts rest (line_of rest)

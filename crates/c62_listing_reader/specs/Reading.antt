@@ -43,7 +43,7 @@ abbrev pub read_as : Result Reading ReadFault → Result (Option Name × Says) C
 read_as (Ok reading) = Ok (reading.label, said_of reading.what)
 read_as (Err fault) = Err fault.cause
 
--- memory may run out in place of any answer
+-- memory may run out before any answer
 abbrev pub Fails : LineFault → Result Said LineFault → Type 0
 Fails fault says = (fault ≡ MemoryLine) ⊎ (says ≡ Err fault)
 

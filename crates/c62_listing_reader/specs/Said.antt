@@ -7,7 +7,7 @@ use Rattle.c62_insn.specs.declared.insn.Insn.{Insn}
 use Rattle.c62_insn.specs.Insn.{unit_of}
 use Rattle.c62_insn.specs.Spelling.{condition_spelling, mnemonic_of, unit_spelling, operands_spelling}
 use Rattle.c62_read.specs.Line.{Parts, parts_of, Says, Nothing, Pause, Does, Jumps}
-use Rattle.c62_read.specs.Program.{Name, place_of, aimed_operands}
+use Rattle.c62_read.specs.Program.{Name, label_field, aimed_operands}
 use Rattle.c62_packet.specs.declared.placed.Placed.{Placed}
 use Rattle.c62_listing_reader.specs.declared.line.Front.{Front}
 use Rattle.c62_listing_reader.specs.declared.line.Front.TheVariants.{Empty, Beside}
@@ -111,7 +111,7 @@ above_next front says = if is_gap front then Start else above_of says
 
 -- ---- labels
 
--- the labels in the label places of lines, each with the number of the block that it stands for: as many empty lines are above
+-- the labels in the label fields of lines, each with the number of the block that it stands for: as many empty lines are above
 -- it, this number standing for the first line
 abbrev pub named : Option Name → ℕ → List (Name × ℕ)
 named None number = []
@@ -122,7 +122,7 @@ number_after line number = if is_empty line then number + 1 else number
 
 abbrev pub names_in : ℕ → List (List ℕ) → List (Name × ℕ)
 names_in number [] = []
-names_in number (line ∷ lines) = named (place_of line) number ++ names_in (number_after line number) lines
+names_in number (line ∷ lines) = named (label_field line) number ++ names_in (number_after line number) lines
 
 abbrev pub labels_of : List (Name × ℕ) → List Name
 labels_of names = map (λ entry. entry.0) names

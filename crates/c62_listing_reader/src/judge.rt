@@ -4,7 +4,7 @@ ghost use Rattle.std.specs.Prelude.{◌≡◌, ◌≤◌, ◌&&◌, not, Ok, Err
 ghost use Rattle.std.specs.List.{list_all, list_any};
 ghost use Rattle.c62_read.specs.Text.{is_allowed};
 ghost use Rattle.c62_read.specs.Line.{line_of, said_of};
-ghost use Rattle.c62_read.specs.Program.{place_of};
+ghost use Rattle.c62_read.specs.Program.{label_field};
 ghost use Rattle.c62_read.specs.Walk.{is_unknown, is_instruction};
 ghost use Rattle.c62_listing_reader.specs.Text.{lines_in, content};
 ghost use Rattle.c62_listing_reader.specs.Cut.{line_cut};
@@ -21,7 +21,7 @@ use crate::spelled::is_spelled;
 use crate::text::{Cut, begins_filled, content, is_ended};
 use c62_insn::Unit;
 use c62_packet::MOST_CYCLES;
-use c62_read::{Cause, Label, MOST_INSTRUCTIONS, ReadFault, Reading, What, label_place};
+use c62_read::{Cause, Label, MOST_INSTRUCTIONS, ReadFault, Reading, What, label_field};
 
 fn is_issue(above: Above) -> bool
     ensures { result ≡ is_issue above }
@@ -109,7 +109,7 @@ fn fault_of_rest(blocks: &Blocks, rest: &[u8], cause: Cause) -> Cause
         }
         Cause::BadLabel => Cause::BadLabel,
         cause => {
-            if blocks.is_taken(label_place(rest)) {
+            if blocks.is_taken(label_field(rest)) {
                 Cause::DuplicateLabel
             } else {
                 cause
@@ -288,7 +288,7 @@ fn with_reading(
     }
 }
 
-/// Whether nothing stands against a line whose rest reads so. The label that is read is the one in its label place.
+/// Whether nothing stands against a line whose rest reads so. The label that is read is the one in its label field.
 fn with_rest(
     spelling: &mut String,
     names: &Names<'_>,

@@ -22,7 +22,7 @@ use crate::names::{Named, Names};
 use crate::text::{content, first_line};
 use c62_insn::{Insn, Operands};
 use c62_packet::{BlockFault, PacketBlock, Packets};
-use c62_read::{Cause, ReadFault, Reading, What, label_place, read_insn};
+use c62_read::{Cause, ReadFault, Reading, What, label_field, read_insn};
 use std::alloc::{AllocError, Global};
 
 /// The longest listing, in bytes.
@@ -41,7 +41,7 @@ fn all_names<'a>(alloc: Global, text: &'a [u8]) -> Result<Vec<Named<'a>>, AllocE
     let mut number = 0;
     while let Some(cut) = first_line(rest) {
         let line = content(&cut);
-        if let Some(label) = label_place(line) {
+        if let Some(label) = label_field(line) {
             names.push(Named { label, number })?;
         }
         number += u32::from(line.is_empty());

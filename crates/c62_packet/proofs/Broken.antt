@@ -80,7 +80,7 @@ kept-own P5 c p xs all = landing-own c p xs all
 
 -- ---- the first that fails
 
--- the first place, by cycle and rule, where something fails, if there is one
+-- the first cycle and rule where something fails, if there is one
 pub FirstOf : (PacketRule → ℕ → Type 0) → Option (ℕ × PacketRule) → Type 0
 FirstOf Holds None = (rule : PacketRule) (cycle : ℕ) → Holds rule cycle
 FirstOf Holds (Some found) = (Holds found.1 found.0 → ⊥) × ((cycle : ℕ) (rule : PacketRule) → IsBefore cycle rule found.0 found.1 → Holds rule cycle)

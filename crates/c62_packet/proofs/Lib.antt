@@ -2,7 +2,7 @@ pub mod LengthLemmas
 pub mod PacketsLemmas
 pub mod RuleLemmas
 pub mod Broken
-pub mod Near
+pub mod LaterIssues
 pub mod OneFault
 pub mod ReadLemmas
 pub mod TakenLemmas

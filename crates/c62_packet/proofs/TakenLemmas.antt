@@ -29,7 +29,7 @@ use Rattle.c62_packet.specs.Clash.{shares_unit, crosses, shares_cross_path, shar
 use Rattle.c62_packet.specs.Taken.{number_in, AddsNumber, cross_number, path_number, AddsCrossPath, AddsDataPath, most_reads, AddsReads, landed, shifted, AddsLanding, AddsLandings}
 use Rattle.c62_packet.specs.Covers.{Covers}
 use Rattle.c62_packet.proofs.RuleLemmas.{tells_unit, tells_cross_path, tells_data_path, reads-own, reads_here, lands-is}
-use Rattle.c62_packet.proofs.Near.{far_reads}
+use Rattle.c62_packet.proofs.LaterIssues.{far_reads}
 
 -- ---- sets
 

@@ -9,11 +9,11 @@ use Rattle.c62_read.specs.declared.fault.Cause.TheVariants.{DuplicateLabel, Unkn
 use Rattle.c62_read.specs.Text.{lines_of}
 use Rattle.c62_read.specs.Line.{Says, head_of, line_of}
 use Rattle.c62_read.specs.Program.{Item, Name, Refusal, cut, drafts_in, fault_if, fault_in, fault_of, first_fault, first_of, is_among, is_overfull}
-use Rattle.c62_read.specs.Program.{items_from, labels_of, misses_label, place_of, program_in}
+use Rattle.c62_read.specs.Program.{items_from, labels_of, misses_label, label_field, program_in}
 
 pub record IsAlike (line other : List ℕ) : Type 0 where
   pub head : fault_in (head_of line) ≡ fault_in (head_of other)
-  pub place : place_of line ≡ place_of other
+  pub field : label_field line ≡ label_field other
   pub said : line_of line ≡ line_of other
 
 abbrev pub AreAlike : List (List ℕ) → List (List ℕ) → Type 0
@@ -36,7 +36,7 @@ alike_length (line ∷ lines) [] alike = absurd alike
 
 alike_labels : (lines others : List (List ℕ)) → AreAlike lines others → labels_of lines ≡ labels_of others
 alike_labels [] [] alike = refl
-alike_labels (line ∷ lines) (other ∷ others) alike = let place = alike.0.place in rw (place, alike_labels lines others alike.1) refl
+alike_labels (line ∷ lines) (other ∷ others) alike = let field = alike.0.field in rw (field, alike_labels lines others alike.1) refl
 alike_labels [] (other ∷ others) alike = absurd alike
 alike_labels (line ∷ lines) [] alike = absurd alike
 
@@ -48,9 +48,9 @@ alike_items number (line ∷ lines) [] alike = absurd alike
 
 -- a line's fault by what is told of it
 abbrev told : List Name → Option Cause → List Name → Option Name → Result (Option Name × Says) Cause → List Item → Option Cause
-told labels head earlier place said items =
+told labels head earlier field said items =
     first_of (head
-    ∷ fault_if (list_any (λ label. is_among label earlier) (option_to_list place)) DuplicateLabel
+    ∷ fault_if (list_any (λ label. is_among label earlier) (option_to_list field)) DuplicateLabel
     ∷ fault_in said
     ∷ fault_if (misses_label labels said) UnknownTarget
     ∷ fault_if (list_any is_overfull (cut items)) TooManyInstructions
@@ -59,7 +59,7 @@ told labels head earlier place said items =
 
 fault_told : (labels : List Name) (before : List (List ℕ)) (line : List ℕ)
     → fault_of labels before line
-    ≡ told labels (fault_in (head_of line)) (labels_of before) (place_of line) (line_of line) (items_from 1 (before ++ line ∷ []))
+    ≡ told labels (fault_in (head_of line)) (labels_of before) (label_field line) (line_of line) (items_from 1 (before ++ line ∷ []))
 unfolding fault_of
 fault_told labels before line = refl
 
@@ -71,12 +71,12 @@ alike_fault labels before others line other alike last =
     let more : List Item = items_from 1 (others ++ other ∷ []) in
     let same : items ≡ more = alike_items 1 (before ++ line ∷ []) (others ++ other ∷ []) (alike_more before others line other alike last) in
     fault_told labels before line
-    ∙ ap (λ (head : Option Cause). told labels head earlier (place_of line) (line_of line) items) last.head
-    ∙ ap (λ (names : List Name). told labels (fault_in (head_of other)) names (place_of line) (line_of line) items) (alike_labels before others alike)
-    ∙ ap (λ (place : Option Name). told labels (fault_in (head_of other)) (labels_of others) place (line_of line) items) last.place
+    ∙ ap (λ (head : Option Cause). told labels head earlier (label_field line) (line_of line) items) last.head
+    ∙ ap (λ (names : List Name). told labels (fault_in (head_of other)) names (label_field line) (line_of line) items) (alike_labels before others alike)
+    ∙ ap (λ (field : Option Name). told labels (fault_in (head_of other)) (labels_of others) field (line_of line) items) last.field
     ∙ ap (λ (said : Result (Option Name
-    × Says) Cause). told labels (fault_in (head_of other)) (labels_of others) (place_of other) said items) last.said
-    ∙ ap (λ (all : List Item). told labels (fault_in (head_of other)) (labels_of others) (place_of other) (line_of other) all) same
+    × Says) Cause). told labels (fault_in (head_of other)) (labels_of others) (label_field other) said items) last.said
+    ∙ ap (λ (all : List Item). told labels (fault_in (head_of other)) (labels_of others) (label_field other) (line_of other) all) same
     ∙ sym (fault_told labels others other)
 
 abbrev at_first : ℕ → Option Cause → Option Refusal → Option Refusal

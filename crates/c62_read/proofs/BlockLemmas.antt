@@ -13,13 +13,13 @@ pub any_draft : (label : List ℕ) (blocks : List BlockReader)
 any_draft label [] = refl
 any_draft label (block ∷ blocks) = ap (λ (others : Bool). label_is label block.label || others) (any_draft label blocks)
 
-place_label : (label : List ℕ) (drafts : List Draft)
+position_label : (label : List ℕ) (drafts : List Draft)
     → position_or_len (λ other. label_is label other) (map (λ draft. draft.label) drafts)
     ≡ position_or_len (λ draft. label_is label draft.label) drafts
-place_label label [] = refl
-place_label label (draft ∷ drafts) = rw (place_label label drafts) refl
+position_label label [] = refl
+position_label label (draft ∷ drafts) = rw (position_label label drafts) refl
 
 -- the number of a block by the labels of all
 pub number_is : (drafts : List Draft) (target : Option Name) → number_among (map (λ draft. draft.label) drafts) target ≡ target_number drafts target
 number_is drafts None = refl
-number_is drafts (Some label) = rw (place_label label drafts, length-map drafts (λ (draft : Draft). draft.label)) refl
+number_is drafts (Some label) = rw (position_label label drafts, length-map drafts (λ (draft : Draft). draft.label)) refl

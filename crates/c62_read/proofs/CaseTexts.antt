@@ -4,11 +4,11 @@ use Rattle.c62_read.specs.declared.fault.Cause.{Cause}
 use Rattle.c62_read.specs.Text.{lines_of}
 use Rattle.c62_read.specs.Kind.{Word}
 use Rattle.c62_read.specs.Line.{Parts, Says, Nothing, Pause, Does, Jumps, head_of, line_of, rest_says, with_head, with_rest}
-use Rattle.c62_read.specs.Program.{Name, fault_in, place_of}
+use Rattle.c62_read.specs.Program.{Name, fault_in, label_field}
 use Rattle.c62_read.specs.Laws.{AreRecased, CaseChangesNothing, IsRecased, small_labels, small_says, target_in}
 use Rattle.c62_read.proofs.AlikeLaws.{AreAlike, IsAlike, alike_programs}
 use Rattle.c62_read.proofs.CaseLaws.{Head, SameHead, head_same, label_in, line_same, says_in}
-use Rattle.c62_read.proofs.PlaceLemmas.{place_is}
+use Rattle.c62_read.proofs.LabelFields.{field_is}
 
 abbrev Said : Type 0
 Said = Result (Option Word × Says) Cause
@@ -21,31 +21,31 @@ head_fault (Err cause) (Err other) same = ap (λ (c : Cause). Some c) same
 head_fault (Ok front) (Err other) same = absurd same
 head_fault (Err cause) (Ok other) same = absurd same
 
--- ---- a line's label is that in its label's place
+-- ---- a line's label is that in its label field
 
 rest_label : (line : List ℕ) (own : Option Word) (words : List Word) (read : Result Says Cause) (label : Option Word) (says : Says)
     → head_of line ≡ Ok (own, words)
-    → with_rest own read ≡ Ok (label, says) → place_of line ≡ label
-rest_label line own words (Ok made) label says head e = place_is line own words head ∙ ap label_in e
+    → with_rest own read ≡ Ok (label, says) → label_field line ≡ label
+rest_label line own words (Ok made) label says head e = field_is line own words head ∙ ap label_in e
 rest_label line own words (Err cause) label says head e = absurd cc
 
 head_label : (line : List ℕ) (head : Head) (label : Option Word) (says : Says) → head_of line ≡ head → with_head head ≡ Ok (label, says)
-    → place_of line ≡ label
+    → label_field line ≡ label
 head_label line (Ok (own, words)) label says e said = rest_label line own words (rest_says words) label says e said
 head_label line (Err cause) label says e said = absurd cc
 
-label_place : (line : List ℕ) (label : Option Word) (says : Says) → line_of line ≡ Ok (label, says) → place_of line ≡ label
+line_field : (line : List ℕ) (label : Option Word) (says : Says) → line_of line ≡ Ok (label, says) → label_field line ≡ label
 unfolding line_of
-label_place line label says e = head_label line (head_of line) label says refl e
+line_field line label says e = head_label line (head_of line) label says refl e
 
 labels_same : (line other : List ℕ) (first second : Said) → line_of line ≡ first → line_of other ≡ second → small_labels first ≡ small_labels second
-    → place_of line ≡ place_of other
+    → label_field line ≡ label_field other
     → label_in first ≡ label_in second
-labels_same line other (Ok (label, says)) (Ok (name, made)) e f same place = sym (label_place line label says e) ∙ place
-    ∙ label_place other name made f
-labels_same line other (Err cause) (Err reason) e f same place = refl
-labels_same line other (Ok (label, says)) (Err reason) e f same place = absurd cc
-labels_same line other (Err cause) (Ok (name, made)) e f same place = absurd cc
+labels_same line other (Ok (label, says)) (Ok (name, made)) e f same field = sym (line_field line label says e) ∙ field
+    ∙ line_field other name made f
+labels_same line other (Err cause) (Err reason) e f same field = refl
+labels_same line other (Ok (label, says)) (Err reason) e f same field = absurd cc
+labels_same line other (Err cause) (Ok (name, made)) e f same field = absurd cc
 
 -- ---- what is said with the same labels
 
@@ -84,14 +84,14 @@ said_same (Err cause) (Err reason) small labels targets = cc
 said_same (Ok (label, says)) (Err reason) small labels targets = absurd cc
 said_same (Err cause) (Ok (name, made)) small labels targets = absurd cc
 
-alike : (line other : List ℕ) → IsRecased 32 line other → place_of line ≡ place_of other → target_in (line_of line) ≡ target_in (line_of other)
+alike : (line other : List ℕ) → IsRecased 32 line other → label_field line ≡ label_field other → target_in (line_of line) ≡ target_in (line_of other)
     → IsAlike line other
-alike line other same place targets =
+alike line other same field targets =
     let small = line_same 32 line other same in
     record {
       head = head_fault (head_of line) (head_of other) (head_same 32 line other same);
-      place = place;
-      said = said_same (line_of line) (line_of other) small (labels_same line other (line_of line) (line_of other) refl refl small place) targets;
+      field = field;
+      said = said_same (line_of line) (line_of other) small (labels_same line other (line_of line) (line_of other) refl refl small field) targets;
     }
 
 all_alike : (lines others : List (List ℕ)) → AreRecased lines others → AreAlike lines others

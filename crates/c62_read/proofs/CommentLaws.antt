@@ -11,7 +11,7 @@ use Rattle.c62_read.specs.Text.{begins, is_allowed, lines_of, tokens}
 use Rattle.c62_read.specs.Number.{is_label, spells}
 use Rattle.c62_read.specs.Kind.{Word}
 use Rattle.c62_read.specs.Line.{Nothing, head_of, is_bars, is_star, label_front, line_of, rest_says, with_head, without_colon}
-use Rattle.c62_read.specs.Program.{fault_in, place_of}
+use Rattle.c62_read.specs.Program.{fault_in, label_field}
 use Rattle.c62_read.specs.Laws.{AreUncommented, Behind, CommentSaysNothing, CommentsSayNothing, IsReadable, IsUncommented, Same, StarSaysNothing}
 use Rattle.c62_read.specs.Laws.{Whole}
 use Rattle.c62_read.proofs.CommentLemmas.{tokens-comment}
@@ -56,13 +56,13 @@ pub star_is : (line : List ℕ) → begins is_star line ≡ true → (rest : Lis
 star_is [] star = absurd cc
 star_is (b ∷ rest) star = (rest, ap (λ (c : ℕ). c ∷ rest) (eqb-true b 42 star))
 
-pub star_place : (rest : List ℕ) → place_of (42 ∷ rest) ≡ None
-unfolding place_of
-star_place rest = ap (λ (words : List Word). (label_front words).0) (mark_alone 42 rest refl) ∙ star_front (tokens rest)
+pub star_field : (rest : List ℕ) → label_field (42 ∷ rest) ≡ None
+unfolding label_field
+star_field rest = ap (λ (words : List Word). (label_front words).0) (mark_alone 42 rest refl) ∙ star_front (tokens rest)
 
 pub star_nothing : (line : List ℕ) → IsReadable line → IsTrue (begins is_star line) → StarSaysNothing line
 star_nothing line readable star =
-    let split = star_is line star in (star_line line readable star, ap place_of split.1 ∙ star_place split.0)
+    let split = star_is line star in (star_line line readable star, ap label_field split.1 ∙ star_field split.0)
 
 -- ---- behind a semicolon
 
@@ -84,12 +84,12 @@ comment_line : (line rest : List ℕ) → IsReadable (line ++ 59 ∷ rest) → l
 unfolding line_of
 comment_line line rest readable = ap with_head (comment_head line rest readable)
 
-comment_place : (line rest : List ℕ) → place_of (line ++ 59 ∷ rest) ≡ place_of line
-unfolding place_of
-comment_place line rest = ap (λ (words : List Word). (label_front words).0) (tokens-comment line rest)
+comment_field : (line rest : List ℕ) → label_field (line ++ 59 ∷ rest) ≡ label_field line
+unfolding label_field
+comment_field line rest = ap (λ (words : List Word). (label_front words).0) (tokens-comment line rest)
 
 pub comment_nothing : (line rest : List ℕ) → IsReadable (line ++ 59 ∷ rest) → CommentSaysNothing line rest
-comment_nothing line rest readable = (comment_line line rest readable, comment_place line rest)
+comment_nothing line rest readable = (comment_line line rest readable, comment_field line rest)
 
 -- ---- lines without their comments
 
@@ -97,23 +97,23 @@ empty_head : head_of [] ≡ Ok (None, [])
 unfolding head_of label_front
 empty_head = refl
 
-empty_place : place_of [] ≡ None
-unfolding place_of label_front
-empty_place = refl
+empty_field : label_field [] ≡ None
+unfolding label_field label_front
+empty_field = refl
 
-by_head : (line other : List ℕ) → head_of line ≡ head_of other → place_of line ≡ place_of other → IsAlike line other
+by_head : (line other : List ℕ) → head_of line ≡ head_of other → label_field line ≡ label_field other → IsAlike line other
 unfolding line_of
-by_head line other head place = record { head = ap fault_in head; place = place; said = ap with_head head }
+by_head line other head field = record { head = ap fault_in head; field = field; said = ap with_head head }
 
 alike : (line other : List ℕ) → IsUncommented line other → IsAlike line other
-alike line other (Same e) = by_head line other (ap head_of e) (ap place_of e)
+alike line other (Same e) = by_head line other (ap head_of e) (ap label_field e)
 alike line other (Behind rest e readable) =
     let there : IsReadable (other ++ 59 ∷ rest) = subst IsReadable e readable in
-    by_head line other (ap head_of e ∙ comment_head other rest there) (ap place_of e ∙ comment_place other rest)
+    by_head line other (ap head_of e ∙ comment_head other rest there) (ap label_field e ∙ comment_field other rest)
 alike line other (Whole rest e f readable) =
     let star : begins is_star line ≡ true = ap (begins is_star) e in
     by_head line other (star_head line readable star ∙ sym (ap head_of f ∙ empty_head))
-    (ap place_of e ∙ star_place rest ∙ sym (ap place_of f ∙ empty_place))
+    (ap label_field e ∙ star_field rest ∙ sym (ap label_field f ∙ empty_field))
 
 all_alike : (lines others : List (List ℕ)) → AreUncommented lines others → AreAlike lines others
 all_alike [] [] same = tt

@@ -1,4 +1,4 @@
--- What the reader puts in place of what was written does the same.
+-- What the reader puts for what was written does the same.
 use Rattle.std.proofs.Common.{◌≡◌, ℕ, ◌+◌, ◌-◌, ◌*◌, ◌<◌, ◌%◌, ◌^◌, Bool, cond, eqb, Option, Some, None, refl, sym, ap, subst, ◌∙◌, arith, inl, inr}
 use Rattle.std.specs.Prelude.{ℤ, pos, ◌*ℤ◌}
 use Rattle.std.proofs.Math.IntN.{*ℤ_comm}

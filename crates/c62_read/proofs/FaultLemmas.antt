@@ -10,7 +10,7 @@ use Rattle.c62_read.specs.declared.fault.Cause.{Cause}
 use Rattle.c62_read.specs.declared.fault.Cause.TheVariants.{DuplicateLabel, UnknownTarget, TooManyInstructions, TooManyBlocks}
 use Rattle.c62_read.specs.Line.{Parts, Says, Nothing, Pause, Does, Jumps, head_of, line_of, rest_says, with_head, with_rest}
 use Rattle.c62_read.specs.Program.{Name, fault_if, fault_of, first_fault, first_of, is_among, items_from, labels_of, line_items, misses_label}
-use Rattle.c62_read.specs.Program.{place_of, repeats_label, says_items}
+use Rattle.c62_read.specs.Program.{label_field, repeats_label, says_items}
 use Rattle.c62_read.proofs.CutLemmas.{AllFit, all_fit}
 use Rattle.c62_read.proofs.SaysLemmas.{proper}
 
@@ -123,17 +123,17 @@ distinct_more (first ∷ labels) label distinct new =
     let parts = or_parts (bytes_eq first label) (is_among label labels) new in
     (all_more first labels label distinct.0 parts.0, distinct_more labels label distinct.1 parts.1)
 
-distinct_place : (labels : List Name) (place : Option Name) → IsDistinct bytes_eq labels
-    → list_any (λ label. is_among label labels) (option_to_list place) ≡ false
-    → IsDistinct bytes_eq (labels ++ option_to_list place)
-distinct_place labels None distinct fresh = subst (IsDistinct bytes_eq) (sym (append-nil labels)) distinct
-distinct_place labels (Some label) distinct fresh = distinct_more labels label distinct (or_parts (is_among label labels) false fresh).0
+distinct_field : (labels : List Name) (field : Option Name) → IsDistinct bytes_eq labels
+    → list_any (λ label. is_among label labels) (option_to_list field) ≡ false
+    → IsDistinct bytes_eq (labels ++ option_to_list field)
+distinct_field labels None distinct fresh = subst (IsDistinct bytes_eq) (sym (append-nil labels)) distinct
+distinct_field labels (Some label) distinct fresh = distinct_more labels label distinct (or_parts (is_among label labels) false fresh).0
 
-pub labels_more : (before : List (List ℕ)) (line : List ℕ) → labels_of (before ++ line ∷ []) ≡ labels_of before ++ option_to_list (place_of line)
-labels_more [] line = append-nil (option_to_list (place_of line))
+pub labels_more : (before : List (List ℕ)) (line : List ℕ) → labels_of (before ++ line ∷ []) ≡ labels_of before ++ option_to_list (label_field line)
+labels_more [] line = append-nil (option_to_list (label_field line))
 labels_more (first ∷ before) line =
-    ap (λ (labels : List Name). option_to_list (place_of first) ++ labels) (labels_more before line)
-    ∙ sym (append_assoc (option_to_list (place_of first)) (labels_of before) (option_to_list (place_of line)))
+    ap (λ (labels : List Name). option_to_list (label_field first) ++ labels) (labels_more before line)
+    ∙ sym (append_assoc (option_to_list (label_field first)) (labels_of before) (option_to_list (label_field line)))
 
 pub distinct_labels : (labels : List Name) (lines before : List (List ℕ)) → first_fault labels before lines ≡ None
     → IsDistinct bytes_eq (labels_of before)
@@ -142,6 +142,6 @@ distinct_labels labels [] before none distinct = subst (λ (ls : List (List ℕ)
 distinct_labels labels (line ∷ lines) before none distinct =
     let here = clean labels before line lines none in
     let more : IsDistinct bytes_eq (labels_of (before ++ line ∷ [])) =
-    subst (IsDistinct bytes_eq) (sym (labels_more before line)) (distinct_place (labels_of before) (place_of line) distinct here.fresh) in
+    subst (IsDistinct bytes_eq) (sym (labels_more before line)) (distinct_field (labels_of before) (label_field line) distinct here.fresh) in
     subst (λ (ls : List (List ℕ)). IsDistinct bytes_eq (labels_of ls)) (append_assoc before (line ∷ []) lines)
     (distinct_labels labels lines (before ++ line ∷ []) here.others more)

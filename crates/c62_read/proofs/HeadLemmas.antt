@@ -11,7 +11,7 @@ use Rattle.c62_read.specs.Text.{begins, is_allowed, is_solid, tokens}
 use Rattle.c62_read.specs.Number.{spells}
 use Rattle.c62_read.specs.Kind.{Word}
 use Rattle.c62_read.specs.Line.{Says, Nothing, has_colon, head_of, is_bars, is_star, label_front, line_of, rest_says, without_colon}
-use Rattle.c62_read.specs.Program.{place_of}
+use Rattle.c62_read.specs.Program.{label_field}
 use Rattle.c62_read.specs.Walk.{Drafts, add_line, hindrance, is_taken, with_says}
 use Rattle.c62_read.proofs.ColonLemmas.{begins_with, colons}
 use Rattle.c62_read.proofs.SpelledTokens.{is_text}
@@ -87,9 +87,9 @@ head_without_colon line none =
     let colon = no_colon_at_all line none in
     ap without_colon (no_label (tokens line) colon) ∙ rw colon refl
 
-pub plain_place : (line : List ℕ) → list_any (λ b. eqb b 58) line ≡ false → place_of line ≡ None
-unfolding place_of
-plain_place line none = ap (λ (front : Option Word × List Word). front.0) (no_label (tokens line) (no_colon_at_all line none))
+pub plain_field : (line : List ℕ) → list_any (λ b. eqb b 58) line ≡ false → label_field line ≡ None
+unfolding label_field
+plain_field line none = ap (λ (front : Option Word × List Word). front.0) (no_label (tokens line) (no_colon_at_all line none))
 
 -- ---- bars
 

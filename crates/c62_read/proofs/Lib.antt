@@ -9,7 +9,7 @@ pub mod MissedLemmas
 pub mod ReadingLemmas
 pub mod AddedLemmas
 pub mod SoundLemmas
-pub mod PlaceLemmas
+pub mod LabelFields
 pub mod TargetLemmas
 pub mod WalkLemmas
 pub mod BytesLemmas

@@ -9,7 +9,7 @@ use Rattle.std.proofs.lemmas.List.{length-drop, take_all}
 use Rattle.std.proofs.lemmas.List.Quantifiers.{position-Some}
 use Rattle.std.proofs.lemmas.List.Sums.{split_at_first}
 use Rattle.c62_read.specs.Text.{grow, is_line_feed, lines_of, without_return}
-use Rattle.c62_read.proofs.StepLemmas.{place_later}
+use Rattle.c62_read.proofs.StepLemmas.{position_later}
 
 -- a line is without the carriage return that stands last
 pub without_last : (rest : List ℕ) (b : ℕ) → without_return (rest ++ b ∷ []) ≡ (if eqb b 13 then rest else (rest ++ b ∷ []))
@@ -89,8 +89,8 @@ none_before : (text : List ℕ) → has_no_feed (before_first is_line_feed text)
 none_before [] = refl
 none_before (b ∷ text) = none_more b text (is_line_feed b) refl (none_before text)
 
-place_is : (text : List ℕ) (k : ℕ) → position is_line_feed text ≡ Some k → (position_or_len is_line_feed text ≡ k) × (k < length text)
-place_is text k is = go (nat_lt (position_or_len is_line_feed text) (length text)) refl is
+position_is : (text : List ℕ) (k : ℕ) → position is_line_feed text ≡ Some k → (position_or_len is_line_feed text ≡ k) × (k < length text)
+position_is text k is = go (nat_lt (position_or_len is_line_feed text) (length text)) refl is
   where
     go : (within : Bool) → nat_lt (position_or_len is_line_feed text) (length text) ≡ within
         → (if within then Some (position_or_len is_line_feed text) else None) ≡ Some k
@@ -102,13 +102,13 @@ place_is text k is = go (nat_lt (position_or_len is_line_feed text) (length text
 pub first_is : (text : List ℕ) (k : ℕ) → position is_line_feed text ≡ Some k
     → lines_of text ≡ without_return (take k text) ∷ lines_of (drop (k + 1) text)
 first_is text k is =
-    let place = position_or_len is_line_feed text in
-    let parts = place_is text k is in
-    let less : place < length text = omega (arith, parts.0, parts.1) in
-    let feed : get_or text place 0 ≡ 10 = rw parts.0 (eqb-true (get_or text k 0) 10 (position-Some is_line_feed text k 0 is).1) in
-    let split : text ≡ take place text ++ 10 ∷ drop (place + 1) text =
-    split_at_first is_line_feed text 0 less ∙ ap (λ (b : ℕ). take place text ++ b ∷ drop (place + 1) text) feed in
-    ap lines_of split ∙ before_feed (take place text) (drop (place + 1) text) (none_before text)
+    let index = position_or_len is_line_feed text in
+    let parts = position_is text k is in
+    let less : index < length text = omega (arith, parts.0, parts.1) in
+    let feed : get_or text index 0 ≡ 10 = rw parts.0 (eqb-true (get_or text k 0) 10 (position-Some is_line_feed text k 0 is).1) in
+    let split : text ≡ take index text ++ 10 ∷ drop (index + 1) text =
+    split_at_first is_line_feed text 0 less ∙ ap (λ (b : ℕ). take index text ++ b ∷ drop (index + 1) text) feed in
+    ap lines_of split ∙ before_feed (take index text) (drop (index + 1) text) (none_before text)
     ∙ ap (λ (n : ℕ). without_return (take n text) ∷ lines_of (drop (n + 1) text)) parts.0
 
 past_is : (text : List ℕ) → position is_line_feed text ≡ None → length text ≤ position_or_len is_line_feed text
@@ -133,15 +133,15 @@ only_is (b ∷ text) some is = at_end b text (none_is (b ∷ text) is)
 pub later_is : (text : List ℕ) (n k : ℕ) → n ≤ length text → list_any is_line_feed (take n text) ≡ false
     → position is_line_feed (drop n text) ≡ Some k → position is_line_feed text ≡ Some (n + k)
 later_is text n k within none is =
-    let parts = place_is (drop n text) k is in
-    let place : position_or_len is_line_feed text ≡ n + k = omega (arith, place_later is_line_feed n text none within, parts.0) in
-    let less : position_or_len is_line_feed text < length text = omega (arith, place, parts.1, length-drop n text) in
-    rw (lt-ltb (position_or_len is_line_feed text) (length text) less) (ap (λ (i : ℕ). Some i) place)
+    let parts = position_is (drop n text) k is in
+    let index : position_or_len is_line_feed text ≡ n + k = omega (arith, position_later is_line_feed n text none within, parts.0) in
+    let less : position_or_len is_line_feed text < length text = omega (arith, index, parts.1, length-drop n text) in
+    rw (lt-ltb (position_or_len is_line_feed text) (length text) less) (ap (λ (i : ℕ). Some i) index)
 
 pub later_none : (text : List ℕ) (n : ℕ) → n ≤ length text → list_any is_line_feed (take n text) ≡ false
     → position is_line_feed (drop n text) ≡ None → position is_line_feed text ≡ None
 later_none text n within none is =
     let past : length (drop n text) ≤ position_or_len is_line_feed (drop n text) = past_is (drop n text) is in
     let more : length text ≤ position_or_len is_line_feed text =
-    omega (arith, place_later is_line_feed n text none within, past, length-drop n text) in
+    omega (arith, position_later is_line_feed n text none within, past, length-drop n text) in
     rw (le-ltb (position_or_len is_line_feed text) (length text) more) refl

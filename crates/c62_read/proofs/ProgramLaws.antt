@@ -127,7 +127,7 @@ has_rising_lines text blocks e =
 
 abbrev ReadsAt : (Name → ℕ) → ℕ → List (List ℕ) → Numbered → Type 0
 ReadsAt aim n lines entry =
-    (place : ℕ) × (line : List ℕ) × (entry.line ≡ place + n) × (slice_get lines place ≡ Some line) ×
+    (index : ℕ) × (line : List ℕ) × (entry.line ≡ index + n) × (slice_get lines index ≡ Some line) ×
     (instruction_at aim entry.line (line_of line) ≡ entry ∷ [])
 
 only_one : (made entry : Numbered) → Contains (made ∷ []) entry → made ≡ entry
@@ -170,25 +170,25 @@ reads_as_its_line text blocks entry e among =
     read_at (block_named blocks) 1 (lines_of text) entry
     (subst (λ (entries : List Numbered). Contains entries entry) (is_its_lines text blocks e) among)
 
--- ---- a place for a label
+-- ---- the number of a label's block
 
-place_within : (target : Name) (drafts : List Draft) → has_label target drafts ≡ true
+label_within : (target : Name) (drafts : List Draft) → has_label target drafts ≡ true
     → position_or_len (λ draft. label_is target draft.label) drafts < length drafts
-place_within target [] has = absurd cc
-place_within target (draft ∷ drafts) has =
+label_within target [] has = absurd cc
+label_within target (draft ∷ drafts) has =
     elim (cases_Bool (label_is target draft.label)) [
       | inl here ↦ rw here (omega arith)
       | inr other ↦
           let later : has_label target drafts ≡ true = rw other at has in
-          let within = place_within target drafts later in
+          let within = label_within target drafts later in
           rw other (omega arith)
     ]
 
 found : (target : Name) (drafts : List Draft) → has_label target drafts ≡ true
     → (number : ℕ) × (position (λ draft. label_is target draft.label) drafts ≡ Some number)
 found target drafts has =
-    let place = position_or_len (λ (draft : Draft). label_is target draft.label) drafts in
-    (place, rw (lt-ltb place (length drafts) (place_within target drafts has)) refl)
+    let index = position_or_len (λ (draft : Draft). label_is target draft.label) drafts in
+    (index, rw (lt-ltb index (length drafts) (label_within target drafts has)) refl)
 
 pub has_targets : (text : List ℕ) → HasTargets text
 has_targets text blocks line label parts target e among jumps =

@@ -32,18 +32,18 @@ program_is_cut text blocks e =
 
 -- ---- targets
 
-place_block : (label : Name) (all drafts : List Draft)
+position_block_label : (label : Name) (all drafts : List Draft)
     → position_or_len (λ block. label_is label block.label) (map (block_in all) drafts) ≡ position_or_len (λ draft. label_is label draft.label) drafts
-place_block label all [] = refl
-place_block label all (draft ∷ drafts) = rw (place_block label all drafts) refl
+position_block_label label all [] = refl
+position_block_label label all (draft ∷ drafts) = rw (position_block_label label all drafts) refl
 
 pub position_block : (label : Name) (all drafts : List Draft)
     → position (λ block. label_is label block.label) (map (block_in all) drafts) ≡ position (λ draft. label_is label draft.label) drafts
-position_block label all drafts = rw (place_block label all drafts, length-map drafts (block_in all)) refl
+position_block label all drafts = rw (position_block_label label all drafts, length-map drafts (block_in all)) refl
 
 pub target_is : (all : List Draft) (target : Option Name) → target_number all target ≡ aim_at (block_named (map (block_in all) all)) target
 target_is all None = refl
-target_is all (Some label) = ap (λ (place : Option ℕ). unwrap_or place 0) (sym (position_block label all all))
+target_is all (Some label) = ap (λ (found : Option ℕ). unwrap_or found 0) (sym (position_block label all all))
 
 pub block_target : (all : List Draft) (label : Name) → target_number all (Some label) ≡ block_named (map (block_in all) all) label
 block_target all label = target_is all (Some label)

@@ -7,7 +7,7 @@ use Rattle.c62_read.specs.declared.fault.Cause.{Cause}
 use Rattle.c62_read.specs.declared.fault.Cause.TheVariants.{TextTooLong}
 use Rattle.c62_read.specs.declared.fault.ReadFault.{ReadFault}
 use Rattle.c62_read.specs.Text.{lines_of}
-use Rattle.c62_read.specs.Program.{Name, BlockParts, Refusal, Fails, and_then, block_in, drafts_in, labels_of, place_of, program_in}
+use Rattle.c62_read.specs.Program.{Name, BlockParts, Refusal, Fails, and_then, block_in, drafts_in, labels_of, label_field, program_in}
 use Rattle.c62_read.specs.Walk.{Asked, Drafts, add_line, add_lines, all_drafts, asked_in, at_line, first_line, missed, no_drafts, own_labels}
 use Rattle.c62_read.specs.Walk.{unless_missed}
 use Rattle.c62_read.proofs.AddedLemmas.{added_is}
@@ -49,7 +49,7 @@ module _ (labels : List Name) (number : ℕ) (line : List ℕ) (lines all : List
       → own_labels (all_drafts new) ++ labels_of lines ≡ own_labels (all_drafts old) ++ labels_of all
   labels_stay new added =
       ap (λ (labels : List Name). labels ++ labels_of lines) (own_added number line old new (added_is number line old new added))
-      ∙ append_assoc (own_labels (all_drafts old)) (option_to_list (place_of line)) (labels_of lines)
+      ∙ append_assoc (own_labels (all_drafts old)) (option_to_list (label_field line)) (labels_of lines)
       ∙ ap (λ (ls : List (List ℕ)). own_labels (all_drafts old) ++ labels_of ls) (sym first)
 
 pub is_done : (labels : List Name) (number : ℕ) (lines : List (List ℕ)) (drafts : Drafts) → lines ≡ []

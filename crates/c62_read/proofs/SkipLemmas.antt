@@ -7,7 +7,7 @@ use Rattle.std.proofs.lemmas.List.{take-append-drop}
 use Rattle.std.proofs.Math.Seq.{drop-cons}
 use Rattle.c62_read.specs.Text.{begins, is_line_feed, lines_of}
 use Rattle.c62_read.specs.Program.{labels_of}
-use Rattle.c62_read.proofs.HeadLemmas.{plain_place}
+use Rattle.c62_read.proofs.HeadLemmas.{plain_field}
 
 abbrev has_colon_byte : List ℕ → Bool
 has_colon_byte bytes = list_any (λ b. eqb b 58) bytes
@@ -51,12 +51,12 @@ labels_plain : (lines others : List (List ℕ)) → list_all (λ l. not (has_col
 labels_plain [] others plain = refl
 labels_plain (line ∷ lines) others plain =
     let parts = and_parts (not (has_colon_byte line)) (list_all (λ l. not (has_colon_byte l)) lines) plain in
-    rw (plain_place line (not-true (has_colon_byte line) parts.0)) (labels_plain lines others parts.1)
+    rw (plain_field line (not-true (has_colon_byte line) parts.0)) (labels_plain lines others parts.1)
 
 labels_behind : (front rest : List ℕ) → has_colon_byte front ≡ false → labels_of (lines_of (front ++ 10 ∷ rest)) ≡ labels_of (lines_of rest)
 labels_behind front rest none =
     let s = skipped front rest none in
-    ap labels_of s.is ∙ rw (plain_place s.line s.plain) (labels_plain s.lines (lines_of rest) s.others)
+    ap labels_of s.is ∙ rw (plain_field s.line s.plain) (labels_plain s.lines (lines_of rest) s.others)
 
 none_in_fewer : (test : ℕ → Bool) (n m : ℕ) (bytes : List ℕ) → n ≤ m → list_any test (take m bytes) ≡ false → list_any test (take n bytes) ≡ false
 none_in_fewer test zero m bytes less none = refl

@@ -9,11 +9,11 @@ use Rattle.std.proofs.lemmas.List.Sums.{prefix_len-le-length}
 use Rattle.std.proofs.lemmas.List.Folds.{list_all-append}
 
 module _ (test : ℕ → Bool) where
-  pub place_later : (n : ℕ) (text : List ℕ) → list_any test (take n text) ≡ false → n ≤ length text
+  pub position_later : (n : ℕ) (text : List ℕ) → list_any test (take n text) ≡ false → n ≤ length text
       → position_or_len test text ≡ n + position_or_len test (drop n text)
-  place_later zero text none within = omega arith
-  place_later (suc n) [] none within = absurd (omega arith)
-  place_later (suc n) (b ∷ text) none within = go (test b) none (place_later n text)
+  position_later zero text none within = omega arith
+  position_later (suc n) [] none within = absurd (omega arith)
+  position_later (suc n) (b ∷ text) none within = go (test b) none (position_later n text)
     where
       go : (feed : Bool) → (feed || list_any test (take n text)) ≡ false
           → (list_any test (take n text) ≡ false → n ≤ length text
@@ -41,7 +41,7 @@ module _ (test : ℕ → Bool) where
 
   pub near_feed : (text : List ℕ) (n k : ℕ) → n ≤ length text → list_any test (take n text) ≡ false
       → list_any test (take k (drop n text)) ≡ true → position_or_len test text < n + k
-  near_feed text n k within none some = omega (arith, place_later n text none within, within_next k (drop n text) some)
+  near_feed text n k within none some = omega (arith, position_later n text none within, within_next k (drop n text) some)
 
   pub near_end : (text : List ℕ) (n k : ℕ) → length text - n < k → position_or_len test text < n + k
   near_end text n k short = omega (arith, prefix_len-le-length (λ (b : ℕ). not (test b)) text)

@@ -47,15 +47,15 @@ number_labelled : (label : Name) (drafts : List Draft) → has_label label draft
     → is_labelled (slice_get (map (λ draft. draft.label) drafts) (target_number drafts (Some label))) ≡ true
 number_labelled label drafts has =
     let labels : List (Option Name) = map (λ (draft : Draft). draft.label) drafts in
-    let place : ℕ = position_or_len (λ (draft : Draft). label_is label draft.label) drafts in
-    let found : is_labelled (slice_get labels place) ≡ true =
-    ap is_labelled (slice_get-map (λ (draft : Draft). draft.label) drafts place)
+    let index : ℕ = position_or_len (λ (draft : Draft). label_is label draft.label) drafts in
+    let found : is_labelled (slice_get labels index) ≡ true =
+    ap is_labelled (slice_get-map (λ (draft : Draft). draft.label) drafts index)
     ∙ ap (λ (at : Option Draft). is_labelled (option_map (λ (draft : Draft). draft.label) at))
     (sym (find_at (λ (draft : Draft). label_is label draft.label) drafts))
     ∙ labelled_first label drafts has in
-    let near : place < length labels = within_by labels place (slice_get labels place) refl found in
-    let less : place < length drafts = omega (arith, near, length-map drafts (λ (draft : Draft). draft.label)) in
-    rw (lt-ltb place (length drafts) less) found
+    let near : index < length labels = within_by labels index (slice_get labels index) refl found in
+    let less : index < length drafts = omega (arith, near, length-map drafts (λ (draft : Draft). draft.label)) in
+    rw (lt-ltb index (length drafts) less) found
 
 -- ---- the blocks that are made of the drafts
 
@@ -140,7 +140,7 @@ targets_read lines blocks none made =
     let drafts : List (Option Name) = map (λ (draft : Draft). draft.label) all in
     let labels : labels_in blocks ≡ drafts = labels_of_parts blocks ∙ ap (map (λ (part : BlockParts). part.label)) made ∙ labels_of_drafts all all in
     let aims : (name : Name) → is_among name (labels_of lines) ≡ true → is_labelled (slice_get drafts (block_named named name)) ≡ true =
-    λ name known. ap (λ (place : ℕ). is_labelled (slice_get drafts place)) (sym (block_target all name)) ∙ known_labelled lines none name known in
+    λ name known. ap (λ (index : ℕ). is_labelled (slice_get drafts index)) (sym (block_target all name)) ∙ known_labelled lines none name known in
     let stand : list_all (item_stands drafts) (map (settled (block_named named)) (items_from 1 lines)) ≡ true =
     all_stand drafts (labels_of lines) (block_named named) aims (items_from 1 lines) (items_fit (labels_of lines) lines [] 1 none) in
     blocks_stand (labels_in blocks) blocks

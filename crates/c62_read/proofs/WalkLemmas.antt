@@ -13,7 +13,7 @@ use Rattle.c62_read.specs.declared.fault.Cause.TheVariants.{DuplicateLabel, Unkn
 use Rattle.c62_read.specs.Line.{Parts, Says, Nothing, Pause, Does, Jumps, is_branch, head_of, line_of, rest_says}
 use Rattle.c62_read.specs.Program.{Name, Numbered, Item, Runs, Draft, Refusal, and_then, blocks_from, cut, fault_if, fault_in, fault_of, first_fault}
 use Rattle.c62_read.specs.Program.{first_of, glue, is_among, is_overfull, items_from, joined, label_is, label_items, labels_of, line_items}
-use Rattle.c62_read.specs.Program.{misses_label, piece_of, place_of, repeats_label, says_items, unless_refused}
+use Rattle.c62_read.specs.Program.{misses_label, piece_of, label_field, repeats_label, says_items, unless_refused}
 use Rattle.c62_read.specs.Walk.{is_whole, Drafts, add_head, add_line, add_lines, add_says, all_drafts, at_line, begins_block, closed, hindrance}
 use Rattle.c62_read.specs.Walk.{is_full, is_instruction, is_taken, is_unknown, new_draft, no_drafts, opened, own_labels, refused, Step}
 use Rattle.c62_read.specs.Walk.{unless_hindered, with_insn, with_label, with_says}
@@ -21,7 +21,7 @@ use Rattle.c62_read.proofs.AddedLemmas.{IsAdded, added_is, clear_parts, few_adde
 use Rattle.c62_read.proofs.HeadLemmas.{line_by_head}
 use Rattle.c62_read.proofs.CutLemmas.{all_whole, cut_ends, ends_last}
 use Rattle.c62_read.proofs.FaultLemmas.{labels_more}
-use Rattle.c62_read.proofs.PlaceLemmas.{place_is}
+use Rattle.c62_read.proofs.LabelFields.{field_is}
 
 -- ---- the open block in front of blocks
 
@@ -230,11 +230,11 @@ label_keeps None drafts = sym (append-nil (own_labels (all_drafts drafts)))
 label_keeps (Some new) drafts = one_own (all_drafts drafts) (new_draft (Some new))
 
 pub own_added : (number : ℕ) (line : List ℕ) (old new : Drafts) → IsAdded number line old new
-    → own_labels (all_drafts new) ≡ own_labels (all_drafts old) ++ option_to_list (place_of line)
+    → own_labels (all_drafts new) ≡ own_labels (all_drafts old) ++ option_to_list (label_field line)
 own_added number line old new added =
     ap (λ (drafts : Drafts). own_labels (all_drafts drafts)) added.is ∙ says_keeps number added.says (with_label added.label old)
     ∙ label_keeps added.label old
-    ∙ ap (λ (label : Option Name). own_labels (all_drafts old) ++ option_to_list label) (sym (place_is line added.label added.words added.head))
+    ∙ ap (λ (label : Option Name). own_labels (all_drafts old) ++ option_to_list label) (sym (field_is line added.label added.words added.head))
 
 chain : (unknown full many : Bool)
     → first_of (fault_if unknown UnknownTarget ∷ fault_if full TooManyInstructions ∷ fault_if many TooManyBlocks ∷ [])
@@ -256,10 +256,10 @@ module _ (before : List (List ℕ)) (line : List ℕ) (old : Drafts) (stands : S
   -- the line's label is an earlier one's where the reader has it
   taken_is : repeats_label (labels_of before) line ≡ is_taken label old
   unfolding is_taken
-  taken_is = ap (λ (place : Option Name). list_any (λ (l : Name). is_among l (labels_of before)) (option_to_list place))
-      (place_is line label words head) ∙ go label
+  taken_is = ap (λ (field : Option Name). list_any (λ (l : Name). is_among l (labels_of before)) (option_to_list field))
+      (field_is line label words head) ∙ go label
     where
-      go : (place : Option Name) → list_any (λ (l : Name). is_among l (labels_of before)) (option_to_list place) ≡ is_taken place old
+      go : (field : Option Name) → list_any (λ (l : Name). is_among l (labels_of before)) (option_to_list field) ≡ is_taken field old
       go None = refl
       go (Some name) =
           or_false (is_among name (labels_of before)) ∙ sym (has_own name (all_drafts old) ∙ ap (is_among name) stands.labels)
@@ -309,7 +309,7 @@ module _ (before : List (List ℕ)) (line : List ℕ) (old : Drafts) (stands : S
     own_more =
         says_keeps number says (with_label label old) ∙ label_keeps label old
         ∙ ap (λ (labels : List Name). labels ++ option_to_list label) stands.labels
-        ∙ sym (labels_more before line ∙ ap (λ (place : Option Name). labels_of before ++ option_to_list place) (place_is line label words head))
+        ∙ sym (labels_more before line ∙ ap (λ (field : Option Name). labels_of before ++ option_to_list field) (field_is line label words head))
 
 line_refused : (line : List ℕ) (label : Option Name) (words : List (List ℕ)) (cause : Cause) → head_of line ≡ Ok (label, words)
     → rest_says words ≡ Err cause → line_of line ≡ Err cause

@@ -17,7 +17,7 @@ use Rattle.c62_read.specs.Mnemonic.{mnemonic_named, operation_named, pseudo_name
 use Rattle.c62_read.specs.Unit.{unit_front}
 use Rattle.c62_read.specs.Line.{Nothing, Pause, behind_unit, condition_front, condition_of, cycles_of, head_of, instruction_of, is_bars, is_star}
 use Rattle.c62_read.specs.Line.{label_front, pause_of, rest_says}
-use Rattle.c62_read.specs.Program.{place_of}
+use Rattle.c62_read.specs.Program.{label_field}
 use Rattle.c62_read.specs.Laws.{LabelReadsBack, PauseReadsBack}
 use Rattle.c62_read.proofs.HeadLemmas.{all_weaker, allowed_text, head_plain, line_by_head, no_colon}
 use Rattle.c62_read.proofs.PauseLemmas.{nop_kind}
@@ -133,7 +133,7 @@ label_head label is =
     ) refl
 
 pub label_back : (label : Word) → LabelReadsBack label
-unfolding place_of
+unfolding label_field
 label_back label is = (
   line_by_head (label ++ 58 ∷ []) (Some label) [] Nothing (label_head label is) nothing,
   ap (λ (words : List Word). (label_front words).0) (label_tokens label (spelled_label label is).token)

@@ -26,7 +26,7 @@ use Rattle.c62_read.specs.Mnemonic.{exchanged}
 use Rattle.c62_read.specs.Line.{Parts, Says, Nothing, Pause, Does, Jumps, is_branch, line_of}
 use Rattle.c62_read.specs.declared.fault.Cause.{Cause}
 use Rattle.c62_read.specs.Block.{branch_last}
-use Rattle.c62_read.specs.Program.{BlockParts, Item, Name, Numbered, Runs, items_from, label_is, label_items, labels_of, most_bytes, place_of}
+use Rattle.c62_read.specs.Program.{BlockParts, Item, Name, Numbered, Runs, items_from, label_is, label_items, labels_of, most_bytes, label_field}
 use Rattle.c62_read.specs.Program.{program_in}
 
 -- the decimal spelling of a number reads as it
@@ -68,7 +68,7 @@ PauseReadsBack n blanks =
 -- a label and a colon are a line of that label, and say nothing else
 abbrev pub LabelReadsBack : Word → Type 0
 LabelReadsBack label =
-    IsTrue (is_label label) → (line_of (label ++ codes ":") ≡ Ok (Some label, Nothing)) × (place_of (label ++ codes ":") ≡ Some label)
+    IsTrue (is_label label) → (line_of (label ++ codes ":") ≡ Ok (Some label, Nothing)) × (label_field (label ++ codes ":") ≡ Some label)
 
 -- ---- what says nothing
 
@@ -78,11 +78,11 @@ IsReadable line = IsTrue (list_all is_allowed line) × (length line ≤ 255)
 
 -- a line that begins with `*` says nothing, and has no label
 abbrev pub StarSaysNothing : List ℕ → Type 0
-StarSaysNothing line = (line_of line ≡ Ok (None, Nothing)) × (place_of line ≡ None)
+StarSaysNothing line = (line_of line ≡ Ok (None, Nothing)) × (label_field line ≡ None)
 
 -- a comment behind a line changes neither what the line says nor its label
 abbrev pub CommentSaysNothing : List ℕ → List ℕ → Type 0
-CommentSaysNothing line rest = (line_of (line ++ 59 ∷ rest) ≡ line_of line) × (place_of (line ++ 59 ∷ rest) ≡ place_of line)
+CommentSaysNothing line rest = (line_of (line ++ 59 ∷ rest) ≡ line_of line) × (label_field (line ++ 59 ∷ rest) ≡ label_field line)
 
 -- the other line is this one without its comment, behind a `;` or all of it
 pub data IsUncommented (line other : List ℕ) : Type 0 where
@@ -137,7 +137,7 @@ target_in said = None
 abbrev pub AreRecased : List (List ℕ) → List (List ℕ) → Type 0
 AreRecased [] [] = Unit {0}
 AreRecased (line ∷ lines) (other ∷ others) =
-    (IsRecased 32 line other × (place_of line ≡ place_of other) × (target_in (line_of line) ≡ target_in (line_of other))) × AreRecased lines others
+    (IsRecased 32 line other × (label_field line ≡ label_field other) × (target_in (line_of line) ≡ target_in (line_of other))) × AreRecased lines others
 AreRecased _ _ = ⊥
 
 -- a text says what it says in any case of its letters, where labels keep theirs
@@ -187,7 +187,7 @@ HasRisingLines text =
 abbrev pub ReadsAsItsLine : List ℕ → Type 0
 ReadsAsItsLine text =
     (blocks : List BlockParts) (entry : Numbered) → program_in text ≡ Ok blocks → Contains (instructions_of blocks) entry
-    → (place : ℕ) × (line : List ℕ) × (entry.line ≡ place + 1) × (slice_get (lines_of text) place ≡ Some line)
+    → (index : ℕ) × (line : List ℕ) × (entry.line ≡ index + 1) × (slice_get (lines_of text) index ≡ Some line)
     × (instruction_at (block_named blocks) entry.line (line_of line) ≡ entry ∷ [])
 
 -- ---- blocks are cut by labels and branches

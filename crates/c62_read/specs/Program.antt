@@ -20,14 +20,14 @@ Name = List ℕ
 
 -- ---- labels
 
--- the label in a line's label place, decided for the line alone
-unfoldable pub place_of : List ℕ → Option Name
-place_of line = (label_front (tokens line)).0
+-- the label in a line's label field, decided for the line alone
+unfoldable pub label_field : List ℕ → Option Name
+label_field line = (label_front (tokens line)).0
 
 -- the labels of all lines
 abbrev pub labels_of : List (List ℕ) → List Name
 labels_of [] = []
-labels_of (line ∷ lines) = option_to_list (place_of line) ++ labels_of lines
+labels_of (line ∷ lines) = option_to_list (label_field line) ++ labels_of lines
 
 abbrev pub is_among : Name → List Name → Bool
 is_among label labels = list_any (λ other. bytes_eq other label) labels
@@ -117,7 +117,7 @@ first_of (None ∷ others) = first_of others
 
 -- whether the line has a label that one of these has
 abbrev pub repeats_label : List Name → List ℕ → Bool
-repeats_label labels line = list_any (λ label. is_among label labels) (option_to_list (place_of line))
+repeats_label labels line = list_any (λ label. is_among label labels) (option_to_list (label_field line))
 
 -- whether what is said is a branch to none of these labels
 abbrev pub misses_label : List Name → Result (Option Name × Says) Cause → Bool
@@ -210,6 +210,6 @@ numbered_of entry = record { parts = parts_of entry.insn; line = entry.line }
 abbrev pub block_parts : Serial → BlockParts
 block_parts block = record { label = block.label; insns = map numbered_of block.insns }
 
--- memory may run out in place of any answer
+-- memory may run out before any answer
 abbrev pub Fails : {T : Type 0} → ReadFault → Result T Refusal → Type 0
 Fails fault says = (fault ≡ record { line = 0; cause = Memory }) ⊎ (says ≡ Err (fault.line, fault.cause))

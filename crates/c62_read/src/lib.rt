@@ -32,7 +32,7 @@ pub use laws::{
 };
 pub use limits::{MOST_BLOCKS, MOST_BYTES, MOST_INSTRUCTIONS};
 pub use line::read_insn;
-pub use program::{label_place, read_program};
+pub use program::{label_field, read_program};
 pub use reading::{Reading, What};
 
 #[cfg(test)]

@@ -35,7 +35,7 @@ pub(crate) struct TextReader {
 }
 
 ghost use Rattle.c62_read.specs.Line.{statement_of, names_label, parts_of, is_branch};
-ghost use Rattle.c62_read.specs.Program.{label_is, is_among, place_of, labels_of, Fails, target_number, aimed, numbered_of, block_parts, block_in, program_in};
+ghost use Rattle.c62_read.specs.Program.{label_is, is_among, label_field, labels_of, Fails, target_number, aimed, numbered_of, block_parts, block_in, program_in};
 ghost use Rattle.c62_read.specs.Walk.{draft_of, drafts_of, new_draft, all_drafts, own_labels, with_label, opened, with_insn, closed, with_says, is_taken, is_full, is_instruction, begins_block, hindrance, refused, unless_hindered, add_says, add_line, add_lines, no_drafts, is_whole, number_among, asked_in, asked_of, missed, first_line, unless_missed, failed};
 ghost use Rattle.c62_read.specs.Reading.{line_step, said_step, LeadsTo, KeepsJump, still_missed, text_read, IsFirstLine, with_read, with_next, all_closed, one_open, aimed_block, aimed_blocks};
 
@@ -241,11 +241,11 @@ fn keep_jump(jumps: &mut Vec<Jump>, line: u32, what: &Statement<'_>) -> Result<(
     Ok(())
 }
 
-/// The label in a line's label place, decided for the line alone: the part left of its first colon, without the blanks
+/// The label in a line's label field, decided for the line alone: the part left of its first colon, without the blanks
 /// around it, where that is a label and the line is no comment line (docs/SERIAL_TEXT.md, "Labels and blocks").
-#[tactic(auto, using(crate::proofs::PlaceLemmas::star_place, crate::proofs::HeadLemmas::plain_place), unfolding(crate::specs::Program::place_of))]
-pub fn label_place(line: &[u8]) -> Option<&[u8]>
-    ensures { option_copied result ≡ place_of line.now }
+#[tactic(auto, using(crate::proofs::LabelFields::star_field, crate::proofs::HeadLemmas::plain_field), unfolding(crate::specs::Program::label_field))]
+pub fn label_field(line: &[u8]) -> Option<&[u8]>
+    ensures { option_copied result ≡ label_field line.now }
 {
     if !has_byte(b':', line) {
         return None;
@@ -353,13 +353,13 @@ impl TextReader {
     }
 }
 
-/// Where the line begins that this place is in.
-fn line_start(text: &[u8], place: usize) -> usize
-    requires { place ≤ length text.now }
-    ensures within { result ≤ place }
+/// Where the line begins that this index is in.
+fn line_start(text: &[u8], index: usize) -> usize
+    requires { index ≤ length text.now }
+    ensures within { result ≤ index }
     ensures feed { 0 < result → slice_index text.now (result - 1) ≡ 10 }
 {
-    let mut start = place;
+    let mut start = index;
     while 0 < start && text[start - 1] != b'\n' {
         start -= 1;
     }
@@ -383,7 +383,7 @@ fn leave_out_labels(jumps: &mut Vec<Jump>, text: &[u8])
         if jumps.is_empty() {
             return;
         }
-        leave_out_label(jumps, label_place(line));
+        leave_out_label(jumps, label_field(line));
         rest = from_colon(after);
     }
 }
@@ -406,7 +406,7 @@ fn label_is(label: &[u8], other: &Option<Label>) -> bool
 /// Where the first line feed stands, looked for byte by byte.
 fn feed_in(bytes: &[u8]) -> Option<usize>
     ensures value { result ≡ position is_line_feed bytes.now }
-    ensures within { IfSome result (λ place. place < length bytes.now) }
+    ensures within { IfSome result (λ index. index < length bytes.now) }
 {
     bytes.iter().position(|b| *b == b'\n')
 }
@@ -415,11 +415,11 @@ fn feed_in(bytes: &[u8]) -> Option<usize>
 #[inline(always)]
 fn first_feed(text: &[u8]) -> Option<usize>
     ensures value { result ≡ position is_line_feed text.now }
-    ensures within { IfSome result (λ place. place < length text.now) }
+    ensures within { IfSome result (λ index. index < length text.now) }
 {
     let (front, rest) = text.split_at(steps_before(b'\n', text));
     match feed_in(rest) {
-        Some(place) => Some(front.len() + place),
+        Some(index) => Some(front.len() + index),
         None => None,
     }
 }
@@ -502,10 +502,10 @@ fn read_drafts(alloc: Global, text: &[u8]) -> Result<TextReader, ReadFault>
     }
 }
 
-/// The place of this label among those of the blocks.
-fn place_among(labels: &[Option<Label>], label: &[u8]) -> Option<usize>
+/// The index of this label among those of the blocks.
+fn index_among(labels: &[Option<Label>], label: &[u8]) -> Option<usize>
     ensures value { result ≡ position (λ other. label_is label.now other) labels.now }
-    ensures bound { IfSome result (λ place. place < length labels.now) }
+    ensures bound { IfSome result (λ index. index < length labels.now) }
 {
     labels.iter().position(|other| label_is(label, other))
 }
@@ -516,8 +516,8 @@ fn target_number(labels: &[Option<Label>], target: &Option<Label>) -> u8
     ensures { result ≡ number_among labels.now target.now }
 {
     match target {
-        Some(label) => match place_among(labels, label.as_bytes()) {
-            Some(place) => place as u8,
+        Some(label) => match index_among(labels, label.as_bytes()) {
+            Some(index) => index as u8,
             None => 0,
         },
         None => 0,

@@ -63,7 +63,7 @@ fn is_blank(b: u8) -> bool
     b == b' ' || b == b'\t'
 }
 
-// Each byte of a word stands at its own place, and a comma at every other place.
+// Each byte of a word stands at its own index, and a comma at every other.
 static WORD_BYTES: [u8; 256] = *b"\
     ,,,,,,,,,,,,,,,,,,,,,,,,,,,,,,,,\
     ,,,,$,,,,,,,,,,,0123456789,,,,,,\
@@ -181,7 +181,7 @@ pub(crate) fn from_token(line: &[u8]) -> &[u8]
     start
 }
 
-/// The tokens of a line from some place on, of which the first is cut off already: so each is cut off once. It is empty
+/// The tokens of a line from some byte on, of which the first is cut off already: so each is cut off once. It is empty
 /// where none is left.
 #[derive(Clone, Copy)]
 pub(crate) struct Tokens<'a> {

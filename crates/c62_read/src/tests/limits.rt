@@ -1,4 +1,4 @@
-//! Texts at the limits, and a text with each byte in each place.
+//! Texts at the limits, and a text with each byte at each index.
 
 use super::check_answer;
 use crate::fault::{Cause, ReadFault};
@@ -96,23 +96,23 @@ fn sixty_five_labels(rt: HostRuntime) -> Result<(), Fail> {
 
 const SHORT: &[u8] = b"L: [!A1] LDW .D1T2 *A4++[3],B5 ; c\nB L";
 
-/// Each byte in each place of a text is answered, and as NotAscii exactly where the byte isn't allowed.
+/// Each byte at each index of a text is answered, and as NotAscii exactly where the byte isn't allowed.
 #[test]
-fn each_byte_in_each_place(rt: HostRuntime) -> Result<(), Fail> {
+fn each_byte_at_each_index(rt: HostRuntime) -> Result<(), Fail> {
     let mut text = Vec::from_slice(rt.alloc(), SHORT)?;
-    for place in 0..text.len() {
-        let kept = text[place];
+    for index in 0..text.len() {
+        let kept = text[index];
         for byte in 0..=255u8 {
-            text[place] = byte;
+            text[index] = byte;
             let allowed = byte == b'\t' || byte == b'\n' || (b' '..=b'~').contains(&byte);
-            let ends_line = byte == b'\r' && place + 1 < text.len() && text[place + 1] == b'\n';
+            let ends_line = byte == b'\r' && index + 1 < text.len() && text[index + 1] == b'\n';
             let is_foreign = match read_program(rt.alloc(), &text) {
                 Err(ReadFault { cause, .. }) => cause == Cause::NotAscii,
                 Ok(_) => false,
             };
-            assert_eq!(rt; is_foreign, !allowed && !ends_line, "{byte} at {place}");
+            assert_eq!(rt; is_foreign, !allowed && !ends_line, "{byte} at {index}");
         }
-        text[place] = kept;
+        text[index] = kept;
     }
     Ok(())
 }

@@ -9,7 +9,7 @@ use Rattle.c62_listing_reader.specs.Cut.{line_cut}
 use Rattle.c62_listing_reader.specs.Said.{Drafts, no_drafts, with_said, labels_of, aim_by}
 use Rattle.c62_listing_reader.specs.Faults.{line_says, read_lines}
 use Rattle.c62_listing_reader.specs.Reading.{drafts_of, said_by, entries_of}
-use Rattle.c62_listing_reader.proofs.Going.{IsGoing, judged_fits, go, all-fine}
+use Rattle.c62_listing_reader.proofs.FineBlocks.{IsGoing, judged_fits, go, all-fine}
 use Rattle.c62_listing_reader.proofs.ReadLemmas.{goes_on, stops, is_done}
 use Rattle.c62_listing_reader.proofs.reader.read_blocks.Goals as goal
 

@@ -4,7 +4,7 @@ use Rattle.c62_listing_reader.specs.Text.{lines_in}
 use Rattle.c62_listing_reader.specs.Said.{labels_of, aim_by, no_drafts}
 use Rattle.c62_listing_reader.specs.Faults.{read_lines}
 use Rattle.c62_listing_reader.specs.Reading.{drafts_of, entries_of}
-use Rattle.c62_listing_reader.proofs.Going.{IsGoing}
+use Rattle.c62_listing_reader.proofs.FineBlocks.{IsGoing}
 use Rattle.c62_listing_reader.proofs.reader.read_blocks.Given as goal
 
 abbrev pub invariant-loop-cut : goal.invariant-loop-cut

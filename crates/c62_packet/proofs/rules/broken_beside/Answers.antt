@@ -1,6 +1,6 @@
 use Rattle.std.proofs.Common.{ℕ, ap, ◌∙◌}
 use Rattle.c62_packet.specs.Clash.{broken_by}
-use Rattle.c62_packet.proofs.Near.{until, beside_enough}
+use Rattle.c62_packet.proofs.LaterIssues.{until, beside_enough}
 use Rattle.c62_packet.proofs.rules.broken_beside.Goals as goal
 
 pub returns : goal.returns

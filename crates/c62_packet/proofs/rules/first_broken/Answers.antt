@@ -5,7 +5,7 @@ use Rattle.std.proofs.lemmas.List.Sorted.{IsNonDecreasingBy-drop}
 use Rattle.c62_packet.specs.declared.placed.Placed.{Placed}
 use Rattle.c62_packet.specs.Clash.{broken_beside, broken}
 use Rattle.c62_packet.proofs.Broken.{broken-first, broken-step}
-use Rattle.c62_packet.proofs.Near.{cycles_rise}
+use Rattle.c62_packet.proofs.LaterIssues.{cycles_rise}
 use Rattle.c62_packet.proofs.rules.first_broken.Goals as goal
 
 pub returns : goal.returns

@@ -1,7 +1,7 @@
 use Rattle.std.proofs.Common.{rules, ◌≡◌, ◌+◌, ℕ, ap, ◌∙◌}
 use Rattle.std.specs.List.{list_any}
 use Rattle.c62_packet.specs.Clash.{lands}
-use Rattle.c62_packet.proofs.Near.{until, landings_until}
+use Rattle.c62_packet.proofs.LaterIssues.{until, landings_until}
 use Rattle.c62_packet.proofs.rules.is_met.Goals as goal
 
 pub returns : goal.returns

@@ -2,7 +2,7 @@ use Rattle.std.proofs.Common.{◌≤◌}
 use Rattle.c62_read.proofs.program.line_start.Given as goal
 
 abbrev pub invariant-loop-start : goal.invariant-loop-start
-invariant-loop-start l = l.start ≤ l.place
+invariant-loop-start l = l.start ≤ l.index
 
 abbrev pub decreases-loop-start : goal.decreases-loop-start
 decreases-loop-start l = l.start

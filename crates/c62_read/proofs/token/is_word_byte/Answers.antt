@@ -9,7 +9,7 @@ use Rattle.c62_read.proofs.token.is_word_byte.Goals as goal
 abbrev mark : ℕ → ℕ
 mark b = cond (is_word_byte b) b 44
 
--- the table has each byte of a word at its place
+-- the table has each byte of a word at its index
 table_is : WORD_BYTES ≡ map mark (range_with_len 0 256)
 table_is = refl
 

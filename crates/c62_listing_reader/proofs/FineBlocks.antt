@@ -9,7 +9,7 @@ use Rattle.std.proofs.lemmas.Option.{same_Some, none-some}
 use Rattle.std.proofs.lemmas.List.Elements.{All-nil, All-cons, All-append, All-weaker}
 use Rattle.std.proofs.lemmas.List.Sorted.{IsNonDecreasingBy-push, IsNonDecreasingBy-short}
 use Rattle.c62_insn.specs.declared.register.Unit.{Unit as FunctionalUnit}
-use Rattle.c62_packet.proofs.Near.{place_small}
+use Rattle.c62_insn.proofs.UnitOrder.{index_of-below}
 use Rattle.c62_read.specs.Line.{Says, Nothing, Pause, Does, Jumps, Parts}
 use Rattle.c62_read.specs.Program.{Name}
 use Rattle.c62_read.specs.Walk.{is_instruction}
@@ -48,7 +48,7 @@ empty_fine = record {
 
 unit_small : (unit : Option FunctionalUnit) → unit_index unit < 8
 unit_small None = omega arith
-unit_small (Some unit) = place_small unit.letter unit.side
+unit_small (Some unit) = index_of-below unit
 
 label_fine : (label : Option Name) (draft : Draft) → IsFine draft → IsFine (with_label label draft)
 label_fine None draft fine = fine

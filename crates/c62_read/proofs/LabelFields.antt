@@ -1,4 +1,4 @@
--- The label place of a line.
+-- The label field of a line.
 use Rattle.std.proofs.Common.{◌≡◌, ℕ, Bool, true, false, eqb, ◌&&◌, List, [], ◌∷◌, length, Some, None, Result, Ok, Err, refl, sym, ap, subst, ◌∙◌}
 use Rattle.std.specs.Prelude.{Option, codes, nat_lt, if◌then◌else◌}
 use Rattle.std.specs.List.{list_all}
@@ -8,7 +8,7 @@ use Rattle.c62_read.specs.declared.fault.Cause.TheVariants.{BadLabel, LineTooLon
 use Rattle.c62_read.specs.Text.{begins, is_allowed, is_double, tokens}
 use Rattle.c62_read.specs.Number.{is_label, spells}
 use Rattle.c62_read.specs.Line.{has_colon, head_of, is_bars, is_star, label_front, without_colon}
-use Rattle.c62_read.specs.Program.{Name, place_of}
+use Rattle.c62_read.specs.Program.{Name, label_field}
 use Rattle.c62_read.proofs.TokenLemmas.{tokens_alone}
 
 no_label_front : (word : List ℕ) (words : List (List ℕ)) → is_label word ≡ false → (label_front (word ∷ words)).0 ≡ None
@@ -26,26 +26,26 @@ star_is_no_label : is_label (42 ∷ []) ≡ false
 unfolding is_label
 star_is_no_label = refl
 
-pub star_place : (line : List ℕ) → begins is_star line ≡ true → place_of line ≡ None
-unfolding place_of label_front
-star_place [] star = refl
-star_place (b ∷ []) star =
+pub star_field : (line : List ℕ) → begins is_star line ≡ true → label_field line ≡ None
+unfolding label_field label_front
+star_field [] star = refl
+star_field (b ∷ []) star =
     let e : b ≡ 42 = eqb-true b 42 star in
     subst (λ (x : ℕ). (label_front (tokens (x ∷ []))).0 ≡ None) (sym e) refl
-star_place (b ∷ c ∷ rest) star =
+star_field (b ∷ c ∷ rest) star =
     let e : b ≡ 42 = eqb-true b 42 star in
     let single : is_double 42 c ≡ false = and_right (eqb 42 c) false refl in
     subst (λ (x : ℕ). (label_front (tokens (x ∷ c ∷ rest))).0 ≡ None) (sym e)
     (ap (λ (words : List (List ℕ)). (label_front words).0) (tokens_alone 42 c rest refl single refl)
     ∙ no_label_front (42 ∷ []) (tokens (c ∷ rest)) star_is_no_label)
 
--- ---- a line's label is the one in its label place
+-- ---- a line's label is the one in its label field
 
-colon_place : (colon : Bool) (front : Option Name × List (List ℕ)) (label : Option Name) (words : List (List ℕ))
+colon_field : (colon : Bool) (front : Option Name × List (List ℕ)) (label : Option Name) (words : List (List ℕ))
     → (if◌then◌else◌ {A = Result (Option Name × List (List ℕ)) Cause} colon (Err BadLabel) (Ok (front.0, front.1))) ≡ Ok (label, words)
     → front.0 ≡ label
-colon_place true front label words is = absurd cc
-colon_place false front label words is = cc
+colon_field true front label words is = absurd cc
+colon_field false front label words is = cc
 
 abbrev SameHead : Result (Option Name × List (List ℕ)) Cause → Result (Option Name × List (List ℕ)) Cause → Type 0
 SameHead read said = read ≡ said
@@ -61,18 +61,18 @@ Heads allowed long star bars line =
     else without_colon (label_front (tokens line)))))
     else Err NotAscii
 
-head_place : (allowed long star bars : Bool) (line : List ℕ) (label : Option Name) (words : List (List ℕ)) → begins is_star line ≡ star
+head_field : (allowed long star bars : Bool) (line : List ℕ) (label : Option Name) (words : List (List ℕ)) → begins is_star line ≡ star
     → Heads allowed long star bars line ≡ Ok (label, words)
-    → place_of line ≡ label
-unfolding place_of
-head_place false long star bars line label words starred is = absurd cc
-head_place true true star bars line label words starred is = absurd cc
-head_place true false true bars line label words starred is = star_place line starred ∙ head_label (None, []) (label, words) is
-head_place true false false true line label words starred is = absurd cc
-head_place true false false false line label words starred is =
-    colon_place (has_colon (label_front (tokens line)).1) (label_front (tokens line)) label words is
+    → label_field line ≡ label
+unfolding label_field
+head_field false long star bars line label words starred is = absurd cc
+head_field true true star bars line label words starred is = absurd cc
+head_field true false true bars line label words starred is = star_field line starred ∙ head_label (None, []) (label, words) is
+head_field true false false true line label words starred is = absurd cc
+head_field true false false false line label words starred is =
+    colon_field (has_colon (label_front (tokens line)).1) (label_front (tokens line)) label words is
 
-pub place_is : (line : List ℕ) (label : Option Name) (words : List (List ℕ)) → head_of line ≡ Ok (label, words) → place_of line ≡ label
+pub field_is : (line : List ℕ) (label : Option Name) (words : List (List ℕ)) → head_of line ≡ Ok (label, words) → label_field line ≡ label
 unfolding head_of
-place_is line label words is = head_place (list_all is_allowed line) (nat_lt 255 (length line)) (begins is_star line)
+field_is line label words is = head_field (list_all is_allowed line) (nat_lt 255 (length line)) (begins is_star line)
     (is_bars (tokens line)) line label words refl is

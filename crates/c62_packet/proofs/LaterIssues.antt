@@ -18,7 +18,7 @@ use Rattle.c62_insn.specs.declared.register.Side.TheVariants.{A, B}
 use Rattle.c62_insn.specs.Takes.{same_side, same_unit}
 use Rattle.c62_insn.specs.Shape.{data_path_of}
 use Rattle.c62_insn.specs.Insn.{operands_of, operand_reads}
-use Rattle.c62_insn.specs.Units.{place_of}
+use Rattle.c62_insn.proofs.UnitOrder.{index_of-below}
 use Rattle.c62_insn.specs.PacketRules.{reads_in}
 use Rattle.c62_packet.specs.declared.placed.Placed.{Placed}
 use Rattle.c62_packet.specs.Packed.{issue_of, issued, listing_position, IsInListingOrder}
@@ -120,19 +120,9 @@ beside_enough p others rise = rw (units_until p others rise, cross_paths_until p
 
 -- ---- listing order
 
-pub place_small : (letter : Letter) (side : Side) → place_of letter side < 8
-place_small L A = omega arith
-place_small S A = omega arith
-place_small M A = omega arith
-place_small D A = omega arith
-place_small L B = omega arith
-place_small S B = omega arith
-place_small M B = omega arith
-place_small D B = omega arith
-
 -- in listing order the cycles rise
 pub cycles_rise : (placed : List Placed) → IsInListingOrder placed → IsNonDecreasingBy (λ (p : Placed). p.cycle) placed
 cycles_rise placed order i j d le within =
     let order_is : listing_position (get_or placed i d) ≤ listing_position (get_or placed j d) = order i j d le within in
-    let small = place_small (get_or placed j d).unit.letter (get_or placed j d).unit.side in
+    let small = index_of-below (get_or placed j d).unit in
     omega (arith, order_is, small)
