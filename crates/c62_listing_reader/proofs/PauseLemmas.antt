@@ -10,6 +10,7 @@ use Rattle.c62_read.specs.Text.{begins, is_allowed, tokens}
 use Rattle.c62_read.specs.Number.{is_label, spells}
 use Rattle.c62_read.specs.Kind.{Word}
 use Rattle.c62_read.specs.Line.{Says, has_colon, head_of, is_bars, is_star, label_front, rest_says, without_colon}
+use Rattle.c62_read.proofs.LabelFields.{head_read}
 use Rattle.c62_read.proofs.PauseLemmas.{IsShort, OkShort, nop_short}
 use Rattle.c62_read.proofs.SpelledTokens.{IsToken, tokens_behind, word_token}
 
@@ -47,21 +48,8 @@ plain_words (word ∷ next ∷ rest) words h = go (spells (codes ":") next && is
     go true h = absurd (none-some word (sym (colon_words (has_colon rest) (Some word) rest words h).0))
     go false h = (colon_words (has_colon (word ∷ next ∷ rest)) None (word ∷ next ∷ rest) words h).1
 
-head_words : (allowed long star bars : Bool) (line : List ℕ) (words : List Word) → star ≡ false
-    → (if allowed then (if long then Err LineTooLong
-    else (if star then Ok (None, [])
-    else (if bars then Err ParallelBar
-    else without_colon (label_front (tokens line)))))
-    else Err NotAscii) ≡ Ok (None, words) → tokens line ≡ words
-head_words false long star bars line words none h = absurd cc
-head_words true true star bars line words none h = absurd cc
-head_words true false true bars line words none h = absurd (false≢true (sym none))
-head_words true false false true line words none h = absurd cc
-head_words true false false false line words none h = plain_words (tokens line) words h
-
 line_words : (line : List ℕ) (words : List Word) → begins is_star line ≡ false → head_of line ≡ Ok (None, words) → tokens line ≡ words
-unfolding head_of
-line_words line words none h = head_words (list_all is_allowed line) (nat_lt 255 (length line)) (begins is_star line) (is_bars (tokens line)) line words none h
+line_words line words none h = plain_words (tokens line) words ((head_read line None words h).front none)
 
 -- what the line says is short
 pub short : (line word : List ℕ) (words : List Word) (says : Says) → line ≡ codes "   NOP " ++ word → head_of line ≡ Ok (None, words) → rest_says words ≡ Ok says → IsShort says

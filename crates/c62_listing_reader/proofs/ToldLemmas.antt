@@ -48,10 +48,6 @@ pub if_err : {T E : Type 0} (b : Bool) (e : E) (y : Result T E) (s : T) → (if 
 if_err true e y s h = absurd cc
 if_err false e y s h = (refl, h)
 
-else_err : {T E : Type 0} (b : Bool) (e : E) (y : Result T E) (s : T) → (if b then y else Err e) ≡ Ok s → (b ≡ true) × (y ≡ Ok s)
-else_err true e y s h = (refl, h)
-else_err false e y s h = absurd cc
-
 if_some : {T : Type 0} (b : Bool) (x : T) (y : Option T) → (if b then Some x else y) ≡ None → (b ≡ false) × (y ≡ None)
 if_some true x y h = absurd cc
 if_some false x y h = (refl, h)
@@ -112,10 +108,11 @@ pub told : (labels : List Name) (drafts : Drafts) (above : Above) (line : Line) 
     → line_says labels drafts above line below ≡ Ok said → IsTold labels drafts above line below said
 unfolding line_says
 told labels drafts above line below said h =
-    let allowed = else_err (list_all is_allowed (content line)) _ _ said h in
+    let allowed = if_err (not (list_all is_allowed (content line))) _ _ said h in
     let short = if_err (nat_lt 255 (length (content line))) _ _ said allowed.1 in
     let placed = if_err (is_misplaced (front_of (content line)) above) _ _ said short.1 in
-    rest_told labels drafts above line below (front_of (content line)) (rest_says drafts (rest_of (front_of (content line)) (content line))) said refl allowed.0 short.0 placed.0 refl placed.1
+    rest_told labels drafts above line below (front_of (content line)) (rest_says drafts (rest_of (front_of (content line)) (content line))) said refl
+    (not_false (list_all is_allowed (content line)) allowed.0) short.0 placed.0 refl placed.1
 
 -- ---- how it begins
 

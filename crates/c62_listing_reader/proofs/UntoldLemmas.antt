@@ -1,7 +1,7 @@
 -- Lines that are spelled as a listing spells them have no fault.
 use Rattle.std.proofs.Common.{arith, ◌≡◌, ℕ, ◌+◌, ◌≤◌, List, [], ◌∷◌, ◌++◌, length, map, Option, Some, None, Bool, true, false, not, refl, sym, ap, ◌∙◌, append_assoc}
 use Rattle.std.specs.Prelude.{nat_lt, if◌then◌else◌, Ok, Err, codes}
-use Rattle.std.specs.List.{list_all}
+use Rattle.std.specs.List.{list_all, list_any}
 use Rattle.std.proofs.lemmas.Bool.{and_from, and_parts, le-ltb, ltb-false}
 use Rattle.std.proofs.lemmas.Bool.Decides.{nat_tests}
 use Rattle.std.proofs.lemmas.Slice.Eq.{bytes_eq-Decides}
@@ -19,7 +19,7 @@ use Rattle.c62_read.specs.Kind.{Word}
 use Rattle.c62_read.specs.Line.{Parts, Says, Pause, Does, Jumps, head_of, is_bars, is_star, label_front, line_of, without_colon}
 use Rattle.c62_read.specs.Program.{Name, label_field}
 use Rattle.c62_read.specs.Laws.{NamesTarget, parts_on, says_with, says_on}
-use Rattle.c62_read.proofs.LabelFields.{field_is}
+use Rattle.c62_read.proofs.LabelFields.{field_is, head_read}
 use Rattle.c62_read.proofs.SaysLemmas.{has_no_block}
 use Rattle.c62_read.proofs.SpelledLine.{spelled_back}
 use Rattle.c62_read.proofs.WrittenLines.{pause_back}
@@ -32,7 +32,7 @@ use Rattle.c62_listing_reader.specs.Begin.{front_of, is_beside, rest_of}
 use Rattle.c62_listing_reader.specs.Said.{Said, Drafts, opened, parts_spelling, front_spelling, issue_line, spelled_line, is_text}
 use Rattle.c62_listing_reader.specs.Faults.{is_misplaced, cycles_added, hindrance, is_unfit, is_odd, rest_says, with_rest, line_says}
 use Rattle.c62_listing_reader.proofs.ListedLemmas.{does_text, unreturned}
-use Rattle.c62_listing_reader.proofs.TextLemmas.{before_feed, fed, has_no_feed}
+use Rattle.c62_listing_reader.proofs.TextLemmas.{before_feed, fed}
 use Rattle.c62_listing_reader.proofs.ToldLemmas.{IsTold, bars_field, line_parts}
 
 -- ---- the lines of a text that is made of lines
@@ -40,12 +40,12 @@ use Rattle.c62_listing_reader.proofs.ToldLemmas.{IsTold, bars_field, line_parts}
 abbrev pub are_allowed : List ℕ → Bool
 are_allowed bytes = list_all is_allowed bytes
 
-no_feed : (bytes : List ℕ) → are_allowed bytes ≡ true → has_no_feed bytes ≡ true
+no_feed : (bytes : List ℕ) → are_allowed bytes ≡ true → list_any is_line_feed bytes ≡ false
 no_feed [] all = refl
 no_feed (b ∷ bytes) all =
     let parts = and_parts (is_allowed b) (are_allowed bytes) all in
-    let here : not (is_line_feed b) ≡ true = (let allowed = parts.0 in grind (arith, nat_tests)) in
-    and_from (not (is_line_feed b)) (has_no_feed bytes) here (no_feed bytes parts.1)
+    let here : is_line_feed b ≡ false = (let allowed = parts.0 in grind (arith, nat_tests)) in
+    rw here (no_feed bytes parts.1)
 
 no_return : (bytes : List ℕ) → are_allowed bytes ≡ true → ends_in_return bytes ≡ false
 no_return [] all = refl
@@ -94,20 +94,6 @@ untold labels drafts above line below said is =
 
 -- ---- what reading asks of bytes
 
-head_readable : (allowed long star bars : Bool) (line : List ℕ) (label : Option Word) (words : List Word)
-    → (if allowed then (if long then Err LineTooLong
-    else (if star then Ok (None, [])
-    else (if bars then Err ParallelBar
-    else without_colon (label_front (tokens line)))))
-    else Err NotAscii) ≡ Ok (label, words) → (allowed ≡ true) × (long ≡ false)
-head_readable false long star bars line label words h = absurd cc
-head_readable true true star bars line label words h = absurd cc
-head_readable true false star bars line label words h = (refl, refl)
-
-readable_by : (line : List ℕ) (label : Option Word) (words : List Word) → head_of line ≡ Ok (label, words) → (are_allowed line ≡ true) × (nat_lt 255 (length line) ≡ false)
-unfolding head_of
-readable_by line label words h = head_readable (list_all is_allowed line) (nat_lt 255 (length line)) (begins is_star line) (is_bars (tokens line)) line label words h
-
 -- a line that is read may be read, and its label field has its label
 pub record IsRead (line : List ℕ) (label : Option Name) : Type 0 where
   pub allowed : are_allowed line ≡ true
@@ -117,8 +103,8 @@ pub record IsRead (line : List ℕ) (label : Option Name) : Type 0 where
 pub line_read : (line : List ℕ) (label : Option Name) (says : Says) → line_of line ≡ Ok (label, says) → IsRead line label
 line_read line label says h =
     let parts = line_parts line label says h in
-    let readable = readable_by line label parts.words parts.head in
-    record { allowed = readable.0; fits = ltb-false 255 (length line) readable.1; field = field_is line label parts.words parts.head }
+    let read = head_read line label parts.words parts.head in
+    record { allowed = read.allowed; fits = ltb-false 255 (length line) read.short; field = field_is line label parts.words parts.head }
 
 -- ---- the lines of a block but its label
 

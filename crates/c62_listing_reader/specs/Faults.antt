@@ -146,10 +146,10 @@ rest_says drafts rest = rest_read_as drafts rest (line_of rest)
 -- what a line says, or its first fault
 unfoldable pub line_says : List Name → Drafts → Above → Line → List Line → Result Said LineFault
 line_says labels drafts above line below =
-    if list_all is_allowed (content line) then (if nat_lt 255 (length (content line)) then Err (Read LineTooLong)
+    if not (list_all is_allowed (content line)) then Err (Read NotAscii)
+    else (if nat_lt 255 (length (content line)) then Err (Read LineTooLong)
     else (if is_misplaced (front_of (content line)) above then Err Shape
     else with_rest labels drafts above line below (front_of (content line)) (rest_says drafts (rest_of (front_of (content line)) (content line)))))
-    else Err (Read NotAscii)
 
 -- ---- the faults of a text
 

@@ -1,10 +1,11 @@
 -- What the reader holds, as the definitions see it.
-use Rattle.std.specs.Prelude.{◌≡◌, ◌⊎◌, ℕ, ◌+◌, ◌≤◌, Bool, IsTrue, is_some, List, map, Option, option_map, Result, Ok, Err, MatchResult}
+use Rattle.std.specs.Prelude.{◌≡◌, ◌⊎◌, ℕ, ◌+◌, ◌≤◌, Bool, IsTrue, is_some, List, length, map, All, Option, option_map, Result, Ok, Err, IfOk, MatchResult}
 use Rattle.c62_read.specs.declared.fault.Cause.{Cause}
 use Rattle.c62_read.specs.declared.fault.ReadFault.{ReadFault}
 use Rattle.c62_read.specs.declared.reading.Reading.{Reading}
 use Rattle.c62_read.specs.Line.{Says, Does, Jumps, said_of}
 use Rattle.c62_read.specs.Program.{Name}
+use Rattle.c62_read.specs.declared.limits.TheConstants.{MOST_BLOCKS}
 use Rattle.c62_packet.specs.declared.limits.TheConstants.{MOST_CYCLES}
 use Rattle.c62_packet.specs.declared.fault.BlockFault.{BlockFault}
 use Rattle.c62_packet.specs.Packed.{Packed, IsPacketBlock}
@@ -21,11 +22,12 @@ use Rattle.c62_listing_reader.specs.Named.{entry_of}
 use Rattle.c62_listing_reader.specs.declared.line.Above.{Above}
 use Rattle.c62_listing_reader.specs.declared.line.Above.TheVariants.{Start}
 use Rattle.c62_listing_reader.specs.declared.text.Cut.{Cut}
-use Rattle.c62_listing_reader.specs.Text.{lines_in}
+use Rattle.c62_listing_reader.specs.Text.{lines_in, content}
 use Rattle.c62_listing_reader.specs.Cut.{line_cut}
-use Rattle.c62_listing_reader.specs.Said.{Said, part_of, Draft, Drafts, opened, no_drafts, labels_of, aim_by, with_says, with_line, with_said}
-use Rattle.c62_listing_reader.specs.Begin.{is_beside}
-use Rattle.c62_listing_reader.specs.Faults.{Refusal, drafts_in, draft_of, read_lines, with_rest, is_unfit, is_odd, unless_odd, IsFaulted, IsFirstFaulty, IsFaulty, cycles_added}
+use Rattle.c62_listing_reader.specs.Said.{Said, part_of, Draft, Drafts, all_drafts, opened, no_drafts, labels_of, aim_by, with_says, with_line, with_said}
+use Rattle.c62_listing_reader.specs.Begin.{is_beside, rest_of}
+use Rattle.c62_listing_reader.specs.Fine.{IsFine}
+use Rattle.c62_listing_reader.specs.Faults.{Refusal, drafts_in, draft_of, line_says, read_lines, rest_says, with_rest, is_unfit, is_odd, unless_odd, IsFaulted, IsFirstFaulty, IsFaulty, cycles_added}
 
 abbrev pub draft_open : OpenBlock → Draft
 draft_open block = record { label = block.label; cycles = block.cycles; placed = map part_of block.placed.items }
@@ -70,6 +72,13 @@ RefusesLines says (Shape line) = says ≡ Err (line, ShapeLine)
 RefusesLines says Memory = Unit {0}
 RefusesLines says _ = ⊥
 
+-- the blocks that the lines of a text say, each fine and no more than there may be, or its first faulty line
+abbrev pub ReadsBlocks : Names → List ℕ → Result Blocks ListFault → Type 0
+ReadsBlocks names text read = MatchResult read
+    (λ blocks. (lines_read names text ≡ Ok (drafts_of blocks)) × All IsFine (all_drafts (drafts_of blocks))
+    × (length (all_drafts (drafts_of blocks)) ≤ MOST_BLOCKS))
+    (λ fault. RefusesLines (lines_read names text) fault)
+
 -- the answer is right wherever the line of this number has this fault, or memory ran out
 abbrev pub TellsOfLine : ℕ → LineFault → ListFault → Type 0
 TellsOfLine line fault told = (says : Result Drafts Refusal) → (fault ≡ MemoryLine) ⊎ (says ≡ Err (line, fault)) → RefusesLines says told
@@ -84,6 +93,12 @@ RefusesBlocks drafts (Undrained number) = IsFirstFaulty drafts number NotDrained
 RefusesBlocks drafts (UnlawfulBlock number cycle rule) = IsFirstFaulty drafts number (Unlawful cycle rule)
 RefusesBlocks drafts Memory = Unit {0}
 RefusesBlocks drafts _ = ⊥
+
+-- the packets of these blocks, or the first of them that is faulty
+abbrev pub PacksBlocks : List Draft → Result (List Packed) ListFault → Type 0
+PacksBlocks drafts packed = MatchResult packed
+    (λ packets. (map draft_of packets ≡ drafts) × All IsPacketBlock packets)
+    (λ fault. RefusesBlocks drafts fault)
 
 abbrev pub Refuses : List ℕ → ListFault → Type 0
 Refuses text (Read fault) = drafts_in text ≡ Err (fault.line, ReadLine fault.cause)
@@ -110,6 +125,24 @@ fitting drafts above cut front reading =
 abbrev pub saying : Names → Drafts → Above → Cut → Front → Result (Option Name × Says) Cause → Result Said LineFault
 saying names drafts above cut front read =
     with_rest (labels_of (entries_of names)) drafts above (line_cut cut) (lines_in cut.rest.now) front read
+
+abbrev pub rest_saying : Names → Drafts → Above → Cut → Front → Result Said LineFault
+rest_saying names drafts above cut front =
+    saying names drafts above cut front (rest_says drafts (rest_of front (content (line_cut cut))))
+
+abbrev pub line_saying : Names → Drafts → Above → Cut → Result Said LineFault
+line_saying names drafts above cut =
+    line_says (labels_of (entries_of names)) drafts above (line_cut cut) (lines_in cut.rest.now)
+
+-- a line whose rest reads so is judged
+abbrev pub JudgesReading : Names → Drafts → Above → Cut → Front → Reading → Result Unit LineFault → Type 0
+JudgesReading names drafts above cut front reading verdict =
+    Judges (saying names drafts above cut front (Ok (reading.label, said_of reading.what))) (said_by front reading) verdict
+
+-- where the text says this of a line whose rest may be read, the line is judged so
+abbrev pub JudgesRead : Result Said LineFault → Front → Result Reading ReadFault → Result Unit LineFault → Type 0
+JudgesRead says front read verdict =
+    MatchResult verdict (λ _. IfOk read (λ reading. says ≡ Ok (said_by front reading))) (λ fault. Fails fault says)
 
 -- an instruction has its unit written
 abbrev pub HasUnit : Says → Type 0

@@ -11,7 +11,7 @@ ghost use Rattle.c62_listing_reader.specs.Cut.{line_cut};
 ghost use Rattle.c62_listing_reader.specs.Begin.{has_colon, front_of, rest_of, is_gap, is_beside};
 ghost use Rattle.c62_listing_reader.specs.Said.{labels_of};
 ghost use Rattle.c62_listing_reader.specs.Faults.{is_issue, is_filled, unit_said, unit_above, precedes, goes_on, is_misplaced, is_taken, rest_read_as, is_one_more, begins_one_more, hindrance, cycles_added, is_alone, is_too_long, with_rest, rest_says, line_says};
-ghost use Rattle.c62_listing_reader.specs.Reading.{drafts_of, said_by, entries_of, read_as, Fails, Judges, is_unfit_here, fitting, saying};
+ghost use Rattle.c62_listing_reader.specs.Reading.{drafts_of, said_by, entries_of, read_as, Fails, Judges, is_unfit_here, fitting, saying, rest_saying, line_saying, JudgesReading, JudgesRead};
 
 use crate::draft::Blocks;
 use crate::fault::LineFault;
@@ -279,8 +279,7 @@ fn with_reading(
     front: Front,
     reading: &Reading,
 ) -> Result<(), LineFault>
-    ensures { Judges (saying names.now (drafts_of blocks.now) above cut.now front
-        (Ok (reading.now.label, said_of reading.now.what))) (said_by front reading.now) result }
+    ensures { JudgesReading names.now (drafts_of blocks.now) above cut.now front reading.now result }
 {
     match hindrance(names, blocks, front, &reading.what) {
         Some(cause) => Err(LineFault::Read(cause)),
@@ -299,10 +298,7 @@ fn with_rest(
     read: &Result<Reading, ReadFault>,
 ) -> Result<(), LineFault>
     requires { read_as read.now ≡ line_of (rest_of front (content (line_cut cut.now))) }
-    ensures judged { let line = line_cut cut.now in
-        let says = with_rest (labels_of (entries_of names.now)) (drafts_of blocks.now) above line (lines_in cut.now.rest.now)
-        front (rest_says (drafts_of blocks.now) (rest_of front (content line))) in
-        MatchResult result (λ _. IfOk read.now (λ reading. says ≡ Ok (said_by front reading))) (λ fault. Fails fault says) }
+    ensures judged { JudgesRead (rest_saying names.now (drafts_of blocks.now) above cut.now front) front read.now result }
     ensures ok { OnOk result (IsOk read.now) }
 {
     match read {
@@ -346,9 +342,7 @@ pub fn judge(
 ) -> Result<(), LineFault>
     requires front { front ≡ front_of (content (line_cut cut.now)) }
     requires read { read_as read.now ≡ line_of (rest_of front (content (line_cut cut.now))) }
-    ensures judged { let says = line_says (labels_of (entries_of names.now)) (drafts_of blocks.now) above (line_cut cut.now)
-        (lines_in cut.now.rest.now) in
-        MatchResult result (λ _. IfOk read.now (λ reading. says ≡ Ok (said_by front reading))) (λ fault. Fails fault says) }
+    ensures judged { JudgesRead (line_saying names.now (drafts_of blocks.now) above cut.now) front read.now result }
     ensures ok { OnOk result (IsOk read.now) }
 {
     let line = content(cut);

@@ -5,7 +5,7 @@ ghost use Rattle.std.specs.BTreeMap as tree;
 ghost use Rattle.std.specs.Cmp.Lexicographic.{slice_cmp};
 ghost use Rattle.std.specs.Ordering.{nat_cmp};
 ghost use Rattle.std.specs.Str.{bytes_eq};
-ghost use Rattle.c62_listing_reader.specs.Named.{entry_of, number_in, or_number};
+ghost use Rattle.c62_listing_reader.specs.Named.{entry_of, number_in, AddsFirst, HasFirstNumbers};
 
 use std::alloc::{AllocError, Global};
 use std::collections::BTreeMap;
@@ -22,7 +22,7 @@ pub struct Named<'a> {
 pub struct Names<'a> {
     all: Vec<Named<'a>>,
     numbers: BTreeMap<&'a [u8], u32>,
-    pub ghost found: { (label : List ℕ) → tree.get_by (λ k. slice_cmp nat_cmp label k.now) numbers ≡ number_in (map entry_of all.items) label },
+    pub ghost found: { HasFirstNumbers numbers (map entry_of all.items) },
 }
 
 /// Adds a label with its number, where it isn't there.
@@ -31,8 +31,7 @@ fn put_first<'a>(
     label: &'a [u8],
     number: u32,
 ) -> Result<(), AllocError>
-    ensures { OnOk result ((other : List ℕ) → tree.get_by (λ k. slice_cmp nat_cmp other k.now) numbers.new
-        ≡ or_number (tree.get_by (λ k. slice_cmp nat_cmp other k.now) numbers.old) (if bytes_eq label.now other then Some number else None)) }
+    ensures { OnOk result (AddsFirst label.now number numbers.old numbers.new) }
 {
     if !numbers.contains_key(label) {
         numbers.insert(label, number)?;
@@ -45,7 +44,7 @@ fn first_numbers<'a>(
     alloc: Global,
     names: &[Named<'a>],
 ) -> Result<BTreeMap<&'a [u8], u32>, AllocError>
-    ensures { IfOk result (λ numbers. (label : List ℕ) → tree.get_by (λ k. slice_cmp nat_cmp label k.now) numbers ≡ number_in (map entry_of names.now) label) }
+    ensures { IfOk result (λ numbers. HasFirstNumbers numbers (map entry_of names.now)) }
 {
     let mut numbers = BTreeMap::new(alloc);
     for named in names {

@@ -12,7 +12,7 @@ ghost use Rattle.c62_listing_reader.specs.Named.{entry_of};
 ghost use Rattle.c62_listing_reader.specs.Said.{Draft, names_in, aimed_parts, aim_by, above_of, above_next, all_drafts};
 ghost use Rattle.c62_listing_reader.specs.Faults.{contents, draft_of, IsFirstFaulty, IsRead, cycles_added};
 ghost use Rattle.c62_listing_reader.specs.Fine.{IsFine};
-ghost use Rattle.c62_listing_reader.specs.Reading.{draft_open, drafts_of, said_by, read_as, entries_of, HasUnit, Fits, lines_read, AddsSays, AddsLine, AddsSaid, RefusesLines, TellsOfLine, IsBlockOf, RefusesBlocks, Refuses};
+ghost use Rattle.c62_listing_reader.specs.Reading.{draft_open, drafts_of, said_by, read_as, entries_of, HasUnit, Fits, ReadsBlocks, PacksBlocks, AddsSays, AddsLine, AddsSaid, RefusesLines, TellsOfLine, IsBlockOf, RefusesBlocks, Refuses};
 
 use crate::draft::{Blocks, OpenBlock};
 use crate::fault::{LineFault, ListFault};
@@ -186,10 +186,7 @@ fn fault_of_line(line: u32, fault: LineFault) -> ListFault
 /// The blocks that the lines say.
 fn read_blocks(alloc: Global, names: &Names<'_>, text: &[u8]) -> Result<Blocks, ListFault>
     requires { length text.now ≤ MOST_BYTES }
-    ensures { MatchResult result
-        (λ blocks. (lines_read names.now text.now ≡ Ok (drafts_of blocks))
-        × All IsFine (all_drafts (drafts_of blocks)) × (length (all_drafts (drafts_of blocks)) ≤ MOST_BLOCKS))
-        (λ fault. RefusesLines (lines_read names.now text.now) fault) }
+    ensures { ReadsBlocks names.now text.now result }
 {
     let mut spelling = String::with_capacity(alloc, LONGEST_LINE)?;
     let mut blocks = Blocks::new(alloc);
@@ -244,9 +241,7 @@ fn put(packets: &mut Packets, block: PacketBlock) -> Result<(), ListFault>
 fn packets_of(alloc: Global, blocks: Vec<OpenBlock>) -> Result<Packets, ListFault>
     requires few { length blocks.items ≤ MOST_BLOCKS }
     requires fine { All IsFine (map draft_open blocks.items) }
-    ensures { MatchResult result
-        (λ packets. (map draft_of packets ≡ map draft_open blocks.items) × All IsPacketBlock packets)
-        (λ fault. RefusesBlocks (map draft_open blocks.items) fault) }
+    ensures { PacksBlocks (map draft_open blocks.items) result }
 {
     let mut packets = Packets::new(alloc);
     let mut left = blocks;

@@ -1,7 +1,7 @@
 //! The lines of a text, with their ends.
 
-ghost use Rattle.std.specs.Prelude.{◌≡◌, ◌∷◌, [], ◌<◌, length, position, IfSome, MatchOption};
-ghost use Rattle.c62_read.specs.Text.{is_line_feed, without_return};
+ghost use Rattle.std.specs.Prelude.{◌≡◌, ◌∷◌, [], ◌<◌, length, IfSome};
+ghost use Rattle.c62_read.specs.Text.{without_return};
 ghost use Rattle.c62_listing_reader.specs.Text.{lines_in, content, ends_in_return, is_ended, is_empty, begin_filled};
 ghost use Rattle.c62_listing_reader.specs.Cut.{line_cut, CutsFirst};
 
@@ -16,14 +16,6 @@ pub struct Cut<'a> {
     pub rest: &'a [u8],
 }
 
-/// Where the first line feed stands.
-fn feed_in(text: &[u8]) -> Option<usize>
-    ensures value { result ≡ position is_line_feed text.now }
-    ensures within { IfSome result (λ index. index < length text.now) }
-{
-    memchr(b'\n', text)
-}
-
 /// The first line of a text.
 pub fn first_line(text: &[u8]) -> Option<Cut<'_>>
     ensures found { CutsFirst text.now result }
@@ -32,7 +24,7 @@ pub fn first_line(text: &[u8]) -> Option<Cut<'_>>
     if text.is_empty() {
         return None;
     }
-    match feed_in(text) {
+    match memchr(b'\n', text) {
         Some(end) => Some(Cut {
             bytes: &text[..end],
             fed: true,
@@ -47,7 +39,7 @@ pub fn first_line(text: &[u8]) -> Option<Cut<'_>>
 }
 
 /// A line without the carriage return that stands last.
-#[tactic(auto, using(crate::proofs::TextLemmas::without_last))]
+#[tactic(auto, using(c62_read::proofs::LineLemmas::without_last))]
 fn without_return(line: &[u8]) -> &[u8]
     ensures { result.now ≡ without_return line.now }
 {

@@ -58,3 +58,7 @@ cycles_of block = length_of (issues_of block)
 -- from every machine the packets leave what the serial block leaves, and go on where it does
 abbrev pub AreSerial : List SerialInsn → List Placed → Type 0
 AreSerial insns block = (opening : Machine) (ran : Ran) → IsSound opening → IsMeaning block (cycles_of block) opening ran ↔ (ran ≡ serial insns opening)
+
+-- packets of a block are serial, where they hold its instructions so that every dependence keeps its distance
+abbrev pub PacketsAreSerial : List SerialInsn → List Placed → Type 0
+PacketsAreSerial insns block = IsTrue (branch_last (operations insns)) → IsPacked insns block → AreSerial insns block

@@ -1,13 +1,12 @@
 //! Laws of packet meaning. The functions do nothing: what each ensures is a law, proved of the
 //! definitions that other contracts cite.
 
-ghost use Rattle.std.specs.Prelude.{ℕ, List, IsTrue};
+ghost use Rattle.std.specs.Prelude.{ℕ, List};
 ghost use Rattle.c62_insn.specs.declared.insn.Insn.{Insn};
 ghost use Rattle.c62_read.specs.declared.block.SerialInsn.{SerialInsn};
-ghost use Rattle.c62_read.specs.Block.{branch_last, operations};
 ghost use Rattle.c62_serial.specs.State.{Machine, IsSound};
 ghost use Rattle.c62_packet.specs.declared.placed.Placed.{Placed};
-ghost use Rattle.c62_meaning.specs.Laws.{HasOneMeaning, IsSameInsn, ActsAlike, IsPacked, AreSerial};
+ghost use Rattle.c62_meaning.specs.Laws.{HasOneMeaning, IsSameInsn, ActsAlike, PacketsAreSerial};
 
 /// Every block of packets has just one meaning, whatever its instructions do and wherever they are
 /// placed.
@@ -20,8 +19,7 @@ pub fn has_one_meaning()
 /// distance, they leave what the block leaves one instruction after the other, in registers, memory
 /// and faulted lines, and go on where it does, from every machine.
 pub fn packets_are_serial()
-    ensures { (insns : List SerialInsn) (block : List Placed) → IsTrue (branch_last (operations insns))
-        → IsPacked insns block → AreSerial insns block }
+    ensures { (insns : List SerialInsn) (block : List Placed) → PacketsAreSerial insns block }
 {}
 
 /// What an instruction does is the same on whichever unit it is written.

@@ -1,5 +1,5 @@
 -- What stands against a block that is written with so many cycles (docs/LISTING.md, "Faults of a block").
-use Rattle.std.specs.Prelude.{◌≡◌, ◌⊎◌, ℕ, ◌<◌, List, Option, MatchOption}
+use Rattle.std.specs.Prelude.{◌≡◌, ◌⊎◌, ℕ, ◌<◌, List, Option, MatchOption, Result, MatchResult}
 use Rattle.c62_insn.specs.Length.{length_of}
 use Rattle.c62_insn.specs.PacketRules.{KeepsPacketRules}
 use Rattle.c62_packet.specs.declared.placed.Placed.{Placed}
@@ -40,6 +40,11 @@ abbrev pub IsFault : ℕ → List Placed → BlockFault → Type 0
 IsFault cycles placed TwoBranches = HaveOneBranch placed → ⊥
 IsFault cycles placed NotDrained = HaveOneBranch placed × (HaveLength cycles placed → ⊥)
 IsFault cycles placed (Unlawful cycle rule) = HaveOneBranch placed × HaveLength cycles placed × IsFirstBroken cycle rule placed
+
+-- the block that was asked for is a packet block, or its first fault
+abbrev pub IsPackedOrFaulty : Packed → Result Packed BlockFault → Type 0
+IsPackedOrFaulty block made =
+    MatchResult made (λ packed. (packed ≡ block) × IsPacketBlock packed) (λ fault. IsFault block.cycles block.placed fault)
 
 -- a packet block has no fault
 abbrev pub HasNoFault : Packed → Type 0

@@ -16,6 +16,9 @@ pub record Packed : Type 0 where
   pub cycles : ℕ
   pub placed : List Placed
 
+abbrev pub packed_of : Option (List ℕ) → ℕ → List Placed → Packed
+packed_of label cycles placed = record { label = label; cycles = cycles; placed = placed }
+
 abbrev pub issue_of : Placed → Issue
 issue_of p = record { insn = p.insn; cycle = p.cycle; unit = p.unit }
 

@@ -4,8 +4,8 @@ ghost use Rattle.std.specs.Prelude.{◌≡◌, ◌≤◌, length, Some, MatchRes
 ghost use Rattle.std.specs.Option.{option_copied};
 ghost use Rattle.c62_read.specs.declared.limits.TheConstants.{MOST_INSTRUCTIONS};
 ghost use Rattle.c62_packet.specs.declared.limits.TheConstants.{MOST_CYCLES};
-ghost use Rattle.c62_packet.specs.Packed.{Packed, IsPacketBlock, IsInListingOrder, StandAsWritten};
-ghost use Rattle.c62_packet.specs.Fault.{IsFault};
+ghost use Rattle.c62_packet.specs.Packed.{Packed, packed_of, IsPacketBlock, IsInListingOrder, StandAsWritten};
+ghost use Rattle.c62_packet.specs.Fault.{IsPackedOrFaulty};
 
 use crate::fault::BlockFault;
 use crate::length::{cycles_of, has_one_branch, is_drained};
@@ -28,9 +28,9 @@ pub struct PacketBlock {
 impl Model for PacketBlock {
     ghost Value = { Packed };
 
-    ghost view = { λ block. record { label = block.label; cycles = block.cycles; placed = block.placed.items } };
+    ghost view = { λ block. packed_of block.label block.cycles block.placed.items };
 
-    ghost invariant = { λ block. IsPacketBlock (record { label = block.label; cycles = block.cycles; placed = block.placed.items }) };
+    ghost invariant = { λ block. IsPacketBlock (packed_of block.label block.cycles block.placed.items) };
 }
 
 impl PacketBlock {
@@ -51,9 +51,7 @@ impl PacketBlock {
         requires short { cycles ≤ MOST_CYCLES }
         requires in_order { IsInListingOrder placed.items }
         requires as_written { StandAsWritten placed.items }
-        ensures { MatchResult result
-            (λ block. (block ≡ record { label = label; cycles = cycles; placed = placed.items }) × IsPacketBlock block)
-            (λ fault. IsFault cycles placed.items fault) }
+        ensures { IsPackedOrFaulty (packed_of label cycles placed.items) result }
     {
         if !has_one_branch(&placed) {
             return Err(BlockFault::TwoBranches);
@@ -73,8 +71,8 @@ impl PacketBlock {
 
     /// The block of these instructions, which make one with so many cycles.
     pub fn of_lawful(label: Option<Label>, cycles: u16, placed: Vec<Placed>) -> PacketBlock
-        requires { IsPacketBlock (record { label = label; cycles = cycles; placed = placed.items }) }
-        ensures { result ≡ record { label = label; cycles = cycles; placed = placed.items } }
+        requires { IsPacketBlock (packed_of label cycles placed.items) }
+        ensures { result ≡ packed_of label cycles placed.items }
     {
         PacketBlock {
             label,

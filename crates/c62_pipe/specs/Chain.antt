@@ -58,3 +58,8 @@ pub record ArePacked (program : List Serial) (packets : List Packed) : Type 0 wh
 pub record RunsAsProgram (program : List Serial) (packets : List Packed) (opening : Machine) (limit : ℕ) (chain : Chain) (final : Machine) : Type 0 where
   pub packed : RunsProgram program opening limit chain final → (cycles : ℕ) × RunsPackets packets opening limit chain cycles final
   pub serial : (cycles : ℕ) → RunsPackets packets opening limit chain cycles final → RunsProgram program opening limit chain final
+
+-- packets of a program, in which every dependence keeps its distance, run as it does
+abbrev pub RunsAlike : List Serial → List Packed → Machine → ℕ → Type 0
+RunsAlike program packets opening limit =
+    ArePacked program packets → IsSound opening → (chain : Chain) (final : Machine) → RunsAsProgram program packets opening limit chain final

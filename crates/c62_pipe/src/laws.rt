@@ -2,14 +2,13 @@
 
 ghost use Rattle.std.specs.Prelude.{ℕ, List};
 ghost use Rattle.c62_read.specs.Block.{Serial};
-ghost use Rattle.c62_serial.specs.declared.chain.Chain.{Chain as ChainValue};
-ghost use Rattle.c62_serial.specs.State.{Machine, IsSound};
+ghost use Rattle.c62_serial.specs.State.{Machine};
 ghost use Rattle.c62_packet.specs.Packed.{Packed};
-ghost use Rattle.c62_pipe.specs.Chain.{ArePacked, RunsAsProgram};
+ghost use Rattle.c62_pipe.specs.Chain.{RunsAlike};
 
 /// Packets of a program's blocks, in which every dependence keeps its distance, run as the program
 /// does: the same chain and the same machine, from every machine and under every limit.
 pub fn packets_run_as_their_program()
-    ensures { (program : List Serial) (packets : List Packed) (opening final : Machine) (limit : ℕ) (chain : ChainValue)
-        → ArePacked program packets → IsSound opening → RunsAsProgram program packets opening limit chain final }
+    ensures { (program : List Serial) (packets : List Packed) (opening : Machine) (limit : ℕ)
+        → RunsAlike program packets opening limit }
 {}

@@ -1,6 +1,6 @@
 -- Case changes nothing but labels.
 use Rattle.std.proofs.Common.{◌≡◌, ℕ, zero, suc, Bool, true, false, cond, eqb, ltb, ◌&&◌, ◌||◌, List, [], ◌∷◌, length, Option, Some, None, Result, Ok}
-use Rattle.std.proofs.Common.{Err, refl, sym, ap, subst, ◌∙◌, arith, inl, inr}
+use Rattle.std.proofs.Common.{Err, not, refl, sym, ap, subst, ◌∙◌, arith, inl, inr}
 use Rattle.std.specs.Prelude.{drop, option_and_then, option_map, codes}
 use Rattle.std.specs.Char.{is_ascii_digit, to_ascii_lowercase}
 use Rattle.std.specs.List.{find, list_all}
@@ -494,14 +494,15 @@ pub head_same : (before : ℕ) (line other : List ℕ) → IsRecased before line
 unfolding head_of
 head_same before line other same =
     let words = tokens_recased before line other same in
-    same_cond SameHead (list_all is_allowed line) (list_all is_allowed other)
+    same_cond SameHead (not (list_all is_allowed line)) (not (list_all is_allowed other))
+    (Err NotAscii)
     (cond (ltb 255 (length line)) (Err LineTooLong)
     (cond (begins is_star line) (Ok (None, [])) (cond (is_bars (tokens line)) (Err ParallelBar) (without_colon (label_front (tokens line))))))
     (Err NotAscii)
     (cond (ltb 255 (length other)) (Err LineTooLong)
     (cond (begins is_star other) (Ok (None, []))
     (cond (is_bars (tokens other)) (Err ParallelBar) (without_colon (label_front (tokens other))))))
-    (Err NotAscii) (all_same is_allowed allowed_same before line other same)
+    (ap not (all_same is_allowed allowed_same before line other same)) refl
     (same_cond SameHead (ltb 255 (length line)) (ltb 255 (length other)) (Err LineTooLong)
     (cond (begins is_star line) (Ok (None, [])) (cond (is_bars (tokens line)) (Err ParallelBar) (without_colon (label_front (tokens line)))))
     (Err LineTooLong)
@@ -514,7 +515,7 @@ head_same before line other same =
     (same_cond SameHead (is_bars (tokens line)) (is_bars (tokens other)) (Err ParallelBar) (without_colon (label_front (tokens line)))
     (Err ParallelBar) (without_colon (label_front (tokens other)))
     (bars_same (tokens line) (tokens other) words) refl
-    (uncoloned (label_front (tokens line)) (label_front (tokens other)) (front_label_same (tokens line) (tokens other) words))))) refl
+    (uncoloned (label_front (tokens line)) (label_front (tokens other)) (front_label_same (tokens line) (tokens other) words)))))
 
 -- ---- the line
 

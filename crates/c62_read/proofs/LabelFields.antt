@@ -1,8 +1,8 @@
 -- The label field of a line.
 use Rattle.std.proofs.Common.{◌≡◌, ℕ, Bool, true, false, eqb, ◌&&◌, List, [], ◌∷◌, length, Some, None, Result, Ok, Err, refl, sym, ap, subst, ◌∙◌}
-use Rattle.std.specs.Prelude.{Option, codes, nat_lt, if◌then◌else◌}
+use Rattle.std.specs.Prelude.{Option, codes, nat_lt, not, if◌then◌else◌}
 use Rattle.std.specs.List.{list_all}
-use Rattle.std.proofs.lemmas.Bool.{and_right, eqb-true}
+use Rattle.std.proofs.lemmas.Bool.{and_right, eqb-true, true≢false}
 use Rattle.c62_read.specs.declared.fault.Cause.{Cause}
 use Rattle.c62_read.specs.declared.fault.Cause.TheVariants.{BadLabel, LineTooLong, NotAscii, ParallelBar}
 use Rattle.c62_read.specs.Text.{begins, is_allowed, is_double, tokens}
@@ -47,32 +47,47 @@ colon_field : (colon : Bool) (front : Option Name × List (List ℕ)) (label : O
 colon_field true front label words is = absurd cc
 colon_field false front label words is = cc
 
-abbrev SameHead : Result (Option Name × List (List ℕ)) Cause → Result (Option Name × List (List ℕ)) Cause → Type 0
-SameHead read said = read ≡ said
-
-head_label : (found other : Option Name × List (List ℕ)) → SameHead (Ok found) (Ok other) → found.0 ≡ other.0
-head_label found other is = let same : found ≡ other = cc in ap (λ (head : Option Name × List (List ℕ)). head.0) same
+label_of : (found other : Option Name × List (List ℕ)) → ◌≡◌ {A = Result (Option Name × List (List ℕ)) Cause} (Ok found) (Ok other) → found.0 ≡ other.0
+label_of found other is = let same : found ≡ other = cc in ap (λ (head : Option Name × List (List ℕ)). head.0) same
 
 abbrev Heads : Bool → Bool → Bool → Bool → List ℕ → Result (Option Name × List (List ℕ)) Cause
 Heads allowed long star bars line =
-    if allowed then (if long then Err LineTooLong
+    if not allowed then Err NotAscii
+    else (if long then Err LineTooLong
     else (if star then Ok (None, [])
     else (if bars then Err ParallelBar
     else without_colon (label_front (tokens line)))))
-    else Err NotAscii
 
-head_field : (allowed long star bars : Bool) (line : List ℕ) (label : Option Name) (words : List (List ℕ)) → begins is_star line ≡ star
-    → Heads allowed long star bars line ≡ Ok (label, words)
-    → label_field line ≡ label
-unfolding label_field
-head_field false long star bars line label words starred is = absurd cc
-head_field true true star bars line label words starred is = absurd cc
-head_field true false true bars line label words starred is = star_field line starred ∙ head_label (None, []) (label, words) is
-head_field true false false true line label words starred is = absurd cc
-head_field true false false false line label words starred is =
-    colon_field (has_colon (label_front (tokens line)).1) (label_front (tokens line)) label words is
+-- what holds of a line whose head is read: it may be read, and is a comment without a label, or has its tokens behind a label
+pub record IsHeadRead (line : List ℕ) (label : Option Name) (words : List (List ℕ)) : Type 0 where
+  pub allowed : list_all is_allowed line ≡ true
+  pub short : nat_lt 255 (length line) ≡ false
+  pub comment : begins is_star line ≡ true → label ≡ None
+  pub front : begins is_star line ≡ false → without_colon (label_front (tokens line)) ≡ Ok (label, words)
+
+read_by : (allowed long star bars : Bool) (line : List ℕ) (label : Option Name) (words : List (List ℕ))
+    → list_all is_allowed line ≡ allowed → nat_lt 255 (length line) ≡ long → begins is_star line ≡ star
+    → Heads allowed long star bars line ≡ Ok (label, words) → IsHeadRead line label words
+read_by false long star bars line label words may short starred is = absurd cc
+read_by true true star bars line label words may short starred is = absurd cc
+read_by true false true bars line label words may short starred is =
+    record { allowed = may; short = short; comment = λ _. sym (label_of (None, []) (label, words) is); front = λ plain. absurd (true≢false (sym starred ∙ plain)) }
+read_by true false false true line label words may short starred is = absurd cc
+read_by true false false false line label words may short starred is =
+    record { allowed = may; short = short; comment = λ star. absurd (true≢false (sym star ∙ starred)); front = λ _. is }
+
+pub head_read : (line : List ℕ) (label : Option Name) (words : List (List ℕ)) → head_of line ≡ Ok (label, words) → IsHeadRead line label words
+unfolding head_of
+head_read line label words is = read_by (list_all is_allowed line) (nat_lt 255 (length line)) (begins is_star line)
+    (is_bars (tokens line)) line label words refl refl refl is
 
 pub field_is : (line : List ℕ) (label : Option Name) (words : List (List ℕ)) → head_of line ≡ Ok (label, words) → label_field line ≡ label
-unfolding head_of
-field_is line label words is = head_field (list_all is_allowed line) (nat_lt 255 (length line)) (begins is_star line)
-    (is_bars (tokens line)) line label words refl is
+unfolding label_field
+field_is line label words is = go (begins is_star line) refl
+  where
+    read : IsHeadRead line label words
+    read = head_read line label words is
+
+    go : (star : Bool) → begins is_star line ≡ star → (label_front (tokens line)).0 ≡ label
+    go true e = star_field line e ∙ sym (read.comment e)
+    go false e = colon_field (has_colon (label_front (tokens line)).1) (label_front (tokens line)) label words (read.front e)

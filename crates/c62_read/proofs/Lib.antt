@@ -20,6 +20,7 @@ pub mod SpelledSources
 pub mod SpelledUnits
 pub mod SpelledAddresses
 pub mod SpelledOperands
+pub mod FirstByte
 pub mod HeadLemmas
 pub mod SkipLemmas
 pub mod NameLemmas

@@ -1,70 +1,11 @@
 -- Bytes that are tested step by step.
-use Rattle.std.proofs.Common.{◌≡◌, ◌<◌, ◌≤◌, ℕ, ◌+◌, ◌-◌, zero, suc, Bool, true, false, not, ◌&&◌, ◌||◌, List, [], ◌∷◌, length, take, drop, refl, ap}
-use Rattle.std.proofs.Common.{◌∙◌, arith, take-add}
-use Rattle.std.specs.Prelude.{if◌then◌else◌}
-use Rattle.std.specs.List.{list_all, list_any, position_or_len}
-use Rattle.std.proofs.lemmas.Bool.{or_parts, and_from, and_parts}
-use Rattle.std.proofs.lemmas.List.Folds.{list_any-append}
-use Rattle.std.proofs.lemmas.List.Sums.{prefix_len-le-length}
+use Rattle.std.proofs.Common.{◌≡◌, ◌≤◌, ℕ, ◌+◌, zero, suc, Bool, true, false, ◌&&◌, List, [], ◌∷◌, take, drop, refl, ap, ◌∙◌, arith, take-add}
+use Rattle.std.specs.List.{list_all}
+use Rattle.std.proofs.lemmas.Bool.{and_from, and_parts}
 use Rattle.std.proofs.lemmas.List.Folds.{list_all-append}
 
 module _ (test : ℕ → Bool) where
-  pub position_later : (n : ℕ) (text : List ℕ) → list_any test (take n text) ≡ false → n ≤ length text
-      → position_or_len test text ≡ n + position_or_len test (drop n text)
-  position_later zero text none within = omega arith
-  position_later (suc n) [] none within = absurd (omega arith)
-  position_later (suc n) (b ∷ text) none within = go (test b) none (position_later n text)
-    where
-      go : (feed : Bool) → (feed || list_any test (take n text)) ≡ false
-          → (list_any test (take n text) ≡ false → n ≤ length text
-          → position_or_len test text ≡ n + position_or_len test (drop n text))
-          → (if not feed then 1 + position_or_len test text else 0) ≡ suc n + position_or_len test (drop n text)
-      go true e others = absurd cc
-      go false e others = omega (arith, others e (omega arith))
-
-  pub none_more_steps : (text : List ℕ) (n k : ℕ) → list_any test (take n text) ≡ false → list_any test (take k (drop n text)) ≡ false
-      → list_any test (take (n + k) text) ≡ false
-  none_more_steps text n k front next =
-      ap (list_any test) (take-add n k text) ∙ list_any-append test (take n text) (take k (drop n text))
-      ∙ ap (λ (x : Bool). x || list_any test (take k (drop n text))) front ∙ next
-
-  within_next : (k : ℕ) (text : List ℕ) → list_any test (take k text) ≡ true → position_or_len test text < k
-  within_next zero text some = absurd cc
-  within_next (suc k) [] some = absurd cc
-  within_next (suc k) (b ∷ text) some = go (test b) some (within_next k text)
-    where
-      go : (feed : Bool) → (feed || list_any test (take k text)) ≡ true
-          → (list_any test (take k text) ≡ true → position_or_len test text < k)
-          → (if not feed then 1 + position_or_len test text else 0) < suc k
-      go true e others = omega arith
-      go false e others = omega (arith, others e)
-
-  pub near_feed : (text : List ℕ) (n k : ℕ) → n ≤ length text → list_any test (take n text) ≡ false
-      → list_any test (take k (drop n text)) ≡ true → position_or_len test text < n + k
-  near_feed text n k within none some = omega (arith, position_later n text none within, within_next k (drop n text) some)
-
-  pub near_end : (text : List ℕ) (n k : ℕ) → length text - n < k → position_or_len test text < n + k
-  near_end text n k short = omega (arith, prefix_len-le-length (λ (b : ℕ). not (test b)) text)
-
-  -- ---- a last step that overlaps
-
-  pub any_near : (bytes : List ℕ) → position_or_len test bytes < length bytes → list_any test bytes ≡ true
-  any_near [] near = absurd (omega (arith, near))
-  any_near (b ∷ bytes) near = go (test b) near (any_near bytes)
-    where
-      go : (here : Bool) → (if not here then 1 + position_or_len test bytes else 0) < suc (length bytes)
-          → (position_or_len test bytes < length bytes → list_any test bytes ≡ true) → (here || list_any test bytes) ≡ true
-      go true less others = refl
-      go false less others = others (omega (arith, less))
-
-  pub any_behind : (n m : ℕ) (bytes : List ℕ) → n ≤ m → list_any test (take m bytes) ≡ false → list_any test bytes ≡ list_any test (drop n bytes)
-  any_behind zero m bytes less none = refl
-  any_behind (suc n) zero bytes less none = absurd (omega (arith, less))
-  any_behind (suc n) (suc m) [] less none = refl
-  any_behind (suc n) (suc m) (b ∷ bytes) less none =
-      let parts = or_parts (test b) (list_any test (take m bytes)) none in
-      rw parts.0 (any_behind n m bytes (omega (arith, less)) parts.1)
-
+  -- where the last step overlaps the one before
   pub all_behind : (n m : ℕ) (bytes : List ℕ) → n ≤ m → list_all test (take m bytes) ≡ true → list_all test bytes ≡ list_all test (drop n bytes)
   all_behind zero m bytes less all = refl
   all_behind (suc n) zero bytes less all = absurd (omega (arith, less))

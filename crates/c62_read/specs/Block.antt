@@ -1,11 +1,11 @@
 -- Blocks of serial text.
-use Rattle.std.specs.Prelude.{ℕ, Bool, true, false, not, ◌&&◌, nat_le, List, [], ◌∷◌, length, map, Option, Some, None, is_some}
+use Rattle.std.specs.Prelude.{◌≡◌, ◌≤◌, ℕ, Bool, true, false, not, ◌&&◌, nat_le, List, [], ◌∷◌, length, map, Option, Some, None, is_some}
 use Rattle.std.specs.List.{list_all, slice_get}
 use Rattle.c62_insn.specs.declared.operands.Op.{Op}
 use Rattle.c62_insn.specs.declared.operands.Operands.{Operands}
 use Rattle.c62_insn.specs.declared.operands.Operands.TheVariants.{Block as BlockNumber}
 use Rattle.c62_insn.specs.Insn.{op_of, operands_of}
-use Rattle.c62_read.specs.declared.limits.TheConstants.{MOST_INSTRUCTIONS}
+use Rattle.c62_read.specs.declared.limits.TheConstants.{MOST_INSTRUCTIONS, MOST_BLOCKS}
 use Rattle.c62_read.specs.declared.block.SerialInsn.{SerialInsn}
 use Rattle.c62_read.specs.Line.{is_branch}
 
@@ -47,3 +47,7 @@ target_stands labels operands = true
 unfoldable pub targets_stand : List Serial → Bool
 targets_stand blocks =
     list_all (λ block. list_all (λ entry. target_stands (labels_in blocks) (operands_of entry.insn)) block.insns) blocks
+
+-- what always holds of a program: it has so many blocks at most, and its branches have targets
+abbrev pub IsProgram : List Serial → Type 0
+IsProgram blocks = (length blocks ≤ MOST_BLOCKS) × (targets_stand blocks ≡ true)

@@ -1,5 +1,5 @@
 -- Laws of lines: what is spelled reads back.
-use Rattle.std.specs.Prelude.{◌≡◌, ℕ, ◌+◌, ◌≤◌, ◌<◌, ◌^◌, nat_lt, Bool, true, false, ◌&&◌, ◌||◌, ℤ, pos, ◌≤ℤ◌, List, [], ◌∷◌, ◌++◌, length, map}
+use Rattle.std.specs.Prelude.{◌≡◌, ℕ, ◌+◌, ◌≤◌, ◌<◌, ◌^◌, nat_lt, Bool, true, false, ◌&&◌, ◌||◌, ℤ, pos, ◌≤ℤ◌, List, [], ◌∷◌, ◌++◌, length, map, filter, take_while, not, ◌==◌}
 use Rattle.std.specs.Prelude.{option_map, position, unwrap_or, slice_get, Contains, Option, Some, None, is_some, Result, Ok, Err, codes, decimal}
 use Rattle.std.specs.Prelude.{IsTrue}
 use Rattle.std.specs.Char.{to_ascii_lowercase}
@@ -19,7 +19,7 @@ use Rattle.c62_insn.specs.Effect.{result_of}
 use Rattle.c62_insn.specs.Insn.{op_of, operands_of, cond_of}
 use Rattle.c62_insn.specs.Spelling.{register_name, spelling}
 use Rattle.c62_insn.specs.Takes.{takes}
-use Rattle.c62_read.specs.Text.{is_allowed, is_blank, lines_of}
+use Rattle.c62_read.specs.Text.{is_allowed, is_blank, lines_of, tokens}
 use Rattle.c62_read.specs.Number.{is_label, negative, number_of, register_of}
 use Rattle.c62_read.specs.Kind.{Word}
 use Rattle.c62_read.specs.Mnemonic.{exchanged}
@@ -28,6 +28,11 @@ use Rattle.c62_read.specs.declared.fault.Cause.{Cause}
 use Rattle.c62_read.specs.Block.{branch_last}
 use Rattle.c62_read.specs.Program.{BlockParts, Item, Name, Numbered, Runs, items_from, label_is, label_items, labels_of, most_bytes, label_field}
 use Rattle.c62_read.specs.Program.{program_in}
+
+-- the tokens of a line are its bytes in their order, less blanks and what follows a `;`
+abbrev pub TokensAreTheBytes : List ℕ → Type 0
+TokensAreTheBytes line =
+    flat_map (λ token. token) (tokens line) ≡ filter (λ b. not (is_blank b)) (take_while (λ b. not (b == 59)) line)
 
 -- the decimal spelling of a number reads as it
 abbrev pub NumberReadsBack : ℤ → Type 0

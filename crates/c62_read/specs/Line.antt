@@ -1,6 +1,6 @@
 -- What a line says, and its first fault.
-use Rattle.std.specs.Prelude.{ℕ, pos, Bool, true, false, not, ◌==◌, ◌&&◌, nat_le, nat_lt, List, [], ◌∷◌, length, drop, Option, Some, None, option_map}
-use Rattle.std.specs.Prelude.{option_and_then, Result, Ok, Err, codes, if◌then◌else◌}
+use Rattle.std.specs.Prelude.{◌≡◌, ℕ, pos, Bool, true, false, not, ◌==◌, ◌&&◌, nat_le, nat_lt, List, [], ◌∷◌, length, drop, Option, Some, None, option_map}
+use Rattle.std.specs.Prelude.{option_and_then, Result, Ok, Err, MatchResult, codes, if◌then◌else◌}
 use Rattle.std.specs.List.{list_all, list_any}
 use Rattle.c62_insn.specs.declared.register.Side.{Side}
 use Rattle.c62_insn.specs.declared.register.Cond.{Cond as Condition}
@@ -77,99 +77,37 @@ abbrev pub said : Result Statement Cause → Result Says Cause
 said (Ok read) = Ok (statement_of read)
 said (Err cause) = Err cause
 
--- ---- the form of an instruction
+-- ---- the head of a line
 
-abbrev pub unit_written : Option WrittenUnit → Option FunctionalUnit
-unit_written written = option_map (λ w. w.unit) written
+-- the label that stands first, and the tokens behind its colon
+unfoldable pub label_front : List Word → Option Word × List Word
+label_front (name ∷ colon ∷ words) =
+    if spells (codes ":") colon && is_label name then (Some name, words) else (None, name ∷ colon ∷ words)
+label_front words = (None, words)
 
-abbrev pub is_path : Side → Option Side → Bool
-is_path side None = false
-is_path side (Some path) = same_side path side
+abbrev pub has_colon : List Word → Bool
+has_colon words = list_any (λ word. spells (codes ":") word) words
 
-abbrev pub misses : Mark → Side → Operands → Bool
-misses Plain side operands = false
-misses Cross side operands = not (crosses_to side operands)
-misses (Path path) side operands = not (is_path path (data_path_of operands))
+abbrev pub without_colon : Option Word × List Word → Result (Option Word × List Word) Cause
+without_colon (label, words) = if has_colon words then Err BadLabel else Ok (label, words)
 
--- X where nothing crosses, or T with the other file's number
-abbrev pub is_mismarked : Option WrittenUnit → Operands → Bool
-is_mismarked None operands = false
-is_mismarked (Some written) operands = misses written.mark written.unit.side operands
+abbrev pub is_bars : List Word → Bool
+is_bars [] = false
+is_bars (word ∷ words) = spells (codes "||") word
 
--- a wrong mark is a bad side, which comes before a lack of units
-abbrev pub with_mark : Option FormFault → Bool → Option FormFault
-with_mark None mismarked = if mismarked then Some BadSide else None
-with_mark (Some NoUnit) mismarked = if mismarked then Some BadSide else Some NoUnit
-with_mark (Some fault) mismarked = Some fault
+abbrev pub is_star : ℕ → Bool
+is_star b = b == 42
 
-unfoldable pub text_fault : Op → Operands → Option Condition → Option WrittenUnit → Option FormFault
-text_fault op operands cond written =
-    with_mark (form_fault op operands cond (unit_written written)) (is_mismarked written operands)
+-- The label of a line and the tokens behind it. A line that begins with `*` is a comment.
+unfoldable pub head_of : List ℕ → Result (Option Word × List Word) Cause
+head_of line =
+    if not (list_all is_allowed line) then Err NotAscii
+    else (if nat_lt 255 (length line) then Err LineTooLong
+    else (if begins is_star line then Ok (None, [])
+    else (if is_bars (tokens line) then Err ParallelBar
+    else without_colon (label_front (tokens line)))))
 
-abbrev pub parts_read : Op → Operands → Option Condition → Option WrittenUnit → Parts
-parts_read op operands cond written = record { op = op; operands = operands; cond = cond; unit = unit_written written }
-
-abbrev pub formed : Option FormFault → Says → Result Says Cause
-formed None says = Ok says
-formed (Some fault) says = Err (Form fault)
-
--- ---- behind the unit
-
-abbrev pub is_branch : Op → Bool
-is_branch Branch = true
-is_branch _ = false
-
--- a label alone, where the mnemonic is a branch
-abbrev pub label_alone : List Word → Option Word
-label_alone (word ∷ []) = if is_label word then Some word else None
-label_alone _ = None
-
-abbrev pub target_of : Mnemonic → List Word → Option Word
-target_of (Operation op) words = if is_branch op then label_alone words else None
-target_of _ words = None
-
-abbrev pub is_storing : Mnemonic → Bool
-is_storing (Operation op) = is_store op
-is_storing _ = false
-
-abbrev pub letter_written : Option WrittenUnit → Option Letter
-letter_written written = option_map (λ w. w.unit.letter) written
-
--- the operation and operands that a mnemonic with these operands stands for
-abbrev pub standing : Mnemonic → Option WrittenUnit → Option Operands → Option (Op × Operands)
-standing mnemonic written operands = option_and_then (stands_for mnemonic (letter_written written)) operands
-
--- the same, where the operation has such operands
-abbrev pub operands_written : Mnemonic → Option WrittenUnit → Option Operands → Option (Op × Operands)
-operands_written mnemonic written operands = option_and_then with_kind (standing mnemonic written operands)
-
-abbrev pub does : Option Condition → Option WrittenUnit → Option (Op × Operands) → Result Says Cause
-does cond written None = Err BadOperand
-does cond written (Some (op, operands)) = formed (text_fault op operands cond written) (Does (parts_read op operands cond written))
-
-abbrev pub jumps : Option Condition → Option WrittenUnit → Word → Result Says Cause
-jumps cond written label = formed (text_fault Branch (Block 0) cond written) (Jumps (parts_read Branch (Block 0) cond written) label)
-
-abbrev pub jumps_or_does : Option Word → Mnemonic → Option Condition → Option WrittenUnit → List Word → Result Says Cause
-jumps_or_does (Some label) mnemonic cond written words = jumps cond written label
-jumps_or_does None mnemonic cond written words =
-    does cond written (operands_written mnemonic written (operands_of (is_storing mnemonic) (kinds_of words)))
-
-abbrev pub cycles_of : Kind → Result Says Cause
-cycles_of (Number (pos n)) = if nat_le 1 n && nat_le n 9 then Ok (Pause n) else Err BadOperand
-cycles_of _ = Err BadOperand
-
--- the number of cycles behind NOP, which takes no condition
-unfoldable pub pause_of : Option Condition → List Kind → Result Says Cause
-pause_of None [] = Ok (Pause 1)
-pause_of None (kind ∷ []) = cycles_of kind
-pause_of cond kinds = Err BadOperand
-
-unfoldable pub behind_unit : Mnemonic → Option Condition → Option WrittenUnit → List Word → Result Says Cause
-behind_unit NopName cond written words = pause_of cond (kinds_of words)
-behind_unit mnemonic cond written words = jumps_or_does (target_of mnemonic words) mnemonic cond written words
-
--- ---- what stands in front of the operands
+-- ---- what stands before the operands
 
 -- `[R]` or `[!R]`, and how many tokens it has; nothing, where no bracket stands first. There is no answer where a bracket
 -- begins no condition.
@@ -203,6 +141,105 @@ if_fitting mnemonic (written, words) = if fits_behind mnemonic written then Some
 abbrev pub unit_behind : Mnemonic → List Word → Option (Option WrittenUnit × List Word)
 unit_behind mnemonic words = option_and_then (if_fitting mnemonic) (unit_front words)
 
+-- ---- the operands
+
+abbrev pub is_branch : Op → Bool
+is_branch Branch = true
+is_branch _ = false
+
+-- a label alone, where the mnemonic is a branch
+abbrev pub label_alone : List Word → Option Word
+label_alone (word ∷ []) = if is_label word then Some word else None
+label_alone _ = None
+
+abbrev pub target_of : Mnemonic → List Word → Option Word
+target_of (Operation op) words = if is_branch op then label_alone words else None
+target_of _ words = None
+
+abbrev pub is_storing : Mnemonic → Bool
+is_storing (Operation op) = is_store op
+is_storing _ = false
+
+abbrev pub letter_written : Option WrittenUnit → Option Letter
+letter_written written = option_map (λ w. w.unit.letter) written
+
+-- the operation and operands that a mnemonic with these operands stands for
+abbrev pub standing : Mnemonic → Option WrittenUnit → Option Operands → Option (Op × Operands)
+standing mnemonic written operands = option_and_then (stands_for mnemonic (letter_written written)) operands
+
+-- the same, where the operation has such operands
+abbrev pub operands_written : Mnemonic → Option WrittenUnit → Option Operands → Option (Op × Operands)
+operands_written mnemonic written operands = option_and_then with_kind (standing mnemonic written operands)
+
+abbrev pub cycles_of : Kind → Result Says Cause
+cycles_of (Number (pos n)) = if nat_le 1 n && nat_le n 9 then Ok (Pause n) else Err BadOperand
+cycles_of _ = Err BadOperand
+
+-- the number of cycles behind NOP, which takes no condition
+unfoldable pub pause_of : Option Condition → List Kind → Result Says Cause
+pause_of None [] = Ok (Pause 1)
+pause_of None (kind ∷ []) = cycles_of kind
+pause_of cond kinds = Err BadOperand
+
+-- ---- the form of an instruction
+
+abbrev pub unit_written : Option WrittenUnit → Option FunctionalUnit
+unit_written written = option_map (λ w. w.unit) written
+
+abbrev pub is_path : Side → Option Side → Bool
+is_path side None = false
+is_path side (Some path) = same_side path side
+
+abbrev pub misses : Mark → Side → Operands → Bool
+misses Plain side operands = false
+misses Cross side operands = not (crosses_to side operands)
+misses (Path path) side operands = not (is_path path (data_path_of operands))
+
+-- X where nothing crosses, or T with the other file's number
+abbrev pub is_mismarked : Option WrittenUnit → Operands → Bool
+is_mismarked None operands = false
+is_mismarked (Some written) operands = misses written.mark written.unit.side operands
+
+-- a wrong mark is a bad side, which comes before a lack of units
+abbrev pub with_mark : Option FormFault → Bool → Option FormFault
+with_mark None mismarked = if mismarked then Some BadSide else None
+with_mark (Some NoUnit) mismarked = if mismarked then Some BadSide else Some NoUnit
+with_mark (Some fault) mismarked = Some fault
+
+unfoldable pub text_fault : Op → Operands → Option Condition → Option WrittenUnit → Option FormFault
+text_fault op operands cond written =
+    with_mark (form_fault op operands cond (unit_written written)) (is_mismarked written operands)
+
+-- the fault that what is written has, where no instruction can be made of it
+abbrev pub IsFaultOfText : Op → Operands → Option Condition → Option WrittenUnit → Result Insn FormFault → Type 0
+IsFaultOfText op operands cond written made =
+    MatchResult made (λ insn. text_fault op operands cond written ≡ None) (λ fault. text_fault op operands cond written ≡ Some fault)
+
+abbrev pub parts_read : Op → Operands → Option Condition → Option WrittenUnit → Parts
+parts_read op operands cond written = record { op = op; operands = operands; cond = cond; unit = unit_written written }
+
+abbrev pub formed : Option FormFault → Says → Result Says Cause
+formed None says = Ok says
+formed (Some fault) says = Err (Form fault)
+
+-- ---- what is said behind the unit
+
+abbrev pub does : Option Condition → Option WrittenUnit → Option (Op × Operands) → Result Says Cause
+does cond written None = Err BadOperand
+does cond written (Some (op, operands)) = formed (text_fault op operands cond written) (Does (parts_read op operands cond written))
+
+abbrev pub jumps : Option Condition → Option WrittenUnit → Word → Result Says Cause
+jumps cond written label = formed (text_fault Branch (Block 0) cond written) (Jumps (parts_read Branch (Block 0) cond written) label)
+
+abbrev pub jumps_or_does : Option Word → Mnemonic → Option Condition → Option WrittenUnit → List Word → Result Says Cause
+jumps_or_does (Some label) mnemonic cond written words = jumps cond written label
+jumps_or_does None mnemonic cond written words =
+    does cond written (operands_written mnemonic written (operands_of (is_storing mnemonic) (kinds_of words)))
+
+unfoldable pub behind_unit : Mnemonic → Option Condition → Option WrittenUnit → List Word → Result Says Cause
+behind_unit NopName cond written words = pause_of cond (kinds_of words)
+behind_unit mnemonic cond written words = jumps_or_does (target_of mnemonic words) mnemonic cond written words
+
 -- ---- the steps in their order
 
 -- what was read, or this fault
@@ -229,34 +266,6 @@ rest_says [] = Ok Nothing
 rest_says (word ∷ words) = if begins is_dot word then Err Directive else instruction_of (word ∷ words)
 
 -- ---- a line
-
--- the label that stands first, and the tokens behind its colon
-unfoldable pub label_front : List Word → Option Word × List Word
-label_front (name ∷ colon ∷ words) =
-    if spells (codes ":") colon && is_label name then (Some name, words) else (None, name ∷ colon ∷ words)
-label_front words = (None, words)
-
-abbrev pub has_colon : List Word → Bool
-has_colon words = list_any (λ word. spells (codes ":") word) words
-
-abbrev pub without_colon : Option Word × List Word → Result (Option Word × List Word) Cause
-without_colon (label, words) = if has_colon words then Err BadLabel else Ok (label, words)
-
-abbrev pub is_bars : List Word → Bool
-is_bars [] = false
-is_bars (word ∷ words) = spells (codes "||") word
-
-abbrev pub is_star : ℕ → Bool
-is_star b = b == 42
-
--- The label of a line and the tokens behind it. A line that begins with `*` is a comment.
-unfoldable pub head_of : List ℕ → Result (Option Word × List Word) Cause
-head_of line =
-    if list_all is_allowed line then (if nat_lt 255 (length line) then Err LineTooLong
-    else (if begins is_star line then Ok (None, [])
-    else (if is_bars (tokens line) then Err ParallelBar
-    else without_colon (label_front (tokens line)))))
-    else Err NotAscii
 
 abbrev pub with_rest : Option Word → Result Says Cause → Result (Option Word × Says) Cause
 with_rest label (Ok says) = Ok (label, says)

@@ -12,8 +12,8 @@ use Rattle.c62_read.specs.declared.reading.Statement.{Statement}
 use Rattle.c62_read.specs.Text.{lines_of, tokens}
 use Rattle.c62_read.specs.Line.{Says, is_branch, parts_of, statement_of}
 use Rattle.c62_read.specs.Walk.{Asked, Drafts, Step, add_line, add_lines, add_says, all_drafts, asked_in, asked_of, closed, draft_of, drafts_of}
-use Rattle.c62_read.specs.Walk.{missed, no_drafts, opened, own_labels, unless_hindered, with_insn}
-use Rattle.c62_read.specs.Program.{BlockParts, Draft, Refusal, aimed, block_in, labels_of}
+use Rattle.c62_read.specs.Walk.{missed, no_drafts, opened, own_labels, refused, unless_hindered, with_insn}
+use Rattle.c62_read.specs.Program.{BlockParts, Draft, Name, Refusal, aimed, block_in, labels_of}
 
 -- the head of a line, or its fault
 abbrev pub IsHead : Result (Option (Bor (List ℕ)) × Bor (List ℕ)) Cause → Result (Option (List ℕ) × List (List ℕ)) Cause → Type 0
@@ -34,6 +34,19 @@ LeadsTo step fault text = step.drafts ≡ unless_hindered fault (drafts_of text)
 -- the branches that wait are the old ones and that of what is said
 abbrev pub KeepsJump : ℕ → Says → List Jump → List Jump → Type 0
 KeepsJump number says old new = map asked_of new ≡ map asked_of old ++ asked_in number says
+
+abbrev pub KeepsJumpOf : ℕ → List ℕ → TextReader → List Jump → List Jump → Type 0
+KeepsJumpOf number line text old new = KeepsJump number (line_step number line text).says old new
+
+-- a line of this number comes to what its label and the rest say, or to this fault
+abbrev pub SaysAtLine : ℕ → List ℕ → TextReader → Result (Option (Bor (List ℕ)) × Statement) Cause → Type 0
+SaysAtLine number line text judged = MatchResult judged
+    (λ found. line_step number line text ≡ said_step number found.0 found.1 text)
+    (λ cause. line_step number line text ≡ refused cause)
+
+-- the branches that wait are left that go to none of these labels
+abbrev pub LeavesOut : List Name → List Jump → List Jump → Type 0
+LeavesOut labels old new = map asked_of new ≡ missed labels (map asked_of old)
 
 -- the branches that no label of the blocks, nor of this rest of the text, answers
 abbrev pub still_missed : TextReader → List ℕ → List Jump → List Asked

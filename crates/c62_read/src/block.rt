@@ -3,7 +3,7 @@
 ghost use Rattle.std.specs.Prelude.{◌≡◌, ◌≤◌, length, Some, None, List, map, true, IfOk, IsTrue};
 ghost use Rattle.std.specs.Option.{option_copied};
 ghost use Rattle.c62_read.specs.declared.limits.TheConstants.{MOST_BLOCKS};
-ghost use Rattle.c62_read.specs.Block.{Serial, is_block, targets_stand};
+ghost use Rattle.c62_read.specs.Block.{Serial, IsProgram, is_block, targets_stand};
 
 use crate::label::Label;
 use c62_insn::{Insn, Operands};
@@ -103,7 +103,7 @@ impl Model for Program {
 
     ghost view = { λ program. program.blocks.items };
 
-    ghost invariant = { λ program. (length program.blocks.items ≤ MOST_BLOCKS) × (targets_stand program.blocks.items ≡ true) };
+    ghost invariant = { λ program. IsProgram program.blocks.items };
 }
 
 impl Program {

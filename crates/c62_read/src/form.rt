@@ -1,7 +1,7 @@
 //! From the parts of an instruction, as a text has them, to the instruction.
 
-ghost use Rattle.std.specs.Prelude.{◌≡◌, Some, None, MatchResult, IfOk};
-ghost use Rattle.c62_read.specs.Line.{unit_written, is_mismarked, with_mark, text_fault, parts_of, parts_read};
+ghost use Rattle.std.specs.Prelude.{◌≡◌, IfOk};
+ghost use Rattle.c62_read.specs.Line.{unit_written, is_mismarked, with_mark, IsFaultOfText, parts_of, parts_read};
 
 use crate::unit::{Mark, WrittenUnit};
 use c62_insn::{Cond, FormFault, Insn, Op, Operands, Unit};
@@ -38,7 +38,7 @@ pub(crate) fn make(
     cond: Option<Cond>,
     written: Option<WrittenUnit>,
 ) -> Result<Insn, FormFault>
-    ensures fault { MatchResult result (λ insn. text_fault op operands cond written ≡ None) (λ fault. text_fault op operands cond written ≡ Some fault) }
+    ensures fault { IsFaultOfText op operands cond written result }
     ensures parts { IfOk result (λ insn. parts_of insn ≡ parts_read op operands cond written) }
 {
     let made = Insn::new(op, operands, cond, unit_written(written));

@@ -1,15 +1,14 @@
 //! Laws of the definitions.
 
-ghost use Rattle.std.specs.Prelude.{◌≡◌, ◌==◌, ◌∷◌, ◌++◌, ℕ, ℤ, List, not, filter, take_while, IsTrue};
-ghost use Rattle.std.specs.List.{flat_map};
+ghost use Rattle.std.specs.Prelude.{◌≡◌, ◌∷◌, ◌++◌, ℕ, ℤ, List, IsTrue};
 ghost use Rattle.c62_insn.specs.declared.register.Reg.{Reg as Register};
 ghost use Rattle.c62_insn.specs.declared.register.Unit.{Unit as FunctionalUnit};
 ghost use Rattle.c62_insn.specs.declared.insn.Insn.{Insn};
 ghost use Rattle.c62_insn.specs.declared.operands.Op.{Op as Operation};
 ghost use Rattle.c62_read.specs.declared.limits.TheConstants.{MOST_BYTES, MOST_INSTRUCTIONS, MOST_BLOCKS};
-ghost use Rattle.c62_read.specs.Text.{begins, is_blank, tokens};
+ghost use Rattle.c62_read.specs.Text.{begins, tokens};
 ghost use Rattle.c62_read.specs.Line.{is_star};
-ghost use Rattle.c62_read.specs.Laws.{LineReadsBack, PauseReadsBack, LabelReadsBack, NumberReadsBack, RegisterReadsBack, IsReadable, StarSaysNothing, CommentSaysNothing, CommentsSayNothing, CaseSaysNothing, CaseChangesNothing, IsRecased, IsItsLines, HasTargets, HasRisingLines, ReadsAsItsLine, HasCutBlocks, HasItsLabels, KeepsEffect, KeepEffects};
+ghost use Rattle.c62_read.specs.Laws.{TokensAreTheBytes, LineReadsBack, PauseReadsBack, LabelReadsBack, NumberReadsBack, RegisterReadsBack, IsReadable, StarSaysNothing, CommentSaysNothing, CommentsSayNothing, CaseSaysNothing, CaseChangesNothing, IsRecased, IsItsLines, HasTargets, HasRisingLines, ReadsAsItsLine, HasCutBlocks, HasItsLabels, KeepsEffect, KeepEffects};
 
 /// A text has at most 1,048,576 bytes, a block 256 instructions, and a program 64 blocks.
 pub fn limits_are()
@@ -20,8 +19,7 @@ pub fn limits_are()
 
 /// The tokens of a line are its bytes in their order, less blanks and what follows a `;`.
 pub fn tokens_are_the_bytes()
-    ensures { (line : List ℕ) → flat_map (λ t. t) (tokens line)
-        ≡ filter (λ b. not (is_blank b)) (take_while (λ b. not (b == 59)) line) }
+    ensures { (line : List ℕ) → TokensAreTheBytes line }
 {}
 
 /// What stands behind a `;` says nothing.
@@ -43,7 +41,8 @@ pub fn registers_read_back()
 /// its operands, reads as that instruction on that unit, with or without blanks before it. A branch
 /// to a block is spelled with a label, and reads as a branch to that label.
 pub fn spelled_lines_read_back()
-    ensures { (name : ℕ → List ℕ) (insn : Insn) (unit : FunctionalUnit) (blanks : List ℕ) → LineReadsBack name insn unit blanks }
+    ensures { (name : ℕ → List ℕ) (insn : Insn) (unit : FunctionalUnit) (blanks : List ℕ)
+        → LineReadsBack name insn unit blanks }
 {}
 
 /// A line of NOP and a number from 1 to 9 reads as so many cycles without an instruction, with or

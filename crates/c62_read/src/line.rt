@@ -20,7 +20,7 @@ use crate::mnemonic::{Mnemonic, mnemonic_named};
 use crate::number::{is_label, spells};
 use crate::operand::read_operands;
 use crate::reading::{Reading, Statement};
-use crate::token::{STEP, Tokens, from_token, has_byte, is_allowed, is_mark, without_indent};
+use crate::token::{Tokens, from_token, has_byte, is_allowed, is_mark, without_indent};
 use crate::unit::{WrittenUnit, first_unit};
 use arrayvec::ArrayVec;
 use c62_insn::{Cond, Letter, Op, Operands};
@@ -310,6 +310,9 @@ fn begins_with_bars(start: &[u8]) -> bool
         None => false,
     }
 }
+
+/// How many bytes are compared at once.
+const STEP: usize = 16;
 
 /// Looks at every byte, whatever the others are: so the compiler compares many at once.
 #[inline(always)]

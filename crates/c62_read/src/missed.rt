@@ -5,7 +5,8 @@ ghost use Rattle.std.specs.List.{list_any};
 ghost use Rattle.std.specs.Option.{option_copied, option_to_list};
 ghost use Rattle.c62_read.specs.Jump.{key_of};
 ghost use Rattle.c62_read.specs.Program.{is_among};
-ghost use Rattle.c62_read.specs.Walk.{asked_of, missed, first_line};
+ghost use Rattle.c62_read.specs.Walk.{asked_of, first_line};
+ghost use Rattle.c62_read.specs.Reading.{LeavesOut};
 
 use crate::jump::{Jump, key_of};
 
@@ -18,7 +19,7 @@ fn any_to(jumps: &[Jump], key: u64, label: &[u8]) -> bool
 
 /// Leaves out the branches to a label.
 fn leave_out(jumps: &mut Vec<Jump>, label: &[u8])
-    ensures { map asked_of jumps.new.items ≡ missed (label.now ∷ []) (map asked_of jumps.old.items) }
+    ensures { LeavesOut (label.now ∷ []) jumps.old.items jumps.new.items }
 {
     let key = key_of(label);
     if any_to(jumps, key, label) {
@@ -29,7 +30,7 @@ fn leave_out(jumps: &mut Vec<Jump>, label: &[u8])
 /// Leaves out the branches to the label of a line, where it has one.
 #[tactic(auto, using(crate::proofs::MissedLemmas::missed_all))]
 pub(crate) fn leave_out_label(jumps: &mut Vec<Jump>, label: Option<&[u8]>)
-    ensures { map asked_of jumps.new.items ≡ missed (option_to_list (option_copied label.entry)) (map asked_of jumps.old.items) }
+    ensures { LeavesOut (option_to_list (option_copied label.entry)) jumps.old.items jumps.new.items }
 {
     match label {
         Some(label) => leave_out(jumps, label),

@@ -15,8 +15,9 @@ use crate::limits::{MOST_BLOCKS, MOST_BYTES, MOST_INSTRUCTIONS};
 use crate::line::{begins_with, first_label, owned, read_head, read_rest};
 use crate::missed::{first_branch, leave_out_label};
 use crate::reading::Statement;
-use crate::token::{has_byte, steps_before};
+use crate::token::has_byte;
 use c62_insn::{Insn, Op};
+use memchr::memchr;
 use std::alloc::{AllocError, Global};
 
 /// A block as it is read, and the label that its last instruction branches to.
@@ -37,7 +38,7 @@ pub(crate) struct TextReader {
 ghost use Rattle.c62_read.specs.Line.{statement_of, names_label, parts_of, is_branch};
 ghost use Rattle.c62_read.specs.Program.{label_is, is_among, label_field, labels_of, Fails, target_number, aimed, numbered_of, block_parts, block_in, program_in};
 ghost use Rattle.c62_read.specs.Walk.{draft_of, drafts_of, new_draft, all_drafts, own_labels, with_label, opened, with_insn, closed, with_says, is_taken, is_full, is_instruction, begins_block, hindrance, refused, unless_hindered, add_says, add_line, add_lines, no_drafts, is_whole, number_among, asked_in, asked_of, missed, first_line, unless_missed, failed};
-ghost use Rattle.c62_read.specs.Reading.{line_step, said_step, LeadsTo, KeepsJump, still_missed, text_read, IsFirstLine, with_read, with_next, all_closed, one_open, aimed_block, aimed_blocks};
+ghost use Rattle.c62_read.specs.Reading.{line_step, said_step, LeadsTo, KeepsJump, KeepsJumpOf, SaysAtLine, LeavesOut, still_missed, text_read, IsFirstLine, with_read, with_next, all_closed, one_open, aimed_block, aimed_blocks};
 
 impl BlockReader {
     fn new(alloc: Global, label: Option<Label>) -> BlockReader
@@ -261,9 +262,7 @@ impl TextReader {
     #[inline(always)]
     #[tactic(auto, unfolding(crate::specs::Walk::add_line))]
     fn judge<'a>(&self, line: &'a [u8]) -> Result<(Option<&'a [u8]>, Statement<'a>), Cause>
-        ensures said { (number : ℕ) → MatchResult result
-            (λ found. add_line number line.now (drafts_of self.now) ≡ add_says number (option_copied found.0) (drafts_of self.now) (Ok (statement_of found.1)))
-            (λ cause. add_line number line.now (drafts_of self.now) ≡ refused cause) }
+        ensures said { (number : ℕ) → SaysAtLine number line.now self.now result }
         ensures label { IfOk result (λ found. IfSome found.0 (λ word. IsTrue (is_label word.now))) }
         ensures target { IfOk result (λ found. IsTrue (names_label found.1)) }
     {
@@ -305,7 +304,7 @@ impl TextReader {
         line: &[u8],
     ) -> Result<Option<Cause>, AllocError>
         ensures said { IfOk result (λ fault. LeadsTo (line_step number line.now self.old) fault self.new) }
-        ensures asked { OnOk result (KeepsJump number (line_step number line.now self.old).says jumps.old.items jumps.new.items) }
+        ensures asked { OnOk result (KeepsJumpOf number line.now self.old jumps.old.items jumps.new.items) }
         ensures kept { IfOk result (λ fault. IfSome fault (λ _. drafts_of self.new ≡ drafts_of self.old)) }
     {
         match self.judge(line) {
@@ -327,7 +326,7 @@ impl TextReader {
         line: &[u8],
     ) -> Result<Option<Cause>, AllocError>
         ensures said { IfOk result (λ fault. LeadsTo (line_step number line.now self.old) fault self.new) }
-        ensures asked { OnOk result (KeepsJump number (line_step number line.now self.old).says jumps.old.items jumps.new.items) }
+        ensures asked { OnOk result (KeepsJumpOf number line.now self.old jumps.old.items jumps.new.items) }
         ensures kept { IfOk result (λ fault. IfSome fault (λ _. drafts_of self.new ≡ drafts_of self.old)) }
     {
         match line {
@@ -371,12 +370,13 @@ fn from_colon(text: &[u8]) -> &[u8]
     ensures same { labels_of (lines_of result.now) ≡ labels_of (lines_of text.now) }
     ensures shorter { length result.now ≤ length text.now }
 {
-    &text[line_start(text, steps_before(b':', text))..]
+    let colon = memchr(b':', text).unwrap_or(text.len());
+    &text[line_start(text, colon)..]
 }
 
 /// Leaves out the branches to labels that the lines of a text have.
 fn leave_out_labels(jumps: &mut Vec<Jump>, text: &[u8])
-    ensures { map asked_of jumps.new.items ≡ missed (labels_of (lines_of text.now)) (map asked_of jumps.old.items) }
+    ensures { LeavesOut (labels_of (lines_of text.now)) jumps.old.items jumps.new.items }
 {
     let mut rest = from_colon(text);
     while let Some((line, after)) = first_line(rest) {
@@ -403,27 +403,6 @@ fn label_is(label: &[u8], other: &Option<Label>) -> bool
     }
 }
 
-/// Where the first line feed stands, looked for byte by byte.
-fn feed_in(bytes: &[u8]) -> Option<usize>
-    ensures value { result ≡ position is_line_feed bytes.now }
-    ensures within { IfSome result (λ index. index < length bytes.now) }
-{
-    bytes.iter().position(|b| *b == b'\n')
-}
-
-/// Where the first line feed stands.
-#[inline(always)]
-fn first_feed(text: &[u8]) -> Option<usize>
-    ensures value { result ≡ position is_line_feed text.now }
-    ensures within { IfSome result (λ index. index < length text.now) }
-{
-    let (front, rest) = text.split_at(steps_before(b'\n', text));
-    match feed_in(rest) {
-        Some(index) => Some(front.len() + index),
-        None => None,
-    }
-}
-
 /// A line without the carriage return that belongs to its line feed.
 #[tactic(auto, using(crate::proofs::LineLemmas::without_last))]
 fn without_return(line: &[u8]) -> &[u8]
@@ -444,7 +423,7 @@ fn first_line(text: &[u8]) -> Option<(&[u8], &[u8])>
     if text.is_empty() {
         return None;
     }
-    match first_feed(text) {
+    match memchr(b'\n', text) {
         Some(end) => Some((without_return(&text[..end]), &text[end + 1..])),
         None => Some((text, &[])),
     }

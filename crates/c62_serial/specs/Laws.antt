@@ -1,18 +1,24 @@
 -- What the definitions of memory, faults and runs amount to, as laws above them.
-use Rattle.std.specs.Prelude.{◌≡◌, ◌≢◌, ◌⊎◌, ◌↔◌, ℕ, ◌+◌, ◌-◌, ◌*◌, ◌/◌, ◌%◌, ◌^◌, ◌<◌, ◌≤◌, nat_lt, nat_le, true, false, ◌&&◌, List, [], ◌∷◌, ◌++◌, length, slice_index, Contains, Option, Some, None, unwrap_or, if◌then◌else◌}
+use Rattle.std.specs.Prelude.{◌≡◌, ◌≢◌, ◌⊎◌, ◌↔◌, ℕ, ◌+◌, ◌-◌, ◌*◌, ◌/◌, ◌%◌, ◌^◌, ◌<◌, ◌≤◌, nat_lt, nat_le, true, false, ◌&&◌, List, [], ◌∷◌, ◌++◌, length, slice_index, Contains, Option, Some, None, unwrap_or, if◌then◌else◌, IsTrue}
 use Rattle.std.specs.Option.{option_or}
 use Rattle.std.specs.List.Sorted.{IsStrictlyIncreasing}
 use Rattle.c62_insn.specs.declared.register.Reg.{Reg}
 use Rattle.c62_insn.specs.declared.effect.Access.{Access as MemoryAccess}
 use Rattle.c62_insn.specs.Takes.{same_reg}
 use Rattle.c62_read.specs.declared.block.SerialInsn.{SerialInsn}
+use Rattle.c62_read.specs.Block.{Serial}
 use Rattle.c62_serial.specs.declared.state.TheConstants.{MEMORY_BYTES}
 use Rattle.c62_serial.specs.declared.serial.Exit.TheVariants.{Next}
 use Rattle.c62_serial.specs.State.{Machine, word_in, byte_in, with_word}
-use Rattle.c62_serial.specs.Memory.{is_good, read, written}
+use Rattle.c62_serial.specs.Memory.{is_good, is_size, read, written}
 use Rattle.c62_serial.specs.Faults.{joined}
 use Rattle.c62_serial.specs.Effect.{Act, runs, is_fault}
 use Rattle.c62_serial.specs.Serial.{Ran, after_act, after_insn, serial}
+use Rattle.c62_serial.specs.Chain.{Standing, IsProgramChain}
+
+-- this holds where so many bytes may be stored at an address of memory
+abbrev pub IfStorable : List ℕ → ℕ → ℕ → Type 0 → Type 0
+IfStorable memory address size Holds = length memory ≡ MEMORY_BYTES → IsTrue (is_good address size) → Holds
 
 -- memory after a store: its bytes stand in it, the lowest first, and all others are as they were
 pub record StoresItsBytes (memory : List ℕ) (address size value : ℕ) : Type 0 where
@@ -21,10 +27,10 @@ pub record StoresItsBytes (memory : List ℕ) (address size value : ℕ) : Type 
   pub outside : (other : ℕ) → (other < address) ⊎ (address + size ≤ other)
       → slice_index (written address size value memory) other ≡ slice_index memory other
 
--- a load of what was stored gives its low bytes
+-- a load of what was stored gives its low bytes, of each size
 abbrev pub LoadsWhatWasStored : List ℕ → ℕ → ℕ → ℕ → Type 0
 LoadsWhatWasStored memory address size value =
-    read (λ byte. slice_index (written address size value memory) byte) address size ≡ Some (value % 2 ^ (8 * size))
+    IsTrue (is_size size) → read (λ byte. slice_index (written address size value memory) byte) address size ≡ Some (value % 2 ^ (8 * size))
 
 -- a stored word is its four bytes, stored one by one
 abbrev pub StoresWordAsBytes : List ℕ → ℕ → ℕ → Type 0
@@ -87,3 +93,8 @@ DoesNothing ran entry = runs (word_in ran.machine) entry.insn ≡ false → afte
 pub record RunsInTurn (first rest : List SerialInsn) (machine : Machine) : Type 0 where
   pub on : (serial (first ++ rest) machine).machine ≡ (serial rest (serial first machine).machine).machine
   pub unless_left : (serial first machine).exit ≡ Next → serial (first ++ rest) machine ≡ serial rest (serial first machine).machine
+
+-- two chains of a program under a limit are one
+abbrev pub HasOneChain : List Serial → Machine → ℕ → Type 0
+HasOneChain program opening limit =
+    (one other : Standing) → IsProgramChain program opening limit one → IsProgramChain program opening limit other → one ≡ other

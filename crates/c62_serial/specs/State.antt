@@ -11,6 +11,9 @@ pub record Machine : Type 0 where
   pub memory : List ℕ
   pub faults : List ℕ
 
+abbrev pub machine_of : List ℕ → List ℕ → List ℕ → Machine
+machine_of registers memory faults = record { registers = registers; memory = memory; faults = faults }
+
 -- a machine, and for how many more faulted lines there is room
 pub record Contents : Type 0 where
   pub machine : Machine

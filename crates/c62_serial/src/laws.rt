@@ -12,24 +12,24 @@ ghost use Rattle.c62_serial.specs.Memory.{is_size, is_good};
 ghost use Rattle.c62_serial.specs.Effect.{Act};
 ghost use Rattle.c62_serial.specs.Serial.{Ran, after_act, serial};
 ghost use Rattle.c62_serial.specs.Chain.{Standing, IsProgramChain};
-ghost use Rattle.c62_serial.specs.Laws.{StoresItsBytes, LoadsWhatWasStored, StoresWordAsBytes, HoldsItsWord, JoinsLines, HoldsTheSame, ActsOnEach, DoesNothing, RunsInTurn};
+ghost use Rattle.c62_serial.specs.Laws.{StoresItsBytes, LoadsWhatWasStored, StoresWordAsBytes, HoldsItsWord, JoinsLines, HoldsTheSame, ActsOnEach, DoesNothing, RunsInTurn, IfStorable, HasOneChain};
 
 /// A store puts its bytes into memory, the lowest first, and changes no other.
 pub fn stores_its_bytes()
-    ensures { (memory : List ℕ) (address size value : ℕ) → length memory ≡ MEMORY_BYTES
-        → IsTrue (is_good address size) → StoresItsBytes memory address size value }
+    ensures { (memory : List ℕ) (address size value : ℕ)
+        → IfStorable memory address size (StoresItsBytes memory address size value) }
 {}
 
 /// A load of what was stored gives the low bytes of the value.
 pub fn loads_what_was_stored()
-    ensures { (memory : List ℕ) (address size value : ℕ) → length memory ≡ MEMORY_BYTES
-        → IsTrue (is_size size) → IsTrue (is_good address size) → LoadsWhatWasStored memory address size value }
+    ensures { (memory : List ℕ) (address size value : ℕ)
+        → IfStorable memory address size (LoadsWhatWasStored memory address size value) }
 {}
 
 /// A word is stored as its four bytes are, one by one.
 pub fn stores_word_as_bytes()
-    ensures { (memory : List ℕ) (address value : ℕ) → length memory ≡ MEMORY_BYTES
-        → IsTrue (is_good address 4) → StoresWordAsBytes memory address value }
+    ensures { (memory : List ℕ) (address value : ℕ)
+        → IfStorable memory address 4 (StoresWordAsBytes memory address value) }
 {}
 
 /// A register holds the word that was put into it, and the others keep theirs.
@@ -74,6 +74,6 @@ pub fn runs_in_turn()
 
 /// From a sound machine a program has one chain under a limit.
 pub fn has_one_chain()
-    ensures { (program : List Serial) (opening : Machine) (limit : ℕ) (one other : Standing) → IsSound opening
-        → IsProgramChain program opening limit one → IsProgramChain program opening limit other → one ≡ other }
+    ensures { (program : List Serial) (opening : Machine) (limit : ℕ) → IsSound opening
+        → HasOneChain program opening limit }
 {}

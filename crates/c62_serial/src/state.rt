@@ -25,22 +25,21 @@ pub struct State {
 impl Model for State {
     ghost use Rattle.std.specs.Prelude.{◌-◌};
     ghost use Rattle.std.specs.Vec.{vec_len, vec_capacity};
-    ghost use Rattle.c62_serial.specs.State.{Contents, IsSound};
+    ghost use Rattle.c62_serial.specs.State.{Contents, IsSound, machine_of};
 
     ghost Value = { Contents };
 
     ghost view = { λ state. record {
-      machine = record { registers = state.registers; memory = state.memory.items; faults = state.faults.items };
+      machine = machine_of state.registers state.memory.items state.faults.items;
       room = vec_capacity state.faults - vec_len state.faults;
     } };
 
-    ghost invariant = { λ state.
-        IsSound (record { registers = state.registers; memory = state.memory.items; faults = state.faults.items }) };
+    ghost invariant = { λ state. IsSound (machine_of state.registers state.memory.items state.faults.items) };
 }
 
 ghost use Rattle.c62_serial.specs.State.{Machine, IsSound, line_capacity, IsZero, word_in, byte_in, with_word};
 ghost use Rattle.c62_serial.specs.Memory.{is_size, is_good, number_of, bytes_from, bytes_of, read, put, with_bytes};
-ghost use Rattle.c62_serial.specs.Faults.{joined, with_fault};
+ghost use Rattle.c62_serial.specs.Faults.{with_fault, FindsNewIndex};
 
 /// Whether the access lies on its size and within memory.
 fn is_good(address: u32, size: u8) -> bool
@@ -81,8 +80,7 @@ fn put(memory: &mut [u8], at: usize, size: u8, value: u32)
 /// The index for a line among rising lines, where it is not among them.
 fn new_index(lines: &[u32], line: u32) -> Option<usize>
     requires { IsStrictlyIncreasing lines.now }
-    ensures { MatchOption result (joined line lines.now ≡ lines.now)
-        (λ index. (index ≤ length lines.now) × (joined line lines.now ≡ insert lines.now index line)) }
+    ensures { FindsNewIndex line lines.now result }
 {
     lines.binary_search(&line).err()
 }

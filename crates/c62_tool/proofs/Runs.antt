@@ -123,7 +123,7 @@ refused ask (Some all) text message read is = refused_all ask all text message r
 
 -- no answer came to what was read
 pub refuses : (ask : Ask) (known old : Option (List ℕ)) (text : List ℕ) (f : Failure) → IfSome known (λ all. text ≡ take (limit_of ask + 1) all) → Gives ask text (Err f)
-    → Fails f ask known old old
+    → Fails ask known old old f
 refuses ask known old text (failures.Unread fault) read gives = (refused ask known text (fault_message fault.line fault.cause) read gives, Keeps-same old)
 refuses ask known old text (failures.Unlisted fault) read gives = (refused ask known text (list_message fault) read gives, Keeps-same old)
 refuses ask known old text failures.Memory read gives = Keeps-same old
@@ -133,7 +133,7 @@ refuses ask known old text (failures.Words e) read gives = absurd gives
 refuses ask known old text (failures.Setting k) read gives = absurd gives
 
 -- the words are blamed
-pub blamed : (f : Failure) (words : List Text) (known old : Option (List ℕ)) → Blames f words → HasFailed f words known old old
+pub blamed : (f : Failure) (words : List Text) (known old : Option (List ℕ)) → Blames f words → HasFailed words known old old f
 blamed f words known old blames = inl (blames, Keeps-same old)
 
 -- words that ask for something do so
@@ -239,7 +239,7 @@ module _ (words : List Text) (old new : Streams) (reads : Reads words old.input 
   is_not_asked failures.Output blames quiet told = absurd blames
 
   -- what they ask for was not done
-  is_not_done : (f : Failure) (ask : Ask) → asked words ≡ Some ask → Fails f ask old.input old.output new.output → IfSome (message_of f) (Tells old.errors new.errors)
+  is_not_done : (f : Failure) (ask : Ask) → asked words ≡ Some ask → Fails ask old.input old.output new.output f → IfSome (message_of f) (Tells old.errors new.errors)
       → IsRun words old new (status_of f)
   is_not_done (failures.Unlisted fault) ask is fails told =
       is_refused fails.1 (record { text = list_message fault; is = for_asked words ask _ is fails.0; told = told }) (λ none. absurd cc)
@@ -251,11 +251,11 @@ module _ (words : List Text) (old new : Streams) (reads : Reads words old.input 
   is_not_done (failures.Words e) ask is fails told = absurd fails
   is_not_done (failures.Setting k) ask is fails told = absurd fails
 
-  pub failed : (f : Failure) → HasFailed f words old.input old.output new.output → IfSome (message_of f) (Tells old.errors new.errors) → IsRun words old new (status_of f)
+  pub failed : (f : Failure) → HasFailed words old.input old.output new.output f → IfSome (message_of f) (Tells old.errors new.errors) → IsRun words old new (status_of f)
   failed f (inl blames) told = is_not_asked f blames.0 blames.1 told
   failed f (inr fails) told = go (asked words) refl fails
     where
-      go : (a : Option Ask) → asked words ≡ a → IsSomeAnd a (λ ask. Fails f ask old.input old.output new.output) → IsRun words old new (status_of f)
+      go : (a : Option Ask) → asked words ≡ a → IsSomeAnd a (λ ask. Fails ask old.input old.output new.output f) → IsRun words old new (status_of f)
       go None is none = absurd none
       go (Some ask) is some = is_not_done f ask is some told
 

@@ -237,17 +237,17 @@ Gives ask text (Err Memory) = Unit {0}
 Gives ask text (Err _) = ⊥
 
 -- Why what is asked for was not done. A failure of the output leaves open what was written.
-abbrev pub Fails : Failure → Ask → Option (List ℕ) → Option (List ℕ) → Option (List ℕ) → Type 0
-Fails (Unread fault) ask text old new = IsRefused ask text (fault_message fault.line fault.cause) × Keeps old new
-Fails (Unlisted fault) ask text old new = IsRefused ask text (list_message fault) × Keeps old new
-Fails Memory ask text old new = Keeps old new
-Fails Input ask text old new = Keeps old new
-Fails Output ask text old new = Unit {0}
-Fails _ ask text old new = ⊥
+abbrev pub Fails : Ask → Option (List ℕ) → Option (List ℕ) → Option (List ℕ) → Failure → Type 0
+Fails ask text old new (Unread fault) = IsRefused ask text (fault_message fault.line fault.cause) × Keeps old new
+Fails ask text old new (Unlisted fault) = IsRefused ask text (list_message fault) × Keeps old new
+Fails ask text old new Memory = Keeps old new
+Fails ask text old new Input = Keeps old new
+Fails ask text old new Output = Unit {0}
+Fails ask text old new _ = ⊥
 
 -- Why a run failed: the words ask for nothing, or what they ask for was not done.
-abbrev pub HasFailed : Failure → List Text → Option (List ℕ) → Option (List ℕ) → Option (List ℕ) → Type 0
-HasFailed f words text old new = (Blames f words × Keeps old new) ⊎ IsSomeAnd (asked words) (λ ask. Fails f ask text old new)
+abbrev pub HasFailed : List Text → Option (List ℕ) → Option (List ℕ) → Option (List ℕ) → Failure → Type 0
+HasFailed words text old new f = (Blames f words × Keeps old new) ⊎ IsSomeAnd (asked words) (λ ask. Fails ask text old new f)
 
 -- ---- a whole run
 

@@ -39,7 +39,7 @@ fn perform<H: AllocGlobal + Threads + Wait + Sync, R: Read, W: Write>(
 ) -> Result<(), Failure>
     ensures ok { OnOk result (Does (ask_of request.now) (R.remaining reader.old) (W.contents output.old)
         (W.contents output.new)) }
-    ensures err { IfErr result (λ f. Fails f (ask_of request.now) (R.remaining reader.old) (W.contents output.old)
+    ensures err { IfErr result (Fails (ask_of request.now) (R.remaining reader.old) (W.contents output.old)
         (W.contents output.new)) }
     ensures most { TakesAtMost (limit_of (ask_of request.now) + 1) (R.remaining reader.old) (R.remaining reader.new) }
 {
@@ -57,8 +57,8 @@ fn run<H: AllocGlobal + Threads + Wait + Sync, S: AsStr, R: Read, W: Write>(
 ) -> Result<(), Failure>
     ensures ok { OnOk result (IsDone (map S.text words.now) (R.remaining reader.old) (W.contents output.old)
         (W.contents output.new)) }
-    ensures err { IfErr result (λ f. HasFailed f (map S.text words.now) (R.remaining reader.old)
-        (W.contents output.old) (W.contents output.new)) }
+    ensures err { IfErr result (HasFailed (map S.text words.now) (R.remaining reader.old) (W.contents output.old)
+        (W.contents output.new)) }
     ensures unread { asked (map S.text words.now) ≡ None → Keeps (R.remaining reader.old) (R.remaining reader.new) }
     ensures most { TakesAsked (map S.text words.now) (R.remaining reader.old) (R.remaining reader.new) }
 {

@@ -1,0 +1,50 @@
+-- The first byte of a text that passes a test, and its first line feed.
+use Rattle.std.proofs.Common.{◌≡◌, ◌<◌, ◌≤◌, ℕ, ◌+◌, suc, Bool, true, false, List, ◌∷◌, ◌++◌, length, take, drop, get_or, Option, Some, None}
+use Rattle.std.proofs.Common.{refl, sym, ap, ◌∙◌, arith, add-one}
+use Rattle.std.specs.Prelude.{is_some, unwrap_or}
+use Rattle.std.specs.List.{list_any}
+use Rattle.std.proofs.Math.Seq.{drop-cons}
+use Rattle.std.proofs.lemmas.Bool.{eqb-true, false_from_ne_true}
+use Rattle.std.proofs.lemmas.List.{get_or-take, get_or_default, length-take-le, take_all, take-append-drop}
+use Rattle.std.proofs.lemmas.List.Folds.{list_any_at, list_any_none}
+use Rattle.memchr.specs.Find.{IsFirstByte, is_byte}
+use Rattle.c62_read.specs.Text.{is_line_feed}
+
+module _ (test : ℕ → Bool) (text : List ℕ) where
+  none_below : (n : ℕ) → n ≤ length text → ((k : ℕ) → k < n → test (get_or text k 0) ≡ false) → list_any test (take n text) ≡ false
+  none_below n within none = list_any_none test (take n text) (λ k d less.
+      let low : k < n = omega (arith, less, length-take-le n text within) in
+      ap test (get_or-take n text k d low ∙ get_or_default text k d 0 (omega (arith, low, within))) ∙ none k low)
+
+  -- before what was found, which is the end where nothing was, no byte passes
+  pub none_before : (found : Option ℕ) → IsFirstByte test text found
+      → (unwrap_or found (length text) ≤ length text) × (list_any test (take (unwrap_or found (length text)) text) ≡ false)
+  none_before None none =
+      (omega arith, none_below (length text) (omega arith) (λ k less. false_from_ne_true (test (get_or text k 0)) (none k (omega arith) less)))
+  none_before (Some k) found = (
+    omega (arith, found.0.high),
+    none_below k (omega (arith, found.0.high)) (λ j less. false_from_ne_true (test (get_or text j 0))
+        (found.0.before j (omega arith) less)),
+  )
+
+  pub is_found : (found : Option ℕ) → IsFirstByte test text found → is_some found ≡ list_any test text
+  is_found None none =
+      sym (sym (ap (list_any test) (take_all (length text) text (omega arith))) ∙ (none_before None none).1)
+  is_found (Some k) found = sym (list_any_at test text k 0 found.0.high found.1)
+
+-- ---- the first line feed
+
+-- a line feed behind bytes without one
+pub record IsFedAt (text : List ℕ) (k : ℕ) : Type 0 where
+  pub none : list_any is_line_feed (take k text) ≡ false
+  pub split : text ≡ take k text ++ 10 ∷ drop (k + 1) text
+
+pub fed_at : (text : List ℕ) (k : ℕ) → IsFirstByte (is_byte 10) text (Some k) → IsFedAt text k
+fed_at text k found = record {
+  none = (none_before is_line_feed text (Some k) found).1;
+  split = rw add-one (sym (take-append-drop k text) ∙ ap (λ (rest : List ℕ). take k text ++ rest)
+      (drop-cons text k 0 found.0.high ∙ ap (λ (b : ℕ). b ∷ drop (suc k) text) (eqb-true (get_or text k 0) 10 found.1)));
+}
+
+pub not_fed : (text : List ℕ) → IsFirstByte (is_byte 10) text None → list_any is_line_feed text ≡ false
+not_fed text none = sym (is_found is_line_feed text None none)
