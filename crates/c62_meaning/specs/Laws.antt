@@ -1,11 +1,12 @@
 -- What packet meaning amounts to, as laws above its definition.
-use Rattle.std.specs.Prelude.{◌≡◌, ◌↔◌, ℕ, ◌≤ℤ◌, ◌+ℤ◌, ℤ, pos, List, length, map, Contains, slice_get, Some}
+use Rattle.std.specs.Prelude.{◌≡◌, ◌↔◌, ℕ, ◌≤ℤ◌, ◌+ℤ◌, ℤ, pos, List, length, map, Contains, slice_get, Some, IsTrue}
 use Rattle.c62_insn.specs.declared.register.Reg.{Reg}
 use Rattle.c62_insn.specs.declared.insn.Insn.{Insn}
 use Rattle.c62_insn.specs.Insn.{op_of, operands_of, cond_of}
 use Rattle.c62_insn.specs.Dependence.{Bounds}
 use Rattle.c62_insn.specs.Length.{length_of}
 use Rattle.c62_read.specs.declared.block.SerialInsn.{SerialInsn}
+use Rattle.c62_read.specs.Block.{branch_last, operations}
 use Rattle.c62_serial.specs.State.{Machine, IsSound}
 use Rattle.c62_serial.specs.Effect.{act_of}
 use Rattle.c62_serial.specs.Serial.{Ran, serial}

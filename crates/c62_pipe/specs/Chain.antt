@@ -3,7 +3,7 @@ use Rattle.std.specs.Prelude.{◌≡◌, ℕ, ◌<◌, List, [], length, sum_by,
 use Rattle.c62_read.specs.Block.{Serial, branch_last, operations}
 use Rattle.c62_serial.specs.declared.serial.Exit.{Exit}
 use Rattle.c62_serial.specs.declared.chain.Chain.{Chain}
-use Rattle.c62_serial.specs.State.{Machine, Contents}
+use Rattle.c62_serial.specs.State.{Machine, Contents, IsSound}
 use Rattle.c62_serial.specs.Chain.{Blocks, Standing, IsChain, IsBlockStart, RunsProgram, chain_of}
 use Rattle.c62_packet.specs.Packed.{Packed}
 use Rattle.c62_meaning.specs.Meaning.{IsMeaning}

@@ -1,19 +1,18 @@
 -- Lines without a label.
 use Rattle.std.proofs.Common.{◌≡◌, ℕ, ◌≤◌, ◌<◌, Bool, true, false, cond, not, eqb, ◌||◌, List, [], ◌∷◌, length, Option, None, Ok, refl, ap, ◌∙◌}
 use Rattle.std.proofs.Common.{arith}
-use Rattle.std.specs.Prelude.{take_while, codes}
+use Rattle.std.specs.Prelude.{codes}
 use Rattle.std.specs.Char.{to_ascii_lowercase}
 use Rattle.std.specs.List.{list_all, list_any}
 use Rattle.std.proofs.lemmas.Bool.{and_from, and_parts, le-ltb, or_parts}
 use Rattle.std.proofs.lemmas.Bool.Decides.{nat_tests}
-use Rattle.std.proofs.lemmas.List.Sums.{take_while-cons}
 use Rattle.c62_read.specs.Text.{begins, is_allowed, is_solid, tokens}
 use Rattle.c62_read.specs.Number.{spells}
 use Rattle.c62_read.specs.Kind.{Word}
 use Rattle.c62_read.specs.Line.{Says, Nothing, has_colon, head_of, is_bars, is_star, label_front, line_of, rest_says, without_colon}
 use Rattle.c62_read.specs.Program.{label_field}
 use Rattle.c62_read.specs.Walk.{Drafts, add_line, hindrance, is_taken, with_says}
-use Rattle.c62_read.proofs.ColonLemmas.{begins_with, colons}
+use Rattle.c62_read.proofs.ColonLemmas.{begins_with, no_colon_at_all}
 use Rattle.c62_read.proofs.SpelledTokens.{is_text}
 
 pub all_weaker : (p q : ℕ → Bool) (bytes : List ℕ) → ((b : ℕ) → p b ≡ true → q b ≡ true) → list_all p bytes ≡ true → list_all q bytes ≡ true
@@ -28,17 +27,16 @@ text_allowed b text = grind (arith, nat_tests)
 pub allowed_text : (bytes : List ℕ) → list_all is_text bytes ≡ true → list_all is_allowed bytes ≡ true
 allowed_text bytes text = all_weaker is_text is_allowed bytes text_allowed text
 
-no_colon_bytes : (bytes : List ℕ) → list_all is_text bytes ≡ true → list_any (λ b. eqb b 58) (take_while (λ b. not (eqb b 59)) bytes) ≡ false
+no_colon_bytes : (bytes : List ℕ) → list_all is_text bytes ≡ true → list_any (λ b. eqb b 58) bytes ≡ false
 no_colon_bytes [] text = refl
 no_colon_bytes (b ∷ bytes) text =
     let parts = and_parts (is_text b) (list_all is_text bytes) text in
-    let comment : eqb b 59 ≡ false = grind (arith, nat_tests) in
     let colon : eqb b 58 ≡ false = grind (arith, nat_tests) in
-    rw (take_while-cons (λ (x : ℕ). not (eqb x 59)) b bytes, comment, colon) (no_colon_bytes bytes parts.1)
+    rw colon (no_colon_bytes bytes parts.1)
 
--- a text without colons has no token that is one
+-- text has no token that is a colon
 pub no_colon : (line : List ℕ) → list_all is_text line ≡ true → has_colon (tokens line) ≡ false
-no_colon line text = colons line ∙ no_colon_bytes line text
+no_colon line text = no_colon_at_all line (no_colon_bytes line text)
 
 pub no_label : (words : List Word) → has_colon words ≡ false → label_front words ≡ (None, words)
 unfolding label_front
@@ -63,24 +61,6 @@ unfolding line_of
 line_by_head line label words says head rest = rw (head, rest) refl
 
 -- ---- a line with no colon at all
-
-no_take : (test : ℕ → Bool) (bytes : List ℕ) → list_any (λ b. eqb b 58) bytes ≡ false → list_any (λ b. eqb b 58) (take_while test bytes) ≡ false
-no_take test [] none = refl
-no_take test (b ∷ bytes) none =
-    let parts = or_parts (eqb b 58) (list_any (λ (x : ℕ). eqb x 58) bytes) none in
-    ap (list_any (λ (x : ℕ). eqb x 58)) (take_while-cons test b bytes) ∙ go (test b) parts.0 (no_take test bytes parts.1)
-  where
-    go : (goes : Bool) → eqb b 58 ≡ false → list_any (λ (x : ℕ). eqb x 58) (take_while test bytes) ≡ false
-        → list_any (λ (x : ℕ). eqb x 58) (cond goes (b ∷ take_while test bytes) []) ≡ false
-    go true here others = or_from here others
-      where
-        or_from : eqb b 58 ≡ false → list_any (λ (x : ℕ). eqb x 58) (take_while test bytes) ≡ false
-            → (eqb b 58 || list_any (λ (x : ℕ). eqb x 58) (take_while test bytes)) ≡ false
-        or_from e f = rw (e, f) refl
-    go false here others = refl
-
-no_colon_at_all : (line : List ℕ) → list_any (λ b. eqb b 58) line ≡ false → has_colon (tokens line) ≡ false
-no_colon_at_all line none = colons line ∙ no_take (λ (b : ℕ). not (eqb b 59)) line none
 
 pub head_without_colon : (line : List ℕ) → list_any (λ b. eqb b 58) line ≡ false → without_colon (label_front (tokens line)) ≡ Ok (None, tokens line)
 head_without_colon line none =

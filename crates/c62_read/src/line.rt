@@ -1,7 +1,7 @@
 //! What a line says, and its first fault.
 
-ghost use Rattle.std.specs.Prelude.{◌≡◌, ◌<◌, length, ◌==◌, Ok, Err, Some, None, MatchResult, IsTrue, IfSome, IfOk, IfErr, not, take_while};
-ghost use Rattle.std.specs.List.{list_all, list_any};
+ghost use Rattle.std.specs.Prelude.{◌≡◌, ◌<◌, length, ◌==◌, Ok, Err, Some, None, MatchResult, IsTrue, IfSome, IfOk, IfErr};
+ghost use Rattle.std.specs.List.{list_all};
 ghost use Rattle.std.specs.Option.{option_copied};
 ghost use Rattle.c62_read.specs.Text.{begins, tokens, is_allowed, is_solid, words_left};
 ghost use Rattle.c62_read.specs.Number.{is_label};
@@ -343,18 +343,18 @@ fn all_allowed(line: &[u8]) -> bool
     are_allowed(&line[line.len() - STEP..])
 }
 
-fn colon_before_comment(rest: &[u8]) -> bool
-    ensures { result ≡ list_any (λ b. b == 58) (take_while (λ b. not (b == 59)) rest.now) }
-{
-    rest.iter().take_while(|b| **b != b';').any(|b| *b == b':')
-}
-
 /// Whether a colon is left.
-#[tactic(auto, using(crate::proofs::ColonLemmas::colons))]
 fn has_colon(rest: &[u8]) -> bool
     ensures { result ≡ has_colon (tokens rest.now) }
 {
-    colon_before_comment(rest)
+    let mut left = Tokens::new(rest);
+    while let Some((word, behind)) = left.split() {
+        if is_mark(b':', word) {
+            return true;
+        }
+        left = behind;
+    }
+    false
 }
 
 /// The label that stands first and what follows its colon. No other colon may stand before the comment.

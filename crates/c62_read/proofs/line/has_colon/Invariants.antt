@@ -1,0 +1,10 @@
+use Rattle.std.proofs.Common.{◌≡◌, length}
+use Rattle.c62_read.specs.Text.{tokens, words_left}
+use Rattle.c62_read.specs.Line.{has_colon}
+use Rattle.c62_read.proofs.line.has_colon.Given as goal
+
+abbrev pub invariant-loop-word : goal.invariant-loop-word
+invariant-loop-word l = has_colon (words_left l.left) ≡ has_colon (tokens l.rest)
+
+abbrev pub decreases-loop-word : goal.decreases-loop-word
+decreases-loop-word l = length (words_left l.left)
