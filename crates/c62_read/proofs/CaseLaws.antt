@@ -1,5 +1,5 @@
 -- A line in small letters says the same, but for the case of labels: so do two lines that are the same but for case.
-use Rattle.std.proofs.Common.{◌≡◌, ℕ, Bool, false, not, cond, eqb, ltb, ◌&&◌, ◌||◌, List, [], ◌∷◌, length, Option, Some, None, Result, Ok}
+use Rattle.std.proofs.Common.{◌≡◌, ℕ, Bool, true, false, not, cond, eqb, ltb, ◌&&◌, ◌||◌, List, [], ◌∷◌, length, Option, Some, None, Result, Ok}
 use Rattle.std.proofs.Common.{Err, refl, sym, ap, ◌∙◌, arith, inl, inr}
 use Rattle.std.specs.Prelude.{map, option_and_then, option_map, codes}
 use Rattle.std.specs.Char.{is_ascii_digit}
@@ -36,6 +36,11 @@ use Rattle.c62_read.specs.Laws.{IsRecased, in_small, small_labels, small_says}
 use Rattle.c62_read.proofs.TokenLemmas.{joined_word}
 use Rattle.c62_read.proofs.CaseBytes.{all_low, begins_low, digit_low, double_low, joins_low, label_low, length_low, low, low_byte, lowered, number_low}
 use Rattle.c62_read.proofs.CaseBytes.{plain_byte, register_low, same_low, small_low, spells_low, test_low}
+
+-- one test decides both
+if_low : {A B : Type 0} (f : A → B) (b : Bool) (x y : A) → f (cond b x y) ≡ cond b (f x) (f y)
+if_low f true x y = refl
+if_low f false x y = refl
 
 -- ---- tokens
 
@@ -259,7 +264,7 @@ behind_mnemonic_low mnemonic ws = rw (unit_low ws) (go (unit_front ws))
     go : (found : Option (Option WrittenUnit × List Word)) → option_and_then (if_fitting mnemonic) (option_map behind_low found)
         ≡ option_map behind_low (option_and_then (if_fitting mnemonic) found)
     go None = refl
-    go (Some (unit, ws)) = elim (cases_Bool (fits_behind mnemonic unit)) [ | inl fits ↦ rw fits refl | inr other ↦ rw other refl ]
+    go (Some (unit, ws)) = rw (if_low (option_map behind_low)) refl
 
 -- ---- conditions and mnemonics
 
@@ -291,12 +296,12 @@ small_label w = small_low false w
 
 alone_low : (ws : List Word) → label_alone (lows ws) ≡ option_map low (label_alone ws)
 alone_low [] = refl
-alone_low (w ∷ []) = rw (label_low w) (elim (cases_Bool (is_label w)) [ | inl label ↦ rw label refl | inr other ↦ rw other refl ])
+alone_low (w ∷ []) = rw (label_low w, if_low (option_map low)) refl
 alone_low (w ∷ v ∷ ws) = refl
 
 target_low : (op : Op) (ws : List Word) → target_of (Operation op) (lows ws) ≡ option_map low (target_of (Operation op) ws)
 target_low op ws =
-    rw (alone_low ws) (elim (cases_Bool (is_branch op)) [ | inl branch ↦ rw branch refl | inr other ↦ rw other refl ])
+    rw (alone_low ws, if_low (option_map low)) refl
 
 formed_low : (fault : Option FormFault) (parts : Parts) (label : Word) → small (formed fault (Jumps parts (low label))) ≡ small (formed fault (Jumps parts label))
 formed_low None parts label = rw (small_label label) refl
@@ -338,10 +343,7 @@ pub rest_low : (ws : List Word) → small (rest_says (lows ws)) ≡ small (rest_
 unfolding rest_says
 rest_low [] = refl
 rest_low (w ∷ ws) =
-    rw (begins_low is_dot refl w) (elim (cases_Bool (begins is_dot w)) [
-      | inl dot ↦ rw dot refl
-      | inr other ↦ rw other (instruction_low (w ∷ ws))
-    ])
+    rw (begins_low is_dot refl w, if_low small, if_low small, instruction_low (w ∷ ws)) refl
 
 -- ---- the head of a line
 
@@ -374,13 +376,16 @@ head_low (Ok front) = Ok (front_low front)
 head_low (Err cause) = Err cause
 
 uncoloned : (front : Option Word × List Word) → without_colon (front_low front) ≡ head_low (without_colon front)
-uncoloned (label, ws) =
-    rw (colon_low ws) (elim (cases_Bool (has_colon ws)) [ | inl colon ↦ rw colon refl | inr none ↦ rw none refl ])
+uncoloned (label, ws) = rw (colon_low ws, if_low head_low) refl
 
 pub head_is_low : (line : List ℕ) → head_of (low line) ≡ head_low (head_of line)
 unfolding head_of
 head_is_low line =
     rw (
+      if_low head_low,
+      if_low head_low,
+      if_low head_low,
+      if_low head_low,
       all_low is_allowed (test_low is_allowed refl) false line,
       length_low false line,
       begins_low is_star refl line,
@@ -388,19 +393,7 @@ head_is_low line =
       bars_low (tokens line),
       label_front_low (tokens line),
       uncoloned (label_front (tokens line)),
-    ) (elim (cases_Bool (list_all is_allowed line)) [
-      | inl allowed ↦ elim (cases_Bool (ltb 255 (length line))) [
-        | inl long ↦ rw (allowed, long) refl
-        | inr short ↦ elim (cases_Bool (begins is_star line)) [
-          | inl star ↦ rw (allowed, short, star) refl
-          | inr text ↦ elim (cases_Bool (is_bars (tokens line))) [
-            | inl bars ↦ rw (allowed, short, text, bars) refl
-            | inr none ↦ rw (allowed, short, text, none) refl
-          ]
-        ]
-      ]
-      | inr other ↦ rw other refl
-    ])
+    ) refl
 
 -- ---- the line
 

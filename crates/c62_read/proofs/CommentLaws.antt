@@ -16,7 +16,7 @@ use Rattle.c62_read.specs.Laws.{AreUncommented, Behind, CommentSaysNothing, Comm
 use Rattle.c62_read.specs.Laws.{Whole}
 use Rattle.c62_read.proofs.CommentLemmas.{tokens-comment}
 use Rattle.c62_read.proofs.AlikeLaws.{AreAlike, IsAlike, alike_programs}
-use Rattle.c62_read.proofs.SpelledTokens.{mark_alone}
+use Rattle.c62_read.proofs.LabelFields.{star_field}
 
 abbrev Head : Type 0
 Head = Result (Option Word × List Word) Cause
@@ -32,37 +32,14 @@ head_is line readable = rw (readable.0, le-ltb 255 (length line) readable.1) ref
 -- ---- a star
 
 star_head : (line : List ℕ) → IsReadable line → begins is_star line ≡ true → head_of line ≡ Ok (None, [])
-star_head line readable star = head_is line readable ∙ ap (λ (b : Bool). head_from b (tokens line)) star
-
-nothing : rest_says [] ≡ Ok Nothing
-unfolding rest_says
-nothing = refl
+star_head line readable star = head_is line readable ∙ rw star refl
 
 star_line : (line : List ℕ) → IsReadable line → begins is_star line ≡ true → line_of line ≡ Ok (None, Nothing)
-unfolding line_of
-star_line line readable star = rw (star_head line readable star, nothing) refl
-
-star_label : is_label (42 ∷ []) ≡ false
-unfolding is_label
-star_label = refl
-
-star_front : (words : List Word) → (label_front ((42 ∷ []) ∷ words)).0 ≡ None
-unfolding label_front
-star_front [] = refl
-star_front (colon ∷ words) = let none : (spells (codes ":") colon && is_label (42 ∷ [])) ≡ false =
-    and_right (spells (codes ":") colon) (is_label (42 ∷ [])) star_label in rw none refl
-
-pub star_is : (line : List ℕ) → begins is_star line ≡ true → (rest : List ℕ) × (line ≡ 42 ∷ rest)
-star_is [] star = absurd cc
-star_is (b ∷ rest) star = (rest, ap (λ (c : ℕ). c ∷ rest) (eqb-true b 42 star))
-
-pub star_field : (rest : List ℕ) → label_field (42 ∷ rest) ≡ None
-unfolding label_field
-star_field rest = ap (λ (words : List Word). (label_front words).0) (mark_alone 42 rest refl) ∙ star_front (tokens rest)
+unfolding line_of rest_says
+star_line line readable star = rw (star_head line readable star) refl
 
 pub star_nothing : (line : List ℕ) → IsReadable line → IsTrue (begins is_star line) → StarSaysNothing line
-star_nothing line readable star =
-    let split = star_is line star in (star_line line readable star, ap label_field split.1 ∙ star_field split.0)
+star_nothing line readable star = (star_line line readable star, star_field line star)
 
 -- ---- behind a semicolon
 
@@ -113,7 +90,7 @@ alike line other (Behind rest e readable) =
 alike line other (Whole rest e f readable) =
     let star : begins is_star line ≡ true = ap (begins is_star) e in
     by_head line other (star_head line readable star ∙ sym (ap head_of f ∙ empty_head))
-    (ap label_field e ∙ star_field rest ∙ sym (ap label_field f ∙ empty_field))
+    (star_field line star ∙ sym (ap label_field f ∙ empty_field))
 
 all_alike : (lines others : List (List ℕ)) → AreUncommented lines others → AreAlike lines others
 all_alike [] [] same = tt
