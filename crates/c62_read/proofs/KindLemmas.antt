@@ -2,6 +2,7 @@
 use Rattle.std.proofs.Common.{◌≡◌, ℕ, suc, ◌+◌, ◌≤◌, ◌<◌, Bool, true, false, List, [], ◌∷◌, length, Option, Some, None, Err, cond, eqb, refl, sym, ap}
 use Rattle.std.proofs.Common.{subst, ◌∙◌, inl, inr, arith}
 use Rattle.std.proofs.lemmas.Bool.{cases_Bool, eqb-true}
+use Rattle.std.proofs.lemmas.Bool.Decides.{nat_tests}
 use Rattle.std.specs.Prelude.{ℤ}
 use Rattle.std.proofs.lemmas.List.{length-map}
 use Rattle.c62_insn.specs.declared.register.Reg.{Reg}
@@ -108,30 +109,13 @@ no_bracket (word ∷ words) is = other_kind (mark_of word) word (kinds_of words)
 
 -- ---- marks that stand alone
 
-one_mark : (c : ℕ) (kind : Kind) (rest : List ℕ) → is_mark c ≡ true → kind_of (c ∷ []) ≡ kind
-    → kinds_of (tokens (c ∷ rest)) ≡ kind ∷ kinds_of (tokens rest)
-one_mark c kind rest mark is = ap kinds_of (mark_alone c rest mark) ∙ ap (λ (k : Kind). k ∷ kinds_of (tokens rest)) is
-
-abbrev StandsAlone : ℕ → List ℕ → Option Kind → Type 0
-StandsAlone b rest None = Unit {0}
-StandsAlone b rest (Some kind) = kinds_of (tokens (b ∷ rest)) ≡ kind ∷ kinds_of (tokens rest)
-
-stands_alone : (b : ℕ) (rest : List ℕ) → StandsAlone b rest (lone_mark b)
-unfolding kind_of mark_of single_mark
-stands_alone b rest =
-    either 44 Comma _ refl refl (either 42 Star _ refl refl (either 91 Open _ refl refl (either 93 Close _ refl refl
-    (either 33 Not None refl refl tt))))
-  where
-    either : (c : ℕ) (kind : Kind) (other : Option Kind) → is_mark c ≡ true → kind_of (c ∷ []) ≡ kind → StandsAlone b rest other
-        → StandsAlone b rest (cond (eqb b c) (Some kind) other)
-    either c kind other mark is later =
-        elim (cases_Bool (eqb b c)) [
-          | inl same ↦ rw same (subst (λ (x : ℕ). StandsAlone x rest (Some kind)) (sym (eqb-true b c same)) (one_mark c kind rest mark is))
-          | inr differs ↦ rw differs later
-        ]
+lone_single : (b : ℕ) (kind : Kind) → lone_mark b ≡ Some kind → single_mark b ≡ Some kind
+unfolding single_mark
+lone_single b kind is = grind (arith, nat_tests)
 
 pub lone_is : (line rest : List ℕ) (b : ℕ) (kind : Kind) → line ≡ b ∷ rest → lone_mark b ≡ Some kind
     → kinds_of (tokens line) ≡ kind ∷ kinds_of (tokens rest)
+unfolding kind_of mark_of
 lone_is line rest b kind are is =
-    let alone : StandsAlone b rest (Some kind) = subst (StandsAlone b rest) is (stands_alone b rest) in
-    ap (λ (bytes : List ℕ). kinds_of (tokens bytes)) are ∙ alone
+    let mark : is_mark b ≡ true = grind (arith, nat_tests) in
+    rw (are, mark_alone b rest mark, lone_single b kind is) refl
