@@ -6,12 +6,7 @@ use Rattle.std.proofs.lemmas.Bool.{cases_Bool}
 use Rattle.std.proofs.lemmas.Bool.Decides.{nat_tests}
 use Rattle.std.proofs.lemmas.List.Sums.{take_while-cons}
 use Rattle.c62_read.specs.Text.{grow, is_blank, is_solid, is_double, joins, tokens}
-use Rattle.c62_read.proofs.TokenLemmas.{tokens_joined, tokens_alone, tokens_double, tokens_last, tokens_blank, tokens_comment}
-
--- what is done with the tokens of a test's two sides
-on_both : {A B : Type 0} (f : A → B) (b : Bool) (x y : A) → f (cond b x y) ≡ cond b (f x) (f y)
-on_both f true x y = refl
-on_both f false x y = refl
+use Rattle.c62_read.proofs.TokenLemmas.{on_test}
 
 abbrev joined_bytes : List (List ℕ) → List ℕ
 joined_bytes words = flat_map (λ t. t) words
@@ -38,10 +33,10 @@ tokens-bytes (b ∷ []) = rw (kept_more b []) (grind (arith, nat_tests))
 tokens-bytes (b ∷ c ∷ rest) =
     rw (
       kept_more b (c ∷ rest),
-      on_both joined_bytes,
-      on_both joined_bytes,
-      on_both joined_bytes,
-      on_both joined_bytes,
+      on_test joined_bytes,
+      on_test joined_bytes,
+      on_test joined_bytes,
+      on_test joined_bytes,
       grown b (tokens (c ∷ rest)),
       tokens-bytes (c ∷ rest),
     ) (elim (cases_Bool (is_double b c)) [

@@ -6,9 +6,8 @@ use Rattle.std.specs.Char.{digit_value, to_ascii_lowercase, is_ascii_digit}
 use Rattle.std.specs.List.{list_all, starts_with}
 use Rattle.std.specs.Str.{bytes_eq}
 use Rattle.std.specs.Str.Parse.{digits_value_after}
-use Rattle.std.proofs.lemmas.Bool.{agree_below, agree_below_at, cases_Bool, cases_lt, eqb-true}
+use Rattle.std.proofs.lemmas.Bool.{agree_below, agree_below_at, cases_Bool, cond_both, ltb-true}
 use Rattle.std.proofs.lemmas.Bool.Decides.{nat_tests}
-use Rattle.std.proofs.lemmas.Str.Ascii.{lowercase-lowercase, lowercase_is}
 use Rattle.c62_insn.specs.declared.register.Side.{Side}
 use Rattle.c62_read.specs.Text.{begins, is_sign, is_word_byte, is_double, joins}
 use Rattle.c62_read.specs.Number.{are_digits, decimal_of, file_of, hexadecimal_of, in_file, in_range, is_label, magnitude_of, number_of, register_of}
@@ -18,42 +17,37 @@ use Rattle.c62_read.specs.Laws.{IsRecased}
 -- ---- bytes
 
 -- a small letter, but for an `X` behind a 0
-pub low_byte : Bool → ℕ → ℕ
+unfoldable pub low_byte : Bool → ℕ → ℕ
 low_byte zero b = cond (zero && eqb b 88) b (to_ascii_lowercase b)
 
 pub plain_byte : (zero : Bool) (b : ℕ) → (zero && eqb b 88) ≡ false → low_byte zero b ≡ low_byte false b
 unfolding low_byte
 plain_byte zero b other = rw other refl
 
--- what holds of a byte and itself, and of a byte below 91 and its small letter
-low_by : (P : ℕ → ℕ → Type 0) → ((b : ℕ) → P b b) → ((b : ℕ) → b < 91 → P (to_ascii_lowercase b) b) → (zero : Bool) (b : ℕ) → P (low_byte zero b) b
+-- what holds of a byte and itself, and of a small letter and its capital
+pub low_by : (P : ℕ → ℕ → Type 0) → ((b : ℕ) → P b b) → ((b : ℕ) → ltb b 65 ≡ false → ltb b 91 ≡ true → P (b + 32) b)
+    → (zero : Bool) (b : ℕ) → P (low_byte zero b) b
 unfolding low_byte
 low_by P same small zero b =
-    elim (cases_Bool (zero && eqb b 88)) [
-      | inl kept ↦ rw kept (same b)
-      | inr other ↦ rw other (elim (cases_lt b 91) [
-        | inl less ↦ small b less
-        | inr more ↦ let e : to_ascii_lowercase b ≡ b = (lowercase_is b).2 (omega arith) in rw e (same b)
-      ])
-    ]
+    cond_both (zero && eqb b 88) b (to_ascii_lowercase b) (λ c. P c b) (λ kept. same b) (λ other.
+    cond_both (ltb b 65) b (cond (ltb b 91) (b + 32) b) (λ c. P c b) (λ low. same b) (λ high.
+    cond_both (ltb b 91) (b + 32) b (λ c. P c b) (small b high) (λ over. same b)))
 
 -- a test that answers the same for each capital and its small letter
 pub test_low : (test : ℕ → Bool) → agree_below (λ c. test (to_ascii_lowercase c)) test 91 ≡ true → (zero : Bool) (b : ℕ)
     → test (low_byte zero b) ≡ test b
 test_low test all =
-    low_by (λ c b. test c ≡ test b) (λ b. refl) (λ b less. agree_below_at (λ c. test (to_ascii_lowercase c)) test 91 b all less)
+    low_by (λ c b. test c ≡ test b) (λ b. refl)
+    (λ b high less. rw (high, less) at (agree_below_at (λ c. test (to_ascii_lowercase c)) test 91 b all (ltb-true b 91 less)))
 
 value_low : (zero : Bool) (b : ℕ) → digit_value (low_byte zero b) ≡ digit_value b
-value_low =
-    low_by (λ c b. digit_value c ≡ digit_value b) (λ b. refl)
-    (λ b less. eqb-true (digit_value (to_ascii_lowercase b)) (digit_value b)
-    (agree_below_at (λ c. eqb (digit_value (to_ascii_lowercase c)) (digit_value c)) (λ c. true) 91 b refl less))
+value_low = low_by (λ c b. digit_value c ≡ digit_value b) (λ b. refl) (λ b high less. grind (arith, nat_tests))
 
 pub digit_low : (zero : Bool) (b : ℕ) → is_ascii_digit (low_byte zero b) ≡ is_ascii_digit b
 digit_low = test_low is_ascii_digit refl
 
 digit_is : (zero : Bool) (b : ℕ) → is_ascii_digit b ≡ true → low_byte zero b ≡ b
-digit_is = low_by (λ c b. is_ascii_digit b ≡ true → c ≡ b) (λ b digit. refl) (λ b less digit. (lowercase_is b).1 (grind (arith, nat_tests)))
+digit_is = low_by (λ c b. is_ascii_digit b ≡ true → c ≡ b) (λ b digit. refl) (λ b high less digit. grind (arith, nat_tests))
 
 pub joins_low : (y z : Bool) (b c : ℕ) → joins (low_byte y b) (low_byte z c) ≡ joins b c
 joins_low y z b c =
@@ -87,7 +81,7 @@ low w = lowered false w
 pub small_low : (zero : Bool) (w : List ℕ) → map to_ascii_lowercase (lowered zero w) ≡ map to_ascii_lowercase w
 small_low zero [] = refl
 small_low zero (b ∷ w) =
-    let first = low_by (λ c b. to_ascii_lowercase c ≡ to_ascii_lowercase b) (λ b. refl) (λ b less. lowercase-lowercase b) zero b in
+    let first = low_by (λ c b. to_ascii_lowercase c ≡ to_ascii_lowercase b) (λ b. refl) (λ b high less. grind (arith, nat_tests)) zero b in
     rw (first, small_low (eqb b 48) w) refl
 
 pub spells_low : (name w : List ℕ) → spells name (low w) ≡ spells name w
@@ -110,8 +104,8 @@ begins_low test all (b ∷ w) = test_low test all false b
 -- ---- registers
 
 file_low : (zero : Bool) (b : ℕ) → file_of (low_byte zero b) ≡ file_of b
-unfolding file_of
-file_low zero b = rw (test_low (λ x. eqb x 65 || eqb x 97) refl zero b, test_low (λ x. eqb x 66 || eqb x 98) refl zero b) refl
+unfolding file_of low_byte
+file_low zero b = grind (arith, nat_tests)
 
 number_in : (file : Option Side) (less : ℕ) (ten zero : Bool) (d : ℕ)
     → cond (ten && is_ascii_digit (low_byte zero d)) (in_file file (low_byte zero d - less)) None

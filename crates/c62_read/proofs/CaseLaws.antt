@@ -33,14 +33,9 @@ use Rattle.c62_read.specs.Line.{fits_behind, formed, has_colon, head_of, if_fitt
 use Rattle.c62_read.specs.Line.{jumps_or_does, label_alone, label_front, line_of, mnemonic_front, or_fault, parts_read}
 use Rattle.c62_read.specs.Line.{rest_says, target_of, text_fault, unit_behind, with_head, with_rest, without_colon}
 use Rattle.c62_read.specs.Laws.{IsRecased, in_small, small_labels, small_says}
-use Rattle.c62_read.proofs.TokenLemmas.{joined_word}
-use Rattle.c62_read.proofs.CaseBytes.{all_low, begins_low, digit_low, double_low, joins_low, label_low, length_low, low, low_byte, lowered, number_low}
+use Rattle.c62_read.proofs.TokenLemmas.{joined_word, on_test}
+use Rattle.c62_read.proofs.CaseBytes.{all_low, begins_low, digit_low, double_low, joins_low, label_low, length_low, low, low_by, low_byte, lowered, number_low}
 use Rattle.c62_read.proofs.CaseBytes.{plain_byte, register_low, same_low, small_low, spells_low, test_low}
-
--- one test decides both
-if_low : {A B : Type 0} (f : A → B) (b : Bool) (x y : A) → f (cond b x y) ≡ cond b (f x) (f y)
-if_low f true x y = refl
-if_low f false x y = refl
 
 -- ---- tokens
 
@@ -114,16 +109,7 @@ tokens_low line = tokens_lowered false line refl ∙ first_plain (tokens line)
 
 single_low : (zero : Bool) (b : ℕ) → single_mark (low_byte zero b) ≡ single_mark b
 unfolding single_mark
-single_low zero b =
-    rw (
-      test_low (λ x. eqb x 44) refl zero b,
-      test_low (λ x. eqb x 42) refl zero b,
-      test_low (λ x. eqb x 91) refl zero b,
-      test_low (λ x. eqb x 93) refl zero b,
-      test_low (λ x. eqb x 33) refl zero b,
-      test_low (λ x. eqb x 43) refl zero b,
-      test_low (λ x. eqb x 45) refl zero b,
-    ) refl
+single_low = low_by (λ c b. single_mark c ≡ single_mark b) (λ b. refl) (λ b high less. grind (arith, nat_tests))
 
 mark_low : (w : Word) → written_mark (low w) ≡ written_mark w
 unfolding written_mark
@@ -179,17 +165,11 @@ behind_low (x, ws) = (x, lows ws)
 
 letter_low : (zero : Bool) (b : ℕ) → letter_of (low_byte zero b) ≡ letter_of b
 unfolding letter_of
-letter_low zero b =
-    rw (
-      test_low (λ x. eqb x 76 || eqb x 108) refl zero b,
-      test_low (λ x. eqb x 83 || eqb x 115) refl zero b,
-      test_low (λ x. eqb x 77 || eqb x 109) refl zero b,
-      test_low (λ x. eqb x 68 || eqb x 100) refl zero b,
-    ) refl
+letter_low = low_by (λ c b. letter_of c ≡ letter_of b) (λ b. refl) (λ b high less. grind (arith, nat_tests))
 
 side_low : (zero : Bool) (b : ℕ) → side_numbered (low_byte zero b) ≡ side_numbered b
-unfolding side_numbered
-side_low zero b = rw (test_low (λ x. eqb x 49) refl zero b, test_low (λ x. eqb x 50) refl zero b) refl
+unfolding side_numbered low_byte
+side_low zero b = grind (arith, nat_tests)
 
 -- a unit, and what is left of its word
 abbrev left_low : WrittenUnit × Word → WrittenUnit × Word
@@ -264,7 +244,7 @@ behind_mnemonic_low mnemonic ws = rw (unit_low ws) (go (unit_front ws))
     go : (found : Option (Option WrittenUnit × List Word)) → option_and_then (if_fitting mnemonic) (option_map behind_low found)
         ≡ option_map behind_low (option_and_then (if_fitting mnemonic) found)
     go None = refl
-    go (Some (unit, ws)) = rw (if_low (option_map behind_low)) refl
+    go (Some (unit, ws)) = rw (on_test (option_map behind_low)) refl
 
 -- ---- conditions and mnemonics
 
@@ -296,12 +276,12 @@ small_label w = small_low false w
 
 alone_low : (ws : List Word) → label_alone (lows ws) ≡ option_map low (label_alone ws)
 alone_low [] = refl
-alone_low (w ∷ []) = rw (label_low w, if_low (option_map low)) refl
+alone_low (w ∷ []) = rw (label_low w, on_test (option_map low)) refl
 alone_low (w ∷ v ∷ ws) = refl
 
 target_low : (op : Op) (ws : List Word) → target_of (Operation op) (lows ws) ≡ option_map low (target_of (Operation op) ws)
 target_low op ws =
-    rw (alone_low ws, if_low (option_map low)) refl
+    rw (alone_low ws, on_test (option_map low)) refl
 
 formed_low : (fault : Option FormFault) (parts : Parts) (label : Word) → small (formed fault (Jumps parts (low label))) ≡ small (formed fault (Jumps parts label))
 formed_low None parts label = rw (small_label label) refl
@@ -343,7 +323,7 @@ pub rest_low : (ws : List Word) → small (rest_says (lows ws)) ≡ small (rest_
 unfolding rest_says
 rest_low [] = refl
 rest_low (w ∷ ws) =
-    rw (begins_low is_dot refl w, if_low small, if_low small, instruction_low (w ∷ ws)) refl
+    rw (begins_low is_dot refl w, on_test small, on_test small, instruction_low (w ∷ ws)) refl
 
 -- ---- the head of a line
 
@@ -376,16 +356,16 @@ head_low (Ok front) = Ok (front_low front)
 head_low (Err cause) = Err cause
 
 uncoloned : (front : Option Word × List Word) → without_colon (front_low front) ≡ head_low (without_colon front)
-uncoloned (label, ws) = rw (colon_low ws, if_low head_low) refl
+uncoloned (label, ws) = rw (colon_low ws, on_test head_low) refl
 
 pub head_is_low : (line : List ℕ) → head_of (low line) ≡ head_low (head_of line)
 unfolding head_of
 head_is_low line =
     rw (
-      if_low head_low,
-      if_low head_low,
-      if_low head_low,
-      if_low head_low,
+      on_test head_low,
+      on_test head_low,
+      on_test head_low,
+      on_test head_low,
       all_low is_allowed (test_low is_allowed refl) false line,
       length_low false line,
       begins_low is_star refl line,
