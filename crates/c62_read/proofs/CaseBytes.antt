@@ -53,20 +53,12 @@ pub joins_low : (y z : Bool) (b c : ℕ) → joins (low_byte y b) (low_byte z c)
 joins_low y z b c =
     rw (test_low is_word_byte refl y b, test_low is_word_byte refl z c, test_low is_sign refl y b, digit_low z c, test_low (λ x. eqb x 46) refl y b) refl
 
-double_parts : (b c : ℕ) → is_double b c ≡ ((eqb b 43 && eqb c 43) || (eqb b 45 && eqb c 45) || (eqb b 124 && eqb c 124))
-double_parts b c = grind (arith, nat_tests)
-
 pub double_low : (y z : Bool) (b c : ℕ) → is_double (low_byte y b) (low_byte z c) ≡ is_double b c
 double_low y z b c =
-    double_parts (low_byte y b) (low_byte z c)
-    ∙ rw (
-      test_low (λ x. eqb x 43) refl y b,
-      test_low (λ x. eqb x 45) refl y b,
-      test_low (λ x. eqb x 124) refl y b,
-      test_low (λ x. eqb x 43) refl z c,
-      test_low (λ x. eqb x 45) refl z c,
-      test_low (λ x. eqb x 124) refl z c,
-    ) (sym (double_parts b c))
+    low_by (λ e c. is_double (low_byte y b) e ≡ is_double b c)
+    (λ c. low_by (λ d b. is_double d c ≡ is_double b c) (λ b. refl) (λ b high less. grind (arith, nat_tests)) y b)
+    (λ c over under. low_by (λ d b. is_double d (c + 32) ≡ is_double b c) (λ b. grind (arith, nat_tests)) (λ b high less. grind (arith, nat_tests)) y b)
+    z c
 
 -- ---- words
 

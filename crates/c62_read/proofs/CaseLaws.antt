@@ -138,23 +138,9 @@ kinds_low (w ∷ ws) = rw (kind_low w, kinds_low ws) refl
 
 -- ---- mnemonics
 
-find_low : (w : Word) (ops : List Op) → find (λ op. spells (mnemonic_of op) (low w)) ops ≡ find (λ op. spells (mnemonic_of op) w) ops
-find_low w [] = refl
-find_low w (op ∷ ops) = rw (spells_low (mnemonic_of op) w, find_low w ops) refl
-
 mnemonic_low : (w : Word) → mnemonic_named (low w) ≡ mnemonic_named w
 unfolding mnemonic_named operation_named pseudo_named
-mnemonic_low w =
-    rw (
-      find_low w all_operations,
-      spells_low (codes "MV") w,
-      spells_low (codes "NEG") w,
-      spells_low (codes "NOT") w,
-      spells_low (codes "ZERO") w,
-      spells_low (codes "MVKL") w,
-      spells_low (codes "MVKH") w,
-      spells_low (codes "NOP") w,
-    ) refl
+mnemonic_low w = simp (small_low false w) refl
 
 -- ---- a thing found, and what stands behind it
 
