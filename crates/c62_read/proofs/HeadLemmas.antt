@@ -1,10 +1,10 @@
 -- Lines without a label.
 use Rattle.std.proofs.Common.{◌≡◌, ℕ, ◌≤◌, ◌<◌, Bool, true, false, cond, not, eqb, ◌||◌, List, [], ◌∷◌, length, Option, None, Ok, refl, ap, ◌∙◌}
-use Rattle.std.proofs.Common.{arith}
+use Rattle.std.proofs.Common.{arith, inl, inr}
 use Rattle.std.specs.Prelude.{take_while, codes}
 use Rattle.std.specs.Char.{to_ascii_lowercase}
 use Rattle.std.specs.List.{list_all, list_any}
-use Rattle.std.proofs.lemmas.Bool.{and_from, and_parts, le-ltb, or_parts}
+use Rattle.std.proofs.lemmas.Bool.{and_from, and_parts, cases_Bool, le-ltb, or_parts}
 use Rattle.std.proofs.lemmas.Bool.Decides.{nat_tests}
 use Rattle.std.proofs.lemmas.List.Sums.{take_while-cons}
 use Rattle.c62_read.specs.Text.{begins, is_allowed, is_solid, tokens}
@@ -22,23 +22,36 @@ all_weaker p q (b ∷ bytes) weaker all =
     let parts = and_parts (p b) (list_all p bytes) all in
     and_from (q b) (list_all q bytes) (weaker b parts.0) (all_weaker p q bytes weaker parts.1)
 
-text_allowed : (b : ℕ) → is_text b ≡ true → is_allowed b ≡ true
-text_allowed b text = grind (arith, nat_tests)
-
 pub allowed_text : (bytes : List ℕ) → list_all is_text bytes ≡ true → list_all is_allowed bytes ≡ true
-allowed_text bytes text = all_weaker is_text is_allowed bytes text_allowed text
+allowed_text bytes text = all_weaker is_text is_allowed bytes (λ b text. grind (arith, nat_tests)) text
 
-no_colon_bytes : (bytes : List ℕ) → list_all is_text bytes ≡ true → list_any (λ b. eqb b 58) (take_while (λ b. not (eqb b 59)) bytes) ≡ false
-no_colon_bytes [] text = refl
-no_colon_bytes (b ∷ bytes) text =
+-- ---- lines without a colon
+
+abbrev colons_in : List ℕ → Bool
+colons_in bytes = list_any (λ b. eqb b 58) bytes
+
+text_colon : (bytes : List ℕ) → list_all is_text bytes ≡ true → colons_in bytes ≡ false
+text_colon [] text = refl
+text_colon (b ∷ bytes) text =
     let parts = and_parts (is_text b) (list_all is_text bytes) text in
-    let comment : eqb b 59 ≡ false = grind (arith, nat_tests) in
     let colon : eqb b 58 ≡ false = grind (arith, nat_tests) in
-    rw (take_while-cons (λ (x : ℕ). not (eqb x 59)) b bytes, comment, colon) (no_colon_bytes bytes parts.1)
+    rw (colon, text_colon bytes parts.1) refl
+
+no_take : (test : ℕ → Bool) (bytes : List ℕ) → colons_in bytes ≡ false → colons_in (take_while test bytes) ≡ false
+no_take test [] none = refl
+no_take test (b ∷ bytes) none =
+    let parts = or_parts (eqb b 58) (colons_in bytes) none in
+    rw (take_while-cons test b bytes) (elim (cases_Bool (test b)) [
+      | inl goes ↦ rw (goes, parts.0, no_take test bytes parts.1) refl
+      | inr stops ↦ rw stops refl
+    ])
+
+no_colon_at_all : (line : List ℕ) → colons_in line ≡ false → has_colon (tokens line) ≡ false
+no_colon_at_all line none = colons line ∙ no_take (λ (b : ℕ). not (eqb b 59)) line none
 
 -- a text without colons has no token that is one
 pub no_colon : (line : List ℕ) → list_all is_text line ≡ true → has_colon (tokens line) ≡ false
-no_colon line text = colons line ∙ no_colon_bytes line text
+no_colon line text = no_colon_at_all line (text_colon line text)
 
 pub no_label : (words : List Word) → has_colon words ≡ false → label_front words ≡ (None, words)
 unfolding label_front
@@ -62,26 +75,6 @@ pub line_by_head : (line : List ℕ) (label : Option Word) (words : List Word) (
 unfolding line_of
 line_by_head line label words says head rest = rw (head, rest) refl
 
--- ---- a line with no colon at all
-
-no_take : (test : ℕ → Bool) (bytes : List ℕ) → list_any (λ b. eqb b 58) bytes ≡ false → list_any (λ b. eqb b 58) (take_while test bytes) ≡ false
-no_take test [] none = refl
-no_take test (b ∷ bytes) none =
-    let parts = or_parts (eqb b 58) (list_any (λ (x : ℕ). eqb x 58) bytes) none in
-    ap (list_any (λ (x : ℕ). eqb x 58)) (take_while-cons test b bytes) ∙ go (test b) parts.0 (no_take test bytes parts.1)
-  where
-    go : (goes : Bool) → eqb b 58 ≡ false → list_any (λ (x : ℕ). eqb x 58) (take_while test bytes) ≡ false
-        → list_any (λ (x : ℕ). eqb x 58) (cond goes (b ∷ take_while test bytes) []) ≡ false
-    go true here others = or_from here others
-      where
-        or_from : eqb b 58 ≡ false → list_any (λ (x : ℕ). eqb x 58) (take_while test bytes) ≡ false
-            → (eqb b 58 || list_any (λ (x : ℕ). eqb x 58) (take_while test bytes)) ≡ false
-        or_from e f = rw (e, f) refl
-    go false here others = refl
-
-no_colon_at_all : (line : List ℕ) → list_any (λ b. eqb b 58) line ≡ false → has_colon (tokens line) ≡ false
-no_colon_at_all line none = colons line ∙ no_take (λ (b : ℕ). not (eqb b 59)) line none
-
 pub head_without_colon : (line : List ℕ) → list_any (λ b. eqb b 58) line ≡ false → without_colon (label_front (tokens line)) ≡ Ok (None, tokens line)
 head_without_colon line none =
     let colon = no_colon_at_all line none in
@@ -93,31 +86,18 @@ plain_field line none = ap (λ (front : Option Word × List Word). front.0) (no_
 
 -- ---- bars
 
-bar_byte : (b : ℕ) → eqb b 124 ≡ false → eqb (to_ascii_lowercase b) 124 ≡ false
-bar_byte b other = grind (arith, nat_tests)
-
-bar_word : (b : ℕ) (word : Word) → eqb b 124 ≡ false → spells (codes "||") (b ∷ word) ≡ false
-bar_word b word other = rw (bar_byte b other) refl
-
 -- a line that begins with a token's byte, and not with a bar, does not begin with bars
 pub no_bars : (start : List ℕ) → (0 < length start → begins is_solid start ≡ true) → begins (λ b. eqb b 124) start ≡ false
     → is_bars (tokens start) ≡ false
 no_bars [] solid other = refl
 no_bars (b ∷ rest) solid other =
     let first = begins_with b rest (solid (omega arith)) in
-    ap is_bars first.is ∙ bar_word b first.word other
+    let bar : eqb (to_ascii_lowercase b) 124 ≡ false = grind (arith, nat_tests) in
+    ap is_bars first.is ∙ rw bar refl
 
 -- ---- an empty line
 
-empty_head : head_of [] ≡ Ok (None, [])
-unfolding head_of label_front
-empty_head = refl
-
-empty_rest : rest_says [] ≡ Ok Nothing
-unfolding rest_says
-empty_rest = refl
-
 pub empty_line : (number : ℕ) (line : List ℕ) (drafts : Drafts) → line ≡ []
     → add_line number line drafts ≡ record { says = Nothing; drafts = Ok drafts }
-unfolding add_line hindrance is_taken with_says
-empty_line number line drafts none = rw (none, empty_head, empty_rest) refl
+unfolding add_line head_of hindrance is_taken label_front rest_says with_says
+empty_line number line drafts none = rw none refl
