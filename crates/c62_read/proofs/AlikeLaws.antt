@@ -46,54 +46,28 @@ alike_items number (line ∷ lines) (other ∷ others) alike = let said = alike.
 alike_items number [] (other ∷ others) alike = absurd alike
 alike_items number (line ∷ lines) [] alike = absurd alike
 
--- a line's fault by what is told of it
-abbrev told : List Name → Option Cause → List Name → Option Name → Result (Option Name × Says) Cause → List Item → Option Cause
-told labels head earlier field said items =
-    first_of (head
-    ∷ fault_if (list_any (λ label. is_among label earlier) (option_to_list field)) DuplicateLabel
-    ∷ fault_in said
-    ∷ fault_if (misses_label labels said) UnknownTarget
-    ∷ fault_if (list_any is_overfull (cut items)) TooManyInstructions
-    ∷ fault_if (nat_lt 64 (length (cut items))) TooManyBlocks
-    ∷ [])
-
-fault_told : (labels : List Name) (before : List (List ℕ)) (line : List ℕ)
-    → fault_of labels before line
-    ≡ told labels (fault_in (head_of line)) (labels_of before) (label_field line) (line_of line) (items_from 1 (before ++ line ∷ []))
-unfolding fault_of
-fault_told labels before line = refl
-
 alike_fault : (labels : List Name) (before others : List (List ℕ)) (line other : List ℕ) → AreAlike before others → IsAlike line other
     → fault_of labels before line ≡ fault_of labels others other
+unfolding fault_of
 alike_fault labels before others line other alike last =
-    let earlier : List Name = labels_of before in
-    let items : List Item = items_from 1 (before ++ line ∷ []) in
-    let more : List Item = items_from 1 (others ++ other ∷ []) in
-    let same : items ≡ more = alike_items 1 (before ++ line ∷ []) (others ++ other ∷ []) (alike_more before others line other alike last) in
-    fault_told labels before line
-    ∙ ap (λ (head : Option Cause). told labels head earlier (label_field line) (line_of line) items) last.head
-    ∙ ap (λ (names : List Name). told labels (fault_in (head_of other)) names (label_field line) (line_of line) items) (alike_labels before others alike)
-    ∙ ap (λ (field : Option Name). told labels (fault_in (head_of other)) (labels_of others) field (line_of line) items) last.field
-    ∙ ap (λ (said : Result (Option Name
-    × Says) Cause). told labels (fault_in (head_of other)) (labels_of others) (label_field other) said items) last.said
-    ∙ ap (λ (all : List Item). told labels (fault_in (head_of other)) (labels_of others) (label_field other) (line_of other) all) same
-    ∙ sym (fault_told labels others other)
-
-abbrev at_first : ℕ → Option Cause → Option Refusal → Option Refusal
-at_first count fault later = first_of (option_map (λ cause. (count + 1, cause)) fault ∷ later ∷ [])
+    rw (
+      last.head,
+      alike_labels before others alike,
+      alike_items 1 (before ++ line ∷ []) (others ++ other ∷ []) (alike_more before others line other alike last),
+      last.field,
+      last.said,
+    ) refl
 
 alike_faults : (labels : List Name) (before earlier lines others : List (List ℕ)) → AreAlike before earlier → AreAlike lines others
     → first_fault labels before lines ≡ first_fault labels earlier others
 unfolding first_fault
 alike_faults labels before earlier [] [] first alike = refl
 alike_faults labels before earlier (line ∷ lines) (other ∷ others) first alike =
-    let count = alike_length before earlier first in
-    let here = alike_fault labels before earlier line other first alike.0 in
-    let later = alike_faults labels (before ++ line ∷ []) (earlier ++ other ∷ []) lines others
-    (alike_more before earlier line other first alike.0) alike.1 in
-    ap (λ (n : ℕ). at_first n (fault_of labels before line) (first_fault labels (before ++ line ∷ []) lines)) count
-    ∙ ap (λ (fault : Option Cause). at_first (length earlier) fault (first_fault labels (before ++ line ∷ []) lines)) here
-    ∙ ap (λ (fault : Option Refusal). at_first (length earlier) (fault_of labels earlier other) fault) later
+    rw (
+      alike_length before earlier first,
+      alike_fault labels before earlier line other first alike.0,
+      alike_faults labels (before ++ line ∷ []) (earlier ++ other ∷ []) lines others (alike_more before earlier line other first alike.0) alike.1,
+    ) refl
 alike_faults labels before earlier [] (other ∷ others) first alike = absurd alike
 alike_faults labels before earlier (line ∷ lines) [] first alike = absurd alike
 

@@ -1,343 +1,206 @@
--- Words that are the same but for the case of their letters spell the same.
-use Rattle.std.proofs.Common.{◌≡◌, ℕ, ◌+◌, ◌-◌, ◌*◌, ◌<◌, ◌≤◌, ◌⊎◌, Bool, true, false, not, cond, eqb, ltb, ◌&&◌, ◌||◌, List, [], ◌∷◌, length, drop}
+-- What a line says in small letters, but for an `X` behind a 0: such a line stands for all that are the same but for case.
+use Rattle.std.proofs.Common.{◌≡◌, ℕ, ◌+◌, ◌-◌, ◌*◌, ◌<◌, Bool, true, false, not, cond, eqb, ltb, ◌&&◌, ◌||◌, List, [], ◌∷◌, length, drop}
 use Rattle.std.proofs.Common.{Option, None, refl, sym, ap, ◌∙◌, arith, inl, inr}
 use Rattle.std.specs.Prelude.{map, option_and_then, codes}
 use Rattle.std.specs.Char.{digit_value, to_ascii_lowercase, is_ascii_digit}
 use Rattle.std.specs.List.{list_all, starts_with}
 use Rattle.std.specs.Str.{bytes_eq}
 use Rattle.std.specs.Str.Parse.{digits_value_after}
-use Rattle.std.proofs.lemmas.Bool.{agree_below, agree_below_at, cases_Bool, cases_lt, eqb-true, le-ltb, lt-ltb}
+use Rattle.std.proofs.lemmas.Bool.{agree_below, agree_below_at, cases_Bool, cond_both, ltb-true}
 use Rattle.std.proofs.lemmas.Bool.Decides.{nat_tests}
 use Rattle.c62_insn.specs.declared.register.Side.{Side}
-use Rattle.c62_read.specs.Text.{begins, is_allowed, is_blank, is_solid, is_sign, is_word_byte, is_double, joins}
+use Rattle.c62_read.specs.Text.{begins, is_sign, is_word_byte, is_double, joins}
 use Rattle.c62_read.specs.Number.{are_digits, decimal_of, file_of, hexadecimal_of, in_file, in_range, is_label, magnitude_of, number_of, register_of}
 use Rattle.c62_read.specs.Number.{signed_of, spells}
 use Rattle.c62_read.specs.Laws.{IsRecased}
-use mathlib.Core.Bool.{beq}
 
 -- ---- bytes
 
-abbrev pub Same : ℕ → ℕ → Type 0
-Same b c = to_ascii_lowercase b ≡ to_ascii_lowercase c
+-- a small letter, but for an `X` behind a 0
+unfoldable pub low_byte : Bool → ℕ → ℕ
+low_byte zero b = cond (zero && eqb b 88) b (to_ascii_lowercase b)
 
--- one byte, or a capital and its small letter
-pub data IsCase (b c : ℕ) : Type 0 where
-  Equal : b ≡ c → IsCase b c
-  Raised : 65 ≤ c → c < 91 → b ≡ c + 32 → IsCase b c
-  Lowered : 65 ≤ b → b < 91 → c ≡ b + 32 → IsCase b c
+pub plain_byte : (zero : Bool) (b : ℕ) → (zero && eqb b 88) ≡ false → low_byte zero b ≡ low_byte false b
+unfolding low_byte
+plain_byte zero b other = rw other refl
 
-lowercase : (b : ℕ) → ((65 ≤ b) × (b < 91) × (to_ascii_lowercase b ≡ b + 32)) ⊎ (to_ascii_lowercase b ≡ b)
-lowercase b =
-    elim (cases_lt b 65) [
-      | inl small ↦ inr (rw (lt-ltb b 65 small) refl)
-      | inr high ↦ elim (cases_lt b 91) [
-        | inl letter ↦ inl (high, letter, rw (le-ltb b 65 high, lt-ltb b 91 letter) refl)
-        | inr over ↦ inr (rw (le-ltb b 65 high, le-ltb b 91 over) refl)
-      ]
-    ]
-
-case_of : (b c : ℕ) → Same b c → IsCase b c
-case_of b c same =
-    elim (lowercase b) [
-      | inl first ↦ elim (lowercase c) [
-        | inl second ↦ Equal (omega (arith, same, first.2, second.2))
-        | inr second ↦ Lowered first.0 first.1 (omega (arith, same, first.2, second))
-      ]
-      | inr first ↦ elim (lowercase c) [
-        | inl second ↦ Raised second.0 second.1 (omega (arith, same, first, second.2))
-        | inr second ↦ Equal (omega (arith, same, first, second))
-      ]
-    ]
-
-or_holds : (c : ℕ) (x : Bool) → 65 ≤ c → (ltb c 65 || x) ≡ true → x ≡ true
-or_holds c x high or = rw (le-ltb c 65 high) at or
-
-beq-is : (a b : Bool) → beq a b ≡ true → a ≡ b
-beq-is true true e = refl
-beq-is false false e = refl
-beq-is true false e = absurd cc
-beq-is false true e = absurd cc
+-- what holds of a byte and itself, and of a small letter and its capital
+pub low_by : (P : ℕ → ℕ → Type 0) → ((b : ℕ) → P b b) → ((b : ℕ) → ltb b 65 ≡ false → ltb b 91 ≡ true → P (b + 32) b)
+    → (zero : Bool) (b : ℕ) → P (low_byte zero b) b
+unfolding low_byte
+low_by P same small zero b =
+    cond_both (zero && eqb b 88) b (to_ascii_lowercase b) (λ c. P c b) (λ kept. same b) (λ other.
+    cond_both (ltb b 65) b (cond (ltb b 91) (b + 32) b) (λ c. P c b) (λ low. same b) (λ high.
+    cond_both (ltb b 91) (b + 32) b (λ c. P c b) (small b high) (λ over. same b)))
 
 -- a test that answers the same for each capital and its small letter
-pub test_same : (test : ℕ → Bool) → agree_below (λ c. ltb c 65 || beq (test (c + 32)) (test c)) (λ c. true) 91 ≡ true → (b c : ℕ) → Same b c
-    → test b ≡ test c
-test_same test all b c same = by_case (case_of b c same)
-  where
-    at : (x : ℕ) → 65 ≤ x → x < 91 → test (x + 32) ≡ test x
-    at x high low =
-        beq-is (test (x + 32)) (test x)
-        (or_holds x (beq (test (x + 32)) (test x)) high
-        (agree_below_at (λ y. ltb y 65 || beq (test (y + 32)) (test y)) (λ y. true) 91 x all low))
+pub test_low : (test : ℕ → Bool) → agree_below (λ c. test (to_ascii_lowercase c)) test 91 ≡ true → (zero : Bool) (b : ℕ)
+    → test (low_byte zero b) ≡ test b
+test_low test all =
+    low_by (λ c b. test c ≡ test b) (λ b. refl)
+    (λ b high less. rw (high, less) at (agree_below_at (λ c. test (to_ascii_lowercase c)) test 91 b all (ltb-true b 91 less)))
 
-    by_case : IsCase b c → test b ≡ test c
-    by_case (Equal e) = ap test e
-    by_case (Raised high low e) = ap test e ∙ at c high low
-    by_case (Lowered high low e) = sym (ap test e ∙ at b high low)
+value_low : (zero : Bool) (b : ℕ) → digit_value (low_byte zero b) ≡ digit_value b
+value_low = low_by (λ c b. digit_value c ≡ digit_value b) (λ b. refl) (λ b high less. grind (arith, nat_tests))
 
-pub number_same : (f : ℕ → ℕ) → agree_below (λ c. ltb c 65 || eqb (f (c + 32)) (f c)) (λ c. true) 91 ≡ true → (b c : ℕ) → Same b c → f b ≡ f c
-number_same f all b c same = by_case (case_of b c same)
-  where
-    at : (x : ℕ) → 65 ≤ x → x < 91 → f (x + 32) ≡ f x
-    at x high low =
-        eqb-true (f (x + 32)) (f x) (or_holds x (eqb (f (x + 32)) (f x)) high
-        (agree_below_at (λ y. ltb y 65 || eqb (f (y + 32)) (f y)) (λ y. true) 91 x all low))
+pub digit_low : (zero : Bool) (b : ℕ) → is_ascii_digit (low_byte zero b) ≡ is_ascii_digit b
+digit_low = test_low is_ascii_digit refl
 
-    by_case : IsCase b c → f b ≡ f c
-    by_case (Equal e) = ap f e
-    by_case (Raised high low e) = ap f e ∙ at c high low
-    by_case (Lowered high low e) = sym (ap f e ∙ at b high low)
+digit_is : (zero : Bool) (b : ℕ) → is_ascii_digit b ≡ true → low_byte zero b ≡ b
+digit_is = low_by (λ c b. is_ascii_digit b ≡ true → c ≡ b) (λ b digit. refl) (λ b high less digit. grind (arith, nat_tests))
 
-pub solid_same : (b c : ℕ) → Same b c → is_solid b ≡ is_solid c
-solid_same = test_same is_solid refl
+pub joins_low : (y z : Bool) (b c : ℕ) → joins (low_byte y b) (low_byte z c) ≡ joins b c
+joins_low y z b c =
+    rw (test_low is_word_byte refl y b, test_low is_word_byte refl z c, test_low is_sign refl y b, digit_low z c, test_low (λ x. eqb x 46) refl y b) refl
 
-pub blank_same : (b c : ℕ) → Same b c → is_blank b ≡ is_blank c
-blank_same = test_same is_blank refl
-
-pub comment_same : (b c : ℕ) → Same b c → eqb b 59 ≡ eqb c 59
-comment_same = test_same (λ x. eqb x 59) refl
-
-pub word_same : (b c : ℕ) → Same b c → is_word_byte b ≡ is_word_byte c
-word_same = test_same is_word_byte refl
-
-pub allowed_same : (b c : ℕ) → Same b c → is_allowed b ≡ is_allowed c
-allowed_same = test_same is_allowed refl
-
-sign_same : (b c : ℕ) → Same b c → is_sign b ≡ is_sign c
-sign_same = test_same is_sign refl
-
-pub digit_same : (b c : ℕ) → Same b c → is_ascii_digit b ≡ is_ascii_digit c
-digit_same = test_same is_ascii_digit refl
-
-dot_same : (b c : ℕ) → Same b c → eqb b 46 ≡ eqb c 46
-dot_same = test_same (λ x. eqb x 46) refl
-
-pub value_same : (b c : ℕ) → Same b c → digit_value b ≡ digit_value c
-value_same = number_same digit_value refl
-
-pub joins_same : (b c d e : ℕ) → Same b c → Same d e → joins b d ≡ joins c e
-joins_same b c d e first second =
-    rw (word_same b c first, word_same d e second, sign_same b c first, digit_same d e second, dot_same b c first) refl
-
-double_parts : (b c : ℕ) → is_double b c ≡ ((eqb b 43 && eqb c 43) || (eqb b 45 && eqb c 45) || (eqb b 124 && eqb c 124))
-double_parts b c = grind (arith, nat_tests)
-
-pub plus_same : (b c : ℕ) → Same b c → eqb b 43 ≡ eqb c 43
-plus_same = test_same (λ x. eqb x 43) refl
-
-pub minus_same : (b c : ℕ) → Same b c → eqb b 45 ≡ eqb c 45
-minus_same = test_same (λ x. eqb x 45) refl
-
-bar_same : (b c : ℕ) → Same b c → eqb b 124 ≡ eqb c 124
-bar_same = test_same (λ x. eqb x 124) refl
-
-pub double_same : (b c d e : ℕ) → Same b c → Same d e → is_double b d ≡ is_double c e
-double_same b c d e first second =
-    double_parts b d
-    ∙ rw (plus_same b c first, minus_same b c first, bar_same b c first, plus_same d e second, minus_same d e second, bar_same d e second)
-    (sym (double_parts c e))
+pub double_low : (y z : Bool) (b c : ℕ) → is_double (low_byte y b) (low_byte z c) ≡ is_double b c
+double_low y z b c =
+    low_by (λ e c. is_double (low_byte y b) e ≡ is_double b c)
+    (λ c. low_by (λ d b. is_double d c ≡ is_double b c) (λ b. refl) (λ b high less. grind (arith, nat_tests)) y b)
+    (λ c over under. low_by (λ d b. is_double d (c + 32) ≡ is_double b c) (λ b. grind (arith, nat_tests)) (λ b high less. grind (arith, nat_tests)) y b)
+    z c
 
 -- ---- words
 
--- behind any byte but a 0
-abbrev pub IsRecasedWord : List ℕ → List ℕ → Type 0
-IsRecasedWord w v = IsRecased 32 w v
+-- a line, or a word, behind a 0 or behind another byte
+abbrev pub lowered : Bool → List ℕ → List ℕ
+lowered zero [] = []
+lowered zero (b ∷ w) = low_byte zero b ∷ lowered (eqb b 48) w
 
-pub fresh : (before : ℕ) (w v : List ℕ) → IsRecased before w v → IsRecasedWord w v
-fresh before [] [] same = tt
-fresh before (b ∷ w) (c ∷ v) same = (same.0, λ zero. absurd (omega (arith, zero)), same.2)
-fresh before [] (c ∷ v) same = absurd same
-fresh before (b ∷ w) [] same = absurd same
+abbrev pub low : List ℕ → List ℕ
+low w = lowered false w
 
-pub lowered : (before : ℕ) (w v : List ℕ) → IsRecased before w v → map to_ascii_lowercase w ≡ map to_ascii_lowercase v
-lowered before [] [] same = refl
-lowered before (b ∷ w) (c ∷ v) same = rw (same.0, lowered b w v same.2) refl
-lowered before [] (c ∷ v) same = absurd same
-lowered before (b ∷ w) [] same = absurd same
+pub small_low : (zero : Bool) (w : List ℕ) → map to_ascii_lowercase (lowered zero w) ≡ map to_ascii_lowercase w
+small_low zero [] = refl
+small_low zero (b ∷ w) =
+    let first = low_by (λ c b. to_ascii_lowercase c ≡ to_ascii_lowercase b) (λ b. refl) (λ b high less. grind (arith, nat_tests)) zero b in
+    rw (first, small_low (eqb b 48) w) refl
 
-pub spells_same : (name w v : List ℕ) → IsRecasedWord w v → spells name w ≡ spells name v
-spells_same name w v same = ap (λ (low : List ℕ). bytes_eq low (map to_ascii_lowercase name)) (lowered 32 w v same)
+pub spells_low : (name w : List ℕ) → spells name (low w) ≡ spells name w
+spells_low name w = ap (λ (small : List ℕ). bytes_eq small (map to_ascii_lowercase name)) (small_low false w)
 
-pub length_same : (before : ℕ) (w v : List ℕ) → IsRecased before w v → length w ≡ length v
-length_same before [] [] same = refl
-length_same before (b ∷ w) (c ∷ v) same = rw (length_same b w v same.2) refl
-length_same before [] (c ∷ v) same = absurd same
-length_same before (b ∷ w) [] same = absurd same
+pub length_low : (zero : Bool) (w : List ℕ) → length (lowered zero w) ≡ length w
+length_low zero [] = refl
+length_low zero (b ∷ w) = rw (length_low (eqb b 48) w) refl
 
-pub all_same : (test : ℕ → Bool) → ((b c : ℕ) → Same b c → test b ≡ test c) → (before : ℕ) (w v : List ℕ) → IsRecased before w v
-    → list_all test w ≡ list_all test v
-all_same test tests before [] [] same = refl
-all_same test tests before (b ∷ w) (c ∷ v) same = rw (tests b c same.0, all_same test tests b w v same.2) refl
-all_same test tests before [] (c ∷ v) same = absurd same
-all_same test tests before (b ∷ w) [] same = absurd same
+pub all_low : (test : ℕ → Bool) → ((zero : Bool) (b : ℕ) → test (low_byte zero b) ≡ test b) → (zero : Bool) (w : List ℕ)
+    → list_all test (lowered zero w) ≡ list_all test w
+all_low test tests zero [] = refl
+all_low test tests zero (b ∷ w) = rw (tests zero b, all_low test tests (eqb b 48) w) refl
 
-pub begins_same : (test : ℕ → Bool) → ((b c : ℕ) → Same b c → test b ≡ test c) → (before : ℕ) (w v : List ℕ) → IsRecased before w v
-    → begins test w ≡ begins test v
-begins_same test tests before [] [] same = refl
-begins_same test tests before (b ∷ w) (c ∷ v) same = tests b c same.0
-begins_same test tests before [] (c ∷ v) same = absurd same
-begins_same test tests before (b ∷ w) [] same = absurd same
+pub begins_low : (test : ℕ → Bool) → agree_below (λ c. test (to_ascii_lowercase c)) test 91 ≡ true → (w : List ℕ)
+    → begins test (low w) ≡ begins test w
+begins_low test all [] = refl
+begins_low test all (b ∷ w) = test_low test all false b
 
 -- ---- registers
 
-file_same : (b c : ℕ) → Same b c → file_of b ≡ file_of c
-unfolding file_of
-file_same b c same = rw (test_same (λ x. eqb x 65 || eqb x 97) refl b c same, test_same (λ x. eqb x 66 || eqb x 98) refl b c same) refl
+file_low : (zero : Bool) (b : ℕ) → file_of (low_byte zero b) ≡ file_of b
+unfolding file_of low_byte
+file_low zero b = grind (arith, nat_tests)
 
-digit_is : (b c : ℕ) → Same b c → is_ascii_digit b ≡ true → b ≡ c
-digit_is b c same digit = by_case (case_of b c same)
-  where
-    most : b ≤ 57
-    most = grind (arith, nat_tests)
+number_in : (file : Option Side) (less : ℕ) (ten zero : Bool) (d : ℕ)
+    → cond (ten && is_ascii_digit (low_byte zero d)) (in_file file (low_byte zero d - less)) None
+    ≡ cond (ten && is_ascii_digit d) (in_file file (d - less)) None
+number_in file less false zero d = refl
+number_in file less true zero d =
+    elim (cases_Bool (is_ascii_digit d)) [
+      | inl digit ↦ rw (digit_is zero d digit) refl
+      | inr other ↦ rw (digit_low zero d, other) refl
+    ]
 
-    by_case : IsCase b c → b ≡ c
-    by_case (Equal e) = e
-    by_case (Raised high low e) = absurd (omega (arith, most))
-    by_case (Lowered high low e) = absurd (omega (arith, most))
-
-digit_number : (f g : Option Side) (d e less : ℕ) (c : Bool) → f ≡ g → Same d e → is_ascii_digit d ≡ c
-    → cond c (in_file f (d - less)) None ≡ cond c (in_file g (e - less)) None
-digit_number f g d e less true files same digit = ap (λ (n : ℕ). in_file f (n - less)) (digit_is d e same digit)
-    ∙ ap (λ (file : Option Side). in_file file (e - less)) files
-digit_number f g d e less false files same digit = refl
-
-two_same : (l m d e : ℕ) → Same l m → Same d e → register_of (l ∷ d ∷ []) ≡ register_of (m ∷ e ∷ [])
+pub register_low : (w : List ℕ) → register_of (low w) ≡ register_of w
 unfolding register_of
-two_same l m d e first second =
-    digit_number (file_of l) (file_of m) d e 48 (is_ascii_digit d) (file_same l m first) second refl
-    ∙ ap (λ (c : Bool). cond c (in_file (file_of m) (e - 48)) None) (digit_same d e second)
-
-one_same : (b c : ℕ) → Same b c → eqb b 49 ≡ eqb c 49
-one_same = test_same (λ x. eqb x 49) refl
-
-ten_number : (f g : Option Side) (d e : ℕ) (t c : Bool) → f ≡ g → Same d e → is_ascii_digit d ≡ c
-    → cond (t && c) (in_file f (d - 38)) None ≡ cond (t && c) (in_file g (e - 38)) None
-ten_number f g d e true c files same digit = digit_number f g d e 38 c files same digit
-ten_number f g d e false c files same digit = refl
-
-three_same : (l m t u d e : ℕ) → Same l m → Same t u → Same d e → register_of (l ∷ t ∷ d ∷ []) ≡ register_of (m ∷ u ∷ e ∷ [])
-unfolding register_of
-three_same l m t u d e first ten second =
-    ten_number (file_of l) (file_of m) d e (eqb t 49) (is_ascii_digit d) (file_same l m first) second refl
-    ∙ rw (one_same t u ten, digit_same d e second) refl
-
-pub register_same : (w v : List ℕ) → IsRecasedWord w v → register_of w ≡ register_of v
-unfolding register_of
-register_same [] [] same = refl
-register_same (l ∷ []) (m ∷ []) same = refl
-register_same (l ∷ d ∷ []) (m ∷ e ∷ []) same = two_same l m d e same.0 same.2.0
-register_same (l ∷ t ∷ d ∷ []) (m ∷ u ∷ e ∷ []) same = three_same l m t u d e same.0 same.2.0 same.2.2.0
-register_same (l ∷ t ∷ d ∷ x ∷ w) (m ∷ u ∷ e ∷ y ∷ v) same = refl
-register_same [] (m ∷ v) same = absurd same
-register_same (l ∷ w) [] same = absurd same
-register_same (l ∷ []) (m ∷ e ∷ v) same = absurd same.2
-register_same (l ∷ d ∷ w) (m ∷ []) same = absurd same.2
-register_same (l ∷ d ∷ []) (m ∷ e ∷ u ∷ v) same = absurd same.2.2
-register_same (l ∷ t ∷ d ∷ w) (m ∷ u ∷ []) same = absurd same.2.2
-register_same (l ∷ t ∷ d ∷ []) (m ∷ u ∷ e ∷ y ∷ v) same = absurd same.2.2.2
-register_same (l ∷ t ∷ d ∷ x ∷ w) (m ∷ u ∷ e ∷ []) same = absurd same.2.2.2
+register_low [] = refl
+register_low (l ∷ []) = refl
+register_low (l ∷ d ∷ []) = rw (file_low false l) (number_in (file_of l) 48 true (eqb l 48) d)
+register_low (l ∷ t ∷ d ∷ []) =
+    rw (file_low false l, test_low (λ x. eqb x 49) refl (eqb l 48) t) (number_in (file_of l) 38 (eqb t 49) (eqb t 48) d)
+register_low (l ∷ t ∷ d ∷ x ∷ w) = refl
 
 -- ---- numbers
 
-digits_same : (radix before : ℕ) (w v : List ℕ) → IsRecased before w v → are_digits radix w ≡ are_digits radix v
-digits_same radix before [] [] same = refl
-digits_same radix before (b ∷ w) (c ∷ v) same = rw (value_same b c same.0, digits_same radix b w v same.2) refl
-digits_same radix before [] (c ∷ v) same = absurd same
-digits_same radix before (b ∷ w) [] same = absurd same
+digits_low : (radix : ℕ) (zero : Bool) (w : List ℕ) → are_digits radix (lowered zero w) ≡ are_digits radix w
+digits_low radix = all_low (λ d. ltb (digit_value d) radix) (λ zero b. ap (λ (d : ℕ). ltb d radix) (value_low zero b))
 
-after_same : (radix before n : ℕ) (w v : List ℕ) → IsRecased before w v → digits_value_after radix n w ≡ digits_value_after radix n v
-after_same radix before n [] [] same = refl
-after_same radix before n (b ∷ w) (c ∷ v) same =
-    ap (λ (d : ℕ). digits_value_after radix (n * radix + d) w) (value_same b c same.0) ∙ after_same radix b (n * radix + digit_value c) w v same.2
-after_same radix before n [] (c ∷ v) same = absurd same
-after_same radix before n (b ∷ w) [] same = absurd same
+after_low : (radix n : ℕ) (zero : Bool) (w : List ℕ) → digits_value_after radix n (lowered zero w) ≡ digits_value_after radix n w
+after_low radix n zero [] = refl
+after_low radix n zero (b ∷ w) =
+    ap (λ (d : ℕ). digits_value_after radix (n * radix + d) (lowered (eqb b 48) w)) (value_low zero b)
+    ∙ after_low radix (n * radix + digit_value b) (eqb b 48) w
 
-hexadecimal_same : (before : ℕ) (w v : List ℕ) → IsRecased before w v → hexadecimal_of w ≡ hexadecimal_of v
+hexadecimal_low : (zero : Bool) (w : List ℕ) → hexadecimal_of (lowered zero w) ≡ hexadecimal_of w
 unfolding hexadecimal_of
-hexadecimal_same before [] [] same = refl
-hexadecimal_same before (b ∷ w) (c ∷ v) same =
-    rw (length_same b w v same.2, digits_same 16 before (b ∷ w) (c ∷ v) same, after_same 16 before 0 (b ∷ w) (c ∷ v) same) refl
-hexadecimal_same before [] (c ∷ v) same = absurd same
-hexadecimal_same before (b ∷ w) [] same = absurd same
+hexadecimal_low zero [] = refl
+hexadecimal_low zero (b ∷ w) = rw (length_low (eqb b 48) w, digits_low 16 zero (b ∷ w), after_low 16 0 zero (b ∷ w)) refl
 
-high_same : (b c : ℕ) → Same b c → ltb 48 b ≡ ltb 48 c
-high_same = test_same (λ x. ltb 48 x) refl
-
-decimal_same : (before : ℕ) (w v : List ℕ) → IsRecased before w v → decimal_of w ≡ decimal_of v
+decimal_low : (zero : Bool) (w : List ℕ) → decimal_of (lowered zero w) ≡ decimal_of w
 unfolding decimal_of
-decimal_same before [] [] same = refl
-decimal_same before (b ∷ w) (c ∷ v) same =
-    rw (length_same b w v same.2, high_same b c same.0, digits_same 10 before (b ∷ w) (c ∷ v) same, after_same 10 before 0 (b ∷ w) (c ∷ v) same) refl
-decimal_same before [] (c ∷ v) same = absurd same
-decimal_same before (b ∷ w) [] same = absurd same
-
-zero_same : (b c : ℕ) → Same b c → eqb 48 b ≡ eqb 48 c
-zero_same = test_same (λ x. eqb 48 x) refl
+decimal_low zero [] = refl
+decimal_low zero (b ∷ w) =
+    rw (length_low (eqb b 48) w, test_low (λ x. ltb 48 x) refl zero b, digits_low 10 zero (b ∷ w), after_low 10 0 zero (b ∷ w)) refl
 
 -- a hexadecimal number has a small x behind a 0
-x_lowers : (d : ℕ) → eqb 120 d ≡ true → to_ascii_lowercase d ≡ 120
-x_lowers d is = let e : 120 ≡ d = eqb-true 120 d is in ap to_ascii_lowercase (sym e)
+hex_mark : (zero : Bool) (b d : ℕ) → (eqb 48 (low_byte zero b) && (eqb 120 (low_byte (eqb b 48) d) && true)) ≡ (eqb 48 b && (eqb 120 d && true))
+unfolding low_byte
+hex_mark zero b d = grind (arith, nat_tests)
 
-x_same : (d e : ℕ) → Same d e → (to_ascii_lowercase d ≡ 120 → d ≡ e) → eqb 120 d ≡ eqb 120 e
-x_same d e same kept =
-    elim (cases_Bool (eqb 120 d)) [
-      | inl small ↦ ap (λ (x : ℕ). eqb 120 x) (kept (x_lowers d small))
-      | inr first ↦ elim (cases_Bool (eqb 120 e)) [
-        | inl small ↦ ap (λ (x : ℕ). eqb 120 x) (kept (same ∙ x_lowers e small))
-        | inr second ↦ first ∙ sym second
-      ]
-    ]
+hex_low : (zero : Bool) (w : List ℕ) → starts_with eqb (lowered zero w) (codes "0x") ≡ starts_with eqb w (codes "0x")
+hex_low zero [] = refl
+hex_low zero (b ∷ []) = ap (λ (starts : Bool). starts && false) (test_low (λ x. eqb 48 x) refl zero b)
+hex_low zero (b ∷ d ∷ w) = hex_mark zero b d
 
-hex_mark : (zero : Bool) (b d e : ℕ) → eqb 48 b ≡ zero → Same d e → (b ≡ 48 → to_ascii_lowercase d ≡ 120 → d ≡ e)
-    → (zero && (eqb 120 d && true)) ≡ (zero && (eqb 120 e && true))
-hex_mark true b d e is same kept = ap (λ (x : Bool). x && true) (x_same d e same (kept (sym (eqb-true 48 b is))))
-hex_mark false b d e is same kept = refl
+dropped : (zero : Bool) (w : List ℕ) → hexadecimal_of (drop 2 (lowered zero w)) ≡ hexadecimal_of (drop 2 w)
+dropped zero [] = refl
+dropped zero (b ∷ []) = refl
+dropped zero (b ∷ d ∷ w) = hexadecimal_low (eqb d 48) w
 
-hex_same : (before : ℕ) (w v : List ℕ) → IsRecased before w v → starts_with eqb w (codes "0x") ≡ starts_with eqb v (codes "0x")
-hex_same before [] [] same = refl
-hex_same before (b ∷ []) (c ∷ []) same = ap (λ (zero : Bool). zero && false) (zero_same b c same.0)
-hex_same before (b ∷ d ∷ w) (c ∷ e ∷ v) same =
-    hex_mark (eqb 48 b) b d e refl same.2.0 same.2.1 ∙ ap (λ (zero : Bool). zero && (eqb 120 e && true)) (zero_same b c same.0)
-hex_same before [] (c ∷ v) same = absurd same
-hex_same before (b ∷ w) [] same = absurd same
-hex_same before (b ∷ []) (c ∷ e ∷ v) same = absurd same.2
-hex_same before (b ∷ d ∷ w) (c ∷ []) same = absurd same.2
-
-dropped : (before : ℕ) (w v : List ℕ) → IsRecased before w v → hexadecimal_of (drop 2 w) ≡ hexadecimal_of (drop 2 v)
-dropped before [] [] same = refl
-dropped before (b ∷ []) (c ∷ []) same = refl
-dropped before (b ∷ d ∷ w) (c ∷ e ∷ v) same = hexadecimal_same d w v same.2.2
-dropped before [] (c ∷ v) same = absurd same
-dropped before (b ∷ w) [] same = absurd same
-dropped before (b ∷ []) (c ∷ e ∷ v) same = absurd same.2
-dropped before (b ∷ d ∷ w) (c ∷ []) same = absurd same.2
-
-magnitude_same : (before : ℕ) (w v : List ℕ) → IsRecased before w v → magnitude_of w ≡ magnitude_of v
+magnitude_low : (zero : Bool) (w : List ℕ) → magnitude_of (lowered zero w) ≡ magnitude_of w
 unfolding magnitude_of
-magnitude_same before w v same = rw (hex_same before w v same, dropped before w v same, decimal_same before w v same) refl
+magnitude_low zero w = rw (hex_low zero w, dropped zero w, decimal_low zero w) refl
 
-signed_same : (w v : List ℕ) → IsRecasedWord w v → signed_of w ≡ signed_of v
+signed_low : (w : List ℕ) → signed_of (low w) ≡ signed_of w
 unfolding signed_of
-signed_same [] [] same = refl
-signed_same (b ∷ w) (c ∷ v) same =
-    rw (minus_same b c same.0, plus_same b c same.0, magnitude_same b w v same.2, magnitude_same 32 (b ∷ w) (c ∷ v) same) refl
-signed_same [] (c ∷ v) same = absurd same
-signed_same (b ∷ w) [] same = absurd same
+signed_low [] = refl
+signed_low (b ∷ w) =
+    rw (
+      test_low (λ x. eqb x 45) refl false b,
+      test_low (λ x. eqb x 43) refl false b,
+      magnitude_low (eqb b 48) w,
+      magnitude_low false (b ∷ w),
+    ) refl
 
-pub number_of_same : (w v : List ℕ) → IsRecasedWord w v → number_of w ≡ number_of v
+pub number_low : (w : List ℕ) → number_of (low w) ≡ number_of w
 unfolding number_of
-number_of_same w v same = ap (option_and_then in_range) (signed_same w v same)
+number_low w = ap (option_and_then in_range) (signed_low w)
 
 -- ---- labels
 
-no_digit_same : (b c : ℕ) → Same b c → not (is_ascii_digit b) ≡ not (is_ascii_digit c)
-no_digit_same b c same = ap not (digit_same b c same)
-
-pub label_same : (w v : List ℕ) → IsRecasedWord w v → is_label w ≡ is_label v
+pub label_low : (w : List ℕ) → is_label (low w) ≡ is_label w
 unfolding is_label
-label_same w v same =
+label_low w =
     rw (
-      begins_same (λ b. not (is_ascii_digit b)) no_digit_same 32 w v same,
-      all_same is_word_byte word_same 32 w v same,
-      length_same 32 w v same,
-      register_same w v same,
+      begins_low (λ b. not (is_ascii_digit b)) refl w,
+      all_low is_word_byte (test_low is_word_byte refl) false w,
+      length_low false w,
+      register_low w,
     ) refl
+
+-- ---- lines that are the same but for case
+
+same_test : (test : ℕ → Bool) → agree_below (λ c. test (to_ascii_lowercase c)) test 91 ≡ true → (b c : ℕ)
+    → to_ascii_lowercase b ≡ to_ascii_lowercase c → test b ≡ test c
+unfolding low_byte
+same_test test all b c same = sym (test_low test all false b) ∙ ap test same ∙ test_low test all false c
+
+same_byte : (before b c : ℕ) → to_ascii_lowercase b ≡ to_ascii_lowercase c → (before ≡ 48 → to_ascii_lowercase b ≡ 120 → b ≡ c)
+    → low_byte (eqb before 48) b ≡ low_byte (eqb before 48) c
+unfolding low_byte
+same_byte before b c same kept = grind (arith, nat_tests)
+
+pub same_low : (before : ℕ) (line other : List ℕ) → IsRecased before line other → lowered (eqb before 48) line ≡ lowered (eqb before 48) other
+same_low before [] [] same = refl
+same_low before (b ∷ line) (c ∷ other) same =
+    rw (same_byte before b c same.0 same.1, same_low b line other same.2, same_test (λ x. eqb x 48) refl b c same.0) refl
+same_low before [] (c ∷ other) same = absurd same
+same_low before (b ∷ line) [] same = absurd same

@@ -1,562 +1,382 @@
--- Case changes nothing but labels.
-use Rattle.std.proofs.Common.{◌≡◌, ℕ, zero, suc, Bool, true, false, cond, eqb, ltb, ◌&&◌, ◌||◌, List, [], ◌∷◌, length, Option, Some, None, Result, Ok}
-use Rattle.std.proofs.Common.{Err, not, refl, sym, ap, subst, ◌∙◌, arith, inl, inr}
-use Rattle.std.specs.Prelude.{drop, option_and_then, option_map, codes}
-use Rattle.std.specs.Char.{is_ascii_digit, to_ascii_lowercase}
+-- A line in small letters says the same, but for the case of labels: so do two lines that are the same but for case.
+use Rattle.std.proofs.Common.{◌≡◌, ℕ, Bool, true, false, not, cond, eqb, ltb, ◌&&◌, ◌||◌, List, [], ◌∷◌, length, Option, Some, None, Result, Ok}
+use Rattle.std.proofs.Common.{Err, refl, sym, ap, ◌∙◌, arith, inl, inr}
+use Rattle.std.specs.Prelude.{map, option_and_then, option_map, codes}
+use Rattle.std.specs.Char.{is_ascii_digit}
 use Rattle.std.specs.List.{find, list_all}
 use Rattle.std.proofs.lemmas.Bool.{cases_Bool}
+use Rattle.std.proofs.lemmas.Bool.Decides.{nat_tests}
+use Rattle.std.proofs.lemmas.List.{drop-map}
 use Rattle.c62_insn.specs.declared.register.Side.{Side}
 use Rattle.c62_insn.specs.declared.register.Cond.{Cond as Condition}
 use Rattle.c62_insn.specs.declared.register.Letter.{Letter}
 use Rattle.c62_insn.specs.declared.operands.Op.{Op}
 use Rattle.c62_insn.specs.declared.operands.Op.TheVariants.{B as Branch}
-use Rattle.c62_insn.specs.declared.operands.Operands.{Operands}
 use Rattle.c62_insn.specs.declared.operands.Operands.TheVariants.{Block}
 use Rattle.c62_insn.specs.declared.fault.FormFault.{FormFault}
 use Rattle.c62_insn.specs.Spelling.{mnemonic_of}
+use Rattle.c62_insn.specs.Table.{all_operations}
 use Rattle.c62_read.specs.declared.fault.Cause.{Cause}
-use Rattle.c62_read.specs.declared.fault.Cause.TheVariants.{NotAscii, LineTooLong, BadLabel, BadOperand, BadUnit, ParallelBar, Directive}
-use Rattle.c62_read.specs.declared.fault.Cause.TheVariants.{UnknownMnemonic}
+use Rattle.c62_read.specs.declared.fault.Cause.TheVariants.{BadOperand, BadUnit, UnknownMnemonic}
 use Rattle.c62_read.specs.declared.mnemonic.Mnemonic.{Mnemonic}
-use Rattle.c62_read.specs.declared.mnemonic.Mnemonic.TheVariants.{Operation, Mv, Neg, Not, Zero, Mvkl, Mvkh, Nop}
-use Rattle.c62_read.specs.declared.unit.Mark.{Mark}
-use Rattle.c62_read.specs.declared.unit.Mark.TheVariants.{Plain, Cross, Path}
+use Rattle.c62_read.specs.declared.mnemonic.Mnemonic.TheVariants.{Operation, Nop}
+use Rattle.c62_read.specs.declared.unit.Mark.TheVariants.{Path}
 use Rattle.c62_read.specs.declared.unit.WrittenUnit.{WrittenUnit}
-use Rattle.c62_read.specs.Text.{grow, put_back, begins, is_allowed, is_blank, is_solid, is_double, joins, tokens}
+use Rattle.c62_read.specs.Text.{grow, begins, is_allowed, is_blank, is_solid, is_word_byte, is_double, joins, tokens}
 use Rattle.c62_read.specs.Number.{is_label, spells}
 use Rattle.c62_read.specs.declared.kind.Kind.{Kind}
 use Rattle.c62_read.specs.Kind.{Word, kind_by, kind_of, kinds_of, mark_of as written_mark, single_mark}
-use Rattle.c62_read.specs.Operand.{operands_of}
-use Rattle.c62_insn.specs.Table.{all_operations}
 use Rattle.c62_read.specs.Mnemonic.{mnemonic_named, operation_named, pseudo_named}
 use Rattle.c62_read.specs.Unit.{is_dot, is_t, is_x, letter_of, mark_of, side_numbered, unit_front, unit_of, unit_split, with_left}
-use Rattle.c62_read.specs.Line.{Parts, Says, Nothing, Pause, Does, Jumps, and_read, before_rest, behind_unit, condition_front, condition_of, does}
-use Rattle.c62_read.specs.Line.{fits_behind, formed, has_colon, head_of, if_fitting, instruction_of, is_bars, is_branch, is_star, is_storing}
-use Rattle.c62_read.specs.Line.{jumps_or_does, label_alone, label_front, line_of, mnemonic_front, operands_written, or_fault, parts_read, pause_of}
+use Rattle.c62_read.specs.Line.{Says, Jumps, and_read, before_rest, behind_unit, condition_front, condition_of, Parts}
+use Rattle.c62_read.specs.Line.{fits_behind, formed, has_colon, head_of, if_fitting, instruction_of, is_bars, is_branch, is_star}
+use Rattle.c62_read.specs.Line.{jumps_or_does, label_alone, label_front, line_of, mnemonic_front, or_fault, parts_read}
 use Rattle.c62_read.specs.Line.{rest_says, target_of, text_fault, unit_behind, with_head, with_rest, without_colon}
-use Rattle.c62_read.specs.Laws.{CaseSaysNothing, IsRecased, in_small, small_labels, small_says}
-use Rattle.c62_read.proofs.ColonLemmas.{begins_with}
-use Rattle.c62_read.proofs.TokenLemmas.{joined_word, tokens_alone, tokens_blank, tokens_comment, tokens_double, tokens_joined, tokens_last}
-use Rattle.c62_read.proofs.TokenLemmas.{word_solid}
-use Rattle.c62_read.proofs.CaseBytes.{IsRecasedWord, Same, all_same, allowed_same, begins_same, blank_same, comment_same, digit_same, double_same}
-use Rattle.c62_read.proofs.CaseBytes.{fresh, joins_same, label_same, length_same, lowered, minus_same, number_of_same, plus_same, register_same}
-use Rattle.c62_read.proofs.CaseBytes.{solid_same, spells_same, test_same}
+use Rattle.c62_read.specs.Laws.{IsRecased, in_small, small_labels, small_says}
+use Rattle.c62_read.proofs.TokenLemmas.{joined_word, on_test}
+use Rattle.c62_read.proofs.CaseBytes.{all_low, begins_low, digit_low, double_low, joins_low, label_low, length_low, low, low_by, low_byte, lowered, number_low}
+use Rattle.c62_read.proofs.CaseBytes.{plain_byte, register_low, same_low, small_low, spells_low, test_low}
 
 -- ---- tokens
 
-abbrev AreRecased : List Word → List Word → Type 0
-AreRecased [] [] = Unit {0}
-AreRecased (w ∷ ws) (v ∷ vs) = IsRecasedWord w v × AreRecased ws vs
-AreRecased _ _ = ⊥
+abbrev pub lows : List Word → List Word
+lows ws = map low ws
 
-no_zero : (P : Type 0) → ◌≡◌ {A = ℕ} 32 48 → P
-no_zero P e = absurd (omega (arith, e))
+-- the first word may stand behind a 0
+abbrev first_low : Bool → List Word → List Word
+first_low zero [] = []
+first_low zero (w ∷ ws) = lowered zero w ∷ lows ws
 
-one_word : (b c : ℕ) → Same b c → IsRecasedWord (b ∷ []) (c ∷ [])
-one_word b c same = (same, λ e. no_zero (to_ascii_lowercase b ≡ 120 → b ≡ c) e, tt)
+first_plain : (ws : List Word) → first_low false ws ≡ lows ws
+first_plain [] = refl
+first_plain (w ∷ ws) = refl
 
--- a byte before the first words
-grown : (b c d e : ℕ) (w v : Word) (ws vs : List Word) → Same b c → (b ≡ 48 → to_ascii_lowercase d ≡ 120 → d ≡ e)
-    → AreRecased ((d ∷ w) ∷ ws) ((e ∷ v) ∷ vs) → AreRecased (grow b ((d ∷ w) ∷ ws)) (grow c ((e ∷ v) ∷ vs))
-grown b c d e w v ws vs same kept all = ((same, λ zero. no_zero (to_ascii_lowercase b ≡ 120 → b ≡ c) zero, (all.0.0, kept, all.0.2)), all.1)
+grown : (zero : Bool) (b : ℕ) (ws : List Word) → grow (low_byte zero b) (first_low (eqb b 48) ws) ≡ first_low zero (grow b ws)
+grown zero b [] = refl
+grown zero b (w ∷ ws) = refl
 
-grown_by : (b c d e : ℕ) (rest others : List ℕ) → is_solid d ≡ true → is_solid e ≡ true → Same b c → (b ≡ 48 → to_ascii_lowercase d ≡ 120 → d ≡ e)
-    → AreRecased (tokens (d ∷ rest)) (tokens (e ∷ others))
-    → AreRecased (grow b (tokens (d ∷ rest))) (grow c (tokens (e ∷ others)))
-grown_by b c d e rest others first second same kept all =
-    let one = begins_with d rest first in
-    let two = begins_with e others second in
-    let there : AreRecased ((d ∷ one.word) ∷ one.others) ((e ∷ two.word) ∷ two.others) =
-    subst (λ (ws : List Word). AreRecased ws ((e ∷ two.word) ∷ two.others)) one.is
-    (subst (λ (vs : List Word). AreRecased (tokens (d ∷ rest)) vs) two.is all) in
-    rw (one.is, two.is) (grown b c d e one.word two.word one.others two.others same kept there)
+-- a byte that joins no 0 is no `X` behind it
+no_mark : (b c : ℕ) → joins b c ≡ false → (eqb b 48 && eqb c 88) ≡ false
+no_mark b c loose = grind (arith, nat_tests)
 
-Both : (ws xs vs ys : List Word) → ws ≡ xs → vs ≡ ys → AreRecased xs ys → AreRecased ws vs
-Both ws xs vs ys e f same = subst (λ (vs : List Word). AreRecased ws vs) (sym f) (subst (λ (ws : List Word). AreRecased ws ys) (sym e) same)
+loose_low : (b c : ℕ) (rest : List ℕ) → joins b c ≡ false → lowered (eqb b 48) (c ∷ rest) ≡ low (c ∷ rest)
+loose_low b c rest loose = ap (λ (d : ℕ). d ∷ lowered (eqb c 48) rest) (plain_byte (eqb b 48) c (no_mark b c loose))
 
-tokens_recased : (before : ℕ) (line other : List ℕ) → IsRecased before line other → AreRecased (tokens line) (tokens other)
-tokens_recased before [] [] same = tt
-tokens_recased before (b ∷ []) (c ∷ []) same =
-    elim (cases_Bool (is_solid b)) [
-      | inl solid ↦ Both (tokens (b ∷ [])) ((b ∷ []) ∷ []) (tokens (c ∷ [])) ((c ∷ []) ∷ []) (tokens_last b solid)
-          (tokens_last c (sym (solid_same b c same.0) ∙ solid)) (one_word b c same.0, tt)
-      | inr other ↦ let none : is_solid c ≡ false = sym (solid_same b c same.0) ∙ other in rw (other, none) tt
-    ]
-tokens_recased before (b ∷ d ∷ rest) (c ∷ e ∷ others) same =
-    let later = tokens_recased b (d ∷ rest) (e ∷ others) same.2 in
-    elim (cases_Bool (eqb b 59)) [
-      | inl comment ↦ Both (tokens (b ∷ d ∷ rest)) [] (tokens (c ∷ e ∷ others)) [] (tokens_comment b (d ∷ rest) comment)
-          (tokens_comment c (e ∷ others) (sym (comment_same b c same.0) ∙ comment)) tt
+-- the tokens of a line, or of a word that goes on behind a 0
+tokens_lowered : (zero : Bool) (line : List ℕ) → (zero && not (begins is_word_byte line)) ≡ false
+    → tokens (lowered zero line) ≡ first_low zero (tokens line)
+tokens_lowered zero [] goes = refl
+tokens_lowered zero (b ∷ []) goes =
+    rw (test_low is_solid refl zero b) (elim (cases_Bool (is_solid b)) [ | inl solid ↦ rw solid refl | inr other ↦ rw other refl ])
+tokens_lowered zero (b ∷ c ∷ rest) goes =
+    rw (
+      test_low (λ x. eqb x 59) refl zero b,
+      test_low is_blank refl zero b,
+      double_low zero (eqb b 48) b c,
+      joins_low zero (eqb b 48) b c,
+    ) (elim (cases_Bool (eqb b 59)) [
+      | inl comment ↦ rw comment refl
       | inr text ↦ elim (cases_Bool (is_blank b)) [
-        | inl blank ↦ Both (tokens (b ∷ d ∷ rest)) (tokens (d ∷ rest)) (tokens (c ∷ e ∷ others)) (tokens (e ∷ others))
-            (tokens_blank b (d ∷ rest) text blank)
-            (tokens_blank c (e ∷ others) (sym (comment_same b c same.0) ∙ text) (sym (blank_same b c same.0) ∙ blank)) later
-        | inr dark ↦
-            let solid : is_solid b ≡ true = rw (text, dark) refl in
-            let solid_too : is_solid c ≡ true = sym (solid_same b c same.0) ∙ solid in
-            elim (cases_Bool (is_double b d)) [
-              | inl double ↦ Both (tokens (b ∷ d ∷ rest)) ((b ∷ d ∷ []) ∷ tokens rest) (tokens (c ∷ e ∷ others)) ((c ∷ e ∷ []) ∷ tokens others)
-                  (tokens_double b d rest solid double)
-                  (tokens_double c e others solid_too (sym (double_same b c d e same.0 same.2.0) ∙ double)) (
-                    (same.0, λ zero. no_zero (to_ascii_lowercase b ≡ 120 → b ≡ c) zero, (same.2.0, same.2.1, tt)),
-                    tokens_recased d rest others same.2.2,
-                  )
-              | inr single ↦ elim (cases_Bool (joins b d)) [
-                | inl joined ↦
-                    let joined_too : joins c e ≡ true = sym (joins_same b c d e same.0 same.2.0) ∙ joined in
-                    Both (tokens (b ∷ d ∷ rest)) (grow b (tokens (d ∷ rest))) (tokens (c ∷ e ∷ others)) (grow c (tokens (e ∷ others)))
-                    (tokens_joined b d rest solid joined)
-                    (tokens_joined c e others solid_too joined_too)
-                    (grown_by b c d e rest others (word_solid d (joined_word b d joined))
-                    (word_solid e (joined_word c e joined_too)) same.0 same.2.1 later)
-                | inr alone ↦ Both (tokens (b ∷ d ∷ rest)) ((b ∷ []) ∷ tokens (d ∷ rest)) (tokens (c ∷ e ∷ others)) ((c ∷ []) ∷ tokens (e ∷ others))
-                    (tokens_alone b d rest solid single alone)
-                    (tokens_alone c e others solid_too (sym (double_same b c d e same.0 same.2.0) ∙ single)
-                    (sym (joins_same b c d e same.0 same.2.0) ∙ alone))
-                    (one_word b c same.0, later)
-              ]
-            ]
+        | inl blank ↦
+            let plain : zero ≡ false = grind (arith, nat_tests) in
+            let other : eqb b 48 ≡ false = grind (arith, nat_tests) in
+            rw (text, blank, plain)
+            (ap (λ (y : Bool). tokens (lowered y (c ∷ rest))) other ∙ tokens_lowered false (c ∷ rest) refl)
+        | inr dark ↦ elim (cases_Bool (is_double b c)) [
+          | inl double ↦
+              let other : eqb c 48 ≡ false = grind (arith, nat_tests) in
+              rw (text, dark, double)
+              (ap (λ (ws : List Word). (low_byte zero b ∷ low_byte (eqb b 48) c ∷ []) ∷ ws)
+              (ap (λ (y : Bool). tokens (lowered y rest)) other ∙ tokens_lowered false rest refl ∙ first_plain (tokens rest)))
+          | inr single ↦ elim (cases_Bool (joins b c)) [
+            | inl joined ↦
+                let word = joined_word b c joined in
+                let more : (eqb b 48 && not (is_word_byte c)) ≡ false = grind (arith, nat_tests) in
+                rw (text, dark, single, joined) (ap (grow (low_byte zero b)) (tokens_lowered (eqb b 48) (c ∷ rest) more) ∙ grown zero b (tokens (c ∷ rest)))
+            | inr alone ↦
+                rw (text, dark, single, alone)
+                (ap (λ (ws : List Word). (low_byte zero b ∷ []) ∷ ws)
+                (ap tokens (loose_low b c rest alone) ∙ tokens_lowered false (c ∷ rest) refl ∙ first_plain (tokens (c ∷ rest))))
+          ]
+        ]
       ]
-    ]
-tokens_recased before [] (c ∷ other) same = absurd same
-tokens_recased before (b ∷ line) [] same = absurd same
-tokens_recased before (b ∷ []) (c ∷ e ∷ other) same = absurd same.2
-tokens_recased before (b ∷ d ∷ line) (c ∷ []) same = absurd same.2
+    ])
 
--- ---- things found before other words
-
-abbrev SameFound : {T : Type 0} → Option (T × List Word) → Option (T × List Word) → Type 0
-SameFound None None = Unit {0}
-SameFound (Some (x, ws)) (Some (y, vs)) = (x ≡ y) × AreRecased ws vs
-SameFound _ _ = ⊥
-
--- one test decides both
-same_cond : {T : Type 0} (R : T → T → Type 0) (c d : Bool) (x y z w : T) → c ≡ d → R x z → R y w → R (cond c x y) (cond d z w)
-same_cond R true true x y z w e first second = first
-same_cond R false false x y z w e first second = second
-same_cond R true false x y z w e first second = absurd cc
-same_cond R false true x y z w e first second = absurd cc
+tokens_low : (line : List ℕ) → tokens (low line) ≡ lows (tokens line)
+tokens_low line = tokens_lowered false line refl ∙ first_plain (tokens line)
 
 -- ---- what tokens are
 
-single_same : (b c : ℕ) → Same b c → single_mark b ≡ single_mark c
+single_low : (zero : Bool) (b : ℕ) → single_mark (low_byte zero b) ≡ single_mark b
 unfolding single_mark
-single_same b c same =
-    rw (
-      test_same (λ x. eqb x 44) refl b c same,
-      test_same (λ x. eqb x 42) refl b c same,
-      test_same (λ x. eqb x 91) refl b c same,
-      test_same (λ x. eqb x 93) refl b c same,
-      test_same (λ x. eqb x 33) refl b c same,
-      test_same (λ x. eqb x 43) refl b c same,
-      test_same (λ x. eqb x 45) refl b c same,
-    ) refl
+single_low = low_by (λ c b. single_mark c ≡ single_mark b) (λ b. refl) (λ b high less. grind (arith, nat_tests))
 
-told_same : (w v : Word) → IsRecasedWord w v → written_mark w ≡ written_mark v
+mark_low : (w : Word) → written_mark (low w) ≡ written_mark w
 unfolding written_mark
-told_same [] [] same = refl
-told_same (b ∷ []) (c ∷ []) same = single_same b c same.0
-told_same (b ∷ d ∷ []) (c ∷ e ∷ []) same =
-    rw (plus_same b c same.0, plus_same d e same.2.0, minus_same b c same.0, minus_same d e same.2.0) refl
-told_same (b ∷ d ∷ x ∷ w) (c ∷ e ∷ y ∷ v) same = refl
-told_same [] (c ∷ v) same = absurd same
-told_same (b ∷ w) [] same = absurd same
-told_same (b ∷ []) (c ∷ e ∷ v) same = absurd same.2
-told_same (b ∷ d ∷ w) (c ∷ []) same = absurd same.2
-told_same (b ∷ d ∷ []) (c ∷ e ∷ y ∷ v) same = absurd same.2.2
-told_same (b ∷ d ∷ x ∷ w) (c ∷ e ∷ []) same = absurd same.2.2
+mark_low [] = refl
+mark_low (b ∷ []) = single_low false b
+mark_low (b ∷ c ∷ []) =
+    rw (
+      test_low (λ x. eqb x 43) refl false b,
+      test_low (λ x. eqb x 43) refl (eqb b 48) c,
+      test_low (λ x. eqb x 45) refl false b,
+      test_low (λ x. eqb x 45) refl (eqb b 48) c,
+    ) refl
+mark_low (b ∷ c ∷ d ∷ w) = refl
 
-value_same : (mark : Option Kind) (w v : Word) → IsRecasedWord w v → kind_by mark w ≡ kind_by mark v
-value_same (Some kind) w v same = refl
-value_same None w v same = rw (register_same w v same, number_of_same w v same) refl
-
-kind_same : (w v : Word) → IsRecasedWord w v → kind_of w ≡ kind_of v
+kind_low : (w : Word) → kind_of (low w) ≡ kind_of w
 unfolding kind_of
-kind_same w v same = ap (λ (mark : Option Kind). kind_by mark w) (told_same w v same) ∙ value_same (written_mark v) w v same
-
-kinds_same : (ws vs : List Word) → AreRecased ws vs → kinds_of ws ≡ kinds_of vs
-kinds_same [] [] same = refl
-kinds_same (w ∷ ws) (v ∷ vs) same = rw (kind_same w v same.0, kinds_same ws vs same.1) refl
-kinds_same [] (v ∷ vs) same = absurd same
-kinds_same (w ∷ ws) [] same = absurd same
-
--- ---- mnemonics and units
-
-find_same : (w v : Word) → IsRecasedWord w v → (ops : List Op)
-    → find (λ op. spells (mnemonic_of op) w) ops ≡ find (λ op. spells (mnemonic_of op) v) ops
-find_same w v same [] = refl
-find_same w v same (op ∷ ops) = rw (spells_same (mnemonic_of op) w v same, find_same w v same ops) refl
-
-operation_same : (w v : Word) → IsRecasedWord w v → operation_named w ≡ operation_named v
-unfolding operation_named
-operation_same w v same = find_same w v same all_operations
-
-pseudo_same : (w v : Word) → IsRecasedWord w v → pseudo_named w ≡ pseudo_named v
-unfolding pseudo_named
-pseudo_same w v same =
-    rw (
-      spells_same (codes "MV") w v same,
-      spells_same (codes "NEG") w v same,
-      spells_same (codes "NOT") w v same,
-      spells_same (codes "ZERO") w v same,
-      spells_same (codes "MVKL") w v same,
-      spells_same (codes "MVKH") w v same,
-      spells_same (codes "NOP") w v same,
-    ) refl
-
-mnemonic_same : (w v : Word) → IsRecasedWord w v → mnemonic_named w ≡ mnemonic_named v
-unfolding mnemonic_named
-mnemonic_same w v same = rw (operation_same w v same, pseudo_same w v same) refl
-
-letter_same : (b c : ℕ) → Same b c → letter_of b ≡ letter_of c
-unfolding letter_of
-letter_same b c same =
-    rw (
-      test_same (λ x. eqb x 76 || eqb x 108) refl b c same,
-      test_same (λ x. eqb x 83 || eqb x 115) refl b c same,
-      test_same (λ x. eqb x 77 || eqb x 109) refl b c same,
-      test_same (λ x. eqb x 68 || eqb x 100) refl b c same,
-    ) refl
-
-side_same : (b c : ℕ) → Same b c → side_numbered b ≡ side_numbered c
-unfolding side_numbered
-side_same b c same = rw (test_same (λ x. eqb x 49) refl b c same, test_same (λ x. eqb x 50) refl b c same) refl
-
-abbrev SameMark : Option Mark × List ℕ → Option Mark × List ℕ → Type 0
-SameMark (m, left) (n, other) = (m ≡ n) × IsRecasedWord left other
-
-mark_same : (before : ℕ) (w v : List ℕ) → IsRecased before w v → SameMark (mark_of w) (mark_of v)
-unfolding mark_of
-mark_same before [] [] same = (refl, tt)
-mark_same before (b ∷ []) (c ∷ []) same =
-    same_cond SameMark (is_x b) (is_x c) (Some Cross, []) (Some Plain, b ∷ []) (Some Cross, []) (Some Plain, c ∷ [])
-    (test_same is_x refl b c same.0) (refl, tt) (refl, one_word b c same.0)
-mark_same before (b ∷ d ∷ w) (c ∷ e ∷ v) same =
-    same_cond SameMark (is_x b) (is_x c) (Some Cross, d ∷ w)
-    (cond (is_t b && is_ascii_digit d) (option_map Path (side_numbered d), w) (Some Plain, b ∷ d ∷ w))
-    (Some Cross, e ∷ v) (cond (is_t c && is_ascii_digit e) (option_map Path (side_numbered e), v) (Some Plain, c ∷ e ∷ v))
-    (test_same is_x refl b c same.0)
-    (refl, fresh b (d ∷ w) (e ∷ v) same.2)
-    (same_cond SameMark (is_t b && is_ascii_digit d) (is_t c && is_ascii_digit e) (option_map Path (side_numbered d), w) (Some Plain, b ∷ d ∷ w)
-    (option_map Path (side_numbered e), v) (Some Plain, c ∷ e ∷ v) (rw (test_same is_t refl b c same.0, digit_same d e same.2.0) refl)
-    (ap (option_map Path) (side_same d e same.2.0), fresh d w v same.2.2) (refl, fresh before (b ∷ d ∷ w) (c ∷ e ∷ v) same))
-mark_same before [] (c ∷ v) same = absurd same
-mark_same before (b ∷ w) [] same = absurd same
-mark_same before (b ∷ []) (c ∷ e ∷ v) same = absurd same.2
-mark_same before (b ∷ d ∷ w) (c ∷ []) same = absurd same.2
-
-abbrev SameUnit : Option (WrittenUnit × List ℕ) → Option (WrittenUnit × List ℕ) → Type 0
-SameUnit None None = Unit {0}
-SameUnit (Some (u, left)) (Some (t, other)) = (u ≡ t) × IsRecasedWord left other
-SameUnit _ _ = ⊥
-
-unit_of_same : (letter : Option Letter) (side : Option Side) (mark other : Option Mark) (left rest : List ℕ) → mark ≡ other → IsRecasedWord left rest
-    → SameUnit (unit_of letter side (mark, left)) (unit_of letter side (other, rest))
-unit_of_same letter side mark other left rest e same =
-    subst (λ (m : Option Mark). SameUnit (unit_of letter side (mark, left)) (unit_of letter side (m, rest))) e (by_parts letter side mark)
+kind_low w = rw (mark_low w) (go (written_mark w))
   where
-    by_parts : (letter : Option Letter) (side : Option Side) (mark : Option Mark)
-        → SameUnit (unit_of letter side (mark, left)) (unit_of letter side (mark, rest))
-    by_parts None side mark = tt
-    by_parts (Some letter) None mark = tt
-    by_parts (Some letter) (Some side) None = tt
-    by_parts (Some letter) (Some side) (Some mark) = (refl, same)
+    go : (mark : Option Kind) → kind_by mark (low w) ≡ kind_by mark w
+    go (Some kind) = refl
+    go None = rw (register_low w, number_low w) refl
 
-unit_split_same : (w v : Word) → IsRecasedWord w v → SameUnit (unit_split w) (unit_split v)
+kinds_low : (ws : List Word) → kinds_of (lows ws) ≡ kinds_of ws
+kinds_low [] = refl
+kinds_low (w ∷ ws) = rw (kind_low w, kinds_low ws) refl
+
+-- ---- mnemonics
+
+mnemonic_low : (w : Word) → mnemonic_named (low w) ≡ mnemonic_named w
+unfolding mnemonic_named operation_named pseudo_named
+mnemonic_low w = simp (small_low false w) refl
+
+-- ---- a thing found, and what stands behind it
+
+abbrev behind_low : {T : Type 0} → T × List Word → T × List Word
+behind_low (x, ws) = (x, lows ws)
+
+-- ---- units
+
+letter_low : (zero : Bool) (b : ℕ) → letter_of (low_byte zero b) ≡ letter_of b
+unfolding letter_of
+letter_low = low_by (λ c b. letter_of c ≡ letter_of b) (λ b. refl) (λ b high less. grind (arith, nat_tests))
+
+side_low : (zero : Bool) (b : ℕ) → side_numbered (low_byte zero b) ≡ side_numbered b
+unfolding side_numbered low_byte
+side_low zero b = grind (arith, nat_tests)
+
+-- a unit, and what is left of its word
+abbrev left_low : WrittenUnit × Word → WrittenUnit × Word
+left_low (unit, left) = (unit, low left)
+
+-- a side has a number from 1, so that no 0 stands before what is left
+no_zero : (n : ℕ) (side : Side) → side_numbered n ≡ Some side → eqb n 48 ≡ false
+unfolding side_numbered
+no_zero n side numbered =
+    elim (cases_Bool (eqb n 48)) [
+      | inl zero ↦
+          let first : eqb n 49 ≡ false = grind (arith, nat_tests) in
+          let second : eqb n 50 ≡ false = grind (arith, nat_tests) in
+          let none : side_numbered n ≡ None = rw (first, second) refl in
+          absurd cc
+      | inr other ↦ other
+    ]
+
+path_low : (letter : Letter) (side : Side) (c : ℕ) (rest : Word) (path : Option Side) → side_numbered c ≡ path
+    → unit_of (Some letter) (Some side) (option_map Path path, lowered (eqb c 48) rest)
+    ≡ option_map left_low (unit_of (Some letter) (Some side) (option_map Path path, rest))
+path_low letter side c rest None is = refl
+path_low letter side c rest (Some path) is = rw (no_zero c path is) refl
+
+marked_low : (letter : Letter) (side : Side) (w : Word)
+    → unit_of (Some letter) (Some side) (mark_of (low w)) ≡ option_map left_low (unit_of (Some letter) (Some side) (mark_of w))
+unfolding mark_of
+marked_low letter side [] = refl
+marked_low letter side (b ∷ []) =
+    rw (test_low is_x refl false b) (elim (cases_Bool (is_x b)) [ | inl cross ↦ rw cross refl | inr other ↦ rw other refl ])
+marked_low letter side (b ∷ c ∷ w) =
+    rw (test_low is_x refl false b, test_low is_t refl false b, digit_low (eqb b 48) c, side_low (eqb b 48) c) (elim (cases_Bool (is_x b)) [
+      | inl cross ↦ let letter : eqb b 48 ≡ false = grind (arith, nat_tests) in rw (cross, letter) refl
+      | inr plain ↦ elim (cases_Bool (is_t b && is_ascii_digit c)) [
+        | inl path ↦ rw (plain, path) (path_low letter side c w (side_numbered c) refl)
+        | inr other ↦ rw (plain, other) refl
+      ]
+    ])
+
+split_low : (w : Word) → unit_split (low w) ≡ option_map left_low (unit_split w)
 unfolding unit_split
-unit_split_same [] [] same = tt
-unit_split_same (b ∷ []) (c ∷ []) same = tt
-unit_split_same (b ∷ l ∷ []) (c ∷ m ∷ []) same = tt
-unit_split_same (b ∷ l ∷ n ∷ w) (c ∷ m ∷ p ∷ v) same =
-    let marks = mark_same n w v same.2.2.2 in
-    subst (λ (letter : Option Letter). SameUnit (unit_of (letter_of l) (side_numbered n) (mark_of w))
-    (unit_of letter (side_numbered p) (mark_of v))) (letter_same l m same.2.0)
-    (subst (λ (side : Option Side). SameUnit (unit_of (letter_of l) (side_numbered n) (mark_of w)) (unit_of (letter_of l) side (mark_of v)))
-    (side_same n p same.2.2.0)
-    (unit_of_same (letter_of l) (side_numbered n) (mark_of w).0 (mark_of v).0 (mark_of w).1 (mark_of v).1 marks.0 marks.1))
-unit_split_same [] (c ∷ v) same = absurd same
-unit_split_same (b ∷ w) [] same = absurd same
-unit_split_same (b ∷ []) (c ∷ m ∷ v) same = absurd same.2
-unit_split_same (b ∷ l ∷ w) (c ∷ []) same = absurd same.2
-unit_split_same (b ∷ l ∷ []) (c ∷ m ∷ p ∷ v) same = absurd same.2.2
-unit_split_same (b ∷ l ∷ n ∷ w) (c ∷ m ∷ []) same = absurd same.2.2
+split_low [] = refl
+split_low (b ∷ []) = refl
+split_low (b ∷ l ∷ []) = refl
+split_low (b ∷ l ∷ n ∷ w) =
+    rw (letter_low (eqb b 48) l, side_low (eqb l 48) n) (go (letter_of l) (side_numbered n) refl)
+  where
+    go : (letter : Option Letter) (side : Option Side) → side_numbered n ≡ side
+        → unit_of letter side (mark_of (lowered (eqb n 48) w)) ≡ option_map left_low (unit_of letter side (mark_of w))
+    go None side is = refl
+    go (Some letter) None is = refl
+    go (Some letter) (Some side) is = rw (no_zero n side is) (marked_low letter side w)
 
-put_same : (left other : List ℕ) (ws vs : List Word) → IsRecasedWord left other → AreRecased ws vs → AreRecased (put_back left ws) (put_back other vs)
-put_same [] [] ws vs left same = same
-put_same (b ∷ l) (c ∷ m) ws vs left same = (left, same)
-put_same [] (c ∷ m) ws vs left same = absurd left
-put_same (b ∷ l) [] ws vs left same = absurd left
-
-left_same : (found other : Option (WrittenUnit × List ℕ)) (ws vs : List Word) → SameUnit found other → AreRecased ws vs
-    → SameFound (option_map (with_left ws) found) (option_map (with_left vs) other)
-left_same None None ws vs units same = tt
-left_same (Some (u, l)) (Some (t, m)) ws vs units same = (ap (λ (unit : WrittenUnit). Some unit) units.0, put_same l m ws vs units.1 same)
-left_same None (Some (t, m)) ws vs units same = absurd units
-left_same (Some (u, l)) None ws vs units same = absurd units
-
-dot_same : (b c : ℕ) → Same b c → is_dot b ≡ is_dot c
-dot_same = test_same is_dot refl
-
-unit_same : (ws vs : List Word) → AreRecased ws vs → SameFound (unit_front ws) (unit_front vs)
+unit_low : (ws : List Word) → unit_front (lows ws) ≡ option_map behind_low (unit_front ws)
 unfolding unit_front
-unit_same [] [] same = (refl, tt)
-unit_same (w ∷ ws) (v ∷ vs) same =
-    same_cond SameFound (begins is_dot w) (begins is_dot v) (option_map (with_left ws) (unit_split w)) (Some (None, w ∷ ws))
-    (option_map (with_left vs) (unit_split v)) (Some (None, v ∷ vs))
-    (begins_same is_dot dot_same 32 w v same.0) (left_same (unit_split w) (unit_split v) ws vs (unit_split_same w v same.0) same.1) (refl, same)
-unit_same [] (v ∷ vs) same = absurd same
-unit_same (w ∷ ws) [] same = absurd same
+unit_low [] = refl
+unit_low (w ∷ ws) =
+    rw (begins_low is_dot refl w, split_low w) (elim (cases_Bool (begins is_dot w)) [
+      | inl dot ↦ rw dot (go (unit_split w))
+      | inr other ↦ rw other refl
+    ])
+  where
+    go : (found : Option (WrittenUnit × Word))
+        → option_map (with_left (lows ws)) (option_map left_low found) ≡ option_map behind_low (option_map (with_left ws) found)
+    go None = refl
+    go (Some (unit, [])) = refl
+    go (Some (unit, b ∷ left)) = refl
+
+behind_mnemonic_low : (mnemonic : Mnemonic) (ws : List Word) → unit_behind mnemonic (lows ws) ≡ option_map behind_low (unit_behind mnemonic ws)
+behind_mnemonic_low mnemonic ws = rw (unit_low ws) (go (unit_front ws))
+  where
+    go : (found : Option (Option WrittenUnit × List Word)) → option_and_then (if_fitting mnemonic) (option_map behind_low found)
+        ≡ option_map behind_low (option_and_then (if_fitting mnemonic) found)
+    go None = refl
+    go (Some (unit, ws)) = rw (on_test (option_map behind_low)) refl
+
+-- ---- conditions and mnemonics
+
+condition_low : (ws : List Word) → condition_front (lows ws) ≡ option_map behind_low (condition_front ws)
+unfolding condition_front
+condition_low ws = rw (kinds_low ws) (go (condition_of (kinds_of ws)))
+  where
+    go : (found : Option (Option Condition × ℕ))
+        → option_map (before_rest (lows ws)) found ≡ option_map behind_low (option_map (before_rest ws) found)
+    go None = refl
+    go (Some (cond, count)) = rw (drop-map low count ws) refl
+
+mnemonic_front_low : (ws : List Word) → mnemonic_front (lows ws) ≡ option_map behind_low (mnemonic_front ws)
+mnemonic_front_low [] = refl
+mnemonic_front_low (w ∷ ws) = rw (mnemonic_low w) (go (mnemonic_named w))
+  where
+    go : (named : Option Mnemonic) → option_map (λ m. (m, lows ws)) named ≡ option_map behind_low (option_map (λ m. (m, ws)) named)
+    go None = refl
+    go (Some mnemonic) = refl
 
 -- ---- what is said, but for labels
 
-abbrev SameLabel : Option Word → Option Word → Type 0
-SameLabel label other = option_map in_small label ≡ option_map in_small other
-
-abbrev small : Result Says Cause → Result Says Cause
+abbrev pub small : Result Says Cause → Result Says Cause
 small (Ok says) = Ok (small_says says)
 small (Err cause) = Err cause
 
-abbrev SmallSame : Result Says Cause → Result Says Cause → Type 0
-SmallSame read other = small read ≡ small other
+small_label : (w : Word) → in_small (low w) ≡ in_small w
+small_label w = small_low false w
 
-formed_small : (fault : Option FormFault) (says other : Says) → small_says says ≡ small_says other
-    → SmallSame (formed fault says) (formed fault other)
-formed_small None says other same = ap (λ (s : Says). let read : Result Says Cause = Ok s in read) same
-formed_small (Some fault) says other same = refl
+alone_low : (ws : List Word) → label_alone (lows ws) ≡ option_map low (label_alone ws)
+alone_low [] = refl
+alone_low (w ∷ []) = rw (label_low w, on_test (option_map low)) refl
+alone_low (w ∷ v ∷ ws) = refl
 
-label_small : (w v : Word) → IsRecasedWord w v → SameLabel (Some w) (Some v)
-label_small w v same = ap (λ (label : Word). Some label) (lowered 32 w v same)
+target_low : (op : Op) (ws : List Word) → target_of (Operation op) (lows ws) ≡ option_map low (target_of (Operation op) ws)
+target_low op ws =
+    rw (alone_low ws, on_test (option_map low)) refl
 
-alone_same : (ws vs : List Word) → AreRecased ws vs → SameLabel (label_alone ws) (label_alone vs)
-alone_same [] [] same = refl
-alone_same (w ∷ []) (v ∷ []) same =
-    same_cond SameLabel (is_label w) (is_label v) (Some w) None (Some v) None (label_same w v same.0) (label_small w v same.0) refl
-alone_same (w ∷ x ∷ ws) (v ∷ y ∷ vs) same = refl
-alone_same [] (v ∷ vs) same = absurd same
-alone_same (w ∷ ws) [] same = absurd same
-alone_same (w ∷ []) (v ∷ y ∷ vs) same = absurd same.1
-alone_same (w ∷ x ∷ ws) (v ∷ []) same = absurd same.1
+formed_low : (fault : Option FormFault) (parts : Parts) (label : Word) → small (formed fault (Jumps parts (low label))) ≡ small (formed fault (Jumps parts label))
+formed_low None parts label = rw (small_label label) refl
+formed_low (Some fault) parts label = refl
 
-target_same : (mnemonic : Mnemonic) (ws vs : List Word) → AreRecased ws vs → SameLabel (target_of mnemonic ws) (target_of mnemonic vs)
-target_same (Operation op) ws vs same =
-    same_cond SameLabel (is_branch op) (is_branch op) (label_alone ws) None (label_alone vs) None refl (alone_same ws vs same) refl
-target_same Mv ws vs same = refl
-target_same _ ws vs same = refl
+aimed_low : (aim : Option Word) (mnemonic : Mnemonic) (cond : Option Condition) (written : Option WrittenUnit) (ws : List Word)
+    → small (jumps_or_does (option_map low aim) mnemonic cond written (lows ws)) ≡ small (jumps_or_does aim mnemonic cond written ws)
+aimed_low (Some label) mnemonic cond written ws =
+    formed_low (text_fault Branch (Block 0) cond written) (parts_read Branch (Block 0) cond written) label
+aimed_low None mnemonic cond written ws = rw (kinds_low ws) refl
 
-jumps_small : (aim other : Option Word) (mnemonic : Mnemonic) (cond : Option Condition) (written : Option WrittenUnit) (ws vs : List Word)
-    → SameLabel aim other → AreRecased ws vs
-    → SmallSame (jumps_or_does aim mnemonic cond written ws) (jumps_or_does other mnemonic cond written vs)
-jumps_small (Some label) (Some other) mnemonic cond written ws vs labels same =
-    let low : in_small label ≡ in_small other = cc in
-    formed_small (text_fault Branch (Block 0) cond written) (Jumps (parts_read Branch (Block 0) cond written) label)
-    (Jumps (parts_read Branch (Block 0) cond written) other)
-    (ap (λ (l : Word). Jumps (parts_read Branch (Block 0) cond written) l) low)
-jumps_small None None mnemonic cond written ws vs labels same =
-    ap (λ (operands : Option Operands). small (does cond written (operands_written mnemonic written operands)))
-    (ap (operands_of (is_storing mnemonic)) (kinds_same ws vs same))
-jumps_small None (Some other) mnemonic cond written ws vs labels same = absurd cc
-jumps_small (Some label) None mnemonic cond written ws vs labels same = absurd cc
-
-behind_small : (mnemonic : Mnemonic) (cond : Option Condition) (written : Option WrittenUnit) (ws vs : List Word) → AreRecased ws vs
-    → SmallSame (behind_unit mnemonic cond written ws) (behind_unit mnemonic cond written vs)
+behind_unit_low : (mnemonic : Mnemonic) (cond : Option Condition) (written : Option WrittenUnit) (ws : List Word)
+    → small (behind_unit mnemonic cond written (lows ws)) ≡ small (behind_unit mnemonic cond written ws)
 unfolding behind_unit
-behind_small Nop cond written ws vs same = ap (λ (kinds : List Kind). small (pause_of cond kinds)) (kinds_same ws vs same)
-behind_small (Operation op) cond written ws vs same =
-    jumps_small (target_of (Operation op) ws) (target_of (Operation op) vs) (Operation op) cond written ws vs
-    (target_same (Operation op) ws vs same) same
-behind_small Mv cond written ws vs same = jumps_small None None Mv cond written ws vs refl same
-behind_small Neg cond written ws vs same = jumps_small None None Neg cond written ws vs refl same
-behind_small Not cond written ws vs same = jumps_small None None Not cond written ws vs refl same
-behind_small Zero cond written ws vs same = jumps_small None None Zero cond written ws vs refl same
-behind_small Mvkl cond written ws vs same = jumps_small None None Mvkl cond written ws vs refl same
-behind_small Mvkh cond written ws vs same = jumps_small None None Mvkh cond written ws vs refl same
-
--- ---- conditions
-
-rest_same : (count : ℕ) (ws vs : List Word) → AreRecased ws vs → AreRecased (drop count ws) (drop count vs)
-rest_same zero ws vs same = same
-rest_same (suc count) [] [] same = tt
-rest_same (suc count) (w ∷ ws) (v ∷ vs) same = rest_same count ws vs same.1
-rest_same (suc count) [] (v ∷ vs) same = absurd same
-rest_same (suc count) (w ∷ ws) [] same = absurd same
-
-found_same : (found : Option (Option Condition × ℕ)) (ws vs : List Word) → AreRecased ws vs
-    → SameFound (option_map (before_rest ws) found) (option_map (before_rest vs) found)
-found_same None ws vs same = tt
-found_same (Some (cond, count)) ws vs same = (refl, rest_same count ws vs same)
-
-front_same : (ws vs : List Word) → AreRecased ws vs → SameFound (condition_front ws) (condition_front vs)
-unfolding condition_front
-front_same ws vs same =
-    subst (λ (kinds : List Kind). SameFound (option_map (before_rest ws) (condition_of (kinds_of ws)))
-    (option_map (before_rest vs) (condition_of kinds)))
-    (kinds_same ws vs same) (found_same (condition_of (kinds_of ws)) ws vs same)
+behind_unit_low Nop cond written ws = rw (kinds_low ws) refl
+behind_unit_low (Operation op) cond written ws =
+    rw (target_low op ws) (aimed_low (target_of (Operation op) ws) (Operation op) cond written ws)
+behind_unit_low mnemonic cond written ws = aimed_low None mnemonic cond written ws
 
 -- ---- the steps in their order
 
-mnemonic_front_same : (ws vs : List Word) → AreRecased ws vs → SameFound (mnemonic_front ws) (mnemonic_front vs)
-mnemonic_front_same [] [] same = tt
-mnemonic_front_same (w ∷ ws) (v ∷ vs) same =
-    subst (λ (named : Option Mnemonic). SameFound (option_map (λ m. (m, ws)) (mnemonic_named w)) (option_map (λ m. (m, vs)) named))
-    (mnemonic_same w v same.0) (by_name (mnemonic_named w))
-  where
-    by_name : (named : Option Mnemonic) → SameFound (option_map (λ m. (m, ws)) named) (option_map (λ m. (m, vs)) named)
-    by_name None = tt
-    by_name (Some mnemonic) = (refl, same.1)
-mnemonic_front_same [] (v ∷ vs) same = absurd same
-mnemonic_front_same (w ∷ ws) [] same = absurd same
-
-fitting_same : (mnemonic : Mnemonic) (found other : Option (Option WrittenUnit × List Word)) → SameFound found other
-    → SameFound (option_and_then (if_fitting mnemonic) found) (option_and_then (if_fitting mnemonic) other)
-fitting_same mnemonic None None same = tt
-fitting_same mnemonic (Some (unit, ws)) (Some (written, vs)) same =
-    subst (λ (u : Option WrittenUnit). SameFound (if_fitting mnemonic (unit, ws)) (if_fitting mnemonic (u, vs))) same.0
-    (same_cond SameFound (fits_behind mnemonic unit) (fits_behind mnemonic unit) (Some (unit, ws)) None (Some (unit, vs)) None refl
-    (refl, same.1) tt)
-fitting_same mnemonic None (Some (written, vs)) same = absurd same
-fitting_same mnemonic (Some (unit, ws)) None same = absurd same
-
 -- a step that finds the same leads to the same
-step_same : {T : Type 0} (cause : Cause) (found other : Option (T × List Word)) (next : T × List Word → Result Says Cause) → SameFound found other
-    → ((x : T) (ws vs : List Word) → AreRecased ws vs → SmallSame (next (x, ws)) (next (x, vs)))
-    → SmallSame (and_read (or_fault cause found) next) (and_read (or_fault cause other) next)
-step_same cause None None next same each = refl
-step_same {T = T} cause (Some (x, ws)) (Some (y, vs)) next same each =
-    subst (λ (z : T). SmallSame (next (x, ws)) (next (z, vs))) same.0 (each x ws vs same.1)
-step_same cause None (Some (y, vs)) next same each = absurd same
-step_same cause (Some (x, ws)) None next same each = absurd same
+step_low : {T : Type 0} (cause : Cause) (other found : Option (T × List Word)) (next : T × List Word → Result Says Cause)
+    → other ≡ option_map behind_low found
+    → ((x : T) (ws : List Word) → small (next (x, lows ws)) ≡ small (next (x, ws)))
+    → small (and_read (or_fault cause other) next) ≡ small (and_read (or_fault cause found) next)
+step_low cause other None next same each = rw same refl
+step_low cause other (Some (x, ws)) next same each = rw same (each x ws)
 
-instruction_small : (ws vs : List Word) → AreRecased ws vs → SmallSame (instruction_of ws) (instruction_of vs)
+instruction_low : (ws : List Word) → small (instruction_of (lows ws)) ≡ small (instruction_of ws)
 unfolding instruction_of
-instruction_small ws vs same =
-    step_same BadOperand (condition_front ws) (condition_front vs) _ (front_same ws vs same) (λ condition ws vs same.
-    step_same UnknownMnemonic (mnemonic_front ws) (mnemonic_front vs) _ (mnemonic_front_same ws vs same) (λ mnemonic ws vs same.
-    step_same BadUnit (unit_behind mnemonic ws) (unit_behind mnemonic vs) _
-    (fitting_same mnemonic (unit_front ws) (unit_front vs) (unit_same ws vs same)) (λ unit ws vs same.
-    behind_small mnemonic condition unit ws vs same)))
+instruction_low ws =
+    step_low BadOperand (condition_front (lows ws)) (condition_front ws) _ (condition_low ws) (λ condition ws.
+    step_low UnknownMnemonic (mnemonic_front (lows ws)) (mnemonic_front ws) _ (mnemonic_front_low ws) (λ mnemonic ws.
+    step_low BadUnit (unit_behind mnemonic (lows ws)) (unit_behind mnemonic ws) _ (behind_mnemonic_low mnemonic ws) (λ unit ws.
+    behind_unit_low mnemonic condition unit ws)))
 
-rest_small : (ws vs : List Word) → AreRecased ws vs → SmallSame (rest_says ws) (rest_says vs)
+pub rest_low : (ws : List Word) → small (rest_says (lows ws)) ≡ small (rest_says ws)
 unfolding rest_says
-rest_small [] [] same = refl
-rest_small (w ∷ ws) (v ∷ vs) same =
-    same_cond SmallSame (begins is_dot w) (begins is_dot v) (Err Directive) (instruction_of (w ∷ ws)) (Err Directive)
-    (instruction_of (v ∷ vs)) (begins_same is_dot dot_same 32 w v same.0) refl (instruction_small (w ∷ ws) (v ∷ vs) same)
-rest_small [] (v ∷ vs) same = absurd same
-rest_small (w ∷ ws) [] same = absurd same
+rest_low [] = refl
+rest_low (w ∷ ws) =
+    rw (begins_low is_dot refl w, on_test small, on_test small, instruction_low (w ∷ ws)) refl
 
 -- ---- the head of a line
 
-abbrev SameFront : Option Word × List Word → Option Word × List Word → Type 0
-SameFront (label, ws) (other, vs) = SameLabel label other × AreRecased ws vs
+abbrev front_low : Option Word × List Word → Option Word × List Word
+front_low (label, ws) = (option_map low label, lows ws)
 
-front_label_same : (ws vs : List Word) → AreRecased ws vs → SameFront (label_front ws) (label_front vs)
+label_front_low : (ws : List Word) → label_front (lows ws) ≡ front_low (label_front ws)
 unfolding label_front
-front_label_same [] [] same = (refl, tt)
-front_label_same (w ∷ []) (v ∷ []) same = (refl, same)
-front_label_same (w ∷ c ∷ ws) (v ∷ d ∷ vs) same =
-    same_cond SameFront (spells (codes ":") c && is_label w) (spells (codes ":") d && is_label v) (Some w, ws) (None, w ∷ c ∷ ws) (Some v, vs)
-    (None, v ∷ d ∷ vs)
-    (rw (spells_same (codes ":") c d same.1.0, label_same w v same.0) refl) (label_small w v same.0, same.1.1) (refl, same)
-front_label_same [] (v ∷ vs) same = absurd same
-front_label_same (w ∷ ws) [] same = absurd same
-front_label_same (w ∷ []) (v ∷ d ∷ vs) same = absurd same.1
-front_label_same (w ∷ c ∷ ws) (v ∷ []) same = absurd same.1
+label_front_low [] = refl
+label_front_low (w ∷ []) = refl
+label_front_low (w ∷ v ∷ ws) =
+    rw (spells_low (codes ":") v, label_low w) (elim (cases_Bool (spells (codes ":") v && is_label w)) [
+      | inl label ↦ rw label refl
+      | inr other ↦ rw other refl
+    ])
 
-colon_same : (ws vs : List Word) → AreRecased ws vs → has_colon ws ≡ has_colon vs
-colon_same [] [] same = refl
-colon_same (w ∷ ws) (v ∷ vs) same = rw (spells_same (codes ":") w v same.0, colon_same ws vs same.1) refl
-colon_same [] (v ∷ vs) same = absurd same
-colon_same (w ∷ ws) [] same = absurd same
+colon_low : (ws : List Word) → has_colon (lows ws) ≡ has_colon ws
+colon_low [] = refl
+colon_low (w ∷ ws) = rw (spells_low (codes ":") w, colon_low ws) refl
 
-bars_same : (ws vs : List Word) → AreRecased ws vs → is_bars ws ≡ is_bars vs
-bars_same [] [] same = refl
-bars_same (w ∷ ws) (v ∷ vs) same = spells_same (codes "||") w v same.0
-bars_same [] (v ∷ vs) same = absurd same
-bars_same (w ∷ ws) [] same = absurd same
+bars_low : (ws : List Word) → is_bars (lows ws) ≡ is_bars ws
+bars_low [] = refl
+bars_low (w ∷ ws) = spells_low (codes "||") w
 
 abbrev pub Head : Type 0
 Head = Result (Option Word × List Word) Cause
 
-abbrev pub SameHead : Head → Head → Type 0
-SameHead (Ok front) (Ok other) = SameFront front other
-SameHead (Err cause) (Err other) = cause ≡ other
-SameHead _ _ = ⊥
+abbrev pub head_low : Head → Head
+head_low (Ok front) = Ok (front_low front)
+head_low (Err cause) = Err cause
 
-uncoloned : (front other : Option Word × List Word) → SameFront front other → SameHead (without_colon front) (without_colon other)
-uncoloned (label, ws) (other, vs) same =
-    same_cond SameHead (has_colon ws) (has_colon vs) (Err BadLabel) (Ok (label, ws)) (Err BadLabel) (Ok (other, vs))
-    (colon_same ws vs same.1) refl same
+uncoloned : (front : Option Word × List Word) → without_colon (front_low front) ≡ head_low (without_colon front)
+uncoloned (label, ws) = rw (colon_low ws, on_test head_low) refl
 
-star_same : (b c : ℕ) → Same b c → is_star b ≡ is_star c
-star_same = test_same is_star refl
-
-pub head_same : (before : ℕ) (line other : List ℕ) → IsRecased before line other → SameHead (head_of line) (head_of other)
+pub head_is_low : (line : List ℕ) → head_of (low line) ≡ head_low (head_of line)
 unfolding head_of
-head_same before line other same =
-    let words = tokens_recased before line other same in
-    same_cond SameHead (not (list_all is_allowed line)) (not (list_all is_allowed other))
-    (Err NotAscii)
-    (cond (ltb 255 (length line)) (Err LineTooLong)
-    (cond (begins is_star line) (Ok (None, [])) (cond (is_bars (tokens line)) (Err ParallelBar) (without_colon (label_front (tokens line))))))
-    (Err NotAscii)
-    (cond (ltb 255 (length other)) (Err LineTooLong)
-    (cond (begins is_star other) (Ok (None, []))
-    (cond (is_bars (tokens other)) (Err ParallelBar) (without_colon (label_front (tokens other))))))
-    (ap not (all_same is_allowed allowed_same before line other same)) refl
-    (same_cond SameHead (ltb 255 (length line)) (ltb 255 (length other)) (Err LineTooLong)
-    (cond (begins is_star line) (Ok (None, [])) (cond (is_bars (tokens line)) (Err ParallelBar) (without_colon (label_front (tokens line)))))
-    (Err LineTooLong)
-    (cond (begins is_star other) (Ok (None, [])) (cond (is_bars (tokens other)) (Err ParallelBar) (without_colon (label_front (tokens other)))))
-    (ap (λ (n : ℕ). ltb 255 n) (length_same before line other same)) refl
-    (same_cond SameHead (begins is_star line) (begins is_star other) (Ok (None, []))
-    (cond (is_bars (tokens line)) (Err ParallelBar) (without_colon (label_front (tokens line)))) (Ok (None, []))
-    (cond (is_bars (tokens other)) (Err ParallelBar) (without_colon (label_front (tokens other))))
-    (begins_same is_star star_same before line other same) (refl, tt)
-    (same_cond SameHead (is_bars (tokens line)) (is_bars (tokens other)) (Err ParallelBar) (without_colon (label_front (tokens line)))
-    (Err ParallelBar) (without_colon (label_front (tokens other)))
-    (bars_same (tokens line) (tokens other) words) refl
-    (uncoloned (label_front (tokens line)) (label_front (tokens other)) (front_label_same (tokens line) (tokens other) words)))))
+head_is_low line =
+    rw (
+      on_test head_low,
+      on_test head_low,
+      on_test head_low,
+      on_test head_low,
+      all_low is_allowed (test_low is_allowed refl) false line,
+      length_low false line,
+      begins_low is_star refl line,
+      tokens_low line,
+      bars_low (tokens line),
+      label_front_low (tokens line),
+      uncoloned (label_front (tokens line)),
+    ) refl
 
 -- ---- the line
 
-abbrev small_with : Option Word → Result Says Cause → Result (Option Word × Says) Cause
-small_with label (Ok says) = Ok (label, says)
-small_with label (Err cause) = Err cause
+small_rest : (label : Option Word) (read other : Result Says Cause) → small other ≡ small read
+    → small_labels (with_rest (option_map low label) other) ≡ small_labels (with_rest label read)
+small_rest None (Ok says) (Ok others) same = cc
+small_rest (Some name) (Ok says) (Ok others) same = rw (small_label name) (cc)
+small_rest label (Err cause) (Err other) same = let e : other ≡ cause = cc in rw e refl
+small_rest label read other same = absurd cc
 
-small_rest_is : (label : Option Word) (read : Result Says Cause)
-    → small_labels (with_rest label read) ≡ small_with (option_map in_small label) (small read)
-small_rest_is label (Ok says) = refl
-small_rest_is label (Err cause) = refl
+said_low : (head : Head) → small_labels (with_head (head_low head)) ≡ small_labels (with_head head)
+said_low (Ok (label, ws)) = small_rest label (rest_says ws) (rest_says (lows ws)) (rest_low ws)
+said_low (Err cause) = refl
 
-with_head_same : (head other : Head) → SameHead head other → small_labels (with_head head) ≡ small_labels (with_head other)
-with_head_same (Ok (label, ws)) (Ok (other, vs)) same =
-    small_rest_is label (rest_says ws) ∙ ap (λ (l : Option Word). small_with l (small (rest_says ws))) same.0
-    ∙ ap (small_with (option_map in_small other)) (rest_small ws vs same.1) ∙ sym (small_rest_is other (rest_says vs))
-with_head_same (Err cause) (Err other) same = ap (λ (c : Cause). let read : Result (Option Word × Says) Cause = Err c in read) same
-with_head_same (Ok front) (Err other) same = absurd same
-with_head_same (Err cause) (Ok front) same = absurd same
-
-pub line_same : (before : ℕ) (line other : List ℕ) → IsRecased before line other → small_labels (line_of line) ≡ small_labels (line_of other)
+line_low : (line : List ℕ) → small_labels (line_of (low line)) ≡ small_labels (line_of line)
 unfolding line_of
-line_same before line other same = with_head_same (head_of line) (head_of other) (head_same before line other same)
+line_low line = rw (head_is_low line) (said_low (head_of line))
 
-abbrev pub says_in : Result (Option Word × Says) Cause → Option Says
-says_in (Ok (label, says)) = Some says
-says_in (Err cause) = None
-
-abbrev pub label_in : Result (Option Word × Says) Cause → Option Word
-label_in (Ok (label, says)) = label
-label_in (Err cause) = None
-
-same_does : (parts : Parts) (read : Result (Option Word × Says) Cause) → small_labels read ≡ Ok (None, Does parts) → read ≡ Ok (None, Does parts)
-same_does parts (Ok (None, Does other)) e = e
-same_does parts (Ok (None, Nothing)) e = let says : Some Nothing ≡ Some (Does parts) = ap says_in e in absurd cc
-same_does parts (Ok (None, Pause n)) e = let says : Some (Pause n) ≡ Some (Does parts) = ap says_in e in absurd cc
-same_does parts (Ok (None, Jumps other label)) e = let says : Some (Jumps other (in_small label)) ≡ Some (Does parts) = ap says_in e in absurd cc
-same_does parts (Ok (Some label, says)) e = let labels : Some (in_small label) ≡ None = ap label_in e in absurd cc
-same_does parts (Err cause) e = absurd cc
-
-pub case_nothing : (line other : List ℕ) → IsRecased 32 line other → CaseSaysNothing line other
-case_nothing line other same =
-    let both = line_same 32 line other same in
-    (both, λ parts e. same_does parts (line_of other) (sym both ∙ ap small_labels e))
+pub line_same : (line other : List ℕ) → IsRecased 32 line other → small_labels (line_of line) ≡ small_labels (line_of other)
+line_same line other same = sym (line_low line) ∙ ap (λ (bytes : List ℕ). small_labels (line_of bytes)) (same_low 32 line other same) ∙ line_low other

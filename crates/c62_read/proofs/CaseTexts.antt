@@ -1,98 +1,71 @@
 -- Case changes no program where labels keep theirs.
-use Rattle.std.proofs.Common.{◌≡◌, ℕ, List, [], ◌∷◌, Option, Some, None, Result, Ok, Err, refl, sym, ap, ◌∙◌}
+use Rattle.std.proofs.Common.{◌≡◌, ℕ, List, [], ◌∷◌, Option, None, Result, Ok, Err, refl, sym, ap, ◌∙◌}
+use Rattle.std.specs.Prelude.{option_map}
 use Rattle.c62_read.specs.declared.fault.Cause.{Cause}
 use Rattle.c62_read.specs.Text.{lines_of}
 use Rattle.c62_read.specs.Kind.{Word}
 use Rattle.c62_read.specs.Line.{Parts, Says, Nothing, Pause, Does, Jumps, head_of, line_of, rest_says, with_head, with_rest}
-use Rattle.c62_read.specs.Program.{Name, fault_in, label_field}
-use Rattle.c62_read.specs.Laws.{AreRecased, CaseChangesNothing, IsRecased, small_labels, small_says, target_in}
+use Rattle.c62_read.specs.Program.{fault_in, label_field}
+use Rattle.c62_read.specs.Laws.{AreRecased, CaseChangesNothing, CaseSaysNothing, IsRecased, in_small, small_labels, small_says, target_in}
 use Rattle.c62_read.proofs.AlikeLaws.{AreAlike, IsAlike, alike_programs}
-use Rattle.c62_read.proofs.CaseLaws.{Head, SameHead, head_same, label_in, line_same, says_in}
+use Rattle.c62_read.proofs.CaseBytes.{same_low}
+use Rattle.c62_read.proofs.CaseLaws.{Head, head_low, head_is_low, line_same, lows, rest_low, small}
 use Rattle.c62_read.proofs.LabelFields.{field_is}
 
-abbrev Said : Type 0
-Said = Result (Option Word × Says) Cause
+-- ---- a line
 
--- ---- heads
+same_does : (parts : Parts) (read : Result (Option Word × Says) Cause) → small_labels read ≡ Ok (None, Does parts) → read ≡ Ok (None, Does parts)
+same_does parts (Err cause) e = absurd cc
+same_does parts (Ok (label, says)) e =
+    let both : (option_map in_small label, small_says says) ≡ (None, Does parts) = cc in
+    go label says (ap (λ (pair : Option Word × Says). pair.0) both) (ap (λ (pair : Option Word × Says). pair.1) both)
+  where
+    go : (label : Option Word) (says : Says) → option_map in_small label ≡ None → small_says says ≡ Does parts
+        → ◌≡◌ {A = Result (Option Word × Says) Cause} (Ok (label, says)) (Ok (None, Does parts))
+    go None (Does other) e f = cc
+    go label says e f = absurd cc
 
-head_fault : (head other : Head) → SameHead head other → fault_in head ≡ fault_in other
-head_fault (Ok front) (Ok other) same = refl
-head_fault (Err cause) (Err other) same = ap (λ (c : Cause). Some c) same
-head_fault (Ok front) (Err other) same = absurd same
-head_fault (Err cause) (Ok other) same = absurd same
-
--- ---- a line's label is that in its label field
-
-rest_label : (line : List ℕ) (own : Option Word) (words : List Word) (read : Result Says Cause) (label : Option Word) (says : Says)
-    → head_of line ≡ Ok (own, words)
-    → with_rest own read ≡ Ok (label, says) → label_field line ≡ label
-rest_label line own words (Ok made) label says head e = field_is line own words head ∙ ap label_in e
-rest_label line own words (Err cause) label says head e = absurd cc
-
-head_label : (line : List ℕ) (head : Head) (label : Option Word) (says : Says) → head_of line ≡ head → with_head head ≡ Ok (label, says)
-    → label_field line ≡ label
-head_label line (Ok (own, words)) label says e said = rest_label line own words (rest_says words) label says e said
-head_label line (Err cause) label says e said = absurd cc
-
-line_field : (line : List ℕ) (label : Option Word) (says : Says) → line_of line ≡ Ok (label, says) → label_field line ≡ label
-unfolding line_of
-line_field line label says e = head_label line (head_of line) label says refl e
-
-labels_same : (line other : List ℕ) (first second : Said) → line_of line ≡ first → line_of other ≡ second → small_labels first ≡ small_labels second
-    → label_field line ≡ label_field other
-    → label_in first ≡ label_in second
-labels_same line other (Ok (label, says)) (Ok (name, made)) e f same field = sym (line_field line label says e) ∙ field
-    ∙ line_field other name made f
-labels_same line other (Err cause) (Err reason) e f same field = refl
-labels_same line other (Ok (label, says)) (Err reason) e f same field = absurd cc
-labels_same line other (Err cause) (Ok (name, made)) e f same field = absurd cc
+pub case_nothing : (line other : List ℕ) → IsRecased 32 line other → CaseSaysNothing line other
+case_nothing line other same =
+    let both = line_same line other same in
+    (both, λ parts e. same_does parts (line_of other) (sym both ∙ ap small_labels e))
 
 -- ---- what is said with the same labels
 
-abbrev parts_in : Option Says → Option Parts
-parts_in (Some (Jumps parts label)) = Some parts
-parts_in says = None
+said_same : (label name : Option Word) (read other : Result Says Cause) → small read ≡ small other → label ≡ name
+    → target_in (with_rest label read) ≡ target_in (with_rest name other) → with_rest label read ≡ with_rest name other
+said_same label name (Err cause) (Err reason) e same targets = let causes : cause ≡ reason = cc in rw causes refl
+said_same label name (Ok (Jumps parts target)) (Ok (Jumps others aim)) e same targets =
+    let first : parts ≡ others = cc in
+    let second : target ≡ aim = cc in
+    rw (same, first, second) refl
+said_same label name (Ok Nothing) (Ok Nothing) e same targets = rw same refl
+said_same label name (Ok (Pause n)) (Ok (Pause m)) e same targets = cc
+said_same label name (Ok (Does parts)) (Ok (Does others)) e same targets = cc
+said_same label name read other e same targets = absurd cc
 
-abbrev target_said : Says → Option Name
-target_said (Jumps parts target) = Some target
-target_said says = None
+words_in : Head → List Word
+words_in (Ok front) = front.1
+words_in (Err cause) = []
 
-says_same : (says other : Says) → Some (small_says says) ≡ Some (small_says other) → target_said says ≡ target_said other → says ≡ other
-says_same Nothing Nothing e f = refl
-says_same (Pause n) (Pause m) e f = cc
-says_same (Does parts) (Does others) e f = cc
-says_same (Jumps parts label) (Jumps others name) e f =
-    let one : Some parts ≡ Some others = ap parts_in e in
-    let same : parts ≡ others = cc in
-    let two : label ≡ name = cc in
-    rw (same, two) refl
-says_same says other e f = absurd cc
-
-target_of_said : (label : Option Word) (says : Says) → target_in (Ok (label, says)) ≡ target_said says
-target_of_said label Nothing = refl
-target_of_said label (Pause n) = refl
-target_of_said label (Does parts) = refl
-target_of_said label (Jumps parts target) = refl
-
-said_same : (first second : Said) → small_labels first ≡ small_labels second → label_in first ≡ label_in second → target_in first ≡ target_in second
-    → first ≡ second
-said_same (Ok (label, says)) (Ok (name, made)) small labels targets =
-    let same : says ≡ made = says_same says made (ap says_in small) (sym (target_of_said label says) ∙ targets ∙ target_of_said name made) in
-    let both : label ≡ name = labels in
-    rw (same, both) refl
-said_same (Err cause) (Err reason) small labels targets = cc
-said_same (Ok (label, says)) (Err reason) small labels targets = absurd cc
-said_same (Err cause) (Ok (name, made)) small labels targets = absurd cc
+heads_same : (line other : List ℕ) (head front : Head) → head_of line ≡ head → head_of other ≡ front → head_low head ≡ head_low front
+    → label_field line ≡ label_field other → target_in (with_head head) ≡ target_in (with_head front)
+    → (fault_in head ≡ fault_in front) × (with_head head ≡ with_head front)
+unfolding words_in
+heads_same line other (Ok (label, ws)) (Ok (name, vs)) e f same field targets =
+    let words : lows ws ≡ lows vs = ap words_in same in
+    let rest : small (rest_says ws) ≡ small (rest_says vs) = sym (rest_low ws) ∙ ap (λ (us : List Word). small (rest_says us)) words ∙ rest_low vs in
+    (refl, said_same label name (rest_says ws) (rest_says vs) rest (sym (field_is line label ws e) ∙ field ∙ field_is other name vs f) targets)
+heads_same line other (Err cause) (Err reason) e f same field targets = let causes : cause ≡ reason = cc in rw causes (refl, refl)
+heads_same line other head front e f same field targets = absurd cc
 
 alike : (line other : List ℕ) → IsRecased 32 line other → label_field line ≡ label_field other → target_in (line_of line) ≡ target_in (line_of other)
     → IsAlike line other
+unfolding line_of
 alike line other same field targets =
-    let small = line_same 32 line other same in
-    record {
-      head = head_fault (head_of line) (head_of other) (head_same 32 line other same);
-      field = field;
-      said = said_same (line_of line) (line_of other) small (labels_same line other (line_of line) (line_of other) refl refl small field) targets;
-    }
+    let heads = sym (head_is_low line) ∙ ap head_of (same_low 32 line other same) ∙ head_is_low other in
+    let both = heads_same line other (head_of line) (head_of other) refl refl heads field targets in
+    record { head = both.0; field = field; said = both.1 }
 
 all_alike : (lines others : List (List ℕ)) → AreRecased lines others → AreAlike lines others
 all_alike [] [] same = tt

@@ -4,19 +4,35 @@ use Rattle.std.proofs.Common.{◌∙◌, arith, length-append}
 use Rattle.std.specs.Prelude.{codes, IsTrue}
 use Rattle.std.specs.List.{list_all}
 use Rattle.std.proofs.lemmas.Bool.{and_parts, and_right, eqb-true, le-ltb}
+use Rattle.std.proofs.lemmas.Bool.Decides.{nat_tests}
 use Rattle.std.proofs.lemmas.List.Folds.{list_all-append}
 use Rattle.c62_read.specs.declared.fault.Cause.{Cause}
 use Rattle.c62_read.specs.declared.fault.Cause.TheVariants.{ParallelBar}
-use Rattle.c62_read.specs.Text.{begins, is_allowed, lines_of, tokens}
+use Rattle.c62_read.specs.Text.{begins, is_allowed, is_double, joins, lines_of, tokens}
 use Rattle.c62_read.specs.Number.{is_label, spells}
 use Rattle.c62_read.specs.Kind.{Word}
 use Rattle.c62_read.specs.Line.{Nothing, head_of, is_bars, is_star, label_front, line_of, rest_says, with_head, without_colon}
 use Rattle.c62_read.specs.Program.{fault_in, label_field}
 use Rattle.c62_read.specs.Laws.{AreUncommented, Behind, CommentSaysNothing, CommentsSayNothing, IsReadable, IsUncommented, Same, StarSaysNothing}
 use Rattle.c62_read.specs.Laws.{Whole}
-use Rattle.c62_read.proofs.CommentLemmas.{tokens-comment}
+use Rattle.c62_read.proofs.TokenLemmas.{tokens_comment}
 use Rattle.c62_read.proofs.AlikeLaws.{AreAlike, IsAlike, alike_programs}
-use Rattle.c62_read.proofs.SpelledTokens.{mark_alone}
+use Rattle.c62_read.proofs.LabelFields.{star_field}
+
+-- ---- tokens
+
+single_comment : (b : ℕ) → is_double b 59 ≡ false
+single_comment b = grind (arith, nat_tests)
+
+alone_comment : (b : ℕ) → joins b 59 ≡ false
+alone_comment b = grind (arith, nat_tests)
+
+pub tokens-comment : (line rest : List ℕ) → tokens (line ++ 59 ∷ rest) ≡ tokens line
+tokens-comment [] rest = tokens_comment 59 rest refl
+tokens-comment (b ∷ []) rest = rw (single_comment b, alone_comment b, tokens_comment 59 rest refl) (grind (arith, nat_tests))
+tokens-comment (b ∷ c ∷ line) rest = rw (tokens-comment (c ∷ line) rest, tokens-comment line rest) refl
+
+-- ---- heads
 
 abbrev Head : Type 0
 Head = Result (Option Word × List Word) Cause
@@ -32,37 +48,14 @@ head_is line readable = rw (readable.0, le-ltb 255 (length line) readable.1) ref
 -- ---- a star
 
 star_head : (line : List ℕ) → IsReadable line → begins is_star line ≡ true → head_of line ≡ Ok (None, [])
-star_head line readable star = head_is line readable ∙ ap (λ (b : Bool). head_from b (tokens line)) star
-
-nothing : rest_says [] ≡ Ok Nothing
-unfolding rest_says
-nothing = refl
+star_head line readable star = head_is line readable ∙ rw star refl
 
 star_line : (line : List ℕ) → IsReadable line → begins is_star line ≡ true → line_of line ≡ Ok (None, Nothing)
-unfolding line_of
-star_line line readable star = rw (star_head line readable star, nothing) refl
-
-star_label : is_label (42 ∷ []) ≡ false
-unfolding is_label
-star_label = refl
-
-star_front : (words : List Word) → (label_front ((42 ∷ []) ∷ words)).0 ≡ None
-unfolding label_front
-star_front [] = refl
-star_front (colon ∷ words) = let none : (spells (codes ":") colon && is_label (42 ∷ [])) ≡ false =
-    and_right (spells (codes ":") colon) (is_label (42 ∷ [])) star_label in rw none refl
-
-pub star_is : (line : List ℕ) → begins is_star line ≡ true → (rest : List ℕ) × (line ≡ 42 ∷ rest)
-star_is [] star = absurd cc
-star_is (b ∷ rest) star = (rest, ap (λ (c : ℕ). c ∷ rest) (eqb-true b 42 star))
-
-pub star_field : (rest : List ℕ) → label_field (42 ∷ rest) ≡ None
-unfolding label_field
-star_field rest = ap (λ (words : List Word). (label_front words).0) (mark_alone 42 rest refl) ∙ star_front (tokens rest)
+unfolding line_of rest_says
+star_line line readable star = rw (star_head line readable star) refl
 
 pub star_nothing : (line : List ℕ) → IsReadable line → IsTrue (begins is_star line) → StarSaysNothing line
-star_nothing line readable star =
-    let split = star_is line star in (star_line line readable star, ap label_field split.1 ∙ star_field split.0)
+star_nothing line readable star = (star_line line readable star, star_field line star)
 
 -- ---- behind a semicolon
 
@@ -80,26 +73,16 @@ comment_head : (line rest : List ℕ) → IsReadable (line ++ 59 ∷ rest) → h
 comment_head line rest readable =
     head_is (line ++ 59 ∷ rest) readable ∙ rw (same_star line rest, tokens-comment line rest) (sym (head_is line (front_readable line rest readable)))
 
-comment_line : (line rest : List ℕ) → IsReadable (line ++ 59 ∷ rest) → line_of (line ++ 59 ∷ rest) ≡ line_of line
-unfolding line_of
-comment_line line rest readable = ap with_head (comment_head line rest readable)
-
-comment_field : (line rest : List ℕ) → label_field (line ++ 59 ∷ rest) ≡ label_field line
-unfolding label_field
-comment_field line rest = ap (λ (words : List Word). (label_front words).0) (tokens-comment line rest)
-
 pub comment_nothing : (line rest : List ℕ) → IsReadable (line ++ 59 ∷ rest) → CommentSaysNothing line rest
-comment_nothing line rest readable = (comment_line line rest readable, comment_field line rest)
+unfolding line_of label_field
+comment_nothing line rest readable =
+    (ap with_head (comment_head line rest readable), ap (λ (words : List Word). (label_front words).0) (tokens-comment line rest))
 
 -- ---- lines without their comments
 
-empty_head : head_of [] ≡ Ok (None, [])
-unfolding head_of label_front
-empty_head = refl
-
-empty_field : label_field [] ≡ None
-unfolding label_field label_front
-empty_field = refl
+empty : (head_of [] ≡ Ok (None, [])) × (label_field [] ≡ None)
+unfolding head_of label_field label_front
+empty = (refl, refl)
 
 by_head : (line other : List ℕ) → head_of line ≡ head_of other → label_field line ≡ label_field other → IsAlike line other
 unfolding line_of
@@ -109,11 +92,11 @@ alike : (line other : List ℕ) → IsUncommented line other → IsAlike line ot
 alike line other (Same e) = by_head line other (ap head_of e) (ap label_field e)
 alike line other (Behind rest e readable) =
     let there : IsReadable (other ++ 59 ∷ rest) = subst IsReadable e readable in
-    by_head line other (ap head_of e ∙ comment_head other rest there) (ap label_field e ∙ comment_field other rest)
+    by_head line other (ap head_of e ∙ comment_head other rest there) (ap label_field e ∙ (comment_nothing other rest there).1)
 alike line other (Whole rest e f readable) =
     let star : begins is_star line ≡ true = ap (begins is_star) e in
-    by_head line other (star_head line readable star ∙ sym (ap head_of f ∙ empty_head))
-    (ap label_field e ∙ star_field rest ∙ sym (ap label_field f ∙ empty_field))
+    by_head line other (star_head line readable star ∙ sym (ap head_of f ∙ empty.0))
+    (star_field line star ∙ sym (ap label_field f ∙ empty.1))
 
 all_alike : (lines others : List (List ℕ)) → AreUncommented lines others → AreAlike lines others
 all_alike [] [] same = tt

@@ -1,7 +1,8 @@
 -- More than eight tokens are no operands, and a condition begins with a bracket.
-use Rattle.std.proofs.Common.{◌≡◌, ℕ, ◌+◌, ◌≤◌, ◌<◌, Bool, true, false, List, [], ◌∷◌, length, Option, Some, None, Err, cond, eqb, refl, sym, ap}
+use Rattle.std.proofs.Common.{◌≡◌, ℕ, suc, ◌+◌, ◌≤◌, ◌<◌, Bool, true, false, List, [], ◌∷◌, length, Option, Some, None, Err, cond, eqb, refl, sym, ap}
 use Rattle.std.proofs.Common.{subst, ◌∙◌, inl, inr, arith}
 use Rattle.std.proofs.lemmas.Bool.{cases_Bool, eqb-true}
+use Rattle.std.proofs.lemmas.Bool.Decides.{nat_tests}
 use Rattle.std.specs.Prelude.{ℤ}
 use Rattle.std.proofs.lemmas.List.{length-map}
 use Rattle.c62_insn.specs.declared.register.Reg.{Reg}
@@ -21,47 +22,36 @@ use Rattle.c62_read.specs.Text.{tokens}
 use Rattle.c62_read.proofs.SpelledTokens.{is_mark, mark_alone}
 use Rattle.c62_read.specs.Line.{behind_unit, condition_of, is_storing, pause_of, target_of}
 
--- so many tokens stand before what is left, if an address does
-abbrev Leaves : ℕ → List Kind → Option (Address × List Kind) → Type 0
-Leaves n kinds None = Unit {0}
-Leaves n kinds (Some (address, rest)) = length kinds ≤ length rest + n
+-- of so many tokens all but five are left behind an address
+abbrev Leaves : ℕ → Option (Address × List Kind) → Type 0
+Leaves n None = Unit {0}
+Leaves n (Some (address, rest)) = n ≤ length rest + 5
 
-offset_leaves : (base : Reg) (form : AddressForm) (kinds : List Kind) → Leaves 3 kinds (with_offset base form kinds)
+offset_leaves : (base : Reg) (form : AddressForm) (kinds : List Kind) → Leaves (suc (suc (length kinds))) (with_offset base form kinds)
 unfolding with_offset
 offset_leaves base form (Open ∷ Number k ∷ Close ∷ rest) = omega arith
 offset_leaves base form (Open ∷ Register reg ∷ Close ∷ rest) = omega arith
 offset_leaves base form (Open ∷ rest) = tt
 offset_leaves base form kinds = omega arith
 
-more : (first second : Kind) (kinds : List Kind) (found : Option (Address × List Kind)) → Leaves 3 kinds found
-    → Leaves 5 (first ∷ second ∷ kinds) found
-more first second kinds None within = tt
-more first second kinds (Some (address, rest)) within = omega (arith, within)
-
-address_leaves : (kinds : List Kind) → Leaves 5 kinds (address_front kinds)
+address_leaves : (kinds : List Kind) → Leaves (length kinds) (address_front kinds)
 unfolding address_front
-address_leaves (Plus ∷ Register base ∷ rest) =
-    more Plus (Register base) rest (address_front (Plus ∷ Register base ∷ rest)) (offset_leaves base _ rest)
-address_leaves (Minus ∷ Register base ∷ rest) =
-    more Minus (Register base) rest (address_front (Minus ∷ Register base ∷ rest)) (offset_leaves base _ rest)
-address_leaves (Increment ∷ Register base ∷ rest) =
-    more Increment (Register base) rest (address_front (Increment ∷ Register base ∷ rest)) (offset_leaves base _ rest)
-address_leaves (Decrement ∷ Register base ∷ rest) =
-    more Decrement (Register base) rest (address_front (Decrement ∷ Register base ∷ rest)) (offset_leaves base _ rest)
-address_leaves (Register base ∷ Increment ∷ rest) =
-    more (Register base) Increment rest (address_front (Register base ∷ Increment ∷ rest)) (offset_leaves base _ rest)
-address_leaves (Register base ∷ Decrement ∷ rest) =
-    more (Register base) Decrement rest (address_front (Register base ∷ Decrement ∷ rest)) (offset_leaves base _ rest)
+address_leaves (Plus ∷ Register base ∷ rest) = offset_leaves base _ rest
+address_leaves (Minus ∷ Register base ∷ rest) = offset_leaves base _ rest
+address_leaves (Increment ∷ Register base ∷ rest) = offset_leaves base _ rest
+address_leaves (Decrement ∷ Register base ∷ rest) = offset_leaves base _ rest
+address_leaves (Register base ∷ Increment ∷ rest) = offset_leaves base _ rest
+address_leaves (Register base ∷ Decrement ∷ rest) = offset_leaves base _ rest
 address_leaves (Register base ∷ rest) = omega arith
 address_leaves _ = tt
 
-none_loaded : (kinds : List Kind) (found : Option (Address × List Kind)) → Leaves 5 kinds found → 7 < length kinds → loaded found ≡ None
+none_loaded : (kinds : List Kind) (found : Option (Address × List Kind)) → Leaves (length kinds) found → 7 < length kinds → loaded found ≡ None
 none_loaded kinds None within many = refl
 none_loaded kinds (Some (address, [])) within many = refl
 none_loaded kinds (Some (address, Comma ∷ Register reg ∷ [])) within many = absurd (omega (arith, within, many))
 none_loaded kinds (Some (address, rest)) within many = refl
 
-none_stored : (reg : Reg) (kinds : List Kind) (found : Option (Address × List Kind)) → Leaves 5 kinds found → 5 < length kinds
+none_stored : (reg : Reg) (kinds : List Kind) (found : Option (Address × List Kind)) → Leaves (length kinds) found → 5 < length kinds
     → stored reg found ≡ None
 none_stored reg kinds None within many = refl
 none_stored reg kinds (Some (address, [])) within many = absurd (omega (arith, within, many))
@@ -119,30 +109,13 @@ no_bracket (word ∷ words) is = other_kind (mark_of word) word (kinds_of words)
 
 -- ---- marks that stand alone
 
-one_mark : (c : ℕ) (kind : Kind) (rest : List ℕ) → is_mark c ≡ true → kind_of (c ∷ []) ≡ kind
-    → kinds_of (tokens (c ∷ rest)) ≡ kind ∷ kinds_of (tokens rest)
-one_mark c kind rest mark is = ap kinds_of (mark_alone c rest mark) ∙ ap (λ (k : Kind). k ∷ kinds_of (tokens rest)) is
-
-abbrev StandsAlone : ℕ → List ℕ → Option Kind → Type 0
-StandsAlone b rest None = Unit {0}
-StandsAlone b rest (Some kind) = kinds_of (tokens (b ∷ rest)) ≡ kind ∷ kinds_of (tokens rest)
-
-stands_alone : (b : ℕ) (rest : List ℕ) → StandsAlone b rest (lone_mark b)
-unfolding kind_of mark_of single_mark
-stands_alone b rest =
-    either 44 Comma _ refl refl (either 42 Star _ refl refl (either 91 Open _ refl refl (either 93 Close _ refl refl
-    (either 33 Not None refl refl tt))))
-  where
-    either : (c : ℕ) (kind : Kind) (other : Option Kind) → is_mark c ≡ true → kind_of (c ∷ []) ≡ kind → StandsAlone b rest other
-        → StandsAlone b rest (cond (eqb b c) (Some kind) other)
-    either c kind other mark is later =
-        elim (cases_Bool (eqb b c)) [
-          | inl same ↦ rw same (subst (λ (x : ℕ). StandsAlone x rest (Some kind)) (sym (eqb-true b c same)) (one_mark c kind rest mark is))
-          | inr differs ↦ rw differs later
-        ]
+lone_single : (b : ℕ) (kind : Kind) → lone_mark b ≡ Some kind → single_mark b ≡ Some kind
+unfolding single_mark
+lone_single b kind is = grind (arith, nat_tests)
 
 pub lone_is : (line rest : List ℕ) (b : ℕ) (kind : Kind) → line ≡ b ∷ rest → lone_mark b ≡ Some kind
     → kinds_of (tokens line) ≡ kind ∷ kinds_of (tokens rest)
+unfolding kind_of mark_of
 lone_is line rest b kind are is =
-    let alone : StandsAlone b rest (Some kind) = subst (StandsAlone b rest) is (stands_alone b rest) in
-    ap (λ (bytes : List ℕ). kinds_of (tokens bytes)) are ∙ alone
+    let mark : is_mark b ≡ true = grind (arith, nat_tests) in
+    rw (are, mark_alone b rest mark, lone_single b kind is) refl

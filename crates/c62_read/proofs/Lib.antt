@@ -13,7 +13,6 @@ pub mod LabelFields
 pub mod TargetLemmas
 pub mod WalkLemmas
 pub mod BytesLemmas
-pub mod CommentLemmas
 pub mod SpelledTokens
 pub mod SpelledNumbers
 pub mod SpelledSources
