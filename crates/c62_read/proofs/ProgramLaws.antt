@@ -55,8 +55,10 @@ program_is_cut text blocks e = go (ltb 1048576 (length text)) (add_lines labels 
     go false (Ok drafts) walked is =
         let same : map (block_in (blocks_from lines)) (blocks_from lines) ≡ blocks = let said = rw walked.0 at is in cc in
         record {
-          is = sym same; own = ap own_labels (blocks_are labels lines drafts walked.1) ∙ walked.1.own;
-          fits = walked.1.fits; distinct = walked.1.distinct;
+          is = sym same;
+          own = ap own_labels (blocks_are labels lines drafts walked.1) ∙ walked.1.own;
+          fits = walked.1.fits;
+          distinct = walked.1.distinct;
         }
 
 -- ---- labels
@@ -112,9 +114,10 @@ module _ (label : Name) where
 pub has_targets : (text : List ℕ) → HasTargets text
 has_targets text blocks line label parts target e among jumps =
     let fit = All-contains (λ (l : List ℕ). OkFits (labels_of (lines_of text)) (line_of l)) (lines_of text) line (program_is_cut text blocks e).fits among in
-    let known = not-false (is_among target (labels_of (lines_of text))) (rw jumps at fit).1 in
-    (position_or_len (λ (block : BlockParts). label_is target block.label) blocks,
-    found target blocks (ap (is_among target) (has_its_labels text blocks e).0 ∙ known))
+    let known = not-false (is_among target (labels_of (lines_of text))) (rw jumps at fit).1 in (
+      position_or_len (λ (block : BlockParts). label_is target block.label) blocks,
+      found target blocks (ap (is_among target) (has_its_labels text blocks e).0 ∙ known),
+    )
 
 -- ---- the blocks one after the other are the labels and instructions of the lines, with their targets' numbers
 
@@ -189,9 +192,12 @@ module _ (aim : Name → ℕ) where
   runs_lines : (number : ℕ) (lines : List (List ℕ)) → flat_map run_in (map (settled aim) (items_from number lines)) ≡ instructions_in aim number lines
   runs_lines number [] = refl
   runs_lines number (line ∷ lines) =
-      rw (map-append (settled aim) (line_items number (line_of line)) (items_from (number + 1) lines),
-      flat_map-append run_in (map (settled aim) (line_items number (line_of line))) (map (settled aim) (items_from (number + 1) lines)),
-      runs_line number (line_of line), runs_lines (number + 1) lines) refl
+      rw (
+        map-append (settled aim) (line_items number (line_of line)) (items_from (number + 1) lines),
+        flat_map-append run_in (map (settled aim) (line_items number (line_of line))) (map (settled aim) (items_from (number + 1) lines)),
+        runs_line number (line_of line),
+        runs_lines (number + 1) lines,
+      ) refl
 
 pub is_its_lines : (text : List ℕ) → IsItsLines text
 is_its_lines text blocks e =

@@ -226,8 +226,15 @@ module _ (number : ℕ) (line : List ℕ) (old new : Drafts) where
   by_rest label words head free (Ok says) rest (Some cause) clear added = let no = rw clear at added in absurd cc
   by_rest label words head free (Ok says) rest None clear added =
       record {
-        label = label; words = words; says = says; head = head; rest = rest; free = free; clear = clear;
-        said = rw (head, free, rest) refl; is = let is = rw clear at added in cc;
+        label = label;
+        words = words;
+        says = says;
+        head = head;
+        rest = rest;
+        free = free;
+        clear = clear;
+        said = rw (head, free, rest) refl;
+        is = let is = rw clear at added in cc;
       }
 
   by_label : (label : Option Name) (words : List (List ℕ)) → head_of line ≡ Ok (label, words) → (taken : Bool) → is_taken label old ≡ taken
@@ -350,9 +357,9 @@ module _ (labels : List Name) (before : List (List ℕ)) (line : List ℕ) (old 
   fault_same : fault_of labels before line ≡ met (add_line here line old)
   unfolding add_line fault_of line_of
   fault_same = (elim (head_of line) as (λ front. head_of line ≡ front → fault_of labels before line ≡ met (add_head here old front)) [
-        | Err cause ↦ λ head. rw head refl
-        | Ok front ↦ λ head. by_label front.0 front.1 head (is_taken front.0 old) refl
-      ]) refl
+    | Err cause ↦ λ head. rw head refl
+    | Ok front ↦ λ head. by_label front.0 front.1 head (is_taken front.0 old) refl
+  ]) refl
     where
       by_rest : (label : Option Name) (words : List (List ℕ)) → head_of line ≡ Ok (label, words) → is_taken label old ≡ false
           → (said : Result Says Cause) → rest_says words ≡ said → fault_of labels before line ≡ met (add_says here label old said)
@@ -393,7 +400,6 @@ module _ (labels : List Name) (before : List (List ℕ)) (line : List ℕ) (old 
       clear_by true many e = absurd cc
       clear_by false true e = absurd cc
       clear_by false false e = (refl, refl)
-
 
 -- ---- all lines
 
