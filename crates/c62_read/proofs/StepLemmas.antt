@@ -3,7 +3,8 @@ use Rattle.std.proofs.Common.{◌≡◌, ◌<◌, ◌≤◌, ℕ, ◌+◌, ◌-�
 use Rattle.std.proofs.Common.{◌∙◌, arith, take-add}
 use Rattle.std.specs.Prelude.{if◌then◌else◌}
 use Rattle.std.specs.List.{list_all, list_any, position_or_len}
-use Rattle.std.proofs.lemmas.Bool.{or_parts, and_from, and_parts}
+use Rattle.std.proofs.lemmas.Bool.{or_parts, and_from, and_parts, and_right}
+use Rattle.std.proofs.lemmas.Bool.Decides.{nat_tests}
 use Rattle.std.proofs.lemmas.List.Folds.{list_any-append}
 use Rattle.std.proofs.lemmas.List.Sums.{prefix_len-le-length}
 use Rattle.std.proofs.lemmas.List.Folds.{list_all-append}
@@ -13,14 +14,7 @@ module _ (test : ℕ → Bool) where
       → position_or_len test text ≡ n + position_or_len test (drop n text)
   position_later zero text none within = omega arith
   position_later (suc n) [] none within = absurd (omega arith)
-  position_later (suc n) (b ∷ text) none within = go (test b) none (position_later n text)
-    where
-      go : (feed : Bool) → (feed || list_any test (take n text)) ≡ false
-          → (list_any test (take n text) ≡ false → n ≤ length text
-          → position_or_len test text ≡ n + position_or_len test (drop n text))
-          → (if not feed then 1 + position_or_len test text else 0) ≡ suc n + position_or_len test (drop n text)
-      go true e others = absurd cc
-      go false e others = omega (arith, others e (omega arith))
+  position_later (suc n) (b ∷ text) none within = grind (arith, nat_tests, position_later n text)
 
   pub none_more_steps : (text : List ℕ) (n k : ℕ) → list_any test (take n text) ≡ false → list_any test (take k (drop n text)) ≡ false
       → list_any test (take (n + k) text) ≡ false
@@ -31,13 +25,7 @@ module _ (test : ℕ → Bool) where
   within_next : (k : ℕ) (text : List ℕ) → list_any test (take k text) ≡ true → position_or_len test text < k
   within_next zero text some = absurd cc
   within_next (suc k) [] some = absurd cc
-  within_next (suc k) (b ∷ text) some = go (test b) some (within_next k text)
-    where
-      go : (feed : Bool) → (feed || list_any test (take k text)) ≡ true
-          → (list_any test (take k text) ≡ true → position_or_len test text < k)
-          → (if not feed then 1 + position_or_len test text else 0) < suc k
-      go true e others = omega arith
-      go false e others = omega (arith, others e)
+  within_next (suc k) (b ∷ text) some = grind (arith, nat_tests, within_next k text)
 
   pub near_feed : (text : List ℕ) (n k : ℕ) → n ≤ length text → list_any test (take n text) ≡ false
       → list_any test (take k (drop n text)) ≡ true → position_or_len test text < n + k
@@ -50,28 +38,19 @@ module _ (test : ℕ → Bool) where
 
   pub any_near : (bytes : List ℕ) → position_or_len test bytes < length bytes → list_any test bytes ≡ true
   any_near [] near = absurd (omega (arith, near))
-  any_near (b ∷ bytes) near = go (test b) near (any_near bytes)
-    where
-      go : (here : Bool) → (if not here then 1 + position_or_len test bytes else 0) < suc (length bytes)
-          → (position_or_len test bytes < length bytes → list_any test bytes ≡ true) → (here || list_any test bytes) ≡ true
-      go true less others = refl
-      go false less others = others (omega (arith, less))
+  any_near (b ∷ bytes) near = grind (arith, nat_tests, any_near bytes)
 
   pub any_behind : (n m : ℕ) (bytes : List ℕ) → n ≤ m → list_any test (take m bytes) ≡ false → list_any test bytes ≡ list_any test (drop n bytes)
   any_behind zero m bytes less none = refl
   any_behind (suc n) zero bytes less none = absurd (omega (arith, less))
   any_behind (suc n) (suc m) [] less none = refl
-  any_behind (suc n) (suc m) (b ∷ bytes) less none =
-      let parts = or_parts (test b) (list_any test (take m bytes)) none in
-      rw parts.0 (any_behind n m bytes (omega (arith, less)) parts.1)
+  any_behind (suc n) (suc m) (b ∷ bytes) less none = grind (arith, nat_tests, any_behind n m bytes)
 
   pub all_behind : (n m : ℕ) (bytes : List ℕ) → n ≤ m → list_all test (take m bytes) ≡ true → list_all test bytes ≡ list_all test (drop n bytes)
   all_behind zero m bytes less all = refl
   all_behind (suc n) zero bytes less all = absurd (omega (arith, less))
   all_behind (suc n) (suc m) [] less all = refl
-  all_behind (suc n) (suc m) (b ∷ bytes) less all =
-      let parts = and_parts (test b) (list_all test (take m bytes)) all in
-      rw parts.0 (all_behind n m bytes (omega (arith, less)) parts.1)
+  all_behind (suc n) (suc m) (b ∷ bytes) less all = grind (arith, nat_tests, all_behind n m bytes)
 
   pub all_more_steps : (bytes : List ℕ) (n k : ℕ) → list_all test (take n bytes) ≡ true → list_all test (take k (drop n bytes)) ≡ true
       → list_all test (take (n + k) bytes) ≡ true
@@ -82,16 +61,7 @@ module _ (test : ℕ → Bool) where
   pub not_all : (bytes : List ℕ) (n k : ℕ) → list_all test (take k (drop n bytes)) ≡ false → list_all test bytes ≡ false
   not_all bytes zero zero some = absurd cc
   not_all [] zero (suc k) some = absurd cc
-  not_all (b ∷ bytes) zero (suc k) some = go (test b) some (not_all bytes zero k)
-    where
-      go : (here : Bool) → (here && list_all test (take k bytes)) ≡ false
-          → (list_all test (take k bytes) ≡ false → list_all test bytes ≡ false) → (here && list_all test bytes) ≡ false
-      go true e others = others e
-      go false e others = refl
+  not_all (b ∷ bytes) zero (suc k) some = grind (arith, nat_tests, not_all bytes zero k)
   not_all [] (suc n) zero some = absurd cc
   not_all [] (suc n) (suc k) some = absurd cc
-  not_all (b ∷ bytes) (suc n) k some = go (test b) (not_all bytes n k some)
-    where
-      go : (here : Bool) → list_all test bytes ≡ false → (here && list_all test bytes) ≡ false
-      go true others = others
-      go false others = refl
+  not_all (b ∷ bytes) (suc n) k some = grind (arith, nat_tests, not_all bytes n k)
