@@ -4,6 +4,7 @@ use Rattle.std.proofs.Common.{◌∙◌, arith, append_assoc}
 use Rattle.std.specs.Prelude.{is_some, map}
 use Rattle.std.specs.List.{flat_map, list_all, list_any}
 use Rattle.std.proofs.lemmas.Bool.{or_left, or_right, and_from, and_parts, le-leb, lt-ltb, ltb-false, or_parts}
+use Rattle.std.proofs.lemmas.Bool.Decides.{nat_tests}
 use Rattle.std.proofs.lemmas.List.{map-append}
 use Rattle.c62_insn.specs.declared.operands.Op.{Op}
 use Rattle.c62_insn.specs.declared.operands.Op.TheVariants.{B as Branch}
@@ -123,8 +124,7 @@ drafts_begin behind (draft ∷ drafts) = may_begin behind draft.label draft.insn
 behind_begin : (behind : Bool) (drafts : List Draft) → Parted behind drafts → drafts_begin true drafts ≡ true → drafts_begin behind drafts ≡ true
 behind_begin true drafts parts well = well
 behind_begin false [] parts well = refl
-behind_begin false (draft ∷ drafts) parts well =
-    rw parts (and_parts (may_begin true draft.label draft.insns) (drafts_begin (ends_in_branch draft.insns) drafts) well).1
+behind_begin false (draft ∷ drafts) parts well = grind (arith, nat_tests)
 
 pub cut_begins : (items : List Item) → drafts_begin true (cut items) ≡ true
 cut_begins items = cut_all (λ others drafts. drafts_begin true drafts ≡ true) refl apart joins items
@@ -140,11 +140,8 @@ cut_begins items = cut_all (λ others drafts. drafts_begin true drafts ≡ true)
 
     joins : (item : Item) (others : List Item) (draft : Draft) (drafts : List Draft) → ends_block item ≡ false → draft.label ≡ None
         → drafts_begin true (draft ∷ drafts) ≡ true → drafts_begin true (joined (piece_of item) draft ∷ drafts) ≡ true
-    joins (Begins label) others draft drafts plain none well =
-        (and_parts (may_begin true draft.label draft.insns) (drafts_begin (ends_in_branch draft.insns) drafts) well).1
-    joins (Runs entry target) others draft drafts plain none well =
-        rw (lt-ltb 0 (length (entry ∷ draft.insns)) (omega arith), more_ends entry draft.insns plain)
-        (and_parts (may_begin true draft.label draft.insns) (drafts_begin (ends_in_branch draft.insns) drafts) well).1
+    joins (Begins label) others draft drafts plain none well = grind (arith, nat_tests)
+    joins (Runs entry target) others draft drafts plain none well = grind (arith, nat_tests, more_ends entry draft.insns plain)
 
 -- ---- branches stand last
 
@@ -167,16 +164,9 @@ cut_ends items = cut_all (λ others drafts. list_all ends_last drafts ≡ true) 
         → list_all ends_last (draft ∷ drafts) ≡ true → list_all ends_last (joined (piece_of item) draft ∷ drafts) ≡ true
     joins (Begins label) others draft drafts plain none last = last
     joins (Runs entry target) others draft drafts plain none last =
-        let parts = and_parts (ends_last draft) (list_all ends_last drafts) last in
-        rw (op_last entry.parts.op (draft_operations draft) plain parts.0) parts.1
+        grind (arith, nat_tests, op_last entry.parts.op (draft_operations draft) plain)
 
 -- blocks that are not overfull, and end so, are whole
 pub all_whole : (drafts : List Draft) → list_any is_overfull drafts ≡ false → list_all ends_last drafts ≡ true → list_all is_whole drafts ≡ true
 all_whole [] small last = refl
-all_whole (draft ∷ drafts) small last =
-    let first = or_parts (is_overfull draft) (list_any is_overfull drafts) small in
-    let parts = and_parts (ends_last draft) (list_all ends_last drafts) last in
-    let few = ltb-false 256 (length draft.insns) first.0 in
-    and_from (is_whole draft) (list_all is_whole drafts)
-    (and_from (leb (length draft.insns) 256) (ends_last draft) (le-leb (length draft.insns) 256 (omega (arith, few))) parts.0)
-    (all_whole drafts first.1 parts.1)
+all_whole (draft ∷ drafts) small last = grind (arith, nat_tests, all_whole drafts)

@@ -292,10 +292,7 @@ chain : (unknown full many : Bool) (drafts : Drafts)
     → first_of (fault_if unknown UnknownTarget ∷ fault_if full TooManyInstructions ∷ fault_if many TooManyBlocks ∷ [])
     ≡ first_of (fault_if unknown UnknownTarget
     ∷ fault_in (unless_hindered (cond full (Some TooManyInstructions) (cond many (Some TooManyBlocks) None)) drafts) ∷ [])
-chain true full many drafts = refl
-chain false true many drafts = refl
-chain false false true drafts = refl
-chain false false false drafts = refl
+chain unknown full many drafts = grind (arith, nat_tests)
 
 module _ (labels : List Name) (before : List (List ℕ)) (line : List ℕ) (old : Drafts) (stands : Stands labels before old) where
   abbrev here : ℕ
@@ -335,8 +332,7 @@ module _ (labels : List Name) (before : List (List ℕ)) (line : List ℕ) (old 
           ∙ by (length (all_drafts old)) (length (all_drafts new)) (begins_block label says old) stands.few ((effect here says).count label old)
         where
           by : (n m : ℕ) (begins : Bool) → n ≤ 64 → m ≡ n + cond begins 1 0 → ltb 64 m ≡ (begins && leb 64 n)
-          by n m true few e = grind (arith, nat_tests)
-          by n m false few e = grind (arith, nat_tests)
+          by n m begins few e = grind (arith, nat_tests)
 
       misses_is : (made : Says) → misses_label labels (Ok (label, made)) ≡ is_unknown labels made
       misses_is Nothing = refl
@@ -393,13 +389,10 @@ module _ (labels : List Name) (before : List (List ℕ)) (line : List ℕ) (old 
       })
     where
       within : (begins : Bool) (n m : ℕ) → n ≤ 64 → (begins && leb 64 n) ≡ false → m ≡ n + cond begins 1 0 → m ≤ 64
-      within true n m few room grown = let less : n < 64 = leb-false 64 n room in omega arith
-      within false n m few room grown = omega arith
+      within begins n m few room grown = grind (arith, nat_tests)
 
       clear_by : (full many : Bool) → cond full (Some TooManyInstructions) (cond many (Some TooManyBlocks) None) ≡ None → (full ≡ false) × (many ≡ false)
-      clear_by true many e = absurd cc
-      clear_by false true e = absurd cc
-      clear_by false false e = (refl, refl)
+      clear_by full many e = grind (arith, nat_tests)
 
 -- ---- all lines
 
