@@ -6,6 +6,7 @@ use Rattle.std.specs.List.{All, IsDistinct, flat_map, list_all, position_or_len}
 use Rattle.std.specs.Str.{bytes_eq}
 use Rattle.std.specs.List.Sorted.{IsStrictlyIncreasing}
 use Rattle.std.specs.Option.{option_to_list}
+use Rattle.std.proofs.lemmas.Bool.Decides.{nat_tests}
 use Rattle.std.proofs.lemmas.Bool.{and_from, lt-ltb, not-false}
 use Rattle.std.proofs.lemmas.List.{length-map, map-append}
 use Rattle.std.proofs.lemmas.List.Concat.{flat_map-append}
@@ -85,20 +86,12 @@ module _ (label : Name) where
   labelled [] has = absurd cc
   labelled (block ∷ blocks) has = go block.label has (labelled blocks)
     where
-      later : (b : Bool) (first : Option Name)
-          → (b || is_among label (flat_map (λ block. option_to_list block.label) blocks)) ≡ true → (b ≡ true → is_some first ≡ true)
-          → (is_among label (flat_map (λ block. option_to_list block.label) blocks) ≡ true
-          → is_labelled (slice_get (labels_at blocks) (found_at blocks)) ≡ true)
-          → is_labelled (slice_get (first ∷ labels_at blocks) (cond (not b) (1 + found_at blocks) 0)) ≡ true
-      later true first has named others = named refl
-      later false first has named others = let next : 1 + found_at blocks ≡ suc (found_at blocks) = omega arith in rw next (others has)
-
       go : (first : Option Name) → is_among label (option_to_list first ++ flat_map (λ block. option_to_list block.label) blocks) ≡ true
           → (is_among label (flat_map (λ block. option_to_list block.label) blocks) ≡ true
           → is_labelled (slice_get (labels_at blocks) (found_at blocks)) ≡ true)
           → is_labelled (slice_get (first ∷ labels_at blocks) (cond (not (label_is label first)) (1 + found_at blocks) 0)) ≡ true
-      go None has others = later false None has (λ is. absurd cc) others
-      go (Some other) has others = later (bytes_eq other label) (Some other) has (λ is. refl) others
+      go None has others = grind (arith, nat_tests, others)
+      go (Some other) has others = grind (arith, nat_tests, others)
 
   within : (blocks : List BlockParts) → is_among label (flat_map (λ block. option_to_list block.label) blocks) ≡ true → found_at blocks < length blocks
   within blocks has = go (slice_get (labels_at blocks) (found_at blocks)) refl (labelled blocks has)
@@ -333,8 +326,7 @@ module _ (labels : List (Option Name)) where
 
     all_stand : (items : List Item) → AllFit names items → list_all item_stands (map (settled aim) items) ≡ true
     all_stand [] fit = refl
-    all_stand (item ∷ items) fit = and_from (item_stands (settled aim item)) (list_all item_stands (map (settled aim) items))
-        (fit_stands item fit.0) (all_stand items fit.1)
+    all_stand (item ∷ items) fit = rw (fit_stands item fit.0) (all_stand items fit.1)
 
   block_stands : (label : Option Name) (insns : List Numbered)
       → list_all item_stands (label_items label ++ map (λ (entry : Numbered). Runs entry None) insns) ≡ list_all stands insns

@@ -46,22 +46,12 @@ before_label : (current : Option Draft) (label : Name) (drafts : List Draft)
     → glued current (glue (new_draft (Some label)) drafts) ≡ option_to_list current ++ glue (new_draft (Some label)) drafts
 before_label None label drafts = refl
 before_label (Some piece) label [] = refl
-before_label (Some piece) label (draft ∷ drafts) = go (is_some draft.label)
-  where
-    go : (cuts : Bool) → glue piece (cond cuts (new_draft (Some label) ∷ draft ∷ drafts) (joined (new_draft (Some label)) draft ∷ drafts))
-        ≡ piece ∷ cond cuts (new_draft (Some label) ∷ draft ∷ drafts) (joined (new_draft (Some label)) draft ∷ drafts)
-    go true = refl
-    go false = refl
+before_label (Some piece) label (draft ∷ drafts) = grind (arith, nat_tests)
 
 -- one piece behind another
 glue_twice : (piece next : Draft) (drafts : List Draft) → next.label ≡ None → glue piece (glue next drafts) ≡ glue (joined piece next) drafts
 glue_twice piece next [] none = rw none refl
-glue_twice piece next (draft ∷ drafts) none = go (is_some draft.label)
-  where
-    go : (cuts : Bool) → glue piece (cond cuts (next ∷ draft ∷ drafts) (joined next draft ∷ drafts))
-        ≡ cond cuts (joined piece next ∷ draft ∷ drafts) (joined (joined piece next) draft ∷ drafts)
-    go true = rw none refl
-    go false = rw (none, append_assoc) refl
+glue_twice piece next (draft ∷ drafts) none = grind (arith, nat_tests, append_assoc piece.insns next.insns draft.insns)
 
 -- ---- what a line does to the blocks
 
@@ -79,12 +69,8 @@ label_own : (label : Option Name) (drafts : Drafts)
 label_own None drafts = sym (append-nil (own_labels (all_drafts drafts)))
 label_own (Some label) drafts = flat_map-append (λ (draft : Draft). option_to_list draft.label) (all_drafts drafts) (new_draft (Some label) ∷ [])
 
-or_false : (b : Bool) → (b || false) ≡ b
-or_false true = refl
-or_false false = refl
-
 small_end : (done : List Draft) (draft : Draft) → list_any is_overfull done ≡ false → list_any is_overfull (done ++ draft ∷ []) ≡ is_overfull draft
-small_end done draft small = list_any-append is_overfull done (draft ∷ []) ∙ rw small (or_false (is_overfull draft))
+small_end done draft small = grind (arith, nat_tests, list_any-append is_overfull done (draft ∷ []))
 
 -- what is said makes these items, and does this to the blocks
 record Effect (is : Bool) (made : List Item) (step : Drafts → Drafts) : Type 0 where
@@ -139,9 +125,8 @@ module _ (number : ℕ) (parts : Parts) (target : Option Name) where
       → list_any is_overfull (all_drafts (run (with_label label old))) ≡ (is_none label && is_full old.current)
   run_over (Some label) old small = rw closed_all (small_end (all_drafts old) (with_insn parts number target (new_draft (Some label))) small)
   run_over None old small =
-      let before = or_parts (list_any is_overfull old.done) (list_any is_overfull (option_to_list old.current))
-      (sym (list_any-append is_overfull old.done (option_to_list old.current)) ∙ small) in
-      rw closed_all (small_end old.done (with_insn parts number target (opened old.current)) before.0 ∙ run_full old.current)
+      rw closed_all (grind (arith, nat_tests, run_full old.current, list_any-append is_overfull old.done (option_to_list old.current),
+      small_end old.done (with_insn parts number target (opened old.current))))
 
   run_count : (done : List Draft) (current : Option Draft) (draft : Draft)
       → length (done ++ draft ∷ []) ≡ length (done ++ option_to_list current) + cond (is_none current) 1 0
@@ -302,7 +287,9 @@ module _ (labels : List Name) (before : List (List ℕ)) (line : List ℕ) (old 
   taken_is : (label : Option Name) → list_any (λ (l : Name). is_among l (labels_of before)) (option_to_list label) ≡ is_taken label old
   unfolding is_taken
   taken_is None = refl
-  taken_is (Some name) = or_false (is_among name (labels_of before)) ∙ sym (has_own name (all_drafts old) ∙ ap (is_among name) stands.own)
+  taken_is (Some name) =
+      let own : has_label name (all_drafts old) ≡ is_among name (labels_of before) = has_own name (all_drafts old) ∙ ap (is_among name) stands.own in
+      grind (arith, nat_tests)
 
   module _ (label : Option Name) (words : List (List ℕ)) (head : head_of line ≡ Ok (label, words)) where
     repeats_is : repeats_label (labels_of before) line ≡ is_taken label old
