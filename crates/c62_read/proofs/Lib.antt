@@ -7,10 +7,8 @@ pub mod LineLemmas
 pub mod BlockLemmas
 pub mod MissedLemmas
 pub mod ReadingLemmas
-pub mod AddedLemmas
 pub mod SoundLemmas
 pub mod LabelFields
-pub mod TargetLemmas
 pub mod WalkLemmas
 pub mod BytesLemmas
 pub mod SpelledTokens
@@ -29,8 +27,6 @@ pub mod AlikeLaws
 pub mod CommentLaws
 pub mod SaysLemmas
 pub mod CutLemmas
-pub mod FaultLemmas
-pub mod ProgramLemmas
 pub mod ProgramLaws
 pub mod CaseBytes
 pub mod CaseLaws

@@ -1,9 +1,10 @@
 -- Branches to labels that are looked for later.
-use Rattle.std.proofs.Common.{◌≡◌, ℕ, Bool, true, false, not, cond, List, [], ◌∷◌, ◌++◌, Result, Err, refl, sym, ap, ◌∙◌}
+use Rattle.std.proofs.Common.{◌≡◌, ℕ, Bool, true, false, not, cond, List, [], ◌∷◌, ◌++◌, Result, Err, refl, sym, ap, ◌∙◌, arith}
 use Rattle.std.specs.Prelude.{map, option_map}
 use Rattle.std.specs.List.{filter, list_any, slice_get}
 use Rattle.std.specs.Str.{bytes_eq}
 use Rattle.std.proofs.lemmas.Bool.{or_parts}
+use Rattle.std.proofs.lemmas.Bool.Decides.{nat_tests}
 use Rattle.std.proofs.lemmas.List.Elements.{filter-append}
 use Rattle.std.proofs.lemmas.List.Folds.{list_any-append}
 use Rattle.c62_read.specs.declared.fault.Cause.TheVariants.{UnknownTarget}
@@ -15,12 +16,9 @@ use Rattle.c62_read.specs.Walk.{Asked, asked_in, asked_of, first_line, is_unknow
 -- what more labels leave of them
 pub missed_more : (labels others : List Name) (asked : List Asked) → missed (labels ++ others) asked ≡ missed others (missed labels asked)
 missed_more labels others [] = refl
-missed_more labels others (branch ∷ asked) = go (is_among branch.target labels) refl (missed_more labels others asked)
-  where
-    go : (here : Bool) → is_among branch.target labels ≡ here → missed (labels ++ others) asked ≡ missed others (missed labels asked)
-        → missed (labels ++ others) (branch ∷ asked) ≡ missed others (missed labels (branch ∷ asked))
-    go true e later = rw (list_any-append (λ (other : Name). bytes_eq other branch.target) labels others, e, later) refl
-    go false e later = rw (list_any-append (λ (other : Name). bytes_eq other branch.target) labels others, e, later) refl
+missed_more labels others (branch ∷ asked) =
+    rw (list_any-append (λ (other : Name). bytes_eq other branch.target) labels others)
+    (grind (arith, nat_tests, missed_more labels others asked))
 
 -- no label leaves all
 pub missed_all : (asked : List Asked) → missed [] asked ≡ asked
@@ -35,16 +33,8 @@ first_both (branch ∷ some) others answer = refl
 
 one_missed : {T : Type 0} (labels : List Name) (number : ℕ) (says : Says) (answer : Result T Refusal)
     → unless_missed (first_line (missed labels (asked_in number says))) answer ≡ cond (is_unknown labels says) (Err (number, UnknownTarget)) answer
-one_missed labels number Nothing answer = refl
-one_missed labels number (Pause n) answer = refl
-one_missed labels number (Does parts) answer = refl
-one_missed labels number (Jumps parts target) answer = go (is_among target labels)
-  where
-    go : (known : Bool)
-        → unless_missed (first_line (cond (not known) (record { line = number; target = target } ∷ []) [])) answer
-        ≡ cond (not known) (Err (number, UnknownTarget)) answer
-    go true = refl
-    go false = refl
+one_missed labels number (Jumps parts target) answer = grind (arith, nat_tests)
+one_missed labels number says answer = refl
 
 -- a line's branch behind those of earlier lines
 pub missed_then : {T : Type 0} (labels : List Name) (asked : List Asked) (number : ℕ) (says : Says) (answer : Result T Refusal)
@@ -61,20 +51,12 @@ missed_then labels asked number says answer =
 pub kept_are : (labels : List Name) (jumps : List Jump)
     → map asked_of (filter (λ jump. not (is_among jump.target labels)) jumps) ≡ missed labels (map asked_of jumps)
 kept_are labels [] = refl
-kept_are labels (jump ∷ jumps) = go (is_among jump.target labels) refl (kept_are labels jumps)
-  where
-    go : (known : Bool) → is_among jump.target labels ≡ known
-        → map asked_of (filter (λ jump. not (is_among jump.target labels)) jumps) ≡ missed labels (map asked_of jumps)
-        → map asked_of (filter (λ jump. not (is_among jump.target labels)) (jump ∷ jumps)) ≡ missed labels (map asked_of (jump ∷ jumps))
-    go true e others = rw (e, others) refl
-    go false e others = rw (e, others) refl
+kept_are labels (jump ∷ jumps) = grind (arith, nat_tests, kept_are labels jumps)
 
 pub none_known : (labels : List Name) (jumps : List Jump) → list_any (λ jump. is_among jump.target labels) jumps ≡ false
     → map asked_of jumps ≡ missed labels (map asked_of jumps)
 none_known labels [] none = refl
-none_known labels (jump ∷ jumps) none =
-    let parts = or_parts (is_among jump.target labels) (list_any (λ (j : Jump). is_among j.target labels) jumps) none in
-    rw (parts.0, ← none_known labels jumps parts.1) refl
+none_known labels (jump ∷ jumps) none = grind (arith, nat_tests, none_known labels jumps)
 
 pub first_one : (jumps : List Jump) → first_line (map asked_of jumps) ≡ option_map (λ jump. jump.line) (slice_get jumps 0)
 first_one [] = refl

@@ -1,87 +1,200 @@
--- Laws of programs: their instructions, their blocks and their labels are those of their lines.
-use Rattle.std.proofs.Common.{◌≡◌, ℕ, zero, suc, ◌+◌, ◌<◌, ◌≤◌, Bool, true, ◌&&◌, List, [], ◌∷◌, ◌++◌, length, get_or, Option, Some, None, Result, Ok}
+-- Laws of programs: their instructions, their blocks, their labels and their targets are those of their lines.
+use Rattle.std.proofs.Common.{◌≡◌, ℕ, zero, suc, ◌+◌, ◌<◌, ◌≤◌, Bool, true, false, cond, not, ltb, ◌||◌, List, [], ◌∷◌, ◌++◌, length, get_or, Option, Some, None, Result, Ok}
 use Rattle.std.proofs.Common.{Err, refl, sym, ap, subst, ◌∙◌, arith, inl, inr}
-use Rattle.std.specs.Prelude.{map, position, slice_get, Contains}
-use Rattle.std.specs.List.{IsDistinct, flat_map, list_all, position_or_len}
+use Rattle.std.specs.Prelude.{map, position, slice_get, Contains, is_some}
+use Rattle.std.specs.List.{All, IsDistinct, flat_map, list_all, position_or_len}
 use Rattle.std.specs.Str.{bytes_eq}
 use Rattle.std.specs.List.Sorted.{IsStrictlyIncreasing}
 use Rattle.std.specs.Option.{option_to_list}
-use Rattle.std.proofs.lemmas.Bool.{and_from, and_parts, cases_Bool, lt-ltb}
+use Rattle.std.proofs.lemmas.Bool.Decides.{nat_tests}
+use Rattle.std.proofs.lemmas.Bool.{and_from, lt-ltb, not-false}
 use Rattle.std.proofs.lemmas.List.{length-map, map-append}
-use Rattle.std.proofs.lemmas.List.Elements.{Contains-append_cases}
-use Rattle.c62_insn.specs.declared.operands.Op.{Op}
+use Rattle.std.proofs.lemmas.List.Concat.{flat_map-append}
+use Rattle.std.proofs.lemmas.List.Elements.{All-contains, All-head, All-tail, Contains-append_cases}
+use Rattle.std.proofs.lemmas.List.Folds.{flat_map-map, list_all-append, list_all-map}
+use Rattle.std.proofs.lemmas.Option.{slice_get_within}
+use Rattle.std.proofs.lemmas.Simd.{map-map}
+use Rattle.c62_insn.specs.declared.operands.Operands.{Operands}
 use Rattle.c62_insn.specs.declared.operands.Operands.TheVariants.{Block}
 use Rattle.c62_read.specs.declared.fault.Cause.{Cause}
+use Rattle.c62_read.specs.declared.fault.Cause.TheVariants.{TextTooLong}
 use Rattle.c62_read.specs.Text.{lines_of}
-use Rattle.c62_read.specs.Block.{branch_last}
-use Rattle.c62_read.specs.Line.{Says, Nothing, Pause, Does, Jumps, line_of}
-use Rattle.c62_read.specs.Program.{Begins, BlockParts, Draft, Item, Name, Numbered, Runs, aimed, block_in, blocks_from, is_among, items_from}
-use Rattle.c62_read.specs.Program.{label_is, label_items, labels_of, line_items, says_items, target_number}
+use Rattle.c62_read.specs.Block.{Serial, is_labelled, labels_in, target_stands, targets_stand}
+use Rattle.c62_read.specs.Line.{Says, Nothing, Does, Jumps, line_of}
+use Rattle.c62_read.specs.Program.{Begins, BlockParts, Draft, Item, Name, Numbered, Refusal, Runs, aimed, and_then, block_in, block_parts, blocks_from}
+use Rattle.c62_read.specs.Program.{drafts_in, first_fault, is_among, items_from, label_is, label_items, labels_of, line_items, says_items, target_number}
+use Rattle.c62_read.specs.Program.{program_in, unless_refused}
 use Rattle.c62_read.specs.Laws.{HasCutBlocks, HasItsLabels, HasRisingLines, HasTargets, IsItsLines, ReadsAsItsLine, begin_well, block_named}
-use Rattle.c62_read.specs.Laws.{ends_in_branch, instruction_at, instructions_in, instructions_of, items_of, may_begin, settled}
-use Rattle.c62_read.specs.Walk.{own_labels}
-use Rattle.c62_read.proofs.CutLemmas.{cut_begins, cut_ends, drafts_begin, ends_last}
-use Rattle.c62_read.proofs.FaultLemmas.{distinct_labels, known_target}
-use Rattle.c62_read.proofs.ProgramLemmas.{IsProgram, its_items, position_block, program_is_cut}
-use Rattle.c62_read.proofs.WalkLemmas.{has_label, has_own, is_read}
+use Rattle.c62_read.specs.Laws.{ends_in_branch, instruction_at, instructions_in, instructions_of, items_of, settled}
+use Rattle.c62_read.specs.Walk.{Drafts, add_lines, no_drafts, own_labels}
+use Rattle.c62_read.proofs.CutLemmas.{AllFit, Fits, aim_at, all_fit, cut_begins, cut_ends, cut_items, draft_items, drafts_begin}
+use Rattle.c62_read.proofs.SaysLemmas.{has_no_block}
+use Rattle.c62_read.proofs.WalkLemmas.{OkFits, Walked, blocks_are, walk_text}
+
+-- what a text says that has no fault: these blocks, made of the cut of its lines
+pub record IsProgram (text : List ℕ) (blocks : List BlockParts) : Type 0 where
+  pub is : blocks ≡ map (block_in (blocks_from (lines_of text))) (blocks_from (lines_of text))
+  pub own : own_labels (blocks_from (lines_of text)) ≡ labels_of (lines_of text)
+  pub fits : All (λ line. OkFits (labels_of (lines_of text)) (line_of line)) (lines_of text)
+  pub distinct : IsDistinct bytes_eq (labels_of (lines_of text))
+
+pub program_is_cut : (text : List ℕ) (blocks : List BlockParts) → program_in text ≡ Ok blocks → IsProgram text blocks
+unfolding program_in drafts_in
+program_is_cut text blocks e = go (ltb 1048576 (length text)) (add_lines labels 1 lines no_drafts) (walk_text lines) e
+  where
+    lines : List (List ℕ)
+    lines = lines_of text
+
+    labels : List Name
+    labels = labels_of lines
+
+    go : (long : Bool) (read : Result Drafts Refusal) → Walked labels [] lines read
+        → and_then (cond long (Err (0, TextTooLong)) (unless_refused (first_fault labels [] lines) (blocks_from lines)))
+        (λ drafts. Ok (map (block_in drafts) drafts)) ≡ Ok blocks → IsProgram text blocks
+    go true read walked is = absurd cc
+    go false (Err refusal) walked is = let no = rw walked at is in absurd cc
+    go false (Ok drafts) walked is =
+        let same : map (block_in (blocks_from lines)) (blocks_from lines) ≡ blocks = let said = rw walked.0 at is in cc in
+        record {
+          is = sym same;
+          own = ap own_labels (blocks_are labels lines drafts walked.1) ∙ walked.1.own;
+          fits = walked.1.fits;
+          distinct = walked.1.distinct;
+        }
+
+-- ---- labels
+
+own_blocks : (all drafts : List Draft) → flat_map (λ (block : BlockParts). option_to_list block.label) (map (block_in all) drafts) ≡ own_labels drafts
+own_blocks all drafts = flat_map-map (λ (block : BlockParts). option_to_list block.label) (block_in all) drafts
+
+pub has_its_labels : (text : List ℕ) → HasItsLabels text
+has_its_labels text blocks e =
+    let program = program_is_cut text blocks e in
+    let all : List Draft = blocks_from (lines_of text) in
+    (ap (flat_map (λ (block : BlockParts). option_to_list block.label)) program.is ∙ own_blocks all all ∙ program.own, program.distinct)
+
+-- the first block with a label
+module _ (label : Name) where
+  abbrev found_at : List BlockParts → ℕ
+  found_at blocks = position_or_len (λ block. label_is label block.label) blocks
+
+  abbrev labels_at : List BlockParts → List (Option Name)
+  labels_at blocks = map (λ block. block.label) blocks
+
+  labelled : (blocks : List BlockParts) → is_among label (flat_map (λ block. option_to_list block.label) blocks) ≡ true
+      → is_labelled (slice_get (labels_at blocks) (found_at blocks)) ≡ true
+  labelled [] has = absurd cc
+  labelled (block ∷ blocks) has = go block.label has (labelled blocks)
+    where
+      go : (first : Option Name) → is_among label (option_to_list first ++ flat_map (λ block. option_to_list block.label) blocks) ≡ true
+          → (is_among label (flat_map (λ block. option_to_list block.label) blocks) ≡ true
+          → is_labelled (slice_get (labels_at blocks) (found_at blocks)) ≡ true)
+          → is_labelled (slice_get (first ∷ labels_at blocks) (cond (not (label_is label first)) (1 + found_at blocks) 0)) ≡ true
+      go None has others = grind (arith, nat_tests, others)
+      go (Some other) has others = grind (arith, nat_tests, others)
+
+  within : (blocks : List BlockParts) → is_among label (flat_map (λ block. option_to_list block.label) blocks) ≡ true → found_at blocks < length blocks
+  within blocks has = go (slice_get (labels_at blocks) (found_at blocks)) refl (labelled blocks has)
+    where
+      go : (at : Option (Option Name)) → slice_get (labels_at blocks) (found_at blocks) ≡ at → is_labelled at ≡ true → found_at blocks < length blocks
+      go None is named = absurd cc
+      go (Some found) is named = rw length-map at (slice_get_within (labels_at blocks) (found_at blocks) found is)
+
+  found : (blocks : List BlockParts) → is_among label (flat_map (λ block. option_to_list block.label) blocks) ≡ true
+      → position (λ block. label_is label block.label) blocks ≡ Some (found_at blocks)
+  found blocks has = rw (lt-ltb (found_at blocks) (length blocks) (within blocks has)) refl
+
+pub has_targets : (text : List ℕ) → HasTargets text
+has_targets text blocks line label parts target e among jumps =
+    let fit = All-contains (λ (l : List ℕ). OkFits (labels_of (lines_of text)) (line_of l)) (lines_of text) line (program_is_cut text blocks e).fits among in
+    let known = not-false (is_among target (labels_of (lines_of text))) (rw jumps at fit).1 in (
+      position_or_len (λ (block : BlockParts). label_is target block.label) blocks,
+      found target blocks (ap (is_among target) (has_its_labels text blocks e).0 ∙ known),
+    )
+
+-- ---- the blocks one after the other are the labels and instructions of the lines, with their targets' numbers
+
+position_block : (label : Name) (all drafts : List Draft)
+    → position_or_len (λ block. label_is label block.label) (map (block_in all) drafts) ≡ position_or_len (λ draft. label_is label draft.label) drafts
+position_block label all [] = refl
+position_block label all (draft ∷ drafts) = rw (position_block label all drafts) refl
+
+target_is : (all : List Draft) (target : Option Name) → target_number all target ≡ aim_at (block_named (map (block_in all) all)) target
+target_is all None = refl
+target_is all (Some label) = rw (position_block label all all, length-map all (block_in all)) refl
+
+block_items : (all drafts : List Draft)
+    → flat_map items_of (map (block_in all) drafts) ≡ flat_map (draft_items (block_named (map (block_in all) all))) drafts
+block_items all [] = refl
+block_items all (draft ∷ drafts) = rw (target_is all draft.target, block_items all drafts) refl
+
+items_fit : (labels : List Name) (number : ℕ) (lines : List (List ℕ)) → All (λ line. OkFits labels (line_of line)) lines
+    → AllFit labels (items_from number lines)
+items_fit labels number [] fits = tt
+items_fit labels number (line ∷ lines) fits =
+    all_fit labels (line_items number (line_of line)) (items_from (number + 1) lines)
+    (go (line_of line) (All-head (λ (l : List ℕ). OkFits labels (line_of l)) line lines fits))
+    (items_fit labels (number + 1) lines (All-tail (λ (l : List ℕ). OkFits labels (line_of l)) line lines fits))
+  where
+    said : (label : Option Name) (says : Says) → OkFits labels (Ok (label, says)) → AllFit labels (says_items number says)
+    said label (Does parts) fit = (fit.0, tt)
+    said label (Jumps parts target) fit = ((fit.0.0, fit.0.1, not-false (is_among target labels) fit.1), tt)
+    said label says fit = tt
+
+    go : (found : Result (Option Name × Says) Cause) → OkFits labels found → AllFit labels (line_items number found)
+    go (Err cause) fit = tt
+    go (Ok (None, says)) fit = said None says fit
+    go (Ok (Some label, says)) fit = (tt, said (Some label) says fit)
+
+program_items : (text : List ℕ) (blocks : List BlockParts) → IsProgram text blocks
+    → flat_map items_of blocks ≡ map (settled (block_named blocks)) (items_from 1 (lines_of text))
+program_items text blocks program =
+    let all : List Draft = blocks_from (lines_of text) in
+    subst (λ (bs : List BlockParts). flat_map items_of bs ≡ map (settled (block_named bs)) (items_from 1 (lines_of text))) (sym program.is)
+    (block_items all all ∙ cut_items (block_named (map (block_in all) all)) (labels_of (lines_of text)) (items_from 1 (lines_of text))
+    (items_fit (labels_of (lines_of text)) 1 (lines_of text) program.fits))
 
 -- ---- instructions
 
 -- the instructions among items
-abbrev runs_in : List Item → List Numbered
-runs_in [] = []
-runs_in (Begins label ∷ items) = runs_in items
-runs_in (Runs entry target ∷ items) = entry ∷ runs_in items
+abbrev run_in : Item → List Numbered
+run_in (Begins label) = []
+run_in (Runs entry target) = entry ∷ []
 
-runs_append : (items others : List Item) → runs_in (items ++ others) ≡ runs_in items ++ runs_in others
-runs_append [] others = refl
-runs_append (Begins label ∷ items) others = runs_append items others
-runs_append (Runs entry target ∷ items) others = ap (λ (entries : List Numbered). entry ∷ entries) (runs_append items others)
-
-runs_running : (entries : List Numbered) → runs_in (map (λ (entry : Numbered). Runs entry None) entries) ≡ entries
+runs_running : (entries : List Numbered) → flat_map run_in (map (λ (entry : Numbered). Runs entry None) entries) ≡ entries
 runs_running [] = refl
-runs_running (entry ∷ entries) = ap (λ (others : List Numbered). entry ∷ others) (runs_running entries)
+runs_running (entry ∷ entries) = rw (runs_running entries) refl
 
-runs_block : (label : Option Name) (insns : List Numbered) → runs_in (label_items label ++ map (λ (entry : Numbered). Runs entry None) insns) ≡ insns
+runs_block : (label : Option Name) (insns : List Numbered)
+    → flat_map run_in (label_items label ++ map (λ (entry : Numbered). Runs entry None) insns) ≡ insns
 runs_block None insns = runs_running insns
 runs_block (Some label) insns = runs_running insns
 
-runs_blocks : (blocks : List BlockParts) → runs_in (flat_map items_of blocks) ≡ instructions_of blocks
+runs_blocks : (blocks : List BlockParts) → flat_map run_in (flat_map items_of blocks) ≡ instructions_of blocks
 runs_blocks [] = refl
 runs_blocks (block ∷ blocks) =
-    runs_append (items_of block) (flat_map items_of blocks) ∙ rw (runs_block block.label block.insns, runs_blocks blocks) refl
+    flat_map-append run_in (items_of block) (flat_map items_of blocks) ∙ rw (runs_block block.label block.insns, runs_blocks blocks) refl
 
 module _ (aim : Name → ℕ) where
-  runs_said : (number : ℕ) (label : Option Name) (says : Says)
-      → runs_in (map (settled aim) (says_items number says)) ≡ instruction_at aim number (Ok (label, says))
-  runs_said number label Nothing = refl
-  runs_said number label (Pause n) = refl
-  runs_said number label (Does parts) = refl
-  runs_said number label (Jumps parts target) = refl
-
   runs_line : (number : ℕ) (said : Result (Option Name × Says) Cause)
-      → runs_in (map (settled aim) (line_items number said)) ≡ instruction_at aim number said
-  runs_line number (Err cause) = refl
-  runs_line number (Ok (None, says)) = runs_said number None says
-  runs_line number (Ok (Some label, says)) = runs_said number (Some label) says
+      → flat_map run_in (map (settled aim) (line_items number said)) ≡ instruction_at aim number said
+  runs_line number (Ok (None, Nothing)) = refl
+  runs_line number (Ok (Some label, Nothing)) = refl
+  runs_line number said = refl
 
-  runs_lines : (number : ℕ) (lines : List (List ℕ)) → runs_in (map (settled aim) (items_from number lines)) ≡ instructions_in aim number lines
+  runs_lines : (number : ℕ) (lines : List (List ℕ)) → flat_map run_in (map (settled aim) (items_from number lines)) ≡ instructions_in aim number lines
   runs_lines number [] = refl
   runs_lines number (line ∷ lines) =
-      ap runs_in (map-append (settled aim) (line_items number (line_of line)) (items_from (number + 1) lines))
-      ∙ runs_append (map (settled aim) (line_items number (line_of line))) (map (settled aim) (items_from (number + 1) lines))
-      ∙ rw (runs_line number (line_of line), runs_lines (number + 1) lines) refl
-
--- the labels and instructions of a program
-program_items : (text : List ℕ) (blocks : List BlockParts) → IsProgram text blocks
-    → flat_map items_of blocks ≡ map (settled (block_named blocks)) (items_from 1 (lines_of text))
-program_items text blocks program =
-    subst (λ (bs : List BlockParts). flat_map items_of bs ≡ map (settled (block_named bs)) (items_from 1 (lines_of text))) (sym program.is)
-    (its_items (lines_of text) program.none)
+      rw (
+        map-append (settled aim) (line_items number (line_of line)) (items_from (number + 1) lines),
+        flat_map-append run_in (map (settled aim) (line_items number (line_of line))) (map (settled aim) (items_from (number + 1) lines)),
+        runs_line number (line_of line),
+        runs_lines (number + 1) lines,
+      ) refl
 
 pub is_its_lines : (text : List ℕ) → IsItsLines text
 is_its_lines text blocks e =
-    sym (runs_blocks blocks) ∙ ap runs_in (program_items text blocks (program_is_cut text blocks e))
+    sym (runs_blocks blocks) ∙ ap (flat_map run_in) (program_items text blocks (program_is_cut text blocks e))
     ∙ runs_lines (block_named blocks) 1 (lines_of text)
 
 -- ---- the lines rise
@@ -108,11 +221,9 @@ numbers entries = map (λ (entry : Numbered). entry.line) entries
 
 first_rises : (aim : Name → ℕ) (n : ℕ) (said : Result (Option Name × Says) Cause) (others : List Numbered) → RisesFrom (n + 1) (numbers others)
     → RisesFrom n (numbers (instruction_at aim n said ++ others))
-first_rises aim n (Err cause) others rises = rises_before n (n + 1) (numbers others) (omega arith) rises
-first_rises aim n (Ok (label, Nothing)) others rises = rises_before n (n + 1) (numbers others) (omega arith) rises
-first_rises aim n (Ok (label, Pause cycles)) others rises = rises_before n (n + 1) (numbers others) (omega arith) rises
 first_rises aim n (Ok (label, Does parts)) others rises = (omega arith, rises)
 first_rises aim n (Ok (label, Jumps parts target)) others rises = (omega arith, rises)
+first_rises aim n said others rises = rises_before n (n + 1) (numbers others) (omega arith) rises
 
 all_rise : (aim : Name → ℕ) (n : ℕ) (lines : List (List ℕ)) → RisesFrom n (numbers (instructions_in aim n lines))
 all_rise aim n [] = tt
@@ -145,12 +256,10 @@ only_is made entry among = let same = only_one made entry among in (ap (λ (e : 
 
 said_here : (aim : Name → ℕ) (n : ℕ) (said : Result (Option Name × Says) Cause) (entry : Numbered) → Contains (instruction_at aim n said) entry
     → IsOnly aim n said entry
-said_here aim n (Err cause) entry among = absurd (none_in entry among)
-said_here aim n (Ok (label, Nothing)) entry among = absurd (none_in entry among)
-said_here aim n (Ok (label, Pause cycles)) entry among = absurd (none_in entry among)
 said_here aim n (Ok (label, Does parts)) entry among = only_is (record { parts = parts; line = n }) entry among
 said_here aim n (Ok (label, Jumps parts target)) entry among =
     only_is (record { parts = record parts { operands = Block (aim target) }; line = n }) entry among
+said_here aim n said entry among = absurd (none_in entry among)
 
 read_at : (aim : Name → ℕ) (n : ℕ) (lines : List (List ℕ)) (entry : Numbered) → Contains (instructions_in aim n lines) entry
     → ReadsAt aim n lines entry
@@ -170,36 +279,7 @@ reads_as_its_line text blocks entry e among =
     read_at (block_named blocks) 1 (lines_of text) entry
     (subst (λ (entries : List Numbered). Contains entries entry) (is_its_lines text blocks e) among)
 
--- ---- the number of a label's block
-
-label_within : (target : Name) (drafts : List Draft) → has_label target drafts ≡ true
-    → position_or_len (λ draft. label_is target draft.label) drafts < length drafts
-label_within target [] has = absurd cc
-label_within target (draft ∷ drafts) has =
-    elim (cases_Bool (label_is target draft.label)) [
-      | inl here ↦ rw here (omega arith)
-      | inr other ↦
-          let later : has_label target drafts ≡ true = rw other at has in
-          let within = label_within target drafts later in
-          rw other (omega arith)
-    ]
-
-found : (target : Name) (drafts : List Draft) → has_label target drafts ≡ true
-    → (number : ℕ) × (position (λ draft. label_is target draft.label) drafts ≡ Some number)
-found target drafts has =
-    let index = position_or_len (λ (draft : Draft). label_is target draft.label) drafts in
-    (index, rw (lt-ltb index (length drafts) (label_within target drafts has)) refl)
-
-pub has_targets : (text : List ℕ) → HasTargets text
-has_targets text blocks line label parts target e among jumps =
-    let program = program_is_cut text blocks e in
-    let lines = lines_of text in
-    let all : List Draft = blocks_from lines in
-    let known = known_target (labels_of lines) lines [] line label parts target program.none among jumps in
-    let there = found target all (has_own target all ∙ ap (is_among target) (is_read lines program.none).labels ∙ known) in
-    (there.0, ap (position (λ (block : BlockParts). label_is target block.label)) program.is ∙ position_block target all all ∙ there.1)
-
--- ---- the same of blocks
+-- ---- where blocks begin and end
 
 aimed_ends : (number : ℕ) (entries : List Numbered) → ends_in_branch (map (aimed number) entries) ≡ ends_in_branch entries
 aimed_ends number [] = refl
@@ -210,49 +290,68 @@ blocks_begin : (all drafts : List Draft) (behind : Bool) → begin_well behind (
 blocks_begin all [] behind = refl
 blocks_begin all (draft ∷ drafts) behind =
     let number = target_number all draft.target in
-    rw (length-map draft.insns (aimed number), aimed_ends number draft.insns)
-    (ap (λ (rest : Bool). may_begin behind draft.label draft.insns && rest) (blocks_begin all drafts (ends_in_branch draft.insns)))
-
-aimed_ops : (number : ℕ) (entries : List Numbered)
-    → map (λ (e : Numbered). e.parts.op) (map (aimed number) entries) ≡ map (λ (e : Numbered). e.parts.op) entries
-aimed_ops number [] = refl
-aimed_ops number (entry ∷ entries) = ap (λ (ops : List Op). entry.parts.op ∷ ops) (aimed_ops number entries)
-
-blocks_end : (all drafts : List Draft) → list_all ends_last drafts ≡ true
-    → list_all (λ (block : BlockParts). branch_last (map (λ (e : Numbered). e.parts.op) block.insns)) (map (block_in all) drafts) ≡ true
-blocks_end all [] whole = refl
-blocks_end all (draft ∷ drafts) whole =
-    let parts = and_parts (ends_last draft) (list_all ends_last drafts) whole in
-    and_from (branch_last (map (λ (e : Numbered). e.parts.op) (map (aimed (target_number all draft.target)) draft.insns))) _
-    (ap branch_last (aimed_ops (target_number all draft.target) draft.insns) ∙ parts.0) (blocks_end all drafts parts.1)
+    rw (length-map draft.insns (aimed number), aimed_ends number draft.insns, blocks_begin all drafts (ends_in_branch draft.insns)) refl
 
 pub has_cut_blocks : (text : List ℕ) → HasCutBlocks text
 has_cut_blocks text blocks e =
     let program = program_is_cut text blocks e in
-    let lines = lines_of text in
-    let all : List Draft = blocks_from lines in
+    let all : List Draft = blocks_from (lines_of text) in
     record {
       items = program_items text blocks program;
-      begins = ap (begin_well true) program.is ∙ blocks_begin all all true ∙ cut_begins (items_from 1 lines);
-      ends = ap (list_all (λ (block : BlockParts). branch_last (map (λ (e : Numbered). e.parts.op) block.insns))) program.is
-          ∙ blocks_end all all (cut_ends (items_from 1 lines));
+      begins = rw program.is (blocks_begin all all true ∙ cut_begins (items_from 1 (lines_of text)));
+      ends = rw program.is (simp (list_all-map, map-map) (cut_ends (items_from 1 (lines_of text))));
     }
 
--- ---- labels
+-- ---- every branch to a label goes to a block that is there and has a label
 
-own_blocks : (all drafts : List Draft) → flat_map (λ (block : BlockParts). option_to_list block.label) (map (block_in all) drafts) ≡ own_labels drafts
-own_blocks all [] = refl
-own_blocks all (draft ∷ drafts) = ap (λ (labels : List Name). option_to_list draft.label ++ labels) (own_blocks all drafts)
+module _ (labels : List (Option Name)) where
+  abbrev stands : Numbered → Bool
+  stands entry = target_stands labels entry.parts.operands
 
-pub has_its_labels : (text : List ℕ) → HasItsLabels text
-unfolding IsDistinct
-has_its_labels text blocks e =
-    let program = program_is_cut text blocks e in
-    let lines = lines_of text in
-    let all : List Draft = blocks_from lines in (
-      ap (flat_map (λ (block : BlockParts). option_to_list block.label)) program.is ∙ own_blocks all all ∙ (is_read lines program.none).labels,
-      distinct_labels (labels_of lines) lines [] program.none none,
-    )
-  where
-    none : IsDistinct bytes_eq (labels_of [])
-    none = tt
+  abbrev item_stands : Item → Bool
+  item_stands (Begins label) = true
+  item_stands (Runs entry target) = stands entry
+
+  free_stands : (operands : Operands) → has_no_block operands ≡ true → target_stands labels operands ≡ true
+  free_stands (Block number) free = absurd cc
+  free_stands operands free = refl
+
+  -- what fits stands, where the number of each label is that of a block with a label
+  module _ (names : List Name) (aim : Name → ℕ)
+      (aims : (name : Name) → is_among name names ≡ true → is_labelled (slice_get labels (aim name)) ≡ true) where
+    fit_stands : (item : Item) → Fits names item → item_stands (settled aim item) ≡ true
+    fit_stands (Begins label) fit = refl
+    fit_stands (Runs entry None) fit = free_stands entry.parts.operands fit
+    fit_stands (Runs entry (Some target)) fit = aims target fit.2
+
+    all_stand : (items : List Item) → AllFit names items → list_all item_stands (map (settled aim) items) ≡ true
+    all_stand [] fit = refl
+    all_stand (item ∷ items) fit = rw (fit_stands item fit.0) (all_stand items fit.1)
+
+  block_stands : (label : Option Name) (insns : List Numbered)
+      → list_all item_stands (label_items label ++ map (λ (entry : Numbered). Runs entry None) insns) ≡ list_all stands insns
+  block_stands None insns = list_all-map item_stands (λ (entry : Numbered). Runs entry None) insns
+  block_stands (Some label) insns = list_all-map item_stands (λ (entry : Numbered). Runs entry None) insns
+
+  items_stand : (blocks : List BlockParts)
+      → list_all item_stands (flat_map items_of blocks) ≡ list_all (λ (part : BlockParts). list_all stands part.insns) blocks
+  items_stand [] = refl
+  items_stand (block ∷ blocks) =
+      list_all-append item_stands (items_of block) (flat_map items_of blocks) ∙ rw (block_stands block.label block.insns, items_stand blocks) refl
+
+pub targets_read : (text : List ℕ) (blocks : List Serial) → program_in text ≡ Ok (map block_parts blocks) → targets_stand blocks ≡ true
+unfolding targets_stand
+targets_read text blocks e =
+    let parts : List BlockParts = map block_parts blocks in
+    let labels : List (Option Name) = labels_in blocks in
+    let names = labels_of (lines_of text) in
+    let program = program_is_cut text parts e in
+    let aims : (name : Name) → is_among name names ≡ true → is_labelled (slice_get labels (block_named parts name)) ≡ true =
+    λ name known.
+    let has = ap (is_among name) (has_its_labels text parts e).0 ∙ known in
+    rw (found name parts has) (rw map-map at (labelled name parts has)) in
+    let stand : list_all (item_stands labels) (map (settled (block_named parts)) (items_from 1 (lines_of text))) ≡ true =
+    all_stand labels names (block_named parts) aims (items_from 1 (lines_of text)) (items_fit names 1 (lines_of text) program.fits) in
+    let all : list_all (λ (part : BlockParts). list_all (stands labels) part.insns) parts ≡ true =
+    sym (items_stand labels parts) ∙ ap (list_all (item_stands labels)) (program_items text parts program) ∙ stand in
+    simp list_all-map at all

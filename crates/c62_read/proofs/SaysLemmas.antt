@@ -69,49 +69,32 @@ operands_found store kinds = tt
 
 abbrev Made : Option (Op × Operands) → Type 0
 Made None = Unit {0}
-Made (Some (op, operands)) = has_no_block operands ≡ true
+Made (Some found) = has_no_block found.1 ≡ true
 
-abbrev Ordered : Op × Operands → Type 0
-Ordered (op, operands) = has_no_block operands ≡ true
-
-kind_made : (found : Op × Operands) → Ordered found → Made (with_kind found)
-kind_made (op, operands) free = cond_both (has_kind op operands) (Some (op, operands)) None Made (λ _. free) (λ _. tt)
-
-back_ordered : (turned : Option Op) (op : Op) (a b d : Reg) → Ordered (crossed_to_back turned op a b d)
+back_ordered : (turned : Option Op) (op : Op) (a b d : Reg) → Made (Some (crossed_to_back turned op a b d))
 back_ordered None op a b d = refl
 back_ordered (Some turned) op a b d =
-    cond_both (not (same_side a.side d.side) && same_side b.side d.side) (turned, Three b a d) (op, Three a b d) Ordered (λ _. refl) (λ _. refl)
+    cond_both (not (same_side a.side d.side) && same_side b.side d.side) (turned, Three b a d) (op, Three a b d)
+    (λ found. Made (Some found)) (λ _. refl) (λ _. refl)
 
-front_ordered : (turned : Option Op) (op : Op) (a : Reg) (k : ℤ) (d : Reg) → Ordered (constant_to_front turned op a k d)
+front_ordered : (turned : Option Op) (op : Op) (a : Reg) (k : ℤ) (d : Reg) → Made (Some (constant_to_front turned op a k d))
 front_ordered None op a k d = refl
 front_ordered (Some turned) op a k d = refl
 
-in_order_free : (op : Op) (operands : Operands) → has_no_block operands ≡ true → Ordered (in_order op operands)
+in_order_free : (op : Op) (operands : Operands) → has_no_block operands ≡ true → Made (Some (in_order op operands))
 unfolding in_order
 in_order_free op (Three a b d) free = back_ordered (exchanged op) op a b d
 in_order_free op (ConstantSecond a k d) free = front_ordered (exchanged op) op a k d
-in_order_free op (Constant k d) free = refl
-in_order_free op (ConstantFirst k a d) free = refl
-in_order_free op (Two a d) free = refl
-in_order_free op (Field a k m d) free = refl
-in_order_free op (Access reg base form offset) free = refl
-in_order_free op (Block number) free = free
-in_order_free op (Register target) free = refl
+in_order_free op operands free = free
 
 zero_free : (letter : Option Letter) (d : Reg) → Made (Some (zero_in letter d))
-zero_free None d = refl
 zero_free (Some L) d = refl
-zero_free (Some S) d = refl
-zero_free (Some M) d = refl
-zero_free (Some D) d = refl
-
-made_some : (found : Op × Operands) → Ordered found → Made (Some found)
-made_some (op, operands) free = free
+zero_free letter d = refl
 
 stands_free : (mnemonic : Mnemonic) (letter : Option Letter) (operands : Operands) → has_no_block operands ≡ true
     → Made (stands_for mnemonic letter operands)
 unfolding stands_for
-stands_free (Operation op) letter operands free = made_some (in_order op operands) (in_order_free op operands free)
+stands_free (Operation op) letter operands free = in_order_free op operands free
 stands_free Mv letter (Two x d) free = refl
 stands_free Neg letter (Two x d) free = refl
 stands_free Not letter (Two x d) free = refl
@@ -122,7 +105,7 @@ stands_free _ letter operands free = tt
 
 kind_free : (found : Option (Op × Operands)) → Made found → Made (option_and_then with_kind found)
 kind_free None free = tt
-kind_free (Some (op, operands)) free = kind_made (op, operands) free
+kind_free (Some found) free = cond_both (has_kind found.0 found.1) (Some found) None Made (λ _. free) (λ _. tt)
 
 written_free : (mnemonic : Mnemonic) (written : Option WrittenUnit) (operands : Option Operands) → Found operands
     → Made (operands_written mnemonic written operands)
@@ -175,13 +158,7 @@ unit_proper : (mnemonic : Mnemonic) (cond : Option Condition) (written : Option 
     → OkProper (behind_unit mnemonic cond written words)
 unfolding behind_unit
 unit_proper Nop cond written words = pause_proper cond (kinds_of words)
-unit_proper (Operation op) cond written words = behind_proper (target_of (Operation op) words) (Operation op) cond written words
-unit_proper Mv cond written words = behind_proper None Mv cond written words
-unit_proper Neg cond written words = behind_proper None Neg cond written words
-unit_proper Not cond written words = behind_proper None Not cond written words
-unit_proper Zero cond written words = behind_proper None Zero cond written words
-unit_proper Mvkl cond written words = behind_proper None Mvkl cond written words
-unit_proper Mvkh cond written words = behind_proper None Mvkh cond written words
+unit_proper mnemonic cond written words = behind_proper (target_of mnemonic words) mnemonic cond written words
 
 step_proper : {T : Type 0} (read : Result T Cause) (next : T → Result Says Cause) → ((found : T) → OkProper (next found))
     → OkProper (and_read read next)

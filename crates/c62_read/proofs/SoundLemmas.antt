@@ -3,6 +3,7 @@ use Rattle.std.proofs.Common.{◌≡◌, ◌<◌, ℕ, suc, true, ◌&&◌, List
 use Rattle.std.specs.Prelude.{map}
 use Rattle.std.proofs.lemmas.Bool.{and_from, and_parts}
 use Rattle.std.proofs.lemmas.List.{length-map, map-append}
+use Rattle.std.proofs.lemmas.Simd.{map-map}
 use Rattle.c62_insn.specs.declared.operands.Op.{Op}
 use Rattle.c62_insn.specs.Insn.{op_of}
 use Rattle.c62_read.specs.declared.block.SerialInsn.{SerialInsn}
@@ -10,15 +11,6 @@ use Rattle.c62_read.specs.declared.program.BlockReader.{BlockReader}
 use Rattle.c62_read.specs.Block.{Serial, branch_last, is_block, operations}
 use Rattle.c62_read.specs.Program.{BlockParts, Draft, Name, Numbered, aimed, block_in, block_parts, numbered_of}
 use Rattle.c62_read.specs.Walk.{draft_of}
-
-read_operations : (insns : List SerialInsn) → map (λ (e : Numbered). e.parts.op) (map numbered_of insns) ≡ operations insns
-read_operations [] = refl
-read_operations (entry ∷ insns) = ap (λ (ops : List Op). op_of entry.insn ∷ ops) (read_operations insns)
-
-aimed_operations : (number : ℕ) (entries : List Numbered)
-    → map (λ (e : Numbered). e.parts.op) (map (aimed number) entries) ≡ map (λ (e : Numbered). e.parts.op) entries
-aimed_operations number [] = refl
-aimed_operations number (entry ∷ entries) = ap (λ (ops : List Op). entry.parts.op ∷ ops) (aimed_operations number entries)
 
 pub aimed_block : (number : ℕ) (insns old : List SerialInsn) → map numbered_of insns ≡ map (aimed number) (map numbered_of old)
     → (leb (length (map numbered_of old)) 256 && branch_last (map (λ (e : Numbered). e.parts.op) (map numbered_of old))) ≡ true
@@ -28,7 +20,8 @@ aimed_block number insns old same whole =
     let count : length insns ≡ length (map numbered_of old) = sym (length-map insns numbered_of) ∙ ap length same
     ∙ length-map (map numbered_of old) (aimed number) in
     let ops : operations insns ≡ map (λ (e : Numbered). e.parts.op) (map numbered_of old) =
-    sym (read_operations insns) ∙ ap (map (λ (e : Numbered). e.parts.op)) same ∙ aimed_operations number (map numbered_of old) in
+    sym (map-map (λ (e : Numbered). e.parts.op) numbered_of insns) ∙ ap (map (λ (e : Numbered). e.parts.op)) same
+    ∙ map-map (λ (e : Numbered). e.parts.op) (aimed number) (map numbered_of old) in
     and_from (leb (length insns) 256) (branch_last (operations insns)) (ap (λ (n : ℕ). leb n 256) count ∙ parts.0) (ap branch_last ops ∙ parts.1)
 
 -- what is aimed entry by entry
@@ -44,11 +37,6 @@ all_aimed number (n ∷ new) (o ∷ old) same at =
     all_aimed number new old (omega (arith, same)) (λ k d less. at (suc k) d (omega (arith, less))) in
     rw (here, others) refl
 
--- the labels of the blocks as they are read
-pub labels_are : (blocks : List BlockReader) → map (λ block. block.label) blocks ≡ map (λ draft. draft.label) (map draft_of blocks)
-labels_are [] = refl
-labels_are (block ∷ blocks) = ap (λ (labels : List (Option Name)). block.label ∷ labels) (labels_are blocks)
-
 -- one block more is made
 pub one_made : (drafts : List Draft) (made now : List Serial) (block : BlockReader) (last : Serial) (old new : List BlockReader)
     (all : List BlockParts)
@@ -56,9 +44,4 @@ pub one_made : (drafts : List Draft) (made now : List Serial) (block : BlockRead
     → map block_parts made ++ map (block_in drafts) (map draft_of old) ≡ all
     → map block_parts now ++ map (block_in drafts) (map draft_of new) ≡ all
 one_made drafts made now block last old new all pushed taken parts so_far =
-    let others : List BlockParts = map (block_in drafts) (map draft_of new) in
-    ap (λ (blocks : List Serial). map block_parts blocks ++ others) pushed
-    ∙ ap (λ (blocks : List BlockParts). blocks ++ others) (map-append block_parts made (last ∷ []))
-    ∙ append_assoc (map block_parts made) (block_parts last ∷ []) others
-    ∙ ap (λ (part : BlockParts). map block_parts made ++ part ∷ others) parts
-    ∙ sym (ap (λ (blocks : List BlockReader). map block_parts made ++ map (block_in drafts) (map draft_of blocks)) taken) ∙ so_far
+    rw (pushed, map-append block_parts made (last ∷ []), parts, append_assoc) (rw taken at so_far)

@@ -10,9 +10,7 @@ module _ (test : ℕ → Bool) where
   all_behind zero m bytes less all = refl
   all_behind (suc n) zero bytes less all = absurd (omega (arith, less))
   all_behind (suc n) (suc m) [] less all = refl
-  all_behind (suc n) (suc m) (b ∷ bytes) less all =
-      let parts = and_parts (test b) (list_all test (take m bytes)) all in
-      rw parts.0 (all_behind n m bytes (omega (arith, less)) parts.1)
+  all_behind (suc n) (suc m) (b ∷ bytes) less all = grind (arith, nat_tests, all_behind n m bytes)
 
   pub all_more_steps : (bytes : List ℕ) (n k : ℕ) → list_all test (take n bytes) ≡ true → list_all test (take k (drop n bytes)) ≡ true
       → list_all test (take (n + k) bytes) ≡ true
@@ -23,16 +21,7 @@ module _ (test : ℕ → Bool) where
   pub not_all : (bytes : List ℕ) (n k : ℕ) → list_all test (take k (drop n bytes)) ≡ false → list_all test bytes ≡ false
   not_all bytes zero zero some = absurd cc
   not_all [] zero (suc k) some = absurd cc
-  not_all (b ∷ bytes) zero (suc k) some = go (test b) some (not_all bytes zero k)
-    where
-      go : (here : Bool) → (here && list_all test (take k bytes)) ≡ false
-          → (list_all test (take k bytes) ≡ false → list_all test bytes ≡ false) → (here && list_all test bytes) ≡ false
-      go true e others = others e
-      go false e others = refl
+  not_all (b ∷ bytes) zero (suc k) some = grind (arith, nat_tests, not_all bytes zero k)
   not_all [] (suc n) zero some = absurd cc
   not_all [] (suc n) (suc k) some = absurd cc
-  not_all (b ∷ bytes) (suc n) k some = go (test b) (not_all bytes n k some)
-    where
-      go : (here : Bool) → list_all test bytes ≡ false → (here && list_all test bytes) ≡ false
-      go true others = others
-      go false others = refl
+  not_all (b ∷ bytes) (suc n) k some = grind (arith, nat_tests, not_all bytes n k)

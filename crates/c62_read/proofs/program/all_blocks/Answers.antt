@@ -3,11 +3,12 @@ use Rattle.std.specs.List.{list_all}
 use Rattle.std.specs.Prelude.{Option}
 use Rattle.std.specs.Vec.Iter.{into_iter_items}
 use Rattle.std.proofs.lemmas.Bool.{and_parts}
+use Rattle.std.proofs.lemmas.Simd.{map-map}
 use Rattle.c62_read.specs.declared.program.BlockReader.{BlockReader}
 use Rattle.c62_read.specs.Program.{BlockParts, Draft, Name, aimed, block_in, block_parts, target_number}
 use Rattle.c62_read.specs.Walk.{draft_of, is_whole, number_among}
 use Rattle.c62_read.proofs.BlockLemmas.{number_is}
-use Rattle.c62_read.proofs.SoundLemmas.{labels_are, one_made}
+use Rattle.c62_read.proofs.SoundLemmas.{one_made}
 use Rattle.c62_read.proofs.program.all_blocks.Goals as goal
 
 pub loop-block-preserved : goal.loop-block-preserved
@@ -18,7 +19,7 @@ loop-block-preserved c =
     let taken : into_iter_items c.loop-block.rest ≡ block ∷ new = c.in-Some.ensures.items in
     let labels : c.deref-in-Some.result.now ≡ map (λ (draft : Draft). draft.label) drafts =
     c.deref-in-Some.ensures.value ∙ c.in_ok-labels.ensures ∙ ap (map (λ (b : BlockReader). b.label)) c.deref.ensures.value
-    ∙ labels_are c.args.blocks.items in
+    ∙ sym (map-map (λ (draft : Draft). draft.label) draft_of c.args.blocks.items) in
     let number : c.target_number-number.result ≡ target_number drafts block.target =
     c.target_number-number.ensures ∙ ap (λ (ls : List (Option Name)). number_among ls block.target) labels ∙ number_is drafts block.target in
     let made : block_parts c.into_block.result ≡ block_in drafts (draft_of block) =

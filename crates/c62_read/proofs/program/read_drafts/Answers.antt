@@ -5,8 +5,7 @@ use Rattle.c62_read.specs.Text.{lines_of}
 use Rattle.c62_read.specs.Program.{Name, labels_of}
 use Rattle.c62_read.specs.Walk.{Drafts, add_line, add_lines, all_drafts, asked_of, drafts_of, first_line, missed, own_labels, unless_hindered}
 use Rattle.c62_read.specs.Walk.{unless_missed}
-use Rattle.c62_read.proofs.ReadingLemmas.{goes_on, is_done, labels_stay, stops}
-use Rattle.c62_read.proofs.WalkLemmas.{at_end, whole_blocks}
+use Rattle.c62_read.proofs.ReadingLemmas.{goes_on, is_done, labels_stay, read_stands, stops, whole_blocks}
 use Rattle.c62_read.proofs.program.read_drafts.Goals as goal
 
 pub loop-line-preserved : goal.loop-line-preserved
@@ -72,10 +71,8 @@ returns-in-None-first_missed-clause-ok c =
 
 pub returns-in-None-first_missed-clause-few : goal.returns-in-None-first_missed-clause-few
 returns-in-None-first_missed-clause-few c =
-    (at_end (labels_of (lines_of c.args.text.now)) (lines_of c.args.text.now) (drafts_of c.loop-line.reader)
-    (returns-in-None-first_missed-clause-ok c)).few
+    (read_stands c.args.text.now (drafts_of c.loop-line.reader) (returns-in-None-first_missed-clause-ok c)).few
 
 pub returns-in-None-first_missed-clause-whole : goal.returns-in-None-first_missed-clause-whole
 returns-in-None-first_missed-clause-whole c =
-    whole_blocks (labels_of (lines_of c.args.text.now)) (lines_of c.args.text.now) (drafts_of c.loop-line.reader)
-    (returns-in-None-first_missed-clause-ok c)
+    whole_blocks c.args.text.now (drafts_of c.loop-line.reader) (returns-in-None-first_missed-clause-ok c)

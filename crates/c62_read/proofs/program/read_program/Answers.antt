@@ -1,11 +1,9 @@
-use Rattle.std.proofs.Common.{◌≡◌, List, Ok, sym, ap, subst, inr, ◌∙◌}
+use Rattle.std.proofs.Common.{ap, inr, ◌∙◌}
 use Rattle.std.specs.Prelude.{map}
 use Rattle.std.proofs.lemmas.Result.{err_from_is_err_and}
-use Rattle.c62_read.specs.Program.{Draft, BlockParts, block_in, block_parts}
-use Rattle.c62_read.specs.Walk.{Drafts, all_drafts, draft_of, drafts_of}
-use Rattle.c62_read.specs.Text.{lines_of}
-use Rattle.c62_read.proofs.TargetLemmas.{targets_read}
-use Rattle.c62_read.proofs.WalkLemmas.{walk_reads}
+use Rattle.c62_read.specs.Program.{block_parts}
+use Rattle.c62_read.specs.Walk.{Drafts, draft_of, drafts_of}
+use Rattle.c62_read.proofs.ProgramLaws.{targets_read}
 use Rattle.c62_read.proofs.ReadingLemmas.{too_long, program_read, program_refused}
 use Rattle.c62_read.proofs.program.read_program.Goals as goal
 
@@ -19,22 +17,12 @@ returns-in_err-reader-clause-err c =
 
 pub returns-clause-ok : goal.returns-clause-ok
 returns-clause-ok c =
-    let drafts = drafts_of c.in_ok-reader.reader in
-    let ended = c.in_ok-end_block.ensures in
-    let done : map draft_of c.end_block.new.self.done.items ≡ all_drafts drafts = ap (λ (d : Drafts). d.done) ended in
-    let made : map block_parts c.in_ok-all_blocks.field-0.items ≡ map (block_in (all_drafts drafts)) (all_drafts drafts) =
-    subst (λ (ds : List Draft). map block_parts c.in_ok-all_blocks.field-0.items ≡ map (block_in ds) ds) done c.in_ok-all_blocks.ensures.made in
-    program_read c.args.text.now c.if-text-gt-MOST_BYTES.false drafts c.in_ok-reader.ensures.ok
-    ∙ ap (λ (blocks : List BlockParts). Ok blocks) (sym (ap (map block_parts) c.new.ensures ∙ made))
+    program_read c.args.text.now c.if-text-gt-MOST_BYTES.false (drafts_of c.in_ok-reader.reader) c.in_ok-reader.ensures.ok
+    (map draft_of c.end_block.new.self.done.items) (ap (λ (d : Drafts). d.done) c.in_ok-end_block.ensures) _
+    (ap (map block_parts) c.new.ensures ∙ c.in_ok-all_blocks.ensures.made)
 
 pub new-requires-clause-targets : goal.new-requires-clause-targets
 new-requires-clause-targets c =
-    let drafts = drafts_of c.in_ok-reader.reader in
-    let ended = c.in_ok-end_block.ensures in
-    let done : map draft_of c.end_block.new.self.done.items ≡ all_drafts drafts = ap (λ (d : Drafts). d.done) ended in
-    let made : map block_parts c.in_ok-all_blocks.field-0.items ≡ map (block_in (all_drafts drafts)) (all_drafts drafts) =
-    subst (λ (ds : List Draft). map block_parts c.in_ok-all_blocks.field-0.items ≡ map (block_in ds) ds) done c.in_ok-all_blocks.ensures.made in
-    let lines = lines_of c.args.text.now in
-    let read = walk_reads lines drafts c.in_ok-reader.ensures.ok in
-    targets_read lines c.in_ok-all_blocks.field-0.items read.0
-    (made ∙ ap (λ (ds : List Draft). map (block_in ds) ds) (sym read.1))
+    targets_read c.args.text.now c.in_ok-all_blocks.field-0.items
+    (program_read c.args.text.now c.if-text-gt-MOST_BYTES.false (drafts_of c.in_ok-reader.reader) c.in_ok-reader.ensures.ok
+    (map draft_of c.end_block.new.self.done.items) (ap (λ (d : Drafts). d.done) c.in_ok-end_block.ensures) _ c.in_ok-all_blocks.ensures.made)
