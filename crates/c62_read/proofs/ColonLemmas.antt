@@ -1,12 +1,12 @@
 -- A colon is a token of its own.
-use Rattle.std.proofs.Common.{◌≡◌, ℕ, Bool, true, false, not, cond, eqb, ◌||◌, List, [], ◌∷◌, refl, sym, ap, ◌∙◌, arith, inl, inr}
+use Rattle.std.proofs.Common.{◌≡◌, ℕ, Bool, true, false, not, cond, eqb, ◌||◌, List, [], ◌∷◌, refl, ◌∙◌, arith, inl, inr}
 use Rattle.std.specs.Prelude.{codes, take_while}
 use Rattle.std.specs.Char.{to_ascii_lowercase}
 use Rattle.std.specs.List.{list_any}
 use Rattle.std.proofs.lemmas.Bool.{cases_Bool, and_right}
 use Rattle.std.proofs.lemmas.Bool.Decides.{nat_tests}
 use Rattle.std.proofs.lemmas.List.Sums.{take_while-cons}
-use Rattle.c62_read.specs.Text.{grow, is_blank, is_solid, is_word_byte, is_double, joins, tokens}
+use Rattle.c62_read.specs.Text.{grow, is_blank, is_solid, is_double, joins, tokens}
 use Rattle.c62_read.specs.Number.{spells}
 use Rattle.c62_read.specs.Line.{has_colon}
 use Rattle.c62_read.proofs.TokenLemmas.{tokens_joined, tokens_alone, tokens_double, tokens_last, on_test, joined_word}

@@ -33,7 +33,6 @@ pub mod ProgramLemmas
 pub mod ProgramLaws
 pub mod CaseBytes
 pub mod CaseLaws
-pub mod CaseTexts
 pub mod WrittenLines
 pub mod KindLemmas
 pub mod PauseLemmas
