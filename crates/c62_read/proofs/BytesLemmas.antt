@@ -41,5 +41,5 @@ tokens-bytes (b ∷ c ∷ rest) =
       tokens-bytes (c ∷ rest),
     ) (elim (cases_Bool (is_double b c)) [
       | inl double ↦ let second = double_dark b c double in rw (double, tokens-bytes rest, kept_more c rest, second.0, second.1) refl
-      | inr single ↦ rw single (elim (cases_Bool (joins b c)) [ | inl joined ↦ rw joined refl | inr alone ↦ rw alone refl ])
+      | inr single ↦ rw single (elim (cases_Bool (joins b c)) [ inl joined ↦ rw joined refl | inr alone ↦ rw alone refl ])
     ])

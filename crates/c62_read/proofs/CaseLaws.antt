@@ -67,7 +67,7 @@ tokens_lowered : (zero : Bool) (line : List ℕ) → (zero && not (begins is_wor
     → tokens (lowered zero line) ≡ first_low zero (tokens line)
 tokens_lowered zero [] goes = refl
 tokens_lowered zero (b ∷ []) goes =
-    rw (test_low is_solid refl zero b) (elim (cases_Bool (is_solid b)) [ | inl solid ↦ rw solid refl | inr other ↦ rw other refl ])
+    rw (test_low is_solid refl zero b) (elim (cases_Bool (is_solid b)) [ inl solid ↦ rw solid refl | inr other ↦ rw other refl ])
 tokens_lowered zero (b ∷ c ∷ rest) goes =
     rw (
       test_low (λ x. eqb x 59) refl zero b,
@@ -164,15 +164,7 @@ left_low (unit, left) = (unit, low left)
 -- a side has a number from 1, so that no 0 stands before what is left
 no_zero : (n : ℕ) (side : Side) → side_numbered n ≡ Some side → eqb n 48 ≡ false
 unfolding side_numbered
-no_zero n side numbered =
-    elim (cases_Bool (eqb n 48)) [
-      | inl zero ↦
-          let first : eqb n 49 ≡ false = grind (arith, nat_tests) in
-          let second : eqb n 50 ≡ false = grind (arith, nat_tests) in
-          let none : side_numbered n ≡ None = rw (first, second) refl in
-          absurd cc
-      | inr other ↦ other
-    ]
+no_zero n side numbered = grind (arith, nat_tests)
 
 path_low : (letter : Letter) (side : Side) (c : ℕ) (rest : Word) (path : Option Side) → side_numbered c ≡ path
     → unit_of (Some letter) (Some side) (option_map Path path, lowered (eqb c 48) rest)
@@ -185,7 +177,7 @@ marked_low : (letter : Letter) (side : Side) (w : Word)
 unfolding mark_of
 marked_low letter side [] = refl
 marked_low letter side (b ∷ []) =
-    rw (test_low is_x refl false b) (elim (cases_Bool (is_x b)) [ | inl cross ↦ rw cross refl | inr other ↦ rw other refl ])
+    rw (test_low is_x refl false b) (elim (cases_Bool (is_x b)) [ inl cross ↦ rw cross refl | inr other ↦ rw other refl ])
 marked_low letter side (b ∷ c ∷ w) =
     rw (test_low is_x refl false b, test_low is_t refl false b, digit_low (eqb b 48) c, side_low (eqb b 48) c) (elim (cases_Bool (is_x b)) [
       | inl cross ↦ let letter : eqb b 48 ≡ false = grind (arith, nat_tests) in rw (cross, letter) refl
