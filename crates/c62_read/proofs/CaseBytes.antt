@@ -46,9 +46,6 @@ value_low = low_by (λ c b. digit_value c ≡ digit_value b) (λ b. refl) (λ b 
 pub digit_low : (zero : Bool) (b : ℕ) → is_ascii_digit (low_byte zero b) ≡ is_ascii_digit b
 digit_low = test_low is_ascii_digit refl
 
-digit_is : (zero : Bool) (b : ℕ) → is_ascii_digit b ≡ true → low_byte zero b ≡ b
-digit_is = low_by (λ c b. is_ascii_digit b ≡ true → c ≡ b) (λ b digit. refl) (λ b high less digit. grind (arith, nat_tests))
-
 pub joins_low : (y z : Bool) (b c : ℕ) → joins (low_byte y b) (low_byte z c) ≡ joins b c
 joins_low y z b c =
     rw (test_low is_word_byte refl y b, test_low is_word_byte refl z c, test_low is_sign refl y b, digit_low z c, test_low (λ x. eqb x 46) refl y b) refl
@@ -102,12 +99,9 @@ file_low zero b = grind (arith, nat_tests)
 number_in : (file : Option Side) (less : ℕ) (ten zero : Bool) (d : ℕ)
     → cond (ten && is_ascii_digit (low_byte zero d)) (in_file file (low_byte zero d - less)) None
     ≡ cond (ten && is_ascii_digit d) (in_file file (d - less)) None
-number_in file less false zero d = refl
-number_in file less true zero d =
-    elim (cases_Bool (is_ascii_digit d)) [
-      | inl digit ↦ rw (digit_is zero d digit) refl
-      | inr other ↦ rw (digit_low zero d, other) refl
-    ]
+number_in file less ten =
+    low_by (λ c d. cond (ten && is_ascii_digit c) (in_file file (c - less)) None ≡ cond (ten && is_ascii_digit d) (in_file file (d - less)) None)
+    (λ d. refl) (λ d high below. grind (arith, nat_tests))
 
 pub register_low : (w : List ℕ) → register_of (low w) ≡ register_of w
 unfolding register_of
