@@ -1,15 +1,10 @@
 -- Texts whose lines say the same are one program.
-use Rattle.std.proofs.Common.{◌≡◌, ◌≤◌, ℕ, ◌+◌, List, [], ◌∷◌, ◌++◌, length, Option, Result, refl, sym, ap, ◌∙◌}
-use Rattle.std.specs.Prelude.{nat_lt, option_map}
-use Rattle.std.specs.List.{list_any}
-use Rattle.std.specs.Option.{option_to_list}
+use Rattle.std.proofs.Common.{◌≡◌, ◌≤◌, ℕ, ◌+◌, List, [], ◌∷◌, ◌++◌, length, refl}
 use Rattle.std.proofs.lemmas.Bool.{le-ltb}
-use Rattle.c62_read.specs.declared.fault.Cause.{Cause}
-use Rattle.c62_read.specs.declared.fault.Cause.TheVariants.{DuplicateLabel, UnknownTarget, TooManyInstructions, TooManyBlocks}
 use Rattle.c62_read.specs.Text.{lines_of}
-use Rattle.c62_read.specs.Line.{Says, head_of, line_of}
-use Rattle.c62_read.specs.Program.{Item, Name, Refusal, cut, drafts_in, fault_if, fault_in, fault_of, first_fault, first_of, is_among, is_overfull}
-use Rattle.c62_read.specs.Program.{items_from, labels_of, misses_label, label_field, program_in}
+use Rattle.c62_read.specs.Line.{head_of, line_of}
+use Rattle.c62_read.specs.Program.{Name, drafts_in, fault_in, fault_of, first_fault}
+use Rattle.c62_read.specs.Program.{items_from, labels_of, label_field, program_in}
 
 pub record IsAlike (line other : List ℕ) : Type 0 where
   pub head : fault_in (head_of line) ≡ fault_in (head_of other)

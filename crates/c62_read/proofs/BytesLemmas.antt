@@ -1,11 +1,11 @@
 -- The tokens of a line are its bytes.
-use Rattle.std.proofs.Common.{◌≡◌, ℕ, Bool, true, false, cond, not, eqb, List, [], ◌∷◌, refl, sym, ap, ◌∙◌, arith, inl, inr}
+use Rattle.std.proofs.Common.{◌≡◌, ℕ, true, false, cond, not, eqb, List, [], ◌∷◌, refl, arith, inl, inr}
 use Rattle.std.specs.Prelude.{filter, take_while}
 use Rattle.std.specs.List.{flat_map}
 use Rattle.std.proofs.lemmas.Bool.{cases_Bool}
 use Rattle.std.proofs.lemmas.Bool.Decides.{nat_tests}
 use Rattle.std.proofs.lemmas.List.Sums.{take_while-cons}
-use Rattle.c62_read.specs.Text.{grow, is_blank, is_solid, is_double, joins, tokens}
+use Rattle.c62_read.specs.Text.{grow, is_blank, is_double, joins, tokens}
 use Rattle.c62_read.proofs.TokenLemmas.{on_test}
 
 abbrev joined_bytes : List (List ℕ) → List ℕ
@@ -41,5 +41,5 @@ tokens-bytes (b ∷ c ∷ rest) =
       tokens-bytes (c ∷ rest),
     ) (elim (cases_Bool (is_double b c)) [
       | inl double ↦ let second = double_dark b c double in rw (double, tokens-bytes rest, kept_more c rest, second.0, second.1) refl
-      | inr single ↦ rw single (elim (cases_Bool (joins b c)) [ | inl joined ↦ rw joined refl | inr alone ↦ rw alone refl ])
+      | inr single ↦ rw single (elim (cases_Bool (joins b c)) [ inl joined ↦ rw joined refl | inr alone ↦ rw alone refl ])
     ])

@@ -1,5 +1,5 @@
 -- What a line says in small letters, but for an `X` behind a 0: such a line stands for all that are the same but for case.
-use Rattle.std.proofs.Common.{◌≡◌, ℕ, ◌+◌, ◌-◌, ◌*◌, ◌<◌, Bool, true, false, not, cond, eqb, ltb, ◌&&◌, ◌||◌, List, [], ◌∷◌, length, drop}
+use Rattle.std.proofs.Common.{◌≡◌, ℕ, ◌+◌, ◌-◌, ◌*◌, Bool, true, false, not, cond, eqb, ltb, ◌&&◌, List, [], ◌∷◌, length, drop}
 use Rattle.std.proofs.Common.{Option, None, refl, sym, ap, ◌∙◌, arith, inl, inr}
 use Rattle.std.specs.Prelude.{map, option_and_then, codes}
 use Rattle.std.specs.Char.{digit_value, to_ascii_lowercase, is_ascii_digit}
@@ -45,9 +45,6 @@ value_low = low_by (λ c b. digit_value c ≡ digit_value b) (λ b. refl) (λ b 
 
 pub digit_low : (zero : Bool) (b : ℕ) → is_ascii_digit (low_byte zero b) ≡ is_ascii_digit b
 digit_low = test_low is_ascii_digit refl
-
-digit_is : (zero : Bool) (b : ℕ) → is_ascii_digit b ≡ true → low_byte zero b ≡ b
-digit_is = low_by (λ c b. is_ascii_digit b ≡ true → c ≡ b) (λ b digit. refl) (λ b high less digit. grind (arith, nat_tests))
 
 pub joins_low : (y z : Bool) (b c : ℕ) → joins (low_byte y b) (low_byte z c) ≡ joins b c
 joins_low y z b c =
@@ -102,12 +99,9 @@ file_low zero b = grind (arith, nat_tests)
 number_in : (file : Option Side) (less : ℕ) (ten zero : Bool) (d : ℕ)
     → cond (ten && is_ascii_digit (low_byte zero d)) (in_file file (low_byte zero d - less)) None
     ≡ cond (ten && is_ascii_digit d) (in_file file (d - less)) None
-number_in file less false zero d = refl
-number_in file less true zero d =
-    elim (cases_Bool (is_ascii_digit d)) [
-      | inl digit ↦ rw (digit_is zero d digit) refl
-      | inr other ↦ rw (digit_low zero d, other) refl
-    ]
+number_in file less ten =
+    low_by (λ c d. cond (ten && is_ascii_digit c) (in_file file (c - less)) None ≡ cond (ten && is_ascii_digit d) (in_file file (d - less)) None)
+    (λ d. refl) (λ d high below. grind (arith, nat_tests))
 
 pub register_low : (w : List ℕ) → register_of (low w) ≡ register_of w
 unfolding register_of
@@ -145,19 +139,11 @@ hex_mark : (zero : Bool) (b d : ℕ) → (eqb 48 (low_byte zero b) && (eqb 120 (
 unfolding low_byte
 hex_mark zero b d = grind (arith, nat_tests)
 
-hex_low : (zero : Bool) (w : List ℕ) → starts_with eqb (lowered zero w) (codes "0x") ≡ starts_with eqb w (codes "0x")
-hex_low zero [] = refl
-hex_low zero (b ∷ []) = ap (λ (starts : Bool). starts && false) (test_low (λ x. eqb 48 x) refl zero b)
-hex_low zero (b ∷ d ∷ w) = hex_mark zero b d
-
-dropped : (zero : Bool) (w : List ℕ) → hexadecimal_of (drop 2 (lowered zero w)) ≡ hexadecimal_of (drop 2 w)
-dropped zero [] = refl
-dropped zero (b ∷ []) = refl
-dropped zero (b ∷ d ∷ w) = hexadecimal_low (eqb d 48) w
-
 magnitude_low : (zero : Bool) (w : List ℕ) → magnitude_of (lowered zero w) ≡ magnitude_of w
 unfolding magnitude_of
-magnitude_low zero w = rw (hex_low zero w, dropped zero w, decimal_low zero w) refl
+magnitude_low zero [] = refl
+magnitude_low zero (b ∷ []) = rw (test_low (λ x. eqb 48 x) refl zero b, decimal_low zero (b ∷ [])) refl
+magnitude_low zero (b ∷ d ∷ w) = rw (hex_mark zero b d, hexadecimal_low (eqb d 48) w, decimal_low zero (b ∷ d ∷ w)) refl
 
 signed_low : (w : List ℕ) → signed_of (low w) ≡ signed_of w
 unfolding signed_of
@@ -188,19 +174,17 @@ label_low w =
 
 -- ---- lines that are the same but for case
 
-same_test : (test : ℕ → Bool) → agree_below (λ c. test (to_ascii_lowercase c)) test 91 ≡ true → (b c : ℕ)
-    → to_ascii_lowercase b ≡ to_ascii_lowercase c → test b ≡ test c
-unfolding low_byte
-same_test test all b c same = sym (test_low test all false b) ∙ ap test same ∙ test_low test all false c
-
 same_byte : (before b c : ℕ) → to_ascii_lowercase b ≡ to_ascii_lowercase c → (before ≡ 48 → to_ascii_lowercase b ≡ 120 → b ≡ c)
     → low_byte (eqb before 48) b ≡ low_byte (eqb before 48) c
 unfolding low_byte
 same_byte before b c same kept = grind (arith, nat_tests)
 
+same_zero : (b c : ℕ) → to_ascii_lowercase b ≡ to_ascii_lowercase c → eqb b 48 ≡ eqb c 48
+same_zero b c same = grind (arith, nat_tests)
+
 pub same_low : (before : ℕ) (line other : List ℕ) → IsRecased before line other → lowered (eqb before 48) line ≡ lowered (eqb before 48) other
 same_low before [] [] same = refl
 same_low before (b ∷ line) (c ∷ other) same =
-    rw (same_byte before b c same.0 same.1, same_low b line other same.2, same_test (λ x. eqb x 48) refl b c same.0) refl
+    rw (same_byte before b c same.0 same.1, same_low b line other same.2, same_zero b c same.0) refl
 same_low before [] (c ∷ other) same = absurd same
 same_low before (b ∷ line) [] same = absurd same

@@ -1,9 +1,8 @@
 -- A line in small letters says the same, but for the case of labels: so do two lines that are the same but for case.
-use Rattle.std.proofs.Common.{◌≡◌, ℕ, Bool, true, false, not, cond, eqb, ltb, ◌&&◌, ◌||◌, List, [], ◌∷◌, length, Option, Some, None, Result, Ok}
+use Rattle.std.proofs.Common.{◌≡◌, ℕ, Bool, false, not, cond, eqb, ◌&&◌, List, [], ◌∷◌, Option, Some, None, Result, Ok}
 use Rattle.std.proofs.Common.{Err, refl, sym, ap, ◌∙◌, arith, inl, inr}
 use Rattle.std.specs.Prelude.{map, option_and_then, option_map, codes}
 use Rattle.std.specs.Char.{is_ascii_digit}
-use Rattle.std.specs.List.{find, list_all}
 use Rattle.std.proofs.lemmas.Bool.{cases_Bool}
 use Rattle.std.proofs.lemmas.Bool.Decides.{nat_tests}
 use Rattle.std.proofs.lemmas.List.{drop-map}
@@ -14,32 +13,33 @@ use Rattle.c62_insn.specs.declared.operands.Op.{Op}
 use Rattle.c62_insn.specs.declared.operands.Op.TheVariants.{B as Branch}
 use Rattle.c62_insn.specs.declared.operands.Operands.TheVariants.{Block}
 use Rattle.c62_insn.specs.declared.fault.FormFault.{FormFault}
-use Rattle.c62_insn.specs.Spelling.{mnemonic_of}
-use Rattle.c62_insn.specs.Table.{all_operations}
 use Rattle.c62_read.specs.declared.fault.Cause.{Cause}
 use Rattle.c62_read.specs.declared.fault.Cause.TheVariants.{BadOperand, BadUnit, UnknownMnemonic}
 use Rattle.c62_read.specs.declared.mnemonic.Mnemonic.{Mnemonic}
 use Rattle.c62_read.specs.declared.mnemonic.Mnemonic.TheVariants.{Operation, Nop}
 use Rattle.c62_read.specs.declared.unit.Mark.TheVariants.{Path}
 use Rattle.c62_read.specs.declared.unit.WrittenUnit.{WrittenUnit}
-use Rattle.c62_read.specs.Text.{grow, begins, is_allowed, is_blank, is_solid, is_word_byte, is_double, joins, tokens}
+use Rattle.c62_read.specs.Text.{grow, begins, is_allowed, is_blank, is_solid, is_word_byte, is_double, joins, lines_of, tokens}
 use Rattle.c62_read.specs.Number.{is_label, spells}
 use Rattle.c62_read.specs.declared.kind.Kind.{Kind}
 use Rattle.c62_read.specs.Kind.{Word, kind_by, kind_of, kinds_of, mark_of as written_mark, single_mark}
 use Rattle.c62_read.specs.Mnemonic.{mnemonic_named, operation_named, pseudo_named}
 use Rattle.c62_read.specs.Unit.{is_dot, is_t, is_x, letter_of, mark_of, side_numbered, unit_front, unit_of, unit_split, with_left}
-use Rattle.c62_read.specs.Line.{Says, Jumps, and_read, before_rest, behind_unit, condition_front, condition_of, Parts}
-use Rattle.c62_read.specs.Line.{fits_behind, formed, has_colon, head_of, if_fitting, instruction_of, is_bars, is_branch, is_star}
+use Rattle.c62_read.specs.Program.{fault_in, label_field}
+use Rattle.c62_read.proofs.AlikeLaws.{AreAlike, IsAlike, alike_programs}
+use Rattle.c62_read.proofs.LabelFields.{field_is}
+use Rattle.c62_read.specs.Line.{Says, Nothing, Pause, Does, Jumps, and_read, before_rest, behind_unit, condition_front, condition_of, Parts}
+use Rattle.c62_read.specs.Line.{formed, has_colon, head_of, if_fitting, instruction_of, is_bars, is_star}
 use Rattle.c62_read.specs.Line.{jumps_or_does, label_alone, label_front, line_of, mnemonic_front, or_fault, parts_read}
 use Rattle.c62_read.specs.Line.{rest_says, target_of, text_fault, unit_behind, with_head, with_rest, without_colon}
-use Rattle.c62_read.specs.Laws.{IsRecased, in_small, small_labels, small_says}
+use Rattle.c62_read.specs.Laws.{AreRecased, CaseChangesNothing, CaseSaysNothing, IsRecased, in_small, small_labels, small_says, target_in}
 use Rattle.c62_read.proofs.TokenLemmas.{joined_word, on_test}
 use Rattle.c62_read.proofs.CaseBytes.{all_low, begins_low, digit_low, double_low, joins_low, label_low, length_low, low, low_by, low_byte, lowered, number_low}
 use Rattle.c62_read.proofs.CaseBytes.{plain_byte, register_low, same_low, small_low, spells_low, test_low}
 
 -- ---- tokens
 
-abbrev pub lows : List Word → List Word
+abbrev lows : List Word → List Word
 lows ws = map low ws
 
 -- the first word may stand behind a 0
@@ -67,7 +67,7 @@ tokens_lowered : (zero : Bool) (line : List ℕ) → (zero && not (begins is_wor
     → tokens (lowered zero line) ≡ first_low zero (tokens line)
 tokens_lowered zero [] goes = refl
 tokens_lowered zero (b ∷ []) goes =
-    rw (test_low is_solid refl zero b) (elim (cases_Bool (is_solid b)) [ | inl solid ↦ rw solid refl | inr other ↦ rw other refl ])
+    rw (test_low is_solid refl zero b) (elim (cases_Bool (is_solid b)) [ inl solid ↦ rw solid refl | inr other ↦ rw other refl ])
 tokens_lowered zero (b ∷ c ∷ rest) goes =
     rw (
       test_low (λ x. eqb x 59) refl zero b,
@@ -164,15 +164,7 @@ left_low (unit, left) = (unit, low left)
 -- a side has a number from 1, so that no 0 stands before what is left
 no_zero : (n : ℕ) (side : Side) → side_numbered n ≡ Some side → eqb n 48 ≡ false
 unfolding side_numbered
-no_zero n side numbered =
-    elim (cases_Bool (eqb n 48)) [
-      | inl zero ↦
-          let first : eqb n 49 ≡ false = grind (arith, nat_tests) in
-          let second : eqb n 50 ≡ false = grind (arith, nat_tests) in
-          let none : side_numbered n ≡ None = rw (first, second) refl in
-          absurd cc
-      | inr other ↦ other
-    ]
+no_zero n side numbered = grind (arith, nat_tests)
 
 path_low : (letter : Letter) (side : Side) (c : ℕ) (rest : Word) (path : Option Side) → side_numbered c ≡ path
     → unit_of (Some letter) (Some side) (option_map Path path, lowered (eqb c 48) rest)
@@ -185,7 +177,7 @@ marked_low : (letter : Letter) (side : Side) (w : Word)
 unfolding mark_of
 marked_low letter side [] = refl
 marked_low letter side (b ∷ []) =
-    rw (test_low is_x refl false b) (elim (cases_Bool (is_x b)) [ | inl cross ↦ rw cross refl | inr other ↦ rw other refl ])
+    rw (test_low is_x refl false b) (elim (cases_Bool (is_x b)) [ inl cross ↦ rw cross refl | inr other ↦ rw other refl ])
 marked_low letter side (b ∷ c ∷ w) =
     rw (test_low is_x refl false b, test_low is_t refl false b, digit_low (eqb b 48) c, side_low (eqb b 48) c) (elim (cases_Bool (is_x b)) [
       | inl cross ↦ let letter : eqb b 48 ≡ false = grind (arith, nat_tests) in rw (cross, letter) refl
@@ -253,7 +245,7 @@ mnemonic_front_low (w ∷ ws) = rw (mnemonic_low w) (go (mnemonic_named w))
 
 -- ---- what is said, but for labels
 
-abbrev pub small : Result Says Cause → Result Says Cause
+abbrev small : Result Says Cause → Result Says Cause
 small (Ok says) = Ok (small_says says)
 small (Err cause) = Err cause
 
@@ -305,7 +297,7 @@ instruction_low ws =
     step_low BadUnit (unit_behind mnemonic (lows ws)) (unit_behind mnemonic ws) _ (behind_mnemonic_low mnemonic ws) (λ unit ws.
     behind_unit_low mnemonic condition unit ws)))
 
-pub rest_low : (ws : List Word) → small (rest_says (lows ws)) ≡ small (rest_says ws)
+rest_low : (ws : List Word) → small (rest_says (lows ws)) ≡ small (rest_says ws)
 unfolding rest_says
 rest_low [] = refl
 rest_low (w ∷ ws) =
@@ -334,17 +326,17 @@ bars_low : (ws : List Word) → is_bars (lows ws) ≡ is_bars ws
 bars_low [] = refl
 bars_low (w ∷ ws) = spells_low (codes "||") w
 
-abbrev pub Head : Type 0
+abbrev Head : Type 0
 Head = Result (Option Word × List Word) Cause
 
-abbrev pub head_low : Head → Head
+abbrev head_low : Head → Head
 head_low (Ok front) = Ok (front_low front)
 head_low (Err cause) = Err cause
 
 uncoloned : (front : Option Word × List Word) → without_colon (front_low front) ≡ head_low (without_colon front)
 uncoloned (label, ws) = rw (colon_low ws, on_test head_low) refl
 
-pub head_is_low : (line : List ℕ) → head_of (low line) ≡ head_low (head_of line)
+head_is_low : (line : List ℕ) → head_of (low line) ≡ head_low (head_of line)
 unfolding head_of
 head_is_low line =
     rw (
@@ -378,5 +370,67 @@ line_low : (line : List ℕ) → small_labels (line_of (low line)) ≡ small_lab
 unfolding line_of
 line_low line = rw (head_is_low line) (said_low (head_of line))
 
-pub line_same : (line other : List ℕ) → IsRecased 32 line other → small_labels (line_of line) ≡ small_labels (line_of other)
+line_same : (line other : List ℕ) → IsRecased 32 line other → small_labels (line_of line) ≡ small_labels (line_of other)
 line_same line other same = sym (line_low line) ∙ ap (λ (bytes : List ℕ). small_labels (line_of bytes)) (same_low 32 line other same) ∙ line_low other
+
+same_does : (parts : Parts) (read : Result (Option Word × Says) Cause) → small_labels read ≡ Ok (None, Does parts) → read ≡ Ok (None, Does parts)
+same_does parts (Err cause) e = absurd cc
+same_does parts (Ok (label, says)) e =
+    let both : (option_map in_small label, small_says says) ≡ (None, Does parts) = cc in
+    go label says (ap (λ (pair : Option Word × Says). pair.0) both) (ap (λ (pair : Option Word × Says). pair.1) both)
+  where
+    go : (label : Option Word) (says : Says) → option_map in_small label ≡ None → small_says says ≡ Does parts
+        → ◌≡◌ {A = Result (Option Word × Says) Cause} (Ok (label, says)) (Ok (None, Does parts))
+    go None (Does other) e f = cc
+    go label says e f = absurd cc
+
+pub case_nothing : (line other : List ℕ) → IsRecased 32 line other → CaseSaysNothing line other
+case_nothing line other same =
+    let both = line_same line other same in
+    (both, λ parts e. same_does parts (line_of other) (sym both ∙ ap small_labels e))
+
+-- ---- what is said with the same labels
+
+said_same : (label name : Option Word) (read other : Result Says Cause) → small read ≡ small other → label ≡ name
+    → target_in (with_rest label read) ≡ target_in (with_rest name other) → with_rest label read ≡ with_rest name other
+said_same label name (Err cause) (Err reason) e same targets = let causes : cause ≡ reason = cc in rw causes refl
+said_same label name (Ok (Jumps parts target)) (Ok (Jumps others aim)) e same targets =
+    let first : parts ≡ others = cc in
+    let second : target ≡ aim = cc in
+    rw (same, first, second) refl
+said_same label name (Ok Nothing) (Ok Nothing) e same targets = rw same refl
+said_same label name (Ok (Pause n)) (Ok (Pause m)) e same targets = cc
+said_same label name (Ok (Does parts)) (Ok (Does others)) e same targets = cc
+said_same label name read other e same targets = absurd cc
+
+words_in : Head → List Word
+words_in (Ok front) = front.1
+words_in (Err cause) = []
+
+heads_same : (line other : List ℕ) (head front : Head) → head_of line ≡ head → head_of other ≡ front → head_low head ≡ head_low front
+    → label_field line ≡ label_field other → target_in (with_head head) ≡ target_in (with_head front)
+    → (fault_in head ≡ fault_in front) × (with_head head ≡ with_head front)
+unfolding words_in
+heads_same line other (Ok (label, ws)) (Ok (name, vs)) e f same field targets =
+    let words : lows ws ≡ lows vs = ap words_in same in
+    let rest : small (rest_says ws) ≡ small (rest_says vs) = sym (rest_low ws) ∙ ap (λ (us : List Word). small (rest_says us)) words ∙ rest_low vs in
+    (refl, said_same label name (rest_says ws) (rest_says vs) rest (sym (field_is line label ws e) ∙ field ∙ field_is other name vs f) targets)
+heads_same line other (Err cause) (Err reason) e f same field targets = let causes : cause ≡ reason = cc in rw causes (refl, refl)
+heads_same line other head front e f same field targets = absurd cc
+
+alike : (line other : List ℕ) → IsRecased 32 line other → label_field line ≡ label_field other → target_in (line_of line) ≡ target_in (line_of other)
+    → IsAlike line other
+unfolding line_of
+alike line other same field targets =
+    let heads = sym (head_is_low line) ∙ ap head_of (same_low 32 line other same) ∙ head_is_low other in
+    let both = heads_same line other (head_of line) (head_of other) refl refl heads field targets in
+    record { head = both.0; field = field; said = both.1 }
+
+all_alike : (lines others : List (List ℕ)) → AreRecased lines others → AreAlike lines others
+all_alike [] [] same = tt
+all_alike (line ∷ lines) (other ∷ others) same = (alike line other same.0.0 same.0.1 same.0.2, all_alike lines others same.1)
+all_alike [] (other ∷ others) same = absurd same
+all_alike (line ∷ lines) [] same = absurd same
+
+pub case_changes_nothing : (text other : List ℕ) → CaseChangesNothing text other
+case_changes_nothing text other short few same = alike_programs text other short few (all_alike (lines_of text) (lines_of other) same)

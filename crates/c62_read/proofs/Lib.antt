@@ -30,7 +30,6 @@ pub mod CutLemmas
 pub mod ProgramLaws
 pub mod CaseBytes
 pub mod CaseLaws
-pub mod CaseTexts
 pub mod WrittenLines
 pub mod KindLemmas
 pub mod PauseLemmas

@@ -81,23 +81,18 @@ tokens_word (b ∷ c ∷ w) rest words ends =
     tokens_joined b c (w ++ rest) (word_solid b first.0) joined ∙ ap (grow b) (tokens_word (c ∷ w) rest first.1 ends)
 
 -- a first byte that joins a word
-tokens_joined_word : (b c : ℕ) (more : List ℕ) (n : ℕ) → is_solid b ≡ true → joins b c ≡ true → list_all is_word_byte (take n (c ∷ more)) ≡ true
-    → begins is_word_byte (drop n (c ∷ more)) ≡ false
-    → tokens (b ∷ c ∷ more) ≡ (b ∷ take n (c ∷ more)) ∷ tokens (drop n (c ∷ more))
-tokens_joined_word b c more zero solid joined words ends = let word : is_word_byte c ≡ true = joined_word b c joined in absurd cc
-tokens_joined_word b c more (suc n) solid joined words ends =
-    let whole : (c ∷ take n more) ++ drop n more ≡ c ∷ more = ap (λ (bs : List ℕ). c ∷ bs) (take-append-drop n more) in
-    tokens_joined b c more solid joined ∙ ap (λ (bs : List ℕ). grow b (tokens bs)) (sym whole)
-    ∙ ap (grow b) (tokens_word (c ∷ take n more) (drop n more) words ends)
-
 pub joined_token : (bytes : List ℕ) (n : ℕ) → 2 ≤ length bytes → begins is_solid bytes ≡ true → joins (get_or bytes 0 0) (get_or bytes 1 0) ≡ true
     → list_all is_word_byte (take n (drop 1 bytes)) ≡ true → begins is_word_byte (drop n (drop 1 bytes)) ≡ false
     → tokens bytes ≡ take (1 + n) bytes ∷ tokens (drop (1 + n) bytes)
 joined_token [] n long solid joined words ends = absurd (omega arith)
 joined_token (b ∷ []) n long solid joined words ends = absurd (omega arith)
-joined_token (b ∷ c ∷ more) n long solid joined words ends =
-    let one_more : 1 + n ≡ suc n = omega arith in
-    rw one_more (tokens_joined_word b c more n solid joined words ends)
+joined_token (b ∷ c ∷ more) zero long solid joined words ends = let word = joined_word b c joined in absurd cc
+joined_token (b ∷ c ∷ more) (suc n) long solid joined words ends =
+    let one_more : 1 + suc n ≡ suc (suc n) = omega arith in
+    let whole : (c ∷ take n more) ++ drop n more ≡ c ∷ more = ap (λ (bs : List ℕ). c ∷ bs) (take-append-drop n more) in
+    rw one_more
+    (tokens_joined b c more solid joined ∙ ap (λ (bs : List ℕ). grow b (tokens bs)) (sym whole)
+    ∙ ap (grow b) (tokens_word (c ∷ take n more) (drop n more) words ends))
 
 -- the tokens of what begins with a token, which is cut off
 pub led_by_token : (bytes : List ℕ) (n : ℕ) → n ≤ length bytes → (0 < length bytes → 0 < n)

@@ -1,4 +1,4 @@
-use Rattle.c62_read.proofs.CaseTexts.{case_nothing}
+use Rattle.c62_read.proofs.CaseLaws.{case_nothing}
 use Rattle.c62_read.proofs.laws.case_says_nothing.Goals as goal
 
 pub returns : goal.returns
