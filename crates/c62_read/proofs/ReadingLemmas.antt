@@ -16,48 +16,19 @@ use Rattle.c62_read.proofs.CutLemmas.{all_whole, cut_ends}
 use Rattle.c62_read.proofs.MissedLemmas.{missed_then}
 use Rattle.c62_read.proofs.WalkLemmas.{Stands, Walked, added_is, blocks_are, own_added, walk_text}
 
-module _ (labels : List Name) (number : ℕ) (line : List ℕ) (lines all : List (List ℕ)) (old : Drafts) (first : all ≡ line ∷ lines)
-    (asked now : List Asked) (kept : now ≡ asked ++ asked_in number (add_line number line old).says) where
-  -- the answer, but for the branches that are kept
-  stepped : unless_missed (first_line (missed labels asked)) (add_lines labels number all old)
-      ≡ unless_missed (first_line (missed labels now))
-      (and_then (at_line number (add_line number line old).drafts) (λ more. add_lines labels (number + 1) lines more))
+module _ (labels : List Name) (number : ℕ) (line : List ℕ) (lines all : List (List ℕ)) (old : Drafts) (first : all ≡ line ∷ lines) where
+  -- the answer behind this line, but for the branches that are kept
+  pub stepped : (asked now : List Asked) → now ≡ asked ++ asked_in number (add_line number line old).says
+      → (result : Result Drafts Cause) → (add_line number line old).drafts ≡ result
+      → unless_missed (first_line (missed labels now)) (and_then (at_line number result) (λ more. add_lines labels (number + 1) lines more))
+      ≡ unless_missed (first_line (missed labels asked)) (add_lines labels number all old)
   unfolding add_lines
-  stepped =
-      ap (λ (ls : List (List ℕ)). unless_missed (first_line (missed labels asked)) (add_lines labels number ls old)) first
-      ∙ missed_then labels asked number (add_line number line old).says
-      (and_then (at_line number (add_line number line old).drafts) (λ more. add_lines labels (number + 1) lines more))
-      ∙ ap (λ (branches : List Asked). unless_missed (first_line (missed labels branches))
-      (and_then (at_line number (add_line number line old).drafts) (λ more. add_lines labels (number + 1) lines more))) (sym kept)
-
-  pub goes_on : (new : Drafts) → (add_line number line old).drafts ≡ Ok new
-      → unless_missed (first_line (missed labels now)) (add_lines labels (number + 1) lines new)
-      ≡ unless_missed (first_line (missed labels asked)) (add_lines labels number all old)
-  goes_on new added =
-      sym (stepped
-      ∙ ap (λ (r : Result Drafts Cause). unless_missed (first_line (missed labels now))
-      (and_then (at_line number r) (λ more. add_lines labels (number + 1) lines more))) added)
-
-  pub stops : (cause : Cause) → (add_line number line old).drafts ≡ Err cause
-      → unless_missed (first_line (missed labels now)) (Err (number, cause))
-      ≡ unless_missed (first_line (missed labels asked)) (add_lines labels number all old)
-  stops cause refused =
-      sym (stepped
-      ∙ ap (λ (r : Result Drafts Cause). unless_missed (first_line (missed labels now))
-      (and_then (at_line number r) (λ more. add_lines labels (number + 1) lines more))) refused)
+  stepped asked now kept result is = rw (first, kept, ← is) (sym (missed_then labels asked number (add_line number line old).says _))
 
   -- the labels that the blocks have and those of the lines that are left
   pub labels_stay : (new : Drafts) → (add_line number line old).drafts ≡ Ok new
       → own_labels (all_drafts new) ++ labels_of lines ≡ own_labels (all_drafts old) ++ labels_of all
-  labels_stay new added =
-      ap (λ (labels : List Name). labels ++ labels_of lines) (own_added number line old new (added_is number line old new added))
-      ∙ append_assoc (own_labels (all_drafts old)) (option_to_list (label_field line)) (labels_of lines)
-      ∙ ap (λ (ls : List (List ℕ)). own_labels (all_drafts old) ++ labels_of ls) (sym first)
-
-pub is_done : (labels : List Name) (number : ℕ) (lines : List (List ℕ)) (drafts : Drafts) → lines ≡ []
-    → add_lines labels number lines drafts ≡ Ok drafts
-unfolding add_lines
-is_done labels number lines drafts none = ap (λ (ls : List (List ℕ)). add_lines labels number ls drafts) none
+  labels_stay new added = rw (own_added number line old new (added_is number line old new added), first, append_assoc) refl
 
 -- ---- the whole text
 
