@@ -1,6 +1,6 @@
 -- The blocks that are cut from labels and instructions.
-use Rattle.std.proofs.Common.{◌≡◌, ℕ, Bool, true, false, cond, not, leb, ltb, ◌&&◌, ◌||◌, List, [], ◌∷◌, ◌++◌, length, Option, Some, None, refl, sym, ap}
-use Rattle.std.proofs.Common.{◌∙◌, arith, append_assoc}
+use Rattle.std.proofs.Common.{◌≡◌, ℕ, Bool, true, false, cond, not, leb, ltb, ◌&&◌, ◌||◌, List, [], ◌∷◌, ◌++◌, length, Option, Some, None, refl, sym}
+use Rattle.std.proofs.Common.{ap, ◌∙◌, arith, append_assoc}
 use Rattle.std.specs.Prelude.{is_some, map}
 use Rattle.std.specs.List.{flat_map, list_all, list_any}
 use Rattle.std.proofs.lemmas.Bool.{or_left, or_right, and_from, and_parts, le-leb, lt-ltb, ltb-false, or_parts}
@@ -12,8 +12,8 @@ use Rattle.c62_insn.specs.declared.operands.Operands.{Operands}
 use Rattle.c62_insn.specs.declared.operands.Operands.TheVariants.{Three, ConstantFirst, ConstantSecond, Two, Field, Constant, Access, Block, Register}
 use Rattle.c62_read.specs.Block.{branch_last}
 use Rattle.c62_read.specs.Line.{is_branch}
-use Rattle.c62_read.specs.Program.{Begins, Draft, Item, Name, Numbered, Runs, aimed, aimed_operands, cut, ends_block, glue, is_among, is_overfull, joined}
-use Rattle.c62_read.specs.Program.{label_items, piece_of}
+use Rattle.c62_read.specs.Program.{Begins, Draft, Item, Name, Numbered, Runs, aimed, aimed_operands, cut, ends_block, glue, is_among, is_overfull}
+use Rattle.c62_read.specs.Program.{joined, label_items, piece_of}
 use Rattle.c62_read.specs.Walk.{draft_operations, is_whole}
 use Rattle.c62_read.specs.Laws.{ends_in_branch, may_begin, settled}
 use Rattle.c62_read.proofs.SaysLemmas.{has_no_block}

@@ -1,6 +1,6 @@
 -- Laws of programs: their instructions, their blocks, their labels and their targets are those of their lines.
-use Rattle.std.proofs.Common.{◌≡◌, ℕ, zero, suc, ◌+◌, ◌<◌, ◌≤◌, Bool, true, false, cond, not, ltb, ◌||◌, List, [], ◌∷◌, ◌++◌, length, get_or, Option, Some, None, Result, Ok}
-use Rattle.std.proofs.Common.{Err, refl, sym, ap, subst, ◌∙◌, arith, inl, inr}
+use Rattle.std.proofs.Common.{◌≡◌, ℕ, zero, suc, ◌+◌, ◌<◌, ◌≤◌, Bool, true, false, cond, not, ltb, ◌||◌, List, [], ◌∷◌, ◌++◌, length, get_or, Option}
+use Rattle.std.proofs.Common.{Some, None, Result, Ok, Err, refl, sym, ap, subst, ◌∙◌, arith, inl, inr}
 use Rattle.std.specs.Prelude.{map, position, slice_get, Contains, is_some}
 use Rattle.std.specs.List.{All, IsDistinct, flat_map, list_all, position_or_len}
 use Rattle.std.specs.Str.{bytes_eq}
@@ -21,9 +21,9 @@ use Rattle.c62_read.specs.declared.fault.Cause.TheVariants.{TextTooLong}
 use Rattle.c62_read.specs.Text.{lines_of}
 use Rattle.c62_read.specs.Block.{Serial, is_labelled, labels_in, target_stands, targets_stand}
 use Rattle.c62_read.specs.Line.{Says, Nothing, Does, Jumps, line_of}
-use Rattle.c62_read.specs.Program.{Begins, BlockParts, Draft, Item, Name, Numbered, Refusal, Runs, aimed, and_then, block_in, block_parts, blocks_from}
-use Rattle.c62_read.specs.Program.{drafts_in, first_fault, is_among, items_from, label_is, label_items, labels_of, line_items, says_items, target_number}
-use Rattle.c62_read.specs.Program.{program_in, unless_refused}
+use Rattle.c62_read.specs.Program.{Begins, BlockParts, Draft, Item, Name, Numbered, Refusal, Runs, aimed, and_then, block_in, block_parts}
+use Rattle.c62_read.specs.Program.{blocks_from, drafts_in, first_fault, is_among, items_from, label_is, label_items, labels_of, line_items}
+use Rattle.c62_read.specs.Program.{says_items, target_number, program_in, unless_refused}
 use Rattle.c62_read.specs.Laws.{HasCutBlocks, HasItsLabels, HasRisingLines, HasTargets, IsItsLines, ReadsAsItsLine, begin_well, block_named}
 use Rattle.c62_read.specs.Laws.{ends_in_branch, instruction_at, instructions_in, instructions_of, items_of, settled}
 use Rattle.c62_read.specs.Walk.{Drafts, add_lines, no_drafts, own_labels}

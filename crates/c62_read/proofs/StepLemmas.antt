@@ -5,9 +5,8 @@ use Rattle.std.specs.Prelude.{if◌then◌else◌}
 use Rattle.std.specs.List.{list_all, list_any, position_or_len}
 use Rattle.std.proofs.lemmas.Bool.{or_parts, and_from, and_parts, and_right}
 use Rattle.std.proofs.lemmas.Bool.Decides.{nat_tests}
-use Rattle.std.proofs.lemmas.List.Folds.{list_any-append}
+use Rattle.std.proofs.lemmas.List.Folds.{list_any-append, list_all-append}
 use Rattle.std.proofs.lemmas.List.Sums.{prefix_len-le-length}
-use Rattle.std.proofs.lemmas.List.Folds.{list_all-append}
 
 module _ (test : ℕ → Bool) where
   pub position_later : (n : ℕ) (text : List ℕ) → list_any test (take n text) ≡ false → n ≤ length text

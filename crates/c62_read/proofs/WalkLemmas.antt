@@ -1,27 +1,32 @@
 -- The reader's walk over the lines of a text answers what the text says.
 use Rattle.std.proofs.Common.{◌≡◌, ◌≤◌, ◌<◌, ℕ, ◌+◌, Bool, true, false, cond, leb, ltb, ◌&&◌, ◌||◌, List, [], ◌∷◌, ◌++◌, length, Option, Some, None}
-use Rattle.std.proofs.Common.{Result, Ok, Err, refl, sym, ap, ◌∙◌, arith, append_assoc, append-nil, length-append}
-use Rattle.std.specs.Prelude.{is_none, is_some}
-use Rattle.std.specs.List.{All, AllByRecursion, IsDistinct, list_any}
+use Rattle.std.proofs.Common.{Result, Ok, Err, refl, sym, ap, ◌∙◌, arith, append_assoc, append-nil, length-append, inl, inr}
+use Rattle.std.specs.Prelude.{is_none, is_some, map}
+use Rattle.std.specs.List.{All, AllByRecursion, IsDistinct, list_any, list_all}
 use Rattle.std.specs.Option.{option_to_list}
 use Rattle.std.specs.Str.{bytes_eq}
-use Rattle.std.proofs.lemmas.Bool.{leb-false, or_parts}
+use Rattle.std.proofs.lemmas.Bool.{leb-false, or_parts, lt-ltb, le-ltb}
 use Rattle.std.proofs.lemmas.Bool.Decides.{nat_tests}
 use Rattle.std.proofs.lemmas.List.Concat.{flat_map-append}
 use Rattle.std.proofs.lemmas.List.Elements.{All-nil, All-push}
 use Rattle.std.proofs.lemmas.List.Folds.{list_any-append}
 use Rattle.c62_read.specs.declared.fault.Cause.{Cause}
-use Rattle.c62_read.specs.declared.fault.Cause.TheVariants.{DuplicateLabel, UnknownTarget, TooManyInstructions, TooManyBlocks}
+use Rattle.c62_read.specs.declared.fault.Cause.TheVariants.{DuplicateLabel, UnknownTarget, TooManyInstructions, TooManyBlocks, TextTooLong}
 use Rattle.c62_read.specs.Line.{Parts, Says, Nothing, Pause, Does, Jumps, is_branch, head_of, line_of, rest_says}
 use Rattle.c62_read.specs.Program.{Name, Numbered, Item, Runs, Draft, Refusal, and_then, blocks_from, cut, fault_if, fault_in, fault_of, first_fault}
 use Rattle.c62_read.specs.Program.{first_of, glue, is_among, is_overfull, items_from, joined, label_is, label_items, labels_of, line_items}
-use Rattle.c62_read.specs.Program.{misses_label, piece_of, label_field, repeats_label, says_items}
-use Rattle.c62_read.specs.Walk.{Drafts, add_head, add_line, add_lines, add_says, all_drafts, at_line, begins_block, closed, hindrance}
-use Rattle.c62_read.specs.Walk.{is_full, is_instruction, is_taken, is_unknown, new_draft, no_drafts, opened, own_labels, refused, Step}
-use Rattle.c62_read.specs.Walk.{unless_hindered, with_insn, with_label, with_says}
+use Rattle.c62_read.specs.Program.{misses_label, piece_of, label_field, repeats_label, says_items, BlockParts, Fails, block_in, drafts_in, program_in}
+use Rattle.c62_read.specs.Program.{unless_refused}
+use Rattle.c62_read.specs.Walk.{Drafts, add_head, add_line, add_lines, add_says, all_drafts, at_line, begins_block, closed, hindrance, is_full}
+use Rattle.c62_read.specs.Walk.{is_instruction, is_taken, is_unknown, new_draft, no_drafts, opened, own_labels, refused, Step, unless_hindered}
+use Rattle.c62_read.specs.Walk.{with_insn, with_label, with_says, Asked, asked_in, first_line, missed, unless_missed, is_whole}
 use Rattle.c62_read.proofs.HeadLemmas.{line_by_head}
 use Rattle.c62_read.proofs.LabelFields.{field_is}
 use Rattle.c62_read.proofs.SaysLemmas.{IsProper, proper}
+use Rattle.c62_read.specs.declared.fault.ReadFault.{ReadFault}
+use Rattle.c62_read.specs.Text.{lines_of}
+use Rattle.c62_read.proofs.CutLemmas.{all_whole, cut_ends}
+use Rattle.c62_read.proofs.MissedLemmas.{missed_then}
 
 -- ---- the open block in front of blocks
 
@@ -422,3 +427,57 @@ pub walk_text : (lines : List (List ℕ)) → Walked (labels_of lines) [] lines 
 unfolding IsDistinct
 walk_text lines = walk (labels_of lines) lines [] no_drafts
     (record { cuts = λ items. refl; few = omega arith; small = refl; own = refl; fits = All-nil _; distinct = tt })
+
+module _ (labels : List Name) (number : ℕ) (line : List ℕ) (lines all : List (List ℕ)) (old : Drafts) (first : all ≡ line ∷ lines) where
+  -- the answer behind this line, but for the branches that are kept
+  pub stepped : (asked now : List Asked) → now ≡ asked ++ asked_in number (add_line number line old).says
+      → (result : Result Drafts Cause) → (add_line number line old).drafts ≡ result
+      → unless_missed (first_line (missed labels now)) (and_then (at_line number result) (λ more. add_lines labels (number + 1) lines more))
+      ≡ unless_missed (first_line (missed labels asked)) (add_lines labels number all old)
+  unfolding add_lines
+  stepped asked now kept result is = rw (first, kept, ← is) (sym (missed_then labels asked number (add_line number line old).says _))
+
+  -- the labels that the blocks have and those of the lines that are left
+  pub labels_stay : (new : Drafts) → (add_line number line old).drafts ≡ Ok new
+      → own_labels (all_drafts new) ++ labels_of lines ≡ own_labels (all_drafts old) ++ labels_of all
+  labels_stay new added = rw (own_added number line old new (added_is number line old new added), first, append_assoc) refl
+
+-- ---- the whole text
+
+abbrev pub read_all : List ℕ → Result Drafts Refusal
+read_all text = add_lines (labels_of (lines_of text)) 1 (lines_of text) no_drafts
+
+pub too_long : (text : List ℕ) → 1048576 < length text → program_in text ≡ Err (0, TextTooLong)
+unfolding program_in drafts_in
+too_long text long = rw (lt-ltb 1048576 (length text) long) refl
+
+abbrev pub blocks_of : Result Drafts Refusal → Result (List BlockParts) Refusal
+blocks_of read = and_then read (λ drafts. Ok (map (block_in (all_drafts drafts)) (all_drafts drafts)))
+
+pub program_is : (text : List ℕ) → length text ≤ 1048576 → program_in text ≡ blocks_of (read_all text)
+unfolding program_in drafts_in
+program_is text short = rw (le-ltb 1048576 (length text) short) (go (read_all text) (walk_text (lines_of text)))
+  where
+    go : (read : Result Drafts Refusal) → Walked (labels_of (lines_of text)) [] (lines_of text) read
+        → and_then (unless_refused (first_fault (labels_of (lines_of text)) [] (lines_of text)) (blocks_from (lines_of text)))
+        (λ drafts. Ok (map (block_in drafts) drafts)) ≡ blocks_of read
+    go (Ok drafts) walked = rw (walked.0, blocks_are (labels_of (lines_of text)) (lines_of text) drafts walked.1) refl
+    go (Err refusal) walked = rw walked refl
+
+pub read_stands : (text : List ℕ) (drafts : Drafts) → read_all text ≡ Ok drafts → Stands (labels_of (lines_of text)) (lines_of text) drafts
+read_stands text drafts read = (rw read at (walk_text (lines_of text))).1
+
+pub whole_blocks : (text : List ℕ) (drafts : Drafts) → read_all text ≡ Ok drafts → list_all is_whole (all_drafts drafts) ≡ true
+whole_blocks text drafts read =
+    let stands = read_stands text drafts read in
+    all_whole (all_drafts drafts) stands.small
+    (rw (blocks_are (labels_of (lines_of text)) (lines_of text) drafts stands) at (cut_ends (items_from 1 (lines_of text))))
+
+-- these blocks are the text's, which are made of what was read
+pub program_read : (text : List ℕ) → length text ≤ 1048576 → (drafts : Drafts) → read_all text ≡ Ok drafts
+    → (done : List Draft) → done ≡ all_drafts drafts → (blocks : List BlockParts) → blocks ≡ map (block_in done) done → program_in text ≡ Ok blocks
+program_read text short drafts read done all blocks made = rw (program_is text short, read, made, all) refl
+
+pub program_refused : (text : List ℕ) → length text ≤ 1048576 → (fault : ReadFault) → Fails fault (read_all text) → Fails fault (program_in text)
+program_refused text short fault (inl memory) = inl memory
+program_refused text short fault (inr refused) = inr (program_is text short ∙ ap blocks_of refused)

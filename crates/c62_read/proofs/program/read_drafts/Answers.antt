@@ -5,7 +5,7 @@ use Rattle.c62_read.specs.Text.{lines_of}
 use Rattle.c62_read.specs.Program.{Name, labels_of}
 use Rattle.c62_read.specs.Walk.{Drafts, add_line, add_lines, all_drafts, asked_of, drafts_of, first_line, missed, own_labels, unless_hindered}
 use Rattle.c62_read.specs.Walk.{unless_missed}
-use Rattle.c62_read.proofs.ReadingLemmas.{labels_stay, read_stands, stepped, whole_blocks}
+use Rattle.c62_read.proofs.WalkLemmas.{labels_stay, read_stands, stepped, whole_blocks}
 use Rattle.c62_read.proofs.program.read_drafts.Goals as goal
 
 pub loop-line-preserved : goal.loop-line-preserved
