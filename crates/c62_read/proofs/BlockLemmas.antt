@@ -9,8 +9,6 @@ use Rattle.c62_read.specs.Program.{Draft, Name, label_is, target_number, BlockPa
 use Rattle.c62_read.specs.Walk.{draft_of, number_among}
 use Rattle.std.proofs.lemmas.Bool.{and_from, and_parts}
 use Rattle.std.proofs.lemmas.Simd.{map-map}
-use Rattle.c62_insn.specs.declared.operands.Op.{Op}
-use Rattle.c62_insn.specs.Insn.{op_of}
 use Rattle.c62_read.specs.declared.block.SerialInsn.{SerialInsn}
 use Rattle.c62_read.specs.Block.{Serial, branch_last, is_block, operations}
 

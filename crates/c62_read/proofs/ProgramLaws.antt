@@ -1,13 +1,13 @@
 -- Laws of programs: their instructions, their blocks, their labels and their targets are those of their lines.
-use Rattle.std.proofs.Common.{◌≡◌, ℕ, zero, suc, ◌+◌, ◌<◌, ◌≤◌, Bool, true, false, cond, not, ltb, ◌||◌, List, [], ◌∷◌, ◌++◌, length, get_or, Option}
+use Rattle.std.proofs.Common.{◌≡◌, ℕ, zero, suc, ◌+◌, ◌<◌, ◌≤◌, Bool, true, false, cond, not, ltb, List, [], ◌∷◌, ◌++◌, length, get_or, Option}
 use Rattle.std.proofs.Common.{Some, None, Result, Ok, Err, refl, sym, ap, subst, ◌∙◌, arith, inl, inr}
-use Rattle.std.specs.Prelude.{map, position, slice_get, Contains, is_some}
+use Rattle.std.specs.Prelude.{map, position, slice_get, Contains}
 use Rattle.std.specs.List.{All, IsDistinct, flat_map, list_all, position_or_len}
 use Rattle.std.specs.Str.{bytes_eq}
 use Rattle.std.specs.List.Sorted.{IsStrictlyIncreasing}
 use Rattle.std.specs.Option.{option_to_list}
 use Rattle.std.proofs.lemmas.Bool.Decides.{nat_tests}
-use Rattle.std.proofs.lemmas.Bool.{and_from, lt-ltb, not-false}
+use Rattle.std.proofs.lemmas.Bool.{not-false}
 use Rattle.std.proofs.lemmas.List.{length-map, map-append}
 use Rattle.std.proofs.lemmas.List.Concat.{flat_map-append}
 use Rattle.std.proofs.lemmas.List.Elements.{All-contains, All-head, All-tail, Contains-append_cases}
@@ -102,7 +102,8 @@ module _ (label : Name) where
 
 pub has_targets : (text : List ℕ) → HasTargets text
 has_targets text blocks line label parts target e among jumps =
-    let fit = All-contains (λ (l : List ℕ). OkFits (labels_of (lines_of text)) (line_of l)) (lines_of text) line (program_is_cut text blocks e).fits among in
+    let fits = (program_is_cut text blocks e).fits in
+    let fit = All-contains (λ (l : List ℕ). OkFits (labels_of (lines_of text)) (line_of l)) (lines_of text) line fits among in
     let known = not-false (is_among target (labels_of (lines_of text))) (rw jumps at fit).1 in (
       position_or_len (λ (block : BlockParts). label_is target block.label) blocks,
       found target blocks (ap (is_among target) (has_its_labels text blocks e).0 ∙ known),
