@@ -1,11 +1,16 @@
--- Blocks as they are read.
-use Rattle.std.proofs.Common.{◌≡◌, ℕ, Bool, ◌||◌, List, [], ◌∷◌, Option, Some, None, refl, ap}
+-- Blocks as they are read and made: at most 256 instructions, and a branch only as the last.
+use Rattle.std.proofs.Common.{◌≡◌, ℕ, Bool, ◌||◌, List, [], ◌∷◌, Option, Some, None, refl, ap, ◌<◌, suc, true, ◌&&◌, ◌++◌, length, sym, ◌∙◌}
+use Rattle.std.proofs.Common.{append_assoc, arith, leb, get_or}
 use Rattle.std.specs.Prelude.{map}
-use Rattle.std.proofs.lemmas.List.{length-map}
+use Rattle.std.proofs.lemmas.List.{length-map, map-append}
 use Rattle.std.specs.List.{list_any, position_or_len}
 use Rattle.c62_read.specs.declared.program.BlockReader.{BlockReader}
-use Rattle.c62_read.specs.Program.{Draft, Name, label_is, target_number}
+use Rattle.c62_read.specs.Program.{Draft, Name, label_is, target_number, BlockParts, Numbered, aimed, block_in, block_parts, numbered_of}
 use Rattle.c62_read.specs.Walk.{draft_of, number_among}
+use Rattle.std.proofs.lemmas.Bool.{and_from, and_parts}
+use Rattle.std.proofs.lemmas.Simd.{map-map}
+use Rattle.c62_read.specs.declared.block.SerialInsn.{SerialInsn}
+use Rattle.c62_read.specs.Block.{Serial, branch_last, is_block, operations}
 
 -- the labels are those of the reader's blocks
 pub any_draft : (label : List ℕ) (blocks : List BlockReader)
@@ -23,3 +28,37 @@ position_label label (draft ∷ drafts) = rw (position_label label drafts) refl
 pub number_is : (drafts : List Draft) (target : Option Name) → number_among (map (λ draft. draft.label) drafts) target ≡ target_number drafts target
 number_is drafts None = refl
 number_is drafts (Some label) = rw (position_label label drafts, length-map drafts (λ (draft : Draft). draft.label)) refl
+
+pub aimed_block : (number : ℕ) (insns old : List SerialInsn) → map numbered_of insns ≡ map (aimed number) (map numbered_of old)
+    → (leb (length (map numbered_of old)) 256 && branch_last (map (λ (e : Numbered). e.parts.op) (map numbered_of old))) ≡ true
+    → is_block insns ≡ true
+aimed_block number insns old same whole =
+    let parts = and_parts (leb (length (map numbered_of old)) 256) (branch_last (map (λ (e : Numbered). e.parts.op) (map numbered_of old))) whole in
+    let count : length insns ≡ length (map numbered_of old) = sym (length-map insns numbered_of) ∙ ap length same
+    ∙ length-map (map numbered_of old) (aimed number) in
+    let ops : operations insns ≡ map (λ (e : Numbered). e.parts.op) (map numbered_of old) =
+    sym (map-map (λ (e : Numbered). e.parts.op) numbered_of insns) ∙ ap (map (λ (e : Numbered). e.parts.op)) same
+    ∙ map-map (λ (e : Numbered). e.parts.op) (aimed number) (map numbered_of old) in
+    and_from (leb (length insns) 256) (branch_last (operations insns)) (ap (λ (n : ℕ). leb n 256) count ∙ parts.0) (ap branch_last ops ∙ parts.1)
+
+-- what is aimed entry by entry
+pub all_aimed : (number : ℕ) (new old : List SerialInsn) → length new ≡ length old
+    → ((k : ℕ) (d : SerialInsn) → k < length old → numbered_of (get_or new k d) ≡ aimed number (numbered_of (get_or old k d)))
+    → map numbered_of new ≡ map (aimed number) (map numbered_of old)
+all_aimed number [] [] same at = refl
+all_aimed number [] (o ∷ old) same at = absurd (omega (arith, same))
+all_aimed number (n ∷ new) [] same at = absurd (omega (arith, same))
+all_aimed number (n ∷ new) (o ∷ old) same at =
+    let here : numbered_of n ≡ aimed number (numbered_of o) = at 0 n (omega arith) in
+    let others : map numbered_of new ≡ map (aimed number) (map numbered_of old) =
+    all_aimed number new old (omega (arith, same)) (λ k d less. at (suc k) d (omega (arith, less))) in
+    rw (here, others) refl
+
+-- one block more is made
+pub one_made : (drafts : List Draft) (made now : List Serial) (block : BlockReader) (last : Serial) (old new : List BlockReader)
+    (all : List BlockParts)
+    → now ≡ made ++ last ∷ [] → old ≡ block ∷ new → block_parts last ≡ block_in drafts (draft_of block)
+    → map block_parts made ++ map (block_in drafts) (map draft_of old) ≡ all
+    → map block_parts now ++ map (block_in drafts) (map draft_of new) ≡ all
+one_made drafts made now block last old new all pushed taken parts so_far =
+    rw (pushed, map-append block_parts made (last ∷ []), parts, append_assoc) (rw taken at so_far)

@@ -1,19 +1,18 @@
 -- The blocks that are cut from labels and instructions.
-use Rattle.std.proofs.Common.{◌≡◌, ℕ, Bool, true, false, cond, not, leb, ltb, ◌&&◌, ◌||◌, List, [], ◌∷◌, ◌++◌, length, Option, Some, None, refl, sym, ap}
-use Rattle.std.proofs.Common.{◌∙◌, arith, append_assoc}
+use Rattle.std.proofs.Common.{◌≡◌, ℕ, Bool, true, false, cond, ◌&&◌, ◌||◌, List, [], ◌∷◌, ◌++◌, Option, Some, None, refl}
+use Rattle.std.proofs.Common.{ap, arith}
 use Rattle.std.specs.Prelude.{is_some, map}
 use Rattle.std.specs.List.{flat_map, list_all, list_any}
-use Rattle.std.proofs.lemmas.Bool.{or_left, or_right, and_from, and_parts, le-leb, lt-ltb, ltb-false, or_parts}
+use Rattle.std.proofs.lemmas.Bool.{or_left, or_right}
 use Rattle.std.proofs.lemmas.Bool.Decides.{nat_tests}
-use Rattle.std.proofs.lemmas.List.{map-append}
 use Rattle.c62_insn.specs.declared.operands.Op.{Op}
 use Rattle.c62_insn.specs.declared.operands.Op.TheVariants.{B as Branch}
 use Rattle.c62_insn.specs.declared.operands.Operands.{Operands}
-use Rattle.c62_insn.specs.declared.operands.Operands.TheVariants.{Three, ConstantFirst, ConstantSecond, Two, Field, Constant, Access, Block, Register}
+use Rattle.c62_insn.specs.declared.operands.Operands.TheVariants.{Block}
 use Rattle.c62_read.specs.Block.{branch_last}
 use Rattle.c62_read.specs.Line.{is_branch}
-use Rattle.c62_read.specs.Program.{Begins, Draft, Item, Name, Numbered, Runs, aimed, aimed_operands, cut, ends_block, glue, is_among, is_overfull, joined}
-use Rattle.c62_read.specs.Program.{label_items, piece_of}
+use Rattle.c62_read.specs.Program.{Begins, Draft, Item, Name, Numbered, Runs, aimed, aimed_operands, cut, ends_block, glue, is_among, is_overfull}
+use Rattle.c62_read.specs.Program.{joined, label_items, piece_of}
 use Rattle.c62_read.specs.Walk.{draft_operations, is_whole}
 use Rattle.c62_read.specs.Laws.{ends_in_branch, may_begin, settled}
 use Rattle.c62_read.proofs.SaysLemmas.{has_no_block}
@@ -113,7 +112,8 @@ module _ (aim : Name → ℕ) (labels : List Name) where
   join_items (Runs entry (Some target)) items draft drafts ends none have fit = let branch = ap is_branch fit.0.0 in absurd cc
 
   pub cut_items : (items : List Item) → AllFit labels items → flat_map (draft_items aim) (cut items) ≡ map (settled aim) items
-  cut_items items = cut_all HaveItems (λ fit. refl) (λ item items drafts parts have fit. rw (piece_items item fit.0, have fit.1) refl) join_items items
+  cut_items items =
+      cut_all HaveItems (λ fit. refl) (λ item items drafts parts have fit. rw (piece_items item fit.0, have fit.1) refl) join_items items
 
 -- ---- where blocks begin
 

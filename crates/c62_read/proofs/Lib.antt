@@ -6,8 +6,6 @@ pub mod StepLemmas
 pub mod LineLemmas
 pub mod BlockLemmas
 pub mod MissedLemmas
-pub mod ReadingLemmas
-pub mod SoundLemmas
 pub mod LabelFields
 pub mod WalkLemmas
 pub mod BytesLemmas

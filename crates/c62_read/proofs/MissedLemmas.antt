@@ -1,15 +1,14 @@
 -- Branches to labels that are looked for later.
-use Rattle.std.proofs.Common.{◌≡◌, ℕ, Bool, true, false, not, cond, List, [], ◌∷◌, ◌++◌, Result, Err, refl, sym, ap, ◌∙◌, arith}
+use Rattle.std.proofs.Common.{◌≡◌, ℕ, false, not, cond, List, [], ◌∷◌, ◌++◌, Result, Err, refl, sym, ap, ◌∙◌, arith}
 use Rattle.std.specs.Prelude.{map, option_map}
 use Rattle.std.specs.List.{filter, list_any, slice_get}
 use Rattle.std.specs.Str.{bytes_eq}
-use Rattle.std.proofs.lemmas.Bool.{or_parts}
 use Rattle.std.proofs.lemmas.Bool.Decides.{nat_tests}
 use Rattle.std.proofs.lemmas.List.Elements.{filter-append}
 use Rattle.std.proofs.lemmas.List.Folds.{list_any-append}
 use Rattle.c62_read.specs.declared.fault.Cause.TheVariants.{UnknownTarget}
 use Rattle.c62_read.specs.declared.jump.Jump.{Jump}
-use Rattle.c62_read.specs.Line.{Says, Nothing, Pause, Does, Jumps}
+use Rattle.c62_read.specs.Line.{Says, Jumps}
 use Rattle.c62_read.specs.Program.{Name, Refusal, is_among}
 use Rattle.c62_read.specs.Walk.{Asked, asked_in, asked_of, first_line, is_unknown, missed, unless_missed}
 

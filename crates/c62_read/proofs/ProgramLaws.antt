@@ -1,18 +1,18 @@
 -- Laws of programs: their instructions, their blocks, their labels and their targets are those of their lines.
-use Rattle.std.proofs.Common.{◌≡◌, ℕ, zero, suc, ◌+◌, ◌<◌, ◌≤◌, Bool, true, false, cond, not, ltb, ◌||◌, List, [], ◌∷◌, ◌++◌, length, get_or, Option, Some, None, Result, Ok}
-use Rattle.std.proofs.Common.{Err, refl, sym, ap, subst, ◌∙◌, arith, inl, inr}
-use Rattle.std.specs.Prelude.{map, position, slice_get, Contains, is_some}
+use Rattle.std.proofs.Common.{◌≡◌, ℕ, zero, suc, ◌+◌, ◌<◌, ◌≤◌, Bool, true, false, cond, not, ltb, List, [], ◌∷◌, ◌++◌, length, get_or, Option}
+use Rattle.std.proofs.Common.{Some, None, Result, Ok, Err, refl, sym, ap, subst, ◌∙◌, arith, inl, inr}
+use Rattle.std.specs.Prelude.{map, position, slice_get, Contains}
 use Rattle.std.specs.List.{All, IsDistinct, flat_map, list_all, position_or_len}
 use Rattle.std.specs.Str.{bytes_eq}
 use Rattle.std.specs.List.Sorted.{IsStrictlyIncreasing}
 use Rattle.std.specs.Option.{option_to_list}
 use Rattle.std.proofs.lemmas.Bool.Decides.{nat_tests}
-use Rattle.std.proofs.lemmas.Bool.{and_from, lt-ltb, not-false}
+use Rattle.std.proofs.lemmas.Bool.{not-false}
 use Rattle.std.proofs.lemmas.List.{length-map, map-append}
 use Rattle.std.proofs.lemmas.List.Concat.{flat_map-append}
 use Rattle.std.proofs.lemmas.List.Elements.{All-contains, All-head, All-tail, Contains-append_cases}
 use Rattle.std.proofs.lemmas.List.Folds.{flat_map-map, list_all-append, list_all-map}
-use Rattle.std.proofs.lemmas.Option.{slice_get_within}
+use Rattle.std.proofs.lemmas.Option.{slice_get_past}
 use Rattle.std.proofs.lemmas.Simd.{map-map}
 use Rattle.c62_insn.specs.declared.operands.Operands.{Operands}
 use Rattle.c62_insn.specs.declared.operands.Operands.TheVariants.{Block}
@@ -21,9 +21,9 @@ use Rattle.c62_read.specs.declared.fault.Cause.TheVariants.{TextTooLong}
 use Rattle.c62_read.specs.Text.{lines_of}
 use Rattle.c62_read.specs.Block.{Serial, is_labelled, labels_in, target_stands, targets_stand}
 use Rattle.c62_read.specs.Line.{Says, Nothing, Does, Jumps, line_of}
-use Rattle.c62_read.specs.Program.{Begins, BlockParts, Draft, Item, Name, Numbered, Refusal, Runs, aimed, and_then, block_in, block_parts, blocks_from}
-use Rattle.c62_read.specs.Program.{drafts_in, first_fault, is_among, items_from, label_is, label_items, labels_of, line_items, says_items, target_number}
-use Rattle.c62_read.specs.Program.{program_in, unless_refused}
+use Rattle.c62_read.specs.Program.{Begins, BlockParts, Draft, Item, Name, Numbered, Refusal, Runs, aimed, and_then, block_in, block_parts}
+use Rattle.c62_read.specs.Program.{blocks_from, drafts_in, first_fault, is_among, items_from, label_is, label_items, labels_of, line_items}
+use Rattle.c62_read.specs.Program.{says_items, target_number, program_in, unless_refused}
 use Rattle.c62_read.specs.Laws.{HasCutBlocks, HasItsLabels, HasRisingLines, HasTargets, IsItsLines, ReadsAsItsLine, begin_well, block_named}
 use Rattle.c62_read.specs.Laws.{ends_in_branch, instruction_at, instructions_in, instructions_of, items_of, settled}
 use Rattle.c62_read.specs.Walk.{Drafts, add_lines, no_drafts, own_labels}
@@ -75,38 +75,35 @@ has_its_labels text blocks e =
 
 -- the first block with a label
 module _ (label : Name) where
+  abbrev Has : List BlockParts → Type 0
+  Has blocks = is_among label (flat_map (λ block. option_to_list block.label) blocks) ≡ true
+
   abbrev found_at : List BlockParts → ℕ
   found_at blocks = position_or_len (λ block. label_is label block.label) blocks
 
-  abbrev labels_at : List BlockParts → List (Option Name)
-  labels_at blocks = map (λ block. block.label) blocks
+  abbrev Labelled : List BlockParts → Type 0
+  Labelled blocks = is_labelled (slice_get (map (λ block. block.label) blocks) (found_at blocks)) ≡ true
 
-  labelled : (blocks : List BlockParts) → is_among label (flat_map (λ block. option_to_list block.label) blocks) ≡ true
-      → is_labelled (slice_get (labels_at blocks) (found_at blocks)) ≡ true
+  labelled : (blocks : List BlockParts) → Has blocks → Labelled blocks
   labelled [] has = absurd cc
   labelled (block ∷ blocks) has = go block.label has (labelled blocks)
     where
       go : (first : Option Name) → is_among label (option_to_list first ++ flat_map (λ block. option_to_list block.label) blocks) ≡ true
-          → (is_among label (flat_map (λ block. option_to_list block.label) blocks) ≡ true
-          → is_labelled (slice_get (labels_at blocks) (found_at blocks)) ≡ true)
-          → is_labelled (slice_get (first ∷ labels_at blocks) (cond (not (label_is label first)) (1 + found_at blocks) 0)) ≡ true
+          → (Has blocks → Labelled blocks)
+          → is_labelled (slice_get (first ∷ map (λ block. block.label) blocks) (cond (not (label_is label first)) (1 + found_at blocks) 0)) ≡ true
       go None has others = grind (arith, nat_tests, others)
       go (Some other) has others = grind (arith, nat_tests, others)
 
-  within : (blocks : List BlockParts) → is_among label (flat_map (λ block. option_to_list block.label) blocks) ≡ true → found_at blocks < length blocks
-  within blocks has = go (slice_get (labels_at blocks) (found_at blocks)) refl (labelled blocks has)
-    where
-      go : (at : Option (Option Name)) → slice_get (labels_at blocks) (found_at blocks) ≡ at → is_labelled at ≡ true → found_at blocks < length blocks
-      go None is named = absurd cc
-      go (Some found) is named = rw length-map at (slice_get_within (labels_at blocks) (found_at blocks) found is)
-
-  found : (blocks : List BlockParts) → is_among label (flat_map (λ block. option_to_list block.label) blocks) ≡ true
-      → position (λ block. label_is label block.label) blocks ≡ Some (found_at blocks)
-  found blocks has = rw (lt-ltb (found_at blocks) (length blocks) (within blocks has)) refl
+  found : (blocks : List BlockParts) → Has blocks → position (λ block. label_is label block.label) blocks ≡ Some (found_at blocks)
+  found blocks has =
+      let labels : List (Option Name) = map (λ (block : BlockParts). block.label) blocks in
+      let past = slice_get_past labels (found_at blocks) in
+      grind (arith, nat_tests, labelled blocks has, past, length-map blocks (λ (block : BlockParts). block.label))
 
 pub has_targets : (text : List ℕ) → HasTargets text
 has_targets text blocks line label parts target e among jumps =
-    let fit = All-contains (λ (l : List ℕ). OkFits (labels_of (lines_of text)) (line_of l)) (lines_of text) line (program_is_cut text blocks e).fits among in
+    let fits = (program_is_cut text blocks e).fits in
+    let fit = All-contains (λ (l : List ℕ). OkFits (labels_of (lines_of text)) (line_of l)) (lines_of text) line fits among in
     let known = not-false (is_among target (labels_of (lines_of text))) (rw jumps at fit).1 in (
       position_or_len (λ (block : BlockParts). label_is target block.label) blocks,
       found target blocks (ap (is_among target) (has_its_labels text blocks e).0 ∙ known),
@@ -241,29 +238,17 @@ ReadsAt aim n lines entry =
     (index : ℕ) × (line : List ℕ) × (entry.line ≡ index + n) × (slice_get lines index ≡ Some line) ×
     (instruction_at aim entry.line (line_of line) ≡ entry ∷ [])
 
-only_one : (made entry : Numbered) → Contains (made ∷ []) entry → made ≡ entry
-only_one made entry (zero, inside, is) = is
-only_one made entry (suc k, inside, is) = absurd (omega (arith, inside))
-
-abbrev IsOnly : (Name → ℕ) → ℕ → Result (Option Name × Says) Cause → Numbered → Type 0
-IsOnly aim n said entry = (entry.line ≡ n) × (instruction_at aim n said ≡ entry ∷ [])
-
-none_in : (entry : Numbered) → Contains [] entry → ⊥
-none_in entry among = omega (arith, among.1)
-
-only_is : (made entry : Numbered) → Contains (made ∷ []) entry → (entry.line ≡ made.line) × (made ∷ [] ≡ entry ∷ [])
-only_is made entry among = let same = only_one made entry among in (ap (λ (e : Numbered). e.line) (sym same), ap (λ (e : Numbered). e ∷ []) same)
-
 said_here : (aim : Name → ℕ) (n : ℕ) (said : Result (Option Name × Says) Cause) (entry : Numbered) → Contains (instruction_at aim n said) entry
-    → IsOnly aim n said entry
-said_here aim n (Ok (label, Does parts)) entry among = only_is (record { parts = parts; line = n }) entry among
-said_here aim n (Ok (label, Jumps parts target)) entry among =
-    only_is (record { parts = record parts { operands = Block (aim target) }; line = n }) entry among
-said_here aim n said entry among = absurd (none_in entry among)
+    → (entry.line ≡ n) × (instruction_at aim n said ≡ entry ∷ [])
+said_here aim n (Ok (label, Does parts)) entry (zero, inside, is) = (rw (← is) refl, rw is refl)
+said_here aim n (Ok (label, Jumps parts target)) entry (zero, inside, is) = (rw (← is) refl, rw is refl)
+said_here aim n (Ok (label, Does parts)) entry (suc k, inside, is) = absurd (omega (arith, inside))
+said_here aim n (Ok (label, Jumps parts target)) entry (suc k, inside, is) = absurd (omega (arith, inside))
+said_here aim n said entry among = absurd (omega (arith, among.1))
 
 read_at : (aim : Name → ℕ) (n : ℕ) (lines : List (List ℕ)) (entry : Numbered) → Contains (instructions_in aim n lines) entry
     → ReadsAt aim n lines entry
-read_at aim n [] entry among = absurd (none_in entry among)
+read_at aim n [] entry among = absurd (omega (arith, among.1))
 read_at aim n (line ∷ lines) entry among =
     elim (Contains-append_cases (instruction_at aim n (line_of line)) (instructions_in aim (n + 1) lines) entry among) [
       | inl here ↦

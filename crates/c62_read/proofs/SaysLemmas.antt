@@ -1,15 +1,16 @@
 -- What lines may say: no instruction but a jump has a block for its operand.
-use Rattle.std.proofs.Common.{◌≡◌, Bool, true, false, not, cond, leb, ◌&&◌, List, [], ◌∷◌, Option, Some, None, Result, Ok, Err, refl, sym, ap, subst, ◌∙◌}
+use Rattle.std.proofs.Common.{◌≡◌, Bool, true, false, not, cond, leb, ◌&&◌, List, [], ◌∷◌, Option, Some, None, Result, Ok, Err, refl, sym, ap, subst}
+use Rattle.std.proofs.Common.{◌∙◌}
 use Rattle.std.specs.Prelude.{ℤ, pos, option_and_then}
 use Rattle.std.proofs.lemmas.Bool.{cond_both}
 use Rattle.c62_insn.specs.declared.register.Reg.{Reg}
 use Rattle.c62_insn.specs.declared.register.Cond.{Cond as Condition}
 use Rattle.c62_insn.specs.declared.register.Letter.{Letter}
-use Rattle.c62_insn.specs.declared.register.Letter.TheVariants.{L, S, M, D}
+use Rattle.c62_insn.specs.declared.register.Letter.TheVariants.{L}
 use Rattle.c62_insn.specs.declared.operands.Op.{Op}
 use Rattle.c62_insn.specs.declared.operands.Op.TheVariants.{B as Branch}
 use Rattle.c62_insn.specs.declared.operands.Operands.{Operands}
-use Rattle.c62_insn.specs.declared.operands.Operands.TheVariants.{Three, ConstantFirst, ConstantSecond, Two, Field, Constant, Access, Block, Register}
+use Rattle.c62_insn.specs.declared.operands.Operands.TheVariants.{Three, ConstantSecond, Two, Constant, Block, Register}
 use Rattle.c62_insn.specs.declared.fault.FormFault.{FormFault}
 use Rattle.c62_insn.specs.declared.insn.Insn.{Insn}
 use Rattle.c62_insn.specs.Insn.{op_of, operands_of as operands_of_insn}
@@ -30,9 +31,9 @@ use Rattle.c62_read.specs.Operand.{address_front, loaded, operands_of, stored}
 use Rattle.c62_read.specs.Mnemonic.{constant_to_front, crossed_to_back, exchanged, in_order, stands_for, with_kind, zero_in}
 use Rattle.c62_read.specs.Text.{begins}
 use Rattle.c62_read.specs.Unit.{is_dot}
-use Rattle.c62_read.specs.Line.{Parts, parts_of, Says, Pause, Does, Jumps, and_read, behind_unit, condition_front, cycles_of, does, formed, instruction_of, is_storing}
-use Rattle.c62_read.specs.Line.{jumps_or_does, letter_written, mnemonic_front, operands_written, or_fault, parts_read, pause_of, rest_says, target_of}
-use Rattle.c62_read.specs.Line.{text_fault, unit_behind}
+use Rattle.c62_read.specs.Line.{Parts, parts_of, Says, Pause, Does, Jumps, and_read, behind_unit, condition_front, cycles_of, does, formed}
+use Rattle.c62_read.specs.Line.{instruction_of, is_storing, jumps_or_does, letter_written, mnemonic_front, operands_written, or_fault, parts_read}
+use Rattle.c62_read.specs.Line.{pause_of, rest_says, target_of, text_fault, unit_behind}
 
 abbrev pub has_no_block : Operands → Bool
 has_no_block (Block number) = false

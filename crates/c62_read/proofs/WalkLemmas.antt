@@ -1,27 +1,32 @@
 -- The reader's walk over the lines of a text answers what the text says.
 use Rattle.std.proofs.Common.{◌≡◌, ◌≤◌, ◌<◌, ℕ, ◌+◌, Bool, true, false, cond, leb, ltb, ◌&&◌, ◌||◌, List, [], ◌∷◌, ◌++◌, length, Option, Some, None}
-use Rattle.std.proofs.Common.{Result, Ok, Err, refl, sym, ap, ◌∙◌, arith, append_assoc, append-nil, length-append}
-use Rattle.std.specs.Prelude.{is_none, is_some}
-use Rattle.std.specs.List.{All, AllByRecursion, IsDistinct, list_any}
+use Rattle.std.proofs.Common.{Result, Ok, Err, refl, sym, ap, ◌∙◌, arith, append_assoc, append-nil, length-append, inl, inr}
+use Rattle.std.specs.Prelude.{is_none, is_some, map}
+use Rattle.std.specs.List.{All, AllByRecursion, IsDistinct, list_any, list_all}
 use Rattle.std.specs.Option.{option_to_list}
 use Rattle.std.specs.Str.{bytes_eq}
-use Rattle.std.proofs.lemmas.Bool.{leb-false, or_parts}
+use Rattle.std.proofs.lemmas.Bool.{or_parts, lt-ltb, le-ltb}
 use Rattle.std.proofs.lemmas.Bool.Decides.{nat_tests}
 use Rattle.std.proofs.lemmas.List.Concat.{flat_map-append}
 use Rattle.std.proofs.lemmas.List.Elements.{All-nil, All-push}
 use Rattle.std.proofs.lemmas.List.Folds.{list_any-append}
 use Rattle.c62_read.specs.declared.fault.Cause.{Cause}
-use Rattle.c62_read.specs.declared.fault.Cause.TheVariants.{DuplicateLabel, UnknownTarget, TooManyInstructions, TooManyBlocks}
+use Rattle.c62_read.specs.declared.fault.Cause.TheVariants.{DuplicateLabel, UnknownTarget, TooManyInstructions, TooManyBlocks, TextTooLong}
 use Rattle.c62_read.specs.Line.{Parts, Says, Nothing, Pause, Does, Jumps, is_branch, head_of, line_of, rest_says}
 use Rattle.c62_read.specs.Program.{Name, Numbered, Item, Runs, Draft, Refusal, and_then, blocks_from, cut, fault_if, fault_in, fault_of, first_fault}
 use Rattle.c62_read.specs.Program.{first_of, glue, is_among, is_overfull, items_from, joined, label_is, label_items, labels_of, line_items}
-use Rattle.c62_read.specs.Program.{misses_label, piece_of, label_field, repeats_label, says_items}
-use Rattle.c62_read.specs.Walk.{Drafts, add_head, add_line, add_lines, add_says, all_drafts, at_line, begins_block, closed, hindrance}
-use Rattle.c62_read.specs.Walk.{is_full, is_instruction, is_taken, is_unknown, new_draft, no_drafts, opened, own_labels, refused, Step}
-use Rattle.c62_read.specs.Walk.{unless_hindered, with_insn, with_label, with_says}
+use Rattle.c62_read.specs.Program.{misses_label, piece_of, label_field, repeats_label, says_items, BlockParts, Fails, block_in, drafts_in, program_in}
+use Rattle.c62_read.specs.Program.{unless_refused}
+use Rattle.c62_read.specs.Walk.{Drafts, add_head, add_line, add_lines, add_says, all_drafts, at_line, begins_block, closed, hindrance, is_full}
+use Rattle.c62_read.specs.Walk.{is_instruction, is_taken, is_unknown, new_draft, no_drafts, opened, own_labels, refused, Step, unless_hindered}
+use Rattle.c62_read.specs.Walk.{with_insn, with_label, with_says, Asked, asked_in, first_line, missed, unless_missed, is_whole}
 use Rattle.c62_read.proofs.HeadLemmas.{line_by_head}
 use Rattle.c62_read.proofs.LabelFields.{field_is}
 use Rattle.c62_read.proofs.SaysLemmas.{IsProper, proper}
+use Rattle.c62_read.specs.declared.fault.ReadFault.{ReadFault}
+use Rattle.c62_read.specs.Text.{lines_of}
+use Rattle.c62_read.proofs.CutLemmas.{all_whole, cut_ends}
+use Rattle.c62_read.proofs.MissedLemmas.{missed_then}
 
 -- ---- the open block in front of blocks
 
@@ -117,16 +122,19 @@ module _ (number : ℕ) (parts : Parts) (target : Option Name) where
 
   run_full : (current : Option Draft) → is_overfull (with_insn parts number target (opened current)) ≡ is_full current
   run_full None = refl
-  run_full (Some draft) =
-      let more = length-append draft.insns (entry ∷ []) in
-      grind (arith, nat_tests)
+  run_full (Some draft) = grind (arith, nat_tests, length-append draft.insns (entry ∷ []))
 
   run_over : (label : Option Name) (old : Drafts) → list_any is_overfull (all_drafts old) ≡ false
       → list_any is_overfull (all_drafts (run (with_label label old))) ≡ (is_none label && is_full old.current)
   run_over (Some label) old small = rw closed_all (small_end (all_drafts old) (with_insn parts number target (new_draft (Some label))) small)
   run_over None old small =
-      rw closed_all (grind (arith, nat_tests, run_full old.current, list_any-append is_overfull old.done (option_to_list old.current),
-      small_end old.done (with_insn parts number target (opened old.current))))
+      rw closed_all (grind (
+        arith,
+        nat_tests,
+        run_full old.current,
+        list_any-append is_overfull old.done (option_to_list old.current),
+        small_end old.done (with_insn parts number target (opened old.current)),
+      ))
 
   run_count : (done : List Draft) (current : Option Draft) (draft : Draft)
       → length (done ++ draft ∷ []) ≡ length (done ++ option_to_list current) + cond (is_none current) 1 0
@@ -270,14 +278,20 @@ pub record Stands (labels : List Name) (before : List (List ℕ)) (drafts : Draf
   pub fits : All (λ line. OkFits labels (line_of line)) before
   pub distinct : IsDistinct bytes_eq (labels_of before)
 
-pub blocks_are : (labels : List Name) (before : List (List ℕ)) (drafts : Drafts) → Stands labels before drafts → blocks_from before ≡ all_drafts drafts
+pub blocks_are : (labels : List Name) (before : List (List ℕ)) (drafts : Drafts) → Stands labels before drafts
+    → blocks_from before ≡ all_drafts drafts
 blocks_are labels before drafts stands = ap cut (sym (append-nil (items_from 1 before))) ∙ stands.cuts [] ∙ ahead_none drafts
 
-chain : (unknown full many : Bool) (drafts : Drafts)
-    → first_of (fault_if unknown UnknownTarget ∷ fault_if full TooManyInstructions ∷ fault_if many TooManyBlocks ∷ [])
+-- the faults of the blocks, where there are n without the line and m with it
+last_faults : (unknown full begins : Bool) (n m : ℕ) (drafts : Drafts) → n ≤ 64 → m ≡ n + cond begins 1 0
+    → first_of (fault_if unknown UnknownTarget ∷ fault_if full TooManyInstructions ∷ fault_if (ltb 64 m) TooManyBlocks ∷ [])
     ≡ first_of (fault_if unknown UnknownTarget
-    ∷ fault_in (unless_hindered (cond full (Some TooManyInstructions) (cond many (Some TooManyBlocks) None)) drafts) ∷ [])
-chain unknown full many drafts = grind (arith, nat_tests)
+    ∷ fault_in (unless_hindered (cond full (Some TooManyInstructions) (cond (begins && leb 64 n) (Some TooManyBlocks) None)) drafts) ∷ [])
+last_faults unknown full begins n m drafts few grown = grind (arith, nat_tests)
+
+clear_faults : (full begins : Bool) (n m : ℕ) → n ≤ 64 → m ≡ n + cond begins 1 0
+    → cond full (Some TooManyInstructions) (cond (begins && leb 64 n) (Some TooManyBlocks) None) ≡ None → (full ≡ false) × (m ≤ 64)
+clear_faults full begins n m few grown clear = grind (arith, nat_tests)
 
 module _ (labels : List Name) (before : List (List ℕ)) (line : List ℕ) (old : Drafts) (stands : Stands labels before old) where
   abbrev here : ℕ
@@ -287,9 +301,7 @@ module _ (labels : List Name) (before : List (List ℕ)) (line : List ℕ) (old 
   taken_is : (label : Option Name) → list_any (λ (l : Name). is_among l (labels_of before)) (option_to_list label) ≡ is_taken label old
   unfolding is_taken
   taken_is None = refl
-  taken_is (Some name) =
-      let own : has_label name (all_drafts old) ≡ is_among name (labels_of before) = has_own name (all_drafts old) ∙ ap (is_among name) stands.own in
-      grind (arith, nat_tests)
+  taken_is (Some name) = rw (← stands.own, has_own name (all_drafts old)) (grind (arith, nat_tests))
 
   module _ (label : Option Name) (words : List (List ℕ)) (head : head_of line ≡ Ok (label, words)) where
     repeats_is : repeats_label (labels_of before) line ≡ is_taken label old
@@ -311,16 +323,6 @@ module _ (labels : List Name) (before : List (List ℕ)) (line : List ℕ) (old 
       blocks_more : blocks_from (more before line) ≡ all_drafts new
       blocks_more = ap cut (sym (append-nil (items_from 1 (more before line)))) ∙ cuts_more [] ∙ ahead_none new
 
-      over_is : list_any is_overfull (blocks_from (more before line)) ≡ (is_instruction says && is_none label && is_full old.current)
-      over_is = ap (list_any is_overfull) blocks_more ∙ (effect here says).over label old stands.small
-
-      many_is : ltb 64 (length (blocks_from (more before line))) ≡ (begins_block label says old && leb 64 (length (all_drafts old)))
-      many_is = ap (λ (ds : List Draft). ltb 64 (length ds)) blocks_more
-          ∙ by (length (all_drafts old)) (length (all_drafts new)) (begins_block label says old) stands.few ((effect here says).count label old)
-        where
-          by : (n m : ℕ) (begins : Bool) → n ≤ 64 → m ≡ n + cond begins 1 0 → ltb 64 m ≡ (begins && leb 64 n)
-          by n m begins few e = grind (arith, nat_tests)
-
       misses_is : (made : Says) → misses_label labels (Ok (label, made)) ≡ is_unknown labels made
       misses_is Nothing = refl
       misses_is made = refl
@@ -328,9 +330,9 @@ module _ (labels : List Name) (before : List (List ℕ)) (line : List ℕ) (old 
       said_fault : is_taken label old ≡ false → fault_of labels before line
           ≡ first_of (fault_if (is_unknown labels says) UnknownTarget ∷ fault_in (unless_hindered (hindrance label says old) new) ∷ [])
       unfolding fault_of hindrance
-      said_fault free = rw (head, repeats_is ∙ free, said, misses_is says, over_is, many_is)
-          (chain (is_unknown labels says) (is_instruction says && is_none label && is_full old.current)
-          (begins_block label says old && leb 64 (length (all_drafts old))) new)
+      said_fault free = rw (head, repeats_is ∙ free, said, misses_is says, blocks_more, (effect here says).over label old stands.small)
+          (last_faults (is_unknown labels says) (is_instruction says && is_none label && is_full old.current) (begins_block label says old)
+          (length (all_drafts old)) (length (all_drafts new)) new stands.few ((effect here says).count label old))
 
   -- what a step meets
   abbrev met : Step → Option Cause
@@ -359,14 +361,14 @@ module _ (labels : List Name) (before : List (List ℕ)) (line : List ℕ) (old 
   unfolding hindrance
   next_stands new added known =
       let effects = effect here added.says in
-      let clear = clear_by (is_instruction added.says && is_none added.label && is_full old.current)
-      (begins_block added.label added.says old && leb 64 (length (all_drafts old))) added.clear in
+      let clear = clear_faults (is_instruction added.says && is_none added.label && is_full old.current) (begins_block added.label added.says old)
+      (length (all_drafts old)) _ stands.few (effects.count added.label old) added.clear in
       let own : own_labels (all_drafts new) ≡ labels_of (more before line) =
       own_added here line old new added ∙ rw (stands.own, labels_more before line) refl in
       let fresh = repeats_is added.label added.words added.head ∙ added.free in
       rw added.is (record {
         cuts = cuts_more added.label added.words added.head added.says added.rest;
-        few = within (begins_block added.label added.says old) (length (all_drafts old)) _ stands.few clear.1 (effects.count added.label old);
+        few = clear.1;
         small = effects.over added.label old stands.small ∙ clear.0;
         own = rw added.is at own;
         fits = All-push (λ (l : List ℕ). OkFits labels (line_of l)) before line stands.fits
@@ -374,12 +376,6 @@ module _ (labels : List Name) (before : List (List ℕ)) (line : List ℕ) (old 
             (proper added.words added.says added.rest, rw added.said at known));
         distinct = rw (labels_more before line) (distinct_field (labels_of before) (label_field line) stands.distinct fresh);
       })
-    where
-      within : (begins : Bool) (n m : ℕ) → n ≤ 64 → (begins && leb 64 n) ≡ false → m ≡ n + cond begins 1 0 → m ≤ 64
-      within begins n m few room grown = grind (arith, nat_tests)
-
-      clear_by : (full many : Bool) → cond full (Some TooManyInstructions) (cond many (Some TooManyBlocks) None) ≡ None → (full ≡ false) × (many ≡ false)
-      clear_by full many e = grind (arith, nat_tests)
 
 -- ---- all lines
 
@@ -391,7 +387,8 @@ Walked labels before lines (Err refusal) = first_fault labels before lines ≡ S
 module _ (labels : List Name) where
   -- by whether the line branches to no label, and what it adds
   walk_by : (before : List (List ℕ)) (line : List ℕ) (lines : List (List ℕ)) (old : Drafts) (stands : Stands labels before old)
-      → ((new : Drafts) → Stands labels (more before line) new → Walked labels (more before line) lines (add_lines labels (length (more before line) + 1) lines new))
+      → ((new : Drafts) → Stands labels (more before line) new
+      → Walked labels (more before line) lines (add_lines labels (length (more before line) + 1) lines new))
       → (unknown : Bool) → is_unknown labels (add_line (length before + 1) line old).says ≡ unknown
       → (added : Result Drafts Cause) → (add_line (length before + 1) line old).drafts ≡ added
       → Walked labels before (line ∷ lines) (cond unknown (Err (length before + 1, UnknownTarget))
@@ -410,7 +407,8 @@ module _ (labels : List Name) where
       further none (Ok last) walked = (rw (none, walked.0) refl, rw append_assoc at walked.1)
       further none (Err refusal) walked = rw (none, walked) refl
 
-  pub walk : (lines before : List (List ℕ)) (old : Drafts) → Stands labels before old → Walked labels before lines (add_lines labels (length before + 1) lines old)
+  pub walk : (lines before : List (List ℕ)) (old : Drafts) → Stands labels before old
+      → Walked labels before lines (add_lines labels (length before + 1) lines old)
   unfolding add_lines first_fault
   walk [] before old stands = (refl, rw append-nil stands)
   walk (line ∷ lines) before old stands =
@@ -422,3 +420,57 @@ pub walk_text : (lines : List (List ℕ)) → Walked (labels_of lines) [] lines 
 unfolding IsDistinct
 walk_text lines = walk (labels_of lines) lines [] no_drafts
     (record { cuts = λ items. refl; few = omega arith; small = refl; own = refl; fits = All-nil _; distinct = tt })
+
+module _ (labels : List Name) (number : ℕ) (line : List ℕ) (lines all : List (List ℕ)) (old : Drafts) (first : all ≡ line ∷ lines) where
+  -- the answer behind this line, but for the branches that are kept
+  pub stepped : (asked now : List Asked) → now ≡ asked ++ asked_in number (add_line number line old).says
+      → (result : Result Drafts Cause) → (add_line number line old).drafts ≡ result
+      → unless_missed (first_line (missed labels now)) (and_then (at_line number result) (λ more. add_lines labels (number + 1) lines more))
+      ≡ unless_missed (first_line (missed labels asked)) (add_lines labels number all old)
+  unfolding add_lines
+  stepped asked now kept result is = rw (first, kept, ← is) (sym (missed_then labels asked number (add_line number line old).says _))
+
+  -- the labels that the blocks have and those of the lines that are left
+  pub labels_stay : (new : Drafts) → (add_line number line old).drafts ≡ Ok new
+      → own_labels (all_drafts new) ++ labels_of lines ≡ own_labels (all_drafts old) ++ labels_of all
+  labels_stay new added = rw (own_added number line old new (added_is number line old new added), first, append_assoc) refl
+
+-- ---- the whole text
+
+abbrev pub read_all : List ℕ → Result Drafts Refusal
+read_all text = add_lines (labels_of (lines_of text)) 1 (lines_of text) no_drafts
+
+pub too_long : (text : List ℕ) → 1048576 < length text → program_in text ≡ Err (0, TextTooLong)
+unfolding program_in drafts_in
+too_long text long = rw (lt-ltb 1048576 (length text) long) refl
+
+abbrev pub blocks_of : Result Drafts Refusal → Result (List BlockParts) Refusal
+blocks_of read = and_then read (λ drafts. Ok (map (block_in (all_drafts drafts)) (all_drafts drafts)))
+
+pub program_is : (text : List ℕ) → length text ≤ 1048576 → program_in text ≡ blocks_of (read_all text)
+unfolding program_in drafts_in
+program_is text short = rw (le-ltb 1048576 (length text) short) (go (read_all text) (walk_text (lines_of text)))
+  where
+    go : (read : Result Drafts Refusal) → Walked (labels_of (lines_of text)) [] (lines_of text) read
+        → and_then (unless_refused (first_fault (labels_of (lines_of text)) [] (lines_of text)) (blocks_from (lines_of text)))
+        (λ drafts. Ok (map (block_in drafts) drafts)) ≡ blocks_of read
+    go (Ok drafts) walked = rw (walked.0, blocks_are (labels_of (lines_of text)) (lines_of text) drafts walked.1) refl
+    go (Err refusal) walked = rw walked refl
+
+pub read_stands : (text : List ℕ) (drafts : Drafts) → read_all text ≡ Ok drafts → Stands (labels_of (lines_of text)) (lines_of text) drafts
+read_stands text drafts read = (rw read at (walk_text (lines_of text))).1
+
+pub whole_blocks : (text : List ℕ) (drafts : Drafts) → read_all text ≡ Ok drafts → list_all is_whole (all_drafts drafts) ≡ true
+whole_blocks text drafts read =
+    let stands = read_stands text drafts read in
+    all_whole (all_drafts drafts) stands.small
+    (rw (blocks_are (labels_of (lines_of text)) (lines_of text) drafts stands) at (cut_ends (items_from 1 (lines_of text))))
+
+-- these blocks are the text's, which are made of what was read
+pub program_read : (text : List ℕ) → length text ≤ 1048576 → (drafts : Drafts) → read_all text ≡ Ok drafts
+    → (done : List Draft) → done ≡ all_drafts drafts → (blocks : List BlockParts) → blocks ≡ map (block_in done) done → program_in text ≡ Ok blocks
+program_read text short drafts read done all blocks made = rw (program_is text short, read, made, all) refl
+
+pub program_refused : (text : List ℕ) → length text ≤ 1048576 → (fault : ReadFault) → Fails fault (read_all text) → Fails fault (program_in text)
+program_refused text short fault (inl memory) = inl memory
+program_refused text short fault (inr refused) = inr (program_is text short ∙ ap blocks_of refused)

@@ -1,5 +1,5 @@
 use Rattle.std.proofs.Common.{arith}
-use Rattle.c62_read.proofs.SoundLemmas.{all_aimed}
+use Rattle.c62_read.proofs.BlockLemmas.{all_aimed}
 use Rattle.c62_read.proofs.program.aim_all.Goals as goal
 
 pub returns : goal.returns

@@ -8,7 +8,7 @@ use Rattle.c62_read.specs.declared.program.BlockReader.{BlockReader}
 use Rattle.c62_read.specs.Program.{BlockParts, Draft, Name, aimed, block_in, block_parts, target_number}
 use Rattle.c62_read.specs.Walk.{draft_of, is_whole, number_among}
 use Rattle.c62_read.proofs.BlockLemmas.{number_is}
-use Rattle.c62_read.proofs.SoundLemmas.{one_made}
+use Rattle.c62_read.proofs.BlockLemmas.{one_made}
 use Rattle.c62_read.proofs.program.all_blocks.Goals as goal
 
 pub loop-block-preserved : goal.loop-block-preserved

@@ -3,7 +3,7 @@ use Rattle.std.proofs.lemmas.List.{with_items_is}
 use Rattle.c62_read.specs.declared.block.SerialInsn.{SerialInsn}
 use Rattle.c62_read.specs.Block.{is_block}
 use Rattle.c62_read.specs.Program.{aimed, numbered_of}
-use Rattle.c62_read.proofs.SoundLemmas.{aimed_block}
+use Rattle.c62_read.proofs.BlockLemmas.{aimed_block}
 use Rattle.c62_read.proofs.program.BlockReader.into_block.Goals as goal
 
 pub new-requires : goal.new-requires
