@@ -16,9 +16,7 @@ pub mod BytesLemmas
 pub mod CommentLemmas
 pub mod SpelledTokens
 pub mod SpelledNumbers
-pub mod SpelledSources
 pub mod SpelledUnits
-pub mod SpelledAddresses
 pub mod SpelledOperands
 pub mod HeadLemmas
 pub mod SkipLemmas
