@@ -16,7 +16,6 @@ pub mod BytesLemmas
 pub mod CommentLemmas
 pub mod SpelledTokens
 pub mod SpelledNumbers
-pub mod SpelledUnits
 pub mod SpelledOperands
 pub mod HeadLemmas
 pub mod SkipLemmas

@@ -1,37 +1,48 @@
 -- The line that spells an instruction reads as it.
 use Rattle.std.proofs.Common.{◌≡◌, ℕ, ◌≤◌, Bool, true, false, cond, List, [], ◌∷◌, ◌++◌, length, Option, Some, None, Ok, refl, ap, ◌∙◌}
-use Rattle.std.proofs.Common.{append_assoc, arith, eqb}
+use Rattle.std.proofs.Common.{subst, sym, append_assoc, arith, eqb}
 use Rattle.std.specs.Prelude.{codes, option_map}
 use Rattle.std.specs.Char.{to_ascii_lowercase}
 use Rattle.std.specs.List.{list_all}
 use Rattle.std.proofs.lemmas.Bool.{and_left, and_parts}
 use Rattle.std.proofs.lemmas.Bool.Decides.{nat_tests}
+use Rattle.c62_insn.specs.declared.register.Side.{Side}
+use Rattle.c62_insn.specs.declared.register.Side.TheVariants.{A, B}
+use Rattle.c62_insn.specs.declared.register.Letter.{Letter}
+use Rattle.c62_insn.specs.declared.register.Letter.TheVariants.{L}
 use Rattle.c62_insn.specs.declared.register.Reg.{Reg}
 use Rattle.c62_insn.specs.declared.register.Cond.{Cond as Condition}
 use Rattle.c62_insn.specs.declared.register.Unit.{Unit as FunctionalUnit}
 use Rattle.c62_insn.specs.declared.operands.Op.{Op}
+use Rattle.c62_insn.specs.declared.operands.Op.TheVariants.{Add}
 use Rattle.c62_insn.specs.declared.operands.Operands.{Operands}
+use Rattle.c62_insn.specs.declared.operands.Operands.TheVariants.{Access}
 use Rattle.c62_insn.specs.declared.insn.Insn.{Insn}
 use Rattle.c62_insn.specs.Fault.{form_fault}
 use Rattle.c62_insn.specs.Insn.{op_of, operands_of, cond_of}
 use Rattle.c62_insn.specs.Spelling.{condition_spelling, mnemonic_of, operands_spelling, register_name, unit_spelling}
+use Rattle.c62_insn.specs.Spelling.{path_spelling, side_digit, unit_letter}
+use Rattle.c62_insn.specs.Shape.{crosses_to}
 use Rattle.c62_insn.specs.Takes.{takes}
 use Rattle.c62_insn.proofs.InsnLemmas.{faultless_on}
 use Rattle.c62_read.specs.declared.mnemonic.Mnemonic.TheVariants.{Operation}
 use Rattle.c62_read.specs.Text.{begins, is_blank, is_word_byte, tokens}
 use Rattle.c62_read.specs.declared.kind.Kind.{Kind}
-use Rattle.c62_read.specs.declared.kind.Kind.TheVariants.{Open, Close, Not, Register}
+use Rattle.c62_read.specs.declared.kind.Kind.TheVariants.{Open, Close, Not, Register, Name}
+use Rattle.c62_read.specs.declared.unit.Mark.{Mark}
+use Rattle.c62_read.specs.declared.unit.Mark.TheVariants.{Plain, Cross, Path}
+use Rattle.c62_read.specs.Mnemonic.{mnemonic_named}
+use Rattle.c62_read.specs.Number.{decimal_of, magnitude_of, number_of, register_of, signed_of}
 use Rattle.c62_read.specs.Kind.{Word, kind_of, kinds_of, mark_of, single_mark}
-use Rattle.c62_read.specs.Unit.{is_dot, unit_fits}
+use Rattle.c62_read.specs.Unit.{is_dot, letter_of, mark_of as written_mark, side_numbered, unit_fits, unit_front, unit_split}
 use Rattle.c62_read.specs.Line.{Says, before_rest, behind_unit, condition_front, condition_of, instruction_of, is_bars, is_star, line_of, rest_says}
-use Rattle.c62_read.specs.Line.{unit_behind}
 use Rattle.c62_read.specs.Laws.{LineReadsBack, NamesTarget, says_with}
 use Rattle.c62_read.proofs.HeadLemmas.{all_weaker, allowed_text, head_plain, line_by_head, no_colon}
-use Rattle.c62_read.proofs.SpelledTokens.{IsPiece, any_end, blank_piece, both, closing, is_text, mark_piece, no_piece, opening, tokens_are}
-use Rattle.c62_read.proofs.SpelledTokens.{tokens_behind, word_end}
+use Rattle.c62_read.proofs.SpelledTokens.{IsPiece, any_end, blank_piece, both, closing, is_text, led_token, mark_piece, no_piece, opening}
+use Rattle.c62_read.proofs.SpelledTokens.{tokens_are, tokens_behind, word_end, word_piece, word_token}
 use Rattle.c62_read.proofs.SpelledNumbers.{register_piece}
-use Rattle.c62_read.proofs.SpelledUnits.{mnemonic_back, mnemonic_kind, mnemonic_piece, mnemonic_some, mnemonic_word, unit_back, unit_piece}
-use Rattle.c62_read.proofs.SpelledOperands.{behind, unit_written_fits, written_on}
+use Rattle.c62_read.proofs.NameLemmas.{named}
+use Rattle.c62_read.proofs.SpelledOperands.{behind, mark_by, mark_on, unit_written_fits, written_on}
 
 -- ---- a line without a label
 
@@ -87,6 +98,81 @@ piece_says blanks {text = text} {words = words} says piece few blank blanks_few 
     (head_plain (blanks ++ text) (allowed_text (blanks ++ text) line.plain) (omega (arith, line.short)) (blanks_no_star blanks text blank star)
     (ap is_bars words_are ∙ bars) (no_colon (blanks ++ text) line.plain)) (ap rest_says words_are ∙ read)
 
+-- ---- mnemonics
+
+mnemonic_word : (op : Op) → list_all is_word_byte (mnemonic_of op) ≡ true
+mnemonic_word Add = refl
+mnemonic_word _ = refl
+
+mnemonic_some : (op : Op) → 1 ≤ length (mnemonic_of op)
+mnemonic_some Add = omega arith
+mnemonic_some _ = omega arith
+
+mnemonic_length : (op : Op) → length (mnemonic_of op) ≤ 6
+mnemonic_length Add = omega arith
+mnemonic_length _ = omega arith
+
+mnemonic_kind : (op : Op) → kind_of (mnemonic_of op) ≡ Name
+unfolding kind_of mark_of single_mark register_of number_of signed_of magnitude_of decimal_of
+mnemonic_kind Add = refl
+mnemonic_kind _ = refl
+
+mnemonic_piece : (op : Op) → IsPiece word_end (mnemonic_of op) (mnemonic_of op ∷ []) (Name ∷ []) 6
+mnemonic_piece op =
+    word_piece (mnemonic_of op) Name 6 (word_token (mnemonic_of op) (mnemonic_some op) (mnemonic_word op)) (mnemonic_kind op) (mnemonic_length op)
+
+mnemonic_back : (op : Op) → mnemonic_named (mnemonic_of op) ≡ Some (Operation op)
+unfolding mnemonic_named
+mnemonic_back op = rw (named op) refl
+
+-- ---- units
+
+abbrev mark_text : Mark → List ℕ
+mark_text Plain = []
+mark_text Cross = codes "X"
+mark_text (Path path) = codes "T" ++ side_digit path
+
+no_path : (crosses : Bool) → cond crosses (codes "X") [] ++ [] ≡ mark_text (mark_by crosses None)
+no_path true = refl
+no_path false = refl
+
+path_is : (side : Side) (operands : Operands) → path_spelling side operands ≡ mark_text (mark_on side operands)
+path_is side (Access reg base form offset) = refl
+path_is side operands = no_path (crosses_to side operands)
+
+abbrev word_of : Letter → Side → Mark → List ℕ
+word_of letter side mark = codes "." ++ unit_letter letter ++ side_digit side ++ mark_text mark
+
+unit_word : (operands : Operands) (unit : FunctionalUnit) → unit_spelling operands unit ≡ word_of unit.letter unit.side (mark_on unit.side operands)
+unit_word operands unit = ap (λ (path : List ℕ). codes "." ++ unit_letter unit.letter ++ side_digit unit.side ++ path) (path_is unit.side operands)
+
+-- a unit's word reads as it, and is a piece
+record IsUnit (letter : Letter) (side : Side) (mark : Mark) (w : List ℕ) : Type 0 where
+  read : (words : List (List ℕ)) → unit_front (w ∷ words)
+      ≡ Some (Some (record { unit = record { letter = letter; side = side }; mark = mark }), words)
+  piece : IsPiece word_end w (w ∷ []) (kind_of w ∷ []) 5
+
+unit_is : (letter : Letter) (side : Side) (mark : Mark) → IsUnit letter side mark (word_of letter side mark)
+unfolding unit_front unit_split letter_of side_numbered written_mark
+unit_is L A (Path A) = record { read = λ words. refl; piece = word_piece _ _ 5 (led_token 46 _ _ refl refl refl refl) refl (omega arith) }
+unit_is _ A (Path A) = record { read = λ words. refl; piece = word_piece _ _ 5 (led_token 46 _ _ refl refl refl refl) refl (omega arith) }
+unit_is _ B (Path A) = record { read = λ words. refl; piece = word_piece _ _ 5 (led_token 46 _ _ refl refl refl refl) refl (omega arith) }
+unit_is _ _ _ = record { read = λ words. refl; piece = word_piece _ _ 5 (led_token 46 _ _ refl refl refl refl) refl (omega arith) }
+
+spelled_unit : (operands : Operands) (unit : FunctionalUnit) → IsUnit unit.letter unit.side (mark_on unit.side operands) (unit_spelling operands unit)
+spelled_unit operands unit =
+    subst (IsUnit unit.letter unit.side (mark_on unit.side operands)) (sym (unit_word operands unit))
+    (unit_is unit.letter unit.side (mark_on unit.side operands))
+
+-- a spelled unit reads as it, with the mark of the operands
+unit_back : (operands : Operands) (unit : FunctionalUnit) (words : List (List ℕ))
+    → unit_front (unit_spelling operands unit ∷ words) ≡ Some (Some (record { unit = unit; mark = mark_on unit.side operands }), words)
+unit_back operands unit = (spelled_unit operands unit).read
+
+unit_piece : (operands : Operands) (unit : FunctionalUnit)
+    → IsPiece word_end (unit_spelling operands unit) (unit_spelling operands unit ∷ []) (kind_of (unit_spelling operands unit) ∷ []) 5
+unit_piece operands unit = (spelled_unit operands unit).piece
+
 -- ---- the condition
 
 abbrev condition_words : Option Condition → List Word
@@ -129,17 +215,12 @@ front_back (Some c) op words = front_by c.reg c.negated (mnemonic_of op ∷ word
 
 -- ---- what the words say
 
-unit_back_behind : (op : Op) (operands : Operands) (unit : FunctionalUnit) (words : List Word)
-    → unit_fits (Operation op) (written_on operands unit) ≡ true
-    → unit_behind (Operation op) (unit_spelling operands unit ∷ words) ≡ Some (Some (written_on operands unit), words)
-unit_back_behind op operands unit words fits = rw (unit_back operands unit words, fits) refl
-
 instruction_says : (op : Op) (operands : Operands) (cond : Option Condition) (unit : FunctionalUnit) (words : List Word) (says : Says)
     → unit_fits (Operation op) (written_on operands unit) ≡ true → behind_unit (Operation op) cond (Some (written_on operands unit)) words ≡ Ok says
     → instruction_of (condition_words cond ++ (mnemonic_of op ∷ unit_spelling operands unit ∷ words)) ≡ Ok says
 unfolding instruction_of
 instruction_says op operands cond unit words says fits read =
-    rw (front_back cond op (unit_spelling operands unit ∷ words), mnemonic_back op, unit_back_behind op operands unit words fits) read
+    rw (front_back cond op (unit_spelling operands unit ∷ words), mnemonic_back op, unit_back operands unit words, fits) read
 
 mnemonic_plain : (op : Op) → BeginsPlainly (mnemonic_of op)
 mnemonic_plain op = word_plain (mnemonic_of op) (mnemonic_some op) (mnemonic_word op)

@@ -20,7 +20,7 @@ use Rattle.c62_read.specs.Number.{signed_of}
 use Rattle.c62_read.specs.Kind.{kind_of, mark_of, single_mark}
 use Rattle.c62_read.proofs.Registers.{numbered-known}
 use Rattle.c62_read.proofs.HeadLemmas.{all_weaker}
-use Rattle.c62_read.proofs.SpelledTokens.{IsPiece, word_end, word_piece, word_token, led_token}
+use Rattle.c62_read.proofs.SpelledTokens.{IsPiece, IsToken, word_end, word_piece, word_token, led_token}
 
 -- ---- digits
 
@@ -50,6 +50,7 @@ record IsWritten (n : ℕ) (first : ℕ) (rest : List ℕ) : Type 0 where
   is : decimal n ≡ first ∷ rest
   digit : is_ascii_digit first ≡ true
   digits : list_all is_ascii_digit (first ∷ rest) ≡ true
+  words : list_all is_word_byte (first ∷ rest) ≡ true
   value : digits_value 10 (first ∷ rest) ≡ n
   short : length rest ≤ 9
   leads : (ltb 48 first || eqb (length rest) 0) ≡ true
@@ -68,12 +69,14 @@ written_of n [] e small = let some : 0 < length (decimal n) = (decimal_is_IsNume
 written_of n (d ∷ ds) e small =
     let numeral = decimal_is_IsNumeral n (omega arith) in
     let all : AllDigits 10 (d ∷ ds) = rw e at numeral.0.1 in
+    let digits = all_ascii (d ∷ ds) all in
     let few : length (d ∷ ds) ≤ 10 = rw e at (length-decimal-le 10 n (omega arith) small (omega arith)) in
     let made : IsWritten n d ds =
     record {
       is = e;
       digit = digit_byte d all.0;
-      digits = all_ascii (d ∷ ds) all;
+      digits = digits;
+      words = all_weaker is_ascii_digit is_word_byte (d ∷ ds) digit_word digits;
       value = rw e at numeral.1;
       short = omega arith;
       leads = leading n d ds e small;
@@ -122,15 +125,12 @@ no_file b (d ∷ []) none = rw none (either_same (is_ascii_digit d) None)
 no_file b (ten ∷ d ∷ []) none = rw none (either_same (eqb ten 49 && is_ascii_digit d) None)
 no_file b (ten ∷ d ∷ e ∷ w) none = refl
 
-digit_file : (d : ℕ) → is_ascii_digit d ≡ true → file_of d ≡ None
+-- a digit or a minus
+byte_file : (b : ℕ) → leb b 57 ≡ true → file_of b ≡ None
 unfolding file_of
-digit_file d digit =
-    let other : (c : ℕ) → is_ascii_digit c ≡ false → eqb d c ≡ false = λ c fails. differs is_ascii_digit d c digit fails in
+byte_file b small =
+    let other : (c : ℕ) → leb c 57 ≡ false → eqb b c ≡ false = λ c big. differs (λ (x : ℕ). leb x 57) b c small big in
     rw (other 65 refl, other 97 refl, other 66 refl, other 98 refl) refl
-
-minus_file : file_of 45 ≡ None
-unfolding file_of
-minus_file = refl
 
 -- a word is no mark
 word_no_mark : (w : List ℕ) → list_all is_word_byte w ≡ true → mark_of w ≡ None
@@ -151,10 +151,6 @@ unfolding mark_of
 negative_no_mark d [] digit = rw (differs is_ascii_digit d 45 digit refl) refl
 negative_no_mark d (e ∷ ds) digit = refl
 
-kind_none : (w : List ℕ) (k : ℤ) → mark_of w ≡ None → register_of w ≡ None → number_of w ≡ Some k → kind_of w ≡ Number k
-unfolding kind_of
-kind_none w k mark register number = rw (mark, register, number) refl
-
 -- ---- numbers
 
 minus_joins : (d : ℕ) → is_ascii_digit d ≡ true → joins 45 d ≡ true
@@ -165,33 +161,31 @@ record IsNumber (k : ℤ) (text : List ℕ) : Type 0 where
   read : number_of text ≡ Some k
   piece : IsPiece word_end text (text ∷ []) (Number k ∷ []) 11
 
+number_is : (k : ℤ) (text : List ℕ) → IsToken text → mark_of text ≡ None → register_of text ≡ None → length text ≤ 11 → number_of text ≡ Some k
+    → IsNumber k text
+unfolding kind_of
+number_is k text token mark register short read =
+    record { read = read; piece = word_piece text (Number k) 11 token (rw (mark, register, read) refl) short }
+
 spelled : (k : ℤ) → fits k ≡ true → IsNumber k (signed_decimal k)
 spelled (pos n) inside =
     let small : n ≤ 4294967295 = leb-true n 4294967295 inside in
     let found = written n (omega arith) in
     let w = found.2 in
     let ds : List ℕ = found.0 ∷ found.1 in
-    let words = all_weaker is_ascii_digit is_word_byte ds digit_word w.digits in
-    let read = unsigned_back n found.0 found.1 w inside in
-    subst (IsNumber (pos n)) (sym w.is) (record {
-      read = read;
-      piece =
-          word_piece ds (Number (pos n)) 11 (word_token ds (omega arith) words)
-          (kind_none ds (pos n) (word_no_mark ds words) (no_file found.0 found.1 (digit_file found.0 w.digit)) read) (omega (arith, w.short));
-    })
+    let file = byte_file found.0 (and_parts (leb 48 found.0) (leb found.0 57) w.digit).1 in
+    subst (IsNumber (pos n)) (sym w.is)
+    (number_is (pos n) ds (word_token ds (omega arith) w.words) (word_no_mark ds w.words) (no_file found.0 found.1 file) (omega (arith, w.short))
+    (unsigned_back n found.0 found.1 w inside))
 spelled (negsuc n) inside =
     let small : n ≤ 2147483647 = leb-true n 2147483647 (and_parts (leb n 2147483647) true inside).0 in
     let found = written (suc n) (omega arith) in
     let w = found.2 in
     let ds : List ℕ = found.0 ∷ found.1 in
-    let words = all_weaker is_ascii_digit is_word_byte ds digit_word w.digits in
-    let read = signed_back n found.0 found.1 w inside in
-    subst (λ (text : List ℕ). IsNumber (negsuc n) (45 ∷ text)) (sym w.is) (record {
-      read = read;
-      piece =
-          word_piece (45 ∷ ds) (Number (negsuc n)) 11 (led_token 45 found.0 found.1 refl (minus_joins found.0 w.digit) refl words)
-          (kind_none (45 ∷ ds) (negsuc n) (negative_no_mark found.0 found.1 w.digit) (no_file 45 ds minus_file) read) (omega (arith, w.short));
-    })
+    subst (λ (text : List ℕ). IsNumber (negsuc n) (45 ∷ text)) (sym w.is)
+    (number_is (negsuc n) (45 ∷ ds) (led_token 45 found.0 found.1 refl (minus_joins found.0 w.digit) refl w.words)
+    (negative_no_mark found.0 found.1 w.digit) (no_file 45 ds (byte_file 45 refl)) (omega (arith, w.short))
+    (signed_back n found.0 found.1 w inside))
 
 pub number_piece : (k : ℤ) → fits k ≡ true → IsPiece word_end (signed_decimal k) (signed_decimal k ∷ []) (Number k ∷ []) 11
 number_piece k inside = (spelled k inside).piece
@@ -242,21 +236,18 @@ register_by side n small =
 pub register_back : (reg : Reg) → register_of (register_name reg) ≡ Some reg
 register_back reg = register_by reg.side reg.number reg.in_range ∙ numbered-known reg
 
-kind_register : (w : List ℕ) (reg : Reg) → list_all is_word_byte w ≡ true → register_of w ≡ Some reg → kind_of w ≡ Register reg
+named_piece : (w : List ℕ) (reg : Reg) → list_all is_word_byte w ≡ true → 0 < length w → length w ≤ 11 → register_of w ≡ Some reg
+    → IsPiece word_end w (w ∷ []) (Register reg ∷ []) 11
 unfolding kind_of
-kind_register w reg words is = rw (word_no_mark w words, is) refl
+named_piece w reg words some short is = word_piece w (Register reg) 11 (word_token w some words) (rw (word_no_mark w words, is) refl) short
 
-letter_word : (side : Side) (ds : List ℕ) → list_all is_word_byte ds ≡ true → length ds ≤ 10 → list_all is_word_byte (file_letter side ++ ds) ≡ true × (0 < length (file_letter side ++ ds)) × (length (file_letter side ++ ds) ≤ 11)
-letter_word A ds words short = (words, omega arith, omega arith)
-letter_word B ds words short = (words, omega arith, omega arith)
+letter_piece : (side : Side) (ds : List ℕ) (reg : Reg) → list_all is_word_byte ds ≡ true → length ds ≤ 10
+    → register_of (file_letter side ++ ds) ≡ Some reg
+    → IsPiece word_end (file_letter side ++ ds) ((file_letter side ++ ds) ∷ []) (Register reg ∷ []) 11
+letter_piece A ds reg words short is = named_piece (65 ∷ ds) reg words (omega arith) (omega arith) is
+letter_piece B ds reg words short is = named_piece (66 ∷ ds) reg words (omega arith) (omega arith) is
 
 pub register_piece : (reg : Reg) → IsPiece word_end (register_name reg) (register_name reg ∷ []) (Register reg ∷ []) 11
 register_piece reg =
-    let found = written reg.number (omega (arith, reg.in_range)) in
-    let w = found.2 in
-    let ds : List ℕ = found.0 ∷ found.1 in
-    let words : list_all is_word_byte (decimal reg.number) ≡ true =
-    rw w.is (all_weaker is_ascii_digit is_word_byte ds digit_word w.digits) in
-    let all = letter_word reg.side (decimal reg.number) words (omega (arith, ap length w.is, w.short)) in
-    word_piece (register_name reg) (Register reg) 11 (word_token (register_name reg) all.1 all.0)
-    (kind_register (register_name reg) reg all.0 (register_back reg)) all.2
+    let w = (written reg.number (omega (arith, reg.in_range))).2 in
+    letter_piece reg.side (decimal reg.number) reg (rw w.is w.words) (omega (arith, ap length w.is, w.short)) (register_back reg)

@@ -1,12 +1,13 @@
 -- The operands of an instruction on a unit that takes it read back.
 use Rattle.std.proofs.Common.{◌≡◌, ℕ, ◌%◌, ◌≤◌, Bool, true, false, not, cond, leb, ◌&&◌, ◌||◌, List, [], ◌∷◌, ◌++◌, length, Option, Some, None, Ok}
-use Rattle.std.proofs.Common.{refl, sym, ap, subst, append_assoc, arith, inl, inr}
+use Rattle.std.proofs.Common.{◌∙◌, refl, sym, ap, subst, append_assoc, arith, inl, inr}
 use Rattle.std.specs.Prelude.{ℤ, pos, negsuc, int_le, codes}
 use Rattle.std.specs.Char.{is_ascii_digit}
 use Rattle.std.specs.Fmt.{decimal, signed_decimal}
 use Rattle.std.specs.List.{list_all}
 use Rattle.std.specs.Ordering.{int_eq}
-use Rattle.std.proofs.lemmas.Bool.{and_from, and_parts, and_right, cases_Bool, le-leb, leb-true, not_from_false}
+use Rattle.std.proofs.Math.Bool.{or-false}
+use Rattle.std.proofs.lemmas.Bool.{and_from, and_parts, and_right, cases_Bool, le-leb, leb-true, or_parts}
 use Rattle.std.proofs.lemmas.Bool.Decides.{Decides-int_eq}
 use Rattle.c62_insn.specs.declared.register.Side.{Side}
 use Rattle.c62_insn.specs.declared.register.Side.TheVariants.{A, B}
@@ -16,7 +17,7 @@ use Rattle.c62_insn.specs.declared.register.Letter.{Letter}
 use Rattle.c62_insn.specs.declared.register.Letter.TheVariants.{S, D}
 use Rattle.c62_insn.specs.declared.register.Unit.{Unit as FunctionalUnit}
 use Rattle.c62_insn.specs.declared.operands.Op.{Op}
-use Rattle.c62_insn.specs.declared.operands.Op.TheVariants.{Add, Stb, Sth, Stw, Mvklh, B as Branch}
+use Rattle.c62_insn.specs.declared.operands.Op.TheVariants.{Add, Mvklh, B as Branch}
 use Rattle.c62_insn.specs.declared.operands.AddressForm.{AddressForm}
 use Rattle.c62_insn.specs.declared.operands.AddressForm.TheVariants.{Plus}
 use Rattle.c62_insn.specs.declared.operands.Offset.{Offset}
@@ -35,6 +36,8 @@ use Rattle.c62_insn.proofs.Registers.{same_side-refl}
 use Rattle.c62_read.specs.declared.kind.Kind.{Kind}
 use Rattle.c62_read.specs.declared.kind.Kind.TheVariants.{Comma, Star, Open, Close, Register, Number}
 use Rattle.c62_read.specs.declared.mnemonic.Mnemonic.TheVariants.{Operation}
+use Rattle.c62_read.specs.declared.unit.Mark.{Mark}
+use Rattle.c62_read.specs.declared.unit.Mark.TheVariants.{Plain, Cross, Path}
 use Rattle.c62_read.specs.declared.unit.WrittenUnit.{WrittenUnit}
 use Rattle.c62_read.specs.Text.{begins, is_word_byte, put_back, tokens}
 use Rattle.c62_read.specs.Number.{is_label}
@@ -47,7 +50,6 @@ use Rattle.c62_read.specs.Laws.{NamesTarget, says_with}
 use Rattle.c62_read.proofs.NumberLemmas.{label_few}
 use Rattle.c62_read.proofs.SpelledTokens.{IsPiece, any_end, both, closing, mark_piece, more, opening, weaker, word_end, word_piece, word_token}
 use Rattle.c62_read.proofs.SpelledNumbers.{fits, number_piece, register_back, register_piece}
-use Rattle.c62_read.proofs.SpelledUnits.{mark_by, mark_on}
 
 -- ---- addresses
 
@@ -177,20 +179,10 @@ is_sourced (Block number) = false
 is_sourced (operands.Register target) = false
 is_sourced _ = true
 
-record IsPlain (op : Op) : Type 0 where
-  store : is_store op ≡ false
-  branch : is_branch op ≡ false
-
-plain_op : (op : Op) (operands : Operands) → is_sourced operands ≡ true → has_kind op operands ≡ true → IsPlain op
-plain_op Stb (Three a b d) sourced kind = absurd cc
-plain_op Stb _ sourced kind = absurd cc
-plain_op Sth (Three a b d) sourced kind = absurd cc
-plain_op Sth _ sourced kind = absurd cc
-plain_op Stw (Three a b d) sourced kind = absurd cc
-plain_op Stw _ sourced kind = absurd cc
-plain_op Branch (Three a b d) sourced kind = absurd cc
-plain_op Branch _ sourced kind = absurd cc
-plain_op _ operands sourced kind = record { store = refl; branch = refl }
+plain_op : (op : Op) (operands : Operands) → is_sourced operands ≡ true → has_kind op operands ≡ true → (is_store op || is_branch op) ≡ false
+plain_op Add (Three a b d) is kind = cc
+plain_op _ (Three a b d) is kind = cc
+plain_op _ _ is kind = cc
 
 access_op : (op : Op) (reg base : Reg) (form : AddressForm) (offset : Offset) → has_kind op (Access reg base form offset) ≡ true
     → (is_load op || is_store op) ≡ true
@@ -228,22 +220,18 @@ second_kept : (op : Op) (a d : Reg) (k : ℤ) → has_kind op (ConstantSecond a 
 second_kept Add a d k kind = cc
 second_kept _ a d k kind = cc
 
-small_half : (n : ℕ) → n ≤ 65535 → n % 4294967296 % 65536 ≡ n
-small_half n small = omega arith
-
 low_half_is : (k : ℤ) → (int_le (pos 0) k && int_le k (pos 65535)) ≡ true → low_half k ≡ k
-low_half_is (pos n) inside = ap pos (small_half n (leb-true n 65535 (and_parts (int_le (pos 0) (pos n)) (int_le (pos n) (pos 65535)) inside).1))
+low_half_is (pos n) inside =
+    let small : n ≤ 65535 = leb-true n 65535 (and_parts (int_le (pos 0) (pos n)) (int_le (pos n) (pos 65535)) inside).1 in
+    let same : n % 4294967296 % 65536 ≡ n = omega arith in
+    ap pos same
 low_half_is (negsuc n) inside = absurd cc
-
-or_false : (x : Bool) → (x || false) ≡ true → x ≡ true
-or_false true or = refl
-or_false false or = cc
 
 constant_order : (op : Op) (unit : FunctionalUnit) (k : ℤ) (d : Reg) → takes op (Constant k d) unit ≡ true
     → in_order op (Constant k d) ≡ (op, Constant k d)
 unfolding in_order
 constant_order Mvklh unit k d taking =
-    let here = or_false (int_le (pos 0) k && int_le k (pos 65535) && same_letter S unit.letter && same_side d.side unit.side) taking in
+    let here = sym (or-false (int_le (pos 0) k && int_le k (pos 65535) && same_letter S unit.letter && same_side d.side unit.side)) ∙ taking in
     ap (λ (z : ℤ). (Mvklh, Constant z d)) (low_half_is k (and_parts _ _ (and_parts _ _ here).0).0)
 constant_order _ unit k d taking = refl
 
@@ -262,6 +250,15 @@ unfolding in_order
 front_order op k a d is = ap (λ (turned : Option Op). constant_to_front turned op a k d) (add_turned op is)
 
 -- ---- the written unit
+
+-- the mark of a unit with these operands
+abbrev pub mark_by : Bool → Option Side → Mark
+mark_by true path = Cross
+mark_by false None = Plain
+mark_by false (Some path) = Path path
+
+abbrev pub mark_on : Side → Operands → Mark
+mark_on side operands = mark_by (crosses_to side operands) (data_path_of operands)
 
 -- a unit with the mark that its operands want
 abbrev pub written_on : Operands → FunctionalUnit → WrittenUnit
@@ -283,11 +280,8 @@ no_fault op operands cond unit none =
 cross_fits : (op : Op) (crosses : Bool) (letter : Letter) → (same_letter letter D ≡ true → crosses ≡ false)
     → mark_fits (Operation op) letter (mark_by crosses None) ≡ true
 cross_fits op false letter own = refl
-cross_fits op true letter own =
-    elim (cases_Bool (same_letter letter D)) [
-      | inl is_d ↦ let crossed : true ≡ false = own is_d in absurd cc
-      | inr other ↦ not_from_false (same_letter letter D) other
-    ]
+cross_fits op true D own = sym (own refl)
+cross_fits op true _ own = refl
 
 mark_taken : (op : Op) (operands : Operands) (unit : FunctionalUnit) → takes op operands unit ≡ true
     → mark_fits (Operation op) unit.letter (mark_on unit.side operands) ≡ true
@@ -353,8 +347,8 @@ sourced : (op : Op) (operands written : Operands) (cond : Option Condition) (uni
     → IsBehind op operands cond unit text (Does (parts_read op operands cond (Some (written_on operands unit))))
 sourced op operands written cond unit taking none is piece few read order =
     let kind = taken_kind op operands unit taking in
-    let plain = plain_op op operands is kind in
-    as_they_are op operands written cond unit kind none piece few (rw plain.branch refl) (rw plain.store read) order
+    let plain = or_parts (is_store op) (is_branch op) (plain_op op operands is kind) in
+    as_they_are op operands written cond unit kind none piece few (rw plain.1 refl) (rw plain.0 read) order
 
 first_back : (op : Op) (unit : FunctionalUnit) (k : ℤ) (a d : Reg) (condition : Option Condition) (on_d : Bool) → same_letter unit.letter D ≡ on_d
     → takes op (ConstantFirst k a d) unit ≡ true → form_fault op (ConstantFirst k a d) condition (Some unit) ≡ None

@@ -139,10 +139,6 @@ more first others = both (both first (mark_piece 44 Comma refl refl refl) (λ re
 pub tokens_are : {a : List ℕ} {ws : List Word} {ks : List Kind} {m : ℕ} → IsPiece word_end a ws ks m → tokens a ≡ ws
 tokens_are {a = a} {ws = ws} piece = ap tokens (sym (append-nil a)) ∙ piece.splits [] refl ∙ append-nil ws
 
--- the same of a word
-pub tokens_end : (w : List ℕ) → IsToken w → tokens w ≡ w ∷ []
-tokens_end w token = ap tokens (sym (append-nil w)) ∙ token.splits [] refl
-
 pub opening : IsPiece any_end (codes "[") (codes "[" ∷ []) (Open ∷ []) 1
 unfolding kind_of mark_of single_mark
 opening = mark_piece 91 Open refl refl refl
