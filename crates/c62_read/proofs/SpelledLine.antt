@@ -36,7 +36,7 @@ use Rattle.c62_read.specs.Number.{decimal_of, magnitude_of, number_of, register_
 use Rattle.c62_read.specs.Kind.{Word, kind_of, kinds_of, mark_of, single_mark}
 use Rattle.c62_read.specs.Unit.{is_dot, letter_of, mark_of as written_mark, side_numbered, unit_fits, unit_front, unit_split}
 use Rattle.c62_read.specs.Line.{Says, before_rest, behind_unit, condition_front, condition_of, instruction_of, is_bars, is_star, line_of, rest_says}
-use Rattle.c62_read.specs.Laws.{LineReadsBack, NamesTarget, says_with}
+use Rattle.c62_read.specs.Laws.{LineReadsBack, says_on}
 use Rattle.c62_read.proofs.HeadLemmas.{all_weaker, allowed_text, head_plain, line_by_head, no_colon}
 use Rattle.c62_read.proofs.SpelledTokens.{IsPiece, any_end, blank_piece, both, closing, is_text, led_token, mark_piece, no_piece, opening}
 use Rattle.c62_read.proofs.SpelledTokens.{tokens_are, tokens_behind, word_end, word_piece, word_token}
@@ -245,28 +245,19 @@ no_star (Some c) op rest = refl
 regrouped : (c m u o : List ℕ) → c ++ m ++ codes " " ++ u ++ codes " " ++ o ≡ c ++ (m ++ (codes " " ++ (u ++ (codes " " ++ o))))
 regrouped c m u o = simp append_assoc refl
 
--- an instruction's line reads as it, for all parts that have no fault
-line_back : (name : ℕ → List ℕ) (op : Op) (operands : Operands) (cond : Option Condition) (unit : FunctionalUnit) (blanks : List ℕ)
-    → takes op operands unit ≡ true
-    → NamesTarget name operands → form_fault op operands cond (Some unit) ≡ None → list_all is_blank blanks ≡ true → length blanks ≤ 100
-    → line_of (blanks ++ (condition_spelling cond ++ (mnemonic_of op ++ (codes " " ++ (unit_spelling operands unit ++ (codes " "
-    ++ operands_spelling name op unit.letter operands))))))
-    ≡ Ok (None, says_with name (record { op = op; operands = operands; cond = cond; unit = Some unit }) operands)
-line_back name op operands cond unit blanks taking names none blank few =
-    let here = behind name op operands cond unit taking names none in
-    let says = says_with name (record { op = op; operands = operands; cond = cond; unit = Some unit }) operands in
-    let words : List Word = unit_spelling operands unit ∷ here.words in
-    let behind_unit_piece = both (unit_piece operands unit) (both blank_piece here.piece (λ rest end. tt)) (λ rest end. refl) in
-    let line = both (condition_piece cond) (both (mnemonic_piece op) (both blank_piece behind_unit_piece (λ rest end. tt)) (λ rest end. refl))
-    (λ rest end. tt) in
-    piece_says blanks says line (omega (arith, here.few)) blank few (no_star cond op _) (no_bars cond op words)
-    (no_directive cond op words
-    ∙ instruction_says op operands cond unit here.words says (unit_written_fits op operands unit taking) here.read)
-
 -- the line that spells an instruction reads as it
 pub spelled_back : (name : ℕ → List ℕ) (insn : Insn) (unit : FunctionalUnit) (blanks : List ℕ) → LineReadsBack name insn unit blanks
 spelled_back name insn unit blanks taking names blank few =
+    let op : Op = op_of insn in
+    let operands : Operands = operands_of insn in
+    let cond : Option Condition = cond_of insn in
+    let here = behind name op operands cond unit taking names (faultless_on insn unit taking) in
+    let words : List Word = unit_spelling operands unit ∷ here.words in
+    let unit_on = both (unit_piece operands unit) (both blank_piece here.piece (λ rest end. tt)) (λ rest end. refl) in
+    let line = both (condition_piece cond) (both (mnemonic_piece op) (both blank_piece unit_on (λ rest end. tt)) (λ rest end. refl))
+    (λ rest end. tt) in
     ap (λ (text : List ℕ). line_of (blanks ++ text))
-    (regrouped (condition_spelling (cond_of insn)) (mnemonic_of (op_of insn)) (unit_spelling (operands_of insn) unit)
-    (operands_spelling name (op_of insn) unit.letter (operands_of insn)))
-    ∙ line_back name (op_of insn) (operands_of insn) (cond_of insn) unit blanks taking names (faultless_on insn unit taking) blank few
+    (regrouped (condition_spelling cond) (mnemonic_of op) (unit_spelling operands unit) (operands_spelling name op unit.letter operands))
+    ∙ piece_says blanks (says_on name insn unit) line (omega arith) blank few (no_star cond op _) (no_bars cond op words)
+    (no_directive cond op words
+    ∙ instruction_says op operands cond unit here.words (says_on name insn unit) (unit_written_fits op operands unit taking) here.read)
