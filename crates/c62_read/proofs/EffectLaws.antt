@@ -1,9 +1,9 @@
 -- What the reader puts for what was written does the same.
-use Rattle.std.proofs.Common.{◌≡◌, ℕ, ◌+◌, ◌-◌, ◌*◌, ◌<◌, ◌%◌, ◌^◌, Bool, cond, eqb, Option, Some, None, refl, sym, ap, subst, ◌∙◌, arith, inl, inr}
+use Rattle.std.proofs.Common.{◌≡◌, ℕ, ◌+◌, ◌-◌, ◌*◌, ◌<◌, ◌%◌, ◌^◌, Bool, cond, eqb, Option, Some, None, refl, ap, subst, ◌∙◌, arith}
 use Rattle.std.specs.Prelude.{ℤ, pos, ◌*ℤ◌}
 use Rattle.std.proofs.Math.IntN.{*ℤ_comm}
-use Rattle.std.proofs.Math.Nat.{mod-eq_of_lt, mul_comm}
-use Rattle.std.proofs.lemmas.Bool.{cases_Bool, eqb-true}
+use Rattle.std.proofs.Math.Nat.{add_comm, mod-eq_of_lt, mul_comm}
+use Rattle.std.proofs.lemmas.Bool.Decides.{nat_tests}
 use Rattle.std.proofs.lemmas.Nat.{and_comm, or_comm, xor_comm}
 use Rattle.c62_insn.specs.declared.operands.Op.{Op}
 use Rattle.c62_insn.specs.declared.operands.Op.TheVariants.{Add, And, Or, Xor, Add2, Cmpeq, Cmpgt, Cmplt, Cmpgtu, Cmpltu, Mpy, Mpyu, Mpyus, Mpysu}
@@ -14,23 +14,13 @@ use Rattle.c62_read.specs.Mnemonic.{exchanged}
 use Rattle.c62_read.specs.Laws.{KeepEffects, KeepsEffect}
 
 equal_turned : (a b : ℕ) → eqb a b ≡ eqb b a
-equal_turned a b =
-    elim (cases_Bool (eqb a b)) [
-      | inl same ↦ let e : a ≡ b = eqb-true a b same in ap (λ (x : ℕ). eqb x b) e ∙ ap (λ (x : ℕ). eqb b x) (sym e)
-      | inr first ↦ elim (cases_Bool (eqb b a)) [
-        | inl same ↦ let e : b ≡ a = eqb-true b a same in ap (λ (x : ℕ). eqb x b) (sym e) ∙ ap (λ (x : ℕ). eqb b x) e
-        | inr second ↦ first ∙ sym second
-      ]
-    ]
+equal_turned a b = grind (arith, nat_tests)
 
 sum_turned : (a b : ℕ) → sum a b ≡ sum b a
-sum_turned a b = let e : a + b ≡ b + a = omega arith in ap (λ (n : ℕ). n % 2 ^ 32) e
+sum_turned a b = ap (λ (n : ℕ). n % 2 ^ 32) (add_comm a b)
 
 halves_turned : (a b c d : ℕ) → (a + b) % 2 ^ 16 * 2 ^ 16 + (c + d) % 2 ^ 16 ≡ (b + a) % 2 ^ 16 * 2 ^ 16 + (d + c) % 2 ^ 16
-halves_turned a b c d =
-    let first : a + b ≡ b + a = omega arith in
-    let second : c + d ≡ d + c = omega arith in
-    ap (λ (n : ℕ). n % 2 ^ 16 * 2 ^ 16 + (c + d) % 2 ^ 16) first ∙ ap (λ (n : ℕ). (b + a) % 2 ^ 16 * 2 ^ 16 + n % 2 ^ 16) second
+halves_turned a b c d = cc (add_comm a b, add_comm c d)
 
 product_turned : (a b : ℤ) → word (a *ℤ b) ≡ word (b *ℤ a)
 product_turned a b = ap word (*ℤ_comm a b)

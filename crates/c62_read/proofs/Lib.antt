@@ -11,9 +11,6 @@ pub mod WalkLemmas
 pub mod BytesLemmas
 pub mod SpelledTokens
 pub mod SpelledNumbers
-pub mod SpelledSources
-pub mod SpelledUnits
-pub mod SpelledAddresses
 pub mod SpelledOperands
 pub mod FirstByte
 pub mod HeadLemmas

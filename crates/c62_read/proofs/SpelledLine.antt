@@ -1,301 +1,263 @@
 -- The line that spells an instruction reads as it.
-use Rattle.std.proofs.Common.{◌≡◌, ℕ, ◌≤◌, Bool, true, false, cond, List, [], ◌∷◌, ◌++◌, length, Option, Some, None, Ok, refl, sym, ap, subst, ◌∙◌}
-use Rattle.std.proofs.Common.{arith, append_assoc, length-append}
-use Rattle.std.specs.Prelude.{codes}
+use Rattle.std.proofs.Common.{◌≡◌, ℕ, ◌≤◌, Bool, true, false, cond, List, [], ◌∷◌, ◌++◌, length, Option, Some, None, Ok, refl, ap, ◌∙◌}
+use Rattle.std.proofs.Common.{subst, sym, append_assoc, arith, eqb}
+use Rattle.std.specs.Prelude.{codes, option_map}
+use Rattle.std.specs.Char.{to_ascii_lowercase}
 use Rattle.std.specs.List.{list_all}
-use Rattle.std.proofs.lemmas.Bool.{and_from, and_parts}
+use Rattle.std.proofs.lemmas.Bool.{and_left, and_parts}
 use Rattle.std.proofs.lemmas.Bool.Decides.{nat_tests}
-use Rattle.std.proofs.lemmas.List.Folds.{list_all-append}
+use Rattle.c62_insn.specs.declared.register.Side.{Side}
+use Rattle.c62_insn.specs.declared.register.Side.TheVariants.{A, B}
+use Rattle.c62_insn.specs.declared.register.Letter.{Letter}
+use Rattle.c62_insn.specs.declared.register.Letter.TheVariants.{L}
 use Rattle.c62_insn.specs.declared.register.Reg.{Reg}
 use Rattle.c62_insn.specs.declared.register.Cond.{Cond as Condition}
 use Rattle.c62_insn.specs.declared.register.Unit.{Unit as FunctionalUnit}
 use Rattle.c62_insn.specs.declared.operands.Op.{Op}
-use Rattle.c62_insn.specs.declared.operands.Op.TheVariants.{Add, B as Branch}
+use Rattle.c62_insn.specs.declared.operands.Op.TheVariants.{Add}
 use Rattle.c62_insn.specs.declared.operands.Operands.{Operands}
-use Rattle.c62_insn.specs.declared.operands.Operands.TheVariants.{Three, ConstantFirst, ConstantSecond, Two, Field, Constant, Access, Block, Register}
+use Rattle.c62_insn.specs.declared.operands.Operands.TheVariants.{Access}
 use Rattle.c62_insn.specs.declared.insn.Insn.{Insn}
 use Rattle.c62_insn.specs.Fault.{form_fault}
 use Rattle.c62_insn.specs.Insn.{op_of, operands_of, cond_of}
-use Rattle.c62_insn.specs.Spelling.{condition_spelling, mnemonic_of, operands_spelling, register_name, spelling, unit_spelling}
+use Rattle.c62_insn.specs.Spelling.{condition_spelling, mnemonic_of, operands_spelling, register_name, unit_spelling}
+use Rattle.c62_insn.specs.Spelling.{path_spelling, side_digit, unit_letter}
+use Rattle.c62_insn.specs.Shape.{crosses_to}
 use Rattle.c62_insn.specs.Takes.{takes}
 use Rattle.c62_insn.proofs.InsnLemmas.{faultless_on}
 use Rattle.c62_read.specs.declared.mnemonic.Mnemonic.TheVariants.{Operation}
-use Rattle.c62_read.specs.Text.{begins, is_blank, tokens}
-use Rattle.c62_read.specs.Number.{is_label, spells}
-use Rattle.c62_read.specs.declared.kind.Kind.TheVariants.{Open, Close, Not}
-use Rattle.c62_read.specs.Kind.{Word, kind_of, mark_of, single_mark}
-use Rattle.c62_read.specs.Unit.{unit_fits}
-use Rattle.c62_read.specs.Line.{Does, Jumps, Says, behind_unit, condition_front, condition_of, instruction_of, is_bars, is_star, line_of, parts_read}
-use Rattle.c62_read.specs.Line.{rest_says, unit_behind}
-use Rattle.c62_read.specs.Laws.{LineReadsBack, NamesTarget, says_with}
+use Rattle.c62_read.specs.Text.{begins, is_blank, is_word_byte, tokens}
+use Rattle.c62_read.specs.declared.kind.Kind.{Kind}
+use Rattle.c62_read.specs.declared.kind.Kind.TheVariants.{Open, Close, Not, Register, Name}
+use Rattle.c62_read.specs.declared.unit.Mark.{Mark}
+use Rattle.c62_read.specs.declared.unit.Mark.TheVariants.{Plain, Cross, Path}
+use Rattle.c62_read.specs.Mnemonic.{mnemonic_named}
+use Rattle.c62_read.specs.Number.{decimal_of, magnitude_of, number_of, register_of, signed_of}
+use Rattle.c62_read.specs.Kind.{Word, kind_of, kinds_of, mark_of, single_mark}
+use Rattle.c62_read.specs.Unit.{is_dot, letter_of, mark_of as written_mark, side_numbered, unit_fits, unit_front, unit_split}
+use Rattle.c62_read.specs.Line.{Says, before_rest, behind_unit, condition_front, condition_of, instruction_of, is_bars, is_star, line_of, rest_says}
+use Rattle.c62_read.specs.Laws.{LineReadsBack, says_on}
 use Rattle.c62_read.proofs.HeadLemmas.{all_weaker, allowed_text, head_plain, line_by_head, no_colon}
-use Rattle.c62_read.proofs.TokenLemmas.{tokens_blank}
-use Rattle.c62_read.proofs.SpelledTokens.{IsToken, is_text, mark_alone, tokens_behind}
-use Rattle.c62_read.proofs.SpelledNumbers.{register_kind, register_length, register_token}
-use Rattle.c62_read.proofs.SpelledUnits.{mnemonic_back, mnemonic_kind, mnemonic_length, mnemonic_no_dot, mnemonic_token, unit_back, unit_length}
-use Rattle.c62_read.proofs.SpelledUnits.{unit_token}
-use Rattle.c62_read.proofs.SpelledOperands.{block_branch, does_back, jumps_back, spelled_label, spelled_operands, unit_written_fits, written_on}
+use Rattle.c62_read.proofs.SpelledTokens.{IsPiece, any_end, blank_piece, both, closing, is_text, led_token, mark_piece, no_piece, opening}
+use Rattle.c62_read.proofs.SpelledTokens.{tokens_are, tokens_behind, word_end, word_piece, word_token}
+use Rattle.c62_read.proofs.SpelledNumbers.{register_piece}
+use Rattle.c62_read.proofs.NameLemmas.{named}
+use Rattle.c62_read.proofs.SpelledOperands.{behind, mark_by, mark_on, unit_written_fits, written_on}
 
--- ---- the operation and what stands behind it
+-- ---- a line without a label
 
--- what operands say where they are spelled
-record IsBehind (op : Op) (operands : Operands) (cond : Option Condition) (unit : FunctionalUnit) (text : List ℕ) (says : Says) : Type 0 where
-  pub bytes : list_all is_text text ≡ true
-  pub short : length text ≤ 48
-  pub read : behind_unit (Operation op) cond (Some (written_on operands unit)) (tokens text) ≡ Ok says
+no_star_byte : (b : ℕ) → is_word_byte b ≡ true → is_star b ≡ false
+no_star_byte b word = grind (arith, nat_tests)
 
-abbrev pub not_block : Operands → Type 0
-not_block operands = (number : ℕ) → operands ≡ Block number → ⊥
+no_bar_byte : (b : ℕ) → is_word_byte b ≡ true → eqb (to_ascii_lowercase b) 124 ≡ false
+no_bar_byte b word = grind (arith, nat_tests)
 
-behind_block : (name : ℕ → List ℕ) (op : Op) (number : ℕ) (cond : Option Condition) (unit : FunctionalUnit) → op ≡ Branch
-    → is_label (name number) ≡ true
-    → form_fault op (Block number) cond (Some unit) ≡ None
-    → IsBehind op (Block number) cond unit (name number) (Jumps (parts_read op (Block 0) cond (Some (written_on (Block number) unit))) (name number))
-behind_block name op number cond unit is_branch label none =
-    let spelled = spelled_label (name number) label in
-    let none_branch : form_fault Branch (Block number) cond (Some unit) ≡ None =
-    subst (λ (o : Op). form_fault o (Block number) cond (Some unit) ≡ None) is_branch none in
-    let there : IsBehind Branch (Block number) cond unit (name number)
-    (Jumps (parts_read Branch (Block 0) cond (Some (written_on (Block number) unit))) (name number)) =
+no_dot_byte : (b : ℕ) → is_word_byte b ≡ true → is_dot b ≡ false
+no_dot_byte b word = grind (arith, nat_tests)
+
+-- a word begins with neither a star nor a bar nor a dot
+pub record BeginsPlainly (w : Word) : Type 0 where
+  pub star : (rest : List ℕ) → begins is_star (w ++ rest) ≡ false
+  pub bars : (words : List Word) → is_bars (w ∷ words) ≡ false
+  pub dot : begins is_dot w ≡ false
+
+pub word_plain : (w : Word) → 1 ≤ length w → list_all is_word_byte w ≡ true → BeginsPlainly w
+word_plain [] some words = absurd (omega arith)
+word_plain (b ∷ w) some words =
+    let word = (and_parts (is_word_byte b) (list_all is_word_byte w) words).0 in
     record {
-      bytes = spelled.token.plain;
-      short = omega (arith, spelled.short);
-      read =
-          jumps_back number (name number) cond unit label none_branch;
-    } in
-    subst (λ (o : Op). IsBehind o (Block number) cond unit (name number)
-    (Jumps (parts_read o (Block 0) cond (Some (written_on (Block number) unit))) (name number)))
-    (sym is_branch) there
-
-behind_does : (name : ℕ → List ℕ) (op : Op) (operands : Operands) (cond : Option Condition) (unit : FunctionalUnit) → takes op operands unit ≡ true
-    → not_block operands
-    → form_fault op operands cond (Some unit) ≡ None
-    → IsBehind op operands cond unit (operands_spelling name op unit.letter operands)
-    (Does (parts_read op operands cond (Some (written_on operands unit))))
-behind_does name op operands cond unit taking other none =
-    let spelled = spelled_operands name op operands unit taking other in
-    record { bytes = spelled.bytes; short = spelled.short; read = does_back name op operands cond unit taking other none }
-
--- the operands as they are spelled
-behind : (name : ℕ → List ℕ) (op : Op) (operands : Operands) (cond : Option Condition) (unit : FunctionalUnit) → takes op operands unit ≡ true
-    → NamesTarget name operands
-    → form_fault op operands cond (Some unit) ≡ None
-    → IsBehind op operands cond unit (operands_spelling name op unit.letter operands)
-    (says_with name (record { op = op; operands = operands; cond = cond; unit = Some unit }) operands)
-behind name op (Block number) cond unit taking names none =
-    behind_block name op number cond unit (block_branch op number unit taking) (names number refl) none
-behind name op (Three a b d) cond unit taking names none = behind_does name op (Three a b d) cond unit taking (λ number e. cc) none
-behind name op (ConstantFirst k a d) cond unit taking names none = behind_does name op (ConstantFirst k a d) cond unit taking (λ number e. cc) none
-behind name op (ConstantSecond a k d) cond unit taking names none = behind_does name op (ConstantSecond a k d) cond unit taking (λ number e. cc) none
-behind name op (Two a d) cond unit taking names none = behind_does name op (Two a d) cond unit taking (λ number e. cc) none
-behind name op (Field a k m d) cond unit taking names none = behind_does name op (Field a k m d) cond unit taking (λ number e. cc) none
-behind name op (Constant k d) cond unit taking names none = behind_does name op (Constant k d) cond unit taking (λ number e. cc) none
-behind name op (Access reg base form offset) cond unit taking names none =
-    behind_does name op (Access reg base form offset) cond unit taking (λ number e. cc) none
-behind name op (Register target) cond unit taking names none = behind_does name op (Register target) cond unit taking (λ number e. cc) none
-
--- ---- the words of a line
-
-abbrev bang : Bool → List Word → List Word
-bang true words = codes "!" ∷ words
-bang false words = words
-
-abbrev condition_words : Option Condition → List Word → List Word
-condition_words None words = words
-condition_words (Some cond) words = codes "[" ∷ bang cond.negated (register_name cond.reg ∷ codes "]" ∷ words)
-
-condition_regrouped : (x r y rest : List ℕ) → x ++ r ++ y ++ rest ≡ x ++ (r ++ (y ++ rest))
-condition_regrouped x r y rest = simp append_assoc refl
-
-tokens_closed : (reg : Reg) (rest : List ℕ) → tokens (register_name reg ++ 93 ∷ 32 ∷ rest) ≡ register_name reg ∷ codes "]" ∷ tokens rest
-tokens_closed reg rest =
-    (register_token reg).splits (93 ∷ 32 ∷ rest) refl
-    ∙ ap (λ (words : List Word). register_name reg ∷ words) (mark_alone 93 (32 ∷ rest) refl ∙ ap (λ (words : List Word). codes "]" ∷ words)
-    (tokens_blank 32 rest refl refl))
-
-tokens_bang : (reg : Reg) (negated : Bool) (rest : List ℕ)
-    → tokens ((codes "[" ++ cond negated (codes "!") []) ++ (register_name reg ++ 93 ∷ 32 ∷ rest))
-    ≡ codes "[" ∷ bang negated (register_name reg ∷ codes "]" ∷ tokens rest)
-tokens_bang reg true rest =
-    mark_alone 91 (33 ∷ (register_name reg ++ 93 ∷ 32 ∷ rest)) refl
-    ∙ ap (λ (words : List Word). codes "[" ∷ words)
-    (mark_alone 33 (register_name reg ++ 93 ∷ 32 ∷ rest) refl ∙ ap (λ (words : List Word). codes "!" ∷ words) (tokens_closed reg rest))
-tokens_bang reg false rest = mark_alone 91 (register_name reg ++ 93 ∷ 32 ∷ rest) refl
-    ∙ ap (λ (words : List Word). codes "[" ∷ words) (tokens_closed reg rest)
-
-tokens_condition : (cond : Option Condition) (rest : List ℕ) → tokens (condition_spelling cond ++ rest) ≡ condition_words cond (tokens rest)
-tokens_condition None rest = refl
-tokens_condition (Some c) rest =
-    ap tokens (condition_regrouped (codes "[" ++ cond c.negated (codes "!") []) (register_name c.reg) (codes "] ") rest)
-    ∙ tokens_bang c.reg c.negated rest
-
--- the mnemonic, the unit and the operands
-abbrev body : List ℕ → List ℕ → List ℕ → List ℕ
-body mnemonic unit operands = mnemonic ++ 32 ∷ (unit ++ 32 ∷ operands)
-
-tokens_body : (mnemonic unit operands : List ℕ) → IsToken mnemonic → IsToken unit
-    → tokens (body mnemonic unit operands) ≡ mnemonic ∷ unit ∷ tokens operands
-tokens_body mnemonic unit operands first second =
-    first.splits (32 ∷ (unit ++ 32 ∷ operands)) refl
-    ∙ ap (λ (words : List Word). mnemonic ∷ words)
-    (tokens_blank 32 (unit ++ 32 ∷ operands) refl refl
-    ∙ second.splits (32 ∷ operands) refl ∙ ap (λ (words : List Word). unit ∷ words) (tokens_blank 32 operands refl refl))
-
-regrouped : (c m u o : List ℕ) → c ++ m ++ (32 ∷ []) ++ u ++ (32 ∷ []) ++ o ≡ c ++ body m u o
-regrouped c m u o = simp append_assoc refl
-
--- ---- what the words say
-
-bracket_kind : kind_of (codes "[") ≡ Open
-unfolding kind_of mark_of single_mark
-bracket_kind = refl
-
-bang_kind : kind_of (codes "!") ≡ Not
-unfolding kind_of mark_of single_mark
-bang_kind = refl
-
-close_kind : kind_of (codes "]") ≡ Close
-unfolding kind_of mark_of single_mark
-close_kind = refl
-
-front_by : (reg : Reg) (negated : Bool) (words : List Word)
-    → condition_front (codes "[" ∷ bang negated (register_name reg ∷ codes "]" ∷ words))
-    ≡ Some (Some (record { reg = reg; negated = negated }), words)
-unfolding condition_front condition_of
-front_by reg true words = rw (bracket_kind, bang_kind, register_kind reg, close_kind) refl
-front_by reg false words = rw (bracket_kind, register_kind reg, close_kind) refl
-
-front_back : (cond : Option Condition) (op : Op) (words : List Word)
-    → condition_front (condition_words cond (mnemonic_of op ∷ words)) ≡ Some (cond, mnemonic_of op ∷ words)
-unfolding condition_front condition_of
-front_back None op words = rw (mnemonic_kind op) refl
-front_back (Some c) op words = front_by c.reg c.negated (mnemonic_of op ∷ words)
-
-unit_back_behind : (op : Op) (operands : Operands) (unit : FunctionalUnit) (words : List Word)
-    → unit_fits (Operation op) (written_on operands unit) ≡ true
-    → unit_behind (Operation op) (unit_spelling operands unit ∷ words) ≡ Some (Some (written_on operands unit), words)
-unit_back_behind op operands unit words fits = rw (unit_back operands unit words, fits) refl
-
-instruction_says : (op : Op) (operands : Operands) (cond : Option Condition) (unit : FunctionalUnit) (words : List Word) (says : Says)
-    → unit_fits (Operation op) (written_on operands unit) ≡ true → behind_unit (Operation op) cond (Some (written_on operands unit)) words ≡ Ok says
-    → instruction_of (condition_words cond (mnemonic_of op ∷ unit_spelling operands unit ∷ words)) ≡ Ok says
-unfolding instruction_of
-instruction_says op operands cond unit words says fits read =
-    rw (front_back cond op (unit_spelling operands unit ∷ words), mnemonic_back op, unit_back_behind op operands unit words fits) read
-
-words_say : (op : Op) (operands : Operands) (cond : Option Condition) (unit : FunctionalUnit) (words : List Word) (says : Says)
-    → unit_fits (Operation op) (written_on operands unit) ≡ true → behind_unit (Operation op) cond (Some (written_on operands unit)) words ≡ Ok says
-    → rest_says (condition_words cond (mnemonic_of op ∷ unit_spelling operands unit ∷ words)) ≡ Ok says
-unfolding rest_says
-words_say op operands None unit words says fits read = rw (mnemonic_no_dot op) (instruction_says op operands None unit words says fits read)
-words_say op operands (Some c) unit words says fits read = instruction_says op operands (Some c) unit words says fits read
-
--- ---- the bytes of a line
-
-appended : (a b : List ℕ) → list_all is_text a ≡ true → list_all is_text b ≡ true → list_all is_text (a ++ b) ≡ true
-appended a b first second = list_all-append is_text a b ∙ and_from (list_all is_text a) (list_all is_text b) first second
-
-text_condition : (cond : Option Condition) → list_all is_text (condition_spelling cond) ≡ true
-text_condition None = refl
-text_condition (Some c) =
-    appended (codes "[" ++ cond c.negated (codes "!") [] ++ register_name c.reg) (codes "] ")
-    (appended (codes "[" ++ cond c.negated (codes "!") []) (register_name c.reg) (text_bang c.negated) (register_token c.reg).plain) refl
-  where
-    text_bang : (negated : Bool) → list_all is_text (codes "[" ++ cond negated (codes "!") []) ≡ true
-    text_bang true = refl
-    text_bang false = refl
-
-bang_length : (negated : Bool) → length (codes "[" ++ cond negated (codes "!") []) ≤ 2
-bang_length true = omega arith
-bang_length false = omega arith
-
-joined_length : (x r : List ℕ) → length x ≤ 2 → length r ≤ 3 → length (x ++ r ++ (93 ∷ 32 ∷ [])) ≤ 7
-joined_length x r few short = simp length-append (omega arith)
-
-condition_length : (cond : Option Condition) → length (condition_spelling cond) ≤ 7
-condition_length None = omega arith
-condition_length (Some c) = joined_length
-    (codes "[" ++ cond c.negated (codes "!") []) (register_name c.reg) (bang_length c.negated) (register_length c.reg)
-
-text_body : (m u o : List ℕ) → list_all is_text m ≡ true → list_all is_text u ≡ true → list_all is_text o ≡ true
-    → list_all is_text (body m u o) ≡ true
-text_body m u o first second third = appended m (32 ∷ (u ++ 32 ∷ o)) first (appended u (32 ∷ o) second third)
-
-body_length : (m u o : List ℕ) → length m ≤ 6 → length u ≤ 5 → length o ≤ 48 → length (body m u o) ≤ 61
-body_length m u o first second third = omega (arith, length-append m (32 ∷ (u ++ 32 ∷ o)), length-append u (32 ∷ o))
-
-mnemonic_no_star : (op : Op) (rest : List ℕ) → begins is_star (mnemonic_of op ++ rest) ≡ false
-mnemonic_no_star Add rest = refl
-mnemonic_no_star _ rest = refl
-
-mnemonic_no_bars : (op : Op) → spells (codes "||") (mnemonic_of op) ≡ false
-mnemonic_no_bars Add = refl
-mnemonic_no_bars _ = refl
-
-no_star : (blanks : List ℕ) (cond : Option Condition) (op : Op) (rest : List ℕ) → list_all is_blank blanks ≡ true
-    → begins is_star (blanks ++ (condition_spelling cond ++ (mnemonic_of op ++ rest))) ≡ false
-no_star [] None op rest blank = mnemonic_no_star op rest
-no_star [] (Some c) op rest blank =
-    ap (begins is_star) (condition_regrouped (codes "[" ++ cond c.negated (codes "!") []) (register_name c.reg) (codes "] ") (mnemonic_of op ++ rest))
-no_star (b ∷ blanks) cond op rest blank = let here = (and_parts (is_blank b) (list_all is_blank blanks) blank).0 in grind (arith, nat_tests)
-
-no_bars : (cond : Option Condition) (op : Op) (words : List Word) → is_bars (condition_words cond (mnemonic_of op ∷ words)) ≡ false
-no_bars None op words = mnemonic_no_bars op
-no_bars (Some c) op words = refl
+      star = λ rest. no_star_byte b word;
+      bars = λ rest. and_left (eqb (to_ascii_lowercase b) 124) _ (no_bar_byte b word);
+      dot = no_dot_byte b word;
+    }
 
 blank_text : (b : ℕ) → is_blank b ≡ true → is_text b ≡ true
 blank_text b blank = grind (arith, nat_tests)
 
+blanks_piece : (blanks : List ℕ) → list_all is_blank blanks ≡ true → length blanks ≤ 100 → IsPiece any_end blanks [] [] 100
+blanks_piece blanks blank few =
+    record {
+      splits = λ rest end. tokens_behind blanks rest blank;
+      plain = all_weaker is_blank is_text blanks blank_text blank;
+      told = refl;
+      short = few;
+    }
+
+blanks_no_star : (blanks rest : List ℕ) → list_all is_blank blanks ≡ true → begins is_star rest ≡ false → begins is_star (blanks ++ rest) ≡ false
+blanks_no_star [] rest blank other = other
+blanks_no_star (b ∷ blanks) rest blank other = let here = (and_parts (is_blank b) (list_all is_blank blanks) blank).0 in grind (arith, nat_tests)
+
+-- a line of blanks and a piece says what the tokens of the piece do
+pub piece_says : (blanks : List ℕ) {text : List ℕ} {words : List Word} {kinds : List Kind} {most : ℕ} (says : Says)
+    → IsPiece word_end text words kinds most → most ≤ 155 → list_all is_blank blanks ≡ true → length blanks ≤ 100 → begins is_star text ≡ false
+    → is_bars words ≡ false → rest_says words ≡ Ok says → line_of (blanks ++ text) ≡ Ok (None, says)
+piece_says blanks {text = text} {words = words} says piece few blank blanks_few star bars read =
+    let line = both (blanks_piece blanks blank blanks_few) piece (λ rest end. tt) in
+    let words_are = tokens_are line in
+    line_by_head (blanks ++ text) None (tokens (blanks ++ text)) says
+    (head_plain (blanks ++ text) (allowed_text (blanks ++ text) line.plain) (omega (arith, line.short)) (blanks_no_star blanks text blank star)
+    (ap is_bars words_are ∙ bars) (no_colon (blanks ++ text) line.plain)) (ap rest_says words_are ∙ read)
+
+-- ---- mnemonics
+
+mnemonic_word : (op : Op) → list_all is_word_byte (mnemonic_of op) ≡ true
+mnemonic_word Add = refl
+mnemonic_word _ = refl
+
+mnemonic_some : (op : Op) → 1 ≤ length (mnemonic_of op)
+mnemonic_some Add = omega arith
+mnemonic_some _ = omega arith
+
+mnemonic_length : (op : Op) → length (mnemonic_of op) ≤ 6
+mnemonic_length Add = omega arith
+mnemonic_length _ = omega arith
+
+mnemonic_kind : (op : Op) → kind_of (mnemonic_of op) ≡ Name
+unfolding kind_of mark_of single_mark register_of number_of signed_of magnitude_of decimal_of
+mnemonic_kind Add = refl
+mnemonic_kind _ = refl
+
+mnemonic_piece : (op : Op) → IsPiece word_end (mnemonic_of op) (mnemonic_of op ∷ []) (Name ∷ []) 6
+mnemonic_piece op =
+    word_piece (mnemonic_of op) Name 6 (word_token (mnemonic_of op) (mnemonic_some op) (mnemonic_word op)) (mnemonic_kind op) (mnemonic_length op)
+
+mnemonic_back : (op : Op) → mnemonic_named (mnemonic_of op) ≡ Some (Operation op)
+unfolding mnemonic_named
+mnemonic_back op = rw (named op) refl
+
+-- ---- units
+
+abbrev mark_text : Mark → List ℕ
+mark_text Plain = []
+mark_text Cross = codes "X"
+mark_text (Path path) = codes "T" ++ side_digit path
+
+no_path : (crosses : Bool) → cond crosses (codes "X") [] ++ [] ≡ mark_text (mark_by crosses None)
+no_path true = refl
+no_path false = refl
+
+path_is : (side : Side) (operands : Operands) → path_spelling side operands ≡ mark_text (mark_on side operands)
+path_is side (Access reg base form offset) = refl
+path_is side operands = no_path (crosses_to side operands)
+
+abbrev word_of : Letter → Side → Mark → List ℕ
+word_of letter side mark = codes "." ++ unit_letter letter ++ side_digit side ++ mark_text mark
+
+unit_word : (operands : Operands) (unit : FunctionalUnit) → unit_spelling operands unit ≡ word_of unit.letter unit.side (mark_on unit.side operands)
+unit_word operands unit = ap (λ (path : List ℕ). codes "." ++ unit_letter unit.letter ++ side_digit unit.side ++ path) (path_is unit.side operands)
+
+-- a unit's word reads as it, and is a piece
+record IsUnit (letter : Letter) (side : Side) (mark : Mark) (w : List ℕ) : Type 0 where
+  read : (words : List (List ℕ)) → unit_front (w ∷ words)
+      ≡ Some (Some (record { unit = record { letter = letter; side = side }; mark = mark }), words)
+  piece : IsPiece word_end w (w ∷ []) (kind_of w ∷ []) 5
+
+unit_is : (letter : Letter) (side : Side) (mark : Mark) → IsUnit letter side mark (word_of letter side mark)
+unfolding unit_front unit_split letter_of side_numbered written_mark
+unit_is L A (Path A) = record { read = λ words. refl; piece = word_piece _ _ 5 (led_token 46 _ _ refl refl refl refl) refl (omega arith) }
+unit_is _ A (Path A) = record { read = λ words. refl; piece = word_piece _ _ 5 (led_token 46 _ _ refl refl refl refl) refl (omega arith) }
+unit_is _ B (Path A) = record { read = λ words. refl; piece = word_piece _ _ 5 (led_token 46 _ _ refl refl refl refl) refl (omega arith) }
+unit_is _ _ _ = record { read = λ words. refl; piece = word_piece _ _ 5 (led_token 46 _ _ refl refl refl refl) refl (omega arith) }
+
+spelled_unit : (operands : Operands) (unit : FunctionalUnit) → IsUnit unit.letter unit.side (mark_on unit.side operands) (unit_spelling operands unit)
+spelled_unit operands unit =
+    subst (IsUnit unit.letter unit.side (mark_on unit.side operands)) (sym (unit_word operands unit))
+    (unit_is unit.letter unit.side (mark_on unit.side operands))
+
+-- a spelled unit reads as it, with the mark of the operands
+unit_back : (operands : Operands) (unit : FunctionalUnit) (words : List (List ℕ))
+    → unit_front (unit_spelling operands unit ∷ words) ≡ Some (Some (record { unit = unit; mark = mark_on unit.side operands }), words)
+unit_back operands unit = (spelled_unit operands unit).read
+
+unit_piece : (operands : Operands) (unit : FunctionalUnit)
+    → IsPiece word_end (unit_spelling operands unit) (unit_spelling operands unit ∷ []) (kind_of (unit_spelling operands unit) ∷ []) 5
+unit_piece operands unit = (spelled_unit operands unit).piece
+
+-- ---- the condition
+
+abbrev condition_words : Option Condition → List Word
+condition_words None = []
+condition_words (Some c) = (codes "[" ∷ []) ++ cond c.negated (codes "!" ∷ []) [] ++ (register_name c.reg ∷ []) ++ (codes "]" ∷ [])
+
+abbrev condition_kinds : Option Condition → List Kind
+condition_kinds None = []
+condition_kinds (Some c) = (Open ∷ []) ++ cond c.negated (Not ∷ []) [] ++ (Register c.reg ∷ []) ++ (Close ∷ [])
+
+bang_piece : (negated : Bool) → IsPiece any_end (cond negated (codes "!") []) (cond negated (codes "!" ∷ []) []) (cond negated (Not ∷ []) []) 1
+unfolding kind_of mark_of single_mark
+bang_piece true = mark_piece 33 Not refl refl refl
+bang_piece false = no_piece any_end 1
+
+condition_piece : (cond : Option Condition) → IsPiece any_end (condition_spelling cond) (condition_words cond) (condition_kinds cond) 15
+condition_piece None = no_piece any_end 15
+condition_piece (Some c) =
+    both (both (both opening (bang_piece c.negated) (λ rest end. tt)) (register_piece c.reg) (λ rest end. tt))
+    (both closing blank_piece (λ rest end. tt)) (λ rest end. refl)
+
+front_by : (reg : Reg) (negated : Bool) (words : List Word)
+    → condition_front (condition_words (Some (record { reg = reg; negated = negated })) ++ words)
+    ≡ Some (Some (record { reg = reg; negated = negated }), words)
+unfolding condition_front condition_of
+front_by reg true words =
+    let condition : Option Condition = Some (record { reg = reg; negated = true }) in
+    ap (λ (kinds : List Kind). option_map (before_rest (condition_words condition ++ words)) (condition_of (kinds ++ kinds_of words)))
+    (condition_piece condition).told
+front_by reg false words =
+    let condition : Option Condition = Some (record { reg = reg; negated = false }) in
+    ap (λ (kinds : List Kind). option_map (before_rest (condition_words condition ++ words)) (condition_of (kinds ++ kinds_of words)))
+    (condition_piece condition).told
+
+front_back : (cond : Option Condition) (op : Op) (words : List Word)
+    → condition_front (condition_words cond ++ (mnemonic_of op ∷ words)) ≡ Some (cond, mnemonic_of op ∷ words)
+unfolding condition_front condition_of
+front_back None op words = rw (mnemonic_kind op) refl
+front_back (Some c) op words = front_by c.reg c.negated (mnemonic_of op ∷ words)
+
+-- ---- what the words say
+
+instruction_says : (op : Op) (operands : Operands) (cond : Option Condition) (unit : FunctionalUnit) (words : List Word) (says : Says)
+    → unit_fits (Operation op) (written_on operands unit) ≡ true → behind_unit (Operation op) cond (Some (written_on operands unit)) words ≡ Ok says
+    → instruction_of (condition_words cond ++ (mnemonic_of op ∷ unit_spelling operands unit ∷ words)) ≡ Ok says
+unfolding instruction_of
+instruction_says op operands cond unit words says fits read =
+    rw (front_back cond op (unit_spelling operands unit ∷ words), mnemonic_back op, unit_back operands unit words, fits) read
+
+mnemonic_plain : (op : Op) → BeginsPlainly (mnemonic_of op)
+mnemonic_plain op = word_plain (mnemonic_of op) (mnemonic_some op) (mnemonic_word op)
+
+-- neither a dot nor bars nor a star stands first
+no_directive : (cond : Option Condition) (op : Op) (words : List Word)
+    → rest_says (condition_words cond ++ (mnemonic_of op ∷ words)) ≡ instruction_of (condition_words cond ++ (mnemonic_of op ∷ words))
+unfolding rest_says
+no_directive None op words = rw (mnemonic_plain op).dot refl
+no_directive (Some c) op words = refl
+
+no_bars : (cond : Option Condition) (op : Op) (words : List Word) → is_bars (condition_words cond ++ (mnemonic_of op ∷ words)) ≡ false
+no_bars None op words = (mnemonic_plain op).bars words
+no_bars (Some c) op words = refl
+
+no_star : (cond : Option Condition) (op : Op) (rest : List ℕ) → begins is_star (condition_spelling cond ++ (mnemonic_of op ++ rest)) ≡ false
+no_star None op rest = (mnemonic_plain op).star rest
+no_star (Some c) op rest = refl
+
 -- ---- the line
 
--- an instruction's line, with its parts one behind the other
-abbrev line_text : (ℕ → List ℕ) → Insn → FunctionalUnit → List ℕ
-line_text name insn unit =
-    condition_spelling (cond_of insn) ++ body (mnemonic_of (op_of insn)) (unit_spelling (operands_of insn) unit)
-    (operands_spelling name (op_of insn) unit.letter (operands_of insn))
-
-spelling_is : (name : ℕ → List ℕ) (insn : Insn) (unit : FunctionalUnit) → spelling name insn unit ≡ line_text name insn unit
-spelling_is name insn unit =
-    regrouped (condition_spelling (cond_of insn)) (mnemonic_of (op_of insn)) (unit_spelling (operands_of insn) unit)
-    (operands_spelling name (op_of insn) unit.letter (operands_of insn))
-
--- an instruction's line reads as it, for all parts that have no fault
-line_back : (name : ℕ → List ℕ) (op : Op) (operands : Operands) (cond : Option Condition) (unit : FunctionalUnit) (blanks : List ℕ)
-    → takes op operands unit ≡ true
-    → NamesTarget name operands → form_fault op operands cond (Some unit) ≡ None → list_all is_blank blanks ≡ true → length blanks ≤ 100
-    → line_of (blanks ++ (condition_spelling cond ++ body (mnemonic_of op) (unit_spelling operands unit)
-    (operands_spelling name op unit.letter operands)))
-    ≡ Ok (None, says_with name (record { op = op; operands = operands; cond = cond; unit = Some unit }) operands)
-line_back name op operands cond unit blanks taking names none blank few =
-    let o : List ℕ = operands_spelling name op unit.letter operands in
-    let m : List ℕ = mnemonic_of op in
-    let u : List ℕ = unit_spelling operands unit in
-    let line : List ℕ = blanks ++ (condition_spelling cond ++ body m u o) in
-    let here = behind name op operands cond unit taking names none in
-    let says = says_with name (record { op = op; operands = operands; cond = cond; unit = Some unit }) operands in
-    let tokens_are : tokens line ≡ condition_words cond (m ∷ u ∷ tokens o) =
-    tokens_behind blanks (condition_spelling cond ++ body m u o) blank ∙ tokens_condition cond (body m u o)
-    ∙ ap (condition_words cond) (tokens_body m u o (mnemonic_token op) (unit_token operands unit)) in
-    let text : list_all is_text line ≡ true =
-    appended blanks (condition_spelling cond ++ body m u o) (all_weaker is_blank is_text blanks blank_text blank)
-    (appended (condition_spelling cond) (body m u o) (text_condition cond)
-    (text_body m u o (mnemonic_token op).plain (unit_token operands unit).plain here.bytes)) in
-    let short : length line ≤ 255 =
-    omega (
-      arith,
-      length-append blanks (condition_spelling cond ++ body m u o),
-      length-append (condition_spelling cond) (body m u o),
-      condition_length cond,
-      body_length m u o (mnemonic_length op) (unit_length operands unit) here.short,
-    ) in
-    let bars : is_bars (tokens line) ≡ false = ap is_bars tokens_are ∙ no_bars cond op (u ∷ tokens o) in
-    let head = head_plain line (allowed_text line text) short (no_star blanks cond op (32 ∷ (u ++ 32 ∷ o)) blank) bars (no_colon line text) in
-    let rest : rest_says (tokens line) ≡ Ok says =
-    ap rest_says tokens_are ∙ words_say op operands cond unit (tokens o) says (unit_written_fits op operands unit taking) here.read in
-    line_by_head line None (tokens line) says head rest
+regrouped : (c m u o : List ℕ) → c ++ m ++ codes " " ++ u ++ codes " " ++ o ≡ c ++ (m ++ (codes " " ++ (u ++ (codes " " ++ o))))
+regrouped c m u o = simp append_assoc refl
 
 -- the line that spells an instruction reads as it
 pub spelled_back : (name : ℕ → List ℕ) (insn : Insn) (unit : FunctionalUnit) (blanks : List ℕ) → LineReadsBack name insn unit blanks
 spelled_back name insn unit blanks taking names blank few =
-    ap (λ (text : List ℕ). line_of (blanks ++ text)) (spelling_is name insn unit)
-    ∙ line_back name (op_of insn) (operands_of insn) (cond_of insn) unit blanks taking names (faultless_on insn unit taking) blank few
+    let op : Op = op_of insn in
+    let operands : Operands = operands_of insn in
+    let cond : Option Condition = cond_of insn in
+    let here = behind name op operands cond unit taking names (faultless_on insn unit taking) in
+    let words : List Word = unit_spelling operands unit ∷ here.words in
+    let unit_on = both (unit_piece operands unit) (both blank_piece here.piece (λ rest end. tt)) (λ rest end. refl) in
+    let line = both (condition_piece cond) (both (mnemonic_piece op) (both blank_piece unit_on (λ rest end. tt)) (λ rest end. refl))
+    (λ rest end. tt) in
+    ap (λ (text : List ℕ). line_of (blanks ++ text))
+    (regrouped (condition_spelling cond) (mnemonic_of op) (unit_spelling operands unit) (operands_spelling name op unit.letter operands))
+    ∙ piece_says blanks (says_on name insn unit) line (omega arith) blank few (no_star cond op _) (no_bars cond op words)
+    (no_directive cond op words
+    ∙ instruction_says op operands cond unit here.words (says_on name insn unit) (unit_written_fits op operands unit taking) here.read)

@@ -1,13 +1,16 @@
 -- The tokens of what is spelled.
-use Rattle.std.proofs.Common.{◌≡◌, ℕ, ◌<◌, Bool, true, false, not, eqb, ◌&&◌, List, [], ◌∷◌, ◌++◌, length, refl, sym, ap, ◌∙◌, append-nil}
-use Rattle.std.proofs.Common.{append_assoc, arith}
+use Rattle.std.proofs.Common.{◌≡◌, ℕ, ◌+◌, ◌<◌, ◌≤◌, Bool, true, false, not, eqb, ◌&&◌, List, [], ◌∷◌, ◌++◌, length, refl, sym, ap, ◌∙◌, append-nil}
+use Rattle.std.proofs.Common.{append_assoc, arith, length-append}
 use Rattle.std.specs.Prelude.{codes}
 use Rattle.std.specs.List.{list_all}
 use Rattle.std.proofs.lemmas.Bool.{and_from, and_parts}
 use Rattle.std.proofs.lemmas.Bool.Decides.{nat_tests}
+use Rattle.std.proofs.lemmas.List.{map-append}
 use Rattle.std.proofs.lemmas.List.Folds.{list_all-append}
-use Rattle.c62_insn.specs.Spelling.{with_commas}
 use Rattle.c62_read.specs.Text.{grow, begins, is_allowed, is_blank, is_solid, is_sign, is_word_byte, is_double, joins, tokens}
+use Rattle.c62_read.specs.declared.kind.Kind.{Kind}
+use Rattle.c62_read.specs.declared.kind.Kind.TheVariants.{Comma, Open, Close}
+use Rattle.c62_read.specs.Kind.{Word, kind_of, kinds_of, mark_of, single_mark}
 use Rattle.c62_read.proofs.TokenLemmas.{tokens_alone, tokens_joined, tokens_last, tokens_blank, tokens_word}
 
 -- a byte that may stand in a line with neither a comment nor a label
@@ -22,7 +25,7 @@ pub record IsToken (w : List ℕ) : Type 0 where
 word_text : (b : ℕ) → is_word_byte b ≡ true → is_text b ≡ true
 word_text b word = grind (arith, nat_tests)
 
-pub text_word : (w : List ℕ) → list_all is_word_byte w ≡ true → list_all is_text w ≡ true
+text_word : (w : List ℕ) → list_all is_word_byte w ≡ true → list_all is_text w ≡ true
 text_word [] words = refl
 text_word (b ∷ w) words =
     let parts = and_parts (is_word_byte b) (list_all is_word_byte w) words in
@@ -67,34 +70,79 @@ tokens_behind (b ∷ blanks) line blank =
     let text : eqb b 59 ≡ false = grind (arith, nat_tests) in
     tokens_blank b (blanks ++ line) text parts.0 ∙ tokens_behind blanks line parts.1
 
--- ---- words with commas between
+-- ---- pieces of a line
 
-abbrev pub AllTokens : List (List ℕ) → Type 0
-AllTokens [] = Unit {0}
-AllTokens (w ∷ ws) = IsToken w × AllTokens ws
+-- A text with its tokens, with their kinds, and with the most bytes that it has. What follows it may be asked to end it.
+pub record IsPiece (Ends : List ℕ → Type 0) (text : List ℕ) (words : List Word) (kinds : List Kind) (most : ℕ) : Type 0 where
+  pub splits : (rest : List ℕ) → Ends rest → tokens (text ++ rest) ≡ words ++ tokens rest
+  pub plain : list_all is_text text ≡ true
+  pub told : kinds_of words ≡ kinds
+  pub short : length text ≤ most
 
-abbrev pub commas : List (List ℕ) → List (List ℕ)
-commas [] = []
-commas (w ∷ []) = w ∷ []
-commas (w ∷ next ∷ ws) = w ∷ codes "," ∷ commas (next ∷ ws)
+abbrev pub any_end : List ℕ → Type 0
+any_end rest = Unit {0}
 
-pub tokens_end : (w : List ℕ) → IsToken w → tokens w ≡ w ∷ []
-tokens_end w token = ap tokens (sym (append-nil w)) ∙ token.splits [] refl
+abbrev pub word_end : List ℕ → Type 0
+word_end rest = begins is_word_byte rest ≡ false
 
-commas_more : (w next : List ℕ) (ws : List (List ℕ)) → with_commas (w ∷ next ∷ ws) ≡ w ++ 44 ∷ with_commas (next ∷ ws)
-commas_more w next ws = append_assoc w (44 ∷ []) (with_commas (next ∷ ws))
+pub word_piece : (w : Word) (kind : Kind) (most : ℕ) → IsToken w → kind_of w ≡ kind → length w ≤ most
+    → IsPiece word_end w (w ∷ []) (kind ∷ []) most
+word_piece w kind most token is short =
+    record { splits = token.splits; plain = token.plain; told = ap (λ (k : Kind). k ∷ []) is; short = short }
 
-pub tokens_commas : (ws : List (List ℕ)) → AllTokens ws → tokens (with_commas ws) ≡ commas ws
-tokens_commas [] all = refl
-tokens_commas (w ∷ []) all = tokens_end w all.0
-tokens_commas (w ∷ next ∷ ws) all =
-    ap tokens (commas_more w next ws) ∙ all.0.splits (44 ∷ with_commas (next ∷ ws)) refl
-    ∙ ap (λ (words : List (List ℕ)). w ∷ words)
-    (mark_alone 44 (with_commas (next ∷ ws)) refl ∙ ap (λ (words : List (List ℕ)). codes "," ∷ words) (tokens_commas (next ∷ ws) all.1))
+pub mark_piece : (b : ℕ) (kind : Kind) → is_mark b ≡ true → is_text b ≡ true → kind_of (b ∷ []) ≡ kind
+    → IsPiece any_end (b ∷ []) ((b ∷ []) ∷ []) (kind ∷ []) 1
+mark_piece b kind mark text is =
+    record {
+      splits = λ rest end. mark_alone b rest mark;
+      plain = and_from (is_text b) true text refl;
+      told = ap (λ (k : Kind). k ∷ []) is;
+      short = omega arith;
+    }
 
-pub text_commas : (ws : List (List ℕ)) → AllTokens ws → list_all is_text (with_commas ws) ≡ true
-text_commas [] all = refl
-text_commas (w ∷ []) all = all.0.plain
-text_commas (w ∷ next ∷ ws) all =
-    ap (list_all is_text) (commas_more w next ws) ∙ list_all-append is_text w (44 ∷ with_commas (next ∷ ws))
-    ∙ and_from (list_all is_text w) (list_all is_text (44 ∷ with_commas (next ∷ ws))) all.0.plain (text_commas (next ∷ ws) all.1)
+pub blank_piece : IsPiece any_end (codes " ") [] [] 1
+blank_piece = record { splits = λ rest end. tokens_blank 32 rest refl refl; plain = refl; told = refl; short = omega arith }
+
+pub no_piece : (Ends : List ℕ → Type 0) (most : ℕ) → IsPiece Ends [] [] [] most
+no_piece Ends most = record { splits = λ rest end. refl; plain = refl; told = refl; short = omega arith }
+
+pub weaker : {E F : List ℕ → Type 0} {a : List ℕ} {ws : List Word} {ks : List Kind} {m : ℕ} (n : ℕ) → IsPiece E a ws ks m
+    → ((rest : List ℕ) → F rest → E rest) → m ≤ n
+    → IsPiece F a ws ks n
+weaker n piece ends few =
+    record { splits = λ rest end. piece.splits rest (ends rest end); plain = piece.plain; told = piece.told; short = omega (arith, piece.short) }
+
+pub appended : (a b : List ℕ) → list_all is_text a ≡ true → list_all is_text b ≡ true → list_all is_text (a ++ b) ≡ true
+appended a b first second = list_all-append is_text a b ∙ and_from (list_all is_text a) (list_all is_text b) first second
+
+-- two pieces, where the second ends the first
+pub both : {E F : List ℕ → Type 0} {a b : List ℕ} {ws vs : List Word} {ks ls : List Kind} {m n : ℕ} → IsPiece E a ws ks m
+    → IsPiece F b vs ls n → ((rest : List ℕ) → F rest → E (b ++ rest))
+    → IsPiece F (a ++ b) (ws ++ vs) (ks ++ ls) (m + n)
+both {a = a} {b = b} {ws = ws} {vs = vs} {ks = ks} first second ends =
+    record {
+      splits = λ rest end. ap tokens (append_assoc a b rest) ∙ first.splits (b ++ rest) (ends rest end)
+          ∙ ap (λ (words : List Word). ws ++ words) (second.splits rest end) ∙ sym (append_assoc ws vs (tokens rest));
+      plain = appended a b first.plain second.plain;
+      told = map-append kind_of ws vs ∙ ap (λ (kinds : List Kind). kinds ++ kinds_of vs) first.told
+          ∙ ap (λ (kinds : List Kind). ks ++ kinds) second.told;
+      short = omega (arith, length-append a b, first.short, second.short);
+    }
+
+-- two operands with a comma between
+pub more : {a b : List ℕ} {ws vs : List Word} {ks ls : List Kind} {m n : ℕ} → IsPiece word_end a ws ks m → IsPiece word_end b vs ls n
+    → IsPiece word_end (a ++ codes "," ++ b) (ws ++ (codes "," ∷ []) ++ vs) (ks ++ (Comma ∷ []) ++ ls) (m + 1 + n)
+unfolding kind_of mark_of single_mark
+more first others = both (both first (mark_piece 44 Comma refl refl refl) (λ rest end. refl)) others (λ rest end. tt)
+
+-- the tokens of a piece that nothing follows
+pub tokens_are : {a : List ℕ} {ws : List Word} {ks : List Kind} {m : ℕ} → IsPiece word_end a ws ks m → tokens a ≡ ws
+tokens_are {a = a} {ws = ws} piece = ap tokens (sym (append-nil a)) ∙ piece.splits [] refl ∙ append-nil ws
+
+pub opening : IsPiece any_end (codes "[") (codes "[" ∷ []) (Open ∷ []) 1
+unfolding kind_of mark_of single_mark
+opening = mark_piece 91 Open refl refl refl
+
+pub closing : IsPiece any_end (codes "]") (codes "]" ∷ []) (Close ∷ []) 1
+unfolding kind_of mark_of single_mark
+closing = mark_piece 93 Close refl refl refl
