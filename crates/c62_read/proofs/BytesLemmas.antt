@@ -27,10 +27,10 @@ double_dark b c double =
     let solid : is_blank c ≡ false = grind (arith, nat_tests) in
     (text, solid)
 
-pub tokens-bytes : (line : List ℕ) → flat_map (λ t. t) (tokens line) ≡ filter (λ b. not (is_blank b)) (take_while (λ b. not (eqb b 59)) line)
-tokens-bytes [] = refl
-tokens-bytes (b ∷ []) = rw (kept_more b []) (grind (arith, nat_tests))
-tokens-bytes (b ∷ c ∷ rest) =
+pub tokens_are_bytes : (line : List ℕ) → flat_map (λ t. t) (tokens line) ≡ filter (λ b. not (is_blank b)) (take_while (λ b. not (eqb b 59)) line)
+tokens_are_bytes [] = refl
+tokens_are_bytes (b ∷ []) = rw (kept_more b []) (grind (arith, nat_tests))
+tokens_are_bytes (b ∷ c ∷ rest) =
     rw (
       kept_more b (c ∷ rest),
       on_test joined_bytes,
@@ -38,8 +38,8 @@ tokens-bytes (b ∷ c ∷ rest) =
       on_test joined_bytes,
       on_test joined_bytes,
       grown b (tokens (c ∷ rest)),
-      tokens-bytes (c ∷ rest),
+      tokens_are_bytes (c ∷ rest),
     ) (elim (cases_Bool (is_double b c)) [
-      | inl double ↦ let second = double_dark b c double in rw (double, tokens-bytes rest, kept_more c rest, second.0, second.1) refl
+      | inl double ↦ let second = double_dark b c double in rw (double, tokens_are_bytes rest, kept_more c rest, second.0, second.1) refl
       | inr single ↦ rw single (elim (cases_Bool (joins b c)) [ inl joined ↦ rw joined refl | inr alone ↦ rw alone refl ])
     ])

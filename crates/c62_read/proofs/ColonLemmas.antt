@@ -10,7 +10,7 @@ use Rattle.std.proofs.lemmas.List.Sums.{take_while-cons}
 use Rattle.c62_read.specs.Text.{grow, is_blank, is_solid, is_double, joins, tokens}
 use Rattle.c62_read.specs.Number.{spells}
 use Rattle.c62_read.specs.Line.{has_colon}
-use Rattle.c62_read.proofs.BytesLemmas.{tokens-bytes}
+use Rattle.c62_read.proofs.BytesLemmas.{tokens_are_bytes}
 use Rattle.c62_read.proofs.TokenLemmas.{tokens_joined, tokens_alone, tokens_double, tokens_last}
 
 -- the first byte of the first token
@@ -75,5 +75,5 @@ no_colon_words (word ∷ words) none =
 -- a line without colons has no token that is one
 pub no_colon_at_all : (line : List ℕ) → list_any (λ b. eqb b 58) line ≡ false → has_colon (tokens line) ≡ false
 no_colon_at_all line none =
-    no_colon_words (tokens line) (ap colon_in (tokens-bytes line) ∙ none_kept (λ (b : ℕ). not (is_blank b))
+    no_colon_words (tokens line) (ap colon_in (tokens_are_bytes line) ∙ none_kept (λ (b : ℕ). not (is_blank b))
     (take_while (λ b. not (eqb b 59)) line) (none_taken (λ (b : ℕ). not (eqb b 59)) line none))

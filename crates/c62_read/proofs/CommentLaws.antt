@@ -26,10 +26,10 @@ single_comment b = grind (arith, nat_tests)
 alone_comment : (b : ℕ) → joins b 59 ≡ false
 alone_comment b = grind (arith, nat_tests)
 
-pub tokens-comment : (line rest : List ℕ) → tokens (line ++ 59 ∷ rest) ≡ tokens line
-tokens-comment [] rest = tokens_comment 59 rest refl
-tokens-comment (b ∷ []) rest = rw (single_comment b, alone_comment b, tokens_comment 59 rest refl) (grind (arith, nat_tests))
-tokens-comment (b ∷ c ∷ line) rest = rw (tokens-comment (c ∷ line) rest, tokens-comment line rest) refl
+pub tokens_before_comment : (line rest : List ℕ) → tokens (line ++ 59 ∷ rest) ≡ tokens line
+tokens_before_comment [] rest = tokens_comment 59 rest refl
+tokens_before_comment (b ∷ []) rest = rw (single_comment b, alone_comment b, tokens_comment 59 rest refl) (grind (arith, nat_tests))
+tokens_before_comment (b ∷ c ∷ line) rest = rw (tokens_before_comment (c ∷ line) rest, tokens_before_comment line rest) refl
 
 -- ---- heads
 
@@ -70,12 +70,12 @@ same_star (b ∷ line) rest = refl
 
 comment_head : (line rest : List ℕ) → IsReadable (line ++ 59 ∷ rest) → head_of (line ++ 59 ∷ rest) ≡ head_of line
 comment_head line rest readable =
-    head_is (line ++ 59 ∷ rest) readable ∙ rw (same_star line rest, tokens-comment line rest) (sym (head_is line (front_readable line rest readable)))
+    head_is (line ++ 59 ∷ rest) readable ∙ rw (same_star line rest, tokens_before_comment line rest) (sym (head_is line (front_readable line rest readable)))
 
 pub comment_nothing : (line rest : List ℕ) → IsReadable (line ++ 59 ∷ rest) → CommentSaysNothing line rest
 unfolding line_of label_field
 comment_nothing line rest readable =
-    (ap with_head (comment_head line rest readable), ap (λ (words : List Word). (label_front words).0) (tokens-comment line rest))
+    (ap with_head (comment_head line rest readable), ap (λ (words : List Word). (label_front words).0) (tokens_before_comment line rest))
 
 -- ---- lines without their comments
 

@@ -18,21 +18,25 @@ pub fn limits_are()
 {}
 
 /// The tokens of a line are its bytes in their order, less blanks and what follows a `;`.
+#[tactic(auto, using(crate::proofs::BytesLemmas::tokens_are_bytes))]
 pub fn tokens_are_the_bytes()
     ensures { (line : List ℕ) → TokensAreTheBytes line }
 {}
 
 /// What stands behind a `;` says nothing.
+#[tactic(auto, using(crate::proofs::CommentLaws::tokens_before_comment))]
 pub fn comments_say_nothing()
     ensures { (line rest : List ℕ) → tokens (line ++ 59 ∷ rest) ≡ tokens line }
 {}
 
 /// Each number that a line may hold reads back from its decimal spelling.
+#[tactic(auto, using(crate::proofs::SpelledNumbers::number_back))]
 pub fn numbers_read_back()
     ensures { (k : ℤ) → NumberReadsBack k }
 {}
 
 /// Each register reads back from its name.
+#[tactic(auto, using(crate::proofs::SpelledNumbers::register_back))]
 pub fn registers_read_back()
     ensures { (reg : Register) → RegisterReadsBack reg }
 {}
@@ -40,6 +44,7 @@ pub fn registers_read_back()
 /// The line that spells an instruction, with its condition, its operation, a unit that takes it and
 /// its operands, reads as that instruction on that unit, with or without blanks before it. A branch
 /// to a block is spelled with a label, and reads as a branch to that label.
+#[tactic(auto, using(crate::proofs::SpelledLine::spelled_back))]
 pub fn spelled_lines_read_back()
     ensures { (name : ℕ → List ℕ) (insn : Insn) (unit : FunctionalUnit) (blanks : List ℕ)
         → LineReadsBack name insn unit blanks }
@@ -47,6 +52,7 @@ pub fn spelled_lines_read_back()
 
 /// A line of NOP and a number from 1 to 9 reads as so many cycles without an instruction, with or
 /// without blanks before it.
+#[tactic(auto, using(crate::proofs::WrittenLines::pause_back))]
 pub fn pauses_read_back()
     ensures { (n : ℕ) (blanks : List ℕ) → PauseReadsBack n blanks }
 {}
@@ -67,18 +73,21 @@ pub fn comments_change_no_line()
 {}
 
 /// A text reads as the text without its comments: as the same program, or with the same fault.
+#[tactic(auto, using(crate::proofs::CommentLaws::comments_nothing))]
 pub fn comments_change_no_program()
     ensures { (text other : List ℕ) → CommentsSayNothing text other }
 {}
 
 /// Case says nothing but in labels: two lines that are the same but for the case of letters have one
 /// fault, or say the same but for the case of their labels. An `x` behind a `0` keeps its case.
+#[tactic(auto, using(crate::proofs::CaseLaws::case_nothing))]
 pub fn case_says_nothing()
     ensures { (line other : List ℕ) → IsRecased 32 line other → CaseSaysNothing line other }
 {}
 
 /// A text reads the same in any case of its letters, where labels keep theirs, and the `x` of a
 /// hexadecimal number: as the same program, or with the same fault.
+#[tactic(auto, using(crate::proofs::CaseLaws::case_changes_nothing))]
 pub fn case_changes_no_program()
     ensures { (text other : List ℕ) → CaseChangesNothing text other }
 {}
@@ -86,21 +95,25 @@ pub fn case_changes_no_program()
 /// The instructions of a program's blocks, one after the other, are what the lines of its text say,
 /// in their order and with the numbers of their lines. A branch to a label goes to the block that
 /// has it.
+#[tactic(auto, using(crate::proofs::ProgramLaws::is_its_lines))]
 pub fn a_program_is_its_lines()
     ensures { (text : List ℕ) → IsItsLines text }
 {}
 
 /// Each label that a line of a program branches to is the label of one of its blocks.
+#[tactic(auto, using(crate::proofs::ProgramLaws::has_targets))]
 pub fn branches_have_targets()
     ensures { (text : List ℕ) → HasTargets text }
 {}
 
 /// The lines of a program's instructions rise, from block to block and within each.
+#[tactic(auto, using(crate::proofs::ProgramLaws::has_rising_lines))]
 pub fn lines_rise()
     ensures { (text : List ℕ) → HasRisingLines text }
 {}
 
 /// Each instruction of a program is what the line of its number says.
+#[tactic(auto, using(crate::proofs::ProgramLaws::reads_as_its_line))]
 pub fn instructions_read_as_their_lines()
     ensures { (text : List ℕ) → ReadsAsItsLine text }
 {}
@@ -118,11 +131,13 @@ pub fn labels_are_distinct()
 {}
 
 /// Where two sources are exchanged, the operation that stands for the written one does the same.
+#[tactic(auto, using(crate::proofs::EffectLaws::exchanged_keeps))]
 pub fn exchanged_operations_keep_the_effect()
     ensures { (op turned : Operation) → KeepsEffect op turned }
 {}
 
 /// The operations that stand for MV and ZERO move a word, and make 0.
+#[tactic(auto, using(crate::proofs::EffectLaws::pseudo_keeps))]
 pub fn pseudo_operations_keep_the_effect()
     ensures { KeepEffects }
 {}
