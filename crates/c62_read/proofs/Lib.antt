@@ -2,7 +2,6 @@ pub mod Registers
 pub mod TokenLemmas
 pub mod NumberLemmas
 pub mod ColonLemmas
-pub mod StepLemmas
 pub mod LineLemmas
 pub mod BlockLemmas
 pub mod MissedLemmas

@@ -311,36 +311,16 @@ fn begins_with_bars(start: &[u8]) -> bool
     }
 }
 
-/// How many bytes are compared at once.
-const STEP: usize = 16;
-
-/// Looks at every byte, whatever the others are: so the compiler compares many at once.
-#[inline(always)]
-fn are_allowed(bytes: &[u8]) -> bool
-    ensures { result ≡ list_all is_allowed bytes.now }
-{
-    let mut allowed = true;
-    for b in bytes {
-        allowed &= is_allowed(*b);
-    }
-    allowed
-}
-
-/// Whether each byte may stand in a line. The last step may overlap the one before.
+/// Whether each byte may stand in a line. Every byte is looked at, whatever the others are: so the compiler compares many
+/// at once.
 fn all_allowed(line: &[u8]) -> bool
     ensures { result ≡ list_all is_allowed line.now }
 {
-    if line.len() < STEP {
-        return are_allowed(line);
+    let mut allowed = true;
+    for b in line {
+        allowed &= is_allowed(*b);
     }
-    let mut start = 0;
-    while STEP <= line.len() - start {
-        if !are_allowed(&line[start..start + STEP]) {
-            return false;
-        }
-        start += STEP;
-    }
-    are_allowed(&line[line.len() - STEP..])
+    allowed
 }
 
 /// Whether a colon is left.
