@@ -1,12 +1,12 @@
 -- What a line says in small letters, but for an `X` behind a 0: such a line stands for all that are the same but for case.
-use Rattle.std.proofs.Common.{◌≡◌, ℕ, ◌+◌, ◌-◌, ◌*◌, Bool, true, false, not, cond, eqb, ltb, ◌&&◌, List, [], ◌∷◌, length, drop}
-use Rattle.std.proofs.Common.{Option, None, refl, sym, ap, ◌∙◌, arith, inl, inr}
-use Rattle.std.specs.Prelude.{map, option_and_then, codes}
+use Rattle.std.proofs.Common.{◌≡◌, ℕ, ◌+◌, ◌-◌, ◌*◌, Bool, true, false, not, cond, eqb, ltb, ◌&&◌, List, [], ◌∷◌, length}
+use Rattle.std.proofs.Common.{Option, None, refl, ap, ◌∙◌, arith}
+use Rattle.std.specs.Prelude.{map, option_and_then}
 use Rattle.std.specs.Char.{digit_value, to_ascii_lowercase, is_ascii_digit}
-use Rattle.std.specs.List.{list_all, starts_with}
+use Rattle.std.specs.List.{list_all}
 use Rattle.std.specs.Str.{bytes_eq}
 use Rattle.std.specs.Str.Parse.{digits_value_after}
-use Rattle.std.proofs.lemmas.Bool.{agree_below, agree_below_at, cases_Bool, cond_both, ltb-true}
+use Rattle.std.proofs.lemmas.Bool.{agree_below, agree_below_at, cond_both, ltb-true}
 use Rattle.std.proofs.lemmas.Bool.Decides.{nat_tests}
 use Rattle.c62_insn.specs.declared.register.Side.{Side}
 use Rattle.c62_read.specs.Text.{begins, is_sign, is_word_byte, is_double, joins}

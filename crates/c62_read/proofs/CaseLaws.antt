@@ -26,7 +26,7 @@ use Rattle.c62_read.specs.Kind.{Word, kind_by, kind_of, kinds_of, mark_of as wri
 use Rattle.c62_read.specs.Mnemonic.{mnemonic_named, operation_named, pseudo_named}
 use Rattle.c62_read.specs.Unit.{is_dot, is_t, is_x, letter_of, mark_of, side_numbered, unit_front, unit_of, unit_split, with_left}
 use Rattle.c62_read.specs.Program.{fault_in, label_field}
-use Rattle.c62_read.proofs.AlikeLaws.{AreAlike, IsAlike, alike_programs}
+use Rattle.c62_read.proofs.AlikeLaws.{And, AreAlike, End, IsAlike, alike_programs}
 use Rattle.c62_read.proofs.LabelFields.{field_is}
 use Rattle.c62_read.specs.Line.{Says, Nothing, Pause, Does, Jumps, and_read, before_rest, behind_unit, condition_front, condition_of, Parts}
 use Rattle.c62_read.specs.Line.{formed, has_colon, head_of, if_fitting, instruction_of, is_bars, is_star}
@@ -427,8 +427,9 @@ alike line other same field targets =
     record { head = both.0; field = field; said = both.1 }
 
 all_alike : (lines others : List (List ℕ)) → AreRecased lines others → AreAlike lines others
-all_alike [] [] same = tt
-all_alike (line ∷ lines) (other ∷ others) same = (alike line other same.0.0 same.0.1 same.0.2, all_alike lines others same.1)
+all_alike [] [] same = End
+all_alike (line ∷ lines) (other ∷ others) same =
+    And line other lines others (alike line other same.0.0 same.0.1 same.0.2) (all_alike lines others same.1)
 all_alike [] (other ∷ others) same = absurd same
 all_alike (line ∷ lines) [] same = absurd same
 
