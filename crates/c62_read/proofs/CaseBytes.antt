@@ -48,13 +48,15 @@ digit_low = test_low is_ascii_digit refl
 
 pub joins_low : (y z : Bool) (b c : ℕ) → joins (low_byte y b) (low_byte z c) ≡ joins b c
 joins_low y z b c =
-    rw (test_low is_word_byte refl y b, test_low is_word_byte refl z c, test_low is_sign refl y b, digit_low z c, test_low (λ x. eqb x 46) refl y b) refl
+    let words = test_low is_word_byte refl in
+    rw (words y b, words z c, test_low is_sign refl y b, digit_low z c, test_low (λ x. eqb x 46) refl y b) refl
 
 pub double_low : (y z : Bool) (b c : ℕ) → is_double (low_byte y b) (low_byte z c) ≡ is_double b c
 double_low y z b c =
     low_by (λ e c. is_double (low_byte y b) e ≡ is_double b c)
     (λ c. low_by (λ d b. is_double d c ≡ is_double b c) (λ b. refl) (λ b high less. grind (arith, nat_tests)) y b)
-    (λ c over under. low_by (λ d b. is_double d (c + 32) ≡ is_double b c) (λ b. grind (arith, nat_tests)) (λ b high less. grind (arith, nat_tests)) y b)
+    (λ c over under. low_by (λ d b. is_double d (c + 32) ≡ is_double b c) (λ b. grind (arith, nat_tests))
+    (λ b high less. grind (arith, nat_tests)) y b)
     z c
 
 -- ---- words

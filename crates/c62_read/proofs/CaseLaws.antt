@@ -34,8 +34,8 @@ use Rattle.c62_read.specs.Line.{jumps_or_does, label_alone, label_front, line_of
 use Rattle.c62_read.specs.Line.{rest_says, target_of, text_fault, unit_behind, with_head, with_rest, without_colon}
 use Rattle.c62_read.specs.Laws.{AreRecased, CaseChangesNothing, CaseSaysNothing, IsRecased, in_small, small_labels, small_says, target_in}
 use Rattle.c62_read.proofs.TokenLemmas.{joined_word, on_test}
-use Rattle.c62_read.proofs.CaseBytes.{all_low, begins_low, digit_low, double_low, joins_low, label_low, length_low, low, low_by, low_byte, lowered, number_low}
-use Rattle.c62_read.proofs.CaseBytes.{plain_byte, register_low, same_low, small_low, spells_low, test_low}
+use Rattle.c62_read.proofs.CaseBytes.{all_low, begins_low, digit_low, double_low, joins_low, label_low, length_low, low, low_by, low_byte, lowered}
+use Rattle.c62_read.proofs.CaseBytes.{number_low, plain_byte, register_low, same_low, small_low, spells_low, test_low}
 
 -- ---- tokens
 
@@ -92,7 +92,8 @@ tokens_lowered zero (b ∷ c ∷ rest) goes =
             | inl joined ↦
                 let word = joined_word b c joined in
                 let more : (eqb b 48 && not (is_word_byte c)) ≡ false = grind (arith, nat_tests) in
-                rw (text, dark, single, joined) (ap (grow (low_byte zero b)) (tokens_lowered (eqb b 48) (c ∷ rest) more) ∙ grown zero b (tokens (c ∷ rest)))
+                rw (text, dark, single, joined)
+                (ap (grow (low_byte zero b)) (tokens_lowered (eqb b 48) (c ∷ rest) more) ∙ grown zero b (tokens (c ∷ rest)))
             | inr alone ↦
                 rw (text, dark, single, alone)
                 (ap (λ (ws : List Word). (low_byte zero b ∷ []) ∷ ws)
@@ -261,7 +262,8 @@ target_low : (op : Op) (ws : List Word) → target_of (Operation op) (lows ws) �
 target_low op ws =
     rw (alone_low ws, on_test (option_map low)) refl
 
-formed_low : (fault : Option FormFault) (parts : Parts) (label : Word) → small (formed fault (Jumps parts (low label))) ≡ small (formed fault (Jumps parts label))
+formed_low : (fault : Option FormFault) (parts : Parts) (label : Word)
+    → small (formed fault (Jumps parts (low label))) ≡ small (formed fault (Jumps parts label))
 formed_low None parts label = rw (small_label label) refl
 formed_low (Some fault) parts label = refl
 
