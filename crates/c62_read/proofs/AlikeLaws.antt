@@ -11,35 +11,27 @@ pub record IsAlike (line other : List ℕ) : Type 0 where
   pub field : label_field line ≡ label_field other
   pub said : line_of line ≡ line_of other
 
-abbrev pub AreAlike : List (List ℕ) → List (List ℕ) → Type 0
-AreAlike [] [] = Unit {0}
-AreAlike (line ∷ lines) (other ∷ others) = IsAlike line other × AreAlike lines others
-AreAlike _ _ = ⊥
+pub data AreAlike : List (List ℕ) → List (List ℕ) → Type 0 where
+  End : AreAlike [] []
+  And : (line other : List ℕ) (lines others : List (List ℕ)) → IsAlike line other → AreAlike lines others → AreAlike (line ∷ lines) (other ∷ others)
 
 alike_more : (lines others : List (List ℕ)) (line other : List ℕ) → AreAlike lines others → IsAlike line other
     → AreAlike (lines ++ line ∷ []) (others ++ other ∷ [])
-alike_more [] [] line other alike last = (last, tt)
-alike_more (first ∷ lines) (second ∷ others) line other alike last = (alike.0, alike_more lines others line other alike.1 last)
-alike_more [] (second ∷ others) line other alike last = absurd alike
-alike_more (first ∷ lines) [] line other alike last = absurd alike
+alike_more _ _ line other End last = And line other [] [] last End
+alike_more _ _ line other (And l o lines others here alike) last =
+    And l o (lines ++ line ∷ []) (others ++ other ∷ []) here (alike_more lines others line other alike last)
 
 alike_length : (lines others : List (List ℕ)) → AreAlike lines others → length lines ≡ length others
-alike_length [] [] alike = refl
-alike_length (line ∷ lines) (other ∷ others) alike = rw (alike_length lines others alike.1) refl
-alike_length [] (other ∷ others) alike = absurd alike
-alike_length (line ∷ lines) [] alike = absurd alike
+alike_length _ _ End = refl
+alike_length _ _ (And l o lines others here alike) = rw (alike_length lines others alike) refl
 
 alike_labels : (lines others : List (List ℕ)) → AreAlike lines others → labels_of lines ≡ labels_of others
-alike_labels [] [] alike = refl
-alike_labels (line ∷ lines) (other ∷ others) alike = let field = alike.0.field in rw (field, alike_labels lines others alike.1) refl
-alike_labels [] (other ∷ others) alike = absurd alike
-alike_labels (line ∷ lines) [] alike = absurd alike
+alike_labels _ _ End = refl
+alike_labels _ _ (And l o lines others here alike) = rw (here.field, alike_labels lines others alike) refl
 
 alike_items : (number : ℕ) (lines others : List (List ℕ)) → AreAlike lines others → items_from number lines ≡ items_from number others
-alike_items number [] [] alike = refl
-alike_items number (line ∷ lines) (other ∷ others) alike = let said = alike.0.said in rw (said, alike_items (number + 1) lines others alike.1) refl
-alike_items number [] (other ∷ others) alike = absurd alike
-alike_items number (line ∷ lines) [] alike = absurd alike
+alike_items number _ _ End = refl
+alike_items number _ _ (And l o lines others here alike) = rw (here.said, alike_items (number + 1) lines others alike) refl
 
 alike_fault : (labels : List Name) (before others : List (List ℕ)) (line other : List ℕ) → AreAlike before others → IsAlike line other
     → fault_of labels before line ≡ fault_of labels others other
@@ -56,15 +48,13 @@ alike_fault labels before others line other alike last =
 alike_faults : (labels : List Name) (before earlier lines others : List (List ℕ)) → AreAlike before earlier → AreAlike lines others
     → first_fault labels before lines ≡ first_fault labels earlier others
 unfolding first_fault
-alike_faults labels before earlier [] [] first alike = refl
-alike_faults labels before earlier (line ∷ lines) (other ∷ others) first alike =
+alike_faults labels before earlier _ _ first End = refl
+alike_faults labels before earlier _ _ first (And l o lines others here alike) =
     rw (
       alike_length before earlier first,
-      alike_fault labels before earlier line other first alike.0,
-      alike_faults labels (before ++ line ∷ []) (earlier ++ other ∷ []) lines others (alike_more before earlier line other first alike.0) alike.1,
+      alike_fault labels before earlier l o first here,
+      alike_faults labels (before ++ l ∷ []) (earlier ++ o ∷ []) lines others (alike_more before earlier l o first here) alike,
     ) refl
-alike_faults labels before earlier [] (other ∷ others) first alike = absurd alike
-alike_faults labels before earlier (line ∷ lines) [] first alike = absurd alike
 
 pub alike_programs : (text other : List ℕ) → length text ≤ 1048576 → length other ≤ 1048576 → AreAlike (lines_of text) (lines_of other)
     → program_in text ≡ program_in other
@@ -74,6 +64,6 @@ alike_programs text other short few alike =
       le-ltb 1048576 (length text) short,
       le-ltb 1048576 (length other) few,
       alike_labels (lines_of text) (lines_of other) alike,
-      alike_faults (labels_of (lines_of other)) [] [] (lines_of text) (lines_of other) tt alike,
+      alike_faults (labels_of (lines_of other)) [] [] (lines_of text) (lines_of other) End alike,
       alike_items 1 (lines_of text) (lines_of other) alike,
     ) refl

@@ -1,12 +1,12 @@
 -- What a line says in small letters, but for an `X` behind a 0: such a line stands for all that are the same but for case.
-use Rattle.std.proofs.Common.{◌≡◌, ℕ, ◌+◌, ◌-◌, ◌*◌, Bool, true, false, not, cond, eqb, ltb, ◌&&◌, List, [], ◌∷◌, length, drop}
-use Rattle.std.proofs.Common.{Option, None, refl, sym, ap, ◌∙◌, arith, inl, inr}
-use Rattle.std.specs.Prelude.{map, option_and_then, codes}
+use Rattle.std.proofs.Common.{◌≡◌, ℕ, ◌+◌, ◌-◌, ◌*◌, Bool, true, false, not, cond, eqb, ltb, ◌&&◌, List, [], ◌∷◌, length}
+use Rattle.std.proofs.Common.{Option, None, refl, ap, ◌∙◌, arith}
+use Rattle.std.specs.Prelude.{map, option_and_then}
 use Rattle.std.specs.Char.{digit_value, to_ascii_lowercase, is_ascii_digit}
-use Rattle.std.specs.List.{list_all, starts_with}
+use Rattle.std.specs.List.{list_all}
 use Rattle.std.specs.Str.{bytes_eq}
 use Rattle.std.specs.Str.Parse.{digits_value_after}
-use Rattle.std.proofs.lemmas.Bool.{agree_below, agree_below_at, cases_Bool, cond_both, ltb-true}
+use Rattle.std.proofs.lemmas.Bool.{agree_below, agree_below_at, cond_both, ltb-true}
 use Rattle.std.proofs.lemmas.Bool.Decides.{nat_tests}
 use Rattle.c62_insn.specs.declared.register.Side.{Side}
 use Rattle.c62_read.specs.Text.{begins, is_sign, is_word_byte, is_double, joins}
@@ -48,13 +48,15 @@ digit_low = test_low is_ascii_digit refl
 
 pub joins_low : (y z : Bool) (b c : ℕ) → joins (low_byte y b) (low_byte z c) ≡ joins b c
 joins_low y z b c =
-    rw (test_low is_word_byte refl y b, test_low is_word_byte refl z c, test_low is_sign refl y b, digit_low z c, test_low (λ x. eqb x 46) refl y b) refl
+    let words = test_low is_word_byte refl in
+    rw (words y b, words z c, test_low is_sign refl y b, digit_low z c, test_low (λ x. eqb x 46) refl y b) refl
 
 pub double_low : (y z : Bool) (b c : ℕ) → is_double (low_byte y b) (low_byte z c) ≡ is_double b c
 double_low y z b c =
     low_by (λ e c. is_double (low_byte y b) e ≡ is_double b c)
     (λ c. low_by (λ d b. is_double d c ≡ is_double b c) (λ b. refl) (λ b high less. grind (arith, nat_tests)) y b)
-    (λ c over under. low_by (λ d b. is_double d (c + 32) ≡ is_double b c) (λ b. grind (arith, nat_tests)) (λ b high less. grind (arith, nat_tests)) y b)
+    (λ c over under. low_by (λ d b. is_double d (c + 32) ≡ is_double b c) (λ b. grind (arith, nat_tests))
+    (λ b high less. grind (arith, nat_tests)) y b)
     z c
 
 -- ---- words

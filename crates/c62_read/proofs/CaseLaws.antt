@@ -26,7 +26,7 @@ use Rattle.c62_read.specs.Kind.{Word, kind_by, kind_of, kinds_of, mark_of as wri
 use Rattle.c62_read.specs.Mnemonic.{mnemonic_named, operation_named, pseudo_named}
 use Rattle.c62_read.specs.Unit.{is_dot, is_t, is_x, letter_of, mark_of, side_numbered, unit_front, unit_of, unit_split, with_left}
 use Rattle.c62_read.specs.Program.{fault_in, label_field}
-use Rattle.c62_read.proofs.AlikeLaws.{AreAlike, IsAlike, alike_programs}
+use Rattle.c62_read.proofs.AlikeLaws.{And, AreAlike, End, IsAlike, alike_programs}
 use Rattle.c62_read.proofs.LabelFields.{field_is}
 use Rattle.c62_read.specs.Line.{Says, Nothing, Pause, Does, Jumps, and_read, before_rest, behind_unit, condition_front, condition_of, Parts}
 use Rattle.c62_read.specs.Line.{formed, has_colon, head_of, if_fitting, instruction_of, is_bars, is_star}
@@ -34,8 +34,8 @@ use Rattle.c62_read.specs.Line.{jumps_or_does, label_alone, label_front, line_of
 use Rattle.c62_read.specs.Line.{rest_says, target_of, text_fault, unit_behind, with_head, with_rest, without_colon}
 use Rattle.c62_read.specs.Laws.{AreRecased, CaseChangesNothing, CaseSaysNothing, IsRecased, in_small, small_labels, small_says, target_in}
 use Rattle.c62_read.proofs.TokenLemmas.{joined_word, on_test}
-use Rattle.c62_read.proofs.CaseBytes.{all_low, begins_low, digit_low, double_low, joins_low, label_low, length_low, low, low_by, low_byte, lowered, number_low}
-use Rattle.c62_read.proofs.CaseBytes.{plain_byte, register_low, same_low, small_low, spells_low, test_low}
+use Rattle.c62_read.proofs.CaseBytes.{all_low, begins_low, digit_low, double_low, joins_low, label_low, length_low, low, low_by, low_byte, lowered}
+use Rattle.c62_read.proofs.CaseBytes.{number_low, plain_byte, register_low, same_low, small_low, spells_low, test_low}
 
 -- ---- tokens
 
@@ -92,7 +92,8 @@ tokens_lowered zero (b ∷ c ∷ rest) goes =
             | inl joined ↦
                 let word = joined_word b c joined in
                 let more : (eqb b 48 && not (is_word_byte c)) ≡ false = grind (arith, nat_tests) in
-                rw (text, dark, single, joined) (ap (grow (low_byte zero b)) (tokens_lowered (eqb b 48) (c ∷ rest) more) ∙ grown zero b (tokens (c ∷ rest)))
+                rw (text, dark, single, joined)
+                (ap (grow (low_byte zero b)) (tokens_lowered (eqb b 48) (c ∷ rest) more) ∙ grown zero b (tokens (c ∷ rest)))
             | inr alone ↦
                 rw (text, dark, single, alone)
                 (ap (λ (ws : List Word). (low_byte zero b ∷ []) ∷ ws)
@@ -261,7 +262,8 @@ target_low : (op : Op) (ws : List Word) → target_of (Operation op) (lows ws) �
 target_low op ws =
     rw (alone_low ws, on_test (option_map low)) refl
 
-formed_low : (fault : Option FormFault) (parts : Parts) (label : Word) → small (formed fault (Jumps parts (low label))) ≡ small (formed fault (Jumps parts label))
+formed_low : (fault : Option FormFault) (parts : Parts) (label : Word)
+    → small (formed fault (Jumps parts (low label))) ≡ small (formed fault (Jumps parts label))
 formed_low None parts label = rw (small_label label) refl
 formed_low (Some fault) parts label = refl
 
@@ -427,8 +429,9 @@ alike line other same field targets =
     record { head = both.0; field = field; said = both.1 }
 
 all_alike : (lines others : List (List ℕ)) → AreRecased lines others → AreAlike lines others
-all_alike [] [] same = tt
-all_alike (line ∷ lines) (other ∷ others) same = (alike line other same.0.0 same.0.1 same.0.2, all_alike lines others same.1)
+all_alike [] [] same = End
+all_alike (line ∷ lines) (other ∷ others) same =
+    And line other lines others (alike line other same.0.0 same.0.1 same.0.2) (all_alike lines others same.1)
 all_alike [] (other ∷ others) same = absurd same
 all_alike (line ∷ lines) [] same = absurd same
 

@@ -15,7 +15,7 @@ use Rattle.c62_read.specs.Program.{fault_in, label_field}
 use Rattle.c62_read.specs.Laws.{AreUncommented, Behind, CommentSaysNothing, CommentsSayNothing, IsReadable, IsUncommented, Same, StarSaysNothing}
 use Rattle.c62_read.specs.Laws.{Whole}
 use Rattle.c62_read.proofs.TokenLemmas.{tokens_comment}
-use Rattle.c62_read.proofs.AlikeLaws.{AreAlike, IsAlike, alike_programs}
+use Rattle.c62_read.proofs.AlikeLaws.{And, AreAlike, End, IsAlike, alike_programs}
 use Rattle.c62_read.proofs.LabelFields.{star_field}
 
 -- ---- tokens
@@ -98,8 +98,9 @@ alike line other (Whole rest e f readable) =
     (star_field line star ∙ sym (ap label_field f ∙ empty.1))
 
 all_alike : (lines others : List (List ℕ)) → AreUncommented lines others → AreAlike lines others
-all_alike [] [] same = tt
-all_alike (line ∷ lines) (other ∷ others) same = (alike line other same.0, all_alike lines others same.1)
+all_alike [] [] same = End
+all_alike (line ∷ lines) (other ∷ others) same =
+    And line other lines others (alike line other same.0) (all_alike lines others same.1)
 all_alike [] (other ∷ others) same = absurd same
 all_alike (line ∷ lines) [] same = absurd same
 
