@@ -7,7 +7,6 @@ use Rattle.std.specs.List.{list_any, position_or_len}
 use Rattle.c62_read.specs.declared.program.BlockReader.{BlockReader}
 use Rattle.c62_read.specs.Program.{Draft, Name, label_is, target_number, BlockParts, Numbered, aimed, block_in, block_parts, numbered_of}
 use Rattle.c62_read.specs.Walk.{draft_of, number_among}
-use Rattle.std.proofs.lemmas.Bool.{and_from, and_parts}
 use Rattle.std.proofs.lemmas.Simd.{map-map}
 use Rattle.c62_read.specs.declared.block.SerialInsn.{SerialInsn}
 use Rattle.c62_read.specs.Block.{Serial, branch_last, is_block, operations}

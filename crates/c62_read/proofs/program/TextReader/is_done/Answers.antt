@@ -1,7 +1,3 @@
-use Rattle.std.proofs.Common.{sym, ap, ◌∙◌}
-use Rattle.std.specs.List.{list_any}
-use Rattle.c62_read.specs.declared.program.BlockReader.{BlockReader}
-use Rattle.c62_read.specs.Program.{label_is}
 use Rattle.c62_read.proofs.BlockLemmas.{any_draft}
 use Rattle.c62_read.proofs.program.TextReader.is_done.Goals as goal
 
