@@ -7,7 +7,6 @@ use Rattle.std.specs.List.{list_any, position_or_len}
 use Rattle.c62_read.specs.declared.program.BlockReader.{BlockReader}
 use Rattle.c62_read.specs.Program.{Draft, Name, label_is, target_number, BlockParts, Numbered, aimed, block_in, block_parts, numbered_of}
 use Rattle.c62_read.specs.Walk.{draft_of, number_among}
-use Rattle.std.proofs.lemmas.Bool.{and_from, and_parts}
 use Rattle.std.proofs.lemmas.Simd.{map-map}
 use Rattle.c62_read.specs.declared.block.SerialInsn.{SerialInsn}
 use Rattle.c62_read.specs.Block.{Serial, branch_last, is_block, operations}
@@ -18,28 +17,26 @@ pub any_draft : (label : List ℕ) (blocks : List BlockReader)
 any_draft label [] = refl
 any_draft label (block ∷ blocks) = ap (λ (others : Bool). label_is label block.label || others) (any_draft label blocks)
 
-position_label : (label : List ℕ) (drafts : List Draft)
-    → position_or_len (λ other. label_is label other) (map (λ draft. draft.label) drafts)
-    ≡ position_or_len (λ draft. label_is label draft.label) drafts
-position_label label [] = refl
-position_label label (draft ∷ drafts) = rw (position_label label drafts) refl
+pub position_map : {X Y : Type 0} (test : Y → Bool) (f : X → Y) (xs : List X) → position_or_len test (map f xs) ≡ position_or_len (λ x. test (f x)) xs
+position_map test f [] = refl
+position_map test f (x ∷ xs) = rw (position_map test f xs) refl
 
 -- the number of a block by the labels of all
 pub number_is : (drafts : List Draft) (target : Option Name) → number_among (map (λ draft. draft.label) drafts) target ≡ target_number drafts target
 number_is drafts None = refl
-number_is drafts (Some label) = rw (position_label label drafts, length-map drafts (λ (draft : Draft). draft.label)) refl
+number_is drafts (Some label) =
+    rw (position_map (label_is label) (λ (draft : Draft). draft.label) drafts, length-map drafts (λ (draft : Draft). draft.label)) refl
 
 pub aimed_block : (number : ℕ) (insns old : List SerialInsn) → map numbered_of insns ≡ map (aimed number) (map numbered_of old)
     → (leb (length (map numbered_of old)) 256 && branch_last (map (λ (e : Numbered). e.parts.op) (map numbered_of old))) ≡ true
     → is_block insns ≡ true
 aimed_block number insns old same whole =
-    let parts = and_parts (leb (length (map numbered_of old)) 256) (branch_last (map (λ (e : Numbered). e.parts.op) (map numbered_of old))) whole in
     let count : length insns ≡ length (map numbered_of old) = sym (length-map insns numbered_of) ∙ ap length same
     ∙ length-map (map numbered_of old) (aimed number) in
     let ops : operations insns ≡ map (λ (e : Numbered). e.parts.op) (map numbered_of old) =
     sym (map-map (λ (e : Numbered). e.parts.op) numbered_of insns) ∙ ap (map (λ (e : Numbered). e.parts.op)) same
     ∙ map-map (λ (e : Numbered). e.parts.op) (aimed number) (map numbered_of old) in
-    and_from (leb (length insns) 256) (branch_last (operations insns)) (ap (λ (n : ℕ). leb n 256) count ∙ parts.0) (ap branch_last ops ∙ parts.1)
+    rw (count, ops) whole
 
 -- what is aimed entry by entry
 pub all_aimed : (number : ℕ) (new old : List SerialInsn) → length new ≡ length old
@@ -49,10 +46,7 @@ all_aimed number [] [] same at = refl
 all_aimed number [] (o ∷ old) same at = absurd (omega (arith, same))
 all_aimed number (n ∷ new) [] same at = absurd (omega (arith, same))
 all_aimed number (n ∷ new) (o ∷ old) same at =
-    let here : numbered_of n ≡ aimed number (numbered_of o) = at 0 n (omega arith) in
-    let others : map numbered_of new ≡ map (aimed number) (map numbered_of old) =
-    all_aimed number new old (omega (arith, same)) (λ k d less. at (suc k) d (omega (arith, less))) in
-    rw (here, others) refl
+    rw (at 0 n (omega arith), all_aimed number new old (omega (arith, same)) (λ k d less. at (suc k) d (omega (arith, less)))) refl
 
 -- one block more is made
 pub one_made : (drafts : List Draft) (made now : List Serial) (block : BlockReader) (last : Serial) (old new : List BlockReader)

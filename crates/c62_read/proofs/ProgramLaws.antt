@@ -1,6 +1,6 @@
 -- Laws of programs: their instructions, their blocks, their labels and their targets are those of their lines.
-use Rattle.std.proofs.Common.{◌≡◌, ℕ, zero, suc, ◌+◌, ◌<◌, ◌≤◌, Bool, true, false, cond, not, ltb, List, [], ◌∷◌, ◌++◌, length, get_or, Option}
-use Rattle.std.proofs.Common.{Some, None, Result, Ok, Err, refl, sym, ap, subst, ◌∙◌, arith, inl, inr}
+use Rattle.std.proofs.Common.{◌≡◌, ℕ, zero, suc, ◌+◌, ◌<◌, ◌≤◌, Bool, true, false, cond, not, ltb, List, [], ◌∷◌, ◌++◌, length, get_or, Option, Some}
+use Rattle.std.proofs.Common.{None, Result, Ok, Err, refl, sym, ap, subst, ◌∙◌, arith, inl, inr}
 use Rattle.std.specs.Prelude.{map, position, slice_get, Contains}
 use Rattle.std.specs.List.{All, IsDistinct, flat_map, list_all, position_or_len}
 use Rattle.std.specs.Str.{bytes_eq}
@@ -27,6 +27,7 @@ use Rattle.c62_read.specs.Program.{says_items, target_number, program_in, unless
 use Rattle.c62_read.specs.Laws.{HasCutBlocks, HasItsLabels, HasRisingLines, HasTargets, IsItsLines, ReadsAsItsLine, begin_well, block_named}
 use Rattle.c62_read.specs.Laws.{ends_in_branch, instruction_at, instructions_in, instructions_of, items_of, settled}
 use Rattle.c62_read.specs.Walk.{Drafts, add_lines, no_drafts, own_labels}
+use Rattle.c62_read.proofs.BlockLemmas.{position_map}
 use Rattle.c62_read.proofs.CutLemmas.{AllFit, Fits, aim_at, all_fit, cut_begins, cut_ends, cut_items, draft_items, drafts_begin}
 use Rattle.c62_read.proofs.SaysLemmas.{has_no_block}
 use Rattle.c62_read.proofs.WalkLemmas.{OkFits, Walked, blocks_are, walk_text}
@@ -111,14 +112,10 @@ has_targets text blocks line label parts target e among jumps =
 
 -- ---- the blocks one after the other are the labels and instructions of the lines, with their targets' numbers
 
-position_block : (label : Name) (all drafts : List Draft)
-    → position_or_len (λ block. label_is label block.label) (map (block_in all) drafts) ≡ position_or_len (λ draft. label_is label draft.label) drafts
-position_block label all [] = refl
-position_block label all (draft ∷ drafts) = rw (position_block label all drafts) refl
-
 target_is : (all : List Draft) (target : Option Name) → target_number all target ≡ aim_at (block_named (map (block_in all) all)) target
 target_is all None = refl
-target_is all (Some label) = rw (position_block label all all, length-map all (block_in all)) refl
+target_is all (Some label) =
+    rw (position_map (λ (block : BlockParts). label_is label block.label) (block_in all) all, length-map all (block_in all)) refl
 
 block_items : (all drafts : List Draft)
     → flat_map items_of (map (block_in all) drafts) ≡ flat_map (draft_items (block_named (map (block_in all) all))) drafts

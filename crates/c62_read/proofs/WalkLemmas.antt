@@ -81,23 +81,12 @@ small_end done draft small = grind (arith, nat_tests, list_any-append is_overful
 record Effect (is : Bool) (made : List Item) (step : Drafts → Drafts) : Type 0 where
   pub ahead : (old : Drafts) (items : List Item) → ahead old (made ++ items) ≡ ahead (step old) items
   pub own : (old : Drafts) → own_labels (all_drafts (step old)) ≡ own_labels (all_drafts old)
-  pub over : (label : Option Name) (old : Drafts) → list_any is_overfull (all_drafts old) ≡ false
-      → list_any is_overfull (all_drafts (step (with_label label old))) ≡ (is && is_none label && is_full old.current)
-  pub count : (label : Option Name) (old : Drafts)
-      → length (all_drafts (step (with_label label old))) ≡ length (all_drafts old) + cond (is_some label || is && is_none old.current) 1 0
+  pub over : (old : Drafts) → list_any is_overfull (all_drafts old) ≡ false
+      → list_any is_overfull (all_drafts (step old)) ≡ (is && is_full old.current)
+  pub count : (old : Drafts) → length (all_drafts (step old)) ≡ length (all_drafts old) + cond (is && is_none old.current) 1 0
 
 quiet : Effect false [] (λ old. old)
-quiet = record { ahead = λ old items. refl; own = λ old. refl; over = over; count = count }
-  where
-    over : (label : Option Name) (old : Drafts) → list_any is_overfull (all_drafts old) ≡ false
-        → list_any is_overfull (all_drafts (with_label label old)) ≡ false
-    over None old small = small
-    over (Some label) old small = small_end (all_drafts old) (new_draft (Some label)) small
-
-    count : (label : Option Name) (old : Drafts)
-        → length (all_drafts (with_label label old)) ≡ length (all_drafts old) + cond (is_some label || false) 1 0
-    count None old = omega arith
-    count (Some label) old = length-append (all_drafts old) (new_draft (Some label) ∷ [])
+quiet = record { ahead = λ old items. refl; own = λ old. refl; over = λ old small. small; count = λ old. omega arith }
 
 module _ (number : ℕ) (parts : Parts) (target : Option Name) where
   abbrev run : Drafts → Drafts
@@ -124,10 +113,9 @@ module _ (number : ℕ) (parts : Parts) (target : Option Name) where
   run_full None = refl
   run_full (Some draft) = grind (arith, nat_tests, length-append draft.insns (entry ∷ []))
 
-  run_over : (label : Option Name) (old : Drafts) → list_any is_overfull (all_drafts old) ≡ false
-      → list_any is_overfull (all_drafts (run (with_label label old))) ≡ (is_none label && is_full old.current)
-  run_over (Some label) old small = rw closed_all (small_end (all_drafts old) (with_insn parts number target (new_draft (Some label))) small)
-  run_over None old small =
+  run_over : (old : Drafts) → list_any is_overfull (all_drafts old) ≡ false
+      → list_any is_overfull (all_drafts (run old)) ≡ is_full old.current
+  run_over old small =
       rw closed_all (grind (
         arith,
         nat_tests,
@@ -141,17 +129,12 @@ module _ (number : ℕ) (parts : Parts) (target : Option Name) where
   run_count done None draft = omega (arith, length-append {A = Draft})
   run_count done (Some other) draft = omega (arith, length-append {A = Draft})
 
-  counted : (label : Option Name) (old : Drafts)
-      → length (all_drafts (run (with_label label old))) ≡ length (all_drafts old) + cond (is_some label || is_none old.current) 1 0
-  counted None old = rw closed_all (run_count old.done old.current _)
-  counted (Some label) old = rw closed_all (length-append (all_drafts old) (with_insn parts number target (new_draft (Some label)) ∷ []))
-
   runs : Effect true (Runs entry target ∷ []) run
   runs = record {
     ahead = λ old items. run_ahead (is_branch parts.op) old.done old.current items;
     own = λ old. rw closed_all (run_own old.done old.current);
     over = run_over;
-    count = counted;
+    count = λ old. rw closed_all (run_count old.done old.current _);
   }
 
 effect : (number : ℕ) (says : Says) → Effect (is_instruction says) (says_items number says) (with_says number says)
@@ -160,6 +143,20 @@ effect number Nothing = quiet
 effect number (Pause n) = quiet
 effect number (Does parts) = runs number parts None
 effect number (Jumps parts target) = runs number parts (Some target)
+
+-- behind a label nothing is too much
+over_line : (is : Bool) (made : List Item) (step : Drafts → Drafts) → Effect is made step → (label : Option Name) (old : Drafts)
+    → list_any is_overfull (all_drafts old) ≡ false
+    → list_any is_overfull (all_drafts (step (with_label label old))) ≡ (is && is_none label && is_full old.current)
+over_line is made step does None old small = grind (arith, nat_tests, does.over old small)
+over_line is made step does (Some label) old small =
+    grind (arith, nat_tests, does.over (with_label (Some label) old) (small_end (all_drafts old) (new_draft (Some label)) small))
+
+count_line : (is : Bool) (made : List Item) (step : Drafts → Drafts) → Effect is made step → (label : Option Name) (old : Drafts)
+    → length (all_drafts (step (with_label label old))) ≡ length (all_drafts old) + cond (is_some label || is && is_none old.current) 1 0
+count_line is made step does None old = does.count old
+count_line is made step does (Some label) old =
+    grind (arith, nat_tests, does.count (with_label (Some label) old), length-append (all_drafts old) (new_draft (Some label) ∷ []))
 
 -- ---- one line more
 
@@ -330,9 +327,9 @@ module _ (labels : List Name) (before : List (List ℕ)) (line : List ℕ) (old 
       said_fault : is_taken label old ≡ false → fault_of labels before line
           ≡ first_of (fault_if (is_unknown labels says) UnknownTarget ∷ fault_in (unless_hindered (hindrance label says old) new) ∷ [])
       unfolding fault_of hindrance
-      said_fault free = rw (head, repeats_is ∙ free, said, misses_is says, blocks_more, (effect here says).over label old stands.small)
+      said_fault free = rw (head, repeats_is ∙ free, said, misses_is says, blocks_more, over_line _ _ _ (effect here says) label old stands.small)
           (last_faults (is_unknown labels says) (is_instruction says && is_none label && is_full old.current) (begins_block label says old)
-          (length (all_drafts old)) (length (all_drafts new)) new stands.few ((effect here says).count label old))
+          (length (all_drafts old)) (length (all_drafts new)) new stands.few (count_line _ _ _ (effect here says) label old))
 
   -- what a step meets
   abbrev met : Step → Option Cause
@@ -362,14 +359,14 @@ module _ (labels : List Name) (before : List (List ℕ)) (line : List ℕ) (old 
   next_stands new added known =
       let effects = effect here added.says in
       let clear = clear_faults (is_instruction added.says && is_none added.label && is_full old.current) (begins_block added.label added.says old)
-      (length (all_drafts old)) _ stands.few (effects.count added.label old) added.clear in
+      (length (all_drafts old)) _ stands.few (count_line _ _ _ effects added.label old) added.clear in
       let own : own_labels (all_drafts new) ≡ labels_of (more before line) =
       own_added here line old new added ∙ rw (stands.own, labels_more before line) refl in
       let fresh = repeats_is added.label added.words added.head ∙ added.free in
       rw added.is (record {
         cuts = cuts_more added.label added.words added.head added.says added.rest;
         few = clear.1;
-        small = effects.over added.label old stands.small ∙ clear.0;
+        small = over_line _ _ _ effects added.label old stands.small ∙ clear.0;
         own = rw added.is at own;
         fits = All-push (λ (l : List ℕ). OkFits labels (line_of l)) before line stands.fits
             (rw (line_by_head line added.label added.words added.says added.head added.rest)

@@ -1,11 +1,11 @@
-use Rattle.std.proofs.Common.{◌≡◌, ℕ, suc, ◌+◌, List, [], ◌∷◌, length, length-append, true, map, sym, ap, arith, ◌∙◌}
+use Rattle.std.proofs.Common.{◌≡◌, suc, ◌+◌, List, [], ◌∷◌, length, length-append, true, map, sym, ap, arith, ◌∙◌}
 use Rattle.std.specs.List.{list_all}
 use Rattle.std.specs.Prelude.{Option}
 use Rattle.std.specs.Vec.Iter.{into_iter_items}
 use Rattle.std.proofs.lemmas.Bool.{and_parts}
 use Rattle.std.proofs.lemmas.Simd.{map-map}
 use Rattle.c62_read.specs.declared.program.BlockReader.{BlockReader}
-use Rattle.c62_read.specs.Program.{BlockParts, Draft, Name, aimed, block_in, block_parts, target_number}
+use Rattle.c62_read.specs.Program.{Draft, Name, block_in, block_parts, target_number}
 use Rattle.c62_read.specs.Walk.{draft_of, is_whole, number_among}
 use Rattle.c62_read.proofs.BlockLemmas.{number_is}
 use Rattle.c62_read.proofs.BlockLemmas.{one_made}
@@ -23,10 +23,8 @@ loop-block-preserved c =
     let number : c.target_number-number.result ≡ target_number drafts block.target =
     c.target_number-number.ensures ∙ ap (λ (ls : List (Option Name)). number_among ls block.target) labels ∙ number_is drafts block.target in
     let made : block_parts c.into_block.result ≡ block_in drafts (draft_of block) =
-    c.into_block.ensures
-    ∙ ap (λ (n : ℕ). let made : BlockParts = record { label = block.label; insns = map (aimed n) (draft_of block).insns } in made) number in
-    let whole : list_all is_whole (draft_of block ∷ map draft_of new) ≡ true =
-    ap (λ (bs : List BlockReader). list_all is_whole (map draft_of bs)) (sym taken) ∙ c.loop-block.invariant.whole in
+    rw (← number) c.into_block.ensures in
+    let whole : list_all is_whole (draft_of block ∷ map draft_of new) ≡ true = rw taken at c.loop-block.invariant.whole in
     let pushed : length c.push.new.self.items ≡ length c.loop-block.made.items + 1 =
     ap length c.in_ok-push.ensures.items ∙ length-append c.loop-block.made.items (c.into_block.result ∷ []) in
     let before : length (into_iter_items c.loop-block.rest) ≡ suc (length new) = ap length taken in

@@ -1,11 +1,11 @@
-use Rattle.std.proofs.Common.{◌≡◌, List, ◌++◌, not, sym, ap, ◌∙◌, rules}
+use Rattle.std.proofs.Common.{◌≡◌, not, rules}
 use Rattle.std.specs.List.{filter}
 use Rattle.std.specs.Prelude.{map}
 use Rattle.std.proofs.lemmas.Fn.{filter_same}
 use Rattle.c62_read.specs.declared.jump.Jump.{Jump}
 use Rattle.c62_read.specs.Text.{lines_of}
 use Rattle.c62_read.specs.Program.{is_among, labels_of}
-use Rattle.c62_read.specs.Walk.{all_drafts, asked_of, drafts_of, first_line, missed, own_labels}
+use Rattle.c62_read.specs.Walk.{all_drafts, asked_of, drafts_of, own_labels}
 use Rattle.c62_read.proofs.MissedLemmas.{kept_are, missed_more}
 use Rattle.c62_read.proofs.program.TextReader.first_missed.Goals as goal
 
@@ -15,7 +15,5 @@ returns c =
     let others = labels_of (lines_of c.args.rest.now) in
     let kept : c.retain.new.self.items ≡ filter (λ (jump : Jump). not (is_among jump.target own)) c.args.jumps.items =
     filter_same _ _ _ (λ x b f' k. search rules) _ _ c.retain.ensures.filtered in
-    let left : map asked_of c.leave_out_labels.new.jumps.items ≡ missed (own ++ others) (map asked_of c.args.jumps.items) =
-    c.leave_out_labels.ensures ∙ ap (λ (jumps : List Jump). missed others (map asked_of jumps)) kept
-    ∙ ap (missed others) (kept_are own c.args.jumps.items) ∙ sym (missed_more own others (map asked_of c.args.jumps.items)) in
-    c.first_branch.ensures ∙ ap (λ (jumps : List Jump). first_line (map asked_of jumps)) c.deref.ensures.value ∙ ap first_line left
+    rw (missed_more own others (map asked_of c.args.jumps.items), ← kept_are own c.args.jumps.items, ← kept, ← c.leave_out_labels.ensures)
+    (rw c.deref.ensures.value at c.first_branch.ensures)
