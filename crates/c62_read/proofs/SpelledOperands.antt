@@ -3,11 +3,11 @@ use Rattle.std.proofs.Common.{◌≡◌, ℕ, ◌%◌, ◌≤◌, Bool, true, fa
 use Rattle.std.proofs.Common.{◌∙◌, refl, sym, ap, subst, append_assoc, arith, inl, inr}
 use Rattle.std.specs.Prelude.{ℤ, pos, negsuc, int_le, codes}
 use Rattle.std.specs.Char.{is_ascii_digit}
-use Rattle.std.specs.Fmt.{decimal, signed_decimal}
+use Rattle.std.specs.Fmt.{decimal}
 use Rattle.std.specs.List.{list_all}
 use Rattle.std.specs.Ordering.{int_eq}
 use Rattle.std.proofs.Math.Bool.{or-false}
-use Rattle.std.proofs.lemmas.Bool.{and_from, and_parts, and_right, cases_Bool, le-leb, leb-true, or_parts}
+use Rattle.std.proofs.lemmas.Bool.{and_from, and_parts, and_right, cases_Bool, cond_both, le-leb, leb-true, or_parts}
 use Rattle.std.proofs.lemmas.Bool.Decides.{Decides-int_eq}
 use Rattle.c62_insn.specs.declared.register.Side.{Side}
 use Rattle.c62_insn.specs.declared.register.Side.TheVariants.{A, B}
@@ -45,7 +45,7 @@ use Rattle.c62_read.specs.Kind.{Word, kind_of, kinds_of, mark_of, single_mark}
 use Rattle.c62_read.specs.Operand.{address_front, operands_of, with_offset}
 use Rattle.c62_read.specs.Mnemonic.{constant_to_front, crossed_to_back, exchanged, in_order, low_half, stands_for, stands_on}
 use Rattle.c62_read.specs.Unit.{mark_fits, unit_fits}
-use Rattle.c62_read.specs.Line.{Says, Does, Jumps, behind_unit, is_branch, misses, parts_read, target_of, text_fault}
+use Rattle.c62_read.specs.Line.{Says, Does, behind_unit, is_branch, misses, parts_read, target_of, text_fault}
 use Rattle.c62_read.specs.Laws.{NamesTarget, says_with}
 use Rattle.c62_read.proofs.NumberLemmas.{label_few}
 use Rattle.c62_read.proofs.SpelledTokens.{IsPiece, any_end, both, closing, mark_piece, more, opening, weaker, word_end, word_piece, word_token}
@@ -103,53 +103,36 @@ star : IsPiece any_end (codes "*") (codes "*" ∷ []) (Star ∷ []) 1
 unfolding kind_of mark_of single_mark
 star = mark_piece 42 Star refl refl refl
 
-based_piece : (base : Reg) (form : AddressForm)
-    → IsPiece word_end (codes "*" ++ sign_of form ++ register_name base ++ step_of form)
-    ((codes "*" ∷ []) ++ sign_words form ++ (register_name base ∷ []) ++ step_words form)
-    ((Star ∷ []) ++ kinds_of (sign_words form) ++ (Register base ∷ []) ++ kinds_of (step_words form)) 16
-based_piece base form =
-    both (both (both star (sign_piece form) (λ rest end. tt)) (register_piece base)
-    (λ rest end. (base.side, decimal base.number ++ rest, append_assoc (file_letter base.side) (decimal base.number) rest)))
-    (step_piece form) (step_ends form)
-
 abbrev address_kinds : Bool → Reg → AddressForm → Offset → List Kind
 address_kinds alone base form offset =
     cond alone (Star ∷ Register base ∷ [])
     ((Star ∷ []) ++ kinds_of (sign_words form) ++ (Register base ∷ []) ++ kinds_of (step_words form) ++ (Open ∷ []) ++ (offset_kind offset ∷ [])
     ++ (Close ∷ []))
 
-address_piece : (base : Reg) (form : AddressForm) (offset : Offset) → offset_fits offset ≡ true
+address_piece : (base : Reg) (form : AddressForm) (offset : Offset) (alone : Bool) → offset_fits offset ≡ true
     → (words : List Word)
-    × IsPiece word_end (address_spelling base form offset) words (address_kinds (is_base_alone form offset) base form offset) 29
-address_piece base form offset inside = by_alone (is_base_alone form offset)
-  where
-    by_alone : (alone : Bool)
-        → (words : List Word)
-        × IsPiece word_end (cond alone (codes "*" ++ register_name base)
-        (codes "*" ++ sign_of form ++ register_name base ++ step_of form ++ codes "[" ++ offset_spelling offset ++ codes "]"))
-        words (address_kinds alone base form offset) 29
-    by_alone true = (_, weaker 29 (both star (register_piece base) (λ rest end. tt)) (λ rest end. end) (omega arith))
-    by_alone false = (
-      _,
-      weaker 29 (both (both (both (based_piece base form) opening (λ rest end. refl)) (offset_piece offset inside) (λ rest end. tt)) closing
-          (λ rest end. refl)) (λ rest end. tt) (omega arith),
-    )
+    × IsPiece word_end (cond alone (codes "*" ++ register_name base)
+    (codes "*" ++ sign_of form ++ register_name base ++ step_of form ++ codes "[" ++ offset_spelling offset ++ codes "]"))
+    words (address_kinds alone base form offset) 29
+address_piece base form offset true inside = (_, weaker 29 (both star (register_piece base) (λ rest end. tt)) (λ rest end. end) (omega arith))
+address_piece base form offset false inside =
+    let file = λ (rest : List ℕ). append_assoc (file_letter base.side) (decimal base.number) rest in
+    let signed = both (both star (sign_piece form) (λ rest end. tt)) (register_piece base)
+    (λ rest end. (base.side, decimal base.number ++ rest, file rest)) in
+    let bracket = both (both signed (step_piece form) (step_ends form)) opening (λ rest end. refl) in
+    (_, weaker 29 (both (both bracket (offset_piece offset inside) (λ rest end. tt)) closing (λ rest end. refl)) (λ rest end. tt) (omega arith))
 
 -- ---- loads and stores
 
 abbrev access_kinds : Bool → Reg → List Kind → List Kind
-access_kinds store reg address = cond store (Register reg ∷ Comma ∷ address) (address ++ Comma ∷ Register reg ∷ [])
+access_kinds store reg address = cond store (Register reg ∷ Comma ∷ address) (address ++ (Comma ∷ []) ++ (Register reg ∷ []))
 
 access_piece : (store : Bool) (reg : Reg) (text : List ℕ) (words : List Word) (kinds : List Kind) → IsPiece word_end text words kinds 29
     → (whole : List Word)
     × IsPiece word_end (cond store (with_commas (register_name reg ∷ text ∷ [])) (with_commas (text ∷ register_name reg ∷ []))) whole
     (access_kinds store reg kinds) 41
 access_piece true reg text words kinds piece = (_, more (register_piece reg) piece)
-access_piece false reg text words kinds piece = (
-  _,
-  subst (λ (all : List Kind). IsPiece word_end (with_commas (text ∷ register_name reg ∷ [])) (words ++ (codes "," ∷ []) ++ (register_name reg ∷ [])) all 41)
-      (append_assoc kinds (Comma ∷ []) (Register reg ∷ [])) (more piece (register_piece reg)),
-)
+access_piece false reg text words kinds piece = (_, more piece (register_piece reg))
 
 plus_back : (store : Bool) (reg base : Reg) (k : ℤ) (alone : Bool) → int_eq k (pos 0) ≡ alone
     → operands_of store (access_kinds store reg (address_kinds alone base Plus (ByConstant k))) ≡ Some (Access reg base Plus (ByConstant k))
@@ -204,14 +187,6 @@ own_stays : (turned : Option Op) (op : Op) (a b d : Reg) → same_side a.side d.
 own_stays None op a b d own = refl
 own_stays (Some turned) op a b d own = rw own refl
 
-three_order : (op : Op) (unit : FunctionalUnit) (a b d : Reg) → takes op (Three a b d) unit ≡ true
-    → crossed_to_back (exchanged op) op a b d ≡ (op, Three a b d)
-three_order op unit a b d taking =
-    elim (cases_Bool (lets_first_cross op)) [
-      | inl lets ↦ ap (λ (turned : Option Op). crossed_to_back turned op a b d) (first_fixed op lets)
-      | inr fixed ↦ own_stays (exchanged op) op a b d (first_in_file op unit a b d taking fixed)
-    ]
-
 add_turned : (op : Op) → is_add op ≡ true → exchanged op ≡ Some op
 add_turned Add is = refl
 add_turned _ is = cc
@@ -238,16 +213,15 @@ constant_order _ unit k d taking = refl
 -- operands on a unit that takes them read as they are
 ordered : (op : Op) (operands : Operands) (unit : FunctionalUnit) → takes op operands unit ≡ true → in_order op operands ≡ (op, operands)
 unfolding in_order
-ordered op (Three a b d) unit taking = three_order op unit a b d taking
+ordered op (Three a b d) unit taking =
+    elim (cases_Bool (lets_first_cross op)) [
+      | inl lets ↦ ap (λ (turned : Option Op). crossed_to_back turned op a b d) (first_fixed op lets)
+      | inr fixed ↦ own_stays (exchanged op) op a b d (first_in_file op unit a b d taking fixed)
+    ]
 ordered op (ConstantSecond a k d) unit taking =
     ap (λ (turned : Option Op). constant_to_front turned op a k d) (second_kept op a d k (taken_kind op (ConstantSecond a k d) unit taking))
 ordered op (Constant k d) unit taking = constant_order op unit k d taking
 ordered op operands unit taking = refl
-
--- a constant that stands second on .D goes to the front
-front_order : (op : Op) (k : ℤ) (a d : Reg) → is_add op ≡ true → in_order op (ConstantSecond a k d) ≡ (op, ConstantFirst k a d)
-unfolding in_order
-front_order op k a d is = ap (λ (turned : Option Op). constant_to_front turned op a k d) (add_turned op is)
 
 -- ---- the written unit
 
@@ -319,9 +293,7 @@ offset_taken op unit reg base form (ByRegister offset) taking = refl
 pub record IsBehind (op : Op) (operands : Operands) (cond : Option Condition) (unit : FunctionalUnit) (text : List ℕ) (says : Says) : Type 0 where
   pub words : List Word
   pub kinds : List Kind
-  pub most : ℕ
-  pub piece : IsPiece word_end text words kinds most
-  pub few : most ≤ 48
+  pub piece : IsPiece word_end text words kinds 48
   pub read : behind_unit (Operation op) cond (Some (written_on operands unit)) words ≡ Ok says
 
 as_they_are : (op : Op) (operands written : Operands) (cond : Option Condition) (unit : FunctionalUnit) {text : List ℕ} {words : List Word}
@@ -330,13 +302,11 @@ as_they_are : (op : Op) (operands written : Operands) (cond : Option Condition) 
     → operands_of (is_store op) kinds ≡ Some written → in_order op written ≡ (op, operands)
     → IsBehind op operands cond unit text (Does (parts_read op operands cond (Some (written_on operands unit))))
 unfolding behind_unit stands_for
-as_they_are op operands written cond unit {words = words} {kinds = kinds} {most = most} kind none piece few target read order =
+as_they_are op operands written cond unit {words = words} {kinds = kinds} kind none piece few target read order =
     record {
       words = words;
       kinds = kinds;
-      most = most;
-      piece = piece;
-      few = few;
+      piece = weaker 48 piece (λ rest end. end) few;
       read = rw (target, piece.told, read, order, kind, no_fault op operands cond unit none) refl;
     }
 
@@ -350,35 +320,9 @@ sourced op operands written cond unit taking none is piece few read order =
     let plain = or_parts (is_store op) (is_branch op) (plain_op op operands is kind) in
     as_they_are op operands written cond unit kind none piece few (rw plain.1 refl) (rw plain.0 read) order
 
-first_back : (op : Op) (unit : FunctionalUnit) (k : ℤ) (a d : Reg) (condition : Option Condition) (on_d : Bool) → same_letter unit.letter D ≡ on_d
-    → takes op (ConstantFirst k a d) unit ≡ true → form_fault op (ConstantFirst k a d) condition (Some unit) ≡ None
-    → IsBehind op (ConstantFirst k a d) condition unit
-    (cond on_d (with_commas (register_name a ∷ signed_decimal k ∷ register_name d ∷ []))
-    (with_commas (signed_decimal k ∷ register_name a ∷ register_name d ∷ [])))
-    (Does (parts_read op (ConstantFirst k a d) condition (Some (written_on (ConstantFirst k a d) unit))))
-unfolding operands_of
-first_back op unit k a d condition true e taking none =
-    let number = number_piece k (one_fits k (narrow_constants op (ConstantFirst k a d) unit taking)) in
-    sourced op (ConstantFirst k a d) (ConstantSecond a k d) condition unit taking none refl
-    (more (register_piece a) (more number (register_piece d))) (omega arith) refl (front_order op k a d (constant_on_d op unit k a d taking e))
-first_back op unit k a d condition false e taking none =
-    let number = number_piece k (one_fits k (narrow_constants op (ConstantFirst k a d) unit taking)) in
-    sourced op (ConstantFirst k a d) (ConstantFirst k a d) condition unit taking none refl
-    (more number (more (register_piece a) (register_piece d))) (omega arith) refl (ordered op (ConstantFirst k a d) unit taking)
-
 no_label : (reg : Reg) → is_label (register_name reg) ≡ false
 unfolding is_label
 no_label reg = rw (register_back reg) (and_right _ false refl)
-
-branch_to_register : (op : Op) (target : Reg) (cond : Option Condition) (unit : FunctionalUnit) → has_kind op (operands.Register target) ≡ true
-    → form_fault op (operands.Register target) cond (Some unit) ≡ None
-    → IsBehind op (operands.Register target) cond unit (register_name target)
-    (Does (parts_read op (operands.Register target) cond (Some (written_on (operands.Register target) unit))))
-unfolding operands_of in_order
-branch_to_register Branch target cond unit kind none =
-    as_they_are Branch (operands.Register target) (operands.Register target) cond unit kind none (register_piece target) (omega arith)
-    (rw (no_label target) refl) refl refl
-branch_to_register _ target cond unit kind none = absurd cc
 
 -- ---- a branch to a block
 
@@ -391,30 +335,13 @@ label_parts label is =
     let third = and_parts _ _ second.0 in
     (third.0, third.1, second.1)
 
-begun : (test : ℕ → Bool) (w : List ℕ) → begins test w ≡ true → 1 ≤ length w
-begun test [] is = absurd cc
-begun test (b ∷ w) is = omega arith
-
 pub label_some : (label : List ℕ) → is_label label ≡ true → 1 ≤ length label
-label_some label is = begun (λ b. not (is_ascii_digit b)) label (label_parts label is).0
+label_some [] is = let first = (label_parts [] is).0 in absurd cc
+label_some (b ∷ label) is = omega arith
 
-pub label_piece : (label : List ℕ) → is_label label ≡ true → IsPiece word_end label (label ∷ []) (kind_of label ∷ []) 32
-label_piece label is = word_piece label (kind_of label) 32 (word_token label (label_some label is) (label_parts label is).1) refl (label_few label is)
-
-branch_to_block : (name : ℕ → List ℕ) (op : Op) (number : ℕ) (cond : Option Condition) (unit : FunctionalUnit) → has_kind op (Block number) ≡ true
-    → is_label (name number) ≡ true → form_fault op (Block number) cond (Some unit) ≡ None
-    → IsBehind op (Block number) cond unit (name number) (Jumps (parts_read op (Block 0) cond (Some (written_on (Block number) unit))) (name number))
-unfolding behind_unit
-branch_to_block name Branch number cond unit kind is none =
-    record {
-      words = name number ∷ [];
-      kinds = kind_of (name number) ∷ [];
-      most = 32;
-      piece = label_piece (name number) is;
-      few = omega arith;
-      read = rw (is, no_fault Branch (Block 0) cond unit none) refl;
-    }
-branch_to_block name _ number cond unit kind is none = absurd cc
+pub label_piece : (label : List ℕ) → is_label label ≡ true → IsPiece word_end label (label ∷ []) (kind_of label ∷ []) 48
+label_piece label is =
+    word_piece label (kind_of label) 48 (word_token label (label_some label is) (label_parts label is).1) refl (omega (arith, label_few label is))
 
 -- ---- all operands
 
@@ -424,11 +351,19 @@ pub behind : (name : ℕ → List ℕ) (op : Op) (operands : Operands) (cond : O
     → form_fault op operands cond (Some unit) ≡ None
     → IsBehind op operands cond unit (operands_spelling name op unit.letter operands)
     (says_with name (record { op = op; operands = operands; cond = cond; unit = Some unit }) operands)
-unfolding operands_of
+unfolding behind_unit in_order operands_of
 behind name op (Three a b d) cond unit taking names none =
     sourced op (Three a b d) (Three a b d) cond unit taking none refl
     (more (register_piece a) (more (register_piece b) (register_piece d))) (omega arith) refl (ordered op (Three a b d) unit taking)
-behind name op (ConstantFirst k a d) cond unit taking names none = first_back op unit k a d cond (same_letter unit.letter D) refl taking none
+behind name op (ConstantFirst k a d) cond unit taking names none =
+    let number = number_piece k (one_fits k (narrow_constants op (ConstantFirst k a d) unit taking)) in
+    let says = Does (parts_read op (ConstantFirst k a d) cond (Some (written_on (ConstantFirst k a d) unit))) in
+    cond_both (same_letter unit.letter D) _ _ (λ (text : List ℕ). IsBehind op (ConstantFirst k a d) cond unit text says)
+    (λ e. sourced op (ConstantFirst k a d) (ConstantSecond a k d) cond unit taking none refl
+    (more (register_piece a) (more number (register_piece d))) (omega arith) refl
+    (ap (λ (turned : Option Op). constant_to_front turned op a k d) (add_turned op (constant_on_d op unit k a d taking e))))
+    (λ e. sourced op (ConstantFirst k a d) (ConstantFirst k a d) cond unit taking none refl
+    (more number (more (register_piece a) (register_piece d))) (omega arith) refl (ordered op (ConstantFirst k a d) unit taking))
 behind name op (ConstantSecond a k d) cond unit taking names none =
     let number = number_piece k (one_fits k (narrow_constants op (ConstantSecond a k d) unit taking)) in
     sourced op (ConstantSecond a k d) (ConstantSecond a k d) cond unit taking none refl
@@ -448,13 +383,22 @@ behind name op (Constant k d) cond unit taking names none =
     (ordered op (Constant k d) unit taking)
 behind name op (Access reg base form offset) cond unit taking names none =
     let kind = taken_kind op (Access reg base form offset) unit taking in
-    let address = address_piece base form offset (offset_taken op unit reg base form offset taking) in
+    let address = address_piece base form offset (is_base_alone form offset) (offset_taken op unit reg base form offset taking) in
     let whole = access_piece (is_store op) reg (address_spelling base form offset) address.0
     (address_kinds (is_base_alone form offset) base form offset) address.1 in
     as_they_are op (Access reg base form offset) (Access reg base form offset) cond unit kind none whole.1 (omega arith)
     (rw (access_no_branch op reg base form offset kind) refl) (access_back (is_store op) reg base form offset)
     (ordered op (Access reg base form offset) unit taking)
-behind name op (Block number) cond unit taking names none =
-    branch_to_block name op number cond unit (taken_kind op (Block number) unit taking) (names number refl) none
+behind name Branch (Block number) cond unit taking names none =
+    record {
+      words = name number ∷ [];
+      kinds = kind_of (name number) ∷ [];
+      piece = label_piece (name number) (names number refl);
+      read = rw (names number refl, no_fault Branch (Block 0) cond unit none) refl;
+    }
+behind name op (Block number) cond unit taking names none = let kind = taken_kind op (Block number) unit taking in absurd cc
+behind name Branch (operands.Register target) cond unit taking names none =
+    as_they_are Branch (operands.Register target) (operands.Register target) cond unit refl none (register_piece target) (omega arith)
+    (rw (no_label target) refl) refl (ordered Branch (operands.Register target) unit taking)
 behind name op (operands.Register target) cond unit taking names none =
-    branch_to_register op target cond unit (taken_kind op (operands.Register target) unit taking) none
+    let kind = taken_kind op (operands.Register target) unit taking in absurd cc
