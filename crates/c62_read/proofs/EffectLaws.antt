@@ -1,15 +1,14 @@
 -- What the reader puts for what was written does the same.
 use Rattle.std.proofs.Common.{◌≡◌, ℕ, ◌+◌, ◌-◌, ◌*◌, ◌<◌, ◌%◌, ◌^◌, Bool, cond, eqb, Option, Some, None, refl, ap, subst, ◌∙◌, arith}
-use Rattle.std.specs.Prelude.{ℤ, pos, ◌*ℤ◌}
+use Rattle.std.specs.Prelude.{ℤ, ◌*ℤ◌}
 use Rattle.std.proofs.Math.IntN.{*ℤ_comm}
 use Rattle.std.proofs.Math.Nat.{add_comm, mod-eq_of_lt, mul_comm}
 use Rattle.std.proofs.lemmas.Bool.Decides.{nat_tests}
 use Rattle.std.proofs.lemmas.Nat.{and_comm, or_comm, xor_comm}
 use Rattle.c62_insn.specs.declared.operands.Op.{Op}
-use Rattle.c62_insn.specs.declared.operands.Op.TheVariants.{Add, And, Or, Xor, Add2, Cmpeq, Cmpgt, Cmplt, Cmpgtu, Cmpltu, Mpy, Mpyu, Mpyus, Mpysu}
-use Rattle.c62_insn.specs.declared.operands.Op.TheVariants.{Mpyh, Mpyhu, Mpyhl, Mpylh}
+use Rattle.c62_insn.specs.declared.operands.Op.TheVariants.{Cmpeq}
 use Rattle.c62_insn.specs.Effect.{result_of}
-use Rattle.c62_insn.specs.Word.{hi, lo, sg_half, sum, word}
+use Rattle.c62_insn.specs.Word.{sum, word}
 use Rattle.c62_read.specs.Mnemonic.{exchanged}
 use Rattle.c62_read.specs.Laws.{KeepEffects, KeepsEffect}
 
@@ -30,25 +29,8 @@ Keeps None op a b = Unit {0}
 Keeps (Some turned) op a b = result_of op a b ≡ result_of turned b a
 
 keeps : (op : Op) (a b : ℕ) → Keeps (exchanged op) op a b
-keeps Add a b = sum_turned a b
-keeps And a b = and_comm a b
-keeps Or a b = or_comm a b
-keeps Xor a b = xor_comm a b
-keeps Add2 a b = halves_turned (hi a) (hi b) (lo a) (lo b)
 keeps Cmpeq a b = ap (λ (same : Bool). cond same 1 0) (equal_turned a b)
-keeps Cmpgt a b = refl
-keeps Cmplt a b = refl
-keeps Cmpgtu a b = refl
-keeps Cmpltu a b = refl
-keeps Mpy a b = product_turned (sg_half (lo a)) (sg_half (lo b))
-keeps Mpyu a b = mul_comm (lo a) (lo b)
-keeps Mpyus a b = product_turned (pos (lo a)) (sg_half (lo b))
-keeps Mpysu a b = product_turned (sg_half (lo a)) (pos (lo b))
-keeps Mpyh a b = product_turned (sg_half (hi a)) (sg_half (hi b))
-keeps Mpyhu a b = mul_comm (hi a) (hi b)
-keeps Mpyhl a b = product_turned (sg_half (hi a)) (sg_half (lo b))
-keeps Mpylh a b = product_turned (sg_half (lo a)) (sg_half (hi b))
-keeps op a b = tt
+keeps _ a b = grind (arith, sum_turned, and_comm, or_comm, xor_comm, halves_turned, product_turned, mul_comm)
 
 pub exchanged_keeps : (op turned : Op) → KeepsEffect op turned
 exchanged_keeps op turned is a b = subst (λ (t : Option Op). Keeps t op a b) is (keeps op a b)

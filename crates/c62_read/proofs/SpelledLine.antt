@@ -18,12 +18,10 @@ use Rattle.c62_insn.specs.declared.operands.Op.TheVariants.{Add}
 use Rattle.c62_insn.specs.declared.operands.Operands.{Operands}
 use Rattle.c62_insn.specs.declared.operands.Operands.TheVariants.{Access}
 use Rattle.c62_insn.specs.declared.insn.Insn.{Insn}
-use Rattle.c62_insn.specs.Fault.{form_fault}
 use Rattle.c62_insn.specs.Insn.{op_of, operands_of, cond_of}
 use Rattle.c62_insn.specs.Spelling.{condition_spelling, mnemonic_of, operands_spelling, register_name, unit_spelling}
 use Rattle.c62_insn.specs.Spelling.{path_spelling, side_digit, unit_letter}
 use Rattle.c62_insn.specs.Shape.{crosses_to}
-use Rattle.c62_insn.specs.Takes.{takes}
 use Rattle.c62_insn.proofs.InsnLemmas.{faultless_on}
 use Rattle.c62_read.specs.declared.mnemonic.Mnemonic.TheVariants.{Operation}
 use Rattle.c62_read.specs.Text.{begins, is_blank, is_word_byte, tokens}
@@ -40,20 +38,12 @@ use Rattle.c62_read.specs.Laws.{LineReadsBack, says_on}
 use Rattle.c62_read.proofs.HeadLemmas.{all_weaker, allowed_text, head_plain, line_by_head, no_colon}
 use Rattle.c62_read.proofs.SpelledTokens.{IsPiece, any_end, blank_piece, both, closing, is_text, led_token, mark_piece, no_piece, opening}
 use Rattle.c62_read.proofs.SpelledTokens.{tokens_are, tokens_behind, word_end, word_piece, word_token}
-use Rattle.c62_read.proofs.SpelledNumbers.{register_piece}
+use Rattle.std.proofs.lemmas.List.{map-append}
+use Rattle.c62_read.proofs.SpelledNumbers.{differs, register_piece}
 use Rattle.c62_read.proofs.NameLemmas.{named}
 use Rattle.c62_read.proofs.SpelledOperands.{behind, mark_by, mark_on, unit_written_fits, written_on}
 
 -- ---- a line without a label
-
-no_star_byte : (b : ℕ) → is_word_byte b ≡ true → is_star b ≡ false
-no_star_byte b word = grind (arith, nat_tests)
-
-no_bar_byte : (b : ℕ) → is_word_byte b ≡ true → eqb (to_ascii_lowercase b) 124 ≡ false
-no_bar_byte b word = grind (arith, nat_tests)
-
-no_dot_byte : (b : ℕ) → is_word_byte b ≡ true → is_dot b ≡ false
-no_dot_byte b word = grind (arith, nat_tests)
 
 -- a word begins with neither a star nor a bar nor a dot
 pub record BeginsPlainly (w : Word) : Type 0 where
@@ -65,20 +55,18 @@ pub word_plain : (w : Word) → 1 ≤ length w → list_all is_word_byte w ≡ t
 word_plain [] some words = absurd (omega arith)
 word_plain (b ∷ w) some words =
     let word = (and_parts (is_word_byte b) (list_all is_word_byte w) words).0 in
+    let bar : eqb (to_ascii_lowercase b) 124 ≡ false = grind (arith, nat_tests) in
     record {
-      star = λ rest. no_star_byte b word;
-      bars = λ rest. and_left (eqb (to_ascii_lowercase b) 124) _ (no_bar_byte b word);
-      dot = no_dot_byte b word;
+      star = λ rest. differs is_word_byte b 42 word refl;
+      bars = λ rest. and_left (eqb (to_ascii_lowercase b) 124) _ bar;
+      dot = differs is_word_byte b 46 word refl;
     }
-
-blank_text : (b : ℕ) → is_blank b ≡ true → is_text b ≡ true
-blank_text b blank = grind (arith, nat_tests)
 
 blanks_piece : (blanks : List ℕ) → list_all is_blank blanks ≡ true → length blanks ≤ 100 → IsPiece any_end blanks [] [] 100
 blanks_piece blanks blank few =
     record {
       splits = λ rest end. tokens_behind blanks rest blank;
-      plain = all_weaker is_blank is_text blanks blank_text blank;
+      plain = all_weaker is_blank is_text blanks (λ b here. grind (arith, nat_tests)) blank;
       told = refl;
       short = few;
     }
@@ -100,26 +88,18 @@ piece_says blanks {text = text} {words = words} says piece few blank blanks_few 
 
 -- ---- mnemonics
 
-mnemonic_word : (op : Op) → list_all is_word_byte (mnemonic_of op) ≡ true
-mnemonic_word Add = refl
-mnemonic_word _ = refl
+record IsMnemonic (w : Word) : Type 0 where
+  plain : BeginsPlainly w
+  piece : IsPiece word_end w (w ∷ []) (Name ∷ []) 6
 
-mnemonic_some : (op : Op) → 1 ≤ length (mnemonic_of op)
-mnemonic_some Add = omega arith
-mnemonic_some _ = omega arith
+a_mnemonic : (w : Word) → list_all is_word_byte w ≡ true → 1 ≤ length w → length w ≤ 6 → kind_of w ≡ Name → IsMnemonic w
+a_mnemonic w words some short kind =
+    record { plain = word_plain w some words; piece = word_piece w Name 6 (word_token w some words) kind short }
 
-mnemonic_length : (op : Op) → length (mnemonic_of op) ≤ 6
-mnemonic_length Add = omega arith
-mnemonic_length _ = omega arith
-
-mnemonic_kind : (op : Op) → kind_of (mnemonic_of op) ≡ Name
+mnemonic_is : (op : Op) → IsMnemonic (mnemonic_of op)
 unfolding kind_of mark_of single_mark register_of number_of signed_of magnitude_of decimal_of
-mnemonic_kind Add = refl
-mnemonic_kind _ = refl
-
-mnemonic_piece : (op : Op) → IsPiece word_end (mnemonic_of op) (mnemonic_of op ∷ []) (Name ∷ []) 6
-mnemonic_piece op =
-    word_piece (mnemonic_of op) Name 6 (word_token (mnemonic_of op) (mnemonic_some op) (mnemonic_word op)) (mnemonic_kind op) (mnemonic_length op)
+mnemonic_is Add = a_mnemonic _ refl (omega arith) (omega arith) refl
+mnemonic_is _ = a_mnemonic _ refl (omega arith) (omega arith) refl
 
 mnemonic_back : (op : Op) → mnemonic_named (mnemonic_of op) ≡ Some (Operation op)
 unfolding mnemonic_named
@@ -143,9 +123,6 @@ path_is side operands = no_path (crosses_to side operands)
 abbrev word_of : Letter → Side → Mark → List ℕ
 word_of letter side mark = codes "." ++ unit_letter letter ++ side_digit side ++ mark_text mark
 
-unit_word : (operands : Operands) (unit : FunctionalUnit) → unit_spelling operands unit ≡ word_of unit.letter unit.side (mark_on unit.side operands)
-unit_word operands unit = ap (λ (path : List ℕ). codes "." ++ unit_letter unit.letter ++ side_digit unit.side ++ path) (path_is unit.side operands)
-
 -- a unit's word reads as it, and is a piece
 record IsUnit (letter : Letter) (side : Side) (mark : Mark) (w : List ℕ) : Type 0 where
   read : (words : List (List ℕ)) → unit_front (w ∷ words)
@@ -161,17 +138,9 @@ unit_is _ _ _ = record { read = λ words. refl; piece = word_piece _ _ 5 (led_to
 
 spelled_unit : (operands : Operands) (unit : FunctionalUnit) → IsUnit unit.letter unit.side (mark_on unit.side operands) (unit_spelling operands unit)
 spelled_unit operands unit =
-    subst (IsUnit unit.letter unit.side (mark_on unit.side operands)) (sym (unit_word operands unit))
-    (unit_is unit.letter unit.side (mark_on unit.side operands))
-
--- a spelled unit reads as it, with the mark of the operands
-unit_back : (operands : Operands) (unit : FunctionalUnit) (words : List (List ℕ))
-    → unit_front (unit_spelling operands unit ∷ words) ≡ Some (Some (record { unit = unit; mark = mark_on unit.side operands }), words)
-unit_back operands unit = (spelled_unit operands unit).read
-
-unit_piece : (operands : Operands) (unit : FunctionalUnit)
-    → IsPiece word_end (unit_spelling operands unit) (unit_spelling operands unit ∷ []) (kind_of (unit_spelling operands unit) ∷ []) 5
-unit_piece operands unit = (spelled_unit operands unit).piece
+    let mark : Mark = mark_on unit.side operands in
+    subst (λ (path : List ℕ). IsUnit unit.letter unit.side mark (codes "." ++ unit_letter unit.letter ++ side_digit unit.side ++ path))
+    (sym (path_is unit.side operands)) (unit_is unit.letter unit.side mark)
 
 -- ---- the condition
 
@@ -194,23 +163,25 @@ condition_piece (Some c) =
     both (both (both opening (bang_piece c.negated) (λ rest end. tt)) (register_piece c.reg) (λ rest end. tt))
     (both closing blank_piece (λ rest end. tt)) (λ rest end. refl)
 
+-- a piece in front is told by its kinds
+front_told : {E : List ℕ → Type 0} {a : List ℕ} {ws : List Word} {ks : List Kind} {m : ℕ} (words : List Word) → IsPiece E a ws ks m
+    → condition_front (ws ++ words) ≡ option_map (before_rest (ws ++ words)) (condition_of (ks ++ kinds_of words))
+unfolding condition_front
+front_told {ws = ws} words piece =
+    ap (λ (kinds : List Kind). option_map (before_rest (ws ++ words)) (condition_of kinds))
+    (map-append kind_of ws words ∙ ap (λ (kinds : List Kind). kinds ++ kinds_of words) piece.told)
+
 front_by : (reg : Reg) (negated : Bool) (words : List Word)
     → condition_front (condition_words (Some (record { reg = reg; negated = negated })) ++ words)
     ≡ Some (Some (record { reg = reg; negated = negated }), words)
-unfolding condition_front condition_of
-front_by reg true words =
-    let condition : Option Condition = Some (record { reg = reg; negated = true }) in
-    ap (λ (kinds : List Kind). option_map (before_rest (condition_words condition ++ words)) (condition_of (kinds ++ kinds_of words)))
-    (condition_piece condition).told
-front_by reg false words =
-    let condition : Option Condition = Some (record { reg = reg; negated = false }) in
-    ap (λ (kinds : List Kind). option_map (before_rest (condition_words condition ++ words)) (condition_of (kinds ++ kinds_of words)))
-    (condition_piece condition).told
+unfolding condition_of
+front_by reg true words = front_told words (condition_piece (Some (record { reg = reg; negated = true })))
+front_by reg false words = front_told words (condition_piece (Some (record { reg = reg; negated = false })))
 
 front_back : (cond : Option Condition) (op : Op) (words : List Word)
     → condition_front (condition_words cond ++ (mnemonic_of op ∷ words)) ≡ Some (cond, mnemonic_of op ∷ words)
-unfolding condition_front condition_of
-front_back None op words = rw (mnemonic_kind op) refl
+unfolding condition_of
+front_back None op words = front_told words (mnemonic_is op).piece
 front_back (Some c) op words = front_by c.reg c.negated (mnemonic_of op ∷ words)
 
 -- ---- what the words say
@@ -220,24 +191,21 @@ instruction_says : (op : Op) (operands : Operands) (cond : Option Condition) (un
     → instruction_of (condition_words cond ++ (mnemonic_of op ∷ unit_spelling operands unit ∷ words)) ≡ Ok says
 unfolding instruction_of
 instruction_says op operands cond unit words says fits read =
-    rw (front_back cond op (unit_spelling operands unit ∷ words), mnemonic_back op, unit_back operands unit words, fits) read
-
-mnemonic_plain : (op : Op) → BeginsPlainly (mnemonic_of op)
-mnemonic_plain op = word_plain (mnemonic_of op) (mnemonic_some op) (mnemonic_word op)
+    rw (front_back cond op (unit_spelling operands unit ∷ words), mnemonic_back op, (spelled_unit operands unit).read words, fits) read
 
 -- neither a dot nor bars nor a star stands first
 no_directive : (cond : Option Condition) (op : Op) (words : List Word)
     → rest_says (condition_words cond ++ (mnemonic_of op ∷ words)) ≡ instruction_of (condition_words cond ++ (mnemonic_of op ∷ words))
 unfolding rest_says
-no_directive None op words = rw (mnemonic_plain op).dot refl
+no_directive None op words = rw (mnemonic_is op).plain.dot refl
 no_directive (Some c) op words = refl
 
 no_bars : (cond : Option Condition) (op : Op) (words : List Word) → is_bars (condition_words cond ++ (mnemonic_of op ∷ words)) ≡ false
-no_bars None op words = (mnemonic_plain op).bars words
+no_bars None op words = (mnemonic_is op).plain.bars words
 no_bars (Some c) op words = refl
 
 no_star : (cond : Option Condition) (op : Op) (rest : List ℕ) → begins is_star (condition_spelling cond ++ (mnemonic_of op ++ rest)) ≡ false
-no_star None op rest = (mnemonic_plain op).star rest
+no_star None op rest = (mnemonic_is op).plain.star rest
 no_star (Some c) op rest = refl
 
 -- ---- the line
@@ -253,8 +221,8 @@ spelled_back name insn unit blanks taking names blank few =
     let cond : Option Condition = cond_of insn in
     let here = behind name op operands cond unit taking names (faultless_on insn unit taking) in
     let words : List Word = unit_spelling operands unit ∷ here.words in
-    let unit_on = both (unit_piece operands unit) (both blank_piece here.piece (λ rest end. tt)) (λ rest end. refl) in
-    let line = both (condition_piece cond) (both (mnemonic_piece op) (both blank_piece unit_on (λ rest end. tt)) (λ rest end. refl))
+    let unit_on = both (spelled_unit operands unit).piece (both blank_piece here.piece (λ rest end. tt)) (λ rest end. refl) in
+    let line = both (condition_piece cond) (both (mnemonic_is op).piece (both blank_piece unit_on (λ rest end. tt)) (λ rest end. refl))
     (λ rest end. tt) in
     ap (λ (text : List ℕ). line_of (blanks ++ text))
     (regrouped (condition_spelling cond) (mnemonic_of op) (unit_spelling operands unit) (operands_spelling name op unit.letter operands))

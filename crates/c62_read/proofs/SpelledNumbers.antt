@@ -1,12 +1,13 @@
 -- Numbers and registers read back.
-use Rattle.std.proofs.Common.{◌≡◌, ℕ, suc, ◌+◌, ◌-◌, ◌^◌, ◌/◌, ◌%◌, ◌<◌, ◌≤◌, Bool, true, false, cond, eqb, ltb, leb, ◌&&◌, ◌||◌, List, [], ◌∷◌, ◌++◌}
-use Rattle.std.proofs.Common.{length, Option, Some, None, refl, sym, ap, subst, ◌∙◌, arith, inl, inr}
-use Rattle.std.specs.Prelude.{ℤ, pos, negsuc, ◌≤ℤ◌, int_le, codes, T}
+use Rattle.std.proofs.Common.{◌≡◌, ℕ, suc, ◌+◌, ◌-◌, ◌^◌, ◌/◌, ◌%◌, ◌<◌, ◌≤◌, Bool, true, false, eqb, ltb, leb, ◌&&◌, ◌||◌, List, [], ◌∷◌, ◌++◌}
+use Rattle.std.proofs.Common.{rules, length, Option, Some, None, refl, sym, ap, subst, ◌∙◌, arith, inl, inr}
+use Rattle.std.specs.Prelude.{ℤ, pos, negsuc, ◌≤ℤ◌, int_le, codes}
 use Rattle.std.specs.Char.{digit_value, is_ascii_digit}
 use Rattle.std.specs.Fmt.{decimal, signed_decimal}
 use Rattle.std.specs.List.{list_all, starts_with}
 use Rattle.std.specs.Str.Parse.{AllDigits, digits_value}
-use Rattle.std.proofs.lemmas.Bool.{and_from, and_parts, cases_Bool, cases_lt, eq-eqb, eqb-true, lt-ltb, le-leb, leb-true, or_left, or_right}
+use Rattle.std.proofs.lemmas.Bool.{and_from, and_parts, cases_Bool, cases_lt, cond_both, eq-eqb, eqb-true, lt-ltb, le-leb, leb-true}
+use Rattle.std.proofs.lemmas.Bool.{or_left, or_right}
 use Rattle.std.proofs.lemmas.Bool.Decides.{nat_tests}
 use Rattle.std.proofs.lemmas.Fmt.{decimal_digit, decimal_is_IsNumeral, decimal_step, first_decimal, length-decimal-le}
 use Rattle.c62_insn.specs.declared.register.Side.{Side}
@@ -25,7 +26,7 @@ use Rattle.c62_read.proofs.SpelledTokens.{IsPiece, IsToken, word_end, word_piece
 -- ---- digits
 
 -- a byte that passes a test is none that doesn't
-differs : (test : ℕ → Bool) (b c : ℕ) → test b ≡ true → test c ≡ false → eqb b c ≡ false
+pub differs : (test : ℕ → Bool) (b c : ℕ) → test b ≡ true → test c ≡ false → eqb b c ≡ false
 differs test b c passes fails =
     elim (cases_Bool (eqb b c)) [
       | inl same ↦ let e : b ≡ c = eqb-true b c same in cc
@@ -34,12 +35,6 @@ differs test b c passes fails =
 
 digit_byte : (d : ℕ) → digit_value d < 10 → is_ascii_digit d ≡ true
 digit_byte d small = grind (arith, nat_tests)
-
-digit_valued : (d : ℕ) → is_ascii_digit d ≡ true → ltb (digit_value d) 10 ≡ true
-digit_valued d digit = grind (arith, nat_tests)
-
-digit_word : (d : ℕ) → is_ascii_digit d ≡ true → is_word_byte d ≡ true
-digit_word d digit = grind (arith, nat_tests)
 
 all_ascii : (ds : List ℕ) → AllDigits 10 ds → list_all is_ascii_digit ds ≡ true
 all_ascii [] all = refl
@@ -76,7 +71,7 @@ written_of n (d ∷ ds) e small =
       is = e;
       digit = digit_byte d all.0;
       digits = digits;
-      words = all_weaker is_ascii_digit is_word_byte (d ∷ ds) digit_word digits;
+      words = all_weaker is_ascii_digit is_word_byte (d ∷ ds) (λ b here. grind (arith, nat_tests)) digits;
       value = rw e at numeral.1;
       short = omega arith;
       leads = leading n d ds e small;
@@ -95,7 +90,8 @@ no_hexadecimal d (c ∷ ds) digits = grind (arith, nat_tests)
 magnitude_back : (n d : ℕ) (ds : List ℕ) → IsWritten n d ds → magnitude_of (d ∷ ds) ≡ Some n
 unfolding magnitude_of decimal_of
 magnitude_back n d ds w =
-    let valued : are_digits 10 (d ∷ ds) ≡ true = all_weaker is_ascii_digit (λ (b : ℕ). ltb (digit_value b) 10) (d ∷ ds) digit_valued w.digits in
+    let valued : are_digits 10 (d ∷ ds) ≡ true = all_weaker is_ascii_digit (λ (b : ℕ). ltb (digit_value b) 10) (d ∷ ds)
+    (λ b here. grind (arith, nat_tests)) w.digits in
     rw (no_hexadecimal d ds w.digits, le-leb (length ds) 9 w.short, w.leads, valued) (ap (λ (m : ℕ). Some m) w.value)
 
 -- a number that a line may hold
@@ -113,16 +109,12 @@ signed_back n d ds w inside = rw (magnitude_back (suc n) d ds w, inside) refl
 
 -- ---- what is neither a register nor a mark
 
-either_same : (b : Bool) (found : Option Reg) → cond b found found ≡ found
-either_same true found = refl
-either_same false found = refl
-
 -- a word whose first byte names no file is no register
 no_file : (b : ℕ) (w : List ℕ) → file_of b ≡ None → register_of (b ∷ w) ≡ None
 unfolding register_of
 no_file b [] none = refl
-no_file b (d ∷ []) none = rw none (either_same (is_ascii_digit d) None)
-no_file b (ten ∷ d ∷ []) none = rw none (either_same (eqb ten 49 && is_ascii_digit d) None)
+no_file b (d ∷ []) none = rw none (cond_both (is_ascii_digit d) None None (λ (r : Option Reg). r ≡ None) (λ e. refl) (λ e. refl))
+no_file b (ten ∷ d ∷ []) none = rw none (cond_both (eqb ten 49 && is_ascii_digit d) None None (λ (r : Option Reg). r ≡ None) (λ e. refl) (λ e. refl))
 no_file b (ten ∷ d ∷ e ∷ w) none = refl
 
 -- a digit or a minus
@@ -190,14 +182,8 @@ spelled (negsuc n) inside =
 pub number_piece : (k : ℤ) → fits k ≡ true → IsPiece word_end (signed_decimal k) (signed_decimal k ∷ []) (Number k ∷ []) 11
 number_piece k inside = (spelled k inside).piece
 
-truth : (b : Bool) → T b → b ≡ true
-truth true h = refl
-truth false h = absurd h
-
 pub number_back : (k : ℤ) → negative 2147483648 ≤ℤ k → k ≤ℤ pos 4294967295 → number_of (signed_decimal k) ≡ Some k
-number_back k low high =
-    (spelled k (and_from (int_le (negative 2147483648) k) (int_le k (pos 4294967295)) (truth (int_le (negative 2147483648) k) low.le)
-    (truth (int_le k (pos 4294967295)) high.le))).read
+number_back k low high = (spelled k (search rules)).read
 
 -- ---- registers
 

@@ -3,7 +3,7 @@ use Rattle.std.proofs.Common.{◌≡◌, ℕ, ◌%◌, ◌≤◌, Bool, true, fa
 use Rattle.std.proofs.Common.{◌∙◌, refl, sym, ap, subst, append_assoc, arith, inl, inr}
 use Rattle.std.specs.Prelude.{ℤ, pos, negsuc, int_le, codes}
 use Rattle.std.specs.Char.{is_ascii_digit}
-use Rattle.std.specs.Fmt.{decimal, signed_decimal}
+use Rattle.std.specs.Fmt.{decimal}
 use Rattle.std.specs.List.{list_all}
 use Rattle.std.specs.Ordering.{int_eq}
 use Rattle.std.proofs.Math.Bool.{or-false}
@@ -45,7 +45,7 @@ use Rattle.c62_read.specs.Kind.{Word, kind_of, kinds_of, mark_of, single_mark}
 use Rattle.c62_read.specs.Operand.{address_front, operands_of, with_offset}
 use Rattle.c62_read.specs.Mnemonic.{constant_to_front, crossed_to_back, exchanged, in_order, low_half, stands_for, stands_on}
 use Rattle.c62_read.specs.Unit.{mark_fits, unit_fits}
-use Rattle.c62_read.specs.Line.{Says, Does, Jumps, behind_unit, is_branch, misses, parts_read, target_of, text_fault}
+use Rattle.c62_read.specs.Line.{Says, Does, behind_unit, is_branch, misses, parts_read, target_of, text_fault}
 use Rattle.c62_read.specs.Laws.{NamesTarget, says_with}
 use Rattle.c62_read.proofs.NumberLemmas.{label_few}
 use Rattle.c62_read.proofs.SpelledTokens.{IsPiece, any_end, both, closing, mark_piece, more, opening, weaker, word_end, word_piece, word_token}
@@ -187,14 +187,6 @@ own_stays : (turned : Option Op) (op : Op) (a b d : Reg) → same_side a.side d.
 own_stays None op a b d own = refl
 own_stays (Some turned) op a b d own = rw own refl
 
-three_order : (op : Op) (unit : FunctionalUnit) (a b d : Reg) → takes op (Three a b d) unit ≡ true
-    → crossed_to_back (exchanged op) op a b d ≡ (op, Three a b d)
-three_order op unit a b d taking =
-    elim (cases_Bool (lets_first_cross op)) [
-      | inl lets ↦ ap (λ (turned : Option Op). crossed_to_back turned op a b d) (first_fixed op lets)
-      | inr fixed ↦ own_stays (exchanged op) op a b d (first_in_file op unit a b d taking fixed)
-    ]
-
 add_turned : (op : Op) → is_add op ≡ true → exchanged op ≡ Some op
 add_turned Add is = refl
 add_turned _ is = cc
@@ -221,16 +213,15 @@ constant_order _ unit k d taking = refl
 -- operands on a unit that takes them read as they are
 ordered : (op : Op) (operands : Operands) (unit : FunctionalUnit) → takes op operands unit ≡ true → in_order op operands ≡ (op, operands)
 unfolding in_order
-ordered op (Three a b d) unit taking = three_order op unit a b d taking
+ordered op (Three a b d) unit taking =
+    elim (cases_Bool (lets_first_cross op)) [
+      | inl lets ↦ ap (λ (turned : Option Op). crossed_to_back turned op a b d) (first_fixed op lets)
+      | inr fixed ↦ own_stays (exchanged op) op a b d (first_in_file op unit a b d taking fixed)
+    ]
 ordered op (ConstantSecond a k d) unit taking =
     ap (λ (turned : Option Op). constant_to_front turned op a k d) (second_kept op a d k (taken_kind op (ConstantSecond a k d) unit taking))
 ordered op (Constant k d) unit taking = constant_order op unit k d taking
 ordered op operands unit taking = refl
-
--- a constant that stands second on .D goes to the front
-front_order : (op : Op) (k : ℤ) (a d : Reg) → is_add op ≡ true → in_order op (ConstantSecond a k d) ≡ (op, ConstantFirst k a d)
-unfolding in_order
-front_order op k a d is = ap (λ (turned : Option Op). constant_to_front turned op a k d) (add_turned op is)
 
 -- ---- the written unit
 
@@ -360,7 +351,7 @@ pub behind : (name : ℕ → List ℕ) (op : Op) (operands : Operands) (cond : O
     → form_fault op operands cond (Some unit) ≡ None
     → IsBehind op operands cond unit (operands_spelling name op unit.letter operands)
     (says_with name (record { op = op; operands = operands; cond = cond; unit = Some unit }) operands)
-unfolding operands_of behind_unit
+unfolding behind_unit in_order operands_of
 behind name op (Three a b d) cond unit taking names none =
     sourced op (Three a b d) (Three a b d) cond unit taking none refl
     (more (register_piece a) (more (register_piece b) (register_piece d))) (omega arith) refl (ordered op (Three a b d) unit taking)
@@ -369,7 +360,8 @@ behind name op (ConstantFirst k a d) cond unit taking names none =
     let says = Does (parts_read op (ConstantFirst k a d) cond (Some (written_on (ConstantFirst k a d) unit))) in
     cond_both (same_letter unit.letter D) _ _ (λ (text : List ℕ). IsBehind op (ConstantFirst k a d) cond unit text says)
     (λ e. sourced op (ConstantFirst k a d) (ConstantSecond a k d) cond unit taking none refl
-    (more (register_piece a) (more number (register_piece d))) (omega arith) refl (front_order op k a d (constant_on_d op unit k a d taking e)))
+    (more (register_piece a) (more number (register_piece d))) (omega arith) refl
+    (ap (λ (turned : Option Op). constant_to_front turned op a k d) (add_turned op (constant_on_d op unit k a d taking e))))
     (λ e. sourced op (ConstantFirst k a d) (ConstantFirst k a d) cond unit taking none refl
     (more number (more (register_piece a) (register_piece d))) (omega arith) refl (ordered op (ConstantFirst k a d) unit taking))
 behind name op (ConstantSecond a k d) cond unit taking names none =

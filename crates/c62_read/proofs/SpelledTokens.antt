@@ -22,14 +22,12 @@ pub record IsToken (w : List ℕ) : Type 0 where
   pub splits : (rest : List ℕ) → begins is_word_byte rest ≡ false → tokens (w ++ rest) ≡ w ∷ tokens rest
   pub plain : list_all is_text w ≡ true
 
-word_text : (b : ℕ) → is_word_byte b ≡ true → is_text b ≡ true
-word_text b word = grind (arith, nat_tests)
-
 text_word : (w : List ℕ) → list_all is_word_byte w ≡ true → list_all is_text w ≡ true
 text_word [] words = refl
 text_word (b ∷ w) words =
     let parts = and_parts (is_word_byte b) (list_all is_word_byte w) words in
-    and_from (is_text b) (list_all is_text w) (word_text b parts.0) (text_word w parts.1)
+    let text : is_text b ≡ true = let here = parts.0 in grind (arith, nat_tests) in
+    and_from (is_text b) (list_all is_text w) text (text_word w parts.1)
 
 -- a mnemonic, a register, a label or a number without a sign
 pub word_token : (w : List ℕ) → 0 < length w → list_all is_word_byte w ≡ true → IsToken w
@@ -112,9 +110,6 @@ pub weaker : {E F : List ℕ → Type 0} {a : List ℕ} {ws : List Word} {ks : L
 weaker n piece ends few =
     record { splits = λ rest end. piece.splits rest (ends rest end); plain = piece.plain; told = piece.told; short = omega (arith, piece.short) }
 
-pub appended : (a b : List ℕ) → list_all is_text a ≡ true → list_all is_text b ≡ true → list_all is_text (a ++ b) ≡ true
-appended a b first second = list_all-append is_text a b ∙ and_from (list_all is_text a) (list_all is_text b) first second
-
 -- two pieces, where the second ends the first
 pub both : {E F : List ℕ → Type 0} {a b : List ℕ} {ws vs : List Word} {ks ls : List Kind} {m n : ℕ} → IsPiece E a ws ks m
     → IsPiece F b vs ls n → ((rest : List ℕ) → F rest → E (b ++ rest))
@@ -123,7 +118,7 @@ both {a = a} {b = b} {ws = ws} {vs = vs} {ks = ks} first second ends =
     record {
       splits = λ rest end. ap tokens (append_assoc a b rest) ∙ first.splits (b ++ rest) (ends rest end)
           ∙ ap (λ (words : List Word). ws ++ words) (second.splits rest end) ∙ sym (append_assoc ws vs (tokens rest));
-      plain = appended a b first.plain second.plain;
+      plain = list_all-append is_text a b ∙ and_from (list_all is_text a) (list_all is_text b) first.plain second.plain;
       told = map-append kind_of ws vs ∙ ap (λ (kinds : List Kind). kinds ++ kinds_of vs) first.told
           ∙ ap (λ (kinds : List Kind). ks ++ kinds) second.told;
       short = omega (arith, length-append a b, first.short, second.short);
