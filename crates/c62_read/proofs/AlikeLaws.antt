@@ -1,10 +1,8 @@
 -- Texts whose lines say the same are one program.
-use Rattle.std.proofs.Common.{◌≡◌, ◌≤◌, ℕ, ◌+◌, List, [], ◌∷◌, ◌++◌, length, refl}
-use Rattle.std.proofs.lemmas.Bool.{le-ltb}
-use Rattle.c62_read.specs.Text.{lines_of}
+use Rattle.c62_read.proofs.Common.{◌≡◌, ◌≤◌, ℕ, ◌+◌, List, [], ◌∷◌, ◌++◌, length, refl, le-ltb, lines_of, fault_in, items_from, labels_of}
 use Rattle.c62_read.specs.Line.{head_of, line_of}
-use Rattle.c62_read.specs.Program.{Name, drafts_in, fault_in, fault_of, first_fault}
-use Rattle.c62_read.specs.Program.{items_from, labels_of, label_field, program_in}
+use Rattle.c62_read.specs.Program.{Name, drafts_in, fault_of, first_fault}
+use Rattle.c62_read.specs.Program.{label_field, program_in}
 
 pub record IsAlike (line other : List ℕ) : Type 0 where
   pub head : fault_in (head_of line) ≡ fault_in (head_of other)

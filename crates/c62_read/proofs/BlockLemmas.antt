@@ -1,15 +1,10 @@
 -- Blocks as they are read and made: at most 256 instructions, and a branch only as the last.
-use Rattle.std.proofs.Common.{◌≡◌, ℕ, Bool, ◌||◌, List, [], ◌∷◌, Option, Some, None, refl, ap, ◌<◌, suc, true, ◌&&◌, ◌++◌, length, sym, ◌∙◌}
-use Rattle.std.proofs.Common.{append_assoc, arith, leb, get_or}
-use Rattle.std.specs.Prelude.{map}
-use Rattle.std.proofs.lemmas.List.{length-map, map-append}
-use Rattle.std.specs.List.{list_any, position_or_len}
-use Rattle.c62_read.specs.declared.program.BlockReader.{BlockReader}
-use Rattle.c62_read.specs.Program.{Draft, Name, label_is, target_number, BlockParts, Numbered, aimed, block_in, block_parts, numbered_of}
-use Rattle.c62_read.specs.Walk.{draft_of, number_among}
-use Rattle.std.proofs.lemmas.Simd.{map-map}
-use Rattle.c62_read.specs.declared.block.SerialInsn.{SerialInsn}
-use Rattle.c62_read.specs.Block.{Serial, branch_last, is_block, operations}
+use Rattle.c62_read.proofs.Common.{◌≡◌, ℕ, Bool, ◌||◌, List, [], ◌∷◌, Option, Some, None, refl, ap, ◌<◌, suc, true, ◌&&◌, ◌++◌, length, sym, ◌∙◌}
+use Rattle.c62_read.proofs.Common.{append_assoc, arith, leb, get_or, map, length-map, map-append, list_any, position_or_len, BlockReader, Draft}
+use Rattle.c62_read.proofs.Common.{label_is, target_number, BlockParts, Numbered, aimed, block_in, block_parts, numbered_of, draft_of, number_among}
+use Rattle.c62_read.proofs.Common.{map-map, SerialInsn, Serial, branch_last, is_block}
+use Rattle.c62_read.specs.Program.{Name}
+use Rattle.c62_read.specs.Block.{operations}
 
 -- the labels are those of the reader's blocks
 pub any_draft : (label : List ℕ) (blocks : List BlockReader)

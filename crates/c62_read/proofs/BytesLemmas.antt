@@ -1,11 +1,6 @@
 -- The tokens of a line are its bytes.
-use Rattle.std.proofs.Common.{◌≡◌, ℕ, true, false, cond, not, eqb, List, [], ◌∷◌, refl, arith, inl, inr}
-use Rattle.std.specs.Prelude.{filter, take_while}
-use Rattle.std.specs.List.{flat_map}
-use Rattle.std.proofs.lemmas.Bool.{cases_Bool}
-use Rattle.std.proofs.lemmas.Bool.Decides.{nat_tests}
-use Rattle.std.proofs.lemmas.List.Sums.{take_while-cons}
-use Rattle.c62_read.specs.Text.{grow, is_blank, is_double, joins, tokens}
+use Rattle.c62_read.proofs.Common.{◌≡◌, ℕ, true, false, cond, not, eqb, List, [], ◌∷◌, refl, arith, inl, inr, filter, take_while, flat_map}
+use Rattle.c62_read.proofs.Common.{cases_Bool, nat_tests, take_while-cons, grow, is_blank, is_double, joins, tokens}
 use Rattle.c62_read.proofs.TokenLemmas.{on_test}
 
 abbrev joined_bytes : List (List ℕ) → List ℕ

@@ -1,18 +1,12 @@
 -- What a line says in small letters, but for an `X` behind a 0: such a line stands for all that are the same but for case.
-use Rattle.std.proofs.Common.{◌≡◌, ℕ, ◌+◌, ◌-◌, ◌*◌, Bool, true, false, not, cond, eqb, ltb, ◌&&◌, List, [], ◌∷◌, length}
-use Rattle.std.proofs.Common.{Option, None, refl, ap, ◌∙◌, arith}
-use Rattle.std.specs.Prelude.{map, option_and_then}
-use Rattle.std.specs.Char.{digit_value, to_ascii_lowercase, is_ascii_digit}
-use Rattle.std.specs.List.{list_all}
-use Rattle.std.specs.Str.{bytes_eq}
+use Rattle.c62_read.proofs.Common.{◌≡◌, ℕ, ◌+◌, ◌-◌, ◌*◌, Bool, true, false, not, cond, eqb, ltb, ◌&&◌, List, [], ◌∷◌, length, Option, None, refl}
+use Rattle.c62_read.proofs.Common.{ap, ◌∙◌, arith, map, option_and_then, digit_value, to_ascii_lowercase, is_ascii_digit, list_all, bytes_eq}
+use Rattle.c62_read.proofs.Common.{cond_both, ltb-true, nat_tests, Side, begins, is_sign, is_word_byte, is_double, joins, are_digits, spells}
+use Rattle.c62_read.proofs.Common.{IsRecased}
 use Rattle.std.specs.Str.Parse.{digits_value_after}
-use Rattle.std.proofs.lemmas.Bool.{agree_below, agree_below_at, cond_both, ltb-true}
-use Rattle.std.proofs.lemmas.Bool.Decides.{nat_tests}
-use Rattle.c62_insn.specs.declared.register.Side.{Side}
-use Rattle.c62_read.specs.Text.{begins, is_sign, is_word_byte, is_double, joins}
-use Rattle.c62_read.specs.Number.{are_digits, decimal_of, file_of, hexadecimal_of, in_file, in_range, is_label, magnitude_of, number_of, register_of}
-use Rattle.c62_read.specs.Number.{signed_of, spells}
-use Rattle.c62_read.specs.Laws.{IsRecased}
+use Rattle.std.proofs.lemmas.Bool.{agree_below, agree_below_at}
+use Rattle.c62_read.specs.Number.{decimal_of, file_of, hexadecimal_of, in_file, in_range, is_label, magnitude_of, number_of, register_of}
+use Rattle.c62_read.specs.Number.{signed_of}
 
 -- ---- bytes
 

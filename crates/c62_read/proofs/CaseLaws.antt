@@ -1,38 +1,26 @@
 -- A line in small letters says the same, but for the case of labels: so do two lines that are the same but for case.
-use Rattle.std.proofs.Common.{◌≡◌, ℕ, Bool, false, not, cond, eqb, ◌&&◌, List, [], ◌∷◌, Option, Some, None, Result, Ok}
-use Rattle.std.proofs.Common.{Err, refl, sym, ap, ◌∙◌, arith, inl, inr}
-use Rattle.std.specs.Prelude.{map, option_and_then, option_map, codes}
-use Rattle.std.specs.Char.{is_ascii_digit}
-use Rattle.std.proofs.lemmas.Bool.{cases_Bool}
-use Rattle.std.proofs.lemmas.Bool.Decides.{nat_tests}
+use Rattle.c62_read.proofs.Common.{◌≡◌, ℕ, Bool, false, not, cond, eqb, ◌&&◌, List, [], ◌∷◌, Option, Some, None, Result, Ok, Err, refl, sym, ap}
+use Rattle.c62_read.proofs.Common.{◌∙◌, arith, inl, inr, map, option_and_then, option_map, codes, is_ascii_digit, cases_Bool, nat_tests, Side}
+use Rattle.c62_read.proofs.Common.{Letter, Op, Block, FormFault, Cause, BadOperand, BadUnit, UnknownMnemonic, Mnemonic, Operation, Nop, Path}
+use Rattle.c62_read.proofs.Common.{WrittenUnit, grow, begins, is_allowed, is_blank, is_solid, is_word_byte, is_double, joins, lines_of, tokens}
+use Rattle.c62_read.proofs.Common.{spells, Kind, Word, kind_by, kinds_of, is_dot, fault_in, Says, Nothing, Pause, Does, Jumps, and_read}
+use Rattle.c62_read.proofs.Common.{before_rest, Parts, formed, has_colon, is_bars, is_star, jumps_or_does, mnemonic_front, or_fault, parts_read}
+use Rattle.c62_read.proofs.Common.{target_of, unit_behind, with_head, without_colon, IsRecased}
 use Rattle.std.proofs.lemmas.List.{drop-map}
-use Rattle.c62_insn.specs.declared.register.Side.{Side}
 use Rattle.c62_insn.specs.declared.register.Cond.{Cond as Condition}
-use Rattle.c62_insn.specs.declared.register.Letter.{Letter}
-use Rattle.c62_insn.specs.declared.operands.Op.{Op}
 use Rattle.c62_insn.specs.declared.operands.Op.TheVariants.{B as Branch}
-use Rattle.c62_insn.specs.declared.operands.Operands.TheVariants.{Block}
-use Rattle.c62_insn.specs.declared.fault.FormFault.{FormFault}
-use Rattle.c62_read.specs.declared.fault.Cause.{Cause}
-use Rattle.c62_read.specs.declared.fault.Cause.TheVariants.{BadOperand, BadUnit, UnknownMnemonic}
-use Rattle.c62_read.specs.declared.mnemonic.Mnemonic.{Mnemonic}
-use Rattle.c62_read.specs.declared.mnemonic.Mnemonic.TheVariants.{Operation, Nop}
-use Rattle.c62_read.specs.declared.unit.Mark.TheVariants.{Path}
-use Rattle.c62_read.specs.declared.unit.WrittenUnit.{WrittenUnit}
-use Rattle.c62_read.specs.Text.{grow, begins, is_allowed, is_blank, is_solid, is_word_byte, is_double, joins, lines_of, tokens}
-use Rattle.c62_read.specs.Number.{is_label, spells}
-use Rattle.c62_read.specs.declared.kind.Kind.{Kind}
-use Rattle.c62_read.specs.Kind.{Word, kind_by, kind_of, kinds_of, mark_of as written_mark, single_mark}
+use Rattle.c62_read.specs.Number.{is_label}
+use Rattle.c62_read.specs.Kind.{kind_of, mark_of as written_mark, single_mark}
 use Rattle.c62_read.specs.Mnemonic.{mnemonic_named, operation_named, pseudo_named}
-use Rattle.c62_read.specs.Unit.{is_dot, is_t, is_x, letter_of, mark_of, side_numbered, unit_front, unit_of, unit_split, with_left}
-use Rattle.c62_read.specs.Program.{fault_in, label_field}
+use Rattle.c62_read.specs.Unit.{is_t, is_x, letter_of, mark_of, side_numbered, unit_front, unit_of, unit_split, with_left}
+use Rattle.c62_read.specs.Program.{label_field}
 use Rattle.c62_read.proofs.AlikeLaws.{And, AreAlike, End, IsAlike, alike_programs}
 use Rattle.c62_read.proofs.LabelFields.{field_is}
-use Rattle.c62_read.specs.Line.{Says, Nothing, Pause, Does, Jumps, and_read, before_rest, behind_unit, condition_front, condition_of, Parts}
-use Rattle.c62_read.specs.Line.{formed, has_colon, head_of, if_fitting, instruction_of, is_bars, is_star}
-use Rattle.c62_read.specs.Line.{jumps_or_does, label_alone, label_front, line_of, mnemonic_front, or_fault, parts_read}
-use Rattle.c62_read.specs.Line.{rest_says, target_of, text_fault, unit_behind, with_head, with_rest, without_colon}
-use Rattle.c62_read.specs.Laws.{AreRecased, CaseChangesNothing, CaseSaysNothing, IsRecased, in_small, small_labels, small_says, target_in}
+use Rattle.c62_read.specs.Line.{behind_unit, condition_front, condition_of}
+use Rattle.c62_read.specs.Line.{head_of, if_fitting, instruction_of}
+use Rattle.c62_read.specs.Line.{label_alone, label_front, line_of}
+use Rattle.c62_read.specs.Line.{rest_says, text_fault, with_rest}
+use Rattle.c62_read.specs.Laws.{AreRecased, CaseChangesNothing, CaseSaysNothing, in_small, small_labels, small_says, target_in}
 use Rattle.c62_read.proofs.TokenLemmas.{joined_word, on_test}
 use Rattle.c62_read.proofs.CaseBytes.{all_low, begins_low, digit_low, double_low, joins_low, label_low, length_low, low, low_by, low_byte, lowered}
 use Rattle.c62_read.proofs.CaseBytes.{number_low, plain_byte, register_low, same_low, small_low, spells_low, test_low}

@@ -1,15 +1,7 @@
 -- The first byte of the first token, and lines without a colon.
-use Rattle.std.proofs.Common.{◌≡◌, ℕ, Bool, true, false, cond, not, eqb, ◌||◌, List, [], ◌∷◌, ◌++◌, refl, sym, ap, ◌∙◌, arith, inl, inr}
-use Rattle.std.specs.Prelude.{codes, filter, take_while}
-use Rattle.std.specs.Char.{to_ascii_lowercase}
-use Rattle.std.specs.List.{flat_map, list_any}
-use Rattle.std.proofs.lemmas.Bool.{cases_Bool, and_right, or_parts}
-use Rattle.std.proofs.lemmas.Bool.Decides.{nat_tests}
-use Rattle.std.proofs.lemmas.List.Folds.{list_any-append}
-use Rattle.std.proofs.lemmas.List.Sums.{take_while-cons}
-use Rattle.c62_read.specs.Text.{grow, is_blank, is_solid, is_double, joins, tokens}
-use Rattle.c62_read.specs.Number.{spells}
-use Rattle.c62_read.specs.Line.{has_colon}
+use Rattle.c62_read.proofs.Common.{◌≡◌, ℕ, Bool, true, false, cond, not, eqb, ◌||◌, List, [], ◌∷◌, ◌++◌, refl, sym, ap, ◌∙◌, arith, inl, inr, codes}
+use Rattle.c62_read.proofs.Common.{filter, take_while, to_ascii_lowercase, flat_map, list_any, cases_Bool, and_right, or_parts, nat_tests}
+use Rattle.c62_read.proofs.Common.{list_any-append, take_while-cons, grow, is_blank, is_solid, is_double, joins, tokens, spells, has_colon}
 use Rattle.c62_read.proofs.BytesLemmas.{tokens_are_bytes}
 use Rattle.c62_read.proofs.TokenLemmas.{tokens_joined, tokens_alone, tokens_double, tokens_last}
 

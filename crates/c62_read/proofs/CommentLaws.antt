@@ -1,17 +1,11 @@
 -- Comments change neither a line nor a program.
-use Rattle.std.proofs.Common.{◌≡◌, ℕ, Bool, true, false, cond, List, [], ◌∷◌, ◌++◌, length, Option, None, Result, Ok, Err, refl, sym, ap, subst}
-use Rattle.std.proofs.Common.{◌∙◌, arith, length-append}
+use Rattle.c62_read.proofs.Common.{◌≡◌, ℕ, Bool, true, false, cond, List, [], ◌∷◌, ◌++◌, length, Option, None, Result, Ok, Err, refl, sym, ap}
+use Rattle.c62_read.proofs.Common.{subst, ◌∙◌, arith, length-append, list_all, and_parts, le-ltb, nat_tests, list_all-append, Cause, ParallelBar}
+use Rattle.c62_read.proofs.Common.{begins, is_allowed, is_double, joins, lines_of, tokens, Word, Nothing, is_bars, is_star, with_head}
+use Rattle.c62_read.proofs.Common.{without_colon, fault_in}
 use Rattle.std.specs.Prelude.{IsTrue}
-use Rattle.std.specs.List.{list_all}
-use Rattle.std.proofs.lemmas.Bool.{and_parts, le-ltb}
-use Rattle.std.proofs.lemmas.Bool.Decides.{nat_tests}
-use Rattle.std.proofs.lemmas.List.Folds.{list_all-append}
-use Rattle.c62_read.specs.declared.fault.Cause.{Cause}
-use Rattle.c62_read.specs.declared.fault.Cause.TheVariants.{ParallelBar}
-use Rattle.c62_read.specs.Text.{begins, is_allowed, is_double, joins, lines_of, tokens}
-use Rattle.c62_read.specs.Kind.{Word}
-use Rattle.c62_read.specs.Line.{Nothing, head_of, is_bars, is_star, label_front, line_of, rest_says, with_head, without_colon}
-use Rattle.c62_read.specs.Program.{fault_in, label_field}
+use Rattle.c62_read.specs.Line.{head_of, label_front, line_of, rest_says}
+use Rattle.c62_read.specs.Program.{label_field}
 use Rattle.c62_read.specs.Laws.{AreUncommented, Behind, CommentSaysNothing, CommentsSayNothing, IsReadable, IsUncommented, Same, StarSaysNothing}
 use Rattle.c62_read.specs.Laws.{Whole}
 use Rattle.c62_read.proofs.TokenLemmas.{tokens_comment}

@@ -1,19 +1,12 @@
 -- The blocks that are cut from labels and instructions.
-use Rattle.std.proofs.Common.{◌≡◌, ℕ, Bool, true, false, cond, ◌&&◌, ◌||◌, List, [], ◌∷◌, ◌++◌, Option, Some, None, refl, ap, arith}
-use Rattle.std.specs.Prelude.{is_some, map}
-use Rattle.std.specs.List.{flat_map, list_all, list_any}
-use Rattle.std.proofs.lemmas.Bool.{or_left, or_right}
-use Rattle.std.proofs.lemmas.Bool.Decides.{nat_tests}
-use Rattle.c62_insn.specs.declared.operands.Op.{Op}
+use Rattle.c62_read.proofs.Common.{◌≡◌, ℕ, Bool, true, false, cond, ◌&&◌, ◌||◌, List, [], ◌∷◌, ◌++◌, Option, Some, None, refl, ap, arith, is_some}
+use Rattle.c62_read.proofs.Common.{map, flat_map, list_all, list_any, or_left, or_right, nat_tests, Op, Operands, Block, branch_last, is_branch}
+use Rattle.c62_read.proofs.Common.{Begins, Draft, Item, Numbered, Runs, aimed, cut, glue, is_among, is_overfull, joined, label_items, piece_of}
+use Rattle.c62_read.proofs.Common.{is_whole, ends_in_branch, settled}
 use Rattle.c62_insn.specs.declared.operands.Op.TheVariants.{B as Branch}
-use Rattle.c62_insn.specs.declared.operands.Operands.{Operands}
-use Rattle.c62_insn.specs.declared.operands.Operands.TheVariants.{Block}
-use Rattle.c62_read.specs.Block.{branch_last}
-use Rattle.c62_read.specs.Line.{is_branch}
-use Rattle.c62_read.specs.Program.{Begins, Draft, Item, Name, Numbered, Runs, aimed, aimed_operands, cut, ends_block, glue, is_among, is_overfull}
-use Rattle.c62_read.specs.Program.{joined, label_items, piece_of}
-use Rattle.c62_read.specs.Walk.{draft_operations, is_whole}
-use Rattle.c62_read.specs.Laws.{ends_in_branch, may_begin, settled}
+use Rattle.c62_read.specs.Program.{Name, aimed_operands, ends_block}
+use Rattle.c62_read.specs.Walk.{draft_operations}
+use Rattle.c62_read.specs.Laws.{may_begin}
 use Rattle.c62_read.proofs.SaysLemmas.{has_no_block}
 
 -- ---- an instruction and the number of its target

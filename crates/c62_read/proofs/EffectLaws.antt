@@ -1,15 +1,13 @@
 -- What the reader puts for what was written does the same.
-use Rattle.std.proofs.Common.{◌≡◌, ℕ, ◌+◌, ◌-◌, ◌*◌, ◌<◌, ◌%◌, ◌^◌, Bool, cond, eqb, Option, Some, None, refl, ap, subst, ◌∙◌, arith}
-use Rattle.std.specs.Prelude.{ℤ, ◌*ℤ◌}
+use Rattle.c62_read.proofs.Common.{◌≡◌, ℕ, ◌+◌, ◌-◌, ◌*◌, ◌<◌, ◌%◌, ◌^◌, Bool, cond, eqb, Option, Some, None, refl, ap, subst, ◌∙◌, arith, ℤ}
+use Rattle.c62_read.proofs.Common.{nat_tests, Op, exchanged}
+use Rattle.std.specs.Prelude.{◌*ℤ◌}
 use Rattle.std.proofs.Math.IntN.{*ℤ_comm}
 use Rattle.std.proofs.Math.Nat.{add_comm, mod-eq_of_lt, mul_comm}
-use Rattle.std.proofs.lemmas.Bool.Decides.{nat_tests}
 use Rattle.std.proofs.lemmas.Nat.{and_comm, or_comm, xor_comm}
-use Rattle.c62_insn.specs.declared.operands.Op.{Op}
 use Rattle.c62_insn.specs.declared.operands.Op.TheVariants.{Cmpeq}
 use Rattle.c62_insn.specs.Effect.{result_of}
 use Rattle.c62_insn.specs.Word.{sum, word}
-use Rattle.c62_read.specs.Mnemonic.{exchanged}
 use Rattle.c62_read.specs.Laws.{KeepEffects, KeepsEffect}
 
 equal_turned : (a b : ℕ) → eqb a b ≡ eqb b a

@@ -1,14 +1,12 @@
 -- The first byte of a text that passes a test, and its first line feed.
-use Rattle.std.proofs.Common.{◌≡◌, ◌<◌, ◌≤◌, ℕ, ◌+◌, suc, Bool, true, false, List, ◌∷◌, ◌++◌, length, take, drop, get_or, Option, Some, None}
-use Rattle.std.proofs.Common.{refl, sym, ap, ◌∙◌, arith, add-one}
-use Rattle.std.specs.Prelude.{is_some, unwrap_or}
-use Rattle.std.specs.List.{list_any}
-use Rattle.std.proofs.Math.Seq.{drop-cons}
-use Rattle.std.proofs.lemmas.Bool.{eqb-true, false_from_ne_true}
-use Rattle.std.proofs.lemmas.List.{get_or-take, get_or_default, length-take-le, take_all, take-append-drop}
+use Rattle.c62_read.proofs.Common.{◌≡◌, ◌<◌, ◌≤◌, ℕ, ◌+◌, suc, Bool, true, false, List, ◌∷◌, ◌++◌, length, take, drop, get_or, Option, Some, None}
+use Rattle.c62_read.proofs.Common.{refl, sym, ap, ◌∙◌, arith, is_some, list_any, drop-cons, eqb-true, take-append-drop, is_line_feed}
+use Rattle.std.proofs.Common.{add-one}
+use Rattle.std.specs.Prelude.{unwrap_or}
+use Rattle.std.proofs.lemmas.Bool.{false_from_ne_true}
+use Rattle.std.proofs.lemmas.List.{get_or-take, get_or_default, length-take-le, take_all}
 use Rattle.std.proofs.lemmas.List.Folds.{list_any_at, list_any_none}
 use Rattle.memchr.specs.Find.{IsFirstByte, is_byte}
-use Rattle.c62_read.specs.Text.{is_line_feed}
 
 module _ (test : ℕ → Bool) (text : List ℕ) where
   none_below : (n : ℕ) → n ≤ length text → ((k : ℕ) → k < n → test (get_or text k 0) ≡ false) → list_any test (take n text) ≡ false

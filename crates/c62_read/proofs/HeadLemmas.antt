@@ -1,17 +1,11 @@
 -- Lines without a label.
-use Rattle.std.proofs.Common.{◌≡◌, ℕ, ◌≤◌, ◌<◌, Bool, true, false, cond, not, eqb, ◌||◌, List, [], ◌∷◌, length, Option, None, Ok, refl, ap, ◌∙◌}
-use Rattle.std.proofs.Common.{arith}
-use Rattle.std.specs.Prelude.{codes}
-use Rattle.std.specs.Char.{to_ascii_lowercase}
-use Rattle.std.specs.List.{list_all, list_any}
-use Rattle.std.proofs.lemmas.Bool.{and_from, and_parts, le-ltb, or_parts}
-use Rattle.std.proofs.lemmas.Bool.Decides.{nat_tests}
-use Rattle.c62_read.specs.Text.{begins, is_allowed, is_solid, tokens}
-use Rattle.c62_read.specs.Number.{spells}
-use Rattle.c62_read.specs.Kind.{Word}
-use Rattle.c62_read.specs.Line.{Says, Nothing, has_colon, head_of, is_bars, is_star, label_front, line_of, rest_says, without_colon}
+use Rattle.c62_read.proofs.Common.{◌≡◌, ℕ, ◌≤◌, ◌<◌, Bool, true, false, cond, not, eqb, ◌||◌, List, [], ◌∷◌, length, Option, None, Ok, refl, ap}
+use Rattle.c62_read.proofs.Common.{◌∙◌, arith, codes, to_ascii_lowercase, list_all, list_any, and_from, and_parts, le-ltb, or_parts, nat_tests}
+use Rattle.c62_read.proofs.Common.{begins, is_allowed, is_solid, tokens, spells, Word, Says, Nothing, has_colon, is_bars, is_star, without_colon}
+use Rattle.c62_read.proofs.Common.{Drafts}
+use Rattle.c62_read.specs.Line.{head_of, label_front, line_of, rest_says}
 use Rattle.c62_read.specs.Program.{label_field}
-use Rattle.c62_read.specs.Walk.{Drafts, add_line, hindrance, is_taken, with_says}
+use Rattle.c62_read.specs.Walk.{add_line, hindrance, is_taken, with_says}
 use Rattle.c62_read.proofs.ColonLemmas.{begins_with, no_colon_at_all}
 use Rattle.c62_read.proofs.SpelledTokens.{is_text}
 

@@ -1,25 +1,14 @@
 -- More than eight tokens are no operands, and a condition begins with a bracket.
-use Rattle.std.proofs.Common.{◌≡◌, ℕ, suc, ◌+◌, ◌≤◌, ◌<◌, Bool, true, false, List, [], ◌∷◌, length, Option, Some, None, Err, cond, refl}
-use Rattle.std.proofs.Common.{arith}
-use Rattle.std.proofs.lemmas.Bool.Decides.{nat_tests}
-use Rattle.std.specs.Prelude.{ℤ}
-use Rattle.std.proofs.lemmas.List.{length-map}
-use Rattle.c62_insn.specs.declared.register.Reg.{Reg}
+use Rattle.c62_read.proofs.Common.{◌≡◌, ℕ, suc, ◌+◌, ◌≤◌, ◌<◌, Bool, true, false, List, [], ◌∷◌, length, Option, Some, None, Err, cond, refl, arith}
+use Rattle.c62_read.proofs.Common.{nat_tests, ℤ, length-map, Reg, AddressForm, BadOperand, Kind, Comma, Star, Open, Close, Number, Address, loaded}
+use Rattle.c62_read.proofs.Common.{stored, Mnemonic, Nop, Operation, WrittenUnit, Word, kind_by, kinds_of, tokens, is_storing, target_of}
 use Rattle.c62_insn.specs.declared.register.Cond.{Cond as Condition}
-use Rattle.c62_insn.specs.declared.operands.AddressForm.{AddressForm}
-use Rattle.c62_read.specs.declared.fault.Cause.TheVariants.{BadOperand}
-use Rattle.c62_read.specs.declared.kind.Kind.{Kind}
-use Rattle.c62_read.specs.declared.kind.Kind.TheVariants.{Comma, Star, Open, Close, Plus, Minus, Increment, Decrement, Register, Number}
-use Rattle.c62_read.specs.declared.operand.Address.{Address}
+use Rattle.c62_read.specs.declared.kind.Kind.TheVariants.{Plus, Minus, Increment, Decrement, Register}
 use Rattle.c62_read.specs.Number.{number_of, register_of}
-use Rattle.c62_read.specs.Operand.{address_front, loaded, operands_of, stored, with_offset}
-use Rattle.c62_read.specs.declared.mnemonic.Mnemonic.{Mnemonic}
-use Rattle.c62_read.specs.declared.mnemonic.Mnemonic.TheVariants.{Nop, Operation}
-use Rattle.c62_read.specs.declared.unit.WrittenUnit.{WrittenUnit}
-use Rattle.c62_read.specs.Kind.{Word, first_is_open, is_open, kind_by, kind_of, kinds_of, lone_mark, mark_of, single_mark, value_kind}
-use Rattle.c62_read.specs.Text.{tokens}
+use Rattle.c62_read.specs.Operand.{address_front, operands_of, with_offset}
+use Rattle.c62_read.specs.Kind.{first_is_open, is_open, kind_of, lone_mark, mark_of, single_mark, value_kind}
 use Rattle.c62_read.proofs.SpelledTokens.{is_mark, mark_alone}
-use Rattle.c62_read.specs.Line.{behind_unit, condition_of, is_storing, pause_of, target_of}
+use Rattle.c62_read.specs.Line.{behind_unit, condition_of, pause_of}
 
 -- of so many tokens all but five are left behind an address
 abbrev Leaves : ℕ → Option (Address × List Kind) → Type 0

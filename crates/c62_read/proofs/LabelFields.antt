@@ -1,13 +1,12 @@
 -- The label field of a line.
-use Rattle.std.proofs.Common.{◌≡◌, ℕ, Bool, true, false, eqb, ◌&&◌, List, [], ◌∷◌, length, Some, None, Result, Ok, Err, refl, sym, ap, subst, ◌∙◌}
-use Rattle.std.specs.Prelude.{Option, codes, nat_lt, not, if◌then◌else◌}
-use Rattle.std.specs.List.{list_all}
-use Rattle.std.proofs.lemmas.Bool.{and_right, eqb-true, true≢false}
-use Rattle.c62_read.specs.declared.fault.Cause.{Cause}
-use Rattle.c62_read.specs.declared.fault.Cause.TheVariants.{BadLabel, LineTooLong, NotAscii, ParallelBar}
-use Rattle.c62_read.specs.Text.{begins, is_allowed, is_double, tokens}
-use Rattle.c62_read.specs.Number.{is_label, spells}
-use Rattle.c62_read.specs.Line.{has_colon, head_of, is_bars, is_star, label_front, without_colon}
+use Rattle.c62_read.proofs.Common.{◌≡◌, ℕ, Bool, true, false, eqb, ◌&&◌, List, [], ◌∷◌, length, Some, None, Result, Ok, Err, refl, sym, ap, subst}
+use Rattle.c62_read.proofs.Common.{◌∙◌, Option, codes, not, if◌then◌else◌, list_all, and_right, eqb-true, Cause, ParallelBar, begins, is_allowed}
+use Rattle.c62_read.proofs.Common.{is_double, tokens, spells, has_colon, is_bars, is_star, without_colon}
+use Rattle.std.specs.Prelude.{nat_lt}
+use Rattle.std.proofs.lemmas.Bool.{true≢false}
+use Rattle.c62_read.specs.declared.fault.Cause.TheVariants.{BadLabel, LineTooLong, NotAscii}
+use Rattle.c62_read.specs.Number.{is_label}
+use Rattle.c62_read.specs.Line.{head_of, label_front}
 use Rattle.c62_read.specs.Program.{Name, label_field}
 use Rattle.c62_read.proofs.TokenLemmas.{tokens_alone}
 

@@ -1,3 +1,4 @@
+pub mod Common
 pub mod Registers
 pub mod TokenLemmas
 pub mod NumberLemmas

@@ -1,10 +1,8 @@
 -- The first line of a text.
-use Rattle.std.proofs.Common.{◌≡◌, ◌<◌, ℕ, ◌+◌, Bool, true, false, eqb, ◌&&◌, ◌||◌, List, [], ◌∷◌, ◌++◌, length, take, drop, Some, None, refl, ap, ◌∙◌, arith}
-use Rattle.std.specs.Prelude.{if◌then◌else◌}
-use Rattle.std.specs.List.{list_any}
-use Rattle.std.proofs.lemmas.Bool.{or_parts}
+use Rattle.c62_read.proofs.Common.{◌≡◌, ◌<◌, ℕ, ◌+◌, Bool, true, false, eqb, ◌&&◌, ◌||◌, List, [], ◌∷◌, ◌++◌, length, take, drop, Some, None, refl}
+use Rattle.c62_read.proofs.Common.{ap, ◌∙◌, arith, if◌then◌else◌, list_any, or_parts, grow, is_line_feed, lines_of}
 use Rattle.memchr.specs.Find.{IsFirstByte, is_byte}
-use Rattle.c62_read.specs.Text.{grow, is_line_feed, lines_of, without_return}
+use Rattle.c62_read.specs.Text.{without_return}
 use Rattle.c62_read.proofs.FirstByte.{fed_at, not_fed}
 
 -- a line is without the carriage return that stands last

@@ -1,16 +1,9 @@
 -- Branches to labels that are looked for later.
-use Rattle.std.proofs.Common.{◌≡◌, ℕ, false, not, cond, List, [], ◌∷◌, ◌++◌, Result, Err, refl, sym, ap, ◌∙◌, arith}
-use Rattle.std.specs.Prelude.{map, option_map}
-use Rattle.std.specs.List.{filter, list_any, slice_get}
-use Rattle.std.specs.Str.{bytes_eq}
-use Rattle.std.proofs.lemmas.Bool.Decides.{nat_tests}
+use Rattle.c62_read.proofs.Common.{◌≡◌, ℕ, false, not, cond, List, [], ◌∷◌, ◌++◌, Result, Err, refl, sym, ap, ◌∙◌, arith, map, option_map, filter}
+use Rattle.c62_read.proofs.Common.{list_any, slice_get, bytes_eq, nat_tests, list_any-append, UnknownTarget, Jump, Says, Jumps, Refusal, is_among}
+use Rattle.c62_read.proofs.Common.{Asked, asked_in, asked_of, first_line, is_unknown, missed, unless_missed}
 use Rattle.std.proofs.lemmas.List.Elements.{filter-append}
-use Rattle.std.proofs.lemmas.List.Folds.{list_any-append}
-use Rattle.c62_read.specs.declared.fault.Cause.TheVariants.{UnknownTarget}
-use Rattle.c62_read.specs.declared.jump.Jump.{Jump}
-use Rattle.c62_read.specs.Line.{Says, Jumps}
-use Rattle.c62_read.specs.Program.{Name, Refusal, is_among}
-use Rattle.c62_read.specs.Walk.{Asked, asked_in, asked_of, first_line, is_unknown, missed, unless_missed}
+use Rattle.c62_read.specs.Program.{Name}
 
 -- what more labels leave of them
 pub missed_more : (labels others : List Name) (asked : List Asked) → missed (labels ++ others) asked ≡ missed others (missed labels asked)

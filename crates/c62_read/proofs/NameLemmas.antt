@@ -1,17 +1,9 @@
 -- An operation is found among those whose names begin so.
-use Rattle.std.proofs.Common.{◌≡◌, ◌≤◌, ℕ, length, get_or, subst, arith, Bool, true, false, cond, eqb, List, [], ◌∷◌, Option, Some, None, refl, sym}
-use Rattle.std.proofs.Common.{ap, ◌∙◌, inl, inr}
-use Rattle.std.specs.Prelude.{map}
-use Rattle.std.specs.Char.{to_ascii_lowercase}
-use Rattle.std.specs.List.{filter, find}
-use Rattle.std.specs.Str.{bytes_eq}
-use Rattle.std.proofs.lemmas.Bool.{and_parts, cases_Bool, eqb-true}
+use Rattle.c62_read.proofs.Common.{◌≡◌, ◌≤◌, ℕ, length, get_or, subst, arith, Bool, true, false, cond, eqb, List, [], ◌∷◌, Option, Some, None, refl}
+use Rattle.c62_read.proofs.Common.{sym, ap, ◌∙◌, inl, inr, map, to_ascii_lowercase, filter, bytes_eq, and_parts, cases_Bool, eqb-true, Op, Add}
+use Rattle.c62_read.proofs.Common.{mnemonic_of, begins, spells}
+use Rattle.std.specs.List.{find}
 use Rattle.std.proofs.lemmas.Slice.Eq.{bytes_eq-Decides}
-use Rattle.c62_insn.specs.declared.operands.Op.{Op}
-use Rattle.c62_insn.specs.declared.operands.Op.TheVariants.{Add}
-use Rattle.c62_insn.specs.Spelling.{mnemonic_of}
-use Rattle.c62_read.specs.Text.{begins}
-use Rattle.c62_read.specs.Number.{spells}
 use Rattle.c62_insn.specs.Table.{all_operations}
 use Rattle.c62_read.specs.Mnemonic.{begins_so, operation_named}
 

@@ -1,17 +1,13 @@
 -- NOP says from one to nine cycles without an instruction.
-use Rattle.std.proofs.Common.{◌≡◌, ◌≤◌, leb, ◌&&◌, List, [], ◌∷◌, None, Result, Ok, Err, refl, arith}
-use Rattle.std.specs.Prelude.{pos, codes}
-use Rattle.std.proofs.lemmas.Bool.{and_parts, cond_both, leb-true}
-use Rattle.c62_read.specs.declared.fault.Cause.{Cause}
-use Rattle.c62_read.specs.declared.fault.Cause.TheVariants.{BadOperand, BadUnit}
-use Rattle.c62_read.specs.declared.kind.Kind.{Kind}
-use Rattle.c62_read.specs.declared.kind.Kind.TheVariants.{Name, Number}
+use Rattle.c62_read.proofs.Common.{◌≡◌, ◌≤◌, leb, ◌&&◌, List, [], ◌∷◌, None, Result, Ok, Err, refl, arith, pos, codes, and_parts, cond_both}
+use Rattle.c62_read.proofs.Common.{leb-true, Cause, BadOperand, BadUnit, Kind, Number, Word, kinds_of, Nop, Says, Pause, and_read, cycles_of}
+use Rattle.c62_read.proofs.Common.{or_fault, unit_behind}
+use Rattle.c62_read.specs.declared.kind.Kind.TheVariants.{Name}
 use Rattle.c62_read.specs.Number.{decimal_of, magnitude_of, number_of, register_of, signed_of}
-use Rattle.c62_read.specs.Kind.{Word, kind_of, kinds_of, mark_of}
-use Rattle.c62_read.specs.declared.mnemonic.Mnemonic.TheVariants.{Nop}
+use Rattle.c62_read.specs.Kind.{kind_of, mark_of}
 use Rattle.c62_read.specs.Mnemonic.{mnemonic_named, operation_named, pseudo_named}
-use Rattle.c62_read.specs.Line.{Says, Pause, and_read, behind_unit, condition_front, condition_of, cycles_of, instruction_of, or_fault, pause_of}
-use Rattle.c62_read.specs.Line.{rest_says, unit_behind}
+use Rattle.c62_read.specs.Line.{behind_unit, condition_front, condition_of, instruction_of, pause_of}
+use Rattle.c62_read.specs.Line.{rest_says}
 
 pub nop_kind : kind_of (codes "NOP") ≡ Name
 unfolding kind_of mark_of register_of number_of signed_of magnitude_of decimal_of

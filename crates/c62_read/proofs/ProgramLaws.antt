@@ -1,32 +1,26 @@
 -- Laws of programs: their instructions, their blocks, their labels and their targets are those of their lines.
-use Rattle.std.proofs.Common.{◌≡◌, ℕ, zero, suc, ◌+◌, ◌<◌, ◌≤◌, Bool, true, false, cond, not, ltb, List, [], ◌∷◌, ◌++◌, length, get_or, Option, Some}
-use Rattle.std.proofs.Common.{None, Result, Ok, Err, refl, sym, ap, subst, ◌∙◌, arith, inl, inr}
-use Rattle.std.specs.Prelude.{map, position, slice_get, Contains}
-use Rattle.std.specs.List.{All, IsDistinct, flat_map, list_all, position_or_len}
-use Rattle.std.specs.Str.{bytes_eq}
+use Rattle.c62_read.proofs.Common.{◌≡◌, ℕ, zero, suc, ◌+◌, ◌<◌, ◌≤◌, Bool, true, false, cond, not, ltb, List, [], ◌∷◌, ◌++◌, length, get_or, Option}
+use Rattle.c62_read.proofs.Common.{Some, None, Result, Ok, Err, refl, sym, ap, subst, ◌∙◌, arith, inl, inr, map, slice_get, All, flat_map, list_all}
+use Rattle.c62_read.proofs.Common.{position_or_len, bytes_eq, option_to_list, nat_tests, length-map, map-append, flat_map-append, list_all-append}
+use Rattle.c62_read.proofs.Common.{map-map, Operands, Block, Cause, TextTooLong, lines_of, Serial, Says, Nothing, Does, Jumps, Begins, BlockParts}
+use Rattle.c62_read.proofs.Common.{Draft, Item, Numbered, Refusal, Runs, aimed, and_then, block_in, block_parts, blocks_from, is_among, items_from}
+use Rattle.c62_read.proofs.Common.{label_is, label_items, labels_of, line_items, says_items, target_number, unless_refused, ends_in_branch, settled}
+use Rattle.c62_read.proofs.Common.{Drafts, no_drafts, own_labels}
+use Rattle.std.specs.Prelude.{position, Contains}
+use Rattle.std.specs.List.{IsDistinct}
 use Rattle.std.specs.List.Sorted.{IsStrictlyIncreasing}
-use Rattle.std.specs.Option.{option_to_list}
-use Rattle.std.proofs.lemmas.Bool.Decides.{nat_tests}
 use Rattle.std.proofs.lemmas.Bool.{not-false}
-use Rattle.std.proofs.lemmas.List.{length-map, map-append}
-use Rattle.std.proofs.lemmas.List.Concat.{flat_map-append}
 use Rattle.std.proofs.lemmas.List.Elements.{All-contains, All-head, All-tail, Contains-append_cases}
-use Rattle.std.proofs.lemmas.List.Folds.{flat_map-map, list_all-append, list_all-map}
+use Rattle.std.proofs.lemmas.List.Folds.{flat_map-map, list_all-map}
 use Rattle.std.proofs.lemmas.Option.{slice_get_past}
-use Rattle.std.proofs.lemmas.Simd.{map-map}
-use Rattle.c62_insn.specs.declared.operands.Operands.{Operands}
-use Rattle.c62_insn.specs.declared.operands.Operands.TheVariants.{Block}
-use Rattle.c62_read.specs.declared.fault.Cause.{Cause}
-use Rattle.c62_read.specs.declared.fault.Cause.TheVariants.{TextTooLong}
-use Rattle.c62_read.specs.Text.{lines_of}
-use Rattle.c62_read.specs.Block.{Serial, is_labelled, labels_in, target_stands, targets_stand}
-use Rattle.c62_read.specs.Line.{Says, Nothing, Does, Jumps, line_of}
-use Rattle.c62_read.specs.Program.{Begins, BlockParts, Draft, Item, Name, Numbered, Refusal, Runs, aimed, and_then, block_in, block_parts}
-use Rattle.c62_read.specs.Program.{blocks_from, drafts_in, first_fault, is_among, items_from, label_is, label_items, labels_of, line_items}
-use Rattle.c62_read.specs.Program.{says_items, target_number, program_in, unless_refused}
+use Rattle.c62_read.specs.Block.{is_labelled, labels_in, target_stands, targets_stand}
+use Rattle.c62_read.specs.Line.{line_of}
+use Rattle.c62_read.specs.Program.{Name}
+use Rattle.c62_read.specs.Program.{drafts_in, first_fault}
+use Rattle.c62_read.specs.Program.{program_in}
 use Rattle.c62_read.specs.Laws.{HasCutBlocks, HasItsLabels, HasRisingLines, HasTargets, IsItsLines, ReadsAsItsLine, begin_well, block_named}
-use Rattle.c62_read.specs.Laws.{ends_in_branch, instruction_at, instructions_in, instructions_of, items_of, settled}
-use Rattle.c62_read.specs.Walk.{Drafts, add_lines, no_drafts, own_labels}
+use Rattle.c62_read.specs.Laws.{instruction_at, instructions_in, instructions_of, items_of}
+use Rattle.c62_read.specs.Walk.{add_lines}
 use Rattle.c62_read.proofs.BlockLemmas.{position_map}
 use Rattle.c62_read.proofs.CutLemmas.{AllFit, Fits, aim_at, all_fit, cut_begins, cut_ends, cut_items, draft_items, drafts_begin}
 use Rattle.c62_read.proofs.SaysLemmas.{has_no_block}

@@ -1,8 +1,6 @@
 -- The registers that numbers name.
-use Rattle.std.proofs.Common.{◌≡◌, ℕ, ◌<◌, Bool, true, false, Some, refl, ap, ltb}
+use Rattle.c62_read.proofs.Common.{◌≡◌, ℕ, ◌<◌, Bool, true, false, Some, refl, ap, ltb, ltb-true, lt-ltb, Reg}
 use Rattle.std.proofs.Props.{props}
-use Rattle.std.proofs.lemmas.Bool.{ltb-true, lt-ltb}
-use Rattle.c62_insn.specs.declared.register.Reg.{Reg}
 use Rattle.c62_read.specs.Number.{numbered, numbered_if}
 
 small_prop : (n : ℕ) → IsProp (n < 16)

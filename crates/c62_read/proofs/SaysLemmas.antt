@@ -1,39 +1,24 @@
 -- What lines may say: no instruction but a jump has a block for its operand.
-use Rattle.std.proofs.Common.{◌≡◌, Bool, true, false, not, cond, leb, ◌&&◌, List, [], ◌∷◌, Option, Some, None, Result, Ok, Err, refl, sym, ap, subst}
-use Rattle.std.proofs.Common.{◌∙◌}
-use Rattle.std.specs.Prelude.{ℤ, pos, option_and_then}
-use Rattle.std.proofs.lemmas.Bool.{cond_both}
-use Rattle.c62_insn.specs.declared.register.Reg.{Reg}
+use Rattle.c62_read.proofs.Common.{◌≡◌, Bool, true, false, not, cond, leb, ◌&&◌, List, [], ◌∷◌, Option, Some, None, Result, Ok, Err, refl, sym, ap}
+use Rattle.c62_read.proofs.Common.{subst, ◌∙◌, ℤ, pos, option_and_then, cond_both, Reg, Letter, L, Op, Operands, Three, ConstantSecond, Two}
+use Rattle.c62_read.proofs.Common.{Constant, Block, FormFault, Insn, op_of, has_kind, same_side, Cause, BadUnit, BadOperand, UnknownMnemonic}
+use Rattle.c62_read.proofs.Common.{Mnemonic, Operation, Nop, Address, WrittenUnit, Kind, Word, kinds_of, loaded, stored, constant_to_front}
+use Rattle.c62_read.proofs.Common.{crossed_to_back, exchanged, begins, is_dot, Parts, Says, Pause, Does, Jumps, and_read, cycles_of, formed}
+use Rattle.c62_read.proofs.Common.{is_storing, jumps_or_does, mnemonic_front, or_fault, parts_read, target_of, unit_behind}
 use Rattle.c62_insn.specs.declared.register.Cond.{Cond as Condition}
-use Rattle.c62_insn.specs.declared.register.Letter.{Letter}
-use Rattle.c62_insn.specs.declared.register.Letter.TheVariants.{L}
-use Rattle.c62_insn.specs.declared.operands.Op.{Op}
 use Rattle.c62_insn.specs.declared.operands.Op.TheVariants.{B as Branch}
-use Rattle.c62_insn.specs.declared.operands.Operands.{Operands}
-use Rattle.c62_insn.specs.declared.operands.Operands.TheVariants.{Three, ConstantSecond, Two, Constant, Block, Register}
-use Rattle.c62_insn.specs.declared.fault.FormFault.{FormFault}
-use Rattle.c62_insn.specs.declared.insn.Insn.{Insn}
-use Rattle.c62_insn.specs.Insn.{op_of, operands_of as operands_of_insn}
+use Rattle.c62_insn.specs.declared.operands.Operands.TheVariants.{Register}
+use Rattle.c62_insn.specs.Insn.{operands_of as operands_of_insn}
 use Rattle.c62_insn.proofs.FormLemmas.{taken_kind}
 use Rattle.c62_insn.proofs.InsnLemmas.{has_unit}
-use Rattle.c62_insn.specs.Fault.{has_kind}
-use Rattle.c62_insn.specs.Takes.{same_side}
-use Rattle.c62_read.specs.declared.fault.Cause.{Cause}
-use Rattle.c62_read.specs.declared.fault.Cause.TheVariants.{BadUnit, BadOperand, Directive, UnknownMnemonic}
-use Rattle.c62_read.specs.declared.mnemonic.Mnemonic.{Mnemonic}
-use Rattle.c62_read.specs.declared.mnemonic.Mnemonic.TheVariants.{Operation, Mv, Neg, Not, Zero, Mvkl, Mvkh, Nop}
-use Rattle.c62_read.specs.declared.operand.Address.{Address}
-use Rattle.c62_read.specs.declared.unit.WrittenUnit.{WrittenUnit}
-use Rattle.c62_read.specs.declared.kind.Kind.{Kind}
+use Rattle.c62_read.specs.declared.fault.Cause.TheVariants.{Directive}
+use Rattle.c62_read.specs.declared.mnemonic.Mnemonic.TheVariants.{Mv, Neg, Not, Zero, Mvkl, Mvkh}
 use Rattle.c62_read.specs.declared.kind.Kind.TheVariants as kind
-use Rattle.c62_read.specs.Kind.{Word, kinds_of}
-use Rattle.c62_read.specs.Operand.{address_front, loaded, operands_of, stored}
-use Rattle.c62_read.specs.Mnemonic.{constant_to_front, crossed_to_back, exchanged, in_order, stands_for, with_kind, zero_in}
-use Rattle.c62_read.specs.Text.{begins}
-use Rattle.c62_read.specs.Unit.{is_dot}
-use Rattle.c62_read.specs.Line.{Parts, parts_of, Says, Pause, Does, Jumps, and_read, behind_unit, condition_front, cycles_of, does, formed}
-use Rattle.c62_read.specs.Line.{instruction_of, is_storing, jumps_or_does, letter_written, mnemonic_front, operands_written, or_fault, parts_read}
-use Rattle.c62_read.specs.Line.{pause_of, rest_says, target_of, text_fault, unit_behind}
+use Rattle.c62_read.specs.Operand.{address_front, operands_of}
+use Rattle.c62_read.specs.Mnemonic.{in_order, stands_for, with_kind, zero_in}
+use Rattle.c62_read.specs.Line.{parts_of, behind_unit, condition_front, does}
+use Rattle.c62_read.specs.Line.{instruction_of, letter_written, operands_written}
+use Rattle.c62_read.specs.Line.{pause_of, rest_says, text_fault}
 
 abbrev pub has_no_block : Operands → Bool
 has_no_block (Block number) = false

@@ -1,12 +1,7 @@
 -- Lines without a colon have no label.
-use Rattle.std.proofs.Common.{◌≡◌, ℕ, zero, suc, ◌-◌, ◌≤◌, ◌<◌, Bool, true, false, not, eqb, ◌&&◌, List, [], ◌∷◌, ◌++◌, length, get_or, take, drop}
-use Rattle.std.proofs.Common.{refl, sym, ap, ◌∙◌, arith}
-use Rattle.std.specs.List.{list_all, list_any}
-use Rattle.std.proofs.lemmas.Bool.{and_from, and_parts, not-true, or_parts}
-use Rattle.std.proofs.lemmas.List.{take-append-drop}
-use Rattle.std.proofs.Math.Seq.{drop-cons}
-use Rattle.c62_read.specs.Text.{begins, is_line_feed, lines_of}
-use Rattle.c62_read.specs.Program.{labels_of}
+use Rattle.c62_read.proofs.Common.{◌≡◌, ℕ, zero, suc, ◌-◌, ◌≤◌, ◌<◌, Bool, true, false, not, eqb, ◌&&◌, List, [], ◌∷◌, ◌++◌, length, get_or, take}
+use Rattle.c62_read.proofs.Common.{drop, refl, sym, ap, ◌∙◌, arith, list_all, list_any, and_from, and_parts, not-true, or_parts, take-append-drop}
+use Rattle.c62_read.proofs.Common.{drop-cons, begins, is_line_feed, lines_of, labels_of}
 use Rattle.c62_read.proofs.HeadLemmas.{plain_field}
 
 abbrev has_colon_byte : List ℕ → Bool

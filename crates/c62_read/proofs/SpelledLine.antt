@@ -1,44 +1,26 @@
 -- The line that spells an instruction reads as it.
-use Rattle.std.proofs.Common.{◌≡◌, ℕ, ◌≤◌, Bool, true, false, cond, List, [], ◌∷◌, ◌++◌, length, Option, Some, None, Ok, refl, ap, ◌∙◌}
-use Rattle.std.proofs.Common.{subst, sym, append_assoc, arith, eqb}
-use Rattle.std.specs.Prelude.{codes, option_map}
-use Rattle.std.specs.Char.{to_ascii_lowercase}
-use Rattle.std.specs.List.{list_all}
-use Rattle.std.proofs.lemmas.Bool.{and_left, and_parts}
-use Rattle.std.proofs.lemmas.Bool.Decides.{nat_tests}
-use Rattle.c62_insn.specs.declared.register.Side.{Side}
-use Rattle.c62_insn.specs.declared.register.Side.TheVariants.{A, B}
-use Rattle.c62_insn.specs.declared.register.Letter.{Letter}
-use Rattle.c62_insn.specs.declared.register.Letter.TheVariants.{L}
-use Rattle.c62_insn.specs.declared.register.Reg.{Reg}
+use Rattle.c62_read.proofs.Common.{◌≡◌, ℕ, ◌≤◌, Bool, true, false, cond, List, [], ◌∷◌, ◌++◌, length, Option, Some, None, Ok, refl, ap, ◌∙◌, subst}
+use Rattle.c62_read.proofs.Common.{sym, append_assoc, arith, eqb, codes, option_map, to_ascii_lowercase, list_all, and_parts, nat_tests, Side, A, B}
+use Rattle.c62_read.proofs.Common.{Letter, L, Reg, Op, Add, Operands, Access, Insn, op_of, mnemonic_of, operands_spelling, register_name}
+use Rattle.c62_read.proofs.Common.{crosses_to, Operation, begins, is_blank, is_word_byte, tokens, Kind, Open, Close, Mark, Plain, Cross, Path, Word}
+use Rattle.c62_read.proofs.Common.{kinds_of, is_dot, Says, before_rest, is_bars, is_star, map-append}
+use Rattle.std.proofs.lemmas.Bool.{and_left}
 use Rattle.c62_insn.specs.declared.register.Cond.{Cond as Condition}
 use Rattle.c62_insn.specs.declared.register.Unit.{Unit as FunctionalUnit}
-use Rattle.c62_insn.specs.declared.operands.Op.{Op}
-use Rattle.c62_insn.specs.declared.operands.Op.TheVariants.{Add}
-use Rattle.c62_insn.specs.declared.operands.Operands.{Operands}
-use Rattle.c62_insn.specs.declared.operands.Operands.TheVariants.{Access}
-use Rattle.c62_insn.specs.declared.insn.Insn.{Insn}
-use Rattle.c62_insn.specs.Insn.{op_of, operands_of, cond_of}
-use Rattle.c62_insn.specs.Spelling.{condition_spelling, mnemonic_of, operands_spelling, register_name, unit_spelling}
+use Rattle.c62_insn.specs.Insn.{operands_of, cond_of}
+use Rattle.c62_insn.specs.Spelling.{condition_spelling, unit_spelling}
 use Rattle.c62_insn.specs.Spelling.{path_spelling, side_digit, unit_letter}
-use Rattle.c62_insn.specs.Shape.{crosses_to}
 use Rattle.c62_insn.proofs.InsnLemmas.{faultless_on}
-use Rattle.c62_read.specs.declared.mnemonic.Mnemonic.TheVariants.{Operation}
-use Rattle.c62_read.specs.Text.{begins, is_blank, is_word_byte, tokens}
-use Rattle.c62_read.specs.declared.kind.Kind.{Kind}
-use Rattle.c62_read.specs.declared.kind.Kind.TheVariants.{Open, Close, Not, Register, Name}
-use Rattle.c62_read.specs.declared.unit.Mark.{Mark}
-use Rattle.c62_read.specs.declared.unit.Mark.TheVariants.{Plain, Cross, Path}
+use Rattle.c62_read.specs.declared.kind.Kind.TheVariants.{Not, Register, Name}
 use Rattle.c62_read.specs.Mnemonic.{mnemonic_named}
 use Rattle.c62_read.specs.Number.{decimal_of, magnitude_of, number_of, register_of, signed_of}
-use Rattle.c62_read.specs.Kind.{Word, kind_of, kinds_of, mark_of, single_mark}
-use Rattle.c62_read.specs.Unit.{is_dot, letter_of, mark_of as written_mark, side_numbered, unit_fits, unit_front, unit_split}
-use Rattle.c62_read.specs.Line.{Says, before_rest, behind_unit, condition_front, condition_of, instruction_of, is_bars, is_star, line_of, rest_says}
+use Rattle.c62_read.specs.Kind.{kind_of, mark_of, single_mark}
+use Rattle.c62_read.specs.Unit.{letter_of, mark_of as written_mark, side_numbered, unit_fits, unit_front, unit_split}
+use Rattle.c62_read.specs.Line.{behind_unit, condition_front, condition_of, instruction_of, line_of, rest_says}
 use Rattle.c62_read.specs.Laws.{LineReadsBack, says_on}
 use Rattle.c62_read.proofs.HeadLemmas.{all_weaker, allowed_text, head_plain, line_by_head, no_colon}
 use Rattle.c62_read.proofs.SpelledTokens.{IsPiece, any_end, blank_piece, both, closing, is_text, led_token, mark_piece, no_piece, opening}
 use Rattle.c62_read.proofs.SpelledTokens.{tokens_are, tokens_behind, word_end, word_piece, word_token}
-use Rattle.std.proofs.lemmas.List.{map-append}
 use Rattle.c62_read.proofs.SpelledNumbers.{differs, register_piece}
 use Rattle.c62_read.proofs.NameLemmas.{named}
 use Rattle.c62_read.proofs.SpelledOperands.{behind, mark_by, mark_on, unit_written_fits, written_on}

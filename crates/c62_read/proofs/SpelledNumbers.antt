@@ -1,22 +1,18 @@
 -- Numbers and registers read back.
-use Rattle.std.proofs.Common.{◌≡◌, ℕ, suc, ◌+◌, ◌-◌, ◌^◌, ◌/◌, ◌%◌, ◌<◌, ◌≤◌, Bool, true, false, eqb, ltb, leb, ◌&&◌, ◌||◌, List, [], ◌∷◌, ◌++◌}
-use Rattle.std.proofs.Common.{rules, length, Option, Some, None, refl, sym, ap, subst, ◌∙◌, arith, inl, inr}
-use Rattle.std.specs.Prelude.{ℤ, pos, negsuc, ◌≤ℤ◌, int_le, codes}
-use Rattle.std.specs.Char.{digit_value, is_ascii_digit}
-use Rattle.std.specs.Fmt.{decimal, signed_decimal}
-use Rattle.std.specs.List.{list_all, starts_with}
-use Rattle.std.specs.Str.Parse.{AllDigits, digits_value}
-use Rattle.std.proofs.lemmas.Bool.{and_from, and_parts, cases_Bool, cases_lt, cond_both, eq-eqb, eqb-true, lt-ltb, le-leb, leb-true}
-use Rattle.std.proofs.lemmas.Bool.{or_left, or_right}
-use Rattle.std.proofs.lemmas.Bool.Decides.{nat_tests}
-use Rattle.std.proofs.lemmas.Fmt.{decimal_digit, decimal_is_IsNumeral, decimal_step, first_decimal, length-decimal-le}
-use Rattle.c62_insn.specs.declared.register.Side.{Side}
-use Rattle.c62_insn.specs.declared.register.Side.TheVariants.{A, B}
-use Rattle.c62_insn.specs.declared.register.Reg.{Reg}
-use Rattle.c62_insn.specs.Spelling.{file_letter, register_name}
-use Rattle.c62_read.specs.Text.{is_word_byte, joins}
-use Rattle.c62_read.specs.declared.kind.Kind.TheVariants.{Register, Number}
-use Rattle.c62_read.specs.Number.{are_digits, decimal_of, file_of, magnitude_of, negative, number_of, numbered, register_of}
+use Rattle.c62_read.proofs.Common.{◌≡◌, ℕ, suc, ◌+◌, ◌-◌, ◌^◌, ◌%◌, ◌<◌, ◌≤◌, Bool, true, false, eqb, ltb, leb, ◌&&◌, ◌||◌, List, [], ◌∷◌, ◌++◌}
+use Rattle.c62_read.proofs.Common.{rules, length, Option, Some, None, refl, sym, ap, subst, ◌∙◌, arith, inl, inr, ℤ, pos, negsuc, int_le, codes}
+use Rattle.c62_read.proofs.Common.{digit_value, is_ascii_digit, decimal, list_all, digits_value, and_from, and_parts, cases_Bool, cond_both}
+use Rattle.c62_read.proofs.Common.{eqb-true, lt-ltb, le-leb, leb-true, or_left, or_right, nat_tests, decimal_digit, Side, A, B, Reg, file_letter}
+use Rattle.c62_read.proofs.Common.{register_name, is_word_byte, joins, Number, are_digits}
+use Rattle.std.proofs.Common.{◌/◌}
+use Rattle.std.specs.Prelude.{◌≤ℤ◌}
+use Rattle.std.specs.Fmt.{signed_decimal}
+use Rattle.std.specs.List.{starts_with}
+use Rattle.std.specs.Str.Parse.{AllDigits}
+use Rattle.std.proofs.lemmas.Bool.{cases_lt, eq-eqb}
+use Rattle.std.proofs.lemmas.Fmt.{decimal_is_IsNumeral, decimal_step, first_decimal, length-decimal-le}
+use Rattle.c62_read.specs.declared.kind.Kind.TheVariants.{Register}
+use Rattle.c62_read.specs.Number.{decimal_of, file_of, magnitude_of, negative, number_of, numbered, register_of}
 use Rattle.c62_read.specs.Number.{signed_of}
 use Rattle.c62_read.specs.Kind.{kind_of, mark_of, single_mark}
 use Rattle.c62_read.proofs.Registers.{numbered-known}

@@ -1,51 +1,38 @@
 -- The operands of an instruction on a unit that takes it read back.
-use Rattle.std.proofs.Common.{◌≡◌, ℕ, ◌%◌, ◌≤◌, Bool, true, false, not, cond, leb, ◌&&◌, ◌||◌, List, [], ◌∷◌, ◌++◌, length, Option, Some, None, Ok}
-use Rattle.std.proofs.Common.{◌∙◌, refl, sym, ap, subst, append_assoc, arith, inl, inr}
-use Rattle.std.specs.Prelude.{ℤ, pos, negsuc, int_le, codes}
-use Rattle.std.specs.Char.{is_ascii_digit}
-use Rattle.std.specs.Fmt.{decimal}
-use Rattle.std.specs.List.{list_all}
+use Rattle.c62_read.proofs.Common.{◌≡◌, ℕ, ◌%◌, ◌≤◌, Bool, true, false, not, cond, leb, ◌&&◌, ◌||◌, List, [], ◌∷◌, ◌++◌, length, Option, Some, None}
+use Rattle.c62_read.proofs.Common.{Ok, ◌∙◌, refl, sym, ap, subst, append_assoc, arith, inl, inr, ℤ, pos, negsuc, int_le, codes, is_ascii_digit}
+use Rattle.c62_read.proofs.Common.{decimal, list_all, and_from, and_parts, and_right, cases_Bool, cond_both, le-leb, leb-true, or_parts, Side, A, B}
+use Rattle.c62_read.proofs.Common.{Reg, Letter, Op, Add, AddressForm, Operands, Three, ConstantSecond, Two, Constant, Access, Block, has_kind}
+use Rattle.c62_read.proofs.Common.{crosses_to, file_letter, operands_spelling, register_name, same_side, Kind, Comma, Star, Open, Close, Number}
+use Rattle.c62_read.proofs.Common.{Operation, Mark, Plain, Cross, Path, WrittenUnit, begins, is_word_byte, put_back, tokens, Word, kinds_of}
+use Rattle.c62_read.proofs.Common.{constant_to_front, crossed_to_back, exchanged, Says, Does, is_branch, parts_read, target_of}
 use Rattle.std.specs.Ordering.{int_eq}
 use Rattle.std.proofs.Math.Bool.{or-false}
-use Rattle.std.proofs.lemmas.Bool.{and_from, and_parts, and_right, cases_Bool, cond_both, le-leb, leb-true, or_parts}
 use Rattle.std.proofs.lemmas.Bool.Decides.{Decides-int_eq}
-use Rattle.c62_insn.specs.declared.register.Side.{Side}
-use Rattle.c62_insn.specs.declared.register.Side.TheVariants.{A, B}
-use Rattle.c62_insn.specs.declared.register.Reg.{Reg}
 use Rattle.c62_insn.specs.declared.register.Cond.{Cond as Condition}
-use Rattle.c62_insn.specs.declared.register.Letter.{Letter}
 use Rattle.c62_insn.specs.declared.register.Letter.TheVariants.{S, D}
 use Rattle.c62_insn.specs.declared.register.Unit.{Unit as FunctionalUnit}
-use Rattle.c62_insn.specs.declared.operands.Op.{Op}
-use Rattle.c62_insn.specs.declared.operands.Op.TheVariants.{Add, Mvklh, B as Branch}
-use Rattle.c62_insn.specs.declared.operands.AddressForm.{AddressForm}
+use Rattle.c62_insn.specs.declared.operands.Op.TheVariants.{Mvklh, B as Branch}
 use Rattle.c62_insn.specs.declared.operands.AddressForm.TheVariants.{Plus}
 use Rattle.c62_insn.specs.declared.operands.Offset.{Offset}
 use Rattle.c62_insn.specs.declared.operands.Offset.TheVariants.{Constant as ByConstant, Register as ByRegister}
-use Rattle.c62_insn.specs.declared.operands.Operands.{Operands}
 use Rattle.c62_insn.specs.declared.operands.Operands.TheVariants as operands
-use Rattle.c62_insn.specs.declared.operands.Operands.TheVariants.{Three, ConstantFirst, ConstantSecond, Two, Field, Constant, Access, Block}
-use Rattle.c62_insn.specs.Fault.{form_fault, has_kind}
-use Rattle.c62_insn.specs.Shape.{crosses_to, data_path_of, is_load, is_store}
-use Rattle.c62_insn.specs.Spelling.{address_spelling, file_letter, is_base_alone, offset_spelling, operands_spelling, register_name, sign_of, step_of}
+use Rattle.c62_insn.specs.declared.operands.Operands.TheVariants.{ConstantFirst, Field}
+use Rattle.c62_insn.specs.Fault.{form_fault}
+use Rattle.c62_insn.specs.Shape.{data_path_of, is_load, is_store}
+use Rattle.c62_insn.specs.Spelling.{address_spelling, is_base_alone, offset_spelling, sign_of, step_of}
 use Rattle.c62_insn.specs.Spelling.{with_commas}
-use Rattle.c62_insn.specs.Takes.{same_side, same_letter, takes}
+use Rattle.c62_insn.specs.Takes.{same_letter, takes}
 use Rattle.c62_insn.proofs.FormLemmas.{access_on_d, constant_on_d, first_in_file, is_add, is_narrow, lets_first_cross, narrow_constants, taken_kind}
 use Rattle.c62_insn.proofs.FormLemmas.{taken_letter, uncrossed_on_d}
 use Rattle.c62_insn.proofs.Registers.{same_side-refl}
-use Rattle.c62_read.specs.declared.kind.Kind.{Kind}
-use Rattle.c62_read.specs.declared.kind.Kind.TheVariants.{Comma, Star, Open, Close, Register, Number}
-use Rattle.c62_read.specs.declared.mnemonic.Mnemonic.TheVariants.{Operation}
-use Rattle.c62_read.specs.declared.unit.Mark.{Mark}
-use Rattle.c62_read.specs.declared.unit.Mark.TheVariants.{Plain, Cross, Path}
-use Rattle.c62_read.specs.declared.unit.WrittenUnit.{WrittenUnit}
-use Rattle.c62_read.specs.Text.{begins, is_word_byte, put_back, tokens}
+use Rattle.c62_read.specs.declared.kind.Kind.TheVariants.{Register}
 use Rattle.c62_read.specs.Number.{is_label}
-use Rattle.c62_read.specs.Kind.{Word, kind_of, kinds_of, mark_of, single_mark}
+use Rattle.c62_read.specs.Kind.{kind_of, mark_of, single_mark}
 use Rattle.c62_read.specs.Operand.{address_front, operands_of, with_offset}
-use Rattle.c62_read.specs.Mnemonic.{constant_to_front, crossed_to_back, exchanged, in_order, low_half, stands_for, stands_on}
+use Rattle.c62_read.specs.Mnemonic.{in_order, low_half, stands_for, stands_on}
 use Rattle.c62_read.specs.Unit.{mark_fits, unit_fits}
-use Rattle.c62_read.specs.Line.{Says, Does, behind_unit, is_branch, misses, parts_read, target_of, text_fault}
+use Rattle.c62_read.specs.Line.{behind_unit, misses, text_fault}
 use Rattle.c62_read.specs.Laws.{NamesTarget, says_with}
 use Rattle.c62_read.proofs.NumberLemmas.{label_few}
 use Rattle.c62_read.proofs.SpelledTokens.{IsPiece, any_end, both, closing, mark_piece, more, opening, weaker, word_end, word_piece, word_token}

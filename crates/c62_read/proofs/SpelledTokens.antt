@@ -1,16 +1,9 @@
 -- The tokens of what is spelled.
-use Rattle.std.proofs.Common.{◌≡◌, ℕ, ◌+◌, ◌<◌, ◌≤◌, Bool, true, false, not, eqb, ◌&&◌, List, [], ◌∷◌, ◌++◌, length, refl, sym, ap, ◌∙◌, append-nil}
-use Rattle.std.proofs.Common.{append_assoc, arith, length-append}
-use Rattle.std.specs.Prelude.{codes}
-use Rattle.std.specs.List.{list_all}
-use Rattle.std.proofs.lemmas.Bool.{and_from, and_parts}
-use Rattle.std.proofs.lemmas.Bool.Decides.{nat_tests}
-use Rattle.std.proofs.lemmas.List.{map-append}
-use Rattle.std.proofs.lemmas.List.Folds.{list_all-append}
-use Rattle.c62_read.specs.Text.{grow, begins, is_allowed, is_blank, is_solid, is_sign, is_word_byte, is_double, joins, tokens}
-use Rattle.c62_read.specs.declared.kind.Kind.{Kind}
-use Rattle.c62_read.specs.declared.kind.Kind.TheVariants.{Comma, Open, Close}
-use Rattle.c62_read.specs.Kind.{Word, kind_of, kinds_of, mark_of, single_mark}
+use Rattle.c62_read.proofs.Common.{◌≡◌, ℕ, ◌+◌, ◌<◌, ◌≤◌, Bool, true, false, not, eqb, ◌&&◌, List, [], ◌∷◌, ◌++◌, length, refl, sym, ap, ◌∙◌}
+use Rattle.c62_read.proofs.Common.{append-nil, append_assoc, arith, length-append, codes, list_all, and_from, and_parts, nat_tests, map-append}
+use Rattle.c62_read.proofs.Common.{list_all-append, grow, begins, is_allowed, is_blank, is_solid, is_sign, is_word_byte, is_double, joins, tokens}
+use Rattle.c62_read.proofs.Common.{Kind, Comma, Open, Close, Word, kinds_of}
+use Rattle.c62_read.specs.Kind.{kind_of, mark_of, single_mark}
 use Rattle.c62_read.proofs.TokenLemmas.{tokens_alone, tokens_joined, tokens_last, tokens_blank, tokens_word}
 
 -- a byte that may stand in a line with neither a comment nor a label

@@ -1,11 +1,8 @@
 -- How the bytes of a token come together.
-use Rattle.std.proofs.Common.{◌≡◌, ℕ, zero, suc, ◌+◌, ◌<◌, ◌≤◌, Bool, true, false, cond, eqb, ◌&&◌, List, [], ◌∷◌, ◌++◌, length, get_or, take}
-use Rattle.std.proofs.Common.{drop, refl, sym, ap, ◌∙◌, arith}
-use Rattle.std.specs.List.{list_all}
-use Rattle.std.proofs.lemmas.List.{take-append-drop}
-use Rattle.std.proofs.lemmas.Bool.{and_parts, not-true}
-use Rattle.std.proofs.lemmas.Bool.Decides.{nat_tests}
-use Rattle.c62_read.specs.Text.{grow, put_back, begins, is_blank, is_solid, is_word_byte, is_double, joins, led_by, tokens}
+use Rattle.c62_read.proofs.Common.{◌≡◌, ℕ, zero, suc, ◌+◌, ◌<◌, ◌≤◌, Bool, true, false, cond, eqb, ◌&&◌, List, [], ◌∷◌, ◌++◌, length, get_or, take}
+use Rattle.c62_read.proofs.Common.{drop, refl, sym, ap, ◌∙◌, arith, list_all, take-append-drop, and_parts, not-true, nat_tests, grow, put_back}
+use Rattle.c62_read.proofs.Common.{begins, is_blank, is_solid, is_word_byte, is_double, joins, tokens}
+use Rattle.c62_read.specs.Text.{led_by}
 
 -- a function of what one test decides
 pub on_test : {A B : Type 0} (f : A → B) (b : Bool) (x y : A) → f (cond b x y) ≡ cond b (f x) (f y)

@@ -1,30 +1,27 @@
 -- The reader's walk over the lines of a text answers what the text says.
-use Rattle.std.proofs.Common.{◌≡◌, ◌≤◌, ◌<◌, ℕ, ◌+◌, Bool, true, false, cond, leb, ltb, ◌&&◌, ◌||◌, List, [], ◌∷◌, ◌++◌, length, Option, Some, None}
-use Rattle.std.proofs.Common.{Result, Ok, Err, refl, sym, ap, ◌∙◌, arith, append_assoc, append-nil, length-append, inl, inr}
-use Rattle.std.specs.Prelude.{is_none, is_some, map}
-use Rattle.std.specs.List.{All, AllByRecursion, IsDistinct, list_any, list_all}
-use Rattle.std.specs.Option.{option_to_list}
-use Rattle.std.specs.Str.{bytes_eq}
-use Rattle.std.proofs.lemmas.Bool.{or_parts, lt-ltb, le-ltb}
-use Rattle.std.proofs.lemmas.Bool.Decides.{nat_tests}
-use Rattle.std.proofs.lemmas.List.Concat.{flat_map-append}
+use Rattle.c62_read.proofs.Common.{◌≡◌, ◌≤◌, ◌<◌, ℕ, ◌+◌, Bool, true, false, cond, leb, ltb, ◌&&◌, ◌||◌, List, [], ◌∷◌, ◌++◌, length, Option, Some}
+use Rattle.c62_read.proofs.Common.{None, Result, Ok, Err, refl, sym, ap, ◌∙◌, arith, append_assoc, append-nil, length-append, inl, inr, is_some}
+use Rattle.c62_read.proofs.Common.{map, All, list_any, list_all, option_to_list, bytes_eq, or_parts, lt-ltb, le-ltb, nat_tests, flat_map-append}
+use Rattle.c62_read.proofs.Common.{list_any-append, Cause, UnknownTarget, TextTooLong, Parts, Says, Nothing, Pause, Does, Jumps, is_branch}
+use Rattle.c62_read.proofs.Common.{Numbered, Item, Runs, Draft, Refusal, and_then, blocks_from, cut, fault_in, glue, is_among, is_overfull}
+use Rattle.c62_read.proofs.Common.{items_from, joined, label_is, label_items, labels_of, line_items, piece_of, says_items, BlockParts, block_in}
+use Rattle.c62_read.proofs.Common.{unless_refused, Drafts, all_drafts, is_unknown, no_drafts, own_labels, Asked, asked_in, first_line, missed}
+use Rattle.c62_read.proofs.Common.{unless_missed, is_whole, lines_of}
+use Rattle.std.specs.Prelude.{is_none}
+use Rattle.std.specs.List.{AllByRecursion, IsDistinct}
 use Rattle.std.proofs.lemmas.List.Elements.{All-nil, All-push}
-use Rattle.std.proofs.lemmas.List.Folds.{list_any-append}
-use Rattle.c62_read.specs.declared.fault.Cause.{Cause}
-use Rattle.c62_read.specs.declared.fault.Cause.TheVariants.{DuplicateLabel, UnknownTarget, TooManyInstructions, TooManyBlocks, TextTooLong}
-use Rattle.c62_read.specs.Line.{Parts, Says, Nothing, Pause, Does, Jumps, is_branch, head_of, line_of, rest_says}
-use Rattle.c62_read.specs.Program.{Name, Numbered, Item, Runs, Draft, Refusal, and_then, blocks_from, cut, fault_if, fault_in, fault_of, first_fault}
-use Rattle.c62_read.specs.Program.{first_of, glue, is_among, is_overfull, items_from, joined, label_is, label_items, labels_of, line_items}
-use Rattle.c62_read.specs.Program.{misses_label, piece_of, label_field, repeats_label, says_items, BlockParts, Fails, block_in, drafts_in, program_in}
-use Rattle.c62_read.specs.Program.{unless_refused}
-use Rattle.c62_read.specs.Walk.{Drafts, add_head, add_line, add_lines, add_says, all_drafts, at_line, begins_block, closed, hindrance, is_full}
-use Rattle.c62_read.specs.Walk.{is_instruction, is_taken, is_unknown, new_draft, no_drafts, opened, own_labels, refused, Step, unless_hindered}
-use Rattle.c62_read.specs.Walk.{with_insn, with_label, with_says, Asked, asked_in, first_line, missed, unless_missed, is_whole}
+use Rattle.c62_read.specs.declared.fault.Cause.TheVariants.{DuplicateLabel, TooManyInstructions, TooManyBlocks}
+use Rattle.c62_read.specs.Line.{head_of, line_of, rest_says}
+use Rattle.c62_read.specs.Program.{Name, fault_if, fault_of, first_fault}
+use Rattle.c62_read.specs.Program.{first_of}
+use Rattle.c62_read.specs.Program.{misses_label, label_field, repeats_label, Fails, drafts_in, program_in}
+use Rattle.c62_read.specs.Walk.{add_head, add_line, add_lines, add_says, at_line, begins_block, closed, hindrance, is_full}
+use Rattle.c62_read.specs.Walk.{is_instruction, is_taken, new_draft, opened, refused, Step, unless_hindered}
+use Rattle.c62_read.specs.Walk.{with_insn, with_label, with_says}
 use Rattle.c62_read.proofs.HeadLemmas.{line_by_head}
 use Rattle.c62_read.proofs.LabelFields.{field_is}
 use Rattle.c62_read.proofs.SaysLemmas.{IsProper, proper}
 use Rattle.c62_read.specs.declared.fault.ReadFault.{ReadFault}
-use Rattle.c62_read.specs.Text.{lines_of}
 use Rattle.c62_read.proofs.CutLemmas.{all_whole, cut_ends}
 use Rattle.c62_read.proofs.MissedLemmas.{missed_then}
 

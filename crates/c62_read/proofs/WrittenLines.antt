@@ -1,21 +1,12 @@
 -- Lines of a pause and of a label read back.
-use Rattle.std.proofs.Common.{◌≡◌, ℕ, ◌+◌, ◌≤◌, true, eqb, List, [], ◌∷◌, ◌++◌, length, Option, Some, None, Ok, refl, ap, ◌∙◌, arith, false}
-use Rattle.std.proofs.Common.{length-append}
-use Rattle.std.specs.Prelude.{pos, codes}
-use Rattle.std.specs.Fmt.{decimal}
-use Rattle.std.specs.List.{list_all}
-use Rattle.std.proofs.lemmas.Bool.{and_from, le-leb, le-ltb}
-use Rattle.std.proofs.lemmas.Bool.Decides.{nat_tests}
-use Rattle.std.proofs.lemmas.Fmt.{decimal_digit}
-use Rattle.std.proofs.lemmas.List.Folds.{list_all-append}
+use Rattle.c62_read.proofs.Common.{◌≡◌, ℕ, ◌+◌, ◌≤◌, true, eqb, List, [], ◌∷◌, ◌++◌, length, Option, Some, None, Ok, refl, ap, ◌∙◌, arith, false}
+use Rattle.c62_read.proofs.Common.{length-append, pos, codes, decimal, list_all, and_from, le-leb, le-ltb, nat_tests, decimal_digit}
+use Rattle.c62_read.proofs.Common.{list_all-append, Nop, is_allowed, tokens, Word, Nothing, Pause}
 use Rattle.c62_read.specs.declared.kind.Kind.TheVariants.{Name}
-use Rattle.c62_read.specs.declared.mnemonic.Mnemonic.TheVariants.{Nop}
-use Rattle.c62_read.specs.Text.{is_allowed, tokens}
 use Rattle.c62_read.specs.Number.{is_label}
-use Rattle.c62_read.specs.Kind.{Word}
 use Rattle.c62_read.specs.Mnemonic.{mnemonic_named, operation_named, pseudo_named}
 use Rattle.c62_read.specs.Unit.{unit_front}
-use Rattle.c62_read.specs.Line.{Nothing, Pause, behind_unit, condition_front, condition_of, head_of, instruction_of}
+use Rattle.c62_read.specs.Line.{behind_unit, condition_front, condition_of, head_of, instruction_of}
 use Rattle.c62_read.specs.Line.{label_front, pause_of, rest_says}
 use Rattle.c62_read.specs.Program.{label_field}
 use Rattle.c62_read.specs.Laws.{LabelReadsBack, PauseReadsBack}

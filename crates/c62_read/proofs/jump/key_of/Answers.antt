@@ -1,6 +1,6 @@
-use Rattle.std.proofs.Common.{ap, sym, ◌∙◌}
+use Rattle.c62_read.proofs.Common.{ap, sym, ◌∙◌, key_from}
 use Rattle.std.proofs.lemmas.List.{drop_all}
-use Rattle.c62_read.specs.Jump.{key_from, key_of}
+use Rattle.c62_read.specs.Jump.{key_of}
 use Rattle.c62_read.proofs.jump.key_of.Goals as goal
 
 pub returns : goal.returns

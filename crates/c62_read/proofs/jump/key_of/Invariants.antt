@@ -1,5 +1,4 @@
-use Rattle.std.proofs.Common.{◌≡◌, drop}
-use Rattle.c62_read.specs.Jump.{key_from}
+use Rattle.c62_read.proofs.Common.{◌≡◌, drop, key_from}
 use Rattle.c62_read.proofs.jump.key_of.Given as goal
 
 abbrev pub invariant-loop-byte : goal.invariant-loop-byte

@@ -1,5 +1,4 @@
-use Rattle.std.proofs.Common.{sym, ap, ◌∙◌}
-use Rattle.c62_read.specs.Kind.{kinds_of}
+use Rattle.c62_read.proofs.Common.{sym, ap, ◌∙◌, kinds_of}
 use Rattle.c62_read.proofs.KindLemmas.{lone_is}
 use Rattle.c62_read.proofs.kind.next_kind.Goals as goal
 

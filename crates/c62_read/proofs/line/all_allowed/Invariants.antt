@@ -1,6 +1,4 @@
-use Rattle.std.proofs.Common.{◌≡◌, take}
-use Rattle.std.specs.List.{list_all}
-use Rattle.c62_read.specs.Text.{is_allowed}
+use Rattle.c62_read.proofs.Common.{◌≡◌, take, list_all, is_allowed}
 use Rattle.c62_read.proofs.line.all_allowed.Given as goal
 
 abbrev pub invariant-loop-b : goal.invariant-loop-b

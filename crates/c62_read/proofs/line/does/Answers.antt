@@ -1,4 +1,4 @@
-use Rattle.std.proofs.Common.{sym}
+use Rattle.c62_read.proofs.Common.{sym}
 use Rattle.c62_read.proofs.SaysLemmas.{made_says}
 use Rattle.c62_read.proofs.line.does.Goals as goal
 

@@ -1,6 +1,4 @@
-use Rattle.std.proofs.Common.{◌≡◌, length}
-use Rattle.c62_read.specs.Text.{tokens, words_left}
-use Rattle.c62_read.specs.Line.{has_colon}
+use Rattle.c62_read.proofs.Common.{◌≡◌, length, tokens, words_left, has_colon}
 use Rattle.c62_read.proofs.line.has_colon.Given as goal
 
 abbrev pub invariant-loop-word : goal.invariant-loop-word

@@ -1,10 +1,4 @@
-use Rattle.std.proofs.Common.{◌≡◌, [], ◌∷◌, not, sym, ap, ◌∙◌, rules}
-use Rattle.std.specs.List.{filter, list_any}
-use Rattle.std.specs.Prelude.{map}
-use Rattle.std.proofs.lemmas.Fn.{filter_same}
-use Rattle.c62_read.specs.declared.jump.Jump.{Jump}
-use Rattle.c62_read.specs.Program.{is_among}
-use Rattle.c62_read.specs.Walk.{asked_of}
+use Rattle.c62_read.proofs.Common.{◌≡◌, [], ◌∷◌, not, sym, ap, ◌∙◌, rules, filter, list_any, map, filter_same, Jump, is_among, asked_of}
 use Rattle.c62_read.proofs.MissedLemmas.{kept_are, none_known}
 use Rattle.c62_read.proofs.missed.leave_out.Goals as goal
 

@@ -1,5 +1,4 @@
-use Rattle.std.proofs.Common.{◌≡◌, [], sym, ap, ◌∙◌, arith}
-use Rattle.std.proofs.lemmas.List.{nil_from_length}
+use Rattle.c62_read.proofs.Common.{◌≡◌, [], sym, ap, ◌∙◌, arith, nil_from_length}
 use Rattle.c62_read.specs.Mnemonic.{operation_named}
 use Rattle.c62_read.proofs.NameLemmas.{named_by, named_in_capitals, named_none}
 use Rattle.c62_read.proofs.mnemonic.operation_named.Goals as goal

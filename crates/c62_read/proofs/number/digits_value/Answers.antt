@@ -1,5 +1,4 @@
-use Rattle.std.proofs.Common.{◌+◌, ◌*◌, refl, arith}
-use Rattle.std.specs.Char.{digit_value}
+use Rattle.c62_read.proofs.Common.{◌+◌, ◌*◌, refl, arith, digit_value}
 use Rattle.std.proofs.lemmas.Int.Digits.{digits_value_more}
 use Rattle.c62_read.proofs.NumberLemmas.{digit_more, digit_given, fits, within}
 use Rattle.c62_read.proofs.number.digits_value.Goals as goal

@@ -1,5 +1,4 @@
-use Rattle.std.proofs.Common.{◌≡◌, ◌<◌, ◌*◌, ◌^◌, take}
-use Rattle.std.specs.Str.Parse.{digits_value}
+use Rattle.c62_read.proofs.Common.{◌≡◌, ◌<◌, ◌*◌, ◌^◌, take, digits_value}
 use Rattle.c62_read.proofs.number.digits_value.Given as goal
 
 abbrev pub invariant-loop-d : goal.invariant-loop-d

@@ -1,4 +1,4 @@
-use Rattle.std.proofs.Common.{sym}
+use Rattle.c62_read.proofs.Common.{sym}
 use Rattle.c62_read.proofs.Registers.{numbered-known}
 use Rattle.c62_read.proofs.number.numbered.Goals as goal
 

@@ -1,4 +1,4 @@
-use Rattle.std.proofs.Common.{arith}
+use Rattle.c62_read.proofs.Common.{arith}
 use Rattle.c62_read.proofs.BlockLemmas.{all_aimed}
 use Rattle.c62_read.proofs.program.aim_all.Goals as goal
 

@@ -1,6 +1,4 @@
-use Rattle.std.proofs.Common.{◌≡◌, ◌≤◌, ◌<◌, ℕ, length, get_or}
-use Rattle.c62_read.specs.declared.block.SerialInsn.{SerialInsn}
-use Rattle.c62_read.specs.Program.{aimed, numbered_of}
+use Rattle.c62_read.proofs.Common.{◌≡◌, ◌≤◌, ◌<◌, ℕ, length, get_or, SerialInsn, aimed, numbered_of}
 use Rattle.c62_read.proofs.program.aim_all.Given as goal
 
 abbrev pub invariant-loop-entry : goal.invariant-loop-entry

@@ -1,12 +1,7 @@
-use Rattle.std.proofs.Common.{◌≡◌, suc, ◌+◌, List, [], ◌∷◌, length, length-append, true, map, sym, ap, arith, ◌∙◌}
-use Rattle.std.specs.List.{list_all}
-use Rattle.std.specs.Prelude.{Option}
-use Rattle.std.specs.Vec.Iter.{into_iter_items}
-use Rattle.std.proofs.lemmas.Bool.{and_parts}
-use Rattle.std.proofs.lemmas.Simd.{map-map}
-use Rattle.c62_read.specs.declared.program.BlockReader.{BlockReader}
-use Rattle.c62_read.specs.Program.{Draft, Name, block_in, block_parts, target_number}
-use Rattle.c62_read.specs.Walk.{draft_of, is_whole, number_among}
+use Rattle.c62_read.proofs.Common.{◌≡◌, suc, ◌+◌, List, [], ◌∷◌, length, length-append, true, map, sym, ap, arith, ◌∙◌, list_all, Option}
+use Rattle.c62_read.proofs.Common.{into_iter_items, and_parts, map-map, BlockReader, Draft, block_in, block_parts, target_number, draft_of}
+use Rattle.c62_read.proofs.Common.{is_whole, number_among}
+use Rattle.c62_read.specs.Program.{Name}
 use Rattle.c62_read.proofs.BlockLemmas.{number_is}
 use Rattle.c62_read.proofs.BlockLemmas.{one_made}
 use Rattle.c62_read.proofs.program.all_blocks.Goals as goal

@@ -1,9 +1,4 @@
-use Rattle.std.proofs.Common.{◌≡◌, ◌+◌, ◌++◌, length, true}
-use Rattle.std.specs.Prelude.{map}
-use Rattle.std.specs.List.{list_all}
-use Rattle.std.specs.Vec.Iter.{into_iter_items}
-use Rattle.c62_read.specs.Program.{block_in, block_parts}
-use Rattle.c62_read.specs.Walk.{draft_of, is_whole}
+use Rattle.c62_read.proofs.Common.{◌≡◌, ◌+◌, ◌++◌, length, true, map, list_all, into_iter_items, block_in, block_parts, draft_of, is_whole}
 use Rattle.c62_read.proofs.program.all_blocks.Given as goal
 
 abbrev pub invariant-loop-block : goal.invariant-loop-block

@@ -1,5 +1,4 @@
-use Rattle.std.proofs.Common.{◌≡◌, take}
-use Rattle.std.specs.Prelude.{map}
+use Rattle.c62_read.proofs.Common.{◌≡◌, take, map}
 use Rattle.c62_read.proofs.program.block_labels.Given as goal
 
 abbrev pub invariant-loop-block : goal.invariant-loop-block

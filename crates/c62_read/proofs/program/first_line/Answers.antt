@@ -1,6 +1,4 @@
-use Rattle.std.proofs.Common.{◌<◌, ℕ, ◌+◌, List, ◌∷◌, length, drop, sym, ap, ◌∙◌, rules}
-use Rattle.std.proofs.lemmas.List.{take_rest}
-use Rattle.c62_read.specs.Text.{lines_of}
+use Rattle.c62_read.proofs.Common.{◌<◌, ℕ, ◌+◌, List, ◌∷◌, length, drop, sym, ap, ◌∙◌, rules, take_rest, lines_of}
 use Rattle.c62_read.proofs.LineLemmas.{first_is, only_is}
 use Rattle.c62_read.proofs.program.first_line.Goals as goal
 

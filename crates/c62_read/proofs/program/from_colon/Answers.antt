@@ -1,7 +1,4 @@
-use Rattle.std.proofs.Common.{ℕ, List, eqb, ap, ◌∙◌}
-use Rattle.std.proofs.lemmas.List.{take_rest}
-use Rattle.c62_read.specs.Text.{lines_of}
-use Rattle.c62_read.specs.Program.{labels_of}
+use Rattle.c62_read.proofs.Common.{ℕ, List, eqb, ap, ◌∙◌, take_rest, lines_of, labels_of}
 use Rattle.c62_read.proofs.FirstByte.{none_before}
 use Rattle.c62_read.proofs.SkipLemmas.{skipped_labels}
 use Rattle.c62_read.proofs.program.from_colon.Goals as goal

@@ -1,9 +1,5 @@
-use Rattle.std.proofs.Common.{sym}
-use Rattle.std.specs.Prelude.{map}
-use Rattle.std.specs.Option.{option_to_list}
-use Rattle.c62_read.specs.Text.{lines_of}
-use Rattle.c62_read.specs.Program.{labels_of, label_field}
-use Rattle.c62_read.specs.Walk.{asked_of}
+use Rattle.c62_read.proofs.Common.{sym, map, option_to_list, lines_of, labels_of, asked_of}
+use Rattle.c62_read.specs.Program.{label_field}
 use Rattle.c62_read.proofs.MissedLemmas.{missed_all, missed_more}
 use Rattle.c62_read.proofs.program.leave_out_labels.Goals as goal
 

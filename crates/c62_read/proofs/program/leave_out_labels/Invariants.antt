@@ -1,8 +1,4 @@
-use Rattle.std.proofs.Common.{◌≡◌, length}
-use Rattle.std.specs.Prelude.{map}
-use Rattle.c62_read.specs.Text.{lines_of}
-use Rattle.c62_read.specs.Program.{labels_of}
-use Rattle.c62_read.specs.Walk.{asked_of, missed}
+use Rattle.c62_read.proofs.Common.{◌≡◌, length, map, lines_of, labels_of, asked_of, missed}
 use Rattle.c62_read.proofs.program.leave_out_labels.Given as goal
 
 abbrev pub invariant-loop-line : goal.invariant-loop-line

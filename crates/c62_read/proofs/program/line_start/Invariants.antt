@@ -1,4 +1,4 @@
-use Rattle.std.proofs.Common.{◌≤◌}
+use Rattle.c62_read.proofs.Common.{◌≤◌}
 use Rattle.c62_read.proofs.program.line_start.Given as goal
 
 abbrev pub invariant-loop-start : goal.invariant-loop-start

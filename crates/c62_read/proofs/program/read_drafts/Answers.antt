@@ -1,9 +1,6 @@
-use Rattle.std.proofs.Common.{◌≡◌, ◌++◌, ℕ, [], Option, None, Ok, Err, refl, sym, ap, arith, inr, ◌∙◌}
-use Rattle.std.specs.Prelude.{map}
-use Rattle.c62_read.specs.Text.{lines_of}
-use Rattle.c62_read.specs.Program.{labels_of}
-use Rattle.c62_read.specs.Walk.{Drafts, add_line, add_lines, all_drafts, asked_of, drafts_of, first_line, missed, own_labels}
-use Rattle.c62_read.specs.Walk.{unless_missed}
+use Rattle.c62_read.proofs.Common.{◌≡◌, ◌++◌, ℕ, [], Option, None, Ok, Err, refl, sym, ap, arith, inr, ◌∙◌, map, lines_of, labels_of, Drafts}
+use Rattle.c62_read.proofs.Common.{all_drafts, asked_of, drafts_of, first_line, missed, own_labels, unless_missed}
+use Rattle.c62_read.specs.Walk.{add_line, add_lines}
 use Rattle.c62_read.proofs.WalkLemmas.{labels_stay, read_stands, stepped, whole_blocks}
 use Rattle.c62_read.proofs.program.read_drafts.Goals as goal
 

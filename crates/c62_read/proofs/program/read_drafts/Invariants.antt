@@ -1,8 +1,6 @@
-use Rattle.std.proofs.Common.{◌≡◌, ◌+◌, ◌++◌, ◌≤◌, length}
-use Rattle.std.specs.Prelude.{map}
-use Rattle.c62_read.specs.Text.{lines_of}
-use Rattle.c62_read.specs.Program.{labels_of}
-use Rattle.c62_read.specs.Walk.{add_lines, all_drafts, asked_of, drafts_of, first_line, missed, no_drafts, own_labels, unless_missed}
+use Rattle.c62_read.proofs.Common.{◌≡◌, ◌+◌, ◌++◌, ◌≤◌, length, map, lines_of, labels_of, all_drafts, asked_of, drafts_of, first_line, missed}
+use Rattle.c62_read.proofs.Common.{no_drafts, own_labels, unless_missed}
+use Rattle.c62_read.specs.Walk.{add_lines}
 use Rattle.c62_read.proofs.program.read_drafts.Given as goal
 
 abbrev pub invariant-loop-line : goal.invariant-loop-line

@@ -1,8 +1,5 @@
-use Rattle.std.proofs.Common.{ap, inr, ◌∙◌}
-use Rattle.std.specs.Prelude.{map}
+use Rattle.c62_read.proofs.Common.{ap, inr, ◌∙◌, map, block_parts, Drafts, draft_of, drafts_of}
 use Rattle.std.proofs.lemmas.Result.{err_from_is_err_and}
-use Rattle.c62_read.specs.Program.{block_parts}
-use Rattle.c62_read.specs.Walk.{Drafts, draft_of, drafts_of}
 use Rattle.c62_read.proofs.ProgramLaws.{targets_read}
 use Rattle.c62_read.proofs.WalkLemmas.{too_long, program_read, program_refused}
 use Rattle.c62_read.proofs.program.read_program.Goals as goal

@@ -1,5 +1,4 @@
-use Rattle.std.proofs.Common.{length, ◌≡◌}
-use Rattle.c62_read.specs.Text.{tokens}
+use Rattle.c62_read.proofs.Common.{length, ◌≡◌, tokens}
 use Rattle.c62_read.proofs.token.from_token.Given as goal
 
 abbrev pub invariant-loop-start : goal.invariant-loop-start

@@ -1,8 +1,6 @@
-use Rattle.std.proofs.Common.{◌≡◌, ℕ, ◌<◌, Bool, true, false, not, map, cond, eqb, get_or, refl, ap, ◌∙◌, arith}
-use Rattle.std.proofs.lemmas.Bool.Decides.{nat_tests}
+use Rattle.c62_read.proofs.Common.{◌≡◌, ℕ, ◌<◌, Bool, true, false, not, map, cond, eqb, get_or, refl, ap, ◌∙◌, arith, nat_tests, is_word_byte}
 use Rattle.std.proofs.lemmas.List.FromFn.{get_or-map-range_with_len}
 use Rattle.std.specs.List.{range_with_len}
-use Rattle.c62_read.specs.Text.{is_word_byte}
 use Rattle.c62_read.specs.declared.token.TheConstants.{WORD_BYTES}
 use Rattle.c62_read.proofs.token.is_word_byte.Goals as goal
 

@@ -1,7 +1,4 @@
-use Rattle.std.proofs.Common.{◌≡◌, true, false, drop, take, sym, arith, ◌∙◌}
-use Rattle.std.specs.List.{list_all}
-use Rattle.std.proofs.lemmas.List.{take_rest}
-use Rattle.c62_read.specs.Text.{begins, is_word_byte}
+use Rattle.c62_read.proofs.Common.{◌≡◌, true, false, drop, take, sym, arith, ◌∙◌, list_all, take_rest, begins, is_word_byte}
 use Rattle.c62_read.proofs.TokenLemmas.{joined_token}
 use Rattle.c62_read.proofs.token.token_len.Goals as goal
 

@@ -1,6 +1,4 @@
-use Rattle.std.proofs.Common.{sym, ap, ◌∙◌}
-use Rattle.std.proofs.lemmas.List.{take_rest}
-use Rattle.c62_read.specs.Text.{tokens}
+use Rattle.c62_read.proofs.Common.{sym, ap, ◌∙◌, take_rest, tokens}
 use Rattle.c62_read.proofs.TokenLemmas.{tokens_blanks}
 use Rattle.c62_read.proofs.token.without_indent.Goals as goal
 

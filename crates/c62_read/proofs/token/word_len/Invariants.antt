@@ -1,6 +1,4 @@
-use Rattle.std.proofs.Common.{length, ◌-◌, ◌≤◌, ◌≡◌, take, true}
-use Rattle.std.specs.List.{list_all}
-use Rattle.c62_read.specs.Text.{is_word_byte}
+use Rattle.c62_read.proofs.Common.{length, ◌-◌, ◌≤◌, ◌≡◌, take, true, list_all, is_word_byte}
 use Rattle.c62_read.proofs.token.word_len.Given as goal
 
 abbrev pub invariant-loop-len : goal.invariant-loop-len

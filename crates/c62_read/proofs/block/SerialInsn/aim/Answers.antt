@@ -1,4 +1,4 @@
-use Rattle.std.proofs.Common.{sym, ◌∙◌}
+use Rattle.c62_read.proofs.Common.{sym, ◌∙◌}
 use Rattle.std.proofs.lemmas.Bool.{false≢true}
 use Rattle.c62_insn.proofs.AimLemmas.{aimed}
 use Rattle.c62_read.proofs.block.SerialInsn.aim.Goals as goal

@@ -1,4 +1,4 @@
-use Rattle.std.proofs.Common.{◌≤◌, length, arith}
+use Rattle.c62_read.proofs.Common.{◌≤◌, length, arith}
 use Rattle.std.proofs.lemmas.Grind.{common_steps}
 use Rattle.c62_read.proofs.NumberLemmas.{label_few}
 use Rattle.c62_read.proofs.label.Label.new.Goals as goal

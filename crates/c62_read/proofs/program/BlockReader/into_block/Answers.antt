@@ -1,8 +1,5 @@
-use Rattle.std.proofs.Common.{◌≡◌, List, length, map, true, sym, ap, subst, arith, ◌∙◌}
+use Rattle.c62_read.proofs.Common.{◌≡◌, List, length, map, true, sym, ap, subst, arith, ◌∙◌, SerialInsn, is_block, aimed, numbered_of}
 use Rattle.std.proofs.lemmas.List.{with_items_is}
-use Rattle.c62_read.specs.declared.block.SerialInsn.{SerialInsn}
-use Rattle.c62_read.specs.Block.{is_block}
-use Rattle.c62_read.specs.Program.{aimed, numbered_of}
 use Rattle.c62_read.proofs.BlockLemmas.{aimed_block}
 use Rattle.c62_read.proofs.program.BlockReader.into_block.Goals as goal
 

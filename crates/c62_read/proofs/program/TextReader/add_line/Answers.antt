@@ -1,6 +1,4 @@
-use Rattle.std.proofs.Common.{◌≡◌, [], arith, rules}
-use Rattle.std.proofs.lemmas.List.{nil_from_length}
-use Rattle.c62_read.specs.Walk.{drafts_of}
+use Rattle.c62_read.proofs.Common.{◌≡◌, [], arith, rules, nil_from_length, drafts_of}
 use Rattle.c62_read.proofs.HeadLemmas.{empty_line}
 use Rattle.c62_read.proofs.program.TextReader.add_line.Goals as goal
 

@@ -1,11 +1,5 @@
-use Rattle.std.proofs.Common.{◌≡◌, not, rules}
-use Rattle.std.specs.List.{filter}
-use Rattle.std.specs.Prelude.{map}
-use Rattle.std.proofs.lemmas.Fn.{filter_same}
-use Rattle.c62_read.specs.declared.jump.Jump.{Jump}
-use Rattle.c62_read.specs.Text.{lines_of}
-use Rattle.c62_read.specs.Program.{is_among, labels_of}
-use Rattle.c62_read.specs.Walk.{all_drafts, asked_of, drafts_of, own_labels}
+use Rattle.c62_read.proofs.Common.{◌≡◌, not, rules, filter, map, filter_same, Jump, lines_of, is_among, labels_of, all_drafts, asked_of, drafts_of}
+use Rattle.c62_read.proofs.Common.{own_labels}
 use Rattle.c62_read.proofs.MissedLemmas.{kept_are, missed_more}
 use Rattle.c62_read.proofs.program.TextReader.first_missed.Goals as goal
 

@@ -1,5 +1,5 @@
-use Rattle.std.proofs.Common.{◌∙◌}
-use Rattle.c62_read.specs.Walk.{all_drafts, drafts_of, is_taken}
+use Rattle.c62_read.proofs.Common.{◌∙◌, all_drafts, drafts_of}
+use Rattle.c62_read.specs.Walk.{is_taken}
 use Rattle.c62_read.proofs.WalkLemmas.{has_own}
 use Rattle.c62_read.proofs.program.TextReader.has_label.Goals as goal
 

@@ -1,8 +1,5 @@
-use Rattle.std.proofs.Common.{length, arith, sym, ap, ◌∙◌, length-append}
-use Rattle.std.proofs.lemmas.List.{length-map}
-use Rattle.std.proofs.lemmas.Bool.{eqb-true}
-use Rattle.c62_read.specs.Text.{tokens, words_left}
-use Rattle.c62_read.specs.Kind.{kind_of, kinds_of}
+use Rattle.c62_read.proofs.Common.{length, arith, sym, ap, ◌∙◌, length-append, length-map, eqb-true, tokens, words_left, kinds_of}
+use Rattle.c62_read.specs.Kind.{kind_of}
 use Rattle.c62_read.proofs.token.Tokens.add_kinds.Goals as goal
 
 pub returns-then-is_full : goal.returns-then-is_full

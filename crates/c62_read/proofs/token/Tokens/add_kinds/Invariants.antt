@@ -1,6 +1,4 @@
-use Rattle.std.proofs.Common.{◌≡◌, ◌++◌, length}
-use Rattle.c62_read.specs.Text.{tokens, words_left}
-use Rattle.c62_read.specs.Kind.{kinds_of}
+use Rattle.c62_read.proofs.Common.{◌≡◌, ◌++◌, length, tokens, words_left, kinds_of}
 use Rattle.c62_read.proofs.token.Tokens.add_kinds.Given as goal
 
 abbrev pub invariant-loop-kind : goal.invariant-loop-kind
