@@ -1,6 +1,7 @@
 pub mod Common
 pub mod Registers
 pub mod TokenLemmas
+pub mod TokenLaws
 pub mod NumberLemmas
 pub mod ColonLemmas
 pub mod LineLemmas

@@ -8,7 +8,7 @@ ghost use Rattle.c62_insn.specs.declared.operands.Op.{Op as Operation};
 ghost use Rattle.c62_read.specs.declared.limits.TheConstants.{MOST_BYTES, MOST_INSTRUCTIONS, MOST_BLOCKS};
 ghost use Rattle.c62_read.specs.Text.{begins, tokens};
 ghost use Rattle.c62_read.specs.Line.{is_star};
-ghost use Rattle.c62_read.specs.Laws.{TokensAreTheBytes, LineReadsBack, PauseReadsBack, LabelReadsBack, NumberReadsBack, RegisterReadsBack, IsReadable, StarSaysNothing, CommentSaysNothing, CommentsSayNothing, CaseSaysNothing, CaseChangesNothing, IsRecased, IsItsLines, HasTargets, HasRisingLines, ReadsAsItsLine, HasCutBlocks, HasItsLabels, KeepsEffect, KeepEffects};
+ghost use Rattle.c62_read.specs.Laws.{TokensAreTheBytes, HasLongestTokens, LineReadsBack, PauseReadsBack, LabelReadsBack, NumberReadsBack, RegisterReadsBack, IsReadable, StarSaysNothing, CommentSaysNothing, CommentsSayNothing, CaseSaysNothing, CaseChangesNothing, IsRecased, IsItsLines, HasTargets, HasRisingLines, ReadsAsItsLine, HasCutBlocks, HasItsLabels, KeepsEffect, KeepEffects};
 
 /// A text has at most 1,048,576 bytes, a block 256 instructions, and a program 64 blocks.
 pub fn limits_are()
@@ -21,6 +21,13 @@ pub fn limits_are()
 #[tactic(auto, using(crate::proofs::BytesLemmas::tokens_are_bytes))]
 pub fn tokens_are_the_bytes()
     ensures { (line : List ℕ) → TokensAreTheBytes line }
+{}
+
+/// A line begins with a blank, with a comment, or with a token, which is the longest that fits: no more of the line may be
+/// one. What is behind it has the other tokens.
+#[tactic(auto, using(crate::proofs::TokenLaws::longest_tokens))]
+pub fn tokens_are_the_longest()
+    ensures { (line : List ℕ) → HasLongestTokens line }
 {}
 
 /// What stands behind a `;` says nothing.
