@@ -1,6 +1,8 @@
 -- Each token is the longest that fits.
-use Rattle.c62_read.proofs.Common.{◌≡◌, ℕ, zero, suc, ◌+◌, ◌<◌, ◌≤◌, Bool, true, false, ◌&&◌, ◌||◌, List, [], ◌∷◌, length, take, drop, eqb, refl, arith, inl, inr}
-use Rattle.c62_read.proofs.Common.{cases_Bool, is_ascii_digit, list_all, nat_tests, begins, is_blank, is_solid, is_word_byte, is_double, joins, tokens}
+use Rattle.c62_read.proofs.Common.{◌≡◌, ℕ, zero, suc, ◌+◌, ◌<◌, ◌≤◌, Bool, true, false, ◌&&◌, ◌||◌, List, [], ◌∷◌, length, take, drop, eqb, refl}
+use Rattle.c62_read.proofs.Common.{arith, inl, inr}
+use Rattle.c62_read.proofs.Common.{cases_Bool, is_ascii_digit, list_all, nat_tests, begins, is_blank, is_solid, is_word_byte, is_double, joins}
+use Rattle.c62_read.proofs.Common.{tokens}
 use Rattle.c62_read.specs.Text.{is_sign}
 use Rattle.c62_read.specs.Laws.{HasLongestTokens, IsLongestToken, goes_on, is_pair, may_be_token}
 use Rattle.c62_read.proofs.TokenLemmas.{joined_no_double, joined_token, joined_word, tokens_alone, tokens_blank, tokens_double, tokens_last}
@@ -60,7 +62,8 @@ swapped : (one other rest : Bool) → ((one && rest) && other) ≡ ((one && othe
 swapped one other rest = grind (arith, nat_tests)
 
 goes_is : (b c : ℕ) (rest : List ℕ) → goes_on b (c ∷ rest) ≡ (joins b c && list_all is_word_byte rest)
-goes_is b c rest = rw (joins_is b c) (swapped (is_word_byte c) (is_word_byte b || eqb b 46 || is_sign b && is_ascii_digit c) (list_all is_word_byte rest))
+goes_is b c rest = rw (joins_is b c)
+    (swapped (is_word_byte c) (is_word_byte b || eqb b 46 || is_sign b && is_ascii_digit c) (list_all is_word_byte rest))
 
 fits_so : (b c : ℕ) (rest : List ℕ) → may_be_token (b ∷ c ∷ rest) ≡ (is_nil rest && is_double b c || joins b c && list_all is_word_byte rest)
 fits_so b c [] = rw (pair_is b c, goes_is b c []) refl

@@ -1,6 +1,8 @@
 -- Laws of lines: what is spelled reads back.
-use Rattle.std.specs.Prelude.{◌≡◌, ℕ, ◌+◌, ◌≤◌, ◌<◌, ◌^◌, nat_lt, Bool, true, false, ◌&&◌, ◌||◌, ℤ, pos, ◌≤ℤ◌, List, [], ◌∷◌, ◌++◌, length, map, filter, take_while, not, ◌==◌}
-use Rattle.std.specs.Prelude.{take, drop, option_map, position, unwrap_or, slice_get, Contains, Option, Some, None, is_some, Result, Ok, Err, codes, decimal}
+use Rattle.std.specs.Prelude.{◌≡◌, ℕ, ◌+◌, ◌≤◌, ◌<◌, ◌^◌, nat_lt, Bool, true, false, ◌&&◌, ◌||◌, ℤ, pos, ◌≤ℤ◌, List, [], ◌∷◌, ◌++◌, length, map}
+use Rattle.std.specs.Prelude.{filter, take_while, not, ◌==◌}
+use Rattle.std.specs.Prelude.{take, drop, option_map, position, unwrap_or, slice_get, Contains, Option, Some, None, is_some, Result, Ok, Err, codes}
+use Rattle.std.specs.Prelude.{decimal}
 use Rattle.std.specs.Prelude.{IsTrue}
 use Rattle.std.specs.Char.{is_ascii_digit, to_ascii_lowercase}
 use Rattle.std.specs.Fmt.{signed_decimal}
@@ -169,7 +171,8 @@ target_in said = None
 abbrev pub AreRecased : List (List ℕ) → List (List ℕ) → Type 0
 AreRecased [] [] = Unit {0}
 AreRecased (line ∷ lines) (other ∷ others) =
-    (IsRecased 32 line other × (label_field line ≡ label_field other) × (target_in (line_of line) ≡ target_in (line_of other))) × AreRecased lines others
+    (IsRecased 32 line other × (label_field line ≡ label_field other)
+    × (target_in (line_of line) ≡ target_in (line_of other))) × AreRecased lines others
 AreRecased _ _ = ⊥
 
 -- a text says what it says in any case of its letters, where labels keep theirs
