@@ -1,7 +1,7 @@
 -- The tokens of a line are its bytes.
 use Rattle.c62_read.proofs.Common.{◌≡◌, ℕ, true, false, cond, not, eqb, List, [], ◌∷◌, refl, arith, inl, inr, filter, take_while, flat_map}
 use Rattle.c62_read.proofs.Common.{cases_Bool, nat_tests, take_while-cons, grow, is_blank, is_double, joins, tokens}
-use Rattle.c62_read.proofs.TokenLemmas.{on_test}
+use Rattle.c62_read.proofs.TokenLemmas.{either, on_test}
 
 abbrev joined_bytes : List (List ℕ) → List ℕ
 joined_bytes words = flat_map (λ t. t) words
@@ -16,12 +16,6 @@ grown : (b : ℕ) (words : List (List ℕ)) → joined_bytes (grow b words) ≡ 
 grown b [] = refl
 grown b (word ∷ words) = refl
 
-double_dark : (b c : ℕ) → is_double b c ≡ true → (eqb c 59 ≡ false) × (is_blank c ≡ false)
-double_dark b c double =
-    let text : eqb c 59 ≡ false = grind (arith, nat_tests) in
-    let solid : is_blank c ≡ false = grind (arith, nat_tests) in
-    (text, solid)
-
 pub tokens_are_bytes : (line : List ℕ) → flat_map (λ t. t) (tokens line) ≡ filter (λ b. not (is_blank b)) (take_while (λ b. not (eqb b 59)) line)
 tokens_are_bytes [] = refl
 tokens_are_bytes (b ∷ []) = rw (kept_more b []) (grind (arith, nat_tests))
@@ -35,6 +29,9 @@ tokens_are_bytes (b ∷ c ∷ rest) =
       grown b (tokens (c ∷ rest)),
       tokens_are_bytes (c ∷ rest),
     ) (elim (cases_Bool (is_double b c)) [
-      | inl double ↦ let second = double_dark b c double in rw (double, tokens_are_bytes rest, kept_more c rest, second.0, second.1) refl
-      | inr single ↦ rw single (elim (cases_Bool (joins b c)) [ inl joined ↦ rw joined refl | inr alone ↦ rw alone refl ])
+      | inl double ↦
+          let text : eqb c 59 ≡ false = grind (arith, nat_tests) in
+          let solid : is_blank c ≡ false = grind (arith, nat_tests) in
+          rw (double, tokens_are_bytes rest, kept_more c rest, text, solid) refl
+      | inr single ↦ rw (single, either (joins b c)) refl
     ])

@@ -1,5 +1,5 @@
 -- What a line says in small letters, but for an `X` behind a 0: such a line stands for all that are the same but for case.
-use Rattle.c62_read.proofs.Common.{◌≡◌, ℕ, ◌+◌, ◌-◌, ◌*◌, Bool, true, false, not, cond, eqb, ltb, ◌&&◌, List, [], ◌∷◌, length, Option, None, refl}
+use Rattle.c62_read.proofs.Common.{◌≡◌, ℕ, ◌+◌, ◌-◌, ◌*◌, Bool, true, false, not, cond, eqb, ltb, ◌&&◌, ◌||◌, List, [], ◌∷◌, length, Option, None, refl}
 use Rattle.c62_read.proofs.Common.{ap, ◌∙◌, arith, map, option_and_then, digit_value, to_ascii_lowercase, is_ascii_digit, list_all, bytes_eq}
 use Rattle.c62_read.proofs.Common.{cond_both, ltb-true, nat_tests, Side, begins, is_sign, is_word_byte, is_double, joins, are_digits, spells}
 use Rattle.c62_read.proofs.Common.{IsRecased}
@@ -46,12 +46,8 @@ joins_low y z b c =
     rw (words y b, words z c, test_low is_sign refl y b, digit_low z c, test_low (λ x. eqb x 46) refl y b) refl
 
 pub double_low : (y z : Bool) (b c : ℕ) → is_double (low_byte y b) (low_byte z c) ≡ is_double b c
-double_low y z b c =
-    low_by (λ e c. is_double (low_byte y b) e ≡ is_double b c)
-    (λ c. low_by (λ d b. is_double d c ≡ is_double b c) (λ b. refl) (λ b high less. grind (arith, nat_tests)) y b)
-    (λ c over under. low_by (λ d b. is_double d (c + 32) ≡ is_double b c) (λ b. grind (arith, nat_tests))
-    (λ b high less. grind (arith, nat_tests)) y b)
-    z c
+unfolding low_byte
+double_low y z b c = rw (test_low (λ x. is_sign x || eqb x 124) refl y b) (grind (arith, nat_tests))
 
 -- ---- words
 
@@ -182,5 +178,4 @@ pub same_low : (before : ℕ) (line other : List ℕ) → IsRecased before line 
 same_low before [] [] same = refl
 same_low before (b ∷ line) (c ∷ other) same =
     rw (same_byte before b c same.0 same.1, same_low b line other same.2, same_zero b c same.0) refl
-same_low before [] (c ∷ other) same = absurd same
-same_low before (b ∷ line) [] same = absurd same
+same_low before line other same = absurd same

@@ -1,5 +1,5 @@
 -- A line in small letters says the same, but for the case of labels: so do two lines that are the same but for case.
-use Rattle.c62_read.proofs.Common.{◌≡◌, ℕ, Bool, false, not, cond, eqb, ◌&&◌, List, [], ◌∷◌, Option, Some, None, Result, Ok, Err, refl, sym, ap}
+use Rattle.c62_read.proofs.Common.{◌≡◌, ℕ, Bool, true, false, not, cond, eqb, ◌&&◌, List, [], ◌∷◌, Option, Some, None, Result, Ok, Err, refl, sym, ap}
 use Rattle.c62_read.proofs.Common.{◌∙◌, arith, inl, inr, map, option_and_then, option_map, codes, is_ascii_digit, cases_Bool, nat_tests, Side}
 use Rattle.c62_read.proofs.Common.{Letter, Op, Block, FormFault, Cause, BadOperand, BadUnit, UnknownMnemonic, Mnemonic, Operation, Nop, Path}
 use Rattle.c62_read.proofs.Common.{WrittenUnit, grow, begins, is_allowed, is_blank, is_solid, is_word_byte, is_double, joins, lines_of, tokens}
@@ -21,7 +21,7 @@ use Rattle.c62_read.specs.Line.{head_of, if_fitting, instruction_of}
 use Rattle.c62_read.specs.Line.{label_alone, label_front, line_of}
 use Rattle.c62_read.specs.Line.{rest_says, text_fault, with_rest}
 use Rattle.c62_read.specs.Laws.{AreRecased, CaseChangesNothing, CaseSaysNothing, in_small, small_labels, small_says, target_in}
-use Rattle.c62_read.proofs.TokenLemmas.{joined_word, on_test}
+use Rattle.c62_read.proofs.TokenLemmas.{by_test, joined_word, on_test}
 use Rattle.c62_read.proofs.CaseBytes.{all_low, begins_low, digit_low, double_low, joins_low, label_low, length_low, low, low_by, low_byte, lowered}
 use Rattle.c62_read.proofs.CaseBytes.{number_low, plain_byte, register_low, same_low, small_low, spells_low, test_low}
 
@@ -55,41 +55,29 @@ tokens_lowered : (zero : Bool) (line : List ℕ) → (zero && not (begins is_wor
     → tokens (lowered zero line) ≡ first_low zero (tokens line)
 tokens_lowered zero [] goes = refl
 tokens_lowered zero (b ∷ []) goes =
-    rw (test_low is_solid refl zero b) (elim (cases_Bool (is_solid b)) [ inl solid ↦ rw solid refl | inr other ↦ rw other refl ])
+    rw (test_low is_solid refl zero b, on_test (first_low zero)) refl
 tokens_lowered zero (b ∷ c ∷ rest) goes =
     rw (
       test_low (λ x. eqb x 59) refl zero b,
       test_low is_blank refl zero b,
       double_low zero (eqb b 48) b c,
       joins_low zero (eqb b 48) b c,
-    ) (elim (cases_Bool (eqb b 59)) [
-      | inl comment ↦ rw comment refl
-      | inr text ↦ elim (cases_Bool (is_blank b)) [
-        | inl blank ↦
-            let plain : zero ≡ false = grind (arith, nat_tests) in
-            let other : eqb b 48 ≡ false = grind (arith, nat_tests) in
-            rw (text, blank, plain)
-            (ap (λ (y : Bool). tokens (lowered y (c ∷ rest))) other ∙ tokens_lowered false (c ∷ rest) refl)
-        | inr dark ↦ elim (cases_Bool (is_double b c)) [
-          | inl double ↦
-              let other : eqb c 48 ≡ false = grind (arith, nat_tests) in
-              rw (text, dark, double)
-              (ap (λ (ws : List Word). (low_byte zero b ∷ low_byte (eqb b 48) c ∷ []) ∷ ws)
-              (ap (λ (y : Bool). tokens (lowered y rest)) other ∙ tokens_lowered false rest refl ∙ first_plain (tokens rest)))
-          | inr single ↦ elim (cases_Bool (joins b c)) [
-            | inl joined ↦
-                let word = joined_word b c joined in
-                let more : (eqb b 48 && not (is_word_byte c)) ≡ false = grind (arith, nat_tests) in
-                rw (text, dark, single, joined)
-                (ap (grow (low_byte zero b)) (tokens_lowered (eqb b 48) (c ∷ rest) more) ∙ grown zero b (tokens (c ∷ rest)))
-            | inr alone ↦
-                rw (text, dark, single, alone)
-                (ap (λ (ws : List Word). (low_byte zero b ∷ []) ∷ ws)
-                (ap tokens (loose_low b c rest alone) ∙ tokens_lowered false (c ∷ rest) refl ∙ first_plain (tokens (c ∷ rest))))
-          ]
-        ]
-      ]
-    ])
+      on_test (first_low zero),
+      on_test (first_low zero),
+      on_test (first_low zero),
+      on_test (first_low zero),
+    ) (by_test (eqb b 59) (λ comment. refl) (λ text. by_test (is_blank b) (λ blank.
+        let plain : zero ≡ false = grind (arith, nat_tests) in
+        let other : eqb b 48 ≡ false = grind (arith, nat_tests) in
+        rw plain (ap (λ (y : Bool). tokens (lowered y (c ∷ rest))) other ∙ tokens_lowered false (c ∷ rest) refl)) (λ dark. by_test (is_double b c) (λ double.
+        let other : eqb c 48 ≡ false = grind (arith, nat_tests) in
+        ap (λ (ws : List Word). (low_byte zero b ∷ low_byte (eqb b 48) c ∷ []) ∷ ws)
+        (ap (λ (y : Bool). tokens (lowered y rest)) other ∙ tokens_lowered false rest refl ∙ first_plain (tokens rest))) (λ single. by_test (joins b c) (λ joined.
+        let word = joined_word b c joined in
+        let more : (eqb b 48 && not (is_word_byte c)) ≡ false = grind (arith, nat_tests) in
+        rw (tokens_lowered (eqb b 48) (c ∷ rest) more) (grown zero b (tokens (c ∷ rest)))) (λ alone.
+        ap (λ (ws : List Word). (low_byte zero b ∷ []) ∷ ws)
+        (ap tokens (loose_low b c rest alone) ∙ tokens_lowered false (c ∷ rest) refl ∙ first_plain (tokens (c ∷ rest))))))))
 
 tokens_low : (line : List ℕ) → tokens (low line) ≡ lows (tokens line)
 tokens_low line = tokens_lowered false line refl ∙ first_plain (tokens line)
@@ -115,11 +103,9 @@ mark_low (b ∷ c ∷ d ∷ w) = refl
 
 kind_low : (w : Word) → kind_of (low w) ≡ kind_of w
 unfolding kind_of
-kind_low w = rw (mark_low w) (go (written_mark w))
-  where
-    go : (mark : Option Kind) → kind_by mark (low w) ≡ kind_by mark w
-    go (Some kind) = refl
-    go None = rw (register_low w, number_low w) refl
+kind_low w =
+    rw (mark_low w) (elim (written_mark w) as (λ (mark : Option Kind). kind_by mark (low w) ≡ kind_by mark w)
+    [ Some kind ↦ refl | None ↦ rw (register_low w, number_low w) refl ])
 
 kinds_low : (ws : List Word) → kinds_of (lows ws) ≡ kinds_of ws
 kinds_low [] = refl
@@ -135,6 +121,12 @@ mnemonic_low w = simp (small_low false w) refl
 
 abbrev behind_low : {T : Type 0} → T × List Word → T × List Word
 behind_low (x, ws) = (x, lows ws)
+
+-- one function after another
+mapped : {A B C : Type 0} (f : B → C) (g : A → B) (h : A → C) → ((x : A) → h x ≡ f (g x)) → (found : Option A)
+    → option_map h found ≡ option_map f (option_map g found)
+mapped f g h same None = refl
+mapped f g h same (Some x) = ap Some (same x)
 
 -- ---- units
 
@@ -166,7 +158,7 @@ marked_low : (letter : Letter) (side : Side) (w : Word)
 unfolding mark_of
 marked_low letter side [] = refl
 marked_low letter side (b ∷ []) =
-    rw (test_low is_x refl false b) (elim (cases_Bool (is_x b)) [ inl cross ↦ rw cross refl | inr other ↦ rw other refl ])
+    rw (test_low is_x refl false b) (grind (arith, nat_tests))
 marked_low letter side (b ∷ c ∷ w) =
     rw (test_low is_x refl false b, test_low is_t refl false b, digit_low (eqb b 48) c, side_low (eqb b 48) c) (elim (cases_Bool (is_x b)) [
       | inl cross ↦ let letter : eqb b 48 ≡ false = grind (arith, nat_tests) in rw (cross, letter) refl
@@ -186,51 +178,35 @@ split_low (b ∷ l ∷ n ∷ w) =
   where
     go : (letter : Option Letter) (side : Option Side) → side_numbered n ≡ side
         → unit_of letter side (mark_of (lowered (eqb n 48) w)) ≡ option_map left_low (unit_of letter side (mark_of w))
-    go None side is = refl
-    go (Some letter) None is = refl
     go (Some letter) (Some side) is = rw (no_zero n side is) (marked_low letter side w)
+    go letter side is = refl
+
+left_behind : (ws : List Word) (found : Option (WrittenUnit × Word))
+    → option_map (with_left (lows ws)) (option_map left_low found) ≡ option_map behind_low (option_map (with_left ws) found)
+left_behind ws None = refl
+left_behind ws (Some (unit, [])) = refl
+left_behind ws (Some (unit, b ∷ left)) = refl
 
 unit_low : (ws : List Word) → unit_front (lows ws) ≡ option_map behind_low (unit_front ws)
 unfolding unit_front
 unit_low [] = refl
-unit_low (w ∷ ws) =
-    rw (begins_low is_dot refl w, split_low w) (elim (cases_Bool (begins is_dot w)) [
-      | inl dot ↦ rw dot (go (unit_split w))
-      | inr other ↦ rw other refl
-    ])
-  where
-    go : (found : Option (WrittenUnit × Word))
-        → option_map (with_left (lows ws)) (option_map left_low found) ≡ option_map behind_low (option_map (with_left ws) found)
-    go None = refl
-    go (Some (unit, [])) = refl
-    go (Some (unit, b ∷ left)) = refl
+unit_low (w ∷ ws) = rw (begins_low is_dot refl w, split_low w, on_test (option_map behind_low), left_behind ws (unit_split w)) refl
 
 behind_mnemonic_low : (mnemonic : Mnemonic) (ws : List Word) → unit_behind mnemonic (lows ws) ≡ option_map behind_low (unit_behind mnemonic ws)
-behind_mnemonic_low mnemonic ws = rw (unit_low ws) (go (unit_front ws))
-  where
-    go : (found : Option (Option WrittenUnit × List Word)) → option_and_then (if_fitting mnemonic) (option_map behind_low found)
-        ≡ option_map behind_low (option_and_then (if_fitting mnemonic) found)
-    go None = refl
-    go (Some (unit, ws)) = rw (on_test (option_map behind_low)) refl
+behind_mnemonic_low mnemonic ws = rw (unit_low ws) (elim (unit_front ws) as (λ (found : Option (Option WrittenUnit × List Word)).
+    option_and_then (if_fitting mnemonic) (option_map behind_low found) ≡ option_map behind_low (option_and_then (if_fitting mnemonic) found))
+    [ None ↦ refl | Some found ↦ rw (on_test (option_map behind_low)) refl ])
 
 -- ---- conditions and mnemonics
 
 condition_low : (ws : List Word) → condition_front (lows ws) ≡ option_map behind_low (condition_front ws)
 unfolding condition_front
-condition_low ws = rw (kinds_low ws) (go (condition_of (kinds_of ws)))
-  where
-    go : (found : Option (Option Condition × ℕ))
-        → option_map (before_rest (lows ws)) found ≡ option_map behind_low (option_map (before_rest ws) found)
-    go None = refl
-    go (Some (cond, count)) = rw (drop-map low count ws) refl
+condition_low ws =
+    rw (kinds_low ws) (mapped behind_low (before_rest ws) (before_rest (lows ws)) (λ found. rw (drop-map low found.1 ws) refl) (condition_of (kinds_of ws)))
 
 mnemonic_front_low : (ws : List Word) → mnemonic_front (lows ws) ≡ option_map behind_low (mnemonic_front ws)
 mnemonic_front_low [] = refl
-mnemonic_front_low (w ∷ ws) = rw (mnemonic_low w) (go (mnemonic_named w))
-  where
-    go : (named : Option Mnemonic) → option_map (λ m. (m, lows ws)) named ≡ option_map behind_low (option_map (λ m. (m, ws)) named)
-    go None = refl
-    go (Some mnemonic) = refl
+mnemonic_front_low (w ∷ ws) = rw (mnemonic_low w) (mapped behind_low (λ m. (m, ws)) (λ m. (m, lows ws)) (λ m. refl) (mnemonic_named w))
 
 -- ---- what is said, but for labels
 
@@ -303,10 +279,8 @@ unfolding label_front
 label_front_low [] = refl
 label_front_low (w ∷ []) = refl
 label_front_low (w ∷ v ∷ ws) =
-    rw (spells_low (codes ":") v, label_low w) (elim (cases_Bool (spells (codes ":") v && is_label w)) [
-      | inl label ↦ rw label refl
-      | inr other ↦ rw other refl
-    ])
+    rw (spells_low (codes ":") v, label_low w)
+    (sym (on_test front_low (spells (codes ":") v && is_label w) (Some w, ws) (None, w ∷ v ∷ ws)))
 
 colon_low : (ws : List Word) → has_colon (lows ws) ≡ has_colon ws
 colon_low [] = refl
@@ -349,7 +323,7 @@ small_rest : (label : Option Word) (read other : Result Says Cause) → small ot
     → small_labels (with_rest (option_map low label) other) ≡ small_labels (with_rest label read)
 small_rest None (Ok says) (Ok others) same = cc
 small_rest (Some name) (Ok says) (Ok others) same = rw (small_label name) (cc)
-small_rest label (Err cause) (Err other) same = let e : other ≡ cause = cc in rw e refl
+small_rest label (Err cause) (Err other) same = cc
 small_rest label read other same = absurd cc
 
 said_low : (head : Head) → small_labels (with_head (head_low head)) ≡ small_labels (with_head head)
@@ -383,26 +357,19 @@ case_nothing line other same =
 
 said_same : (label name : Option Word) (read other : Result Says Cause) → small read ≡ small other → label ≡ name
     → target_in (with_rest label read) ≡ target_in (with_rest name other) → with_rest label read ≡ with_rest name other
-said_same label name (Err cause) (Err reason) e same targets = let causes : cause ≡ reason = cc in rw causes refl
-said_same label name (Ok (Jumps parts target)) (Ok (Jumps others aim)) e same targets =
-    let first : parts ≡ others = cc in
-    let second : target ≡ aim = cc in
-    rw (same, first, second) refl
-said_same label name (Ok Nothing) (Ok Nothing) e same targets = rw same refl
+said_same label name (Err cause) (Err reason) e same targets = cc
+said_same label name (Ok (Jumps parts target)) (Ok (Jumps others aim)) e same targets = cc
+said_same label name (Ok Nothing) (Ok Nothing) e same targets = cc
 said_same label name (Ok (Pause n)) (Ok (Pause m)) e same targets = cc
 said_same label name (Ok (Does parts)) (Ok (Does others)) e same targets = cc
 said_same label name read other e same targets = absurd cc
 
-words_in : Head → List Word
-words_in (Ok front) = front.1
-words_in (Err cause) = []
-
 heads_same : (line other : List ℕ) (head front : Head) → head_of line ≡ head → head_of other ≡ front → head_low head ≡ head_low front
     → label_field line ≡ label_field other → target_in (with_head head) ≡ target_in (with_head front)
     → (fault_in head ≡ fault_in front) × (with_head head ≡ with_head front)
-unfolding words_in
 heads_same line other (Ok (label, ws)) (Ok (name, vs)) e f same field targets =
-    let words : lows ws ≡ lows vs = ap words_in same in
+    let fronts : front_low (label, ws) ≡ front_low (name, vs) = cc in
+    let words : lows ws ≡ lows vs = ap (λ (front : Option Word × List Word). front.1) fronts in
     let rest : small (rest_says ws) ≡ small (rest_says vs) = sym (rest_low ws) ∙ ap (λ (us : List Word). small (rest_says us)) words ∙ rest_low vs in
     (refl, said_same label name (rest_says ws) (rest_says vs) rest (sym (field_is line label ws e) ∙ field ∙ field_is other name vs f) targets)
 heads_same line other (Err cause) (Err reason) e f same field targets = let causes : cause ≡ reason = cc in rw causes (refl, refl)
@@ -420,8 +387,7 @@ all_alike : (lines others : List (List ℕ)) → AreRecased lines others → Are
 all_alike [] [] same = End
 all_alike (line ∷ lines) (other ∷ others) same =
     And line other lines others (alike line other same.0.0 same.0.1 same.0.2) (all_alike lines others same.1)
-all_alike [] (other ∷ others) same = absurd same
-all_alike (line ∷ lines) [] same = absurd same
+all_alike lines others same = absurd same
 
 pub case_changes_nothing : (text other : List ℕ) → CaseChangesNothing text other
 case_changes_nothing text other short few same = alike_programs text other short few (all_alike (lines_of text) (lines_of other) same)

@@ -1,13 +1,14 @@
 -- Lines without a label.
 use Rattle.c62_read.proofs.Common.{◌≡◌, ℕ, ◌≤◌, ◌<◌, Bool, true, false, cond, not, eqb, ◌||◌, List, [], ◌∷◌, length, Option, None, Ok, refl, ap}
-use Rattle.c62_read.proofs.Common.{◌∙◌, arith, codes, to_ascii_lowercase, list_all, list_any, and_from, and_parts, le-ltb, or_parts, nat_tests}
-use Rattle.c62_read.proofs.Common.{begins, is_allowed, is_solid, tokens, spells, Word, Says, Nothing, has_colon, is_bars, is_star, without_colon}
+use Rattle.c62_read.proofs.Common.{◌∙◌, arith, codes, grow, to_ascii_lowercase, list_all, list_any, and_from, and_parts, le-ltb, or_parts, nat_tests}
+use Rattle.c62_read.proofs.Common.{begins, is_double, joins, is_allowed, is_solid, tokens, spells, Word, Says, Nothing, has_colon, is_bars, is_star, without_colon}
 use Rattle.c62_read.proofs.Common.{Drafts}
 use Rattle.c62_read.specs.Line.{head_of, label_front, line_of, rest_says}
 use Rattle.c62_read.specs.Program.{label_field}
 use Rattle.c62_read.specs.Walk.{add_line, hindrance, is_taken, with_says}
-use Rattle.c62_read.proofs.ColonLemmas.{begins_with, no_colon_at_all}
+use Rattle.c62_read.proofs.ColonLemmas.{no_colon_at_all}
 use Rattle.c62_read.proofs.SpelledTokens.{is_text}
+use Rattle.c62_read.proofs.TokenLemmas.{either, on_test, solid_parts}
 
 pub all_weaker : (p q : ℕ → Bool) (bytes : List ℕ) → ((b : ℕ) → p b ≡ true → q b ≡ true) → list_all p bytes ≡ true → list_all q bytes ≡ true
 all_weaker p q [] weaker all = refl
@@ -25,8 +26,7 @@ no_colon_bytes : (bytes : List ℕ) → list_all is_text bytes ≡ true → list
 no_colon_bytes [] text = refl
 no_colon_bytes (b ∷ bytes) text =
     let parts = and_parts (is_text b) (list_all is_text bytes) text in
-    let colon : eqb b 58 ≡ false = grind (arith, nat_tests) in
-    rw colon (no_colon_bytes bytes parts.1)
+    rw (no_colon_bytes bytes parts.1) (grind (arith, nat_tests))
 
 -- text has no token that is a colon
 pub no_colon : (line : List ℕ) → list_all is_text line ≡ true → has_colon (tokens line) ≡ false
@@ -70,28 +70,32 @@ plain_field line none = ap (λ (front : Option Word × List Word). front.0) (no_
 bar_byte : (b : ℕ) → eqb b 124 ≡ false → eqb (to_ascii_lowercase b) 124 ≡ false
 bar_byte b other = grind (arith, nat_tests)
 
-bar_word : (b : ℕ) (word : Word) → eqb b 124 ≡ false → spells (codes "||") (b ∷ word) ≡ false
-bar_word b word other = rw (bar_byte b other) refl
+no_bars_grown : (b : ℕ) (words : List Word) → eqb b 124 ≡ false → is_bars (grow b words) ≡ false
+no_bars_grown b [] other = rw (bar_byte b other) refl
+no_bars_grown b (word ∷ words) other = rw (bar_byte b other) refl
 
 -- a line that begins with a token's byte, and not with a bar, does not begin with bars
 pub no_bars : (start : List ℕ) → (0 < length start → begins is_solid start ≡ true) → begins (λ b. eqb b 124) start ≡ false
     → is_bars (tokens start) ≡ false
 no_bars [] solid other = refl
-no_bars (b ∷ rest) solid other =
-    let first = begins_with b rest (solid (omega arith)) in
-    ap is_bars first.is ∙ bar_word b first.word other
+no_bars (b ∷ []) solid other = rw (on_test is_bars, bar_byte b other) (grind (arith, nat_tests))
+no_bars (b ∷ c ∷ rest) solid other =
+    let parts = solid_parts b (solid (omega arith)) in
+    rw (
+      parts.0,
+      parts.1,
+      on_test is_bars,
+      on_test is_bars,
+      on_test is_bars,
+      bar_byte b other,
+      no_bars_grown b (tokens (c ∷ rest)) other,
+      either (joins b c) false,
+      either (is_double b c) false,
+    ) refl
 
 -- ---- an empty line
 
-empty_head : head_of [] ≡ Ok (None, [])
-unfolding head_of label_front
-empty_head = refl
-
-empty_rest : rest_says [] ≡ Ok Nothing
-unfolding rest_says
-empty_rest = refl
-
 pub empty_line : (number : ℕ) (line : List ℕ) (drafts : Drafts) → line ≡ []
     → add_line number line drafts ≡ record { says = Nothing; drafts = Ok drafts }
-unfolding add_line hindrance is_taken with_says
-empty_line number line drafts none = rw (none, empty_head, empty_rest) refl
+unfolding add_line hindrance is_taken with_says head_of label_front rest_says
+empty_line number line drafts none = rw none refl

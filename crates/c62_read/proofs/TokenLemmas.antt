@@ -9,6 +9,15 @@ pub on_test : {A B : Type 0} (f : A → B) (b : Bool) (x y : A) → f (cond b x 
 on_test f true x y = refl
 on_test f false x y = refl
 
+pub either : {A : Type 0} (b : Bool) (x : A) → cond b x x ≡ x
+either true x = refl
+either false x = refl
+
+-- the same where a test decides, by what it says
+pub by_test : {A : Type 0} (b : Bool) {x y u v : A} → (b ≡ true → x ≡ u) → (b ≡ false → y ≡ v) → cond b x y ≡ cond b u v
+by_test true first second = first refl
+by_test false first second = second refl
+
 pub word_solid : (c : ℕ) → is_word_byte c ≡ true → is_solid c ≡ true
 word_solid c word = grind (arith, nat_tests)
 
@@ -25,14 +34,10 @@ joined_word b c joined = grind (arith, nat_tests)
 pub solid_parts : (b : ℕ) → is_solid b ≡ true → (eqb b 59 ≡ false) × (is_blank b ≡ false)
 solid_parts b solid = let both = and_parts _ _ solid in (not-true _ both.0, not-true _ both.1)
 
-pub tokens_double : (b c : ℕ) (rest : List ℕ) → is_solid b ≡ true → is_double b c ≡ true → tokens (b ∷ c ∷ rest) ≡ (b ∷ c ∷ []) ∷ tokens rest
-tokens_double b c rest solid double = let parts = solid_parts b solid in rw (parts.0, parts.1, double) refl
-
 pub tokens_joined : (b c : ℕ) (rest : List ℕ) → is_solid b ≡ true → joins b c ≡ true → tokens (b ∷ c ∷ rest) ≡ grow b (tokens (c ∷ rest))
 tokens_joined b c rest solid joined =
     let parts = solid_parts b solid in
-    let single = joined_no_double b c joined in
-    rw (parts.0, parts.1, single, joined) refl
+    rw (parts.0, parts.1, joined_no_double b c joined, joined) refl
 
 pub tokens_alone : (b c : ℕ) (rest : List ℕ) → is_solid b ≡ true → is_double b c ≡ false → joins b c ≡ false
     → tokens (b ∷ c ∷ rest) ≡ (b ∷ []) ∷ tokens (c ∷ rest)
