@@ -1,29 +1,194 @@
--- A line in small letters says the same, but for the case of labels: so do two lines that are the same but for case.
-use Rattle.c62_read.proofs.Common.{◌≡◌, ℕ, Bool, true, false, not, cond, eqb, ◌&&◌, List, [], ◌∷◌, Option, Some, None, Result, Ok, Err, refl, sym, ap}
-use Rattle.c62_read.proofs.Common.{◌∙◌, arith, inl, inr, map, option_and_then, option_map, codes, is_ascii_digit, cases_Bool, nat_tests, Side}
-use Rattle.c62_read.proofs.Common.{Letter, Op, Block, FormFault, Cause, BadOperand, BadUnit, UnknownMnemonic, Mnemonic, Operation, Nop, Path}
-use Rattle.c62_read.proofs.Common.{WrittenUnit, grow, begins, is_allowed, is_blank, is_solid, is_word_byte, is_double, joins, lines_of, tokens}
-use Rattle.c62_read.proofs.Common.{spells, Kind, Word, kind_by, kinds_of, is_dot, fault_in, Says, Nothing, Pause, Does, Jumps, and_read}
-use Rattle.c62_read.proofs.Common.{before_rest, Parts, formed, has_colon, is_bars, is_star, jumps_or_does, mnemonic_front, or_fault, parts_read}
-use Rattle.c62_read.proofs.Common.{target_of, unit_behind, with_head, without_colon, IsRecased}
+-- A line in small letters, but for an `X` behind a 0, says the same but for the case of labels. So do two lines that differ in case only.
+use Rattle.c62_read.proofs.Common.{◌≡◌, ℕ, ◌+◌, ◌-◌, ◌*◌, Bool, true, false, not, cond, eqb, ltb, ◌&&◌, ◌||◌, List, [], ◌∷◌, length, Option, None}
+use Rattle.c62_read.proofs.Common.{refl, ap, ◌∙◌, arith, map, option_and_then, digit_value, to_ascii_lowercase, is_ascii_digit, list_all, bytes_eq}
+use Rattle.c62_read.proofs.Common.{cond_both, ltb-true, nat_tests, Side, begins, is_sign, is_word_byte, is_double, joins, are_digits, spells}
+use Rattle.c62_read.proofs.Common.{IsRecased, Some, Result, Ok, Err, sym, inl, inr, option_map, codes, cases_Bool, Letter, Op, Block, FormFault}
+use Rattle.c62_read.proofs.Common.{Cause, BadOperand, BadUnit, UnknownMnemonic, Mnemonic, Operation, Nop, Path, WrittenUnit, grow, is_allowed}
+use Rattle.c62_read.proofs.Common.{is_blank, is_solid, lines_of, tokens, Kind, Word, kind_by, kinds_of, is_dot, fault_in, Says, Nothing, Pause}
+use Rattle.c62_read.proofs.Common.{Does, Jumps, and_read, before_rest, Parts, formed, has_colon, is_bars, is_star, jumps_or_does, mnemonic_front}
+use Rattle.c62_read.proofs.Common.{or_fault, parts_read, target_of, unit_behind, with_head, without_colon}
+use Rattle.std.specs.Str.Parse.{digits_value_after}
+use Rattle.std.proofs.lemmas.Bool.{agree_below, agree_below_at}
+use Rattle.c62_read.specs.Number.{decimal_of, file_of, hexadecimal_of, in_file, in_range, is_label, magnitude_of, number_of, register_of, signed_of}
 use Rattle.std.proofs.lemmas.List.{drop-map}
 use Rattle.c62_insn.specs.declared.register.Cond.{Cond as Condition}
 use Rattle.c62_insn.specs.declared.operands.Op.TheVariants.{B as Branch}
-use Rattle.c62_read.specs.Number.{is_label}
 use Rattle.c62_read.specs.Kind.{kind_of, mark_of as written_mark, single_mark}
 use Rattle.c62_read.specs.Mnemonic.{mnemonic_named, operation_named, pseudo_named}
 use Rattle.c62_read.specs.Unit.{is_t, is_x, letter_of, mark_of, side_numbered, unit_front, unit_of, unit_split, with_left}
 use Rattle.c62_read.specs.Program.{label_field}
 use Rattle.c62_read.proofs.AlikeLaws.{And, AreAlike, End, IsAlike, alike_programs}
 use Rattle.c62_read.proofs.LabelFields.{field_is}
-use Rattle.c62_read.specs.Line.{behind_unit, condition_front, condition_of}
-use Rattle.c62_read.specs.Line.{head_of, if_fitting, instruction_of}
-use Rattle.c62_read.specs.Line.{label_alone, label_front, line_of}
+use Rattle.c62_read.specs.Line.{behind_unit, condition_front, condition_of, head_of, if_fitting, instruction_of, label_alone, label_front, line_of}
 use Rattle.c62_read.specs.Line.{rest_says, text_fault, with_rest}
 use Rattle.c62_read.specs.Laws.{AreRecased, CaseChangesNothing, CaseSaysNothing, in_small, small_labels, small_says, target_in}
 use Rattle.c62_read.proofs.TokenLemmas.{by_test, joined_word, on_test}
-use Rattle.c62_read.proofs.CaseBytes.{all_low, begins_low, digit_low, double_low, joins_low, label_low, length_low, low, low_by, low_byte, lowered}
-use Rattle.c62_read.proofs.CaseBytes.{number_low, plain_byte, register_low, same_low, small_low, spells_low, test_low}
+
+-- ---- bytes
+
+-- a small letter, but for an `X` behind a 0
+unfoldable low_byte : Bool → ℕ → ℕ
+low_byte zero b = cond (zero && eqb b 88) b (to_ascii_lowercase b)
+
+-- what holds of a byte and itself, and of a small letter and its capital
+low_by : (P : ℕ → ℕ → Type 0) → ((b : ℕ) → P b b) → ((b : ℕ) → ltb b 65 ≡ false → ltb b 91 ≡ true → P (b + 32) b)
+    → (zero : Bool) (b : ℕ) → P (low_byte zero b) b
+unfolding low_byte
+low_by P same small zero b =
+    cond_both (zero && eqb b 88) b (to_ascii_lowercase b) (λ c. P c b) (λ kept. same b) (λ other.
+    cond_both (ltb b 65) b (cond (ltb b 91) (b + 32) b) (λ c. P c b) (λ low. same b) (λ high.
+    cond_both (ltb b 91) (b + 32) b (λ c. P c b) (small b high) (λ over. same b)))
+
+-- a test that answers the same for each capital and its small letter
+test_low : (test : ℕ → Bool) → agree_below (λ c. test (to_ascii_lowercase c)) test 91 ≡ true → (zero : Bool) (b : ℕ)
+    → test (low_byte zero b) ≡ test b
+test_low test all =
+    low_by (λ c b. test c ≡ test b) (λ b. refl)
+    (λ b high less. rw (high, less) at (agree_below_at (λ c. test (to_ascii_lowercase c)) test 91 b all (ltb-true b 91 less)))
+
+value_low : (zero : Bool) (b : ℕ) → digit_value (low_byte zero b) ≡ digit_value b
+value_low = low_by (λ c b. digit_value c ≡ digit_value b) (λ b. refl) (λ b high less. grind (arith, nat_tests))
+
+digit_low : (zero : Bool) (b : ℕ) → is_ascii_digit (low_byte zero b) ≡ is_ascii_digit b
+digit_low = test_low is_ascii_digit refl
+
+joins_low : (y z : Bool) (b c : ℕ) → joins (low_byte y b) (low_byte z c) ≡ joins b c
+joins_low y z b c =
+    let words = test_low is_word_byte refl in
+    rw (words y b, words z c, test_low is_sign refl y b, digit_low z c, test_low (λ x. eqb x 46) refl y b) refl
+
+double_low : (y z : Bool) (b c : ℕ) → is_double (low_byte y b) (low_byte z c) ≡ is_double b c
+unfolding low_byte
+double_low y z b c = rw (test_low (λ x. is_sign x || eqb x 124) refl y b) (grind (arith, nat_tests))
+
+-- ---- words
+
+-- a line, or a word, behind a 0 or behind another byte
+abbrev lowered : Bool → List ℕ → List ℕ
+lowered zero [] = []
+lowered zero (b ∷ w) = low_byte zero b ∷ lowered (eqb b 48) w
+
+abbrev low : List ℕ → List ℕ
+low w = lowered false w
+
+small_low : (zero : Bool) (w : List ℕ) → map to_ascii_lowercase (lowered zero w) ≡ map to_ascii_lowercase w
+small_low zero [] = refl
+small_low zero (b ∷ w) =
+    let first = low_by (λ c b. to_ascii_lowercase c ≡ to_ascii_lowercase b) (λ b. refl) (λ b high less. grind (arith, nat_tests)) zero b in
+    rw (first, small_low (eqb b 48) w) refl
+
+spells_low : (name w : List ℕ) → spells name (low w) ≡ spells name w
+spells_low name w = ap (λ (small : List ℕ). bytes_eq small (map to_ascii_lowercase name)) (small_low false w)
+
+length_low : (zero : Bool) (w : List ℕ) → length (lowered zero w) ≡ length w
+length_low zero [] = refl
+length_low zero (b ∷ w) = rw (length_low (eqb b 48) w) refl
+
+all_low : (test : ℕ → Bool) → ((zero : Bool) (b : ℕ) → test (low_byte zero b) ≡ test b) → (zero : Bool) (w : List ℕ)
+    → list_all test (lowered zero w) ≡ list_all test w
+all_low test tests zero [] = refl
+all_low test tests zero (b ∷ w) = rw (tests zero b, all_low test tests (eqb b 48) w) refl
+
+begins_low : (test : ℕ → Bool) → agree_below (λ c. test (to_ascii_lowercase c)) test 91 ≡ true → (w : List ℕ)
+    → begins test (low w) ≡ begins test w
+begins_low test all [] = refl
+begins_low test all (b ∷ w) = test_low test all false b
+
+-- ---- registers
+
+file_low : (zero : Bool) (b : ℕ) → file_of (low_byte zero b) ≡ file_of b
+unfolding file_of low_byte
+file_low zero b = grind (arith, nat_tests)
+
+number_in : (file : Option Side) (less : ℕ) (ten zero : Bool) (d : ℕ)
+    → cond (ten && is_ascii_digit (low_byte zero d)) (in_file file (low_byte zero d - less)) None
+    ≡ cond (ten && is_ascii_digit d) (in_file file (d - less)) None
+number_in file less ten =
+    low_by (λ c d. cond (ten && is_ascii_digit c) (in_file file (c - less)) None ≡ cond (ten && is_ascii_digit d) (in_file file (d - less)) None)
+    (λ d. refl) (λ d high below. grind (arith, nat_tests))
+
+register_low : (w : List ℕ) → register_of (low w) ≡ register_of w
+unfolding register_of
+register_low (l ∷ d ∷ []) = rw (file_low false l) (number_in (file_of l) 48 true (eqb l 48) d)
+register_low (l ∷ t ∷ d ∷ []) =
+    rw (file_low false l, test_low (λ x. eqb x 49) refl (eqb l 48) t) (number_in (file_of l) 38 (eqb t 49) (eqb t 48) d)
+register_low w = refl
+
+-- ---- numbers
+
+digits_low : (radix : ℕ) (zero : Bool) (w : List ℕ) → are_digits radix (lowered zero w) ≡ are_digits radix w
+digits_low radix = all_low (λ d. ltb (digit_value d) radix) (λ zero b. ap (λ (d : ℕ). ltb d radix) (value_low zero b))
+
+after_low : (radix n : ℕ) (zero : Bool) (w : List ℕ) → digits_value_after radix n (lowered zero w) ≡ digits_value_after radix n w
+after_low radix n zero [] = refl
+after_low radix n zero (b ∷ w) =
+    ap (λ (d : ℕ). digits_value_after radix (n * radix + d) (lowered (eqb b 48) w)) (value_low zero b)
+    ∙ after_low radix (n * radix + digit_value b) (eqb b 48) w
+
+hexadecimal_low : (zero : Bool) (w : List ℕ) → hexadecimal_of (lowered zero w) ≡ hexadecimal_of w
+unfolding hexadecimal_of
+hexadecimal_low zero [] = refl
+hexadecimal_low zero (b ∷ w) = rw (length_low (eqb b 48) w, digits_low 16 zero (b ∷ w), after_low 16 0 zero (b ∷ w)) refl
+
+decimal_low : (zero : Bool) (w : List ℕ) → decimal_of (lowered zero w) ≡ decimal_of w
+unfolding decimal_of
+decimal_low zero [] = refl
+decimal_low zero (b ∷ w) =
+    rw (length_low (eqb b 48) w, test_low (λ x. ltb 48 x) refl zero b, digits_low 10 zero (b ∷ w), after_low 10 0 zero (b ∷ w)) refl
+
+-- a hexadecimal number has a small x behind a 0
+hex_mark : (zero : Bool) (b d : ℕ) → (eqb 48 (low_byte zero b) && (eqb 120 (low_byte (eqb b 48) d) && true)) ≡ (eqb 48 b && (eqb 120 d && true))
+unfolding low_byte
+hex_mark zero b d = grind (arith, nat_tests)
+
+magnitude_low : (zero : Bool) (w : List ℕ) → magnitude_of (lowered zero w) ≡ magnitude_of w
+unfolding magnitude_of
+magnitude_low zero [] = refl
+magnitude_low zero (b ∷ []) = rw (test_low (λ x. eqb 48 x) refl zero b, decimal_low zero (b ∷ [])) refl
+magnitude_low zero (b ∷ d ∷ w) = rw (hex_mark zero b d, hexadecimal_low (eqb d 48) w, decimal_low zero (b ∷ d ∷ w)) refl
+
+signed_low : (w : List ℕ) → signed_of (low w) ≡ signed_of w
+unfolding signed_of
+signed_low [] = refl
+signed_low (b ∷ w) =
+    rw (
+      test_low (λ x. eqb x 45) refl false b,
+      test_low (λ x. eqb x 43) refl false b,
+      magnitude_low (eqb b 48) w,
+      magnitude_low false (b ∷ w),
+    ) refl
+
+number_low : (w : List ℕ) → number_of (low w) ≡ number_of w
+unfolding number_of
+number_low w = ap (option_and_then in_range) (signed_low w)
+
+-- ---- labels
+
+label_low : (w : List ℕ) → is_label (low w) ≡ is_label w
+unfolding is_label
+label_low w =
+    rw (
+      begins_low (λ b. not (is_ascii_digit b)) refl w,
+      all_low is_word_byte (test_low is_word_byte refl) false w,
+      length_low false w,
+      register_low w,
+    ) refl
+
+-- ---- lines that are the same but for case
+
+same_byte : (before b c : ℕ) → to_ascii_lowercase b ≡ to_ascii_lowercase c → (before ≡ 48 → to_ascii_lowercase b ≡ 120 → b ≡ c)
+    → low_byte (eqb before 48) b ≡ low_byte (eqb before 48) c
+unfolding low_byte
+same_byte before b c same kept = grind (arith, nat_tests)
+
+same_zero : (b c : ℕ) → to_ascii_lowercase b ≡ to_ascii_lowercase c → eqb b 48 ≡ eqb c 48
+same_zero b c same = grind (arith, nat_tests)
+
+same_low : (before : ℕ) (line other : List ℕ) → IsRecased before line other → lowered (eqb before 48) line ≡ lowered (eqb before 48) other
+same_low before [] [] same = refl
+same_low before (b ∷ line) (c ∷ other) same =
+    rw (same_byte before b c same.0 same.1, same_low b line other same.2, same_zero b c same.0) refl
+same_low before line other same = absurd same
 
 -- ---- tokens
 
@@ -44,11 +209,9 @@ grown zero b [] = refl
 grown zero b (w ∷ ws) = refl
 
 -- a byte that joins no 0 is no `X` behind it
-no_mark : (b c : ℕ) → joins b c ≡ false → (eqb b 48 && eqb c 88) ≡ false
-no_mark b c loose = grind (arith, nat_tests)
-
 loose_low : (b c : ℕ) (rest : List ℕ) → joins b c ≡ false → lowered (eqb b 48) (c ∷ rest) ≡ low (c ∷ rest)
-loose_low b c rest loose = ap (λ (d : ℕ). d ∷ lowered (eqb c 48) rest) (plain_byte (eqb b 48) c (no_mark b c loose))
+unfolding low_byte
+loose_low b c rest loose = let other : (eqb b 48 && eqb c 88) ≡ false = grind (arith, nat_tests) in rw other refl
 
 -- the tokens of a line, or of a word that goes on behind a 0
 tokens_lowered : (zero : Bool) (line : List ℕ) → (zero && not (begins is_word_byte line)) ≡ false
@@ -89,17 +252,10 @@ unfolding single_mark
 single_low = low_by (λ c b. single_mark c ≡ single_mark b) (λ b. refl) (λ b high less. grind (arith, nat_tests))
 
 mark_low : (w : Word) → written_mark (low w) ≡ written_mark w
-unfolding written_mark
-mark_low [] = refl
+unfolding written_mark low_byte
 mark_low (b ∷ []) = single_low false b
-mark_low (b ∷ c ∷ []) =
-    rw (
-      test_low (λ x. eqb x 43) refl false b,
-      test_low (λ x. eqb x 43) refl (eqb b 48) c,
-      test_low (λ x. eqb x 45) refl false b,
-      test_low (λ x. eqb x 45) refl (eqb b 48) c,
-    ) refl
-mark_low (b ∷ c ∷ d ∷ w) = refl
+mark_low (b ∷ c ∷ []) = grind (arith, nat_tests)
+mark_low w = refl
 
 kind_low : (w : Word) → kind_of (low w) ≡ kind_of w
 unfolding kind_of
@@ -170,9 +326,6 @@ marked_low letter side (b ∷ c ∷ w) =
 
 split_low : (w : Word) → unit_split (low w) ≡ option_map left_low (unit_split w)
 unfolding unit_split
-split_low [] = refl
-split_low (b ∷ []) = refl
-split_low (b ∷ l ∷ []) = refl
 split_low (b ∷ l ∷ n ∷ w) =
     rw (letter_low (eqb b 48) l, side_low (eqb l 48) n) (go (letter_of l) (side_numbered n) refl)
   where
@@ -180,6 +333,7 @@ split_low (b ∷ l ∷ n ∷ w) =
         → unit_of letter side (mark_of (lowered (eqb n 48) w)) ≡ option_map left_low (unit_of letter side (mark_of w))
     go (Some letter) (Some side) is = rw (no_zero n side is) (marked_low letter side w)
     go letter side is = refl
+split_low w = refl
 
 left_behind : (ws : List Word) (found : Option (WrittenUnit × Word))
     → option_map (with_left (lows ws)) (option_map left_low found) ≡ option_map behind_low (option_map (with_left ws) found)
@@ -214,13 +368,9 @@ abbrev small : Result Says Cause → Result Says Cause
 small (Ok says) = Ok (small_says says)
 small (Err cause) = Err cause
 
-small_label : (w : Word) → in_small (low w) ≡ in_small w
-small_label w = small_low false w
-
 alone_low : (ws : List Word) → label_alone (lows ws) ≡ option_map low (label_alone ws)
-alone_low [] = refl
 alone_low (w ∷ []) = rw (label_low w, on_test (option_map low)) refl
-alone_low (w ∷ v ∷ ws) = refl
+alone_low ws = refl
 
 target_low : (op : Op) (ws : List Word) → target_of (Operation op) (lows ws) ≡ option_map low (target_of (Operation op) ws)
 target_low op ws =
@@ -228,7 +378,7 @@ target_low op ws =
 
 formed_low : (fault : Option FormFault) (parts : Parts) (label : Word)
     → small (formed fault (Jumps parts (low label))) ≡ small (formed fault (Jumps parts label))
-formed_low None parts label = rw (small_label label) refl
+formed_low None parts label = rw (small_low false label) refl
 formed_low (Some fault) parts label = refl
 
 aimed_low : (aim : Option Word) (mnemonic : Mnemonic) (cond : Option Condition) (written : Option WrittenUnit) (ws : List Word)
@@ -276,11 +426,10 @@ front_low (label, ws) = (option_map low label, lows ws)
 
 label_front_low : (ws : List Word) → label_front (lows ws) ≡ front_low (label_front ws)
 unfolding label_front
-label_front_low [] = refl
-label_front_low (w ∷ []) = refl
 label_front_low (w ∷ v ∷ ws) =
     rw (spells_low (codes ":") v, label_low w)
     (sym (on_test front_low (spells (codes ":") v && is_label w) (Some w, ws) (None, w ∷ v ∷ ws)))
+label_front_low ws = refl
 
 colon_low : (ws : List Word) → has_colon (lows ws) ≡ has_colon ws
 colon_low [] = refl
@@ -322,7 +471,7 @@ head_is_low line =
 small_rest : (label : Option Word) (read other : Result Says Cause) → small other ≡ small read
     → small_labels (with_rest (option_map low label) other) ≡ small_labels (with_rest label read)
 small_rest None (Ok says) (Ok others) same = cc
-small_rest (Some name) (Ok says) (Ok others) same = rw (small_label name) (cc)
+small_rest (Some name) (Ok says) (Ok others) same = rw (small_low false name) (cc)
 small_rest label (Err cause) (Err other) same = cc
 small_rest label read other same = absurd cc
 

@@ -1,7 +1,7 @@
 -- The label field of a line.
-use Rattle.c62_read.proofs.Common.{◌≡◌, ℕ, Bool, true, false, eqb, ◌&&◌, List, [], ◌∷◌, length, Some, None, Result, Ok, Err, refl, sym, ap, subst}
-use Rattle.c62_read.proofs.Common.{◌∙◌, Option, arith, nat_tests, codes, not, if◌then◌else◌, list_all, and_right, eqb-true, Cause, ParallelBar, begins, is_allowed}
-use Rattle.c62_read.proofs.Common.{is_double, tokens, spells, has_colon, is_bars, is_star, without_colon}
+use Rattle.c62_read.proofs.Common.{◌≡◌, ℕ, Bool, true, false, eqb, List, [], ◌∷◌, length, None, Result, Ok, Err, refl, sym, ap}
+use Rattle.c62_read.proofs.Common.{◌∙◌, Option, arith, nat_tests, not, if◌then◌else◌, list_all, and_right, eqb-true, Cause, ParallelBar, begins, is_allowed}
+use Rattle.c62_read.proofs.Common.{is_double, tokens, has_colon, is_bars, is_star, without_colon}
 use Rattle.std.specs.Prelude.{nat_lt}
 use Rattle.std.proofs.lemmas.Bool.{true≢false}
 use Rattle.c62_read.specs.declared.fault.Cause.TheVariants.{BadLabel, LineTooLong, NotAscii}
