@@ -1,8 +1,8 @@
 -- Comments change neither a line nor a program.
-use Rattle.c62_read.proofs.Common.{◌≡◌, ℕ, Bool, true, false, cond, List, [], ◌∷◌, ◌++◌, length, Option, None, Result, Ok, Err, refl, sym, ap}
-use Rattle.c62_read.proofs.Common.{subst, ◌∙◌, arith, length-append, list_all, and_parts, le-ltb, nat_tests, list_all-append, Cause, ParallelBar}
-use Rattle.c62_read.proofs.Common.{begins, is_allowed, is_double, joins, lines_of, tokens, Word, Nothing, is_bars, is_star, with_head}
-use Rattle.c62_read.proofs.Common.{without_colon, fault_in}
+use Rattle.c62_read.proofs.Common.{◌≡◌, ℕ, true, List, [], ◌∷◌, ◌++◌, length, None, Ok, refl, sym, ap}
+use Rattle.c62_read.proofs.Common.{subst, ◌∙◌, arith, length-append, list_all, and_parts, le-ltb, nat_tests, list_all-append}
+use Rattle.c62_read.proofs.Common.{begins, is_allowed, lines_of, tokens, Word, is_star, with_head}
+use Rattle.c62_read.proofs.Common.{fault_in}
 use Rattle.std.specs.Prelude.{IsTrue}
 use Rattle.c62_read.specs.Line.{head_of, label_front, line_of, rest_says}
 use Rattle.c62_read.specs.Program.{label_field}
@@ -14,15 +14,9 @@ use Rattle.c62_read.proofs.LabelFields.{star_field}
 
 -- ---- tokens
 
-single_comment : (b : ℕ) → is_double b 59 ≡ false
-single_comment b = grind (arith, nat_tests)
-
-alone_comment : (b : ℕ) → joins b 59 ≡ false
-alone_comment b = grind (arith, nat_tests)
-
 pub tokens_before_comment : (line rest : List ℕ) → tokens (line ++ 59 ∷ rest) ≡ tokens line
 tokens_before_comment [] rest = tokens_comment 59 rest refl
-tokens_before_comment (b ∷ []) rest = rw (single_comment b, alone_comment b, tokens_comment 59 rest refl) (grind (arith, nat_tests))
+tokens_before_comment (b ∷ []) rest = rw (tokens_comment 59 rest refl) (grind (arith, nat_tests))
 tokens_before_comment (b ∷ c ∷ line) rest = rw (tokens_before_comment (c ∷ line) rest, tokens_before_comment line rest) refl
 
 -- ---- a star
@@ -31,12 +25,9 @@ star_head : (line : List ℕ) → IsReadable line → begins is_star line ≡ tr
 unfolding head_of
 star_head line readable star = rw (readable.0, le-ltb 255 (length line) readable.1, star) refl
 
-star_line : (line : List ℕ) → IsReadable line → begins is_star line ≡ true → line_of line ≡ Ok (None, Nothing)
-unfolding line_of rest_says
-star_line line readable star = rw (star_head line readable star) refl
-
 pub star_nothing : (line : List ℕ) → IsReadable line → IsTrue (begins is_star line) → StarSaysNothing line
-star_nothing line readable star = (star_line line readable star, star_field line star)
+unfolding line_of rest_says
+star_nothing line readable star = (rw (star_head line readable star) refl, star_field line star)
 
 -- ---- behind a semicolon
 

@@ -48,11 +48,8 @@ all_weaker p q (b ∷ bytes) weaker all =
     let parts = and_parts (p b) (list_all p bytes) all in
     and_from (q b) (list_all q bytes) (weaker b parts.0) (all_weaker p q bytes weaker parts.1)
 
-text_allowed : (b : ℕ) → is_text b ≡ true → is_allowed b ≡ true
-text_allowed b text = grind (arith, nat_tests)
-
 pub allowed_text : (bytes : List ℕ) → list_all is_text bytes ≡ true → list_all is_allowed bytes ≡ true
-allowed_text bytes text = all_weaker is_text is_allowed bytes text_allowed text
+allowed_text bytes text = all_weaker is_text is_allowed bytes (λ b text. grind (arith, nat_tests)) text
 
 no_colon_bytes : (bytes : List ℕ) → list_all is_text bytes ≡ true → list_any (λ b. eqb b 58) bytes ≡ false
 no_colon_bytes [] text = refl

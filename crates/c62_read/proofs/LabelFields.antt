@@ -15,19 +15,15 @@ unfolding label_front
 no_label_front word [] none = refl
 no_label_front word (colon ∷ words) none = rw none (grind (arith, nat_tests))
 
-star_is_no_label : is_label (42 ∷ []) ≡ false
-unfolding is_label
-star_is_no_label = refl
-
 pub star_field : (line : List ℕ) → begins is_star line ≡ true → label_field line ≡ None
-unfolding label_field label_front
+unfolding label_field label_front is_label
 star_field [] star = refl
 star_field (b ∷ []) star = let e : b ≡ 42 = eqb-true b 42 star in rw e refl
 star_field (b ∷ c ∷ rest) star =
     let e : b ≡ 42 = eqb-true b 42 star in
     let single : is_double 42 c ≡ false = and_right (eqb 42 c) false refl in
     rw e (ap (λ (words : List (List ℕ)). (label_front words).0) (tokens_alone 42 c rest refl single refl)
-    ∙ no_label_front (42 ∷ []) (tokens (c ∷ rest)) star_is_no_label)
+    ∙ no_label_front (42 ∷ []) (tokens (c ∷ rest)) refl)
 
 -- ---- a line's label is the one in its label field
 

@@ -22,9 +22,6 @@ by_test false first second = second refl
 pub word_solid : (c : ℕ) → is_word_byte c ≡ true → is_solid c ≡ true
 word_solid c word = grind (arith, nat_tests)
 
-pub word_no_double : (b c : ℕ) → is_word_byte b ≡ true → is_double b c ≡ false
-word_no_double b c word = grind (arith, nat_tests)
-
 pub joined_no_double : (b c : ℕ) → joins b c ≡ true → is_double b c ≡ false
 joined_no_double b c joined = grind (arith, nat_tests)
 
@@ -56,27 +53,19 @@ pub tokens_comment : (b : ℕ) (rest : List ℕ) → eqb b 59 ≡ true → token
 tokens_comment b [] comment = rw comment refl
 tokens_comment b (c ∷ rest) comment = rw comment refl
 
-blank_no_comment : (b : ℕ) → is_blank b ≡ true → eqb b 59 ≡ false
-blank_no_comment b blank = grind (arith, nat_tests)
-
 pub tokens_blanks : (n : ℕ) (bytes : List ℕ) → list_all is_blank (take n bytes) ≡ true → tokens (drop n bytes) ≡ tokens bytes
 tokens_blanks zero bytes blanks = refl
 tokens_blanks (suc n) [] blanks = refl
 tokens_blanks (suc n) (b ∷ bytes) blanks =
     let parts = and_parts (is_blank b) (list_all is_blank (take n bytes)) blanks in
-    tokens_blanks n bytes parts.1 ∙ sym (tokens_blank b bytes (blank_no_comment b parts.0) parts.0)
-
-no_word_joins : (b c : ℕ) → is_word_byte b ≡ true → is_word_byte c ≡ false → joins b c ≡ false
-no_word_joins b c word other = grind (arith, nat_tests)
+    tokens_blanks n bytes parts.1 ∙ sym (tokens_blank b bytes (grind (arith, nat_tests)) parts.0)
 
 -- a word where no byte of a word follows
 pub tokens_word : (w rest : List ℕ) → list_all is_word_byte w ≡ true → begins is_word_byte rest ≡ false
     → tokens (w ++ rest) ≡ put_back w (tokens rest)
 tokens_word [] rest words ends = refl
-tokens_word (b ∷ []) [] words ends = tokens_last b (word_solid b (and_parts (is_word_byte b) true words).0)
-tokens_word (b ∷ []) (c ∷ rest) words ends =
-    let word = (and_parts (is_word_byte b) true words).0 in
-    tokens_alone b c rest (word_solid b word) (word_no_double b c word) (no_word_joins b c word ends)
+tokens_word (b ∷ []) [] words ends = grind (arith, nat_tests)
+tokens_word (b ∷ []) (c ∷ rest) words ends = grind (arith, nat_tests)
 tokens_word (b ∷ c ∷ w) rest words ends =
     let first = and_parts (is_word_byte b) (is_word_byte c && list_all is_word_byte w) words in
     let second = and_parts (is_word_byte c) (list_all is_word_byte w) first.1 in
