@@ -232,10 +232,12 @@ tokens_lowered zero (b ∷ c ∷ rest) goes =
     ) (by_test (eqb b 59) (λ comment. refl) (λ text. by_test (is_blank b) (λ blank.
         let plain : zero ≡ false = grind (arith, nat_tests) in
         let other : eqb b 48 ≡ false = grind (arith, nat_tests) in
-        rw plain (ap (λ (y : Bool). tokens (lowered y (c ∷ rest))) other ∙ tokens_lowered false (c ∷ rest) refl)) (λ dark. by_test (is_double b c) (λ double.
+        rw plain (ap (λ (y : Bool). tokens (lowered y (c ∷ rest))) other ∙ tokens_lowered false (c ∷ rest) refl))
+        (λ dark. by_test (is_double b c) (λ double.
         let other : eqb c 48 ≡ false = grind (arith, nat_tests) in
         ap (λ (ws : List Word). (low_byte zero b ∷ low_byte (eqb b 48) c ∷ []) ∷ ws)
-        (ap (λ (y : Bool). tokens (lowered y rest)) other ∙ tokens_lowered false rest refl ∙ first_plain (tokens rest))) (λ single. by_test (joins b c) (λ joined.
+        (ap (λ (y : Bool). tokens (lowered y rest)) other ∙ tokens_lowered false rest refl ∙ first_plain (tokens rest)))
+        (λ single. by_test (joins b c) (λ joined.
         let word = joined_word b c joined in
         let more : (eqb b 48 && not (is_word_byte c)) ≡ false = grind (arith, nat_tests) in
         rw (tokens_lowered (eqb b 48) (c ∷ rest) more) (grown zero b (tokens (c ∷ rest)))) (λ alone.
@@ -356,7 +358,8 @@ behind_mnemonic_low mnemonic ws = rw (unit_low ws) (elim (unit_front ws) as (λ 
 condition_low : (ws : List Word) → condition_front (lows ws) ≡ option_map behind_low (condition_front ws)
 unfolding condition_front
 condition_low ws =
-    rw (kinds_low ws) (mapped behind_low (before_rest ws) (before_rest (lows ws)) (λ found. rw (drop-map low found.1 ws) refl) (condition_of (kinds_of ws)))
+    rw (kinds_low ws) (mapped behind_low (before_rest ws) (before_rest (lows ws)) (λ found. rw (drop-map low found.1 ws) refl)
+    (condition_of (kinds_of ws)))
 
 mnemonic_front_low : (ws : List Word) → mnemonic_front (lows ws) ≡ option_map behind_low (mnemonic_front ws)
 mnemonic_front_low [] = refl
