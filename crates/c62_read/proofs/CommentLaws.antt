@@ -1,8 +1,8 @@
 -- Comments change neither a line nor a program.
-use Rattle.c62_read.proofs.Common.{◌≡◌, ℕ, Bool, true, false, cond, List, [], ◌∷◌, ◌++◌, length, Option, None, Result, Ok, Err, refl, sym, ap}
-use Rattle.c62_read.proofs.Common.{subst, ◌∙◌, arith, length-append, list_all, and_parts, le-ltb, nat_tests, list_all-append, Cause, ParallelBar}
-use Rattle.c62_read.proofs.Common.{begins, is_allowed, is_double, joins, lines_of, tokens, Word, Nothing, is_bars, is_star, with_head}
-use Rattle.c62_read.proofs.Common.{without_colon, fault_in}
+use Rattle.c62_read.proofs.Common.{◌≡◌, ℕ, true, List, [], ◌∷◌, ◌++◌, length, None, Ok, refl, sym, ap}
+use Rattle.c62_read.proofs.Common.{subst, ◌∙◌, arith, length-append, list_all, and_parts, le-ltb, nat_tests, list_all-append}
+use Rattle.c62_read.proofs.Common.{begins, is_allowed, lines_of, tokens, Word, is_star, with_head}
+use Rattle.c62_read.proofs.Common.{fault_in}
 use Rattle.std.specs.Prelude.{IsTrue}
 use Rattle.c62_read.specs.Line.{head_of, label_front, line_of, rest_says}
 use Rattle.c62_read.specs.Program.{label_field}
@@ -14,41 +14,20 @@ use Rattle.c62_read.proofs.LabelFields.{star_field}
 
 -- ---- tokens
 
-single_comment : (b : ℕ) → is_double b 59 ≡ false
-single_comment b = grind (arith, nat_tests)
-
-alone_comment : (b : ℕ) → joins b 59 ≡ false
-alone_comment b = grind (arith, nat_tests)
-
 pub tokens_before_comment : (line rest : List ℕ) → tokens (line ++ 59 ∷ rest) ≡ tokens line
 tokens_before_comment [] rest = tokens_comment 59 rest refl
-tokens_before_comment (b ∷ []) rest = rw (single_comment b, alone_comment b, tokens_comment 59 rest refl) (grind (arith, nat_tests))
+tokens_before_comment (b ∷ []) rest = rw (tokens_comment 59 rest refl) (grind (arith, nat_tests))
 tokens_before_comment (b ∷ c ∷ line) rest = rw (tokens_before_comment (c ∷ line) rest, tokens_before_comment line rest) refl
-
--- ---- heads
-
-abbrev Head : Type 0
-Head = Result (Option Word × List Word) Cause
-
--- the head of a line that may be read
-abbrev head_from : Bool → List Word → Head
-head_from star words = cond star (Ok (None, [])) (cond (is_bars words) (Err ParallelBar) (without_colon (label_front words)))
-
-head_is : (line : List ℕ) → IsReadable line → head_of line ≡ head_from (begins is_star line) (tokens line)
-unfolding head_of
-head_is line readable = rw (readable.0, le-ltb 255 (length line) readable.1) refl
 
 -- ---- a star
 
 star_head : (line : List ℕ) → IsReadable line → begins is_star line ≡ true → head_of line ≡ Ok (None, [])
-star_head line readable star = head_is line readable ∙ rw star refl
-
-star_line : (line : List ℕ) → IsReadable line → begins is_star line ≡ true → line_of line ≡ Ok (None, Nothing)
-unfolding line_of rest_says
-star_line line readable star = rw (star_head line readable star) refl
+unfolding head_of
+star_head line readable star = rw (readable.0, le-ltb 255 (length line) readable.1, star) refl
 
 pub star_nothing : (line : List ℕ) → IsReadable line → IsTrue (begins is_star line) → StarSaysNothing line
-star_nothing line readable star = (star_line line readable star, star_field line star)
+unfolding line_of rest_says
+star_nothing line readable star = (rw (star_head line readable star) refl, star_field line star)
 
 -- ---- behind a semicolon
 
@@ -63,8 +42,17 @@ same_star [] rest = refl
 same_star (b ∷ line) rest = refl
 
 comment_head : (line rest : List ℕ) → IsReadable (line ++ 59 ∷ rest) → head_of (line ++ 59 ∷ rest) ≡ head_of line
+unfolding head_of
 comment_head line rest readable =
-    head_is (line ++ 59 ∷ rest) readable ∙ rw (same_star line rest, tokens_before_comment line rest) (sym (head_is line (front_readable line rest readable)))
+    let front = front_readable line rest readable in
+    rw (
+      readable.0,
+      le-ltb 255 (length (line ++ 59 ∷ rest)) readable.1,
+      front.0,
+      le-ltb 255 (length line) front.1,
+      same_star line rest,
+      tokens_before_comment line rest,
+    ) refl
 
 pub comment_nothing : (line rest : List ℕ) → IsReadable (line ++ 59 ∷ rest) → CommentSaysNothing line rest
 unfolding line_of label_field
@@ -73,30 +61,25 @@ comment_nothing line rest readable =
 
 -- ---- lines without their comments
 
-empty : (head_of [] ≡ Ok (None, [])) × (label_field [] ≡ None)
-unfolding head_of label_field label_front
-empty = (refl, refl)
-
 by_head : (line other : List ℕ) → head_of line ≡ head_of other → label_field line ≡ label_field other → IsAlike line other
 unfolding line_of
 by_head line other head field = record { head = ap fault_in head; field = field; said = ap with_head head }
 
 alike : (line other : List ℕ) → IsUncommented line other → IsAlike line other
+unfolding head_of label_field label_front
 alike line other (Same e) = by_head line other (ap head_of e) (ap label_field e)
 alike line other (Behind rest e readable) =
     let there : IsReadable (other ++ 59 ∷ rest) = subst IsReadable e readable in
     by_head line other (ap head_of e ∙ comment_head other rest there) (ap label_field e ∙ (comment_nothing other rest there).1)
 alike line other (Whole rest e f readable) =
     let star : begins is_star line ≡ true = ap (begins is_star) e in
-    by_head line other (star_head line readable star ∙ sym (ap head_of f ∙ empty.0))
-    (star_field line star ∙ sym (ap label_field f ∙ empty.1))
+    rw f (by_head line [] (star_head line readable star) (star_field line star))
 
 all_alike : (lines others : List (List ℕ)) → AreUncommented lines others → AreAlike lines others
 all_alike [] [] same = End
 all_alike (line ∷ lines) (other ∷ others) same =
     And line other lines others (alike line other same.0) (all_alike lines others same.1)
-all_alike [] (other ∷ others) same = absurd same
-all_alike (line ∷ lines) [] same = absurd same
+all_alike lines others same = absurd same
 
 pub comments_nothing : (text other : List ℕ) → CommentsSayNothing text other
 comments_nothing text other short few same = alike_programs text other short few (all_alike (lines_of text) (lines_of other) same)

@@ -1,6 +1,6 @@
 -- The first byte of a text that passes a test, and its first line feed.
-use Rattle.c62_read.proofs.Common.{◌≡◌, ◌<◌, ◌≤◌, ℕ, ◌+◌, suc, Bool, true, false, List, ◌∷◌, ◌++◌, length, take, drop, get_or, Option, Some, None}
-use Rattle.c62_read.proofs.Common.{refl, sym, ap, ◌∙◌, arith, is_some, list_any, drop-cons, eqb-true, take-append-drop, is_line_feed}
+use Rattle.c62_read.proofs.Common.{◌≡◌, ◌<◌, ◌≤◌, ℕ, ◌+◌, suc, Bool, false, List, ◌∷◌, ◌++◌, length, take, drop, get_or, Option, Some, None}
+use Rattle.c62_read.proofs.Common.{sym, ap, ◌∙◌, arith, is_some, list_any, drop-cons, eqb-true, take-append-drop, is_line_feed}
 use Rattle.std.proofs.Common.{add-one}
 use Rattle.std.specs.Prelude.{unwrap_or}
 use Rattle.std.proofs.lemmas.Bool.{false_from_ne_true}

@@ -1,7 +1,8 @@
 -- The label field of a line.
-use Rattle.c62_read.proofs.Common.{◌≡◌, ℕ, Bool, true, false, eqb, ◌&&◌, List, [], ◌∷◌, length, Some, None, Result, Ok, Err, refl, sym, ap, subst}
-use Rattle.c62_read.proofs.Common.{◌∙◌, Option, codes, not, if◌then◌else◌, list_all, and_right, eqb-true, Cause, ParallelBar, begins, is_allowed}
-use Rattle.c62_read.proofs.Common.{is_double, tokens, spells, has_colon, is_bars, is_star, without_colon}
+use Rattle.c62_read.proofs.Common.{◌≡◌, ℕ, Bool, true, false, eqb, List, [], ◌∷◌, length, None, Result, Ok, Err, refl, sym, ap}
+use Rattle.c62_read.proofs.Common.{◌∙◌, Option, arith, nat_tests, not, if◌then◌else◌}
+use Rattle.c62_read.proofs.Common.{list_all, and_right, eqb-true, Cause, ParallelBar, begins, is_allowed}
+use Rattle.c62_read.proofs.Common.{is_double, tokens, has_colon, is_bars, is_star, without_colon}
 use Rattle.std.specs.Prelude.{nat_lt}
 use Rattle.std.proofs.lemmas.Bool.{true≢false}
 use Rattle.c62_read.specs.declared.fault.Cause.TheVariants.{BadLabel, LineTooLong, NotAscii}
@@ -13,30 +14,17 @@ use Rattle.c62_read.proofs.TokenLemmas.{tokens_alone}
 no_label_front : (word : List ℕ) (words : List (List ℕ)) → is_label word ≡ false → (label_front (word ∷ words)).0 ≡ None
 unfolding label_front
 no_label_front word [] none = refl
-no_label_front word (colon ∷ words) none = go (spells (codes ":") colon) (is_label word) none
-  where
-    go : (ends label : Bool) → label ≡ false
-        → (if◌then◌else◌ {A = Option Name × List (List ℕ)} (ends && label) (Some word, words) (None, word ∷ colon ∷ words)).0 ≡ None
-    go true true e = absurd cc
-    go true false e = refl
-    go false label e = refl
-
-star_is_no_label : is_label (42 ∷ []) ≡ false
-unfolding is_label
-star_is_no_label = refl
+no_label_front word (colon ∷ words) none = rw none (grind (arith, nat_tests))
 
 pub star_field : (line : List ℕ) → begins is_star line ≡ true → label_field line ≡ None
-unfolding label_field label_front
+unfolding label_field label_front is_label
 star_field [] star = refl
-star_field (b ∷ []) star =
-    let e : b ≡ 42 = eqb-true b 42 star in
-    subst (λ (x : ℕ). (label_front (tokens (x ∷ []))).0 ≡ None) (sym e) refl
+star_field (b ∷ []) star = let e : b ≡ 42 = eqb-true b 42 star in rw e refl
 star_field (b ∷ c ∷ rest) star =
     let e : b ≡ 42 = eqb-true b 42 star in
     let single : is_double 42 c ≡ false = and_right (eqb 42 c) false refl in
-    subst (λ (x : ℕ). (label_front (tokens (x ∷ c ∷ rest))).0 ≡ None) (sym e)
-    (ap (λ (words : List (List ℕ)). (label_front words).0) (tokens_alone 42 c rest refl single refl)
-    ∙ no_label_front (42 ∷ []) (tokens (c ∷ rest)) star_is_no_label)
+    rw e (ap (λ (words : List (List ℕ)). (label_front words).0) (tokens_alone 42 c rest refl single refl)
+    ∙ no_label_front (42 ∷ []) (tokens (c ∷ rest)) refl)
 
 -- ---- a line's label is the one in its label field
 
@@ -46,8 +34,9 @@ colon_field : (colon : Bool) (front : Option Name × List (List ℕ)) (label : O
 colon_field true front label words is = absurd cc
 colon_field false front label words is = cc
 
-label_of : (found other : Option Name × List (List ℕ)) → ◌≡◌ {A = Result (Option Name × List (List ℕ)) Cause} (Ok found) (Ok other) → found.0 ≡ other.0
-label_of found other is = let same : found ≡ other = cc in ap (λ (head : Option Name × List (List ℕ)). head.0) same
+label_of : (found : Option Name × List (List ℕ)) (label : Option Name) (words : List (List ℕ))
+    → ◌≡◌ {A = Result (Option Name × List (List ℕ)) Cause} (Ok found) (Ok (label, words)) → found.0 ≡ label
+label_of found label words is = cc
 
 abbrev Heads : Bool → Bool → Bool → Bool → List ℕ → Result (Option Name × List (List ℕ)) Cause
 Heads allowed long star bars line =
@@ -67,13 +56,12 @@ pub record IsHeadRead (line : List ℕ) (label : Option Name) (words : List (Lis
 read_by : (allowed long star bars : Bool) (line : List ℕ) (label : Option Name) (words : List (List ℕ))
     → list_all is_allowed line ≡ allowed → nat_lt 255 (length line) ≡ long → begins is_star line ≡ star
     → Heads allowed long star bars line ≡ Ok (label, words) → IsHeadRead line label words
-read_by false long star bars line label words may short starred is = absurd cc
-read_by true true star bars line label words may short starred is = absurd cc
 read_by true false true bars line label words may short starred is =
-    record { allowed = may; short = short; comment = λ _. sym (label_of (None, []) (label, words) is); front = λ plain. absurd (true≢false (sym starred ∙ plain)) }
-read_by true false false true line label words may short starred is = absurd cc
+    record { allowed = may; short = short; comment = λ _. sym (label_of (None, []) label words is);
+      front = λ plain. absurd (true≢false (sym starred ∙ plain)) }
 read_by true false false false line label words may short starred is =
     record { allowed = may; short = short; comment = λ star. absurd (true≢false (sym star ∙ starred)); front = λ _. is }
+read_by allowed long star bars line label words may short starred is = absurd cc
 
 pub head_read : (line : List ℕ) (label : Option Name) (words : List (List ℕ)) → head_of line ≡ Ok (label, words) → IsHeadRead line label words
 unfolding head_of

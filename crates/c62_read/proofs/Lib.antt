@@ -3,19 +3,16 @@ pub mod Registers
 pub mod TokenLemmas
 pub mod TokenLaws
 pub mod NumberLemmas
-pub mod ColonLemmas
 pub mod LineLemmas
 pub mod BlockLemmas
 pub mod MissedLemmas
 pub mod LabelFields
 pub mod WalkLemmas
-pub mod BytesLemmas
 pub mod SpelledTokens
 pub mod SpelledNumbers
 pub mod SpelledOperands
 pub mod FirstByte
 pub mod HeadLemmas
-pub mod SkipLemmas
 pub mod NameLemmas
 pub mod EffectLaws
 pub mod SpelledLine
@@ -24,7 +21,6 @@ pub mod CommentLaws
 pub mod SaysLemmas
 pub mod CutLemmas
 pub mod ProgramLaws
-pub mod CaseBytes
 pub mod CaseLaws
 pub mod WrittenLines
 pub mod KindLemmas

@@ -1,6 +1,6 @@
 -- The first line of a text.
-use Rattle.c62_read.proofs.Common.{◌≡◌, ◌<◌, ℕ, ◌+◌, Bool, true, false, eqb, ◌&&◌, ◌||◌, List, [], ◌∷◌, ◌++◌, length, take, drop, Some, None, refl}
-use Rattle.c62_read.proofs.Common.{ap, ◌∙◌, arith, if◌then◌else◌, list_any, or_parts, grow, is_line_feed, lines_of}
+use Rattle.c62_read.proofs.Common.{◌≡◌, ◌<◌, ℕ, ◌+◌, false, eqb, List, [], ◌∷◌, ◌++◌, length, take, drop, Some, None, refl}
+use Rattle.c62_read.proofs.Common.{ap, nat_tests, ◌∙◌, arith, if◌then◌else◌, list_any, or_parts, is_line_feed, lines_of}
 use Rattle.memchr.specs.Find.{IsFirstByte, is_byte}
 use Rattle.c62_read.specs.Text.{without_return}
 use Rattle.c62_read.proofs.FirstByte.{fed_at, not_fed}
@@ -8,57 +8,25 @@ use Rattle.c62_read.proofs.FirstByte.{fed_at, not_fed}
 -- a line is without the carriage return that stands last
 pub without_last : (rest : List ℕ) (b : ℕ) → without_return (rest ++ b ∷ []) ≡ (if eqb b 13 then rest else (rest ++ b ∷ []))
 without_last [] b = refl
-without_last (a ∷ []) b = go (eqb b 13)
-  where
-    go : (return : Bool) → a ∷ (if return then [] else b ∷ []) ≡ (if return then a ∷ [] else a ∷ b ∷ [])
-    go true = refl
-    go false = refl
-without_last (a ∷ c ∷ rest) b = ap (λ (line : List ℕ). a ∷ line) (without_last (c ∷ rest) b) ∙ go (eqb b 13)
-  where
-    go : (return : Bool) → a ∷ (if return then c ∷ rest else (c ∷ rest ++ b ∷ [])) ≡ (if return then a ∷ c ∷ rest else (a ∷ c ∷ rest ++ b ∷ []))
-    go true = refl
-    go false = refl
+without_last (a ∷ []) b = grind (arith, nat_tests)
+without_last (a ∷ c ∷ rest) b = rw (without_last (c ∷ rest) b) (grind (arith, nat_tests))
 
 -- ---- bytes without a line feed
 
 -- in front of a line feed they are a line
 before_feed : (line rest : List ℕ) → list_any is_line_feed line ≡ false → lines_of (line ++ 10 ∷ rest) ≡ without_return line ∷ lines_of rest
 before_feed [] rest none = refl
-before_feed (b ∷ []) rest none = rw (or_parts (eqb b 10) false none).0 (go (eqb b 13))
-  where
-    go : (return : Bool) → (if return && true then [] ∷ lines_of rest else ((b ∷ []) ∷ lines_of rest))
-        ≡ (if return then [] else b ∷ []) ∷ lines_of rest
-    go true = refl
-    go false = refl
+before_feed (b ∷ []) rest none = grind (arith, nat_tests)
 before_feed (b ∷ c ∷ line) rest none =
     let parts = or_parts (eqb b 10) (list_any is_line_feed (c ∷ line)) none in
-    let next = or_parts (eqb c 10) (list_any is_line_feed line) parts.1 in
-    rw parts.0 (go (eqb b 13) (eqb c 10) next.0 ∙ ap (grow b) (before_feed (c ∷ line) rest parts.1))
-  where
-    go : (return feed : Bool) → feed ≡ false
-        → (if return && feed then lines_of (c ∷ (line ++ 10 ∷ rest)) else grow b (lines_of (c ∷ (line ++ 10 ∷ rest))))
-        ≡ grow b (lines_of (c ∷ (line ++ 10 ∷ rest)))
-    go true true e = absurd cc
-    go true false e = refl
-    go false feed e = refl
+    rw (before_feed (c ∷ line) rest parts.1) (grind (arith, nat_tests))
 
 -- at the end of the text they are the last line
 at_end : (b : ℕ) (line : List ℕ) → list_any is_line_feed (b ∷ line) ≡ false → lines_of (b ∷ line) ≡ (b ∷ line) ∷ []
-at_end b [] none = rw (or_parts (eqb b 10) false none).0 (go (eqb b 13))
-  where
-    go : (return : Bool) → (if return && false then [] else ((b ∷ []) ∷ [])) ≡ (b ∷ []) ∷ []
-    go true = refl
-    go false = refl
+at_end b [] none = grind (arith, nat_tests)
 at_end b (c ∷ line) none =
     let parts = or_parts (eqb b 10) (list_any is_line_feed (c ∷ line)) none in
-    let next = or_parts (eqb c 10) (list_any is_line_feed line) parts.1 in
-    rw parts.0 (go (eqb b 13) (eqb c 10) next.0 ∙ ap (grow b) (at_end c line parts.1))
-  where
-    go : (return feed : Bool) → feed ≡ false
-        → (if return && feed then lines_of (c ∷ line) else grow b (lines_of (c ∷ line))) ≡ grow b (lines_of (c ∷ line))
-    go true true e = absurd cc
-    go true false e = refl
-    go false feed e = refl
+    rw (at_end c line parts.1) (grind (arith, nat_tests))
 
 -- ---- the first line of a text
 

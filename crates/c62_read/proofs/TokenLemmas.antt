@@ -1,7 +1,8 @@
--- How the bytes of a token come together.
+-- How the bytes of a token come together, and that the tokens of a line are its bytes.
 use Rattle.c62_read.proofs.Common.{◌≡◌, ℕ, zero, suc, ◌+◌, ◌<◌, ◌≤◌, Bool, true, false, cond, eqb, ◌&&◌, List, [], ◌∷◌, ◌++◌, length, get_or, take}
 use Rattle.c62_read.proofs.Common.{drop, refl, sym, ap, ◌∙◌, arith, list_all, take-append-drop, and_parts, not-true, nat_tests, grow, put_back}
-use Rattle.c62_read.proofs.Common.{begins, is_blank, is_solid, is_word_byte, is_double, joins, tokens}
+use Rattle.c62_read.proofs.Common.{begins, is_blank, is_solid, is_word_byte, is_double, joins, tokens, not, inl, inr, filter, take_while, flat_map}
+use Rattle.c62_read.proofs.Common.{cases_Bool, take_while-cons}
 use Rattle.c62_read.specs.Text.{led_by}
 
 -- a function of what one test decides
@@ -9,11 +10,17 @@ pub on_test : {A B : Type 0} (f : A → B) (b : Bool) (x y : A) → f (cond b x 
 on_test f true x y = refl
 on_test f false x y = refl
 
+pub either : {A : Type 0} (b : Bool) (x : A) → cond b x x ≡ x
+either true x = refl
+either false x = refl
+
+-- the same where a test decides, by what it says
+pub by_test : {A : Type 0} (b : Bool) {x y u v : A} → (b ≡ true → x ≡ u) → (b ≡ false → y ≡ v) → cond b x y ≡ cond b u v
+by_test true first second = first refl
+by_test false first second = second refl
+
 pub word_solid : (c : ℕ) → is_word_byte c ≡ true → is_solid c ≡ true
 word_solid c word = grind (arith, nat_tests)
-
-pub word_no_double : (b c : ℕ) → is_word_byte b ≡ true → is_double b c ≡ false
-word_no_double b c word = grind (arith, nat_tests)
 
 pub joined_no_double : (b c : ℕ) → joins b c ≡ true → is_double b c ≡ false
 joined_no_double b c joined = grind (arith, nat_tests)
@@ -25,14 +32,10 @@ joined_word b c joined = grind (arith, nat_tests)
 pub solid_parts : (b : ℕ) → is_solid b ≡ true → (eqb b 59 ≡ false) × (is_blank b ≡ false)
 solid_parts b solid = let both = and_parts _ _ solid in (not-true _ both.0, not-true _ both.1)
 
-pub tokens_double : (b c : ℕ) (rest : List ℕ) → is_solid b ≡ true → is_double b c ≡ true → tokens (b ∷ c ∷ rest) ≡ (b ∷ c ∷ []) ∷ tokens rest
-tokens_double b c rest solid double = let parts = solid_parts b solid in rw (parts.0, parts.1, double) refl
-
 pub tokens_joined : (b c : ℕ) (rest : List ℕ) → is_solid b ≡ true → joins b c ≡ true → tokens (b ∷ c ∷ rest) ≡ grow b (tokens (c ∷ rest))
 tokens_joined b c rest solid joined =
     let parts = solid_parts b solid in
-    let single = joined_no_double b c joined in
-    rw (parts.0, parts.1, single, joined) refl
+    rw (parts.0, parts.1, joined_no_double b c joined, joined) refl
 
 pub tokens_alone : (b c : ℕ) (rest : List ℕ) → is_solid b ≡ true → is_double b c ≡ false → joins b c ≡ false
     → tokens (b ∷ c ∷ rest) ≡ (b ∷ []) ∷ tokens (c ∷ rest)
@@ -50,27 +53,19 @@ pub tokens_comment : (b : ℕ) (rest : List ℕ) → eqb b 59 ≡ true → token
 tokens_comment b [] comment = rw comment refl
 tokens_comment b (c ∷ rest) comment = rw comment refl
 
-blank_no_comment : (b : ℕ) → is_blank b ≡ true → eqb b 59 ≡ false
-blank_no_comment b blank = grind (arith, nat_tests)
-
 pub tokens_blanks : (n : ℕ) (bytes : List ℕ) → list_all is_blank (take n bytes) ≡ true → tokens (drop n bytes) ≡ tokens bytes
 tokens_blanks zero bytes blanks = refl
 tokens_blanks (suc n) [] blanks = refl
 tokens_blanks (suc n) (b ∷ bytes) blanks =
     let parts = and_parts (is_blank b) (list_all is_blank (take n bytes)) blanks in
-    tokens_blanks n bytes parts.1 ∙ sym (tokens_blank b bytes (blank_no_comment b parts.0) parts.0)
-
-no_word_joins : (b c : ℕ) → is_word_byte b ≡ true → is_word_byte c ≡ false → joins b c ≡ false
-no_word_joins b c word other = grind (arith, nat_tests)
+    tokens_blanks n bytes parts.1 ∙ sym (tokens_blank b bytes (grind (arith, nat_tests)) parts.0)
 
 -- a word where no byte of a word follows
 pub tokens_word : (w rest : List ℕ) → list_all is_word_byte w ≡ true → begins is_word_byte rest ≡ false
     → tokens (w ++ rest) ≡ put_back w (tokens rest)
 tokens_word [] rest words ends = refl
-tokens_word (b ∷ []) [] words ends = tokens_last b (word_solid b (and_parts (is_word_byte b) true words).0)
-tokens_word (b ∷ []) (c ∷ rest) words ends =
-    let word = (and_parts (is_word_byte b) true words).0 in
-    tokens_alone b c rest (word_solid b word) (word_no_double b c word) (no_word_joins b c word ends)
+tokens_word (b ∷ []) [] words ends = grind (arith, nat_tests)
+tokens_word (b ∷ []) (c ∷ rest) words ends = grind (arith, nat_tests)
 tokens_word (b ∷ c ∷ w) rest words ends =
     let first = and_parts (is_word_byte b) (is_word_byte c && list_all is_word_byte w) words in
     let second = and_parts (is_word_byte c) (list_all is_word_byte w) first.1 in
@@ -98,3 +93,38 @@ led_by_token [] zero within some token = refl
 led_by_token [] (suc n) within some token = absurd (omega (arith, within))
 led_by_token (b ∷ bytes) zero within some token = absurd (omega (arith, some (omega arith)))
 led_by_token (b ∷ bytes) (suc n) within some token = sym (token (omega arith))
+
+-- ---- the tokens of a line are its bytes
+
+abbrev joined_bytes : List (List ℕ) → List ℕ
+joined_bytes words = flat_map (λ t. t) words
+
+abbrev kept : List ℕ → List ℕ
+kept line = filter (λ b. not (is_blank b)) (take_while (λ b. not (eqb b 59)) line)
+
+kept_more : (b : ℕ) (rest : List ℕ) → kept (b ∷ rest) ≡ cond (eqb b 59) [] (cond (is_blank b) (kept rest) (b ∷ kept rest))
+kept_more b rest = rw (take_while-cons (λ (x : ℕ). not (eqb x 59)) b rest) (grind (arith, nat_tests))
+
+grown : (b : ℕ) (words : List (List ℕ)) → joined_bytes (grow b words) ≡ b ∷ joined_bytes words
+grown b [] = refl
+grown b (word ∷ words) = refl
+
+pub tokens_are_bytes : (line : List ℕ) → flat_map (λ t. t) (tokens line) ≡ filter (λ b. not (is_blank b)) (take_while (λ b. not (eqb b 59)) line)
+tokens_are_bytes [] = refl
+tokens_are_bytes (b ∷ []) = rw (kept_more b []) (grind (arith, nat_tests))
+tokens_are_bytes (b ∷ c ∷ rest) =
+    rw (
+      kept_more b (c ∷ rest),
+      on_test joined_bytes,
+      on_test joined_bytes,
+      on_test joined_bytes,
+      on_test joined_bytes,
+      grown b (tokens (c ∷ rest)),
+      tokens_are_bytes (c ∷ rest),
+    ) (elim (cases_Bool (is_double b c)) [
+      | inl double ↦
+          let text : eqb c 59 ≡ false = grind (arith, nat_tests) in
+          let solid : is_blank c ≡ false = grind (arith, nat_tests) in
+          rw (double, tokens_are_bytes rest, kept_more c rest, text, solid) refl
+      | inr single ↦ rw (single, either (joins b c)) refl
+    ])

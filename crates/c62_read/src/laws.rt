@@ -18,7 +18,7 @@ pub fn limits_are()
 {}
 
 /// The tokens of a line are its bytes in their order, less blanks and what follows a `;`.
-#[tactic(auto, using(crate::proofs::BytesLemmas::tokens_are_bytes))]
+#[tactic(auto, using(crate::proofs::TokenLemmas::tokens_are_bytes))]
 pub fn tokens_are_the_bytes()
     ensures { (line : List ℕ) → TokensAreTheBytes line }
 {}

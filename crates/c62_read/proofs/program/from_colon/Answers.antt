@@ -1,6 +1,6 @@
 use Rattle.c62_read.proofs.Common.{ℕ, List, eqb, ap, ◌∙◌, take_rest, lines_of, labels_of}
 use Rattle.c62_read.proofs.FirstByte.{none_before}
-use Rattle.c62_read.proofs.SkipLemmas.{skipped_labels}
+use Rattle.c62_read.proofs.HeadLemmas.{skipped_labels}
 use Rattle.c62_read.proofs.program.from_colon.Goals as goal
 
 pub returns-clause-same : goal.returns-clause-same
