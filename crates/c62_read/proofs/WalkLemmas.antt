@@ -280,7 +280,8 @@ module _ (labels : List Name) (before : List (List ℕ)) (line : List ℕ) (old 
           (last_faults (is_unknown labels says) (is_instruction says && is_none label && is_full old.current) (begins_block label says old)
           (length (all_drafts old)) (length (all_drafts new)) new stands.few (count_line _ _ _ (effect here says) label old))
 
-      next_stands : is_taken label old ≡ false → is_unknown labels says ≡ false → hindrance label says old ≡ None → Stands labels (more before line) new
+      next_stands : is_taken label old ≡ false → is_unknown labels says ≡ false → hindrance label says old ≡ None
+          → Stands labels (more before line) new
       unfolding hindrance
       next_stands free known clear =
           let clear = clear_faults (is_instruction says && is_none label && is_full old.current) (begins_block label says old)
@@ -395,22 +396,26 @@ module _ (labels : List Name) (number : ℕ) (line : List ℕ) (lines all : List
 abbrev pub read_all : List ℕ → Result Drafts Refusal
 read_all text = add_lines (labels_of (lines_of text)) 1 (lines_of text) no_drafts
 
-pub too_long : (text : List ℕ) → 1048576 < length text → program_in text ≡ Err (0, TextTooLong)
-unfolding program_in drafts_in
-too_long text long = rw (lt-ltb 1048576 (length text) long) refl
-
 abbrev pub blocks_of : Result Drafts Refusal → Result (List BlockParts) Refusal
 blocks_of read = and_then read (λ drafts. Ok (map (block_in (all_drafts drafts)) (all_drafts drafts)))
 
-pub program_is : (text : List ℕ) → length text ≤ 1048576 → program_in text ≡ blocks_of (read_all text)
+pub program_by : (text : List ℕ) → program_in text ≡ cond (ltb 1048576 (length text)) (Err (0, TextTooLong)) (blocks_of (read_all text))
 unfolding program_in drafts_in
-program_is text short = rw (le-ltb 1048576 (length text) short) (go (read_all text) (walk_text (lines_of text)))
+program_by text = go (ltb 1048576 (length text)) (read_all text) (walk_text (lines_of text))
   where
-    go : (read : Result Drafts Refusal) → Walked (labels_of (lines_of text)) [] (lines_of text) read
-        → and_then (unless_refused (first_fault (labels_of (lines_of text)) [] (lines_of text)) (blocks_from (lines_of text)))
-        (λ drafts. Ok (map (block_in drafts) drafts)) ≡ blocks_of read
-    go (Ok drafts) walked = rw (walked.0, blocks_are (labels_of (lines_of text)) (lines_of text) drafts walked.1) refl
-    go (Err refusal) walked = rw walked refl
+    go : (long : Bool) (read : Result Drafts Refusal) → Walked (labels_of (lines_of text)) [] (lines_of text) read
+        → and_then (cond long (Err (0, TextTooLong))
+        (unless_refused (first_fault (labels_of (lines_of text)) [] (lines_of text)) (blocks_from (lines_of text))))
+        (λ drafts. Ok (map (block_in drafts) drafts)) ≡ cond long (Err (0, TextTooLong)) (blocks_of read)
+    go true read walked = refl
+    go false (Ok drafts) walked = rw (walked.0, blocks_are (labels_of (lines_of text)) (lines_of text) drafts walked.1) refl
+    go false (Err refusal) walked = rw walked refl
+
+pub too_long : (text : List ℕ) → 1048576 < length text → program_in text ≡ Err (0, TextTooLong)
+too_long text long = program_by text ∙ rw (lt-ltb 1048576 (length text) long) refl
+
+pub program_is : (text : List ℕ) → length text ≤ 1048576 → program_in text ≡ blocks_of (read_all text)
+program_is text short = program_by text ∙ rw (le-ltb 1048576 (length text) short) refl
 
 pub read_stands : (text : List ℕ) (drafts : Drafts) → read_all text ≡ Ok drafts → Stands (labels_of (lines_of text)) (lines_of text) drafts
 read_stands text drafts read = (rw read at (walk_text (lines_of text))).1
