@@ -1,14 +1,13 @@
 -- Laws of programs: their instructions, their blocks, their labels and their targets are those of their lines.
-use Rattle.c62_read.proofs.Common.{◌≡◌, ℕ, zero, suc, ◌+◌, ◌<◌, ◌≤◌, Bool, true, false, cond, not, ltb, List, [], ◌∷◌, ◌++◌, length, get_or, Option}
+use Rattle.c62_read.proofs.Common.{◌≡◌, ℕ, zero, suc, ◌+◌, ◌≤◌, Bool, true, false, cond, not, ltb, List, [], ◌∷◌, ◌++◌, length, Option}
 use Rattle.c62_read.proofs.Common.{Some, None, Result, Ok, Err, refl, sym, ap, subst, ◌∙◌, arith, inl, inr, map, slice_get, All, flat_map, list_all}
-use Rattle.c62_read.proofs.Common.{position_or_len, bytes_eq, option_to_list, nat_tests, length-map, map-append, flat_map-append, list_all-append}
+use Rattle.c62_read.proofs.Common.{position_or_len, option_to_list, nat_tests, length-map, map-append, flat_map-append, list_all-append}
 use Rattle.c62_read.proofs.Common.{map-map, Operands, Block, Cause, TextTooLong, lines_of, Serial, Says, Nothing, Does, Jumps, Begins, BlockParts}
-use Rattle.c62_read.proofs.Common.{Draft, Item, Numbered, Refusal, Runs, aimed, and_then, block_in, block_parts, blocks_from, is_among, items_from}
-use Rattle.c62_read.proofs.Common.{label_is, label_items, labels_of, line_items, says_items, target_number, unless_refused, ends_in_branch, settled}
-use Rattle.c62_read.proofs.Common.{Drafts, no_drafts, own_labels}
+use Rattle.c62_read.proofs.Common.{Draft, Item, Numbered, Refusal, Runs, aimed, block_in, block_parts, blocks_from, is_among, items_from}
+use Rattle.c62_read.proofs.Common.{label_is, label_items, labels_of, line_items, says_items, target_number, ends_in_branch, settled}
+use Rattle.c62_read.proofs.Common.{Drafts, own_labels}
 use Rattle.std.proofs.Common.{add-one}
 use Rattle.std.specs.Prelude.{position, Contains}
-use Rattle.std.specs.List.{IsDistinct}
 use Rattle.std.specs.List.Sorted.{IsStrictlyIncreasing}
 use Rattle.std.proofs.lemmas.Bool.{not-false}
 use Rattle.std.proofs.lemmas.List.Elements.{All-contains, All-head, All-tail, Contains-append_cases}
@@ -49,9 +48,11 @@ has_its_labels text blocks e =
     let program = program_is_cut text blocks e in
     let stands = program.stands in
     let labels : BlockParts → List Name = λ block. option_to_list block.label in
-    let drafts = blocks_from (lines_of text) in
-    (ap (flat_map labels) program.is ∙ flat_map-map labels (block_in drafts) drafts
-    ∙ ap own_labels (blocks_are (labels_of (lines_of text)) (lines_of text) program.drafts stands) ∙ stands.own, stands.distinct)
+    let drafts = blocks_from (lines_of text) in (
+      ap (flat_map labels) program.is ∙ flat_map-map labels (block_in drafts) drafts
+          ∙ ap own_labels (blocks_are (labels_of (lines_of text)) (lines_of text) program.drafts stands) ∙ stands.own,
+      stands.distinct,
+    )
 
 -- the first block with a label
 module _ (label : Name) where
@@ -134,14 +135,12 @@ abbrev run_in : Item → List Numbered
 run_in (Begins label) = []
 run_in (Runs entry target) = entry ∷ []
 
-runs_running : (entries : List Numbered) → flat_map run_in (map (λ (entry : Numbered). Runs entry None) entries) ≡ entries
-runs_running [] = refl
-runs_running (entry ∷ entries) = rw (runs_running entries) refl
-
 runs_block : (label : Option Name) (insns : List Numbered)
     → flat_map run_in (label_items label ++ map (λ (entry : Numbered). Runs entry None) insns) ≡ insns
-runs_block None insns = runs_running insns
-runs_block (Some label) insns = runs_running insns
+runs_block None [] = refl
+runs_block (Some label) [] = refl
+runs_block None (entry ∷ insns) = rw (runs_block None insns) refl
+runs_block (Some label) (entry ∷ insns) = rw (runs_block (Some label) insns) refl
 
 runs_blocks : (blocks : List BlockParts) → flat_map run_in (flat_map items_of blocks) ≡ instructions_of blocks
 runs_blocks [] = refl

@@ -1,7 +1,7 @@
 -- What lines may say: no instruction but a jump has a block for its operand.
-use Rattle.c62_read.proofs.Common.{◌≡◌, Bool, true, false, not, cond, leb, ◌&&◌, List, [], ◌∷◌, Option, Some, None, Result, Ok, Err, refl, sym, ap}
-use Rattle.c62_read.proofs.Common.{subst, arith, nat_tests, ◌∙◌, ℤ, pos, option_and_then, cond_both, Reg, Letter, L, Op, Operands, Three, ConstantSecond, Two}
-use Rattle.c62_read.proofs.Common.{Constant, Block, FormFault, Insn, op_of, has_kind, same_side, Cause, BadUnit, BadOperand, UnknownMnemonic}
+use Rattle.c62_read.proofs.Common.{◌≡◌, Bool, true, false, cond, leb, ◌&&◌, List, [], ◌∷◌, Option, Some, None, Result, Ok, Err, refl, sym, ap}
+use Rattle.c62_read.proofs.Common.{subst, arith, nat_tests, ◌∙◌, pos, option_and_then, cond_both, Reg, Letter, L, Op, Operands, Three, ConstantSecond}
+use Rattle.c62_read.proofs.Common.{Two, Constant, Block, FormFault, Insn, op_of, has_kind, Cause, BadUnit, BadOperand, UnknownMnemonic}
 use Rattle.c62_read.proofs.Common.{Mnemonic, Operation, Nop, Address, WrittenUnit, Kind, Word, kinds_of, loaded, stored, constant_to_front}
 use Rattle.c62_read.proofs.Common.{crossed_to_back, exchanged, begins, is_dot, Parts, Says, Pause, Does, Jumps, and_read, cycles_of, formed}
 use Rattle.c62_read.proofs.Common.{is_storing, jumps_or_does, mnemonic_front, or_fault, parts_read, target_of, unit_behind}
