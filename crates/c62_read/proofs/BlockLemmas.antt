@@ -1,8 +1,8 @@
 -- Blocks as they are read and made: at most 256 instructions, and a branch only as the last.
-use Rattle.c62_read.proofs.Common.{◌≡◌, ℕ, Bool, ◌||◌, List, [], ◌∷◌, Option, Some, None, refl, ap, ◌<◌, suc, true, ◌&&◌, ◌++◌, length, sym, ◌∙◌}
-use Rattle.c62_read.proofs.Common.{append_assoc, arith, leb, get_or, map, length-map, map-append, list_any, position_or_len, BlockReader, Draft}
-use Rattle.c62_read.proofs.Common.{label_is, target_number, BlockParts, Numbered, aimed, block_in, block_parts, numbered_of, draft_of, number_among}
-use Rattle.c62_read.proofs.Common.{map-map, SerialInsn, Serial, branch_last, is_block}
+use Rattle.c62_read.proofs.Common.{◌≡◌, ℕ, Bool, ◌||◌, List, [], ◌∷◌, Option, Some, None, refl, ap, ◌<◌, suc, true, ◌&&◌, length, sym, ◌∙◌}
+use Rattle.c62_read.proofs.Common.{arith, leb, get_or, map, length-map, list_any, position_or_len, BlockReader, Draft}
+use Rattle.c62_read.proofs.Common.{label_is, target_number, Numbered, aimed, numbered_of, draft_of, number_among}
+use Rattle.c62_read.proofs.Common.{map-map, SerialInsn, branch_last, is_block}
 use Rattle.c62_read.specs.Program.{Name}
 use Rattle.c62_read.specs.Block.{operations}
 
@@ -42,12 +42,3 @@ all_aimed number [] (o ∷ old) same at = absurd (omega (arith, same))
 all_aimed number (n ∷ new) [] same at = absurd (omega (arith, same))
 all_aimed number (n ∷ new) (o ∷ old) same at =
     rw (at 0 n (omega arith), all_aimed number new old (omega (arith, same)) (λ k d less. at (suc k) d (omega (arith, less)))) refl
-
--- one block more is made
-pub one_made : (drafts : List Draft) (made now : List Serial) (block : BlockReader) (last : Serial) (old new : List BlockReader)
-    (all : List BlockParts)
-    → now ≡ made ++ last ∷ [] → old ≡ block ∷ new → block_parts last ≡ block_in drafts (draft_of block)
-    → map block_parts made ++ map (block_in drafts) (map draft_of old) ≡ all
-    → map block_parts now ++ map (block_in drafts) (map draft_of new) ≡ all
-one_made drafts made now block last old new all pushed taken parts so_far =
-    rw (pushed, map-append block_parts made (last ∷ []), parts, append_assoc) (rw taken at so_far)

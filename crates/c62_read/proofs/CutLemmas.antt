@@ -11,17 +11,9 @@ use Rattle.c62_read.proofs.SaysLemmas.{has_no_block}
 
 -- ---- an instruction and the number of its target
 
-with_operands : Numbered → Operands → Numbered
-with_operands entry operands = record {
-  parts =
-      record { op = entry.parts.op; operands = operands; cond = entry.parts.cond; unit = entry.parts.unit };
-  line = entry.line;
-}
-
 -- one that names no block needs none
 free_entry : (number : ℕ) (entry : Numbered) → has_no_block entry.parts.operands ≡ true → aimed number entry ≡ entry
-unfolding with_operands
-free_entry number entry free = ap (with_operands entry) (go entry.parts.operands free)
+free_entry number entry free = rw (go entry.parts.operands free) refl
   where
     go : (operands : Operands) → has_no_block operands ≡ true → aimed_operands number operands ≡ operands
     go (Block old) none = absurd cc
@@ -29,8 +21,7 @@ free_entry number entry free = ap (with_operands entry) (go entry.parts.operands
 
 jump_entry : (number : ℕ) (entry : Numbered) → entry.parts.operands ≡ Block 0
     → aimed number entry ≡ record { parts = record entry.parts { operands = Block number }; line = entry.line }
-unfolding with_operands
-jump_entry number entry e = ap (λ (operands : Operands). with_operands entry (aimed_operands number operands)) e
+jump_entry number entry e = rw e refl
 
 -- ---- what may be cut: an instruction that names no block, or a branch to one of these labels
 
@@ -118,45 +109,44 @@ behind_begin true drafts parts well = well
 behind_begin false [] parts well = refl
 behind_begin false (draft ∷ drafts) parts well = grind (arith, nat_tests)
 
-pub cut_begins : (items : List Item) → drafts_begin true (cut items) ≡ true
-cut_begins items = cut_all (λ others drafts. drafts_begin true drafts ≡ true) refl apart joins items
-  where
-    apart : (item : Item) (others : List Item) (drafts : List Draft) → Parted (ends_block item) drafts → drafts_begin true drafts ≡ true
-        → drafts_begin true (piece_of item ∷ drafts) ≡ true
-    apart (Begins label) others drafts parts well = behind_begin false drafts parts well
-    apart (Runs entry target) others drafts parts well = behind_begin (is_branch entry.parts.op) drafts parts well
-
-    more_ends : (entry : Numbered) (insns : List Numbered) → is_branch entry.parts.op ≡ false → ends_in_branch (entry ∷ insns) ≡ ends_in_branch insns
-    more_ends entry [] plain = plain
-    more_ends entry (next ∷ insns) plain = refl
-
-    joins : (item : Item) (others : List Item) (draft : Draft) (drafts : List Draft) → ends_block item ≡ false → draft.label ≡ None
-        → drafts_begin true (draft ∷ drafts) ≡ true → drafts_begin true (joined (piece_of item) draft ∷ drafts) ≡ true
-    joins (Begins label) others draft drafts plain none well = grind (arith, nat_tests)
-    joins (Runs entry target) others draft drafts plain none well = grind (arith, nat_tests, more_ends entry draft.insns plain)
-
 -- ---- branches stand last
 
 abbrev pub ends_last : Draft → Bool
 ends_last draft = branch_last (draft_operations draft)
 
-pub cut_ends : (items : List Item) → list_all ends_last (cut items) ≡ true
-cut_ends items = cut_all (λ others drafts. list_all ends_last drafts ≡ true) refl apart joins items
+-- blocks begin as they may, and branches stand last
+abbrev AreWell : List Draft → Type 0
+AreWell drafts = (drafts_begin true drafts ≡ true) × (list_all ends_last drafts ≡ true)
+
+cut_well : (items : List Item) → AreWell (cut items)
+cut_well items = cut_all (λ others drafts. AreWell drafts) (refl, refl) apart joins items
   where
-    apart : (item : Item) (others : List Item) (drafts : List Draft) → Parted (ends_block item) drafts → list_all ends_last drafts ≡ true
-        → list_all ends_last (piece_of item ∷ drafts) ≡ true
-    apart (Begins label) others drafts parts last = last
-    apart (Runs entry target) others drafts parts last = last
+    apart : (item : Item) (others : List Item) (drafts : List Draft) → Parted (ends_block item) drafts → AreWell drafts
+        → AreWell (piece_of item ∷ drafts)
+    apart (Begins label) others drafts parts well = (behind_begin false drafts parts well.0, well.1)
+    apart (Runs entry target) others drafts parts well = (behind_begin (is_branch entry.parts.op) drafts parts well.0, well.1)
+
+    more_ends : (entry : Numbered) (insns : List Numbered) → is_branch entry.parts.op ≡ false → ends_in_branch (entry ∷ insns) ≡ ends_in_branch insns
+    more_ends entry [] plain = plain
+    more_ends entry (next ∷ insns) plain = refl
 
     op_last : (op : Op) (ops : List Op) → is_branch op ≡ false → branch_last ops ≡ true → branch_last (op ∷ ops) ≡ true
     op_last op [] plain last = refl
     op_last op (second ∷ ops) plain last = rw plain last
 
     joins : (item : Item) (others : List Item) (draft : Draft) (drafts : List Draft) → ends_block item ≡ false → draft.label ≡ None
-        → list_all ends_last (draft ∷ drafts) ≡ true → list_all ends_last (joined (piece_of item) draft ∷ drafts) ≡ true
-    joins (Begins label) others draft drafts plain none last = last
-    joins (Runs entry target) others draft drafts plain none last =
-        grind (arith, nat_tests, op_last entry.parts.op (draft_operations draft) plain)
+        → AreWell (draft ∷ drafts) → AreWell (joined (piece_of item) draft ∷ drafts)
+    joins (Begins label) others draft drafts plain none well = (grind (arith, nat_tests, well.0), well.1)
+    joins (Runs entry target) others draft drafts plain none well = (
+      grind (arith, nat_tests, well.0, more_ends entry draft.insns plain),
+      grind (arith, nat_tests, well.1, op_last entry.parts.op (draft_operations draft) plain),
+    )
+
+pub cut_begins : (items : List Item) → drafts_begin true (cut items) ≡ true
+cut_begins items = (cut_well items).0
+
+pub cut_ends : (items : List Item) → list_all ends_last (cut items) ≡ true
+cut_ends items = (cut_well items).1
 
 -- blocks that are not overfull, and end so, are whole
 pub all_whole : (drafts : List Draft) → list_any is_overfull drafts ≡ false → list_all ends_last drafts ≡ true → list_all is_whole drafts ≡ true

@@ -1,13 +1,13 @@
 -- Laws of programs: their instructions, their blocks, their labels and their targets are those of their lines.
-use Rattle.c62_read.proofs.Common.{◌≡◌, ℕ, zero, suc, ◌+◌, ◌<◌, ◌≤◌, Bool, true, false, cond, not, ltb, List, [], ◌∷◌, ◌++◌, length, get_or, Option}
+use Rattle.c62_read.proofs.Common.{◌≡◌, ℕ, zero, suc, ◌+◌, ◌≤◌, Bool, true, false, cond, not, ltb, List, [], ◌∷◌, ◌++◌, length, Option}
 use Rattle.c62_read.proofs.Common.{Some, None, Result, Ok, Err, refl, sym, ap, subst, ◌∙◌, arith, inl, inr, map, slice_get, All, flat_map, list_all}
-use Rattle.c62_read.proofs.Common.{position_or_len, bytes_eq, option_to_list, nat_tests, length-map, map-append, flat_map-append, list_all-append}
+use Rattle.c62_read.proofs.Common.{position_or_len, option_to_list, nat_tests, length-map, map-append, flat_map-append, list_all-append}
 use Rattle.c62_read.proofs.Common.{map-map, Operands, Block, Cause, TextTooLong, lines_of, Serial, Says, Nothing, Does, Jumps, Begins, BlockParts}
-use Rattle.c62_read.proofs.Common.{Draft, Item, Numbered, Refusal, Runs, aimed, and_then, block_in, block_parts, blocks_from, is_among, items_from}
-use Rattle.c62_read.proofs.Common.{label_is, label_items, labels_of, line_items, says_items, target_number, unless_refused, ends_in_branch, settled}
-use Rattle.c62_read.proofs.Common.{Drafts, no_drafts, own_labels}
+use Rattle.c62_read.proofs.Common.{Draft, Item, Numbered, Refusal, Runs, aimed, block_in, block_parts, blocks_from, is_among, items_from}
+use Rattle.c62_read.proofs.Common.{label_is, label_items, labels_of, line_items, says_items, target_number, ends_in_branch, settled}
+use Rattle.c62_read.proofs.Common.{Drafts, own_labels}
+use Rattle.std.proofs.Common.{add-one}
 use Rattle.std.specs.Prelude.{position, Contains}
-use Rattle.std.specs.List.{IsDistinct}
 use Rattle.std.specs.List.Sorted.{IsStrictlyIncreasing}
 use Rattle.std.proofs.lemmas.Bool.{not-false}
 use Rattle.std.proofs.lemmas.List.Elements.{All-contains, All-head, All-tail, Contains-append_cases}
@@ -16,57 +16,43 @@ use Rattle.std.proofs.lemmas.Option.{slice_get_past}
 use Rattle.c62_read.specs.Block.{is_labelled, labels_in, target_stands, targets_stand}
 use Rattle.c62_read.specs.Line.{line_of}
 use Rattle.c62_read.specs.Program.{Name}
-use Rattle.c62_read.specs.Program.{drafts_in, first_fault}
 use Rattle.c62_read.specs.Program.{program_in}
 use Rattle.c62_read.specs.Laws.{HasCutBlocks, HasItsLabels, HasRisingLines, HasTargets, IsItsLines, ReadsAsItsLine, begin_well, block_named}
 use Rattle.c62_read.specs.Laws.{instruction_at, instructions_in, instructions_of, items_of}
-use Rattle.c62_read.specs.Walk.{add_lines}
 use Rattle.c62_read.proofs.BlockLemmas.{position_map}
 use Rattle.c62_read.proofs.CutLemmas.{AllFit, Fits, aim_at, all_fit, cut_begins, cut_ends, cut_items, draft_items, drafts_begin}
 use Rattle.c62_read.proofs.SaysLemmas.{has_no_block}
-use Rattle.c62_read.proofs.WalkLemmas.{OkFits, Walked, blocks_are, walk_text}
+use Rattle.c62_read.proofs.WalkLemmas.{OkFits, Stands, blocks_are, blocks_of, program_by, read_all, read_stands}
 
 -- what a text says that has no fault: these blocks, made of the cut of its lines
-pub record IsProgram (text : List ℕ) (blocks : List BlockParts) : Type 0 where
+record IsProgram (text : List ℕ) (blocks : List BlockParts) : Type 0 where
+  pub drafts : Drafts
+  pub stands : Stands (labels_of (lines_of text)) (lines_of text) drafts
   pub is : blocks ≡ map (block_in (blocks_from (lines_of text))) (blocks_from (lines_of text))
-  pub own : own_labels (blocks_from (lines_of text)) ≡ labels_of (lines_of text)
-  pub fits : All (λ line. OkFits (labels_of (lines_of text)) (line_of line)) (lines_of text)
-  pub distinct : IsDistinct bytes_eq (labels_of (lines_of text))
 
-pub program_is_cut : (text : List ℕ) (blocks : List BlockParts) → program_in text ≡ Ok blocks → IsProgram text blocks
-unfolding program_in drafts_in
-program_is_cut text blocks e = go (ltb 1048576 (length text)) (add_lines labels 1 lines no_drafts) (walk_text lines) e
+program_is_cut : (text : List ℕ) (blocks : List BlockParts) → program_in text ≡ Ok blocks → IsProgram text blocks
+program_is_cut text blocks e = go (ltb 1048576 (length text)) (read_all text) refl (sym (program_by text) ∙ e)
   where
-    lines : List (List ℕ)
-    lines = lines_of text
-
-    labels : List Name
-    labels = labels_of lines
-
-    go : (long : Bool) (read : Result Drafts Refusal) → Walked labels [] lines read
-        → and_then (cond long (Err (0, TextTooLong)) (unless_refused (first_fault labels [] lines) (blocks_from lines)))
-        (λ drafts. Ok (map (block_in drafts) drafts)) ≡ Ok blocks → IsProgram text blocks
-    go true read walked is = absurd cc
-    go false (Err refusal) walked is = let no = rw walked at is in absurd cc
-    go false (Ok drafts) walked is =
-        let same : map (block_in (blocks_from lines)) (blocks_from lines) ≡ blocks = let said = rw walked.0 at is in cc in
-        record {
-          is = sym same;
-          own = ap own_labels (blocks_are labels lines drafts walked.1) ∙ walked.1.own;
-          fits = walked.1.fits;
-          distinct = walked.1.distinct;
-        }
+    go : (long : Bool) (read : Result Drafts Refusal) → read_all text ≡ read
+        → cond long (Err (0, TextTooLong)) (blocks_of read) ≡ Ok blocks → IsProgram text blocks
+    go true read said is = absurd cc
+    go false (Err refusal) said is = absurd cc
+    go false (Ok drafts) said is =
+        let stands = read_stands text drafts said in
+        record { drafts = drafts; stands = stands; is = rw (blocks_are (labels_of (lines_of text)) (lines_of text) drafts stands) (cc) }
 
 -- ---- labels
-
-own_blocks : (all drafts : List Draft) → flat_map (λ (block : BlockParts). option_to_list block.label) (map (block_in all) drafts) ≡ own_labels drafts
-own_blocks all drafts = flat_map-map (λ (block : BlockParts). option_to_list block.label) (block_in all) drafts
 
 pub has_its_labels : (text : List ℕ) → HasItsLabels text
 has_its_labels text blocks e =
     let program = program_is_cut text blocks e in
-    let all : List Draft = blocks_from (lines_of text) in
-    (ap (flat_map (λ (block : BlockParts). option_to_list block.label)) program.is ∙ own_blocks all all ∙ program.own, program.distinct)
+    let stands = program.stands in
+    let labels : BlockParts → List Name = λ block. option_to_list block.label in
+    let drafts = blocks_from (lines_of text) in (
+      ap (flat_map labels) program.is ∙ flat_map-map labels (block_in drafts) drafts
+          ∙ ap own_labels (blocks_are (labels_of (lines_of text)) (lines_of text) program.drafts stands) ∙ stands.own,
+      stands.distinct,
+    )
 
 -- the first block with a label
 module _ (label : Name) where
@@ -97,7 +83,7 @@ module _ (label : Name) where
 
 pub has_targets : (text : List ℕ) → HasTargets text
 has_targets text blocks line label parts target e among jumps =
-    let fits = (program_is_cut text blocks e).fits in
+    let fits = (program_is_cut text blocks e).stands.fits in
     let fit = All-contains (λ (l : List ℕ). OkFits (labels_of (lines_of text)) (line_of l)) (lines_of text) line fits among in
     let known = not-false (is_among target (labels_of (lines_of text))) (rw jumps at fit).1 in (
       position_or_len (λ (block : BlockParts). label_is target block.label) blocks,
@@ -140,7 +126,7 @@ program_items text blocks program =
     let all : List Draft = blocks_from (lines_of text) in
     subst (λ (bs : List BlockParts). flat_map items_of bs ≡ map (settled (block_named bs)) (items_from 1 (lines_of text))) (sym program.is)
     (block_items all all ∙ cut_items (block_named (map (block_in all) all)) (labels_of (lines_of text)) (items_from 1 (lines_of text))
-    (items_fit (labels_of (lines_of text)) 1 (lines_of text) program.fits))
+    (items_fit (labels_of (lines_of text)) 1 (lines_of text) program.stands.fits))
 
 -- ---- instructions
 
@@ -149,14 +135,12 @@ abbrev run_in : Item → List Numbered
 run_in (Begins label) = []
 run_in (Runs entry target) = entry ∷ []
 
-runs_running : (entries : List Numbered) → flat_map run_in (map (λ (entry : Numbered). Runs entry None) entries) ≡ entries
-runs_running [] = refl
-runs_running (entry ∷ entries) = rw (runs_running entries) refl
-
 runs_block : (label : Option Name) (insns : List Numbered)
     → flat_map run_in (label_items label ++ map (λ (entry : Numbered). Runs entry None) insns) ≡ insns
-runs_block None insns = runs_running insns
-runs_block (Some label) insns = runs_running insns
+runs_block None [] = refl
+runs_block (Some label) [] = refl
+runs_block None (entry ∷ insns) = rw (runs_block None insns) refl
+runs_block (Some label) (entry ∷ insns) = rw (runs_block (Some label) insns) refl
 
 runs_blocks : (blocks : List BlockParts) → flat_map run_in (flat_map items_of blocks) ≡ instructions_of blocks
 runs_blocks [] = refl
@@ -172,13 +156,7 @@ module _ (aim : Name → ℕ) where
 
   runs_lines : (number : ℕ) (lines : List (List ℕ)) → flat_map run_in (map (settled aim) (items_from number lines)) ≡ instructions_in aim number lines
   runs_lines number [] = refl
-  runs_lines number (line ∷ lines) =
-      rw (
-        map-append (settled aim) (line_items number (line_of line)) (items_from (number + 1) lines),
-        flat_map-append run_in (map (settled aim) (line_items number (line_of line))) (map (settled aim) (items_from (number + 1) lines)),
-        runs_line number (line_of line),
-        runs_lines (number + 1) lines,
-      ) refl
+  runs_lines number (line ∷ lines) = simp (map-append, flat_map-append, runs_line number (line_of line), runs_lines (number + 1) lines)
 
 pub is_its_lines : (text : List ℕ) → IsItsLines text
 is_its_lines text blocks e =
@@ -195,14 +173,11 @@ rises_before : (n m : ℕ) (xs : List ℕ) → n ≤ m → RisesFrom m xs → Ri
 rises_before n m [] before rises = tt
 rises_before n m (x ∷ xs) before rises = (omega (arith, rises.0), rises.1)
 
-rises_at : (n : ℕ) (xs : List ℕ) → RisesFrom n xs → (k : ℕ) → suc k < length xs → get_or xs k 0 < get_or xs (suc k) 0
-rises_at n [] rises k inside = absurd (omega arith)
-rises_at n (x ∷ []) rises k inside = absurd (omega arith)
-rises_at n (x ∷ y ∷ xs) rises zero inside = omega (arith, rises.1.0)
-rises_at n (x ∷ y ∷ xs) rises (suc k) inside = rises_at (x + 1) (y ∷ xs) rises.1 k (omega arith)
-
 rises_all : (n : ℕ) (xs : List ℕ) → RisesFrom n xs → IsStrictlyIncreasing xs
-rises_all n xs rises k inside = let next : k + 1 ≡ suc k = omega arith in rw next (rises_at n xs rises k (rw next at inside))
+rises_all n [] rises k inside = absurd (omega arith)
+rises_all n (x ∷ []) rises k inside = absurd (omega arith)
+rises_all n (x ∷ y ∷ xs) rises zero inside = omega (arith, rises.1.0)
+rises_all n (x ∷ y ∷ xs) rises (suc k) inside = rw add-one (rw add-one at (rises_all (x + 1) (y ∷ xs) rises.1 k (omega arith)))
 
 abbrev numbers : List Numbered → List ℕ
 numbers entries = map (λ (entry : Numbered). entry.line) entries
@@ -233,8 +208,6 @@ said_here : (aim : Name → ℕ) (n : ℕ) (said : Result (Option Name × Says) 
     → (entry.line ≡ n) × (instruction_at aim n said ≡ entry ∷ [])
 said_here aim n (Ok (label, Does parts)) entry (zero, inside, is) = (rw (← is) refl, rw is refl)
 said_here aim n (Ok (label, Jumps parts target)) entry (zero, inside, is) = (rw (← is) refl, rw is refl)
-said_here aim n (Ok (label, Does parts)) entry (suc k, inside, is) = absurd (omega (arith, inside))
-said_here aim n (Ok (label, Jumps parts target)) entry (suc k, inside, is) = absurd (omega (arith, inside))
 said_here aim n said entry among = absurd (omega (arith, among.1))
 
 read_at : (aim : Name → ℕ) (n : ℕ) (lines : List (List ℕ)) (entry : Numbered) → Contains (instructions_in aim n lines) entry
@@ -327,7 +300,7 @@ targets_read text blocks e =
     let has = ap (is_among name) (has_its_labels text parts e).0 ∙ known in
     rw (found name parts has) (rw map-map at (labelled name parts has)) in
     let stand : list_all (item_stands labels) (map (settled (block_named parts)) (items_from 1 (lines_of text))) ≡ true =
-    all_stand labels names (block_named parts) aims (items_from 1 (lines_of text)) (items_fit names 1 (lines_of text) program.fits) in
+    all_stand labels names (block_named parts) aims (items_from 1 (lines_of text)) (items_fit names 1 (lines_of text) program.stands.fits) in
     let all : list_all (λ (part : BlockParts). list_all (stands labels) part.insns) parts ≡ true =
     sym (items_stand labels parts) ∙ ap (list_all (item_stands labels)) (program_items text parts program) ∙ stand in
     simp list_all-map at all

@@ -1,7 +1,7 @@
 -- What lines may say: no instruction but a jump has a block for its operand.
-use Rattle.c62_read.proofs.Common.{◌≡◌, Bool, true, false, not, cond, leb, ◌&&◌, List, [], ◌∷◌, Option, Some, None, Result, Ok, Err, refl, sym, ap}
-use Rattle.c62_read.proofs.Common.{subst, ◌∙◌, ℤ, pos, option_and_then, cond_both, Reg, Letter, L, Op, Operands, Three, ConstantSecond, Two}
-use Rattle.c62_read.proofs.Common.{Constant, Block, FormFault, Insn, op_of, has_kind, same_side, Cause, BadUnit, BadOperand, UnknownMnemonic}
+use Rattle.c62_read.proofs.Common.{◌≡◌, Bool, true, false, cond, leb, ◌&&◌, List, [], ◌∷◌, Option, Some, None, Result, Ok, Err, refl, sym, ap}
+use Rattle.c62_read.proofs.Common.{subst, arith, nat_tests, ◌∙◌, pos, option_and_then, cond_both, Reg, Letter, L, Op, Operands, Three, ConstantSecond}
+use Rattle.c62_read.proofs.Common.{Two, Constant, Block, FormFault, Insn, op_of, has_kind, Cause, BadUnit, BadOperand, UnknownMnemonic}
 use Rattle.c62_read.proofs.Common.{Mnemonic, Operation, Nop, Address, WrittenUnit, Kind, Word, kinds_of, loaded, stored, constant_to_front}
 use Rattle.c62_read.proofs.Common.{crossed_to_back, exchanged, begins, is_dot, Parts, Says, Pause, Does, Jumps, and_read, cycles_of, formed}
 use Rattle.c62_read.proofs.Common.{is_storing, jumps_or_does, mnemonic_front, or_fault, parts_read, target_of, unit_behind}
@@ -26,78 +26,73 @@ has_no_block _ = true
 
 -- ---- operands
 
-abbrev Found : Option Operands → Type 0
-Found None = Unit {0}
-Found (Some operands) = has_no_block operands ≡ true
+abbrev free_found : Option Operands → Bool
+free_found None = true
+free_found (Some operands) = has_no_block operands
 
-loaded_found : (found : Option (Address × List Kind)) → Found (loaded found)
-loaded_found (Some (address, kind.Comma ∷ kind.Register reg ∷ [])) = refl
-loaded_found _ = tt
+loaded_free : (found : Option (Address × List Kind)) → free_found (loaded found) ≡ true
+loaded_free (Some (address, kind.Comma ∷ kind.Register reg ∷ [])) = refl
+loaded_free _ = refl
 
-stored_found : (reg : Reg) (found : Option (Address × List Kind)) → Found (stored reg found)
-stored_found reg (Some (address, [])) = refl
-stored_found reg _ = tt
+stored_free : (reg : Reg) (found : Option (Address × List Kind)) → free_found (stored reg found) ≡ true
+stored_free reg (Some (address, [])) = refl
+stored_free reg _ = refl
 
-operands_found : (store : Bool) (kinds : List Kind) → Found (operands_of store kinds)
+operands_free : (store : Bool) (kinds : List Kind) → free_found (operands_of store kinds) ≡ true
 unfolding operands_of
-operands_found true (kind.Register reg ∷ kind.Comma ∷ kind.Star ∷ address) = stored_found reg (address_front address)
-operands_found false (kind.Star ∷ address) = loaded_found (address_front address)
-operands_found false (kind.Register a ∷ []) = refl
-operands_found false (kind.Register a ∷ kind.Comma ∷ kind.Register d ∷ []) = refl
-operands_found false (kind.Number k ∷ kind.Comma ∷ kind.Register d ∷ []) = refl
-operands_found false (kind.Register a ∷ kind.Comma ∷ kind.Register b ∷ kind.Comma ∷ kind.Register d ∷ []) = refl
-operands_found false (kind.Number k ∷ kind.Comma ∷ kind.Register a ∷ kind.Comma ∷ kind.Register d ∷ []) = refl
-operands_found false (kind.Register a ∷ kind.Comma ∷ kind.Number k ∷ kind.Comma ∷ kind.Register d ∷ []) = refl
-operands_found false (kind.Register a ∷ kind.Comma ∷ kind.Number k ∷ kind.Comma ∷ kind.Number m ∷ kind.Comma ∷ kind.Register d ∷ []) = refl
-operands_found store kinds = tt
+operands_free true (kind.Register reg ∷ kind.Comma ∷ kind.Star ∷ address) = stored_free reg (address_front address)
+operands_free false (kind.Star ∷ address) = loaded_free (address_front address)
+operands_free false (kind.Register a ∷ kind.Comma ∷ kind.Register b ∷ kind.Comma ∷ kind.Register d ∷ []) = refl
+operands_free false (kind.Number k ∷ kind.Comma ∷ kind.Register a ∷ kind.Comma ∷ kind.Register d ∷ []) = refl
+operands_free false (kind.Register a ∷ kind.Comma ∷ kind.Number k ∷ kind.Comma ∷ kind.Register d ∷ []) = refl
+operands_free false (kind.Register a ∷ kind.Comma ∷ kind.Number k ∷ kind.Comma ∷ kind.Number m ∷ kind.Comma ∷ kind.Register d ∷ []) = refl
+operands_free store kinds = refl
 
 -- ---- what is made of them
 
-abbrev Made : Option (Op × Operands) → Type 0
-Made None = Unit {0}
-Made (Some found) = has_no_block found.1 ≡ true
+abbrev free_made : Option (Op × Operands) → Bool
+free_made None = true
+free_made (Some found) = has_no_block found.1
 
-back_ordered : (turned : Option Op) (op : Op) (a b d : Reg) → Made (Some (crossed_to_back turned op a b d))
-back_ordered None op a b d = refl
-back_ordered (Some turned) op a b d =
-    cond_both (not (same_side a.side d.side) && same_side b.side d.side) (turned, Three b a d) (op, Three a b d)
-    (λ found. Made (Some found)) (λ _. refl) (λ _. refl)
-
-front_ordered : (turned : Option Op) (op : Op) (a : Reg) (k : ℤ) (d : Reg) → Made (Some (constant_to_front turned op a k d))
-front_ordered None op a k d = refl
-front_ordered (Some turned) op a k d = refl
-
-in_order_free : (op : Op) (operands : Operands) → has_no_block operands ≡ true → Made (Some (in_order op operands))
+in_order_free : (op : Op) (operands : Operands) → has_no_block operands ≡ true → has_no_block (in_order op operands).1 ≡ true
 unfolding in_order
-in_order_free op (Three a b d) free = back_ordered (exchanged op) op a b d
-in_order_free op (ConstantSecond a k d) free = front_ordered (exchanged op) op a k d
+in_order_free op (Three a b d) free = go (exchanged op)
+  where
+    go : (turned : Option Op) → has_no_block (crossed_to_back turned op a b d).1 ≡ true
+    go None = refl
+    go (Some turned) = grind (arith, nat_tests)
+in_order_free op (ConstantSecond a k d) free = go (exchanged op)
+  where
+    go : (turned : Option Op) → has_no_block (constant_to_front turned op a k d).1 ≡ true
+    go None = refl
+    go (Some turned) = refl
 in_order_free op operands free = free
 
-zero_free : (letter : Option Letter) (d : Reg) → Made (Some (zero_in letter d))
-zero_free (Some L) d = refl
-zero_free letter d = refl
-
 stands_free : (mnemonic : Mnemonic) (letter : Option Letter) (operands : Operands) → has_no_block operands ≡ true
-    → Made (stands_for mnemonic letter operands)
+    → free_made (stands_for mnemonic letter operands) ≡ true
 unfolding stands_for
 stands_free (Operation op) letter operands free = in_order_free op operands free
 stands_free Mv letter (Two x d) free = refl
 stands_free Neg letter (Two x d) free = refl
 stands_free Not letter (Two x d) free = refl
-stands_free Zero letter (Register d) free = zero_free letter d
+stands_free Zero letter (Register d) free = go letter
+  where
+    go : (unit : Option Letter) → has_no_block (zero_in unit d).1 ≡ true
+    go (Some L) = refl
+    go unit = refl
 stands_free Mvkl letter (Constant k d) free = refl
 stands_free Mvkh letter (Constant k d) free = refl
-stands_free _ letter operands free = tt
+stands_free _ letter operands free = refl
 
-kind_free : (found : Option (Op × Operands)) → Made found → Made (option_and_then with_kind found)
-kind_free None free = tt
-kind_free (Some found) free = cond_both (has_kind found.0 found.1) (Some found) None Made (λ _. free) (λ _. tt)
-
-written_free : (mnemonic : Mnemonic) (written : Option WrittenUnit) (operands : Option Operands) → Found operands
-    → Made (operands_written mnemonic written operands)
-written_free mnemonic written None free = tt
+written_free : (mnemonic : Mnemonic) (written : Option WrittenUnit) (operands : Option Operands) → free_found operands ≡ true
+    → free_made (operands_written mnemonic written operands) ≡ true
+written_free mnemonic written None free = refl
 written_free mnemonic written (Some operands) free =
-    kind_free (stands_for mnemonic (letter_written written) operands) (stands_free mnemonic (letter_written written) operands free)
+    go (stands_for mnemonic (letter_written written) operands) (stands_free mnemonic (letter_written written) operands free)
+  where
+    go : (found : Option (Op × Operands)) → free_made found ≡ true → free_made (option_and_then with_kind found) ≡ true
+    go None free = refl
+    go (Some found) free = grind (arith, nat_tests)
 
 -- ---- what a line says
 
@@ -115,7 +110,7 @@ formed_proper : (fault : Option FormFault) (says : Says) → IsProper says → O
 formed_proper None says proper = proper
 formed_proper (Some fault) says proper = tt
 
-does_proper : (cond : Option Condition) (written : Option WrittenUnit) (found : Option (Op × Operands)) → Made found
+does_proper : (cond : Option Condition) (written : Option WrittenUnit) (found : Option (Op × Operands)) → free_made found ≡ true
     → OkProper (does cond written found)
 does_proper cond written None made = tt
 does_proper cond written (Some (op, operands)) made =
@@ -126,9 +121,9 @@ behind_proper : (aim : Option Word) (mnemonic : Mnemonic) (cond : Option Conditi
 behind_proper (Some label) mnemonic cond written words =
     formed_proper (text_fault Branch (Block 0) cond written) (Jumps (parts_read Branch (Block 0) cond written) label) (refl, refl)
 behind_proper None mnemonic cond written words =
-    let kinds = kinds_of words in
-    does_proper cond written (operands_written mnemonic written (operands_of (is_storing mnemonic) kinds))
-    (written_free mnemonic written (operands_of (is_storing mnemonic) kinds) (operands_found (is_storing mnemonic) kinds))
+    let operands = operands_of (is_storing mnemonic) (kinds_of words) in
+    does_proper cond written (operands_written mnemonic written operands)
+    (written_free mnemonic written operands (operands_free (is_storing mnemonic) (kinds_of words)))
 
 cycles_proper : (kind : Kind) → OkProper (cycles_of kind)
 cycles_proper (kind.Number (pos n)) = cond_both (leb 1 n && leb n 9) (Ok (Pause n)) (Err BadOperand) OkProper (λ _. tt) (λ _. tt)
@@ -167,7 +162,7 @@ rest_proper (word ∷ words) =
 
 -- what a line says is proper
 pub proper : (words : List Word) (says : Says) → rest_says words ≡ Ok says → IsProper says
-proper words says e = let found : OkProper (Ok says) = subst OkProper e (rest_proper words) in found
+proper words says e = subst OkProper e (rest_proper words)
 
 -- the operands of an instruction are of a kind that its operation has
 made_kind : (insn : Insn) (op : Op) (operands : Operands) (cond : Option Condition) (written : Option WrittenUnit)

@@ -15,7 +15,7 @@ use Rattle.c62_read.specs.Line.{head_of, line_of, rest_says}
 use Rattle.c62_read.specs.Program.{Name, fault_if, fault_of, first_fault}
 use Rattle.c62_read.specs.Program.{first_of}
 use Rattle.c62_read.specs.Program.{misses_label, label_field, repeats_label, Fails, drafts_in, program_in}
-use Rattle.c62_read.specs.Walk.{add_head, add_line, add_lines, add_says, at_line, begins_block, closed, hindrance, is_full}
+use Rattle.c62_read.specs.Walk.{add_head, add_line, add_lines, add_says, after_step, at_line, begins_block, closed, hindrance, is_full}
 use Rattle.c62_read.specs.Walk.{is_instruction, is_taken, new_draft, opened, refused, Step, unless_hindered}
 use Rattle.c62_read.specs.Walk.{with_insn, with_label, with_says}
 use Rattle.c62_read.proofs.HeadLemmas.{line_by_head}
@@ -188,63 +188,10 @@ distinct_field : (labels : List Name) (field : Option Name) → IsDistinct bytes
 distinct_field labels None distinct fresh = rw append-nil distinct
 distinct_field labels (Some label) distinct fresh = distinct_more labels label distinct (or_parts (is_among label labels) false fresh).0
 
-abbrev says_in : Result Says Cause → Says
-says_in (Ok says) = says
-says_in (Err cause) = Nothing
-
--- the line says this, and nothing stands against it
-pub record IsAdded (number : ℕ) (line : List ℕ) (old new : Drafts) : Type 0 where
-  pub label : Option Name
-  pub words : List (List ℕ)
-  pub says : Says
-  pub head : head_of line ≡ Ok (label, words)
-  pub rest : rest_says words ≡ Ok says
-  pub free : is_taken label old ≡ false
-  pub clear : hindrance label says old ≡ None
-  pub said : (add_line number line old).says ≡ says
-  pub is : new ≡ with_says number says (with_label label old)
-
-module _ (number : ℕ) (line : List ℕ) (old new : Drafts) where
-  by_rest : (label : Option Name) (words : List (List ℕ)) → head_of line ≡ Ok (label, words) → is_taken label old ≡ false
-      → (said : Result Says Cause) → rest_says words ≡ said → (h : Option Cause) → hindrance label (says_in said) old ≡ h
-      → (add_says number label old said).drafts ≡ Ok new → IsAdded number line old new
-  unfolding add_line
-  by_rest label words head free (Err cause) rest h clear added = absurd cc
-  by_rest label words head free (Ok says) rest (Some cause) clear added = let no = rw clear at added in absurd cc
-  by_rest label words head free (Ok says) rest None clear added =
-      record {
-        label = label;
-        words = words;
-        says = says;
-        head = head;
-        rest = rest;
-        free = free;
-        clear = clear;
-        said = rw (head, free, rest) refl;
-        is = let is = rw clear at added in cc;
-      }
-
-  by_label : (label : Option Name) (words : List (List ℕ)) → head_of line ≡ Ok (label, words) → (taken : Bool) → is_taken label old ≡ taken
-      → (cond taken (refused DuplicateLabel) (add_says number label old (rest_says words))).drafts ≡ Ok new → IsAdded number line old new
-  by_label label words head true free added = absurd cc
-  by_label label words head false free added = by_rest label words head free (rest_says words) refl _ refl added
-
-  by_head : (front : Result (Option Name × List (List ℕ)) Cause) → head_of line ≡ front → (add_head number old front).drafts ≡ Ok new
-      → IsAdded number line old new
-  by_head (Err cause) head added = absurd cc
-  by_head (Ok (label, words)) head added = by_label label words head (is_taken label old) refl added
-
-  pub added_is : (add_line number line old).drafts ≡ Ok new → IsAdded number line old new
-  unfolding add_line
-  added_is added = by_head (head_of line) refl added
-
--- the labels of the blocks with it
-pub own_added : (number : ℕ) (line : List ℕ) (old new : Drafts) → IsAdded number line old new
-    → own_labels (all_drafts new) ≡ own_labels (all_drafts old) ++ option_to_list (label_field line)
-own_added number line old new added =
-    ap (λ (drafts : Drafts). own_labels (all_drafts drafts)) added.is ∙ (effect number added.says).own (with_label added.label old)
-    ∙ label_own added.label old
-    ∙ ap (λ (label : Option Name). own_labels (all_drafts old) ++ option_to_list label) (sym (field_is line added.label added.words added.head))
+-- the labels of the blocks with what is said
+own_said : (number : ℕ) (label : Option Name) (says : Says) (old : Drafts)
+    → own_labels (all_drafts (with_says number says (with_label label old))) ≡ own_labels (all_drafts old) ++ option_to_list label
+own_said number label says old = (effect number says).own (with_label label old) ∙ label_own label old
 
 abbrev pub has_label : Name → List Draft → Bool
 has_label label drafts = list_any (λ draft. label_is label draft.label) drafts
@@ -287,6 +234,11 @@ clear_faults : (full begins : Bool) (n m : ℕ) → n ≤ 64 → m ≡ n + cond 
     → cond full (Some TooManyInstructions) (cond (begins && leb 64 n) (Some TooManyBlocks) None) ≡ None → (full ≡ false) × (m ≤ 64)
 clear_faults full begins n m few grown clear = grind (arith, nat_tests)
 
+-- a walk from these lines over others comes to the end where none of them has a fault, and else to the first fault
+abbrev pub Walked : List Name → List (List ℕ) → List (List ℕ) → Result Drafts Refusal → Type 0
+Walked labels before lines (Ok new) = (first_fault labels before lines ≡ None) × Stands labels (before ++ lines) new
+Walked labels before lines (Err refusal) = first_fault labels before lines ≡ Some refusal
+
 module _ (labels : List Name) (before : List (List ℕ)) (line : List ℕ) (old : Drafts) (stands : Stands labels before old) where
   abbrev here : ℕ
   here = length before + 1
@@ -328,86 +280,86 @@ module _ (labels : List Name) (before : List (List ℕ)) (line : List ℕ) (old 
           (last_faults (is_unknown labels says) (is_instruction says && is_none label && is_full old.current) (begins_block label says old)
           (length (all_drafts old)) (length (all_drafts new)) new stands.few (count_line _ _ _ (effect here says) label old))
 
-  -- what a step meets
-  abbrev met : Step → Option Cause
-  met step = first_of (fault_if (is_unknown labels step.says) UnknownTarget ∷ fault_in step.drafts ∷ [])
+      next_stands : is_taken label old ≡ false → is_unknown labels says ≡ false → hindrance label says old ≡ None
+          → Stands labels (more before line) new
+      unfolding hindrance
+      next_stands free known clear =
+          let clear = clear_faults (is_instruction says && is_none label && is_full old.current) (begins_block label says old)
+          (length (all_drafts old)) _ stands.few (count_line _ _ _ (effect here says) label old) clear in
+          record {
+            cuts = cuts_more;
+            few = clear.1;
+            small = over_line _ _ _ (effect here says) label old stands.small ∙ clear.0;
+            own = own_said here label says old ∙ rw (stands.own, labels_more before line, field_is line label words head) refl;
+            fits = All-push (λ (l : List ℕ). OkFits labels (line_of l)) before line stands.fits (rw said (proper words says rest, known));
+            distinct = rw (labels_more before line) (distinct_field (labels_of before) (label_field line) stands.distinct (repeats_is ∙ free));
+          }
 
-  -- the line's fault is what the walk meets
-  fault_same : fault_of labels before line ≡ met (add_line here line old)
-  unfolding add_line fault_of line_of
-  fault_same = (elim (head_of line) as (λ front. head_of line ≡ front → fault_of labels before line ≡ met (add_head here old front)) [
-    | Err cause ↦ λ head. rw head refl
-    | Ok front ↦ λ head. by_label front.0 front.1 head (is_taken front.0 old) refl
-  ]) refl
-    where
-      by_rest : (label : Option Name) (words : List (List ℕ)) → head_of line ≡ Ok (label, words) → is_taken label old ≡ false
-          → (said : Result Says Cause) → rest_says words ≡ said → fault_of labels before line ≡ met (add_says here label old said)
-      by_rest label words head free (Err cause) rest = rw (head, repeats_is label words head ∙ free, rest) refl
-      by_rest label words head free (Ok says) rest = said_fault label words head says rest free
+      -- the walk over this line and others, by whether it branches to no label and what stands against it
+      walk_said : (lines : List (List ℕ)) → is_taken label old ≡ false
+          → ((new : Drafts) → Stands labels (more before line) new
+          → Walked labels (more before line) lines (add_lines labels (length (more before line) + 1) lines new))
+          → (unknown : Bool) → is_unknown labels says ≡ unknown → (fault : Option Cause) → hindrance label says old ≡ fault
+          → Walked labels before (line ∷ lines) (cond unknown (Err (here, UnknownTarget))
+          (and_then (at_line here (unless_hindered fault new)) (λ drafts. add_lines labels (here + 1) lines drafts)))
+      unfolding first_fault
+      walk_said lines free later true u fault e = rw (said_fault free, u) refl
+      walk_said lines free later false u (Some cause) e = rw (said_fault free, u, e) refl
+      walk_said lines free later false u None e =
+          let count : length (more before line) + 1 ≡ here + 1 = omega (arith, length-append before (line ∷ [])) in
+          further (said_fault free ∙ rw (u, e) refl) (add_lines labels (here + 1) lines new) (rw count at (later new (next_stands free u e)))
+        where
+          further : fault_of labels before line ≡ None → (read : Result Drafts Refusal) → Walked labels (more before line) lines read
+              → Walked labels before (line ∷ lines) read
+          further none (Ok last) walked = (rw (none, walked.0) refl, rw append_assoc at walked.1)
+          further none (Err refusal) walked = rw (none, walked) refl
 
-      by_label : (label : Option Name) (words : List (List ℕ)) → head_of line ≡ Ok (label, words) → (taken : Bool) → is_taken label old ≡ taken
-          → fault_of labels before line ≡ met (cond taken (refused DuplicateLabel) (add_says here label old (rest_says words)))
-      by_label label words head true e = rw (head, repeats_is label words head ∙ e) refl
-      by_label label words head false e = by_rest label words head e (rest_says words) refl
+-- what a line comes to: a fault of its own or a label that is taken, or this label and what is said
+data Outcome (number : ℕ) (line : List ℕ) (old : Drafts) : Step → Type 0 where
+  Refuses : (cause : Cause)
+      → ((labels : List Name) (before : List (List ℕ)) → Stands labels before old → fault_of labels before line ≡ Some cause)
+      → Outcome number line old (refused cause)
+  Adds : (label : Option Name) (words : List (List ℕ)) (says : Says) → head_of line ≡ Ok (label, words) → is_taken label old ≡ false
+      → rest_says words ≡ Ok says → Outcome number line old (add_says number label old (Ok says))
 
-  next_stands : (new : Drafts) → IsAdded here line old new → is_unknown labels (add_line here line old).says ≡ false
-      → Stands labels (more before line) new
-  unfolding hindrance
-  next_stands new added known =
-      let effects = effect here added.says in
-      let clear = clear_faults (is_instruction added.says && is_none added.label && is_full old.current) (begins_block added.label added.says old)
-      (length (all_drafts old)) _ stands.few (count_line _ _ _ effects added.label old) added.clear in
-      let own : own_labels (all_drafts new) ≡ labels_of (more before line) =
-      own_added here line old new added ∙ rw (stands.own, labels_more before line) refl in
-      let fresh = repeats_is added.label added.words added.head ∙ added.free in
-      rw added.is (record {
-        cuts = cuts_more added.label added.words added.head added.says added.rest;
-        few = clear.1;
-        small = over_line _ _ _ effects added.label old stands.small ∙ clear.0;
-        own = rw added.is at own;
-        fits = All-push (λ (l : List ℕ). OkFits labels (line_of l)) before line stands.fits
-            (rw (line_by_head line added.label added.words added.says added.head added.rest)
-            (proper added.words added.says added.rest, rw added.said at known));
-        distinct = rw (labels_more before line) (distinct_field (labels_of before) (label_field line) stands.distinct fresh);
-      })
+outcome : (number : ℕ) (line : List ℕ) (old : Drafts) → Outcome number line old (add_line number line old)
+unfolding add_line fault_of line_of
+outcome number line old = by_head (head_of line) refl
+  where
+    by_rest : (label : Option Name) (words : List (List ℕ)) → head_of line ≡ Ok (label, words) → (taken : Bool) → is_taken label old ≡ taken
+        → (said : Result Says Cause) → rest_says words ≡ said
+        → Outcome number line old (cond taken (refused DuplicateLabel) (add_says number label old said))
+    by_rest label words head true e said rest =
+        Refuses DuplicateLabel (λ labels before stands. rw (head, repeats_is labels before line old stands label words head ∙ e) refl)
+    by_rest label words head false e (Err cause) rest =
+        Refuses cause (λ labels before stands. rw (head, repeats_is labels before line old stands label words head ∙ e, rest) refl)
+    by_rest label words head false e (Ok says) rest = Adds label words says head e rest
+
+    by_head : (front : Result (Option Name × List (List ℕ)) Cause) → head_of line ≡ front → Outcome number line old (add_head number old front)
+    by_head (Err cause) head = Refuses cause (λ labels before stands. rw head refl)
+    by_head (Ok (label, words)) head = by_rest label words head (is_taken label old) refl (rest_says words) refl
 
 -- ---- all lines
 
--- a walk from these lines over others comes to the end where none of them has a fault, and else to the first fault
-abbrev pub Walked : List Name → List (List ℕ) → List (List ℕ) → Result Drafts Refusal → Type 0
-Walked labels before lines (Ok new) = (first_fault labels before lines ≡ None) × Stands labels (before ++ lines) new
-Walked labels before lines (Err refusal) = first_fault labels before lines ≡ Some refusal
-
 module _ (labels : List Name) where
-  -- by whether the line branches to no label, and what it adds
-  walk_by : (before : List (List ℕ)) (line : List ℕ) (lines : List (List ℕ)) (old : Drafts) (stands : Stands labels before old)
+  walk_line : (before : List (List ℕ)) (line : List ℕ) (lines : List (List ℕ)) (old : Drafts) → Stands labels before old
       → ((new : Drafts) → Stands labels (more before line) new
       → Walked labels (more before line) lines (add_lines labels (length (more before line) + 1) lines new))
-      → (unknown : Bool) → is_unknown labels (add_line (length before + 1) line old).says ≡ unknown
-      → (added : Result Drafts Cause) → (add_line (length before + 1) line old).drafts ≡ added
-      → Walked labels before (line ∷ lines) (cond unknown (Err (length before + 1, UnknownTarget))
-      (and_then (at_line (length before + 1) added) (λ drafts. add_lines labels ((length before + 1) + 1) lines drafts)))
+      → (step : Step) → Outcome (length before + 1) line old step
+      → Walked labels before (line ∷ lines)
+      (after_step labels (length before + 1) step (λ drafts. add_lines labels ((length before + 1) + 1) lines drafts))
   unfolding first_fault
-  walk_by before line lines old stands later true u added e = rw (fault_same labels before line old stands, u) refl
-  walk_by before line lines old stands later false u (Err cause) e = rw (fault_same labels before line old stands, u, e) refl
-  walk_by before line lines old stands later false u (Ok new) e =
-      let none : fault_of labels before line ≡ None = fault_same labels before line old stands ∙ rw (u, e) refl in
-      let count : length (more before line) + 1 ≡ (length before + 1) + 1 = omega (arith, length-append before (line ∷ [])) in
-      further none (add_lines labels ((length before + 1) + 1) lines new)
-      (rw count at (later new (next_stands labels before line old stands new (added_is (length before + 1) line old new e) u)))
-    where
-      further : fault_of labels before line ≡ None → (read : Result Drafts Refusal) → Walked labels (more before line) lines read
-          → Walked labels before (line ∷ lines) read
-      further none (Ok last) walked = (rw (none, walked.0) refl, rw append_assoc at walked.1)
-      further none (Err refusal) walked = rw (none, walked) refl
+  walk_line before line lines old stands later _ (Refuses cause fault) = rw (fault labels before stands) refl
+  walk_line before line lines old stands later _ (Adds label words says head free rest) =
+      walk_said labels before line old stands label words head says rest lines free later (is_unknown labels says) refl
+      (hindrance label says old) refl
 
   pub walk : (lines before : List (List ℕ)) (old : Drafts) → Stands labels before old
       → Walked labels before lines (add_lines labels (length before + 1) lines old)
   unfolding add_lines first_fault
   walk [] before old stands = (refl, rw append-nil stands)
   walk (line ∷ lines) before old stands =
-      walk_by before line lines old stands (λ new there. walk lines (more before line) new there)
-      (is_unknown labels (add_line (length before + 1) line old).says) refl (add_line (length before + 1) line old).drafts refl
+      walk_line before line lines old stands (λ new there. walk lines (more before line) new there) _ (outcome (length before + 1) line old)
 
 -- the walk over all lines of a text
 pub walk_text : (lines : List (List ℕ)) → Walked (labels_of lines) [] lines (add_lines (labels_of lines) 1 lines no_drafts)
@@ -427,29 +379,43 @@ module _ (labels : List Name) (number : ℕ) (line : List ℕ) (lines all : List
   -- the labels that the blocks have and those of the lines that are left
   pub labels_stay : (new : Drafts) → (add_line number line old).drafts ≡ Ok new
       → own_labels (all_drafts new) ++ labels_of lines ≡ own_labels (all_drafts old) ++ labels_of all
-  labels_stay new added = rw (own_added number line old new (added_is number line old new added), first, append_assoc) refl
+  labels_stay new added = go _ (outcome number line old) added
+    where
+      added_is : (fault : Option Cause) (made : Drafts) → unless_hindered fault made ≡ Ok new → new ≡ made
+      added_is None made e = cc
+      added_is (Some cause) made e = absurd cc
+
+      go : (step : Step) → Outcome number line old step → step.drafts ≡ Ok new
+          → own_labels (all_drafts new) ++ labels_of lines ≡ own_labels (all_drafts old) ++ labels_of all
+      go _ (Refuses cause fault) e = absurd cc
+      go _ (Adds label words says head free rest) e =
+          rw (added_is (hindrance label says old) _ e, own_said number label says old, first, field_is line label words head, append_assoc) refl
 
 -- ---- the whole text
 
 abbrev pub read_all : List ℕ → Result Drafts Refusal
 read_all text = add_lines (labels_of (lines_of text)) 1 (lines_of text) no_drafts
 
-pub too_long : (text : List ℕ) → 1048576 < length text → program_in text ≡ Err (0, TextTooLong)
-unfolding program_in drafts_in
-too_long text long = rw (lt-ltb 1048576 (length text) long) refl
-
 abbrev pub blocks_of : Result Drafts Refusal → Result (List BlockParts) Refusal
 blocks_of read = and_then read (λ drafts. Ok (map (block_in (all_drafts drafts)) (all_drafts drafts)))
 
-pub program_is : (text : List ℕ) → length text ≤ 1048576 → program_in text ≡ blocks_of (read_all text)
+pub program_by : (text : List ℕ) → program_in text ≡ cond (ltb 1048576 (length text)) (Err (0, TextTooLong)) (blocks_of (read_all text))
 unfolding program_in drafts_in
-program_is text short = rw (le-ltb 1048576 (length text) short) (go (read_all text) (walk_text (lines_of text)))
+program_by text = go (ltb 1048576 (length text)) (read_all text) (walk_text (lines_of text))
   where
-    go : (read : Result Drafts Refusal) → Walked (labels_of (lines_of text)) [] (lines_of text) read
-        → and_then (unless_refused (first_fault (labels_of (lines_of text)) [] (lines_of text)) (blocks_from (lines_of text)))
-        (λ drafts. Ok (map (block_in drafts) drafts)) ≡ blocks_of read
-    go (Ok drafts) walked = rw (walked.0, blocks_are (labels_of (lines_of text)) (lines_of text) drafts walked.1) refl
-    go (Err refusal) walked = rw walked refl
+    go : (long : Bool) (read : Result Drafts Refusal) → Walked (labels_of (lines_of text)) [] (lines_of text) read
+        → and_then (cond long (Err (0, TextTooLong))
+        (unless_refused (first_fault (labels_of (lines_of text)) [] (lines_of text)) (blocks_from (lines_of text))))
+        (λ drafts. Ok (map (block_in drafts) drafts)) ≡ cond long (Err (0, TextTooLong)) (blocks_of read)
+    go true read walked = refl
+    go false (Ok drafts) walked = rw (walked.0, blocks_are (labels_of (lines_of text)) (lines_of text) drafts walked.1) refl
+    go false (Err refusal) walked = rw walked refl
+
+pub too_long : (text : List ℕ) → 1048576 < length text → program_in text ≡ Err (0, TextTooLong)
+too_long text long = program_by text ∙ rw (lt-ltb 1048576 (length text) long) refl
+
+pub program_is : (text : List ℕ) → length text ≤ 1048576 → program_in text ≡ blocks_of (read_all text)
+program_is text short = program_by text ∙ rw (le-ltb 1048576 (length text) short) refl
 
 pub read_stands : (text : List ℕ) (drafts : Drafts) → read_all text ≡ Ok drafts → Stands (labels_of (lines_of text)) (lines_of text) drafts
 read_stands text drafts read = (rw read at (walk_text (lines_of text))).1

@@ -336,6 +336,7 @@ impl TextReader {
         }
     }
 
+    #[tactic(auto, using(crate::proofs::WalkLemmas::has_own), unfolding(crate::specs::Walk::is_taken))]
     fn has_label(&self, label: &[u8]) -> bool
         ensures { result ≡ is_among label.now (own_labels (all_drafts (drafts_of self.now))) }
     {

@@ -1,9 +1,8 @@
-use Rattle.c62_read.proofs.Common.{◌≡◌, suc, ◌+◌, List, [], ◌∷◌, length, length-append, true, map, sym, ap, arith, ◌∙◌, list_all, Option}
-use Rattle.c62_read.proofs.Common.{into_iter_items, and_parts, map-map, BlockReader, Draft, block_in, block_parts, target_number, draft_of}
-use Rattle.c62_read.proofs.Common.{is_whole, number_among}
+use Rattle.c62_read.proofs.Common.{◌≡◌, suc, ◌+◌, List, [], ◌∷◌, length, length-append, append_assoc, map-append, true, map, sym, ap, arith, ◌∙◌}
+use Rattle.c62_read.proofs.Common.{list_all, Option, into_iter_items, and_parts, map-map, BlockReader, Draft, block_in, block_parts, target_number}
+use Rattle.c62_read.proofs.Common.{draft_of, is_whole, number_among}
 use Rattle.c62_read.specs.Program.{Name}
 use Rattle.c62_read.proofs.BlockLemmas.{number_is}
-use Rattle.c62_read.proofs.BlockLemmas.{one_made}
 use Rattle.c62_read.proofs.program.all_blocks.Goals as goal
 
 pub loop-block-preserved : goal.loop-block-preserved
@@ -24,8 +23,8 @@ loop-block-preserved c =
     ap length c.in_ok-push.ensures.items ∙ length-append c.loop-block.made.items (c.into_block.result ∷ []) in
     let before : length (into_iter_items c.loop-block.rest) ≡ suc (length new) = ap length taken in
     record {
-      so_far = one_made drafts c.loop-block.made.items c.push.new.self.items block c.into_block.result (into_iter_items c.loop-block.rest) new
-          (map (block_in drafts) drafts) c.in_ok-push.ensures.items taken made c.loop-block.invariant.so_far;
+      so_far = rw (c.in_ok-push.ensures.items, map-append block_parts c.loop-block.made.items (c.into_block.result ∷ []), made, append_assoc)
+          (rw taken at c.loop-block.invariant.so_far);
       count = omega (arith, pushed, before, c.loop-block.invariant.count);
       whole = (and_parts (is_whole (draft_of block)) (list_all is_whole (map draft_of new)) whole).1;
     }
