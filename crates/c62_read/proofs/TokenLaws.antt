@@ -5,7 +5,7 @@ use Rattle.c62_read.proofs.Common.{cases_Bool, is_ascii_digit, list_all, nat_tes
 use Rattle.c62_read.proofs.Common.{tokens}
 use Rattle.c62_read.specs.Text.{is_sign}
 use Rattle.c62_read.specs.Laws.{HasLongestTokens, IsLongestToken, goes_on, is_pair, may_be_token}
-use Rattle.c62_read.proofs.TokenLemmas.{joined_no_double, joined_token, joined_word, tokens_alone, tokens_blank, tokens_double, tokens_last}
+use Rattle.c62_read.proofs.TokenLemmas.{solid_parts, joined_no_double, joined_token, joined_word, tokens_alone, tokens_blank, tokens_last}
 
 -- the bytes of a word that stand first: no more of them are a word
 record Cut (bytes : List ℕ) : Type 0 where
@@ -94,6 +94,9 @@ some_left : (rest : List ℕ) (more : ℕ) → 0 < more → more ≤ length rest
 some_left rest zero some most = absurd (omega arith)
 some_left [] (suc more) some most = absurd (omega arith)
 some_left (d ∷ rest) (suc more) some most = refl
+
+tokens_double : (b c : ℕ) (rest : List ℕ) → is_solid b ≡ true → is_double b c ≡ true → tokens (b ∷ c ∷ rest) ≡ (b ∷ c ∷ []) ∷ tokens rest
+tokens_double b c rest solid double = let parts = solid_parts b solid in rw (parts.0, parts.1, double) refl
 
 pair_first : (b c : ℕ) (rest : List ℕ) → is_solid b ≡ true → is_double b c ≡ true → IsLongestToken (b ∷ c ∷ rest) 2
 pair_first b c rest solid double = record {
