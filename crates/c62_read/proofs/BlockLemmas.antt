@@ -1,8 +1,7 @@
 -- Blocks as they are read and made: at most 256 instructions, and a branch only as the last.
-use Rattle.c62_read.proofs.Common.{◌≡◌, ℕ, Bool, ◌||◌, List, [], ◌∷◌, Option, Some, None, refl, ap, ◌<◌, suc, true, ◌&&◌, length, sym, ◌∙◌}
-use Rattle.c62_read.proofs.Common.{arith, leb, get_or, map, length-map, list_any, position_or_len, BlockReader, Draft}
-use Rattle.c62_read.proofs.Common.{label_is, target_number, Numbered, aimed, numbered_of, draft_of, number_among}
-use Rattle.c62_read.proofs.Common.{map-map, SerialInsn, branch_last, is_block}
+use Rattle.c62_read.proofs.Common.{◌≡◌, ℕ, Bool, ◌||◌, List, [], ◌∷◌, Option, Some, None, refl, ap, ◌<◌, suc, true, ◌&&◌, length, sym, ◌∙◌, arith}
+use Rattle.c62_read.proofs.Common.{leb, get_or, map, length-map, list_any, position_or_len, BlockReader, Draft, label_is, target_number, Numbered}
+use Rattle.c62_read.proofs.Common.{aimed, numbered_of, draft_of, number_among, map-map, SerialInsn, branch_last, is_block}
 use Rattle.c62_read.specs.Program.{Name}
 use Rattle.c62_read.specs.Block.{operations}
 

@@ -1,12 +1,13 @@
 -- A line in small letters, but for an `X` behind a 0, says the same but for the case of labels. So do two lines that differ in case only.
 use Rattle.c62_read.proofs.Common.{◌≡◌, ℕ, ◌+◌, ◌-◌, ◌*◌, Bool, true, false, not, cond, eqb, ltb, ◌&&◌, ◌||◌, List, [], ◌∷◌, length, Option, None}
 use Rattle.c62_read.proofs.Common.{refl, ap, ◌∙◌, arith, map, option_and_then, digit_value, to_ascii_lowercase, is_ascii_digit, list_all, bytes_eq}
-use Rattle.c62_read.proofs.Common.{cond_both, ltb-true, nat_tests, Side, begins, is_sign, is_word_byte, is_double, joins, are_digits, spells}
-use Rattle.c62_read.proofs.Common.{IsRecased, Some, Result, Ok, Err, sym, inl, inr, option_map, codes, cases_Bool, Letter, Op, Block, FormFault}
-use Rattle.c62_read.proofs.Common.{Cause, BadOperand, BadUnit, UnknownMnemonic, Mnemonic, Operation, Nop, Path, WrittenUnit, grow, is_allowed}
-use Rattle.c62_read.proofs.Common.{is_blank, is_solid, lines_of, tokens, Kind, Word, kind_by, kinds_of, is_dot, fault_in, Says, Nothing, Pause}
-use Rattle.c62_read.proofs.Common.{Does, Jumps, and_read, before_rest, Parts, formed, has_colon, is_bars, is_star, jumps_or_does, mnemonic_front}
-use Rattle.c62_read.proofs.Common.{or_fault, parts_read, target_of, unit_behind, with_head, without_colon}
+use Rattle.c62_read.proofs.Common.{cond_both, ltb-true, nat_tests, Side, begins, is_sign, is_word_byte, is_double, joins, are_digits, spells, Some}
+use Rattle.c62_read.proofs.Common.{Result, Ok, Err, sym, inl, inr, option_map, codes, cases_Bool, Letter, Op, Block, FormFault, Cause, BadOperand}
+use Rattle.c62_read.proofs.Common.{BadUnit, UnknownMnemonic, Mnemonic, Operation, Nop, Path, WrittenUnit, grow, is_allowed, is_blank, is_solid}
+use Rattle.c62_read.proofs.Common.{lines_of, tokens, Kind, Word, kind_by, kinds_of, is_dot, fault_in, Says, Nothing, Pause, Does, Jumps, and_read}
+use Rattle.c62_read.proofs.Common.{before_rest, Parts, formed, has_colon, is_bars, is_star, jumps_or_does, mnemonic_front, or_fault, parts_read}
+use Rattle.c62_read.proofs.Common.{target_of, unit_behind, with_head, without_colon}
+use Rattle.c62_read.specs.Laws.{IsRecased, AreRecased, CaseChangesNothing, CaseSaysNothing, in_small, small_labels, small_says, target_in}
 use Rattle.std.specs.Str.Parse.{digits_value_after}
 use Rattle.std.proofs.lemmas.Bool.{agree_below, agree_below_at}
 use Rattle.c62_read.specs.Number.{decimal_of, file_of, hexadecimal_of, in_file, in_range, is_label, magnitude_of, number_of, register_of, signed_of}
@@ -21,7 +22,6 @@ use Rattle.c62_read.proofs.AlikeLaws.{And, AreAlike, End, IsAlike, alike_program
 use Rattle.c62_read.proofs.LabelFields.{field_is}
 use Rattle.c62_read.specs.Line.{behind_unit, condition_front, condition_of, head_of, if_fitting, instruction_of, label_alone, label_front, line_of}
 use Rattle.c62_read.specs.Line.{rest_says, text_fault, with_rest}
-use Rattle.c62_read.specs.Laws.{AreRecased, CaseChangesNothing, CaseSaysNothing, in_small, small_labels, small_says, target_in}
 use Rattle.c62_read.proofs.TokenLemmas.{by_test, joined_word, on_test}
 
 -- ---- bytes
@@ -230,19 +230,19 @@ tokens_lowered zero (b ∷ c ∷ rest) goes =
       on_test (first_low zero),
       on_test (first_low zero),
     ) (by_test (eqb b 59) (λ comment. refl) (λ text. by_test (is_blank b) (λ blank.
-        let plain : zero ≡ false = grind (arith, nat_tests) in
-        let other : eqb b 48 ≡ false = grind (arith, nat_tests) in
-        rw plain (ap (λ (y : Bool). tokens (lowered y (c ∷ rest))) other ∙ tokens_lowered false (c ∷ rest) refl))
-        (λ dark. by_test (is_double b c) (λ double.
-        let other : eqb c 48 ≡ false = grind (arith, nat_tests) in
-        ap (λ (ws : List Word). (low_byte zero b ∷ low_byte (eqb b 48) c ∷ []) ∷ ws)
-        (ap (λ (y : Bool). tokens (lowered y rest)) other ∙ tokens_lowered false rest refl ∙ first_plain (tokens rest)))
-        (λ single. by_test (joins b c) (λ joined.
-        let word = joined_word b c joined in
-        let more : (eqb b 48 && not (is_word_byte c)) ≡ false = grind (arith, nat_tests) in
-        rw (tokens_lowered (eqb b 48) (c ∷ rest) more) (grown zero b (tokens (c ∷ rest)))) (λ alone.
-        ap (λ (ws : List Word). (low_byte zero b ∷ []) ∷ ws)
-        (ap tokens (loose_low b c rest alone) ∙ tokens_lowered false (c ∷ rest) refl ∙ first_plain (tokens (c ∷ rest))))))))
+    let plain : zero ≡ false = grind (arith, nat_tests) in
+    let other : eqb b 48 ≡ false = grind (arith, nat_tests) in
+    rw plain (ap (λ (y : Bool). tokens (lowered y (c ∷ rest))) other ∙ tokens_lowered false (c ∷ rest) refl))
+    (λ dark. by_test (is_double b c) (λ double.
+    let other : eqb c 48 ≡ false = grind (arith, nat_tests) in
+    ap (λ (ws : List Word). (low_byte zero b ∷ low_byte (eqb b 48) c ∷ []) ∷ ws)
+    (ap (λ (y : Bool). tokens (lowered y rest)) other ∙ tokens_lowered false rest refl ∙ first_plain (tokens rest)))
+    (λ single. by_test (joins b c) (λ joined.
+    let word = joined_word b c joined in
+    let more : (eqb b 48 && not (is_word_byte c)) ≡ false = grind (arith, nat_tests) in
+    rw (tokens_lowered (eqb b 48) (c ∷ rest) more) (grown zero b (tokens (c ∷ rest)))) (λ alone.
+    ap (λ (ws : List Word). (low_byte zero b ∷ []) ∷ ws)
+    (ap tokens (loose_low b c rest alone) ∙ tokens_lowered false (c ∷ rest) refl ∙ first_plain (tokens (c ∷ rest))))))))
 
 tokens_low : (line : List ℕ) → tokens (low line) ≡ lows (tokens line)
 tokens_low line = tokens_lowered false line refl ∙ first_plain (tokens line)

@@ -1,7 +1,6 @@
 -- Comments change neither a line nor a program.
-use Rattle.c62_read.proofs.Common.{◌≡◌, ℕ, true, List, [], ◌∷◌, ◌++◌, length, None, Ok, refl, sym, ap}
-use Rattle.c62_read.proofs.Common.{subst, ◌∙◌, arith, length-append, list_all, and_parts, le-ltb, nat_tests, list_all-append}
-use Rattle.c62_read.proofs.Common.{begins, is_allowed, lines_of, tokens, Word, is_star, with_head}
+use Rattle.c62_read.proofs.Common.{◌≡◌, ℕ, true, List, [], ◌∷◌, ◌++◌, length, None, Ok, refl, sym, ap, subst, ◌∙◌, arith, length-append, list_all}
+use Rattle.c62_read.proofs.Common.{and_parts, le-ltb, nat_tests, list_all-append, begins, is_allowed, lines_of, tokens, Word, is_star, with_head}
 use Rattle.c62_read.proofs.Common.{fault_in}
 use Rattle.std.specs.Prelude.{IsTrue}
 use Rattle.c62_read.specs.Line.{head_of, label_front, line_of, rest_says}

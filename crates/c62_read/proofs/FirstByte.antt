@@ -1,7 +1,7 @@
 -- The first byte of a text that passes a test, and its first line feed.
-use Rattle.c62_read.proofs.Common.{◌≡◌, ◌<◌, ◌≤◌, ℕ, ◌+◌, suc, Bool, false, List, ◌∷◌, ◌++◌, length, take, drop, get_or, Option, Some, None}
-use Rattle.c62_read.proofs.Common.{sym, ap, ◌∙◌, arith, is_some, list_any, drop-cons, eqb-true, take-append-drop, is_line_feed}
-use Rattle.std.proofs.Common.{add-one}
+use Rattle.c62_read.proofs.Common.{◌≡◌, ◌<◌, ◌≤◌, ℕ, ◌+◌, suc, Bool, false, List, ◌∷◌, ◌++◌, length, take, drop, get_or, Option, Some, None, sym}
+use Rattle.c62_read.proofs.Common.{ap, ◌∙◌, arith, is_some, list_any, eqb-true, take-append-drop, is_line_feed, add-one}
+use Rattle.std.proofs.Math.Seq.{drop-cons}
 use Rattle.std.specs.Prelude.{unwrap_or}
 use Rattle.std.proofs.lemmas.Bool.{false_from_ne_true}
 use Rattle.std.proofs.lemmas.List.{get_or-take, get_or_default, length-take-le, take_all}

@@ -1,10 +1,9 @@
 -- Lines without a label, and lines without a colon, which have none.
-use Rattle.c62_read.proofs.Common.{◌≡◌, ℕ, Bool, true, false, cond, eqb, List, [], ◌∷◌, refl, sym, ap, ◌∙◌, arith, codes}
-use Rattle.c62_read.proofs.Common.{to_ascii_lowercase, list_any, or_parts, nat_tests}
-use Rattle.c62_read.proofs.Common.{grow, is_blank, is_solid, is_double, joins, tokens, spells, has_colon, ◌≤◌}
-use Rattle.c62_read.proofs.Common.{◌<◌, length, Option, None, Ok, list_all, and_from, and_parts, le-ltb, begins, is_allowed, Word, Says, Nothing}
-use Rattle.c62_read.proofs.Common.{is_bars, is_star, without_colon, Drafts, zero, suc, ◌-◌, ◌&&◌, get_or, take, drop}
-use Rattle.c62_read.proofs.Common.{is_line_feed, lines_of, labels_of}
+use Rattle.c62_read.proofs.Common.{◌≡◌, ℕ, Bool, true, false, cond, eqb, List, [], ◌∷◌, refl, sym, ap, ◌∙◌, arith, codes, to_ascii_lowercase}
+use Rattle.c62_read.proofs.Common.{list_any, or_parts, nat_tests, grow, is_blank, is_solid, is_double, joins, tokens, spells, has_colon, ◌≤◌, ◌<◌}
+use Rattle.c62_read.proofs.Common.{length, Option, None, Ok, list_all, and_from, and_parts, le-ltb, begins, is_allowed, Word, Says, Nothing}
+use Rattle.c62_read.proofs.Common.{is_bars, is_star, without_colon, Drafts, zero, suc, ◌-◌, ◌&&◌, get_or, take, drop, is_line_feed, lines_of}
+use Rattle.c62_read.proofs.Common.{labels_of}
 use Rattle.c62_read.proofs.TokenLemmas.{either, on_test, solid_parts}
 use Rattle.c62_read.specs.Line.{head_of, label_front, line_of, rest_says}
 use Rattle.c62_read.specs.Program.{label_field}

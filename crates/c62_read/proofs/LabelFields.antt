@@ -1,11 +1,10 @@
 -- The label field of a line.
-use Rattle.c62_read.proofs.Common.{◌≡◌, ℕ, Bool, true, false, eqb, List, [], ◌∷◌, length, None, Result, Ok, Err, refl, sym, ap}
-use Rattle.c62_read.proofs.Common.{◌∙◌, Option, arith, nat_tests, not, if◌then◌else◌}
-use Rattle.c62_read.proofs.Common.{list_all, and_right, eqb-true, Cause, ParallelBar, begins, is_allowed}
-use Rattle.c62_read.proofs.Common.{is_double, tokens, has_colon, is_bars, is_star, without_colon}
+use Rattle.c62_read.proofs.Common.{◌≡◌, ℕ, Bool, true, false, eqb, List, [], ◌∷◌, length, None, Result, Ok, Err, refl, sym, ap, ◌∙◌, Option, arith}
+use Rattle.c62_read.proofs.Common.{nat_tests, not, if◌then◌else◌, list_all, and_right, eqb-true, Cause, begins, is_allowed, is_double, tokens}
+use Rattle.c62_read.proofs.Common.{has_colon, is_bars, is_star, without_colon}
+use Rattle.c62_read.specs.declared.fault.Cause.TheVariants.{ParallelBar, BadLabel, LineTooLong, NotAscii}
 use Rattle.std.specs.Prelude.{nat_lt}
 use Rattle.std.proofs.lemmas.Bool.{true≢false}
-use Rattle.c62_read.specs.declared.fault.Cause.TheVariants.{BadLabel, LineTooLong, NotAscii}
 use Rattle.c62_read.specs.Number.{is_label}
 use Rattle.c62_read.specs.Line.{head_of, label_front}
 use Rattle.c62_read.specs.Program.{Name, label_field}
@@ -57,8 +56,12 @@ read_by : (allowed long star bars : Bool) (line : List ℕ) (label : Option Name
     → list_all is_allowed line ≡ allowed → nat_lt 255 (length line) ≡ long → begins is_star line ≡ star
     → Heads allowed long star bars line ≡ Ok (label, words) → IsHeadRead line label words
 read_by true false true bars line label words may short starred is =
-    record { allowed = may; short = short; comment = λ _. sym (label_of (None, []) label words is);
-      front = λ plain. absurd (true≢false (sym starred ∙ plain)) }
+    record {
+      allowed = may;
+      short = short;
+      comment = λ _. sym (label_of (None, []) label words is);
+      front = λ plain. absurd (true≢false (sym starred ∙ plain));
+    }
 read_by true false false false line label words may short starred is =
     record { allowed = may; short = short; comment = λ star. absurd (true≢false (sym star ∙ starred)); front = λ _. is }
 read_by allowed long star bars line label words may short starred is = absurd cc

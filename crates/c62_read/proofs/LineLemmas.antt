@@ -1,6 +1,6 @@
 -- The first line of a text.
-use Rattle.c62_read.proofs.Common.{◌≡◌, ◌<◌, ℕ, ◌+◌, false, eqb, List, [], ◌∷◌, ◌++◌, length, take, drop, Some, None, refl}
-use Rattle.c62_read.proofs.Common.{ap, nat_tests, ◌∙◌, arith, if◌then◌else◌, list_any, or_parts, is_line_feed, lines_of}
+use Rattle.c62_read.proofs.Common.{◌≡◌, ◌<◌, ℕ, ◌+◌, false, eqb, List, [], ◌∷◌, ◌++◌, length, take, drop, Some, None, refl, ap, nat_tests, ◌∙◌}
+use Rattle.c62_read.proofs.Common.{arith, if◌then◌else◌, list_any, or_parts, is_line_feed, lines_of}
 use Rattle.memchr.specs.Find.{IsFirstByte, is_byte}
 use Rattle.c62_read.specs.Text.{without_return}
 use Rattle.c62_read.proofs.FirstByte.{fed_at, not_fed}

@@ -6,8 +6,7 @@ use Rattle.c62_read.specs.declared.kind.Kind.TheVariants.{Name}
 use Rattle.c62_read.specs.Number.{decimal_of, magnitude_of, number_of, register_of, signed_of}
 use Rattle.c62_read.specs.Kind.{kind_of, mark_of}
 use Rattle.c62_read.specs.Mnemonic.{mnemonic_named, operation_named, pseudo_named}
-use Rattle.c62_read.specs.Line.{behind_unit, condition_front, condition_of, instruction_of, pause_of}
-use Rattle.c62_read.specs.Line.{rest_says}
+use Rattle.c62_read.specs.Line.{behind_unit, condition_front, condition_of, instruction_of, pause_of, rest_says}
 
 pub nop_kind : kind_of (codes "NOP") ≡ Name
 unfolding kind_of mark_of register_of number_of signed_of magnitude_of decimal_of

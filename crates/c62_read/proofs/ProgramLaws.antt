@@ -1,22 +1,19 @@
 -- Laws of programs: their instructions, their blocks, their labels and their targets are those of their lines.
-use Rattle.c62_read.proofs.Common.{◌≡◌, ℕ, zero, suc, ◌+◌, ◌≤◌, Bool, true, false, cond, not, ltb, List, [], ◌∷◌, ◌++◌, length, Option}
-use Rattle.c62_read.proofs.Common.{Some, None, Result, Ok, Err, refl, sym, ap, subst, ◌∙◌, arith, inl, inr, map, slice_get, All, flat_map, list_all}
-use Rattle.c62_read.proofs.Common.{position_or_len, option_to_list, nat_tests, length-map, map-append, flat_map-append, list_all-append}
-use Rattle.c62_read.proofs.Common.{map-map, Operands, Block, Cause, TextTooLong, lines_of, Serial, Says, Nothing, Does, Jumps, Begins, BlockParts}
-use Rattle.c62_read.proofs.Common.{Draft, Item, Numbered, Refusal, Runs, aimed, block_in, block_parts, blocks_from, is_among, items_from}
-use Rattle.c62_read.proofs.Common.{label_is, label_items, labels_of, line_items, says_items, target_number, ends_in_branch, settled}
-use Rattle.c62_read.proofs.Common.{Drafts, own_labels}
-use Rattle.std.proofs.Common.{add-one}
+use Rattle.c62_read.proofs.Common.{◌≡◌, ℕ, zero, suc, ◌+◌, ◌≤◌, Bool, true, false, cond, not, ltb, List, [], ◌∷◌, ◌++◌, length, Option, Some, None}
+use Rattle.c62_read.proofs.Common.{Result, Ok, Err, refl, sym, ap, subst, ◌∙◌, arith, inl, inr, map, slice_get, All, flat_map, list_all}
+use Rattle.c62_read.proofs.Common.{position_or_len, option_to_list, nat_tests, length-map, map-append, flat_map-append, list_all-append, map-map}
+use Rattle.c62_read.proofs.Common.{Operands, Block, Cause, TextTooLong, lines_of, Says, Nothing, Does, Jumps, Begins, BlockParts, Draft, Item}
+use Rattle.c62_read.proofs.Common.{Numbered, Refusal, Runs, aimed, block_in, block_parts, blocks_from, is_among, items_from, label_is, label_items}
+use Rattle.c62_read.proofs.Common.{labels_of, line_items, says_items, target_number, ends_in_branch, settled, Drafts, own_labels, add-one}
+use Rattle.c62_read.specs.Block.{Serial, is_labelled, labels_in, target_stands, targets_stand}
 use Rattle.std.specs.Prelude.{position, Contains}
 use Rattle.std.specs.List.Sorted.{IsStrictlyIncreasing}
 use Rattle.std.proofs.lemmas.Bool.{not-false}
 use Rattle.std.proofs.lemmas.List.Elements.{All-contains, All-head, All-tail, Contains-append_cases}
 use Rattle.std.proofs.lemmas.List.Folds.{flat_map-map, list_all-map}
 use Rattle.std.proofs.lemmas.Option.{slice_get_past}
-use Rattle.c62_read.specs.Block.{is_labelled, labels_in, target_stands, targets_stand}
 use Rattle.c62_read.specs.Line.{line_of}
-use Rattle.c62_read.specs.Program.{Name}
-use Rattle.c62_read.specs.Program.{program_in}
+use Rattle.c62_read.specs.Program.{Name, program_in}
 use Rattle.c62_read.specs.Laws.{HasCutBlocks, HasItsLabels, HasRisingLines, HasTargets, IsItsLines, ReadsAsItsLine, begin_well, block_named}
 use Rattle.c62_read.specs.Laws.{instruction_at, instructions_in, instructions_of, items_of}
 use Rattle.c62_read.proofs.BlockLemmas.{position_map}

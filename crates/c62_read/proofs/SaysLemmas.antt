@@ -1,10 +1,10 @@
 -- What lines may say: no instruction but a jump has a block for its operand.
 use Rattle.c62_read.proofs.Common.{◌≡◌, Bool, true, false, cond, leb, ◌&&◌, List, [], ◌∷◌, Option, Some, None, Result, Ok, Err, refl, sym, ap}
-use Rattle.c62_read.proofs.Common.{subst, arith, nat_tests, ◌∙◌, pos, option_and_then, cond_both, Reg, Letter, L, Op, Operands, Three, ConstantSecond}
-use Rattle.c62_read.proofs.Common.{Two, Constant, Block, FormFault, Insn, op_of, has_kind, Cause, BadUnit, BadOperand, UnknownMnemonic}
-use Rattle.c62_read.proofs.Common.{Mnemonic, Operation, Nop, Address, WrittenUnit, Kind, Word, kinds_of, loaded, stored, constant_to_front}
-use Rattle.c62_read.proofs.Common.{crossed_to_back, exchanged, begins, is_dot, Parts, Says, Pause, Does, Jumps, and_read, cycles_of, formed}
-use Rattle.c62_read.proofs.Common.{is_storing, jumps_or_does, mnemonic_front, or_fault, parts_read, target_of, unit_behind}
+use Rattle.c62_read.proofs.Common.{subst, arith, nat_tests, ◌∙◌, pos, option_and_then, cond_both, Reg, Letter, L, Op, Operands, Three}
+use Rattle.c62_read.proofs.Common.{ConstantSecond, Two, Constant, Block, FormFault, Insn, op_of, has_kind, Cause, BadUnit, BadOperand}
+use Rattle.c62_read.proofs.Common.{UnknownMnemonic, Mnemonic, Operation, Nop, Address, WrittenUnit, Kind, Word, kinds_of, loaded, stored}
+use Rattle.c62_read.proofs.Common.{constant_to_front, crossed_to_back, exchanged, begins, is_dot, Parts, Says, Pause, Does, Jumps, and_read}
+use Rattle.c62_read.proofs.Common.{cycles_of, formed, is_storing, jumps_or_does, mnemonic_front, or_fault, parts_read, target_of, unit_behind}
 use Rattle.c62_insn.specs.declared.register.Cond.{Cond as Condition}
 use Rattle.c62_insn.specs.declared.operands.Op.TheVariants.{B as Branch}
 use Rattle.c62_insn.specs.declared.operands.Operands.TheVariants.{Register}
@@ -13,12 +13,11 @@ use Rattle.c62_insn.proofs.FormLemmas.{taken_kind}
 use Rattle.c62_insn.proofs.InsnLemmas.{has_unit}
 use Rattle.c62_read.specs.declared.fault.Cause.TheVariants.{Directive}
 use Rattle.c62_read.specs.declared.mnemonic.Mnemonic.TheVariants.{Mv, Neg, Not, Zero, Mvkl, Mvkh}
-use Rattle.c62_read.specs.declared.kind.Kind.TheVariants as kind
 use Rattle.c62_read.specs.Operand.{address_front, operands_of}
 use Rattle.c62_read.specs.Mnemonic.{in_order, stands_for, with_kind, zero_in}
-use Rattle.c62_read.specs.Line.{parts_of, behind_unit, condition_front, does}
-use Rattle.c62_read.specs.Line.{instruction_of, letter_written, operands_written}
-use Rattle.c62_read.specs.Line.{pause_of, rest_says, text_fault}
+use Rattle.c62_read.specs.Line.{parts_of, behind_unit, condition_front, does, instruction_of, letter_written, operands_written, pause_of, rest_says}
+use Rattle.c62_read.specs.Line.{text_fault}
+use Rattle.c62_read.specs.declared.kind.Kind.TheVariants as kind
 
 abbrev pub has_no_block : Operands → Bool
 has_no_block (Block number) = false

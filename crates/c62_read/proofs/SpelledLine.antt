@@ -8,8 +8,7 @@ use Rattle.std.proofs.lemmas.Bool.{and_left}
 use Rattle.c62_insn.specs.declared.register.Cond.{Cond as Condition}
 use Rattle.c62_insn.specs.declared.register.Unit.{Unit as FunctionalUnit}
 use Rattle.c62_insn.specs.Insn.{operands_of, cond_of}
-use Rattle.c62_insn.specs.Spelling.{condition_spelling, unit_spelling}
-use Rattle.c62_insn.specs.Spelling.{path_spelling, side_digit, unit_letter}
+use Rattle.c62_insn.specs.Spelling.{condition_spelling, unit_spelling, path_spelling, side_digit, unit_letter}
 use Rattle.c62_insn.proofs.InsnLemmas.{faultless_on}
 use Rattle.c62_read.specs.declared.kind.Kind.TheVariants.{Not, Register, Name}
 use Rattle.c62_read.specs.Mnemonic.{mnemonic_named}

@@ -12,8 +12,7 @@ use Rattle.std.specs.Str.Parse.{AllDigits}
 use Rattle.std.proofs.lemmas.Bool.{cases_lt, eq-eqb}
 use Rattle.std.proofs.lemmas.Fmt.{decimal_is_IsNumeral, decimal_step, first_decimal, length-decimal-le}
 use Rattle.c62_read.specs.declared.kind.Kind.TheVariants.{Register}
-use Rattle.c62_read.specs.Number.{decimal_of, file_of, magnitude_of, negative, number_of, numbered, register_of}
-use Rattle.c62_read.specs.Number.{signed_of}
+use Rattle.c62_read.specs.Number.{decimal_of, file_of, magnitude_of, negative, number_of, numbered, register_of, signed_of}
 use Rattle.c62_read.specs.Kind.{kind_of, mark_of, single_mark}
 use Rattle.c62_read.proofs.Registers.{numbered-known}
 use Rattle.c62_read.proofs.HeadLemmas.{all_weaker}

@@ -3,9 +3,10 @@ use Rattle.c62_read.proofs.Common.{◌≡◌, ℕ, ◌%◌, ◌≤◌, Bool, tru
 use Rattle.c62_read.proofs.Common.{Ok, ◌∙◌, refl, sym, ap, subst, append_assoc, arith, inl, inr, ℤ, pos, negsuc, int_le, codes, is_ascii_digit}
 use Rattle.c62_read.proofs.Common.{decimal, list_all, and_from, and_parts, and_right, cases_Bool, cond_both, le-leb, leb-true, or_parts, Side, A, B}
 use Rattle.c62_read.proofs.Common.{Reg, Letter, Op, Add, AddressForm, Operands, Three, ConstantSecond, Two, Constant, Access, Block, has_kind}
-use Rattle.c62_read.proofs.Common.{crosses_to, file_letter, operands_spelling, register_name, same_side, Kind, Comma, Star, Open, Close, Number}
-use Rattle.c62_read.proofs.Common.{Operation, Mark, Plain, Cross, Path, WrittenUnit, begins, is_word_byte, put_back, tokens, Word, kinds_of}
-use Rattle.c62_read.proofs.Common.{constant_to_front, crossed_to_back, exchanged, Says, Does, is_branch, parts_read, target_of}
+use Rattle.c62_read.proofs.Common.{crosses_to, file_letter, operands_spelling, register_name, Kind, Comma, Star, Open, Close, Number, Operation}
+use Rattle.c62_read.proofs.Common.{Mark, Plain, Cross, Path, WrittenUnit, begins, is_word_byte, put_back, tokens, Word, kinds_of, constant_to_front}
+use Rattle.c62_read.proofs.Common.{crossed_to_back, exchanged, Says, Does, is_branch, parts_read, target_of}
+use Rattle.c62_insn.specs.Takes.{same_side, same_letter, takes}
 use Rattle.std.specs.Ordering.{int_eq}
 use Rattle.std.proofs.Math.Bool.{or-false}
 use Rattle.std.proofs.lemmas.Bool.Decides.{Decides-int_eq}
@@ -16,13 +17,10 @@ use Rattle.c62_insn.specs.declared.operands.Op.TheVariants.{Mvklh, B as Branch}
 use Rattle.c62_insn.specs.declared.operands.AddressForm.TheVariants.{Plus}
 use Rattle.c62_insn.specs.declared.operands.Offset.{Offset}
 use Rattle.c62_insn.specs.declared.operands.Offset.TheVariants.{Constant as ByConstant, Register as ByRegister}
-use Rattle.c62_insn.specs.declared.operands.Operands.TheVariants as operands
 use Rattle.c62_insn.specs.declared.operands.Operands.TheVariants.{ConstantFirst, Field}
 use Rattle.c62_insn.specs.Fault.{form_fault}
 use Rattle.c62_insn.specs.Shape.{data_path_of, is_load, is_store}
-use Rattle.c62_insn.specs.Spelling.{address_spelling, is_base_alone, offset_spelling, sign_of, step_of}
-use Rattle.c62_insn.specs.Spelling.{with_commas}
-use Rattle.c62_insn.specs.Takes.{same_letter, takes}
+use Rattle.c62_insn.specs.Spelling.{address_spelling, is_base_alone, offset_spelling, sign_of, step_of, with_commas}
 use Rattle.c62_insn.proofs.FormLemmas.{access_on_d, constant_on_d, first_in_file, is_add, is_narrow, lets_first_cross, narrow_constants, taken_kind}
 use Rattle.c62_insn.proofs.FormLemmas.{taken_letter, uncrossed_on_d}
 use Rattle.c62_insn.proofs.Registers.{same_side-refl}
@@ -37,6 +35,7 @@ use Rattle.c62_read.specs.Laws.{NamesTarget, says_with}
 use Rattle.c62_read.proofs.NumberLemmas.{label_few}
 use Rattle.c62_read.proofs.SpelledTokens.{IsPiece, any_end, both, closing, mark_piece, more, opening, weaker, word_end, word_piece, word_token}
 use Rattle.c62_read.proofs.SpelledNumbers.{fits, number_piece, register_back, register_piece}
+use Rattle.c62_insn.specs.declared.operands.Operands.TheVariants as operands
 
 -- ---- addresses
 

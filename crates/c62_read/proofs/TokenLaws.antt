@@ -1,9 +1,7 @@
 -- Each token is the longest that fits.
 use Rattle.c62_read.proofs.Common.{◌≡◌, ℕ, zero, suc, ◌+◌, ◌<◌, ◌≤◌, Bool, true, false, ◌&&◌, ◌||◌, List, [], ◌∷◌, length, take, drop, eqb, refl}
-use Rattle.c62_read.proofs.Common.{arith, inl, inr}
-use Rattle.c62_read.proofs.Common.{cases_Bool, is_ascii_digit, list_all, nat_tests, begins, is_blank, is_solid, is_word_byte, is_double, joins}
-use Rattle.c62_read.proofs.Common.{tokens}
-use Rattle.c62_read.specs.Text.{is_sign}
+use Rattle.c62_read.proofs.Common.{arith, inl, inr, cases_Bool, is_ascii_digit, list_all, nat_tests, begins, is_solid, is_word_byte, is_double}
+use Rattle.c62_read.proofs.Common.{joins, tokens, is_sign}
 use Rattle.c62_read.specs.Laws.{HasLongestTokens, IsLongestToken, goes_on, is_pair, may_be_token}
 use Rattle.c62_read.proofs.TokenLemmas.{solid_parts, joined_no_double, joined_token, joined_word, tokens_alone, tokens_blank, tokens_last}
 

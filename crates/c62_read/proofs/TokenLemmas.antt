@@ -1,8 +1,10 @@
 -- How the bytes of a token come together, and that the tokens of a line are its bytes.
 use Rattle.c62_read.proofs.Common.{◌≡◌, ℕ, zero, suc, ◌+◌, ◌<◌, ◌≤◌, Bool, true, false, cond, eqb, ◌&&◌, List, [], ◌∷◌, ◌++◌, length, get_or, take}
-use Rattle.c62_read.proofs.Common.{drop, refl, sym, ap, ◌∙◌, arith, list_all, take-append-drop, and_parts, not-true, nat_tests, grow, put_back}
-use Rattle.c62_read.proofs.Common.{begins, is_blank, is_solid, is_word_byte, is_double, joins, tokens, not, inl, inr, filter, take_while, flat_map}
-use Rattle.c62_read.proofs.Common.{cases_Bool, take_while-cons}
+use Rattle.c62_read.proofs.Common.{drop, refl, sym, ap, ◌∙◌, arith, list_all, take-append-drop, and_parts, nat_tests, grow, put_back, begins}
+use Rattle.c62_read.proofs.Common.{is_blank, is_solid, is_word_byte, is_double, joins, tokens, not, inl, inr, filter, flat_map, cases_Bool}
+use Rattle.std.proofs.lemmas.Bool.{not-true}
+use Rattle.std.specs.Prelude.{take_while}
+use Rattle.std.proofs.lemmas.List.Sums.{take_while-cons}
 use Rattle.c62_read.specs.Text.{led_by}
 
 -- a function of what one test decides

@@ -3,21 +3,19 @@ use Rattle.c62_read.proofs.Common.{◌≡◌, ◌≤◌, ◌<◌, ℕ, ◌+◌, 
 use Rattle.c62_read.proofs.Common.{None, Result, Ok, Err, refl, sym, ap, ◌∙◌, arith, append_assoc, append-nil, length-append, inl, inr, is_some}
 use Rattle.c62_read.proofs.Common.{map, All, list_any, list_all, option_to_list, bytes_eq, or_parts, lt-ltb, le-ltb, nat_tests, flat_map-append}
 use Rattle.c62_read.proofs.Common.{list_any-append, Cause, UnknownTarget, TextTooLong, Parts, Says, Nothing, Pause, Does, Jumps, is_branch}
-use Rattle.c62_read.proofs.Common.{Numbered, Item, Runs, Draft, Refusal, and_then, blocks_from, cut, fault_in, glue, is_among, is_overfull}
-use Rattle.c62_read.proofs.Common.{items_from, joined, label_is, label_items, labels_of, line_items, piece_of, says_items, BlockParts, block_in}
-use Rattle.c62_read.proofs.Common.{unless_refused, Drafts, all_drafts, is_unknown, no_drafts, own_labels, Asked, asked_in, first_line, missed}
-use Rattle.c62_read.proofs.Common.{unless_missed, is_whole, lines_of}
+use Rattle.c62_read.proofs.Common.{Numbered, Item, Runs, Draft, Refusal, blocks_from, cut, fault_in, glue, is_among, is_overfull, items_from}
+use Rattle.c62_read.proofs.Common.{joined, label_is, label_items, labels_of, line_items, piece_of, says_items, BlockParts, block_in, Drafts}
+use Rattle.c62_read.proofs.Common.{all_drafts, is_unknown, no_drafts, own_labels, Asked, asked_in, first_line, missed, unless_missed, is_whole}
+use Rattle.c62_read.proofs.Common.{lines_of}
+use Rattle.c62_read.specs.Program.{and_then, unless_refused, Name, fault_if, fault_of, first_fault, first_of, misses_label, label_field}
+use Rattle.c62_read.specs.Program.{repeats_label, Fails, drafts_in, program_in}
 use Rattle.std.specs.Prelude.{is_none}
 use Rattle.std.specs.List.{AllByRecursion, IsDistinct}
 use Rattle.std.proofs.lemmas.List.Elements.{All-nil, All-push}
 use Rattle.c62_read.specs.declared.fault.Cause.TheVariants.{DuplicateLabel, TooManyInstructions, TooManyBlocks}
 use Rattle.c62_read.specs.Line.{head_of, line_of, rest_says}
-use Rattle.c62_read.specs.Program.{Name, fault_if, fault_of, first_fault}
-use Rattle.c62_read.specs.Program.{first_of}
-use Rattle.c62_read.specs.Program.{misses_label, label_field, repeats_label, Fails, drafts_in, program_in}
 use Rattle.c62_read.specs.Walk.{add_head, add_line, add_lines, add_says, after_step, at_line, begins_block, closed, hindrance, is_full}
-use Rattle.c62_read.specs.Walk.{is_instruction, is_taken, new_draft, opened, refused, Step, unless_hindered}
-use Rattle.c62_read.specs.Walk.{with_insn, with_label, with_says}
+use Rattle.c62_read.specs.Walk.{is_instruction, is_taken, new_draft, opened, refused, Step, unless_hindered, with_insn, with_label, with_says}
 use Rattle.c62_read.proofs.HeadLemmas.{line_by_head}
 use Rattle.c62_read.proofs.LabelFields.{field_is}
 use Rattle.c62_read.proofs.SaysLemmas.{IsProper, proper}

@@ -6,8 +6,7 @@ use Rattle.c62_read.specs.declared.kind.Kind.TheVariants.{Name}
 use Rattle.c62_read.specs.Number.{is_label}
 use Rattle.c62_read.specs.Mnemonic.{mnemonic_named, operation_named, pseudo_named}
 use Rattle.c62_read.specs.Unit.{unit_front}
-use Rattle.c62_read.specs.Line.{behind_unit, condition_front, condition_of, head_of, instruction_of}
-use Rattle.c62_read.specs.Line.{label_front, pause_of, rest_says}
+use Rattle.c62_read.specs.Line.{behind_unit, condition_front, condition_of, head_of, instruction_of, label_front, pause_of, rest_says}
 use Rattle.c62_read.specs.Program.{label_field}
 use Rattle.c62_read.specs.Laws.{LabelReadsBack, PauseReadsBack}
 use Rattle.c62_read.proofs.HeadLemmas.{allowed_text, line_by_head}
