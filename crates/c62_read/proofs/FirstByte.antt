@@ -1,11 +1,11 @@
 -- The first byte of a text that passes a test, and its first line feed.
 use Rattle.c62_read.proofs.Common.{◌≡◌, ◌<◌, ◌≤◌, ℕ, ◌+◌, suc, Bool, false, List, ◌∷◌, ◌++◌, length, take, drop, get_or, Option, Some, None, sym}
-use Rattle.c62_read.proofs.Common.{ap, ◌∙◌, arith, is_some, list_any, eqb-true, take-append-drop, is_line_feed, add-one}
+use Rattle.c62_read.proofs.Common.{ap, ◌∙◌, arith, list_any, eqb-true, take-append-drop, is_line_feed, add-one}
 use Rattle.std.proofs.Math.Seq.{drop-cons}
 use Rattle.std.specs.Prelude.{unwrap_or}
 use Rattle.std.proofs.lemmas.Bool.{false_from_ne_true}
 use Rattle.std.proofs.lemmas.List.{get_or-take, get_or_default, length-take-le, take_all}
-use Rattle.std.proofs.lemmas.List.Folds.{list_any_at, list_any_none}
+use Rattle.std.proofs.lemmas.List.Folds.{list_any_none}
 use Rattle.memchr.specs.Find.{IsFirstByte, is_byte}
 
 module _ (test : ℕ → Bool) (text : List ℕ) where
@@ -25,11 +25,6 @@ module _ (test : ℕ → Bool) (text : List ℕ) where
         (found.0.before j (omega arith) less)),
   )
 
-  pub is_found : (found : Option ℕ) → IsFirstByte test text found → is_some found ≡ list_any test text
-  is_found None none =
-      sym (sym (ap (list_any test) (take_all (length text) text (omega arith))) ∙ (none_before None none).1)
-  is_found (Some k) found = sym (list_any_at test text k 0 found.0.high found.1)
-
 -- ---- the first line feed
 
 -- a line feed behind bytes without one
@@ -45,4 +40,4 @@ fed_at text k found = record {
 }
 
 pub not_fed : (text : List ℕ) → IsFirstByte (is_byte 10) text None → list_any is_line_feed text ≡ false
-not_fed text none = sym (is_found is_line_feed text None none)
+not_fed text none = sym (ap (list_any is_line_feed) (take_all (length text) text (omega arith))) ∙ (none_before is_line_feed text None none).1

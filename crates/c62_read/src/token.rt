@@ -5,21 +5,22 @@ ghost use Rattle.std.specs.List.{list_all, list_any};
 ghost use Rattle.c62_read.specs.Number.{spells};
 ghost use Rattle.c62_read.specs.Text.{begins, is_allowed, is_blank, is_solid, is_word_byte, is_sign, is_double, joins, tokens, words_left, put_back, IsFirst, IsCutOff};
 
-use memchr::memchr;
-
 pub(crate) fn is_allowed(b: u8) -> bool
     ensures { result ≡ is_allowed b }
 {
     b == b'\t' || 32 <= b && b < 127
 }
 
-/// Whether the byte is among these.
+/// Whether the byte is among these. Every byte is looked at, whatever the others are: so the compiler compares many at once.
 #[inline(always)]
-#[tactic(auto, using(crate::proofs::FirstByte::is_found))]
 pub(crate) fn has_byte(byte: u8, bytes: &[u8]) -> bool
     ensures { result ≡ list_any (λ b. b == byte) bytes.now }
 {
-    memchr(byte, bytes).is_some()
+    let mut found = false;
+    for b in bytes {
+        found |= *b == byte;
+    }
+    found
 }
 
 #[inline(always)]
