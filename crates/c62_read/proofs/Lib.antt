@@ -8,6 +8,7 @@ pub mod BlockLemmas
 pub mod MissedLemmas
 pub mod LabelFields
 pub mod WalkLemmas
+pub mod StepLemmas
 pub mod SpelledTokens
 pub mod SpelledNumbers
 pub mod SpelledOperands

@@ -20,7 +20,7 @@ use crate::mnemonic::{Mnemonic, mnemonic_named};
 use crate::number::{is_label, spells};
 use crate::operand::read_operands;
 use crate::reading::{Reading, Statement};
-use crate::token::{Tokens, from_token, has_byte, is_allowed, is_mark, without_indent};
+use crate::token::{STEP, Tokens, from_token, has_byte, is_allowed, is_mark, without_indent};
 use crate::unit::{WrittenUnit, first_unit};
 use arrayvec::ArrayVec;
 use c62_insn::{Cond, Letter, Op, Operands};
@@ -311,16 +311,33 @@ fn begins_with_bars(start: &[u8]) -> bool
     }
 }
 
-/// Whether each byte may stand in a line. Every byte is looked at, whatever the others are: so the compiler compares many
-/// at once.
-fn all_allowed(line: &[u8]) -> bool
-    ensures { result ≡ list_all is_allowed line.now }
+/// Looks at every byte, whatever the others are: so the compiler compares many at once.
+#[inline(always)]
+fn are_allowed(bytes: &[u8]) -> bool
+    ensures { result ≡ list_all is_allowed bytes.now }
 {
     let mut allowed = true;
-    for b in line {
+    for b in bytes {
         allowed &= is_allowed(*b);
     }
     allowed
+}
+
+/// Whether each byte may stand in a line. The last step may overlap the one before.
+fn all_allowed(line: &[u8]) -> bool
+    ensures { result ≡ list_all is_allowed line.now }
+{
+    if line.len() < STEP {
+        return are_allowed(line);
+    }
+    let mut start = 0;
+    while STEP <= line.len() - start {
+        if !are_allowed(&line[start..start + STEP]) {
+            return false;
+        }
+        start += STEP;
+    }
+    are_allowed(&line[line.len() - STEP..])
 }
 
 /// Whether a colon is left.

@@ -1,7 +1,7 @@
 //! The tokens of a line.
 
 ghost use Rattle.std.specs.Prelude.{◌≡◌, ◌==◌, ◌≤◌, ◌<◌, length, take, drop, MatchOption, IsTrue, false, [], ◌∷◌, ◌+◌};
-ghost use Rattle.std.specs.List.{list_all, list_any};
+ghost use Rattle.std.specs.List.{list_all, list_any, position_or_len};
 ghost use Rattle.c62_read.specs.Number.{spells};
 ghost use Rattle.c62_read.specs.Text.{begins, is_allowed, is_blank, is_solid, is_word_byte, is_sign, is_double, joins, tokens, words_left, put_back, IsFirst, IsCutOff};
 
@@ -11,9 +11,12 @@ pub(crate) fn is_allowed(b: u8) -> bool
     b == b'\t' || 32 <= b && b < 127
 }
 
-/// Whether the byte is among these. Every byte is looked at, whatever the others are: so the compiler compares many at once.
+/// How many bytes are compared at once.
+pub(crate) const STEP: usize = 16;
+
+/// Looks at every byte, whatever the others are: so the compiler compares many at once.
 #[inline(always)]
-pub(crate) fn has_byte(byte: u8, bytes: &[u8]) -> bool
+fn is_any(byte: u8, bytes: &[u8]) -> bool
     ensures { result ≡ list_any (λ b. b == byte) bytes.now }
 {
     let mut found = false;
@@ -21,6 +24,36 @@ pub(crate) fn has_byte(byte: u8, bytes: &[u8]) -> bool
         found |= *b == byte;
     }
     found
+}
+
+/// How many bytes at the front are not this one: the first that is, or the end, is within a step of them.
+#[inline(always)]
+fn steps_before(byte: u8, text: &[u8]) -> usize
+    ensures within { result ≤ length text.now }
+    ensures none { list_any (λ b. b == byte) (take result text.now) ≡ false }
+    ensures near { position_or_len (λ b. b == byte) text.now < result + 16 }
+{
+    let mut start = 0;
+    while STEP <= text.len() - start && !is_any(byte, &text[start..start + STEP]) {
+        start += STEP;
+    }
+    start
+}
+
+/// Whether the byte is among these. The last step may overlap the one before.
+#[inline(always)]
+pub(crate) fn has_byte(byte: u8, bytes: &[u8]) -> bool
+    ensures { result ≡ list_any (λ b. b == byte) bytes.now }
+{
+    if bytes.len() < STEP {
+        return is_any(byte, bytes);
+    }
+    let start = steps_before(byte, bytes);
+    if STEP <= bytes.len() - start {
+        true
+    } else {
+        is_any(byte, &bytes[bytes.len() - STEP..])
+    }
 }
 
 #[inline(always)]
