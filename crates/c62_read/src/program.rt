@@ -242,19 +242,27 @@ fn keep_jump(jumps: &mut Vec<Jump>, line: u32, what: &Statement<'_>) -> Result<(
     Ok(())
 }
 
+/// The label in the label field of a line that may have one.
+#[tactic(auto, using(crate::proofs::LabelFields::star_field), unfolding(crate::specs::Program::label_field))]
+fn label_of(line: &[u8]) -> Option<&[u8]>
+    ensures { option_copied result ≡ label_field line.now }
+{
+    if begins_with(b'*', line) {
+        return None;
+    }
+    first_label(line).0
+}
+
 /// The label in a line's label field, decided for the line alone: the part left of its first colon, without the blanks
 /// around it, where that is a label and the line is no comment line (docs/SERIAL_TEXT.md, "Labels and blocks").
-#[tactic(auto, using(crate::proofs::LabelFields::star_field, crate::proofs::HeadLemmas::plain_field), unfolding(crate::specs::Program::label_field))]
+#[tactic(auto, using(crate::proofs::HeadLemmas::plain_field))]
 pub fn label_field(line: &[u8]) -> Option<&[u8]>
     ensures { option_copied result ≡ label_field line.now }
 {
     if !has_byte(b':', line) {
         return None;
     }
-    if begins_with(b'*', line) {
-        return None;
-    }
-    first_label(line).0
+    label_of(line)
 }
 
 impl TextReader {
@@ -384,7 +392,7 @@ fn leave_out_labels(jumps: &mut Vec<Jump>, text: &[u8])
         if jumps.is_empty() {
             return;
         }
-        leave_out_label(jumps, label_field(line));
+        leave_out_label(jumps, label_of(line));
         rest = from_colon(after);
     }
 }
