@@ -1,9 +1,8 @@
 -- The first byte of a text that passes a test, and its first line feed.
-use Rattle.c62_read.proofs.Common.{◌≡◌, ◌<◌, ◌≤◌, ℕ, ◌+◌, suc, Bool, false, List, ◌∷◌, ◌++◌, length, take, drop, get_or, Option, Some, None, sym}
-use Rattle.c62_read.proofs.Common.{ap, ◌∙◌, arith, list_any, eqb-true, take-append-drop, is_line_feed, add-one}
+use Rattle.c62_read.proofs.Common.{◌≡◌, ◌<◌, ◌≤◌, ℕ, ◌+◌, Bool, false, List, ◌∷◌, ◌++◌, length, take, drop, get_or, Option, Some, None, arith}
+use Rattle.c62_read.proofs.Common.{list_any, eqb-true, take-append-drop, is_line_feed}
 use Rattle.std.proofs.Math.Seq.{drop-cons}
 use Rattle.std.specs.Prelude.{unwrap_or}
-use Rattle.std.proofs.lemmas.Bool.{false_from_ne_true}
 use Rattle.std.proofs.lemmas.List.{get_or-take, get_or_default, length-take-le, take_all}
 use Rattle.std.proofs.lemmas.List.Folds.{list_any_none}
 use Rattle.memchr.specs.Find.{IsFirstByte, is_byte}
@@ -11,19 +10,12 @@ use Rattle.memchr.specs.Find.{IsFirstByte, is_byte}
 module _ (test : ℕ → Bool) (text : List ℕ) where
   none_below : (n : ℕ) → n ≤ length text → ((k : ℕ) → k < n → test (get_or text k 0) ≡ false) → list_any test (take n text) ≡ false
   none_below n within none = list_any_none test (take n text) (λ k d less.
-      let low : k < n = omega (arith, less, length-take-le n text within) in
-      ap test (get_or-take n text k d low ∙ get_or_default text k d 0 (omega (arith, low, within))) ∙ none k low)
+      grind (arith, length-take-le n text within, get_or-take n text k d, get_or_default text k d 0, none k))
 
   -- before what was found, which is the end where nothing was, no byte passes
   pub none_before : (found : Option ℕ) → IsFirstByte test text found
       → (unwrap_or found (length text) ≤ length text) × (list_any test (take (unwrap_or found (length text)) text) ≡ false)
-  none_before None none =
-      (omega arith, none_below (length text) (omega arith) (λ k less. false_from_ne_true (test (get_or text k 0)) (none k (omega arith) less)))
-  none_before (Some k) found = (
-    omega (arith, found.0.high),
-    none_below k (omega (arith, found.0.high)) (λ j less. false_from_ne_true (test (get_or text j 0))
-        (found.0.before j (omega arith) less)),
-  )
+  none_before found first = grind (arith, none_below (unwrap_or found (length text)))
 
 -- ---- the first line feed
 
@@ -35,9 +27,8 @@ pub record IsFedAt (text : List ℕ) (k : ℕ) : Type 0 where
 pub fed_at : (text : List ℕ) (k : ℕ) → IsFirstByte (is_byte 10) text (Some k) → IsFedAt text k
 fed_at text k found = record {
   none = (none_before is_line_feed text (Some k) found).1;
-  split = rw add-one (sym (take-append-drop k text) ∙ ap (λ (rest : List ℕ). take k text ++ rest)
-      (drop-cons text k 0 found.0.high ∙ ap (λ (b : ℕ). b ∷ drop (suc k) text) (eqb-true (get_or text k 0) 10 found.1)));
+  split = grind (arith, take-append-drop k text, drop-cons text k 0, eqb-true (get_or text k 0) 10);
 }
 
 pub not_fed : (text : List ℕ) → IsFirstByte (is_byte 10) text None → list_any is_line_feed text ≡ false
-not_fed text none = sym (ap (list_any is_line_feed) (take_all (length text) text (omega arith))) ∙ (none_before is_line_feed text None none).1
+not_fed text none = grind (arith, take_all (length text) text, none_before is_line_feed text None none)

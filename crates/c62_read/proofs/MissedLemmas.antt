@@ -1,42 +1,26 @@
 -- Branches to labels that are looked for later.
-use Rattle.c62_read.proofs.Common.{◌≡◌, ℕ, false, not, cond, List, [], ◌∷◌, ◌++◌, Result, Err, refl, sym, ap, ◌∙◌, arith, map, option_map, filter}
-use Rattle.c62_read.proofs.Common.{list_any, slice_get, bytes_eq, nat_tests, list_any-append, UnknownTarget, Jump, Says, Jumps, Refusal, is_among}
-use Rattle.c62_read.proofs.Common.{Asked, asked_in, asked_of, first_line, is_unknown, missed, unless_missed}
-use Rattle.std.proofs.lemmas.List.Elements.{filter-append}
+use Rattle.c62_read.proofs.Common.{◌≡◌, ℕ, false, not, cond, List, [], ◌∷◌, ◌++◌, Result, Err, refl, arith, map, option_map, filter, list_any}
+use Rattle.c62_read.proofs.Common.{slice_get, bytes_eq, nat_tests, list_any-append, UnknownTarget, Jump, Says, Refusal, is_among, Asked}
+use Rattle.c62_read.proofs.Common.{asked_in, asked_of, first_line, is_unknown, missed, unless_missed}
 use Rattle.c62_read.specs.Program.{Name}
 
 -- what more labels leave of them
 pub missed_more : (labels others : List Name) (asked : List Asked) → missed (labels ++ others) asked ≡ missed others (missed labels asked)
 missed_more labels others [] = refl
 missed_more labels others (branch ∷ asked) =
-    rw (list_any-append (λ (other : Name). bytes_eq other branch.target) labels others)
-    (grind (arith, nat_tests, missed_more labels others asked))
+    grind (arith, nat_tests, list_any-append (λ (other : Name). bytes_eq other branch.target) labels, missed_more labels others asked)
 
 -- no label leaves all
 pub missed_all : (asked : List Asked) → missed [] asked ≡ asked
 missed_all [] = refl
-missed_all (branch ∷ asked) = ap (λ (others : List Asked). branch ∷ others) (missed_all asked)
-
--- the first of two lists
-first_both : {T : Type 0} (some others : List Asked) (answer : Result T Refusal)
-    → unless_missed (first_line (some ++ others)) answer ≡ unless_missed (first_line some) (unless_missed (first_line others) answer)
-first_both [] others answer = refl
-first_both (branch ∷ some) others answer = refl
-
-one_missed : {T : Type 0} (labels : List Name) (number : ℕ) (says : Says) (answer : Result T Refusal)
-    → unless_missed (first_line (missed labels (asked_in number says))) answer ≡ cond (is_unknown labels says) (Err (number, UnknownTarget)) answer
-one_missed labels number (Jumps parts target) answer = grind (arith, nat_tests)
-one_missed labels number says answer = refl
+missed_all (branch ∷ asked) = rw (missed_all asked) refl
 
 -- a line's branch behind those of earlier lines
 pub missed_then : {T : Type 0} (labels : List Name) (asked : List Asked) (number : ℕ) (says : Says) (answer : Result T Refusal)
     → unless_missed (first_line (missed labels asked)) (cond (is_unknown labels says) (Err (number, UnknownTarget)) answer)
     ≡ unless_missed (first_line (missed labels (asked ++ asked_in number says))) answer
-missed_then labels asked number says answer =
-    ap (unless_missed (first_line (missed labels asked))) (sym (one_missed labels number says answer))
-    ∙ sym (first_both (missed labels asked) (missed labels (asked_in number says)) answer)
-    ∙ ap (λ (all : List Asked). unless_missed (first_line all) answer)
-    (sym (filter-append (λ (branch : Asked). not (is_among branch.target labels)) asked (asked_in number says)))
+missed_then labels [] number says answer = grind (arith, nat_tests)
+missed_then labels (branch ∷ asked) number says answer = grind (arith, nat_tests, missed_then labels asked number says answer)
 
 -- ---- the same in the reader
 

@@ -1,7 +1,6 @@
 -- NOP says from one to nine cycles without an instruction.
-use Rattle.c62_read.proofs.Common.{◌≡◌, ◌≤◌, leb, ◌&&◌, List, [], ◌∷◌, None, Result, Ok, Err, refl, arith, pos, codes, and_parts, cond_both}
-use Rattle.c62_read.proofs.Common.{leb-true, Cause, BadOperand, BadUnit, Kind, Number, Word, kinds_of, Nop, Says, Pause, and_read, cycles_of}
-use Rattle.c62_read.proofs.Common.{or_fault, unit_behind}
+use Rattle.c62_read.proofs.Common.{◌≡◌, ◌≤◌, leb, ◌&&◌, List, [], ◌∷◌, None, Result, Ok, Err, refl, arith, pos, codes, cond_both, nat_tests, Cause}
+use Rattle.c62_read.proofs.Common.{BadOperand, BadUnit, Kind, Number, Word, kinds_of, Nop, Says, Pause, and_read, cycles_of, or_fault, unit_behind}
 use Rattle.c62_read.specs.declared.kind.Kind.TheVariants.{Name}
 use Rattle.c62_read.specs.Number.{decimal_of, magnitude_of, number_of, register_of, signed_of}
 use Rattle.c62_read.specs.Kind.{kind_of, mark_of}
@@ -22,7 +21,7 @@ OkShort (Err cause) = Unit {0}
 
 cycles_short : (kind : Kind) → OkShort (cycles_of kind)
 cycles_short (Number (pos n)) = cond_both (leb 1 n && leb n 9) (Ok (Pause n)) (Err BadOperand) OkShort
-    (λ is. let parts = and_parts (leb 1 n) (leb n 9) is in (leb-true 1 n parts.0, leb-true n 9 parts.1)) (λ _. tt)
+    (λ is. (grind (arith, nat_tests), grind (arith, nat_tests))) (λ _. tt)
 cycles_short _ = tt
 
 pause_short : (words : List Word) → OkShort (pause_of None (kinds_of words))

@@ -1,8 +1,8 @@
 -- The tokens of what is spelled.
 use Rattle.c62_read.proofs.Common.{◌≡◌, ℕ, ◌+◌, ◌<◌, ◌≤◌, Bool, true, false, not, eqb, ◌&&◌, List, [], ◌∷◌, ◌++◌, length, refl, sym, ap, ◌∙◌}
 use Rattle.c62_read.proofs.Common.{append-nil, append_assoc, arith, length-append, codes, list_all, and_from, and_parts, nat_tests, map-append}
-use Rattle.c62_read.proofs.Common.{list_all-append, grow, begins, is_allowed, is_blank, is_solid, is_sign, is_word_byte, is_double, joins, tokens}
-use Rattle.c62_read.proofs.Common.{Kind, Comma, Open, Close, Word, kinds_of}
+use Rattle.c62_read.proofs.Common.{list_all-append, grow, begins, is_allowed, is_blank, is_solid, is_sign, is_word_byte, joins, tokens, Kind, Comma}
+use Rattle.c62_read.proofs.Common.{Word, kinds_of}
 use Rattle.c62_read.specs.Kind.{kind_of, mark_of, single_mark}
 use Rattle.c62_read.proofs.TokenLemmas.{tokens_alone, tokens_joined, tokens_last, tokens_blank, tokens_word}
 
@@ -17,10 +17,7 @@ pub record IsToken (w : List ℕ) : Type 0 where
 
 text_word : (w : List ℕ) → list_all is_word_byte w ≡ true → list_all is_text w ≡ true
 text_word [] words = refl
-text_word (b ∷ w) words =
-    let parts = and_parts (is_word_byte b) (list_all is_word_byte w) words in
-    let text : is_text b ≡ true = let here = parts.0 in grind (arith, nat_tests) in
-    and_from (is_text b) (list_all is_text w) text (text_word w parts.1)
+text_word (b ∷ w) words = grind (arith, nat_tests, text_word w)
 
 -- a mnemonic, a register, a label or a number without a sign
 pub word_token : (w : List ℕ) → 0 < length w → list_all is_word_byte w ≡ true → IsToken w
@@ -40,26 +37,16 @@ led_token b c w solid joined text words =
 abbrev pub is_mark : ℕ → Bool
 is_mark b = is_solid b && not (is_word_byte b) && not (is_sign b) && not (eqb b 46) && not (eqb b 124)
 
-mark_single : (b c : ℕ) → is_mark b ≡ true → is_double b c ≡ false
-mark_single b c mark = grind (arith, nat_tests)
-
-mark_loose : (b c : ℕ) → is_mark b ≡ true → joins b c ≡ false
-mark_loose b c mark = grind (arith, nat_tests)
-
-mark_solid : (b : ℕ) → is_mark b ≡ true → is_solid b ≡ true
-mark_solid b mark = grind (arith, nat_tests)
-
 pub mark_alone : (b : ℕ) (rest : List ℕ) → is_mark b ≡ true → tokens (b ∷ rest) ≡ (b ∷ []) ∷ tokens rest
-mark_alone b [] mark = tokens_last b (mark_solid b mark)
-mark_alone b (c ∷ rest) mark = tokens_alone b c rest (mark_solid b mark) (mark_single b c mark) (mark_loose b c mark)
+mark_alone b [] mark = tokens_last b (grind (arith, nat_tests))
+mark_alone b (c ∷ rest) mark = tokens_alone b c rest (grind (arith, nat_tests)) (grind (arith, nat_tests)) (grind (arith, nat_tests))
 
 -- blanks in front
 pub tokens_behind : (blanks line : List ℕ) → list_all is_blank blanks ≡ true → tokens (blanks ++ line) ≡ tokens line
 tokens_behind [] line blank = refl
 tokens_behind (b ∷ blanks) line blank =
     let parts = and_parts (is_blank b) (list_all is_blank blanks) blank in
-    let text : eqb b 59 ≡ false = grind (arith, nat_tests) in
-    tokens_blank b (blanks ++ line) text parts.0 ∙ tokens_behind blanks line parts.1
+    tokens_blank b (blanks ++ line) (grind (arith, nat_tests)) parts.0 ∙ tokens_behind blanks line parts.1
 
 -- ---- pieces of a line
 
@@ -84,12 +71,7 @@ word_piece w kind most token is short =
 pub mark_piece : (b : ℕ) (kind : Kind) → is_mark b ≡ true → is_text b ≡ true → kind_of (b ∷ []) ≡ kind
     → IsPiece any_end (b ∷ []) ((b ∷ []) ∷ []) (kind ∷ []) 1
 mark_piece b kind mark text is =
-    record {
-      splits = λ rest end. mark_alone b rest mark;
-      plain = and_from (is_text b) true text refl;
-      told = ap (λ (k : Kind). k ∷ []) is;
-      short = omega arith;
-    }
+    record { splits = λ rest end. mark_alone b rest mark; plain = rw text refl; told = ap (λ (k : Kind). k ∷ []) is; short = omega arith }
 
 pub blank_piece : IsPiece any_end (codes " ") [] [] 1
 blank_piece = record { splits = λ rest end. tokens_blank 32 rest refl refl; plain = refl; told = refl; short = omega arith }
@@ -98,8 +80,7 @@ pub no_piece : (Ends : List ℕ → Type 0) (most : ℕ) → IsPiece Ends [] [] 
 no_piece Ends most = record { splits = λ rest end. refl; plain = refl; told = refl; short = omega arith }
 
 pub weaker : {E F : List ℕ → Type 0} {a : List ℕ} {ws : List Word} {ks : List Kind} {m : ℕ} (n : ℕ) → IsPiece E a ws ks m
-    → ((rest : List ℕ) → F rest → E rest) → m ≤ n
-    → IsPiece F a ws ks n
+    → ((rest : List ℕ) → F rest → E rest) → m ≤ n → IsPiece F a ws ks n
 weaker n piece ends few =
     record { splits = λ rest end. piece.splits rest (ends rest end); plain = piece.plain; told = piece.told; short = omega (arith, piece.short) }
 
@@ -126,11 +107,3 @@ more first others = both (both first (mark_piece 44 Comma refl refl refl) (λ re
 -- the tokens of a piece that nothing follows
 pub tokens_are : {a : List ℕ} {ws : List Word} {ks : List Kind} {m : ℕ} → IsPiece word_end a ws ks m → tokens a ≡ ws
 tokens_are {a = a} {ws = ws} piece = ap tokens (sym (append-nil a)) ∙ piece.splits [] refl ∙ append-nil ws
-
-pub opening : IsPiece any_end (codes "[") (codes "[" ∷ []) (Open ∷ []) 1
-unfolding kind_of mark_of single_mark
-opening = mark_piece 91 Open refl refl refl
-
-pub closing : IsPiece any_end (codes "]") (codes "]" ∷ []) (Close ∷ []) 1
-unfolding kind_of mark_of single_mark
-closing = mark_piece 93 Close refl refl refl

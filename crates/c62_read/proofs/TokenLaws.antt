@@ -1,52 +1,31 @@
 -- Each token is the longest that fits.
-use Rattle.c62_read.proofs.Common.{◌≡◌, ℕ, zero, suc, ◌+◌, ◌<◌, ◌≤◌, Bool, true, false, ◌&&◌, ◌||◌, List, [], ◌∷◌, length, take, drop, eqb, refl}
+use Rattle.c62_read.proofs.Common.{◌≡◌, ℕ, zero, suc, ◌+◌, ◌<◌, ◌≤◌, Bool, true, false, ◌&&◌, ◌||◌, List, [], ◌∷◌, length, take, drop, eqb, leb, refl}
 use Rattle.c62_read.proofs.Common.{arith, inl, inr, cases_Bool, is_ascii_digit, list_all, nat_tests, begins, is_solid, is_word_byte, is_double}
-use Rattle.c62_read.proofs.Common.{joins, tokens, is_sign}
+use Rattle.c62_read.proofs.Common.{joins, is_sign, ◌∙◌}
+use Rattle.std.specs.List.{prefix_len}
+use Rattle.std.proofs.lemmas.List.Sums.{prefix_len-le-length}
 use Rattle.c62_read.specs.Laws.{HasLongestTokens, IsLongestToken, goes_on, is_pair, may_be_token}
 use Rattle.c62_read.proofs.TokenLemmas.{solid_parts, joined_no_double, joined_token, joined_word, tokens_alone, tokens_blank, tokens_last}
 
--- the bytes of a word that stand first: no more of them are a word
-record Cut (bytes : List ℕ) : Type 0 where
-  count : ℕ
-  within : count ≤ length bytes
-  words : list_all is_word_byte (take count bytes) ≡ true
-  ends : begins is_word_byte (drop count bytes) ≡ false
-  beyond : (more : ℕ) → count < more → more ≤ length bytes → list_all is_word_byte (take more bytes) ≡ false
+-- ---- the bytes of a word that stand first
 
-cut : (bytes : List ℕ) → Cut bytes
-cut [] = record { count = 0; within = omega arith; words = refl; ends = refl; beyond = λ more less most. absurd (omega arith) }
-cut (b ∷ bytes) = by_byte (is_word_byte b) refl (cut bytes)
-  where
-    first : (more : ℕ) → is_word_byte b ≡ false → 0 < more → list_all is_word_byte (take more (b ∷ bytes)) ≡ false
-    first zero e some = absurd (omega arith)
-    first (suc more) e some = rw e refl
+abbrev word_len : List ℕ → ℕ
+word_len bytes = prefix_len is_word_byte bytes
 
-    next : (more count : ℕ) → is_word_byte b ≡ true → ((n : ℕ) → count < n → n ≤ length bytes → list_all is_word_byte (take n bytes) ≡ false)
-        → suc count < more → more ≤ suc (length bytes) → list_all is_word_byte (take more (b ∷ bytes)) ≡ false
-    next zero count e beyond less most = absurd (omega arith)
-    next (suc more) count e beyond less most = rw (e, beyond more (omega arith) (omega arith)) refl
+next : (n : ℕ) → 1 + n ≡ suc n
+next n = omega arith
 
-    by_byte : (word : Bool) → is_word_byte b ≡ word → Cut bytes → Cut (b ∷ bytes)
-    by_byte true e later = record {
-      count = suc later.count;
-      within = omega (arith, later.within);
-      words = rw (e, later.words) refl;
-      ends = later.ends;
-      beyond = λ more less most. next more later.count e later.beyond less most;
-    }
-    by_byte false e later = record {
-      count = 0;
-      within = omega arith;
-      words = refl;
-      ends = e;
-      beyond = λ more less most. first more e less;
-    }
+word_ends : (bytes : List ℕ) → begins is_word_byte (drop (word_len bytes) bytes) ≡ false
+word_ends [] = refl
+word_ends (b ∷ bytes) = rw next (grind (arith, nat_tests, word_ends bytes))
 
-abbrev is_nil : List ℕ → Bool
-is_nil [] = true
-is_nil _ = false
+are_word : (n : ℕ) (bytes : List ℕ) → n ≤ length bytes → list_all is_word_byte (take n bytes) ≡ leb n (word_len bytes)
+are_word zero bytes within = grind (arith, nat_tests)
+are_word (suc n) [] within = absurd (omega arith)
+are_word (suc n) (b ∷ bytes) within = grind (arith, nat_tests, are_word n bytes)
 
--- the same by what joins two bytes
+-- ---- what may be a token, by what joins its first two bytes
+
 pair_is : (b c : ℕ) → is_pair b c ≡ is_double b c
 pair_is b c = grind (arith, nat_tests)
 
@@ -63,66 +42,61 @@ goes_is : (b c : ℕ) (rest : List ℕ) → goes_on b (c ∷ rest) ≡ (joins b 
 goes_is b c rest = rw (joins_is b c)
     (swapped (is_word_byte c) (is_word_byte b || eqb b 46 || is_sign b && is_ascii_digit c) (list_all is_word_byte rest))
 
-fits_so : (b c : ℕ) (rest : List ℕ) → may_be_token (b ∷ c ∷ rest) ≡ (is_nil rest && is_double b c || joins b c && list_all is_word_byte rest)
-fits_so b c [] = rw (pair_is b c, goes_is b c []) refl
-fits_so b c (d ∷ rest) = goes_is b c (d ∷ rest)
-
-neither : (nil : Bool) → (nil && false || false) ≡ false
-neither true = refl
-neither false = refl
-
 double_alone : (b c : ℕ) → is_double b c ≡ true → joins b c ≡ false
 double_alone b c double = grind (arith, nat_tests)
 
--- what two bytes say of the bytes behind them, which more of the line has
-more_than_two : (b c : ℕ) (rest : List ℕ) (count : ℕ)
-    → ((more : ℕ) → count < more → more ≤ length rest → may_be_token (b ∷ c ∷ take more rest) ≡ false)
-    → (more : ℕ) → suc (suc count) < more → more ≤ suc (suc (length rest)) → may_be_token (take more (b ∷ c ∷ rest)) ≡ false
-more_than_two b c rest count none zero less most = absurd (omega arith)
-more_than_two b c rest count none (suc zero) less most = absurd (omega arith)
-more_than_two b c rest count none (suc (suc more)) less most = none more (omega arith) (omega arith)
+-- two bytes and n more: a double where there are no more, and what joins where these are a word's
+fits_so : (n b c : ℕ) (rest : List ℕ) → n ≤ length rest
+    → may_be_token (b ∷ c ∷ take n rest) ≡ (eqb n 0 && is_double b c || joins b c && leb n (word_len rest))
+fits_so zero b c rest within =
+    let low : leb 0 (word_len rest) ≡ true = grind (arith, nat_tests) in
+    rw (pair_is b c, goes_is b c [], low) refl
+fits_so (suc n) b c [] within = absurd (omega arith)
+fits_so (suc n) b c (d ∷ rest) within =
+    let more : eqb (suc n) 0 ≡ false = grind (arith, nat_tests) in
+    goes_is b c (d ∷ take n rest) ∙ rw (are_word (suc n) (d ∷ rest) within, more) refl
 
-more_than_one : (b c : ℕ) (rest : List ℕ) → ((more : ℕ) → may_be_token (b ∷ c ∷ take more rest) ≡ false)
-    → (more : ℕ) → 1 < more → may_be_token (take more (b ∷ c ∷ rest)) ≡ false
-more_than_one b c rest none zero less = absurd (omega arith)
-more_than_one b c rest none (suc zero) less = absurd (omega arith)
-more_than_one b c rest none (suc (suc more)) less = none more
+-- ---- the first token
 
-some_left : (rest : List ℕ) (more : ℕ) → 0 < more → more ≤ length rest → is_nil (take more rest) ≡ false
-some_left rest zero some most = absurd (omega arith)
-some_left [] (suc more) some most = absurd (omega arith)
-some_left (d ∷ rest) (suc more) some most = refl
+module _ (b c : ℕ) (rest : List ℕ) (solid : is_solid b ≡ true) where
+  none_longer : (count : ℕ) → 0 < count
+      → ((n : ℕ) → count < n + 2 → (eqb n 0 && is_double b c || joins b c && leb n (word_len rest)) ≡ false)
+      → (more : ℕ) → count < more → more ≤ length (b ∷ c ∷ rest) → may_be_token (take more (b ∷ c ∷ rest)) ≡ false
+  none_longer count some none zero less most = absurd (omega arith)
+  none_longer count some none (suc zero) less most = absurd (omega arith)
+  none_longer count some none (suc (suc n)) less most = fits_so n b c rest (omega arith) ∙ none n (omega arith)
 
-tokens_double : (b c : ℕ) (rest : List ℕ) → is_solid b ≡ true → is_double b c ≡ true → tokens (b ∷ c ∷ rest) ≡ (b ∷ c ∷ []) ∷ tokens rest
-tokens_double b c rest solid double = let parts = solid_parts b solid in rw (parts.0, parts.1, double) refl
+  pair_first : is_double b c ≡ true → IsLongestToken (b ∷ c ∷ rest) 2
+  pair_first double =
+      let alone = double_alone b c double in
+      let parts = solid_parts b solid in
+      record {
+        within = omega arith;
+        fits = fits_so 0 b c rest (omega arith) ∙ rw double refl;
+        longest = none_longer 2 (omega arith) (λ n less. rw (double, alone) (grind (arith, nat_tests)));
+        first = rw (parts.0, parts.1, double) refl;
+      }
 
-pair_first : (b c : ℕ) (rest : List ℕ) → is_solid b ≡ true → is_double b c ≡ true → IsLongestToken (b ∷ c ∷ rest) 2
-pair_first b c rest solid double = record {
-  within = omega arith;
-  fits = rw (fits_so b c [], double) refl;
-  longest = more_than_two b c rest 0 (λ more some most.
-      rw (fits_so b c (take more rest), double_alone b c double, some_left rest more some most) refl);
-  first = tokens_double b c rest solid double;
-}
+  word_first : joins b c ≡ true → IsLongestToken (b ∷ c ∷ rest) (suc (suc (word_len rest)))
+  word_first joined =
+      let single = joined_no_double b c joined in
+      let within = prefix_len-le-length is_word_byte rest in
+      let words : list_all is_word_byte (take (word_len rest) rest) ≡ true = are_word (word_len rest) rest within ∙ grind (arith, nat_tests) in
+      record {
+        within = omega (arith, within);
+        fits = fits_so (word_len rest) b c rest within ∙ rw (single, joined) (grind (arith, nat_tests));
+        longest = none_longer (suc (suc (word_len rest))) (omega arith) (λ n less. rw (single, joined) (grind (arith, nat_tests)));
+        first = rw next at (joined_token (b ∷ c ∷ rest) (suc (word_len rest)) (omega arith) solid joined
+            (rw (joined_word b c joined, words) refl) (word_ends rest));
+      }
 
-word_first : (b c : ℕ) (rest : List ℕ) → is_solid b ≡ true → joins b c ≡ true → (word : Cut rest)
-    → IsLongestToken (b ∷ c ∷ rest) (suc (suc word.count))
-word_first b c rest solid joined word = let same : 1 + suc word.count ≡ suc (suc word.count) = omega arith in record {
-  within = omega (arith, word.within);
-  fits = rw (fits_so b c (take word.count rest), joined_no_double b c joined, joined, word.words) (grind (arith, nat_tests));
-  longest = more_than_two b c rest word.count (λ more less most.
-      rw (fits_so b c (take more rest), joined_no_double b c joined, joined, word.beyond more less most) (neither (is_nil (take more rest))));
-  first = rw same at (joined_token (b ∷ c ∷ rest) (suc word.count) (omega arith) solid joined (rw (joined_word b c joined, word.words) refl)
-      word.ends);
-}
-
-byte_first : (b c : ℕ) (rest : List ℕ) → is_solid b ≡ true → is_double b c ≡ false → joins b c ≡ false → IsLongestToken (b ∷ c ∷ rest) 1
-byte_first b c rest solid single alone = record {
-  within = omega arith;
-  fits = solid;
-  longest = λ more less most. more_than_one b c rest (λ m. rw (fits_so b c (take m rest), single, alone) (neither (is_nil (take m rest)))) more less;
-  first = tokens_alone b c rest solid single alone;
-}
+  byte_first : is_double b c ≡ false → joins b c ≡ false → IsLongestToken (b ∷ c ∷ rest) 1
+  byte_first single alone = record {
+    within = omega arith;
+    fits = solid;
+    longest = none_longer 1 (omega arith) (λ n less. rw (single, alone) (grind (arith, nat_tests)));
+    first = tokens_alone b c rest solid single alone;
+  }
 
 longest_first : (line : List ℕ) → begins is_solid line ≡ true → (count : ℕ) × IsLongestToken line count
 longest_first [] solid = absurd cc
@@ -131,7 +105,7 @@ longest_first (b ∷ []) solid =
 longest_first (b ∷ c ∷ rest) solid = elim (cases_Bool (is_double b c)) [
   | inl double ↦ (2, pair_first b c rest solid double)
   | inr single ↦ elim (cases_Bool (joins b c)) [
-    | inl joined ↦ let word = cut rest in (suc (suc word.count), word_first b c rest solid joined word)
+    | inl joined ↦ (suc (suc (word_len rest)), word_first b c rest solid joined)
     | inr alone ↦ (1, byte_first b c rest solid single alone)
   ]
 ]

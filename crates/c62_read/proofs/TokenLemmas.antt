@@ -48,19 +48,10 @@ tokens_last b solid = rw solid refl
 
 -- a blank is no token's, and a comment has none
 pub tokens_blank : (b : ℕ) (rest : List ℕ) → eqb b 59 ≡ false → is_blank b ≡ true → tokens (b ∷ rest) ≡ tokens rest
-tokens_blank b [] text blank = rw (text, blank) refl
-tokens_blank b (c ∷ rest) text blank = rw (text, blank) refl
+tokens_blank b rest text blank = grind (arith, nat_tests)
 
 pub tokens_comment : (b : ℕ) (rest : List ℕ) → eqb b 59 ≡ true → tokens (b ∷ rest) ≡ []
-tokens_comment b [] comment = rw comment refl
-tokens_comment b (c ∷ rest) comment = rw comment refl
-
-pub tokens_blanks : (n : ℕ) (bytes : List ℕ) → list_all is_blank (take n bytes) ≡ true → tokens (drop n bytes) ≡ tokens bytes
-tokens_blanks zero bytes blanks = refl
-tokens_blanks (suc n) [] blanks = refl
-tokens_blanks (suc n) (b ∷ bytes) blanks =
-    let parts = and_parts (is_blank b) (list_all is_blank (take n bytes)) blanks in
-    tokens_blanks n bytes parts.1 ∙ sym (tokens_blank b bytes (grind (arith, nat_tests)) parts.0)
+tokens_comment b rest comment = grind (arith, nat_tests)
 
 -- a word where no byte of a word follows
 pub tokens_word : (w rest : List ℕ) → list_all is_word_byte w ≡ true → begins is_word_byte rest ≡ false
@@ -91,8 +82,7 @@ joined_token (b ∷ c ∷ more) (suc n) long solid joined words ends =
 -- the tokens of what begins with a token, which is cut off
 pub led_by_token : (bytes : List ℕ) (n : ℕ) → n ≤ length bytes → (0 < length bytes → 0 < n)
     → (0 < length bytes → tokens bytes ≡ take n bytes ∷ tokens (drop n bytes)) → led_by (take n bytes) (tokens (drop n bytes)) ≡ tokens bytes
-led_by_token [] zero within some token = refl
-led_by_token [] (suc n) within some token = absurd (omega (arith, within))
+led_by_token [] n within some token = let none : n ≡ 0 = omega arith in rw none refl
 led_by_token (b ∷ bytes) zero within some token = absurd (omega (arith, some (omega arith)))
 led_by_token (b ∷ bytes) (suc n) within some token = sym (token (omega arith))
 
@@ -108,8 +98,7 @@ kept_more : (b : ℕ) (rest : List ℕ) → kept (b ∷ rest) ≡ cond (eqb b 59
 kept_more b rest = rw (take_while-cons (λ (x : ℕ). not (eqb x 59)) b rest) (grind (arith, nat_tests))
 
 grown : (b : ℕ) (words : List (List ℕ)) → joined_bytes (grow b words) ≡ b ∷ joined_bytes words
-grown b [] = refl
-grown b (word ∷ words) = refl
+grown b words = grind arith
 
 pub tokens_are_bytes : (line : List ℕ) → flat_map (λ t. t) (tokens line) ≡ filter (λ b. not (is_blank b)) (take_while (λ b. not (eqb b 59)) line)
 tokens_are_bytes [] = refl
@@ -125,8 +114,7 @@ tokens_are_bytes (b ∷ c ∷ rest) =
       tokens_are_bytes (c ∷ rest),
     ) (elim (cases_Bool (is_double b c)) [
       | inl double ↦
-          let text : eqb c 59 ≡ false = grind (arith, nat_tests) in
-          let solid : is_blank c ≡ false = grind (arith, nat_tests) in
-          rw (double, tokens_are_bytes rest, kept_more c rest, text, solid) refl
+          let plain : (eqb c 59 ≡ false) × (is_blank c ≡ false) = grind (arith, nat_tests) in
+          rw (double, tokens_are_bytes rest, kept_more c rest, plain.0, plain.1) refl
       | inr single ↦ rw (single, either (joins b c)) refl
     ])

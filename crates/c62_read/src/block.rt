@@ -5,7 +5,7 @@ ghost use Rattle.std.specs.Option.{option_copied};
 ghost use Rattle.c62_read.specs.declared.limits.TheConstants.{MOST_BLOCKS};
 ghost use Rattle.c62_read.specs.Block.{Serial, IsProgram, is_block, targets_stand};
 
-use crate::label::Label;
+use crate::label::{Label, copied};
 use c62_insn::{Insn, Operands};
 use std::alloc::{AllocError, Global};
 use std::marker::Model;
@@ -83,10 +83,7 @@ impl Block {
     pub fn copy(&self, alloc: Global) -> Result<Block, AllocError>
         ensures { IfOk result (λ block. block ≡ self.now) }
     {
-        let label = match &self.label {
-            Some(label) => Some(label.copy()),
-            None => None,
-        };
+        let label = copied(&self.label);
         let insns = Vec::from_slice(alloc, &self.insns)?;
         Ok(Block { label, insns })
     }

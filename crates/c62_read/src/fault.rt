@@ -65,14 +65,19 @@ pub struct ReadFault {
     pub cause: Cause,
 }
 
+impl ReadFault {
+    pub(crate) fn at(line: u32, cause: Cause) -> ReadFault
+        ensures { result ≡ record { line = line; cause = cause } }
+    {
+        ReadFault { line, cause }
+    }
+}
+
 impl From<AllocError> for ReadFault {
     ghost from_gives = { λ _ fault. fault ≡ record { line = 0; cause = Memory } };
 
     fn from(_error: AllocError) -> ReadFault {
-        ReadFault {
-            line: 0,
-            cause: Cause::Memory,
-        }
+        ReadFault::at(0, Cause::Memory)
     }
 }
 
@@ -80,9 +85,6 @@ impl<T: Drop> From<AllocFailed<T>> for ReadFault {
     ghost from_gives = { λ _ fault. fault ≡ record { line = 0; cause = Memory } };
 
     fn from(_error: AllocFailed<T>) -> ReadFault {
-        ReadFault {
-            line: 0,
-            cause: Cause::Memory,
-        }
+        ReadFault::at(0, Cause::Memory)
     }
 }

@@ -69,3 +69,13 @@ impl PartialEq for Label {
 impl Eq for Label {
     ghost laws = { nat_list_eq_equiv };
 }
+
+/// The same label again, where there is one.
+pub(crate) fn copied(label: &Option<Label>) -> Option<Label>
+    ensures { result ≡ label.now }
+{
+    match label {
+        Some(label) => Some(label.copy()),
+        None => None,
+    }
+}

@@ -16,6 +16,7 @@ pub mod number;
 mod operand;
 mod program;
 mod reading;
+mod scan;
 mod token;
 mod unit;
 
@@ -29,6 +30,7 @@ pub use laws::{
     instructions_read_as_their_lines, labels_are_distinct, labels_read_back, limits_are,
     lines_rise, numbers_read_back, pauses_read_back, pseudo_operations_keep_the_effect,
     registers_read_back, spelled_lines_read_back, star_lines_say_nothing, tokens_are_the_bytes,
+    tokens_are_the_longest,
 };
 pub use limits::{MOST_BLOCKS, MOST_BYTES, MOST_INSTRUCTIONS};
 pub use line::read_insn;

@@ -1,9 +1,8 @@
 //! What a line says, and its first fault.
 
-ghost use Rattle.std.specs.Prelude.{◌≡◌, ◌<◌, length, ◌==◌, Ok, Err, Some, None, MatchResult, IsTrue, IfSome, IfOk, IfErr};
-ghost use Rattle.std.specs.List.{list_all};
+ghost use Rattle.std.specs.Prelude.{◌≡◌, ◌==◌, false, Ok, Err, Some, None, MatchResult, IsTrue, IfSome, IfOk, IfErr};
 ghost use Rattle.std.specs.Option.{option_copied};
-ghost use Rattle.c62_read.specs.Text.{begins, tokens, is_allowed, is_solid, words_left};
+ghost use Rattle.c62_read.specs.Text.{begins, words_left};
 ghost use Rattle.c62_read.specs.Number.{is_label};
 ghost use Rattle.c62_read.specs.Kind.{kinds_of, first_is_open};
 ghost use Rattle.c62_read.specs.Mnemonic.{with_kind};
@@ -20,7 +19,8 @@ use crate::mnemonic::{Mnemonic, mnemonic_named};
 use crate::number::{is_label, spells};
 use crate::operand::read_operands;
 use crate::reading::{Reading, Statement};
-use crate::token::{STEP, Tokens, from_token, has_byte, is_allowed, is_mark, without_indent};
+use crate::scan::scan_line;
+use crate::token::{Tokens, begins_with, is_mark};
 use crate::unit::{WrittenUnit, first_unit};
 use arrayvec::ArrayVec;
 use c62_insn::{Cond, Letter, Op, Operands};
@@ -249,23 +249,13 @@ fn instruction<'a>(rest: Tokens<'a>) -> Result<Statement<'a>, Cause>
     behind_unit(mnemonic, cond, written, rest)
 }
 
-pub(crate) fn begins_with(byte: u8, bytes: &[u8]) -> bool
-    ensures { result ≡ begins (λ b. b == byte) bytes.now }
-{
-    match bytes {
-        [] => false,
-        [first, ..] => *first == byte,
-    }
-}
-
 /// What stands behind the label.
 #[inline(always)]
 #[tactic(auto, unfolding(crate::specs::Line::rest_says))]
-pub(crate) fn read_rest(rest: &[u8]) -> Result<Statement<'_>, Cause>
-    ensures says { said result ≡ rest_says (tokens rest.now) }
+pub(crate) fn read_rest<'a>(rest: Tokens<'a>) -> Result<Statement<'a>, Cause>
+    ensures says { said result ≡ rest_says (words_left rest.entry) }
     ensures label { IfOk result (λ what. IsTrue (names_label what)) }
 {
-    let rest = Tokens::new(rest);
     match rest.peek() {
         None => Ok(Statement::Empty),
         Some(word) => if begins_with(b'.', word) {
@@ -278,73 +268,38 @@ pub(crate) fn read_rest(rest: &[u8]) -> Result<Statement<'_>, Cause>
 
 /// The label that stands first, and what follows its colon.
 #[tactic(auto, unfolding(crate::specs::Line::label_front))]
-pub(crate) fn first_label(rest: &[u8]) -> (Option<&[u8]>, &[u8])
-    ensures value { label_front (tokens rest.now) ≡ (option_copied result.0, tokens result.1.now) }
+pub(crate) fn first_label<'a>(line: Tokens<'a>) -> (Option<&'a [u8]>, Tokens<'a>)
+    ensures value { label_front (words_left line.entry) ≡ (option_copied result.0, words_left result.1) }
     ensures label { IfSome result.0 (λ word. IsTrue (is_label word.now)) }
 {
-    let line = Tokens::new(rest);
     let Some((name, behind)) = line.split() else {
-        return (None, rest);
+        return (None, line);
     };
     let Some(colon) = behind.peek() else {
-        return (None, rest);
+        return (None, line);
     };
     if is_mark(b':', colon) && is_label(name) {
-        (Some(name), behind.rest)
+        (Some(name), behind.behind())
     } else {
-        (None, rest)
+        (None, line)
     }
 }
 
-/// Whether parallel bars stand first, where the first byte is a token's.
-#[tactic(auto, using(crate::proofs::HeadLemmas::no_bars))]
-fn begins_with_bars(start: &[u8]) -> bool
-    requires { 0 < length start.now → IsTrue (begins is_solid start.now) }
-    ensures { result ≡ is_bars (tokens start.now) }
+/// Whether parallel bars stand first.
+fn begins_with_bars(line: Tokens<'_>) -> bool
+    ensures { result ≡ is_bars (words_left line.entry) }
 {
-    if !begins_with(b'|', start) {
-        return false;
-    }
-    match Tokens::new(start).peek() {
+    match line.peek() {
         Some(word) => spells(b"||", word),
         None => false,
     }
 }
 
-/// Looks at every byte, whatever the others are: so the compiler compares many at once.
-#[inline(always)]
-fn are_allowed(bytes: &[u8]) -> bool
-    ensures { result ≡ list_all is_allowed bytes.now }
-{
-    let mut allowed = true;
-    for b in bytes {
-        allowed &= is_allowed(*b);
-    }
-    allowed
-}
-
-/// Whether each byte may stand in a line. The last step may overlap the one before.
-fn all_allowed(line: &[u8]) -> bool
-    ensures { result ≡ list_all is_allowed line.now }
-{
-    if line.len() < STEP {
-        return are_allowed(line);
-    }
-    let mut start = 0;
-    while STEP <= line.len() - start {
-        if !are_allowed(&line[start..start + STEP]) {
-            return false;
-        }
-        start += STEP;
-    }
-    are_allowed(&line[line.len() - STEP..])
-}
-
 /// Whether a colon is left.
-fn has_colon(rest: &[u8]) -> bool
-    ensures { result ≡ has_colon (tokens rest.now) }
+fn has_colon(rest: Tokens<'_>) -> bool
+    ensures { result ≡ has_colon (words_left rest.entry) }
 {
-    let mut left = Tokens::new(rest);
+    let mut left = rest;
     while let Some((word, behind)) = left.split() {
         if is_mark(b':', word) {
             return true;
@@ -354,16 +309,21 @@ fn has_colon(rest: &[u8]) -> bool
     false
 }
 
-/// The label that stands first and what follows its colon. No other colon may stand before the comment.
-#[tactic(auto, using(crate::proofs::HeadLemmas::head_without_colon))]
-fn read_label(start: &[u8]) -> Result<(Option<&[u8]>, &[u8]), Cause>
-    ensures value { IsHead result (without_colon (label_front (tokens start.now))) }
+/// The label that stands first and what follows its colon. No other colon may stand before the comment. Where the line's
+/// bytes have none, nothing is looked for.
+#[tactic(auto, using(crate::proofs::HeadLemmas::no_label))]
+fn read_label<'a>(
+    line: Tokens<'a>,
+    has_colons: bool,
+) -> Result<(Option<&'a [u8]>, Tokens<'a>), Cause>
+    requires { has_colons ≡ false → has_colon (words_left line) ≡ false }
+    ensures value { IsHead result (without_colon (label_front (words_left line.entry))) }
     ensures label { IfOk result (λ head. IfSome head.0 (λ word. IsTrue (is_label word.now))) }
 {
-    if !has_byte(b':', start) {
-        return Ok((None, start));
+    if !has_colons {
+        return Ok((None, line));
     }
-    let (label, rest) = first_label(start);
+    let (label, rest) = first_label(line);
     if has_colon(rest) {
         return Err(Cause::BadLabel);
     }
@@ -371,25 +331,26 @@ fn read_label(start: &[u8]) -> Result<(Option<&[u8]>, &[u8]), Cause>
 }
 
 /// The label of a line and what follows it.
-#[tactic(auto, unfolding(crate::specs::Line::head_of))]
-pub(crate) fn read_head(line: &[u8]) -> Result<(Option<&[u8]>, &[u8]), Cause>
+#[tactic(auto, using(crate::proofs::HeadLemmas::no_colon_at_all), unfolding(crate::specs::Line::head_of))]
+pub(crate) fn read_head<'a>(line: &'a [u8]) -> Result<(Option<&'a [u8]>, Tokens<'a>), Cause>
     ensures value { IsHead result (head_of line.now) }
     ensures label { IfOk result (λ head. IfSome head.0 (λ word. IsTrue (is_label word.now))) }
 {
-    if !all_allowed(line) {
+    let bytes = scan_line(line);
+    if !bytes.allowed {
         return Err(Cause::NotAscii);
     }
     if line.len() > 255 {
         return Err(Cause::LineTooLong);
     }
     if begins_with(b'*', line) {
-        return Ok((None, &[]));
+        return Ok((None, Tokens::new(&[])));
     }
-    let start = from_token(without_indent(line));
-    if begins_with_bars(start) {
+    let tokens = Tokens::new(line);
+    if begins_with_bars(tokens) {
         return Err(Cause::ParallelBar);
     }
-    read_label(start)
+    read_label(tokens, bytes.colon)
 }
 
 /// The reading of one line, which takes no memory. The line is without its end; its fault carries the line 1.
@@ -404,14 +365,14 @@ pub fn read_insn(line: &[u8]) -> Result<Reading, ReadFault>
 {
     let (label, rest) = match read_head(line) {
         Ok(head) => head,
-        Err(cause) => return Err(ReadFault { line: 1, cause }),
+        Err(cause) => return Err(ReadFault::at(1, cause)),
     };
     match read_rest(rest) {
         Ok(what) => Ok(Reading {
             label: owned(label),
             what: what.owned(),
         }),
-        Err(cause) => Err(ReadFault { line: 1, cause }),
+        Err(cause) => Err(ReadFault::at(1, cause)),
     }
 }
 

@@ -9,6 +9,11 @@ ghost use Rattle.c62_read.specs.Number.{spells};
 ghost use Rattle.c62_insn.specs.Word.{word, lo};
 
 use crate::number::spells;
+use c62_insn::Op::{
+    Abs, Add, Add2, Addab, Addah, Addaw, Addk, And, B, Cmpeq, Cmpgt, Cmpgtu, Cmplt, Cmpltu, Ext,
+    Extu, Ldb, Ldbu, Ldh, Ldhu, Ldw, Mpy, Mpyh, Mpyhl, Mpyhu, Mpylh, Mpysu, Mpyu, Mpyus, Mvk,
+    Mvklh, Or, Shl, Shr, Shru, Stb, Sth, Stw, Sub, Sub2, Xor,
+};
 use c62_insn::{Letter, Op, Operands, Reg};
 
 /// What may stand first in an instruction.
@@ -26,68 +31,23 @@ pub(crate) enum Mnemonic {
 
 ghost use Rattle.c62_read.specs.Mnemonic.{begins_so, operation_named, pseudo_named, mnemonic_named, stands_on, exchanged, low_half, signed_low_half, high_half, constant_to_front, crossed_to_back, in_order, zero_in, stands_for};
 
-const WITH_A: [Op; 8] = [
-    Op::Add,
-    Op::And,
-    Op::Abs,
-    Op::Add2,
-    Op::Addk,
-    Op::Addab,
-    Op::Addah,
-    Op::Addaw,
-];
-
-const WITH_B: [Op; 1] = [Op::B];
-
-const WITH_C: [Op; 5] = [Op::Cmpeq, Op::Cmpgt, Op::Cmplt, Op::Cmpgtu, Op::Cmpltu];
-
-const WITH_E: [Op; 2] = [Op::Ext, Op::Extu];
-
-const WITH_L: [Op; 5] = [Op::Ldb, Op::Ldbu, Op::Ldh, Op::Ldhu, Op::Ldw];
-
-const WITH_M: [Op; 10] = [
-    Op::Mvk,
-    Op::Mvklh,
-    Op::Mpy,
-    Op::Mpyu,
-    Op::Mpyus,
-    Op::Mpysu,
-    Op::Mpyh,
-    Op::Mpyhu,
-    Op::Mpyhl,
-    Op::Mpylh,
-];
-
-const WITH_O: [Op; 1] = [Op::Or];
-
-const WITH_S: [Op; 8] = [
-    Op::Sub,
-    Op::Sub2,
-    Op::Shl,
-    Op::Shr,
-    Op::Shru,
-    Op::Stb,
-    Op::Sth,
-    Op::Stw,
-];
-
-const WITH_X: [Op; 1] = [Op::Xor];
-
 /// Operations among which each is whose name begins with this small letter, in their order.
 fn beginning_with(letter: u8) -> &'static [Op]
     ensures { filter (begins_so letter) result.now ≡ filter (begins_so letter) all_operations }
 {
     match letter {
-        b'a' => &WITH_A,
-        b'b' => &WITH_B,
-        b'c' => &WITH_C,
-        b'e' => &WITH_E,
-        b'l' => &WITH_L,
-        b'm' => &WITH_M,
+        b'a' => &[Add, And, Abs, Add2, Addk, Addab, Addah, Addaw],
+        b'b' => &[B],
+        b'c' => &[Cmpeq, Cmpgt, Cmplt, Cmpgtu, Cmpltu],
+        b'e' => &[Ext, Extu],
+        b'l' => &[Ldb, Ldbu, Ldh, Ldhu, Ldw],
+        b'm' => &[
+            Mvk, Mvklh, Mpy, Mpyu, Mpyus, Mpysu, Mpyh, Mpyhu, Mpyhl, Mpylh,
+        ],
         b'n' | b'z' => &[],
-        b'o' => &WITH_O,
-        b's' => &WITH_S,
-        b'x' => &WITH_X,
+        b'o' => &[Or],
+        b's' => &[Sub, Sub2, Shl, Shr, Shru, Stb, Sth, Stw],
+        b'x' => &[Xor],
         _ => &Op::ALL,
     }
 }
@@ -165,24 +125,15 @@ fn exchanged(op: Op) -> Option<Op>
     ensures { result ≡ exchanged op }
 {
     match op {
-        Op::Add
-        | Op::And
-        | Op::Or
-        | Op::Xor
-        | Op::Add2
-        | Op::Cmpeq
-        | Op::Mpy
-        | Op::Mpyu
-        | Op::Mpyh
-        | Op::Mpyhu => Some(op),
-        Op::Cmpgt => Some(Op::Cmplt),
-        Op::Cmplt => Some(Op::Cmpgt),
-        Op::Cmpgtu => Some(Op::Cmpltu),
-        Op::Cmpltu => Some(Op::Cmpgtu),
-        Op::Mpyhl => Some(Op::Mpylh),
-        Op::Mpylh => Some(Op::Mpyhl),
-        Op::Mpyus => Some(Op::Mpysu),
-        Op::Mpysu => Some(Op::Mpyus),
+        Add | And | Or | Xor | Add2 | Cmpeq | Mpy | Mpyu | Mpyh | Mpyhu => Some(op),
+        Cmpgt => Some(Cmplt),
+        Cmplt => Some(Cmpgt),
+        Cmpgtu => Some(Cmpltu),
+        Cmpltu => Some(Cmpgtu),
+        Mpyhl => Some(Mpylh),
+        Mpylh => Some(Mpyhl),
+        Mpyus => Some(Mpysu),
+        Mpysu => Some(Mpyus),
         _ => None,
     }
 }
@@ -251,11 +202,7 @@ fn in_order(op: Op, operands: Operands) -> (Op, Operands)
         Operands::Three(a, b, d) => crossed_to_back(op, a, b, d),
         Operands::ConstantSecond(a, k, d) => constant_to_front(op, a, k, d),
         Operands::Constant(k, d) => {
-            let constant = if matches!(op, Op::Mvklh) {
-                low_half(k)
-            } else {
-                k
-            };
+            let constant = if matches!(op, Mvklh) { low_half(k) } else { k };
             (op, Operands::Constant(constant, d))
         }
         _ => (op, operands),
@@ -266,8 +213,8 @@ fn zero_in(letter: Option<Letter>, d: Reg) -> (Op, Operands)
     ensures { result ≡ zero_in letter d }
 {
     match letter {
-        Some(Letter::L | Letter::D) => (Op::Sub, Operands::Three(d, d, d)),
-        _ => (Op::Mvk, Operands::Constant(0, d)),
+        Some(Letter::L | Letter::D) => (Sub, Operands::Three(d, d, d)),
+        _ => (Mvk, Operands::Constant(0, d)),
     }
 }
 
@@ -279,12 +226,12 @@ impl Mnemonic {
     {
         match self {
             Mnemonic::Operation(op) => op.has_letter(letter),
-            Mnemonic::Mv => Op::Add.has_letter(letter),
+            Mnemonic::Mv => Add.has_letter(letter),
             Mnemonic::Neg => letter == Letter::L || letter == Letter::S,
-            Mnemonic::Not => Op::Xor.has_letter(letter),
-            Mnemonic::Zero => Op::Sub.has_letter(letter),
-            Mnemonic::Mvkl => Op::Mvk.has_letter(letter),
-            Mnemonic::Mvkh => Op::Mvklh.has_letter(letter),
+            Mnemonic::Not => Xor.has_letter(letter),
+            Mnemonic::Zero => Sub.has_letter(letter),
+            Mnemonic::Mvkl => Mvk.has_letter(letter),
+            Mnemonic::Mvkh => Mvklh.has_letter(letter),
             Mnemonic::Nop => false,
         }
     }
@@ -301,21 +248,19 @@ impl Mnemonic {
     {
         match (self, operands) {
             (Mnemonic::Operation(op), _) => Some(in_order(op, operands)),
-            (Mnemonic::Mv, Operands::Two(x, d)) => {
-                Some((Op::Add, Operands::ConstantFirst(0, x, d)))
-            }
+            (Mnemonic::Mv, Operands::Two(x, d)) => { Some((Add, Operands::ConstantFirst(0, x, d))) }
             (Mnemonic::Neg, Operands::Two(x, d)) => {
-                Some((Op::Sub, Operands::ConstantFirst(0, x, d)))
+                Some((Sub, Operands::ConstantFirst(0, x, d)))
             }
             (Mnemonic::Not, Operands::Two(x, d)) => {
-                Some((Op::Xor, Operands::ConstantFirst(-1, x, d)))
+                Some((Xor, Operands::ConstantFirst(-1, x, d)))
             }
             (Mnemonic::Zero, Operands::Register(d)) => Some(zero_in(letter, d)),
             (Mnemonic::Mvkl, Operands::Constant(k, d)) => {
-                Some((Op::Mvk, Operands::Constant(signed_low_half(k), d)))
+                Some((Mvk, Operands::Constant(signed_low_half(k), d)))
             }
             (Mnemonic::Mvkh, Operands::Constant(k, d)) => {
-                Some((Op::Mvklh, Operands::Constant(high_half(k), d)))
+                Some((Mvklh, Operands::Constant(high_half(k), d)))
             }
             _ => None,
         }

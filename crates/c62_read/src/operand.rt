@@ -2,7 +2,7 @@
 
 ghost use Rattle.std.specs.Prelude.{◌≡◌, true, false, Some, None, MatchOption};
 
-use crate::kind::Kind;
+use crate::kind::Kind::{self, Close, Comma, Decrement, Increment, Number, Open, Register, Star};
 use c62_insn::{AddressForm, Offset, Operands, Reg};
 
 /// The address of a load or store.
@@ -38,13 +38,13 @@ fn with_offset(base: Reg, form: AddressForm, kinds: &[Kind]) -> Option<(Address,
     ensures { FindsBefore result (with_offset base form kinds.entry.now) }
 {
     match *kinds {
-        [Kind::Open, Kind::Number(k), Kind::Close, ..] => {
+        [Open, Number(k), Close, ..] => {
             Some((address_with(base, form, Offset::Constant(k)), &kinds[3..]))
         }
-        [Kind::Open, Kind::Register(reg), Kind::Close, ..] => {
+        [Open, Register(reg), Close, ..] => {
             Some((address_with(base, form, Offset::Register(reg)), &kinds[3..]))
         }
-        [Kind::Open, ..] => None,
+        [Open, ..] => None,
         _ => Some((address_with(base, form, usual_offset(form)), kinds)),
     }
 }
@@ -56,25 +56,21 @@ fn read_address(kinds: &[Kind]) -> Option<(Address, &[Kind])>
     ensures { FindsBefore result (address_front kinds.entry.now) }
 {
     match *kinds {
-        [Kind::Plus, Kind::Register(base), ..] => {
-            with_offset(base, AddressForm::Plus, &kinds[2..])
-        }
-        [Kind::Minus, Kind::Register(base), ..] => {
-            with_offset(base, AddressForm::Minus, &kinds[2..])
-        }
-        [Kind::Increment, Kind::Register(base), ..] => {
+        [Kind::Plus, Register(base), ..] => { with_offset(base, AddressForm::Plus, &kinds[2..]) }
+        [Kind::Minus, Register(base), ..] => { with_offset(base, AddressForm::Minus, &kinds[2..]) }
+        [Increment, Register(base), ..] => {
             with_offset(base, AddressForm::PreIncrement, &kinds[2..])
         }
-        [Kind::Decrement, Kind::Register(base), ..] => {
+        [Decrement, Register(base), ..] => {
             with_offset(base, AddressForm::PreDecrement, &kinds[2..])
         }
-        [Kind::Register(base), Kind::Increment, ..] => {
+        [Register(base), Increment, ..] => {
             with_offset(base, AddressForm::PostIncrement, &kinds[2..])
         }
-        [Kind::Register(base), Kind::Decrement, ..] => {
+        [Register(base), Decrement, ..] => {
             with_offset(base, AddressForm::PostDecrement, &kinds[2..])
         }
-        [Kind::Register(base), ..] => {
+        [Register(base), ..] => {
             let form = AddressForm::Plus;
             Some((address_with(base, form, usual_offset(form)), &kinds[1..]))
         }
@@ -99,7 +95,7 @@ fn loaded(kinds: &[Kind]) -> Option<Operands>
 {
     let (address, rest) = read_address(kinds)?;
     match *rest {
-        [Kind::Comma, Kind::Register(reg)] => Some(access(reg, address)),
+        [Comma, Register(reg)] => Some(access(reg, address)),
         _ => None,
     }
 }
@@ -122,7 +118,7 @@ fn read_store(kinds: &[Kind]) -> Option<Operands>
     ensures { result ≡ operands_of true kinds.now }
 {
     match *kinds {
-        [Kind::Register(reg), Kind::Comma, Kind::Star, ..] => stored(reg, &kinds[3..]),
+        [Register(reg), Comma, Star, ..] => stored(reg, &kinds[3..]),
         _ => None,
     }
 }
@@ -132,7 +128,6 @@ fn read_store(kinds: &[Kind]) -> Option<Operands>
 fn read_others(kinds: &[Kind]) -> Option<Operands>
     ensures { result ≡ operands_of false kinds.now }
 {
-    use Kind::{Comma, Number, Register, Star};
     match *kinds {
         [Star, ..] => loaded(&kinds[1..]),
         [Register(a)] => Some(Operands::Register(a)),

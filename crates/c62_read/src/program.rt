@@ -1,21 +1,22 @@
 //! What a text says.
 
-ghost use Rattle.std.specs.Prelude.{◌≡◌, ◌==◌, ℕ, Ok, Err, ◌≤◌, ◌<◌, ◌+◌, ◌-◌, ◌^◌, ◌∷◌, ◌++◌, [], length, take, map, false, position, Some, None, MatchOption, MatchResult, IfSome, IfOk, IfErr, OnOk, IsTrue, slice_index};
-ghost use Rattle.std.specs.List.{list_any, list_all, position_or_len};
+ghost use Rattle.std.specs.Prelude.{◌≡◌, ◌==◌, ℕ, Ok, Err, ◌≤◌, ◌<◌, ◌+◌, ◌∷◌, ◌++◌, [], length, map, false, position, Some, None, MatchOption, MatchResult, IfSome, IfOk, IfErr, OnOk, IsTrue};
+ghost use Rattle.std.specs.List.{list_any, list_all};
 ghost use Rattle.std.specs.Option.{option_copied, option_to_list};
 ghost use Rattle.c62_insn.specs.Insn.{op_of};
 ghost use Rattle.c62_read.specs.Number.{is_label};
-ghost use Rattle.c62_read.specs.Text.{is_line_feed, lines_of, without_return};
+ghost use Rattle.c62_read.specs.Text.{lines_of, without_return};
 
 use crate::block::{Block, Program, SerialInsn};
 use crate::fault::{Cause, ReadFault};
 use crate::jump::Jump;
-use crate::label::Label;
+use crate::label::{Label, copied};
 use crate::limits::{MOST_BLOCKS, MOST_BYTES, MOST_INSTRUCTIONS};
-use crate::line::{begins_with, first_label, owned, read_head, read_rest};
+use crate::line::{first_label, owned, read_head, read_rest};
 use crate::missed::{first_branch, leave_out_label};
 use crate::reading::Statement;
-use crate::token::has_byte;
+use crate::scan::scan_line;
+use crate::token::{Tokens, begins_with};
 use c62_insn::{Insn, Op};
 use memchr::memchr;
 use std::alloc::{AllocError, Global};
@@ -80,15 +81,6 @@ impl BlockReader {
         let mut insns = self.insns;
         aim_all(&mut insns, number);
         Block::new(self.label, insns)
-    }
-}
-
-fn copied(label: &Option<Label>) -> Option<Label>
-    ensures { result ≡ label.now }
-{
-    match label {
-        Some(label) => Some(label.copy()),
-        None => None,
     }
 }
 
@@ -250,7 +242,7 @@ fn label_of(line: &[u8]) -> Option<&[u8]>
     if begins_with(b'*', line) {
         return None;
     }
-    first_label(line).0
+    first_label(Tokens::new(line)).0
 }
 
 /// The label in a line's label field, decided for the line alone: the part left of its first colon, without the blanks
@@ -259,7 +251,7 @@ fn label_of(line: &[u8]) -> Option<&[u8]>
 pub fn label_field(line: &[u8]) -> Option<&[u8]>
     ensures { option_copied result ≡ label_field line.now }
 {
-    if !has_byte(b':', line) {
+    if !scan_line(line).colon {
         return None;
     }
     label_of(line)
@@ -361,39 +353,17 @@ impl TextReader {
     }
 }
 
-/// Where the line begins that this index is in.
-fn line_start(text: &[u8], index: usize) -> usize
-    requires { index ≤ length text.now }
-    ensures within { result ≤ index }
-    ensures feed { 0 < result → slice_index text.now (result - 1) ≡ 10 }
-{
-    let mut start = index;
-    while 0 < start && text[start - 1] != b'\n' {
-        start -= 1;
-    }
-    start
-}
-
-/// A text without its first lines, as long as they have no colon, and so no label.
-fn from_colon(text: &[u8]) -> &[u8]
-    ensures same { labels_of (lines_of result.now) ≡ labels_of (lines_of text.now) }
-    ensures shorter { length result.now ≤ length text.now }
-{
-    let colon = memchr(b':', text).unwrap_or(text.len());
-    &text[line_start(text, colon)..]
-}
-
 /// Leaves out the branches to labels that the lines of a text have.
 fn leave_out_labels(jumps: &mut Vec<Jump>, text: &[u8])
     ensures { LeavesOut (labels_of (lines_of text.now)) jumps.old.items jumps.new.items }
 {
-    let mut rest = from_colon(text);
+    let mut rest = text;
     while let Some((line, after)) = first_line(rest) {
         if jumps.is_empty() {
             return;
         }
         leave_out_label(jumps, label_of(line));
-        rest = from_colon(after);
+        rest = after;
     }
 }
 
@@ -438,16 +408,13 @@ fn first_line(text: &[u8]) -> Option<(&[u8], &[u8])>
     }
 }
 
-/// A fault, or that of a branch to no label, which stands in no later line and comes before the counts in its own.
-fn earlier(missed: Option<u32>, fault: ReadFault) -> ReadFault
-    ensures { failed result ≡ unless_missed missed (failed fault) }
+/// The fault of a line, or that of a branch to no label, which stands in no later line and comes before the counts in its own.
+fn earlier(missed: Option<u32>, line: u32, cause: Cause) -> ReadFault
+    ensures { failed result ≡ unless_missed missed (Err (line, cause)) }
 {
     match missed {
-        Some(line) => ReadFault {
-            line,
-            cause: Cause::UnknownTarget,
-        },
-        None => fault,
+        Some(line) => ReadFault::at(line, Cause::UnknownTarget),
+        None => ReadFault::at(line, cause),
     }
 }
 
@@ -471,21 +438,12 @@ fn read_drafts(alloc: Global, text: &[u8]) -> Result<TextReader, ReadFault>
             }
             Some(cause) => {
                 let missed = reader.first_missed(jumps, rest);
-                return Err(earlier(
-                    missed,
-                    ReadFault {
-                        line: number,
-                        cause,
-                    },
-                ));
+                return Err(earlier(missed, number, cause));
             }
         }
     }
     match reader.first_missed(jumps, &[]) {
-        Some(line) => Err(ReadFault {
-            line,
-            cause: Cause::UnknownTarget,
-        }),
+        Some(line) => Err(ReadFault::at(line, Cause::UnknownTarget)),
         None => Ok(reader),
     }
 }
@@ -545,10 +503,7 @@ pub fn read_program(alloc: Global, text: &[u8]) -> Result<Program, ReadFault>
     ensures err { IfErr result (λ fault. Fails fault (program_in text.now)) }
 {
     if text.len() > MOST_BYTES {
-        return Err(ReadFault {
-            line: 0,
-            cause: Cause::TextTooLong,
-        });
+        return Err(ReadFault::at(0, Cause::TextTooLong));
     }
     let mut reader = read_drafts(alloc, text)?;
     reader.end_block()?;

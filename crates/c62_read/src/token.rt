@@ -1,60 +1,9 @@
 //! The tokens of a line.
 
-ghost use Rattle.std.specs.Prelude.{◌≡◌, ◌==◌, ◌≤◌, ◌<◌, length, take, drop, MatchOption, IsTrue, false, [], ◌∷◌, ◌+◌};
-ghost use Rattle.std.specs.List.{list_all, list_any, position_or_len};
+ghost use Rattle.std.specs.Prelude.{◌≡◌, ◌==◌, ◌≤◌, ◌<◌, length, take, drop, MatchOption, IsTrue, false, [], ◌∷◌};
+ghost use Rattle.std.specs.List.{list_all};
 ghost use Rattle.c62_read.specs.Number.{spells};
-ghost use Rattle.c62_read.specs.Text.{begins, is_allowed, is_blank, is_solid, is_word_byte, is_sign, is_double, joins, tokens, words_left, put_back, IsFirst, IsCutOff};
-
-pub(crate) fn is_allowed(b: u8) -> bool
-    ensures { result ≡ is_allowed b }
-{
-    b == b'\t' || 32 <= b && b < 127
-}
-
-/// How many bytes are compared at once.
-pub(crate) const STEP: usize = 16;
-
-/// Looks at every byte, whatever the others are: so the compiler compares many at once.
-#[inline(always)]
-fn is_any(byte: u8, bytes: &[u8]) -> bool
-    ensures { result ≡ list_any (λ b. b == byte) bytes.now }
-{
-    let mut found = false;
-    for b in bytes {
-        found |= *b == byte;
-    }
-    found
-}
-
-/// How many bytes at the front are not this one: the first that is, or the end, is within a step of them.
-#[inline(always)]
-fn steps_before(byte: u8, text: &[u8]) -> usize
-    ensures within { result ≤ length text.now }
-    ensures none { list_any (λ b. b == byte) (take result text.now) ≡ false }
-    ensures near { position_or_len (λ b. b == byte) text.now < result + 16 }
-{
-    let mut start = 0;
-    while STEP <= text.len() - start && !is_any(byte, &text[start..start + STEP]) {
-        start += STEP;
-    }
-    start
-}
-
-/// Whether the byte is among these. The last step may overlap the one before.
-#[inline(always)]
-pub(crate) fn has_byte(byte: u8, bytes: &[u8]) -> bool
-    ensures { result ≡ list_any (λ b. b == byte) bytes.now }
-{
-    if bytes.len() < STEP {
-        return is_any(byte, bytes);
-    }
-    let start = steps_before(byte, bytes);
-    if STEP <= bytes.len() - start {
-        true
-    } else {
-        is_any(byte, &bytes[bytes.len() - STEP..])
-    }
-}
+ghost use Rattle.c62_read.specs.Text.{begins, is_blank, is_solid, is_word_byte, is_sign, is_double, joins, tokens, words_left, put_back, IsFirst, IsCutOff};
 
 #[inline(always)]
 fn is_blank(b: u8) -> bool
@@ -140,31 +89,6 @@ pub(crate) fn token_len(bytes: &[u8]) -> usize
     }
 }
 
-/// How many blanks are skipped at once.
-const INDENT: usize = 8;
-
-#[inline(always)]
-fn are_blank(bytes: &[u8]) -> bool
-    ensures { result ≡ list_all is_blank bytes.now }
-{
-    let mut blank = true;
-    for b in bytes {
-        blank &= is_blank(*b);
-    }
-    blank
-}
-
-/// The line without the blanks that stand first, but for the last few of them.
-pub(crate) fn without_indent(line: &[u8]) -> &[u8]
-    ensures { tokens result.now ≡ tokens line.now }
-{
-    let mut start = line;
-    while INDENT <= start.len() && are_blank(&start[..INDENT]) {
-        start = &start[INDENT..];
-    }
-    start
-}
-
 /// The line from its first token on, and nothing where it has none.
 #[inline(always)]
 pub(crate) fn from_token(line: &[u8]) -> &[u8]
@@ -244,6 +168,16 @@ impl<'a> Tokens<'a> {
                 rest: self.rest,
             }
         }
+    }
+}
+
+/// Whether this byte stands first.
+pub(crate) fn begins_with(byte: u8, bytes: &[u8]) -> bool
+    ensures { result ≡ begins (λ b. b == byte) bytes.now }
+{
+    match bytes {
+        [] => false,
+        [first, ..] => *first == byte,
     }
 }
 

@@ -4,7 +4,7 @@ ghost use Rattle.std.specs.Prelude.{◌≡◌, Some, None, MatchOption};
 ghost use Rattle.c62_read.specs.Text.{begins, words_left};
 
 use crate::mnemonic::Mnemonic;
-use crate::token::Tokens;
+use crate::token::{Tokens, begins_with};
 use c62_insn::{Letter, Side, Unit};
 
 /// What is written behind a unit's number.
@@ -82,15 +82,6 @@ fn unit_split(bytes: &[u8]) -> Option<(WrittenUnit, &[u8])>
     }
 }
 
-fn begins_with_dot(word: &[u8]) -> bool
-    ensures { result ≡ begins is_dot word.now }
-{
-    match word {
-        [] => false,
-        [first, ..] => *first == b'.',
-    }
-}
-
 /// The unit that is written first, where one is, and what follows it. There is none where a dot begins no unit.
 #[inline(always)]
 #[tactic(auto, unfolding(crate::specs::Unit::unit_front))]
@@ -100,7 +91,7 @@ pub(crate) fn first_unit(rest: Tokens<'_>) -> Option<(Option<WrittenUnit>, Token
     let Some(word) = rest.peek() else {
         return Some((None, rest));
     };
-    if !begins_with_dot(word) {
+    if !begins_with(b'.', word) {
         return Some((None, rest));
     }
     let (unit, left) = unit_split(word)?;

@@ -1,12 +1,11 @@
-use Rattle.c62_read.proofs.Common.{◌≡◌, [], sym, ap, ◌∙◌, arith, nil_from_length}
+use Rattle.c62_read.proofs.Common.{refl, sym, ◌∙◌, arith, nil_from_length}
 use Rattle.c62_read.specs.Mnemonic.{operation_named}
-use Rattle.c62_read.proofs.NameLemmas.{named_by, named_in_capitals, named_none}
+use Rattle.c62_read.proofs.NameLemmas.{named_by, named_in_capitals}
 use Rattle.c62_read.proofs.mnemonic.operation_named.Goals as goal
 
 pub returns-in-empty : goal.returns-in-empty
-returns-in-empty c =
-    let none : c.args.name.now ≡ [] = nil_from_length c.args.name.now (omega (arith, c.in-empty.len_below)) in
-    sym (ap operation_named none ∙ named_none)
+unfolding operation_named
+returns-in-empty c = rw (nil_from_length c.args.name.now (omega (arith, c.in-empty.len_below))) refl
 
 pub returns-in-Some : goal.returns-in-Some
 returns-in-Some c = sym (named_in_capitals c.beginning_with-ops.result.now c.args.name.now c.in-Some.op (sym c.in-Some.ensures))

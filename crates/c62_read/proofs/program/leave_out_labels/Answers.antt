@@ -7,7 +7,7 @@ pub loop-line-preserved : goal.loop-line-preserved
 loop-line-preserved c =
     let more = missed_more (option_to_list (label_field c.in-Some.line.now)) (labels_of (lines_of c.in-Some.after.now))
     (map asked_of c.loop-line.jumps.items) in
-    rw (c.from_colon-rest-in-Some.ensures.same, c.leave_out_label.ensures, c.label_of.ensures, ← more)
+    rw (c.leave_out_label.ensures, c.label_of.ensures, ← more)
     (rw c.in-Some.ensures.found at c.loop-line.invariant)
 
 pub returns : goal.returns

@@ -1,11 +1,12 @@
-use Rattle.c62_read.proofs.Common.{ap, inr, ◌∙◌, map, block_parts, Drafts, draft_of, drafts_of}
+use Rattle.c62_read.proofs.Common.{length, lt-ltb, refl, ap, inr, ◌∙◌, map, block_parts, Drafts}
 use Rattle.std.proofs.lemmas.Result.{err_from_is_err_and}
 use Rattle.c62_read.proofs.ProgramLaws.{targets_read}
-use Rattle.c62_read.proofs.WalkLemmas.{too_long, program_read, program_refused}
+use Rattle.c62_read.proofs.WalkLemmas.{program_by, program_read, program_refused}
 use Rattle.c62_read.proofs.program.read_program.Goals as goal
 
 pub returns-then-text-gt-MOST_BYTES-clause-err : goal.returns-then-text-gt-MOST_BYTES-clause-err
-returns-then-text-gt-MOST_BYTES-clause-err c = inr (too_long c.args.text.now c.if-text-gt-MOST_BYTES.true)
+returns-then-text-gt-MOST_BYTES-clause-err c =
+    inr (rw (c.at.ensures, program_by c.args.text.now, lt-ltb 1048576 (length c.args.text.now) c.if-text-gt-MOST_BYTES.true) refl)
 
 pub returns-in_err-reader-clause-err : goal.returns-in_err-reader-clause-err
 returns-in_err-reader-clause-err c =
@@ -14,12 +15,11 @@ returns-in_err-reader-clause-err c =
 
 pub returns-clause-ok : goal.returns-clause-ok
 returns-clause-ok c =
-    program_read c.args.text.now c.if-text-gt-MOST_BYTES.false (drafts_of c.in_ok-reader.reader) c.in_ok-reader.ensures.ok
-    (map draft_of c.end_block.new.self.done.items) (ap (λ (d : Drafts). d.done) c.in_ok-end_block.ensures) _
+    program_read _ c.if-text-gt-MOST_BYTES.false _ c.in_ok-reader.ensures.ok _ (ap (λ (d : Drafts). d.done) c.in_ok-end_block.ensures) _
     (ap (map block_parts) c.new.ensures ∙ c.in_ok-all_blocks.ensures.made)
 
 pub new-requires-clause-targets : goal.new-requires-clause-targets
 new-requires-clause-targets c =
-    targets_read c.args.text.now c.in_ok-all_blocks.field-0.items
-    (program_read c.args.text.now c.if-text-gt-MOST_BYTES.false (drafts_of c.in_ok-reader.reader) c.in_ok-reader.ensures.ok
-    (map draft_of c.end_block.new.self.done.items) (ap (λ (d : Drafts). d.done) c.in_ok-end_block.ensures) _ c.in_ok-all_blocks.ensures.made)
+    targets_read c.args.text.now _
+    (program_read _ c.if-text-gt-MOST_BYTES.false _ c.in_ok-reader.ensures.ok _ (ap (λ (d : Drafts). d.done) c.in_ok-end_block.ensures) _
+    c.in_ok-all_blocks.ensures.made)

@@ -1,8 +1,0 @@
-use Rattle.c62_read.proofs.Common.{◌≤◌}
-use Rattle.c62_read.proofs.program.line_start.Given as goal
-
-abbrev pub invariant-loop-start : goal.invariant-loop-start
-invariant-loop-start l = l.start ≤ l.index
-
-abbrev pub decreases-loop-start : goal.decreases-loop-start
-decreases-loop-start l = l.start
