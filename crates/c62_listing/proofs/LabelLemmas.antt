@@ -9,8 +9,8 @@ use Rattle.std.proofs.lemmas.Bool.Decides.{nat_tests}
 use Rattle.std.proofs.lemmas.List.Elements.{All-nil, All-cons}
 use Rattle.std.proofs.lemmas.Str.{IsUtf8-from_ascii}
 use Rattle.std.proofs.lemmas.Str.Ascii.{IsAscii-from_all}
-use Rattle.c62_read.specs.Text.{begins, is_word_byte}
-use Rattle.c62_read.specs.Number.{is_label, register_of}
+use Rattle.c62_token.specs.Token.{begins, is_word_byte}
+use Rattle.c62_token.specs.Number.{is_label, register_of}
 
 word_byte_is_ascii : (b : ℕ) → is_word_byte b ≡ true → b < 128
 word_byte_is_ascii b h = grind (arith, nat_tests)

@@ -12,9 +12,9 @@ use Rattle.c62_insn.specs.Insn.{op_of, operands_of, cond_of, unit_of}
 use Rattle.c62_insn.specs.Spelling.{spelling}
 use Rattle.c62_insn.specs.Takes.{takes}
 use Rattle.c62_insn.specs.Units.{index_of}
-use Rattle.c62_read.specs.Line.{Parts, parts_of, Says, Pause, Does, Jumps}
+use Rattle.c62_line.specs.Line.{Parts, parts_of, Says, Pause, Does, Jumps}
 use Rattle.c62_read.specs.Program.{Name, is_among}
-use Rattle.c62_read.specs.Laws.{NamesTarget, parts_on, says_with, says_on}
+use Rattle.c62_line.specs.Laws.{NamesTarget, parts_on, says_with, says_on}
 use Rattle.c62_read.specs.Walk.{is_instruction, is_unknown}
 use Rattle.c62_packet.specs.declared.placed.Placed.{Placed}
 use Rattle.c62_packet.specs.Packed.{listing_position}
@@ -32,7 +32,7 @@ use Rattle.c62_listing_reader.proofs.ListedLemmas.{rest_is, rest_line}
 use Rattle.c62_listing_reader.proofs.ReadLemmas.{goes_on as reads_on}
 use Rattle.c62_listing_reader.proofs.TextLemmas.{fed}
 use Rattle.c62_listing_reader.proofs.UntoldLemmas.{IsPlain, are_allowed, beside_plain, fed_content, fed_ended, first_plain, line_read, pause_plain, untold}
-use Rattle.c62_read.specs.Program.{label_field}
+use Rattle.c62_line.specs.Line.{label_field}
 
 -- ---- lines that lead on
 

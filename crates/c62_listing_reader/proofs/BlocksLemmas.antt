@@ -6,12 +6,12 @@ use Rattle.std.proofs.lemmas.Bool.{and_parts, lt-leb, or_right}
 use Rattle.std.proofs.lemmas.Bool.Decides.{nat_tests}
 use Rattle.std.proofs.lemmas.List.{length-map}
 use Rattle.std.proofs.lemmas.List.Sums.{take_while-cons}
-use Rattle.c62_read.specs.Text.{is_word_byte}
-use Rattle.c62_read.specs.Number.{is_label}
-use Rattle.c62_read.specs.Line.{Nothing, head_of, label_front, line_of, rest_says as words_say}
+use Rattle.c62_token.specs.Token.{is_word_byte}
+use Rattle.c62_token.specs.Number.{is_label}
+use Rattle.c62_line.specs.Line.{Nothing, head_of, label_front, line_of, rest_says as words_say}
 use Rattle.c62_read.specs.Program.{Name, label_is}
-use Rattle.c62_read.proofs.SpelledOperands.{label_parts, label_some}
-use Rattle.c62_read.proofs.WrittenLines.{label_back}
+use Rattle.c62_line.proofs.SpelledOperands.{label_parts, label_some}
+use Rattle.c62_line.proofs.WrittenLines.{label_back}
 use Rattle.c62_packet.specs.declared.placed.Placed.{Placed}
 use Rattle.c62_packet.specs.Packed.{Packed}
 use Rattle.c62_listing.specs.Listing.{block_lines, cycle_lines, label_lines, parted_lines, all_lines}

@@ -9,10 +9,10 @@ use Rattle.c62_insn.specs.declared.operands.Operands.{Operands}
 use Rattle.c62_insn.specs.declared.operands.Operands.TheVariants.{Three, ConstantFirst, ConstantSecond, Two, Field, Constant, Access, Block, Register}
 use Rattle.c62_insn.specs.Insn.{operands_of}
 use Rattle.c62_read.specs.Block.{is_labelled, target_stands}
-use Rattle.c62_read.specs.Line.{Parts, Says, Nothing, Pause, Does, Jumps}
+use Rattle.c62_line.specs.Line.{Parts, Says, Nothing, Pause, Does, Jumps}
 use Rattle.c62_read.specs.Program.{Name, aimed_operands, is_among}
 use Rattle.c62_read.specs.Walk.{is_unknown}
-use Rattle.c62_read.proofs.SaysLemmas.{IsProper, has_no_block}
+use Rattle.c62_line.proofs.SaysLemmas.{IsProper, has_no_block}
 use Rattle.c62_packet.specs.declared.placed.Placed.{Placed}
 use Rattle.c62_packet.specs.Packed.{Packed}
 use Rattle.c62_packet.specs.Packets.{is_closed, labels_of as packet_labels}

@@ -10,7 +10,7 @@ use Rattle.std.proofs.lemmas.List.Elements.{All-nil, All-cons, All-append, All-w
 use Rattle.std.proofs.lemmas.List.Sorted.{IsNonDecreasingBy-push, IsNonDecreasingBy-short}
 use Rattle.c62_insn.specs.declared.register.Unit.{Unit as FunctionalUnit}
 use Rattle.c62_insn.proofs.UnitOrder.{index_of-below}
-use Rattle.c62_read.specs.Line.{Says, Nothing, Pause, Does, Jumps, Parts}
+use Rattle.c62_line.specs.Line.{Says, Nothing, Pause, Does, Jumps, Parts}
 use Rattle.c62_read.specs.Program.{Name}
 use Rattle.c62_read.specs.Walk.{is_instruction}
 use Rattle.c62_listing_reader.specs.declared.line.Front.{Front}

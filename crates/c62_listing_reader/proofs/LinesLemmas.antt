@@ -13,12 +13,13 @@ use Rattle.std.proofs.lemmas.Option.{none-some}
 use Rattle.c62_insn.specs.Insn.{op_of, operands_of}
 use Rattle.c62_insn.specs.Spelling.{spelling}
 use Rattle.c62_insn.specs.Takes.{takes}
-use Rattle.c62_read.specs.Line.{Says, Nothing}
-use Rattle.c62_read.specs.Laws.{NamesTarget}
-use Rattle.c62_read.specs.Number.{is_label}
-use Rattle.c62_read.specs.Program.{Name, is_among, label_is, label_field}
-use Rattle.c62_read.proofs.SpelledOperands.{label_parts}
-use Rattle.c62_read.proofs.WrittenLines.{label_back}
+use Rattle.c62_line.specs.Line.{Says, Nothing}
+use Rattle.c62_line.specs.Laws.{NamesTarget}
+use Rattle.c62_token.specs.Number.{is_label}
+use Rattle.c62_line.specs.Line.{label_field}
+use Rattle.c62_read.specs.Program.{Name, is_among, label_is}
+use Rattle.c62_line.proofs.SpelledOperands.{label_parts}
+use Rattle.c62_line.proofs.WrittenLines.{label_back}
 use Rattle.c62_packet.specs.declared.placed.Placed.{Placed}
 use Rattle.c62_packet.specs.Packed.{Packed}
 use Rattle.c62_packet.specs.Packets.{labels_of as packet_labels}

@@ -14,10 +14,10 @@ use Rattle.c62_insn.specs.declared.operands.Operands.TheVariants.{Three, Constan
 use Rattle.c62_insn.specs.declared.register.Unit.{Unit as FunctionalUnit}
 use Rattle.c62_insn.specs.Insn.{unit_of}
 use Rattle.c62_insn.specs.Spelling.{condition_spelling, mnemonic_of, unit_spelling, operands_spelling}
-use Rattle.c62_read.specs.Line.{Parts, parts_of, Says, Nothing, Pause, Does, Jumps}
+use Rattle.c62_line.specs.Line.{Parts, parts_of, Says, Nothing, Pause, Does, Jumps}
 use Rattle.c62_read.specs.Program.{Name, aimed_operands, is_among}
 use Rattle.c62_read.specs.Walk.{is_unknown}
-use Rattle.c62_read.proofs.SaysLemmas.{IsProper, has_no_block}
+use Rattle.c62_line.proofs.SaysLemmas.{IsProper, has_no_block}
 use Rattle.c62_packet.specs.declared.placed.Placed.{Placed}
 use Rattle.c62_packet.specs.Packed.{Packed, StandAsWritten, IsPacketBlock}
 use Rattle.c62_read.specs.Text.{without_return}
@@ -31,7 +31,7 @@ use Rattle.c62_listing_reader.specs.Begin.{is_beside, is_gap}
 use Rattle.c62_listing_reader.specs.Said.{Said, Part, part_of, Draft, Drafts, no_drafts, names_in, labels_of, aim_by, all_drafts, opened, with_part, with_pause, with_label, with_says, with_said, above_of, above_next, jump_to, parts_spelling, front_spelling, issue_line, empty_line, spelled_line, is_text}
 use Rattle.c62_listing_reader.specs.Faults.{is_issue, is_filled, goes_on, is_misplaced, contents, most_bytes, draft_of, read_lines, IsRead}
 use Rattle.c62_listing_reader.specs.Fine.{IsFine}
-use Rattle.c62_read.proofs.PauseLemmas.{IsShort}
+use Rattle.c62_line.proofs.PauseLemmas.{IsShort}
 use Rattle.c62_listing_reader.proofs.ToldLemmas.{IsTold, begun, over, gap_front, if_err, is_proper, is_short, not_false}
 use Rattle.c62_listing_reader.proofs.FineBlocks.{Follows, IsGoing, judged_fits, go, go-start, opened_fine}
 use Rattle.c62_listing_reader.proofs.ClosedLemmas.{labels_same}

@@ -8,8 +8,9 @@ use Rattle.std.proofs.lemmas.Bool.{and_parts, false≢true}
 use Rattle.std.proofs.lemmas.List.{length-map}
 use Rattle.std.proofs.lemmas.Option.{none-some, slice_get_within}
 use Rattle.std.proofs.lemmas.Slice.Eq.{bytes_eq-Decides}
-use Rattle.c62_read.specs.Line.{Parts, Says, Nothing, Pause, Does, Jumps}
-use Rattle.c62_read.specs.Program.{Name, is_among, label_field}
+use Rattle.c62_line.specs.Line.{Parts, Says, Nothing, Pause, Does, Jumps}
+use Rattle.c62_line.specs.Line.{label_field}
+use Rattle.c62_read.specs.Program.{Name, is_among}
 use Rattle.c62_listing_reader.specs.declared.line.Front.{Front}
 use Rattle.c62_listing_reader.specs.declared.line.Front.TheVariants.{Empty, First, Beside, Label, Stray}
 use Rattle.c62_listing_reader.specs.declared.line.Above.{Above}

@@ -4,15 +4,15 @@ use Rattle.std.specs.Prelude.{pos, nat_lt, codes, if◌then◌else◌}
 use Rattle.std.specs.List.{list_all}
 use Rattle.std.proofs.lemmas.Bool.{and_parts, cond_both, false≢true, leb-true}
 use Rattle.std.proofs.lemmas.Option.{none-some}
-use Rattle.c62_read.specs.declared.fault.Cause.{Cause}
-use Rattle.c62_read.specs.declared.fault.Cause.TheVariants.{BadLabel, LineTooLong, NotAscii, ParallelBar}
-use Rattle.c62_read.specs.Text.{begins, is_allowed, tokens}
-use Rattle.c62_read.specs.Number.{is_label, spells}
-use Rattle.c62_read.specs.Kind.{Word}
-use Rattle.c62_read.specs.Line.{Says, has_colon, head_of, is_bars, is_star, label_front, rest_says, without_colon}
-use Rattle.c62_read.proofs.LabelFields.{head_read}
-use Rattle.c62_read.proofs.PauseLemmas.{IsShort, OkShort, nop_short}
-use Rattle.c62_read.proofs.SpelledTokens.{IsToken, tokens_behind, word_token}
+use Rattle.c62_line.specs.declared.fault.Cause.{Cause}
+use Rattle.c62_line.specs.declared.fault.Cause.TheVariants.{BadLabel, LineTooLong, NotAscii, ParallelBar}
+use Rattle.c62_token.specs.Token.{begins, is_allowed, tokens}
+use Rattle.c62_token.specs.Number.{is_label, spells}
+use Rattle.c62_token.specs.Kind.{Word}
+use Rattle.c62_line.specs.Line.{Says, has_colon, head_of, is_bars, is_star, label_front, rest_says, without_colon}
+use Rattle.c62_line.proofs.LabelFields.{head_read}
+use Rattle.c62_line.proofs.PauseLemmas.{IsShort, OkShort, nop_short}
+use Rattle.c62_token.proofs.SpelledTokens.{IsToken, tokens_behind, word_token}
 
 -- ---- the words of the line
 

@@ -16,7 +16,7 @@ use Rattle.c62_insn.specs.Length.{landing_end}
 use Rattle.c62_insn.specs.Takes.{takes}
 use Rattle.c62_insn.proofs.FaultLemmas.{faultless}
 use Rattle.c62_read.specs.Block.{is_labelled, target_stands}
-use Rattle.c62_read.specs.Number.{is_label}
+use Rattle.c62_token.specs.Number.{is_label}
 use Rattle.c62_read.specs.Program.{Name, is_among, label_is}
 use Rattle.c62_packet.specs.declared.placed.Placed.{Placed}
 use Rattle.c62_packet.specs.Packed.{Packed, IsPacketBlock, issue_of, listing_position}

@@ -7,7 +7,7 @@ use Rattle.c62_insn.specs.declared.register.Unit.{Unit as FunctionalUnit}
 use Rattle.c62_insn.specs.declared.insn.Insn.{Insn}
 use Rattle.c62_insn.specs.Insn.{unit_of}
 use Rattle.c62_insn.proofs.SameLemmas.{same_parts}
-use Rattle.c62_read.specs.Line.{Parts, parts_of}
+use Rattle.c62_line.specs.Line.{Parts, parts_of}
 use Rattle.c62_read.specs.Program.{Name}
 use Rattle.c62_packet.specs.declared.placed.Placed.{Placed}
 use Rattle.c62_packet.specs.Packed.{Packed, StandAsWritten, IsPacketBlock}

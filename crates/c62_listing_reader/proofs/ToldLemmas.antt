@@ -6,15 +6,16 @@ use Rattle.std.proofs.lemmas.Bool.{and_parts, and_right, eqb-true, false≢true}
 use Rattle.std.proofs.lemmas.Bool.Decides.{nat_tests}
 use Rattle.std.proofs.lemmas.Option.{none-some}
 use Rattle.std.proofs.lemmas.Slice.Eq.{bytes_eq-Decides}
-use Rattle.c62_read.specs.declared.fault.Cause.{Cause}
-use Rattle.c62_read.specs.declared.fault.Cause.TheVariants.{BadLabel, DuplicateLabel, ParallelBar}
-use Rattle.c62_read.specs.Text.{is_allowed, tokens}
-use Rattle.c62_read.specs.Number.{is_label, spells}
-use Rattle.c62_read.specs.Line.{Says, Nothing, Pause, Does, Jumps, head_of, label_front, line_of, rest_says as words_say, with_head, with_rest as label_with}
-use Rattle.c62_read.specs.Program.{Name, label_field}
+use Rattle.c62_line.specs.declared.fault.Cause.{Cause}
+use Rattle.c62_line.specs.declared.fault.Cause.TheVariants.{BadLabel, DuplicateLabel, ParallelBar}
+use Rattle.c62_token.specs.Token.{is_allowed, tokens}
+use Rattle.c62_token.specs.Number.{is_label, spells}
+use Rattle.c62_line.specs.Line.{Says, Nothing, Pause, Does, Jumps, head_of, label_front, line_of, rest_says as words_say, with_head, with_rest as label_with}
+use Rattle.c62_line.specs.Line.{label_field}
+use Rattle.c62_read.specs.Program.{Name}
 use Rattle.c62_read.specs.Walk.{is_instruction, is_unknown}
-use Rattle.c62_read.proofs.LabelFields.{field_is}
-use Rattle.c62_read.proofs.SaysLemmas.{IsProper, proper}
+use Rattle.c62_line.proofs.LabelFields.{field_is}
+use Rattle.c62_line.proofs.SaysLemmas.{IsProper, proper}
 use Rattle.c62_listing_reader.specs.declared.fault.LineFault.{LineFault}
 use Rattle.c62_listing_reader.specs.declared.line.Front.{Front}
 use Rattle.c62_listing_reader.specs.declared.line.Front.TheVariants.{Empty, First, Beside, Label, Stray}
@@ -23,7 +24,7 @@ use Rattle.c62_listing_reader.specs.Text.{Line, content, is_empty, is_ended}
 use Rattle.c62_listing_reader.specs.Begin.{front_of, has_colon, is_beside, is_gap, is_label_line, rest_of}
 use Rattle.c62_listing_reader.specs.Said.{Said, Drafts, opened, with_said, above_next, spelled_line, is_text}
 use Rattle.c62_listing_reader.specs.Faults.{is_taken, unit_said, unit_above, precedes, goes_on, is_misplaced, after_label, hindrance, cycles_added, is_alone, is_unfit, is_odd, unless_odd, unless_hindered, with_rest, rest_says, line_says, and_then, read_lines}
-use Rattle.c62_read.proofs.PauseLemmas.{IsShort}
+use Rattle.c62_line.proofs.PauseLemmas.{IsShort}
 use Rattle.c62_listing_reader.proofs.PauseLemmas.{short}
 
 -- all that is asked of a line

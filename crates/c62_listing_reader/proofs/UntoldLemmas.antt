@@ -13,16 +13,18 @@ use Rattle.c62_insn.specs.declared.operands.Operands.TheVariants.{Three, Constan
 use Rattle.c62_insn.specs.Insn.{op_of, operands_of, cond_of}
 use Rattle.c62_insn.specs.Spelling.{spelling}
 use Rattle.c62_insn.specs.Takes.{takes}
-use Rattle.c62_read.specs.declared.fault.Cause.TheVariants.{LineTooLong, NotAscii, ParallelBar}
-use Rattle.c62_read.specs.Text.{begins, is_allowed, is_line_feed, tokens}
-use Rattle.c62_read.specs.Kind.{Word}
-use Rattle.c62_read.specs.Line.{Parts, Says, Pause, Does, Jumps, head_of, is_bars, is_star, label_front, line_of, without_colon}
-use Rattle.c62_read.specs.Program.{Name, label_field}
-use Rattle.c62_read.specs.Laws.{NamesTarget, parts_on, says_with, says_on}
-use Rattle.c62_read.proofs.LabelFields.{field_is, head_read}
-use Rattle.c62_read.proofs.SaysLemmas.{has_no_block}
-use Rattle.c62_read.proofs.SpelledLine.{spelled_back}
-use Rattle.c62_read.proofs.WrittenLines.{pause_back}
+use Rattle.c62_line.specs.declared.fault.Cause.TheVariants.{LineTooLong, NotAscii, ParallelBar}
+use Rattle.c62_token.specs.Token.{begins, is_allowed, tokens}
+use Rattle.c62_read.specs.Text.{is_line_feed}
+use Rattle.c62_token.specs.Kind.{Word}
+use Rattle.c62_line.specs.Line.{Parts, Says, Pause, Does, Jumps, head_of, is_bars, is_star, label_front, line_of, without_colon}
+use Rattle.c62_line.specs.Line.{label_field}
+use Rattle.c62_read.specs.Program.{Name}
+use Rattle.c62_line.specs.Laws.{NamesTarget, parts_on, says_with, says_on}
+use Rattle.c62_line.proofs.LabelFields.{field_is, head_read}
+use Rattle.c62_line.proofs.SaysLemmas.{has_no_block}
+use Rattle.c62_line.proofs.SpelledLine.{spelled_back}
+use Rattle.c62_line.proofs.WrittenLines.{pause_back}
 use Rattle.c62_listing.specs.Listing.{pause_line, text_of}
 use Rattle.c62_listing_reader.specs.declared.line.Front.{Front}
 use Rattle.c62_listing_reader.specs.declared.line.Front.TheVariants.{First, Beside}

@@ -4,11 +4,12 @@ use Rattle.std.specs.Prelude.{◌≡◌, ℕ, ◌+◌, Bool, true, false, not, �
 use Rattle.std.specs.List.{list_all, list_any, slice_get}
 use Rattle.c62_insn.specs.declared.register.Unit.{Unit as FunctionalUnit}
 use Rattle.c62_insn.specs.Units.{index_of}
-use Rattle.c62_read.specs.declared.fault.Cause.{Cause}
-use Rattle.c62_read.specs.declared.fault.Cause.TheVariants.{NotAscii, LineTooLong, BadLabel, DuplicateLabel, UnknownMnemonic, ParallelBar, UnknownTarget, TooManyInstructions, TooManyBlocks, TextTooLong}
-use Rattle.c62_read.specs.Text.{is_allowed}
-use Rattle.c62_read.specs.Line.{Says, Nothing, Pause, Does, Jumps, line_of}
-use Rattle.c62_read.specs.Program.{Name, label_field, label_is}
+use Rattle.c62_line.specs.declared.fault.Cause.{Cause}
+use Rattle.c62_line.specs.declared.fault.Cause.TheVariants.{NotAscii, LineTooLong, BadLabel, DuplicateLabel, UnknownMnemonic, ParallelBar, UnknownTarget, TooManyInstructions, TooManyBlocks, TextTooLong}
+use Rattle.c62_token.specs.Token.{is_allowed}
+use Rattle.c62_line.specs.Line.{Says, Nothing, Pause, Does, Jumps, line_of}
+use Rattle.c62_line.specs.Line.{label_field}
+use Rattle.c62_read.specs.Program.{Name, label_is}
 use Rattle.c62_read.specs.Walk.{is_unknown, is_instruction}
 use Rattle.c62_read.specs.declared.limits.TheConstants.{MOST_BLOCKS, MOST_INSTRUCTIONS}
 use Rattle.c62_packet.specs.declared.limits.TheConstants.{MOST_CYCLES}

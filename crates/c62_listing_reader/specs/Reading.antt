@@ -1,9 +1,9 @@
 -- What the reader holds, as the definitions see it.
 use Rattle.std.specs.Prelude.{◌≡◌, ◌⊎◌, ℕ, ◌+◌, ◌≤◌, Bool, IsTrue, is_some, List, length, map, All, Option, option_map, Result, Ok, Err, IfOk, MatchResult}
-use Rattle.c62_read.specs.declared.fault.Cause.{Cause}
-use Rattle.c62_read.specs.declared.fault.ReadFault.{ReadFault}
-use Rattle.c62_read.specs.declared.reading.Reading.{Reading}
-use Rattle.c62_read.specs.Line.{Says, Does, Jumps, said_of}
+use Rattle.c62_line.specs.declared.fault.Cause.{Cause}
+use Rattle.c62_line.specs.declared.fault.ReadFault.{ReadFault}
+use Rattle.c62_line.specs.declared.reading.Reading.{Reading}
+use Rattle.c62_line.specs.Line.{Says, Does, Jumps, said_of}
 use Rattle.c62_read.specs.Program.{Name}
 use Rattle.c62_read.specs.declared.limits.TheConstants.{MOST_BLOCKS}
 use Rattle.c62_packet.specs.declared.limits.TheConstants.{MOST_CYCLES}

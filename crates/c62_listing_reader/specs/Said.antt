@@ -6,8 +6,9 @@ use Rattle.c62_insn.specs.declared.register.Unit.{Unit as FunctionalUnit}
 use Rattle.c62_insn.specs.declared.insn.Insn.{Insn}
 use Rattle.c62_insn.specs.Insn.{unit_of}
 use Rattle.c62_insn.specs.Spelling.{condition_spelling, mnemonic_of, unit_spelling, operands_spelling}
-use Rattle.c62_read.specs.Line.{Parts, parts_of, Says, Nothing, Pause, Does, Jumps}
-use Rattle.c62_read.specs.Program.{Name, label_field, aimed_operands}
+use Rattle.c62_line.specs.Line.{Parts, parts_of, Says, Nothing, Pause, Does, Jumps}
+use Rattle.c62_line.specs.Line.{label_field}
+use Rattle.c62_read.specs.Program.{Name, aimed_operands}
 use Rattle.c62_packet.specs.declared.placed.Placed.{Placed}
 use Rattle.c62_listing_reader.specs.declared.line.Front.{Front}
 use Rattle.c62_listing_reader.specs.declared.line.Front.TheVariants.{Empty, Beside}

@@ -6,7 +6,7 @@ ghost use Rattle.c62_packet.specs.Packed.{StandAsWritten};
 ghost use Rattle.std.specs.List.{list_any};
 ghost use Rattle.std.specs.Option.{option_copied, option_to_list};
 ghost use Rattle.c62_insn.specs.Insn.{unit_of};
-ghost use Rattle.c62_read.specs.Line.{parts_of};
+ghost use Rattle.c62_line.specs.Line.{parts_of};
 ghost use Rattle.c62_read.specs.Program.{label_is};
 
 use c62_insn::Insn;

@@ -2,9 +2,9 @@
 
 ghost use Rattle.std.specs.Prelude.{◌≡◌, ◌≤◌, ◌&&◌, not, Ok, Err, IfOk, IsOk, OnOk, MatchResult, is_some, is_none};
 ghost use Rattle.std.specs.List.{list_all, list_any};
-ghost use Rattle.c62_read.specs.Text.{is_allowed};
-ghost use Rattle.c62_read.specs.Line.{line_of, said_of};
-ghost use Rattle.c62_read.specs.Program.{label_field};
+ghost use Rattle.c62_token.specs.Token.{is_allowed};
+ghost use Rattle.c62_line.specs.Line.{line_of, said_of};
+ghost use Rattle.c62_line.specs.Line.{label_field};
 ghost use Rattle.c62_read.specs.Walk.{is_unknown, is_instruction};
 ghost use Rattle.c62_listing_reader.specs.Text.{lines_in, content};
 ghost use Rattle.c62_listing_reader.specs.Cut.{line_cut};

@@ -2,7 +2,7 @@
 
 ghost use Rattle.std.specs.Prelude.{◌≡◌, ◌==◌, not, take_while};
 ghost use Rattle.std.specs.List.{list_all, list_any};
-ghost use Rattle.c62_read.specs.Text.{is_allowed};
+ghost use Rattle.c62_token.specs.Token.{is_allowed};
 ghost use Rattle.c62_listing_reader.specs.Begin.{has_colon, is_label_line, front_of, rest_of};
 
 use c62_insn::Unit;

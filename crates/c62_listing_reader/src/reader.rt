@@ -1,7 +1,7 @@
 //! Reads listings.
 
 ghost use Rattle.std.specs.Prelude.{◌≡◌, ◌+◌, ◌<◌, ◌≤◌, ◌++◌, ◌∷◌, [], All, List, length, map, OnOk, IfOk, MatchResult, Ok, IsTrue};
-ghost use Rattle.c62_read.specs.Line.{line_of, parts_of, said_of};
+ghost use Rattle.c62_line.specs.Line.{line_of, parts_of, said_of};
 ghost use Rattle.c62_read.specs.declared.limits.TheConstants.{MOST_BLOCKS};
 ghost use Rattle.c62_packet.specs.declared.limits.TheConstants.{MOST_CYCLES};
 ghost use Rattle.c62_packet.specs.Packed.{IsPacketBlock};

@@ -2,7 +2,7 @@
 
 ghost use Rattle.std.specs.Prelude.{◌≡◌, ◌++◌, [], OnOk, IfOk, codes, decimal, string_bytes};
 ghost use Rattle.std.specs.Option.{option_copied};
-ghost use Rattle.c62_read.specs.Line.{said_of};
+ghost use Rattle.c62_line.specs.Line.{said_of};
 ghost use Rattle.c62_listing_reader.specs.Said.{front_spelling, insn_line, spelled_line, is_text};
 
 use crate::line::Front;

@@ -16,7 +16,7 @@ use Rattle.c62_insn.specs.PacketRules.{Issue}
 use Rattle.c62_insn.specs.Dependence.{BeforeBranch}
 use Rattle.c62_insn.specs.Length.{greatest_delay, landing_end, last_landing_end}
 use Rattle.c62_insn.proofs.InsnLemmas.{writes_delay, writes_delay_of}
-use Rattle.c62_read.specs.Line.{is_branch as is_branching}
+use Rattle.c62_line.specs.Line.{is_branch as is_branching}
 use Rattle.c62_serial.specs.declared.serial.Exit.{Exit}
 use Rattle.c62_serial.specs.declared.serial.Exit.TheVariants.{Next}
 use Rattle.c62_serial.specs.State.{word_in, byte_in}

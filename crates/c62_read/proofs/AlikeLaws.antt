@@ -1,7 +1,7 @@
 -- Texts whose lines say the same are one program.
 use Rattle.c62_read.proofs.Common.{◌≡◌, ◌≤◌, ℕ, ◌+◌, List, [], ◌∷◌, ◌++◌, length, refl, le-ltb, lines_of, fault_in, items_from, labels_of}
-use Rattle.c62_read.specs.Line.{head_of, line_of}
-use Rattle.c62_read.specs.Program.{Name, drafts_in, fault_of, first_fault, label_field, program_in}
+use Rattle.c62_line.specs.Line.{head_of, line_of, label_field}
+use Rattle.c62_read.specs.Program.{Name, drafts_in, fault_of, first_fault, program_in}
 
 pub record IsAlike (line other : List ℕ) : Type 0 where
   pub head : fault_in (head_of line) ≡ fault_in (head_of other)

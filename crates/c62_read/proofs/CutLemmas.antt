@@ -7,7 +7,7 @@ use Rattle.std.specs.List.{AllByRecursion}
 use Rattle.c62_read.specs.Program.{Name, ends_block}
 use Rattle.c62_read.specs.Walk.{draft_operations}
 use Rattle.c62_read.specs.Laws.{begin_well, items_of}
-use Rattle.c62_read.proofs.SaysLemmas.{IsProper, has_no_block}
+use Rattle.c62_line.proofs.SaysLemmas.{IsProper, has_no_block}
 
 -- ---- an instruction and the number of its target
 

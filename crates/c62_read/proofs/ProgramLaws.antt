@@ -13,13 +13,13 @@ use Rattle.std.proofs.lemmas.List.Elements.{All-from_recursion, All-contains, Al
 use Rattle.std.proofs.lemmas.List.Kept.{AllPairs-cons}
 use Rattle.std.proofs.lemmas.List.Folds.{flat_map-map, list_all-map}
 use Rattle.std.proofs.lemmas.Option.{slice_get_past}
-use Rattle.c62_read.specs.Line.{line_of}
+use Rattle.c62_line.specs.Line.{line_of}
 use Rattle.c62_read.specs.Program.{Name, program_in}
 use Rattle.c62_read.specs.Laws.{HasCutBlocks, HasItsLabels, HasRisingLines, HasTargets, IsItsLines, ReadsAsItsLine, block_named}
 use Rattle.c62_read.specs.Laws.{instruction_at, instructions_in, instructions_of, items_of}
 use Rattle.c62_read.proofs.BlockLemmas.{position_map}
 use Rattle.c62_read.proofs.CutLemmas.{AllProper, aim_in, all_more, cut_is}
-use Rattle.c62_read.proofs.SaysLemmas.{has_no_block}
+use Rattle.c62_line.proofs.SaysLemmas.{has_no_block}
 use Rattle.c62_read.proofs.WalkLemmas.{OkFits, blocks_are, read_back, walk_text}
 
 -- what a text says that has no fault: these blocks, made of the cut of its lines

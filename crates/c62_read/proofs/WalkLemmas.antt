@@ -6,25 +6,30 @@ use Rattle.c62_read.proofs.Common.{TextTooLong, Says, Numbered, Item, Draft, Ref
 use Rattle.c62_read.proofs.Common.{items_from, joined, label_is, label_items, labels_of, line_items, says_items, BlockParts, block_in, Drafts}
 use Rattle.c62_read.proofs.Common.{all_drafts, is_unknown, no_drafts, own_labels, Asked, asked_in, first_line, missed, unless_missed, is_whole}
 use Rattle.c62_read.proofs.Common.{lines_of}
-use Rattle.c62_read.specs.Program.{and_then, Name, fault_if, fault_of, first_fault, first_of, label_field}
-use Rattle.c62_read.specs.Program.{repeats_label, Fails, drafts_in, program_in}
+use Rattle.c62_line.specs.Line.{label_field, Nothing, head_of, label_front, line_of, rest_says}
+use Rattle.c62_read.specs.Program.{and_then, Name, fault_if, fault_of, first_fault, first_of, repeats_label, Fails, drafts_in, program_in}
 use Rattle.std.specs.Prelude.{is_none}
 use Rattle.std.specs.List.{AllByRecursion, IsDistinct}
 use Rattle.std.specs.Result.{result_err}
 use Rattle.c62_read.specs.Reading.{aimed_blocks, text_read}
-use Rattle.c62_read.specs.declared.fault.Cause.TheVariants.{DuplicateLabel}
-use Rattle.c62_read.specs.Line.{head_of, line_of, rest_says}
+use Rattle.c62_line.specs.declared.fault.Cause.TheVariants.{DuplicateLabel}
 use Rattle.c62_read.specs.Walk.{add_head, add_line, add_lines, add_says, at_line, begins_block, hindrance, is_full}
 use Rattle.c62_read.specs.Walk.{is_instruction, is_taken, refused, Step, with_label, with_says}
 use mathlib.Core.Path.{fun_ext}
 use Rattle.std.proofs.lemmas.Cmp.{nat_list_eq_equiv}
 use Rattle.std.proofs.lemmas.Map.Keys.{IsDistinct-push}
-use Rattle.c62_read.proofs.HeadLemmas.{line_by_head}
-use Rattle.c62_read.proofs.LabelFields.{field_is}
-use Rattle.c62_read.proofs.SaysLemmas.{IsProper, proper}
-use Rattle.c62_read.specs.declared.fault.ReadFault.{ReadFault}
+use Rattle.c62_line.proofs.HeadLemmas.{line_by_head}
+use Rattle.c62_line.proofs.LabelFields.{field_is}
+use Rattle.c62_line.proofs.SaysLemmas.{IsProper, proper}
+use Rattle.c62_line.specs.declared.fault.ReadFault.{ReadFault}
 use Rattle.c62_read.proofs.CutLemmas.{all_more, all_whole, cut_is}
 use Rattle.c62_read.proofs.MissedLemmas.{missed_then}
+
+-- an empty line says nothing
+pub empty_line : (number : ℕ) (line : List ℕ) (drafts : Drafts) → line ≡ []
+    → add_line number line drafts ≡ record { says = Nothing; drafts = Ok drafts }
+unfolding add_line hindrance is_taken with_says head_of label_front rest_says
+empty_line number line drafts none = rw none refl
 
 -- ---- the open block in front of blocks
 

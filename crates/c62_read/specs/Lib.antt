@@ -1,10 +1,4 @@
 pub mod Text
-pub mod Number
-pub mod Kind
-pub mod Operand
-pub mod Mnemonic
-pub mod Unit
-pub mod Line
 pub mod Block
 pub mod Program
 pub mod Jump

@@ -7,22 +7,18 @@ use Rattle.std.specs.Str.{bytes_eq}
 use Rattle.c62_insn.specs.declared.operands.Operands.{Operands}
 use Rattle.c62_insn.specs.declared.operands.Operands.TheVariants.{Block}
 use Rattle.c62_read.specs.declared.limits.TheConstants.{MOST_BLOCKS, MOST_BYTES, MOST_INSTRUCTIONS}
-use Rattle.c62_read.specs.declared.fault.Cause.{Cause}
-use Rattle.c62_read.specs.declared.fault.Cause.TheVariants.{DuplicateLabel, UnknownTarget, TooManyInstructions, TooManyBlocks, TextTooLong, Memory}
-use Rattle.c62_read.specs.declared.fault.ReadFault.{ReadFault}
+use Rattle.c62_line.specs.declared.fault.Cause.{Cause}
+use Rattle.c62_line.specs.declared.fault.Cause.TheVariants.{DuplicateLabel, UnknownTarget, TooManyInstructions, TooManyBlocks, TextTooLong, Memory}
+use Rattle.c62_line.specs.declared.fault.ReadFault.{ReadFault}
 use Rattle.c62_read.specs.declared.block.SerialInsn.{SerialInsn}
 use Rattle.c62_read.specs.Block.{Serial}
-use Rattle.c62_read.specs.Text.{lines_of, tokens}
-use Rattle.c62_read.specs.Line.{Parts, parts_of, Says, Nothing, Pause, Does, Jumps, is_branch, label_front, head_of, line_of}
+use Rattle.c62_read.specs.Text.{lines_of}
+use Rattle.c62_line.specs.Line.{Parts, parts_of, Says, Nothing, Pause, Does, Jumps, is_branch, head_of, line_of, label_field, fault_in}
 
 abbrev pub Name : Type 0
 Name = List ℕ
 
 -- ---- labels
-
--- the label in a line's label field, decided for the line alone
-unfoldable pub label_field : List ℕ → Option Name
-label_field line = (label_front (tokens line)).0
 
 -- the labels of all lines
 abbrev pub labels_of : List (List ℕ) → List Name
@@ -102,10 +98,6 @@ abbrev pub blocks_from : List (List ℕ) → List Draft
 blocks_from lines = cut (items_from 1 lines)
 
 -- ---- faults
-
-abbrev pub fault_in : {T : Type 0} → Result T Cause → Option Cause
-fault_in (Ok value) = None
-fault_in (Err cause) = Some cause
 
 abbrev pub fault_if : Bool → Cause → Option Cause
 fault_if faulty cause = if faulty then Some cause else None

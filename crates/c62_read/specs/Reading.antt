@@ -1,24 +1,19 @@
 -- What the steps of the reader answer, told by the definitions of lines and texts.
-use Rattle.std.specs.Prelude.{◌≡◌, ℕ, List, [], ◌∷◌, ◌++◌, map, Option, Some, None, MatchResult, Result, Ok, Err}
+use Rattle.std.specs.Prelude.{◌≡◌, ℕ, List, [], ◌∷◌, ◌++◌, map, Option, Some, None, MatchResult, Result, Ok}
 use Rattle.std.specs.Borrow.{Bor}
 use Rattle.std.specs.Option.{option_copied}
 use Rattle.c62_insn.specs.declared.insn.Insn.{Insn}
 use Rattle.c62_insn.specs.Insn.{op_of}
-use Rattle.c62_read.specs.declared.fault.Cause.{Cause}
+use Rattle.c62_line.specs.declared.fault.Cause.{Cause}
 use Rattle.c62_read.specs.declared.jump.Jump.{Jump}
 use Rattle.c62_read.specs.declared.program.BlockReader.{BlockReader}
 use Rattle.c62_read.specs.declared.program.TextReader.{TextReader}
-use Rattle.c62_read.specs.declared.reading.Statement.{Statement}
-use Rattle.c62_read.specs.declared.token.Tokens.{Tokens}
-use Rattle.c62_read.specs.Text.{lines_of, words_left}
-use Rattle.c62_read.specs.Line.{Says, is_branch, parts_of, statement_of}
+use Rattle.c62_line.specs.declared.reading.Statement.{Statement}
+use Rattle.c62_read.specs.Text.{lines_of}
+use Rattle.c62_line.specs.Line.{Says, is_branch, parts_of, statement_of}
 use Rattle.c62_read.specs.Walk.{Asked, Drafts, Step, add_line, add_lines, add_says, all_drafts, asked_in, asked_of, closed, draft_of, drafts_of}
 use Rattle.c62_read.specs.Walk.{missed, no_drafts, opened, own_labels, refused, unless_hindered, with_insn}
 use Rattle.c62_read.specs.Program.{BlockParts, Draft, Name, Refusal, aimed, block_in, labels_of}
-
--- the head of a line, or its fault
-abbrev pub IsHead : Result (Option (Bor (List ℕ)) × Tokens) Cause → Result (Option (List ℕ) × List (List ℕ)) Cause → Type 0
-IsHead read says = MatchResult read (λ head. says ≡ Ok (option_copied head.0, words_left head.1)) (λ cause. says ≡ Err cause)
 
 -- what a line does to the blocks that were read before it
 abbrev pub line_step : ℕ → List ℕ → TextReader → Step

@@ -6,14 +6,14 @@ use Rattle.std.specs.List.{filter, flat_map, list_any}
 use Rattle.std.specs.Option.{option_to_list}
 use Rattle.c62_insn.specs.declared.operands.Op.{Op}
 use Rattle.c62_read.specs.declared.limits.TheConstants.{MOST_BLOCKS, MOST_INSTRUCTIONS}
-use Rattle.c62_read.specs.declared.fault.Cause.{Cause}
-use Rattle.c62_read.specs.declared.fault.Cause.TheVariants.{DuplicateLabel, UnknownTarget, TooManyInstructions, TooManyBlocks}
-use Rattle.c62_read.specs.declared.fault.ReadFault.{ReadFault}
+use Rattle.c62_line.specs.declared.fault.Cause.{Cause}
+use Rattle.c62_line.specs.declared.fault.Cause.TheVariants.{DuplicateLabel, UnknownTarget, TooManyInstructions, TooManyBlocks}
+use Rattle.c62_line.specs.declared.fault.ReadFault.{ReadFault}
 use Rattle.c62_read.specs.declared.jump.Jump.{Jump}
 use Rattle.c62_read.specs.declared.program.BlockReader.{BlockReader}
 use Rattle.c62_read.specs.declared.program.TextReader.{TextReader}
 use Rattle.c62_read.specs.Block.{branch_last}
-use Rattle.c62_read.specs.Line.{Parts, Says, Nothing, Pause, Does, Jumps, is_branch, head_of, rest_says}
+use Rattle.c62_line.specs.Line.{Parts, Says, Nothing, Pause, Does, Jumps, is_branch, head_of, rest_says}
 use Rattle.c62_read.specs.Program.{Name, Draft, Refusal, and_then, is_among, label_is, numbered_of}
 
 -- the blocks that are whole, and the one that the next instruction goes into

@@ -5,8 +5,8 @@ ghost use Rattle.std.specs.Option.{option_copied};
 ghost use Rattle.c62_read.specs.declared.limits.TheConstants.{MOST_BLOCKS};
 ghost use Rattle.c62_read.specs.Block.{Serial, IsProgram, is_block, targets_stand};
 
-use crate::label::{Label, copied};
 use c62_insn::{Insn, Operands};
+use c62_line::{Label, copied};
 use std::alloc::{AllocError, Global};
 use std::marker::Model;
 

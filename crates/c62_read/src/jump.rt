@@ -2,9 +2,9 @@
 
 ghost use Rattle.std.specs.Prelude.{◌≡◌, ◌∷◌, [], IsTrue};
 ghost use Rattle.c62_read.specs.Jump.{key_of};
-ghost use Rattle.c62_read.specs.Number.{is_label};
+ghost use Rattle.c62_token.specs.Number.{is_label};
 
-use crate::label::Label;
+use c62_line::Label;
 
 /// A line, and the label that it branches to.
 #[derive(Drop)]

@@ -4,20 +4,17 @@ ghost use Rattle.std.specs.Prelude.{◌≡◌, ◌==◌, ℕ, Ok, Err, ◌≤◌
 ghost use Rattle.std.specs.List.{list_any, list_all};
 ghost use Rattle.std.specs.Option.{option_copied, option_to_list};
 ghost use Rattle.c62_insn.specs.Insn.{op_of};
-ghost use Rattle.c62_read.specs.Number.{is_label};
+ghost use Rattle.c62_token.specs.Number.{is_label};
 ghost use Rattle.c62_read.specs.Text.{lines_of, without_return};
 
 use crate::block::{Block, Program, SerialInsn};
-use crate::fault::{Cause, ReadFault};
 use crate::jump::Jump;
-use crate::label::{Label, copied};
 use crate::limits::{MOST_BLOCKS, MOST_BYTES, MOST_INSTRUCTIONS};
-use crate::line::{first_label, owned, read_head, read_rest};
 use crate::missed::{first_branch, leave_out_label};
-use crate::reading::Statement;
-use crate::scan::scan_line;
-use crate::token::{Tokens, begins_with};
 use c62_insn::{Insn, Op};
+use c62_line::{
+    Cause, Label, ReadFault, Statement, copied, label_field, owned, read_head, read_rest,
+};
 use memchr::memchr;
 use std::alloc::{AllocError, Global};
 
@@ -36,8 +33,8 @@ pub(crate) struct TextReader {
     pub current: Option<BlockReader>,
 }
 
-ghost use Rattle.c62_read.specs.Line.{statement_of, names_label, parts_of, is_branch};
-ghost use Rattle.c62_read.specs.Program.{label_is, is_among, label_field, labels_of, Fails, target_number, aimed, numbered_of, block_parts, block_in, program_in};
+ghost use Rattle.c62_line.specs.Line.{statement_of, names_label, parts_of, is_branch, label_field};
+ghost use Rattle.c62_read.specs.Program.{label_is, is_among, labels_of, Fails, target_number, aimed, numbered_of, block_parts, block_in, program_in};
 ghost use Rattle.c62_read.specs.Walk.{draft_of, drafts_of, new_draft, all_drafts, own_labels, with_label, opened, with_insn, closed, with_says, is_taken, is_full, is_instruction, begins_block, hindrance, refused, unless_hindered, add_says, add_line, add_lines, no_drafts, is_whole, number_among, asked_in, asked_of, missed, first_line, unless_missed, failed};
 ghost use Rattle.c62_read.specs.Reading.{line_step, said_step, LeadsTo, KeepsJump, KeepsJumpOf, SaysAtLine, LeavesOut, still_missed, text_read, IsFirstLine, with_read, with_next, all_closed, one_open, aimed_block, aimed_blocks};
 
@@ -234,29 +231,6 @@ fn keep_jump(jumps: &mut Vec<Jump>, line: u32, what: &Statement<'_>) -> Result<(
     Ok(())
 }
 
-/// The label in the label field of a line that may have one.
-#[tactic(auto, using(crate::proofs::LabelFields::star_field), unfolding(crate::specs::Program::label_field))]
-fn label_of(line: &[u8]) -> Option<&[u8]>
-    ensures { option_copied result ≡ label_field line.now }
-{
-    if begins_with(b'*', line) {
-        return None;
-    }
-    first_label(Tokens::new(line)).0
-}
-
-/// The label in a line's label field, decided for the line alone: the part left of its first colon, without the blanks
-/// around it, where that is a label and the line is no comment line (docs/SERIAL_TEXT.md, "Labels and blocks").
-#[tactic(auto, using(crate::proofs::HeadLemmas::plain_field))]
-pub fn label_field(line: &[u8]) -> Option<&[u8]>
-    ensures { option_copied result ≡ label_field line.now }
-{
-    if !scan_line(line).colon {
-        return None;
-    }
-    label_of(line)
-}
-
 impl TextReader {
     /// What a line of the text says by itself, where no earlier line has its label.
     #[inline(always)]
@@ -362,7 +336,7 @@ fn leave_out_labels(jumps: &mut Vec<Jump>, text: &[u8])
         if jumps.is_empty() {
             return;
         }
-        leave_out_label(jumps, label_of(line));
+        leave_out_label(jumps, label_field(line));
         rest = after;
     }
 }

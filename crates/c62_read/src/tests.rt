@@ -5,10 +5,9 @@ mod order;
 mod targets;
 
 use crate::block::Block;
-use crate::line::read_insn;
 use crate::program::read_program;
-use crate::reading::{Reading, What};
 use c62_insn::{AddressForm, Insn, Offset, Op, Operands, Reg, Side};
+use c62_line::{Reading, What, read_insn};
 use std::alloc::Global;
 use std::process::Abort;
 use std::test::Fail;

@@ -6,7 +6,7 @@ use Rattle.std.specs.Result.{result_unwrap_or}
 use Rattle.std.specs.Str.Parse.{AllDigits, ParsesUnsigned, digits_value, without_leading_plus}
 use Rattle.std.proofs.lemmas.Bool.{lt-ltb, ltb-true}
 use Rattle.clap.proofs.WalkLemmas.{both}
-use Rattle.c62_read.specs.Number.{are_digits}
+use Rattle.c62_token.specs.Number.{are_digits}
 use Rattle.c62_tool.specs.CommandLine.{number_written}
 
 digits_pass : (ds : List ℕ) → AllDigits 10 ds → are_digits 10 ds ≡ true

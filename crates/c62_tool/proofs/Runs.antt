@@ -7,7 +7,7 @@ use Rattle.std.specs.Io.KnownBytes.{Appends, Keeps}
 use Rattle.std.proofs.lemmas.Bool.{cases_lt, lt-ltb}
 use Rattle.std.proofs.lemmas.List.{take_all, length-take}
 use Rattle.c62_read.specs.Program.{BlockParts, Refusal, drafts_in, program_in}
-use Rattle.c62_read.specs.declared.fault.Cause.TheVariants.{TextTooLong}
+use Rattle.c62_line.specs.declared.fault.Cause.TheVariants.{TextTooLong}
 use Rattle.c62_listing_reader.specs.Said.{Drafts}
 use Rattle.c62_listing_reader.specs.Faults.{drafts_in as listed_in, Refusal as Refused}
 use Rattle.c62_listing_reader.specs.declared.fault.ListFault.{ListFault}

@@ -11,7 +11,7 @@ use Rattle.clap.specs.declared.error.Error.{Error}
 use Rattle.clap.specs.declared.error.kind.ErrorKind.TheVariants.{OutOfMemory}
 use Rattle.clap.specs.declared.builder.action.ArgAction.TheVariants.{SetTrue, Append}
 use Rattle.clap.specs.declared.builder.value_parser.ValueParser.TheVariants.{Signed}
-use Rattle.c62_read.specs.Number.{are_digits}
+use Rattle.c62_token.specs.Number.{are_digits}
 use Rattle.c62_tool.specs.declared.setting.Setting.{Setting}
 use Rattle.c62_tool.specs.declared.setting.SettingError.{SettingError}
 use Rattle.c62_tool.specs.declared.setting.SettingError.TheVariants.{Bad}

@@ -13,8 +13,8 @@ use Rattle.c62_tool.specs.declared.setting.SettingError.TheVariants as setting
 use Rattle.c62_tool.specs.declared.setting.Setting.{Setting as Given}
 use Rattle.c62_tool.specs.declared.setting.Setting.TheVariants as given
 use Rattle.c62_tool.specs.declared.schedule.Packing.{Packing}
-use Rattle.c62_read.specs.declared.fault.Cause.TheVariants.{Memory as OutOfStore}
-use Rattle.c62_read.specs.declared.fault.ReadFault.{ReadFault}
+use Rattle.c62_line.specs.declared.fault.Cause.TheVariants.{Memory as OutOfStore}
+use Rattle.c62_line.specs.declared.fault.ReadFault.{ReadFault}
 use Rattle.c62_read.specs.Block.{Serial}
 use Rattle.c62_read.specs.Program.{program_in, block_parts, most_bytes}
 use Rattle.c62_serial.specs.State.{Machine, IsSound, IsZero, with_word}

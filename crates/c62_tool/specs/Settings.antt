@@ -2,7 +2,7 @@
 use Rattle.std.specs.Prelude.{◌≡◌, ℕ, ◌+◌, ◌%◌, ℤ, pos, int_le, unsigned_abs, ◌==◌, ◌&&◌, nat_eq, List, [], ◌∷◌, ◌++◌, length, take, drop, Option, Some, None, is_some, option_map, option_and_then, IsTrue, if◌then◌else◌}
 use Rattle.std.specs.List.{position, starts_with}
 use Rattle.c62_insn.specs.Word.{word}
-use Rattle.c62_read.specs.Number.{number_of, register_of}
+use Rattle.c62_token.specs.Number.{number_of, register_of}
 use Rattle.c62_tool.specs.declared.setting.Setting.{Setting}
 use Rattle.c62_tool.specs.declared.setting.Setting.TheVariants.{Register, Word}
 use Rattle.c62_tool.specs.declared.setting.SettingError.{SettingError}

@@ -1,8 +1,8 @@
 //! Texts at the limits, and a text with each byte at each index.
 
 use super::check_answer;
-use crate::fault::{Cause, ReadFault};
 use crate::program::read_program;
+use c62_line::{Cause, ReadFault};
 use std::alloc::{AllocError, Global};
 use std::process::Abort;
 use std::test::Fail;

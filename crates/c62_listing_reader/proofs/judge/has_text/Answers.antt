@@ -1,5 +1,5 @@
 use Rattle.std.proofs.Common.{sym, ap, ◌∙◌}
-use Rattle.c62_read.specs.Line.{said_of}
+use Rattle.c62_line.specs.Line.{said_of}
 use Rattle.c62_listing_reader.specs.Reading.{read_as}
 use Rattle.c62_listing_reader.proofs.ToldLemmas.{line_allowed}
 use Rattle.c62_listing_reader.proofs.judge.has_text.Goals as goal

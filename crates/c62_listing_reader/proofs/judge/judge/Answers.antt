@@ -2,7 +2,7 @@ use Rattle.std.proofs.Common.{◌≡◌, false, true, length, Result, refl, sym,
 use Rattle.std.specs.Prelude.{nat_lt}
 use Rattle.std.specs.List.{list_all}
 use Rattle.std.proofs.lemmas.Bool.{le-ltb}
-use Rattle.c62_read.specs.Text.{is_allowed}
+use Rattle.c62_token.specs.Token.{is_allowed}
 use Rattle.c62_listing_reader.specs.declared.fault.LineFault.{LineFault}
 use Rattle.c62_listing_reader.specs.declared.line.Above.{Above}
 use Rattle.c62_listing_reader.specs.declared.line.Front.{Front}

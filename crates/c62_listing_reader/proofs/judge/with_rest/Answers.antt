@@ -1,9 +1,9 @@
 use Rattle.std.proofs.Common.{◌≡◌, true, false, Option, Result, Ok, inr, sym, ap, subst, ◌∙◌}
 use Rattle.std.specs.Prelude.{IfOk, MatchResult}
-use Rattle.c62_read.specs.declared.fault.Cause.{Cause}
-use Rattle.c62_read.specs.declared.fault.ReadFault.{ReadFault}
-use Rattle.c62_read.specs.declared.reading.Reading.{Reading}
-use Rattle.c62_read.specs.Line.{Says, line_of, said_of}
+use Rattle.c62_line.specs.declared.fault.Cause.{Cause}
+use Rattle.c62_line.specs.declared.fault.ReadFault.{ReadFault}
+use Rattle.c62_line.specs.declared.reading.Reading.{Reading}
+use Rattle.c62_line.specs.Line.{Says, line_of, said_of}
 use Rattle.c62_read.specs.Program.{Name}
 use Rattle.c62_listing_reader.specs.Text.{content, lines_in}
 use Rattle.c62_listing_reader.specs.Cut.{line_cut}

@@ -1,7 +1,7 @@
 use Rattle.std.proofs.Common.{◌≡◌, ◌+◌, Result, Ok, sym, ap, subst, arith, ◌∙◌, inl, inr}
 use Rattle.std.specs.Prelude.{IfOk}
-use Rattle.c62_read.specs.declared.fault.ReadFault.{ReadFault}
-use Rattle.c62_read.specs.declared.reading.Reading.{Reading}
+use Rattle.c62_line.specs.declared.fault.ReadFault.{ReadFault}
+use Rattle.c62_line.specs.declared.reading.Reading.{Reading}
 use Rattle.c62_listing_reader.specs.declared.line.Above.{Above}
 use Rattle.c62_listing_reader.specs.declared.line.Above.TheVariants.{Start}
 use Rattle.c62_listing_reader.specs.Text.{lines_in}

@@ -1,5 +1,5 @@
 use Rattle.c62_read.proofs.Common.{◌≡◌, [], arith, rules, nil_from_length, drafts_of}
-use Rattle.c62_read.proofs.HeadLemmas.{empty_line}
+use Rattle.c62_read.proofs.WalkLemmas.{empty_line}
 use Rattle.c62_read.proofs.program.TextReader.add_line.Goals as goal
 
 pub returns-in-empty : goal.returns-in-empty

@@ -1,0 +1,31 @@
+-- More than eight tokens are no operands, and a condition begins with a bracket.
+use Rattle.c62_line.proofs.Common.{◌≡◌, ℕ, ◌+◌, ◌≤◌, ◌<◌, Bool, false, List, length, Option, Some, None, Err, cond, arith, length-map}
+use Rattle.c62_line.proofs.Common.{BadOperand, Kind, Address, Mnemonic, WrittenUnit, Word, kinds_of, target_of}
+use Rattle.c62_insn.specs.declared.register.Cond.{Cond as Condition}
+use Rattle.c62_line.specs.Operand.{address_front, operands_of, with_offset}
+use Rattle.c62_token.specs.Kind.{first_is_open, kind_of}
+use Rattle.c62_line.specs.Line.{behind_unit, condition_of, pause_of}
+
+-- of so many tokens all but five are left behind an address
+abbrev Leaves : ℕ → Option (Address × List Kind) → Type 0
+Leaves n None = Unit {0}
+Leaves n (Some (address, rest)) = n ≤ length rest + 5
+
+address_leaves : (kinds : List Kind) → Leaves (length kinds) (address_front kinds)
+unfolding address_front with_offset
+address_leaves kinds = grind arith
+
+too_many : (store : Bool) (kinds : List Kind) → 8 < length kinds → operands_of store kinds ≡ None
+unfolding operands_of
+too_many store kinds many = grind (arith, address_leaves)
+
+pub too_many_behind : (mnemonic : Mnemonic) (cond : Option Condition) (written : Option WrittenUnit) (words : List Word)
+    → target_of mnemonic words ≡ None → 8 < length words → behind_unit mnemonic cond written words ≡ Err BadOperand
+unfolding behind_unit pause_of
+too_many_behind mnemonic cond written words none many = grind (arith, length-map words kind_of, too_many)
+
+-- ---- a condition begins with a bracket
+
+pub no_bracket : (words : List Word) → first_is_open words ≡ false → condition_of (kinds_of words) ≡ Some (None, 0)
+unfolding kind_of condition_of
+no_bracket words is = grind arith

@@ -1,0 +1,13 @@
+pub mod Common
+pub mod LabelFields
+pub mod SpelledOperands
+pub mod HeadLemmas
+pub mod NameLemmas
+pub mod EffectLaws
+pub mod SpelledLine
+pub mod SaysLemmas
+pub mod WrittenLines
+pub mod KindLemmas
+pub mod PauseLemmas
+pub mod CommentLines
+pub mod CaseLines

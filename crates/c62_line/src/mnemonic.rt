@@ -1,0 +1,268 @@
+//! Mnemonics, and what the reader makes of them.
+
+ghost use Rattle.std.specs.Prelude.{◌≡◌, pos};
+ghost use Rattle.std.specs.List.{filter, find};
+ghost use Rattle.std.specs.Str.{bytes_eq};
+ghost use Rattle.c62_insn.specs.Spelling.{mnemonic_of};
+ghost use Rattle.c62_insn.specs.Table.{all_operations};
+ghost use Rattle.c62_token.specs.Number.{spells};
+ghost use Rattle.c62_insn.specs.Word.{word, lo};
+
+use c62_insn::Op::{
+    Abs, Add, Add2, Addab, Addah, Addaw, Addk, And, B, Cmpeq, Cmpgt, Cmpgtu, Cmplt, Cmpltu, Ext,
+    Extu, Ldb, Ldbu, Ldh, Ldhu, Ldw, Mpy, Mpyh, Mpyhl, Mpyhu, Mpylh, Mpysu, Mpyu, Mpyus, Mvk,
+    Mvklh, Or, Shl, Shr, Shru, Stb, Sth, Stw, Sub, Sub2, Xor,
+};
+use c62_insn::{Letter, Op, Operands, Reg};
+use c62_token::number::spells;
+
+/// What may stand first in an instruction.
+#[derive(Clone, Copy)]
+pub(crate) enum Mnemonic {
+    Operation(Op),
+    Mv,
+    Neg,
+    Not,
+    Zero,
+    Mvkl,
+    Mvkh,
+    Nop,
+}
+
+ghost use Rattle.c62_line.specs.Mnemonic.{begins_so, operation_named, pseudo_named, mnemonic_named, stands_on, exchanged, low_half, signed_low_half, high_half, constant_to_front, crossed_to_back, in_order, zero_in, stands_for};
+
+/// Operations among which each is whose name begins with this small letter, in their order.
+fn beginning_with(letter: u8) -> &'static [Op]
+    ensures { filter (begins_so letter) result.now ≡ filter (begins_so letter) all_operations }
+{
+    match letter {
+        b'a' => &[Add, And, Abs, Add2, Addk, Addab, Addah, Addaw],
+        b'b' => &[B],
+        b'c' => &[Cmpeq, Cmpgt, Cmplt, Cmpgtu, Cmpltu],
+        b'e' => &[Ext, Extu],
+        b'l' => &[Ldb, Ldbu, Ldh, Ldhu, Ldw],
+        b'm' => &[
+            Mvk, Mvklh, Mpy, Mpyu, Mpyus, Mpysu, Mpyh, Mpyhu, Mpyhl, Mpylh,
+        ],
+        b'n' | b'z' => &[],
+        b'o' => &[Or],
+        b's' => &[Sub, Sub2, Shl, Shr, Shru, Stb, Sth, Stw],
+        b'x' => &[Xor],
+        _ => &Op::ALL,
+    }
+}
+
+fn named_among(ops: &[Op], name: &[u8]) -> Option<Op>
+    ensures { result ≡ find (λ op. spells (mnemonic_of op) name.now) ops.now }
+{
+    ops.iter()
+        .copied()
+        .find(|op| spells(op.mnemonic().as_bytes(), name))
+}
+
+/// The operation of this name in capitals, as most are written.
+fn in_capitals_among(ops: &[Op], name: &[u8]) -> Option<Op>
+    ensures { result ≡ find (λ op. bytes_eq (mnemonic_of op) name.now) ops.now }
+{
+    ops.iter()
+        .copied()
+        .find(|op| op.mnemonic().as_bytes() == name)
+}
+
+/// The operation of this name.
+fn operation_named(name: &[u8]) -> Option<Op>
+    ensures { result ≡ operation_named name.now }
+{
+    match name {
+        [] => None,
+        [first, ..] => {
+            let ops = beginning_with(first.to_ascii_lowercase());
+            match in_capitals_among(ops, name) {
+                Some(op) => Some(op),
+                None => named_among(ops, name),
+            }
+        }
+    }
+}
+
+/// The mnemonic of this name that is no operation's.
+#[tactic(auto, unfolding(crate::specs::Mnemonic::pseudo_named))]
+fn pseudo_named(name: &[u8]) -> Option<Mnemonic>
+    ensures { result ≡ pseudo_named name.now }
+{
+    if spells(b"MV", name) {
+        Some(Mnemonic::Mv)
+    } else if spells(b"NEG", name) {
+        Some(Mnemonic::Neg)
+    } else if spells(b"NOT", name) {
+        Some(Mnemonic::Not)
+    } else if spells(b"ZERO", name) {
+        Some(Mnemonic::Zero)
+    } else if spells(b"MVKL", name) {
+        Some(Mnemonic::Mvkl)
+    } else if spells(b"MVKH", name) {
+        Some(Mnemonic::Mvkh)
+    } else if spells(b"NOP", name) {
+        Some(Mnemonic::Nop)
+    } else {
+        None
+    }
+}
+
+/// The mnemonic of this name.
+#[tactic(auto, unfolding(crate::specs::Mnemonic::mnemonic_named))]
+pub(crate) fn mnemonic_named(name: &[u8]) -> Option<Mnemonic>
+    ensures { result ≡ mnemonic_named name.now }
+{
+    match operation_named(name) {
+        Some(op) => Some(Mnemonic::Operation(op)),
+        None => pseudo_named(name),
+    }
+}
+
+/// The operation that does the same with its two sources exchanged.
+fn exchanged(op: Op) -> Option<Op>
+    ensures { result ≡ exchanged op }
+{
+    match op {
+        Add | And | Or | Xor | Add2 | Cmpeq | Mpy | Mpyu | Mpyh | Mpyhu => Some(op),
+        Cmpgt => Some(Cmplt),
+        Cmplt => Some(Cmpgt),
+        Cmpgtu => Some(Cmpltu),
+        Cmpltu => Some(Cmpgtu),
+        Mpyhl => Some(Mpylh),
+        Mpylh => Some(Mpyhl),
+        Mpyus => Some(Mpysu),
+        Mpysu => Some(Mpyus),
+        _ => None,
+    }
+}
+
+/// A constant modulo 2^32.
+fn word_of(k: i64) -> u32
+    ensures { result ≡ word k }
+{
+    k.rem_euclid(1 << 32) as u32
+}
+
+/// The lower half of a constant's word.
+fn low(k: i64) -> u16
+    ensures { result ≡ lo (word k) }
+{
+    (word_of(k) & 0xffff) as u16
+}
+
+fn low_half(k: i64) -> i64
+    ensures { result ≡ low_half k }
+{
+    i64::from(low(k))
+}
+
+fn signed_low_half(k: i64) -> i64
+    ensures { result ≡ signed_low_half k }
+{
+    i64::from(low(k).cast_signed())
+}
+
+fn high_half(k: i64) -> i64
+    ensures { result ≡ high_half k }
+{
+    i64::from(word_of(k) >> 16)
+}
+
+fn constant_to_front(op: Op, a: Reg, k: i64, d: Reg) -> (Op, Operands)
+    ensures { result ≡ constant_to_front (exchanged op) op a k d }
+{
+    match exchanged(op) {
+        Some(turned) => (turned, Operands::ConstantFirst(k, a, d)),
+        None => (op, Operands::ConstantSecond(a, k, d)),
+    }
+}
+
+fn crossed_to_back(op: Op, a: Reg, b: Reg, d: Reg) -> (Op, Operands)
+    ensures { result ≡ crossed_to_back (exchanged op) op a b d }
+{
+    match exchanged(op) {
+        Some(turned) => {
+            if a.side != d.side && b.side == d.side {
+                (turned, Operands::Three(b, a, d))
+            } else {
+                (op, Operands::Three(a, b, d))
+            }
+        }
+        None => (op, Operands::Three(a, b, d)),
+    }
+}
+
+#[tactic(auto, unfolding(crate::specs::Mnemonic::in_order))]
+fn in_order(op: Op, operands: Operands) -> (Op, Operands)
+    ensures { result ≡ in_order op operands }
+{
+    match operands {
+        Operands::Three(a, b, d) => crossed_to_back(op, a, b, d),
+        Operands::ConstantSecond(a, k, d) => constant_to_front(op, a, k, d),
+        Operands::Constant(k, d) => {
+            let constant = if matches!(op, Mvklh) { low_half(k) } else { k };
+            (op, Operands::Constant(constant, d))
+        }
+        _ => (op, operands),
+    }
+}
+
+fn zero_in(letter: Option<Letter>, d: Reg) -> (Op, Operands)
+    ensures { result ≡ zero_in letter d }
+{
+    match letter {
+        Some(Letter::L | Letter::D) => (Sub, Operands::Three(d, d, d)),
+        _ => (Mvk, Operands::Constant(0, d)),
+    }
+}
+
+impl Mnemonic {
+    /// Whether a unit of this letter may be written behind the mnemonic.
+    #[tactic(auto, unfolding(crate::specs::Mnemonic::stands_on))]
+    pub(crate) fn stands_on(self, letter: Letter) -> bool
+        ensures { result ≡ stands_on self letter }
+    {
+        match self {
+            Mnemonic::Operation(op) => op.has_letter(letter),
+            Mnemonic::Mv => Add.has_letter(letter),
+            Mnemonic::Neg => letter == Letter::L || letter == Letter::S,
+            Mnemonic::Not => Xor.has_letter(letter),
+            Mnemonic::Zero => Sub.has_letter(letter),
+            Mnemonic::Mvkl => Mvk.has_letter(letter),
+            Mnemonic::Mvkh => Mvklh.has_letter(letter),
+            Mnemonic::Nop => false,
+        }
+    }
+
+    /// The operation and operands that the mnemonic with these operands stands for. `letter` is that of the written unit.
+    #[inline(always)]
+    #[tactic(auto, unfolding(crate::specs::Mnemonic::stands_for))]
+    pub(crate) fn stands_for(
+        self,
+        letter: Option<Letter>,
+        operands: Operands,
+    ) -> Option<(Op, Operands)>
+        ensures { result ≡ stands_for self letter operands }
+    {
+        match (self, operands) {
+            (Mnemonic::Operation(op), _) => Some(in_order(op, operands)),
+            (Mnemonic::Mv, Operands::Two(x, d)) => { Some((Add, Operands::ConstantFirst(0, x, d))) }
+            (Mnemonic::Neg, Operands::Two(x, d)) => {
+                Some((Sub, Operands::ConstantFirst(0, x, d)))
+            }
+            (Mnemonic::Not, Operands::Two(x, d)) => {
+                Some((Xor, Operands::ConstantFirst(-1, x, d)))
+            }
+            (Mnemonic::Zero, Operands::Register(d)) => Some(zero_in(letter, d)),
+            (Mnemonic::Mvkl, Operands::Constant(k, d)) => {
+                Some((Mvk, Operands::Constant(signed_low_half(k), d)))
+            }
+            (Mnemonic::Mvkh, Operands::Constant(k, d)) => {
+                Some((Mvklh, Operands::Constant(high_half(k), d)))
+            }
+            _ => None,
+        }
+    }
+}

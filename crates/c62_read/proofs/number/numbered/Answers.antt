@@ -1,6 +1,0 @@
-use Rattle.c62_read.proofs.Common.{sym}
-use Rattle.c62_read.proofs.Registers.{numbered-known}
-use Rattle.c62_read.proofs.number.numbered.Goals as goal
-
-pub returns-then-number-lt16 : goal.returns-then-number-lt16
-returns-then-number-lt16 c = sym (numbered-known _)

@@ -1,8 +1,0 @@
-use Rattle.c62_read.proofs.Common.{◌≡◌, ◌++◌, length, tokens, words_left, kinds_of}
-use Rattle.c62_read.proofs.token.Tokens.add_kinds.Given as goal
-
-abbrev pub invariant-loop-kind : goal.invariant-loop-kind
-invariant-loop-kind l = l.kinds.items ++ kinds_of (tokens l.rest) ≡ kinds_of (words_left l.self)
-
-abbrev pub decreases-loop-kind : goal.decreases-loop-kind
-decreases-loop-kind l = length (kinds_of (tokens l.rest))

@@ -1,0 +1,10 @@
+pub mod Common
+pub mod Registers
+pub mod TokenLemmas
+pub mod TokenLaws
+pub mod NumberLemmas
+pub mod StepLemmas
+pub mod SpelledTokens
+pub mod SpelledNumbers
+pub mod KindLemmas
+pub mod CaseTokens

@@ -1,0 +1,4 @@
+pub mod Token
+pub mod Number
+pub mod Kind
+pub mod Laws
