@@ -71,7 +71,7 @@ impl Eq for Label {
 }
 
 /// The same label again, where there is one.
-pub fn copied(label: &Option<Label>) -> Option<Label>
+pub fn copied_label(label: &Option<Label>) -> Option<Label>
     ensures { result ≡ label.now }
 {
     match label {

@@ -12,11 +12,11 @@ mod reading;
 mod unit;
 
 pub use fault::{Cause, ReadFault};
-pub use label::{Label, copied};
+pub use label::{Label, copied_label};
 pub use laws::{
     case_says_nothing, comments_change_no_line, exchanged_operations_keep_the_effect,
     labels_read_back, pauses_read_back, pseudo_operations_keep_the_effect, spelled_lines_read_back,
     star_lines_say_nothing,
 };
-pub use line::{label_field, owned, read_head, read_insn, read_rest};
+pub use line::{label_field, owned_label, read_head, read_insn, read_rest};
 pub use reading::{Reading, Statement, What};

@@ -246,7 +246,10 @@ fn instruction<'a>(rest: Tokens<'a>) -> Result<Statement<'a>, Cause>
     behind_unit(mnemonic, cond, written, rest)
 }
 
-/// What stands behind the label.
+/// What these tokens say, which stand behind a line's label. A branch's label still stands in the line.
+///
+/// The first fault is told, in this order: Directive, BadOperand for a condition that is misspelt, UnknownMnemonic, BadUnit, and
+/// what is wrong with the operands or the form (docs/SERIAL_TEXT.md, "Faults of a line").
 #[inline(always)]
 #[tactic(auto, unfolding(crate::specs::Line::rest_says))]
 pub fn read_rest<'a>(rest: Tokens<'a>) -> Result<Statement<'a>, Cause>
@@ -327,7 +330,10 @@ fn read_label<'a>(
     Ok((label, rest))
 }
 
-/// The label of a line and what follows it.
+/// The label of a line, which is without its end, and the tokens that follow it.
+///
+/// The first fault is told, in this order: NotAscii, LineTooLong, ParallelBar, and BadLabel where a colon stands elsewhere than
+/// behind a label at the front (docs/SERIAL_TEXT.md, "Faults of a line").
 #[tactic(auto, using(crate::proofs::HeadLemmas::no_colon_at_all), unfolding(crate::specs::Line::head_of))]
 pub fn read_head<'a>(line: &'a [u8]) -> Result<(Option<&'a [u8]>, Tokens<'a>), Cause>
     ensures value { IsHead result (head_of line.now) }
@@ -366,14 +372,15 @@ pub fn read_insn(line: &[u8]) -> Result<Reading, ReadFault>
     };
     match read_rest(rest) {
         Ok(what) => Ok(Reading {
-            label: owned(label),
+            label: owned_label(label),
             what: what.owned(),
         }),
         Err(cause) => Err(ReadFault::at(1, cause)),
     }
 }
 
-pub fn owned(label: Option<&[u8]>) -> Option<Label>
+/// The label of these bytes, where there are any.
+pub fn owned_label(label: Option<&[u8]>) -> Option<Label>
     requires { IfSome label (λ word. IsTrue (is_label word.now)) }
     ensures { result ≡ option_copied label.entry }
 {

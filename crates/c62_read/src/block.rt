@@ -6,7 +6,7 @@ ghost use Rattle.c62_read.specs.declared.limits.TheConstants.{MOST_BLOCKS};
 ghost use Rattle.c62_read.specs.Block.{Serial, IsProgram, is_block, targets_stand};
 
 use c62_insn::{Insn, Operands};
-use c62_line::{Label, copied};
+use c62_line::{Label, copied_label};
 use std::alloc::{AllocError, Global};
 use std::marker::Model;
 
@@ -83,7 +83,7 @@ impl Block {
     pub fn copy(&self, alloc: Global) -> Result<Block, AllocError>
         ensures { IfOk result (λ block. block ≡ self.now) }
     {
-        let label = copied(&self.label);
+        let label = copied_label(&self.label);
         let insns = Vec::from_slice(alloc, &self.insns)?;
         Ok(Block { label, insns })
     }

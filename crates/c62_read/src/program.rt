@@ -13,7 +13,8 @@ use crate::limits::{MOST_BLOCKS, MOST_BYTES, MOST_INSTRUCTIONS};
 use crate::missed::{first_branch, leave_out_label};
 use c62_insn::{Insn, Op};
 use c62_line::{
-    Cause, Label, ReadFault, Statement, copied, label_field, owned, read_head, read_rest,
+    Cause, Label, ReadFault, Statement, copied_label, label_field, owned_label, read_head,
+    read_rest,
 };
 use memchr::memchr;
 use std::alloc::{AllocError, Global};
@@ -55,7 +56,7 @@ impl BlockReader {
         ensures { OnOk result (draft_of self.new ≡ with_read insn line target.entry (draft_of self.old)) }
     {
         self.insns.push(SerialInsn { insn, line })?;
-        self.target = owned(target);
+        self.target = owned_label(target);
         Ok(())
     }
 }
@@ -263,7 +264,7 @@ impl TextReader {
         match self.hindrance(label, &what) {
             Some(cause) => Ok(Some(cause)),
             None => {
-                self.add_label(alloc, owned(label))?;
+                self.add_label(alloc, owned_label(label))?;
                 self.add_what(alloc, number, what)?;
                 Ok(None)
             }
@@ -449,7 +450,7 @@ fn block_labels(alloc: Global, blocks: &[BlockReader]) -> Result<Vec<Option<Labe
 {
     let mut labels = Vec::with_capacity(alloc, blocks.len())?;
     for block in blocks {
-        labels.push(copied(&block.label))?;
+        labels.push(copied_label(&block.label))?;
     }
     Ok(labels)
 }

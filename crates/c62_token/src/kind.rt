@@ -55,6 +55,7 @@ fn single_mark(b: u8) -> Option<Kind>
     }
 }
 
+/// The mark that the token is, where it is one: a byte such as `,` or `[`, or `++` or `--`.
 #[inline(always)]
 #[tactic(auto, unfolding(crate::specs::Kind::mark_of))]
 pub fn mark(word: &[u8]) -> Option<Kind>
