@@ -1,5 +1,5 @@
 -- A line in small letters, but for an `X` behind a 0, says the same but for the case of labels. So do two lines that differ in case only.
-use Rattle.c62_line.proofs.Common.{◌≡◌, ℕ, false, cond, eqb, ◌||◌, List, [], ◌∷◌, Option, refl, arith, is_ascii_digit, nat_tests, Side}
+use Rattle.c62_line.proofs.Common.{◌≡◌, ℕ, false, cond, eqb, List, [], ◌∷◌, Option, refl, arith, is_ascii_digit, nat_tests, Side}
 use Rattle.c62_line.proofs.Common.{Some, Result, Ok, Err, option_map, codes, Letter, Cause, Mnemonic}
 use Rattle.c62_line.proofs.Common.{WrittenUnit, is_allowed, Word, is_dot, Says, has_colon, is_star, with_head}
 use Rattle.c62_line.specs.Laws.{IsRecased, CaseSaysNothing, small_labels, small_says, target_in}
