@@ -1,9 +1,7 @@
 -- The greatest of some bounds.
-use Rattle.std.proofs.Common.{◌≡◌, ℕ, zero, suc, ◌<◌, ℤ, ◌≤ℤ◌, Bool, true, false, List, [], ◌∷◌, length, Option, Some, None, refl, sym, ap, ◌∙◌, subst, arith, inl, inr, ◌⊎◌, cond}
-use Rattle.std.specs.Prelude.{Contains, MatchOption, fold, int_lt, slice_index_or}
-use Rattle.std.specs.Int.{int_max}
-use Rattle.std.proofs.lemmas.Int.{ints, clamps}
-use Rattle.c62_depend.specs.Latency.{greater, greatest_by}
+use Rattle.c62_depend.proofs.Common.{◌≡◌, zero, suc, ℤ, ◌≤ℤ◌, Bool, true, false, List, [], ◌∷◌, Option, Some, None, refl, sym, ap, subst, arith, inl}
+use Rattle.c62_depend.proofs.Common.{inr, ◌⊎◌, cond, not, Contains, MatchOption, fold, int_lt, int_max, ints, clamps, greater, greatest_by}
+use Rattle.c62_depend.proofs.Common.{cases_Bool}
 
 -- of the whole numbers such as P says: the greatest, or none where there is none
 abbrev pub IsGreatest : (ℤ → Type 0) → Option ℤ → Type 0
@@ -12,10 +10,7 @@ IsGreatest P o = MatchOption o ((b : ℤ) → P b → ⊥) (λ m. P m × ((b : �
 -- one number alone, or none
 pub IsGreatest-is : (o : Option ℤ) → IsGreatest (λ b. o ≡ Some b) o
 IsGreatest-is None = λ b e. cc
-IsGreatest-is (Some m) = (refl, λ b e. same_below m b e)
-  where
-    same_below : (x y : ℤ) → Some x ≡ Some y → y ≤ℤ x
-    same_below x y e = let f : x ≡ y = cc in omega (arith, ints)
+IsGreatest-is (Some m) = (refl, λ b e. (let same : m ≡ b = cc in omega (arith, ints)))
 
 pub IsGreatest-same : (P Q : ℤ → Type 0) (o : Option ℤ) → IsGreatest P o → ((b : ℤ) → P b → Q b) → ((b : ℤ) → Q b → P b) → IsGreatest Q o
 IsGreatest-same P Q None g into out = λ b q. g b (out b q)
@@ -26,18 +21,10 @@ pub IsGreatest-one : (P : ℤ → Type 0) (a b : Option ℤ) → IsGreatest P a 
 IsGreatest-one P None None ga gb = refl
 IsGreatest-one P None (Some y) ga gb = absurd (ga y gb.0)
 IsGreatest-one P (Some x) None ga gb = absurd (gb x ga.0)
-IsGreatest-one P (Some x) (Some y) ga gb =
-    let low : x ≤ℤ y = gb.1 x ga.0 in
-    let high : y ≤ℤ x = ga.1 y gb.0 in
-    let same : x ≡ y = omega (arith, ints) in
-    ap Some same
+IsGreatest-one P (Some x) (Some y) ga gb = (let same : x ≡ y = omega (arith, ints, gb.1 x ga.0, ga.1 y gb.0) in ap Some same)
 
 int_max-either : (x y : ℤ) → (int_max x y ≡ x) ⊎ (int_max x y ≡ y)
-int_max-either x y = either (int_lt y x)
-  where
-    either : (t : Bool) → (cond t x y ≡ x) ⊎ (cond t x y ≡ y)
-    either true = inl refl
-    either false = inr refl
+int_max-either x y = elim (cases_Bool (int_lt y x)) [ inl less ↦ inl (rw less refl) | inr more ↦ inr (rw more refl) ]
 
 -- the greatest of two kinds
 pub IsGreatest-greater : (P Q : ℤ → Type 0) (a b : Option ℤ) → IsGreatest P a → IsGreatest Q b → IsGreatest (λ z. P z ⊎ Q z) (greater a b)
@@ -52,73 +39,72 @@ IsGreatest-greater P Q (Some x) (Some y) ga gb = (
   ],
 )
 
--- what f gives for some element of a list
+-- the greatest of two kinds that a test tells apart
+abbrev pub OfEither : (Bool → ℤ → Type 0) → ℤ → Type 0
+OfEither P b = (t : Bool) × P t b
+
+pub IsGreatest-either : (P : Bool → ℤ → Type 0) (first : Bool) (a b : Option ℤ) → IsGreatest (P first) a → IsGreatest (P (not first)) b
+    → IsGreatest (OfEither P) (greater a b)
+IsGreatest-either P first a b ga gb =
+    IsGreatest-same (λ z. P first z ⊎ P (not first) z) (OfEither P) (greater a b) (IsGreatest-greater (P first) (P (not first)) a b ga gb)
+    (λ z r. elim r [ inl p ↦ (first, p) | inr q ↦ (not first, q) ]) (λ z w. either first w.0 z w.1)
+  where
+    either : (first t : Bool) (z : ℤ) → P t z → P first z ⊎ P (not first) z
+    either true true z p = inl p
+    either true false z p = inr p
+    either false true z p = inr p
+    either false false z p = inl p
+
+-- numbers that are given under tests
+pub IsGreatest-tests : (t : Bool → Bool) (x : Bool → ℤ) (first : Bool) (a b : ℤ) → a ≡ x first → b ≡ x (not first)
+    → IsGreatest (OfEither (λ kind z. (t kind ≡ true) × (z ≡ x kind))) (greater (cond (t first) (Some a) None) (cond (t (not first)) (Some b) None))
+IsGreatest-tests t x first a b is_a is_b =
+    IsGreatest-either (λ kind z. (t kind ≡ true) × (z ≡ x kind)) first (cond (t first) (Some a) None) (cond (t (not first)) (Some b) None)
+    (tested (t first) a (x first) is_a) (tested (t (not first)) b (x (not first)) is_b)
+  where
+    tested : (t : Bool) (x y : ℤ) → x ≡ y → IsGreatest (λ z. (t ≡ true) × (z ≡ y)) (cond t (Some x) None)
+    tested true x y e = ((refl, e), λ z w. (let same : z ≡ y = w.1 in omega (arith, ints)))
+    tested false x y e = λ z w. (let clash : false ≡ true = w.0 in cc)
+
+-- what holds of some element of a list
+abbrev pub OfSome : {X : Type 0} → (X → ℤ → Type 0) → List X → ℤ → Type 0
+OfSome {X} P xs b = (x : X) × Contains xs x × P x b
+
+-- what f gives for some element
 abbrev pub IsGiven : {X : Type 0} → (X → Option ℤ) → List X → ℤ → Type 0
-IsGiven {X} f xs b = (x : X) × Contains xs x × (f x ≡ Some b)
+IsGiven f = OfSome (λ x b. f x ≡ Some b)
 
-IsGiven-none : {X : Type 0} (f : X → Option ℤ) (b : ℤ) → IsGiven f [] b → ⊥
-IsGiven-none f b w = absurd (omega (arith, w.1.1))
+of_some : {X : Type 0} (P : X → ℤ → Type 0) (x : X) (xs : List X) (b : ℤ) → P x b ⊎ OfSome P xs b → OfSome P (x ∷ xs) b
+of_some P x xs b (inl p) = (x, (0, omega arith, refl), p)
+of_some P x xs b (inr (y, (k, lt, e), p)) = (y, (suc k, omega arith, e), p)
 
-IsGiven-cases : {X : Type 0} (f : X → Option ℤ) (x : X) (xs : List X) (b : ℤ) → IsGiven f (x ∷ xs) b → (f x ≡ Some b) ⊎ IsGiven f xs b
-IsGiven-cases {X} f x xs b w = by_position w.0 w.1.0 w.1.1 w.1.2 w.2
-  where
-    by_position : (y : X) (k : ℕ) → k < length (x ∷ xs) → slice_index_or (x ∷ xs) k y ≡ y → f y ≡ Some b → (f x ≡ Some b) ⊎ IsGiven f xs b
-    by_position y zero lt e g = inl (ap f e ∙ g)
-    by_position y (suc k) lt e g = inr (y, (k, omega arith, e), g)
+first_or_later : {X : Type 0} (P : X → ℤ → Type 0) (x : X) (xs : List X) (b : ℤ) → OfSome P (x ∷ xs) b → P x b ⊎ OfSome P xs b
+first_or_later {X} P x xs b (y, (zero, lt, e), p) = inl (subst (λ (z : X). P z b) (sym e) p)
+first_or_later P x xs b (y, (suc k, lt, e), p) = inr (y, (k, omega arith, e), p)
 
-IsGiven-first : {X : Type 0} (f : X → Option ℤ) (x : X) (xs : List X) (b : ℤ) → f x ≡ Some b → IsGiven f (x ∷ xs) b
-IsGiven-first f x xs b e = (x, (0, omega arith, refl), e)
-
-IsGiven-later : {X : Type 0} (f : X → Option ℤ) (x : X) (xs : List X) (b : ℤ) → IsGiven f xs b → IsGiven f (x ∷ xs) b
-IsGiven-later {X} f x xs b w = later w.0 w.1.0 w.1.1 w.1.2 w.2
-  where
-    later : (y : X) (k : ℕ) → k < length xs → slice_index_or xs k y ≡ y → f y ≡ Some b → IsGiven f (x ∷ xs) b
-    later y k lt e g = (y, (suc k, omega arith, e), g)
-
-greatest_from : {X : Type 0} (f : X → Option ℤ) (P : ℤ → Type 0) (acc : Option ℤ) (xs : List X) → IsGreatest P acc
-    → IsGreatest (λ b. P b ⊎ IsGiven f xs b) (fold (λ a x. greater a (f x)) acc xs)
-greatest_from f P acc [] g = IsGreatest-same P (λ b. P b ⊎ IsGiven f [] b) acc g (λ b p. inl p) (λ b r. elim r [ inl p ↦ p | inr w ↦ absurd (IsGiven-none f b w) ])
-greatest_from f P acc (x ∷ xs) g =
-    let Q : ℤ → Type 0 = λ b. P b ⊎ (f x ≡ Some b) in
-    IsGreatest-same (λ b. Q b ⊎ IsGiven f xs b) (λ b. P b ⊎ IsGiven f (x ∷ xs) b) _
-    (greatest_from f Q (greater acc (f x)) xs (IsGreatest-greater P (λ b. f x ≡ Some b) acc (f x) g (IsGreatest-is (f x))))
+greatest_more : {X : Type 0} (P : X → ℤ → Type 0) (f : X → Option ℤ) → ((x : X) → IsGreatest (P x) (f x))
+    → (Q : ℤ → Type 0) (most : Option ℤ) (xs : List X)
+    → IsGreatest Q most → IsGreatest (λ b. Q b ⊎ OfSome P xs b) (fold (λ a x. greater a (f x)) most xs)
+greatest_more P f each Q most [] g =
+    IsGreatest-same Q (λ b. Q b ⊎ OfSome P [] b) most g (λ b q. inl q) (λ b r. elim r [ inl q ↦ q | inr w ↦ absurd (omega (arith, w.1.1)) ])
+greatest_more P f each Q most (x ∷ xs) g =
+    IsGreatest-same (λ b. (Q b ⊎ P x b) ⊎ OfSome P xs b) (λ b. Q b ⊎ OfSome P (x ∷ xs) b) _
+    (greatest_more P f each (λ b. Q b ⊎ P x b) (greater most (f x)) xs (IsGreatest-greater Q (P x) most (f x) g (each x)))
     (λ b r. elim r [
-      | inl q ↦ elim q [ inl p ↦ inl p | inr e ↦ inr (IsGiven-first f x xs b e) ]
-      | inr w ↦ inr (IsGiven-later f x xs b w)
+      | inl q ↦ elim q [ inl h ↦ inl h | inr p ↦ inr (of_some P x xs b (inl p)) ]
+      | inr w ↦ inr (of_some P x xs b (inr w))
     ])
     (λ b r. elim r [
-      | inl p ↦ inl (inl p)
-      | inr w ↦ elim (IsGiven-cases f x xs b w) [ inl e ↦ inl (inr e) | inr v ↦ inr v ]
+      | inl q ↦ inl (inl q)
+      | inr w ↦ elim (first_or_later P x xs b w) [ inl p ↦ inl (inr p) | inr v ↦ inr v ]
     ])
 
--- the greatest of what a list gives
-pub IsGreatest-greatest_by : {X : Type 0} (f : X → Option ℤ) (xs : List X) → IsGreatest (IsGiven f xs) (greatest_by f xs)
-IsGreatest-greatest_by f xs =
-    IsGreatest-same (λ b. ⊥ ⊎ IsGiven f xs b) (IsGiven f xs) _ (greatest_from f (λ b. ⊥) None xs (λ b p. p))
+-- the greatest over a list, where f tells the greatest of each element
+pub IsGreatest-over : {X : Type 0} (P : X → ℤ → Type 0) (f : X → Option ℤ) (xs : List X) → ((x : X) → IsGreatest (P x) (f x))
+    → IsGreatest (OfSome P xs) (greatest_by f xs)
+IsGreatest-over P f xs each =
+    IsGreatest-same (λ b. ⊥ ⊎ OfSome P xs b) (OfSome P xs) _ (greatest_more P f each (λ b. ⊥) None xs (λ b p. p))
     (λ b r. elim r [ inl p ↦ absurd p | inr w ↦ w ]) (λ b w. inr w)
 
--- the greatest of what the pairs of two lists give
-pub IsGreatest-pairs : {X Y : Type 0} (f : X → Y → Option ℤ) (vs : List X) (ws : List Y)
-    → IsGreatest (λ b. (v : X) × Contains vs v × IsGiven (f v) ws b) (greatest_by (λ v. greatest_by (f v) ws) vs)
-IsGreatest-pairs {X} {Y} f vs ws = by_outer (greatest_by inner vs) (IsGreatest-greatest_by inner vs)
-  where
-    inner : X → Option ℤ
-    inner v = greatest_by (f v) ws
-
-    given_by : (v : X) (o : Option ℤ) → inner v ≡ o → IsGreatest (IsGiven (f v) ws) o
-    given_by v o e = subst (IsGreatest (IsGiven (f v) ws)) e (IsGreatest-greatest_by (f v) ws)
-
-    given_below : (v : X) (b : ℤ) (o : Option ℤ) → inner v ≡ o → IsGiven (f v) ws b → (m : ℤ) × (inner v ≡ Some m) × (b ≤ℤ m)
-    given_below v b None e w = absurd (given_by v None e b w)
-    given_below v b (Some m) e w = (m, e, (given_by v (Some m) e).1 b w)
-
-    by_outer : (o : Option ℤ) → IsGreatest (IsGiven inner vs) o → IsGreatest (λ b. (v : X) × Contains vs v × IsGiven (f v) ws b) o
-    by_outer None g = λ b w. let below = given_below w.0 b (inner w.0) refl w.2 in g below.0 (w.0, w.1, below.1)
-    by_outer (Some m) g = (
-      (g.0.0, g.0.1, (given_by g.0.0 (Some m) g.0.2).0),
-      λ b w.
-          let below = given_below w.0 b (inner w.0) refl w.2 in
-          let first : b ≤ℤ below.0 = below.2 in
-          let then : below.0 ≤ℤ m = g.1 below.0 (w.0, w.1, below.1) in
-          omega (arith, ints),
-    )
+pub IsGreatest-greatest_by : {X : Type 0} (f : X → Option ℤ) (xs : List X) → IsGreatest (IsGiven f xs) (greatest_by f xs)
+IsGreatest-greatest_by f xs = IsGreatest-over (λ x b. f x ≡ Some b) f xs (λ x. IsGreatest-is (f x))

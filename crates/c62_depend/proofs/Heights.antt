@@ -1,32 +1,22 @@
 -- Heights are what the rule says: the greatest of the delay and of each latency plus the height behind it.
-use Rattle.std.proofs.Common.{◌≡◌, ℕ, zero, suc, ◌+◌, ◌-◌, ◌*◌, ◌<◌, ◌≤◌, max, set, ℤ, pos, negsuc, ◌≤ℤ◌, List, [], ◌∷◌, ◌++◌, length, map, Option, Some, None, refl, sym, ap, ◌∙◌, arith, inl, inr}
-use Rattle.std.specs.Prelude.{All, slice_get, slice_index}
-use Rattle.std.specs.List.{flat_map, range_with_len}
-use Rattle.std.proofs.lemmas.Int.{ints}
-use Rattle.std.proofs.lemmas.Bool.{cases_eq}
-use Rattle.std.proofs.lemmas.List.{get_or-set_other}
-use Rattle.std.proofs.lemmas.Grind.{get_or-set_at}
-use Rattle.std.proofs.lemmas.List.FromFn.{fill_by_all}
+use Rattle.c62_depend.proofs.Common.{◌≡◌, ℕ, zero, suc, ◌+◌, ◌-◌, ◌*◌, ◌<◌, ◌≤◌, max, set, ℤ, pos, ◌≤ℤ◌, List, [], ◌∷◌, ◌++◌, length, map, Option}
+use Rattle.c62_depend.proofs.Common.{Some, None, refl, sym, ◌∙◌, arith, inl, inr, All, slice_get, slice_index, flat_map, range_with_len, ints}
+use Rattle.c62_depend.proofs.Common.{cases_eq, get_or-set_other, get_or-set_at, fill_by_all, All-nil, All-cons, All-append, All-head, All-tail}
+use Rattle.c62_depend.proofs.Common.{All-weaker, Insn, Link, latency, linked, followers, raised, raised_by, delay_in, delay_at, longest, path_within}
+use Rattle.c62_depend.proofs.Common.{height, AreHeightsFrom, as_bound}
 use Rattle.std.proofs.Math.ListN.{length-set}
-use Rattle.std.proofs.Math.Nat.{max-zero}
-use Rattle.std.proofs.lemmas.List.Elements.{All-nil, All-cons, All-append, All-head, All-tail, All-weaker}
-use Rattle.c62_insn.specs.declared.insn.Insn.{Insn}
-use Rattle.c62_insn.specs.Insn.{op_of}
-use Rattle.c62_depend.specs.declared.links.Link.{Link}
-use Rattle.c62_depend.specs.Latency.{latency}
-use Rattle.c62_depend.specs.Links.{linked, followers}
-use Rattle.c62_depend.specs.Height.{raised, raised_by, delay_in, delay_at, longest, path_within, height, AreHeightsFrom}
-use Rattle.c62_depend.specs.Numbers.{as_bound}
 use Rattle.c62_depend.proofs.Ranges.{pieces_more}
 use Rattle.c62_depend.proofs.Latencies.{latency_small_at, delay_of-small}
 
 -- ---- the lists of dependences
 
-pub linked-all : (P : Link → Type 0) (number : ℕ) (o : Option ℤ) → ((l : ℤ) → o ≡ Some l → P (record { number = number; latency = l })) → All P (linked number o)
+pub linked-all : (P : Link → Type 0) (number : ℕ) (o : Option ℤ) → ((l : ℤ) → o ≡ Some l → P (record { number = number; latency = l }))
+    → All P (linked number o)
 linked-all P number None each = All-nil P
 linked-all P number (Some l) each = All-cons P (record { number = number; latency = l }) [] (each l refl) (All-nil P)
 
-pub pieces-all : {A : Type 0} (P : A → Type 0) (f : ℕ → List A) (a n : ℕ) → ((j : ℕ) → a ≤ j → j < a + n → All P (f j)) → All P (flat_map f (range_with_len a n))
+pub pieces-all : {A : Type 0} (P : A → Type 0) (f : ℕ → List A) (a n : ℕ) → ((j : ℕ) → a ≤ j → j < a + n → All P (f j))
+    → All P (flat_map f (range_with_len a n))
 pieces-all P f a zero each = All-nil P
 pieces-all P f a (suc n) each =
     All-append P (f a) (flat_map f (range_with_len (a + 1) n)) (each a (omega arith) (omega arith))
@@ -46,32 +36,32 @@ followers-are block i =
 
 -- ---- the greatest over a list
 
-longest_same : (f g : ℕ → ℕ) (least : ℕ) (links : List Link) → All (λ link. f link.number ≡ g link.number) links → longest f least links ≡ longest g least links
+longest_same : (f g : ℕ → ℕ) (least : ℕ) (links : List Link) → All (λ link. f link.number ≡ g link.number) links
+    → longest f least links ≡ longest g least links
 longest_same f g least [] same = refl
 longest_same f g least (link ∷ links) same =
-    longest_same f g (max least (raised link.latency (f link.number))) links (All-tail (λ link. f link.number ≡ g link.number) link links same)
-    ∙ ap (λ (h : ℕ). longest g (max least (raised link.latency h)) links) (All-head (λ link. f link.number ≡ g link.number) link links same)
+    let here = All-head (λ link. f link.number ≡ g link.number) link links same in
+    rw here
+    (longest_same f g (max least (raised link.latency (g link.number))) links (All-tail (λ link. f link.number ≡ g link.number) link links same))
 
-longest_below : (f : ℕ → ℕ) (least most : ℕ) (links : List Link) → least ≤ most → All (λ link. raised link.latency (f link.number) ≤ most) links → longest f least links ≤ most
+longest_below : (f : ℕ → ℕ) (least most : ℕ) (links : List Link) → least ≤ most → All (λ link. raised link.latency (f link.number) ≤ most) links
+    → longest f least links ≤ most
 longest_below f least most [] low each = low
 longest_below f least most (link ∷ links) low each =
-    let first : raised link.latency (f link.number) ≤ most = All-head (λ link. raised link.latency (f link.number) ≤ most) link links each in
-    longest_below f (max least (raised link.latency (f link.number))) most links (omega arith) (All-tail (λ link. raised link.latency (f link.number) ≤ most) link links each)
+    let first = All-head (λ link. raised link.latency (f link.number) ≤ most) link links each in
+    longest_below f (max least (raised link.latency (f link.number))) most links (omega (arith, first))
+    (All-tail (λ link. raised link.latency (f link.number) ≤ most) link links each)
 
 raised-small : (l : ℤ) (h : ℕ) → l ≤ℤ pos 5 → raised l h ≤ h + 5
-raised-small (pos n) h small = let few : n ≤ 5 = omega (arith, ints) in omega arith
-raised-small (negsuc n) h small = omega arith
+raised-small l h small = grind (arith, ints)
 
 delay_in-small : (o : Option Insn) → delay_in o ≤ 5
-delay_in-small None = omega arith
-delay_in-small (Some insn) = delay_of-small (op_of insn)
-
-delay_at-small : (block : List Insn) (i : ℕ) → delay_at block i ≤ 5
-delay_at-small block i = delay_in-small (slice_get block i)
+delay_in-small o = grind (arith, delay_of-small)
 
 -- ---- heights
 
-enough : (block : List Insn) (s t i : ℕ) → i < length block → length block ≤ i + s → length block ≤ i + t → path_within block s i ≡ path_within block t i
+enough : (block : List Insn) (s t i : ℕ) → i < length block → length block ≤ i + s → length block ≤ i + t
+    → path_within block s i ≡ path_within block t i
 enough block zero t i within some more = absurd (omega arith)
 enough block (suc s) zero i within some more = absurd (omega arith)
 enough block (suc s) (suc t) i within some more =
@@ -89,16 +79,13 @@ one_more : (block : List Insn) (f : ℕ → ℕ) (i : ℕ) (link : Link) → IsF
     → raised link.latency (f link.number) ≤ 5 * (length block - i)
 one_more block f i link follows behind =
     let small : link.latency ≤ℤ pos 5 = (latency_small_at block i link.number (Some link.latency) (sym follows.is)).1 in
-    let more : raised link.latency (f link.number) ≤ f link.number + 5 = raised-small link.latency (f link.number) small in
-    let after : i < link.number = follows.after in
-    let inside : link.number < length block = follows.within in
-    omega arith
+    omega (arith, raised-small link.latency (f link.number) small, follows.after, follows.within)
 
 within-more : (block : List Insn) (s i : ℕ) → i < length block → path_within block s i ≤ 5 * (length block - i)
 within-more block zero i within = omega arith
 within-more block (suc s) i within =
     longest_below (path_within block s) (delay_at block i) (5 * (length block - i)) (followers block i)
-    (let delay : delay_at block i ≤ 5 = delay_at-small block i in omega arith)
+    (let delay : delay_at block i ≤ 5 = delay_in-small (slice_get block i) in omega arith)
     (All-weaker (IsFollower block i) (λ link. raised link.latency (path_within block s link.number) ≤ 5 * (length block - i))
     (λ link follows. one_more block (path_within block s) i link follows (within-more block s link.number follows.within))
     (followers block i) (followers-are block i))
@@ -113,8 +100,7 @@ height-small block i within = within-more block (length block) i within
 -- a dependence more, where there is one
 longest-more : (f : ℕ → ℕ) (least number : ℕ) (o : Option ℤ) (links : List Link)
     → longest f least (links ++ linked number o) ≡ max (longest f least links) (raised_by o (f number))
-longest-more f least number None [] = sym (max-zero least)
-longest-more f least number (Some l) [] = refl
+longest-more f least number o [] = grind arith
 longest-more f least number o (link ∷ links) = longest-more f (max least (raised link.latency (f link.number))) number o links
 
 -- the dependences of i with the instructions before j
@@ -124,43 +110,35 @@ followers_before block i j = flat_map (λ j. linked j (latency block i j)) (rang
 pub first_height : (block : List Insn) (i most : ℕ) (heights : List ℕ) → most ≡ delay_at block i
     → most ≡ longest (slice_index heights) (delay_at block i) (followers_before block i (i + 1))
 first_height block i most heights e =
-    let none : i + 1 - (i + 1) ≡ 0 = omega arith in
-    e ∙ sym (ap (λ (n : ℕ). longest (slice_index heights) (delay_at block i) (flat_map (λ j. linked j (latency block i j)) (range_with_len (i + 1) n))) none)
+    let none : i + 1 - (i + 1) ≡ 0 = omega arith in rw none e
 
 -- an instruction more
 pub next_height : (block : List Insn) (i j number most : ℕ) (heights : List ℕ) → i < j → as_bound number ≡ latency block i j
     → most ≡ longest (slice_index heights) (delay_at block i) (followers_before block i j)
-    → max most (raised_by (as_bound number) (slice_index heights j)) ≡ longest (slice_index heights) (delay_at block i) (followers_before block i (j + 1))
+    → max most (raised_by (as_bound number) (slice_index heights j))
+    ≡ longest (slice_index heights) (delay_at block i) (followers_before block i (j + 1))
 next_height block i j number most heights after is before =
     let old = followers_before block i j in
-    let more = pieces_more (λ j. linked j (latency block i j)) (i + 1) (j - (i + 1)) (j + 1 - (i + 1)) j old (old ++ linked j (latency block i j)) (omega arith) (omega arith) refl refl in
-    ap (λ (m : ℕ). max m (raised_by (as_bound number) (slice_index heights j))) before
-    ∙ ap (λ (o : Option ℤ). max (longest (slice_index heights) (delay_at block i) old) (raised_by o (slice_index heights j))) is
-    ∙ sym (longest-more (slice_index heights) (delay_at block i) j (latency block i j) old)
-    ∙ ap (longest (slice_index heights) (delay_at block i)) more
+    let more = pieces_more (λ j. linked j (latency block i j)) (i + 1) (j - (i + 1)) (j + 1 - (i + 1)) j old (old ++ linked j (latency block i j))
+    (omega arith) (omega arith) refl refl in
+    rw (before, is, ← more) (sym (longest-more (slice_index heights) (delay_at block i) j (latency block i j) old))
 
 -- a height behind i is small
-pub low_behind : (block : List Insn) (i j : ℕ) (heights : List ℕ) → AreHeightsFrom block (i + 1) heights → length block ≤ 256 → i < j → j < length block
-    → slice_index heights j ≤ 1280
+pub low_behind : (block : List Insn) (i j : ℕ) (heights : List ℕ) → AreHeightsFrom block (i + 1) heights → length block ≤ 256 → i < j
+    → j < length block → slice_index heights j ≤ 1280
 low_behind block i j heights from few after within =
-    let high : height block j ≤ 5 * (length block - j) = height-small block j within in
-    let here : slice_index heights j ≡ height block j = from.are j (omega arith) within in
-    omega arith
+    omega (arith, height-small block j within, from.are j (omega arith) within)
 
 -- the greatest over all that depend on i
 pub height_found : (block : List Insn) (i n : ℕ) (heights : List ℕ) → AreHeightsFrom block (i + 1) heights → i < length block → n ≡ length block
     → longest (slice_index heights) (delay_at block i) (followers_before block i n) ≡ height block i
 unfolding followers
 height_found block i n heights from within all =
-    ap (λ (n : ℕ). longest (slice_index heights) (delay_at block i) (followers_before block i n)) all
-    ∙ longest_same (slice_index heights) (height block) (delay_at block i) (followers block i)
+    rw (all, height-step block i within)
+    (longest_same (slice_index heights) (height block) (delay_at block i) (followers block i)
     (All-weaker (IsFollower block i) (λ link. slice_index heights link.number ≡ height block link.number)
     (λ link follows. let after : i < link.number = follows.after in from.are link.number (omega arith) follows.within)
-    (followers block i) (followers-are block i))
-    ∙ sym (height-step block i within)
-
-pub no_heights : (block : List Insn) (n : ℕ) (heights : List ℕ) → length heights ≡ length block → n ≡ length block → AreHeightsFrom block n heights
-no_heights block n heights long all = record { long = long; are = λ k low high. absurd (omega arith) }
+    (followers block i) (followers-are block i)))
 
 -- one number further up
 pub height_more : (block : List Insn) (i h : ℕ) (heights : List ℕ) → AreHeightsFrom block (i + 1) heights → i < length block
@@ -168,13 +146,12 @@ pub height_more : (block : List Insn) (i h : ℕ) (heights : List ℕ) → AreHe
 height_more block i h heights from within found = record {
   long = length-set heights i h ∙ from.long;
   are = λ k low high. elim (cases_eq k i) [
-    | inl same ↦
-        let long : length heights ≡ length block = from.long in
-        get_or-set_at heights i k h 0 same (omega arith) ∙ found ∙ ap (height block) (sym same)
-    | inr other ↦ get_or-set_other heights i k h 0 other ∙ from.are k (omega arith) high
+    | inl same ↦ rw (get_or-set_at heights i k h 0 same (omega (arith, from.long)), same) found
+    | inr other ↦ rw (get_or-set_other heights i k h 0 other) (from.are k (omega arith) high)
   ];
 }
 
-pub heights_all : (block : List Insn) (n : ℕ) (heights : List ℕ) → AreHeightsFrom block 0 heights → length block ≡ n → heights ≡ map (height block) (range_with_len 0 n)
+pub heights_all : (block : List Insn) (n : ℕ) (heights : List ℕ) → AreHeightsFrom block 0 heights → length block ≡ n
+    → heights ≡ map (height block) (range_with_len 0 n)
 heights_all block n heights from long =
     fill_by_all (height block) heights n 0 (from.long ∙ long) (λ k inside. from.are k (omega arith) (omega arith))

@@ -1,3 +1,4 @@
+pub mod Common
 pub mod RegSets
 pub mod Ranges
 pub mod Greatest

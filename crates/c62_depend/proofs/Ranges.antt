@@ -1,27 +1,18 @@
 -- Lists that are made number by number.
-use Rattle.std.proofs.Common.{◌≡◌, ℕ, zero, suc, ◌+◌, ◌<◌, List, [], ◌∷◌, ◌++◌, map, length, get_or, refl, sym, ap, ◌∙◌, arith}
-use Rattle.std.specs.List.{flat_map, range_with_len}
-use Rattle.std.proofs.lemmas.Grind.{flat_map-append}
-use Rattle.std.proofs.lemmas.List.FromFn.{length-map-range_with_len, get_or-map-range_with_len}
+use Rattle.c62_depend.proofs.Common.{◌≡◌, ℕ, zero, suc, ◌+◌, ◌<◌, List, [], ◌∷◌, ◌++◌, map, length, get_or, refl, ap, ◌∙◌, arith, flat_map}
+use Rattle.c62_depend.proofs.Common.{range_with_len, flat_map-append, length-map-range_with_len, get_or-map-range_with_len}
+use Rattle.std.proofs.lemmas.List.{append-nil}
 
 pub range_more : (a n m j : ℕ) → a + n ≡ j → m ≡ n + 1 → range_with_len a m ≡ range_with_len a n ++ j ∷ []
 range_more a zero m j at next = rw (next) (ap (λ (k : ℕ). k ∷ []) (let same : a ≡ j = omega arith in same))
 range_more a (suc n) zero j at next = absurd (omega arith)
 range_more a (suc n) (suc m) j at next = ap (λ (rest : List ℕ). a ∷ rest) (range_more (a + 1) n m j (omega arith) (omega arith))
 
-append-nil : {A : Type 0} (xs : List A) → xs ++ [] ≡ xs
-append-nil [] = refl
-append-nil (x ∷ xs) = ap (λ rest. x ∷ rest) (append-nil xs)
-
 -- a number more
 pub pieces_more : {A : Type 0} (f : ℕ → List A) (a n m j : ℕ) (old new : List A) → a + n ≡ j → m ≡ n + 1
     → old ≡ flat_map f (range_with_len a n) → new ≡ old ++ f j → new ≡ flat_map f (range_with_len a m)
-pieces_more {A} f a n m j old new at next before added =
-    added
-    ∙ ap (λ (xs : List A). xs ++ f j) before
-    ∙ ap (λ (xs : List A). flat_map f (range_with_len a n) ++ xs) (sym (append-nil (f j)))
-    ∙ sym (flat_map-append f (range_with_len a n) (j ∷ []))
-    ∙ ap (flat_map f) (sym (range_more a n m j at next))
+pieces_more f a n m j old new at next before added =
+    rw (added, before, range_more a n m j at next, flat_map-append f (range_with_len a n) (j ∷ []), append-nil (f j)) refl
 
 -- the elements of a list made number by number
 pub list_long : {Y : Type 0} (f : ℕ → Y) (n : ℕ) (ys : List Y) → ys ≡ map f (range_with_len 0 n) → length ys ≡ n

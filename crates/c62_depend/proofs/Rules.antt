@@ -1,17 +1,9 @@
 -- The lists of dependences and the heights are what their rules say.
-use Rattle.std.proofs.Common.{◌≡◌, ℕ, zero, suc, ◌+◌, ◌-◌, ◌<◌, ◌≤◌, max, ℤ, pos, negsuc, ◌+ℤ◌, ◌≤ℤ◌, List, [], ◌∷◌, ◌++◌, length, map, Option, Some, None, refl, sym, subst, arith, inl, inr, ◌⊎◌}
-use Rattle.std.specs.Prelude.{All, Contains}
-use Rattle.std.specs.List.{flat_map, range_with_len}
+use Rattle.c62_depend.proofs.Common.{◌≡◌, ℕ, zero, suc, ◌+◌, ◌-◌, ◌<◌, ◌≤◌, max, ℤ, pos, ◌+ℤ◌, ◌≤ℤ◌, List, [], ◌∷◌, ◌++◌, length, map, Option, Some}
+use Rattle.c62_depend.proofs.Common.{None, refl, sym, subst, arith, inl, inr, ◌⊎◌, All, Contains, flat_map, range_with_len, ints, cases_lt, All-nil}
+use Rattle.c62_depend.proofs.Common.{All-cons, All-contains, Contains-append_left, Contains-append_right, Insn, Link, latency, linked, needs}
+use Rattle.c62_depend.proofs.Common.{followers, raised, delay_at, longest, height, IsHeight, ◌∙◌}
 use Rattle.std.specs.List.Sorted.{IsStrictlyIncreasing}
-use Rattle.std.proofs.lemmas.Int.{ints}
-use Rattle.std.proofs.lemmas.Bool.{cases_lt}
-use Rattle.std.proofs.lemmas.List.Elements.{All-nil, All-cons, All-contains, Contains-append_left, Contains-append_right}
-use Rattle.c62_insn.specs.declared.insn.Insn.{Insn}
-use Rattle.c62_depend.specs.declared.links.Link.{Link}
-use Rattle.c62_depend.specs.Latency.{latency}
-use Rattle.c62_depend.specs.Links.{linked, needs, followers}
-use Rattle.c62_depend.specs.Height.{raised, delay_at, longest, height, IsHeight}
-use Rattle.c62_depend.specs.Plan.{IsShort}
 use Rattle.c62_depend.specs.Laws.{AreLinks}
 use Rattle.c62_depend.proofs.Heights.{IsFollower, followers-are, height-step, linked-all, pieces-all}
 use Rattle.c62_depend.proofs.Plans.{short_is}
@@ -30,12 +22,12 @@ piece_in f a zero j x low high is = absurd (omega arith)
 piece_in {A} f a (suc n) j x low high is = elim (cases_lt a j) [
   | inl after ↦ Contains-append_right (f a) (flat_map f (range_with_len (a + 1) n)) x (piece_in f (a + 1) n j x (omega arith) (omega arith) is)
   | inr first ↦
-      let same : j ≡ a = omega arith in
-      Contains-append_left (f a) (flat_map f (range_with_len (a + 1) n)) x (subst (λ (k : ℕ). Contains (f k) x) same is)
+      let same : a ≡ j = omega arith in
+      Contains-append_left (f a) (flat_map f (range_with_len (a + 1) n)) x (rw same is)
 ]
 
 link_in : (number : ℕ) (o : Option ℤ) (l : ℤ) → o ≡ Some l → Contains (linked number o) (record { number = number; latency = l })
-link_in number o l e = subst (λ (p : Option ℤ). Contains (linked number p) (record { number = number; latency = l })) (sym e) (first_in (record { number = number; latency = l }) [])
+link_in number o l e = rw e (first_in (record { number = number; latency = l }) [])
 
 -- the numbers rise, from this one on
 Rises : ℕ → List Link → Type 0
@@ -50,14 +42,11 @@ rises_lower low least (link ∷ links) h r = ((let above : low ≤ link.number =
 pieces_rise : (o : ℕ → Option ℤ) (a n : ℕ) → Rises a (flat_map (λ j. linked j (o j)) (range_with_len a n))
 unfolding Rises
 pieces_rise o a zero = tt
-pieces_rise o a (suc n) = one_more (o a) (pieces_rise o (a + 1) n)
+pieces_rise o a (suc n) = one_more (o a) (flat_map (λ j. linked j (o j)) (range_with_len (a + 1) n)) (pieces_rise o (a + 1) n)
   where
-    rest : List Link
-    rest = flat_map (λ j. linked j (o j)) (range_with_len (a + 1) n)
-
-    one_more : (p : Option ℤ) → Rises (a + 1) (flat_map (λ j. linked j (o j)) (range_with_len (a + 1) n)) → Rises a (linked a p ++ flat_map (λ j. linked j (o j)) (range_with_len (a + 1) n))
-    one_more None r = rises_lower (a + 1) a (flat_map (λ j. linked j (o j)) (range_with_len (a + 1) n)) (omega arith) r
-    one_more (Some l) r = (omega arith, r)
+    one_more : (p : Option ℤ) (links : List Link) → Rises (a + 1) links → Rises a (linked a p ++ links)
+    one_more None links r = rises_lower (a + 1) a links (omega arith) r
+    one_more (Some l) links r = (omega arith, r)
 
 increasing_from : (low : ℕ) (links : List Link) → Rises low links → IsStrictlyIncreasing (map (λ link. link.number) links)
 unfolding Rises
@@ -68,47 +57,41 @@ increasing_from low (x ∷ y ∷ links) r (suc k) within =
     let next : suc k + 1 ≡ suc (k + 1) = omega arith in
     rw next (increasing_from (x.number + 1) (y ∷ links) r.1 k (omega arith))
 
+-- a dependence that these latencies tell
+abbrev Tells : (ℕ → Option ℤ) → Link → Type 0
+Tells o link = o link.number ≡ Some link.latency
+
+-- all dependences with the numbers of a range
+pieces_are : (o : ℕ → Option ℤ) (a n : ℕ) → ((k : ℕ) (l : ℤ) → o k ≡ Some l → (a ≤ k) × (k < a + n))
+    → AreLinks (Tells o) (flat_map (λ k. linked k (o k)) (range_with_len a n))
+pieces_are o a n within = record {
+  all = pieces-all (Tells o) (λ k. linked k (o k)) a n (λ k low high. linked-all (Tells o) k (o k) (λ l e. e));
+  each = λ link e.
+      let inside = within link.number link.latency e in
+      piece_in (λ k. linked k (o k)) a n link.number link inside.0 inside.1 (link_in link.number (o link.number) link.latency e);
+  rising = increasing_from a (flat_map (λ k. linked k (o k)) (range_with_len a n)) (pieces_rise o a n);
+}
+
 pub needs_are : (block : List Insn) (j : ℕ) → AreLinks (λ link. latency block link.number j ≡ Some link.latency) (needs block j)
 unfolding needs
-needs_are block j = record {
-  all = pieces-all (λ (link : Link). latency block link.number j ≡ Some link.latency) (λ i. linked i (latency block i j)) 0 j
-      (λ i low high. linked-all (λ (link : Link). latency block link.number j ≡ Some link.latency) i (latency block i j) (λ l e. e));
-  each = λ link e.
-      let before : link.number < j = (short_is block link.number j link.latency e).before in
-      piece_in (λ i. linked i (latency block i j)) 0 j link.number link (omega arith) (omega arith) (link_in link.number (latency block link.number j) link.latency e);
-  rising = increasing_from 0 (flat_map (λ i. linked i (latency block i j)) (range_with_len 0 j)) (pieces_rise (λ i. latency block i j) 0 j);
-}
+needs_are block j = pieces_are (λ i. latency block i j) 0 j (λ i l e. (omega arith, omega (arith, (short_is block i j l e).before)))
 
 pub followers_are : (block : List Insn) (i : ℕ) → AreLinks (λ link. latency block i link.number ≡ Some link.latency) (followers block i)
 unfolding followers
-followers_are block i = record {
-  all = pieces-all (λ (link : Link). latency block i link.number ≡ Some link.latency) (λ j. linked j (latency block i j)) (i + 1) (length block - (i + 1))
-      (λ j low high. linked-all (λ (link : Link). latency block i link.number ≡ Some link.latency) j (latency block i j) (λ l e. e));
-  each = λ link e.
-      let short : IsShort block i link.number link.latency = short_is block i link.number link.latency e in
-      let before : i < link.number = short.before in
-      let within : link.number < length block = short.within in
-      piece_in (λ j. linked j (latency block i j)) (i + 1) (length block - (i + 1)) link.number link (omega arith) (omega arith)
-      (link_in link.number (latency block i link.number) link.latency e);
-  rising = increasing_from (i + 1) (flat_map (λ j. linked j (latency block i j)) (range_with_len (i + 1) (length block - (i + 1))))
-      (pieces_rise (λ j. latency block i j) (i + 1) (length block - (i + 1)));
-}
+followers_are block i = pieces_are (latency block i) (i + 1) (length block - (i + 1))
+    (λ j l e. let short = short_is block i j l e in (omega (arith, short.before), omega (arith, short.before, short.within)))
 
 -- ---- heights
 
 longest-least : (f : ℕ → ℕ) (least : ℕ) (links : List Link) → least ≤ longest f least links
 longest-least f least [] = omega arith
-longest-least f least (link ∷ links) =
-    let more : max least (raised link.latency (f link.number)) ≤ longest f (max least (raised link.latency (f link.number))) links
-    = longest-least f (max least (raised link.latency (f link.number))) links in
-    omega arith
+longest-least f least (link ∷ links) = grind (arith, longest-least f (max least (raised link.latency (f link.number))) links)
 
 longest-each : (f : ℕ → ℕ) (least : ℕ) (links : List Link) → All (λ link. raised link.latency (f link.number) ≤ longest f least links) links
 longest-each f least [] = All-nil (λ (link : Link). raised link.latency (f link.number) ≤ longest f least [])
 longest-each f least (link ∷ links) =
-    let more : max least (raised link.latency (f link.number)) ≤ longest f (max least (raised link.latency (f link.number))) links
-    = longest-least f (max least (raised link.latency (f link.number))) links in
-    All-cons (λ (one : Link). raised one.latency (f one.number) ≤ longest f least (link ∷ links)) link links (omega arith)
+    All-cons (λ (one : Link). raised one.latency (f one.number) ≤ longest f least (link ∷ links)) link links
+    (grind (arith, longest-least f (max least (raised link.latency (f link.number))) links))
     (longest-each f (max least (raised link.latency (f link.number))) links)
 
 Reaches : (f : ℕ → ℕ) (least most : ℕ) (links : List Link) → Type 0
@@ -118,27 +101,21 @@ longest-reached : (f : ℕ → ℕ) (least : ℕ) (links : List Link) → Reache
 unfolding Reaches
 longest-reached f least [] = inl refl
 longest-reached f least (link ∷ links) =
-    by_rest (longest f (max least (raised link.latency (f link.number))) links) (longest-reached f (max least (raised link.latency (f link.number))) links)
-  where
-    by_rest : (most : ℕ) → (most ≡ max least (raised link.latency (f link.number))) ⊎ ((one : Link) × Contains links one × (most ≡ raised one.latency (f one.number)))
-        → (most ≡ least) ⊎ ((one : Link) × Contains (link ∷ links) one × (most ≡ raised one.latency (f one.number)))
-    by_rest most (inl e) = elim (cases_lt least (raised link.latency (f link.number))) [
-      | inl above ↦ (let same : most ≡ raised link.latency (f link.number) = omega arith in inr (link, first_in link links, same))
-      | inr below ↦ (let same : most ≡ least = omega arith in inl same)
+    let r = raised link.latency (f link.number) in
+    elim (longest-reached f (max least r) links) [
+      | inl e ↦ elim (cases_lt least r) [
+        | inl above ↦ (let same : max least r ≡ r = omega arith in inr (link, first_in link links, e ∙ same))
+        | inr below ↦ (let same : max least r ≡ least = omega arith in inl (e ∙ same))
+      ]
+      | inr w ↦ inr (w.0, later_in link w.0 links w.1, w.2)
     ]
-    by_rest most (inr w) = inr (w.0, later_in link w.0 links w.1, w.2)
 
 raised-above : (l : ℤ) (h : ℕ) → (l +ℤ pos h) ≤ℤ pos (raised l h)
-raised-above (pos n) h = omega (arith, ints)
-raised-above (negsuc n) h = omega (arith, ints)
+raised-above l h = grind (arith, ints)
 
 -- what is reached is the sum, where it isn't below 0
 raised-exact : (l : ℤ) (h most : ℕ) → most ≡ raised l h → (most ≡ 0) ⊎ (l +ℤ pos h ≡ pos most)
-raised-exact (pos n) h most e = (let same : pos n +ℤ pos h ≡ pos most = omega (arith, ints) in inr same)
-raised-exact (negsuc n) h most e = elim (cases_lt n h) [
-  | inl above ↦ (let same : negsuc n +ℤ pos h ≡ pos most = omega (arith, ints) in inr same)
-  | inr below ↦ (let none : most ≡ 0 = omega arith in inl none)
-]
+raised-exact l h most e = grind (arith, ints)
 
 pub height_is : (block : List Insn) (i : ℕ) → i < length block → IsHeight block i (height block i)
 unfolding Reaches
@@ -149,9 +126,9 @@ height_is block i within = subst (IsHeight block i) (sym (height-step block i wi
       let below : raised cycles (height block j) ≤ longest (height block) (delay_at block i) (followers block i) =
       All-contains (λ (link : Link). raised link.latency (height block link.number) ≤ longest (height block) (delay_at block i) (followers block i))
       (followers block i) (record { number = j; latency = cycles }) (longest-each (height block) (delay_at block i) (followers block i)) is_in in
-      let above : (cycles +ℤ pos (height block j)) ≤ℤ pos (raised cycles (height block j)) = raised-above cycles (height block j) in
-      omega (arith, ints);
-  attained = reached (longest (height block) (delay_at block i) (followers block i)) (longest-least (height block) (delay_at block i) (followers block i))
+      omega (arith, ints, below, raised-above cycles (height block j));
+  attained =
+      reached (longest (height block) (delay_at block i) (followers block i)) (longest-least (height block) (delay_at block i) (followers block i))
       (longest-reached (height block) (delay_at block i) (followers block i));
 })
   where

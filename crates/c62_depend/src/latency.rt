@@ -165,6 +165,7 @@ fn after_result(first: &Uses) -> u8
 
 /// The greatest bound of all cases.
 #[inline(never)]
+#[tactic(auto, using(crate::proofs::Numbers::all_is))]
 fn by_all(exclusive: bool, disjoint: bool, first: &Uses, second: &Uses) -> u8
     ensures { as_bound result ≡ latency_of exclusive disjoint first.now.insn second.now.insn }
 {

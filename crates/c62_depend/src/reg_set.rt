@@ -24,6 +24,7 @@ impl RegSet {
     }
 
     /// The set with `reg` added.
+    #[tactic(auto, using(crate::proofs::RegSets::with_one))]
     pub fn with(self, reg: Reg) -> RegSet
         ensures { (other : Register) → reg_in result other ≡ (reg_in self other || same_reg reg other) }
     {
@@ -33,6 +34,7 @@ impl RegSet {
     }
 
     /// The registers of both sets.
+    #[tactic(auto, using(crate::proofs::RegSets::joined_is))]
     pub fn joined(self, other: RegSet) -> RegSet
         ensures { (reg : Register) → reg_in result reg ≡ (reg_in self reg || reg_in other reg) }
     {

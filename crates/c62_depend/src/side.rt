@@ -100,6 +100,7 @@ impl UnitChoice {
 }
 
 /// The side and the units of each instruction.
+#[tactic(auto, using(crate::proofs::Units::choices_more))]
 pub(crate) fn unit_choices(alloc: Global, uses: &[Uses]) -> Result<Vec<UnitChoice>, AllocError>
     ensures { IfOk result (λ choices. AreUnitChoices (insns_in uses.now) (length uses.now) choices.items) }
 {

@@ -1,13 +1,8 @@
 -- Blocks as they are read, and packet blocks.
-use Rattle.std.proofs.Common.{arith, ◌≡◌, ℕ, ◌+◌, ◌*◌, ◌<◌, ◌≤◌, List, length, get_or, map, Some, ap, ◌∙◌}
-use Rattle.std.specs.List.Sorted.{IsNonDecreasingBy}
-use Rattle.std.proofs.lemmas.List.{length-map}
+use Rattle.c62_listing_reader.proofs.Common.{arith, ◌≡◌, ℕ, ◌+◌, ◌*◌, ◌<◌, ◌≤◌, List, length, get_or, map, Some, ap, ◌∙◌, IsNonDecreasingBy}
+use Rattle.c62_listing_reader.proofs.Common.{length-map, unit_of, Placed, listing_position, IsInListingOrder, StandAsWritten, part_of, unit_index}
+use Rattle.c62_listing_reader.proofs.Common.{part_position}
 use Rattle.std.proofs.lemmas.List.{get_or-map}
-use Rattle.c62_insn.specs.Insn.{unit_of}
-use Rattle.c62_packet.specs.declared.placed.Placed.{Placed}
-use Rattle.c62_packet.specs.Packed.{listing_position, IsInListingOrder, StandAsWritten}
-use Rattle.c62_listing_reader.specs.Said.{part_of}
-use Rattle.c62_listing_reader.specs.Fine.{unit_index, part_position}
 
 same_position : (p : Placed) → unit_of p.insn ≡ Some p.unit → part_position (part_of p) ≡ listing_position p
 same_position p e = ap (λ (n : ℕ). 8 * p.cycle + n) (ap unit_index e)

@@ -1,81 +1,52 @@
 -- The lines of blocks are read as the blocks.
-use Rattle.std.proofs.Common.{arith, ◌≡◌, ℕ, suc, ◌+◌, ◌<◌, ◌≤◌, List, [], ◌∷◌, ◌++◌, length, map, Option, Some, None, Bool, true, false, not, refl, sym, ap, ◌∙◌, subst, append_assoc, append-nil, length-append}
-use Rattle.std.specs.Prelude.{◌&&◌, ◌||◌, ◌==◌, nat_eq, if◌then◌else◌, is_some, All, take_while, Ok, codes}
-use Rattle.std.specs.List.{AllByRecursion, list_all, list_any}
-use Rattle.std.proofs.lemmas.Bool.{and_parts, lt-leb, or_right}
-use Rattle.std.proofs.lemmas.Bool.Decides.{nat_tests}
-use Rattle.std.proofs.lemmas.List.{length-map}
+use Rattle.c62_listing_reader.proofs.Common.{arith, ◌≡◌, ℕ, suc, ◌+◌, ◌<◌, ◌≤◌, List, [], ◌∷◌, ◌++◌, length, map, Option, Some, None, Bool, true}
+use Rattle.c62_listing_reader.proofs.Common.{false, not, refl, sym, ap, ◌∙◌, append_assoc, append-nil, length-append, ◌&&◌, ◌==◌, is_some, All, Ok}
+use Rattle.c62_listing_reader.proofs.Common.{codes, AllByRecursion, list_all, list_any, nat_tests, length-map, is_label, Nothing, Name, label_is}
+use Rattle.c62_listing_reader.proofs.Common.{label_parts, label_back, Placed, Packed, block_lines, cycle_lines, label_lines, parted_lines, all_lines}
+use Rattle.c62_listing_reader.proofs.Common.{Empty, Above, Start, Line, is_empty, begin_filled, front_of, has_colon, Draft, Drafts, no_drafts}
+use Rattle.c62_listing_reader.proofs.Common.{all_drafts, opened, is_filled, is_taken}
 use Rattle.std.proofs.lemmas.List.Sums.{take_while-cons}
 use Rattle.c62_token.specs.Token.{is_word_byte}
-use Rattle.c62_token.specs.Number.{is_label}
-use Rattle.c62_line.specs.Line.{Nothing, head_of, label_front, line_of, rest_says as words_say}
-use Rattle.c62_read.specs.Program.{Name, label_is}
-use Rattle.c62_line.proofs.SpelledOperands.{label_parts, label_some}
-use Rattle.c62_line.proofs.WrittenLines.{label_back}
-use Rattle.c62_packet.specs.declared.placed.Placed.{Placed}
-use Rattle.c62_packet.specs.Packed.{Packed}
-use Rattle.c62_listing.specs.Listing.{block_lines, cycle_lines, label_lines, parted_lines, all_lines}
-use Rattle.c62_listing_reader.specs.declared.line.Front.TheVariants.{Empty, Label}
-use Rattle.c62_listing_reader.specs.declared.line.Above.{Above}
-use Rattle.c62_listing_reader.specs.declared.line.Above.TheVariants.{Start}
-use Rattle.c62_listing_reader.specs.Text.{Line, content, is_empty, begin_filled}
-use Rattle.c62_listing_reader.specs.Begin.{front_of, has_colon}
-use Rattle.c62_listing_reader.specs.Said.{Draft, Drafts, no_drafts, all_drafts, opened, is_text}
-use Rattle.c62_listing_reader.specs.Faults.{is_filled, is_taken, rest_says, line_says}
+use Rattle.c62_line.specs.Line.{head_of, label_front, line_of, rest_says as words_say}
+use Rattle.c62_line.proofs.SpelledOperands.{label_some}
+use Rattle.c62_listing_reader.specs.declared.line.Front.TheVariants.{Label}
 use Rattle.c62_listing_reader.proofs.TextLemmas.{fed}
 use Rattle.c62_listing_reader.proofs.ToldLemmas.{empty_field}
-use Rattle.c62_listing_reader.proofs.UntoldLemmas.{are_allowed, fed_content, fed_ended, line_read, same_bytes, untold}
-use Rattle.c62_listing_reader.proofs.BackLemmas.{AreBehind, IsCalm, IsIn, IsSayable, Leads, key_of, no_lines, one_line, start_leads, then_lines, unlined}
+use Rattle.c62_listing_reader.proofs.UntoldLemmas.{are_allowed, fed_content, fed_ended, line_read, same_bytes}
+use Rattle.c62_listing_reader.proofs.BackLemmas.{AreBehind, IsCalm, IsIn, IsSayable, Leads, key_of, no_lines, one_line, start_leads, then_lines}
+use Rattle.c62_listing_reader.proofs.BackLemmas.{unlined, IsWritable}
+use Rattle.c62_listing_reader.specs.Faults.{line_says}
 
 -- ---- a label line
 
 colon_at_end : (w : List ℕ) → list_all is_word_byte w ≡ true → has_colon (w ++ 58 ∷ []) ≡ true
 colon_at_end [] words = refl
-colon_at_end (b ∷ w) words =
-    let parts = and_parts (is_word_byte b) (list_all is_word_byte w) words in
-    let plain : not (b == 59) ≡ true = (let word = parts.0 in grind (arith, nat_tests)) in
-    let rest : List ℕ = w ++ 58 ∷ [] in
-    ap (list_any (λ (x : ℕ). x == 58)) (take_while-cons (λ (x : ℕ). not (x == 59)) b rest)
-    ∙ ap (λ (t : Bool). list_any (λ (x : ℕ). x == 58) (if t then b ∷ take_while (λ (x : ℕ). not (x == 59)) rest else [])) plain
-    ∙ or_right (b == 58) _ (colon_at_end w parts.1)
+colon_at_end (b ∷ w) words = grind (arith, nat_tests, take_while-cons (λ (x : ℕ). not (x == 59)) b (w ++ 58 ∷ []), colon_at_end w)
 
 label_front_is : (label : Name) → 1 ≤ length label → list_all is_word_byte label ≡ true → front_of (label ++ 58 ∷ []) ≡ Label
 label_front_is [] some words = absurd (omega arith)
-label_front_is (b ∷ label) some words =
-    let word = (and_parts (is_word_byte b) (list_all is_word_byte label) words).0 in
-    let blank : nat_eq 32 b ≡ false = grind (arith, nat_tests) in
-    let bar : nat_eq 124 b ≡ false = grind (arith, nat_tests) in
-    let star : not (b == 42) ≡ true = grind (arith, nat_tests) in
-    rw (blank, bar, star, colon_at_end (b ∷ label) words) refl
+label_front_is (b ∷ label) some words = grind (arith, nat_tests, colon_at_end (b ∷ label))
 
 label_said : (labels : List Name) (done : List Draft) (label : Name) (below : List Line) → is_label label ≡ true → length done < 64
     → is_taken (Some label) (record { done = done; current = None }) ≡ false
-    → line_says labels (record { done = done; current = None }) Start (fed (label ++ codes ":")) below ≡ Ok (record { front = Label; label = Some label; says = Nothing })
+    → line_says labels (record { done = done; current = None }) Start (fed (label ++ codes ":")) below ≡ Ok
+    (record { front = Label; label = Some label; says = Nothing })
+unfolding line_says
 label_said labels done label below is few free =
-    let drafts : Drafts = record { done = done; current = None } in
-    let bytes : List ℕ = label ++ codes ":" in
     let back = label_back label is in
-    let read = line_read bytes (Some label) Nothing back.0 in
-    let same : bytes ≡ content (fed bytes) = sym (fed_content bytes read.allowed) in
-    let front : Label ≡ front_of bytes = sym (label_front_is label (label_some label is) (label_parts label is).1) in
-    let says : rest_says drafts bytes ≡ Ok (Some label, Nothing) = rw (back.0, back.1, free) refl in
-    untold labels drafts Start (fed bytes) below (record { front = Label; label = Some label; says = Nothing }) (record {
-      front = front ∙ ap front_of same;
-      allowed = subst (λ (b : List ℕ). are_allowed b ≡ true) same read.allowed;
-      fits = subst (λ (b : List ℕ). length b ≤ 255) same read.fits;
-      placed = refl;
-      read = ap (λ (b : List ℕ). rest_says drafts b) (sym same) ∙ says;
-      known = refl;
-      few = refl;
-      begins = lt-leb 64 (length done) few;
-      spelled = ap (λ (b : List ℕ). is_text b (Some bytes)) (sym same) ∙ same_bytes bytes;
-      ended = fed_ended bytes read.allowed;
-      order = refl;
-      pauses = refl;
-      between = refl;
-      outside = refl;
-      short = omega arith;
-    })
+    let read = line_read (label ++ codes ":") (Some label) Nothing back.0 in
+    grind (
+      arith,
+      nat_tests,
+      back.0,
+      back.1,
+      read.allowed,
+      read.fits,
+      fed_content (label ++ codes ":"),
+      fed_ended (label ++ codes ":"),
+      same_bytes (label ++ codes ":"),
+      label_front_is label (label_some label is) (label_parts label is).1,
+    )
 
 -- ---- an empty line
 
@@ -83,27 +54,11 @@ gap_line : line_of [] ≡ Ok (None, Nothing)
 unfolding line_of head_of label_front words_say
 gap_line = refl
 
-gap_said : (labels : List Name) (drafts : Drafts) (above : Above) (below : List Line) → is_filled above ≡ true → begin_filled below ≡ true → (opened drafts.current).cycles ≤ 2048
+gap_said : (labels : List Name) (drafts : Drafts) (above : Above) (below : List Line) → is_filled above ≡ true → begin_filled below ≡ true
+    → (opened drafts.current).cycles ≤ 2048
     → line_says labels drafts above (fed []) below ≡ Ok (record { front = Empty; label = None; says = Nothing })
-gap_said labels drafts above below filled begins short =
-    let says : rest_says drafts [] ≡ Ok (None, Nothing) = rw (gap_line, empty_field) refl in
-    untold labels drafts above (fed []) below (record { front = Empty; label = None; says = Nothing }) (record {
-      front = refl;
-      allowed = refl;
-      fits = omega arith;
-      placed = refl;
-      read = says;
-      known = refl;
-      few = refl;
-      begins = refl;
-      spelled = refl;
-      ended = refl;
-      order = refl;
-      pauses = refl;
-      between = rw (filled, begins) refl;
-      outside = refl;
-      short = omega (arith, short);
-    })
+unfolding line_says
+gap_said labels drafts above below filled begins short = grind (arith, nat_tests, gap_line, empty_field)
 
 -- ---- blocks that are the same but for the lines of their instructions
 
@@ -117,7 +72,8 @@ AllLike [] [] = Unit {0}
 AllLike (draft ∷ drafts) (block ∷ blocks) = IsLike draft block × AllLike drafts blocks
 AllLike _ _ = ⊥
 
-like_more : (drafts : List Draft) (blocks : List Packed) (draft : Draft) (block : Packed) → AllLike drafts blocks → IsLike draft block → AllLike (drafts ++ draft ∷ []) (blocks ++ block ∷ [])
+like_more : (drafts : List Draft) (blocks : List Packed) (draft : Draft) (block : Packed) → AllLike drafts blocks → IsLike draft block
+    → AllLike (drafts ++ draft ∷ []) (blocks ++ block ∷ [])
 unfolding AllLike
 like_more [] [] draft block all like = (like, tt)
 like_more [] (b ∷ blocks) draft block all like = absurd all
@@ -137,22 +93,25 @@ unfolding AllLike
 like_taken label [] [] all = refl
 like_taken label [] (b ∷ blocks) all = absurd all
 like_taken label (d ∷ drafts) [] all = absurd all
-like_taken label (d ∷ drafts) (b ∷ blocks) all =
-    ap (λ (at : Option Name). label_is label at || list_any (λ (draft : Draft). label_is label draft.label) drafts) all.0.label
-    ∙ ap (λ (others : Bool). label_is label b.label || others) (like_taken label drafts blocks all.1)
+like_taken label (d ∷ drafts) (b ∷ blocks) all = grind (arith, all.0.label, like_taken label drafts blocks all.1)
 
 -- ---- a block
 
--- what is asked of a block behind these
-pub record IsGood (name : ℕ → List ℕ) (labels : List Name) (aim : Name → ℕ) (passed : List Packed) (block : Packed) : Type 0 where
-  pub label : (label : Name) → block.label ≡ Some label → is_label label ≡ true
-  pub free : (label : Name) → block.label ≡ Some label → list_any (λ other. label_is label other.label) passed ≡ false
-  pub begun : block.label ≡ None → 0 < length block.placed
-  pub sayable : All (IsSayable name labels aim) block.placed
+-- what the names and the bytes of a listing ask of a block
+pub record IsSmall (name : ℕ → List ℕ) (block : Packed) : Type 0 where
+  pub label : (l : Name) → block.label ≡ Some l → is_label l ≡ true
+  pub writable : All (IsWritable name) block.placed
   pub order : (p : Placed) (rest : List Placed) → block.placed ≡ p ∷ rest → AreBehind p rest
   pub within : All (λ p. p.cycle + 1 ≤ block.cycles) block.placed
   pub few : length block.placed ≤ 256
   pub short : block.cycles ≤ 2048
+
+-- what is asked of a block behind these
+pub record IsGood (name : ℕ → List ℕ) (labels : List Name) (aim : Name → ℕ) (passed : List Packed) (block : Packed) : Type 0 where
+  pub small : IsSmall name block
+  pub free : (label : Name) → block.label ≡ Some label → list_any (λ other. label_is label other.label) passed ≡ false
+  pub begun : block.label ≡ None → 0 < length block.placed
+  pub sayable : All (IsSayable name labels aim) block.placed
 
 -- the blocks so far, of which the last is open
 pub record AreRead (passed : List Packed) (drafts : Drafts) (above : Above) : Type 0 where
@@ -161,8 +120,10 @@ pub record AreRead (passed : List Packed) (drafts : Drafts) (above : Above) : Ty
   pub some : is_some drafts.current ≡ true
   pub short : (opened drafts.current).cycles ≤ 2048
 
-open_by : (done : List Draft) (current : Option Draft) (passed : List Packed) (block : Packed) (above : Above) → AllLike done passed → (block.label ≡ None → 0 < length block.placed) → block.cycles ≤ 2048
-    → IsIn done block.label block.cycles block.placed (record { done = done; current = current }) above → AreRead (passed ++ block ∷ []) (record { done = done; current = current }) above
+open_by : (done : List Draft) (current : Option Draft) (passed : List Packed) (block : Packed) (above : Above) → AllLike done passed
+    → (block.label ≡ None → 0 < length block.placed) → block.cycles ≤ 2048
+    → IsIn done block.label block.cycles block.placed (record { done = done; current = current }) above
+    → AreRead (passed ++ block ∷ []) (record { done = done; current = current }) above
 open_by done (Some draft) passed block above like begun short is = record {
   like = like_more done passed draft block like (record { label = is.at.named; cycles = is.at.written; placed = is.at.parts });
   filled = is.filled;
@@ -174,10 +135,11 @@ open_by done None passed block above like begun short is =
     let some = begun (sym is.at.named) in
     absurd (omega (arith, none, some))
 
-is_read : (done : List Draft) (drafts : Drafts) (passed : List Packed) (block : Packed) (above : Above) → AllLike done passed → (block.label ≡ None → 0 < length block.placed) → block.cycles ≤ 2048
+is_read : (done : List Draft) (drafts : Drafts) (passed : List Packed) (block : Packed) (above : Above) → AllLike done passed
+    → (block.label ≡ None → 0 < length block.placed) → block.cycles ≤ 2048
     → IsIn done block.label block.cycles block.placed drafts above → AreRead (passed ++ block ∷ []) drafts above
 is_read done drafts passed block above like begun short is =
-    open_by drafts.done drafts.current passed block above (subst (λ (ds : List Draft). AllLike ds passed) (sym is.at.same) like) begun short (record {
+    open_by drafts.done drafts.current passed block above (rw is.at.same like) begun short (record {
       at = record { same = refl; named = is.at.named; written = is.at.written; parts = is.at.parts };
       filled = is.filled;
     })
@@ -187,31 +149,45 @@ calm_start done = record { is = record { at = record { same = refl; named = refl
 
 module _ (name : ℕ → List ℕ) (labels : List Name) (aim : Name → ℕ) where
   label_leads : (done : List Draft) (label : Option Name) (number : ℕ) (below : List Line) → length done < 64
-      → ((l : Name) → label ≡ Some l → is_label l ≡ true) → ((l : Name) → label ≡ Some l → is_taken (Some l) (record { done = done; current = None }) ≡ false)
+      → ((l : Name) → label ≡ Some l → is_label l ≡ true)
+      → ((l : Name) → label ≡ Some l → is_taken (Some l) (record { done = done; current = None }) ≡ false)
       → Leads labels aim number (record { done = done; current = None }) Start (label_lines label) below (IsCalm done label 0 [])
-  label_leads done None number below few is free = no_lines labels aim number (record { done = done; current = None }) Start below (IsCalm done None 0 []) (calm_start done)
+  label_leads done None number below few is free =
+      no_lines labels aim number (record { done = done; current = None }) Start below (IsCalm done None 0 []) (calm_start done)
   label_leads done (Some label) number below few is free =
-      one_line labels aim number (record { done = done; current = None }) Start (label ++ codes ":") below (record { front = Label; label = Some label; says = Nothing }) (IsCalm done (Some label) 0 [])
+      one_line labels aim number (record { done = done; current = None }) Start (label ++ codes ":") below
+      (record { front = Label; label = Some label; says = Nothing }) (IsCalm done (Some label) 0 [])
       (label_said labels done label below (is label refl) few (free label refl))
       (record { is = record { at = record { same = refl; named = refl; written = refl; parts = refl }; filled = refl }; calm = refl })
 
-  block_leads : (done : List Draft) (passed : List Packed) (block : Packed) (number : ℕ) (below : List Line) → length done < 64 → AllLike done passed → IsGood name labels aim passed block
+  block_leads : (done : List Draft) (passed : List Packed) (block : Packed) (number : ℕ) (below : List Line) → length done < 64 → AllLike done passed
+      → IsGood name labels aim passed block
       → Leads labels aim number (record { done = done; current = None }) Start (block_lines name block) below (AreRead (passed ++ block ∷ []))
   block_leads done passed block number below few like good =
       let start : Drafts = record { done = done; current = None } in
       let free : (l : Name) → block.label ≡ Some l → is_taken (Some l) start ≡ false =
       λ l is. ap (list_any (λ (d : Draft). label_is l d.label)) (append-nil done) ∙ like_taken l done passed like ∙ good.free l is in
       let cycles : List (List ℕ) = cycle_lines name 0 block.cycles block.placed in
-      let read = then_lines labels aim number start Start (label_lines block.label) cycles below (IsCalm done block.label 0 []) (IsIn done block.label block.cycles block.placed)
-      (label_leads done block.label number (map fed cycles ++ below) few good.label free)
-      (λ n d a calm. start_leads name labels aim done few block.label block.placed block.cycles n d a below good.sayable good.order good.within good.few good.short calm) in
-      record { end = read.end; final = read.final; last = read.last; reads = read.reads; is = is_read done read.final passed block read.last like good.begun good.short read.is }
+      let read = then_lines labels aim number start Start (label_lines block.label) cycles below (IsCalm done block.label 0 [])
+      (IsIn done block.label block.cycles block.placed)
+      (label_leads done block.label number (map fed cycles ++ below) few good.small.label free)
+      (λ n d a calm. start_leads name labels aim done few block.label block.placed block.cycles n d a below
+      good.sayable good.small.order good.small.within good.small.few good.small.short calm) in
+      record {
+        end = read.end;
+        final = read.final;
+        last = read.last;
+        reads = read.reads;
+        is = is_read done read.final passed block read.last like good.begun good.small.short read.is;
+      }
 
-  gap_leads : (passed : List Packed) (number : ℕ) (drafts : Drafts) (above : Above) (below : List Line) → AreRead passed drafts above → begin_filled below ≡ true
+  gap_leads : (passed : List Packed) (number : ℕ) (drafts : Drafts) (above : Above) (below : List Line) → AreRead passed drafts above
+      → begin_filled below ≡ true
       → Leads labels aim number drafts above ([] ∷ []) below (λ d a. (d ≡ record { done = all_drafts drafts; current = None }) × (a ≡ Start))
   gap_leads passed number drafts above below is begins =
       one_line labels aim number drafts above [] below (record { front = Empty; label = None; says = Nothing })
-      (λ (d : Drafts) (a : Above). (d ≡ record { done = all_drafts drafts; current = None }) × (a ≡ Start)) (gap_said labels drafts above below is.filled begins is.short) (refl, refl)
+      (λ (d : Drafts) (a : Above). (d ≡ record { done = all_drafts drafts; current = None }) × (a ≡ Start))
+      (gap_said labels drafts above below is.filled begins is.short) (refl, refl)
 
 -- ---- all blocks
 
@@ -224,12 +200,10 @@ AllGood name labels aim passed (block ∷ blocks) = IsGood name labels aim passe
 abbrev pub is_line : List ℕ → Bool
 is_line bytes = are_allowed bytes && not (is_empty bytes)
 
-filled_lines : (lines : List (List ℕ)) (below : List Line) → 0 < length lines → list_all is_line lines ≡ true → begin_filled (map fed lines ++ below) ≡ true
+filled_lines : (lines : List (List ℕ)) (below : List Line) → 0 < length lines → list_all is_line lines ≡ true
+    → begin_filled (map fed lines ++ below) ≡ true
 filled_lines [] below some all = absurd (omega arith)
-filled_lines (bytes ∷ lines) below some all =
-    let here = (and_parts (is_line bytes) (list_all is_line lines) all).0 in
-    let parts = and_parts (are_allowed bytes) (not (is_empty bytes)) here in
-    ap (λ (b : List ℕ). not (is_empty b)) (fed_content bytes parts.0) ∙ parts.1
+filled_lines (bytes ∷ lines) below some all = grind (arith, nat_tests, fed_content bytes)
 
 -- the lines of each block are lines, and there are some
 pub record HasLines (name : ℕ → List ℕ) (block : Packed) : Type 0 where
@@ -237,39 +211,41 @@ pub record HasLines (name : ℕ → List ℕ) (block : Packed) : Type 0 where
   pub lines : list_all is_line (block_lines name block) ≡ true
 
 module _ (name : ℕ → List ℕ) (labels : List Name) (aim : Name → ℕ) where
-  behind_leads : (passed : List Packed) (block : Packed) (number : ℕ) (drafts : Drafts) (above : Above) (below : List Line) → length passed < 64 → AreRead passed drafts above
-      → IsGood name labels aim passed block → HasLines name block
+  behind_leads : (passed : List Packed) (block : Packed) (number : ℕ) (drafts : Drafts) (above : Above) (below : List Line) → length passed < 64
+      → AreRead passed drafts above → IsGood name labels aim passed block → HasLines name block
       → Leads labels aim number drafts above ([] ∷ block_lines name block) below (AreRead (passed ++ block ∷ []))
   behind_leads passed block number drafts above below few is good has =
       let lines : List (List ℕ) = block_lines name block in
       let start : Drafts = record { done = all_drafts drafts; current = None } in
       let done : length (all_drafts drafts) < 64 = omega (arith, few, like_length (all_drafts drafts) passed is.like) in
-      then_lines labels aim number drafts above ([] ∷ []) lines below (λ (d : Drafts) (a : Above). (d ≡ start) × (a ≡ Start)) (AreRead (passed ++ block ∷ []))
+      then_lines labels aim number drafts above ([] ∷ []) lines below (λ (d : Drafts) (a : Above). (d ≡ start) × (a ≡ Start))
+      (AreRead (passed ++ block ∷ []))
       (gap_leads name labels aim passed number drafts above (map fed lines ++ below) is (filled_lines lines below has.some has.lines))
-      (λ n d a at. subst (λ (e : Drafts). Leads labels aim n e a lines below (AreRead (passed ++ block ∷ []))) (sym at.0)
-      (subst (λ (b : Above). Leads labels aim n start b lines below (AreRead (passed ++ block ∷ []))) (sym at.1)
-      (block_leads name labels aim (all_drafts drafts) passed block n below done is.like good)))
+      (λ n d a at. rw (at.0, at.1) (block_leads name labels aim (all_drafts drafts) passed block n below done is.like good))
 
-  parted_leads : (passed blocks : List Packed) (number : ℕ) (drafts : Drafts) (above : Above) (below : List Line) → length passed + length blocks ≤ 64 → AreRead passed drafts above
-      → AllGood name labels aim passed blocks → AllByRecursion (HasLines name) blocks
+  parted_leads : (passed blocks : List Packed) (number : ℕ) (drafts : Drafts) (above : Above) (below : List Line) → length passed + length blocks ≤ 64
+      → AreRead passed drafts above → AllGood name labels aim passed blocks → AllByRecursion (HasLines name) blocks
       → Leads labels aim number drafts above (parted_lines name blocks) below (AreRead (passed ++ blocks))
   unfolding AllGood
   parted_leads passed [] number drafts above below few is good has =
-      no_lines labels aim number drafts above below (AreRead (passed ++ [])) (subst (λ (bs : List Packed). AreRead bs drafts above) (sym (append-nil passed)) is)
+      rw (append-nil passed) (no_lines labels aim number drafts above below (AreRead passed) is)
   parted_leads passed (block ∷ blocks) number drafts above below few is good has =
       let count : length (passed ++ block ∷ []) ≡ length passed + 1 = length-append passed (block ∷ []) in
-      subst (λ (bs : List Packed). Leads labels aim number drafts above (parted_lines name (block ∷ blocks)) below (AreRead bs)) (append_assoc passed (block ∷ []) blocks)
-      (then_lines labels aim number drafts above ([] ∷ block_lines name block) (parted_lines name blocks) below (AreRead (passed ++ block ∷ [])) (AreRead ((passed ++ block ∷ []) ++ blocks))
+      rw (← append_assoc passed (block ∷ []) blocks)
+      (then_lines labels aim number drafts above ([] ∷ block_lines name block) (parted_lines name blocks) below (AreRead (passed ++ block ∷ []))
+      (AreRead ((passed ++ block ∷ []) ++ blocks))
       (behind_leads passed block number drafts above (map fed (parted_lines name blocks) ++ below) (omega (arith, few)) is good.0 has.0)
       (λ n d a read. parted_leads (passed ++ block ∷ []) blocks n d a below (omega (arith, few, count)) read good.1 has.1))
 
   -- the lines of packets are read as blocks like them
-  pub all_lead : (packets : List Packed) (number : ℕ) (below : List Line) → length packets ≤ 64 → AllGood name labels aim [] packets → AllByRecursion (HasLines name) packets
+  pub all_lead : (packets : List Packed) (number : ℕ) (below : List Line) → length packets ≤ 64 → AllGood name labels aim [] packets
+      → AllByRecursion (HasLines name) packets
       → Leads labels aim number no_drafts Start (all_lines name packets) below (λ d a. AllLike (all_drafts d) packets)
   unfolding AllGood AllLike
   all_lead [] number below few good has = no_lines labels aim number no_drafts Start below (λ (d : Drafts) (a : Above). AllLike (all_drafts d) []) tt
   all_lead (block ∷ blocks) number below few good has =
-      let read = then_lines labels aim number no_drafts Start (block_lines name block) (parted_lines name blocks) below (AreRead ([] ++ block ∷ [])) (AreRead (block ∷ blocks))
+      let read = then_lines labels aim number no_drafts Start (block_lines name block) (parted_lines name blocks) below (AreRead ([] ++ block ∷ []))
+      (AreRead (block ∷ blocks))
       (block_leads name labels aim [] [] block number (map fed (parted_lines name blocks) ++ below) (omega arith) tt good.0)
       (λ n d a read. parted_leads (block ∷ []) blocks n d a below (omega (arith, few)) read good.1 has.1) in
       record { end = read.end; final = read.final; last = read.last; reads = read.reads; is = read.is.like }

@@ -1,45 +1,32 @@
 -- A listing is read back.
-use Rattle.std.proofs.Common.{arith, ◌≡◌, ℕ, suc, ◌+◌, ◌<◌, ◌≤◌, List, [], ◌∷◌, ◌++◌, length, map, Option, Some, None, Bool, true, false, refl, sym, ap, ◌∙◌, subst, append_assoc, append-nil}
-use Rattle.std.specs.Prelude.{◌||◌, nat_lt, All, IsTrue, Ok}
-use Rattle.std.specs.List.{AllByRecursion, IsDistinct, list_all, list_any, slice_get}
-use Rattle.std.specs.List.Sorted.{IsNonDecreasingBy}
-use Rattle.std.specs.Str.{bytes_eq}
-use Rattle.std.proofs.lemmas.Bool.{and_parts, false≢true, le-ltb, not-false}
-use Rattle.std.proofs.lemmas.List.{length-map, map-append}
-use Rattle.std.proofs.lemmas.List.Elements.{All-cons, All-nil, All-tail}
-use Rattle.std.proofs.lemmas.Option.{none-some, slice_get_within}
-use Rattle.c62_insn.specs.declared.operands.Operands.{Operands}
-use Rattle.c62_insn.specs.declared.operands.Operands.TheVariants.{Block}
-use Rattle.c62_insn.specs.Insn.{op_of, operands_of, unit_of}
+use Rattle.c62_listing_reader.proofs.Common.{arith, ◌≡◌, ℕ, suc, ◌+◌, ◌<◌, ◌≤◌, List, [], ◌∷◌, ◌++◌, length, map, Option, Some, None, true, false}
+use Rattle.c62_listing_reader.proofs.Common.{refl, sym, ap, ◌∙◌, subst, append_assoc, append-nil, nat_lt, All, IsTrue, Ok, AllByRecursion, IsDistinct}
+use Rattle.c62_listing_reader.proofs.Common.{list_all, list_any, slice_get, IsNonDecreasingBy, bytes_eq, and_parts, false≢true, le-ltb, length-map}
+use Rattle.c62_listing_reader.proofs.Common.{map-append, All-cons, All-nil, All-tail, none-some, slice_get_within, Operands, Block, op_of}
+use Rattle.c62_listing_reader.proofs.Common.{operands_of, unit_of, landing_end, takes, is_labelled, target_stands, is_label, Name, is_among, label_is}
+use Rattle.c62_listing_reader.proofs.Common.{Placed, Packed, IsPacketBlock, issue_of, listing_position, packet_labels, all_lines, label_text, listing}
+use Rattle.c62_listing_reader.proofs.Common.{name_in, Start, Line, content, lines_in, aim_by, all_drafts, labels_of, names_in, no_drafts, number_of}
+use Rattle.c62_listing_reader.proofs.Common.{contents, drafts_in, IsRead, most_bytes, read_lines, AreAlike}
+use Rattle.std.proofs.lemmas.Bool.{not-false}
 use Rattle.c62_insn.specs.Fault.{no_unit}
-use Rattle.c62_insn.specs.Length.{landing_end}
-use Rattle.c62_insn.specs.Takes.{takes}
 use Rattle.c62_insn.proofs.FaultLemmas.{faultless}
-use Rattle.c62_read.specs.Block.{is_labelled, target_stands}
-use Rattle.c62_token.specs.Number.{is_label}
-use Rattle.c62_read.specs.Program.{Name, is_among, label_is}
-use Rattle.c62_packet.specs.declared.placed.Placed.{Placed}
-use Rattle.c62_packet.specs.Packed.{Packed, IsPacketBlock, issue_of, listing_position}
-use Rattle.c62_packet.specs.Packets.{labels_of as packet_labels}
-use Rattle.c62_listing.specs.Listing.{all_lines, label_text, listing, name_in}
-use Rattle.c62_listing_reader.specs.declared.line.Above.TheVariants.{Start}
-use Rattle.c62_listing_reader.specs.Text.{Line, content, lines_in}
-use Rattle.c62_listing_reader.specs.Said.{aim_by, all_drafts, labels_of, names_in, no_drafts, number_of}
-use Rattle.c62_listing_reader.specs.Faults.{contents, drafts_in, IsRead, most_bytes, read_lines}
-use Rattle.c62_listing_reader.specs.Laws.{AreAlike, AreShown, IsReadBack}
+use Rattle.c62_listing_reader.specs.Laws.{AreShown, IsReadBack}
 use Rattle.c62_listing_reader.proofs.AlikeLemmas.{made}
-use Rattle.c62_listing_reader.proofs.BackLemmas.{AreBehind, IsSayable}
-use Rattle.c62_listing_reader.proofs.BlocksLemmas.{AllGood, HasLines, all_lead}
-use Rattle.c62_listing_reader.proofs.LinesLemmas.{IsNumbered, IsSmall, IsTellable, IsWritable, all_allowed, all_length, all_names, before_free, given, has_lines, member_at, names_from, numbered}
+use Rattle.c62_listing_reader.proofs.BackLemmas.{AreBehind, IsSayable, IsWritable}
+use Rattle.c62_listing_reader.proofs.BlocksLemmas.{AllGood, HasLines, all_lead, IsSmall}
+use Rattle.c62_listing_reader.proofs.LinesLemmas.{IsNumbered, all_allowed, all_length, all_names, before_free, given, has_lines, member_at}
+use Rattle.c62_listing_reader.proofs.LinesLemmas.{names_from, numbered}
 use Rattle.c62_listing_reader.proofs.ReadLemmas.{is_done}
 use Rattle.c62_listing_reader.proofs.TextLemmas.{fed}
 use Rattle.c62_listing_reader.proofs.UntoldLemmas.{contents_back, lines_back}
+use Rattle.std.proofs.lemmas.List.Elements.{All-weaker}
 
 -- ---- the instructions of a block
 
 unit_taking : (p : Placed) → unit_of p.insn ≡ Some p.unit → takes (op_of p.insn) (operands_of p.insn) p.unit ≡ true
 unit_taking p written =
-    let none : no_unit (op_of p.insn) (operands_of p.insn) (unit_of p.insn) ≡ false = (faultless p.insn.op p.insn.operands p.insn.cond p.insn.unit p.insn.well_formed).taken in
+    let none : no_unit (op_of p.insn) (operands_of p.insn) (unit_of p.insn) ≡ false =
+    (faultless p.insn.op p.insn.operands p.insn.cond p.insn.unit p.insn.well_formed).taken in
     not-false (takes (op_of p.insn) (operands_of p.insn) p.unit) (ap (no_unit (op_of p.insn) (operands_of p.insn)) (sym written) ∙ none)
 
 -- a branch goes to a block with a label
@@ -47,12 +34,14 @@ record HasTarget (labels : List (Option Name)) (number : ℕ) : Type 0 where
   pub label : Name
   pub at : slice_get labels number ≡ Some (Some label)
 
-target_by : (labels : List (Option Name)) (number : ℕ) (found : Option (Option Name)) → slice_get labels number ≡ found → is_labelled found ≡ true → HasTarget labels number
+target_by : (labels : List (Option Name)) (number : ℕ) (found : Option (Option Name)) → slice_get labels number ≡ found → is_labelled found ≡ true
+    → HasTarget labels number
 target_by labels number None at is = absurd (false≢true is)
 target_by labels number (Some None) at is = absurd (false≢true is)
 target_by labels number (Some (Some label)) at is = record { label = label; at = at }
 
-has_target : (labels : List (Option Name)) (operands : Operands) (number : ℕ) → target_stands labels operands ≡ true → operands ≡ Block number → HasTarget labels number
+has_target : (labels : List (Option Name)) (operands : Operands) (number : ℕ) → target_stands labels operands ≡ true → operands ≡ Block number
+    → HasTarget labels number
 has_target labels operands number stands is = target_by labels number (slice_get labels number) refl (ap (target_stands labels) (sym is) ∙ stands)
 
 module _ (packets : List Packed) (shown : AreShown packets) where
@@ -76,7 +65,7 @@ module _ (packets : List Packed) (shown : AreShown packets) where
   numbered_so number target = numbered labels 0 number target.label shown.distinct target.at
 
   known_so : (number : ℕ) → HasTarget labels number → is_among (name number) (labels_of names) ≡ true
-  known_so number target = ap (λ (n : Name). is_among n (labels_of names)) (named_so number target) ∙ (numbered_so number target).known
+  known_so number target = rw (named_so number target) (numbered_so number target).known
 
   aimed_so : (number : ℕ) → HasTarget labels number → aim_by names (name number) ≡ number
   aimed_so number target =
@@ -91,22 +80,25 @@ module _ (packets : List Packed) (shown : AreShown packets) where
     names = λ number is. good_name number (has_target labels (operands_of p.insn) number stands is);
   }
 
-  sayable : (p : Placed) → unit_of p.insn ≡ Some p.unit → target_stands labels (operands_of p.insn) ≡ true → IsSayable name (labels_of names) (aim_by names) p
+  sayable : (p : Placed) → unit_of p.insn ≡ Some p.unit → target_stands labels (operands_of p.insn) ≡ true
+      → IsSayable name (labels_of names) (aim_by names) p
   sayable p written stands = record {
     written = written;
-    taking = unit_taking p written;
-    names = λ number is. good_name number (has_target labels (operands_of p.insn) number stands is);
+    writable = writable p written stands;
     known = λ number is. known_so number (has_target labels (operands_of p.insn) number stands is);
     aimed = λ number is. aimed_so number (has_target labels (operands_of p.insn) number stands is);
   }
 
-  all_placed : (P : Placed → Type 0) → ((p : Placed) → unit_of p.insn ≡ Some p.unit → target_stands labels (operands_of p.insn) ≡ true → P p) → (placed : List Placed)
+  all_placed : (P : Placed → Type 0) → ((p : Placed) → unit_of p.insn ≡ Some p.unit → target_stands labels (operands_of p.insn) ≡ true → P p)
+      → (placed : List Placed)
       → All (λ p. unit_of p.insn ≡ Some p.unit) placed → list_all (λ p. target_stands labels (operands_of p.insn)) placed ≡ true → All P placed
   all_placed P each [] written stand = All-nil P
   all_placed P each (p ∷ placed) written stand =
-      let parts = and_parts (target_stands labels (operands_of p.insn)) (list_all (λ (q : Placed). target_stands labels (operands_of q.insn)) placed) stand in
+      let parts =
+      and_parts (target_stands labels (operands_of p.insn)) (list_all (λ (q : Placed). target_stands labels (operands_of q.insn)) placed) stand in
       let here : unit_of p.insn ≡ Some p.unit = written 0 p (omega arith) in
-      All-cons P p placed (each p here parts.0) (all_placed P each placed (All-tail (λ (q : Placed). unit_of q.insn ≡ Some q.unit) p placed written) parts.1)
+      All-cons P p placed (each p here parts.0)
+      (all_placed P each placed (All-tail (λ (q : Placed). unit_of q.insn ≡ Some q.unit) p placed written) parts.1)
 
   -- what is asked of one block
   record IsFit (block : Packed) : Type 0 where
@@ -118,10 +110,12 @@ module _ (packets : List Packed) (shown : AreShown packets) where
   label_by : (label : Option Name) (more : List (Option Name)) → AllByRecursion (λ l. IsTrue (is_label l)) (given (label ∷ more))
       → ((l : Name) → label ≡ Some l → is_label l ≡ true) × AllByRecursion (λ l. IsTrue (is_label l)) (given more)
   label_by None more all = (λ l is. absurd (none-some l is), all)
-  label_by (Some label) more all = (λ l is. let same : label ≡ l = cc in subst (λ (n : Name). is_label n ≡ true) same all.0, all.1)
+  label_by (Some label) more all = (λ l is. grind (arith, all.0), all.1)
 
-  fit : (blocks : List Packed) → All IsPacketBlock blocks → list_all (λ block. list_all (λ p. target_stands labels (operands_of p.insn)) block.placed) blocks ≡ true
-      → AllByRecursion (λ l. IsTrue (is_label l)) (given (packet_labels blocks)) → AllByRecursion (λ block. block.label ≡ None → 0 < length block.placed) blocks
+  fit : (blocks : List Packed) → All IsPacketBlock blocks
+      → list_all (λ block. list_all (λ p. target_stands labels (operands_of p.insn)) block.placed) blocks ≡ true
+      → AllByRecursion (λ l. IsTrue (is_label l)) (given (packet_labels blocks))
+      → AllByRecursion (λ block. block.label ≡ None → 0 < length block.placed) blocks
       → AllByRecursion IsFit blocks
   fit [] are stand good begun = tt
   fit (block ∷ blocks) are stand good begun =
@@ -131,7 +125,8 @@ module _ (packets : List Packed) (shown : AreShown packets) where
         fit blocks (All-tail IsPacketBlock block blocks are) parts.1 both.1 begun.1,
       )
 
-  each : (P : Packed → Type 0) → ((block : Packed) → IsFit block → P block) → (blocks : List Packed) → AllByRecursion IsFit blocks → AllByRecursion P blocks
+  each : (P : Packed → Type 0) → ((block : Packed) → IsFit block → P block) → (blocks : List Packed) → AllByRecursion IsFit blocks
+      → AllByRecursion P blocks
   each P all [] are = tt
   each P all (block ∷ blocks) are = (all block are.0, each P all blocks are.1)
 
@@ -143,19 +138,14 @@ module _ (packets : List Packed) (shown : AreShown packets) where
       (first, behind_by p placed (λ i j d le within. up (suc i) (suc j) d (omega (arith, le)) (omega (arith, within))))
 
   order_by : (all : List Placed) → IsNonDecreasingBy listing_position all → (p : Placed) (rest : List Placed) → all ≡ p ∷ rest → AreBehind p rest
-  order_by all up p rest is = behind_by p rest (subst (IsNonDecreasingBy listing_position) is up)
+  order_by all up p rest is = behind_by p rest (rw is at up)
 
   within_by : (cycles : ℕ) (placed : List Placed) → All (λ p. landing_end (issue_of p) ≤ cycles) placed → All (λ p. p.cycle + 1 ≤ cycles) placed
-  within_by cycles [] all = All-nil (λ (p : Placed). p.cycle + 1 ≤ cycles)
-  within_by cycles (p ∷ placed) all =
-      let here : landing_end (issue_of p) ≤ cycles = all 0 p (omega arith) in
-      All-cons (λ (q : Placed). q.cycle + 1 ≤ cycles) p placed (omega (arith, here)) (within_by cycles placed (All-tail (λ (q : Placed). landing_end (issue_of q) ≤ cycles) p placed all))
+  within_by cycles placed all =
+      All-weaker (λ (p : Placed). landing_end (issue_of p) ≤ cycles) (λ (p : Placed). p.cycle + 1 ≤ cycles) (λ p le. omega (arith, le)) placed all
 
   all_writable : (block : Packed) → IsFit block → All (IsWritable name) block.placed
   all_writable block is = all_placed (IsWritable name) writable block.placed is.is.as_written is.stand
-
-  tellable : (block : Packed) → IsFit block → IsTellable name block
-  tellable block is = record { label = is.label; writable = all_writable block is }
 
   lines_of : (block : Packed) → IsFit block → HasLines name block
   lines_of block is = has_lines name block is.label is.begun (all_writable block is)
@@ -170,16 +160,20 @@ module _ (packets : List Packed) (shown : AreShown packets) where
     short = is.is.short;
   }
 
-  any_label : (label : Name) (passed : List Packed) → list_any (λ other. label_is label other.label) passed ≡ list_any (label_is label) (packet_labels passed)
+  any_label : (label : Name) (passed : List Packed)
+      → list_any (λ other. label_is label other.label) passed ≡ list_any (label_is label) (packet_labels passed)
   any_label label [] = refl
-  any_label label (block ∷ passed) = ap (λ (b : Bool). label_is label block.label || b) (any_label label passed)
+  any_label label (block ∷ passed) = grind (arith, any_label label passed)
 
-  free_by : (passed rest : List Packed) (block : Packed) (label : Name) → IsDistinct bytes_eq (given (packet_labels (passed ++ block ∷ rest))) → block.label ≡ Some label
+  free_by : (passed rest : List Packed) (block : Packed) (label : Name) → IsDistinct bytes_eq (given (packet_labels (passed ++ block ∷ rest)))
+      → block.label ≡ Some label
       → list_any (λ other. label_is label other.label) passed ≡ false
   free_by passed rest block label distinct is =
       let all : packet_labels (passed ++ block ∷ rest) ≡ packet_labels passed ++ Some label ∷ packet_labels rest =
       map-append (λ (b : Packed). b.label) passed (block ∷ rest) ∙ ap (λ (l : Option Name). packet_labels passed ++ l ∷ packet_labels rest) is in
-      any_label label passed ∙ before_free (packet_labels passed) (packet_labels rest) label (subst (λ (ls : List (Option Name)). IsDistinct bytes_eq (given ls)) all distinct)
+      any_label label passed
+      ∙ before_free (packet_labels passed) (packet_labels rest) label
+      (subst (λ (ls : List (Option Name)). IsDistinct bytes_eq (given ls)) all distinct)
 
   good : (passed blocks : List Packed) → IsDistinct bytes_eq (given (packet_labels (passed ++ blocks))) → AllByRecursion IsFit blocks
       → AllGood name (labels_of names) (aim_by names) passed blocks
@@ -187,16 +181,13 @@ module _ (packets : List Packed) (shown : AreShown packets) where
   good passed [] distinct are = tt
   good passed (block ∷ blocks) distinct are = (
     record {
-      label = are.0.label;
+      small = small block are.0;
       free = λ label is. free_by passed blocks block label distinct is;
       begun = are.0.begun;
       sayable = all_placed (IsSayable name (labels_of names) (aim_by names)) sayable block.placed are.0.is.as_written are.0.stand;
-      order = order_by block.placed are.0.is.in_order;
-      within = within_by block.cycles block.placed are.0.is.drained;
-      few = are.0.is.few;
-      short = are.0.is.short;
     },
-    good (passed ++ block ∷ []) blocks (subst (λ (bs : List Packed). IsDistinct bytes_eq (given (packet_labels bs))) (sym (append_assoc passed (block ∷ []) blocks)) distinct) are.1,
+    good (passed ++ block ∷ []) blocks
+        (subst (λ (bs : List Packed). IsDistinct bytes_eq (given (packet_labels bs))) (sym (append_assoc passed (block ∷ []) blocks)) distinct) are.1,
   )
 
   back : (others : List Packed) × IsRead (listing packets) others × AreAlike packets others
@@ -208,8 +199,9 @@ module _ (packets : List Packed) (shown : AreShown packets) where
       let allowed = all_allowed name packets has in
       let cut : lines_in text ≡ map fed lines = lines_back lines allowed in
       let same : contents text ≡ lines = ap (map content) cut ∙ contents_back lines allowed in
-      let told : names_in 0 (contents text) ≡ names = ap (names_in 0) same ∙ all_names name packets (each (IsTellable name) tellable packets fits) in
-      let short : nat_lt most_bytes (length text) ≡ false = le-ltb most_bytes (length text) (all_length name packets shown.few (each (IsSmall name) small packets fits)) in
+      let told : names_in 0 (contents text) ≡ names = ap (names_in 0) same ∙ all_names name packets (each (IsSmall name) small packets fits) in
+      let short : nat_lt most_bytes (length text) ≡ false =
+      le-ltb most_bytes (length text) (all_length name packets shown.few (each (IsSmall name) small packets fits)) in
       let lead = all_lead name (labels_of names) (aim_by names) packets 1 [] shown.few (good [] packets shown.distinct fits) has in
       let read : read_lines (labels_of names) (aim_by names) 1 no_drafts Start (map fed lines) ≡ Ok lead.final =
       ap (read_lines (labels_of names) (aim_by names) 1 no_drafts Start) (sym (append-nil (map fed lines))) ∙ lead.reads

@@ -1,30 +1,18 @@
 -- What a line without faults fulfils.
-use Rattle.std.proofs.Common.{arith, ◌≡◌, ℕ, ◌+◌, ◌≤◌, List, [], ◌∷◌, ◌++◌, length, Option, Some, None, Bool, true, false, not, refl, sym, ap, ◌∙◌, subst}
-use Rattle.std.specs.Prelude.{◌&&◌, nat_le, nat_lt, nat_eq, if◌then◌else◌, is_some, is_none, codes, decimal, Result, Ok, Err}
-use Rattle.std.specs.List.{list_all, starts_with}
-use Rattle.std.proofs.lemmas.Bool.{and_parts, and_right, eqb-true, false≢true}
-use Rattle.std.proofs.lemmas.Bool.Decides.{nat_tests}
-use Rattle.std.proofs.lemmas.Option.{none-some}
-use Rattle.std.proofs.lemmas.Slice.Eq.{bytes_eq-Decides}
-use Rattle.c62_line.specs.declared.fault.Cause.{Cause}
-use Rattle.c62_line.specs.declared.fault.Cause.TheVariants.{BadLabel, DuplicateLabel, ParallelBar}
-use Rattle.c62_token.specs.Token.{is_allowed, tokens}
-use Rattle.c62_token.specs.Number.{is_label, spells}
-use Rattle.c62_line.specs.Line.{Says, Nothing, Pause, Does, Jumps, head_of, label_front, line_of, rest_says as words_say, with_head, with_rest as label_with}
-use Rattle.c62_line.specs.Line.{label_field}
-use Rattle.c62_read.specs.Program.{Name}
-use Rattle.c62_read.specs.Walk.{is_instruction, is_unknown}
-use Rattle.c62_line.proofs.LabelFields.{field_is}
-use Rattle.c62_line.proofs.SaysLemmas.{IsProper, proper}
-use Rattle.c62_listing_reader.specs.declared.fault.LineFault.{LineFault}
-use Rattle.c62_listing_reader.specs.declared.line.Front.{Front}
-use Rattle.c62_listing_reader.specs.declared.line.Front.TheVariants.{Empty, First, Beside, Label, Stray}
-use Rattle.c62_listing_reader.specs.declared.line.Above.{Above}
-use Rattle.c62_listing_reader.specs.Text.{Line, content, is_empty, is_ended}
-use Rattle.c62_listing_reader.specs.Begin.{front_of, has_colon, is_beside, is_gap, is_label_line, rest_of}
-use Rattle.c62_listing_reader.specs.Said.{Said, Drafts, opened, with_said, above_next, spelled_line, is_text}
-use Rattle.c62_listing_reader.specs.Faults.{is_taken, unit_said, unit_above, precedes, goes_on, is_misplaced, after_label, hindrance, cycles_added, is_alone, is_unfit, is_odd, unless_odd, unless_hindered, with_rest, rest_says, line_says, and_then, read_lines}
-use Rattle.c62_line.proofs.PauseLemmas.{IsShort}
+use Rattle.c62_listing_reader.proofs.Common.{arith, ◌≡◌, ℕ, ◌+◌, ◌≤◌, List, [], ◌∷◌, ◌++◌, length, Option, Some, None, Bool, true, false, not, refl}
+use Rattle.c62_listing_reader.proofs.Common.{subst, ◌&&◌, nat_le, nat_lt, nat_eq, if◌then◌else◌, is_some, is_none, codes, Result, Ok, Err, list_all}
+use Rattle.c62_listing_reader.proofs.Common.{false≢true, nat_tests, bytes_eq-Decides, Cause, is_allowed, tokens, Says, Nothing, Pause, Does, Jumps}
+use Rattle.c62_listing_reader.proofs.Common.{words_say, Name, is_instruction, is_unknown, field_is, IsProper, LineFault, Front, Empty, Beside, Above}
+use Rattle.c62_listing_reader.proofs.Common.{Line, content, is_empty, is_ended, front_of, has_colon, is_beside, is_gap, rest_of, Said, Drafts, opened}
+use Rattle.c62_listing_reader.proofs.Common.{with_said, above_next, spelled_line, is_text, is_taken, unit_said, unit_above, precedes, goes_on}
+use Rattle.c62_listing_reader.proofs.Common.{is_misplaced, after_label, cycles_added, is_alone, rest_says, and_then, IsShort}
+use Rattle.std.specs.Prelude.{decimal}
+use Rattle.std.specs.List.{starts_with}
+use Rattle.c62_line.specs.declared.fault.Cause.TheVariants.{DuplicateLabel}
+use Rattle.c62_token.specs.Number.{is_label}
+use Rattle.c62_line.specs.Line.{head_of, label_front, line_of, with_head, with_rest as label_with, label_field}
+use Rattle.c62_line.proofs.SaysLemmas.{proper}
+use Rattle.c62_listing_reader.specs.Faults.{hindrance, is_unfit, is_odd, unless_odd, unless_hindered, with_rest, line_says, read_lines}
 use Rattle.c62_listing_reader.proofs.PauseLemmas.{short}
 
 -- all that is asked of a line
@@ -46,36 +34,33 @@ pub record IsTold (labels : List Name) (drafts : Drafts) (above : Above) (line :
   pub short : (opened drafts.current).cycles + cycles_added (is_beside said.front) said.says ≤ 2048
 
 pub if_err : {T E : Type 0} (b : Bool) (e : E) (y : Result T E) (s : T) → (if b then Err e else y) ≡ Ok s → (b ≡ false) × (y ≡ Ok s)
-if_err true e y s h = absurd cc
-if_err false e y s h = (refl, h)
+if_err b e y s h = grind arith
 
 if_some : {T : Type 0} (b : Bool) (x : T) (y : Option T) → (if b then Some x else y) ≡ None → (b ≡ false) × (y ≡ None)
-if_some true x y h = absurd cc
-if_some false x y h = (refl, h)
+if_some b x y h = grind arith
 
 if_true : (b y : Bool) → (if b then true else y) ≡ false → (b ≡ false) × (y ≡ false)
-if_true true y h = absurd cc
-if_true false y h = (refl, h)
+if_true b y h = grind arith
 
 hindered : (o : Option Cause) (r : Result Said LineFault) (s : Said) → unless_hindered o r ≡ Ok s → (o ≡ None) × (r ≡ Ok s)
-hindered (Some cause) r s h = absurd cc
-hindered None r s h = (refl, h)
+hindered o r s h = grind arith
 
 unodd : (b : Bool) (x s : Said) → unless_odd b x ≡ Ok s → (b ≡ false) × (x ≡ s)
-unodd true x s h = absurd cc
-unodd false x s h = (refl, cc)
+unodd b x s h = grind arith
 
 pub not_false : (b : Bool) → not b ≡ false → b ≡ true
-not_false true h = refl
-not_false false h = absurd (false≢true (sym h))
+not_false b h = grind arith
 
-rest_told : (labels : List Name) (drafts : Drafts) (above : Above) (line : Line) (below : List Line) (front : Front) (read : Result (Option Name × Says) Cause) (said : Said)
-    → front ≡ front_of (content line) → list_all is_allowed (content line) ≡ true → nat_lt 255 (length (content line)) ≡ false → is_misplaced front above ≡ false
+rest_told : (labels : List Name) (drafts : Drafts) (above : Above) (line : Line) (below : List Line) (front : Front)
+    (read : Result (Option Name × Says) Cause) (said : Said)
+    → front ≡ front_of (content line) → list_all is_allowed (content line) ≡ true → nat_lt 255 (length (content line)) ≡ false
+    → is_misplaced front above ≡ false
     → rest_says drafts (rest_of front (content line)) ≡ read → with_rest labels drafts above line below front read ≡ Ok said
     → IsTold labels drafts above line below said
 rest_told labels drafts above line below front (Err cause) said is allowed fits placed from h = absurd cc
 rest_told labels drafts above line below front (Ok (label, says)) said is allowed fits placed from h =
-    let one = hindered (hindrance labels drafts front says) (unless_odd (is_odd drafts above line below front label says) (record { front = front; label = label; says = says })) said h in
+    let one = hindered (hindrance labels drafts front says)
+    (unless_odd (is_odd drafts above line below front label says) (record { front = front; label = label; says = says })) said h in
     let known = if_some (is_unknown labels says) _ _ one.0 in
     let few = if_some (is_instruction says && nat_le 256 (length (opened drafts.current).placed)) _ _ known.1 in
     let begins = if_some (not (is_gap front) && is_none drafts.current && nat_le 64 (length drafts.done)) _ _ few.1 in
@@ -117,27 +102,16 @@ told labels drafts above line below said h =
 
 -- ---- how it begins
 
-filled_front : (first beside label : Bool) → is_gap (if first then First else (if beside then Beside else (if label then Label else Stray))) ≡ false
-filled_front true beside label = refl
-filled_front false true label = refl
-filled_front false false true = refl
-filled_front false false false = refl
-
 -- an empty line is a gap, and no other
 pub gap_front : (bytes : List ℕ) → is_gap (front_of bytes) ≡ is_empty bytes
-gap_front [] = refl
-gap_front (b ∷ bytes) = filled_front (starts_with nat_eq (b ∷ bytes) (codes "   ")) (starts_with nat_eq (b ∷ bytes) (codes "|| ")) (is_label_line (b ∷ bytes))
+gap_front bytes = grind (arith, nat_tests)
 
 -- ---- what is read of it
 
 -- the answer of a line behind its front is that of its bytes by themselves
-pub plain_read : (taken colon : Bool) (read : Result (Option Name × Says) Cause) (found : Option Name × Says) → after_label taken colon read ≡ Ok found → read ≡ Ok found
-plain_read true colon (Ok read) found h = absurd cc
-plain_read false colon (Ok read) found h = h
-plain_read taken colon (Err ParallelBar) found h = absurd cc
-plain_read taken colon (Err BadLabel) found h = absurd cc
-plain_read true colon (Err _) found h = absurd cc
-plain_read false colon (Err _) found h = absurd cc
+pub plain_read : (taken colon : Bool) (read : Result (Option Name × Says) Cause) (found : Option Name × Says)
+    → after_label taken colon read ≡ Ok found → read ≡ Ok found
+plain_read taken colon read found h = grind (arith, nat_tests)
 
 -- a line's label stands in its label field
 pub record IsLine (line : List ℕ) (label : Option Name) (says : Says) : Type 0 where
@@ -145,19 +119,14 @@ pub record IsLine (line : List ℕ) (label : Option Name) (says : Says) : Type 0
   pub head : head_of line ≡ Ok (label, words)
   pub rest : words_say words ≡ Ok says
 
-same_read : (one other : Option Name × Says) → ◌≡◌ {A = Result (Option Name × Says) Cause} (Ok one) (Ok other) → one ≡ other
-same_read one other h = cc
-
-rest_line : (line : List ℕ) (other : Option Name) (words : List (List ℕ)) (rest : Result Says Cause) (label : Option Name) (says : Says) → head_of line ≡ Ok (other, words)
+rest_line : (line : List ℕ) (other : Option Name) (words : List (List ℕ)) (rest : Result Says Cause) (label : Option Name) (says : Says)
+    → head_of line ≡ Ok (other, words)
     → words_say words ≡ rest → label_with other rest ≡ Ok (label, says) → IsLine line label says
 rest_line line other words (Err cause) label says head is h = absurd cc
-rest_line line other words (Ok found) label says head is h =
-    let both : (other, found) ≡ (label, says) = same_read (other, found) (label, says) h in
-    let same : other ≡ label = ap (λ (read : Option Name × Says). read.0) both in
-    let said : found ≡ says = ap (λ (read : Option Name × Says). read.1) both in
-    record { words = words; head = subst (λ (name : Option Name). head_of line ≡ Ok (name, words)) same head; rest = subst (λ (s : Says). words_say words ≡ Ok s) said is }
+rest_line line other words (Ok found) label says head is h = record { words = words; head = grind arith; rest = grind arith }
 
-head_line : (line : List ℕ) (head : Result (Option Name × List (List ℕ)) Cause) (label : Option Name) (says : Says) → head_of line ≡ head → with_head head ≡ Ok (label, says)
+head_line : (line : List ℕ) (head : Result (Option Name × List (List ℕ)) Cause) (label : Option Name) (says : Says) → head_of line ≡ head
+    → with_head head ≡ Ok (label, says)
     → IsLine line label says
 head_line line (Err cause) label says is h = absurd cc
 head_line line (Ok (other, words)) label says is h = rest_line line other words (words_say words) label says is refl h
@@ -174,10 +143,7 @@ bars_are_no_label = refl
 
 no_front : (word : List ℕ) (words : List (List ℕ)) → is_label word ≡ false → (label_front (word ∷ words)).0 ≡ None
 unfolding label_front
-no_front word [] none = refl
-no_front word (colon ∷ words) none =
-    let test : (spells (codes ":") colon && is_label word) ≡ false = and_right (spells (codes ":") colon) (is_label word) none in
-    rw test refl
+no_front word words none = grind (arith, nat_tests)
 
 pub bars_field : (rest : List ℕ) → label_field (124 ∷ 124 ∷ 32 ∷ rest) ≡ None
 unfolding label_field
@@ -186,24 +152,12 @@ bars_field rest = no_front (124 ∷ 124 ∷ []) (tokens (32 ∷ rest)) bars_are_
 -- a line that begins with bars has nothing in its label field
 beside_field : (bytes : List ℕ) → starts_with nat_eq bytes (codes "|| ") ≡ true → label_field bytes ≡ None
 beside_field [] h = absurd (false≢true h)
-beside_field (a ∷ []) h = absurd (false≢true (sym (and_right (nat_eq 124 a) false refl) ∙ h))
-beside_field (a ∷ b ∷ []) h = absurd (false≢true (sym (and_right (nat_eq 124 a) (nat_eq 124 b && false) (and_right (nat_eq 124 b) false refl)) ∙ h))
-beside_field (a ∷ b ∷ c ∷ rest) h =
-    let one = and_parts (nat_eq 124 a) _ h in
-    let two = and_parts (nat_eq 124 b) _ one.1 in
-    let three = and_parts (nat_eq 32 c) _ two.1 in
-    rw (sym (eqb-true 124 a one.0), sym (eqb-true 124 b two.0), sym (eqb-true 32 c three.0)) (bars_field rest)
-
-beside_test : (empty first beside label : Bool)
-    → Beside ≡ (if empty then Empty else (if first then First else (if beside then Beside else (if label then Label else Stray)))) → beside ≡ true
-beside_test true first beside label h = absurd cc
-beside_test false true beside label h = absurd cc
-beside_test false false true label h = refl
-beside_test false false false true h = absurd cc
-beside_test false false false false h = absurd cc
+beside_field (a ∷ []) h = grind (arith, nat_tests)
+beside_field (a ∷ b ∷ []) h = grind (arith, nat_tests)
+beside_field (a ∷ b ∷ c ∷ rest) h = grind (arith, nat_tests, bars_field rest)
 
 beside_start : (bytes : List ℕ) → Beside ≡ front_of bytes → starts_with nat_eq bytes (codes "|| ") ≡ true
-beside_start bytes h = beside_test (is_empty bytes) (starts_with nat_eq bytes (codes "   ")) (starts_with nat_eq bytes (codes "|| ")) (is_label_line bytes) h
+beside_start bytes h = grind (arith, nat_tests)
 
 -- a line is allowed where its rest is read
 rest_allowed : (rest : List ℕ) (label : Option Name) (says : Says) → line_of rest ≡ Ok (label, says) → list_all is_allowed rest ≡ true
@@ -214,22 +168,18 @@ rest_allowed rest label says read = by_test (list_all is_allowed rest) refl
     by_test true is = refl
     by_test false is = absurd (let refused = rw is at read in cc)
 
-beside_allowed : (bytes : List ℕ) → starts_with nat_eq bytes (codes "|| ") ≡ true → list_all is_allowed (rest_of Beside bytes) ≡ true → list_all is_allowed bytes ≡ true
+beside_allowed : (bytes : List ℕ) → starts_with nat_eq bytes (codes "|| ") ≡ true → list_all is_allowed (rest_of Beside bytes) ≡ true
+    → list_all is_allowed bytes ≡ true
 beside_allowed [] h rest = absurd (false≢true h)
-beside_allowed (a ∷ []) h rest = absurd (false≢true (sym (and_right (nat_eq 124 a) false refl) ∙ h))
-beside_allowed (a ∷ b ∷ bytes) h rest =
-    let one = and_parts (nat_eq 124 a) _ h in
-    let two = and_parts (nat_eq 124 b) _ one.1 in
-    rw (sym (eqb-true 124 a one.0), sym (eqb-true 124 b two.0)) rest
+beside_allowed (a ∷ []) h rest = grind (arith, nat_tests)
+beside_allowed (a ∷ b ∷ bytes) h rest = grind (arith, nat_tests)
 
-front_allowed : (front : Front) (bytes : List ℕ) → front ≡ front_of bytes → list_all is_allowed (rest_of front bytes) ≡ true → list_all is_allowed bytes ≡ true
-front_allowed Beside bytes is rest = beside_allowed bytes (beside_start bytes is) rest
-front_allowed Empty bytes is rest = rest
-front_allowed First bytes is rest = rest
-front_allowed Label bytes is rest = rest
-front_allowed Stray bytes is rest = rest
+front_allowed : (front : Front) (bytes : List ℕ) → front ≡ front_of bytes → list_all is_allowed (rest_of front bytes) ≡ true
+    → list_all is_allowed bytes ≡ true
+front_allowed front bytes is rest = grind (arith, nat_tests, beside_allowed bytes, beside_start bytes)
 
-pub line_allowed : (front : Front) (bytes : List ℕ) (label : Option Name) (says : Says) → front ≡ front_of bytes → line_of (rest_of front bytes) ≡ Ok (label, says)
+pub line_allowed : (front : Front) (bytes : List ℕ) (label : Option Name) (says : Says) → front ≡ front_of bytes
+    → line_of (rest_of front bytes) ≡ Ok (label, says)
     → list_all is_allowed bytes ≡ true
 line_allowed front bytes label says is read = front_allowed front bytes is (rest_allowed (rest_of front bytes) label says read)
 
@@ -238,35 +188,34 @@ unfolding label_field label_front
 empty_field = refl
 
 gap_field : (bytes : List ℕ) → Empty ≡ front_of bytes → label_field bytes ≡ None
-gap_field [] h = empty_field
-gap_field (b ∷ bytes) h = absurd (false≢true (sym (gap_front (b ∷ bytes)) ∙ sym (ap is_gap h)))
+gap_field bytes h = grind (arith, nat_tests, empty_field, gap_front bytes)
 
-own_field : (bytes : List ℕ) (label : Option Name) (says : Says) (name : Name) → line_of bytes ≡ Ok (label, says) → label_field bytes ≡ Some name → label ≡ Some name
+own_field : (bytes : List ℕ) (label : Option Name) (says : Says) (name : Name) → line_of bytes ≡ Ok (label, says) → label_field bytes ≡ Some name
+    → label ≡ Some name
 own_field bytes label says name read field =
     let parts = line_parts bytes label says read in
-    sym (field_is bytes label parts.words parts.head) ∙ field
+    grind (arith, field_is bytes label parts.words parts.head)
 
-field_by : (front : Front) (bytes : List ℕ) (label : Option Name) (says : Says) (name : Name) → front ≡ front_of bytes → line_of (rest_of front bytes) ≡ Ok (label, says)
+field_by : (front : Front) (bytes : List ℕ) (label : Option Name) (says : Says) (name : Name) → front ≡ front_of bytes
+    → line_of (rest_of front bytes) ≡ Ok (label, says)
     → label_field bytes ≡ Some name → (label ≡ Some name) × (is_gap front ≡ false)
-field_by Empty bytes label says name is read field = absurd (none-some name (sym (gap_field bytes is) ∙ field))
-field_by Beside bytes label says name is read field = absurd (none-some name (sym (beside_field bytes (beside_start bytes is)) ∙ field))
-field_by First bytes label says name is read field = (own_field bytes label says name read field, refl)
-field_by Label bytes label says name is read field = (own_field bytes label says name read field, refl)
-field_by Stray bytes label says name is read field = (own_field bytes label says name read field, refl)
+field_by front bytes label says name is read field =
+    grind (arith, nat_tests, gap_field bytes, beside_field bytes, beside_start bytes, own_field bytes label says name)
 
-pub read_line : (labels : List Name) (drafts : Drafts) (above : Above) (line : Line) (below : List Line) (said : Said) → IsTold labels drafts above line below said
+pub read_line : (labels : List Name) (drafts : Drafts) (above : Above) (line : Line) (below : List Line) (said : Said)
+    → IsTold labels drafts above line below said
     → line_of (rest_of said.front (content line)) ≡ Ok (said.label, said.says)
 read_line labels drafts above line below said is =
     let rest : List ℕ = rest_of said.front (content line) in
     plain_read (is_taken (label_field rest) drafts) (has_colon rest) (line_of rest) (said.label, said.says) is.read
 
 -- where a rest is read, its label field has the label that is read
-pub rest_read : (drafts : Drafts) (rest : List ℕ) (label : Option Name) (says : Says) (taken : Bool) → line_of rest ≡ Ok (label, says) → is_taken label drafts ≡ taken
+pub rest_read : (drafts : Drafts) (rest : List ℕ) (label : Option Name) (says : Says) (taken : Bool) → line_of rest ≡ Ok (label, says)
+    → is_taken label drafts ≡ taken
     → rest_says drafts rest ≡ (if taken then Err DuplicateLabel else Ok (label, says))
 rest_read drafts rest label says taken read is =
     let parts = line_parts rest label says read in
-    let field : label_field rest ≡ label = field_is rest label parts.words parts.head in
-    ap (after_label (is_taken (label_field rest) drafts) (has_colon rest)) read ∙ rw (field, is) refl
+    rw (read, field_is rest label parts.words parts.head, is) refl
 
 -- a line with a label in its label field says that label, and belongs to a block
 pub has_name : (labels : List Name) (drafts : Drafts) (above : Above) (line : Line) (below : List Line) (said : Said) (name : Name)
@@ -274,7 +223,8 @@ pub has_name : (labels : List Name) (drafts : Drafts) (above : Above) (line : Li
 has_name labels drafts above line below said name is field =
     field_by said.front (content line) said.label said.says name is.front (read_line labels drafts above line below said is) field
 
-pub is_proper : (labels : List Name) (drafts : Drafts) (above : Above) (line : Line) (below : List Line) (said : Said) → IsTold labels drafts above line below said
+pub is_proper : (labels : List Name) (drafts : Drafts) (above : Above) (line : Line) (below : List Line) (said : Said)
+    → IsTold labels drafts above line below said
     → IsProper said.says
 is_proper labels drafts above line below said is =
     let parts = line_parts (rest_of said.front (content line)) said.label said.says (read_line labels drafts above line below said is) in
@@ -282,15 +232,10 @@ is_proper labels drafts above line below said is =
 
 -- a line of NOP begins as the first of a packet
 pause_front : (front : Front) (bytes word : List ℕ) → bytes ≡ codes "   NOP " ++ word → front ≡ front_of bytes → rest_of front bytes ≡ bytes
-pause_front Beside bytes word is begins =
-    let first : First ≡ front_of bytes = ap front_of (sym is) in
-    absurd cc
-pause_front Empty bytes word is begins = refl
-pause_front First bytes word is begins = refl
-pause_front Label bytes word is begins = refl
-pause_front Stray bytes word is begins = refl
+pause_front front bytes word is begins = grind (arith, nat_tests)
 
-short_by : (front : Front) (label : Option Name) (says : Says) (bytes : List ℕ) → front ≡ front_of bytes → is_text bytes (spelled_line front label says) ≡ true
+short_by : (front : Front) (label : Option Name) (says : Says) (bytes : List ℕ) → front ≡ front_of bytes
+    → is_text bytes (spelled_line front label says) ≡ true
     → line_of (rest_of front bytes) ≡ Ok (label, says) → IsShort says
 short_by front label Nothing bytes begins spelled read = tt
 short_by front label (Does parts) bytes begins spelled read = tt
@@ -298,36 +243,40 @@ short_by front label (Jumps parts target) bytes begins spelled read = tt
 short_by front (Some label) (Pause n) bytes begins spelled read = absurd (false≢true spelled)
 short_by front None (Pause n) bytes begins spelled read =
     let is : bytes ≡ codes "   NOP " ++ decimal n = (bytes_eq-Decides bytes (codes "   NOP " ++ decimal n)).0 spelled in
-    let parts = line_parts bytes None (Pause n) (ap line_of (sym (pause_front front bytes (decimal n) is begins)) ∙ read) in
+    let parts = line_parts bytes None (Pause n) (rw (pause_front front bytes (decimal n) is begins) at read) in
     short bytes (decimal n) parts.words (Pause n) is parts.head parts.rest
 
-pub is_short : (labels : List Name) (drafts : Drafts) (above : Above) (line : Line) (below : List Line) (said : Said) → IsTold labels drafts above line below said
+pub is_short : (labels : List Name) (drafts : Drafts) (above : Above) (line : Line) (below : List Line) (said : Said)
+    → IsTold labels drafts above line below said
     → IsShort said.says
 is_short labels drafts above line below said is =
     short_by said.front said.label said.says (content line) is.front is.spelled (read_line labels drafts above line below said is)
 
 -- ---- the first of more lines
 
-pub record IsBegun (labels : List Name) (aim : Name → ℕ) (number : ℕ) (drafts : Drafts) (above : Above) (line : Line) (below : List Line) (final : Drafts) : Type 0 where
+pub record IsBegun (labels : List Name) (aim : Name → ℕ) (number : ℕ) (drafts : Drafts) (above : Above) (line : Line) (below : List Line)
+    (final : Drafts) : Type 0 where
   pub said : Said
   pub is : IsTold labels drafts above line below said
   pub others : read_lines labels aim (number + 1) (with_said aim number said drafts) (above_next said.front said.says) below ≡ Ok final
-  pub says : line_says labels drafts above line below ≡ Ok said
 
-begun_by : (labels : List Name) (aim : Name → ℕ) (number : ℕ) (drafts : Drafts) (above : Above) (line : Line) (below : List Line) (final : Drafts) (says : Result Said LineFault)
-    → line_says labels drafts above line below ≡ says
-    → and_then number says (λ said. read_lines labels aim (number + 1) (with_said aim number said drafts) (above_next said.front said.says) below) ≡ Ok final
+begun_by : (labels : List Name) (aim : Name → ℕ) (number : ℕ) (drafts : Drafts) (above : Above) (line : Line) (below : List Line) (final : Drafts)
+    (says : Result Said LineFault) → line_says labels drafts above line below ≡ says
+    → and_then number says (λ said. read_lines labels aim (number + 1) (with_said aim number said drafts) (above_next said.front said.says) below)
+    ≡ Ok final
     → IsBegun labels aim number drafts above line below final
 begun_by labels aim number drafts above line below final (Err fault) says h = absurd cc
 begun_by labels aim number drafts above line below final (Ok said) says h =
-    record { said = said; is = told labels drafts above line below said says; others = h; says = says }
+    record { said = said; is = told labels drafts above line below said says; others = h }
 
 pub begun : (labels : List Name) (aim : Name → ℕ) (number : ℕ) (drafts : Drafts) (above : Above) (line : Line) (below : List Line) (final : Drafts)
     → read_lines labels aim number drafts above (line ∷ below) ≡ Ok final → IsBegun labels aim number drafts above line below final
 unfolding read_lines
-begun labels aim number drafts above line below final h = begun_by labels aim number drafts above line below final (line_says labels drafts above line below) refl h
+begun labels aim number drafts above line below final h =
+    begun_by labels aim number drafts above line below final (line_says labels drafts above line below) refl h
 
-pub over : (labels : List Name) (aim : Name → ℕ) (number : ℕ) (drafts : Drafts) (above : Above) (final : Drafts) → read_lines labels aim number drafts above [] ≡ Ok final
+pub over : (labels : List Name) (aim : Name → ℕ) (number : ℕ) (drafts : Drafts) (above : Above) (final : Drafts)
+    → read_lines labels aim number drafts above [] ≡ Ok final
     → drafts ≡ final
 unfolding read_lines
 over labels aim number drafts above final h = cc

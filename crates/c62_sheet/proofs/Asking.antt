@@ -1,103 +1,70 @@
 -- The packet rules P1 to P4 in the order in which they are asked.
-use Rattle.std.proofs.Common.{arith, ◌≡◌, ℕ, ◌+◌, ◌<◌, ◌≤◌, List, length, Some, None, true, false, refl, sym, ◌∙◌, subst}
-use Rattle.std.specs.Prelude.{slice_get, slice_set, sum_by}
-use Rattle.std.specs.List.{list_all}
-use Rattle.std.proofs.lemmas.Bool.{cases_eq}
-use Rattle.std.proofs.Common.{inl, inr}
-use Rattle.std.proofs.lemmas.Option.{same_Some}
-use Rattle.c62_insn.specs.declared.register.Side.{Side}
-use Rattle.c62_insn.specs.declared.register.Side.TheVariants.{A, B}
-use Rattle.c62_insn.specs.declared.insn.Insn.{Insn}
-use Rattle.c62_insn.specs.Insn.{operand_reads}
-use Rattle.c62_insn.specs.PacketRules.{Issues, UsesDataPath, KeepsPacketRules, reads_in}
-use Rattle.c62_insn.proofs.Registers.{same_unit-refl}
-use Rattle.c62_sheet.specs.declared.resource.Resource.{Resource}
-use Rattle.c62_sheet.specs.declared.resource.Resource.TheVariants.{OnUnit, CrossPath, DataPath}
-use Rattle.c62_sheet.specs.declared.entry.Spot.{Spot}
-use Rattle.c62_sheet.specs.declared.entry.Rule.{Rule}
-use Rattle.c62_sheet.specs.declared.entry.Rule.TheVariants.{P1, P2, P3, P4}
-use Rattle.c62_sheet.specs.Lawful.{Spots, spot_at, issue_at, issues}
-use Rattle.c62_sheet.specs.Check.{Meets, Breaks, turn_of}
-use Rattle.c62_sheet.specs.Packet.{IsUsed, Wants, has_read_left, BreaksFirst}
+use Rattle.c62_sheet.proofs.Common.{arith, ◌≡◌, ℕ, ◌<◌, ◌≤◌, List, length, Some, None, true, false, refl, sym, slice_get, Side, A, B, Insn}
+use Rattle.c62_sheet.proofs.Common.{UsesDataPath, KeepsPacketRules, same_unit-refl, Resource, OnUnit, CrossPath, DataPath, Spot, Rule, P1, P2, P3, P4}
+use Rattle.c62_sheet.proofs.Common.{Spots, spot_at, issue_at, issues, Meets, Breaks, turn_of, IsUsed, Wants, BreaksFirst, ◌↔◌, false≢true, KeepsAll}
+use Rattle.c62_sheet.proofs.Common.{IsTrue, slice_get_within, has_reads_left}
 use Rattle.c62_sheet.proofs.IssuesOf.{length-issues}
 use Rattle.c62_sheet.proofs.Adding.{Uses, few_reads, many_reads}
 use Rattle.c62_sheet.proofs.Used.{meets-wants, wants-meets}
 use Rattle.c62_sheet.proofs.Placing.{added, not_issued}
-use Rattle.c62_sheet.proofs.Turns.{same_turn}
+use Rattle.c62_sheet.proofs.Turns.{IsClear, clear_none, clear_more}
 
--- of the packet rules, none that is asked before a turn speaks against the triple
-pub record KeepsTo (block : List Insn) (set : Spots) (i : ℕ) (s : Spot) (n : ℕ) : Type 0 where
-  pub kept : (rule : Rule) → 5 ≤ turn_of rule → turn_of rule < n → Breaks block set i s rule → ⊥
+in_issues : (block : List Insn) (set : Spots) (i : ℕ) (insn : Insn) → length set ≡ length block → slice_get block i ≡ Some insn
+    → i < length (issues block set)
+in_issues block set i insn sized at = omega (arith, length-issues block set sized, slice_get_within block i insn at)
 
-pub keeps_none : (block : List Insn) (set : Spots) (i : ℕ) (s : Spot) → KeepsTo block set i s 5
-keeps_none block set i s = record { kept = λ rule low high b. absurd (omega (arith, low, high)) }
+-- number i is not placed, and what is asked of it says so of the instruction that it is
+module _ {block : List Insn} {set : Spots} {i : ℕ} {s : Spot} (insn : Insn) (sized : length set ≡ length block) (at : slice_get block i ≡ Some insn)
+    (free : spot_at set i ≡ None) where
+  met : (resource : Resource) → IsTrue true ↔ Wants block set insn s resource → Meets (Uses resource) block set i s
+  met resource tells = meets-wants block set i insn s resource sized at (tells.0 refl)
 
-pub keeps_more : {block : List Insn} {set : Spots} {i n : ℕ} {s : Spot} (rule : Rule) → turn_of rule ≡ n → KeepsTo block set i s n
-    → (Breaks block set i s rule → ⊥) → KeepsTo block set i s (n + 1)
-keeps_more {block} {set} {i} {n} {s} rule turn keeps not = record {
-  kept = λ r low high b.
-      elim (cases_eq (turn_of r) n) [
-        | inl e ↦ not (subst (λ (x : Rule). Breaks block set i s x) (same_turn r rule (e ∙ sym turn)) b)
-        | inr ne ↦ keeps.kept r low (omega (arith, high, ne)) b
-      ];
-}
+  unmet : (resource : Resource) → IsTrue false ↔ Wants block set insn s resource → Meets (Uses resource) block set i s → ⊥
+  unmet resource tells m = false≢true (tells.1 (wants-meets block set i insn s resource sized at m))
 
-pub first_from : {block : List Insn} {set : Spots} {i : ℕ} {s : Spot} (rule : Rule) → 5 ≤ turn_of rule → turn_of rule < 9 → KeepsTo block set i s (turn_of rule)
-    → Breaks block set i s rule → BreaksFirst block set i s rule
-first_from rule low high keeps broken = record { among = low; few = high; broken = broken; kept = keeps.kept }
+  pub first_from : (rule : Rule) → 5 ≤ turn_of rule → turn_of rule < 9 → IsClear block set i s 5 (turn_of rule) → Breaks block set i s rule
+      → BreaksFirst block set i s rule
+  first_from rule low high clear broken = record { among = low; few = high; broken = broken; kept = clear.kept }
 
-module _ (block : List Insn) (set : Spots) (i : ℕ) (s : Spot) (insn : Insn) (sized : length set ≡ length block) (at : slice_get block i ≡ Some insn) (in_block : i < length block) (free : spot_at set i ≡ None) where
-  pub met : (resource : Resource) → Wants block set insn s resource → Meets (Uses resource) block set i s
-  met resource w = meets-wants block set i insn s resource sized at w
+  pub first_unit : IsTrue true ↔ IsUsed block set s.cycle (OnUnit s.unit) → BreaksFirst block set i s P1
+  first_unit tells =
+      first_from P1 (omega arith) (omega arith) (clear_none 5)
+      (meets-wants block set i insn s (OnUnit s.unit) sized at (same_unit-refl s.unit, tells.0 refl))
 
-  pub wanted : (resource : Resource) → Meets (Uses resource) block set i s → Wants block set insn s resource
-  wanted resource m =
-      let same : m.insn ≡ insn = same_Some m.insn insn (sym m.is_insn ∙ at) in
-      wants-meets block set i insn s resource sized at (subst (λ (x : Insn). Uses resource (issue_at x s)) same m.own) m.number m.other m.issued m.together m.theirs
+  pub kept_unit : IsTrue false ↔ IsUsed block set s.cycle (OnUnit s.unit) → IsClear block set i s 5 6
+  kept_unit tells =
+      clear_more P1 refl (clear_none 5) (λ m. false≢true (tells.1 (wants-meets block set i insn s (OnUnit s.unit) sized at m).1))
 
-  pub breaks_p1 : IsUsed block set s.cycle (OnUnit s.unit) → Breaks block set i s P1
-  breaks_p1 used = (let m = met (OnUnit s.unit) (same_unit-refl s.unit, used) in m)
+  pub first_cross : IsClear block set i s 5 6 → IsTrue true ↔ Wants block set insn s (CrossPath s.unit.side) → BreaksFirst block set i s P2
+  first_cross clear tells = first_from P2 (omega arith) (omega arith) clear (met (CrossPath s.unit.side) tells)
 
-  pub keeps_p1 : (IsUsed block set s.cycle (OnUnit s.unit) → ⊥) → Breaks block set i s P1 → ⊥
-  keeps_p1 none b = none (wanted (OnUnit s.unit) b).1
+  pub kept_cross : IsClear block set i s 5 6 → IsTrue false ↔ Wants block set insn s (CrossPath s.unit.side) → IsClear block set i s 5 7
+  kept_cross clear tells = clear_more P2 refl clear (unmet (CrossPath s.unit.side) tells)
 
-  pub breaks_p2 : Wants block set insn s (CrossPath s.unit.side) → Breaks block set i s P2
-  breaks_p2 w = met (CrossPath s.unit.side) w
+  pub first_path : (side : Side) → IsClear block set i s 5 7 → IsTrue true ↔ Wants block set insn s (DataPath side) → BreaksFirst block set i s P3
+  first_path side clear tells = first_from P3 (omega arith) (omega arith) clear (side, met (DataPath side) tells)
 
-  pub keeps_p2 : (Wants block set insn s (CrossPath s.unit.side) → ⊥) → Breaks block set i s P2 → ⊥
-  keeps_p2 none b = none (wanted (CrossPath s.unit.side) b)
-
-  pub breaks_p3 : (side : Side) → Wants block set insn s (DataPath side) → Breaks block set i s P3
-  breaks_p3 side w = (side, met (DataPath side) w)
-
-  pub keeps_p3 : (Wants block set insn s (DataPath A) → ⊥) → (Wants block set insn s (DataPath B) → ⊥) → Breaks block set i s P3 → ⊥
-  keeps_p3 none_a none_b b = on_side b.0 b.1
+  pub kept_paths : IsClear block set i s 5 7 → IsTrue false ↔ Wants block set insn s (DataPath A) → IsTrue false ↔ Wants block set insn s (DataPath B)
+      → IsClear block set i s 5 8
+  kept_paths clear tells_a tells_b = clear_more P3 refl clear (λ b. on_side b.0 b.1)
     where
       on_side : (side : Side) → Meets (UsesDataPath side) block set i s → ⊥
-      on_side A m = none_a (wanted (DataPath A) m)
-      on_side B m = none_b (wanted (DataPath B) m)
+      on_side A m = unmet (DataPath A) tells_a m
+      on_side B m = unmet (DataPath B) tells_b m
 
-  pub breaks_p4 : list_all (has_read_left (issues block set) insn s.cycle) (operand_reads insn) ≡ false → Breaks block set i s P4
-  breaks_p4 left =
-      let lt : i < length (issues block set) = omega (arith, in_block, length-issues block set sized) in
-      let w = many_reads (issues block set) i (issue_at insn s) lt (not_issued block set i insn s sized at in_block free) left in
-      (w.0, subst (λ (xs : Issues). 4 < sum_by (reads_in s.cycle w.0) xs) (sym (added block set i insn s sized at in_block free)) w.1)
+  pub first_reads : IsClear block set i s 5 8 → false ≡ has_reads_left (issues block set) insn s.cycle → BreaksFirst block set i s P4
+  first_reads clear tells =
+      let many = many_reads (issues block set) i (issue_at insn s) (in_issues block set i insn sized at)
+      (not_issued block set i insn s sized at free) (sym tells) in
+      first_from P4 (omega arith) (omega arith) clear (many.0, rw (added block set i insn s sized at free) many.1)
 
-  pub keeps_p4 : KeepsPacketRules (issues block set) → list_all (has_read_left (issues block set) insn s.cycle) (operand_reads insn) ≡ true → Breaks block set i s P4 → ⊥
-  keeps_p4 rules left b =
-      let lt : i < length (issues block set) = omega (arith, in_block, length-issues block set sized) in
-      let few = few_reads (issues block set) i (issue_at insn s) lt (not_issued block set i insn s sized at in_block free) rules.p4 left b.0 in
-      let many : 4 < sum_by (reads_in s.cycle b.0) (slice_set (issues block set) i (Some (issue_at insn s))) =
-      subst (λ (xs : Issues). 4 < sum_by (reads_in s.cycle b.0) xs) (added block set i insn s sized at in_block free) b.1 in
-      omega (arith, few, many)
-
-  -- what is left to ask once the first rules were
-  pub kept_one : (IsUsed block set s.cycle (OnUnit s.unit) → ⊥) → KeepsTo block set i s 6
-  kept_one unit = keeps_more {n = 5} P1 refl (keeps_none block set i s) (keeps_p1 unit)
-
-  pub kept_two : (IsUsed block set s.cycle (OnUnit s.unit) → ⊥) → (Wants block set insn s (CrossPath s.unit.side) → ⊥) → KeepsTo block set i s 7
-  kept_two unit cross = keeps_more {n = 6} P2 refl (kept_one unit) (keeps_p2 cross)
-
-  pub kept_three : (IsUsed block set s.cycle (OnUnit s.unit) → ⊥) → (Wants block set insn s (CrossPath s.unit.side) → ⊥)
-      → (Wants block set insn s (DataPath A) → ⊥) → (Wants block set insn s (DataPath B) → ⊥) → KeepsTo block set i s 8
-  kept_three unit cross path_a path_b = keeps_more {n = 7} P3 refl (kept_two unit cross) (keeps_p3 path_a path_b)
+  pub kept_all : KeepsPacketRules (issues block set) → IsClear block set i s 5 8 → true ≡ has_reads_left (issues block set) insn s.cycle
+      → KeepsAll block set i s
+  kept_all rules clear tells = (clear_more P4 refl clear few).kept
+    where
+      few : Breaks block set i s P4 → ⊥
+      few b =
+          let own = few_reads (issues block set) i (issue_at insn s) (in_issues block set i insn sized at)
+          (not_issued block set i insn s sized at free) rules.p4 (sym tells) b.0 in
+          let many = rw (added block set i insn s sized at free) at b.1 in
+          omega (arith, own, many)

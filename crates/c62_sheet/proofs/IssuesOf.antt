@@ -1,21 +1,13 @@
 -- What is issued by a block and the spots of its numbers.
-use Rattle.std.proofs.Common.{arith, ◌≡◌, ℕ, zero, suc, ◌+◌, ◌<◌, ◌≤◌, List, [], ◌∷◌, length, take, get_or, Option, Some, None, refl, sym, ap, ◌∙◌, inl, inr}
-use Rattle.std.specs.Prelude.{slice_get, slice_set, option_map, sum_by}
-use Rattle.std.proofs.lemmas.List.{get_or_default, get_or_past, take_all}
-use Rattle.std.proofs.lemmas.List.Sums.{sum_by_more}
-use Rattle.std.proofs.lemmas.Option.{same_Some, none-some, slice_get_cases}
-use Rattle.c62_insn.specs.declared.register.Reg.{Reg}
-use Rattle.c62_insn.specs.declared.insn.Insn.{Insn}
-use Rattle.c62_insn.specs.PacketRules.{Issue, Issues, IsIssued, reads_in}
-use Rattle.c62_sheet.specs.declared.entry.Spot.{Spot}
-use Rattle.c62_sheet.specs.Lawful.{Spots, IsAt, spot_at, placed, withdrawn, issue_at, issues}
-use Rattle.c62_sheet.specs.Packet.{reads_at}
+use Rattle.c62_sheet.proofs.Common.{[], arith, ◌≡◌, ℕ, zero, suc, ◌+◌, ◌<◌, List, ◌∷◌, length, take, get_or, Option, Some, None, refl, sym, ap, ◌∙◌}
+use Rattle.c62_sheet.proofs.Common.{inl, inr, slice_get, slice_set, option_map, sum_by, get_or_default, get_or_past, sum_by_more, same_Some}
+use Rattle.c62_sheet.proofs.Common.{none-some, slice_get_cases, Reg, Insn, Issue, IsIssued, reads_in, Spot, Spots, IsAt, spot_at, placed, withdrawn}
+use Rattle.c62_sheet.proofs.Common.{issue_at, issues, reads_at}
 
 pub length-issues : (block : List Insn) (set : Spots) → length set ≡ length block → length (issues block set) ≡ length block
-length-issues [] [] h = refl
-length-issues [] (s ∷ set) h = refl
+length-issues [] set h = refl
 length-issues (insn ∷ block) [] h = absurd (omega (arith, h))
-length-issues (insn ∷ block) (s ∷ set) h = let e = length-issues block set (omega (arith, h)) in omega (arith, e)
+length-issues (insn ∷ block) (s ∷ set) h = omega (arith, length-issues block set (omega (arith, h)))
 
 -- what is issued under a number
 pub issue-at : (block : List Insn) (set : Spots) (k : ℕ) (insn : Insn) → length set ≡ length block → slice_get block k ≡ Some insn
@@ -33,13 +25,14 @@ pub record IsPlacement (block : List Insn) (set : Spots) (k : ℕ) (p : Issue) :
   pub is_at : IsAt set k spot
   pub is_issue : p ≡ issue_at insn spot
 
-placement_from : (block : List Insn) (set : Spots) (k : ℕ) (p : Issue) (insn : Insn) (o : Option Spot) → slice_get block k ≡ Some insn → spot_at set k ≡ o
-    → option_map (issue_at insn) o ≡ Some p → IsPlacement block set k p
+placement_from : (block : List Insn) (set : Spots) (k : ℕ) (p : Issue) (insn : Insn) (o : Option Spot) → slice_get block k ≡ Some insn
+    → spot_at set k ≡ o → option_map (issue_at insn) o ≡ Some p → IsPlacement block set k p
 placement_from block set k p insn None at is e = absurd (none-some p e)
 placement_from block set k p insn (Some s) at is e =
     record { insn = insn; spot = s; is_insn = at; is_at = is; is_issue = sym (same_Some (issue_at insn s) p e) }
 
-pub issued-placement : (block : List Insn) (set : Spots) (k : ℕ) (p : Issue) → length set ≡ length block → IsIssued (issues block set) k p → IsPlacement block set k p
+pub issued-placement : (block : List Insn) (set : Spots) (k : ℕ) (p : Issue) → length set ≡ length block → IsIssued (issues block set) k p
+    → IsPlacement block set k p
 issued-placement block set k p h is =
     elim ((slice_get_cases block k).1) [
       | inl w ↦ placement_from block set k p w.0 (spot_at set k) w.2 refl (sym (issue-at block set k w.0 h w.2) ∙ is)
@@ -56,39 +49,30 @@ pub issues-placed : (block : List Insn) (set : Spots) (i : ℕ) (insn : Insn) (s
 issues-placed [] set i insn s h at = absurd (none-some insn at)
 issues-placed (first ∷ block) [] i insn s h at = absurd (omega (arith, h))
 issues-placed (first ∷ block) (o ∷ set) zero insn s h at = ap (λ (x : Insn). Some (issue_at x s) ∷ issues block set) (same_Some first insn at)
-issues-placed (first ∷ block) (o ∷ set) (suc i) insn s h at =
-    ap (λ (xs : Issues). option_map (issue_at first) o ∷ xs) (issues-placed block set i insn s (omega (arith, h)) at)
+issues-placed (first ∷ block) (o ∷ set) (suc i) insn s h at = rw (issues-placed block set i insn s (omega (arith, h)) at) refl
+
+-- one triple less is one issue less
+pub issues-withdrawn : (block : List Insn) (set : Spots) (i : ℕ) → length set ≡ length block
+    → issues block (withdrawn set i) ≡ slice_set (issues block set) i None
+issues-withdrawn [] set i h = refl
+issues-withdrawn (first ∷ block) [] i h = refl
+issues-withdrawn (first ∷ block) (o ∷ set) zero h = refl
+issues-withdrawn (first ∷ block) (o ∷ set) (suc i) h = rw (issues-withdrawn block set i (omega (arith, h))) refl
 
 reads_in-at : (cycle : ℕ) (reg : Reg) (insn : Insn) (o : Option Spot) → reads_in cycle reg (option_map (issue_at insn) o) ≡ reads_at cycle reg insn o
 reads_in-at cycle reg insn None = refl
 reads_in-at cycle reg insn (Some s) = refl
 
 -- a count of reads goes on by one number
-pub reads-more : (block : List Insn) (set : Spots) (cycle : ℕ) (reg : Reg) (k n : ℕ) (d : Option Spot) (count own : ℕ)
-    → length set ≡ length block → k < length block → n ≡ k → ((insn : Insn) → slice_get block k ≡ Some insn → own ≡ reads_at cycle reg insn (get_or set n d))
+pub reads-more : (block : List Insn) (set : Spots) (cycle : ℕ) (reg : Reg) (k n : ℕ) (d : Option Spot) (count own : ℕ) → length set ≡ length block
+    → k < length block → n ≡ k → ((insn : Insn) → slice_get block k ≡ Some insn → own ≡ reads_at cycle reg insn (get_or set n d))
     → count ≡ sum_by (reads_in cycle reg) (take k (issues block set)) → count + own ≡ sum_by (reads_in cycle reg) (take (k + 1) (issues block set))
 reads-more block set cycle reg k n d count own h lt at_k tells count_is =
     elim ((slice_get_cases block k).1) [
       | inl w ↦
-          let within : k < length (issues block set) = omega (arith, lt, length-issues block set h) in
-          let more = sum_by_more (reads_in cycle reg) (issues block set) k None within in
+          let more = sum_by_more (reads_in cycle reg) (issues block set) k None (omega (arith, lt, length-issues block set h)) in
           let here = ap (reads_in cycle reg) (issue-at block set k w.0 h w.2) ∙ reads_in-at cycle reg w.0 (spot_at set k) in
-          let same : get_or set n d ≡ spot_at set k = ap (λ (x : ℕ). get_or set x d) at_k ∙ get_or_default set k d None (omega (arith, lt, h)) in
-          let own_here : own ≡ reads_at cycle reg w.0 (spot_at set k) = tells w.0 w.2 ∙ ap (reads_at cycle reg w.0) same in
-          omega (arith, more, here, own_here, count_is)
+          let same : get_or set n d ≡ spot_at set k = rw at_k (get_or_default set k d None (omega (arith, lt, h))) in
+          omega (arith, more, here, tells w.0 w.2 ∙ ap (reads_at cycle reg w.0) same, count_is)
       | inr w ↦ absurd (omega (arith, lt, w.0))
     ]
-
-pub reads-all : (block : List Insn) (set : Spots) (cycle : ℕ) (reg : Reg) (k count : ℕ) → length set ≡ length block → length block ≤ k
-    → count ≡ sum_by (reads_in cycle reg) (take k (issues block set)) → count ≡ sum_by (reads_in cycle reg) (issues block set)
-reads-all block set cycle reg k count h le e =
-    let whole = take_all k (issues block set) (omega (arith, length-issues block set h)) in
-    e ∙ ap (sum_by (reads_in cycle reg)) whole
-
--- one triple less is one issue less
-pub issues-withdrawn : (block : List Insn) (set : Spots) (i : ℕ) → length set ≡ length block → issues block (withdrawn set i) ≡ slice_set (issues block set) i None
-issues-withdrawn [] set i h = refl
-issues-withdrawn (first ∷ block) [] i h = refl
-issues-withdrawn (first ∷ block) (o ∷ set) zero h = refl
-issues-withdrawn (first ∷ block) (o ∷ set) (suc i) h =
-    ap (λ (xs : Issues). option_map (issue_at first) o ∷ xs) (issues-withdrawn block set i (omega (arith, h)))

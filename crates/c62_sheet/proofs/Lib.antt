@@ -1,3 +1,4 @@
+pub mod Common
 pub mod Optional
 pub mod Sets
 pub mod IssuesOf

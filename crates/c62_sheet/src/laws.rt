@@ -9,16 +9,19 @@ ghost use Rattle.c62_sheet.specs.Lawful.{Spots};
 ghost use Rattle.c62_sheet.specs.Laws.{HasOneLeast, HasOnePick, HasSomeReady, FindsRoom, NeverLandTogether, CanTakeOut, IsLawfulEmpty};
 
 /// An instruction has one least spot at most.
+#[tactic(auto, using(crate::proofs::Search::least_unique))]
 pub fn has_one_least()
     ensures { (block : List Insn) (set : Spots) (i : ℕ) → HasOneLeast block set i }
 {}
 
 /// A side has one pick at most.
+#[tactic(auto, using(crate::proofs::Picks::pick_unique))]
 pub fn has_one_pick()
     ensures { (block : List Insn) (set : Spots) (of : Side) → HasOnePick block set of }
 {}
 
 /// Where not every instruction is placed, some side has a ready one: the lowest that is not placed is ready.
+#[tactic(auto, using(crate::proofs::Picks::some_ready))]
 pub fn has_some_ready()
     ensures { (block : List Insn) (set : Spots) → HasSomeReady block set }
 {}
@@ -26,6 +29,7 @@ pub fn has_some_ready()
 /// Where all that is placed stands at least five cycles before cycle 5·k, each ready instruction may be placed in that
 /// cycle, so it has a least spot, no later. The k-th placing (from 0) of a set from which nothing was withdrawn therefore
 /// finds a spot by cycle 5·k.
+#[tactic(auto, using(crate::proofs::Room::finds_room))]
 pub fn finds_room()
     ensures { (block : List Insn) (set : Spots) → FindsRoom block set }
 {}

@@ -1,6 +1,4 @@
-use Rattle.std.proofs.Common.{◌≡◌, slice_index}
-use Rattle.c62_depend.specs.Uses.{insns_in}
-use Rattle.c62_depend.specs.Height.{delay_at, longest}
+use Rattle.c62_depend.proofs.Common.{◌≡◌, slice_index, insns_in, delay_at, longest}
 use Rattle.c62_depend.proofs.Heights.{followers_before}
 use Rattle.c62_depend.proofs.height.height.Given as goal
 

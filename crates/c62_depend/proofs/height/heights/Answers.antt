@@ -1,19 +1,11 @@
-use Rattle.std.proofs.Common.{◌≡◌, ◌<◌, ◌-◌, ◌+◌, ℕ, length, List, refl, sym, arith, subst}
-use Rattle.std.proofs.lemmas.List.{length-map}
-use Rattle.c62_depend.specs.declared.uses.Uses.{Uses}
-use Rattle.c62_depend.specs.Uses.{insns_in}
-use Rattle.c62_depend.specs.Height.{AreHeightsFrom}
+use Rattle.c62_depend.proofs.Common.{Insn, ◌≡◌, ◌<◌, ◌-◌, ◌+◌, ℕ, length, List, refl, sym, arith, subst, insns_in, AreHeightsFrom}
+use Rattle.c62_depend.proofs.Latencies.{many_uses}
 use Rattle.c62_depend.proofs.Heights.{height_more, heights_all}
 use Rattle.c62_depend.proofs.Lists.{row_long, row_is}
 use Rattle.c62_depend.proofs.height.heights.Goals as goal
 
-many : (uses : List Uses) → length (insns_in uses) ≡ length uses
-many uses = length-map uses (λ (one : Uses). one.insn)
-
-below : (block : List Uses) (i : ℕ) (heights : List ℕ) → 0 < i → AreHeightsFrom (insns_in block) i heights → AreHeightsFrom (insns_in block) (i - 1 + 1) heights
-below block i heights some from =
-    let same : i ≡ i - 1 + 1 = omega arith in
-    subst (λ (n : ℕ). AreHeightsFrom (insns_in block) n heights) same from
+below : (block : List Insn) (i : ℕ) (heights : List ℕ) → 0 < i → AreHeightsFrom block i heights → AreHeightsFrom block (i - 1 + 1) heights
+below block i heights some from = let same : i - 1 + 1 ≡ i = omega arith in rw same from
 
 pub height-requires : goal.height-requires
 height-requires c =
@@ -24,19 +16,18 @@ height-requires c =
       few = c.requires.few;
       within = omega arith;
       wide = row_long i n c.args.pairs.now c.requires.pairs.long (omega arith);
-      row = row_is block n i c.args.pairs.now _ c.requires.pairs (many c.args.uses.now) c.requires.few (omega arith) refl;
+      row = row_is block n i c.args.pairs.now _ c.requires.pairs (many_uses c.args.uses.now) c.requires.few (omega arith) refl;
       behind = subst (AreHeightsFrom block (i + 1)) (sym c.deref.ensures.value)
-          (below c.args.uses.now c.loop-i.i c.loop-i.heights.items c.loop-i-test.true c.loop-i.invariant);
+          (below (insns_in c.args.uses.now) c.loop-i.i c.loop-i.heights.items c.loop-i-test.true c.loop-i.invariant);
     }
 
 pub loop-i-preserved : goal.loop-i-preserved
 loop-i-preserved c =
-    let all = many c.args.uses.now in
+    let all = many_uses c.args.uses.now in
     height_more (insns_in c.args.uses.now) (c.loop-i.i - 1) c.height.result c.loop-i.heights.items
-    (below c.args.uses.now c.loop-i.i c.loop-i.heights.items c.loop-i-test.true c.loop-i.invariant) (omega arith) c.height.ensures
+    (below (insns_in c.args.uses.now) c.loop-i.i c.loop-i.heights.items c.loop-i-test.true c.loop-i.invariant) (omega arith) c.height.ensures
 
 pub returns : goal.returns
 returns c =
     let last : c.loop-i.i ≡ 0 = omega arith in
-    heights_all (insns_in c.args.uses.now) (length c.args.uses.now) c.loop-i.heights.items
-    (subst (λ (n : ℕ). AreHeightsFrom (insns_in c.args.uses.now) n c.loop-i.heights.items) last c.loop-i.invariant) (many c.args.uses.now)
+    heights_all (insns_in c.args.uses.now) (length c.args.uses.now) c.loop-i.heights.items (rw last at c.loop-i.invariant) (many_uses c.args.uses.now)

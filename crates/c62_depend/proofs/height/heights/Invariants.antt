@@ -1,5 +1,4 @@
-use Rattle.c62_depend.specs.Uses.{insns_in}
-use Rattle.c62_depend.specs.Height.{AreHeightsFrom}
+use Rattle.c62_depend.proofs.Common.{insns_in, AreHeightsFrom}
 use Rattle.c62_depend.proofs.height.heights.Given as goal
 
 abbrev pub invariant-loop-i : goal.invariant-loop-i

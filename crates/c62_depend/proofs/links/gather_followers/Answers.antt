@@ -1,17 +1,14 @@
-use Rattle.std.proofs.Common.{◌≡◌, ℕ, length, ◌+◌, ◌-◌, ◌++◌, take, ℤ, Option, refl, ap, ◌∙◌, arith}
-use Rattle.std.specs.List.{flat_map, range_with_len}
-use Rattle.std.proofs.lemmas.List.{length-map}
-use Rattle.c62_depend.specs.declared.uses.Uses.{Uses}
-use Rattle.c62_depend.specs.Uses.{insns_in}
-use Rattle.c62_depend.specs.Latency.{latency}
-use Rattle.c62_depend.specs.Links.{linked, followers}
+use Rattle.c62_depend.proofs.Common.{◌≡◌, ℕ, length, ◌+◌, ◌-◌, ◌++◌, take, ℤ, Option, refl, ap, ◌∙◌, arith, flat_map, range_with_len, insns_in}
+use Rattle.c62_depend.proofs.Common.{latency, linked, followers}
 use Rattle.c62_depend.proofs.Ranges.{pieces_more}
+use Rattle.c62_depend.proofs.Latencies.{many_uses}
 use Rattle.c62_depend.proofs.Lists.{row_more}
 use Rattle.c62_depend.proofs.Plans.{number_small}
 use Rattle.c62_depend.proofs.links.gather_followers.Goals as goal
 
 pub add-count-requires-clause-small : goal.add-count-requires-clause-small
-add-count-requires-clause-small c = number_small (insns_in c.args.uses.now) c.args.i c.loop-j.j c.latency_number-latency.result c.latency_number-latency.ensures
+add-count-requires-clause-small c =
+    number_small (insns_in c.args.uses.now) c.args.i c.loop-j.j c.latency_number-latency.result c.latency_number-latency.ensures
 
 pub loop-j-preserved : goal.loop-j-preserved
 loop-j-preserved c =
@@ -19,10 +16,11 @@ loop-j-preserved c =
     let a = c.args.i + 1 in
     let block = insns_in c.args.uses.now in (
       omega arith,
-      pieces_more (λ j. linked j (latency block c.args.i j)) a (j - a) (j + 1 - a) j (take c.loop-j.count c.loop-j.gathered) (take c.add-count.result c.add-count.new.gathered)
+      pieces_more (λ j. linked j (latency block c.args.i j)) a (j - a) (j + 1 - a) j _ _
           (omega arith) (omega arith) c.loop-j.invariant.1
           (c.add-count.ensures.added ∙ ap (λ (o : Option ℤ). take c.loop-j.count c.loop-j.gathered ++ linked j o) c.latency_number-latency.ensures),
-      row_more block c.args.i j c.latency_number-latency.result c.loop-j.row _ c.loop-j.invariant.2 (omega arith) c.latency_number-latency.ensures refl,
+      row_more block c.args.i j c.latency_number-latency.result c.loop-j.row _ c.loop-j.invariant.2
+          (omega arith) c.latency_number-latency.ensures refl,
     )
 
 pub returns : goal.returns
@@ -31,7 +29,7 @@ returns c =
     let a = c.args.i + 1 in
     let block = insns_in c.args.uses.now in
     let last : c.loop-j.j ≡ length c.args.uses.now = omega arith in
-    let all : length block ≡ length c.args.uses.now = length-map c.args.uses.now (λ (one : Uses). one.insn) in
+    let all = many_uses c.args.uses.now in
     let many : c.loop-j.j - a ≡ length block - a = omega arith in
     record {
       count = omega arith;

@@ -1,9 +1,4 @@
-use Rattle.std.proofs.Common.{◌≡◌, ◌+◌, ◌-◌, ◌≤◌, take}
-use Rattle.std.specs.List.{flat_map, range_with_len}
-use Rattle.c62_depend.specs.Uses.{insns_in}
-use Rattle.c62_depend.specs.Latency.{latency}
-use Rattle.c62_depend.specs.Links.{linked}
-use Rattle.c62_depend.specs.Lists.{IsRow}
+use Rattle.c62_depend.proofs.Common.{◌≡◌, ◌+◌, ◌-◌, ◌≤◌, take, flat_map, range_with_len, insns_in, latency, linked, IsRow}
 use Rattle.c62_depend.proofs.links.gather_followers.Given as goal
 
 abbrev pub invariant-loop-j : goal.invariant-loop-j

@@ -1,8 +1,4 @@
-use Rattle.std.proofs.Common.{◌≡◌, ◌≤◌, take}
-use Rattle.std.specs.List.{flat_map, range_with_len}
-use Rattle.c62_depend.specs.Uses.{insns_in}
-use Rattle.c62_depend.specs.Latency.{latency}
-use Rattle.c62_depend.specs.Links.{linked}
+use Rattle.c62_depend.proofs.Common.{◌≡◌, ◌≤◌, take, flat_map, range_with_len, insns_in, latency, linked}
 use Rattle.c62_depend.proofs.links.gather_needs.Given as goal
 
 abbrev pub invariant-loop-i : goal.invariant-loop-i

@@ -1,4 +1,4 @@
-use Rattle.std.proofs.Common.{length}
+use Rattle.c62_depend.proofs.Common.{length}
 use Rattle.c62_depend.proofs.same.+are_same_entries.Given as goal
 
 abbrev pub decreases-are_same_entries : goal.decreases-are_same_entries

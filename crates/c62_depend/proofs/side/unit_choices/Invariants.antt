@@ -1,5 +1,4 @@
-use Rattle.c62_depend.specs.Uses.{insns_in}
-use Rattle.c62_depend.specs.UnitChoices.{AreUnitChoices}
+use Rattle.c62_depend.proofs.Common.{insns_in, AreUnitChoices}
 use Rattle.c62_depend.proofs.side.unit_choices.Given as goal
 
 abbrev pub invariant-loop-i : goal.invariant-loop-i

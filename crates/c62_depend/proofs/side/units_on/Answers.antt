@@ -1,9 +1,8 @@
-use Rattle.std.proofs.Common.{◌∙◌, ap, sym, ◌≡◌, arith}
+use Rattle.c62_depend.proofs.Common.{◌∙◌, ap, sym, ◌≡◌, arith, unit_in, all_units}
 use Rattle.c62_depend.proofs.Units.{stands}
-use Rattle.c62_insn.specs.Units.{unit_in, all_units}
 use Rattle.c62_insn.proofs.UnitsLemmas.{seen_added, seen_kept, seen_all}
-use Rattle.c62_depend.proofs.side.units_on.Goals as goal
 use Rattle.c62_depend.proofs.side.units_on.Goals.{then-suits, else-suits}
+use Rattle.c62_depend.proofs.side.units_on.Goals as goal
 
 pub loop-unit-preserved : goal.loop-unit-preserved
 loop-unit-preserved c = λ unit. elim c.if-suits.branch [

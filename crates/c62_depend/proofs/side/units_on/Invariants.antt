@@ -1,8 +1,6 @@
-use Rattle.std.proofs.Common.{◌≡◌, take}
+use Rattle.c62_depend.proofs.Common.{◌≡◌, take, unit_in, FunctionalUnit}
 use Rattle.c62_depend.proofs.Units.{stands}
-use Rattle.c62_insn.specs.Units.{unit_in}
 use Rattle.c62_insn.proofs.UnitsLemmas.{seen}
-use Rattle.c62_insn.specs.declared.register.Unit.{Unit as FunctionalUnit}
 use Rattle.c62_depend.proofs.side.units_on.Given as goal
 
 abbrev pub invariant-loop-unit : goal.invariant-loop-unit

@@ -1,6 +1,4 @@
-use Rattle.std.proofs.Common.{◌≡◌, take}
-use Rattle.c62_depend.specs.Uses.{insns_in}
-use Rattle.c62_depend.specs.Plan.{unnumbered}
+use Rattle.c62_depend.proofs.Common.{◌≡◌, take, insns_in, unnumbered}
 use Rattle.c62_depend.proofs.tables.all_uses.Given as goal
 
 abbrev pub invariant-loop-entry : goal.invariant-loop-entry

@@ -1,8 +1,4 @@
-use Rattle.std.proofs.Common.{◌≡◌, take}
-use Rattle.std.specs.List.{list_any}
-use Rattle.c62_insn.specs.declared.register.Reg.{Reg}
-use Rattle.c62_depend.specs.RegSet.{reg_in}
-use Rattle.c62_depend.specs.Writes.{is_write_with}
+use Rattle.c62_depend.proofs.Common.{◌≡◌, take, list_any, Reg, reg_in, is_write_with}
 use Rattle.c62_depend.proofs.uses.written.Given as goal
 
 abbrev pub invariant-loop-write : goal.invariant-loop-write

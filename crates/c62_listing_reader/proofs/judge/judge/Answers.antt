@@ -1,9 +1,8 @@
-use Rattle.std.proofs.Common.{◌≡◌, false, true, length, Result, refl, sym, ap, subst, ◌∙◌}
+use Rattle.std.proofs.Common.{◌≡◌, false, true, length, refl, sym, ◌∙◌}
 use Rattle.std.specs.Prelude.{nat_lt}
 use Rattle.std.specs.List.{list_all}
 use Rattle.std.proofs.lemmas.Bool.{le-ltb}
 use Rattle.c62_token.specs.Token.{is_allowed}
-use Rattle.c62_listing_reader.specs.declared.fault.LineFault.{LineFault}
 use Rattle.c62_listing_reader.specs.declared.line.Above.{Above}
 use Rattle.c62_listing_reader.specs.declared.line.Front.{Front}
 use Rattle.c62_listing_reader.specs.declared.names.Names.{Names}
@@ -11,9 +10,9 @@ use Rattle.c62_listing_reader.specs.declared.text.Cut.{Cut}
 use Rattle.c62_listing_reader.specs.Text.{content}
 use Rattle.c62_listing_reader.specs.Cut.{line_cut}
 use Rattle.c62_listing_reader.specs.Begin.{front_of}
-use Rattle.c62_listing_reader.specs.Said.{Drafts, Said}
+use Rattle.c62_listing_reader.specs.Said.{Drafts}
 use Rattle.c62_listing_reader.specs.Faults.{is_misplaced, line_says}
-use Rattle.c62_listing_reader.specs.Reading.{JudgesRead, drafts_of, line_saying, rest_saying}
+use Rattle.c62_listing_reader.specs.Reading.{drafts_of, line_saying, rest_saying}
 use Rattle.c62_listing_reader.proofs.judge.judge.Goals as goal
 
 -- where the bytes, the length and the beginning are right, the rest decides
@@ -22,9 +21,7 @@ rest_decides : (names : Names) (drafts : Drafts) (above : Above) (cut : Cut) (fr
     → nat_lt 255 (length (content (line_cut cut))) ≡ false → is_misplaced front above ≡ false
     → line_saying names drafts above cut ≡ rest_saying names drafts above cut front
 unfolding line_says
-rest_decides names drafts above cut front is allowed short placed =
-    let stands : is_misplaced (front_of (content (line_cut cut))) above ≡ false = ap (λ (f : Front). is_misplaced f above) (sym is) ∙ placed in
-    rw (is, allowed, short, stands) refl
+rest_decides names drafts above cut front is allowed short placed = rw (← is, allowed, short, placed) refl
 
 pub returns-clause-judged : goal.returns-clause-judged
 returns-clause-judged c =
@@ -32,7 +29,7 @@ returns-clause-judged c =
     let drafts = drafts_of c.args.blocks.now in
     let line = content (line_cut c.args.cut.now) in
     let allowed : list_all is_allowed line ≡ true = rw c.content-line.ensures at (sym c.if-not-has_text.ensures) in
-    let short : nat_lt 255 (length line) ≡ false = rw c.content-line.ensures at (le-ltb 255 (length c.content-line.result.now) c.if-line-gt255.false) in
+    let short : nat_lt 255 (length line) ≡ false =
+    rw c.content-line.ensures at (le-ltb 255 (length c.content-line.result.now) c.if-line-gt255.false) in
     let placed = sym c.is_misplaced.ensures ∙ c.if-is_misplaced.false in
-    let same = rest_decides names drafts c.args.above c.args.cut.now c.args.front c.requires.front allowed short placed in
-    subst (λ (says : Result Said LineFault). JudgesRead says c.args.front c.args.read.now c.with_rest.result) (sym same) c.with_rest.ensures.judged
+    rw (rest_decides names drafts c.args.above c.args.cut.now c.args.front c.requires.front allowed short placed) c.with_rest.ensures.judged

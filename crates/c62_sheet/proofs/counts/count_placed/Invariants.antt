@@ -1,6 +1,4 @@
-use Rattle.std.proofs.Common.{◌≤◌}
-use Rattle.c62_depend.specs.Plan.{insns_of}
-use Rattle.c62_sheet.specs.Counts.{HasCount, IsPlacedOn}
+use Rattle.c62_sheet.proofs.Common.{◌≤◌, insns_of, HasCount, IsPlacedOn}
 use Rattle.c62_sheet.proofs.counts.count_placed.Given as goal
 
 abbrev pub invariant-loop-k : goal.invariant-loop-k

@@ -1,7 +1,4 @@
-use Rattle.std.proofs.Common.{◌≤◌}
-use Rattle.c62_depend.specs.Plan.{insns_of}
-use Rattle.c62_sheet.specs.Least.{IsReadyOn}
-use Rattle.c62_sheet.specs.Counts.{HasCount}
+use Rattle.c62_sheet.proofs.Common.{◌≤◌, insns_of, IsReadyOn, HasCount}
 use Rattle.c62_sheet.proofs.counts.count_ready.Given as goal
 
 abbrev pub invariant-loop-k : goal.invariant-loop-k

@@ -1,4 +1,4 @@
-use Rattle.std.proofs.Common.{◌≡◌, max, drop}
+use Rattle.c62_sheet.proofs.Common.{◌≡◌, max, drop}
 use Rattle.c62_insn.specs.Length.{greatest_delay}
 use Rattle.c62_sheet.proofs.counts.greatest_delay.Given as goal
 

@@ -1,6 +1,4 @@
-use Rattle.std.proofs.Common.{ℕ, ◌<◌}
-use Rattle.std.specs.Prelude.{IsSome}
-use Rattle.c62_sheet.specs.Lawful.{spot_at}
+use Rattle.c62_sheet.proofs.Common.{ℕ, ◌<◌, IsSome, spot_at}
 use Rattle.c62_sheet.proofs.counts.is_complete.Given as goal
 
 abbrev pub invariant-loop-k : goal.invariant-loop-k

@@ -1,6 +1,4 @@
-use Rattle.std.proofs.Common.{◌≡◌}
-use Rattle.c62_depend.specs.Plan.{insns_of}
-use Rattle.c62_sheet.specs.Counts.{set_length}
+use Rattle.c62_sheet.proofs.Common.{◌≡◌, insns_of, set_length}
 use Rattle.c62_sheet.proofs.Tallies.{length_from}
 use Rattle.c62_sheet.proofs.counts.length.Given as goal
 

@@ -1,7 +1,4 @@
-use Rattle.std.proofs.Common.{◌≡◌, ◌<◌, ℕ, length, get_or}
-use Rattle.c62_depend.specs.Plan.{insns_of}
-use Rattle.c62_sheet.specs.Lawful.{nothing_placed}
-use Rattle.c62_sheet.specs.Index.{lacking}
+use Rattle.c62_sheet.proofs.Common.{◌≡◌, ◌<◌, ℕ, length, get_or, insns_of, nothing_placed, lacking}
 use Rattle.c62_sheet.proofs.index.all_missing.Given as goal
 
 abbrev pub invariant-loop-j : goal.invariant-loop-j

@@ -1,11 +1,7 @@
-use Rattle.std.proofs.Common.{arith, length, ap, ◌∙◌}
-use Rattle.c62_depend.specs.Plan.{insns_of}
+use Rattle.c62_sheet.proofs.Common.{arith, length, ap, ◌∙◌, insns_of, Link, ◌≡◌, nothing_placed, sym}
 use Rattle.c62_depend.specs.Links.{needs}
-use Rattle.c62_depend.specs.declared.links.Link.{Link}
-use Rattle.std.proofs.Common.{◌≡◌}
-use Rattle.c62_sheet.specs.Lawful.{nothing_placed}
 use Rattle.c62_sheet.proofs.Sets.{nothing_at}
-use Rattle.c62_sheet.proofs.Missing.{lacking-nothing, needs-few}
+use Rattle.c62_sheet.proofs.Missing.{count_all, needs-few}
 use Rattle.c62_sheet.proofs.index.count_needs.Goals as goal
 
 pub overflow_cast-result : goal.overflow_cast-result
@@ -17,4 +13,5 @@ overflow_cast-result c =
 pub returns : goal.returns
 returns c =
     ap (length {A = Link}) c.needs.ensures
-    ∙ lacking-nothing (insns_of c.args.plan.now) (nothing_placed (length (insns_of c.args.plan.now))) c.args.j (nothing_at (length (insns_of c.args.plan.now)))
+    ∙ sym (count_all (nothing_placed (length (insns_of c.args.plan.now))) (needs (insns_of c.args.plan.now) c.args.j)
+    (nothing_at (length (insns_of c.args.plan.now))))

@@ -1,6 +1,4 @@
-use Rattle.std.proofs.Common.{◌≡◌, ◌+◌, ℕ, take}
-use Rattle.std.specs.Prelude.{slice_index}
-use Rattle.c62_sheet.specs.Index.{times}
+use Rattle.c62_sheet.proofs.Common.{◌≡◌, ◌+◌, ℕ, take, slice_index, times}
 use Rattle.c62_sheet.proofs.index.lower_followers.Given as goal
 
 abbrev pub invariant-loop-link : goal.invariant-loop-link

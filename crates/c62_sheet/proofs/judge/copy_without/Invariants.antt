@@ -1,4 +1,4 @@
-use Rattle.std.proofs.Common.{◌≡◌, take}
+use Rattle.c62_sheet.proofs.Common.{◌≡◌, take}
 use Rattle.c62_sheet.proofs.judge.copy_without.Given as goal
 
 abbrev pub invariant-loop-k : goal.invariant-loop-k

@@ -1,6 +1,4 @@
-use Rattle.std.proofs.Common.{ℕ, ◌<◌, ◌≡◌, None, get_or}
-use Rattle.c62_depend.specs.declared.links.Link.{Link}
-use Rattle.c62_sheet.specs.Lawful.{spot_at}
+use Rattle.c62_sheet.proofs.Common.{ℕ, ◌<◌, ◌≡◌, None, get_or, Link, spot_at}
 use Rattle.c62_sheet.proofs.judge.is_last.Given as goal
 
 abbrev pub invariant-loop-link : goal.invariant-loop-link

@@ -1,4 +1,4 @@
-use Rattle.c62_depend.specs.Plan.{insns_of}
+use Rattle.c62_sheet.proofs.Common.{insns_of}
 use Rattle.c62_sheet.proofs.Search.{IsSearched}
 use Rattle.c62_sheet.proofs.judge.least.Given as goal
 

@@ -1,4 +1,4 @@
-use Rattle.c62_depend.specs.Plan.{insns_of}
+use Rattle.c62_sheet.proofs.Common.{insns_of}
 use Rattle.c62_sheet.proofs.Picks.{IsBestOf}
 use Rattle.c62_sheet.proofs.judge.pick.Given as goal
 

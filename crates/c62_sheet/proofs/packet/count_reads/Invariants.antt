@@ -1,8 +1,4 @@
-use Rattle.std.proofs.Common.{◌≡◌, ◌*◌, ◌≤◌, take}
-use Rattle.std.specs.Prelude.{sum_by}
-use Rattle.c62_insn.specs.PacketRules.{reads_in}
-use Rattle.c62_depend.specs.Plan.{insns_of}
-use Rattle.c62_sheet.specs.Lawful.{issues}
+use Rattle.c62_sheet.proofs.Common.{◌≡◌, ◌*◌, ◌≤◌, take, sum_by, reads_in, insns_of, issues}
 use Rattle.c62_sheet.proofs.packet.count_reads.Given as goal
 
 abbrev pub invariant-loop-k : goal.invariant-loop-k

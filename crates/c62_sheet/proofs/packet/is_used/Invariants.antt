@@ -1,9 +1,4 @@
-use Rattle.std.proofs.Common.{◌≡◌, ℕ, ◌<◌, Some}
-use Rattle.std.specs.Prelude.{slice_get, IsTrue}
-use Rattle.c62_insn.specs.declared.insn.Insn.{Insn}
-use Rattle.c62_depend.specs.Plan.{insns_of}
-use Rattle.c62_sheet.specs.Lawful.{spot_at}
-use Rattle.c62_sheet.specs.Packet.{uses_in}
+use Rattle.c62_sheet.proofs.Common.{◌≡◌, ℕ, ◌<◌, Some, slice_get, IsTrue, Insn, insns_of, spot_at, uses_in}
 use Rattle.c62_sheet.proofs.packet.is_used.Given as goal
 
 abbrev pub invariant-loop-k : goal.invariant-loop-k

@@ -1,4 +1,4 @@
-use Rattle.std.proofs.Common.{arith}
+use Rattle.c62_sheet.proofs.Common.{arith}
 use Rattle.c62_sheet.proofs.Sets.{nothing_is}
 use Rattle.c62_sheet.proofs.sheet.take_out_all.Goals as goal
 

@@ -1,5 +1,4 @@
-use Rattle.std.proofs.Common.{◌≡◌, ℕ, ◌<◌, None}
-use Rattle.c62_sheet.specs.Lawful.{spot_at}
+use Rattle.c62_sheet.proofs.Common.{◌≡◌, ℕ, ◌<◌, None, spot_at}
 use Rattle.c62_sheet.proofs.sheet.take_out_all.Given as goal
 
 abbrev pub invariant-loop-spot : goal.invariant-loop-spot

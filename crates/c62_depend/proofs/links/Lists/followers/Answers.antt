@@ -1,8 +1,5 @@
-use Rattle.std.proofs.Common.{◌≡◌, length, arith}
-use Rattle.std.proofs.lemmas.List.{length-map}
-use Rattle.c62_depend.specs.declared.uses.Uses.{Uses}
-use Rattle.c62_depend.specs.Uses.{insns_in}
-use Rattle.c62_depend.specs.Links.{followers}
+use Rattle.c62_depend.proofs.Common.{arith, insns_in, followers}
+use Rattle.c62_depend.proofs.Latencies.{many_uses}
 use Rattle.c62_depend.proofs.Lists.{no_pairs, pairs_more}
 use Rattle.c62_depend.proofs.links.Lists.followers.Goals as goal
 
@@ -14,7 +11,7 @@ loop-i-init c =
 pub loop-i-preserved : goal.loop-i-preserved
 loop-i-preserved c =
     let block = insns_in c.args.uses.now in
-    let all : length block ≡ length c.args.uses.now = length-map c.args.uses.now (λ (one : Uses). one.insn) in
+    let all = many_uses c.args.uses.now in
     let few = c.requires in (
       c.in_ok-push.ensures (followers block) c.loop-i.i c.loop-i.invariant.0 c.gather_followers-count.ensures.followers,
       pairs_more block c.loop-i.i c.gather_followers-count.new.row c.loop-i.pairs.items c.extend_from_slice.new.self.items c.loop-i.invariant.1

@@ -1,6 +1,4 @@
-use Rattle.c62_depend.specs.Uses.{insns_in}
-use Rattle.c62_depend.specs.Links.{needs}
-use Rattle.c62_depend.specs.Lists.{AreLists}
+use Rattle.c62_depend.proofs.Common.{insns_in, needs, AreLists}
 use Rattle.c62_depend.proofs.links.Lists.needs.Given as goal
 
 abbrev pub invariant-loop-j : goal.invariant-loop-j

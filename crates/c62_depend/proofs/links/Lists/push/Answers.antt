@@ -1,5 +1,4 @@
-use Rattle.std.proofs.Common.{◌≡◌, ℕ, [], ◌∷◌, ◌++◌, length, ap, ◌∙◌, arith}
-use Rattle.std.specs.Prelude.{vec_len}
+use Rattle.c62_depend.proofs.Common.{◌≡◌, ℕ, [], ◌∷◌, ◌++◌, length, ap, ◌∙◌, arith, vec_len}
 use Rattle.c62_depend.proofs.Lists.{lists_more}
 use Rattle.c62_depend.proofs.links.Lists.push.Goals as goal
 

@@ -1,4 +1,4 @@
-use Rattle.c62_depend.specs.Plan.{insns_of}
+use Rattle.c62_depend.proofs.Common.{insns_of}
 use Rattle.c62_depend.proofs.Latencies.{depends_is}
 use Rattle.c62_depend.proofs.plan.Plan.depends.Goals as goal
 

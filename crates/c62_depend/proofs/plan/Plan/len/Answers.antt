@@ -1,7 +1,4 @@
-use Rattle.std.proofs.Common.{subst}
-use Rattle.std.specs.Prelude.{IsTrue}
-use Rattle.c62_read.specs.Block.{Serial, is_block}
-use Rattle.c62_depend.specs.Plan.{insns_of}
+use Rattle.c62_depend.proofs.Common.{subst, IsTrue, Serial, is_block, insns_of}
 use Rattle.c62_depend.proofs.Plans.{plan_is, few_insns, last_branch}
 use Rattle.c62_depend.proofs.plan.Plan.len.Goals as goal
 

@@ -1,5 +1,4 @@
-use Rattle.std.proofs.Common.{ap, get_or}
-use Rattle.c62_depend.specs.declared.uses.Uses.{Uses}
+use Rattle.c62_depend.proofs.Common.{ap, get_or, Uses}
 use Rattle.c62_depend.proofs.Units.{choice_from}
 use Rattle.c62_depend.proofs.side.UnitChoice.new.Goals as goal
 

@@ -1,15 +1,12 @@
-use Rattle.std.proofs.Common.{arith, ◌≡◌, ◌∙◌, ap, length, Option}
-use Rattle.std.proofs.lemmas.List.{with_items_is}
-use Rattle.c62_depend.specs.Plan.{insns_of}
-use Rattle.c62_sheet.specs.declared.entry.Spot.{Spot}
-use Rattle.c62_sheet.specs.Lawful.{nothing_placed}
+use Rattle.c62_sheet.proofs.Common.{arith, ◌≡◌, ◌∙◌, ap, length, Option, with_items_is, insns_of, Spot, nothing_placed}
 use Rattle.c62_sheet.proofs.Empty.{lawful_empty}
 use Rattle.c62_sheet.proofs.sheet.Sheet.clear.Goals as goal
 
 pub invariant_of-self : goal.invariant_of-self
 invariant_of-self c =
     let b = c.self.inside in
-    let count : length c.deref_mut-2.result.now ≡ length (insns_of b.plan) = ap (length {A = Option Spot}) c.deref_mut-2.ensures.value ∙ c.self.invariant.lawful.sized in
+    let count : length c.deref_mut-2.result.now ≡ length (insns_of b.plan) =
+    ap (length {A = Option Spot}) c.deref_mut-2.ensures.value ∙ c.self.invariant.lawful.sized in
     let nothing : c.take_out_all.new.spots ≡ nothing_placed (length (insns_of b.plan)) = c.take_out_all.ensures ∙ ap nothing_placed count in
     let sized : length c.take_out_all.new.spots ≡ b.spots.len = omega (arith, c.take_out_all.auto.spots, c.deref_mut-2.ensures.len) in
     let counted : length c.reset.new.missing ≡ b.missing.len = omega (arith, c.reset.auto.missing, c.deref_mut.ensures.len) in

@@ -1,5 +1,4 @@
-use Rattle.c62_depend.specs.Plan.{insns_of}
-use Rattle.c62_sheet.specs.Least.{IsAfter}
+use Rattle.c62_sheet.proofs.Common.{insns_of, IsAfter}
 use Rattle.c62_sheet.proofs.sheet.Sheet.fits_without.Goals as goal
 
 pub fits_without-requires-clause-after : goal.fits_without-requires-clause-after

@@ -1,7 +1,4 @@
-use Rattle.std.proofs.Common.{rules, ◌≡◌, ◌∙◌, ap, sym, length}
-use Rattle.c62_depend.specs.Plan.{insns_of}
-use Rattle.c62_depend.proofs.Plans.{many_insns}
-use Rattle.c62_sheet.specs.Lawful.{nothing_placed}
+use Rattle.c62_sheet.proofs.Common.{rules, ◌≡◌, ◌∙◌, ap, sym, length, insns_of, many_insns, nothing_placed}
 use Rattle.c62_sheet.proofs.Empty.{lawful_empty}
 use Rattle.c62_sheet.proofs.sheet.Sheet.new.Goals as goal
 

@@ -1,0 +1,51 @@
+-- What the proofs of this crate use of the standard library and of the definitions.
+pub use Rattle.c62_depend.proofs.Plans.{many_insns, short_is}
+pub use Rattle.c62_depend.proofs.Rules.{followers_are, needs_are}
+pub use Rattle.c62_depend.specs.Latency.{latency}
+pub use Rattle.c62_depend.specs.Links.{linked}
+pub use Rattle.c62_depend.specs.Plan.{IsPlan, IsShort, insns_of}
+pub use Rattle.c62_depend.specs.Side.{side, stands_on}
+pub use Rattle.c62_depend.specs.declared.links.Link.{Link}
+pub use Rattle.c62_insn.proofs.Parts.{part-keeps, part-without}
+pub use Rattle.c62_insn.proofs.Registers.{same_reg-is, same_side-is, same_side-refl, same_unit-is, same_unit-refl}
+pub use Rattle.c62_insn.proofs.UnitOrder.{index_of-below, index_of-listed, same_index}
+pub use Rattle.c62_insn.specs.Dependence.{Bounds, Depends, IsGreatestBound, IsLatency, WriteAfterWrite}
+pub use Rattle.c62_insn.specs.PacketRules.{AtMostOne, HasFourReads, HasOneLanding, IsIssued, Issue, Issues, KeepsPacketRules, LandsIn, UsesCrossPath}
+pub use Rattle.c62_insn.specs.PacketRules.{UsesDataPath, issued, reads_count, reads_in}
+pub use Rattle.c62_insn.specs.Shape.{data_path_of, is_branch}
+pub use Rattle.c62_insn.specs.Units.{all_units, index_of}
+pub use Rattle.c62_insn.specs.declared.insn.Insn.{Insn}
+pub use Rattle.c62_insn.specs.declared.register.Letter.TheVariants.{L}
+pub use Rattle.c62_insn.specs.declared.register.Reg.{Reg}
+pub use Rattle.c62_insn.specs.declared.register.Side.{Side}
+pub use Rattle.c62_insn.specs.declared.register.Side.TheVariants.{A, B}
+pub use Rattle.c62_insn.specs.declared.register.Unit.{Unit as FunctionalUnit}
+pub use Rattle.c62_sheet.specs.Check.{Breaks, IsFirst, IsOpen, IsRefused, IsTold, LacksSome, LandsTogether, Meets, turn_of}
+pub use Rattle.c62_sheet.specs.Counts.{HasCount, IsPlacedOn, set_length}
+pub use Rattle.c62_sheet.specs.Index.{AreHigher, AreLower, IsIndex, is_missing, lacking, times}
+pub use Rattle.c62_sheet.specs.Lawful.{IsAt, IsLawful, Spots, issue_at, issues, nothing_placed, placed, spot_at, withdrawn}
+pub use Rattle.c62_sheet.specs.Least.{FitsWithout, HasNoPick, HasNoSpot, IsAfter, IsBefore, IsComplete, IsEarly, IsLast, IsLeast, IsPick, IsReady}
+pub use Rattle.c62_sheet.specs.Least.{IsReadyOn, Precedes}
+pub use Rattle.c62_sheet.specs.Packet.{BreaksFirst, Fits, IsUsed, KeepsAll, OfNumber, TellsFirst, Wants, has_read_left, has_reads_left, is_path}
+pub use Rattle.c62_sheet.specs.Packet.{reads_at, uses_in, uses_on}
+pub use Rattle.c62_sheet.specs.declared.entry.Rule.{Rule}
+pub use Rattle.c62_sheet.specs.declared.entry.Rule.TheVariants.{Delay, Limit, Missing, P1, P2, P3, P4, P5, Placed, Unit as WrongUnit}
+pub use Rattle.c62_sheet.specs.declared.entry.Spot.{Spot}
+pub use Rattle.c62_sheet.specs.declared.resource.Resource.{Resource}
+pub use Rattle.c62_sheet.specs.declared.resource.Resource.TheVariants.{CrossPath, DataPath, OnUnit}
+pub use Rattle.std.proofs.Common.{Bool, List, None, Option, Some, [], add-one, ap, arith, cond, drop, false, get_or, get_or-set_other}
+pub use Rattle.std.proofs.Common.{get_or-set_same, inl, inr, leb, length, length-set, ltb, map, max, pos, refl, rules, subst, suc, sym, take, true}
+pub use Rattle.std.proofs.Common.{zero, ℕ, ℤ, ◌*◌, ◌+ℤ◌, ◌+◌, ◌-ℤ◌, ◌-◌, ◌<◌, ◌∙◌, ◌∷◌, ◌≡◌, ◌≢◌, ◌≤◌, ◌⊎◌}
+pub use Rattle.std.proofs.Math.Seq.{drop-cons, take-set-lt}
+pub use Rattle.std.proofs.lemmas.Bool.{and_cases, cases_Bool, cases_eq, cases_lt, eq-eqb, eqb-true, false≢true}
+pub use Rattle.std.proofs.lemmas.Bool.Decides.{nat_tests}
+pub use Rattle.std.proofs.lemmas.Grind.{common_steps}
+pub use Rattle.std.proofs.lemmas.Int.{by_lt_z, ints}
+pub use Rattle.std.proofs.lemmas.List.{drop_all, ext_get_or, get_or-map, get_or-replicate, get_or_default, get_or_past, length-map, length-replicate}
+pub use Rattle.std.proofs.lemmas.List.{set-get_or, set-set, take-replicate, take-take, take_all, with_items_is}
+pub use Rattle.std.proofs.lemmas.List.Elements.{All-contains, All-from_get_or, All-get_or}
+pub use Rattle.std.proofs.lemmas.List.Sums.{count_by-le-length, get_or-le-sum_by, sum_by-append, sum_by-cons, sum_by-le, sum_by-set, sum_by-take-le}
+pub use Rattle.std.proofs.lemmas.List.Sums.{sum_by_more}
+pub use Rattle.std.proofs.lemmas.Option.{none-some, same_Some, slice_get_cases, slice_get_within}
+pub use Rattle.std.specs.Prelude.{Contains, IfSome, IsSome, IsTrue, MatchOption, count_by, eqb, find, is_none, is_some, not, option_map, slice_get}
+pub use Rattle.std.specs.Prelude.{slice_index, slice_index_or, slice_set, sum_by, ◌&&◌, ◌==◌, ◌↔◌}
