@@ -1,6 +1,6 @@
 -- What a step that ejects makes of its parts.
 use Rattle.std.proofs.Common.{◌≡◌, ℕ, ◌+◌, ◌-◌, ◌<◌, List, [], ◌∷◌, ◌++◌, length, Bool, ap, refl, ◌∙◌, subst, arith, length-append}
-use Rattle.c62_insn.specs.declared.register.Side.{Side}
+use Rattle.c62_op.specs.declared.register.Side.{Side}
 use Rattle.c62_insn.specs.declared.insn.Insn.{Insn}
 use Rattle.c62_depend.specs.Plan.{insns_of}
 use Rattle.c62_sheet.specs.declared.entry.Entry.{Entry}

@@ -6,9 +6,9 @@ use Rattle.std.proofs.lemmas.Bool.{cases_eq}
 use Rattle.std.proofs.lemmas.Int.{ints}
 use Rattle.std.proofs.lemmas.Option.{none-some, same_Some, slice_get_cases}
 use Rattle.std.proofs.lemmas.List.Elements.{All-head, All-tail, All-weaker}
-use Rattle.c62_insn.specs.declared.register.Reg.{Reg}
+use Rattle.c62_op.specs.declared.register.Reg.{Reg}
 use Rattle.c62_insn.specs.declared.insn.Insn.{Insn}
-use Rattle.c62_insn.specs.Shape.{delay_of, is_branch}
+use Rattle.c62_op.specs.Shape.{delay_of, is_branch}
 use Rattle.c62_insn.specs.Insn.{op_of, register_writes}
 use Rattle.c62_insn.specs.PacketRules.{Issue, Issues, IsIssued, issued}
 use Rattle.c62_insn.specs.Dependence.{Bounds, BeforeBranch}

@@ -1,6 +1,6 @@
 -- Laws of boards, in the words of the rules.
 use Rattle.std.specs.Prelude.{◌≡◌, ℕ, ◌≤◌, List, [], ◌∷◌, Some, slice_get}
-use Rattle.c62_insn.specs.declared.register.Side.{Side}
+use Rattle.c62_op.specs.declared.register.Side.{Side}
 use Rattle.c62_insn.specs.declared.insn.Insn.{Insn}
 use Rattle.c62_insn.specs.Length.{landing_end}
 use Rattle.c62_sheet.specs.declared.entry.Spot.{Spot}

@@ -1,6 +1,6 @@
 -- What contracts see of a board.
 use Rattle.std.specs.Prelude.{◌≡◌, ℕ, ◌+◌, ◌<◌, ◌≤◌, ◌++◌, List, [], length, None, IsSome}
-use Rattle.c62_insn.specs.declared.register.Side.{Side}
+use Rattle.c62_op.specs.declared.register.Side.{Side}
 use Rattle.c62_read.specs.Block.{Serial}
 use Rattle.c62_depend.specs.Plan.{IsPlan, insns_of}
 use Rattle.c62_sheet.specs.declared.entry.Entry.{Entry}

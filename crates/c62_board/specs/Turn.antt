@@ -1,6 +1,6 @@
 -- The step of a side (docs/SCHEDULING.md, "A step of a side").
 use Rattle.std.specs.Prelude.{◌≡◌, ℕ, ◌+◌, List, [], ◌∷◌, ◌++◌}
-use Rattle.c62_insn.specs.declared.register.Side.{Side}
+use Rattle.c62_op.specs.declared.register.Side.{Side}
 use Rattle.c62_insn.specs.declared.insn.Insn.{Insn}
 use Rattle.c62_sheet.specs.declared.entry.Entry.{Entry}
 use Rattle.c62_sheet.specs.declared.entry.Entry.TheVariants.{Place}

@@ -1,7 +1,7 @@
 //! Laws of boards, in the words of the rules.
 
 ghost use Rattle.std.specs.Prelude.{◌≡◌, ℕ, ◌+◌, ◌*◌, ◌<◌, ◌≤◌, List, length};
-ghost use Rattle.c62_insn.specs.declared.register.Side.{Side as SideOf};
+ghost use Rattle.c62_op.specs.declared.register.Side.{Side as SideOf};
 ghost use Rattle.c62_insn.specs.declared.insn.Insn.{Insn};
 ghost use Rattle.c62_sheet.specs.Lawful.{Spots, IsAt};
 ghost use Rattle.c62_sheet.specs.Counts.{set_length};

@@ -19,21 +19,22 @@ pub use Rattle.c62_depend.specs.Writes.{is_write_with}
 pub use Rattle.c62_depend.specs.declared.links.Link.{Link}
 pub use Rattle.c62_depend.specs.declared.reg_set.RegSet.{RegSet}
 pub use Rattle.c62_depend.specs.declared.uses.Uses.{Uses}
-pub use Rattle.c62_insn.proofs.Registers.{same_reg-is, same_reg-refl, same_side-is, same_side-refl, same_unit-refl}
+pub use Rattle.c62_op.proofs.Registers.{same_reg-is, same_reg-refl, same_side-is, same_side-refl, same_unit-refl}
 pub use Rattle.c62_insn.specs.Dependence.{IsBound, ReadAfterWrite, WriteAfterRead, WriteAfterWrite, AfterStore, StoreAfterLoad, BeforeBranch, Bounds}
 pub use Rattle.c62_insn.specs.Dependence.{Depends, IsLatency, are_exclusive, are_disjoint, IsGreatestBound}
 pub use Rattle.c62_insn.specs.Insn.{op_of, operands_of, register_writes, reads_register, unit_of, cond_of, is_condition_on}
-pub use Rattle.c62_insn.specs.Shape.{delay_of, is_load, changes_base, writes_of, is_store, is_branch, side_of}
+pub use Rattle.c62_op.specs.Shape.{delay_of, is_load, changes_base, writes_of, is_store, is_branch, side_of}
 pub use Rattle.c62_insn.specs.Stands.{may_stand}
-pub use Rattle.c62_insn.specs.Takes.{same_reg, same_side, takes}
-pub use Rattle.c62_insn.specs.Units.{unit_in, all_units}
+pub use Rattle.c62_op.specs.Takes.{same_reg, same_side, takes}
+pub use Rattle.c62_op.specs.Units.{all_units}
+pub use Rattle.c62_insn.specs.UnitSet.{unit_in}
 pub use Rattle.c62_insn.specs.declared.insn.Insn.{Insn}
-pub use Rattle.c62_insn.specs.declared.operands.Op.{Op}
-pub use Rattle.c62_insn.specs.declared.operands.Operands.{Operands}
-pub use Rattle.c62_insn.specs.declared.operands.Operands.TheVariants.{Three, ConstantFirst, ConstantSecond, Two, Field, Constant, Access}
-pub use Rattle.c62_insn.specs.declared.register.Reg.{Reg}
-pub use Rattle.c62_insn.specs.declared.register.Side.{Side}
-pub use Rattle.c62_insn.specs.declared.register.Unit.{Unit as FunctionalUnit}
+pub use Rattle.c62_op.specs.declared.operands.Op.{Op}
+pub use Rattle.c62_op.specs.declared.operands.Operands.{Operands}
+pub use Rattle.c62_op.specs.declared.operands.Operands.TheVariants.{Three, ConstantFirst, ConstantSecond, Two, Field, Constant, Access}
+pub use Rattle.c62_op.specs.declared.register.Reg.{Reg}
+pub use Rattle.c62_op.specs.declared.register.Side.{Side}
+pub use Rattle.c62_op.specs.declared.register.Unit.{Unit as FunctionalUnit}
 pub use Rattle.c62_read.specs.Block.{branch_last, operations, is_block, Serial}
 pub use Rattle.std.proofs.Common.{◌≡◌, ℕ, suc, ◌+◌, ◌<◌, ◌≤◌, ℤ, pos, ◌-ℤ◌, ◌≤ℤ◌, Bool, true, false, List, [], ◌∷◌, Option, Some, None, refl, sym, ap}
 pub use Rattle.std.proofs.Common.{◌∙◌, subst, arith, inl, inr, ◌⊎◌, length, zero, cond, ◌-◌, ◌*◌, max, set, ◌++◌, map, get_or, negsuc, take, drop}

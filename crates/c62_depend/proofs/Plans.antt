@@ -6,9 +6,9 @@ use Rattle.c62_depend.proofs.Common.{takes, side_of, is_branch, op_of, operands_
 use Rattle.c62_depend.proofs.Common.{same_unit-refl, branch_last, operations, is_block, latency, as_bound, height, branch_side, side_or, side_in}
 use Rattle.c62_depend.proofs.Common.{suits, side_at, suits_at, side, stands_on, IsShort, IsPlan, unnumbered}
 use Rattle.std.proofs.lemmas.Simd.{map-map}
-use Rattle.c62_insn.specs.declared.register.Letter.{Letter}
+use Rattle.c62_op.specs.declared.register.Letter.{Letter}
 use Rattle.c62_insn.proofs.InsnLemmas.{has_written_unit}
-use Rattle.c62_insn.proofs.SideLemmas.{takes_on_side}
+use Rattle.c62_op.proofs.SideLemmas.{takes_on_side}
 use Rattle.c62_read.specs.declared.block.SerialInsn.{SerialInsn}
 use Rattle.c62_depend.proofs.Latencies.{latency-is, bounds-small}
 use Rattle.c62_depend.proofs.Heights.{height-small}

@@ -4,8 +4,8 @@ use Rattle.c62_depend.proofs.Common.{bit_and, inl, inr, ◌==◌, ◌&&◌, bit_
 use Rattle.c62_depend.proofs.Common.{same_reg-is, RegSet, reg_in, shares, both_ways}
 use Rattle.std.proofs.lemmas.Nat.Bits.{bit_at_set_same, bit_at_set_other, bit_at_and, bit_at_or, bit_at-lt, bit_at-zero, bit_at-trailing_zeros}
 use Rattle.std.proofs.lemmas.Nat.{and-not}
-use Rattle.c62_insn.specs.declared.register.Side.TheVariants.{A, B}
-use Rattle.c62_insn.specs.Register.{first_of, register_index}
+use Rattle.c62_op.specs.declared.register.Side.TheVariants.{A, B}
+use Rattle.c62_op.specs.Register.{first_of, register_index}
 
 one_index : (s t : Side) (m n : ℕ) → m < 16 → n < 16 → first_of s + m ≡ first_of t + n → (same_side s t && (m == n)) ≡ true
 one_index s t m n low below e = grind (arith, nat_tests)

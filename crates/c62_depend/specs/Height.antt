@@ -2,7 +2,7 @@
 use Rattle.std.specs.Prelude.{◌≡◌, ◌⊎◌, ℕ, zero, suc, ◌+◌, ◌-◌, ◌<◌, ◌≤◌, slice_index, max, ℤ, pos, negsuc, ◌+ℤ◌, ◌≤ℤ◌, List, length, map, Option, Some, None, slice_get, fold}
 use Rattle.std.specs.List.{range_with_len}
 use Rattle.c62_insn.specs.declared.insn.Insn.{Insn}
-use Rattle.c62_insn.specs.Shape.{delay_of}
+use Rattle.c62_op.specs.Shape.{delay_of}
 use Rattle.c62_insn.specs.Insn.{op_of}
 use Rattle.c62_depend.specs.declared.links.Link.{Link}
 use Rattle.c62_depend.specs.Latency.{latency}

@@ -2,10 +2,10 @@
 -- "Dependences"; SPRU189, "Delay Slots").
 use Rattle.std.specs.Int.{int_max}
 use Rattle.std.specs.Prelude.{ℕ, ◌+◌, nat_lt, slice_get, ℤ, pos, ◌-ℤ◌, Bool, not, ◌&&◌, ◌||◌, if◌then◌else◌, List, Option, Some, None, fold}
-use Rattle.c62_insn.specs.declared.register.Reg.{Reg}
+use Rattle.c62_op.specs.declared.register.Reg.{Reg}
 use Rattle.c62_insn.specs.declared.insn.Insn.{Insn}
-use Rattle.c62_insn.specs.Takes.{same_reg}
-use Rattle.c62_insn.specs.Shape.{delay_of, is_load, is_store, is_branch}
+use Rattle.c62_op.specs.Takes.{same_reg}
+use Rattle.c62_op.specs.Shape.{delay_of, is_load, is_store, is_branch}
 use Rattle.c62_insn.specs.Insn.{op_of, register_writes, reads_register}
 use Rattle.c62_insn.specs.Dependence.{are_exclusive, are_disjoint}
 

@@ -2,7 +2,7 @@
 -- where there is none.
 use Rattle.std.specs.Prelude.{ℕ, ◌+◌, ◌-◌, ◌==◌, max, ℤ, pos, ◌-ℤ◌, Bool, not, ◌&&◌, ◌||◌, if◌then◌else◌, Option, Some, None}
 use Rattle.c62_insn.specs.declared.insn.Insn.{Insn}
-use Rattle.c62_insn.specs.Shape.{delay_of, is_load, is_store, is_branch}
+use Rattle.c62_op.specs.Shape.{delay_of, is_load, is_store, is_branch}
 use Rattle.c62_insn.specs.Insn.{op_of}
 use Rattle.c62_depend.specs.declared.uses.Uses.{Uses}
 use Rattle.c62_depend.specs.RegSet.{shares}

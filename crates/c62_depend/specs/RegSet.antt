@@ -1,8 +1,8 @@
 -- Sets of registers.
 use Rattle.std.specs.Prelude.{Bool, not, ◌==◌, bit_and}
 use Rattle.std.specs.Int.{bit_at}
-use Rattle.c62_insn.specs.declared.register.Reg.{Reg}
-use Rattle.c62_insn.specs.Register.{register_index}
+use Rattle.c62_op.specs.declared.register.Reg.{Reg}
+use Rattle.c62_op.specs.Register.{register_index}
 use Rattle.c62_depend.specs.declared.reg_set.RegSet.{RegSet}
 
 -- whether the register is in the set

@@ -1,11 +1,11 @@
 -- The side and the units of an instruction (docs/SCHEDULING.md, "Words").
 use Rattle.std.specs.Prelude.{ℕ, Bool, false, ◌&&◌, nat_lt, if◌then◌else◌, List, Option, Some, None, count_by, slice_get}
-use Rattle.c62_insn.specs.declared.register.Side.{Side}
-use Rattle.c62_insn.specs.declared.register.Side.TheVariants.{A, B}
-use Rattle.c62_insn.specs.declared.register.Unit.{Unit as FunctionalUnit}
+use Rattle.c62_op.specs.declared.register.Side.{Side}
+use Rattle.c62_op.specs.declared.register.Side.TheVariants.{A, B}
+use Rattle.c62_op.specs.declared.register.Unit.{Unit as FunctionalUnit}
 use Rattle.c62_insn.specs.declared.insn.Insn.{Insn}
-use Rattle.c62_insn.specs.Takes.{same_side}
-use Rattle.c62_insn.specs.Shape.{side_of}
+use Rattle.c62_op.specs.Takes.{same_side}
+use Rattle.c62_op.specs.Shape.{side_of}
 use Rattle.c62_insn.specs.Insn.{operands_of, unit_of}
 use Rattle.c62_insn.specs.Stands.{may_stand}
 

@@ -1,8 +1,8 @@
 -- The side of an instruction, and the units that it may stand on.
 use Rattle.std.specs.Prelude.{◌≡◌, ℕ, ◌<◌, List, length, slice_index_or}
-use Rattle.c62_insn.specs.declared.register.Unit.{Unit as FunctionalUnit}
+use Rattle.c62_op.specs.declared.register.Unit.{Unit as FunctionalUnit}
 use Rattle.c62_insn.specs.declared.insn.Insn.{Insn}
-use Rattle.c62_insn.specs.Units.{unit_in}
+use Rattle.c62_insn.specs.UnitSet.{unit_in}
 use Rattle.c62_depend.specs.declared.side.UnitChoice.{UnitChoice}
 use Rattle.c62_depend.specs.Side.{side, stands_on}
 

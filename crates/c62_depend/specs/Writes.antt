@@ -1,9 +1,9 @@
 -- The writes of an instruction, by their delays.
 use Rattle.std.specs.Prelude.{ℕ, Bool, ◌&&◌, ◌==◌}
 use Rattle.std.specs.List.{list_any}
-use Rattle.c62_insn.specs.declared.register.Reg.{Reg}
+use Rattle.c62_op.specs.declared.register.Reg.{Reg}
 use Rattle.c62_insn.specs.declared.insn.Insn.{Insn}
-use Rattle.c62_insn.specs.Takes.{same_reg}
+use Rattle.c62_op.specs.Takes.{same_reg}
 use Rattle.c62_insn.specs.Insn.{register_writes}
 
 -- whether a write is one of the register with this delay

@@ -1,8 +1,8 @@
 //! Sets of registers.
 
 ghost use Rattle.std.specs.Prelude.{◌≡◌, ◌<◌, ◌^◌, ◌||◌, false};
-ghost use Rattle.c62_insn.specs.declared.register.Reg.{Reg as Register};
-ghost use Rattle.c62_insn.specs.Takes.{same_reg};
+ghost use Rattle.c62_op.specs.declared.register.Reg.{Reg as Register};
+ghost use Rattle.c62_op.specs.Takes.{same_reg};
 
 use c62_insn::Reg;
 

@@ -1,11 +1,11 @@
 //! The side of an instruction, and the units that it may stand on.
 
 ghost use Rattle.std.specs.Prelude.{◌≡◌, ◌&&◌, ◌<◌, length, IfOk};
-ghost use Rattle.c62_insn.specs.declared.register.Unit.{Unit as FunctionalUnit};
-ghost use Rattle.c62_insn.specs.Shape.{side_of};
-ghost use Rattle.c62_insn.specs.Takes.{same_side};
+ghost use Rattle.c62_op.specs.declared.register.Unit.{Unit as FunctionalUnit};
+ghost use Rattle.c62_op.specs.Shape.{side_of};
+ghost use Rattle.c62_op.specs.Takes.{same_side};
 ghost use Rattle.c62_insn.specs.Insn.{operands_of};
-ghost use Rattle.c62_insn.specs.Units.{unit_in};
+ghost use Rattle.c62_insn.specs.UnitSet.{unit_in};
 ghost use Rattle.c62_insn.specs.Stands.{may_stand};
 ghost use Rattle.c62_depend.specs.Uses.{insns_in};
 ghost use Rattle.c62_depend.specs.Side.{is_side, count_on, branch_side, side_in};

@@ -2,8 +2,8 @@
 
 ghost use Rattle.std.specs.Prelude.{◌≡◌, ◌≤◌, ◌&&◌, ◌||◌, ◌==◌, [], ◌∷◌, if◌then◌else◌};
 ghost use Rattle.std.specs.List.{list_any};
-ghost use Rattle.c62_insn.specs.declared.register.Reg.{Reg as Register};
-ghost use Rattle.c62_insn.specs.Shape.{delay_of, is_load, is_store, is_branch};
+ghost use Rattle.c62_op.specs.declared.register.Reg.{Reg as Register};
+ghost use Rattle.c62_op.specs.Shape.{delay_of, is_load, is_store, is_branch};
 ghost use Rattle.c62_insn.specs.Insn.{op_of, is_condition_on, reads_register};
 ghost use Rattle.c62_depend.specs.RegSet.{reg_in};
 ghost use Rattle.c62_depend.specs.Writes.{is_write_with, writes_with};

@@ -2,22 +2,22 @@
 use Rattle.std.proofs.Common.{arith, refl, ◌≡◌, ℕ, ◌+◌, ◌≤◌, ap, sym, ◌∙◌, subst, Bool, true, false, cond, List, [], ◌∷◌, Some, inl, inr}
 use Rattle.std.specs.Prelude.{not, count_by, Contains}
 use Rattle.std.proofs.lemmas.Bool.{both_ways, or_right}
-use Rattle.c62_insn.specs.declared.register.Side.{Side}
-use Rattle.c62_insn.specs.declared.register.Side.TheVariants.{A, B}
-use Rattle.c62_insn.specs.declared.register.Reg.{Reg}
-use Rattle.c62_insn.specs.declared.operands.Op.{Op}
-use Rattle.c62_insn.specs.declared.operands.Op.TheVariants.{Add, Mpy}
-use Rattle.c62_insn.specs.declared.operands.AddressForm.{AddressForm}
-use Rattle.c62_insn.specs.declared.operands.Offset.{Offset}
-use Rattle.c62_insn.specs.declared.operands.Operands.{Operands}
-use Rattle.c62_insn.specs.declared.operands.Operands.TheVariants.{Three, Access}
+use Rattle.c62_op.specs.declared.register.Side.{Side}
+use Rattle.c62_op.specs.declared.register.Side.TheVariants.{A, B}
+use Rattle.c62_op.specs.declared.register.Reg.{Reg}
+use Rattle.c62_op.specs.declared.operands.Op.{Op}
+use Rattle.c62_op.specs.declared.operands.Op.TheVariants.{Add, Mpy}
+use Rattle.c62_op.specs.declared.operands.AddressForm.{AddressForm}
+use Rattle.c62_op.specs.declared.operands.Offset.{Offset}
+use Rattle.c62_op.specs.declared.operands.Operands.{Operands}
+use Rattle.c62_op.specs.declared.operands.Operands.TheVariants.{Three, Access}
 use Rattle.c62_insn.specs.declared.insn.Insn.{Insn}
-use Rattle.c62_insn.specs.Takes.{same_side, same_reg}
-use Rattle.c62_insn.specs.Shape.{reads_of, writes_of, crosses_to, data_path_of}
+use Rattle.c62_op.specs.Takes.{same_side, same_reg}
+use Rattle.c62_op.specs.Shape.{reads_of, writes_of, crosses_to, data_path_of}
 use Rattle.c62_insn.specs.Insn.{op_of, operands_of, register_writes}
 use Rattle.c62_insn.specs.PacketRules.{reads_count}
 use Rattle.c62_insn.specs.Breaches.{l1, s1, m1, d1, d2, issue, TwoOnOneUnit, TwoOverCrossPath, TwoOverDataPath, FiveReads, TwoLandings}
-use Rattle.c62_insn.proofs.Registers.{same_reg-refl}
+use Rattle.c62_op.proofs.Registers.{same_reg-refl}
 
 first-second : ◌≡◌ {A = ℕ} 0 1 → ⊥
 first-second e = absurd (omega (arith, e))

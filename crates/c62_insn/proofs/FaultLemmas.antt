@@ -3,14 +3,14 @@ use Rattle.std.proofs.Common.{◌≡◌, Bool, true, false, refl, Option, Some, 
 use Rattle.std.specs.Prelude.{◌||◌, if◌then◌else◌}
 use Rattle.std.specs.List.{list_any}
 use Rattle.std.proofs.lemmas.Bool.{not-false}
-use Rattle.c62_insn.specs.declared.register.Cond.{Cond as Condition}
-use Rattle.c62_insn.specs.declared.register.Unit.{Unit as FunctionalUnit}
-use Rattle.c62_insn.specs.declared.operands.Op.{Op}
-use Rattle.c62_insn.specs.declared.operands.Operands.{Operands}
+use Rattle.c62_op.specs.declared.register.Cond.{Cond as Condition}
+use Rattle.c62_op.specs.declared.register.Unit.{Unit as FunctionalUnit}
+use Rattle.c62_op.specs.declared.operands.Op.{Op}
+use Rattle.c62_op.specs.declared.operands.Operands.{Operands}
 use Rattle.c62_insn.specs.declared.fault.FormFault.TheVariants.{NoUnit, ConstantRange, TwoCrossed, BadSide, BadCondition}
-use Rattle.c62_insn.specs.Takes.{takes}
+use Rattle.c62_op.specs.Takes.{takes}
 use Rattle.c62_insn.specs.Fault.{form_fault, bad_condition, constant_out_of_range, two_crossed, bad_side, no_unit}
-use Rattle.c62_insn.specs.Units.{all_units}
+use Rattle.c62_op.specs.Units.{all_units}
 
 -- none of the five tests holds
 pub record IsFaultless (op : Op) (operands : Operands) (cond : Option Condition) (unit : Option FunctionalUnit) : Type 0 where

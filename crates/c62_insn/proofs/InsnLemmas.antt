@@ -4,26 +4,26 @@ use Rattle.std.specs.Prelude.{if◌then◌else◌, slice_get, Contains, All, IsT
 use Rattle.std.proofs.lemmas.Bool.{and_parts, both_ways, cond_both, or_parts, or_from, not_from_true}
 use Rattle.std.proofs.lemmas.List.Elements.{All-nil, All-cons, All-append, All-contains}
 use Rattle.std.proofs.lemmas.List.Sums.{count_by-le-length}
-use Rattle.c62_insn.specs.declared.register.Side.{Side}
-use Rattle.c62_insn.specs.declared.register.Reg.{Reg}
-use Rattle.c62_insn.specs.declared.register.Unit.{Unit as FunctionalUnit}
-use Rattle.c62_insn.specs.declared.operands.Op.{Op}
-use Rattle.c62_insn.specs.declared.operands.Op.TheVariants.{Ldb, Ldbu, Ldh, Ldhu, Ldw, B as Branch}
-use Rattle.c62_insn.specs.declared.operands.Offset.{Offset}
-use Rattle.c62_insn.specs.declared.operands.Offset.TheVariants.{Constant as ByConstant, Register as ByRegister}
-use Rattle.c62_insn.specs.declared.operands.Operands.{Operands}
-use Rattle.c62_insn.specs.declared.operands.Operands.TheVariants.{Three, ConstantFirst, ConstantSecond, Two, Field, Constant, Access, Block, Register}
+use Rattle.c62_op.specs.declared.register.Side.{Side}
+use Rattle.c62_op.specs.declared.register.Reg.{Reg}
+use Rattle.c62_op.specs.declared.register.Unit.{Unit as FunctionalUnit}
+use Rattle.c62_op.specs.declared.operands.Op.{Op}
+use Rattle.c62_op.specs.declared.operands.Op.TheVariants.{Ldb, Ldbu, Ldh, Ldhu, Ldw, B as Branch}
+use Rattle.c62_op.specs.declared.operands.Offset.{Offset}
+use Rattle.c62_op.specs.declared.operands.Offset.TheVariants.{Constant as ByConstant, Register as ByRegister}
+use Rattle.c62_op.specs.declared.operands.Operands.{Operands}
+use Rattle.c62_op.specs.declared.operands.Operands.TheVariants.{Three, ConstantFirst, ConstantSecond, Two, Field, Constant, Access, Block, Register}
 use Rattle.c62_insn.specs.declared.insn.Insn.{Insn}
 use Rattle.c62_insn.specs.declared.fault.FormFault.TheVariants.{NoUnit, ConstantRange, TwoCrossed, BadSide, BadCondition}
-use Rattle.c62_insn.specs.Takes.{takes, same_reg, is_written}
+use Rattle.c62_op.specs.Takes.{takes, same_reg, is_written}
 use Rattle.c62_insn.specs.Fault.{form_fault, bad_condition, constant_out_of_range, two_crossed, has_misplaced, is_other_side, bad_side, no_unit}
-use Rattle.c62_insn.specs.Shape.{side_of, delay_of, is_load, is_store, reads_destination, changes_base, offset_reads, reads_of, writes_of}
+use Rattle.c62_op.specs.Shape.{side_of, delay_of, is_load, is_store, reads_destination, changes_base, offset_reads, reads_of, writes_of}
 use Rattle.c62_insn.specs.Stands.{may_stand}
 use Rattle.c62_insn.specs.Insn.{op_of, operands_of, cond_of, unit_of, operand_reads, register_writes}
 use Rattle.c62_insn.specs.PacketRules.{reads_count}
 use Rattle.c62_insn.proofs.FaultLemmas.{faultless, some_unit}
-use Rattle.c62_insn.proofs.Registers.{same_side-refl}
-use Rattle.c62_insn.proofs.SideLemmas.{takes_on_side}
+use Rattle.c62_op.proofs.Registers.{same_side-refl}
+use Rattle.c62_op.proofs.SideLemmas.{takes_on_side}
 
 -- some unit takes an instruction: the written one, where one is written
 pub has_written_unit : (insn : Insn)

@@ -1,5 +1,5 @@
 -- Part of what is issued, and the same under other numbers.
-use Rattle.std.proofs.Common.{arith, ◌≡◌, ◌≢◌, ℕ, zero, suc, ◌+◌, ◌<◌, ◌≤◌, List, [], ◌∷◌, length, map, get_or, set, Option, Some, None, refl, sym, ap, ◌∙◌, inl, inr, ◌⊎◌, Bool, true, false, subst}
+use Rattle.std.proofs.Common.{arith, ◌≡◌, ◌≢◌, ℕ, zero, suc, ◌+◌, ◌<◌, ◌≤◌, [], ◌∷◌, length, map, get_or, set, Option, Some, None, refl, sym, ap, ◌∙◌, inl, inr, ◌⊎◌}
 use Rattle.std.specs.Prelude.{sum_by, IsTrue, IsPermutation, if◌then◌else◌, ◌==◌}
 use Rattle.std.specs.List.{swap}
 use Rattle.std.proofs.lemmas.List.{get_or_past, get_or-set_same, get_or-set_other, length-set}
@@ -8,10 +8,7 @@ use Rattle.std.proofs.lemmas.List.Sums.{sum_by-set, sum_by-cons}
 use Rattle.std.proofs.lemmas.List.Sorted.{IsPermutation-keeps, IsPermutation-map}
 use Rattle.std.proofs.lemmas.Option.{none-some}
 use Rattle.std.proofs.lemmas.Bool.{cases_lt, cases_eq, eq-eqb, ne_eqb}
-use Rattle.c62_insn.specs.declared.register.Reg.{Reg}
-use Rattle.c62_insn.specs.declared.register.Unit.{Unit as FunctionalUnit}
-use Rattle.c62_insn.specs.declared.register.Side.{Side}
-use Rattle.c62_insn.specs.PacketRules.{Issue, Issues, IsIssued, issued, AtMostOne, reads_in, LandsIn, may_land_together, UsesCrossPath, UsesDataPath, KeepsPacketRules}
+use Rattle.c62_insn.specs.PacketRules.{Issue, Issues, IsIssued, issued, AtMostOne, reads_in, may_land_together, UsesCrossPath, UsesDataPath, KeepsPacketRules}
 use Rattle.c62_insn.specs.Part.{IsPart}
 
 -- ---- how parts are made

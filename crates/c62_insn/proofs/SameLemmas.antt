@@ -1,10 +1,10 @@
 -- Two instructions with the same parts are one.
 use Rattle.std.proofs.Common.{◌≡◌, ap, subst, Option, None}
 use Rattle.std.proofs.Props.{props}
-use Rattle.c62_insn.specs.declared.register.Cond.{Cond as Condition}
-use Rattle.c62_insn.specs.declared.register.Unit.{Unit as FunctionalUnit}
-use Rattle.c62_insn.specs.declared.operands.Op.{Op}
-use Rattle.c62_insn.specs.declared.operands.Operands.{Operands}
+use Rattle.c62_op.specs.declared.register.Cond.{Cond as Condition}
+use Rattle.c62_op.specs.declared.register.Unit.{Unit as FunctionalUnit}
+use Rattle.c62_op.specs.declared.operands.Op.{Op}
+use Rattle.c62_op.specs.declared.operands.Operands.{Operands}
 use Rattle.c62_insn.specs.declared.fault.FormFault.{FormFault}
 use Rattle.c62_insn.specs.declared.insn.Insn.{Insn}
 use Rattle.c62_insn.specs.Fault.{form_fault}

@@ -1,22 +1,22 @@
 -- What an action tells of an instruction: its writes, their values, its access and its branch are those of Shape and Effect.
 use Rattle.std.specs.Prelude.{◌≡◌, ℕ, Bool, if◌then◌else◌, List, [], ◌∷◌, ◌++◌, map, Option, Some, None, option_map, slice_index}
-use Rattle.c62_insn.specs.declared.register.Reg.{Reg}
-use Rattle.c62_insn.specs.declared.register.Cond.{Cond as Condition}
-use Rattle.c62_insn.specs.declared.operands.Op.{Op}
-use Rattle.c62_insn.specs.declared.operands.AddressForm.{AddressForm}
-use Rattle.c62_insn.specs.declared.operands.Offset.{Offset}
-use Rattle.c62_insn.specs.declared.operands.Offset.TheVariants.{Constant as ByConstant, Register as ByRegister}
-use Rattle.c62_insn.specs.declared.operands.Operands.{Operands}
-use Rattle.c62_insn.specs.declared.operands.Operands.TheVariants.{Access}
+use Rattle.c62_op.specs.declared.register.Reg.{Reg}
+use Rattle.c62_op.specs.declared.register.Cond.{Cond as Condition}
+use Rattle.c62_op.specs.declared.operands.Op.{Op}
+use Rattle.c62_op.specs.declared.operands.AddressForm.{AddressForm}
+use Rattle.c62_op.specs.declared.operands.Offset.{Offset}
+use Rattle.c62_op.specs.declared.operands.Offset.TheVariants.{Constant as ByConstant, Register as ByRegister}
+use Rattle.c62_op.specs.declared.operands.Operands.{Operands}
+use Rattle.c62_op.specs.declared.operands.Operands.TheVariants.{Access}
 use Rattle.c62_insn.specs.declared.effect.Access.{Access as MemoryAccess}
 use Rattle.c62_insn.specs.declared.effect.Target.{Target}
 use Rattle.c62_insn.specs.declared.insn.Insn.{Insn}
 use Rattle.c62_insn.specs.declared.action.Transfer.{Transfer}
 use Rattle.c62_insn.specs.declared.action.Action.{Action}
 use Rattle.c62_insn.specs.declared.action.Action.TheVariants.{Write, Transfer as Transfers, Branch}
-use Rattle.c62_insn.specs.Word.{word}
-use Rattle.c62_insn.specs.Register.{register_index}
-use Rattle.c62_insn.specs.Shape.{reads_of, writes_of, delay_of}
+use Rattle.c62_op.specs.Word.{word}
+use Rattle.c62_op.specs.Register.{register_index}
+use Rattle.c62_op.specs.Shape.{reads_of, writes_of, delay_of}
 use Rattle.c62_insn.specs.Insn.{op_of, operands_of}
 use Rattle.c62_insn.specs.Effect.{runs_of, values_of, access_of, target_of}
 

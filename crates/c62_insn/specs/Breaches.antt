@@ -1,16 +1,16 @@
 -- The examples of breaches of the packet rules (docs/MACHINE.md, "Packet rules"; SPRU189, "Resource Constraints").
-use Rattle.std.specs.Prelude.{◌≡◌, ℕ, false, List, [], ◌∷◌, Some}
-use Rattle.c62_insn.specs.declared.register.Side.TheVariants.{A, B}
-use Rattle.c62_insn.specs.declared.register.Letter.TheVariants.{L, S, M, D}
-use Rattle.c62_insn.specs.declared.register.Reg.{Reg}
-use Rattle.c62_insn.specs.declared.register.Unit.{Unit as FunctionalUnit}
-use Rattle.c62_insn.specs.declared.operands.Op.TheVariants.{Add, Mpy}
-use Rattle.c62_insn.specs.declared.operands.AddressForm.{AddressForm}
-use Rattle.c62_insn.specs.declared.operands.Offset.{Offset}
-use Rattle.c62_insn.specs.declared.operands.Operands.TheVariants.{Three, Access}
+use Rattle.std.specs.Prelude.{◌≡◌, ℕ, false, [], ◌∷◌, Some}
+use Rattle.c62_op.specs.declared.register.Side.TheVariants.{A, B}
+use Rattle.c62_op.specs.declared.register.Letter.TheVariants.{L, S, M, D}
+use Rattle.c62_op.specs.declared.register.Reg.{Reg}
+use Rattle.c62_op.specs.declared.register.Unit.{Unit as FunctionalUnit}
+use Rattle.c62_op.specs.declared.operands.Op.TheVariants.{Add, Mpy}
+use Rattle.c62_op.specs.declared.operands.AddressForm.{AddressForm}
+use Rattle.c62_op.specs.declared.operands.Offset.{Offset}
+use Rattle.c62_op.specs.declared.operands.Operands.TheVariants.{Three, Access}
 use Rattle.c62_insn.specs.declared.insn.Insn.{Insn}
 use Rattle.c62_insn.specs.Insn.{op_of, operands_of}
-use Rattle.c62_insn.specs.PacketRules.{Issue, Issues, may_land_together, HasOneEachUnit, HasOneEachCrossPath, HasOneEachDataPath, HasFourReads, HasOneLanding}
+use Rattle.c62_insn.specs.PacketRules.{Issue, may_land_together, HasOneEachUnit, HasOneEachCrossPath, HasOneEachDataPath, HasFourReads, HasOneLanding}
 
 abbrev pub l1 : FunctionalUnit
 l1 = record { letter = L; side = A }

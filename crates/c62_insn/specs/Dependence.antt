@@ -1,8 +1,8 @@
 -- How far two instructions of a block must stand apart (docs/MACHINE.md, "Dependences"; SPRU189, "Delay Slots").
 use Rattle.std.specs.Prelude.{◌≡◌, ℕ, ◌+◌, ◌<◌, ◌⊎◌, ℤ, pos, ◌-ℤ◌, ◌≤ℤ◌, Bool, false, List, Contains, Option, Some, MatchOption, slice_get, IsTrue}
-use Rattle.c62_insn.specs.declared.register.Reg.{Reg}
+use Rattle.c62_op.specs.declared.register.Reg.{Reg}
 use Rattle.c62_insn.specs.declared.insn.Insn.{Insn}
-use Rattle.c62_insn.specs.Shape.{delay_of, is_load, is_store, is_branch}
+use Rattle.c62_op.specs.Shape.{delay_of, is_load, is_store, is_branch}
 use Rattle.c62_insn.specs.Insn.{op_of, register_writes, reads_register}
 
 -- whether of two writers of one register at most one can run, so that they need no order: never

@@ -1,12 +1,12 @@
 -- Which instructions may share cycles: the five rules of execute packets (docs/MACHINE.md, "Packet rules"; SPRU189,
 -- "Resource Constraints").
 use Rattle.std.specs.Prelude.{◌≡◌, ◌⊎◌, ℕ, ◌+◌, ◌≤◌, ◌==◌, Bool, false, if◌then◌else◌, List, [], ◌∷◌, Contains, Option, Some, None, sum_by, count_by, slice_index_or, IsTrue}
-use Rattle.c62_insn.specs.declared.register.Side.{Side}
-use Rattle.c62_insn.specs.declared.register.Reg.{Reg}
-use Rattle.c62_insn.specs.declared.register.Unit.{Unit as FunctionalUnit}
+use Rattle.c62_op.specs.declared.register.Side.{Side}
+use Rattle.c62_op.specs.declared.register.Reg.{Reg}
+use Rattle.c62_op.specs.declared.register.Unit.{Unit as FunctionalUnit}
 use Rattle.c62_insn.specs.declared.insn.Insn.{Insn}
-use Rattle.c62_insn.specs.Takes.{same_reg}
-use Rattle.c62_insn.specs.Shape.{crosses_to, data_path_of}
+use Rattle.c62_op.specs.Takes.{same_reg}
+use Rattle.c62_op.specs.Shape.{crosses_to, data_path_of}
 use Rattle.c62_insn.specs.Insn.{operands_of, operand_reads, register_writes}
 
 -- an instruction issued in a cycle on a unit

@@ -4,9 +4,7 @@ ghost use Rattle.std.specs.Prelude.{◌≡◌};
 ghost use Rattle.c62_insn.specs.Action.{word_at};
 
 use crate::effect::{Access, Target};
-use crate::operands::{AddressForm, Offset, Op, Operands};
-use crate::register::Reg;
-use crate::word::word_of;
+use c62_op::{AddressForm, Offset, Op, Operands, Reg, word_of};
 
 /// A load or a store.
 #[derive(Clone, Copy, PartialEq, Eq, Debug)]

@@ -1,17 +1,14 @@
 //! Why operands make no instruction.
 
 ghost use Rattle.std.specs.Prelude.{◌≡◌};
-ghost use Rattle.c62_insn.specs.Fault.{form_fault, bad_condition, in_some_range, constant_out_of_range, accesses_or_branches, first_source, second_source, lies_across, two_crossed, is_first_fixed, is_second_fixed, has_misplaced, is_other_side, bad_side, no_unit};
-ghost use Rattle.c62_insn.specs.Shape.{side_of};
-ghost use Rattle.c62_insn.specs.Units.{all_units};
-ghost use Rattle.c62_insn.specs.Table.{forms_of};
-ghost use Rattle.c62_insn.specs.Takes.{takes, takes_somewhere};
-ghost use Rattle.std.specs.List.{list_any};
+ghost use Rattle.c62_op.specs.Takes.{in_some_range, takes, takes_somewhere};
+ghost use Rattle.c62_op.specs.Shape.{accesses_or_branches, side_of};
+ghost use Rattle.c62_op.specs.Source.{first_source, second_source, lies_across, is_first_fixed, is_second_fixed};
+ghost use Rattle.c62_insn.specs.Fault.{form_fault, bad_condition, constant_out_of_range, two_crossed, has_misplaced, is_other_side, bad_side, no_unit};
+ghost use Rattle.c62_op.specs.Units.{all_units};
+ghost use Rattle.c62_op.specs.Table.{forms_of};
 
-use crate::form::unit_takes;
-use crate::operands::{Op, Operands};
-use crate::register::{Cond, Side, Unit};
-use crate::table::{forms, row_of};
+use c62_op::{Cond, Op, Operands, Side, Unit, unit_takes};
 use thiserror::Error;
 
 /// Why parts make no instruction (`docs/MACHINE.md`, "Form faults"). Where several faults apply,
@@ -47,70 +44,10 @@ fn is_bad_condition(cond: Option<Cond>) -> bool
     }
 }
 
-fn is_in_some_range(op: Op, operands: Operands) -> bool
-    ensures { result ≡ in_some_range op operands }
-{
-    forms(op)
-        .iter()
-        .any(|form| form.pattern.holds_constants(operands))
-}
-
 fn is_out_of_range(op: Op, operands: Operands) -> bool
     ensures { result ≡ constant_out_of_range op operands }
 {
-    !is_in_some_range(op, operands) && op.has_kind(operands)
-}
-
-impl Op {
-    /// Whether this is a load, a store or a branch.
-    fn accesses_or_branches(self) -> bool
-        ensures { result ≡ accesses_or_branches self }
-    {
-        self.is_load() || self.is_store() || self.is_branch()
-    }
-
-    /// Whether no form lets the first source cross.
-    fn is_first_fixed(self) -> bool
-        ensures { result ≡ is_first_fixed self }
-    {
-        row_of(self).first_is_fixed
-    }
-
-    /// Whether no form lets the second source cross.
-    fn is_second_fixed(self) -> bool
-        ensures { result ≡ is_second_fixed self }
-    {
-        row_of(self).second_is_fixed
-    }
-}
-
-impl Operands {
-    /// Whether the first source is a register on the other side.
-    fn is_first_across(self) -> bool
-        ensures { result ≡ lies_across (side_of self) (first_source self) }
-    {
-        match self {
-            Operands::Three(a, _, d)
-            | Operands::ConstantSecond(a, _, d)
-            | Operands::Two(a, d)
-            | Operands::Field {
-                source: a,
-                destination: d,
-                ..
-            } => a.side != d.side,
-            _ => false,
-        }
-    }
-
-    /// Whether the second source is a register on the other side.
-    fn is_second_across(self) -> bool
-        ensures { result ≡ lies_across (side_of self) (second_source self) }
-    {
-        match self {
-            Operands::Three(_, b, d) | Operands::ConstantFirst(_, b, d) => b.side != d.side,
-            _ => false,
-        }
-    }
+    !op.has_constants_in_range(operands) && op.has_kind(operands)
 }
 
 fn is_two_crossed(op: Op, operands: Operands) -> bool
@@ -142,27 +79,11 @@ fn is_on_bad_side(op: Op, operands: Operands, unit: Option<Unit>) -> bool
         }
 }
 
-/// Whether some form takes these operands on a side.
-fn has_taking_form(op: Op, operands: Operands) -> bool
-    ensures { result ≡ list_any (λ form. takes_somewhere form operands) (forms_of op) }
-{
-    forms(op)
-        .iter()
-        .any(|form| form.is_taken_somewhere(operands))
-}
-
-/// Whether some unit takes these operands.
-fn is_taken(op: Op, operands: Operands) -> bool
-    ensures { result ≡ list_any (takes op operands) all_units }
-{
-    has_taking_form(op, operands)
-}
-
 fn has_no_unit(op: Op, operands: Operands, unit: Option<Unit>) -> bool
     ensures { result ≡ no_unit op operands unit }
 {
     match unit {
-        None => !is_taken(op, operands),
+        None => !op.is_taken(operands),
         Some(unit) => !unit_takes(op, operands, unit),
     }
 }

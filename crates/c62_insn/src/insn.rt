@@ -2,17 +2,14 @@
 
 ghost use Rattle.std.specs.Prelude.{◌≡◌, ◌↔◌, IsOk, IfOk, IfErr, IfSome, IsTrue, Some, None};
 ghost use Rattle.c62_insn.specs.Fault.{form_fault};
-ghost use Rattle.c62_insn.specs.Takes.{is_written};
+ghost use Rattle.c62_op.specs.Takes.{is_written};
 
 use crate::action::{Action, act, word};
 use crate::effect::{Access, Effect, Inputs, Target};
 use crate::fault::{FormFault, find_fault};
-use crate::form::{unit_takes, units_of};
-use crate::operands::{Offset, Op, Operands};
-use crate::register::{Cond, Reg, Side, Unit};
-use crate::unit_set::UnitSet;
-use crate::word::word_of;
+use crate::unit_set::{UnitSet, units_of};
 use arrayvec::ArrayVec;
+use c62_op::{Cond, Offset, Op, Operands, Reg, Side, Unit, unit_takes, word_of};
 
 /// An instruction: an operation with operands that some unit takes, a condition or none, and the
 /// unit that was written, or none. It has no form fault.
@@ -57,14 +54,15 @@ fn is_written(written: Option<Unit>, unit: Unit) -> bool
 impl Insn {
     ghost use Rattle.std.specs.Prelude.{ℕ, true, false, ◌==◌, length, is_some, [], if◌then◌else◌};
     ghost use Rattle.c62_insn.specs.Insn.{op_of, operands_of, cond_of, unit_of, HasParts};
-    ghost use Rattle.c62_insn.specs.Takes.{takes};
+    ghost use Rattle.c62_op.specs.Takes.{takes};
     ghost use Rattle.c62_insn.specs.Stands.{may_stand};
-    ghost use Rattle.c62_insn.specs.Units.{unit_in};
-    ghost use Rattle.c62_insn.specs.declared.register.Unit.{Unit as FunctionalUnit};
+    ghost use Rattle.c62_insn.specs.UnitSet.{unit_in};
+    ghost use Rattle.c62_op.specs.declared.register.Unit.{Unit as FunctionalUnit};
     ghost use Rattle.arrayvec.specs.ArrayVec.{array_vec_len};
-    ghost use Rattle.c62_insn.specs.Effect.{runs_of, values_of, access_of, target_of, loaded_of};
+    ghost use Rattle.c62_op.specs.Meaning.{loaded_of};
+    ghost use Rattle.c62_insn.specs.Effect.{runs_of, values_of, access_of, target_of};
     ghost use Rattle.c62_insn.specs.Action.{word_at, runs_with, values_where, access_where, target_where, IsActionOf};
-    ghost use Rattle.c62_insn.specs.Shape.{reads_of, writes_of, delay_of, data_path_of, crosses_to};
+    ghost use Rattle.c62_op.specs.Shape.{reads_of, writes_of, delay_of, data_path_of, crosses_to};
 
     /// The instruction of these parts.
     ///

@@ -2,18 +2,15 @@
 //! is a law, proved of the definitions that all other contracts cite.
 
 ghost use Rattle.std.specs.Prelude.{◌≡◌, ℕ, ◌<◌, ◌≤◌, ◌%◌, ◌^◌, ℤ, pos, negsuc, ◌≤ℤ◌, List, length, []};
-ghost use Rattle.c62_insn.specs.declared.register.Reg.{Reg as Register};
+ghost use Rattle.c62_op.specs.declared.register.Reg.{Reg as Register};
 ghost use Rattle.c62_insn.specs.declared.insn.Insn.{Insn};
-ghost use Rattle.c62_insn.specs.declared.operands.Op.{Op as Operation};
-ghost use Rattle.c62_insn.specs.declared.operands.Op.TheVariants.{B as Branch};
-ghost use Rattle.c62_insn.specs.Table.{all_operations};
+ghost use Rattle.c62_op.specs.declared.operands.Op.{Op as Operation};
+ghost use Rattle.c62_op.specs.declared.operands.Op.TheVariants.{B as Branch};
 ghost use Rattle.c62_insn.specs.Insn.{op_of, operand_reads, register_writes};
 ghost use Rattle.c62_insn.specs.PacketRules.{Issue, Issues, reads_count};
 ghost use Rattle.c62_insn.specs.Breaches.{TwoOnOneUnit, TwoOverCrossPath, TwoOverDataPath, FiveReads, TwoLandings};
 ghost use Rattle.c62_insn.specs.Part.{PartKeepsRules, AnyOrderKeepsRules, AnyOrderIsAsLong};
-ghost use Rattle.c62_insn.specs.Laws.{StandsOnce, HasUnit, StandsOnOneSide, HasRisingDelays, WritesInTime, WritesBaseFirst, CrossesNotToD, WritesOwnSide, HasDelayOfKind, UsesItsPath, MovesBase, Mirrors, HasRangesOfBits, CrossesSecond, MultipliesByConstant, SubtractsByAdding, AddsHalves, ShiftsOut};
-
-use crate::operands::Op;
+ghost use Rattle.c62_insn.specs.Laws.{HasUnit, StandsOnOneSide, HasRisingDelays, WritesInTime, WritesBaseFirst, CrossesNotToD, WritesOwnSide, UsesItsPath, CrossesSecond, MultipliesByConstant, SubtractsByAdding};
 
 /// Part of what keeps the packet rules keeps them, under whatever numbers it is issued: the rules ask neither for
 /// the order of what is issued nor for numbers under which nothing is.
@@ -34,13 +31,6 @@ pub fn breaches()
 /// Instructions of which at most one is a branch take as long in whatever order they are listed.
 pub fn any_order_is_as_long()
     ensures { (issues others : List Issue) → AnyOrderIsAsLong issues others }
-{}
-
-/// Each operation stands in the instruction table once, and has a name of its own; [`Op::ALL`](crate::Op::ALL) is
-/// the table's order.
-pub fn lists_each_operation()
-    ensures all { Op.ALL ≡ all_operations }
-    ensures once { (op : Operation) → StandsOnce op }
 {}
 
 /// Some unit takes every instruction: the written one, where one is written.
@@ -91,29 +81,9 @@ pub fn writes_own_side()
     ensures { (insn : Insn) → WritesOwnSide insn }
 {}
 
-/// Multiplies, which are what runs on .M, have one delay slot, loads four, the branch five, and all others none.
-pub fn has_delay_of_kind()
-    ensures { (op : Operation) → HasDelayOfKind op }
-{}
-
 /// An access goes over the data path of the register that it loads or stores.
 pub fn uses_its_path()
     ensures { (insn : Insn) → UsesItsPath insn }
-{}
-
-/// A post form's address is the old base, a pre form's the new one; up and down again gives the base back.
-pub fn moves_base()
-    ensures { (base distance : ℕ) → base < 2 ^ 32 → distance < 2 ^ 32 → MovesBase base distance }
-{}
-
-/// CMPGT and CMPLT, CMPGTU and CMPLTU, MPYHL and MPYLH, MPYUS and MPYSU are one operation each, with the sources exchanged.
-pub fn mirrors()
-    ensures { (a b : ℕ) → Mirrors a b }
-{}
-
-/// The ranges of constants are the numbers of 5 and of 16 bits, signed and unsigned.
-pub fn has_ranges_of_bits()
-    ensures { HasRangesOfBits }
 {}
 
 /// ADD of registers of both sides takes the crossed one as its second source, and not as its first.
@@ -129,14 +99,4 @@ pub fn multiplies_by_constant()
 /// SUB of a constant is the sum with its negation.
 pub fn subtracts_by_adding()
     ensures { (k : ℤ) → negsuc 15 ≤ℤ k → k ≤ℤ pos 31 → SubtractsByAdding k }
-{}
-
-/// ADD2 has no carry between the halves.
-pub fn adds_halves()
-    ensures { (a b : ℕ) → a < 2 ^ 32 → b < 2 ^ 32 → AddsHalves a b }
-{}
-
-/// SHL and SHRU by 32 or more give 0, SHR the sign in all bits.
-pub fn shifts_out()
-    ensures { (v count : ℕ) → v < 2 ^ 32 → 32 ≤ count % 2 ^ 6 → ShiftsOut v count }
 {}

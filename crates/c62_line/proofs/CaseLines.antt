@@ -4,7 +4,7 @@ use Rattle.c62_line.proofs.Common.{Some, Result, Ok, Err, option_map, codes, Let
 use Rattle.c62_line.proofs.Common.{WrittenUnit, is_allowed, Word, is_dot, Says, has_colon, is_star, with_head}
 use Rattle.c62_line.specs.Laws.{IsRecased, CaseSaysNothing, small_labels, small_says, target_in}
 use Rattle.std.proofs.lemmas.List.{drop-map}
-use Rattle.c62_insn.specs.declared.register.Cond.{Cond as Condition}
+use Rattle.c62_op.specs.declared.register.Cond.{Cond as Condition}
 use Rattle.c62_line.specs.Mnemonic.{mnemonic_named, operation_named, pseudo_named}
 use Rattle.c62_line.specs.Unit.{is_t, is_x, letter_of, mark_of, side_numbered, unit_front, unit_of, unit_split}
 use Rattle.c62_line.specs.Line.{label_field, fault_in}

@@ -3,8 +3,8 @@ use Rattle.c62_line.proofs.Common.{◌≡◌, ℕ, Bool, cond, Option, Some, Non
 use Rattle.std.proofs.Math.IntN.{*ℤ_comm}
 use Rattle.std.proofs.Math.Nat.{mul_comm}
 use Rattle.std.proofs.lemmas.Nat.{and_comm, or_comm, xor_comm}
-use Rattle.c62_insn.specs.declared.operands.Op.TheVariants.{Cmpeq}
-use Rattle.c62_insn.specs.Effect.{result_of}
+use Rattle.c62_op.specs.declared.operands.Op.TheVariants.{Cmpeq}
+use Rattle.c62_op.specs.Meaning.{result_of}
 use Rattle.c62_line.specs.Laws.{KeepEffects, KeepsEffect}
 
 abbrev Keeps : Option Op → Op → ℕ → ℕ → Type 0

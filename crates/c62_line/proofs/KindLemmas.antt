@@ -1,7 +1,7 @@
 -- More than eight tokens are no operands, and a condition begins with a bracket.
 use Rattle.c62_line.proofs.Common.{◌≡◌, ℕ, ◌+◌, ◌≤◌, ◌<◌, Bool, false, List, length, Option, Some, None, Err, cond, arith, length-map}
 use Rattle.c62_line.proofs.Common.{BadOperand, Kind, Address, Mnemonic, WrittenUnit, Word, kinds_of, target_of}
-use Rattle.c62_insn.specs.declared.register.Cond.{Cond as Condition}
+use Rattle.c62_op.specs.declared.register.Cond.{Cond as Condition}
 use Rattle.c62_line.specs.Operand.{address_front, operands_of, with_offset}
 use Rattle.c62_token.specs.Kind.{first_is_open, kind_of}
 use Rattle.c62_line.specs.Line.{behind_unit, condition_of, pause_of}

@@ -4,7 +4,7 @@ use Rattle.c62_line.proofs.Common.{ap, ◌∙◌, to_ascii_lowercase, filter, by
 use Rattle.std.specs.List.{find}
 use Rattle.std.proofs.lemmas.Slice.Eq.{bytes_eq-Decides}
 use Rattle.c62_token.proofs.TokenLemmas.{on_test}
-use Rattle.c62_insn.specs.Table.{all_operations}
+use Rattle.c62_op.specs.Table.{all_operations}
 use Rattle.c62_line.specs.Mnemonic.{begins_so, operation_named}
 
 -- what passes a test is found among those that pass a weaker one

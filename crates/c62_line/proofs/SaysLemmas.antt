@@ -2,9 +2,9 @@
 use Rattle.c62_line.proofs.Common.{◌≡◌, Bool, true, false, cond, List, Option, Some, None, Result, Ok, Err, arith, Op, Operands, Block, Insn, Cause}
 use Rattle.c62_line.proofs.Common.{Mnemonic, Nop, WrittenUnit, Kind, Word, kinds_of, Says, Does, Jumps, is_storing, jumps_or_does, parts_read}
 use Rattle.c62_line.proofs.Common.{target_of}
-use Rattle.c62_insn.specs.declared.register.Cond.{Cond as Condition}
-use Rattle.c62_insn.specs.declared.operands.Op.TheVariants.{B as Branch}
-use Rattle.c62_insn.proofs.FormLemmas.{taken_kind}
+use Rattle.c62_op.specs.declared.register.Cond.{Cond as Condition}
+use Rattle.c62_op.specs.declared.operands.Op.TheVariants.{B as Branch}
+use Rattle.c62_op.proofs.FormLemmas.{taken_kind}
 use Rattle.c62_insn.proofs.InsnLemmas.{has_unit}
 use Rattle.c62_line.specs.Operand.{operands_of}
 use Rattle.c62_line.specs.Mnemonic.{in_order, stands_for, with_kind}

@@ -3,8 +3,8 @@ use Rattle.c62_line.proofs.Common.{◌≡◌, ℕ, ◌≤◌, Bool, true, false,
 use Rattle.c62_line.proofs.Common.{append_assoc, arith, codes, list_all, nat_tests, Side, A, B, Letter, L, Reg, Op, Add, Operands, Access, Insn}
 use Rattle.c62_line.proofs.Common.{op_of, mnemonic_of, register_name, begins, is_blank, is_word_byte, tokens, Kind, Open, Close, Mark, Plain, Cross}
 use Rattle.c62_line.proofs.Common.{Path, Word, is_dot, Says, is_bars, is_star}
-use Rattle.c62_insn.specs.declared.register.Cond.{Cond as Condition}
-use Rattle.c62_insn.specs.declared.register.Unit.{Unit as FunctionalUnit}
+use Rattle.c62_op.specs.declared.register.Cond.{Cond as Condition}
+use Rattle.c62_op.specs.declared.register.Unit.{Unit as FunctionalUnit}
 use Rattle.c62_insn.specs.Insn.{operands_of, cond_of}
 use Rattle.c62_insn.specs.Spelling.{condition_spelling, unit_spelling, path_spelling, side_digit, unit_letter}
 use Rattle.c62_insn.proofs.InsnLemmas.{faultless_on}

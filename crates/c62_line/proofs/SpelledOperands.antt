@@ -5,24 +5,24 @@ use Rattle.c62_line.proofs.Common.{cond_both, Side, A, B, Reg, Op, Add, AddressF
 use Rattle.c62_line.proofs.Common.{has_kind, crosses_to, file_letter, operands_spelling, register_name, Kind, Comma, Star, Open, Close, Number}
 use Rattle.c62_line.proofs.Common.{Operation, Mark, Plain, Cross, Path, WrittenUnit, begins, is_word_byte, put_back, tokens, Word, kinds_of}
 use Rattle.c62_line.proofs.Common.{constant_to_front, exchanged, Says, Does, is_branch, parts_read, nat_tests, leb-true, target_of}
-use Rattle.c62_insn.specs.Takes.{same_letter, takes}
+use Rattle.c62_op.specs.Takes.{same_letter, takes}
 use Rattle.std.specs.Fmt.{signed_decimal}
 use Rattle.std.specs.Ordering.{int_eq}
 use Rattle.std.proofs.lemmas.Bool.Decides.{Decides-int_eq}
-use Rattle.c62_insn.specs.declared.register.Cond.{Cond as Condition}
-use Rattle.c62_insn.specs.declared.register.Letter.TheVariants.{D}
-use Rattle.c62_insn.specs.declared.register.Unit.{Unit as FunctionalUnit}
-use Rattle.c62_insn.specs.declared.operands.Op.TheVariants.{Mvklh, B as Branch}
-use Rattle.c62_insn.specs.declared.operands.AddressForm.TheVariants.{Plus}
-use Rattle.c62_insn.specs.declared.operands.Offset.{Offset}
-use Rattle.c62_insn.specs.declared.operands.Offset.TheVariants.{Constant as ByConstant, Register as ByRegister}
-use Rattle.c62_insn.specs.declared.operands.Operands.TheVariants.{ConstantFirst, Field}
+use Rattle.c62_op.specs.declared.register.Cond.{Cond as Condition}
+use Rattle.c62_op.specs.declared.register.Letter.TheVariants.{D}
+use Rattle.c62_op.specs.declared.register.Unit.{Unit as FunctionalUnit}
+use Rattle.c62_op.specs.declared.operands.Op.TheVariants.{Mvklh, B as Branch}
+use Rattle.c62_op.specs.declared.operands.AddressForm.TheVariants.{Plus}
+use Rattle.c62_op.specs.declared.operands.Offset.{Offset}
+use Rattle.c62_op.specs.declared.operands.Offset.TheVariants.{Constant as ByConstant, Register as ByRegister}
+use Rattle.c62_op.specs.declared.operands.Operands.TheVariants.{ConstantFirst, Field}
 use Rattle.c62_insn.specs.Fault.{form_fault}
-use Rattle.c62_insn.specs.Shape.{is_load, is_store}
+use Rattle.c62_op.specs.Shape.{is_load, is_store}
 use Rattle.c62_insn.specs.Spelling.{address_spelling, is_base_alone, offset_spelling, sign_of, step_of, with_commas}
-use Rattle.c62_insn.proofs.FormLemmas.{access_on_d, constant_on_d, first_in_file, is_add, is_narrow, narrow_constants, taken_kind, constants_of}
-use Rattle.c62_insn.proofs.FormLemmas.{taken_letter, uncrossed_on_d}
-use Rattle.c62_insn.proofs.Registers.{same_side-refl}
+use Rattle.c62_op.proofs.FormLemmas.{access_on_d, constant_on_d, first_in_file, is_add, is_narrow, narrow_constants, taken_kind, constants_of}
+use Rattle.c62_op.proofs.FormLemmas.{taken_letter, uncrossed_on_d}
+use Rattle.c62_op.proofs.Registers.{same_side-refl}
 use Rattle.c62_token.specs.declared.kind.Kind.TheVariants.{Register}
 use Rattle.c62_token.specs.Number.{is_label}
 use Rattle.c62_token.specs.Kind.{kind_of, mark_of, single_mark}
@@ -34,7 +34,7 @@ use Rattle.c62_line.specs.Laws.{NamesTarget, says_with}
 use Rattle.c62_token.proofs.NumberLemmas.{label_few}
 use Rattle.c62_token.proofs.SpelledTokens.{IsPiece, both, mark_piece, more, weaker, word_end, word_piece, word_token}
 use Rattle.c62_token.proofs.SpelledNumbers.{number_piece, register_back, register_piece}
-use Rattle.c62_insn.specs.declared.operands.Operands.TheVariants as operands
+use Rattle.c62_op.specs.declared.operands.Operands.TheVariants as operands
 
 -- ---- addresses
 

@@ -3,16 +3,16 @@ use Rattle.std.specs.Prelude.{◌≡◌, ℕ, ◌≤◌, ◌<◌, ◌^◌, List,
 use Rattle.std.specs.Prelude.{option_map, Option, Some, None, Result, Ok, Err, codes, decimal, IsTrue}
 use Rattle.std.specs.Char.{to_ascii_lowercase}
 use Rattle.std.specs.List.{list_all}
-use Rattle.c62_insn.specs.declared.register.Unit.{Unit as FunctionalUnit}
-use Rattle.c62_insn.specs.declared.operands.Op.{Op}
-use Rattle.c62_insn.specs.declared.operands.Op.TheVariants.{Add, Sub, Mvk}
-use Rattle.c62_insn.specs.declared.operands.Operands.{Operands}
-use Rattle.c62_insn.specs.declared.operands.Operands.TheVariants.{Block}
+use Rattle.c62_op.specs.declared.register.Unit.{Unit as FunctionalUnit}
+use Rattle.c62_op.specs.declared.operands.Op.{Op}
+use Rattle.c62_op.specs.declared.operands.Op.TheVariants.{Add, Sub, Mvk}
+use Rattle.c62_op.specs.declared.operands.Operands.{Operands}
+use Rattle.c62_op.specs.declared.operands.Operands.TheVariants.{Block}
 use Rattle.c62_insn.specs.declared.insn.Insn.{Insn}
-use Rattle.c62_insn.specs.Effect.{result_of}
+use Rattle.c62_op.specs.Meaning.{result_of}
 use Rattle.c62_insn.specs.Insn.{op_of, operands_of, cond_of}
 use Rattle.c62_insn.specs.Spelling.{spelling}
-use Rattle.c62_insn.specs.Takes.{takes}
+use Rattle.c62_op.specs.Takes.{takes}
 use Rattle.c62_token.specs.Token.{is_allowed, is_blank}
 use Rattle.c62_token.specs.Number.{is_label}
 use Rattle.c62_token.specs.Kind.{Word}

@@ -4,21 +4,21 @@ use Rattle.std.specs.Prelude.{option_map, option_and_then, Result, Ok, Err, Matc
 use Rattle.std.specs.Borrow.{Bor}
 use Rattle.std.specs.List.{list_all, list_any}
 use Rattle.std.specs.Option.{option_copied}
-use Rattle.c62_insn.specs.declared.register.Side.{Side}
-use Rattle.c62_insn.specs.declared.register.Cond.{Cond as Condition}
-use Rattle.c62_insn.specs.declared.register.Letter.{Letter}
-use Rattle.c62_insn.specs.declared.register.Unit.{Unit as FunctionalUnit}
-use Rattle.c62_insn.specs.declared.operands.Op.{Op}
-use Rattle.c62_insn.specs.declared.operands.Op.TheVariants.{B as Branch}
-use Rattle.c62_insn.specs.declared.operands.Operands.{Operands}
-use Rattle.c62_insn.specs.declared.operands.Operands.TheVariants.{Block}
+use Rattle.c62_op.specs.declared.register.Side.{Side}
+use Rattle.c62_op.specs.declared.register.Cond.{Cond as Condition}
+use Rattle.c62_op.specs.declared.register.Letter.{Letter}
+use Rattle.c62_op.specs.declared.register.Unit.{Unit as FunctionalUnit}
+use Rattle.c62_op.specs.declared.operands.Op.{Op}
+use Rattle.c62_op.specs.declared.operands.Op.TheVariants.{B as Branch}
+use Rattle.c62_op.specs.declared.operands.Operands.{Operands}
+use Rattle.c62_op.specs.declared.operands.Operands.TheVariants.{Block}
 use Rattle.c62_insn.specs.declared.insn.Insn.{Insn}
 use Rattle.c62_insn.specs.declared.fault.FormFault.{FormFault}
 use Rattle.c62_insn.specs.declared.fault.FormFault.TheVariants.{NoUnit, BadSide}
 use Rattle.c62_insn.specs.Fault.{form_fault}
 use Rattle.c62_insn.specs.Insn.{op_of, operands_of as written_operands, cond_of, unit_of}
-use Rattle.c62_insn.specs.Shape.{crosses_to, data_path_of, is_store}
-use Rattle.c62_insn.specs.Takes.{same_side}
+use Rattle.c62_op.specs.Shape.{crosses_to, data_path_of, is_store}
+use Rattle.c62_op.specs.Takes.{same_side}
 use Rattle.c62_line.specs.declared.fault.Cause.{Cause}
 use Rattle.c62_line.specs.declared.fault.Cause.TheVariants.{NotAscii, LineTooLong, BadLabel, UnknownMnemonic, BadUnit, BadOperand, Form, ParallelBar}
 use Rattle.c62_line.specs.declared.fault.Cause.TheVariants.{Directive}

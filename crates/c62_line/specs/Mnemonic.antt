@@ -2,19 +2,17 @@
 use Rattle.std.specs.Prelude.{ℕ, ℤ, pos, negsuc, Bool, true, false, not, ◌==◌, ◌&&◌, ◌||◌, List, Option, Some, None, codes, if◌then◌else◌}
 use Rattle.std.specs.Char.{to_ascii_lowercase}
 use Rattle.std.specs.List.{find}
-use Rattle.c62_insn.specs.declared.register.Letter.{Letter}
-use Rattle.c62_insn.specs.declared.register.Letter.TheVariants.{L, S, D}
-use Rattle.c62_insn.specs.declared.register.Reg.{Reg}
-use Rattle.c62_insn.specs.declared.operands.Op.{Op}
-use Rattle.c62_insn.specs.declared.operands.Op.TheVariants.{Add, Sub, And, Or, Xor, Cmpeq, Cmpgt, Cmplt, Cmpgtu, Cmpltu, Add2, Mvk, Mvklh, Mpy, Mpyu}
-use Rattle.c62_insn.specs.declared.operands.Op.TheVariants.{Mpyus, Mpysu, Mpyh, Mpyhu, Mpyhl, Mpylh}
-use Rattle.c62_insn.specs.declared.operands.Operands.{Operands}
-use Rattle.c62_insn.specs.declared.operands.Operands.TheVariants.{Three, ConstantFirst, ConstantSecond, Two, Constant, Register}
-use Rattle.c62_insn.specs.Fault.{has_kind}
-use Rattle.c62_insn.specs.Spelling.{mnemonic_of}
-use Rattle.c62_insn.specs.Table.{all_operations}
-use Rattle.c62_insn.specs.Takes.{same_side, same_letter, has_letter}
-use Rattle.c62_insn.specs.Word.{word, lo, hi, sg_half}
+use Rattle.c62_op.specs.declared.register.Letter.{Letter}
+use Rattle.c62_op.specs.declared.register.Letter.TheVariants.{L, S, D}
+use Rattle.c62_op.specs.declared.register.Reg.{Reg}
+use Rattle.c62_op.specs.declared.operands.Op.{Op}
+use Rattle.c62_op.specs.declared.operands.Op.TheVariants.{Add, Sub, And, Or, Xor, Cmpeq, Cmpgt, Cmplt, Cmpgtu, Cmpltu, Add2, Mvk, Mvklh, Mpy, Mpyu}
+use Rattle.c62_op.specs.declared.operands.Op.TheVariants.{Mpyus, Mpysu, Mpyh, Mpyhu, Mpyhl, Mpylh}
+use Rattle.c62_op.specs.declared.operands.Operands.{Operands}
+use Rattle.c62_op.specs.declared.operands.Operands.TheVariants.{Three, ConstantFirst, ConstantSecond, Two, Constant, Register}
+use Rattle.c62_op.specs.Takes.{has_kind, same_side, same_letter, has_letter}
+use Rattle.c62_op.specs.Table.{mnemonic_of, all_operations}
+use Rattle.c62_op.specs.Word.{word, lo, hi, sg_half}
 use Rattle.c62_line.specs.declared.mnemonic.Mnemonic.{Mnemonic}
 use Rattle.c62_line.specs.declared.mnemonic.Mnemonic.TheVariants.{Operation, Mv, Neg, Not, Zero, Mvkl, Mvkh, Nop}
 use Rattle.c62_token.specs.Number.{spells}

@@ -1,12 +1,12 @@
 -- Units as they are written.
 use Rattle.std.specs.Prelude.{ℕ, Bool, true, false, not, ◌==◌, ◌&&◌, ◌||◌, List, [], ◌∷◌, Option, Some, None, option_map, if◌then◌else◌}
 use Rattle.std.specs.Char.{is_ascii_digit}
-use Rattle.c62_insn.specs.declared.register.Side.{Side}
-use Rattle.c62_insn.specs.declared.register.Side.TheVariants.{A, B}
-use Rattle.c62_insn.specs.declared.register.Letter.{Letter}
-use Rattle.c62_insn.specs.declared.register.Letter.TheVariants.{L, S, M, D}
-use Rattle.c62_insn.specs.Takes.{same_letter}
-use Rattle.c62_insn.specs.Shape.{is_load, is_store}
+use Rattle.c62_op.specs.declared.register.Side.{Side}
+use Rattle.c62_op.specs.declared.register.Side.TheVariants.{A, B}
+use Rattle.c62_op.specs.declared.register.Letter.{Letter}
+use Rattle.c62_op.specs.declared.register.Letter.TheVariants.{L, S, M, D}
+use Rattle.c62_op.specs.Takes.{same_letter}
+use Rattle.c62_op.specs.Shape.{is_load, is_store}
 use Rattle.c62_line.specs.declared.mnemonic.Mnemonic.{Mnemonic}
 use Rattle.c62_line.specs.declared.mnemonic.Mnemonic.TheVariants.{Operation}
 use Rattle.c62_line.specs.declared.unit.Mark.{Mark}

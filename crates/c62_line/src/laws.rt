@@ -1,9 +1,9 @@
 //! Laws of lines.
 
 ghost use Rattle.std.specs.Prelude.{◌∷◌, ◌++◌, ℕ, List, IsTrue};
-ghost use Rattle.c62_insn.specs.declared.register.Unit.{Unit as FunctionalUnit};
+ghost use Rattle.c62_op.specs.declared.register.Unit.{Unit as FunctionalUnit};
 ghost use Rattle.c62_insn.specs.declared.insn.Insn.{Insn};
-ghost use Rattle.c62_insn.specs.declared.operands.Op.{Op as Operation};
+ghost use Rattle.c62_op.specs.declared.operands.Op.{Op as Operation};
 ghost use Rattle.c62_token.specs.Token.{begins};
 ghost use Rattle.c62_line.specs.Line.{is_star};
 ghost use Rattle.c62_line.specs.Laws.{LineReadsBack, PauseReadsBack, LabelReadsBack, IsReadable, StarSaysNothing, CommentSaysNothing, CaseSaysNothing, IsRecased, KeepsEffect, KeepEffects};

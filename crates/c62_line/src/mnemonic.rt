@@ -3,10 +3,9 @@
 ghost use Rattle.std.specs.Prelude.{◌≡◌, pos};
 ghost use Rattle.std.specs.List.{filter, find};
 ghost use Rattle.std.specs.Str.{bytes_eq};
-ghost use Rattle.c62_insn.specs.Spelling.{mnemonic_of};
-ghost use Rattle.c62_insn.specs.Table.{all_operations};
+ghost use Rattle.c62_op.specs.Table.{mnemonic_of, all_operations};
 ghost use Rattle.c62_token.specs.Number.{spells};
-ghost use Rattle.c62_insn.specs.Word.{word, lo};
+ghost use Rattle.c62_op.specs.Word.{word, lo};
 
 use c62_insn::Op::{
     Abs, Add, Add2, Addab, Addah, Addaw, Addk, And, B, Cmpeq, Cmpgt, Cmpgtu, Cmplt, Cmpltu, Ext,

@@ -1,8 +1,8 @@
 -- The name that a branch is written with.
 use Rattle.std.specs.Prelude.{ℕ, List, []}
-use Rattle.c62_insn.specs.declared.operands.Operands.{Operands}
-use Rattle.c62_insn.specs.declared.operands.Operands.TheVariants.{Block}
-use Rattle.c62_insn.specs.declared.register.Letter.{Letter}
+use Rattle.c62_op.specs.declared.operands.Operands.{Operands}
+use Rattle.c62_op.specs.declared.operands.Operands.TheVariants.{Block}
+use Rattle.c62_op.specs.declared.register.Letter.{Letter}
 use Rattle.c62_insn.specs.declared.insn.Insn.{Insn}
 use Rattle.c62_insn.specs.Insn.{op_of, operands_of}
 use Rattle.c62_insn.specs.Spelling.{operands_spelling}

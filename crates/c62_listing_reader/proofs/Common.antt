@@ -1,14 +1,14 @@
 -- What several proofs of this crate use of the standard library, of the definitions and of other crates.
-pub use Rattle.c62_insn.proofs.UnitOrder.{index_of-below}
+pub use Rattle.c62_op.proofs.UnitOrder.{index_of-below}
 pub use Rattle.c62_insn.specs.Insn.{op_of, operands_of, unit_of}
 pub use Rattle.c62_insn.specs.Length.{landing_end}
 pub use Rattle.c62_insn.specs.Spelling.{spelling}
-pub use Rattle.c62_insn.specs.Takes.{takes}
-pub use Rattle.c62_insn.specs.Units.{index_of}
+pub use Rattle.c62_op.specs.Takes.{takes}
+pub use Rattle.c62_op.specs.Units.{index_of}
 pub use Rattle.c62_insn.specs.declared.insn.Insn.{Insn}
-pub use Rattle.c62_insn.specs.declared.operands.Operands.{Operands}
-pub use Rattle.c62_insn.specs.declared.operands.Operands.TheVariants.{Block}
-pub use Rattle.c62_insn.specs.declared.register.Unit.{Unit as FunctionalUnit}
+pub use Rattle.c62_op.specs.declared.operands.Operands.{Operands}
+pub use Rattle.c62_op.specs.declared.operands.Operands.TheVariants.{Block}
+pub use Rattle.c62_op.specs.declared.register.Unit.{Unit as FunctionalUnit}
 pub use Rattle.c62_line.proofs.LabelFields.{field_is, head_read}
 pub use Rattle.c62_line.proofs.PauseLemmas.{IsShort}
 pub use Rattle.c62_line.proofs.SaysLemmas.{IsProper, has_no_block}

@@ -2,8 +2,8 @@
 -- "Faults of a block").
 use Rattle.std.specs.Prelude.{◌≡◌, ℕ, ◌+◌, Bool, true, false, not, ◌&&◌, nat_le, nat_lt, if◌then◌else◌, List, [], ◌∷◌, length, map, take, Option, Some, None, is_some, is_none, Result, Ok, Err, All}
 use Rattle.std.specs.List.{list_all, list_any, slice_get}
-use Rattle.c62_insn.specs.declared.register.Unit.{Unit as FunctionalUnit}
-use Rattle.c62_insn.specs.Units.{index_of}
+use Rattle.c62_op.specs.declared.register.Unit.{Unit as FunctionalUnit}
+use Rattle.c62_op.specs.Units.{index_of}
 use Rattle.c62_line.specs.declared.fault.Cause.{Cause}
 use Rattle.c62_line.specs.declared.fault.Cause.TheVariants.{NotAscii, LineTooLong, BadLabel, DuplicateLabel, UnknownMnemonic, ParallelBar, UnknownTarget, TooManyInstructions, TooManyBlocks, TextTooLong}
 use Rattle.c62_token.specs.Token.{is_allowed}

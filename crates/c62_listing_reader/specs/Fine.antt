@@ -1,8 +1,8 @@
 -- Blocks as they are read that may become packet blocks.
 use Rattle.std.specs.Prelude.{◌≡◌, ℕ, ◌+◌, ◌*◌, ◌<◌, ◌≤◌, true, length, All, Option, Some, None, is_some}
 use Rattle.std.specs.List.Sorted.{IsNonDecreasingBy}
-use Rattle.c62_insn.specs.declared.register.Unit.{Unit as FunctionalUnit}
-use Rattle.c62_insn.specs.Units.{index_of}
+use Rattle.c62_op.specs.declared.register.Unit.{Unit as FunctionalUnit}
+use Rattle.c62_op.specs.Units.{index_of}
 use Rattle.c62_read.specs.declared.limits.TheConstants.{MOST_INSTRUCTIONS}
 use Rattle.c62_packet.specs.declared.limits.TheConstants.{MOST_CYCLES}
 use Rattle.c62_listing_reader.specs.Said.{Part, Draft}

@@ -2,10 +2,11 @@
 use Rattle.std.specs.Prelude.{ℕ, ◌+◌, ◌-◌, min, Bool, true, false, if◌then◌else◌, List, [], ◌∷◌, ◌++◌, map, Option, Some, None, codes, decimal}
 use Rattle.std.specs.Option.{option_to_list}
 use Rattle.std.specs.Str.{bytes_eq}
-use Rattle.c62_insn.specs.declared.register.Unit.{Unit as FunctionalUnit}
+use Rattle.c62_op.specs.declared.register.Unit.{Unit as FunctionalUnit}
 use Rattle.c62_insn.specs.declared.insn.Insn.{Insn}
 use Rattle.c62_insn.specs.Insn.{unit_of}
-use Rattle.c62_insn.specs.Spelling.{condition_spelling, mnemonic_of, unit_spelling, operands_spelling}
+use Rattle.c62_op.specs.Table.{mnemonic_of}
+use Rattle.c62_insn.specs.Spelling.{condition_spelling, unit_spelling, operands_spelling}
 use Rattle.c62_line.specs.Line.{Parts, parts_of, Says, Nothing, Pause, Does, Jumps}
 use Rattle.c62_line.specs.Line.{label_field}
 use Rattle.c62_read.specs.Program.{Name, aimed_operands}

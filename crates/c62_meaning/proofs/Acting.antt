@@ -4,22 +4,23 @@ use Rattle.std.specs.Prelude.{slice_index, is_some, option_map, ◌||◌, if◌t
 use Rattle.std.specs.List.{zip, list_any}
 use Rattle.std.specs.Option.{option_to_list}
 use Rattle.std.proofs.lemmas.Bool.{cases_Bool, cond-true, cond-false, or_left, or_right}
-use Rattle.c62_insn.specs.declared.register.Reg.{Reg}
-use Rattle.c62_insn.specs.declared.register.Cond.{Cond as Condition}
-use Rattle.c62_insn.specs.declared.register.Unit.{Unit as FunctionalUnit}
-use Rattle.c62_insn.specs.declared.operands.Op.{Op}
-use Rattle.c62_insn.specs.declared.operands.Op.TheVariants.{Ldb, Ldbu, Ldh, Ldhu, Ldw, Stb, Sth, Stw}
-use Rattle.c62_insn.specs.declared.operands.AddressForm.{AddressForm}
-use Rattle.c62_insn.specs.declared.operands.Offset.{Offset}
-use Rattle.c62_insn.specs.declared.operands.Operands.{Operands}
-use Rattle.c62_insn.specs.declared.operands.Operands.TheVariants.{Access}
+use Rattle.c62_op.specs.declared.register.Reg.{Reg}
+use Rattle.c62_op.specs.declared.register.Cond.{Cond as Condition}
+use Rattle.c62_op.specs.declared.register.Unit.{Unit as FunctionalUnit}
+use Rattle.c62_op.specs.declared.operands.Op.{Op}
+use Rattle.c62_op.specs.declared.operands.Op.TheVariants.{Ldb, Ldbu, Ldh, Ldhu, Ldw, Stb, Sth, Stw}
+use Rattle.c62_op.specs.declared.operands.AddressForm.{AddressForm}
+use Rattle.c62_op.specs.declared.operands.Offset.{Offset}
+use Rattle.c62_op.specs.declared.operands.Operands.{Operands}
+use Rattle.c62_op.specs.declared.operands.Operands.TheVariants.{Access}
 use Rattle.c62_insn.specs.declared.effect.Access.{Access as MemoryAccess}
 use Rattle.c62_insn.specs.declared.insn.Insn.{Insn}
-use Rattle.c62_insn.specs.Takes.{same_reg, takes}
-use Rattle.c62_insn.specs.Shape.{is_load, is_store, reads_of, writes_of}
+use Rattle.c62_op.specs.Takes.{same_reg, takes}
+use Rattle.c62_op.specs.Shape.{is_load, is_store, reads_of, writes_of}
 use Rattle.c62_insn.specs.Insn.{op_of, operands_of, cond_of, operand_reads, register_writes, is_condition_on, reads_register}
-use Rattle.c62_insn.specs.Effect.{runs_of, low_bytes_of, values_of, stored, access_of, target_of}
-use Rattle.c62_insn.proofs.Registers.{same_reg-refl}
+use Rattle.c62_op.specs.Meaning.{low_bytes_of}
+use Rattle.c62_insn.specs.Effect.{runs_of, values_of, stored, access_of, target_of}
+use Rattle.c62_op.proofs.Registers.{same_reg-refl}
 use Rattle.c62_insn.proofs.InsnLemmas.{has_unit}
 use Rattle.c62_serial.specs.Memory.{is_good, number_of, bytes_from, read}
 use Rattle.c62_meaning.specs.Laws.{IsSameInsn}

@@ -3,17 +3,17 @@ use Rattle.std.proofs.Common.{◌≡◌, ℕ, ◌+◌, ◌*◌, ◌<◌, ◌≤�
 use Rattle.std.specs.Prelude.{Contains, ◌==◌, ◌&&◌, true}
 use Rattle.std.proofs.lemmas.Int.{ints}
 use Rattle.std.proofs.lemmas.Bool.{eq-eqb}
-use Rattle.c62_insn.specs.declared.register.Side.{Side}
-use Rattle.c62_insn.specs.declared.register.Side.TheVariants.{A, B}
-use Rattle.c62_insn.specs.declared.register.Reg.{Reg}
+use Rattle.c62_op.specs.declared.register.Side.{Side}
+use Rattle.c62_op.specs.declared.register.Side.TheVariants.{A, B}
+use Rattle.c62_op.specs.declared.register.Reg.{Reg}
 use Rattle.c62_insn.specs.declared.insn.Insn.{Insn}
-use Rattle.c62_insn.specs.Takes.{same_side}
-use Rattle.c62_insn.specs.Shape.{is_store}
-use Rattle.c62_insn.specs.Units.{index_of as unit_index}
+use Rattle.c62_op.specs.Takes.{same_side}
+use Rattle.c62_op.specs.Shape.{is_store}
+use Rattle.c62_op.specs.Units.{index_of as unit_index}
 use Rattle.c62_insn.specs.Insn.{op_of, register_writes}
-use Rattle.c62_insn.proofs.UnitOrder.{index_of-below}
+use Rattle.c62_op.proofs.UnitOrder.{index_of-below}
 use Rattle.c62_insn.specs.Dependence.{IsBound, are_exclusive, are_disjoint, ReadAfterWrite, WriteAfterRead, WriteAfterWrite, AfterStore, StoreAfterLoad}
-use Rattle.c62_insn.proofs.Registers.{same_reg-is}
+use Rattle.c62_op.proofs.Registers.{same_reg-is}
 use Rattle.c62_serial.specs.State.{first_of, index_of, word_in, byte_in}
 use Rattle.c62_meaning.specs.Landing.{Landing}
 use Rattle.c62_meaning.specs.Packet.{access_time}

@@ -3,11 +3,11 @@ use Rattle.std.proofs.Common.{◌≡◌, ℕ, zero, suc, ◌+◌, ◌*◌, ◌<�
 use Rattle.std.specs.List.{flat_map}
 use Rattle.std.specs.Prelude.{true}
 use Rattle.std.proofs.lemmas.Bool.{cases_eq}
-use Rattle.c62_insn.specs.declared.register.Reg.{Reg}
-use Rattle.c62_insn.specs.Units.{index_of as unit_index}
-use Rattle.c62_insn.specs.Shape.{is_store}
+use Rattle.c62_op.specs.declared.register.Reg.{Reg}
+use Rattle.c62_op.specs.Units.{index_of as unit_index}
+use Rattle.c62_op.specs.Shape.{is_store}
 use Rattle.c62_insn.specs.Insn.{op_of, register_writes}
-use Rattle.c62_insn.proofs.UnitOrder.{index_of-below}
+use Rattle.c62_op.proofs.UnitOrder.{index_of-below}
 use Rattle.c62_read.specs.declared.block.SerialInsn.{SerialInsn}
 use Rattle.c62_serial.specs.declared.serial.Exit.TheVariants.{Next}
 use Rattle.c62_serial.specs.State.{Machine, IsSound, index_of, word_in, byte_in}

@@ -6,10 +6,10 @@ use Rattle.std.proofs.lemmas.List.{take_all, get_or_default, get_or-map, length-
 use Rattle.std.proofs.lemmas.List.FromFn.{get_or-map-range_with_len, length-map-range_with_len}
 use Rattle.std.proofs.lemmas.List.Sums.{fold_more}
 use Rattle.std.proofs.lemmas.Option.{slice_get-get_or}
-use Rattle.c62_insn.specs.declared.register.Letter.TheVariants.{L}
-use Rattle.c62_insn.specs.declared.register.Side.TheVariants.{A}
-use Rattle.c62_insn.specs.declared.operands.Op.TheVariants.{B as Branch}
-use Rattle.c62_insn.specs.declared.operands.Operands.TheVariants.{Block}
+use Rattle.c62_op.specs.declared.register.Letter.TheVariants.{L}
+use Rattle.c62_op.specs.declared.register.Side.TheVariants.{A}
+use Rattle.c62_op.specs.declared.operands.Op.TheVariants.{B as Branch}
+use Rattle.c62_op.specs.declared.operands.Operands.TheVariants.{Block}
 use Rattle.c62_insn.specs.declared.insn.Insn.{Insn}
 use Rattle.c62_read.specs.declared.block.SerialInsn.{SerialInsn}
 use Rattle.c62_read.specs.Block.{branch_last, operations}

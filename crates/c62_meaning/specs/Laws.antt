@@ -1,6 +1,6 @@
 -- What packet meaning amounts to, as laws above its definition.
 use Rattle.std.specs.Prelude.{◌≡◌, ◌↔◌, ℕ, ◌≤ℤ◌, ◌+ℤ◌, ℤ, pos, List, length, map, Contains, slice_get, Some, IsTrue}
-use Rattle.c62_insn.specs.declared.register.Reg.{Reg}
+use Rattle.c62_op.specs.declared.register.Reg.{Reg}
 use Rattle.c62_insn.specs.declared.insn.Insn.{Insn}
 use Rattle.c62_insn.specs.Insn.{op_of, operands_of, cond_of}
 use Rattle.c62_insn.specs.Dependence.{Bounds}

@@ -1,7 +1,7 @@
 -- The meaning of a block of packets: what it leaves when its length is over, and where it goes on (docs/MACHINE.md,
 -- "Packets"). It is a relation with one solution.
 use Rattle.std.specs.Prelude.{◌≡◌, ◌⊎◌, ◌↔◌, ℕ, ◌<◌, List, Contains, fold, IsTrue}
-use Rattle.c62_insn.specs.declared.register.Reg.{Reg}
+use Rattle.c62_op.specs.declared.register.Reg.{Reg}
 use Rattle.c62_serial.specs.declared.state.TheConstants.{MEMORY_BYTES}
 use Rattle.c62_serial.specs.declared.serial.Exit.{Exit}
 use Rattle.c62_serial.specs.declared.serial.Exit.TheVariants.{Next}

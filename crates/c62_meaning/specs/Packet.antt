@@ -2,7 +2,7 @@
 -- "Memory"; SPRU189, "Pipeline Operation"). Nothing here goes from one cycle to the next.
 use Rattle.std.specs.Prelude.{◌≡◌, ℕ, ◌+◌, ◌*◌, List, [], ◌∷◌, map, Contains, Option, Some, None, if◌then◌else◌}
 use Rattle.std.specs.List.{flat_map}
-use Rattle.c62_insn.specs.declared.register.Reg.{Reg}
+use Rattle.c62_op.specs.declared.register.Reg.{Reg}
 use Rattle.c62_insn.specs.declared.effect.Access.{Access as MemoryAccess}
 use Rattle.c62_serial.specs.State.{Machine, index_of, word_in, byte_in}
 use Rattle.c62_serial.specs.Memory.{is_good, bytes_of}

@@ -4,13 +4,13 @@ use Rattle.std.specs.Prelude.{sum_by, count_by, find, IsTrue, if◌then◌else�
 use Rattle.std.specs.Option.{option_map_or}
 use Rattle.std.proofs.lemmas.Option.{none-some, same_Some}
 use Rattle.std.proofs.lemmas.List.Sums.{sum_by-cons}
-use Rattle.c62_insn.specs.declared.register.Reg.{Reg}
-use Rattle.c62_insn.specs.declared.register.Side.{Side}
-use Rattle.c62_insn.specs.declared.register.Unit.{Unit as FunctionalUnit}
-use Rattle.c62_insn.specs.declared.operands.Op.{Op}
-use Rattle.c62_insn.specs.declared.operands.Operands.{Operands}
-use Rattle.c62_insn.specs.Takes.{same_reg}
-use Rattle.c62_insn.specs.Shape.{crosses_to, data_path_of, reads_of, writes_of, is_branch}
+use Rattle.c62_op.specs.declared.register.Reg.{Reg}
+use Rattle.c62_op.specs.declared.register.Side.{Side}
+use Rattle.c62_op.specs.declared.register.Unit.{Unit as FunctionalUnit}
+use Rattle.c62_op.specs.declared.operands.Op.{Op}
+use Rattle.c62_op.specs.declared.operands.Operands.{Operands}
+use Rattle.c62_op.specs.Takes.{same_reg}
+use Rattle.c62_op.specs.Shape.{crosses_to, data_path_of, reads_of, writes_of, is_branch}
 use Rattle.c62_insn.specs.Insn.{op_of, operands_of, register_writes}
 use Rattle.c62_insn.specs.PacketRules.{Issue, Issues, IsIssued, AtMostOne, reads_in, LandsIn, UsesCrossPath, UsesDataPath, KeepsPacketRules}
 use Rattle.c62_insn.specs.Length.{greatest_delay, landing_end, last_landing_end, length_of}

@@ -2,7 +2,7 @@
 use Rattle.std.proofs.Common.{ℕ, ◌+◌, max, List}
 use Rattle.std.specs.Prelude.{find}
 use Rattle.std.specs.Option.{option_map_or}
-use Rattle.c62_insn.specs.Shape.{is_branch}
+use Rattle.c62_op.specs.Shape.{is_branch}
 use Rattle.c62_insn.specs.Insn.{op_of}
 use Rattle.c62_insn.specs.PacketRules.{Issue}
 use Rattle.c62_insn.specs.Length.{last_landing_end}

@@ -7,16 +7,16 @@ use Rattle.std.proofs.lemmas.Bool.Decides.{nat_tests}
 use Rattle.std.proofs.lemmas.List.Sums.{sum_by-cons}
 use Rattle.std.proofs.lemmas.List.Elements.{All-nil, All-cons, All-contains, All-tail}
 use Rattle.std.proofs.lemmas.Option.{same_Some, none-some}
-use Rattle.c62_insn.specs.declared.register.Side.{Side}
-use Rattle.c62_insn.specs.declared.register.Reg.{Reg}
-use Rattle.c62_insn.specs.declared.register.Unit.{Unit as FunctionalUnit}
-use Rattle.c62_insn.specs.Takes.{same_reg, same_side, same_unit}
-use Rattle.c62_insn.specs.declared.operands.Op.{Op}
-use Rattle.c62_insn.specs.Shape.{data_path_of, delay_of}
+use Rattle.c62_op.specs.declared.register.Side.{Side}
+use Rattle.c62_op.specs.declared.register.Reg.{Reg}
+use Rattle.c62_op.specs.declared.register.Unit.{Unit as FunctionalUnit}
+use Rattle.c62_op.specs.Takes.{same_reg, same_side, same_unit}
+use Rattle.c62_op.specs.declared.operands.Op.{Op}
+use Rattle.c62_op.specs.Shape.{data_path_of, delay_of}
 use Rattle.c62_insn.specs.Insn.{op_of, operands_of, operand_reads, register_writes}
 use Rattle.c62_insn.proofs.InsnLemmas.{timely_writes}
 use Rattle.c62_insn.specs.PacketRules.{Issue, IsIssued, UsesCrossPath, UsesDataPath, reads_count, reads_in, LandsIn}
-use Rattle.c62_insn.proofs.Registers.{same_reg-is, same_reg-refl, same_side-is, same_side-refl, same_unit-is, same_unit-refl}
+use Rattle.c62_op.proofs.Registers.{same_reg-is, same_reg-refl, same_side-is, same_side-refl, same_unit-is, same_unit-refl}
 use Rattle.c62_packet.specs.declared.placed.Placed.{Placed}
 use Rattle.c62_packet.specs.declared.fault.PacketRule.TheVariants.{P4}
 use Rattle.c62_packet.specs.Packed.{issue_of, issued}

@@ -10,15 +10,15 @@ use Rattle.std.proofs.lemmas.List.{get_or_default, drop_more, drop_all}
 use Rattle.std.proofs.lemmas.List.Elements.{All-nil, All-cons, All-contains, All-weaker, All-tail}
 use Rattle.std.proofs.lemmas.List.Folds.{list_any_none}
 use Rattle.std.proofs.lemmas.List.Sums.{sum_by-cons}
-use Rattle.c62_insn.specs.declared.register.Side.{Side}
-use Rattle.c62_insn.specs.declared.register.Reg.{Reg}
-use Rattle.c62_insn.specs.Takes.{same_reg}
-use Rattle.c62_insn.specs.Register.{register_index}
-use Rattle.c62_insn.specs.Units.{index_of}
-use Rattle.c62_insn.specs.Shape.{data_path_of}
+use Rattle.c62_op.specs.declared.register.Side.{Side}
+use Rattle.c62_op.specs.declared.register.Reg.{Reg}
+use Rattle.c62_op.specs.Takes.{same_reg}
+use Rattle.c62_op.specs.Register.{register_index}
+use Rattle.c62_op.specs.Units.{index_of}
+use Rattle.c62_op.specs.Shape.{data_path_of}
 use Rattle.c62_insn.specs.Insn.{operands_of, operand_reads, register_writes}
 use Rattle.c62_insn.specs.PacketRules.{reads_count, reads_in}
-use Rattle.c62_insn.proofs.Registers.{same_reg-is}
+use Rattle.c62_op.proofs.Registers.{same_reg-is}
 use Rattle.c62_insn.proofs.InsnLemmas.{writes_delay}
 use Rattle.c62_packet.specs.declared.placed.Placed.{Placed}
 use Rattle.c62_packet.specs.declared.taken.Taken.{Taken}

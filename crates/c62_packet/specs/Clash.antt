@@ -1,10 +1,10 @@
 -- The first packet rule that an instruction breaks together with others, in listing order (docs/MACHINE.md, "Packet rules").
 use Rattle.std.specs.Prelude.{ℕ, ◌+◌, Bool, false, ◌==◌, ◌&&◌, nat_lt, if◌then◌else◌, List, [], ◌∷◌, find, Option, Some, None, option_map, sum_by}
 use Rattle.std.specs.List.{list_any}
-use Rattle.c62_insn.specs.declared.register.Side.{Side}
-use Rattle.c62_insn.specs.declared.register.Reg.{Reg}
-use Rattle.c62_insn.specs.Takes.{same_reg, same_side, same_unit}
-use Rattle.c62_insn.specs.Shape.{crosses_to, data_path_of}
+use Rattle.c62_op.specs.declared.register.Side.{Side}
+use Rattle.c62_op.specs.declared.register.Reg.{Reg}
+use Rattle.c62_op.specs.Takes.{same_reg, same_side, same_unit}
+use Rattle.c62_op.specs.Shape.{crosses_to, data_path_of}
 use Rattle.c62_insn.specs.Insn.{operands_of, operand_reads, register_writes}
 use Rattle.c62_insn.specs.PacketRules.{reads_count, reads_in}
 use Rattle.c62_packet.specs.declared.placed.Placed.{Placed}

@@ -1,9 +1,9 @@
 -- What instructions take that break no packet rule.
 use Rattle.std.specs.Prelude.{◌≡◌, ℕ, ◌+◌, ◌<◌, ◌≤◌, true, List, ◌∷◌, All, sum_by, Some, None}
-use Rattle.c62_insn.specs.declared.register.Side.{Side}
-use Rattle.c62_insn.specs.declared.register.Reg.{Reg}
-use Rattle.c62_insn.specs.Units.{index_of}
-use Rattle.c62_insn.specs.Shape.{data_path_of}
+use Rattle.c62_op.specs.declared.register.Side.{Side}
+use Rattle.c62_op.specs.declared.register.Reg.{Reg}
+use Rattle.c62_op.specs.Units.{index_of}
+use Rattle.c62_op.specs.Shape.{data_path_of}
 use Rattle.c62_insn.specs.Insn.{operands_of, register_writes}
 use Rattle.c62_insn.specs.PacketRules.{reads_in}
 use Rattle.c62_packet.specs.declared.placed.Placed.{Placed}

@@ -1,8 +1,8 @@
 -- A block of execute packets (docs/LISTING.md, "Packets" and "Length of a block"; SPRU189, "Parallel Operations").
 use Rattle.std.specs.Prelude.{◌≡◌, ℕ, ◌+◌, ◌*◌, ◌≤◌, Bool, List, length, map, All, count_by, Option, Some}
 use Rattle.std.specs.List.Sorted.{IsNonDecreasingBy}
-use Rattle.c62_insn.specs.Units.{index_of}
-use Rattle.c62_insn.specs.Shape.{is_branch}
+use Rattle.c62_op.specs.Units.{index_of}
+use Rattle.c62_op.specs.Shape.{is_branch}
 use Rattle.c62_insn.specs.Insn.{op_of, unit_of}
 use Rattle.c62_insn.specs.PacketRules.{Issue, Issues, KeepsPacketRules}
 use Rattle.c62_insn.specs.Length.{landing_end, length_of}

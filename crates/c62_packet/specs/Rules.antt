@@ -1,9 +1,9 @@
 -- What each packet rule asks of one cycle (docs/MACHINE.md, "Packet rules"; SPRU189, "Resource Constraints"). A rule that
 -- is kept in each cycle is kept by all.
 use Rattle.std.specs.Prelude.{◌≡◌, ◌⊎◌, ℕ, ◌≤◌, sum_by, IsTrue}
-use Rattle.c62_insn.specs.declared.register.Side.{Side}
-use Rattle.c62_insn.specs.declared.register.Reg.{Reg}
-use Rattle.c62_insn.specs.declared.register.Unit.{Unit as FunctionalUnit}
+use Rattle.c62_op.specs.declared.register.Side.{Side}
+use Rattle.c62_op.specs.declared.register.Reg.{Reg}
+use Rattle.c62_op.specs.declared.register.Unit.{Unit as FunctionalUnit}
 use Rattle.c62_insn.specs.PacketRules.{Issue, Issues, IsIssued, UsesCrossPath, UsesDataPath, reads_in, LandsIn, may_land_together, KeepsPacketRules}
 use Rattle.c62_packet.specs.declared.fault.PacketRule.{PacketRule}
 use Rattle.c62_packet.specs.declared.fault.PacketRule.TheVariants.{P1, P2, P3, P4, P5}

@@ -1,12 +1,12 @@
 -- What placed instructions take, where each takes what the others leave.
 use Rattle.std.specs.Prelude.{◌≡◌, ℕ, ◌+◌, ◌-◌, ◌<◌, ◌≤◌, Bool, true, false, ◌==◌, nat_lt, if◌then◌else◌, List, All, count_by, slice_index, Some}
 use Rattle.std.specs.Int.{bit_at}
-use Rattle.c62_insn.specs.declared.register.Side.{Side}
-use Rattle.c62_insn.specs.declared.register.Side.TheVariants.{A, B}
-use Rattle.c62_insn.specs.declared.register.Reg.{Reg}
-use Rattle.c62_insn.specs.Register.{register_index}
-use Rattle.c62_insn.specs.Takes.{same_reg}
-use Rattle.c62_insn.specs.Shape.{data_path_of}
+use Rattle.c62_op.specs.declared.register.Side.{Side}
+use Rattle.c62_op.specs.declared.register.Side.TheVariants.{A, B}
+use Rattle.c62_op.specs.declared.register.Reg.{Reg}
+use Rattle.c62_op.specs.Register.{register_index}
+use Rattle.c62_op.specs.Takes.{same_reg}
+use Rattle.c62_op.specs.Shape.{data_path_of}
 use Rattle.c62_insn.specs.Insn.{operands_of}
 use Rattle.c62_packet.specs.declared.placed.Placed.{Placed}
 use Rattle.c62_packet.specs.Clash.{crosses}

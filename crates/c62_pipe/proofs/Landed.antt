@@ -5,9 +5,9 @@ use Rattle.std.specs.List.{flat_map}
 use Rattle.std.proofs.lemmas.Bool.{cases_eq, cases_order, cond-true, cond-false, eq-eqb, ne_eqb, eqb-true, lt-ltb, le-ltb, and_parts, and_right}
 use Rattle.std.proofs.lemmas.List.{length-set, get_or-set_other, take-append-drop}
 use Rattle.std.proofs.lemmas.Grind.{get_or-set_at, flat_map-append}
-use Rattle.c62_insn.specs.declared.register.Reg.{Reg}
-use Rattle.c62_insn.specs.Units.{index_of as unit_index}
-use Rattle.c62_insn.proofs.UnitOrder.{index_of-below}
+use Rattle.c62_op.specs.declared.register.Reg.{Reg}
+use Rattle.c62_op.specs.Units.{index_of as unit_index}
+use Rattle.c62_op.proofs.UnitOrder.{index_of-below}
 use Rattle.c62_serial.specs.State.{Machine, index_of, word_in, byte_in}
 use Rattle.c62_packet.specs.declared.placed.Placed.{Placed}
 use Rattle.c62_packet.specs.Packed.{listing_position}

@@ -3,8 +3,8 @@ use Rattle.std.proofs.Common.{◌≡◌, ℕ, suc, ◌+◌, ◌*◌, ◌<◌, �
 use Rattle.std.specs.List.{AllPairs}
 use Rattle.std.proofs.lemmas.Bool.{cases_lt}
 use Rattle.std.proofs.lemmas.List.{take-append-drop, get_or-map}
-use Rattle.c62_insn.specs.Units.{index_of as unit_index}
-use Rattle.c62_insn.proofs.UnitOrder.{same_index, index_of-below}
+use Rattle.c62_op.specs.Units.{index_of as unit_index}
+use Rattle.c62_op.proofs.UnitOrder.{same_index, index_of-below}
 use Rattle.c62_insn.specs.PacketRules.{IsIssued}
 use Rattle.c62_packet.specs.declared.placed.Placed.{Placed}
 use Rattle.c62_packet.specs.Packed.{Packed, IsPacketBlock, issue_of, issued, listing_position}

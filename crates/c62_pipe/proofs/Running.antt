@@ -9,13 +9,13 @@ use Rattle.std.proofs.lemmas.List.{length-set, take_more, drop_more, take_all, t
 use Rattle.std.proofs.lemmas.List.Sums.{fold-append}
 use Rattle.std.proofs.lemmas.List.Elements.{All-contains}
 use Rattle.std.proofs.lemmas.Grind.{flat_map-append}
-use Rattle.c62_insn.specs.declared.register.Reg.{Reg}
+use Rattle.c62_op.specs.declared.register.Reg.{Reg}
 use Rattle.c62_insn.specs.declared.effect.Access.{Access as MemoryAccess}
 use Rattle.c62_insn.specs.declared.effect.Target.{Target}
 use Rattle.c62_insn.specs.Insn.{register_writes}
 use Rattle.c62_insn.specs.Length.{greatest_delay, landing_end}
-use Rattle.c62_insn.specs.Units.{index_of as unit_index}
-use Rattle.c62_insn.proofs.UnitOrder.{index_of-below}
+use Rattle.c62_op.specs.Units.{index_of as unit_index}
+use Rattle.c62_op.proofs.UnitOrder.{index_of-below}
 use Rattle.c62_serial.specs.declared.serial.Exit.{Exit}
 use Rattle.c62_serial.specs.declared.serial.Exit.TheVariants.{Next}
 use Rattle.c62_serial.specs.State.{Machine, Contents, IsSound, index_of, word_in, byte_in}

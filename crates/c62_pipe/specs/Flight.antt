@@ -1,6 +1,6 @@
 -- What is in flight between two cycles: writes by the cycle of their landing, and the stores of the packet.
 use Rattle.std.specs.Prelude.{◌≡◌, ℕ, ◌+◌, ◌%◌, ◌≤◌, List, [], ◌∷◌, ◌++◌, length, All, fold, slice_set, slice_index_or, Option, Some, None, IsTrue}
-use Rattle.c62_insn.specs.declared.register.Reg.{Reg}
+use Rattle.c62_op.specs.declared.register.Reg.{Reg}
 use Rattle.c62_insn.specs.declared.action.Action.TheVariants.{Transfer as Transfers}
 use Rattle.c62_insn.specs.declared.action.Transfer.{Transfer}
 use Rattle.c62_insn.specs.declared.effect.Access.{Access as MemoryAccess}

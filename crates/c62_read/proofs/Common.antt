@@ -1,5 +1,5 @@
 -- What several proofs of this crate use of the standard library and of the definitions.
-pub use Rattle.c62_insn.specs.declared.operands.Operands.{Operands}
+pub use Rattle.c62_op.specs.declared.operands.Operands.{Operands}
 pub use Rattle.c62_line.specs.Line.{Says, Does, Jumps, Nothing, with_head, fault_in}
 pub use Rattle.c62_line.specs.declared.fault.Cause.{Cause}
 pub use Rattle.c62_line.specs.declared.fault.Cause.TheVariants.{TextTooLong, UnknownTarget}

@@ -1,9 +1,9 @@
 -- Blocks of serial text.
 use Rattle.std.specs.Prelude.{◌≡◌, ◌≤◌, ℕ, Bool, true, false, not, ◌&&◌, nat_le, List, [], ◌∷◌, length, map, Option, Some, None, is_some}
 use Rattle.std.specs.List.{list_all, slice_get}
-use Rattle.c62_insn.specs.declared.operands.Op.{Op}
-use Rattle.c62_insn.specs.declared.operands.Operands.{Operands}
-use Rattle.c62_insn.specs.declared.operands.Operands.TheVariants.{Block as BlockNumber}
+use Rattle.c62_op.specs.declared.operands.Op.{Op}
+use Rattle.c62_op.specs.declared.operands.Operands.{Operands}
+use Rattle.c62_op.specs.declared.operands.Operands.TheVariants.{Block as BlockNumber}
 use Rattle.c62_insn.specs.Insn.{op_of, operands_of}
 use Rattle.c62_read.specs.declared.limits.TheConstants.{MOST_INSTRUCTIONS, MOST_BLOCKS}
 use Rattle.c62_read.specs.declared.block.SerialInsn.{SerialInsn}

@@ -5,7 +5,7 @@ use Rattle.std.specs.List.{IsDistinct, flat_map, list_all}
 use Rattle.std.specs.Option.{option_to_list}
 use Rattle.std.specs.Str.{bytes_eq}
 use Rattle.std.specs.List.Sorted.{IsStrictlyIncreasing}
-use Rattle.c62_insn.specs.declared.operands.Operands.TheVariants.{Block}
+use Rattle.c62_op.specs.declared.operands.Operands.TheVariants.{Block}
 use Rattle.c62_read.specs.Text.{lines_of}
 use Rattle.c62_line.specs.Laws.{IsReadable, IsRecased, target_in}
 use Rattle.c62_line.specs.Line.{Parts, Says, Does, Jumps, is_branch, line_of, label_field}

@@ -7,10 +7,10 @@ use Rattle.std.proofs.lemmas.Bool.{cases_lt, false≢true}
 use Rattle.std.proofs.lemmas.Bool.Decides.{nat_tests}
 use Rattle.std.proofs.lemmas.List.{length-set, get_or-set_same, get_or-set_other}
 use Rattle.std.proofs.lemmas.Grind.{same_number_lists}
-use Rattle.c62_insn.specs.declared.register.Reg.{Reg}
+use Rattle.c62_op.specs.declared.register.Reg.{Reg}
 use Rattle.c62_insn.specs.declared.effect.Access.{Access as MemoryAccess}
-use Rattle.c62_insn.specs.Takes.{same_reg}
-use Rattle.c62_insn.proofs.Registers.{same_reg-is, same_reg-refl}
+use Rattle.c62_op.specs.Takes.{same_reg}
+use Rattle.c62_op.proofs.Registers.{same_reg-is, same_reg-refl}
 use Rattle.c62_read.specs.declared.block.SerialInsn.{SerialInsn}
 use Rattle.c62_serial.specs.declared.serial.Exit.TheVariants.{Next}
 use Rattle.c62_serial.specs.State.{Machine, IsSound, index_of}

@@ -3,13 +3,14 @@
 use Rattle.std.specs.Prelude.{ℕ, Bool, false, not, List, [], ◌++◌, map, Option, Some, None, is_some, option_map, if◌then◌else◌}
 use Rattle.std.specs.List.{zip}
 use Rattle.std.specs.Option.{option_to_list}
-use Rattle.c62_insn.specs.declared.register.Reg.{Reg}
-use Rattle.c62_insn.specs.declared.operands.Op.{Op}
+use Rattle.c62_op.specs.declared.register.Reg.{Reg}
+use Rattle.c62_op.specs.declared.operands.Op.{Op}
 use Rattle.c62_insn.specs.declared.effect.Access.{Access as MemoryAccess}
 use Rattle.c62_insn.specs.declared.effect.Target.{Target}
 use Rattle.c62_insn.specs.declared.insn.Insn.{Insn}
 use Rattle.c62_insn.specs.Insn.{op_of, operands_of, cond_of, operand_reads, register_writes}
-use Rattle.c62_insn.specs.Effect.{runs_of, values_of, access_of, target_of, loaded_of}
+use Rattle.c62_op.specs.Meaning.{loaded_of}
+use Rattle.c62_insn.specs.Effect.{runs_of, values_of, access_of, target_of}
 use Rattle.c62_serial.specs.Memory.{is_good, read}
 
 -- the writes as pairs of register and delay with a value each, the access and the branch

@@ -2,9 +2,9 @@
 use Rattle.std.specs.Prelude.{◌≡◌, ◌≢◌, ◌⊎◌, ◌↔◌, ℕ, ◌+◌, ◌-◌, ◌*◌, ◌/◌, ◌%◌, ◌^◌, ◌<◌, ◌≤◌, nat_lt, nat_le, true, false, ◌&&◌, List, [], ◌∷◌, ◌++◌, length, slice_index, Contains, Option, Some, None, unwrap_or, if◌then◌else◌, IsTrue}
 use Rattle.std.specs.Option.{option_or}
 use Rattle.std.specs.List.Sorted.{IsStrictlyIncreasing}
-use Rattle.c62_insn.specs.declared.register.Reg.{Reg}
+use Rattle.c62_op.specs.declared.register.Reg.{Reg}
 use Rattle.c62_insn.specs.declared.effect.Access.{Access as MemoryAccess}
-use Rattle.c62_insn.specs.Takes.{same_reg}
+use Rattle.c62_op.specs.Takes.{same_reg}
 use Rattle.c62_read.specs.declared.block.SerialInsn.{SerialInsn}
 use Rattle.c62_read.specs.Block.{Serial}
 use Rattle.c62_serial.specs.declared.state.TheConstants.{MEMORY_BYTES}

@@ -2,8 +2,8 @@
 use Rattle.std.specs.Prelude.{ℕ, List, ◌++◌, Option, Some, None, fold, slice_set}
 use Rattle.std.specs.List.{zip}
 use Rattle.std.specs.Option.{option_to_list}
-use Rattle.c62_insn.specs.declared.register.Reg.{Reg}
-use Rattle.c62_insn.specs.declared.operands.Op.{Op}
+use Rattle.c62_op.specs.declared.register.Reg.{Reg}
+use Rattle.c62_op.specs.declared.operands.Op.{Op}
 use Rattle.c62_insn.specs.declared.action.Action.{Action}
 use Rattle.c62_insn.specs.declared.action.Action.TheVariants.{Transfer as Transfers}
 use Rattle.c62_insn.specs.declared.action.Transfer.{Transfer}

@@ -1,9 +1,9 @@
 -- What the machine holds (docs/MACHINE.md, "Register files and units" and "Memory").
 use Rattle.std.specs.Prelude.{◌≡◌, ℕ, ◌+◌, List, [], length, slice_index, slice_set, All, Option, Some, None}
 use Rattle.std.specs.List.Sorted.{IsStrictlyIncreasing}
-use Rattle.c62_insn.specs.declared.register.Reg.{Reg}
+use Rattle.c62_op.specs.declared.register.Reg.{Reg}
 use Rattle.c62_serial.specs.declared.state.TheConstants.{MEMORY_BYTES}
-pub use Rattle.c62_insn.specs.Register.{first_of, register_index as index_of}
+pub use Rattle.c62_op.specs.Register.{first_of, register_index as index_of}
 
 -- the words of A0 to A15 and B0 to B15, the bytes of memory, and the lines whose accesses faulted
 pub record Machine : Type 0 where

@@ -7,7 +7,7 @@ use Rattle.c62_sheet.proofs.Common.{and_cases, sum_by-set, data_path_of, HasFour
 use Rattle.c62_sheet.proofs.Common.{same_side-refl, same_unit-is}
 use Rattle.std.specs.List.{list_all}
 use Rattle.c62_insn.specs.Insn.{operand_reads, operands_of}
-use Rattle.c62_insn.specs.Takes.{same_reg}
+use Rattle.c62_op.specs.Takes.{same_reg}
 
 -- an issued instruction uses a resource
 abbrev pub Uses : Resource → Issue → Type 0

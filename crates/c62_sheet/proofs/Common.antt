@@ -7,19 +7,19 @@ pub use Rattle.c62_depend.specs.Plan.{IsPlan, IsShort, insns_of}
 pub use Rattle.c62_depend.specs.Side.{side, stands_on}
 pub use Rattle.c62_depend.specs.declared.links.Link.{Link}
 pub use Rattle.c62_insn.proofs.Parts.{part-keeps, part-without}
-pub use Rattle.c62_insn.proofs.Registers.{same_reg-is, same_side-is, same_side-refl, same_unit-is, same_unit-refl}
-pub use Rattle.c62_insn.proofs.UnitOrder.{index_of-below, index_of-listed, same_index}
+pub use Rattle.c62_op.proofs.Registers.{same_reg-is, same_side-is, same_side-refl, same_unit-is, same_unit-refl}
+pub use Rattle.c62_op.proofs.UnitOrder.{index_of-below, index_of-listed, same_index}
 pub use Rattle.c62_insn.specs.Dependence.{Bounds, Depends, IsGreatestBound, IsLatency, WriteAfterWrite}
 pub use Rattle.c62_insn.specs.PacketRules.{AtMostOne, HasFourReads, HasOneLanding, IsIssued, Issue, Issues, KeepsPacketRules, LandsIn, UsesCrossPath}
 pub use Rattle.c62_insn.specs.PacketRules.{UsesDataPath, issued, reads_count, reads_in}
-pub use Rattle.c62_insn.specs.Shape.{data_path_of, is_branch}
-pub use Rattle.c62_insn.specs.Units.{all_units, index_of}
+pub use Rattle.c62_op.specs.Shape.{data_path_of, is_branch}
+pub use Rattle.c62_op.specs.Units.{all_units, index_of}
 pub use Rattle.c62_insn.specs.declared.insn.Insn.{Insn}
-pub use Rattle.c62_insn.specs.declared.register.Letter.TheVariants.{L}
-pub use Rattle.c62_insn.specs.declared.register.Reg.{Reg}
-pub use Rattle.c62_insn.specs.declared.register.Side.{Side}
-pub use Rattle.c62_insn.specs.declared.register.Side.TheVariants.{A, B}
-pub use Rattle.c62_insn.specs.declared.register.Unit.{Unit as FunctionalUnit}
+pub use Rattle.c62_op.specs.declared.register.Letter.TheVariants.{L}
+pub use Rattle.c62_op.specs.declared.register.Reg.{Reg}
+pub use Rattle.c62_op.specs.declared.register.Side.{Side}
+pub use Rattle.c62_op.specs.declared.register.Side.TheVariants.{A, B}
+pub use Rattle.c62_op.specs.declared.register.Unit.{Unit as FunctionalUnit}
 pub use Rattle.c62_sheet.specs.Check.{Breaks, IsFirst, IsOpen, IsRefused, IsTold, LacksSome, LandsTogether, Meets, turn_of}
 pub use Rattle.c62_sheet.specs.Counts.{HasCount, IsPlacedOn, set_length}
 pub use Rattle.c62_sheet.specs.Index.{AreHigher, AreLower, IsIndex, is_missing, lacking, times}

@@ -1,8 +1,8 @@
 -- Why a placement is refused: the ten rules in the order in which they are asked (docs/SCHEDULING.md, "Why a spot is
 -- refused").
 use Rattle.std.specs.Prelude.{◌≡◌, ◌≢◌, ℕ, ◌*◌, ◌<◌, ◌≤◌, false, List, length, Some, None, sum_by, slice_get, IsSome, Result, MatchResult}
-use Rattle.c62_insn.specs.declared.register.Side.{Side}
-use Rattle.c62_insn.specs.declared.register.Reg.{Reg}
+use Rattle.c62_op.specs.declared.register.Side.{Side}
+use Rattle.c62_op.specs.declared.register.Reg.{Reg}
 use Rattle.c62_insn.specs.declared.insn.Insn.{Insn}
 use Rattle.c62_insn.specs.PacketRules.{Issue, IsIssued, UsesCrossPath, UsesDataPath, LandsIn, reads_in, may_land_together}
 use Rattle.c62_insn.specs.Dependence.{Depends}

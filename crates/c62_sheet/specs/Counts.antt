@@ -1,7 +1,7 @@
 -- How many instructions are placed and ready, and how long what is placed takes.
 use Rattle.std.specs.Prelude.{◌≡◌, ◌⊎◌, ℕ, zero, suc, ◌+◌, List, length, IsSome}
-use Rattle.c62_insn.specs.declared.register.Side.{Side}
-use Rattle.c62_insn.specs.declared.register.Side.TheVariants.{A, B}
+use Rattle.c62_op.specs.declared.register.Side.{Side}
+use Rattle.c62_op.specs.declared.register.Side.TheVariants.{A, B}
 use Rattle.c62_insn.specs.declared.insn.Insn.{Insn}
 use Rattle.c62_insn.specs.PacketRules.{issued}
 use Rattle.c62_insn.specs.Length.{length_of}

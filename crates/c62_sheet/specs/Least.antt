@@ -1,9 +1,9 @@
 -- What may be placed next, and where (docs/SCHEDULING.md, "Ready and early" and "Least spot").
 use Rattle.std.specs.Prelude.{◌≡◌, ℕ, ◌<◌, ◌≤◌, ◌⊎◌, ℤ, pos, ◌≤ℤ◌, ◌+ℤ◌, List, length, Option, None, MatchOption, IsSome, IsTrue}
-use Rattle.c62_insn.specs.declared.register.Side.{Side}
-use Rattle.c62_insn.specs.declared.register.Unit.{Unit as FunctionalUnit}
+use Rattle.c62_op.specs.declared.register.Side.{Side}
+use Rattle.c62_op.specs.declared.register.Unit.{Unit as FunctionalUnit}
 use Rattle.c62_insn.specs.declared.insn.Insn.{Insn}
-use Rattle.c62_insn.specs.Units.{index_of}
+use Rattle.c62_op.specs.Units.{index_of}
 use Rattle.c62_insn.specs.PacketRules.{KeepsPacketRules}
 use Rattle.c62_insn.specs.Dependence.{Bounds, Depends}
 use Rattle.c62_depend.specs.Height.{height}

@@ -1,12 +1,12 @@
 -- What the placed instructions of a block use in a cycle.
 use Rattle.std.specs.Prelude.{◌≡◌, ℕ, ◌+◌, ◌<◌, ◌≤◌, Bool, false, ◌&&◌, ◌==◌, nat_le, List, Option, Some, None, slice_get, sum_by, IsTrue, MatchOption, if◌then◌else◌}
 use Rattle.std.specs.List.{list_all}
-use Rattle.c62_insn.specs.declared.register.Side.{Side}
-use Rattle.c62_insn.specs.declared.register.Reg.{Reg}
-use Rattle.c62_insn.specs.declared.register.Unit.{Unit as FunctionalUnit}
+use Rattle.c62_op.specs.declared.register.Side.{Side}
+use Rattle.c62_op.specs.declared.register.Reg.{Reg}
+use Rattle.c62_op.specs.declared.register.Unit.{Unit as FunctionalUnit}
 use Rattle.c62_insn.specs.declared.insn.Insn.{Insn}
-use Rattle.c62_insn.specs.Takes.{same_side, same_unit}
-use Rattle.c62_insn.specs.Shape.{crosses_to, data_path_of}
+use Rattle.c62_op.specs.Takes.{same_side, same_unit}
+use Rattle.c62_op.specs.Shape.{crosses_to, data_path_of}
 use Rattle.c62_insn.specs.Insn.{operands_of, operand_reads}
 use Rattle.c62_insn.specs.PacketRules.{Issues, reads_count, reads_in}
 use Rattle.c62_depend.specs.Side.{stands_on}

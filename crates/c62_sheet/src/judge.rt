@@ -3,8 +3,8 @@
 ghost use Rattle.std.specs.Prelude.{◌≡◌, ◌↔◌, ℕ, ◌<◌, ◌≤◌, ◌∷◌, length, None, IfSome, IsTrue, take};
 ghost use Rattle.c62_insn.specs.PacketRules.{KeepsPacketRules};
 ghost use Rattle.c62_depend.specs.Plan.{insns_of};
-ghost use Rattle.c62_insn.specs.declared.register.Unit.{Unit as FunctionalUnit};
-ghost use Rattle.c62_insn.specs.Units.{unit_in};
+ghost use Rattle.c62_op.specs.declared.register.Unit.{Unit as FunctionalUnit};
+ghost use Rattle.c62_insn.specs.UnitSet.{unit_in};
 ghost use Rattle.c62_depend.specs.Height.{height};
 ghost use Rattle.c62_depend.specs.Side.{stands_on};
 ghost use Rattle.c62_sheet.specs.Lawful.{spot_at, withdrawn, issues, IsLawful};

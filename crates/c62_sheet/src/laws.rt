@@ -2,7 +2,7 @@
 //! the definitions that the contracts of a [`Sheet`](crate::Sheet) cite.
 
 ghost use Rattle.std.specs.Prelude.{List};
-ghost use Rattle.c62_insn.specs.declared.register.Side.{Side};
+ghost use Rattle.c62_op.specs.declared.register.Side.{Side};
 ghost use Rattle.c62_insn.specs.declared.insn.Insn.{Insn};
 ghost use Rattle.std.specs.Prelude.{ℕ};
 ghost use Rattle.c62_sheet.specs.Lawful.{Spots};

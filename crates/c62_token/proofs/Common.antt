@@ -1,8 +1,8 @@
 -- What several proofs of this crate use of the standard library and of the definitions.
 pub use Rattle.c62_insn.specs.Spelling.{register_name, file_letter}
-pub use Rattle.c62_insn.specs.declared.register.Reg.{Reg}
-pub use Rattle.c62_insn.specs.declared.register.Side.{Side}
-pub use Rattle.c62_insn.specs.declared.register.Side.TheVariants.{A, B}
+pub use Rattle.c62_op.specs.declared.register.Reg.{Reg}
+pub use Rattle.c62_op.specs.declared.register.Side.{Side}
+pub use Rattle.c62_op.specs.declared.register.Side.TheVariants.{A, B}
 pub use Rattle.c62_token.specs.Kind.{Word, kinds_of}
 pub use Rattle.c62_token.specs.Number.{spells}
 pub use Rattle.c62_token.specs.Token.{tokens, begins, is_word_byte, is_allowed, is_blank, is_double, joins, is_solid, grow, is_sign, words_left}

@@ -1,6 +1,6 @@
 -- The registers that numbers name.
 use Rattle.c62_token.proofs.Common.{◌≡◌, Bool, true, false, Some, refl, ap, ltb, lt-ltb, Reg}
-use Rattle.c62_insn.proofs.Registers.{same_reg-is, same_reg-refl}
+use Rattle.c62_op.proofs.Registers.{same_reg-is, same_reg-refl}
 use Rattle.c62_token.specs.Number.{numbered, numbered_if}
 
 numbered_if-known : (reg : Reg) (b : Bool) (e : ltb reg.number 16 ≡ b) → b ≡ true → numbered_if reg.side reg.number b e ≡ Some reg

@@ -9,8 +9,8 @@ use Rattle.std.specs.List.{starts_with}
 use Rattle.std.proofs.lemmas.Bool.{agree_below_at}
 use Rattle.std.proofs.lemmas.Fmt.{decimal_nonempty, digits_decimal, digits_value-decimal, first_decimal, length-decimal-le}
 use Rattle.std.proofs.lemmas.Str.Parse.{IsNumeralModel, numerals_by_value}
-use Rattle.c62_insn.specs.Takes.{same_side}
-use Rattle.c62_insn.proofs.Registers.{same_reg-is}
+use Rattle.c62_op.specs.Takes.{same_side}
+use Rattle.c62_op.proofs.Registers.{same_reg-is}
 use Rattle.c62_token.specs.declared.kind.Kind.TheVariants.{Register}
 use Rattle.c62_token.specs.Number.{decimal_of, file_of, magnitude_of, negative, number_of, numbered, register_of, signed_of}
 use Rattle.c62_token.specs.Kind.{kind_of, mark_of, single_mark}

@@ -1,6 +1,6 @@
 -- What the tokens of a line are: marks, registers, numbers and names (docs/SERIAL_TEXT.md, "Tokens").
 use Rattle.std.specs.Prelude.{◌≡◌, ◌<◌, length, ℕ, ℤ, Bool, true, false, ◌==◌, ◌&&◌, List, [], ◌∷◌, map, Option, Some, None, if◌then◌else◌}
-use Rattle.c62_insn.specs.declared.register.Reg.{Reg}
+use Rattle.c62_op.specs.declared.register.Reg.{Reg}
 use Rattle.c62_token.specs.declared.kind.Kind.{Kind}
 use Rattle.c62_token.specs.declared.kind.Kind.TheVariants.{Comma, Star, Open, Close, Not, Plus, Minus, Increment, Decrement, Register, Number, Name}
 use Rattle.std.specs.Borrow.{Bor}

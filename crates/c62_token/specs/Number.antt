@@ -6,9 +6,9 @@ use Rattle.std.specs.Char.{digit_value, to_ascii_lowercase, is_ascii_digit}
 use Rattle.std.specs.Str.{bytes_eq}
 use Rattle.std.specs.Str.Parse.{digits_value}
 use Rattle.std.proofs.lemmas.Bool.{ltb-true}
-use Rattle.c62_insn.specs.declared.register.Side.{Side}
-use Rattle.c62_insn.specs.declared.register.Side.TheVariants.{A, B}
-use Rattle.c62_insn.specs.declared.register.Reg.{Reg}
+use Rattle.c62_op.specs.declared.register.Side.{Side}
+use Rattle.c62_op.specs.declared.register.Side.TheVariants.{A, B}
+use Rattle.c62_op.specs.declared.register.Reg.{Reg}
 use Rattle.c62_token.specs.Token.{begins, is_word_byte}
 
 -- the word is this name, in either case

@@ -1,7 +1,7 @@
 //! Laws of tokens.
 
 ghost use Rattle.std.specs.Prelude.{◌≡◌, ◌∷◌, ◌++◌, ℕ, ℤ, List};
-ghost use Rattle.c62_insn.specs.declared.register.Reg.{Reg as Register};
+ghost use Rattle.c62_op.specs.declared.register.Reg.{Reg as Register};
 ghost use Rattle.c62_token.specs.Token.{begins, tokens};
 ghost use Rattle.c62_token.specs.Laws.{TokensAreTheBytes, HasLongestTokens, NumberReadsBack, RegisterReadsBack};
 

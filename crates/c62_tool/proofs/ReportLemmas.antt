@@ -5,7 +5,7 @@ use Rattle.std.proofs.lemmas.List.{append-nil}
 use Rattle.std.proofs.lemmas.Option.{same_Some}
 use Rattle.c62_serial.specs.State.{Machine, byte_in}
 use Rattle.c62_serial.specs.Memory.{bytes_from, is_good, number_of, read}
-use Rattle.c62_insn.specs.declared.register.Side.{Side}
+use Rattle.c62_op.specs.declared.register.Side.{Side}
 use Rattle.c62_tool.specs.Report.{file_lines, hex, hex_digit, register_line, word_line, word_lines}
 
 -- the last of the numbers from a on

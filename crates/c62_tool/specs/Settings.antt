@@ -1,7 +1,7 @@
 -- The settings of the command line (docs/REPORT.md, "Settings").
 use Rattle.std.specs.Prelude.{◌≡◌, ℕ, ◌+◌, ◌%◌, ℤ, pos, int_le, unsigned_abs, ◌==◌, ◌&&◌, nat_eq, List, [], ◌∷◌, ◌++◌, length, take, drop, Option, Some, None, is_some, option_map, option_and_then, IsTrue, if◌then◌else◌}
 use Rattle.std.specs.List.{position, starts_with}
-use Rattle.c62_insn.specs.Word.{word}
+use Rattle.c62_op.specs.Word.{word}
 use Rattle.c62_token.specs.Number.{number_of, register_of}
 use Rattle.c62_tool.specs.declared.setting.Setting.{Setting}
 use Rattle.c62_tool.specs.declared.setting.Setting.TheVariants.{Register, Word}

@@ -1,7 +1,7 @@
 -- Steps of both sides in turn (docs/SCHEDULING.md, "Turns").
 use Rattle.std.specs.Prelude.{ℕ, List, [], ◌++◌}
-use Rattle.c62_insn.specs.declared.register.Side.{Side}
-use Rattle.c62_insn.specs.declared.register.Side.TheVariants.{A, B}
+use Rattle.c62_op.specs.declared.register.Side.{Side}
+use Rattle.c62_op.specs.declared.register.Side.TheVariants.{A, B}
 use Rattle.c62_insn.specs.declared.insn.Insn.{Insn}
 use Rattle.c62_depend.specs.Plan.{insns_of}
 use Rattle.c62_sheet.specs.declared.entry.Entry.{Entry}

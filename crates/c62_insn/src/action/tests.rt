@@ -3,8 +3,7 @@
 use crate::action::{Action, Transfer};
 use crate::effect::{Access, Target};
 use crate::insn::Insn;
-use crate::operands::{AddressForm, Offset, Op, Operands};
-use crate::register::{Cond, Reg, Side};
+use c62_op::{AddressForm, Cond, Offset, Op, Operands, Reg, Side};
 use std::process::Abort;
 use std::test::Fail;
 

@@ -3,8 +3,7 @@
 use super::{A1, A2, A3, A4, B1, B2, B4, THREE, access, effect, field};
 use crate::fault::FormFault;
 use crate::insn::Insn;
-use crate::operands::{AddressForm, Offset, Op, Operands};
-use crate::register::{Letter, Reg, Side, Unit};
+use c62_op::{AddressForm, Letter, Offset, Op, Operands, Reg, Side, Unit};
 use std::process::Abort;
 use std::test::Fail;
 

@@ -1,7 +1,7 @@
 use Rattle.std.proofs.Common.{ap, sym, ◌∙◌, take, get_or, refl}
 use Rattle.std.proofs.lemmas.List.{take_more}
-use Rattle.c62_insn.specs.declared.register.Letter.TheVariants.{L}
-use Rattle.c62_insn.specs.declared.register.Side.TheVariants.{A as OnA}
+use Rattle.c62_op.specs.declared.register.Letter.TheVariants.{L}
+use Rattle.c62_op.specs.declared.register.Side.TheVariants.{A as OnA}
 use Rattle.c62_depend.specs.Plan.{insns_of}
 use Rattle.c62_sheet.specs.Lawful.{Placements}
 use Rattle.c62_sheet.specs.Journal.{Permits}

@@ -1,5 +1,5 @@
-use Rattle.c62_insn.specs.declared.register.Side.{Side}
-use Rattle.c62_insn.specs.declared.register.Side.TheVariants.{A, B}
+use Rattle.c62_op.specs.declared.register.Side.{Side}
+use Rattle.c62_op.specs.declared.register.Side.TheVariants.{A, B}
 use Rattle.c62_depend.specs.Plan.{insns_of}
 use Rattle.c62_sheet.specs.Least.{HasNoPick}
 use Rattle.c62_sheet.proofs.Picks.{some_ready}

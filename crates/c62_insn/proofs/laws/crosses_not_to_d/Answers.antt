@@ -1,8 +1,8 @@
-use Rattle.std.proofs.Common.{◌∙◌, ap}
-use Rattle.c62_insn.specs.declared.register.Letter.{Letter}
-use Rattle.c62_insn.specs.declared.register.Letter.TheVariants.{D}
-use Rattle.c62_insn.specs.Takes.{same_letter}
-use Rattle.c62_insn.proofs.FormLemmas.{uncrossed_on_d}
+use Rattle.std.proofs.Common.{ap}
+use Rattle.c62_op.specs.declared.register.Letter.{Letter}
+use Rattle.c62_op.specs.declared.register.Letter.TheVariants.{D}
+use Rattle.c62_op.specs.Takes.{same_letter}
+use Rattle.c62_op.proofs.FormLemmas.{uncrossed_on_d}
 use Rattle.c62_insn.proofs.laws.crosses_not_to_d.Goals as goal
 
 pub returns : goal.returns

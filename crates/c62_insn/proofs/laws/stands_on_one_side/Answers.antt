@@ -1,4 +1,4 @@
-use Rattle.c62_insn.proofs.SideLemmas.{takes_on_side}
+use Rattle.c62_op.proofs.SideLemmas.{takes_on_side}
 use Rattle.c62_insn.proofs.laws.stands_on_one_side.Goals as goal
 
 pub returns : goal.returns

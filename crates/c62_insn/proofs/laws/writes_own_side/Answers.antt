@@ -1,4 +1,4 @@
-use Rattle.c62_insn.proofs.KindLemmas.{writes-own}
+use Rattle.c62_op.proofs.KindLemmas.{writes-own}
 use Rattle.c62_insn.proofs.laws.writes_own_side.Goals as goal
 
 pub returns : goal.returns

@@ -1,6 +1,6 @@
 use Rattle.std.proofs.Common.{sym, ◌∙◌}
 use Rattle.std.proofs.lemmas.Bool.{false≢true}
-use Rattle.c62_insn.specs.declared.register.Side.TheVariants.{A, B}
+use Rattle.c62_op.specs.declared.register.Side.TheVariants.{A, B}
 use Rattle.c62_work.specs.Turns.{GoesOn}
 use Rattle.c62_work.proofs.Steps.{taken_none, taken_more, taken_last, both_less}
 use Rattle.c62_work.proofs.alternating.turns.Goals as goal

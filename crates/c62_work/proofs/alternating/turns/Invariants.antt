@@ -1,4 +1,4 @@
-use Rattle.c62_insn.specs.declared.register.Side.TheVariants.{A}
+use Rattle.c62_op.specs.declared.register.Side.TheVariants.{A}
 use Rattle.c62_work.proofs.Ranks.{rank}
 use Rattle.c62_work.proofs.Steps.{HasTaken}
 use Rattle.c62_work.proofs.alternating.turns.Given as goal

@@ -1,7 +1,7 @@
 use Rattle.std.proofs.Common.{◌≡◌, true, sym, ◌∙◌, ap, subst, [], ◌∷◌}
 use Rattle.c62_insn.specs.declared.action.Action.TheVariants.{Write, Transfer as Transfers}
 use Rattle.c62_insn.specs.Insn.{op_of}
-use Rattle.c62_insn.specs.Shape.{delay_of}
+use Rattle.c62_op.specs.Shape.{delay_of}
 use Rattle.c62_serial.specs.State.{word_in}
 use Rattle.c62_serial.specs.Effect.{Act, runs, is_fault}
 use Rattle.c62_serial.specs.Faults.{with_fault_if}

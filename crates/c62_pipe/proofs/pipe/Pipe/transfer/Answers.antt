@@ -1,11 +1,11 @@
 use Rattle.std.proofs.Common.{◌≡◌, ℕ, ◌+◌, ◌<◌, List, [], ◌++◌, length, Option, Some, None, sym, ◌∙◌, ap, subst}
 use Rattle.std.specs.Prelude.{zip}
 use Rattle.std.specs.Option.{option_to_list}
-use Rattle.c62_insn.specs.declared.register.Reg.{Reg}
-use Rattle.c62_insn.specs.declared.operands.Op.{Op}
+use Rattle.c62_op.specs.declared.register.Reg.{Reg}
+use Rattle.c62_op.specs.declared.operands.Op.{Op}
 use Rattle.c62_insn.specs.Action.{base_writes, base_values, load_writes}
 use Rattle.c62_insn.specs.Insn.{op_of}
-use Rattle.c62_insn.specs.Shape.{delay_of}
+use Rattle.c62_op.specs.Shape.{delay_of}
 use Rattle.c62_serial.specs.State.{byte_in}
 use Rattle.c62_serial.specs.Effect.{loaded}
 use Rattle.c62_pipe.specs.Flight.{Slot, Flight, due, with_write, with_writes, FitsSlots}

@@ -1,5 +1,0 @@
-use Rattle.c62_insn.proofs.KindLemmas.{delay-of-kind}
-use Rattle.c62_insn.proofs.laws.has_delay_of_kind.Goals as goal
-
-pub returns : goal.returns
-returns c = delay-of-kind

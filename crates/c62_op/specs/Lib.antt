@@ -1,0 +1,9 @@
+pub mod Register
+pub mod Table
+pub mod Takes
+pub mod Units
+pub mod Shape
+pub mod Source
+pub mod Word
+pub mod Meaning
+pub mod Laws
