@@ -26,11 +26,12 @@ unfolding read_lines
 is_done labels aim number lines drafts above e = rw e refl
 
 -- the answer for a text that is not too long is that of its lines
-pub of_lines : (text : List ℕ) (names : List (Name × ℕ)) (says : Result Drafts Refusal) → length text ≤ 8388608 → names ≡ names_in 0 (contents text)
-    → read_lines (labels_of names) (aim_by names) 1 no_drafts Start (lines_in text) ≡ says → drafts_in text ≡ says
-of_lines text names says short named read =
+pub of_lines : (text : List ℕ) (says : Result Drafts Refusal) → length text ≤ 8388608
+    → read_lines (labels_of (names_in 0 (contents text))) (aim_by (names_in 0 (contents text))) 1 no_drafts Start (lines_in text) ≡ says
+    → drafts_in text ≡ says
+of_lines text says short read =
     let test : nat_lt 8388608 (length text) ≡ false = grind (arith, nat_tests) in
-    rw (test, ← named) read
+    rw test read
 
 pub blocks_refused : (text : List ℕ) (drafts : Drafts) (fault : ListFault) → drafts_in text ≡ Ok drafts → RefusesBlocks (all_drafts drafts) fault
     → Refuses text fault

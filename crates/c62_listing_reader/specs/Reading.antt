@@ -18,16 +18,15 @@ use Rattle.c62_listing_reader.specs.declared.fault.LineFault.{LineFault}
 use Rattle.c62_listing_reader.specs.declared.fault.LineFault.TheVariants.{Read as ReadLine, Shape as ShapeLine, Memory as MemoryLine}
 use Rattle.c62_listing_reader.specs.declared.fault.ListFault.{ListFault}
 use Rattle.c62_listing_reader.specs.declared.fault.ListFault.TheVariants.{Read, Unlawful as UnlawfulBlock, NotDrained as Undrained, TwoBranches as Branches, Shape, Memory}
-use Rattle.c62_listing_reader.specs.Named.{entry_of}
 use Rattle.c62_listing_reader.specs.declared.line.Above.{Above}
 use Rattle.c62_listing_reader.specs.declared.line.Above.TheVariants.{Start}
 use Rattle.c62_listing_reader.specs.declared.text.Cut.{Cut}
 use Rattle.c62_listing_reader.specs.Text.{lines_in, content}
 use Rattle.c62_listing_reader.specs.Cut.{line_cut}
-use Rattle.c62_listing_reader.specs.Said.{Said, part_of, Draft, Drafts, all_drafts, opened, no_drafts, labels_of, aim_by, with_says, with_line, with_said}
+use Rattle.c62_listing_reader.specs.Said.{Said, part_of, Draft, Drafts, all_drafts, opened, no_drafts, names_in, labels_of, aim_by, with_says, with_line, with_said}
 use Rattle.c62_listing_reader.specs.Begin.{is_beside, rest_of}
 use Rattle.c62_listing_reader.specs.Fine.{IsFine}
-use Rattle.c62_listing_reader.specs.Faults.{Refusal, drafts_in, draft_of, line_says, read_lines, rest_says, with_rest, is_unfit, is_odd, unless_odd, IsFaulted, IsFirstFaulty, IsFaulty, cycles_added}
+use Rattle.c62_listing_reader.specs.Faults.{Refusal, contents, drafts_in, draft_of, line_says, read_lines, rest_says, with_rest, is_unfit, is_odd, unless_odd, IsFaulted, IsFirstFaulty, IsFaulty, cycles_added}
 
 abbrev pub draft_open : OpenBlock → Draft
 draft_open block = record { label = block.label; cycles = block.cycles; placed = map part_of block.placed.items }
@@ -39,7 +38,7 @@ abbrev pub said_by : Front → Reading → Said
 said_by front reading = record { front = front; label = reading.label; says = said_of reading.what }
 
 abbrev pub entries_of : Names → List (Name × ℕ)
-entries_of names = map entry_of names.all.items
+entries_of names = names_in 0 (contents names.text.now)
 
 abbrev pub read_as : Result Reading ReadFault → Result (Option Name × Says) Cause
 read_as (Ok reading) = Ok (reading.label, said_of reading.what)
@@ -49,9 +48,9 @@ read_as (Err fault) = Err fault.cause
 abbrev pub Fails : LineFault → Result Said LineFault → Type 0
 Fails fault says = (fault ≡ MemoryLine) ⊎ (says ≡ Err fault)
 
--- the blocks that the lines of a text say, where labels stand for these numbers, or the first faulty line with its fault
-abbrev pub lines_read : Names → List ℕ → Result Drafts Refusal
-lines_read names text = read_lines (labels_of (entries_of names)) (aim_by (entries_of names)) 1 no_drafts Start (lines_in text)
+-- the blocks that the lines of a text say, or the first faulty line with its fault
+abbrev pub lines_read : Names → Result Drafts Refusal
+lines_read names = read_lines (labels_of (entries_of names)) (aim_by (entries_of names)) 1 no_drafts Start (lines_in names.text.now)
 
 -- the open block has what a line says too
 abbrev pub AddsSays : Names → Bool → ℕ → Says → OpenBlock → OpenBlock → Type 0
@@ -73,11 +72,11 @@ RefusesLines says Memory = Unit {0}
 RefusesLines says _ = ⊥
 
 -- the blocks that the lines of a text say, each fine and no more than there may be, or its first faulty line
-abbrev pub ReadsBlocks : Names → List ℕ → Result Blocks ListFault → Type 0
-ReadsBlocks names text read = MatchResult read
-    (λ blocks. (lines_read names text ≡ Ok (drafts_of blocks)) × All IsFine (all_drafts (drafts_of blocks))
+abbrev pub ReadsBlocks : Names → Result Blocks ListFault → Type 0
+ReadsBlocks names read = MatchResult read
+    (λ blocks. (lines_read names ≡ Ok (drafts_of blocks)) × All IsFine (all_drafts (drafts_of blocks))
     × (length (all_drafts (drafts_of blocks)) ≤ MOST_BLOCKS))
-    (λ fault. RefusesLines (lines_read names text) fault)
+    (λ fault. RefusesLines (lines_read names) fault)
 
 -- the answer is right wherever the line of this number has this fault, or memory ran out
 abbrev pub TellsOfLine : ℕ → LineFault → ListFault → Type 0

@@ -8,21 +8,20 @@ ghost use Rattle.c62_packet.specs.Packed.{IsPacketBlock};
 ghost use Rattle.c62_packet.specs.Packets.{is_closed};
 ghost use Rattle.c62_listing_reader.specs.declared.fault.ListFault.TheVariants.{Memory as NoMemory};
 ghost use Rattle.c62_listing_reader.specs.Begin.{rest_of, is_beside};
-ghost use Rattle.c62_listing_reader.specs.Named.{entry_of};
-ghost use Rattle.c62_listing_reader.specs.Said.{Draft, names_in, aimed_parts, aim_by, above_of, above_next, all_drafts};
-ghost use Rattle.c62_listing_reader.specs.Faults.{contents, draft_of, IsFirstFaulty, IsRead, cycles_added};
+ghost use Rattle.c62_listing_reader.specs.Said.{Draft, aimed_parts, above_of, above_next, all_drafts};
+ghost use Rattle.c62_listing_reader.specs.Faults.{draft_of, IsFirstFaulty, IsRead, cycles_added};
 ghost use Rattle.c62_listing_reader.specs.Fine.{IsFine};
-ghost use Rattle.c62_listing_reader.specs.Reading.{draft_open, drafts_of, said_by, read_as, entries_of, HasUnit, Fits, ReadsBlocks, PacksBlocks, AddsSays, AddsLine, AddsSaid, RefusesLines, TellsOfLine, IsBlockOf, RefusesBlocks, Refuses};
+ghost use Rattle.c62_listing_reader.specs.Reading.{draft_open, drafts_of, said_by, read_as, HasUnit, Fits, ReadsBlocks, PacksBlocks, AddsSays, AddsLine, AddsSaid, RefusesLines, TellsOfLine, IsBlockOf, RefusesBlocks, Refuses};
 
 use crate::draft::{Blocks, OpenBlock};
 use crate::fault::{LineFault, ListFault};
 use crate::judge::{is_beside, is_gap, judge};
 use crate::line::{Above, Front, beginning, rest};
-use crate::names::{Named, Names};
+use crate::names::Names;
 use crate::text::{content, first_line};
 use c62_insn::{Insn, Operands};
 use c62_packet::{BlockFault, PacketBlock, Packets};
-use c62_read::{Cause, ReadFault, Reading, What, label_field, read_insn};
+use c62_read::{Cause, ReadFault, Reading, What, read_insn};
 use std::alloc::{AllocError, Global};
 
 /// The longest listing, in bytes.
@@ -30,36 +29,6 @@ pub const MOST_BYTES: usize = 8_388_608;
 
 /// Room for the longest spelling of a line, in bytes.
 const LONGEST_LINE: usize = 64;
-
-/// The labels of all lines of a text.
-fn all_names<'a>(alloc: Global, text: &'a [u8]) -> Result<Vec<Named<'a>>, AllocError>
-    requires { length text.now ≤ MOST_BYTES }
-    ensures { IfOk result (λ names. map entry_of names.items ≡ names_in 0 (contents text.now)) }
-{
-    let mut names = Vec::new(alloc);
-    let mut rest = text;
-    let mut number = 0;
-    while let Some(cut) = first_line(rest) {
-        let line = content(&cut);
-        if let Some(label) = label_field(line) {
-            names.push(Named { label, number })?;
-        }
-        number += u32::from(line.is_empty());
-        rest = cut.rest;
-    }
-    Ok(names)
-}
-
-/// The number of the block that a label stands for.
-#[tactic(auto, using(crate::proofs::NameLemmas::aimed_by))]
-fn number_of(names: &Names<'_>, label: &[u8]) -> u8
-    ensures { result ≡ aim_by (entries_of names.now) label.now }
-{
-    match names.number(label) {
-        Some(number) => number.min(255) as u8,
-        None => 0,
-    }
-}
 
 /// A branch to a label goes to the block of this number.
 fn aimed(insn: Insn, number: u8) -> Insn
@@ -119,7 +88,7 @@ impl OpenBlock {
             }
             What::Insn(insn) => self.add_insn(beside, *insn, line),
             What::Jump(insn, target) => {
-                let number = number_of(names, target.as_bytes());
+                let number = names.number(target.as_bytes());
                 self.add_insn(beside, aimed(*insn, number), line)
             }
         }
@@ -183,16 +152,16 @@ fn fault_of_line(line: u32, fault: LineFault) -> ListFault
     }
 }
 
-/// The blocks that the lines say.
-fn read_blocks(alloc: Global, names: &Names<'_>, text: &[u8]) -> Result<Blocks, ListFault>
-    requires { length text.now ≤ MOST_BYTES }
-    ensures { ReadsBlocks names.now text.now result }
+/// The blocks that the lines of a text say.
+fn read_blocks(alloc: Global, names: &Names<'_>) -> Result<Blocks, ListFault>
+    requires { length names.now.text.now ≤ MOST_BYTES }
+    ensures { ReadsBlocks names.now result }
 {
     let mut spelling = String::with_capacity(alloc, LONGEST_LINE)?;
     let mut blocks = Blocks::new(alloc);
     let mut above = Above::Start;
     let mut number = 1;
-    let mut rest = text;
+    let mut rest = names.text;
     while let Some(cut) = first_line(rest) {
         let front = beginning(content(&cut));
         let read = read_rest(front, content(&cut));
@@ -275,8 +244,8 @@ pub fn read_listing(alloc: Global, text: &[u8]) -> Result<Packets, ListFault>
             cause: Cause::TextTooLong,
         }));
     }
-    let names = Names::new(alloc, all_names(alloc, text)?)?;
-    let mut blocks = read_blocks(alloc, &names, text)?;
+    let names = Names::new(alloc, text)?;
+    let mut blocks = read_blocks(alloc, &names)?;
     blocks.end_block()?;
     packets_of(alloc, blocks.done)
 }

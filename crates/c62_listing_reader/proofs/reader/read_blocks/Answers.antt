@@ -17,7 +17,7 @@ returns-in-Err c =
     let aim = aim_by names in
     let lines = lines_in c.loop-cut.rest.now in
     let drafts = drafts_of c.loop-cut.blocks in
-    c.fault_of_line.ensures (read_lines labels aim 1 no_drafts Start (lines_in c.args.text.now)) (elim c.in-Err.ensures.judged [
+    c.fault_of_line.ensures (read_lines labels aim 1 no_drafts Start (lines_in c.args.names.now.text.now)) (elim c.in-Err.ensures.judged [
       | inl memory ↦ inl memory
       | inr says ↦ inr (sym c.loop-cut.invariant.lines
           ∙ stops labels aim c.loop-cut.number (line_cut c.in-Some.cut)
