@@ -1,4 +1,4 @@
--- What SPRU189 says of all instructions, as laws above the definitions.
+-- Laws of all instructions, above the definitions, as the named sections of SPRU189 word them; one with no section is how MACHINE.md words it.
 use Rattle.std.specs.Prelude.{◌≡◌, ◌≢◌, ◌⊎◌, ℕ, ◌^◌, ◌<◌, ◌≤◌, ℤ, ◌*ℤ◌, neg_ℤ, false, [], ◌∷◌, map, All, Some, None, IsTrue}
 use Rattle.std.specs.List.Sorted.{IsStrictlyIncreasing}
 use Rattle.c62_op.specs.declared.register.Side.{Side}

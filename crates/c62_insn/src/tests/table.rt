@@ -372,22 +372,44 @@ fn results_of_all_operations(rt: HostRuntime) -> Result<(), Fail> {
         assert_eq!(rt; done.values.as_slice(), [want].as_slice(), "{op:?}");
     }
     let compared = [
-        (Op::Cmpeq, [0, 0, 1]),
-        (Op::Cmpgt, [1, 0, 0]),
-        (Op::Cmplt, [0, 1, 0]),
-        (Op::Cmpgtu, [0, 1, 0]),
-        (Op::Cmpltu, [1, 0, 0]),
+        (Op::Cmpeq, [0, 0, 1, 0, 0]),
+        (Op::Cmpgt, [1, 0, 0, 0, 0]),
+        (Op::Cmplt, [0, 1, 0, 1, 1]),
+        (Op::Cmpgtu, [0, 1, 0, 0, 0]),
+        (Op::Cmpltu, [1, 0, 0, 1, 1]),
     ];
     for (op, wants) in compared {
         let words = [
             [1, 0x8000_0000],
             [0x8000_0000, 1],
             [0x8000_0000, 0x8000_0000],
+            [1, 2],
+            [0x1_0000, 0x2_0000],
         ];
         for (pair, want) in words.into_iter().zip(wants) {
             let done = effect(&rt, op, THREE, &pair)?;
             assert_eq!(rt; done.values.as_slice(), [want].as_slice(), "{op:?}");
         }
+    }
+    Ok(())
+}
+
+/// Amounts of 32 and more, of which the six low bits count, and fields that are no byte or half.
+#[test]
+fn shifts_and_fields(rt: HostRuntime) -> Result<(), Fail> {
+    let rows = [
+        (Op::Shl, THREE, [0x8000_0001, 64].as_slice(), 0x8000_0001),
+        (Op::Shr, THREE, &[0x8000_0000, 64], 0x8000_0000),
+        (Op::Shru, THREE, &[0x8000_0000, 64], 0x8000_0000),
+        (Op::Shl, THREE, &[0x8000_0001, 33], 0),
+        (Op::Shr, THREE, &[0x8000_0001, 33], 0xffff_ffff),
+        (Op::Shru, THREE, &[0x8000_0001, 33], 0),
+        (Op::Ext, field(A1, 16, 24, A2), &[0x1234_9678], 0xffff_ff96),
+        (Op::Extu, field(A1, 16, 24, A2), &[0x1234_9678], 0x96),
+    ];
+    for (op, operands, reads, want) in rows {
+        let done = effect(&rt, op, operands, reads)?;
+        assert_eq!(rt; done.values.as_slice(), [want].as_slice(), "{op:?}");
     }
     Ok(())
 }
