@@ -6,7 +6,6 @@ ghost use Rattle.c62_insn.specs.Dependence.{are_exclusive, are_disjoint};
 ghost use Rattle.c62_depend.specs.Uses.{insns_in};
 
 use crate::uses::Uses;
-use c62_insn::Insn;
 
 /// Whether of two writers of one register at most one can run.
 pub(crate) fn are_exclusive(uses: &[Uses], i: usize, j: usize) -> bool
@@ -18,20 +17,6 @@ pub(crate) fn are_exclusive(uses: &[Uses], i: usize, j: usize) -> bool
 /// Whether two accesses never meet.
 pub(crate) fn are_disjoint(uses: &[Uses], i: usize, j: usize) -> bool
     ensures { result ≡ are_disjoint (insns_in uses.now) i j }
-{
-    false
-}
-
-/// [`are_exclusive`], of a block of instructions alone.
-pub(crate) fn are_exclusive_in(block: &[Insn], i: usize, j: usize) -> bool
-    ensures { result ≡ are_exclusive block.now i j }
-{
-    false
-}
-
-/// [`are_disjoint`], of a block of instructions alone.
-pub(crate) fn are_disjoint_in(block: &[Insn], i: usize, j: usize) -> bool
-    ensures { result ≡ are_disjoint block.now i j }
 {
     false
 }

@@ -2,15 +2,13 @@
 //!
 //! A bound is counted here as one number: 6 more than its cycles, which are -5 or more, and 0 where there is none.
 
-ghost use Rattle.std.specs.Prelude.{◌≡◌, ◌<◌, ◌≤◌, ◌≤ℤ◌, ◌+◌, max, length, slice_index_or, pos, negsuc, IfSome};
+ghost use Rattle.std.specs.Prelude.{◌≡◌, ◌<◌, ◌≤◌, ◌+◌, max, length, slice_index_or};
 ghost use Rattle.c62_depend.specs.Latency.{latency_of, latency};
-ghost use Rattle.c62_insn.specs.Dependence.{IsLatency};
 ghost use Rattle.c62_depend.specs.Uses.{insns_in};
 ghost use Rattle.c62_depend.specs.Numbers.{as_bound, number_if, number_awaited, number_spared, number_after_result, number_after_at_once, number_overwritten, number_after_store, number_after_load, number_before_branch, number_of_registers, number_of_order};
 
-use crate::excuse::{are_disjoint, are_disjoint_in, are_exclusive, are_exclusive_in};
+use crate::excuse::{are_disjoint, are_exclusive};
 use crate::uses::Uses;
-use c62_insn::Insn;
 
 /// The bound that a number stands for, if any.
 #[inline(always)]
@@ -220,22 +218,4 @@ pub(crate) fn latency(uses: &[Uses], i: usize, j: usize) -> Option<i32>
     ensures latency { result ≡ latency (insns_in uses.now) i j }
 {
     as_bound(latency_number(uses, &uses[i], i, j))
-}
-
-/// By how much the cycle of instruction `j` of a block must at least exceed that of instruction `i`, which stands before
-/// it: the greatest bound of the cases of dependence that apply (`docs/MACHINE.md`, "Dependences"), and `None` where none
-/// does. A [`Plan`](crate::Plan) has the latencies of its block at hand; this call is for a block without one.
-pub fn latency_in(block: &[Insn], i: usize, j: usize) -> Option<i32>
-    requires before { i < j }
-    requires within { j < length block.now }
-    ensures greatest { IsLatency block.now i j result }
-    ensures latency { result ≡ latency block.now i j }
-    ensures small { IfSome result (λ latency. (negsuc 4 ≤ℤ latency) × (latency ≤ℤ pos 5)) }
-{
-    as_bound(number_between(
-        are_exclusive_in(block, i, j),
-        are_disjoint_in(block, i, j),
-        &Uses::new(block[i]),
-        &Uses::new(block[j]),
-    ))
 }

@@ -14,7 +14,6 @@ mod side;
 mod tables;
 mod uses;
 
-pub use latency::latency_in;
 pub use limits::ISSUE_CYCLES;
 pub use links::Link;
 pub use plan::Plan;

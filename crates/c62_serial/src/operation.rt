@@ -11,8 +11,7 @@ use crate::state::State;
 use arrayvec::ArrayVec;
 use c62_insn::{Inputs, Insn, Reg};
 
-/// The words of at most three registers. It goes by cases, since a loop here costs a run a third more
-/// machine instructions.
+/// The words of at most three registers.
 fn words(registers: &[Reg], state: &State) -> ArrayVec<u32, 3>
     requires { length registers.now ≤ 3 }
     ensures { result.items ≡ map (word_in state.now.machine) registers.now }
