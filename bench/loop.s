@@ -1,5 +1,5 @@
 ; Mixing of a ring of complex samples with itself, a step later, and the greatest real part so far.
-; One block of 17 instructions, over and over; bench/serial counts what an instruction costs.
+; One block of 17 instructions, over and over; bench/runs counts what an instruction costs.
 ;
 ; Takes:  A1 = turns; A4, B4 = where in the ring to begin; A10, B10 = mask of the ring's addresses;
 ;         A8, B8 = where the last product goes

@@ -1,7 +1,7 @@
 -- What several proofs of this crate use of the standard library and of the definitions.
 pub use Rattle.c62_op.specs.Takes.{has_kind}
 pub use Rattle.c62_insn.specs.Insn.{op_of}
-pub use Rattle.c62_op.specs.Shape.{crosses_to}
+pub use Rattle.c62_op.specs.Shape.{crosses_to, is_branch}
 pub use Rattle.c62_op.specs.Table.{mnemonic_of}
 pub use Rattle.c62_insn.specs.Spelling.{register_name, file_letter, operands_spelling}
 pub use Rattle.c62_insn.specs.declared.insn.Insn.{Insn}
@@ -15,7 +15,7 @@ pub use Rattle.c62_op.specs.declared.register.Letter.TheVariants.{L}
 pub use Rattle.c62_op.specs.declared.register.Reg.{Reg}
 pub use Rattle.c62_op.specs.declared.register.Side.{Side}
 pub use Rattle.c62_op.specs.declared.register.Side.TheVariants.{A, B}
-pub use Rattle.c62_line.specs.Line.{Says, Does, Jumps, Nothing, Pause, is_star, has_colon, is_bars, target_of, and_read, is_branch, or_fault}
+pub use Rattle.c62_line.specs.Line.{Says, Does, Jumps, Nothing, Pause, is_star, has_colon, is_bars, target_of, and_read, or_fault}
 pub use Rattle.c62_line.specs.Line.{parts_read, unit_behind, without_colon, cycles_of, is_storing, jumps_or_does, with_head}
 pub use Rattle.c62_line.specs.Mnemonic.{exchanged, constant_to_front}
 pub use Rattle.c62_line.specs.Unit.{is_dot}

@@ -17,7 +17,7 @@ use Rattle.c62_insn.specs.declared.fault.FormFault.{FormFault}
 use Rattle.c62_insn.specs.declared.fault.FormFault.TheVariants.{NoUnit, BadSide}
 use Rattle.c62_insn.specs.Fault.{form_fault}
 use Rattle.c62_insn.specs.Insn.{op_of, operands_of as written_operands, cond_of, unit_of}
-use Rattle.c62_op.specs.Shape.{crosses_to, data_path_of, is_store}
+use Rattle.c62_op.specs.Shape.{crosses_to, data_path_of, is_branch, is_store}
 use Rattle.c62_op.specs.Takes.{same_side}
 use Rattle.c62_line.specs.declared.fault.Cause.{Cause}
 use Rattle.c62_line.specs.declared.fault.Cause.TheVariants.{NotAscii, LineTooLong, BadLabel, UnknownMnemonic, BadUnit, BadOperand, Form, ParallelBar}
@@ -153,10 +153,6 @@ abbrev pub unit_behind : Mnemonic → List Word → Option (Option WrittenUnit �
 unit_behind mnemonic words = option_and_then (if_fitting mnemonic) (unit_front words)
 
 -- ---- the operands
-
-abbrev pub is_branch : Op → Bool
-is_branch Branch = true
-is_branch _ = false
 
 -- a label alone, where the mnemonic is a branch
 abbrev pub label_alone : List Word → Option Word

@@ -1,4 +1,4 @@
--- What the tokens behind a mnemonic and its unit say as operands (docs/SERIAL_TEXT.md, "Operands").
+-- What the tokens behind a mnemonic and its unit say as operands (docs/SERIAL_TEXT.md, "Operands and address forms").
 use Rattle.std.specs.Prelude.{◌≡◌, ℕ, pos, Bool, true, false, List, [], ◌∷◌, Option, Some, None}
 use Rattle.std.specs.Borrow.{Bor}
 use Rattle.c62_op.specs.declared.register.Reg.{Reg}

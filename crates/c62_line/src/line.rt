@@ -7,7 +7,8 @@ ghost use Rattle.c62_token.specs.Number.{is_label};
 ghost use Rattle.c62_token.specs.Kind.{kinds_of, first_is_open};
 ghost use Rattle.c62_line.specs.Mnemonic.{with_kind};
 ghost use Rattle.c62_line.specs.Operand.{Finds, operands_of};
-ghost use Rattle.c62_line.specs.Line.{said, names_label, is_branch, label_alone, target_of, is_storing, letter_written, standing, does, jumps, pause_of, fits_behind, unit_behind, behind_unit, mnemonic_front, instruction_of, condition_front, rest_says, label_front, without_colon, has_colon, is_bars, is_star, head_of, line_of, said_of, label_field, IsHead};
+ghost use Rattle.c62_op.specs.Shape.{is_branch};
+ghost use Rattle.c62_line.specs.Line.{said, names_label, label_alone, target_of, is_storing, letter_written, standing, does, jumps, pause_of, fits_behind, unit_behind, behind_unit, mnemonic_front, instruction_of, condition_front, rest_says, label_front, without_colon, has_colon, is_bars, is_star, head_of, line_of, said_of, label_field, IsHead};
 ghost use Rattle.c62_line.specs.Unit.{is_dot};
 
 use crate::fault::{Cause, ReadFault};

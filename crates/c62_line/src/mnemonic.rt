@@ -12,7 +12,7 @@ use c62_insn::Op::{
     Extu, Ldb, Ldbu, Ldh, Ldhu, Ldw, Mpy, Mpyh, Mpyhl, Mpyhu, Mpylh, Mpysu, Mpyu, Mpyus, Mvk,
     Mvklh, Or, Shl, Shr, Shru, Stb, Sth, Stw, Sub, Sub2, Xor,
 };
-use c62_insn::{Letter, Op, Operands, Reg};
+use c62_insn::{Letter, Op, Operands, Reg, word_of};
 use c62_token::number::spells;
 
 /// What may stand first in an instruction.
@@ -135,13 +135,6 @@ fn exchanged(op: Op) -> Option<Op>
         Mpysu => Some(Mpyus),
         _ => None,
     }
-}
-
-/// A constant modulo 2^32.
-fn word_of(k: i64) -> u32
-    ensures { result ≡ word k }
-{
-    k.rem_euclid(1 << 32) as u32
 }
 
 /// The lower half of a constant's word.

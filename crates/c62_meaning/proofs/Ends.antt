@@ -6,7 +6,6 @@ use Rattle.std.proofs.lemmas.Int.{ints}
 use Rattle.std.proofs.lemmas.Bool.{cases_Bool, cases_eq, cases_lt, cond-true, cond-false}
 use Rattle.c62_op.specs.declared.register.Reg.{Reg}
 use Rattle.c62_op.specs.declared.operands.Op.{Op}
-use Rattle.c62_op.specs.declared.operands.Op.TheVariants.{B as Branch}
 use Rattle.c62_op.specs.declared.operands.Operands.{Operands}
 use Rattle.c62_insn.specs.declared.effect.Target.{Target}
 use Rattle.c62_insn.specs.declared.insn.Insn.{Insn}
@@ -16,7 +15,6 @@ use Rattle.c62_insn.specs.PacketRules.{Issue}
 use Rattle.c62_insn.specs.Dependence.{BeforeBranch}
 use Rattle.c62_insn.specs.Length.{greatest_delay, landing_end, last_landing_end}
 use Rattle.c62_insn.proofs.InsnLemmas.{writes_delay, writes_delay_of}
-use Rattle.c62_line.specs.Line.{is_branch as is_branching}
 use Rattle.c62_serial.specs.declared.serial.Exit.{Exit}
 use Rattle.c62_serial.specs.declared.serial.Exit.TheVariants.{Next}
 use Rattle.c62_serial.specs.State.{word_in, byte_in}
@@ -66,7 +64,7 @@ serial_none b (suc i) h = ap (λ o. exit_after (ran_at b i).exit o) (h i (omega 
 
 -- a branch is the last instruction
 abbrev pub BranchLast : Numbered → Type 0
-BranchLast b = (i : ℕ) → i < b.count → is_branching (op_of (b.entry i).insn) ≡ true → i + 1 ≡ b.count
+BranchLast b = (i : ℕ) → i < b.count → is_branch (op_of (b.entry i).insn) ≡ true → i + 1 ≡ b.count
 
 -- each did what it does serially
 abbrev pub AllAgree : Numbered → Did → Type 0
@@ -140,10 +138,6 @@ same_writes : (one other : Insn) → IsSameInsn one other → register_writes on
 same_writes one other h =
     ap (λ (op : Op). writes_of op (operands_of one)) h.op ∙ ap (λ (operands : Operands). writes_of (op_of other) operands) h.operands
 
-branching : (op : Op) → is_branch op ≡ true → is_branching op ≡ true
-branching Branch h = refl
-branching _ h = cc
-
 pub over : (block : List Placed) (b : Numbered) → IsBlock block b → AllStand b → KeepsBounds b → BranchLast b → IsOver b (cycles_of block)
 over block b is stand keep last = go (find_branch block)
   where
@@ -165,7 +159,7 @@ over block b is stand keep last = go (find_branch block)
         = keep.keeps j i (pos (delay_of (op_of (b.entry j).insn)) -ℤ pos 5) lt l (BeforeBranch t refl) in
         omega (arith, ints)
     before i l t j u (inr ge) =
-        let end : i + 1 ≡ b.count = last i l (branching (op_of (b.entry i).insn) t) in
+        let end : i + 1 ≡ b.count = last i l t in
         let same : i ≡ j = omega arith in
         let e : (b.at i).cycle ≡ (b.at j).cycle = ap (λ k. (b.at k).cycle) same in omega arith
 
@@ -177,7 +171,7 @@ over block b is stand keep last = go (find_branch block)
         let d : w.1 ≤ delay_of (op_of (b.entry j).insn) = writes_delay_of (b.entry j).insn w.0 w.1 (Contains_from_In w (register_writes (b.entry j).insn) h) in
         omega (arith, ints)
     landing i l t j w u h (inr ge) =
-        let end : i + 1 ≡ b.count = last i l (branching (op_of (b.entry i).insn) t) in
+        let end : i + 1 ≡ b.count = last i l t in
         let same : i ≡ j = omega arith in
         let e : (b.at i).cycle ≡ (b.at j).cycle = ap (λ k. (b.at k).cycle) same in
         let d : w.1 ≤ 4 = writes_delay (b.entry j).insn w.0 w.1 (Contains_from_In w (register_writes (b.entry j).insn) h) in

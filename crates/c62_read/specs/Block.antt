@@ -7,7 +7,7 @@ use Rattle.c62_op.specs.declared.operands.Operands.TheVariants.{Block as BlockNu
 use Rattle.c62_insn.specs.Insn.{op_of, operands_of}
 use Rattle.c62_read.specs.declared.limits.TheConstants.{MOST_INSTRUCTIONS, MOST_BLOCKS}
 use Rattle.c62_read.specs.declared.block.SerialInsn.{SerialInsn}
-use Rattle.c62_line.specs.Line.{is_branch}
+use Rattle.c62_op.specs.Shape.{is_branch}
 
 -- a block's label, and its instructions with their lines
 pub record Serial : Type 0 where

@@ -8,7 +8,8 @@ use Rattle.std.specs.List.Sorted.{IsStrictlyIncreasing}
 use Rattle.c62_op.specs.declared.operands.Operands.TheVariants.{Block}
 use Rattle.c62_read.specs.Text.{lines_of}
 use Rattle.c62_line.specs.Laws.{IsReadable, IsRecased, target_in}
-use Rattle.c62_line.specs.Line.{Parts, Says, Does, Jumps, is_branch, line_of, label_field}
+use Rattle.c62_op.specs.Shape.{is_branch}
+use Rattle.c62_line.specs.Line.{Parts, Says, Does, Jumps, line_of, label_field}
 use Rattle.c62_line.specs.declared.fault.Cause.{Cause}
 use Rattle.c62_read.specs.Block.{branch_last}
 use Rattle.c62_read.specs.Program.{BlockParts, Item, Name, Numbered, Runs, items_from, label_is, label_items, labels_of, most_bytes, program_in}

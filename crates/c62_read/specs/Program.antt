@@ -13,7 +13,8 @@ use Rattle.c62_line.specs.declared.fault.ReadFault.{ReadFault}
 use Rattle.c62_read.specs.declared.block.SerialInsn.{SerialInsn}
 use Rattle.c62_read.specs.Block.{Serial}
 use Rattle.c62_read.specs.Text.{lines_of}
-use Rattle.c62_line.specs.Line.{Parts, parts_of, Says, Nothing, Pause, Does, Jumps, is_branch, head_of, line_of, label_field, fault_in}
+use Rattle.c62_op.specs.Shape.{is_branch}
+use Rattle.c62_line.specs.Line.{Parts, parts_of, Says, Nothing, Pause, Does, Jumps, head_of, line_of, label_field, fault_in}
 
 abbrev pub Name : Type 0
 Name = List ℕ

@@ -10,7 +10,8 @@ use Rattle.c62_read.specs.declared.program.BlockReader.{BlockReader}
 use Rattle.c62_read.specs.declared.program.TextReader.{TextReader}
 use Rattle.c62_line.specs.declared.reading.Statement.{Statement}
 use Rattle.c62_read.specs.Text.{lines_of}
-use Rattle.c62_line.specs.Line.{Says, is_branch, parts_of, statement_of}
+use Rattle.c62_op.specs.Shape.{is_branch}
+use Rattle.c62_line.specs.Line.{Says, parts_of, statement_of}
 use Rattle.c62_read.specs.Walk.{Asked, Drafts, Step, add_line, add_lines, add_says, all_drafts, asked_in, asked_of, closed, draft_of, drafts_of}
 use Rattle.c62_read.specs.Walk.{missed, no_drafts, opened, own_labels, refused, unless_hindered, with_insn}
 use Rattle.c62_read.specs.Program.{BlockParts, Draft, Name, Refusal, aimed, block_in, labels_of}

@@ -13,7 +13,8 @@ use Rattle.c62_read.specs.declared.jump.Jump.{Jump}
 use Rattle.c62_read.specs.declared.program.BlockReader.{BlockReader}
 use Rattle.c62_read.specs.declared.program.TextReader.{TextReader}
 use Rattle.c62_read.specs.Block.{branch_last}
-use Rattle.c62_line.specs.Line.{Parts, Says, Nothing, Pause, Does, Jumps, is_branch, head_of, rest_says}
+use Rattle.c62_op.specs.Shape.{is_branch}
+use Rattle.c62_line.specs.Line.{Parts, Says, Nothing, Pause, Does, Jumps, head_of, rest_says}
 use Rattle.c62_read.specs.Program.{Name, Draft, Refusal, and_then, is_among, label_is, numbered_of}
 
 -- the blocks that are whole, and the one that the next instruction goes into

@@ -34,7 +34,8 @@ pub(crate) struct TextReader {
     pub current: Option<BlockReader>,
 }
 
-ghost use Rattle.c62_line.specs.Line.{statement_of, names_label, parts_of, is_branch, label_field};
+ghost use Rattle.c62_op.specs.Shape.{is_branch};
+ghost use Rattle.c62_line.specs.Line.{statement_of, names_label, parts_of, label_field};
 ghost use Rattle.c62_read.specs.Program.{label_is, is_among, labels_of, Fails, target_number, aimed, numbered_of, block_parts, block_in, program_in};
 ghost use Rattle.c62_read.specs.Walk.{draft_of, drafts_of, new_draft, all_drafts, own_labels, with_label, opened, with_insn, closed, with_says, is_taken, is_full, is_instruction, begins_block, hindrance, refused, unless_hindered, add_says, add_line, add_lines, no_drafts, is_whole, number_among, asked_in, asked_of, missed, first_line, unless_missed, failed};
 ghost use Rattle.c62_read.specs.Reading.{line_step, said_step, LeadsTo, KeepsJump, KeepsJumpOf, SaysAtLine, LeavesOut, still_missed, text_read, IsFirstLine, with_read, with_next, all_closed, one_open, aimed_block, aimed_blocks};

@@ -17,7 +17,7 @@ use Rattle.c62_insn.specs.Effect.{target_of}
 use Rattle.c62_insn.proofs.InsnLemmas.{has_unit}
 use Rattle.c62_op.specs.declared.register.Reg.{Reg}
 use Rattle.c62_read.specs.declared.block.SerialInsn.{SerialInsn}
-use Rattle.c62_line.specs.Line.{is_branch}
+use Rattle.c62_op.specs.Shape.{is_branch}
 use Rattle.c62_read.specs.Block.{is_block, branch_last, operations}
 use Rattle.c62_serial.specs.declared.serial.Exit.TheVariants.{Next}
 use Rattle.c62_serial.specs.State.{Machine, word_in, byte_in}
