@@ -79,7 +79,7 @@ impl Block {
         &self.insns
     }
 
-    /// An equal block.
+    /// An equal block. `AllocError` where memory ran out.
     pub fn copy(&self, alloc: Global) -> Result<Block, AllocError>
         ensures { IfOk result (λ block. block ≡ self.now) }
     {
