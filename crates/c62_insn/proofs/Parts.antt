@@ -7,9 +7,10 @@ use Rattle.std.proofs.lemmas.List.Edits.{swap_is}
 use Rattle.std.proofs.lemmas.List.Sums.{sum_by-set, sum_by-cons}
 use Rattle.std.proofs.lemmas.List.Sorted.{IsPermutation-keeps, IsPermutation-map}
 use Rattle.std.proofs.lemmas.Option.{none-some}
-use Rattle.std.proofs.lemmas.Bool.{cases_lt, cases_eq, eq-eqb, ne_eqb}
+use Rattle.std.proofs.lemmas.Bool.{cases_lt, cases_eq, eq-eqb, ne_eqb, both_ways}
 use Rattle.c62_insn.specs.PacketRules.{Issue, Issues, IsIssued, issued, AtMostOne, reads_in, may_land_together, UsesCrossPath, UsesDataPath, KeepsPacketRules}
 use Rattle.c62_insn.specs.Part.{IsPart}
+use Rattle.c62_insn.proofs.Excuses.{never_together}
 
 -- ---- how parts are made
 
@@ -127,7 +128,8 @@ part-sum f none (Some p ∷ issues) others part =
 -- two that may land together among the others may do so in a part
 pub part-excused : (issues others : Issues) (part : IsPart issues others) (i j : ℕ) (p q : Issue) → IsIssued issues i p → IsIssued issues j q
     → IsTrue (may_land_together others (part.number i) (part.number j)) → IsTrue (may_land_together issues i j)
-part-excused issues others part i j p q h k may = may
+part-excused issues others part i j p q h k may =
+    absurd (both_ways _ (never_together others (part.number i) (part.number j)) may)
 
 pub part-keeps : (issues others : Issues) → IsPart issues others → KeepsPacketRules others → KeepsPacketRules issues
 part-keeps issues others part keeps = record {

@@ -1,7 +1,8 @@
 -- The packet rules and a block's length don't ask which unit is written in an instruction.
-use Rattle.std.proofs.Common.{arith, ◌≡◌, ℕ, zero, suc, ◌+◌, ◌≤◌, List, [], ◌∷◌, Option, Some, None, refl, sym, ap, ◌∙◌, Bool, true, false, cond, subst, max}
+use Rattle.std.proofs.Common.{arith, ◌≡◌, ℕ, zero, suc, ◌+◌, ◌≤◌, List, [], ◌∷◌, Option, Some, None, refl, sym, ap, ◌∙◌, Bool, true, false, cond, subst, max, inl, inr}
 use Rattle.std.specs.Prelude.{sum_by, count_by, find, IsTrue, if◌then◌else◌, ◌==◌}
 use Rattle.std.specs.Option.{option_map_or}
+use Rattle.std.proofs.lemmas.Bool.{both_ways}
 use Rattle.std.proofs.lemmas.Option.{none-some, same_Some}
 use Rattle.std.proofs.lemmas.List.Sums.{sum_by-cons}
 use Rattle.c62_op.specs.declared.register.Reg.{Reg}
@@ -13,6 +14,7 @@ use Rattle.c62_op.specs.Takes.{same_reg}
 use Rattle.c62_op.specs.Shape.{crosses_to, data_path_of, reads_of, writes_of, is_branch}
 use Rattle.c62_insn.specs.Insn.{op_of, operands_of, register_writes}
 use Rattle.c62_insn.specs.PacketRules.{Issue, Issues, IsIssued, AtMostOne, reads_in, LandsIn, UsesCrossPath, UsesDataPath, KeepsPacketRules}
+use Rattle.c62_insn.proofs.Excuses.{never_together}
 use Rattle.c62_insn.specs.Length.{greatest_delay, landing_end, last_landing_end, length_of}
 
 -- the same issue, whichever unit is written
@@ -110,7 +112,10 @@ rules_same ps qs same rules = record {
   p5 = λ i j p q reg cycle h k lands theirs.
       let a = mirrored ps qs i p same h in
       let b = mirrored ps qs j q same k in
-      rules.p5 i j a.other b.other reg cycle a.issued b.issued (lands_same reg cycle a.other p a.same lands) (lands_same reg cycle b.other q b.same theirs);
+      elim (rules.p5 i j a.other b.other reg cycle a.issued b.issued (lands_same reg cycle a.other p a.same lands) (lands_same reg cycle b.other q b.same theirs)) [
+        | inl same_number ↦ inl same_number
+        | inr may ↦ absurd (both_ways _ (never_together ps i j) may)
+      ];
 }
 
 -- ---- the length

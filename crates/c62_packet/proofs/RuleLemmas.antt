@@ -2,7 +2,7 @@
 use Rattle.std.proofs.Common.{arith, ◌≡◌, ℕ, zero, suc, ◌+◌, ◌<◌, ◌≤◌, List, [], ◌∷◌, length, Option, Some, None, Bool, true, false, refl, sym, ap, ◌∙◌, subst, inl, inr}
 use Rattle.std.specs.Prelude.{◌==◌, ◌&&◌, nat_lt, sum_by, count_by, Contains, All}
 use Rattle.std.specs.List.{list_any}
-use Rattle.std.proofs.lemmas.Bool.{cases_eq, and_parts, or_parts, false≢true, false_from_ne_true}
+use Rattle.std.proofs.lemmas.Bool.{cases_eq, and_parts, or_parts, both_ways, false≢true, false_from_ne_true}
 use Rattle.std.proofs.lemmas.Bool.Decides.{nat_tests}
 use Rattle.std.proofs.lemmas.List.Sums.{sum_by-cons}
 use Rattle.std.proofs.lemmas.List.Elements.{All-nil, All-cons, All-contains, All-tail}
@@ -14,6 +14,7 @@ use Rattle.c62_op.specs.Takes.{same_reg, same_side, same_unit}
 use Rattle.c62_op.specs.declared.operands.Op.{Op}
 use Rattle.c62_op.specs.Shape.{data_path_of, delay_of}
 use Rattle.c62_insn.specs.Insn.{op_of, operands_of, operand_reads, register_writes}
+use Rattle.c62_insn.proofs.Excuses.{never_together}
 use Rattle.c62_insn.proofs.InsnLemmas.{timely_writes}
 use Rattle.c62_insn.specs.PacketRules.{Issue, IsIssued, UsesCrossPath, UsesDataPath, reads_count, reads_in, LandsIn}
 use Rattle.c62_op.proofs.Registers.{same_reg-is, same_reg-refl, same_side-is, same_side-refl, same_unit-is, same_unit-refl}
@@ -311,13 +312,13 @@ landing-cons c p xs old own = with_first
     with_first (suc i) zero a b reg ai bj la lb = absurd (clash i b a reg bj ai lb la)
     with_first (suc i) (suc j) a b reg ai bj la lb = elim (old i j a b reg ai bj la lb) [
       | inl e ↦ inl (ap suc e)
-      | inr h ↦ absurd (false≢true h)
+      | inr h ↦ absurd (both_ways _ (never_together (issued xs) i j) h)
     ]
 
 pub landing-rest : (c : ℕ) (p : Placed) (xs : List Placed) → HasOneLandingIn c (issued (p ∷ xs)) → HasOneLandingIn c (issued xs)
 landing-rest c p xs all i j a b reg ai bj la lb = elim (all (suc i) (suc j) a b reg ai bj la lb) [
   | inl e ↦ inl (let f : suc i ≡ suc j = e in omega arith)
-  | inr h ↦ absurd (false≢true h)
+  | inr h ↦ absurd (both_ways _ (never_together (issued (p ∷ xs)) (suc i) (suc j)) h)
 ]
 
 pub landing-own : (c : ℕ) (p : Placed) (xs : List Placed) → HasOneLandingIn c (issued (p ∷ xs))
@@ -329,7 +330,7 @@ landing-own c p xs all = each (register_writes p.insn) (λ write is. is)
         let other : LandsIn (issue_of s) write.0 c = subst (λ (x : ℕ). LandsIn (issue_of s) write.0 x) here (lands-is write.0 (p.cycle + write.1) s met) in
         elim (all 0 (suc j) (issue_of p) (issue_of s) write.0 refl at (write.1, is, here) other) [
           | inl e ↦ (let f : 0 ≡ suc j = e in omega arith)
-          | inr h ↦ false≢true h
+          | inr h ↦ both_ways _ (never_together (issued (p ∷ xs)) 0 (suc j)) h
         ])
 
     each : (writes : List (Reg × ℕ)) → ((write : Reg × ℕ) → Contains writes write → Contains (register_writes p.insn) write)

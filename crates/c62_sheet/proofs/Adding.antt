@@ -6,7 +6,9 @@ use Rattle.c62_sheet.proofs.Common.{same_unit-refl, Resource, OnUnit, CrossPath,
 use Rattle.c62_sheet.proofs.Common.{and_cases, sum_by-set, data_path_of, HasFourReads, HasOneLanding, reads_count, same_reg-is, same_side-is}
 use Rattle.c62_sheet.proofs.Common.{same_side-refl, same_unit-is}
 use Rattle.std.specs.List.{list_all}
+use Rattle.std.proofs.lemmas.Bool.{both_ways}
 use Rattle.c62_insn.specs.Insn.{operand_reads, operands_of}
+use Rattle.c62_insn.proofs.Excuses.{never_together}
 use Rattle.c62_op.specs.Takes.{same_reg}
 
 -- an issued instruction uses a resource
@@ -57,11 +59,19 @@ module _ (issues : Issues) (i : ℕ) (p : Issue) (lt : i < length issues) where
   AtMostOne-added Is old alone j k q r at_j at_k same is_q is_r =
       grind (arith, issued-added issues i j p q lt at_j, issued-added issues i k p r lt at_k, alone, old j k q r)
 
+  one-landing : HasOneLanding issues → (j k : ℕ) (q r : Issue) (reg : Reg) (cycle : ℕ) → IsIssued issues j q → IsIssued issues k r → LandsIn q reg cycle
+      → LandsIn r reg cycle → j ≡ k
+  one-landing old j k q r reg cycle at_j at_k lands_q lands_r = elim (old j k q r reg cycle at_j at_k lands_q lands_r) [
+    | inl same ↦ same
+    | inr may ↦ absurd (both_ways _ (never_together issues j k) may)
+  ]
+
   HasOneLanding-added : HasOneLanding issues → LandsAlone issues i p → HasOneLanding (slice_set issues i (Some p))
   HasOneLanding-added old alone j k q r reg cycle at_j at_k lands_q lands_r =
       let first = issued-added issues i j p q lt at_j in
       let second = issued-added issues i k p r lt at_k in
-      grind (arith, first, second, alone k r reg cycle, alone j q reg cycle, old j k q r reg cycle)
+      let same : j ≡ k = grind (arith, first, second, alone k r reg cycle, alone j q reg cycle, one-landing old j k q r reg cycle) in
+      inl same
 
 -- the same of a number that was not issued
 module _ (issues : Issues) (i : ℕ) (p : Issue) (lt : i < length issues) (free : slice_index_or issues i None ≡ None) where
