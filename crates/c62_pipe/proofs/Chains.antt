@@ -10,12 +10,12 @@ use Rattle.c62_serial.specs.declared.chain.End.TheVariants.{End as FellThrough, 
 use Rattle.c62_serial.specs.declared.chain.Chain.{Chain}
 use Rattle.c62_serial.specs.State.{Machine, Contents, IsSound}
 use Rattle.c62_serial.specs.Serial.{Ran}
-use Rattle.c62_serial.specs.Chain.{Standing, Ended, At, Position, position_at, position_after, Leads, IsStopped, IsChain, chain_of, serial_blocks, no_block as no_serial_block, block_of as serial_block_of}
+use Rattle.c62_serial.specs.Chain.{Standing, Ended, At, Position, position_at, position_after, Leads, IsStopped, IsChain, IsDetermined, chain_of, serial_blocks, no_block as no_serial_block, block_of as serial_block_of}
 use Rattle.c62_serial.proofs.MachineLemmas.{sound_run}
 use Rattle.c62_serial.proofs.ChainLemmas.{leads_nowhere, leads_on, at_block, past_end, chain_along}
 use Rattle.c62_packet.specs.Packed.{Packed}
 use Rattle.c62_meaning.specs.Meaning.{IsMeaning}
-use Rattle.c62_meaning.proofs.SerialPackets.{are_serial}
+use Rattle.c62_meaning.proofs.SerialPackets.{are_serial, one_meaning}
 use Rattle.c62_pipe.specs.Chain.{no_block, block_of, packet_blocks, cycles_taken, RunsPackets, LacksRoom, IsBlockPacked, ArePacked, RunsAsProgram}
 
 -- ---- the run of a chain
@@ -119,6 +119,14 @@ packets_lack_room packets all opening number blocks cycles limit block left e h 
       };
       room = rw (← same) full;
     }
+
+-- a block has one meaning, which leaves a sound machine
+pub packets_determined : (packets : List Packed) → IsDetermined (length packets) (packet_blocks packets)
+packets_determined packets = record {
+  one = λ number before ran other below sound first second.
+      one_meaning (block_of packets number).placed (block_of packets number).cycles before ran other first second;
+  sound = λ number before ran below sound does. does.leaves.sound;
+}
 
 -- ---- packets of a program
 

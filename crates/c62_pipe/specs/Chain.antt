@@ -26,10 +26,18 @@ packet_blocks packets number before ran = IsMeaning (block_of packets number).pl
 abbrev pub cycles_taken : List Packed → List ℕ → ℕ
 cycles_taken packets numbers = sum_by (λ number. (block_of packets number).cycles) numbers
 
+abbrev pub IsPacketChain : List Packed → Machine → ℕ → Standing → Type 0
+IsPacketChain packets opening limit standing = IsChain (length packets) (packet_blocks packets) opening limit standing
+
+-- two chains of packet blocks under a limit are one
+abbrev pub HasOneChain : List Packed → Machine → ℕ → Type 0
+HasOneChain packets opening limit =
+    (one other : Standing) → IsPacketChain packets opening limit one → IsPacketChain packets opening limit other → one ≡ other
+
 -- the chain under a limit is this one, takes so many cycles and leaves this machine
 pub record RunsPackets (packets : List Packed) (opening : Machine) (limit : ℕ) (chain : Chain) (cycles : ℕ) (final : Machine) : Type 0 where
   pub standing : Standing
-  pub whole : IsChain (length packets) (packet_blocks packets) opening limit standing
+  pub whole : IsPacketChain packets opening limit standing
   pub told : chain ≡ chain_of standing
   pub taken : cycles ≡ cycles_taken packets standing.numbers
   pub left : final ≡ standing.machine

@@ -2,13 +2,20 @@
 
 ghost use Rattle.std.specs.Prelude.{ℕ, List};
 ghost use Rattle.c62_read.specs.Block.{Serial};
-ghost use Rattle.c62_serial.specs.State.{Machine};
+ghost use Rattle.c62_serial.specs.State.{Machine, IsSound};
 ghost use Rattle.c62_packet.specs.Packed.{Packed};
-ghost use Rattle.c62_pipe.specs.Chain.{RunsAlike};
+ghost use Rattle.c62_pipe.specs.Chain.{RunsAlike, HasOneChain};
 
 /// Packets of a program's blocks, in which every dependence keeps its distance, run as the program
 /// does: the same chain and the same machine, from every machine and under every limit.
 pub fn packets_run_as_their_program()
     ensures { (program : List Serial) (packets : List Packed) (opening : Machine) (limit : ℕ)
         → RunsAlike program packets opening limit }
+{}
+
+/// From a sound machine the packets of some blocks have one chain under a limit: the same blocks,
+/// one after the other, the same machine, and the same end.
+pub fn packets_have_one_chain()
+    ensures { (packets : List Packed) (opening : Machine) (limit : ℕ) → IsSound opening
+        → HasOneChain packets opening limit }
 {}
