@@ -23,7 +23,7 @@ use Rattle.c62_board.specs.State.{BoardState}
 use Rattle.c62_meaning.specs.Laws.{AreSerial}
 use Rattle.c62_pack.specs.Packets.{StandsAt, AreNumbered, ArePackets}
 use Rattle.c62_tool.specs.declared.schedule.Packing.{Packing}
-use Rattle.c62_tool.specs.Schedule.{AreScheduled, IsMade, IsScheduled}
+use Rattle.c62_tool.specs.Schedule.{AddsPackets, AreScheduled, IsMade, IsScheduled}
 
 -- one block more
 pub scheduled_more : (packing : Packing) (blocks : List Serial) (packets : List Packed) (block : Serial) (packed : Packed) → AreScheduled packing blocks packets
@@ -43,6 +43,13 @@ scheduled_one packing block board packed made packets serial keeps = record {
   serial = subst (λ (plan : Serial). AreSerial plan.insns packed.placed) made.plan_is serial;
   keeps = subst (λ (plan : Serial). IsBlockPacked plan packed) made.plan_is keeps;
 }
+
+-- the packets of one block more were appended
+pub scheduled_next : (packing : Packing) (blocks : List Serial) (packets new : List Packed) (block : Serial) (board : BoardState) → AreScheduled packing blocks packets
+    → IsMade packing block board → AddsPackets board.plan board.spots packets new → AreScheduled packing (blocks ++ block ∷ []) new
+scheduled_next packing blocks packets new block board all made pushed =
+    let one = scheduled_one packing block board pushed.0 made pushed.1 pushed.2 pushed.3 in
+    subst (λ (whole : List Packed). AreScheduled packing (blocks ++ block ∷ []) whole) (sym pushed.4) (scheduled_more packing blocks packets block pushed.0 all one)
 
 -- as many blocks as before
 pub as_many : (packing : Packing) (blocks : List Serial) (packets : List Packed) → AreScheduled packing blocks packets → length packets ≡ length blocks

@@ -1,6 +1,6 @@
 //! What answers a text.
 
-ghost use Rattle.std.specs.Prelude.{◌≡◌, IfOk, IsTrue};
+ghost use Rattle.std.specs.Prelude.{◌≡◌, true, false, IfOk, IsTrue};
 ghost use Rattle.c62_listing.specs.Listing.{listing};
 ghost use Rattle.c62_packet.specs.Packets.{is_closed};
 ghost use Rattle.c62_tool.specs.CommandLine.{Listing, SerialReport, PacketReport, ListingReport, ask_of};
@@ -9,7 +9,7 @@ ghost use Rattle.c62_tool.specs.Run.{Gives, GivesProgram, GivesPackets, limit_of
 use crate::command::{Request, Start};
 use crate::failure::Failure;
 use crate::run::{packet_run, serial_run};
-use crate::schedule::{Packing, packets_of_program};
+use crate::schedule::{Packing, packets_by_turns, packets_by_workers};
 use c62_listing::list;
 use c62_listing_reader::read_listing;
 use c62_packet::Packets;
@@ -46,30 +46,57 @@ fn listing_of(alloc: Global, packets: &Packets) -> Result<Vec<u8>, AllocError>
     Ok(list(alloc, packets)?.into_bytes())
 }
 
-/// The listing of what a text says, packed.
-fn pack<H: AllocGlobal + Threads + Wait + Sync>(
+/// The listing of what a text says, packed by turns.
+fn pack_by_turns(alloc: Global, text: &[u8], packing: Packing) -> Result<Vec<u8>, Failure>
+    requires { packing.turns ≡ true }
+    ensures { Gives (Listing packing) text.now result }
+{
+    let program = program_of(alloc, text)?;
+    let packets = packets_by_turns(alloc, program, packing)?;
+    Ok(listing_of(alloc, &packets)?)
+}
+
+/// The report of a run of what a text says, packed by turns.
+fn run_by_turns(
+    alloc: Global,
+    text: &[u8],
+    packing: Packing,
+    start: &Start,
+) -> Result<Vec<u8>, Failure>
+    requires { packing.turns ≡ true }
+    ensures { Gives (PacketReport packing start.now.blocks start.now.settings.items) text.now result }
+{
+    let program = program_of(alloc, text)?;
+    let packets = packets_by_turns(alloc, program, packing)?;
+    Ok(packet_run(alloc, &packets, start)?)
+}
+
+/// The listing of what a text says, packed by workers.
+fn pack_by_workers<H: AllocGlobal + Threads + Wait + Sync>(
     rt: &H,
     text: &[u8],
     packing: Packing,
 ) -> Result<Vec<u8>, Failure>
+    requires { packing.turns ≡ false }
     ensures { Gives (Listing packing) text.now result }
 {
     let program = program_of(rt.alloc(), text)?;
-    let packets = packets_of_program(rt, program, packing)?;
+    let packets = packets_by_workers(rt, program, packing)?;
     Ok(listing_of(rt.alloc(), &packets)?)
 }
 
-/// The report of a run of what a text says, packed.
-fn run<H: AllocGlobal + Threads + Wait + Sync>(
+/// The report of a run of what a text says, packed by workers.
+fn run_by_workers<H: AllocGlobal + Threads + Wait + Sync>(
     rt: &H,
     text: &[u8],
     packing: Packing,
     start: &Start,
 ) -> Result<Vec<u8>, Failure>
+    requires { packing.turns ≡ false }
     ensures { Gives (PacketReport packing start.now.blocks start.now.settings.items) text.now result }
 {
     let program = program_of(rt.alloc(), text)?;
-    let packets = packets_of_program(rt, program, packing)?;
+    let packets = packets_by_workers(rt, program, packing)?;
     Ok(packet_run(rt.alloc(), &packets, start)?)
 }
 
@@ -98,8 +125,20 @@ pub fn answer<H: AllocGlobal + Threads + Wait + Sync>(
     ensures { Gives (ask_of request.now) text.now result }
 {
     match request {
-        Request::Pack(packing) => pack(rt, text, *packing),
-        Request::Run(packing, start) => run(rt, text, *packing, start),
+        Request::Pack(packing) => {
+            if packing.turns {
+                pack_by_turns(rt.alloc(), text, *packing)
+            } else {
+                pack_by_workers(rt, text, *packing)
+            }
+        }
+        Request::Run(packing, start) => {
+            if packing.turns {
+                run_by_turns(rt.alloc(), text, *packing, start)
+            } else {
+                run_by_workers(rt, text, *packing, start)
+            }
+        }
         Request::Serial(start) => serial(rt.alloc(), text, start),
         Request::Sim(start) => sim(rt.alloc(), text, start),
     }

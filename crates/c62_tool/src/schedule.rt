@@ -1,6 +1,6 @@
 //! Packs the blocks of a program.
 
-ghost use Rattle.std.specs.Prelude.{◌≡◌, ◌<◌, length, IfOk, IsTrue, OnOk};
+ghost use Rattle.std.specs.Prelude.{◌≡◌, ◌<◌, true, false, length, IfOk, IsTrue, OnOk};
 ghost use Rattle.c62_sheet.specs.Least.{IsComplete};
 ghost use Rattle.c62_depend.specs.Plan.{insns_of};
 ghost use Rattle.c62_board.specs.State.{IsSound};
@@ -53,24 +53,32 @@ fn turned_board(alloc: Global, plan: &Plan, budget: u16) -> Result<Board, AllocE
     }
 }
 
-/// A complete board of a block.
-fn board_of<H: AllocGlobal + Threads + Wait + Sync>(
+/// A complete board of a block, by turns of both sides on this thread.
+fn board_by_turns(alloc: Global, block: Block, packing: Packing) -> Result<Board, AllocError>
+    ensures { IfOk result (IsMade packing block) }
+{
+    let plan = plan_of(alloc, block)?;
+    let board = turned_board(alloc, &plan, packing.budget)?;
+    // It tells what holds of every board.
+    board.plan();
+    Ok(board)
+}
+
+/// A complete board of a block, by a worker for each side.
+fn board_by_workers<H: AllocGlobal + Threads + Wait + Sync>(
     rt: &H,
     block: Block,
     packing: Packing,
 ) -> Result<Board, AllocError>
+    requires { packing.turns ≡ false }
     ensures { IfOk result (IsMade packing block) }
 {
     let plan = plan_of(rt.alloc(), block)?;
-    let board = if packing.turns {
-        turned_board(rt.alloc(), &plan, packing.budget)?
-    } else {
-        let options = Options {
-            turns: WORKER_TURNS,
-            budget: packing.budget,
-        };
-        schedule(rt, rt.alloc(), plan, options, &FreeGate)?
+    let options = Options {
+        turns: WORKER_TURNS,
+        budget: packing.budget,
     };
+    let board = schedule(rt, rt.alloc(), plan, options, &FreeGate)?;
     // It tells what holds of every board.
     board.plan();
     Ok(board)
@@ -88,18 +96,37 @@ fn push_packets(alloc: Global, packets: &mut Packets, board: &Board) -> Result<(
     }
 }
 
-/// The packets of a program's blocks. `AllocError` where memory ran out.
-pub fn packets_of_program<H: AllocGlobal + Threads + Wait + Sync>(
+/// The packets of a program's blocks, packed by turns. `AllocError` where memory ran out.
+pub fn packets_by_turns(
+    alloc: Global,
+    program: Program,
+    packing: Packing,
+) -> Result<Packets, AllocError>
+    requires { packing.turns ≡ true }
+    ensures packed { IfOk result (AreScheduled packing program) }
+    ensures closed { IfOk result (λ packets. IsTrue (is_closed packets)) }
+{
+    let mut packets = Packets::new(alloc);
+    for block in program.into_blocks() {
+        let board = board_by_turns(alloc, block, packing)?;
+        push_packets(alloc, &mut packets, &board)?;
+    }
+    Ok(packets)
+}
+
+/// The packets of a program's blocks, packed by workers. `AllocError` where memory ran out.
+pub fn packets_by_workers<H: AllocGlobal + Threads + Wait + Sync>(
     rt: &H,
     program: Program,
     packing: Packing,
 ) -> Result<Packets, AllocError>
+    requires { packing.turns ≡ false }
     ensures packed { IfOk result (AreScheduled packing program) }
     ensures closed { IfOk result (λ packets. IsTrue (is_closed packets)) }
 {
     let mut packets = Packets::new(rt.alloc());
     for block in program.into_blocks() {
-        let board = board_of(rt, block, packing)?;
+        let board = board_by_workers(rt, block, packing)?;
         push_packets(rt.alloc(), &mut packets, &board)?;
     }
     Ok(packets)

@@ -3,8 +3,8 @@ use Rattle.std.specs.Vec.Iter.{into_iter_items}
 use Rattle.c62_read.specs.Block.{Serial, targets_stand}
 use Rattle.c62_packet.specs.Packed.{Packed}
 use Rattle.c62_tool.specs.Schedule.{AreScheduled}
-use Rattle.c62_tool.proofs.Schedules.{closed, few_left, nothing_left, scheduled_more, scheduled_one}
-use Rattle.c62_tool.proofs.schedule.packets_of_program.Goals as goal
+use Rattle.c62_tool.proofs.Schedules.{closed, few_left, nothing_left, scheduled_next}
+use Rattle.c62_tool.proofs.schedule.packets_by_workers.Goals as goal
 
 pub push_packets-requires-clause-few : goal.push_packets-requires-clause-few
 push_packets-requires-clause-few g c =
@@ -21,9 +21,7 @@ loop-block-preserved g c =
     let block = c.in-Some.block in
     let steps : into_iter_items at.block-iterator ≡ block ∷ into_iter_items c.next.new.self = c.in-Some.ensures.steps.0 in (
       append_assoc at.yielded (block ∷ []) _ ∙ rw (← steps) at.invariant.0,
-      let pushed = c.in_ok-push_packets.ensures.pushed in
-          let one = scheduled_one c.args.packing block c.in_ok-board.board pushed.0 c.in_ok-board.ensures pushed.1 pushed.2 pushed.3 in
-          subst (λ (packets : List Packed). AreScheduled c.args.packing (at.yielded ++ block ∷ []) packets) (sym pushed.4) (scheduled_more c.args.packing at.yielded at.packets block pushed.0 at.invariant.1 one),
+      scheduled_next c.args.packing at.yielded at.packets c.push_packets.new.packets block c.in_ok-board.board at.invariant.1 c.in_ok-board.ensures c.in_ok-push_packets.ensures.pushed,
       let was = at.invariant.2 in
           let gone = c.in-Some.ensures.steps.1 in
           let short = ap length steps in

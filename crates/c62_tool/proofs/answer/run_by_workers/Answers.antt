@@ -1,5 +1,5 @@
 use Rattle.c62_tool.proofs.Answering.{same_report}
-use Rattle.c62_tool.proofs.answer.run.Goals as goal
+use Rattle.c62_tool.proofs.answer.run_by_workers.Goals as goal
 
 pub returns : goal.returns
 returns g c =
