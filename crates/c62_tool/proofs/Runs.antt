@@ -276,6 +276,7 @@ on_bytes words input rest output errors status run = record {
   blamed = λ e. blamed_in (run.blamed e);
   judged = run.judged;
   memory = λ e. held errors (codes "memory\n") (run.memory e);
+  stream = λ e. cut_off_in (run.stream e);
   quiet = run.quiet;
 }
   where
@@ -286,3 +287,8 @@ on_bytes words input rest output errors status run = record {
     blamed_in : AsksNothing words (Some []) (Some errors) → IsUnknown words ⊎ ((k : ℕ) × HasBadSetting words k × IsFront errors (setting_message k))
     blamed_in (inl unknown) = inl unknown
     blamed_in (inr told) = inr (told.is.0, told.is.1, subst (IsFront errors) told.is.2 (held errors told.text told.told))
+
+    cut_off_in : Tells (Some []) (Some errors) (codes "input\n") ⊎ Tells (Some []) (Some errors) (codes "output\n")
+        → IsFront errors (codes "input\n") ⊎ IsFront errors (codes "output\n")
+    cut_off_in (inl told) = inl (held errors (codes "input\n") told)
+    cut_off_in (inr told) = inr (held errors (codes "output\n") told)

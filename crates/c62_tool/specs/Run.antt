@@ -289,4 +289,5 @@ pub record IsRunOnBytes (words : List Text) (input output errors : List ℕ) (st
   pub blamed : status ≡ 2 → IsUnknown words ⊎ ((k : ℕ) × HasBadSetting words k × IsFront errors (setting_message k))
   pub judged : asked words ≡ None → (status ≡ 2) ⊎ (status ≡ 3)
   pub memory : status ≡ 3 → IsFront errors (codes "memory\n")
+  pub stream : status ≡ 4 → IsFront errors (codes "input\n") ⊎ IsFront errors (codes "output\n")
   pub quiet : 0 < status → status < 4 → output ≡ []

@@ -100,7 +100,7 @@ pub struct Ran {
     pub status: u8,
 }
 
-/// Runs the program on these bytes. A 4 means that there was no memory for the answer.
+/// Runs the program on these bytes. A 4 means that a stream failed, as the output does where memory runs out.
 pub fn run_on_bytes<H: AllocGlobal + Threads + Wait + Sync, S: AsStr>(
     rt: &H,
     words: &[S],
