@@ -95,7 +95,9 @@ fn settings_words<'a>(alloc: Global) -> Arg<'a>
     Arg::new(alloc, "settings")
         .value_name("SETTING")
         .action(ArgAction::Append)
-        .help("REG=NUMBER sets a register, @ADDRESS=NUMBER a word of memory; a file's name is none")
+        .help(
+            "REG=NUMBER sets a register, @ADDRESS=NUMBER a word of memory; no file is named here, as the text is read from standard input",
+        )
 }
 
 /// The command with the options of packing.
