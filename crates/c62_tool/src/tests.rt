@@ -386,6 +386,25 @@ fn longest_block(rt: HostRuntime) -> Result<(), Fail> {
     Ok(())
 }
 
+/// As many blocks as a program may have, each with as many instructions as a block may have, and each falling through.
+#[test]
+fn longest_program(rt: HostRuntime) -> Result<(), Fail> {
+    let mut text = Vec::new(rt.alloc());
+    for number in 0..64 {
+        let label = format!(in rt.alloc(); "L{number}:\n")?;
+        text.extend_from_slice(label.as_bytes())?;
+        for _ in 0..256 {
+            text.extend_from_slice(b"ADD 1,A1,A1\n")?;
+        }
+    }
+    let ran = run_on_bytes(&rt, &["run", "--turns", "--blocks", "64"], &text);
+    assert_eq!(rt; ran.status, 0);
+    let report = "blocks 64\ncycles 16384\nexit end\nA1 00004000\n";
+    assert_eq!(rt; ran.output.as_slice(), report.as_bytes());
+    assert!(rt; ran.errors.is_empty());
+    Ok(())
+}
+
 #[test]
 fn refused_texts(rt: HostRuntime) -> Result<(), Fail> {
     for (text, expected) in &REFUSED {
