@@ -275,8 +275,16 @@ fn a_chain_of_256(rt: HostRuntime) -> Result<(), Fail> {
     assert_eq!(rt; board.journal()[256], Entry::Withdraw(255, Who::A));
     assert_eq!(rt; board.counts().placed_a, 1);
     for i in 1..256 {
-        assert_eq!(rt; place(&rt, &mut board, i), Ok(Spot { cycle: i, unit: L1 }));
+        let spot = Spot { cycle: i, unit: L1 };
+        let proposal = Proposal {
+            number: i,
+            spot,
+            seen: 0,
+        };
+        assert_eq!(rt; board.commit(&proposal, Who::B), Ok(spot));
     }
+    assert!(rt; board.complete());
+    assert_eq!(rt; board.length(), 256);
     assert_eq!(rt; withdraw(&rt, &mut board, 0), Ok(256));
     assert_eq!(rt; board.journal().len(), 1022);
     assert_eq!(rt; board.counts().placed_a, 0);

@@ -95,9 +95,7 @@ fn settings_words<'a>(alloc: Global) -> Arg<'a>
     Arg::new(alloc, "settings")
         .value_name("SETTING")
         .action(ArgAction::Append)
-        .help(
-            "REG=NUMBER sets a register, @ADDRESS=NUMBER a word of memory; no file is named here, as the text is read from standard input",
-        )
+        .help("REG=NUMBER sets a register, @ADDRESS=NUMBER a word of memory; no file is named here")
 }
 
 /// The command with the options of packing.

@@ -251,7 +251,7 @@ Options:
 Usage: c62 run [--turns] [--eject <N>] [--blocks <N>] [SETTING]...
 
 Arguments:
-  [SETTING]...  REG=NUMBER sets a register, @ADDRESS=NUMBER a word of memory; no file is named here, as the text is read from standard input
+  [SETTING]...  REG=NUMBER sets a register, @ADDRESS=NUMBER a word of memory; no file is named here
 
 Options:
       --turns       Packs on one thread, one side after the other
@@ -268,7 +268,7 @@ Options:
 Usage: c62 serial [--blocks <N>] [SETTING]...
 
 Arguments:
-  [SETTING]...  REG=NUMBER sets a register, @ADDRESS=NUMBER a word of memory; no file is named here, as the text is read from standard input
+  [SETTING]...  REG=NUMBER sets a register, @ADDRESS=NUMBER a word of memory; no file is named here
 
 Options:
       --blocks <N>  Runs at most N blocks, 1 to 1000000; 1000 where none is given
@@ -283,7 +283,7 @@ Options:
 Usage: c62 sim [--blocks <N>] [SETTING]...
 
 Arguments:
-  [SETTING]...  REG=NUMBER sets a register, @ADDRESS=NUMBER a word of memory; no file is named here, as the text is read from standard input
+  [SETTING]...  REG=NUMBER sets a register, @ADDRESS=NUMBER a word of memory; no file is named here
 
 Options:
       --blocks <N>  Runs at most N blocks, 1 to 1000000; 1000 where none is given

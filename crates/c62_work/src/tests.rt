@@ -146,6 +146,38 @@ fn finishing_what_a_side_began(rt: HostRuntime) -> Result<(), Fail> {
     Ok(())
 }
 
+/// The longest block: 256 instructions, each of which needs the one before it.
+fn longest(alloc: Global) -> Result<String, Fail> {
+    let mut text = String::new(alloc);
+    for _ in 0..256 {
+        text.push_str("ADD A1,A2,A1\n")?;
+    }
+    Ok(text)
+}
+
+#[test]
+fn turns_of_a_chain_of_256(rt: HostRuntime) -> Result<(), Fail> {
+    let text = longest(rt.alloc())?;
+    let mut board = board_of(&rt, rt.alloc(), &text, 0)?;
+    assert_eq!(rt; turns(&mut board), Turn::Done);
+    assert!(rt; board.complete());
+    assert_eq!(rt; board.length(), 256);
+    assert_eq!(rt; board.journal().len(), 256);
+    Ok(())
+}
+
+#[test]
+fn finishing_a_chain_of_256(rt: HostRuntime) -> Result<(), Fail> {
+    let text = longest(rt.alloc())?;
+    let plan = plan_of(&rt, rt.alloc(), &text)?;
+    let board = board_of(&rt, rt.alloc(), &text, 0)?;
+    let board = finish(rt.alloc(), board, &plan)?;
+    assert!(rt; board.complete());
+    assert_eq!(rt; board.length(), 256);
+    assert_eq!(rt; board.journal().len(), 256);
+    Ok(())
+}
+
 /// The plan of the block of six, where memory is given.
 fn plan_of_six(alloc: Global) -> Option<Plan> {
     let mut blocks = read_program(alloc, SIX.as_bytes()).ok()?.into_blocks();
