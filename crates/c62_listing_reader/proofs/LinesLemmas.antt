@@ -1,7 +1,7 @@
 -- The lines of a listing: what stands in them, their labels and their bytes.
 use Rattle.c62_listing_reader.proofs.Common.{nat_tests, arith, ◌≡◌, ℕ, zero, suc, ◌+◌, ◌-◌, ◌*◌, ◌/◌, ◌%◌, ◌<◌, ◌≤◌, List, [], ◌∷◌, ◌++◌, length}
 use Rattle.c62_listing_reader.proofs.Common.{Option, Some, None, Bool, true, false, refl, ap, ◌∙◌, subst, append_assoc, append-nil, length-append}
-use Rattle.c62_listing_reader.proofs.Common.{◌&&◌, ◌||◌, nat_lt, if◌then◌else◌, is_none, All, codes, replicate, AllByRecursion, flat_map, list_all}
+use Rattle.c62_listing_reader.proofs.Common.{◌&&◌, nat_lt, if◌then◌else◌, is_none, All, codes, replicate, AllByRecursion, flat_map, list_all}
 use Rattle.c62_listing_reader.proofs.Common.{list_any, slice_get, option_to_list, bytes_eq, All-tail, list_all-append, none-some, spelling, Says}
 use Rattle.c62_listing_reader.proofs.Common.{Nothing, Pause, is_label, label_field, Name, is_among, label_is, label_parts, label_back, Placed, Packed}
 use Rattle.c62_listing_reader.proofs.Common.{packet_labels, pause_line, idle_lines, cycle_lines, label_lines, block_lines, parted_lines, all_lines}

@@ -1,7 +1,7 @@
 -- Lines that are spelled as a listing spells them have no fault.
-use Rattle.c62_listing_reader.proofs.Common.{arith, ◌≡◌, ℕ, ◌+◌, ◌≤◌, List, [], ◌∷◌, ◌++◌, length, map, Option, Some, None, Bool, true, false, not}
+use Rattle.c62_listing_reader.proofs.Common.{arith, ◌≡◌, ℕ, ◌≤◌, List, [], ◌∷◌, ◌++◌, length, map, Option, Some, None, Bool, true, false, not}
 use Rattle.c62_listing_reader.proofs.Common.{refl, ap, append_assoc, Ok, codes, list_all, list_any, and_parts, ltb-false, nat_tests, bytes_eq-Decides}
-use Rattle.c62_listing_reader.proofs.Common.{bytes_eq, FunctionalUnit, Insn, Operands, op_of, operands_of, spelling, takes, begins, is_allowed}
+use Rattle.c62_listing_reader.proofs.Common.{bytes_eq, FunctionalUnit, Insn, Operands, op_of, operands_of, spelling, takes, is_allowed}
 use Rattle.c62_listing_reader.proofs.Common.{is_line_feed, Says, Pause, line_of, label_field, Name, NamesTarget, parts_on, says_with, says_on}
 use Rattle.c62_listing_reader.proofs.Common.{field_is, head_read, pause_line, text_of, Front, First, Beside, Above, Line, lines_in, content}
 use Rattle.c62_listing_reader.proofs.Common.{ends_in_return, is_empty, is_ended, front_of, rest_of, Said, Drafts, parts_spelling, front_spelling}

@@ -11,10 +11,6 @@ use Rattle.std.proofs.lemmas.List.Elements.{All-tail, All-weaker}
 use Rattle.std.proofs.lemmas.List.Folds.{list_any-append, list_any_none}
 use Rattle.std.proofs.lemmas.List.Sums.{sum_by-append, sum_by-cons, prefix_len_stops}
 use Rattle.c62_op.specs.declared.register.Reg.{Reg}
-use Rattle.c62_op.specs.declared.register.Letter.{Letter}
-use Rattle.c62_op.specs.declared.register.Letter.TheVariants.{L, S, M, D}
-use Rattle.c62_op.specs.declared.register.Side.{Side}
-use Rattle.c62_op.specs.declared.register.Side.TheVariants.{A, B}
 use Rattle.c62_op.specs.Takes.{same_side, same_unit}
 use Rattle.c62_op.specs.Shape.{data_path_of}
 use Rattle.c62_insn.specs.Insn.{operands_of, operand_reads}

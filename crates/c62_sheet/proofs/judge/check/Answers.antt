@@ -1,4 +1,4 @@
-use Rattle.c62_sheet.proofs.Common.{insns_of, arith, ◌≡◌, refl, sym, ◌∙◌, true, None, many_insns, Delay, spot_at, Missing}
+use Rattle.c62_sheet.proofs.Common.{insns_of, arith, ◌≡◌, refl, sym, ◌∙◌, None, many_insns, Delay, spot_at, Missing}
 use Rattle.c62_sheet.proofs.Missing.{lacks_at, lacks_none}
 use Rattle.c62_sheet.proofs.Turns.{clear_three, clear_five, clear_more, clear_all, clear_open, refused_by, refused_packet}
 use Rattle.c62_sheet.proofs.judge.check.Goals as goal

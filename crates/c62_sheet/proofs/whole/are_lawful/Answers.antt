@@ -1,4 +1,4 @@
-use Rattle.c62_sheet.proofs.Common.{arith, ◌≡◌, ◌+◌, ◌-◌, ◌<◌, ◌≤◌, List, length, get_or, Option, Some, ◌∙◌, refl, length-set, take-set-lt}
+use Rattle.c62_sheet.proofs.Common.{arith, ◌≡◌, ◌+◌, ◌-◌, ◌<◌, List, length, get_or, Option, Some, ◌∙◌, refl, length-set, take-set-lt}
 use Rattle.c62_sheet.proofs.Common.{false≢true, Insn, insns_of, many_insns, Spot, None, take-replicate}
 use Rattle.c62_sheet.proofs.Empty.{lawful_empty}
 use Rattle.c62_sheet.proofs.Optional.{some_is}

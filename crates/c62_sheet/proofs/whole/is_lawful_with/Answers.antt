@@ -1,4 +1,4 @@
-use Rattle.c62_sheet.proofs.Common.{arith, ◌≡◌, ℕ, ◌<◌, List, length, true, false, Option, Some, None, sym, ◌∙◌, IsTrue, is_none, Bool, false≢true}
+use Rattle.c62_sheet.proofs.Common.{arith, ◌≡◌, ℕ, ◌<◌, List, length, Option, Some, None, sym, ◌∙◌, IsTrue, Bool, false≢true}
 use Rattle.c62_sheet.proofs.Common.{Insn, insns_of, many_insns, Rule, Spot, Spots, spot_at, placed, IsLawful, ◌↔◌, is_some, LacksSome, not}
 use Rattle.c62_sheet.proofs.Common.{TellsFirst}
 use Rattle.c62_sheet.proofs.Optional.{none_not_some}
