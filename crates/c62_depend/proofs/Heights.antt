@@ -5,6 +5,8 @@ use Rattle.c62_depend.proofs.Common.{cases_eq, get_or-set_other, get_or-set_at, 
 use Rattle.c62_depend.proofs.Common.{All-weaker, Insn, Link, latency, linked, followers, raised, raised_by, delay_in, delay_at, longest, path_within}
 use Rattle.c62_depend.proofs.Common.{height, AreHeightsFrom, as_bound}
 use Rattle.std.proofs.Math.ListN.{length-set}
+use Rattle.c62_read.specs.declared.limits.TheConstants.{MOST_INSTRUCTIONS}
+use Rattle.c62_depend.specs.declared.limits.TheConstants.{ISSUE_CYCLES}
 use Rattle.c62_depend.proofs.Ranges.{pieces_more}
 use Rattle.c62_depend.proofs.Latencies.{latency_small_at, delay_of-small}
 
@@ -124,8 +126,8 @@ next_height block i j number most heights after is before =
     rw (before, is, ← more) (sym (longest-more (slice_index heights) (delay_at block i) j (latency block i j) old))
 
 -- a height behind i is small
-pub low_behind : (block : List Insn) (i j : ℕ) (heights : List ℕ) → AreHeightsFrom block (i + 1) heights → length block ≤ 256 → i < j
-    → j < length block → slice_index heights j ≤ 1280
+pub low_behind : (block : List Insn) (i j : ℕ) (heights : List ℕ) → AreHeightsFrom block (i + 1) heights → length block ≤ MOST_INSTRUCTIONS → i < j
+    → j < length block → slice_index heights j ≤ ISSUE_CYCLES
 low_behind block i j heights from few after within =
     omega (arith, height-small block j within, from.are j (omega arith) within)
 

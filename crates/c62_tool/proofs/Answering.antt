@@ -3,12 +3,12 @@ use Rattle.std.proofs.Common.{◌≡◌, ℕ, List, Result, Ok, Err}
 use Rattle.std.specs.Global.{Vec}
 use Rattle.c62_read.specs.Block.{Serial}
 use Rattle.c62_packet.specs.Packed.{Packed}
-use Rattle.c62_tool.specs.declared.setting.Setting.{Setting}
-use Rattle.c62_tool.specs.declared.schedule.Packing.{Packing}
+use Rattle.c62_command.specs.declared.setting.Setting.{Setting}
+use Rattle.c62_command.specs.declared.command.Packing.{Packing}
 use Rattle.c62_tool.specs.declared.failure.Failure.{Failure}
 use Rattle.c62_tool.specs.declared.failure.Failure.TheVariants as failures
 use Rattle.c62_tool.specs.Message.{fault_message}
-use Rattle.c62_tool.specs.CommandLine.{Ask, ListingReport}
+use Rattle.c62_command.specs.CommandLine.{Ask, ListingReport}
 use Rattle.c62_tool.specs.Schedule.{AreScheduled}
 use Rattle.c62_tool.specs.Run.{Gives, GivesProgram, GivesPackets, IsNoProgram, IsPacketReport, IsRefusedText, IsSameReport}
 use Rattle.c62_tool.proofs.Schedules.{runs_serially}

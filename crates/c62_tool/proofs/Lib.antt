@@ -1,11 +1,5 @@
 pub mod Schedules
 pub mod Answering
 pub mod Known
-pub mod SettingLemmas
-pub mod ParsedNumber
-pub mod Asking
-pub mod ReportLemmas
 pub mod Runs
 pub mod Telling
-pub mod Passed
-pub mod Limits

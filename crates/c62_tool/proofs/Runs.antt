@@ -15,8 +15,10 @@ use Rattle.c62_listing_reader.specs.declared.fault.ListFault.TheVariants as list
 use Rattle.c62_listing_reader.specs.declared.fault.LineFault.TheVariants.{Read}
 use Rattle.c62_listing_reader.specs.Reading.{Refuses}
 use Rattle.c62_tool.specs.Message.{IsFront, Tells, TellsOf, fault_message, list_message, message_of, setting_message}
-use Rattle.c62_tool.specs.Run.{AsksInVain, AsksNothing, Blames, Does, Fails, Gives, HasFailed, IsAnswer, IsNoProgram, IsRefused, IsRefusedText, IsRun, IsRunOnBytes, Streams, TakesAtMost, limit_of, status_of}
-use Rattle.c62_tool.specs.CommandLine.{Ask, HasBadSetting, IsUnknown, Listing, ListingReport, PacketReport, SerialReport, asked}
+use Rattle.c62_tool.specs.Run.{AsksInVain, AsksNothing, Blames, Does, Fails, Gives, HasFailed, IsAnswer, IsCommandFailure, IsNoProgram, IsRefused, IsRefusedText, IsRun, IsRunOnBytes, Streams, TakesAtMost, limit_of, status_of}
+use Rattle.c62_command.specs.declared.command.CommandError.{CommandError}
+use Rattle.c62_command.specs.declared.command.CommandError.TheVariants as command
+use Rattle.c62_command.specs.CommandLine.{Ask, HasBadSetting, IsRefusal, IsUnknown, Listing, ListingReport, PacketReport, SerialReport, asked}
 use Rattle.clap.specs.Words.{Text}
 use Rattle.c62_tool.specs.declared.failure.Failure.{Failure}
 use Rattle.c62_tool.specs.declared.failure.Failure.TheVariants as failures
@@ -132,9 +134,16 @@ refuses ask known old text failures.Output read gives = absurd gives
 refuses ask known old text (failures.Words e) read gives = absurd gives
 refuses ask known old text (failures.Setting k) read gives = absurd gives
 
+-- what refuses the words blames them
+blames : (error : CommandError) (f : Failure) (words : List Text) → IsCommandFailure error f → IsRefusal error words → Blames f words
+blames (command.Words e) f words is refusal = rw is refusal
+blames (command.Setting k) f words is refusal = rw is refusal
+blames command.Memory f words is refusal = rw is refusal
+
 -- the words are blamed
-pub blamed : (f : Failure) (words : List Text) (known old : Option (List ℕ)) → Blames f words → HasFailed words known old old f
-blamed f words known old blames = inl (blames, Keeps-same old)
+pub blamed : (error : CommandError) (f : Failure) (words : List Text) (known old : Option (List ℕ)) → IsCommandFailure error f → IsRefusal error words
+    → HasFailed words known old old f
+blamed error f words known old is refusal = inl (blames error f words is refusal, Keeps-same old)
 
 -- words that ask for something do so
 pub for_asked : (words : List Text) (ask : Ask) (P : Ask → Type 0) → asked words ≡ Some ask → P ask → IsSomeAnd (asked words) P

@@ -22,7 +22,7 @@ use Rattle.c62_pipe.proofs.Chains.{run_alike}
 use Rattle.c62_board.specs.State.{BoardState}
 use Rattle.c62_meaning.specs.Laws.{AreSerial}
 use Rattle.c62_pack.specs.Packets.{StandsAt, AreNumbered, ArePackets}
-use Rattle.c62_tool.specs.declared.schedule.Packing.{Packing}
+use Rattle.c62_command.specs.declared.command.Packing.{Packing}
 use Rattle.c62_tool.specs.Schedule.{AddsPackets, AreScheduled, IsMade, IsScheduled}
 
 -- one block more

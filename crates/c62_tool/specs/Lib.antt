@@ -1,6 +1,3 @@
-pub mod CommandLine
 pub mod Schedule
-pub mod Settings
-pub mod Report
 pub mod Message
 pub mod Run

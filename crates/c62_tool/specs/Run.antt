@@ -3,16 +3,14 @@ use Rattle.std.specs.Prelude.{◌≡◌, ◌≢◌, ◌⊎◌, ℕ, ◌+◌, ◌
 use Rattle.std.specs.Io.KnownBytes.{Appends, Consumes, Keeps}
 use Rattle.std.specs.Option.{IsSomeAnd}
 use Rattle.std.specs.Global.{Vec}
-use Rattle.clap.specs.Words.{Text, kind_of}
-use Rattle.clap.specs.declared.error.Error.{Error}
-use Rattle.clap.specs.declared.error.kind.ErrorKind.TheVariants.{OutOfMemory}
+use Rattle.clap.specs.Words.{Text}
 use Rattle.c62_tool.specs.declared.failure.Failure.{Failure}
 use Rattle.c62_tool.specs.declared.failure.Failure.TheVariants.{Unread, Unlisted, Words, Setting, Memory, Input, Output}
-use Rattle.c62_tool.specs.declared.setting.SettingError.{SettingError}
-use Rattle.c62_tool.specs.declared.setting.SettingError.TheVariants as setting
-use Rattle.c62_tool.specs.declared.setting.Setting.{Setting as Given}
-use Rattle.c62_tool.specs.declared.setting.Setting.TheVariants as given
-use Rattle.c62_tool.specs.declared.schedule.Packing.{Packing}
+use Rattle.c62_command.specs.declared.command.CommandError.{CommandError}
+use Rattle.c62_command.specs.declared.command.CommandError.TheVariants as command
+use Rattle.c62_command.specs.declared.setting.Setting.{Setting as Given}
+use Rattle.c62_command.specs.declared.setting.Setting.TheVariants as given
+use Rattle.c62_command.specs.declared.command.Packing.{Packing}
 use Rattle.c62_line.specs.declared.fault.Cause.TheVariants.{Memory as OutOfStore}
 use Rattle.c62_line.specs.declared.fault.ReadFault.{ReadFault}
 use Rattle.c62_read.specs.Block.{Serial}
@@ -29,8 +27,8 @@ use Rattle.c62_listing_reader.specs.declared.fault.ListFault.TheVariants.{Memory
 use Rattle.c62_listing_reader.specs.Faults.{IsRead, most_bytes as most_listing_bytes}
 use Rattle.c62_listing_reader.specs.Reading.{Refuses}
 use Rattle.c62_tool.specs.Schedule.{AreScheduled}
-use Rattle.c62_tool.specs.Report.{serial_report, packet_report}
-use Rattle.c62_tool.specs.CommandLine.{Ask, Listing, SerialReport, PacketReport, ListingReport, IsUnknown, HasBadSetting, asked}
+use Rattle.c62_report.specs.Report.{serial_report, packet_report}
+use Rattle.c62_command.specs.CommandLine.{Ask, Listing, SerialReport, PacketReport, ListingReport, IsUnknown, HasBadSetting, asked}
 use Rattle.c62_tool.specs.Message.{fault_message, list_message, setting_message, IsFront, Tells, TellsOf}
 
 abbrev pub status_of : Failure → ℕ
@@ -42,10 +40,6 @@ status_of Memory = 3
 status_of Input = 4
 status_of Output = 4
 
--- what a parse that failed is
-abbrev pub IsWordsFailure : Error → Failure → Type 0
-IsWordsFailure error f = ((kind_of error ≡ OutOfMemory) × (f ≡ Memory)) ⊎ ((kind_of error ≢ OutOfMemory) × (f ≡ Words error))
-
 -- what a fault of reading is
 abbrev pub IsReadFailure : ReadFault → Failure → Type 0
 IsReadFailure fault f = ((fault.cause ≡ OutOfStore) × (f ≡ Memory)) ⊎ ((fault.cause ≢ OutOfStore) × (f ≡ Unread fault))
@@ -54,10 +48,11 @@ IsReadFailure fault f = ((fault.cause ≡ OutOfStore) × (f ≡ Memory)) ⊎ ((f
 abbrev pub IsListFailure : ListFault → Failure → Type 0
 IsListFailure fault f = ((fault ≡ NoStore) × (f ≡ Memory)) ⊎ ((fault ≢ NoStore) × (f ≡ Unlisted fault))
 
--- what words that are no settings are
-abbrev pub IsSettingFailure : SettingError → Failure → Type 0
-IsSettingFailure setting.Memory f = f ≡ Memory
-IsSettingFailure (setting.Bad k) f = f ≡ Setting k
+-- what an error of the command line is
+abbrev pub IsCommandFailure : CommandError → Failure → Type 0
+IsCommandFailure (command.Words error) f = f ≡ Words error
+IsCommandFailure (command.Setting k) f = f ≡ Setting k
+IsCommandFailure command.Memory f = f ≡ Memory
 
 -- at most n known bytes were taken
 abbrev pub TakesAtMost : ℕ → Option (List ℕ) → Option (List ℕ) → Type 0

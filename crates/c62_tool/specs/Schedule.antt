@@ -13,7 +13,7 @@ use Rattle.c62_packet.specs.Packed.{Packed}
 use Rattle.c62_meaning.specs.Laws.{AreSerial}
 use Rattle.c62_pipe.specs.Chain.{IsBlockPacked}
 use Rattle.c62_pack.specs.Packets.{ArePackets}
-use Rattle.c62_tool.specs.declared.schedule.Packing.{Packing}
+use Rattle.c62_command.specs.declared.command.Packing.{Packing}
 
 -- Both sides took steps by turns on an empty board of the block with this budget, and what was missing then was placed.
 pub record IsTurned (block : Serial) (budget : ℕ) (board : BoardState) : Type 0 where

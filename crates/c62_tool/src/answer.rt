@@ -3,13 +3,13 @@
 ghost use Rattle.std.specs.Prelude.{◌≡◌, true, false, IfOk, IsTrue};
 ghost use Rattle.c62_listing.specs.Listing.{listing};
 ghost use Rattle.c62_packet.specs.Packets.{is_closed};
-ghost use Rattle.c62_tool.specs.CommandLine.{Listing, SerialReport, PacketReport, ListingReport, ask_of};
+ghost use Rattle.c62_command.specs.CommandLine.{Listing, SerialReport, PacketReport, ListingReport, ask_of};
 ghost use Rattle.c62_tool.specs.Run.{Gives, GivesProgram, GivesPackets, limit_of};
 
-use crate::command::{Request, Start};
 use crate::failure::Failure;
 use crate::run::{packet_run, serial_run};
-use crate::schedule::{Packing, packets_by_turns, packets_by_workers};
+use crate::schedule::{packets_by_turns, packets_by_workers};
+use c62_command::{Packing, Request, Start};
 use c62_listing::list;
 use c62_listing_reader::read_listing;
 use c62_packet::Packets;

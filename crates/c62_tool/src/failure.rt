@@ -2,13 +2,12 @@
 
 ghost use Rattle.std.specs.Prelude.{◌≡◌, ◌⊎◌};
 ghost use Rattle.c62_tool.specs.declared.failure.Failure.TheVariants.{Memory, Input};
-ghost use Rattle.c62_tool.specs.Run.{status_of, IsWordsFailure, IsSettingFailure, IsReadFailure, IsListFailure};
+ghost use Rattle.c62_tool.specs.Run.{status_of, IsCommandFailure, IsReadFailure, IsListFailure};
 
 use crate::input::InputError;
-use crate::setting::SettingError;
+use c62_command::CommandError;
 use c62_listing_reader::ListFault;
 use c62_read::{Cause, ReadFault};
-use clap::error::ErrorKind;
 use std::alloc::AllocError;
 
 /// Why a run fails.
@@ -85,25 +84,14 @@ impl From<ListFault> for Failure {
     }
 }
 
-impl From<SettingError> for Failure {
-    ghost from_gives = { λ error f. IsSettingFailure error f };
+impl From<CommandError> for Failure {
+    ghost from_gives = { λ error f. IsCommandFailure error f };
 
-    fn from(error: SettingError) -> Failure {
+    fn from(error: CommandError) -> Failure {
         match error {
-            SettingError::Memory => Failure::Memory,
-            SettingError::Bad(number) => Failure::Setting(number),
-        }
-    }
-}
-
-impl From<clap::Error> for Failure {
-    ghost from_gives = { λ error f. IsWordsFailure error f };
-
-    fn from(error: clap::Error) -> Failure {
-        if error.kind() == ErrorKind::OutOfMemory {
-            Failure::Memory
-        } else {
-            Failure::Words(error)
+            CommandError::Words(error) => Failure::Words(error),
+            CommandError::Setting(number) => Failure::Setting(number),
+            CommandError::Memory => Failure::Memory,
         }
     }
 }

@@ -2,15 +2,11 @@
 #![tactic(auto)]
 
 mod answer;
-mod command;
 mod failure;
 mod input;
-mod laws;
 mod message;
-mod report;
 mod run;
 mod schedule;
-mod setting;
 mod tool;
 
 use std::process::ExitCode;

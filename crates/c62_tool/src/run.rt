@@ -4,12 +4,11 @@ ghost use Rattle.std.specs.Prelude.{◌≡◌, IfOk, IsTrue};
 ghost use Rattle.c62_packet.specs.Packets.{is_closed};
 ghost use Rattle.c62_tool.specs.Run.{IsOpening, IsReport, IsPacketReport, with_setting, with_settings};
 
-use crate::command::Start;
-use crate::report::{packet_report, serial_report};
-use crate::setting::Setting;
+use c62_command::{Setting, Start};
 use c62_packet::Packets;
 use c62_pipe::run_chain;
 use c62_read::Program;
+use c62_report::{packet_report, serial_report};
 use c62_serial::{State, run_program};
 use std::alloc::{AllocError, Global};
 

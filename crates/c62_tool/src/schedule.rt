@@ -9,6 +9,7 @@ ghost use Rattle.c62_packet.specs.Packets.{is_closed};
 ghost use Rattle.c62_tool.specs.Schedule.{AreScheduled, AddsPackets, IsMade, IsTurned};
 
 use c62_board::{Board, Turn};
+use c62_command::Packing;
 use c62_depend::Plan;
 use c62_pack::packets_of;
 use c62_packet::Packets;
@@ -20,15 +21,6 @@ use std::thread::Threads;
 
 /// The most turns of a worker.
 const WORKER_TURNS: u32 = 100_000;
-
-/// How blocks are packed.
-#[derive(Clone, Copy, PartialEq, Eq, Debug)]
-pub struct Packing {
-    /// By turns of both sides on one thread, and otherwise by a worker for each side on a thread of its own.
-    pub turns: bool,
-    /// How many ejections there may be in a block.
-    pub budget: u16,
-}
 
 fn plan_of(alloc: Global, block: Block) -> Result<Plan, AllocError>
     ensures { IfOk result (λ plan. plan ≡ block) }

@@ -3,13 +3,13 @@
 ghost use Rattle.std.specs.Prelude.{◌≡◌, ◌+◌, None, IfErr, OnOk, map};
 ghost use Rattle.std.specs.Io.KnownBytes.{Appends, Keeps};
 ghost use Rattle.c62_tool.specs.Run.{TakesAtMost, TakesAsked, Does, IsDone, Fails, HasFailed, IsRun, IsRunOnBytes, limit_of, streams};
-ghost use Rattle.c62_tool.specs.CommandLine.{ask_of, asked};
+ghost use Rattle.c62_command.specs.CommandLine.{ask_of, asked};
 
 use crate::answer::{answer, limit_of};
-use crate::command::{Request, command_of};
 use crate::failure::Failure;
 use crate::input::read_text;
 use crate::message::report;
+use c62_command::{Request, command_of};
 use std::convert::AsStr;
 use std::io::{Read, Write};
 use std::sync::Wait;

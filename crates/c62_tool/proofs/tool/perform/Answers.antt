@@ -1,6 +1,6 @@
 use Rattle.std.proofs.Common.{◌≡◌}
 use Rattle.std.proofs.lemmas.Result.{err_from_is_err_and, IfOk-weaker}
-use Rattle.c62_tool.specs.CommandLine.{ask_of}
+use Rattle.c62_command.specs.CommandLine.{ask_of}
 use Rattle.c62_tool.proofs.Runs.{answers, refuses}
 use Rattle.c62_tool.proofs.tool.perform.Goals as goal
 

@@ -1,0 +1,42 @@
+-- What words ask for.
+use Rattle.std.proofs.Common.{◌≡◌, ◌≢◌, ◌∙◌, ℕ, List, [], ◌∷◌, length, map, Option, Some, None, refl, ap, arith}
+use Rattle.clap.specs.Words.{Kinds, Row, Text, fault_of, subcommand_of}
+use Rattle.c62_command.specs.CommandLine.{Ask, Listing, HasBadSetting, HasFirstBad, IsUnknown, ask_in, asked, plain_packing, setting_words, tool_app, unless_fault}
+use Rattle.c62_command.specs.Settings.{IsFirstBad, settings_of}
+use Rattle.c62_command.proofs.SettingLemmas.{none_of}
+
+pub asked-none : {W : Type 0} (text : W → Text) (words : List W) → length words ≡ 0 → asked (map text words) ≡ Some (Listing plain_packing)
+unfolding asked
+asked-none text [] e = refl
+asked-none text (word ∷ words) e = absurd (omega arith)
+
+-- clap takes the words
+pub asked-taken : {W : Type 0} (text : W → Text) (words : List W) (ask : Ask) → length words ≢ 0 → fault_of tool_app (map text words) ≡ []
+    → ask_in (subcommand_of tool_app (map text words)) ≡ Some ask → asked (map text words) ≡ Some ask
+unfolding asked
+asked-taken text [] ask some taken e = absurd (some refl)
+asked-taken text (word ∷ words) ask some taken e =
+    ap (λ (kinds : Kinds). unless_fault kinds (ask_in (subcommand_of tool_app (map text (word ∷ words))))) taken ∙ e
+
+faulty : (kinds : Kinds) (ask : Option Ask) → kinds ≢ [] → unless_fault kinds ask ≡ None
+faulty [] ask e = absurd (e refl)
+faulty (kind ∷ kinds) ask e = refl
+
+pub asked-unknown : (words : List Text) → IsUnknown words → asked words ≡ None
+unfolding asked
+asked-unknown [] e = absurd (omega (arith, e.0))
+asked-unknown (word ∷ words) e = faulty (fault_of tool_app (word ∷ words)) (ask_in (subcommand_of tool_app (word ∷ words))) e.1
+
+no_settings : (rows : List Row) (k : ℕ) → IsFirstBad (setting_words rows) k → settings_of (setting_words rows) ≡ None
+no_settings rows k bad = ap settings_of bad.whole ∙ none_of bad.before bad.text bad.after bad.bad
+
+nothing_in : (found : Option (Text × List Row)) (k : ℕ) → HasFirstBad found k → ask_in found ≡ None
+nothing_in None k e = absurd e
+nothing_in (Some (name, rows)) k e = rw (e.0, no_settings rows k e.1) refl
+
+pub asked-bad : (words : List Text) (k : ℕ) → HasBadSetting words k → asked words ≡ None
+unfolding asked
+asked-bad [] k e = absurd (omega (arith, e.0))
+asked-bad (word ∷ words) k e =
+    ap (λ (kinds : Kinds). unless_fault kinds (ask_in (subcommand_of tool_app (word ∷ words)))) e.1
+    ∙ nothing_in (subcommand_of tool_app (word ∷ words)) k e.2

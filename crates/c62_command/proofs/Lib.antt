@@ -1,0 +1,5 @@
+pub mod SettingLemmas
+pub mod ParsedNumber
+pub mod Asking
+pub mod Passed
+pub mod Limits

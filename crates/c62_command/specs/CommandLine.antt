@@ -1,0 +1,221 @@
+-- The command line, as clap reads it.
+use Rattle.std.specs.Prelude.{◌≡◌, ◌≢◌, ◌⊎◌, ◌<◌, ◌≤◌, ℕ, pos, ◌^◌, Bool, true, false, ◌&&◌, nat_lt, length, List, [], ◌∷◌, Option, Some, None, unwrap_or, option_map, option_and_then, codes, if◌then◌else◌}
+use Rattle.std.specs.Str.{bytes_eq}
+use Rattle.std.specs.Str.Parse.{digits_value, signed_digits_value, without_leading_plus}
+use Rattle.std.specs.Option.{option_map_or}
+use Rattle.clap.specs.Words.{App, Kinds, Row, Rule, Text, all_of, first_of, new_app, new_rule, with_rule, with_subcommand, fault_of, found_of, kind_of, rows_of, subcommand_of}
+use Rattle.clap.specs.declared.builder.command.Command.{Command}
+use Rattle.clap.specs.declared.builder.command.Command.TheViews.{out-Command}
+use Rattle.clap.specs.declared.parser.matches.ArgMatches.{ArgMatches}
+use Rattle.clap.specs.declared.error.Error.{Error}
+use Rattle.clap.specs.declared.error.kind.ErrorKind.TheVariants.{OutOfMemory}
+use Rattle.clap.specs.declared.builder.action.ArgAction.TheVariants.{SetTrue, Append}
+use Rattle.clap.specs.declared.builder.value_parser.ValueParser.TheVariants.{Signed}
+use Rattle.c62_token.specs.Number.{are_digits}
+use Rattle.c62_command.specs.declared.setting.Setting.{Setting}
+use Rattle.c62_command.specs.declared.setting.SettingError.{SettingError}
+use Rattle.c62_command.specs.declared.setting.SettingError.TheVariants.{Bad, Memory}
+use Rattle.c62_command.specs.declared.command.Packing.{Packing}
+use Rattle.c62_command.specs.declared.command.CommandError.{CommandError}
+use Rattle.c62_command.specs.declared.command.CommandError.TheVariants as refused
+use Rattle.c62_command.specs.declared.command.Start.{Start}
+use Rattle.c62_command.specs.declared.command.Request.{Request}
+use Rattle.c62_command.specs.declared.command.Request.TheVariants.{Pack, Run, Serial, Sim}
+use Rattle.c62_command.specs.Settings.{settings_of, IsFirstBad}
+
+-- ---- what clap takes
+
+-- no argument of a command is also one of its subcommands
+abbrev pub IsLocal : Command → Type 0
+IsLocal command = (out-Command command).has_globals ≡ false
+
+-- `--turns`
+abbrev pub turns_rule : Rule
+turns_rule = record (new_rule (codes "turns")) { long = Some (codes "turns"); action = Some SetTrue }
+
+-- `--eject N`, from 0 to 1,000
+abbrev pub eject_rule : Rule
+eject_rule = record (new_rule (codes "eject")) { long = Some (codes "eject"); value_names = 1; parser = Some (Signed (pos 0) (pos 1000)) }
+
+-- `--blocks N`, from 1 to 1,000,000
+abbrev pub blocks_rule : Rule
+blocks_rule = record (new_rule (codes "blocks")) { long = Some (codes "blocks"); value_names = 1; parser = Some (Signed (pos 1) (pos 1000000)) }
+
+-- `[SETTING]..`
+abbrev pub settings_rule : Rule
+settings_rule = record (new_rule (codes "settings")) { value_names = 1; action = Some Append }
+
+abbrev pub with_packing : App → App
+with_packing app = with_rule (with_rule app turns_rule) eject_rule
+
+abbrev pub with_start : App → App
+with_start app = with_rule (with_rule app blocks_rule) settings_rule
+
+-- `pack [--turns] [--eject N]`
+abbrev pub pack_app : App
+pack_app = with_packing (new_app (codes "pack"))
+
+-- `run [--turns] [--eject N] [--blocks N] [SETTING]..`
+abbrev pub run_app : App
+run_app = with_start (with_packing (new_app (codes "run")))
+
+-- `serial [--blocks N] [SETTING]..`
+abbrev pub serial_app : App
+serial_app = with_start (new_app (codes "serial"))
+
+-- `sim [--blocks N] [SETTING]..`
+abbrev pub sim_app : App
+sim_app = with_start (new_app (codes "sim"))
+
+abbrev pub bare_app : App
+bare_app = let new = new_app (codes "c62") in record new { top = record new.top { no_binary_name = true; subcommand_required = true } }
+
+-- the subcommands that pack
+abbrev pub packing_app : App
+packing_app = with_subcommand (with_subcommand bare_app pack_app.top) run_app.top
+
+-- the whole command line: exactly one subcommand
+abbrev pub tool_app : App
+tool_app = with_subcommand (with_subcommand packing_app serial_app.top) sim_app.top
+
+-- ---- what was asked for
+
+pub data Ask : Type 0 where
+  -- the listing of a text, packed so
+  Listing : Packing → Ask
+  -- the report of a serial run of at most so many blocks, from a state with these settings
+  SerialReport : (blocks : ℕ) → List Setting → Ask
+  -- the report of the same run of the packets of a text, packed so
+  PacketReport : Packing → (blocks : ℕ) → List Setting → Ask
+  -- the report of such a run of the packets that a listing says
+  ListingReport : (blocks : ℕ) → List Setting → Ask
+
+abbrev pub ask_of : Request → Ask
+ask_of (Pack packing) = Listing packing
+ask_of (Run packing start) = PacketReport packing start.blocks start.settings.items
+ask_of (Serial start) = SerialReport start.blocks start.settings.items
+ask_of (Sim start) = ListingReport start.blocks start.settings.items
+
+-- a flag was set
+abbrev pub is_set : Text → List Row → Bool
+is_set flag rows = option_map_or (λ t. bytes_eq t (codes "true")) (first_of flag rows) false
+
+-- a number of so many bits in decimal, with or without a `+` in front
+abbrev pub number_written : ℕ → Text → Option ℕ
+number_written bits text =
+    let digits = without_leading_plus text in
+    if nat_lt 0 (length digits) && are_digits 10 digits && nat_lt (digits_value 10 digits) (2 ^ bits) then Some (digits_value 10 digits)
+    else None
+
+-- the number behind this option, or this one where none is given
+abbrev pub number_of : ℕ → Text → ℕ → List Row → ℕ
+number_of bits option default rows = unwrap_or (option_and_then (number_written bits) (first_of option rows)) default
+
+-- the limit of blocks: 1,000 where none is given
+abbrev pub blocks_of : List Row → ℕ
+blocks_of rows = number_of 32 (codes "blocks") 1000 rows
+
+-- how many ejections a block may have: none where nothing is given
+abbrev pub budget_of : List Row → ℕ
+budget_of rows = number_of 16 (codes "eject") 0 rows
+
+abbrev pub packing_of : List Row → Packing
+packing_of rows = record { turns = is_set (codes "turns") rows; budget = budget_of rows }
+
+-- by turns and without ejections
+abbrev pub plain_packing : Packing
+plain_packing = record { turns = true; budget = 0 }
+
+-- the words that are to be settings
+abbrev pub setting_words : List Row → List Text
+setting_words rows = unwrap_or (all_of (codes "settings") rows) []
+
+-- what clap found for the arguments of a command
+abbrev pub found_rows : ArgMatches → List Row
+found_rows matches = rows_of (found_of matches)
+
+-- the words among that which are to be settings
+abbrev pub words_of : ArgMatches → List Text
+words_of matches = setting_words (found_rows matches)
+
+-- a subcommand by its name, with what was found for its arguments
+abbrev pub named_rows : Text → ArgMatches → Option (Text × List Row)
+named_rows name matches = Some (name, found_rows matches)
+
+-- which report a subcommand asks for, with these settings
+abbrev pub report_asked : Text → List Row → List Setting → Ask
+report_asked name rows settings =
+    if bytes_eq name (codes "run") then PacketReport (packing_of rows) (blocks_of rows) settings
+    else (if bytes_eq name (codes "sim") then ListingReport (blocks_of rows) settings
+    else SerialReport (blocks_of rows) settings)
+
+-- what the subcommand's name and what was found for its arguments ask for, where the settings are good
+abbrev pub ask_in : Option (Text × List Row) → Option Ask
+ask_in None = Some (Listing plain_packing)
+ask_in (Some (name, rows)) =
+    if bytes_eq name (codes "pack") then Some (Listing (packing_of rows))
+    else option_map (report_asked name rows) (settings_of (setting_words rows))
+
+abbrev pub unless_fault : Kinds → Option Ask → Option Ask
+unless_fault [] ask = ask
+unless_fault (kind ∷ kinds) ask = None
+
+-- What the words ask for: no words ask for `pack --turns`. None where clap doesn't take them, or a setting is bad.
+unfoldable pub asked : List Text → Option Ask
+asked [] = Some (Listing plain_packing)
+asked (word ∷ words) = unless_fault (fault_of tool_app (word ∷ words)) (ask_in (subcommand_of tool_app (word ∷ words)))
+
+-- setting k of the subcommand, from 1, is its first bad one
+abbrev pub HasFirstBad : Option (Text × List Row) → ℕ → Type 0
+HasFirstBad None k = ⊥
+HasFirstBad (Some (name, rows)) k = (bytes_eq name (codes "pack") ≡ false) × IsFirstBad (setting_words rows) k
+
+-- an error that blames a setting blames the first bad one of the subcommand
+abbrev pub IsBadIn : Option (Text × List Row) → SettingError → Type 0
+IsBadIn found error = (k : ℕ) → error ≡ Bad k → HasFirstBad found k
+
+-- clap takes the words, and setting k is the first bad one
+abbrev pub HasBadSetting : List Text → ℕ → Type 0
+HasBadSetting words k = (0 < length words) × (fault_of tool_app words ≡ []) × HasFirstBad (subcommand_of tool_app words) k
+
+-- an error of clap that is no want of memory says that clap doesn't take the words
+abbrev pub IsBlame : List Text → Error → Type 0
+IsBlame words error = kind_of error ≢ OutOfMemory → fault_of tool_app words ≢ []
+
+-- there are words, and clap doesn't take them
+abbrev pub IsUnknown : List Text → Type 0
+IsUnknown words = (0 < length words) × (fault_of tool_app words ≢ [])
+
+-- why words ask for nothing: clap doesn't take them, or a setting is bad, unless memory ran out
+abbrev pub IsRefusal : CommandError → List Text → Type 0
+IsRefusal (refused.Words _) words = IsUnknown words
+IsRefusal (refused.Setting k) words = HasBadSetting words k
+IsRefusal refused.Memory words = Unit {0}
+
+-- what a parse that failed is
+abbrev pub IsWordsError : Error → CommandError → Type 0
+IsWordsError clap_error error =
+    ((kind_of clap_error ≡ OutOfMemory) × (error ≡ refused.Memory)) ⊎ ((kind_of clap_error ≢ OutOfMemory) × (error ≡ refused.Words clap_error))
+
+-- what words that are no settings are
+abbrev pub IsSettingError : SettingError → CommandError → Type 0
+IsSettingError Memory error = error ≡ refused.Memory
+IsSettingError (Bad k) error = error ≡ refused.Setting k
+
+-- ---- numbers that are given
+
+-- the number that stands for a value that may be given: that which it writes, between these two, or this one
+abbrev pub IsNumberOf : ℕ → ℕ → ℕ → Option Text → ℕ → Type 0
+IsNumberOf least most default None number = number ≡ default
+IsNumberOf least most default (Some text) number = (signed_digits_value 10 text ≡ pos number) × (least ≤ number) × (number ≤ most)
+
+-- the numbers that a subcommand's options stand for
+pub record AreLimits (rows : List Row) : Type 0 where
+  -- behind `--blocks` 1 to 1,000,000, and 1,000 without it
+  pub blocks : IsNumberOf 1 1000000 1000 (first_of (codes "blocks") rows) (blocks_of rows)
+  -- behind `--eject` 0 to 1,000, and 0 without it
+  pub eject : IsNumberOf 0 1000 0 (first_of (codes "eject") rows) (budget_of rows)
+
+-- Where clap takes the words, no number is made up.
+abbrev pub TakesLimits : List Text → Type 0
+TakesLimits words = (name : Text) (rows : List Row) → fault_of tool_app words ≡ [] → subcommand_of tool_app words ≡ Some (name, rows) → AreLimits rows

@@ -1,0 +1,348 @@
+//! What the words of the command line ask for.
+
+ghost use Rattle.std.specs.Prelude.{◌≡◌, IfOk, IfErr, Some, false, map, []};
+ghost use Rattle.clap.specs.Words.{app_of, rule_of, subcommand_of, subcommand_rows_of, fault_of};
+ghost use Rattle.c62_command.specs.CommandLine.{turns_rule, eject_rule, blocks_rule, settings_rule, pack_app, run_app, serial_app, sim_app, bare_app, packing_app, tool_app, with_packing, with_start, is_set, blocks_of, budget_of, packing_of, plain_packing, IsLocal, found_rows, words_of, named_rows, ask_in, ask_of, asked, IsBadIn, IsBlame, IsRefusal, IsWordsError, IsSettingError};
+ghost use Rattle.c62_command.specs.Settings.{AreSettings, IsBadAmong};
+
+use crate::setting::{Setting, SettingError, read_settings};
+use clap::error::ErrorKind;
+use clap::{Arg, ArgAction, ArgMatches, Command, Error, value_parser};
+use std::alloc::{AllocError, Global};
+use std::convert::AsStr;
+
+/// How many blocks a run has at most, where nothing is said.
+const DEFAULT_BLOCKS: u32 = 1000;
+
+/// What each help ends with: where texts come from and go to, and what the statuses are (README.md, "Command line").
+const STREAMS_AND_STATUS: &str = "\
+The text is read from standard input, and the answer is written to standard output,
+as in: c62 pack < kernel.s
+
+Status, and what standard error says:
+  0  done, and nothing is said
+  1  the text is refused: `line 7: BadUnit` names its first faulty line and the fault;
+     of a listing also `block 0: NotDrained`, or `block 0 cycle 3: P5` and the packet rule
+  2  the words are refused, by a text like this one, or `setting 2: bad`
+  3  no memory: `memory`
+  4  a stream failed: `input` or `output`
+docs/SERIAL_TEXT.md and docs/LISTING.md tell what each fault is.";
+
+/// How blocks are packed.
+#[derive(Clone, Copy, PartialEq, Eq, Debug)]
+pub struct Packing {
+    /// By turns of both sides on one thread, and otherwise by a worker for each side on a thread of its own.
+    pub turns: bool,
+    /// How many ejections there may be in a block.
+    pub budget: u16,
+}
+
+/// Where a run begins, and how many blocks it has at most.
+#[derive(Debug, Drop)]
+pub struct Start {
+    pub blocks: u32,
+    pub settings: Vec<Setting>,
+}
+
+/// What was asked for.
+#[derive(Debug, Drop)]
+pub enum Request {
+    /// The listing of a serial text.
+    Pack(Packing),
+    /// The report of a run of the packets of a serial text.
+    Run(Packing, Start),
+    /// The report of the serial run of a serial text.
+    Serial(Start),
+    /// The report of a run of the packets of a listing.
+    Sim(Start),
+}
+
+/// Why words ask for nothing.
+#[derive(Debug, Drop)]
+pub enum CommandError {
+    /// clap doesn't take the words.
+    Words(Error),
+    /// The setting with this number, from 1, is none.
+    Setting(usize),
+    Memory,
+}
+
+impl From<Error> for CommandError {
+    ghost from_gives = { λ clap_error error. IsWordsError clap_error error };
+
+    fn from(error: Error) -> CommandError {
+        if error.kind() == ErrorKind::OutOfMemory {
+            CommandError::Memory
+        } else {
+            CommandError::Words(error)
+        }
+    }
+}
+
+impl From<SettingError> for CommandError {
+    ghost from_gives = { λ setting_error error. IsSettingError setting_error error };
+
+    fn from(error: SettingError) -> CommandError {
+        match error {
+            SettingError::Memory => CommandError::Memory,
+            SettingError::Bad(number) => CommandError::Setting(number),
+        }
+    }
+}
+
+/// What no words ask for: packing by turns, without ejections.
+const PLAIN: Packing = Packing {
+    turns: true,
+    budget: 0,
+};
+
+fn turns_flag<'a>(alloc: Global) -> Arg<'a>
+    ensures rule { rule_of result ≡ turns_rule }
+    ensures local { result.global ≡ false }
+{
+    Arg::new(alloc, "turns")
+        .long("turns")
+        .action(ArgAction::SetTrue)
+        .help("Packs on one thread, one side after the other")
+}
+
+fn eject_option<'a>(alloc: Global) -> Arg<'a>
+    ensures rule { rule_of result ≡ eject_rule }
+    ensures local { result.global ≡ false }
+{
+    Arg::new(alloc, "eject")
+        .long("eject")
+        .value_name("N")
+        .value_parser(value_parser!(u16).range(0..=1000))
+        .help("Ejects at most N placed instructions of a block, 0 to 1000; 0 where none is given")
+}
+
+fn blocks_option<'a>(alloc: Global) -> Arg<'a>
+    ensures rule { rule_of result ≡ blocks_rule }
+    ensures local { result.global ≡ false }
+{
+    Arg::new(alloc, "blocks")
+        .long("blocks")
+        .value_name("N")
+        .value_parser(value_parser!(u32).range(1..=1_000_000))
+        .help("Runs at most N blocks, 1 to 1000000; 1000 where none is given")
+}
+
+fn settings_words<'a>(alloc: Global) -> Arg<'a>
+    ensures rule { rule_of result ≡ settings_rule }
+    ensures local { result.global ≡ false }
+{
+    Arg::new(alloc, "settings")
+        .value_name("SETTING")
+        .action(ArgAction::Append)
+        .help("REG=NUMBER sets a register, @ADDRESS=NUMBER a word of memory; no file is named here")
+}
+
+/// The command with the options of packing.
+fn with_packing<'a>(alloc: Global, command: Command<'a>) -> Result<Command<'a>, AllocError>
+    ensures app { IfOk result (λ c. app_of c ≡ with_packing (app_of command.entry)) }
+    ensures local { IsLocal command.entry → IfOk result IsLocal }
+{
+    command.arg(turns_flag(alloc))?.arg(eject_option(alloc))
+}
+
+/// The command with the limit of blocks and the settings.
+fn with_start<'a>(alloc: Global, command: Command<'a>) -> Result<Command<'a>, AllocError>
+    ensures app { IfOk result (λ c. app_of c ≡ with_start (app_of command.entry)) }
+    ensures local { IsLocal command.entry → IfOk result IsLocal }
+{
+    command
+        .arg(blocks_option(alloc))?
+        .arg(settings_words(alloc))
+}
+
+fn pack_command<'a>(alloc: Global) -> Result<Command<'a>, AllocError>
+    ensures app { IfOk result (λ c. app_of c ≡ pack_app) }
+    ensures local { IfOk result IsLocal }
+{
+    let command = Command::new(alloc, "pack")
+        .about("Reads serial text and writes its listing")
+        .override_usage("c62 pack [--turns] [--eject <N>]")
+        .after_help(STREAMS_AND_STATUS);
+    with_packing(alloc, command)
+}
+
+fn run_command<'a>(alloc: Global) -> Result<Command<'a>, AllocError>
+    ensures app { IfOk result (λ c. app_of c ≡ run_app) }
+    ensures local { IfOk result IsLocal }
+{
+    let command = Command::new(alloc, "run")
+        .about("Packs serial text, runs the packets and reports the end")
+        .override_usage("c62 run [--turns] [--eject <N>] [--blocks <N>] [SETTING]...")
+        .after_help(STREAMS_AND_STATUS);
+    with_start(alloc, with_packing(alloc, command)?)
+}
+
+fn serial_command<'a>(alloc: Global) -> Result<Command<'a>, AllocError>
+    ensures app { IfOk result (λ c. app_of c ≡ serial_app) }
+    ensures local { IfOk result IsLocal }
+{
+    let command = Command::new(alloc, "serial")
+        .about("Runs serial text, one instruction after the other, and reports the end")
+        .override_usage("c62 serial [--blocks <N>] [SETTING]...")
+        .after_help(STREAMS_AND_STATUS);
+    with_start(alloc, command)
+}
+
+fn sim_command<'a>(alloc: Global) -> Result<Command<'a>, AllocError>
+    ensures app { IfOk result (λ c. app_of c ≡ sim_app) }
+    ensures local { IfOk result IsLocal }
+{
+    let command = Command::new(alloc, "sim")
+        .about("Reads a listing, runs its packets and reports the end")
+        .override_usage("c62 sim [--blocks <N>] [SETTING]...")
+        .after_help(STREAMS_AND_STATUS);
+    with_start(alloc, command)
+}
+
+/// The program with no subcommand yet.
+fn bare_command<'a>(alloc: Global) -> Command<'a>
+    ensures app { app_of result ≡ bare_app }
+    ensures local { IsLocal result }
+{
+    Command::new(alloc, "c62")
+        .about("Packs and runs TMS320C62x instructions")
+        .override_usage("c62 <COMMAND>\n       c62              (this is c62 pack --turns)")
+        .after_help(STREAMS_AND_STATUS)
+        .no_binary_name(true)
+        .subcommand_required(true)
+}
+
+/// The program with the subcommands that pack.
+fn packing_command<'a>(alloc: Global) -> Result<Command<'a>, AllocError>
+    ensures app { IfOk result (λ c. app_of c ≡ packing_app) }
+    ensures local { IfOk result IsLocal }
+{
+    bare_command(alloc)
+        .subcommand(pack_command(alloc)?)?
+        .subcommand(run_command(alloc)?)
+}
+
+fn tool_command<'a>(alloc: Global) -> Result<Command<'a>, AllocError>
+    ensures { IfOk result (λ c. app_of c ≡ tool_app) }
+{
+    packing_command(alloc)?
+        .subcommand(serial_command(alloc)?)?
+        .subcommand(sim_command(alloc)?)
+}
+
+/// What clap reads of the words.
+fn matches_of<'a, S: AsStr>(alloc: Global, words: &'a [S]) -> Result<ArgMatches<'a>, Error>
+    ensures ok { IfOk result (λ m. subcommand_rows_of m ≡ subcommand_of tool_app (map S.text words.entry.now)) }
+    ensures taken { IfOk result (λ _. fault_of tool_app (map S.text words.entry.now) ≡ []) }
+    ensures err { IfErr result (IsBlame (map S.text words.entry.now)) }
+{
+    let command = tool_command(alloc)?;
+    command.try_get_matches_from(words)
+}
+
+/// Whether a flag was set.
+fn is_set(matches: &ArgMatches<'_>, flag: &str) -> bool
+    ensures { result ≡ is_set flag.now (found_rows matches.now) }
+{
+    match matches.get_str(flag) {
+        Some(text) => text == "true",
+        None => false,
+    }
+}
+
+/// The limit of blocks.
+fn blocks_in(matches: &ArgMatches<'_>) -> u32
+    ensures { result ≡ blocks_of (found_rows matches.now) }
+{
+    match matches.get_str("blocks") {
+        Some(text) => text.parse().unwrap_or(DEFAULT_BLOCKS),
+        None => DEFAULT_BLOCKS,
+    }
+}
+
+/// How many ejections a block may have.
+fn budget_in(matches: &ArgMatches<'_>) -> u16
+    ensures { result ≡ budget_of (found_rows matches.now) }
+{
+    match matches.get_str("eject") {
+        Some(text) => text.parse().unwrap_or(0),
+        None => 0,
+    }
+}
+
+fn packing_in(matches: &ArgMatches<'_>) -> Packing
+    ensures { result ≡ packing_of (found_rows matches.now) }
+{
+    Packing {
+        turns: is_set(matches, "turns"),
+        budget: budget_in(matches),
+    }
+}
+
+/// The settings, in their order.
+fn settings_in(alloc: Global, matches: &ArgMatches<'_>) -> Result<Vec<Setting>, SettingError>
+    ensures ok { IfOk result (λ settings. AreSettings (words_of matches.now) settings.items) }
+    ensures err { IfErr result (IsBadAmong (words_of matches.now)) }
+{
+    match matches.get_strs("settings") {
+        Some(texts) => read_settings(alloc, texts),
+        None => Ok(Vec::new(alloc)),
+    }
+}
+
+/// Where a run begins, by the options of its subcommand.
+fn start_in(alloc: Global, matches: &ArgMatches<'_>) -> Result<Start, SettingError>
+    ensures blocks { IfOk result (λ start. start.blocks ≡ blocks_of (found_rows matches.now)) }
+    ensures settings { IfOk result (λ start. AreSettings (words_of matches.now) start.settings.items) }
+    ensures err { IfErr result (IsBadAmong (words_of matches.now)) }
+{
+    Ok(Start {
+        blocks: blocks_in(matches),
+        settings: settings_in(alloc, matches)?,
+    })
+}
+
+/// What the subcommand of this name asks for.
+fn request_named(alloc: Global, name: &str, found: &ArgMatches<'_>) -> Result<Request, SettingError>
+    ensures ok { IfOk result (λ request. ask_in (named_rows name.now found.now) ≡ Some (ask_of request)) }
+    ensures err { IfErr result (IsBadIn (named_rows name.now found.now)) }
+{
+    if name == "pack" {
+        return Ok(Request::Pack(packing_in(found)));
+    }
+    let start = start_in(alloc, found)?;
+    Ok(if name == "run" {
+        Request::Run(packing_in(found), start)
+    } else if name == "sim" {
+        Request::Sim(start)
+    } else {
+        Request::Serial(start)
+    })
+}
+
+/// What the subcommand that was read asks for.
+fn request_in(alloc: Global, matches: &ArgMatches<'_>) -> Result<Request, SettingError>
+    ensures ok { IfOk result (λ request. ask_in (subcommand_rows_of matches.now) ≡ Some (ask_of request)) }
+    ensures err { IfErr result (IsBadIn (subcommand_rows_of matches.now)) }
+{
+    match matches.subcommand() {
+        None => Ok(Request::Pack(PLAIN)),
+        Some((name, found)) => request_named(alloc, name, found),
+    }
+}
+
+/// Reads the words after the program's name. No words ask for `pack --turns`.
+///
+/// The words are blamed where clap doesn't take them, and a setting where it is the first bad one. Want of memory may come
+/// whatever the words are.
+pub fn command_of<'a, S: AsStr>(alloc: Global, words: &'a [S]) -> Result<Request, CommandError>
+    ensures asked { IfOk result (λ request. asked (map S.text words.entry.now) ≡ Some (ask_of request)) }
+    ensures refused { IfErr result (λ error. IsRefusal error (map S.text words.entry.now)) }
+{
+    if words.is_empty() {
+        return Ok(Request::Pack(PLAIN));
+    }
+    let matches = matches_of(alloc, words)?;
+    Ok(request_in(alloc, &matches)?)
+}

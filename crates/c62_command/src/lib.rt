@@ -1,0 +1,10 @@
+//! What the words of the command line ask for.
+#![tactic(auto)]
+
+mod command;
+mod laws;
+mod setting;
+
+pub use command::{CommandError, Packing, Request, Start, command_of};
+pub use laws::takes_limits;
+pub use setting::Setting;
