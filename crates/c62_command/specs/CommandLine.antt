@@ -18,7 +18,6 @@ use Rattle.c62_command.specs.declared.setting.SettingError.TheVariants.{Bad, Mem
 use Rattle.c62_command.specs.declared.command.Packing.{Packing}
 use Rattle.c62_command.specs.declared.command.CommandError.{CommandError}
 use Rattle.c62_command.specs.declared.command.CommandError.TheVariants as refused
-use Rattle.c62_command.specs.declared.command.Start.{Start}
 use Rattle.c62_command.specs.declared.command.Request.{Request}
 use Rattle.c62_command.specs.declared.command.Request.TheVariants.{Pack, Run, Serial, Sim}
 use Rattle.c62_command.specs.Settings.{settings_of, IsFirstBad}

@@ -1,6 +1,5 @@
 -- What answers a text, from what each step gave.
-use Rattle.std.proofs.Common.{◌≡◌, ℕ, List, Result, Ok, Err}
-use Rattle.std.specs.Global.{Vec}
+use Rattle.std.proofs.Common.{ℕ, List, Err}
 use Rattle.c62_read.specs.Block.{Serial}
 use Rattle.c62_packet.specs.Packed.{Packed}
 use Rattle.c62_command.specs.declared.setting.Setting.{Setting}

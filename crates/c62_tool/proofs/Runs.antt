@@ -1,5 +1,5 @@
 -- What a run did, from what each of its steps did.
-use Rattle.std.proofs.Common.{◌≡◌, ℕ, ◌+◌, ◌<◌, ◌≤◌, List, length, take, Option, Some, None, Result, Ok, Err, refl, sym, ap, subst, ◌∙◌, arith, rules, inl, inr}
+use Rattle.std.proofs.Common.{◌≡◌, ℕ, ◌+◌, ◌<◌, List, length, take, Option, Some, None, Result, Ok, Err, refl, sym, ap, subst, ◌∙◌, arith, rules, inl, inr}
 use Rattle.std.specs.Prelude.{◌⊎◌, [], IfSome, IsErrAnd, codes}
 use Rattle.std.specs.Option.{IsSomeAnd}
 use Rattle.std.specs.Global.{Vec}
@@ -8,8 +8,7 @@ use Rattle.std.proofs.lemmas.Bool.{cases_lt, lt-ltb}
 use Rattle.std.proofs.lemmas.List.{take_all, length-take}
 use Rattle.c62_read.specs.Program.{BlockParts, Refusal, drafts_in, program_in}
 use Rattle.c62_line.specs.declared.fault.Cause.TheVariants.{TextTooLong}
-use Rattle.c62_listing_reader.specs.Said.{Drafts}
-use Rattle.c62_listing_reader.specs.Faults.{drafts_in as listed_in, Refusal as Refused}
+use Rattle.c62_listing_reader.specs.Faults.{drafts_in as listed_in}
 use Rattle.c62_listing_reader.specs.declared.fault.ListFault.{ListFault}
 use Rattle.c62_listing_reader.specs.declared.fault.ListFault.TheVariants as listed
 use Rattle.c62_listing_reader.specs.declared.fault.LineFault.TheVariants.{Read}

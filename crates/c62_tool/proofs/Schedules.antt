@@ -1,6 +1,6 @@
 -- The packets of a program's blocks.
-use Rattle.std.proofs.Common.{◌≡◌, ◌∙◌, ℕ, zero, suc, ◌+◌, ◌<◌, ◌≤◌, Bool, true, false, List, [], ◌∷◌, ◌++◌, length, map, Option, Some, refl, sym, ap, subst, arith}
-use Rattle.std.specs.Prelude.{◌&&◌, slice_get, All}
+use Rattle.std.proofs.Common.{◌≡◌, ◌∙◌, ℕ, zero, suc, ◌+◌, ◌<◌, ◌≤◌, true, List, [], ◌∷◌, ◌++◌, length, Option, Some, refl, sym, ap, subst, arith}
+use Rattle.std.specs.Prelude.{slice_get, All}
 use Rattle.std.specs.List.{list_all}
 use Rattle.std.proofs.lemmas.List.{length-append}
 use Rattle.std.proofs.lemmas.List.Sums.{list_all-from_AllPass}
@@ -17,11 +17,11 @@ use Rattle.c62_sheet.specs.declared.entry.Spot.{Spot}
 use Rattle.c62_packet.specs.declared.placed.Placed.{Placed}
 use Rattle.c62_packet.specs.Packed.{Packed}
 use Rattle.c62_packet.specs.Packets.{is_closed, labels_of}
-use Rattle.c62_pipe.specs.Chain.{ArePacked, IsBlockPacked, RunsPackets}
+use Rattle.c62_pipe.specs.Chain.{IsBlockPacked, RunsPackets}
 use Rattle.c62_pipe.proofs.Chains.{run_alike}
 use Rattle.c62_board.specs.State.{BoardState}
 use Rattle.c62_meaning.specs.Laws.{AreSerial}
-use Rattle.c62_pack.specs.Packets.{StandsAt, AreNumbered, ArePackets}
+use Rattle.c62_pack.specs.Packets.{AreNumbered, ArePackets}
 use Rattle.c62_command.specs.declared.command.Packing.{Packing}
 use Rattle.c62_tool.specs.Schedule.{AddsPackets, AreScheduled, IsMade, IsScheduled}
 

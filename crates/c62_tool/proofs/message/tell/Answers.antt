@@ -1,4 +1,4 @@
-use Rattle.std.proofs.Common.{◌+◌, ◌≤◌, length, arith, rules}
+use Rattle.std.proofs.Common.{rules}
 use Rattle.c62_tool.proofs.Telling.{front_more}
 use Rattle.c62_tool.proofs.message.tell.Goals as goal
 

@@ -1,7 +1,6 @@
-use Rattle.std.proofs.Common.{◌≡◌, ◌∙◌, ◌∷◌, [], ◌++◌, ◌≤◌, List, length, sym, ap, subst, append_assoc, append-nil, arith}
+use Rattle.std.proofs.Common.{◌≡◌, ◌∙◌, ◌∷◌, [], ◌≤◌, List, length, sym, ap, subst, append_assoc, append-nil, arith}
 use Rattle.std.specs.Vec.Iter.{into_iter_items}
 use Rattle.c62_read.specs.Block.{Serial, targets_stand}
-use Rattle.c62_packet.specs.Packed.{Packed}
 use Rattle.c62_tool.specs.Schedule.{AreScheduled}
 use Rattle.c62_tool.proofs.Schedules.{closed, few_left, nothing_left, scheduled_next}
 use Rattle.c62_tool.proofs.schedule.packets_by_turns.Goals as goal

@@ -1,6 +1,6 @@
 use Rattle.std.proofs.Common.{map}
 use Rattle.c62_tool.specs.Run.{streams}
-use Rattle.c62_tool.proofs.Runs.{done, failed}
+use Rattle.c62_tool.proofs.Runs.{failed}
 use Rattle.c62_tool.proofs.tool.run_tool.Goals as goal
 
 pub returns-in-Err : goal.returns-in-Err
