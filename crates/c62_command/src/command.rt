@@ -64,6 +64,7 @@ pub enum CommandError {
     Words(Error),
     /// The setting with this number, from 1, is none.
     Setting(usize),
+    /// Memory ran out.
     Memory,
 }
 
@@ -332,10 +333,10 @@ fn request_in(alloc: Global, matches: &ArgMatches<'_>) -> Result<Request, Settin
     }
 }
 
-/// Reads the words after the program's name. No words ask for `pack --turns`.
+/// What the words after the program's name ask for (README.md, "Command line"). No words ask for `pack --turns`.
 ///
-/// The words are blamed where clap doesn't take them, and a setting where it is the first bad one. Want of memory may come
-/// whatever the words are.
+/// The error is `Words` only where clap doesn't take the words, `Setting` only where clap takes them and that setting is the
+/// first bad one, and `Memory` where memory ran out, which may come whatever the words are.
 pub fn command_of<'a, S: AsStr>(alloc: Global, words: &'a [S]) -> Result<Request, CommandError>
     ensures asked { IfOk result (λ request. asked (map S.text words.entry.now) ≡ Some (ask_of request)) }
     ensures refused { IfErr result (λ error. IsRefusal error (map S.text words.entry.now)) }

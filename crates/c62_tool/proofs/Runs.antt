@@ -133,16 +133,10 @@ refuses ask known old text failures.Output read gives = absurd gives
 refuses ask known old text (failures.Words e) read gives = absurd gives
 refuses ask known old text (failures.Setting k) read gives = absurd gives
 
--- what refuses the words blames them
-blames : (error : CommandError) (f : Failure) (words : List Text) → IsCommandFailure error f → IsRefusal error words → Blames f words
-blames (command.Words e) f words is refusal = rw is refusal
-blames (command.Setting k) f words is refusal = rw is refusal
-blames command.Memory f words is refusal = rw is refusal
-
 -- the words are blamed
 pub blamed : (error : CommandError) (f : Failure) (words : List Text) (known old : Option (List ℕ)) → IsCommandFailure error f → IsRefusal error words
     → HasFailed words known old old f
-blamed error f words known old is refusal = inl (blames error f words is refusal, Keeps-same old)
+blamed error f words known old is refusal = inl ((error, is, refusal), Keeps-same old)
 
 -- words that ask for something do so
 pub for_asked : (words : List Text) (ask : Ask) (P : Ask → Type 0) → asked words ≡ Some ask → P ask → IsSomeAnd (asked words) P
@@ -238,13 +232,10 @@ module _ (words : List Text) (old new : Streams) (reads : Reads words old.input 
 
   -- the words ask for nothing
   is_not_asked : (f : Failure) → Blames f words → Keeps old.output new.output → IfSome (message_of f) (Tells old.errors new.errors) → IsRun words old new (status_of f)
-  is_not_asked (failures.Words e) blames quiet told = is_blamed quiet (inl blames)
-  is_not_asked (failures.Setting k) blames quiet told = is_blamed quiet (inr (record { text = setting_message k; is = (k, blames, refl); told = told }))
-  is_not_asked failures.Memory blames quiet told = is_out_of_memory quiet told
-  is_not_asked (failures.Unlisted r) blames quiet told = absurd blames
-  is_not_asked (failures.Unread r) blames quiet told = absurd blames
-  is_not_asked failures.Input blames quiet told = absurd blames
-  is_not_asked failures.Output blames quiet told = absurd blames
+  is_not_asked f (command.Words e, is, unknown) quiet told = rw is (is_blamed quiet (inl unknown))
+  is_not_asked f (command.Setting k, is, bad) quiet told =
+      rw is (is_blamed quiet (inr (record { text = setting_message k; is = (k, bad, refl); told = rw is at told })))
+  is_not_asked f (command.Memory, is, any) quiet told = rw is (is_out_of_memory quiet (rw is at told))
 
   -- what they ask for was not done
   is_not_done : (f : Failure) (ask : Ask) → asked words ≡ Some ask → Fails ask old.input old.output new.output f → IfSome (message_of f) (Tells old.errors new.errors)

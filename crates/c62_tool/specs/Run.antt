@@ -28,7 +28,7 @@ use Rattle.c62_listing_reader.specs.Faults.{IsRead, most_bytes as most_listing_b
 use Rattle.c62_listing_reader.specs.Reading.{Refuses}
 use Rattle.c62_tool.specs.Schedule.{AreScheduled}
 use Rattle.c62_report.specs.Report.{serial_report, packet_report}
-use Rattle.c62_command.specs.CommandLine.{Ask, Listing, SerialReport, PacketReport, ListingReport, IsUnknown, HasBadSetting, asked}
+use Rattle.c62_command.specs.CommandLine.{Ask, Listing, SerialReport, PacketReport, ListingReport, IsRefusal, IsUnknown, HasBadSetting, asked}
 use Rattle.c62_tool.specs.Message.{fault_message, list_message, setting_message, IsFront, Tells, TellsOf}
 
 abbrev pub status_of : Failure → ℕ
@@ -202,12 +202,9 @@ IsBadSetting words message = (k : ℕ) × HasBadSetting words k × (message ≡ 
 abbrev pub AsksNothing : List Text → Option (List ℕ) → Option (List ℕ) → Type 0
 AsksNothing words old new = IsUnknown words ⊎ TellsOf (IsBadSetting words) old new
 
--- why words ask for nothing: clap doesn't take them, or a setting is bad
+-- the failure is an error of the command line that says why the words ask for nothing
 abbrev pub Blames : Failure → List Text → Type 0
-Blames (Words _) words = IsUnknown words
-Blames (Setting k) words = HasBadSetting words k
-Blames Memory words = Unit {0}
-Blames _ words = ⊥
+Blames failure words = (error : CommandError) × IsCommandFailure error failure × IsRefusal error words
 
 -- the program that a text says, or its fault, unless memory ran out
 abbrev pub GivesProgram : List ℕ → Result (List Serial) Failure → Type 0
