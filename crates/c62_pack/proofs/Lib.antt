@@ -1,2 +1,3 @@
 pub mod SameIssues
 pub mod Arranging
+pub mod Headlines

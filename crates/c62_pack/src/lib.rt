@@ -3,6 +3,7 @@
 
 mod arrange;
 mod fault;
+pub mod laws;
 mod packets;
 
 pub use fault::AtFault;
