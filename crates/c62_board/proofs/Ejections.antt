@@ -1,25 +1,27 @@
 -- What a step that ejects makes of its parts.
-use Rattle.std.proofs.Common.{◌≡◌, ℕ, ◌+◌, ◌-◌, ◌<◌, List, [], ◌∷◌, ◌++◌, length, Bool, ap, refl, ◌∙◌, subst, arith, length-append}
+use Rattle.std.proofs.Common.{◌≡◌, ℕ, ◌+◌, ◌-◌, ◌<◌, List, [], ◌∷◌, ◌++◌, length, take, Bool, Result, Ok, Err, sym, ap, refl, ◌∙◌, subst, arith, length-append}
+use Rattle.std.specs.Result.{OnErr}
 use Rattle.c62_op.specs.declared.register.Side.{Side}
 use Rattle.c62_insn.specs.declared.insn.Insn.{Insn}
+use Rattle.c62_read.specs.Block.{Serial}
 use Rattle.c62_depend.specs.Plan.{insns_of}
 use Rattle.c62_sheet.specs.declared.entry.Entry.{Entry}
 use Rattle.c62_sheet.specs.declared.entry.Entry.TheVariants.{Place}
 use Rattle.c62_sheet.specs.declared.entry.Spot.{Spot}
 use Rattle.c62_sheet.specs.declared.entry.Who.{Who}
-use Rattle.c62_sheet.specs.Lawful.{Placements, placed, IsLawful}
+use Rattle.c62_sheet.specs.Lawful.{Spots, Placements, placed, IsLawful}
 use Rattle.c62_sheet.specs.Least.{IsReady, IsLeast, HasNoSpot, IsPick}
 use Rattle.c62_sheet.specs.Journal.{replayed}
 use Rattle.c62_board.specs.declared.turn.Turn.TheVariants.{Placed, Ejected, Idle, Done, NoRoom, Memory}
 use Rattle.c62_board.specs.Chain.{Marks}
 use Rattle.c62_board.specs.Who.{who_of}
-use Rattle.c62_board.specs.Withdrawal.{GoesWith, Withdraws, IsLeft, marked_below}
+use Rattle.c62_board.specs.Withdrawal.{GoesWith, Withdraws, IsLeft, marked_below, withdrawals}
 use Rattle.c62_board.specs.Turn.{IsEjection}
 use Rattle.c62_board.specs.Victim.{IsEjected}
 use Rattle.c62_board.specs.State.{BoardState, IsSound, Adds, GainsRoom, IsWithdrawal, IsReadyNow, IsLeastNow, TakesTurn, HasNoRoomFor}
 use Rattle.c62_sheet.proofs.Picks.{pick_unique}
-use Rattle.c62_board.proofs.Journals.{adds_both, gains_adds}
-use Rattle.c62_board.proofs.Withdrawals.{withdrawn_many}
+use Rattle.c62_board.proofs.Journals.{adds_both, gains_adds, lawful_replayed}
+use Rattle.c62_board.proofs.Withdrawals.{withdrawn_many, one_below, withdraws_marked}
 use Rattle.c62_board.proofs.Victims.{one_victim, ready_left, spot_left}
 use Rattle.c62_board.proofs.Turns.{pick_left, placed_ejected, stuck_ejected}
 
@@ -119,6 +121,61 @@ module _ (old : BoardState) (new : Placements) (side : Side) (i q : ℕ) (sound 
       entries_are = refl;
     },
   )
+
+-- the same of a copy of the spots
+module _ (old : BoardState) (plan : Serial) (rest : Spots) (n : ℕ) (side : Side) (i q : ℕ) (sound : IsSound old)
+    (pick : IsPick (insns_of old.plan) old.spots side i) (ejected : IsEjected (insns_of old.plan) old.spots old.budget i q) (kept : plan ≡ old.plan)
+    (count : n ≡ length old.plan.insns)
+    (copy : IsLeft (insns_of old.plan) old.spots q (who_of side) (take (length old.plan.insns) rest)) where
+  abbrev copied : Placements
+  copied = record { plan = plan; spots = take n rest }
+
+  is_left : IsLeft (insns_of old.plan) old.spots q (who_of side) copied.spots
+  is_left = subst (λ (m : ℕ). IsLeft (insns_of old.plan) old.spots q (who_of side) (take m rest)) (sym count) copy
+
+  pub copy_lawful : IsLawful (insns_of plan) (take n rest)
+  copy_lawful = rw (kept, is_left.spots) (lawful_replayed (insns_of old.plan) old.spots is_left.entries sound.lawful is_left.legal)
+
+  pub copy_ready : IsReady (insns_of plan) (take n rest) i
+  copy_ready = ready_out old copied side i q sound pick ejected kept is_left copy_lawful
+
+  pub copy_spot : HasNoSpot (insns_of plan) (take n rest) i → ⊥
+  copy_spot none = spot_out old copied side i q sound pick ejected kept is_left copy_lawful none
+
+  pub copy_ejection : (s : Spot) → IsLeast (insns_of plan) (take n rest) i s
+      → (entries : List Entry) × IsEjection (insns_of old.plan) old.spots old.budget side q i s entries
+  copy_ejection s least = ejection_out old copied side i q sound pick ejected kept is_left copy_lawful s least
+
+-- an ejection adds the withdrawals of what is marked, and the placing
+pub listed_ejection : (old : BoardState) (side : Side) (i q : ℕ) (s : Spot) (marks : List Bool) (n : ℕ) (who by : Who) (entries listed all : List Entry)
+    → Marks (insns_of old.plan) (GoesWith (insns_of old.plan) old.spots q) marks → n ≡ length (insns_of old.plan) → who ≡ who_of side → by ≡ who_of side
+    → IsEjection (insns_of old.plan) old.spots old.budget side q i s entries → listed ≡ withdrawals marks who n → all ≡ listed ++ Place i s by ∷ []
+    → (left : ℕ) × ((IsEjection (insns_of old.plan) old.spots old.budget side q i s all) × (old.budget ≡ left + 1))
+listed_ejection old side i q s marks n who by entries listed all marked many is_who is_by e is_listed is_all =
+    let block = insns_of old.plan in
+    let own : Withdraws block old.spots q (who_of side) (withdrawals marks (who_of side) (length block)) =
+    withdraws_marked block old.spots q (who_of side) (length block) marks (omega arith) marked in
+    let same : e.withdrawals ≡ withdrawals marks (who_of side) (length block) =
+    one_below block old.spots q (who_of side) (length block) e.withdrawals (withdrawals marks (who_of side) (length block)) e.withdraws own in
+    let list : listed ≡ e.withdrawals = is_listed ∙ ap (λ (w : Who). withdrawals marks w n) is_who ∙ ap (withdrawals marks (who_of side)) many ∙ sym same in (
+      old.budget - 1,
+      (
+        record {
+          pick = e.pick;
+          ejected = e.ejected;
+          withdrawals = e.withdrawals;
+          withdraws = e.withdraws;
+          least = e.least;
+          entries_are = is_all ∙ ap (λ (es : List Entry). es ++ Place i s by ∷ []) list ∙ ap (λ (w : Who). e.withdrawals ++ Place i s w ∷ []) is_by;
+        },
+        (let some = e.ejected.left in omega (arith, some)),
+      ),
+    )
+
+-- where four entries are too few
+pub on_err : {A E : Type 0} (r : Result A E) (P : Type 0) → P → OnErr r P
+on_err (Ok x) P p = tt
+on_err (Err x) P p = p
 
 -- without room for the withdrawals and the placing there is none for the turn
 pub no_room_to_eject : (old : BoardState) (side : Side) (i q : ℕ) (marks : List Bool) → IsPick (insns_of old.plan) old.spots side i

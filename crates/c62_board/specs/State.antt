@@ -127,3 +127,11 @@ IsStep old side (Placed i s) new = TakesTurn old side (Placed i s) new
 IsStep old side (Ejected q i s) new = TakesTurn old side (Ejected q i s) new
 IsStep old side OutOfMemory new = HasNoRoomFor old side × (new ≡ old)
 IsStep old side turn new = TakesTurn old side turn new × (new ≡ old)
+
+-- the turn that a side has, and the entries that its step adds
+abbrev pub IsAhead : BoardState → Side → Turn → List Entry → Type 0
+IsAhead board side turn entries = (left : ℕ) × IsTurn (insns_of board.plan) board.spots board.budget side turn entries left
+
+-- the side's turn has more than four entries
+abbrev pub HasManyEntries : BoardState → Side → Type 0
+HasManyEntries board = HasNoRoomFor (record board { room = 4 })

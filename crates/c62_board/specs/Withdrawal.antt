@@ -1,9 +1,10 @@
 -- What is withdrawn with a number (docs/SCHEDULING.md, "Withdrawing").
-use Rattle.std.specs.Prelude.{◌≡◌, ◌⊎◌, ℕ, zero, suc, ◌+◌, ◌≤◌, ◌++◌, Bool, false, List, [], ◌∷◌, length, slice_index_or, if◌then◌else◌, IsSome, Vec, vec_len, vec_capacity}
+use Rattle.std.specs.Prelude.{◌≡◌, ◌⊎◌, ℕ, zero, suc, ◌+◌, ◌≤◌, ◌++◌, Bool, false, Option, None, List, [], ◌∷◌, length, slice_index_or, if◌then◌else◌, IsSome, Vec, vec_len, vec_capacity}
 use Rattle.std.specs.declared.alloc.Global.{Global}
 use Rattle.c62_insn.specs.declared.insn.Insn.{Insn}
 use Rattle.c62_sheet.specs.declared.entry.Entry.{Entry}
 use Rattle.c62_sheet.specs.declared.entry.Entry.TheVariants.{Withdraw}
+use Rattle.c62_sheet.specs.declared.entry.Spot.{Spot}
 use Rattle.c62_sheet.specs.declared.entry.Who.{Who}
 use Rattle.c62_depend.specs.Plan.{insns_of}
 use Rattle.c62_sheet.specs.Lawful.{Spots, spot_at, Placements}
@@ -39,6 +40,10 @@ withdrawals marks who (suc n) = if slice_index_or marks n false then Withdraw n 
 abbrev pub marked_below : List Bool → ℕ → ℕ
 marked_below marks zero = 0
 marked_below marks (suc n) = marked_below marks n + (if slice_index_or marks n false then 1 else 0)
+
+-- the spot of a number, where it is not marked
+abbrev pub left_at : List Bool → Spots → ℕ → Option Spot
+left_at marks set k = if slice_index_or marks k false then None else spot_at set k
 
 -- the journal has room for the withdrawals of the marked numbers below n
 abbrev pub HasRoomForMarked : Vec Entry Global → List Bool → ℕ → Type 0

@@ -19,7 +19,9 @@ use crate::turn::{Choice, Proposal, Turn, who_of};
 use crate::{victim, withdrawal};
 use c62_depend::Plan;
 use c62_insn::Side;
-use c62_sheet::{Counts, Entry, Sheet, Spot, Unlawful, Who};
+use c62_read::MOST_INSTRUCTIONS;
+use c62_sheet::{Counts, Entry, Sheet, Spot, Unlawful, Who, least_in};
+use smallvec::SmallVec;
 use std::alloc::{AllocError, Global};
 use std::marker::Model;
 
@@ -48,9 +50,10 @@ impl Model for Board {
 }
 
 impl Board {
-    ghost use Rattle.c62_board.specs.State.{BoardState, IsSound, Adds, Has, IsCleared, IsPlaceFault, IsCommitFault, IsWithdrawal, IsWithdrawFault, IsReplayFault, IsStep, HasNoRoomFor, IsReadyNow, IsLeastNow, GainsRoom, nothing_of};
+    ghost use Rattle.c62_board.specs.State.{BoardState, IsSound, Adds, Has, IsCleared, IsPlaceFault, IsCommitFault, IsWithdrawal, IsWithdrawFault, IsReplayFault, IsStep, HasNoRoomFor, IsReadyNow, IsLeastNow, GainsRoom, IsAhead, HasManyEntries, nothing_of};
     ghost use Rattle.c62_sheet.specs.declared.entry.Entry.TheVariants.{Place};
     ghost use Rattle.c62_board.specs.declared.turn.Turn.TheVariants.{Memory};
+    ghost use Rattle.c62_board.specs.declared.fault.CommitFault.TheVariants.{Memory as NoMemory};
 
     /// An empty board.
     ///
@@ -213,17 +216,30 @@ impl Board {
         victim::victim(&self.sheet, i)
     }
 
+    /// Room for so many more entries. With room no call that adds them answers that memory ran out.
+    ///
+    /// # Errors
+    ///
+    /// Where the journal could not grow. The board is as it was.
+    pub fn room(&mut self, entries: usize) -> Result<(), AllocError>
+        ensures room { OnOk result (GainsRoom self.old entries self.new) }
+        ensures full { OnErr result (self.old.room < entries) }
+        ensures unchanged { OnErr result (self.new ≡ self.old) }
+    {
+        self.journal.reserve(entries)
+    }
+
     /// Room for so many more entries.
     fn make_room(&mut self, entries: u16) -> Result<(), AllocError>
         ensures room { OnOk result (GainsRoom self.old entries self.new) }
         ensures full { OnErr result (self.old.room < entries) }
         ensures err { OnErr result (self.new ≡ self.old) }
     {
-        self.journal.reserve(usize::from(entries))
+        self.room(usize::from(entries))
     }
 
-    /// Places a ready instruction at its least spot.
-    fn add_place(&mut self, i: u16, spot: Spot, who: Who)
+    /// Places a ready instruction at its least spot, where the journal has room for that.
+    pub fn put(&mut self, i: u16, spot: Spot, who: Who)
         requires ready { IsReadyNow self.old i }
         requires least { IsLeastNow self.old i spot }
         requires room { 0 < self.old.room }
@@ -268,8 +284,44 @@ impl Board {
         let Ok(()) = self.make_room(1) else {
             return Err(PlaceFault::Memory);
         };
-        self.add_place(i, spot, who);
+        self.put(i, spot, who);
         Ok(spot)
+    }
+
+    /// Whether a proposal may be committed, however little room there is.
+    fn judge(&self, proposal: &Proposal) -> Result<(), CommitFault>
+        ensures ready { OnOk result (IsReadyNow self.now proposal.now.number) }
+        ensures least { OnOk result (IsLeastNow self.now proposal.now.number proposal.now.spot) }
+        ensures fault { IfErr result (IsCommitFault self.now proposal.now) }
+        ensures judged { IfErr result (λ fault. fault ≢ NoMemory) }
+    {
+        let i = proposal.number;
+        if i >= self.sheet.plan().len() || !self.ready(i) {
+            return Err(CommitFault::NotReady);
+        }
+        if !is_spot(self.least(i), proposal.spot) {
+            return Err(CommitFault::Stale(self.journal.len()));
+        }
+        Ok(())
+    }
+
+    /// The entry that [`Board::commit`] adds for a proposal, where the journal has room for it. Nothing is changed, and no
+    /// memory is taken.
+    ///
+    /// # Errors
+    ///
+    /// Those of [`Board::commit`] but `Memory`.
+    pub fn proposed(&self, proposal: &Proposal, who: Who) -> Result<SmallVec<Entry, 4>, CommitFault>
+        ensures ready { OnOk result (IsReadyNow self.now proposal.now.number) }
+        ensures least { OnOk result (IsLeastNow self.now proposal.now.number proposal.now.spot) }
+        ensures entry { IfOk result (λ entries. entries.items ≡ Place proposal.now.number proposal.now.spot who ∷ []) }
+        ensures fault { IfErr result (IsCommitFault self.now proposal.now) }
+        ensures judged { IfErr result (λ fault. fault ≢ NoMemory) }
+    {
+        self.judge(proposal)?;
+        let mut entries = SmallVec::new(*self.journal.allocator());
+        entries.push_reserved(Entry::Place(proposal.number, proposal.spot, who));
+        Ok(entries)
     }
 
     /// Places an instruction as proposed, where the spot is its least spot now. What the proposer saw is not looked at.
@@ -286,17 +338,11 @@ impl Board {
         ensures fault { IfErr result (IsCommitFault self.old proposal.now) }
         ensures unchanged { OnErr result (self.new ≡ self.old) }
     {
-        let i = proposal.number;
-        if i >= self.sheet.plan().len() || !self.ready(i) {
-            return Err(CommitFault::NotReady);
-        }
-        if !is_spot(self.least(i), proposal.spot) {
-            return Err(CommitFault::Stale(self.journal.len()));
-        }
+        self.judge(proposal)?;
         let Ok(()) = self.make_room(1) else {
             return Err(CommitFault::Memory);
         };
-        self.add_place(i, proposal.spot, who);
+        self.put(proposal.number, proposal.spot, who);
         Ok(proposal.spot)
     }
 
@@ -364,7 +410,7 @@ impl Board {
         let Ok(()) = self.make_room(1) else {
             return Turn::Memory;
         };
-        self.add_place(i, spot, who_of(side));
+        self.put(i, spot, who_of(side));
         Turn::Placed(i, spot)
     }
 
@@ -383,7 +429,7 @@ impl Board {
         let Some(spot) = self.least(i) else {
             unreachable!()
         };
-        self.add_place(i, spot, who_of(side));
+        self.put(i, spot, who_of(side));
         self.budget -= 1;
         Turn::Ejected(q, i, spot)
     }
@@ -402,32 +448,83 @@ impl Board {
         }
     }
 
-    /// Where the pick of a side goes once its victim is out with all that goes with it. The board is given up.
-    fn spot_without(self, q: u16, i: u16, side: Side) -> Spot
-        requires pick { IsPick (insns_of self.plan) self.spots side i }
-        requires ejected { IsEjected (insns_of self.plan) self.spots self.budget i q }
-        ensures { EjectsTo (insns_of self.plan) self.spots self.budget side q i result }
+    /// Where the pick of a side goes once its victim is out with all that goes with it, which is marked.
+    fn spot_without(&self, marks: &[bool], q: u16, i: u16, side: Side) -> Spot
+        requires marked { MarksGoing (insns_of self.now.plan) self.now.spots q marks.now }
+        requires many { length self.now.plan.insns ≤ length marks.now }
+        requires pick { IsPick (insns_of self.now.plan) self.now.spots side i }
+        requires ejected { IsEjected (insns_of self.now.plan) self.now.spots self.now.budget i q }
+        ensures { EjectsTo (insns_of self.now.plan) self.now.spots self.now.budget side q i result }
     {
-        let marks = withdrawal::going_with(&self.sheet, q);
-        let mut sheet = self.sheet;
-        withdrawal::leave_out(&mut sheet, &marks, q);
-        sheet.plan();
-        let Some(spot) = sheet.least(i) else {
+        let plan = self.sheet.plan();
+        let count = usize::from(plan.len());
+        let mut rest = [None; MOST_INSTRUCTIONS];
+        withdrawal::copy_left(&self.sheet, marks, q, &mut rest);
+        let Some(spot) = least_in(plan, &rest[..count], i) else {
             unreachable!()
         };
         spot
     }
 
-    /// The turn that a side has, however little room there is. The board is given up.
-    pub(crate) fn turn_of(self, side: Side) -> Turn
-        ensures { HasTurn (insns_of self.plan) self.spots self.budget side result }
+    /// The turn that a side has, however little room there is.
+    pub(crate) fn turn_of(&self, side: Side) -> Turn
+        ensures { HasTurn (insns_of self.now.plan) self.now.spots self.now.budget side result }
     {
         match self.choose(side) {
             Choice::Finished => Turn::Done,
             Choice::Wait => Turn::Idle,
             Choice::Stop(i) => Turn::NoRoom(i),
             Choice::Put(i, spot) => Turn::Placed(i, spot),
-            Choice::Eject(q, i) => Turn::Ejected(q, i, self.spot_without(q, i, side)),
+            Choice::Eject(q, i) => {
+                let marks = withdrawal::going_with(&self.sheet, q);
+                Turn::Ejected(q, i, self.spot_without(&marks, q, i, side))
+            }
+        }
+    }
+
+    /// The turn of a side that ejects, and the entries that it adds.
+    fn ejection_ahead(
+        &self,
+        q: u16,
+        i: u16,
+        side: Side,
+    ) -> Result<(Turn, SmallVec<Entry, 4>), AllocError>
+        requires pick { IsPick (insns_of self.now.plan) self.now.spots side i }
+        requires ejected { IsEjected (insns_of self.now.plan) self.now.spots self.now.budget i q }
+        ensures ahead { IfOk result (λ t. IsAhead self.now side t.0 t.1.items) }
+        ensures many { OnErr result (HasManyEntries self.now side) }
+    {
+        let marks = withdrawal::going_with(&self.sheet, q);
+        let n = self.sheet.plan().len();
+        let count = withdrawal::count_marked(&marks, n);
+        let mut entries = SmallVec::new(*self.journal.allocator());
+        entries.reserve(usize::from(count) + 1)?;
+        let spot = self.spot_without(&marks, q, i, side);
+        withdrawal::list_marked(&mut entries, &marks, n, who_of(side));
+        entries.push_reserved(Entry::Place(i, spot, who_of(side)));
+        Ok((Turn::Ejected(q, i, spot), entries))
+    }
+
+    /// The turn that a side has, and the entries that its step adds, where the journal has room for them. Nothing is
+    /// changed. It takes memory only for more than four entries.
+    ///
+    /// # Errors
+    ///
+    /// Where there are more than four entries, and memory ran out.
+    pub fn ahead(&self, side: Side) -> Result<(Turn, SmallVec<Entry, 4>), AllocError>
+        ensures ahead { IfOk result (λ t. IsAhead self.now side t.0 t.1.items) }
+        ensures many { OnErr result (HasManyEntries self.now side) }
+    {
+        let mut entries = SmallVec::new(*self.journal.allocator());
+        match self.choose(side) {
+            Choice::Finished => Ok((Turn::Done, entries)),
+            Choice::Wait => Ok((Turn::Idle, entries)),
+            Choice::Stop(i) => Ok((Turn::NoRoom(i), entries)),
+            Choice::Put(i, spot) => {
+                entries.push_reserved(Entry::Place(i, spot, who_of(side)));
+                Ok((Turn::Placed(i, spot), entries))
+            }
+            Choice::Eject(q, i) => self.ejection_ahead(q, i, side),
         }
     }
 

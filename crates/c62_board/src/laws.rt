@@ -23,9 +23,8 @@ pub fn has_one_turn()
 {}
 
 /// Each side of every board has a turn, however little room there is for its entries: this one. So a side has exactly one.
-/// The board is given up.
-pub fn has_a_turn(board: Board, side: Side) -> Turn
-    ensures { HasTurn (insns_of board.plan) board.spots board.budget side result }
+pub fn has_a_turn(board: &Board, side: Side) -> Turn
+    ensures { HasTurn (insns_of board.now.plan) board.now.spots board.now.budget side result }
 {
     board.turn_of(side)
 }

@@ -205,6 +205,24 @@ fn takes_turns(rt: &impl Abort, board: &mut Board, from: usize, wanted: &[Turn])
 }
 
 #[test]
+fn turns_are_told_ahead(rt: HostRuntime) -> Result<(), Fail> {
+    let mut board = board_of(&rt, rt.alloc(), SIX, 1)?;
+    for (k, want) in TURNS.iter().enumerate() {
+        let side = side_of(k);
+        let before = board.journal().len();
+        let (turn, entries) = board.ahead(side)?;
+        assert_eq!(rt;
+            (turn, board.journal().len(), board.budget()),
+            (*want, before, u16::from(k < 5))
+        );
+        assert_eq!(rt; board.step(side), *want);
+        let added = board.journal().get(before..).unwrap_or_default();
+        assert_eq!(rt; added, entries.as_slice());
+    }
+    Ok(())
+}
+
+#[test]
 fn two_ejections(rt: HostRuntime) -> Result<(), Fail> {
     let mut board = board_of(&rt, rt.alloc(), SEVEN, 2)?;
     takes_turns(&rt, &mut board, 0, &TWO_EJECTIONS);

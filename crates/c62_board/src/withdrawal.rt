@@ -1,14 +1,16 @@
 //! What is withdrawn with an instruction.
 
-ghost use Rattle.std.specs.Prelude.{◌≡◌, ◌↔◌, ◌++◌, ◌<◌, ◌≤◌, IsTrue, IsSome, length, vec_capacity};
+ghost use Rattle.std.specs.Prelude.{◌≡◌, ◌↔◌, ◌+◌, ◌++◌, ◌<◌, ◌≤◌, IsTrue, IsSome, length, take, vec_capacity};
+ghost use Rattle.smallvec.specs.SmallVec.{HasRoomFor};
 ghost use Rattle.c62_depend.specs.Plan.{insns_of};
 ghost use Rattle.c62_sheet.specs.Lawful.{spot_at};
 ghost use Rattle.c62_board.specs.Chain.{IsMarked};
 ghost use Rattle.c62_sheet.specs.declared.entry.Who.{Who as WhoOf};
-ghost use Rattle.c62_board.specs.Withdrawal.{MarksGoing, HasRoomForMarked, TakesOut, IsLeft, marked_below, withdrawals};
+ghost use Rattle.c62_board.specs.Withdrawal.{MarksGoing, HasRoomForMarked, TakesOut, IsLeft, left_at, marked_below, withdrawals};
 
 use crate::chain::{Chained, led_from};
-use c62_sheet::{Entry, Sheet, Who};
+use c62_sheet::{Entry, Sheet, Spot, Who};
+use smallvec::SmallVec;
 
 /// Whether instruction `j` is marked and placed.
 fn is_marked_and_placed(sheet: &Sheet, marks: &[bool], j: u16) -> bool
@@ -58,6 +60,45 @@ fn write_marked(journal: &mut Vec<Entry>, marks: &[bool], n: u16, who: Who)
                 unreachable!()
             };
         }
+    }
+}
+
+/// Writes the withdrawals of the marked numbers below `n`, highest first, into a list that has room.
+pub(crate) fn list_marked(entries: &mut SmallVec<Entry, 4>, marks: &[bool], n: u16, who: Who)
+    requires many { n ≤ length marks.now }
+    requires room { HasRoomFor entries.old (marked_below marks.now n + 1) }
+    ensures entries { entries.new.items ≡ entries.old.items ++ withdrawals marks.now who n }
+    ensures room { HasRoomFor entries.new 1 }
+{
+    for j in (0..n).rev() {
+        if marks[j as usize] {
+            entries.push_reserved(Entry::Withdraw(j, who));
+        }
+    }
+}
+
+/// Where instruction `k` stands once what is marked is out.
+fn spot_left(sheet: &Sheet, marks: &[bool], k: u16) -> Option<Spot>
+    requires in_plan { k < length sheet.now.plan.insns }
+    requires many { length sheet.now.plan.insns ≤ length marks.now }
+    ensures { result ≡ left_at marks.now sheet.now.spots k }
+{
+    if marks[k as usize] {
+        None
+    } else {
+        sheet.spot_of(k)
+    }
+}
+
+/// Copies the placements without what goes with instruction `i`, which is marked.
+pub(crate) fn copy_left(sheet: &Sheet, marks: &[bool], i: u16, rest: &mut [Option<Spot>])
+    requires marked { MarksGoing (insns_of sheet.now.plan) sheet.now.spots i marks.now }
+    requires many { length sheet.now.plan.insns ≤ length marks.now }
+    requires room { length sheet.now.plan.insns ≤ length rest.old }
+    ensures { (who : WhoOf) → IsLeft (insns_of sheet.now.plan) sheet.now.spots i who (take (length sheet.now.plan.insns) rest.new) }
+{
+    for k in 0..sheet.plan().len() {
+        rest[k as usize] = spot_left(sheet, marks, k);
     }
 }
 

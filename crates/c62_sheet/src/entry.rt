@@ -32,6 +32,13 @@ pub enum Entry {
     Withdraw(u16, Who),
 }
 
+/// What unused places of a list hold.
+impl Default for Entry {
+    fn default() -> Entry {
+        Entry::Withdraw(0, Who::Tail)
+    }
+}
+
 /// What speaks against a placement, in the order in which it is asked (`docs/SCHEDULING.md`, "Why a spot is refused").
 #[derive(Clone, Copy, PartialEq, Eq, Debug, Error)]
 pub enum Rule {

@@ -14,7 +14,7 @@ mod whole;
 
 pub use entry::{Counts, Entry, Rule, Spot, Unlawful, Who};
 pub use sheet::Sheet;
-pub use whole::are_lawful;
+pub use whole::{are_lawful, least_in};
 
 #[cfg(test)]
 mod tests;

@@ -17,7 +17,7 @@ use std::alloc::{AllocError, Global};
 use std::marker::Model;
 
 /// A lawful set of placements of the instructions of a plan: by its type no other can be had. A call on a number asks
-/// that it is below the plan's `len`. Only [`Sheet::new`] takes memory.
+/// that it is below the plan's `len`. Only [`Sheet::new`] and [`Sheet::copy`] take memory.
 #[derive(Drop)]
 pub struct Sheet {
     plan: Plan,
@@ -67,6 +67,21 @@ impl Sheet {
             }),
             Err(error) => Err((plan, error)),
         }
+    }
+
+    /// An equal sheet.
+    ///
+    /// # Errors
+    ///
+    /// Where memory ran out.
+    pub fn copy(&self, alloc: Global) -> Result<Sheet, AllocError>
+        ensures { IfOk result (λ sheet. sheet ≡ self.now) }
+    {
+        Ok(Sheet {
+            plan: self.plan.copy(alloc)?,
+            spots: Vec::from_slice(alloc, &self.spots)?,
+            missing: Vec::from_slice(alloc, &self.missing)?,
+        })
     }
 
     /// The plan whose instructions are placed. By this call a caller learns what holds of every sheet: what is placed is

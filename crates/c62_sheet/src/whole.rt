@@ -3,10 +3,11 @@
 ghost use Rattle.std.specs.Prelude.{◌≡◌, ◌↔◌, ◌<◌, ◌≤◌, length, map, Some, None, IsTrue};
 ghost use Rattle.c62_depend.specs.Plan.{insns_of};
 ghost use Rattle.c62_sheet.specs.Lawful.{IsLawful, placed};
-ghost use Rattle.c62_sheet.specs.Least.{IsReady};
+ghost use Rattle.c62_sheet.specs.Least.{IsReady, FindsLeast};
 
 use crate::early::early;
 use crate::entry::Spot;
+use crate::judge;
 use crate::packet::rule_against;
 use c62_depend::Plan;
 use c62_read::MOST_INSTRUCTIONS;
@@ -48,4 +49,15 @@ pub fn are_lawful(plan: &Plan, spots: &[Spot]) -> bool
         set[usize::from(i)] = Some(spot);
     }
     true
+}
+
+/// The least spot, on a lawful set of placements that is given by its spots, of an instruction that is ready there
+/// ([`Sheet::least`](crate::Sheet::least) is the same of a sheet). This takes no memory.
+pub fn least_in(plan: &Plan, spots: &[Option<Spot>], i: u16) -> Option<Spot>
+    requires lawful { IsLawful (insns_of plan.now) spots.now }
+    requires in_plan { i < length plan.now.insns }
+    requires ready { IsReady (insns_of plan.now) spots.now i }
+    ensures { FindsLeast (insns_of plan.now) spots.now i result }
+{
+    judge::least(plan, spots, i)
 }

@@ -9,6 +9,7 @@ use crate::workers::worker;
 use c62_board::Board;
 use c62_depend::Plan;
 use c62_insn::Side;
+use c62_view::{DeskFault, desk_of};
 use std::alloc::{AllocError, Global};
 use std::sync::{Mutex, Wait};
 use std::thread::{Threads, join};
@@ -20,6 +21,28 @@ pub struct Options {
     pub turns: u32,
     /// The most ejections of the whole schedule.
     pub budget: u16,
+}
+
+/// The board once two workers had their turns on it, or as it was where viewers had no place.
+fn worked<R: Threads + Wait + Sync, G: Gate + Sync>(
+    rt: &R,
+    alloc: Global,
+    board: Board,
+    turns: u32,
+    gate: &G,
+) -> Result<Board, AllocError> {
+    let (desk, mut first, mut second) = match desk_of(rt, alloc, board) {
+        Ok(made) => made,
+        Err((board, DeskFault::NoSeat)) => return Ok(board),
+        Err((_, DeskFault::Memory)) => return Err(AllocError),
+    };
+    let shared = Mutex::new(desk);
+    join(
+        rt,
+        || worker(rt, &shared, &mut first, Side::A, turns, gate),
+        || worker(rt, &shared, &mut second, Side::B, turns, gate),
+    );
+    Ok(shared.into_inner().close(rt))
 }
 
 /// Places the instructions of a plan by two workers, one for each side, each on a thread of its own, and finishes what
@@ -41,13 +64,8 @@ pub fn schedule<R: Threads + Wait + Sync, G: Gate + Sync>(
     let Ok(board) = Board::new(alloc, plan, options.budget) else {
         return Err(AllocError);
     };
-    let shared = Mutex::new(board);
-    join(
-        rt,
-        || worker(rt, &shared, Side::A, options.turns, gate),
-        || worker(rt, &shared, Side::B, options.turns, gate),
-    );
-    let board = finish(alloc, shared.into_inner(), &given)?;
+    let placed = worked(rt, alloc, board, options.turns, gate)?;
+    let board = finish(alloc, placed, &given)?;
     board.plan();
     Ok(board)
 }

@@ -5,11 +5,12 @@ use c62_board::{Board, Entry, Spot, Turn, Who};
 use c62_depend::Plan;
 use c62_insn::{Letter, Side, Unit};
 use c62_read::read_program;
+use c62_view::{Desk, Viewer, desk_of};
 use std::alloc::Global;
 use std::hint::spin_loop;
 use std::process::Abort;
-use std::sync::Mutex;
 use std::sync::atomic::{AtomicU64, Ordering};
+use std::sync::{Mutex, Wait};
 use std::test::Fail;
 
 /// Three instructions of side A, of which the last needs the other two.
@@ -36,6 +37,14 @@ fn board_of(rt: &impl Abort, alloc: Global, text: &str, budget: u16) -> Result<B
     match Board::new(alloc, plan_of(rt, alloc, text)?, budget) {
         Ok(board) => Ok(board),
         Err((_, error)) => Err(error.into()),
+    }
+}
+
+/// A desk of an empty board of a text, and a viewer of it.
+fn desk_on<R: Abort + Wait>(rt: &R, alloc: Global, text: &str) -> Result<(Desk, Viewer), Fail> {
+    match desk_of(rt, alloc, board_of(rt, alloc, text, 0)?) {
+        Ok((desk, viewer, _)) => Ok((desk, viewer)),
+        Err(_) => Err("no desk".into()),
     }
 }
 
@@ -180,8 +189,11 @@ fn a_gate_holds_a_worker_back(rt: HostRuntime) -> Result<(), Fail> {
 #[test]
 fn workers_make_their_turns(rt: HostRuntime) -> Result<(), Fail> {
     for (side, made) in [(Side::A, 4), (Side::B, 100)] {
-        let board = Mutex::new(board_of(&rt, rt.alloc(), SUM, 0)?);
-        assert_eq!(rt; worker(&rt, &board, side, 100, &FreeGate), made);
+        let (desk, mut viewer) = desk_on(&rt, rt.alloc(), SUM)?;
+        let desk = Mutex::new(desk);
+        let turns = worker(&rt, &desk, &mut viewer, side, 100, &FreeGate);
+        desk.into_inner().close(&rt);
+        assert_eq!(rt; turns, made);
     }
     let options = Options {
         turns: 2,
@@ -199,69 +211,25 @@ fn workers_make_their_turns(rt: HostRuntime) -> Result<(), Fail> {
     Ok(())
 }
 
-/// Keeps what it is told of the turns of a worker, and whether the lock was free when it was told.
-#[derive(Drop)]
-struct Watch<'a> {
-    board: &'a Mutex<Board>,
-    told: [AtomicU64; 8],
-    count: AtomicU64,
-}
-
-impl Watch<'_> {
-    /// Keeps a number, or 0 where the lock is held.
-    fn keep(&self, number: u64) {
-        let place = self.count.fetch_add(1, Ordering::SeqCst);
-        if let Some(slot) = self.told.get(place as usize) {
-            let free = self.board.try_lock().is_some();
-            slot.store(if free { number } else { 0 }, Ordering::SeqCst);
-        }
-    }
-}
-
-/// A number for what is told of a turn of a side: thousands for the side, and hundreds for the turn.
-fn turn_number(side: Side, turn: u32, what: u32) -> u64 {
-    let thousands = match side {
-        Side::A => 1000,
-        Side::B => 2000,
-    };
-    thousands + 100 * u64::from(turn) + u64::from(what)
-}
-
-impl Gate for Watch<'_> {
-    fn before(&self, side: Side, turn: u32) {
-        self.keep(turn_number(side, turn, 1));
-    }
-
-    fn after(&self, side: Side, turn: u32, came: &Turn) {
-        let what = match came {
-            Turn::Placed(i, _) => 20 + u32::from(*i),
-            Turn::Idle => 2,
-            Turn::Done => 3,
-            Turn::Ejected(_, _, _) | Turn::NoRoom(_) | Turn::Memory => 4,
-        };
-        self.keep(turn_number(side, turn, what));
-    }
-}
-
+/// The turn of a planner that saw another desk goes as it planned: a step would place number 0.
 #[test]
-fn a_gate_is_told_each_turn(rt: HostRuntime) -> Result<(), Fail> {
-    let cases = [
-        (Side::A, [1001, 1020, 1101, 1121, 1201, 1222, 1301, 1303]),
-        (Side::B, [2001, 2002, 2101, 2102, 2201, 2202, 2301, 2302]),
-    ];
-    for (side, want) in &cases {
-        let board = Mutex::new(board_of(&rt, rt.alloc(), SUM, 0)?);
-        let gate = Watch {
-            board: &board,
-            told: [0; 8].map(AtomicU64::new),
-            count: AtomicU64::new(0),
-        };
-        assert_eq!(rt; worker(&rt, &board, *side, 4, &gate), 4);
-        assert_eq!(rt; gate.count.load(Ordering::SeqCst), 8);
-        for (slot, number) in gate.told.iter().zip(want.iter()) {
-            assert_eq!(rt; slot.load(Ordering::SeqCst), *number);
+fn a_worker_goes_by_its_viewer(rt: HostRuntime) -> Result<(), Fail> {
+    let (desk, mut own) = desk_on(&rt, rt.alloc(), "LDW *A4,A5\nLDW *A6,A7")?;
+    let (other, mut viewer) = match desk_on(&rt, rt.alloc(), "MVK 1,A1\nLDW *A4,A5") {
+        Ok(made) => made,
+        Err(error) => {
+            desk.close(&rt);
+            return Err(error);
         }
-    }
+    };
+    let desk = Mutex::new(desk);
+    let turns = worker(&rt, &desk, &mut viewer, Side::A, 1, &FreeGate);
+    let board = desk.into_inner().close(&rt);
+    other.close(&rt);
+    assert_eq!(rt; turns, 1);
+    assert!(rt; own.plan(Side::A).is_none() && viewer.plan(Side::A).is_none());
+    let found = journal_text(rt.alloc(), &board)?;
+    assert_eq!(rt; found.as_str(), "+1@0.D1A ");
     Ok(())
 }
 

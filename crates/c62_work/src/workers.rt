@@ -4,10 +4,11 @@ ghost use Rattle.std.specs.Prelude.{◌≤◌};
 
 use crate::alternating::goes_on;
 use crate::gate::Gate;
-use c62_board::{Board, Turn};
+use c62_board::{CommitFault, Proposal, Turn, Who};
 use c62_insn::Side;
+use c62_view::{Desk, Viewer};
 use std::hint::spin_loop;
-use std::sync::{Mutex, Wait};
+use std::sync::{Mutex, MutexGuard, Wait};
 use std::thread::yield_now;
 
 /// How long a side rests that found nothing to place.
@@ -21,12 +22,46 @@ fn rest() {
     yield_now();
 }
 
-/// Takes turns for a side on a board behind a lock. A turn is the gate's `before`, one [`Board::step`] of the side while
-/// the lock is held, and the gate's `after`. It ends on Done, NoRoom or Memory, or after so many turns, and answers how
-/// many turns it made.
-pub fn worker<G: Gate>(
-    rt: &impl Wait,
-    board: &Mutex<Board>,
+/// Who makes a side's entries.
+fn who_of(side: Side) -> Who {
+    match side {
+        Side::A => Who::A,
+        Side::B => Who::B,
+    }
+}
+
+/// What a side's turn comes to on a desk.
+fn turn_on<R: Wait>(rt: &R, desk: &mut Desk, planned: Option<Proposal>, side: Side) -> Turn {
+    let Some(proposal) = planned else {
+        return desk.step(rt, side).0;
+    };
+    if desk.board().budget() > 0 {
+        return desk.step(rt, side).0;
+    }
+    match desk.commit(rt, &proposal, who_of(side)) {
+        Ok((spot, _)) => Turn::Placed(proposal.number, spot),
+        Err(CommitFault::Memory) => Turn::Memory,
+        Err(CommitFault::NotReady | CommitFault::Stale(_)) => desk.step(rt, side).0,
+    }
+}
+
+/// Commits what was planned, where something was, no ejections are left and it is not refused. The turn of the side is
+/// taken where it is not.
+fn take_turn<R: Wait>(rt: &R, desk: &Mutex<Desk>, planned: Option<Proposal>, side: Side) -> Turn {
+    let mut guard = desk.lock(rt);
+    let came = turn_on(rt, &mut guard, planned, side);
+    MutexGuard::unlock(guard);
+    came
+}
+
+/// Takes turns for a side on a desk behind a lock. A turn is the gate's `before`, a plan of the viewer without the lock,
+/// what comes of it while the lock is held, and the gate's `after`: [`Desk::commit`] of what was planned, or
+/// [`Desk::step`] where nothing was, ejections are left, or the commit is refused as not ready or stale. It ends on Done,
+/// NoRoom or Memory, or after so many turns, and answers how many turns it made. The viewer may be of another desk.
+pub fn worker<R: Wait, G: Gate>(
+    rt: &R,
+    desk: &Mutex<Desk>,
+    viewer: &mut Viewer,
     side: Side,
     turns: u32,
     gate: &G,
@@ -35,7 +70,8 @@ pub fn worker<G: Gate>(
 {
     for turn in 0..turns {
         gate.before(side, turn);
-        let came = board.lock(rt).step(side);
+        let planned = viewer.plan(side);
+        let came = take_turn(rt, desk, planned, side);
         gate.after(side, turn, &came);
         if !goes_on(came) {
             return turn + 1;

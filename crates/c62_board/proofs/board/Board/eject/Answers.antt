@@ -38,8 +38,8 @@ unreachable-requires c =
     eject_spot c.args.self.now c.make_room.new.self c.withdraw_marked.new.self c.args.side c.args.i c.args.q _ _ c.who_of.result (rw (← c.self.view_is) c.self.invariant) c.withdraw_marked.ensures.sound
     c.requires.pick c.requires.ejected c.in-Ok.ensures.room c.withdraw_marked.ensures.withdrawn c.in_default-least.ensures
 
-pub add_place-requires-clause-ready : goal.add_place-requires-clause-ready
-add_place-requires-clause-ready c =
+pub put-requires-clause-ready : goal.put-requires-clause-ready
+put-requires-clause-ready c =
     eject_ready c.args.self.now c.make_room.new.self c.withdraw_marked.new.self c.args.side c.args.i c.args.q _ _ c.who_of.result (rw (← c.self.view_is) c.self.invariant) c.withdraw_marked.ensures.sound
     c.requires.pick c.requires.ejected c.in-Ok.ensures.room c.withdraw_marked.ensures.withdrawn
 
@@ -47,4 +47,4 @@ pub returns : goal.returns
 returns c =
     eject_turn c.args.self.now c.make_room.new.self c.withdraw_marked.new.self c.args.side c.args.i c.args.q _ _ c.who_of.result (rw (← c.self.view_is) c.self.invariant) c.withdraw_marked.ensures.sound
     c.requires.pick c.requires.ejected c.in-Ok.ensures.room c.withdraw_marked.ensures.withdrawn
-    c.in-Some.spot c.who_of-2.result _ c.who_of.ensures c.who_of-2.ensures c.in-Some.ensures (rw c.self-2.view_is c.add_place.ensures)
+    c.in-Some.spot c.who_of-2.result _ c.who_of.ensures c.who_of-2.ensures c.in-Some.ensures (rw c.self-2.view_is c.put.ensures)

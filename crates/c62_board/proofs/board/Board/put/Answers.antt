@@ -6,7 +6,7 @@ use Rattle.c62_sheet.specs.declared.entry.Entry.TheVariants.{Place}
 use Rattle.c62_board.specs.State.{IsReadyNow, IsLeastNow}
 use Rattle.c62_board.specs.View.{state_of}
 use Rattle.c62_board.proofs.Journals.{sound_after}
-use Rattle.c62_board.proofs.board.Board.add_place.Goals as goal
+use Rattle.c62_board.proofs.board.Board.put.Goals as goal
 
 pub invariant_of-self : goal.invariant_of-self
 invariant_of-self c =

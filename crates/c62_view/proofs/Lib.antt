@@ -1,0 +1,6 @@
+mod Prefixes
+mod Adding
+mod Courses
+mod Follows
+mod Played
+mod Stepping
