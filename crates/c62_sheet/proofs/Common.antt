@@ -26,13 +26,19 @@ pub use Rattle.c62_sheet.specs.Index.{AreHigher, AreLower, IsIndex, is_missing, 
 pub use Rattle.c62_sheet.specs.Lawful.{IsAt, IsLawful, Spots, issue_at, issues, nothing_placed, placed, spot_at, withdrawn}
 pub use Rattle.c62_sheet.specs.Least.{FitsWithout, HasNoPick, HasNoSpot, IsAfter, IsBefore, IsComplete, IsEarly, IsLast, IsLeast, IsPick, IsReady}
 pub use Rattle.c62_sheet.specs.Least.{IsReadyOn, Precedes}
-pub use Rattle.c62_sheet.specs.Packet.{BreaksFirst, Fits, IsUsed, KeepsAll, OfNumber, TellsFirst, Wants, has_read_left, has_reads_left, is_path}
-pub use Rattle.c62_sheet.specs.Packet.{reads_at, uses_in, uses_on}
+pub use Rattle.c62_sheet.specs.Packet.{BreaksFirst, Fits, KeepsAll, rule_of}
+pub use Rattle.c62_sheet.specs.Rows.{AreRows, FitsRow}
 pub use Rattle.c62_sheet.specs.declared.entry.Rule.{Rule}
 pub use Rattle.c62_sheet.specs.declared.entry.Rule.TheVariants.{Delay, Limit, Missing, P1, P2, P3, P4, P5, Placed, Unit as WrongUnit}
 pub use Rattle.c62_sheet.specs.declared.entry.Spot.{Spot}
-pub use Rattle.c62_sheet.specs.declared.resource.Resource.{Resource}
-pub use Rattle.c62_sheet.specs.declared.resource.Resource.TheVariants.{CrossPath, DataPath, OnUnit}
+pub use Rattle.c62_row.specs.declared.resource.Resource.{Resource}
+pub use Rattle.c62_row.specs.declared.resource.Resource.TheVariants.{CrossPath, DataPath, OnUnit}
+pub use Rattle.c62_row.specs.declared.row.PacketRule.{PacketRule}
+pub use Rattle.c62_row.specs.declared.row.Row.{Row}
+pub use Rattle.c62_row.specs.Row.{is_taken, is_path_taken, reads_taken, reads_too_often, rule_against, IsWith, IsWithout, IsEmpty, HasReads}
+pub use Rattle.c62_row.specs.Issued.{IsRowOf, IsUsed}
+pub use Rattle.c62_row.specs.Resource.{uses}
+pub use Rattle.c62_row.proofs.Users.{Uses, uses-is, is-use}
 pub use Rattle.std.proofs.Common.{Bool, List, None, Option, Some, [], add-one, ap, arith, cond, drop, false, get_or, get_or-set_other}
 pub use Rattle.std.proofs.Common.{get_or-set_same, inl, inr, leb, length, length-set, ltb, map, max, pos, refl, rules, subst, suc, sym, take, true}
 pub use Rattle.std.proofs.Common.{zero, ℕ, ℤ, ◌*◌, ◌+ℤ◌, ◌+◌, ◌-ℤ◌, ◌-◌, ◌<◌, ◌∙◌, ◌∷◌, ◌≡◌, ◌≢◌, ◌≤◌, ◌⊎◌}

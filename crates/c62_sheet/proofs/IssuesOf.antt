@@ -2,7 +2,7 @@
 use Rattle.c62_sheet.proofs.Common.{[], arith, ◌≡◌, ℕ, zero, suc, ◌+◌, ◌<◌, List, ◌∷◌, length, take, get_or, Option, Some, None, refl, sym, ap, ◌∙◌}
 use Rattle.c62_sheet.proofs.Common.{inl, inr, slice_get, slice_set, option_map, sum_by, get_or_default, get_or_past, sum_by_more, same_Some}
 use Rattle.c62_sheet.proofs.Common.{none-some, slice_get_cases, Reg, Insn, Issue, IsIssued, reads_in, Spot, Spots, IsAt, spot_at, placed, withdrawn}
-use Rattle.c62_sheet.proofs.Common.{issue_at, issues, reads_at}
+use Rattle.c62_sheet.proofs.Common.{issue_at, issues}
 
 pub length-issues : (block : List Insn) (set : Spots) → length set ≡ length block → length (issues block set) ≡ length block
 length-issues [] set h = refl
@@ -58,21 +58,3 @@ issues-withdrawn [] set i h = refl
 issues-withdrawn (first ∷ block) [] i h = refl
 issues-withdrawn (first ∷ block) (o ∷ set) zero h = refl
 issues-withdrawn (first ∷ block) (o ∷ set) (suc i) h = rw (issues-withdrawn block set i (omega (arith, h))) refl
-
-reads_in-at : (cycle : ℕ) (reg : Reg) (insn : Insn) (o : Option Spot) → reads_in cycle reg (option_map (issue_at insn) o) ≡ reads_at cycle reg insn o
-reads_in-at cycle reg insn None = refl
-reads_in-at cycle reg insn (Some s) = refl
-
--- a count of reads goes on by one number
-pub reads-more : (block : List Insn) (set : Spots) (cycle : ℕ) (reg : Reg) (k n : ℕ) (d : Option Spot) (count own : ℕ) → length set ≡ length block
-    → k < length block → n ≡ k → ((insn : Insn) → slice_get block k ≡ Some insn → own ≡ reads_at cycle reg insn (get_or set n d))
-    → count ≡ sum_by (reads_in cycle reg) (take k (issues block set)) → count + own ≡ sum_by (reads_in cycle reg) (take (k + 1) (issues block set))
-reads-more block set cycle reg k n d count own h lt at_k tells count_is =
-    elim ((slice_get_cases block k).1) [
-      | inl w ↦
-          let more = sum_by_more (reads_in cycle reg) (issues block set) k None (omega (arith, lt, length-issues block set h)) in
-          let here = ap (reads_in cycle reg) (issue-at block set k w.0 h w.2) ∙ reads_in-at cycle reg w.0 (spot_at set k) in
-          let same : get_or set n d ≡ spot_at set k = rw at_k (get_or_default set k d None (omega (arith, lt, h))) in
-          omega (arith, more, here, tells w.0 w.2 ∙ ap (reads_at cycle reg w.0) same, count_is)
-      | inr w ↦ absurd (omega (arith, lt, w.0))
-    ]

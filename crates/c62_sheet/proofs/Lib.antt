@@ -9,6 +9,8 @@ pub mod Missing
 pub mod EarlyCycles
 pub mod Turns
 pub mod Asking
+pub mod RowsOf
+pub mod Fronts
 pub mod Search
 pub mod Picks
 pub mod Tallies

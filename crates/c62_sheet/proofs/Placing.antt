@@ -10,7 +10,8 @@ use Rattle.c62_insn.specs.Dependence.{are_exclusive}
 use Rattle.c62_sheet.proofs.Optional.{none_not_some}
 use Rattle.c62_sheet.proofs.Sets.{spot_at-placed_same, spot_at-placed_other, spot_at-withdrawn_other, IsAt-placed, IsAt-withdrawn}
 use Rattle.c62_sheet.proofs.IssuesOf.{issued-placement, issues-placed, issues-withdrawn, length-issues, issue-at}
-use Rattle.c62_sheet.proofs.Adding.{Uses, IsAlone, LandsAlone, rules-added}
+use Rattle.c62_sheet.proofs.Common.{Uses}
+use Rattle.c62_sheet.proofs.Adding.{IsAlone, LandsAlone, rules-added}
 
 -- two writers of one register are in order: none are exclusive
 writers_in_order : (block : List Insn) (i j : ℕ) (p q : Insn) (reg : Reg) (first second : ℕ) → i < j → slice_get block i ≡ Some p

@@ -12,7 +12,7 @@ module _ (block : List Insn) (set : Spots) (q : ℕ) (lawful : IsLawful block se
       rw (issues-withdrawn block set q lawful.sized)
       (part-keeps (slice_set (issues block set) q None) (issues block set) (part-without (issues block set) q) lawful.rules)
 
-  free_without : (i : ℕ) → spot_at set i ≡ None → spot_at (withdrawn set q) i ≡ None
+  pub free_without : (i : ℕ) → spot_at set i ≡ None → spot_at (withdrawn set q) i ≡ None
   free_without i free = grind (arith, lawful.sized, spot_at-withdrawn_same set q, spot_at-withdrawn_other set q i)
 
 -- a ready number

@@ -8,3 +8,4 @@ pub mod Index
 pub mod Early
 pub mod View
 pub mod Laws
+pub mod Rows

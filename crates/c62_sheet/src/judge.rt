@@ -11,25 +11,40 @@ ghost use Rattle.c62_sheet.specs.Lawful.{spot_at, withdrawn, issues, IsLawful};
 ghost use Rattle.c62_sheet.specs.Least.{IsReady, IsReadyOn, IsAfter, IsLeast, FindsLeast, Picks, IsLast, FitsWithout};
 ghost use Rattle.c62_sheet.specs.Check.{Judges};
 ghost use Rattle.c62_sheet.specs.Index.{IsIndex};
-ghost use Rattle.c62_sheet.specs.Packet.{Fits};
+ghost use Rattle.c62_sheet.specs.Packet.{rule_of};
+ghost use Rattle.c62_sheet.specs.Rows.{AreRows, FitsRow};
 
 use crate::early::early;
 use crate::entry::{Rule, Spot, Unlawful};
-use crate::packet::rule_against;
+use crate::rows::row_without;
 use c62_depend::Plan;
-use c62_insn::{Side, Unit, UnitSet};
-use c62_read::MOST_INSTRUCTIONS;
+use c62_insn::{Insn, Side, Unit, UnitSet};
+use c62_row::{PacketRule, Row};
+
+/// A packet rule among the rules for a spot.
+fn rule_of(rule: PacketRule) -> Rule
+    ensures { result ≡ rule_of rule }
+{
+    match rule {
+        PacketRule::P1 => Rule::P1,
+        PacketRule::P2 => Rule::P2,
+        PacketRule::P3 => Rule::P3,
+        PacketRule::P4 => Rule::P4,
+    }
+}
 
 /// Whether instruction `i` may be placed at a spot, or the first rule against it.
 pub(crate) fn check(
     plan: &Plan,
     spots: &[Option<Spot>],
     missing: &[u16],
+    rows: &[Row],
     i: u16,
     spot: Spot,
 ) -> Result<(), Unlawful>
     requires lawful { IsLawful (insns_of plan.now) spots.now }
     requires index { IsIndex (insns_of plan.now) spots.now missing.now }
+    requires rows { AreRows (insns_of plan.now) spots.now rows.now }
     requires in_plan { i < length plan.now.insns }
     ensures { Judges (insns_of plan.now) spots.now i spot result }
 {
@@ -65,8 +80,11 @@ pub(crate) fn check(
             cycle: first,
         });
     }
-    match rule_against(plan, spots, i, spot) {
-        Some(rule) => Err(Unlawful { rule, cycle }),
+    match rows[usize::from(cycle)].rule_against(plan.insn(i), spot.unit) {
+        Some(rule) => Err(Unlawful {
+            rule: rule_of(rule),
+            cycle,
+        }),
         None => Ok(()),
     }
 }
@@ -81,64 +99,56 @@ pub(crate) fn is_ready(plan: &Plan, spots: &[Option<Spot>], missing: &[u16], i: 
     spots[usize::from(i)].is_none() && missing[usize::from(i)] == 0
 }
 
-/// Whether instruction `i` may stand at a spot beside what is placed there.
-fn fits(plan: &Plan, spots: &[Option<Spot>], units: UnitSet, i: u16, spot: Spot) -> bool
-    requires sized { length spots.now ≡ length (insns_of plan.now) }
-    requires rules { KeepsPacketRules (issues (insns_of plan.now) spots.now) }
-    requires in_plan { i < length plan.now.insns }
-    requires free { spot_at spots.now i ≡ None }
-    requires units { (unit : FunctionalUnit) → unit_in units unit ≡ stands_on (insns_of plan.now) i unit }
-    ensures { IsTrue result ↔ Fits (insns_of plan.now) spots.now i spot }
+/// Whether an instruction that may stand on these units may stand on one of them beside those that take a row.
+fn fits(row: &Row, units: UnitSet, insn: Insn, unit: Unit) -> bool
+    ensures { IsTrue result ↔ FitsRow row.now units insn unit }
 {
-    units.has(spot.unit) && rule_against(plan, spots, i, spot).is_none()
+    units.has(unit) && row.rule_against(insn, unit).is_none()
 }
 
 /// The least spot of a ready instruction: the first cycle, and there the first unit, at which it may be placed.
-pub(crate) fn least(plan: &Plan, spots: &[Option<Spot>], i: u16) -> Option<Spot>
+pub(crate) fn least(plan: &Plan, spots: &[Option<Spot>], rows: &[Row], i: u16) -> Option<Spot>
     requires lawful { IsLawful (insns_of plan.now) spots.now }
+    requires rows { AreRows (insns_of plan.now) spots.now rows.now }
     requires in_plan { i < length plan.now.insns }
     requires ready { IsReady (insns_of plan.now) spots.now i }
     ensures { FindsLeast (insns_of plan.now) spots.now i result }
 {
     let units = plan.units(i);
+    let insn = plan.insn(i);
     for cycle in early(plan, spots, i)..5 * plan.len() {
+        let row = rows[usize::from(cycle)];
         for unit in Unit::ALL {
-            let spot = Spot { cycle, unit };
-            if fits(plan, spots, units, i, spot) {
-                return Some(spot);
+            if fits(&row, units, insn, unit) {
+                return Some(Spot { cycle, unit });
             }
         }
     }
     None
 }
 
-/// Copies a set of placements without instruction `q`.
-fn copy_without(spots: &[Option<Spot>], q: u16, rest: &mut [Option<Spot>])
-    requires room { length spots.now ≤ length rest.old }
-    requires within { q < length spots.now }
-    ensures { take (length spots.now) rest.new ≡ withdrawn spots.now q }
-{
-    for k in 0..spots.len() {
-        rest[k] = spots[k];
-    }
-    rest[usize::from(q)] = None;
-}
-
 /// Whether a ready instruction keeps the packet rules in a cycle, on some unit, once instruction `q` is taken out alone.
-pub(crate) fn fits_without(plan: &Plan, spots: &[Option<Spot>], i: u16, cycle: u16, q: u16) -> bool
+pub(crate) fn fits_without(
+    plan: &Plan,
+    spots: &[Option<Spot>],
+    rows: &[Row],
+    i: u16,
+    cycle: u16,
+    q: u16,
+) -> bool
     requires lawful { IsLawful (insns_of plan.now) spots.now }
+    requires rows { AreRows (insns_of plan.now) spots.now rows.now }
     requires in_plan { i < length plan.now.insns }
     requires ready { IsReady (insns_of plan.now) spots.now i }
     requires after { IsAfter (insns_of plan.now) spots.now i cycle }
     requires other { q < length plan.now.insns }
     ensures { IsTrue result ↔ FitsWithout (insns_of plan.now) spots.now i cycle q }
 {
-    let count = usize::from(plan.len());
-    let mut rest = [None; MOST_INSTRUCTIONS];
-    copy_without(spots, q, &mut rest);
     let units = plan.units(i);
+    let insn = plan.insn(i);
+    let row = row_without(plan, spots, rows, cycle, q);
     for unit in Unit::ALL {
-        if fits(plan, &rest[..count], units, i, Spot { cycle, unit }) {
+        if fits(&row, units, insn, unit) {
             return true;
         }
     }
@@ -204,13 +214,20 @@ pub(crate) fn is_last(plan: &Plan, spots: &[Option<Spot>], i: u16) -> bool
 }
 
 /// Whether a spot is the least one of a ready instruction.
-pub(crate) fn is_least(plan: &Plan, spots: &[Option<Spot>], i: u16, spot: Spot) -> bool
+pub(crate) fn is_least(
+    plan: &Plan,
+    spots: &[Option<Spot>],
+    rows: &[Row],
+    i: u16,
+    spot: Spot,
+) -> bool
     requires lawful { IsLawful (insns_of plan.now) spots.now }
+    requires rows { AreRows (insns_of plan.now) spots.now rows.now }
     requires in_plan { i < length plan.now.insns }
     requires ready { IsReady (insns_of plan.now) spots.now i }
     ensures { IsTrue result ↔ IsLeast (insns_of plan.now) spots.now i spot }
 {
-    match least(plan, spots, i) {
+    match least(plan, spots, rows, i) {
         None => false,
         Some(first) => is_same_spot(first, spot),
     }

@@ -7,8 +7,7 @@ mod entry;
 mod index;
 mod judge;
 pub mod laws;
-mod packet;
-mod resource;
+mod rows;
 mod sheet;
 mod whole;
 

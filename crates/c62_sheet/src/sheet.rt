@@ -10,9 +10,10 @@ ghost use Rattle.c62_sheet.specs.Counts.{AreCounts, set_length};
 ghost use Rattle.c62_sheet.specs.Journal.{after, PermitsPlace, PermitsWithdraw, Permits};
 
 use crate::entry::{Counts, Entry, Spot, Unlawful};
-use crate::{counts, early, index, judge};
+use crate::{counts, early, index, judge, rows};
 use c62_depend::Plan;
 use c62_insn::Side;
+use c62_row::Row;
 use std::alloc::{AllocError, Global};
 use std::marker::Model;
 
@@ -23,6 +24,7 @@ pub struct Sheet {
     plan: Plan,
     spots: Vec<Option<Spot>>,
     missing: Vec<u16>,
+    rows: Vec<Row>,
 }
 
 impl Model for Sheet {
@@ -59,11 +61,15 @@ impl Sheet {
         let Ok(spots) = vec![in alloc; None; usize::from(plan.len())] else {
             return Err((plan, AllocError));
         };
-        match index::all_missing(alloc, &plan) {
-            Ok(missing) => Ok(Sheet {
+        let Ok(missing) = index::all_missing(alloc, &plan) else {
+            return Err((plan, AllocError));
+        };
+        match rows::all_rows(alloc, &plan) {
+            Ok(rows) => Ok(Sheet {
                 plan,
                 spots,
                 missing,
+                rows,
             }),
             Err(error) => Err((plan, error)),
         }
@@ -81,6 +87,7 @@ impl Sheet {
             plan: self.plan.copy(alloc)?,
             spots: Vec::from_slice(alloc, &self.spots)?,
             missing: Vec::from_slice(alloc, &self.missing)?,
+            rows: Vec::from_slice(alloc, &self.rows)?,
         })
     }
 
@@ -112,7 +119,7 @@ impl Sheet {
         requires { i < length self.now.plan.insns }
         ensures { Judges (insns_of self.now.plan) self.now.spots i spot result }
     {
-        judge::check(&self.plan, &self.spots, &self.missing, i, spot)
+        judge::check(&self.plan, &self.spots, &self.missing, &self.rows, i, spot)
     }
 
     /// Whether instruction `i` is ready: it is not placed, and all that it depends on is.
@@ -138,7 +145,7 @@ impl Sheet {
         requires ready { IsReady (insns_of self.now.plan) self.now.spots i }
         ensures { FindsLeast (insns_of self.now.plan) self.now.spots i result }
     {
-        judge::least(&self.plan, &self.spots, i)
+        judge::least(&self.plan, &self.spots, &self.rows, i)
     }
 
     /// The ready instruction of a side that is greatest in height, for a tie the lowest. `None` where none is ready.
@@ -157,7 +164,7 @@ impl Sheet {
         requires other { q < length self.now.plan.insns }
         ensures { IsTrue result ↔ FitsWithout (insns_of self.now.plan) self.now.spots i cycle q }
     {
-        judge::fits_without(&self.plan, &self.spots, i, cycle, q)
+        judge::fits_without(&self.plan, &self.spots, &self.rows, i, cycle, q)
     }
 
     /// How many instructions of each side are placed, and how many are ready.
@@ -197,6 +204,7 @@ impl Sheet {
         ensures { self.new ≡ record self.old { spots = placed self.old.spots i spot } }
     {
         index::lower_followers(&self.plan, &mut self.missing, i);
+        rows::take(&self.plan, &self.spots, &mut self.rows, i, spot);
         self.spots[usize::from(i)] = Some(spot);
     }
 
@@ -208,13 +216,16 @@ impl Sheet {
         ensures { self.new ≡ record self.old { spots = withdrawn self.old.spots i } }
     {
         index::raise_followers(&self.plan, &mut self.missing, i);
+        rows::free(&self.plan, &self.spots, &mut self.rows, i);
         self.spots[usize::from(i)] = None;
     }
 
     fn permits_place(&self, i: u16, spot: Spot) -> bool
         ensures { IsTrue result ↔ PermitsPlace (insns_of self.now.plan) self.now.spots i spot }
     {
-        i < self.plan.len() && self.ready(i) && judge::is_least(&self.plan, &self.spots, i, spot)
+        i < self.plan.len()
+            && self.ready(i)
+            && judge::is_least(&self.plan, &self.spots, &self.rows, i, spot)
     }
 
     fn permits_withdraw(&self, i: u16) -> bool
@@ -255,6 +266,7 @@ impl Sheet {
         ensures { self.new ≡ record self.old { spots = nothing_placed (length self.old.plan.insns) } }
     {
         index::reset(&self.plan, &mut self.missing);
+        rows::free_all(&self.plan, &mut self.rows);
         take_out_all(&mut self.spots);
     }
 

@@ -4,17 +4,20 @@ ghost use Rattle.std.specs.Prelude.{◌≡◌, ◌↔◌, ◌<◌, ◌≤◌, le
 ghost use Rattle.c62_depend.specs.Plan.{insns_of};
 ghost use Rattle.c62_sheet.specs.Lawful.{IsLawful, placed};
 ghost use Rattle.c62_sheet.specs.Least.{IsReady, FindsLeast};
+ghost use Rattle.c62_sheet.specs.Rows.{AreRows};
 
 use crate::early::early;
 use crate::entry::Spot;
 use crate::judge;
-use crate::packet::rule_against;
+use crate::rows::{take, take_all};
 use c62_depend::Plan;
 use c62_read::MOST_INSTRUCTIONS;
+use c62_row::Row;
 
 /// Whether the set with ready instruction `i` at a spot is lawful.
-fn is_lawful_with(plan: &Plan, spots: &[Option<Spot>], i: u16, spot: Spot) -> bool
+fn is_lawful_with(plan: &Plan, spots: &[Option<Spot>], rows: &[Row], i: u16, spot: Spot) -> bool
     requires lawful { IsLawful (insns_of plan.now) spots.now }
+    requires rows { AreRows (insns_of plan.now) spots.now rows.now }
     requires in_plan { i < length plan.now.insns }
     requires ready { IsReady (insns_of plan.now) spots.now i }
     ensures { IsTrue result ↔ IsLawful (insns_of plan.now) (placed spots.now i spot) }
@@ -28,7 +31,8 @@ fn is_lawful_with(plan: &Plan, spots: &[Option<Spot>], i: u16, spot: Spot) -> bo
     if spot.cycle < early(plan, spots, i) {
         return false;
     }
-    rule_against(plan, spots, i, spot).is_none()
+    let row = rows[usize::from(spot.cycle)];
+    row.rule_against(plan.insn(i), spot.unit).is_none()
 }
 
 /// Whether these spots, that of instruction `i` at index `i`, are a lawful set in which every instruction of the plan is
@@ -41,11 +45,13 @@ pub fn are_lawful(plan: &Plan, spots: &[Spot]) -> bool
         return false;
     }
     let mut set = [None; MOST_INSTRUCTIONS];
+    let mut rows = [Row::new(); 5 * MOST_INSTRUCTIONS];
     for i in 0..plan.len() {
         let spot = spots[usize::from(i)];
-        if !is_lawful_with(plan, &set[..count], i, spot) {
+        if !is_lawful_with(plan, &set[..count], &rows, i, spot) {
             return false;
         }
+        take(plan, &set[..count], &mut rows, i, spot);
         set[usize::from(i)] = Some(spot);
     }
     true
@@ -59,5 +65,9 @@ pub fn least_in(plan: &Plan, spots: &[Option<Spot>], i: u16) -> Option<Spot>
     requires ready { IsReady (insns_of plan.now) spots.now i }
     ensures { FindsLeast (insns_of plan.now) spots.now i result }
 {
-    judge::least(plan, spots, i)
+    let count = usize::from(plan.len());
+    prove!(count <= MOST_INSTRUCTIONS);
+    let mut rows = [Row::new(); 5 * MOST_INSTRUCTIONS];
+    take_all(plan, spots, &mut rows);
+    judge::least(plan, spots, &rows, i)
 }

@@ -1,21 +1,39 @@
-use Rattle.c62_sheet.proofs.Common.{arith, ◌≡◌, refl, length, get_or, false≢true, all_units, many_insns, index_of-below}
+use Rattle.c62_sheet.proofs.Common.{arith, refl, sym, ◌∙◌, get_or, length, length-set, None, false≢true, all_units, many_insns, index_of-below, index_of-listed, same_index, index_of, insns_of, withdrawn, cases_eq, inl, inr, ◌≡◌}
 use Rattle.c62_sheet.proofs.Search.{first_unit}
-use Rattle.c62_sheet.proofs.Without.{rules_without, fits_without_from, fits_from_without}
+use Rattle.c62_sheet.proofs.Without.{rules_without, free_without, fits_without_from, fits_from_without}
+use Rattle.c62_sheet.proofs.RowsOf.{fits_from_row, row_from_fits}
 use Rattle.c62_sheet.proofs.judge.fits_without.Goals as goal
-
-pub fits-requires-clause-rules : goal.fits-requires-clause-rules
-fits-requires-clause-rules c =
-    let count : c.from-count.result ≡ length c.args.spots.now = omega (arith, many_insns, c.requires.lawful.sized) in
-    rw (count, c.copy_without.ensures) (rules_without _ _ _ c.requires.lawful (omega (arith, many_insns)))
 
 pub returns-then-fits : goal.returns-then-fits
 returns-then-fits c =
-    let count : c.from-count.result ≡ length c.args.spots.now = omega (arith, many_insns, c.requires.lawful.sized) in
-    let fits = rw (count, c.copy_without.ensures) at (c.if-fits.ensures.0 refl) in (
-      λ _. fits_without_from _ _ _ _ _ c.requires.lawful (omega (arith, many_insns)) (omega (arith, many_insns)) c.requires.ready
-          (get_or all_units c.loop-unit.unit-index first_unit) c.requires.after fits,
+    let block = insns_of c.args.plan.now in
+    let set = c.args.spots.now in
+    let unit = get_or all_units c.loop-unit.unit-index first_unit in
+    let w = c.if-fits.ensures.0 refl in
+    let fits = fits_from_row block (withdrawn set c.args.q) c.args.i (record { cycle = c.args.cycle; unit = unit }) c.insn-insn.result c.row_without-row.result
+    (length-set set c.args.q None ∙ c.requires.lawful.sized) c.insn-insn.ensures
+    (free_without block set c.args.q c.requires.lawful (omega (arith, many_insns)) c.args.i c.requires.ready.free)
+    (rules_without block set c.args.q c.requires.lawful (omega (arith, many_insns))) c.row_without-row.ensures
+    (sym (c.units-units.ensures unit) ∙ w.stands) w.free in (
+      λ _. fits_without_from _ _ _ _ _ c.requires.lawful (omega (arith, many_insns)) (omega (arith, many_insns)) c.requires.ready unit c.requires.after fits,
       λ _. refl,
     )
+
+pub loop-unit-preserved : goal.loop-unit-preserved
+loop-unit-preserved c unit low fits =
+    let block = insns_of c.args.plan.now in
+    let set = c.args.spots.now in
+    let k = c.loop-unit.unit-index in
+    elim (cases_eq (index_of unit) k) [
+      | inl e ↦
+          (let here : unit ≡ get_or all_units k first_unit = same_index unit (get_or all_units k first_unit) (e ∙ sym (index_of-listed k first_unit c.loop-unit-test.true)) in
+          let free = row_from_fits block (withdrawn set c.args.q) c.args.i (record { cycle = c.args.cycle; unit = unit }) c.insn-insn.result c.row_without-row.result
+          (length-set set c.args.q None ∙ c.requires.lawful.sized) c.insn-insn.ensures
+          (free_without block set c.args.q c.requires.lawful (omega (arith, many_insns)) c.args.i c.requires.ready.free)
+          (rules_without block set c.args.q c.requires.lawful (omega (arith, many_insns))) c.row_without-row.ensures fits in
+          false≢true (c.if-fits.ensures.1 (record { stands = rw here at (c.units-units.ensures unit ∙ fits.stands); free = rw here at free })))
+      | inr ne ↦ c.loop-unit.invariant unit (omega (arith, low, ne)) fits
+    ]
 
 pub returns : goal.returns
 returns c = (

@@ -1,9 +1,11 @@
-use Rattle.c62_sheet.proofs.Common.{arith, ◌≡◌, ◌+◌, ◌-◌, ◌<◌, List, length, get_or, Option, Some, ◌∙◌, refl, length-set, take-set-lt}
+use Rattle.c62_sheet.proofs.Common.{arith, ◌≡◌, ◌+◌, ◌-◌, ◌<◌, List, length, get_or, Option, Some, ◌∙◌, refl, length-set, take-set-lt, take}
 use Rattle.c62_sheet.proofs.Common.{false≢true, Insn, insns_of, many_insns, Spot, None, take-replicate}
 use Rattle.c62_sheet.proofs.Empty.{lawful_empty}
 use Rattle.c62_sheet.proofs.Optional.{some_is}
 use Rattle.c62_sheet.proofs.Sets.{any_spot}
 use Rattle.c62_sheet.proofs.Prefix.{upto_more, upto_all, upto_none, lawful_upto}
+use Rattle.c62_sheet.proofs.Placing.{within_from_lawful}
+use Rattle.c62_sheet.proofs.RowsOf.{rows_of_copies}
 use Rattle.c62_sheet.proofs.whole.are_lawful.Goals as goal
 
 pub loop-i-init : goal.loop-i-init
@@ -14,6 +16,7 @@ loop-i-init c =
       sized = refl;
       upto = rw front (upto_none _ _ (omega (arith, c.if-spots-count.false)));
       lawful = rw (front, count) (lawful_empty (insns_of c.args.plan.now));
+      rows = rw (front, count) (rows_of_copies (insns_of c.args.plan.now) c.new-rows.result 1280 (omega (arith, many_insns, c.len.ensures.sound.few)) c.new-rows.ensures);
     }
 
 pub is_lawful_with-requires-clause-ready : goal.is_lawful_with-requires-clause-ready
@@ -32,6 +35,12 @@ returns-then-not-is_lawful_with c =
           (lawful_upto block _ sized whole (length block - (c.loop-i.i + 1)) (c.loop-i.i + 1) _ (omega (arith, many_insns)) more),
     )
 
+pub take-requires-clause-within : goal.take-requires-clause-within
+take-requires-clause-within c =
+    let block : List Insn = insns_of c.args.plan.now in
+    within_from_lawful block (take c.from-count.result c.loop-i.set) c.loop-i.i (get_or c.args.spots.now c.from.result any_spot)
+    (omega (arith, many_insns, c.loop-i.invariant.lawful.sized)) (c.if-not-is_lawful_with.ensures.0 refl)
+
 pub loop-i-preserved : goal.loop-i-preserved
 loop-i-preserved c =
     let within : c.loop-i.i < c.from-count.result = omega arith in
@@ -41,6 +50,7 @@ loop-i-preserved c =
       upto = rw (c.from-in-loop-i.ensures, put) (upto_more _ _ _ _
           (omega (arith, within, c.if-spots-count.false)) c.from.ensures c.loop-i.invariant.upto);
       lawful = rw (c.from-in-loop-i.ensures, put) (c.if-not-is_lawful_with.ensures.0 refl);
+      rows = rw (c.from-in-loop-i.ensures, put) c.take.ensures;
     }
 
 pub returns : goal.returns

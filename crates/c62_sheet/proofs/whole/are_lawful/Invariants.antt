@@ -1,4 +1,4 @@
-use Rattle.c62_sheet.proofs.Common.{◌≡◌, length, take, insns_of, IsLawful}
+use Rattle.c62_sheet.proofs.Common.{◌≡◌, length, take, insns_of, IsLawful, AreRows}
 use Rattle.c62_sheet.proofs.Prefix.{IsUpTo}
 use Rattle.c62_sheet.proofs.whole.are_lawful.Given as goal
 
@@ -7,4 +7,5 @@ invariant-loop-i l = record {
   sized : length l.set ≡ 256;
   upto : IsUpTo l.spots l.i (take l.count l.set);
   lawful : IsLawful (insns_of l.plan) (take l.count l.set);
+  rows : AreRows (insns_of l.plan) (take l.count l.set) l.rows;
 }

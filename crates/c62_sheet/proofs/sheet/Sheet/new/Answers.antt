@@ -11,4 +11,5 @@ invariant_of-result c =
       known = c.len.ensures.sound;
       lawful = rw is (lawful_empty (insns_of c.args.plan));
       index = rw is c.in-Ok-all_missing.ensures;
+      rows = rw is c.in-Ok-all_rows.ensures;
     }

@@ -1,5 +1,6 @@
 use Rattle.c62_sheet.proofs.Common.{arith, ◌≡◌, ◌<◌, ◌∙◌, ap, length, ℕ, with_items_is, insns_of, many_insns, IsOpen}
 use Rattle.c62_sheet.proofs.Missing.{counted_enough, index-placed}
+use Rattle.c62_sheet.proofs.Placing.{within_from_lawful}
 use Rattle.c62_sheet.proofs.sheet.Sheet.put.Goals as goal
 
 pub lower_followers-requires-clause-counted : goal.lower_followers-requires-clause-counted
@@ -9,6 +10,13 @@ lower_followers-requires-clause-counted c j =
     let in_plan : c.args.i < length b.plan.insns = rw (← c.self.view_is) at c.requires.in_plan in
     rw c.deref_mut.ensures.value (counted_enough _ _ _ _ c.self.invariant.index j c.self.invariant.lawful.sized
     (omega (arith, in_plan, many_insns)) may.free)
+
+pub take-requires-clause-within : goal.take-requires-clause-within
+take-requires-clause-within c =
+    let b = c.self.inside in
+    let may : IsOpen (insns_of b.plan) b.spots.items c.args.i c.args.spot = rw (← c.self.view_is) at c.requires.may in
+    let in_plan : c.args.i < length b.plan.insns = rw (← c.self.view_is) at c.requires.in_plan in
+    within_from_lawful (insns_of b.plan) b.spots.items c.args.i c.args.spot (omega (arith, in_plan, many_insns, c.self.invariant.lawful.sized)) may.lawful
 
 pub invariant_of-self : goal.invariant_of-self
 invariant_of-self c =
@@ -24,4 +32,6 @@ invariant_of-self c =
           (index-placed _ _ _ _ c.self.invariant.index c.lower_followers.new.missing _ c.self.invariant.lawful.sized
           (omega (arith, in_plan, many_insns))
           may.free same (λ j. rw (← c.deref_mut.ensures.value) (c.lower_followers.ensures j)));
+      rows = rw (with_items_is b.rows c.take.new.rows (omega (arith, c.take.auto.rows, c.deref_mut-2.ensures.len)), c.from.ensures)
+          (rw c.deref.ensures.value at c.take.ensures);
     }

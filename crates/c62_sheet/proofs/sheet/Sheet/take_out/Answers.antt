@@ -21,4 +21,6 @@ invariant_of-self c =
           (index-withdrawn _ _ _ _ c.self.invariant.index c.raise_followers.new.missing c.self.invariant.lawful.sized
           (omega (arith, in_plan, many_insns))
           taken same (λ j. rw (← c.deref_mut.ensures.value) (c.raise_followers.ensures j)));
+      rows = rw (with_items_is b.rows c.free.new.rows (omega (arith, c.free.auto.rows, c.deref_mut-2.ensures.len)), c.from.ensures)
+          (rw c.deref.ensures.value at c.free.ensures);
     }
