@@ -89,19 +89,19 @@ after u true = u.delay
 after u false = 0
 
 -- a register of such a set is written with its delay
-write_of : (u : Uses) (late : Bool) (reg : Reg) → reg_in (landing u late) reg ≡ true → Contains (register_writes u.insn) (reg, after u late)
+pub write_of : (u : Uses) (late : Bool) (reg : Reg) → reg_in (landing u late) reg ≡ true → Contains (register_writes u.insn) (reg, after u late)
 write_of u true reg h = rw u.delay_is (listed (register_writes u.insn) (delay_of (op_of u.insn)) reg (sym (u.results_are reg) ∙ h))
 write_of u false reg h = listed (register_writes u.insn) 0 reg (sym (u.at_once_are reg) ∙ h)
 
 -- and a write is in the set of its delay
-set_of : (u : Uses) (reg : Reg) (d : ℕ) → Contains (register_writes u.insn) (reg, d)
+pub set_of : (u : Uses) (reg : Reg) (d : ℕ) → Contains (register_writes u.insn) (reg, d)
     → (late : Bool) × (d ≡ after u late) × (reg_in (landing u late) reg ≡ true)
 set_of u reg d w = elim (All-contains (IsDelay (op_of u.insn)) (register_writes u.insn) (reg, d) (delays_of (op_of u.insn) (operands_of u.insn)) w) [
   | inl none ↦ (false, none, u.at_once_are reg ∙ is_listed (register_writes u.insn) 0 reg (rw none at w))
   | inr own ↦ (true, own ∙ sym u.delay_is, u.results_are reg ∙ is_listed (register_writes u.insn) (delay_of (op_of u.insn)) reg (rw own at w))
 ]
 
-is_written : (u : Uses) (late : Bool) (reg : Reg) → reg_in (landing u late) reg ≡ true → reg_in u.written reg ≡ true
+pub is_written : (u : Uses) (late : Bool) (reg : Reg) → reg_in (landing u late) reg ≡ true → reg_in u.written reg ≡ true
 is_written u true reg h = u.written_are reg ∙ or_right (reg_in u.at_once reg) (reg_in u.results reg) h
 is_written u false reg h = u.written_are reg ∙ or_left (reg_in u.at_once reg) (reg_in u.results reg) h
 

@@ -8,6 +8,8 @@ use Rattle.c62_depend.proofs.Common.{ReadAfterWrite, WriteAfterRead, WriteAfterW
 use Rattle.c62_depend.proofs.Common.{IsLatency, are_exclusive, are_disjoint, Uses, insns_in, awaits, spares, overwrites, read_after_write}
 use Rattle.c62_depend.proofs.Common.{write_after_read, write_after_write, access_after_store, store_after_load, before_branch, by_registers, by_order}
 use Rattle.c62_depend.proofs.Common.{latency_of, between, latency, greatest_by}
+use Rattle.std.proofs.lemmas.Bool.{cond-true}
+use Rattle.c62_depend.proofs.Common.{ap}
 use Rattle.c62_insn.proofs.InsnLemmas.{writes_delay}
 use Rattle.c62_depend.proofs.Greatest.{IsGreatest, IsGiven, IsGreatest-is, IsGreatest-same, IsGreatest-greater, IsGreatest-greatest_by}
 use Rattle.c62_depend.proofs.Greatest.{IsGreatest-over}
@@ -189,15 +191,11 @@ pub latency_at : (uses : List Uses) (i j : ℕ) (u v : Uses) (o : Option ℤ) �
     → o ≡ latency_of (are_exclusive (insns_in uses) i j) (are_disjoint (insns_in uses) i j) u.insn v.insn → o ≡ latency (insns_in uses) i j
 unfolding latency
 latency_at uses i j u v o before within at_i at_j e =
-    rw (lt-ltb i j before, insn_at uses i u (omega arith) at_i, insn_at uses j v within at_j) e
-
--- the latency of two instructions of a block
-pub latency_among : (block : List Insn) (i j : ℕ) (p q : Insn) (o : Option ℤ) → i < j → j < length block → p ≡ get_or block i p → q ≡ get_or block j q
-    → o ≡ latency_of (are_exclusive block i j) (are_disjoint block i j) p q → o ≡ latency block i j
-unfolding latency
-latency_among block i j p q o before within at_i at_j e =
-    let first = slice_get_read block (length block) i p refl (omega arith) at_i in
-    rw (lt-ltb i j before, first, slice_get_read block (length block) j q refl within at_j) e
+    let x = are_exclusive (insns_in uses) i j in
+    let y = are_disjoint (insns_in uses) i j in
+    e ∙ sym (cond-true _ _ _ (lt-ltb i j before)
+    ∙ ap (λ (p : Option Insn). between x y p (slice_get (insns_in uses) j)) (insn_at uses i u (omega arith) at_i)
+    ∙ ap (λ (q : Option Insn). between x y (Some u.insn) q) (insn_at uses j v within at_j))
 
 pub greatest_from : (block : List Insn) (i j : ℕ) (o : Option ℤ) → o ≡ latency block i j → IsLatency block i j o
 greatest_from block i j o e = rw e (latency-is block i j)

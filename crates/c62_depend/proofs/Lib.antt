@@ -10,3 +10,4 @@ pub mod Rules
 pub mod Bounds
 pub mod Numbers
 pub mod Lists
+pub mod WrittenLemmas

@@ -1,7 +1,7 @@
 -- A register more in a set.
 use Rattle.c62_depend.proofs.Common.{◌≡◌, ◌≢◌, ℕ, ◌+◌, ◌-◌, ◌*◌, ◌^◌, ◌%◌, ◌<◌, min, Bool, true, false, ◌||◌, refl, sym, ap, ◌∙◌, arith, w32, bit_or}
 use Rattle.c62_depend.proofs.Common.{bit_and, inl, inr, ◌==◌, ◌&&◌, bit_at, trailing_zeros, cases_lt, nat_tests, Side, Reg, same_side, same_reg}
-use Rattle.c62_depend.proofs.Common.{same_reg-is, RegSet, reg_in, shares, both_ways}
+use Rattle.c62_depend.proofs.Common.{same_reg-is, same_reg-refl, false_from_ne_true, RegSet, reg_in, shares, both_ways}
 use Rattle.std.proofs.lemmas.Nat.Bits.{bit_at_set_same, bit_at_set_other, bit_at_and, bit_at_or, bit_at-lt, bit_at-zero, bit_at-trailing_zeros}
 use Rattle.std.proofs.lemmas.Nat.{and-not}
 use Rattle.c62_op.specs.declared.register.Side.TheVariants.{A, B}
@@ -59,3 +59,14 @@ shares_one a b reg one other = grind (arith, nat_tests, bit_at_and a.bits b.bits
 pub joined_is : (a b : ℕ) (reg : Reg)
     → (bit_at (bit_or a b) (register_index reg) == 1) ≡ ((bit_at a (register_index reg) == 1) || (bit_at b (register_index reg) == 1))
 joined_is a b reg = grind (arith, nat_tests, bit_at_or a b (register_index reg), bit_at-lt a (register_index reg), bit_at-lt b (register_index reg))
+
+-- a set that shares a register with that register alone has it
+pub has_one : (a b : RegSet) (reg : Reg) → ((other : Reg) → reg_in b other ≡ same_reg reg other) → shares a b ≡ reg_in a reg
+has_one a b reg is = by_test (reg_in a reg) refl
+  where
+    by_test : (t : Bool) → reg_in a reg ≡ t → shares a b ≡ t
+    by_test true e = shares_one a b reg e (is reg ∙ same_reg-refl reg)
+    by_test false e = false_from_ne_true (shares a b) (λ some.
+        let w = shared a b some in
+        let same : reg ≡ w.0 = same_reg-is reg w.0 (sym (is w.0) ∙ w.2) in
+        both_ways (reg_in a reg) e (rw same w.1))

@@ -1,5 +1,6 @@
 pub mod RegSet
 pub mod Writes
+pub mod Written
 pub mod Uses
 pub mod Numbers
 pub mod Latency

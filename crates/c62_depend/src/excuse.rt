@@ -1,22 +1,37 @@
-//! Pairs of instructions that would need no order although both write a register or access memory
-//! (docs/MACHINE.md, "Dependences"). There are none: every pair is held to its order.
+//! Pairs of instructions that need no order although both write a register or access memory
+//! (docs/MACHINE.md, "Dependences").
 
-ghost use Rattle.std.specs.Prelude.{◌≡◌};
-ghost use Rattle.c62_insn.specs.Dependence.{are_exclusive, are_disjoint};
-ghost use Rattle.c62_depend.specs.Uses.{insns_in};
+ghost use Rattle.std.specs.Prelude.{◌≡◌, ℕ, List};
+ghost use Rattle.c62_insn.specs.declared.insn.Insn.{Insn as Instruction};
+ghost use Rattle.c62_insn.specs.Insn.{cond_of};
+ghost use Rattle.c62_insn.specs.Dependence.{are_opposite, exclusive_by, are_disjoint};
+ghost use Rattle.c62_depend.specs.Written.{AreWritten};
 
+use crate::reg_set::RegSet;
 use crate::uses::Uses;
+use c62_insn::Cond;
 
-/// Whether of two writers of one register at most one can run.
-pub(crate) fn are_exclusive(uses: &[Uses], i: usize, j: usize) -> bool
-    ensures { result ≡ are_exclusive (insns_in uses.now) i j }
+/// Whether one condition holds exactly where the other does not.
+fn are_opposite(one: Cond, other: Cond) -> bool
+    ensures { result ≡ are_opposite one other }
 {
-    false
+    one.reg == other.reg
+        && (if one.negated {
+            !other.negated
+        } else {
+            other.negated
+        })
 }
 
-/// Whether two accesses never meet.
-pub(crate) fn are_disjoint(uses: &[Uses], i: usize, j: usize) -> bool
-    ensures { result ≡ are_disjoint (insns_in uses.now) i j }
+/// Whether of two writers of one register at most one can run, where these registers are written from the first one on and
+/// before the second.
+#[inline(always)]
+pub(crate) fn are_exclusive(written: RegSet, first: &Uses, second: &Uses) -> bool
+    ensures { (block : List Instruction) (i j : ℕ) → AreWritten block i j written
+        → result ≡ exclusive_by block i j (cond_of first.now.insn) (cond_of second.now.insn) }
 {
-    false
+    match (first.insn.cond(), second.insn.cond()) {
+        (Some(one), Some(other)) => are_opposite(one, other) && !written.has(one.reg),
+        _ => false,
+    }
 }

@@ -5,9 +5,11 @@
 ghost use Rattle.std.specs.Prelude.{◌≡◌, ◌<◌, ◌≤◌, ◌+◌, max, length, slice_index_or};
 ghost use Rattle.c62_depend.specs.Latency.{latency_of, latency};
 ghost use Rattle.c62_depend.specs.Uses.{insns_in};
+ghost use Rattle.c62_depend.specs.Written.{AreWritten};
 ghost use Rattle.c62_depend.specs.Numbers.{as_bound, number_if, number_awaited, number_spared, number_after_result, number_after_at_once, number_overwritten, number_after_store, number_after_load, number_before_branch, number_of_registers, number_of_order};
 
-use crate::excuse::{are_disjoint, are_exclusive};
+use crate::excuse::are_exclusive;
+use crate::reg_set::RegSet;
 use crate::uses::Uses;
 
 /// The bound that a number stands for, if any.
@@ -196,18 +198,28 @@ fn number_between(exclusive: bool, disjoint: bool, first: &Uses, second: &Uses) 
 /// By how much the cycle of instruction `j` must at least exceed that of instruction `i`, which is `first` and stands
 /// before it: the greatest bound of the cases that apply, as a number.
 #[inline(always)]
-pub(crate) fn latency_number(uses: &[Uses], first: &Uses, i: usize, j: usize) -> u8
+pub(crate) fn latency_number(uses: &[Uses], written: RegSet, first: &Uses, i: usize, j: usize) -> u8
     requires before { i < j }
     requires within { j < length uses.now }
     requires first { first.now ≡ slice_index_or uses.now i first.now }
+    requires written { AreWritten (insns_in uses.now) i j written }
     ensures { as_bound result ≡ latency (insns_in uses.now) i j }
 {
-    number_between(
-        are_exclusive(uses, i, j),
-        are_disjoint(uses, i, j),
-        first,
-        &uses[j],
-    )
+    let second = &uses[j];
+    number_between(are_exclusive(written, first, second), false, first, second)
+}
+
+/// The registers that instructions from `i` on and before `j` write.
+fn written_between(uses: &[Uses], i: usize, j: usize) -> RegSet
+    requires before { i < j }
+    requires within { j < length uses.now }
+    ensures { AreWritten (insns_in uses.now) i j result }
+{
+    let mut written = RegSet::new();
+    for k in i..j {
+        written = written.joined(uses[k].written);
+    }
+    written
 }
 
 /// By how much the cycle of instruction `j` must at least exceed that of instruction `i`, which stands before it: the
@@ -217,5 +229,6 @@ pub(crate) fn latency(uses: &[Uses], i: usize, j: usize) -> Option<i32>
     requires within { j < length uses.now }
     ensures latency { result ≡ latency (insns_in uses.now) i j }
 {
-    as_bound(latency_number(uses, &uses[i], i, j))
+    let written = written_between(uses, i, j);
+    as_bound(latency_number(uses, written, &uses[i], i, j))
 }

@@ -126,10 +126,12 @@ fn gather_followers(gathered: &mut Gathered, row: &mut Row, uses: &[Uses], i: us
 {
     let first = uses[i];
     let mut count = 0;
+    let mut written = first.written;
     for j in i + 1..uses.len() {
-        let latency = latency_number(uses, &first, i, j);
+        let latency = latency_number(uses, written, &first, i, j);
         row[j] = latency;
         count = add(gathered, count, j as u8, latency);
+        written = written.joined(uses[j].written);
     }
     count
 }

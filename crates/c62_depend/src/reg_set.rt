@@ -43,6 +43,14 @@ impl RegSet {
         }
     }
 
+    /// Whether `reg` is in the set.
+    #[tactic(auto, using(crate::proofs::RegSets::has_one))]
+    pub fn has(self, reg: Reg) -> bool
+        ensures { result ≡ reg_in self reg }
+    {
+        self.meets(RegSet::new().with(reg))
+    }
+
     /// Whether some register is in both sets.
     pub fn meets(self, other: RegSet) -> bool
         ensures { result ≡ shares self other }

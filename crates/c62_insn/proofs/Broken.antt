@@ -1,7 +1,8 @@
 -- The examples of breaches break the packet rules.
 use Rattle.std.proofs.Common.{arith, refl, ◌≡◌, ℕ, ◌+◌, ◌≤◌, ap, sym, ◌∙◌, subst, Bool, true, false, cond, List, [], ◌∷◌, Some, inl, inr}
 use Rattle.std.specs.Prelude.{not, count_by, Contains}
-use Rattle.std.proofs.lemmas.Bool.{both_ways, or_right}
+use Rattle.std.proofs.lemmas.Option.{none-some}
+use Rattle.std.proofs.lemmas.Bool.{or_right}
 use Rattle.c62_op.specs.declared.register.Side.{Side}
 use Rattle.c62_op.specs.declared.register.Side.TheVariants.{A, B}
 use Rattle.c62_op.specs.declared.register.Reg.{Reg}
@@ -68,5 +69,5 @@ pub two-landings : TwoLandings
 two-landings p q a b d e f multiplies adds first second unexcused keeps =
     elim (keeps 0 1 (issue p 0 m1) (issue q 1 l1) d 1 refl refl (1, writes-after Mpy p a b d 1 multiplies first refl, refl) (0, writes-after Add q e f d 0 adds second refl, refl)) [
       | inl same ↦ first-second same
-      | inr may ↦ absurd (both_ways _ unexcused may)
+      | inr may ↦ absurd (none-some may.one (sym unexcused ∙ may.is_one))
     ]

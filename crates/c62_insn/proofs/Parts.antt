@@ -8,9 +8,8 @@ use Rattle.std.proofs.lemmas.List.Sums.{sum_by-set, sum_by-cons}
 use Rattle.std.proofs.lemmas.List.Sorted.{IsPermutation-keeps, IsPermutation-map}
 use Rattle.std.proofs.lemmas.Option.{none-some}
 use Rattle.std.proofs.lemmas.Bool.{cases_lt, cases_eq, eq-eqb, ne_eqb, both_ways}
-use Rattle.c62_insn.specs.PacketRules.{Issue, Issues, IsIssued, issued, AtMostOne, reads_in, may_land_together, UsesCrossPath, UsesDataPath, KeepsPacketRules}
+use Rattle.c62_insn.specs.PacketRules.{Issue, Issues, IsIssued, issued, AtMostOne, reads_in, MayLandTogether, UsesCrossPath, UsesDataPath, KeepsPacketRules}
 use Rattle.c62_insn.specs.Part.{IsPart}
-use Rattle.c62_insn.proofs.Excuses.{never_together}
 
 -- ---- how parts are made
 
@@ -126,10 +125,16 @@ part-sum f none (Some p ∷ issues) others part =
     omega (arith, less, gone, own, first, none)
 
 -- two that may land together among the others may do so in a part
-pub part-excused : (issues others : Issues) (part : IsPart issues others) (i j : ℕ) (p q : Issue) → IsIssued issues i p → IsIssued issues j q
-    → IsTrue (may_land_together others (part.number i) (part.number j)) → IsTrue (may_land_together issues i j)
-part-excused issues others part i j p q h k may =
-    absurd (both_ways _ (never_together others (part.number i) (part.number j)) may)
+pub part-excused : (issues others : Issues) (part : IsPart issues others) (p q : Issue) → MayLandTogether others p q → MayLandTogether issues p q
+part-excused issues others part p q may = record {
+  one = may.one;
+  other = may.other;
+  is_one = may.is_one;
+  is_other = may.is_other;
+  same = may.same;
+  opposite = may.opposite;
+  stays = λ k r t at lands. may.stays (part.number k) r t (part.issued k r at) lands;
+}
 
 pub part-keeps : (issues others : Issues) → IsPart issues others → KeepsPacketRules others → KeepsPacketRules issues
 part-keeps issues others part keeps = record {
@@ -142,7 +147,7 @@ part-keeps issues others part keeps = record {
   p5 = λ i j p q reg cycle h k first second.
       elim (keeps.p5 (part.number i) (part.number j) p q reg cycle (part.issued i p h) (part.issued j q k) first second) [
         | inl same ↦ inl (part.apart i j p q h k same)
-        | inr may ↦ inr (part-excused issues others part i j p q h k may)
+        | inr may ↦ inr (part-excused issues others part p q may)
       ];
 }
 

@@ -1,5 +1,5 @@
 -- The examples of breaches of the packet rules (docs/MACHINE.md, "Packet rules"; SPRU189, "Resource Constraints").
-use Rattle.std.specs.Prelude.{◌≡◌, ℕ, false, [], ◌∷◌, Some}
+use Rattle.std.specs.Prelude.{◌≡◌, ℕ, [], ◌∷◌, Some, None}
 use Rattle.c62_op.specs.declared.register.Side.TheVariants.{A, B}
 use Rattle.c62_op.specs.declared.register.Letter.TheVariants.{L, S, M, D}
 use Rattle.c62_op.specs.declared.register.Reg.{Reg}
@@ -9,8 +9,8 @@ use Rattle.c62_op.specs.declared.operands.AddressForm.{AddressForm}
 use Rattle.c62_op.specs.declared.operands.Offset.{Offset}
 use Rattle.c62_op.specs.declared.operands.Operands.TheVariants.{Three, Access}
 use Rattle.c62_insn.specs.declared.insn.Insn.{Insn}
-use Rattle.c62_insn.specs.Insn.{op_of, operands_of}
-use Rattle.c62_insn.specs.PacketRules.{Issue, may_land_together, HasOneEachUnit, HasOneEachCrossPath, HasOneEachDataPath, HasFourReads, HasOneLanding}
+use Rattle.c62_insn.specs.Insn.{op_of, operands_of, cond_of}
+use Rattle.c62_insn.specs.PacketRules.{Issue, HasOneEachUnit, HasOneEachCrossPath, HasOneEachDataPath, HasFourReads, HasOneLanding}
 
 abbrev pub l1 : FunctionalUnit
 l1 = record { letter = L; side = A }
@@ -53,5 +53,5 @@ FiveReads = (p q r : Insn) (a b d e f : Reg) → operands_of p ≡ Three a a d �
 -- two writes of A3 that land in cycle 1, by MPY .M1 A1,A2,A3 in cycle 0 and ADD .L1 A4,A5,A3 in cycle 1
 abbrev pub TwoLandings : Type 0
 TwoLandings = (p q : Insn) (a b d e f : Reg) → op_of p ≡ Mpy → op_of q ≡ Add → operands_of p ≡ Three a b d → operands_of q ≡ Three e f d
-    → may_land_together (Some (issue p 0 m1) ∷ Some (issue q 1 l1) ∷ []) 0 1 ≡ false
+    → cond_of p ≡ None
     → HasOneLanding (Some (issue p 0 m1) ∷ Some (issue q 1 l1) ∷ []) → ⊥

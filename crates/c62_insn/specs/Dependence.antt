@@ -1,13 +1,47 @@
 -- How far two instructions of a block must stand apart (docs/MACHINE.md, "Dependences"; SPRU189, "Delay Slots").
-use Rattle.std.specs.Prelude.{◌≡◌, ℕ, ◌+◌, ◌<◌, ◌⊎◌, ℤ, pos, ◌-ℤ◌, ◌≤ℤ◌, Bool, false, List, Contains, Option, Some, MatchOption, slice_get, IsTrue}
+use Rattle.std.specs.Prelude.{◌≡◌, ℕ, zero, suc, ◌+◌, ◌-◌, ◌*◌, ◌<◌, ◌⊎◌, ℤ, pos, ◌-ℤ◌, ◌≤ℤ◌, ◌+ℤ◌, Bool, false, not, nat_le, unsigned_abs, ◌&&◌, ◌||◌, if◌then◌else◌, List, Contains, Option, Some, None, MatchOption, slice_get, IsTrue}
+use Rattle.std.specs.List.{list_any}
 use Rattle.c62_op.specs.declared.register.Reg.{Reg}
+use Rattle.c62_op.specs.declared.register.Cond.{Cond as Condition}
 use Rattle.c62_insn.specs.declared.insn.Insn.{Insn}
+use Rattle.c62_op.specs.declared.operands.Op.{Op}
+use Rattle.c62_op.specs.declared.operands.AddressForm.{AddressForm}
+use Rattle.c62_op.specs.declared.operands.AddressForm.TheVariants.{Plus, Minus, PreIncrement, PreDecrement}
+use Rattle.c62_op.specs.declared.operands.Offset.TheVariants.{Constant as ByConstant}
+use Rattle.c62_op.specs.declared.operands.Operands.{Operands}
+use Rattle.c62_op.specs.declared.operands.Operands.TheVariants.{Access}
+use Rattle.c62_op.specs.Meaning.{size_of}
+use Rattle.c62_op.specs.Takes.{same_reg}
 use Rattle.c62_op.specs.Shape.{delay_of, is_load, is_store, is_branch}
-use Rattle.c62_insn.specs.Insn.{op_of, register_writes, reads_register}
+use Rattle.c62_insn.specs.Insn.{op_of, operands_of, cond_of, register_writes, reads_register}
+use Rattle.c62_insn.specs.PacketRules.{Issue, Issues, IsIssued, HasOneLanding}
 
--- whether of two writers of one register at most one can run, so that they need no order: never
+-- number k of a block writes this register, executed or not
+abbrev pub writes_in : Reg → Option Insn → Bool
+writes_in reg None = false
+writes_in reg (Some insn) = list_any (λ write. same_reg write.0 reg) (register_writes insn)
+
+-- one of so many instructions from number i on writes this register
+abbrev pub is_written_by : List Insn → ℕ → ℕ → Reg → Bool
+is_written_by block i zero reg = false
+is_written_by block i (suc count) reg = is_written_by block i count reg || writes_in reg (slice_get block (i + count))
+
+-- one holds exactly where the other does not
+abbrev pub are_opposite : Condition → Condition → Bool
+are_opposite one other = same_reg one.reg other.reg && (if one.negated then not other.negated else other.negated)
+
+abbrev pub condition_in : Option Insn → Option Condition
+condition_in None = None
+condition_in (Some insn) = cond_of insn
+
+abbrev pub exclusive_by : List Insn → ℕ → ℕ → Option Condition → Option Condition → Bool
+exclusive_by block i j (Some one) (Some other) = are_opposite one other && not (is_written_by block i (j - i) one.reg)
+exclusive_by block i j _ _ = false
+
+-- of numbers i and j at most one runs, so that they need no order as writers of one register: they stand under opposite
+-- conditions on a register that no instruction from i on and before j writes
 abbrev pub are_exclusive : List Insn → ℕ → ℕ → Bool
-are_exclusive block i j = false
+are_exclusive block i j = exclusive_by block i j (condition_in (slice_get block i)) (condition_in (slice_get block j))
 
 -- whether two accesses never meet, so that they need no order: never
 abbrev pub are_disjoint : List Insn → ℕ → ℕ → Bool
@@ -55,3 +89,12 @@ pub record IsGreatestBound (block : List Insn) (i j : ℕ) (bound : ℤ) : Type 
 -- the latency from i to j: the greatest bound, and none where no case applies
 abbrev pub IsLatency : List Insn → ℕ → ℕ → Option ℤ → Type 0
 IsLatency block i j latency = MatchOption latency (Depends block i j → ⊥) (IsGreatestBound block i j)
+
+-- issues of the instructions of a block that keep the bounds between them
+pub record KeepsBounds (block : List Insn) (issues : Issues) : Type 0 where
+  pub insns : (i : ℕ) (p : Issue) → IsIssued issues i p → slice_get block i ≡ Some p.insn
+  pub keeps : (i j : ℕ) (bound : ℤ) (p q : Issue) → Bounds block i j bound → IsIssued issues i p → IsIssued issues j q → (pos p.cycle +ℤ bound) ≤ℤ pos q.cycle
+
+-- what keeps the bounds keeps the fifth packet rule
+abbrev pub BoundsKeepLandings : List Insn → Issues → Type 0
+BoundsKeepLandings block issues = KeepsBounds block issues → HasOneLanding issues

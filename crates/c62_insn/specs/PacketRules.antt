@@ -1,13 +1,14 @@
 -- Which instructions may share cycles: the five rules of execute packets (docs/MACHINE.md, "Packet rules"; SPRU189,
 -- "Resource Constraints").
-use Rattle.std.specs.Prelude.{◌≡◌, ◌⊎◌, ℕ, ◌+◌, ◌≤◌, ◌==◌, Bool, false, if◌then◌else◌, List, [], ◌∷◌, Contains, Option, Some, None, sum_by, count_by, slice_index_or, IsTrue}
+use Rattle.std.specs.Prelude.{◌≡◌, ◌≢◌, ◌⊎◌, ◌↔◌, ℕ, ◌+◌, ◌≤◌, ◌==◌, if◌then◌else◌, List, [], ◌∷◌, Contains, Option, Some, None, sum_by, count_by, slice_index_or, IsTrue}
 use Rattle.c62_op.specs.declared.register.Side.{Side}
 use Rattle.c62_op.specs.declared.register.Reg.{Reg}
+use Rattle.c62_op.specs.declared.register.Cond.{Cond as Condition}
 use Rattle.c62_op.specs.declared.register.Unit.{Unit as FunctionalUnit}
 use Rattle.c62_insn.specs.declared.insn.Insn.{Insn}
 use Rattle.c62_op.specs.Takes.{same_reg}
 use Rattle.c62_op.specs.Shape.{crosses_to, data_path_of}
-use Rattle.c62_insn.specs.Insn.{operands_of, operand_reads, register_writes}
+use Rattle.c62_insn.specs.Insn.{operands_of, cond_of, operand_reads, register_writes}
 
 -- an instruction issued in a cycle on a unit
 pub record Issue : Type 0 where
@@ -70,16 +71,23 @@ HasFourReads issues = (cycle : ℕ) (reg : Reg) → sum_by (reads_in cycle reg) 
 abbrev pub LandsIn : Issue → Reg → ℕ → Type 0
 LandsIn p reg cycle = (delay : ℕ) × Contains (register_writes p.insn) (reg, delay) × (p.cycle + delay ≡ cycle)
 
--- whether two instructions may write one register in one cycle all the same: none may
-abbrev pub may_land_together : Issues → ℕ → ℕ → Bool
-may_land_together issues i j = false
+-- What excuses two writes of one register that land together: their instructions stand under opposite conditions on one
+-- register, and each write of it lands before both are issued, or before neither.
+pub record MayLandTogether (issues : Issues) (p q : Issue) : Type 0 where
+  pub one : Condition
+  pub other : Condition
+  pub is_one : cond_of p.insn ≡ Some one
+  pub is_other : cond_of q.insn ≡ Some other
+  pub same : one.reg ≡ other.reg
+  pub opposite : one.negated ≢ other.negated
+  pub stays : (k : ℕ) (r : Issue) (t : ℕ) → IsIssued issues k r → LandsIn r one.reg t → (p.cycle ≤ t) ↔ (q.cycle ≤ t)
 
--- P5: no two writes of one register land in one cycle, executed or not. The two writes of one instruction never do,
+-- P5: no two writes of one register land in one cycle, executed or not, unless that is excused. The two writes of one instruction never do,
 -- as they have different delays.
 abbrev pub HasOneLanding : Issues → Type 0
 HasOneLanding issues =
     (i j : ℕ) (p q : Issue) (reg : Reg) (cycle : ℕ) → IsIssued issues i p → IsIssued issues j q → LandsIn p reg cycle → LandsIn q reg cycle
-    → (i ≡ j) ⊎ IsTrue (may_land_together issues i j)
+    → (i ≡ j) ⊎ MayLandTogether issues p q
 
 pub record KeepsPacketRules (issues : Issues) : Type 0 where
   pub p1 : HasOneEachUnit issues

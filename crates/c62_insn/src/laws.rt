@@ -8,6 +8,7 @@ ghost use Rattle.c62_op.specs.declared.operands.Op.{Op as Operation};
 ghost use Rattle.c62_op.specs.declared.operands.Op.TheVariants.{B as Branch};
 ghost use Rattle.c62_insn.specs.Insn.{op_of, operand_reads, register_writes};
 ghost use Rattle.c62_insn.specs.PacketRules.{Issue, Issues, reads_count};
+ghost use Rattle.c62_insn.specs.Dependence.{BoundsKeepLandings};
 ghost use Rattle.c62_insn.specs.Breaches.{TwoOnOneUnit, TwoOverCrossPath, TwoOverDataPath, FiveReads, TwoLandings};
 ghost use Rattle.c62_insn.specs.Part.{PartKeepsRules, AnyOrderKeepsRules, AnyOrderIsAsLong};
 ghost use Rattle.c62_insn.specs.Laws.{HasUnit, StandsOnOneSide, HasRisingDelays, WritesInTime, WritesBaseFirst, CrossesNotToD, WritesOwnSide, UsesItsPath, CrossesSecond, MultipliesByConstant, SubtractsByAdding};
@@ -99,4 +100,11 @@ pub fn multiplies_by_constant()
 /// SUB of a constant is the sum with its negation.
 pub fn subtracts_by_adding()
     ensures { (k : ℤ) → negsuc 15 ≤ℤ k → k ≤ℤ pos 31 → SubtractsByAdding k }
+{}
+
+/// Issues that keep the bounds of the dependences between them keep P5: of two writers of one register the later one lands
+/// later, or they are exclusive, and then nothing lands in the register of their conditions between their issues.
+#[tactic(auto, using(crate::proofs::Exclusive::one_landing))]
+pub fn bounds_keep_landings()
+    ensures { (block : List Insn) (issues : Issues) → BoundsKeepLandings block issues }
 {}

@@ -1,8 +1,8 @@
 -- The dependences put what the instructions do in order, cell by cell.
-use Rattle.std.proofs.Common.{◌≡◌, ℕ, ◌+◌, ◌*◌, ◌<◌, ◌≤◌, List, false, refl, sym, ◌∙◌, subst, inl, inr, ℤ, pos, ◌+ℤ◌, ◌-ℤ◌, ◌≤ℤ◌, arith}
-use Rattle.std.specs.Prelude.{Contains, ◌==◌, ◌&&◌, true}
+use Rattle.std.proofs.Common.{◌≡◌, ℕ, ◌+◌, ◌*◌, ◌<◌, ◌≤◌, List, Some, false, refl, sym, ◌∙◌, ap, subst, inl, inr, ℤ, pos, ◌+ℤ◌, ◌-ℤ◌, ◌≤ℤ◌, arith}
+use Rattle.std.specs.Prelude.{slice_get, Contains, ◌==◌, ◌&&◌, true}
 use Rattle.std.proofs.lemmas.Int.{ints}
-use Rattle.std.proofs.lemmas.Bool.{eq-eqb}
+use Rattle.std.proofs.lemmas.Bool.{eq-eqb, false≢true, false_from_ne_true, leb-true, and_parts}
 use Rattle.c62_op.specs.declared.register.Side.{Side}
 use Rattle.c62_op.specs.declared.register.Side.TheVariants.{A, B}
 use Rattle.c62_op.specs.declared.register.Reg.{Reg}
@@ -14,26 +14,24 @@ use Rattle.c62_insn.specs.Insn.{op_of, register_writes}
 use Rattle.c62_op.proofs.UnitOrder.{index_of-below}
 use Rattle.c62_insn.specs.Dependence.{IsBound, are_exclusive, are_disjoint, ReadAfterWrite, WriteAfterRead, WriteAfterWrite, AfterStore, StoreAfterLoad}
 use Rattle.c62_op.proofs.Registers.{same_reg-is}
+use Rattle.c62_insn.specs.declared.effect.Access.{Access as MemoryAccess}
+use Rattle.c62_insn.proofs.Exclusive.{exclusive-is}
+use Rattle.c62_serial.specs.Memory.{is_good}
+use Rattle.c62_meaning.proofs.NotBoth.{writes_runs, word_kept, not_both}
 use Rattle.c62_serial.specs.State.{first_of, index_of, word_in, byte_in}
 use Rattle.c62_meaning.specs.Landing.{Landing}
 use Rattle.c62_meaning.specs.Packet.{access_time}
 use Rattle.c62_meaning.proofs.Lookup.{In, Contains_from_In}
-use Rattle.c62_meaning.proofs.Acting.{Reads, is_loads}
-use Rattle.c62_meaning.proofs.Landings.{from_In-writes, from_In-access, act_writes, stores_byte}
+use Rattle.c62_meaning.proofs.Acting.{Reads, LoadsByte, access_at, is_loads}
+use Rattle.c62_meaning.proofs.Landings.{from_In-writes, from_In-access, act_writes, act_accesses, stores_byte}
 use Rattle.c62_meaning.proofs.SameRuns.{Numbered, machine_at, serial_act, reg_writes, byte_writes, IsOrdered}
 
 -- whatever bounds the distance of two instructions of a block is kept
 pub record KeepsBounds (b : Numbered) : Type 0 where
   pub block : List Insn
+  pub stands : (i : ℕ) → i < b.count → slice_get block i ≡ Some (b.entry i).insn
   pub keeps : (j k : ℕ) (bound : ℤ) → j < k → k < b.count → IsBound block j k (b.entry j).insn (b.entry k).insn bound
       → (pos (b.at j).cycle +ℤ bound) ≤ℤ pos (b.at k).cycle
-
--- What excuses two instructions from an order: nothing does.
-no_exclusion : (block : List Insn) (j k : ℕ) → are_exclusive block j k ≡ false
-no_exclusion block j k = refl
-
-no_disjoint : (block : List Insn) (j k : ℕ) → are_disjoint block j k ≡ false
-no_disjoint block j k = refl
 
 -- of a landing in a register, the write that made it
 record IsWrite (b : Numbered) (j : ℕ) (v : Landing) : Type 0 where
@@ -66,8 +64,22 @@ same_parts A B m n l r e = absurd (omega arith)
 same_parts B A m n l r e = absurd (omega arith)
 same_parts B B m n l r e = eq-eqb m n (omega arith)
 
-same_index : (a b : Reg) → index_of a ≡ index_of b → a ≡ b
+pub same_index : (a b : Reg) → index_of a ≡ index_of b → a ≡ b
 same_index a b e = same_reg-is a b (same_parts a.side b.side a.number b.number a.in_range b.in_range e)
+
+-- exclusive ones do not both write
+exclusive_order : (b : Numbered) (h : KeepsBounds b) (j k : ℕ) (v w : Landing) → j < k → k < b.count → In v (reg_writes b j) → In w (reg_writes b k) → are_exclusive h.block j k ≡ true → ⊥
+exclusive_order b h j k v w l u c d both =
+    let p = from_In-writes (b.at j).cycle (serial_act b j).writes v c in
+    let q = from_In-writes (b.at k).cycle (serial_act b k).writes w d in
+    let x = exclusive-is h.block j k (b.entry j).insn (b.entry k).insn l (h.stands j (omega (arith, l, u))) (h.stands k u) both in
+    not_both b h.block j k (omega (arith, l)) x
+    (λ i m low high writes same.
+    let reg : m.0 ≡ x.one.reg = same_index m.0 x.one.reg same in
+    x.unwritten i m.1 (b.entry i).insn low high (h.stands i (omega (arith, high, u)))
+    (subst (λ (r : Reg). Contains (register_writes (b.entry i).insn) (r, m.1)) reg writes))
+    (writes_runs (b.entry j).insn (word_in (machine_at b j)) (byte_in (machine_at b j)) p.0 p.1)
+    (writes_runs (b.entry k).insn (word_in (machine_at b k)) (byte_in (machine_at b k)) q.0 q.1)
 
 reg_order : (b : Numbered) → KeepsBounds b → (j k : ℕ) (v w : Landing) → j < k → k < b.count → In v (reg_writes b j) → In w (reg_writes b k) → v.cell ≡ w.cell → v.time < w.time
 reg_order b h j k v w l u c d e =
@@ -75,8 +87,9 @@ reg_order b h j k v w l u c d e =
     let q = write_of b k w d in
     let same : q.reg ≡ p.reg = same_index q.reg p.reg (sym q.cell ∙ sym e ∙ p.cell) in
     let inside : Contains (register_writes (b.entry k).insn) (p.reg, q.delay) = subst (λ r. Contains (register_writes (b.entry k).insn) (r, q.delay)) same q.inside in
+    let free : are_exclusive h.block j k ≡ false = false_from_ne_true (are_exclusive h.block j k) (exclusive_order b h j k v w l u c d) in
     let bound : (pos (b.at j).cycle +ℤ (pos (p.delay + 1) -ℤ pos q.delay)) ≤ℤ pos (b.at k).cycle
-    = h.keeps j k (pos (p.delay + 1) -ℤ pos q.delay) l u (WriteAfterWrite p.reg p.delay q.delay p.inside inside (no_exclusion h.block j k) refl) in
+    = h.keeps j k (pos (p.delay + 1) -ℤ pos q.delay) l u (WriteAfterWrite p.reg p.delay q.delay p.inside inside free refl) in
     let s : v.time ≡ (b.at j).cycle + p.delay = p.time in
     let t : w.time ≡ (b.at k).cycle + q.delay = q.time in
     omega (arith, ints)
@@ -101,6 +114,42 @@ reg_kept b h j k w reg l u reads d e =
     let t : w.time ≡ (b.at k).cycle + q.delay = q.time in
     omega (arith, ints)
 
+-- the instruction, with these words in registers, makes an access that covers the byte at an address
+record Touches (insn : Insn) (word : Reg → ℕ) (address : ℕ) : Type 0 where
+  access : MemoryAccess
+  accesses : access_at insn word ≡ Some access
+  within : access.address + access.size ≤ 65536
+  low : access.address ≤ address
+  high : address < access.address + access.size
+
+within_memory : (address size : ℕ) → is_good address size ≡ true → address + size ≤ 65536
+within_memory address size good = leb-true (address + size) 65536 (and_parts _ _ good).1
+
+stored_touches : (b : Numbered) (j : ℕ) (v : Landing) → In v (byte_writes b j) → Touches (b.entry j).insn (word_in (machine_at b j)) v.cell
+stored_touches b j v h =
+    let s = from_In-access (access_time (b.at j)) (serial_act b j).access v h in
+    record {
+      access = s.access;
+      accesses = (act_accesses (b.entry j).insn (word_in (machine_at b j)) (byte_in (machine_at b j)) s.access s.accesses).1;
+      within = within_memory s.access.address s.access.size s.good;
+      low = s.low;
+      high = s.high;
+    }
+
+loaded_touches : (b : Numbered) (k address : ℕ) → LoadsByte (b.entry k).insn (word_in (machine_at b k)) address → Touches (b.entry k).insn (word_in (machine_at b k)) address
+loaded_touches b k address h = record {
+  access = h.access;
+  accesses = h.accesses;
+  within = within_memory h.access.address h.access.size h.good;
+  low = h.low;
+  high = h.high;
+}
+
+-- disjoint accesses touch no byte together
+not_the_same : (b : Numbered) (h : KeepsBounds b) (j k a : ℕ) → j < k → k < b.count → Touches (b.entry j).insn (word_in (machine_at b j)) a
+    → Touches (b.entry k).insn (word_in (machine_at b k)) a → are_disjoint h.block j k ≡ true → ⊥
+not_the_same b h j k a l u p q both = false≢true both
+
 pub ordered : (b : Numbered) → KeepsBounds b → IsOrdered b
 ordered b h = record {
   reg_order = reg_order b h;
@@ -109,22 +158,28 @@ ordered b h = record {
   byte_order = λ j k v w l u c d e.
       let p = store_of b j v c in
       let q = store_of b k w d in
-      let bound : (pos (b.at j).cycle +ℤ pos 1) ≤ℤ pos (b.at k).cycle = h.keeps j k (pos 1) l u (AfterStore p.0 (inr q.0) (no_disjoint h.block j k) refl) in
+      let free : are_disjoint h.block j k ≡ false = false_from_ne_true (are_disjoint h.block j k)
+      (not_the_same b h j k v.cell l u (stored_touches b j v c) (subst (λ (a : ℕ). Touches (b.entry k).insn (word_in (machine_at b k)) a) (sym e) (stored_touches b k w d))) in
+      let bound : (pos (b.at j).cycle +ℤ pos 1) ≤ℤ pos (b.at k).cycle = h.keeps j k (pos 1) l u (AfterStore p.0 (inr q.0) free refl) in
       let s : v.time ≡ 8 * (b.at j).cycle + unit_index (b.at j).unit = p.1 in
       let t : w.time ≡ 8 * (b.at k).cycle + unit_index (b.at k).unit = q.1 in
       let rank : unit_index (b.at j).unit < 8 = index_of-below (b.at j).unit in
       omega (arith, ints);
   byte_read = λ j k v l u c loads.
       let p = store_of b j v c in
+      let free : are_disjoint h.block j k ≡ false = false_from_ne_true (are_disjoint h.block j k)
+      (not_the_same b h j k v.cell l u (stored_touches b j v c) (loaded_touches b k v.cell loads)) in
       let bound : (pos (b.at j).cycle +ℤ pos 1) ≤ℤ pos (b.at k).cycle
-      = h.keeps j k (pos 1) l u (AfterStore p.0 (inl (is_loads (b.entry k).insn (word_in (machine_at b k)) v.cell loads)) (no_disjoint h.block j k) refl) in
+      = h.keeps j k (pos 1) l u (AfterStore p.0 (inl (is_loads (b.entry k).insn (word_in (machine_at b k)) v.cell loads)) free refl) in
       let s : v.time ≡ 8 * (b.at j).cycle + unit_index (b.at j).unit = p.1 in
       let rank : unit_index (b.at j).unit < 8 = index_of-below (b.at j).unit in
       omega (arith, ints);
   byte_kept = λ j k w l u loads d.
       let q = store_of b k w d in
+      let free : are_disjoint h.block j k ≡ false = false_from_ne_true (are_disjoint h.block j k)
+      (not_the_same b h j k w.cell l u (loaded_touches b j w.cell loads) (stored_touches b k w d)) in
       let bound : (pos (b.at j).cycle +ℤ pos 0) ≤ℤ pos (b.at k).cycle
-      = h.keeps j k (pos 0) l u (StoreAfterLoad (is_loads (b.entry j).insn (word_in (machine_at b j)) w.cell loads) q.0 (no_disjoint h.block j k) refl) in
+      = h.keeps j k (pos 0) l u (StoreAfterLoad (is_loads (b.entry j).insn (word_in (machine_at b j)) w.cell loads) q.0 free refl) in
       let t : w.time ≡ 8 * (b.at k).cycle + unit_index (b.at k).unit = q.1 in
       omega (arith, ints);
 }

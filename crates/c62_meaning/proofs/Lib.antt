@@ -3,8 +3,10 @@ pub mod WritesBelow
 pub mod Acting
 pub mod Landings
 pub mod SameRuns
+pub mod NotBoth
 pub mod CellOrder
 pub mod Runs
 pub mod Ends
 pub mod Faulted
 pub mod SerialPackets
+pub mod OneByOne

@@ -183,6 +183,7 @@ insn_at insns i l =
 keep_at : (insns : List SerialInsn) (placed : List Placed) (opening : Machine) → IsPlacing insns placed → KeepsBounds (numbered insns placed opening)
 keep_at insns placed opening h = record {
   block = map (λ (entry : SerialInsn). entry.insn) insns;
+  stands = λ i l. insn_at insns i l;
   keeps = λ j k bound lt l applies.
       let n : length placed ≡ length insns = h.count in
       h.keeps j k (get_or placed j no_placed) (get_or placed k no_placed) bound (slice_get-get_or placed j no_placed (omega arith)) (slice_get-get_or placed k no_placed (omega arith))

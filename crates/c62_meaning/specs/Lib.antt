@@ -2,3 +2,4 @@ pub mod Landing
 pub mod Packet
 pub mod Meaning
 pub mod Laws
+pub mod Landed

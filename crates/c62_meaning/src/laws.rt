@@ -6,6 +6,7 @@ ghost use Rattle.c62_insn.specs.declared.insn.Insn.{Insn};
 ghost use Rattle.c62_read.specs.declared.block.SerialInsn.{SerialInsn};
 ghost use Rattle.c62_serial.specs.State.{Machine, IsSound};
 ghost use Rattle.c62_packet.specs.declared.placed.Placed.{Placed};
+ghost use Rattle.c62_meaning.specs.Landed.{RunsLandOneByOne};
 ghost use Rattle.c62_meaning.specs.Laws.{HasOneMeaning, IsSameInsn, ActsAlike, PacketsAreSerial};
 
 /// Every block of packets has just one meaning, whatever its instructions do and wherever they are
@@ -25,4 +26,9 @@ pub fn packets_are_serial()
 /// What an instruction does is the same on whichever unit it is written.
 pub fn acts_alike_on_all_units()
     ensures { (one other : Insn) → IsSameInsn one other → ActsAlike one other }
+{}
+
+/// In the run of packets that keep P5 no two executed writes of one register land in one cycle.
+pub fn lands_one_by_one()
+    ensures { (block : List Placed) (opening : Machine) → RunsLandOneByOne block opening }
 {}

@@ -2,7 +2,6 @@
 use Rattle.std.proofs.Common.{arith, ◌≡◌, ℕ, zero, suc, ◌+◌, ◌≤◌, List, [], ◌∷◌, Option, Some, None, refl, sym, ap, ◌∙◌, Bool, true, false, cond, subst, max, inl, inr}
 use Rattle.std.specs.Prelude.{sum_by, count_by, find, IsTrue, if◌then◌else◌, ◌==◌}
 use Rattle.std.specs.Option.{option_map_or}
-use Rattle.std.proofs.lemmas.Bool.{both_ways}
 use Rattle.std.proofs.lemmas.Option.{none-some, same_Some}
 use Rattle.std.proofs.lemmas.List.Sums.{sum_by-cons}
 use Rattle.c62_op.specs.declared.register.Reg.{Reg}
@@ -12,15 +11,15 @@ use Rattle.c62_op.specs.declared.operands.Op.{Op}
 use Rattle.c62_op.specs.declared.operands.Operands.{Operands}
 use Rattle.c62_op.specs.Takes.{same_reg}
 use Rattle.c62_op.specs.Shape.{crosses_to, data_path_of, reads_of, writes_of, is_branch}
-use Rattle.c62_insn.specs.Insn.{op_of, operands_of, register_writes}
-use Rattle.c62_insn.specs.PacketRules.{Issue, Issues, IsIssued, AtMostOne, reads_in, LandsIn, UsesCrossPath, UsesDataPath, KeepsPacketRules}
-use Rattle.c62_insn.proofs.Excuses.{never_together}
+use Rattle.c62_insn.specs.Insn.{op_of, operands_of, cond_of, register_writes}
+use Rattle.c62_insn.specs.PacketRules.{Issue, Issues, IsIssued, AtMostOne, reads_in, LandsIn, MayLandTogether, UsesCrossPath, UsesDataPath, KeepsPacketRules}
 use Rattle.c62_insn.specs.Length.{greatest_delay, landing_end, last_landing_end, length_of}
 
 -- the same issue, whichever unit is written
 pub record IsSameIssue (p q : Issue) : Type 0 where
   pub op : op_of p.insn ≡ op_of q.insn
   pub operands : operands_of p.insn ≡ operands_of q.insn
+  pub cond : cond_of p.insn ≡ cond_of q.insn
   pub cycle : p.cycle ≡ q.cycle
   pub unit : p.unit ≡ q.unit
 
@@ -103,6 +102,23 @@ lands_same reg cycle p q same (delay, contains, e) = (
   ap (λ (k : ℕ). k + delay) same.cycle ∙ e,
 )
 
+-- two that may land together may do so whichever units are written
+may_same : (ps qs : Issues) → AreSame ps qs → (a b p q : Issue) → IsSameIssue a p → IsSameIssue b q → MayLandTogether ps a b → MayLandTogether qs p q
+may_same ps qs same a b p q first second may = record {
+  one = may.one;
+  other = may.other;
+  is_one = sym first.cond ∙ may.is_one;
+  is_other = sym second.cond ∙ may.is_other;
+  same = may.same;
+  opposite = may.opposite;
+  stays = λ k r t at lands.
+      let m = mirrored ps qs k r same at in
+      let both = may.stays k m.other t m.issued (lands_same may.one.reg t m.other r m.same lands) in (
+        (λ le. subst (λ (n : ℕ). n ≤ t) second.cycle (both.0 (subst (λ (n : ℕ). n ≤ t) (sym first.cycle) le))),
+        (λ le. subst (λ (n : ℕ). n ≤ t) first.cycle (both.1 (subst (λ (n : ℕ). n ≤ t) (sym second.cycle) le))),
+      );
+}
+
 pub rules_same : (ps qs : Issues) → AreSame ps qs → KeepsPacketRules ps → KeepsPacketRules qs
 rules_same ps qs same rules = record {
   p1 = λ unit. one_each (λ p. p.unit ≡ unit) ps qs (λ p q s e. s.unit ∙ e) same (rules.p1 unit);
@@ -114,7 +130,7 @@ rules_same ps qs same rules = record {
       let b = mirrored ps qs j q same k in
       elim (rules.p5 i j a.other b.other reg cycle a.issued b.issued (lands_same reg cycle a.other p a.same lands) (lands_same reg cycle b.other q b.same theirs)) [
         | inl same_number ↦ inl same_number
-        | inr may ↦ absurd (both_ways _ (never_together ps i j) may)
+        | inr may ↦ inr (may_same ps qs same a.other b.other p q a.same b.same may)
       ];
 }
 

@@ -19,7 +19,7 @@ use Rattle.c62_packet.specs.declared.placed.Placed.{Placed}
 use Rattle.c62_packet.specs.declared.fault.PacketRule.{PacketRule}
 use Rattle.c62_packet.specs.declared.fault.PacketRule.TheVariants.{P1, P2, P3, P4, P5}
 use Rattle.c62_packet.specs.Packed.{issued}
-use Rattle.c62_packet.specs.Rules.{IsKept, AreKeptInEach}
+use Rattle.c62_packet.specs.Rules.{IsKeptAmong, IsKept, AreKeptInEach}
 use Rattle.c62_packet.specs.Fault.{rank_of, IsBefore, IsFirstBroken}
 use Rattle.c62_packet.specs.Clash.{shares_unit, shares_cross_path, shares_data_path, is_over_read, is_met, landing_beside, broken_beside, is_before, earlier, broken}
 use Rattle.c62_packet.proofs.RuleLemmas.{one-cons, one-rest, one-alone, tells_unit, tells_cross_path, tells_data_path, reads-cons, reads-rest, reads-own, landing-cons, landing-rest, landing-own}
@@ -48,35 +48,35 @@ kept-each issues = record {
 -- ---- one more instruction
 
 -- the instruction does not break the rule in this cycle together with the others
-pub Suits : PacketRule → ℕ → Placed → List Placed → Type 0
-Suits P1 c p xs = p.cycle ≡ c → list_any (shares_unit p) xs ≡ false
-Suits P2 c p xs = p.cycle ≡ c → list_any (shares_cross_path p) xs ≡ false
-Suits P3 c p xs = p.cycle ≡ c → list_any (shares_data_path p) xs ≡ false
-Suits P4 c p xs = p.cycle ≡ c → is_over_read p xs ≡ false
-Suits P5 c p xs = All (λ write. p.cycle + write.1 ≡ c → is_met p xs write ≡ false) (register_writes p.insn)
+pub Suits : List Placed → PacketRule → ℕ → Placed → List Placed → Type 0
+Suits whole P1 c p xs = p.cycle ≡ c → list_any (shares_unit p) xs ≡ false
+Suits whole P2 c p xs = p.cycle ≡ c → list_any (shares_cross_path p) xs ≡ false
+Suits whole P3 c p xs = p.cycle ≡ c → list_any (shares_data_path p) xs ≡ false
+Suits whole P4 c p xs = p.cycle ≡ c → is_over_read p xs ≡ false
+Suits whole P5 c p xs = All (λ write. p.cycle + write.1 ≡ c → is_met whole p xs write ≡ false) (register_writes p.insn)
 
-kept-cons : (rule : PacketRule) (c : ℕ) (p : Placed) (xs : List Placed) → IsKept rule c (issued xs) → Suits rule c p xs → IsKept rule c (issued (p ∷ xs))
+kept-cons : (whole : List Placed) (rule : PacketRule) (c : ℕ) (p : Placed) (xs : List Placed) → IsKeptAmong (issued whole) rule c (issued xs) → Suits whole rule c p xs → IsKeptAmong (issued whole) rule c (issued (p ∷ xs))
 unfolding Suits
-kept-cons P1 c p xs old own = one-cons (λ (unit : FunctionalUnit) q. q.unit ≡ unit) shares_unit tells_unit c p xs old own
-kept-cons P2 c p xs old own = one-cons UsesCrossPath shares_cross_path tells_cross_path c p xs old own
-kept-cons P3 c p xs old own = one-cons UsesDataPath shares_data_path tells_data_path c p xs old own
-kept-cons P4 c p xs old own = reads-cons c p xs old own
-kept-cons P5 c p xs old own = landing-cons c p xs old own
+kept-cons whole P1 c p xs old own = one-cons (λ (unit : FunctionalUnit) q. q.unit ≡ unit) shares_unit tells_unit c p xs old own
+kept-cons whole P2 c p xs old own = one-cons UsesCrossPath shares_cross_path tells_cross_path c p xs old own
+kept-cons whole P3 c p xs old own = one-cons UsesDataPath shares_data_path tells_data_path c p xs old own
+kept-cons whole P4 c p xs old own = reads-cons c p xs old own
+kept-cons whole P5 c p xs old own = landing-cons whole c p xs old own
 
-kept-rest : (rule : PacketRule) (c : ℕ) (p : Placed) (xs : List Placed) → IsKept rule c (issued (p ∷ xs)) → IsKept rule c (issued xs)
-kept-rest P1 c p xs all = one-rest (λ (unit : FunctionalUnit) q. q.unit ≡ unit) c p xs all
-kept-rest P2 c p xs all = one-rest UsesCrossPath c p xs all
-kept-rest P3 c p xs all = one-rest UsesDataPath c p xs all
-kept-rest P4 c p xs all = reads-rest c p xs all
-kept-rest P5 c p xs all = landing-rest c p xs all
+kept-rest : (whole : List Placed) (rule : PacketRule) (c : ℕ) (p : Placed) (xs : List Placed) → IsKeptAmong (issued whole) rule c (issued (p ∷ xs)) → IsKeptAmong (issued whole) rule c (issued xs)
+kept-rest whole P1 c p xs all = one-rest (λ (unit : FunctionalUnit) q. q.unit ≡ unit) c p xs all
+kept-rest whole P2 c p xs all = one-rest UsesCrossPath c p xs all
+kept-rest whole P3 c p xs all = one-rest UsesDataPath c p xs all
+kept-rest whole P4 c p xs all = reads-rest c p xs all
+kept-rest whole P5 c p xs all = landing-rest whole c p xs all
 
-kept-own : (rule : PacketRule) (c : ℕ) (p : Placed) (xs : List Placed) → IsKept rule c (issued (p ∷ xs)) → Suits rule c p xs
+kept-own : (whole : List Placed) (rule : PacketRule) (c : ℕ) (p : Placed) (xs : List Placed) → IsKeptAmong (issued whole) rule c (issued (p ∷ xs)) → Suits whole rule c p xs
 unfolding Suits
-kept-own P1 c p xs all = one-alone (λ (unit : FunctionalUnit) q. q.unit ≡ unit) shares_unit tells_unit c p xs all
-kept-own P2 c p xs all = one-alone UsesCrossPath shares_cross_path tells_cross_path c p xs all
-kept-own P3 c p xs all = one-alone UsesDataPath shares_data_path tells_data_path c p xs all
-kept-own P4 c p xs all = reads-own c p xs all
-kept-own P5 c p xs all = landing-own c p xs all
+kept-own whole P1 c p xs all = one-alone (λ (unit : FunctionalUnit) q. q.unit ≡ unit) shares_unit tells_unit c p xs all
+kept-own whole P2 c p xs all = one-alone UsesCrossPath shares_cross_path tells_cross_path c p xs all
+kept-own whole P3 c p xs all = one-alone UsesDataPath shares_data_path tells_data_path c p xs all
+kept-own whole P4 c p xs all = reads-own c p xs all
+kept-own whole P5 c p xs all = landing-own whole c p xs all
 
 -- ---- the first that fails
 
@@ -174,13 +174,13 @@ first-both P Q (Some f) (Some g) x y = by_order (is_before g f) refl
 
 -- ---- what one instruction breaks
 
-early : (rule : PacketRule) (c : ℕ) (p : Placed) (xs : List Placed) → c < p.cycle → Suits rule c p xs
+early : (whole : List Placed) (rule : PacketRule) (c : ℕ) (p : Placed) (xs : List Placed) → c < p.cycle → Suits whole rule c p xs
 unfolding Suits
-early P1 c p xs lt = λ e. absurd (omega (arith, lt, e))
-early P2 c p xs lt = λ e. absurd (omega (arith, lt, e))
-early P3 c p xs lt = λ e. absurd (omega (arith, lt, e))
-early P4 c p xs lt = λ e. absurd (omega (arith, lt, e))
-early P5 c p xs lt = λ k d within e. absurd (omega (arith, lt, e))
+early whole P1 c p xs lt = λ e. absurd (omega (arith, lt, e))
+early whole P2 c p xs lt = λ e. absurd (omega (arith, lt, e))
+early whole P3 c p xs lt = λ e. absurd (omega (arith, lt, e))
+early whole P4 c p xs lt = λ e. absurd (omega (arith, lt, e))
+early whole P5 c p xs lt = λ k d within e. absurd (omega (arith, lt, e))
 
 rank_at_most : (rule : PacketRule) → rank_of rule ≤ 4
 rank_at_most P1 = omega arith
@@ -190,24 +190,24 @@ rank_at_most P4 = omega arith
 rank_at_most P5 = omega arith
 
 -- the rules before this one are kept
-passed : (found rule : PacketRule) (c : ℕ) (p : Placed) (xs : List Placed)
+passed : (whole : List Placed) (found rule : PacketRule) (c : ℕ) (p : Placed) (xs : List Placed)
     → (0 < rank_of found → list_any (shares_unit p) xs ≡ false) → (1 < rank_of found → list_any (shares_cross_path p) xs ≡ false)
     → (2 < rank_of found → list_any (shares_data_path p) xs ≡ false) → (3 < rank_of found → is_over_read p xs ≡ false)
-    → rank_of rule < rank_of found → Suits rule c p xs
+    → rank_of rule < rank_of found → Suits whole rule c p xs
 unfolding Suits
-passed found P1 c p xs one two three four lt = λ e. one lt
-passed found P2 c p xs one two three four lt = λ e. two lt
-passed found P3 c p xs one two three four lt = λ e. three lt
-passed found P4 c p xs one two three four lt = λ e. four lt
-passed found P5 c p xs one two three four lt = let most : rank_of found ≤ 4 = rank_at_most found in absurd (omega (arith, lt, most))
+passed whole found P1 c p xs one two three four lt = λ e. one lt
+passed whole found P2 c p xs one two three four lt = λ e. two lt
+passed whole found P3 c p xs one two three four lt = λ e. three lt
+passed whole found P4 c p xs one two three four lt = λ e. four lt
+passed whole found P5 c p xs one two three four lt = let most : rank_of found ≤ 4 = rank_at_most found in absurd (omega (arith, lt, most))
 
-found_here : (found : PacketRule) (p : Placed) (xs : List Placed) → (Suits found p.cycle p xs → ⊥)
-    → ((rule : PacketRule) (c : ℕ) → rank_of rule < rank_of found → Suits rule c p xs) → FirstOf (λ rule c. Suits rule c p xs) (Some (p.cycle, found))
+found_here : (whole : List Placed) (found : PacketRule) (p : Placed) (xs : List Placed) → (Suits whole found p.cycle p xs → ⊥)
+    → ((rule : PacketRule) (c : ℕ) → rank_of rule < rank_of found → Suits whole rule c p xs) → FirstOf (λ rule c. Suits whole rule c p xs) (Some (p.cycle, found))
 unfolding FirstOf
-found_here found p xs fails before = (
+found_here whole found p xs fails before = (
   fails,
   λ c rule is. elim is [
-    | inl lower ↦ early rule c p xs lower
+    | inl lower ↦ early whole rule c p xs lower
     | inr same ↦ before rule c same.1
   ],
 )
@@ -287,100 +287,100 @@ none_found test (first ∷ writes) e = by_first (test first) refl (λ rest. none
     by_first true h later = absurd (none-some first (sym (rw h at e)))
     by_first false h later = All-cons (λ other. test other ≡ false) first writes h (later (rw h at e))
 
-landing_first : (p : Placed) (xs : List Placed) (o : Option (Reg × ℕ)) → find (is_met p xs) (register_writes p.insn) ≡ o
+landing_first : (whole : List Placed) (p : Placed) (xs : List Placed) (o : Option (Reg × ℕ)) → find (is_met whole p xs) (register_writes p.insn) ≡ o
     → list_any (shares_unit p) xs ≡ false → list_any (shares_cross_path p) xs ≡ false → list_any (shares_data_path p) xs ≡ false → is_over_read p xs ≡ false
-    → FirstOf (λ rule c. Suits rule c p xs) (option_map (λ cycle. (cycle, P5)) (option_map (λ write. p.cycle + write.1) o))
+    → FirstOf (λ rule c. Suits whole rule c p xs) (option_map (λ cycle. (cycle, P5)) (option_map (λ write. p.cycle + write.1) o))
 unfolding FirstOf Suits
-landing_first p xs None e one two three four = all
+landing_first whole p xs None e one two three four = all
   where
-    all : (rule : PacketRule) (c : ℕ) → Suits rule c p xs
+    all : (rule : PacketRule) (c : ℕ) → Suits whole rule c p xs
     all P1 c = λ h. one
     all P2 c = λ h. two
     all P3 c = λ h. three
     all P4 c = λ h. four
-    all P5 c = All-weaker (λ (write : Reg × ℕ). is_met p xs write ≡ false) (λ (write : Reg × ℕ). p.cycle + write.1 ≡ c → is_met p xs write ≡ false)
-        (λ write fails h. fails) (register_writes p.insn) (none_found (is_met p xs) (register_writes p.insn) e)
-landing_first p xs (Some write) e one two three four = (fails, before)
+    all P5 c = All-weaker (λ (write : Reg × ℕ). is_met whole p xs write ≡ false) (λ (write : Reg × ℕ). p.cycle + write.1 ≡ c → is_met whole p xs write ≡ false)
+        (λ write fails h. fails) (register_writes p.insn) (none_found (is_met whole p xs) (register_writes p.insn) e)
+landing_first whole p xs (Some write) e one two three four = (fails, before)
   where
-    found : IsFound (is_met p xs) (register_writes p.insn) write
-    found = find_found (is_met p xs) (register_writes p.insn) write (rise (op_of p.insn) (operands_of p.insn)) e
+    found : IsFound (is_met whole p xs) (register_writes p.insn) write
+    found = find_found (is_met whole p xs) (register_writes p.insn) write (rise (op_of p.insn) (operands_of p.insn)) e
 
-    fails : Suits P5 (p.cycle + write.1) p xs → ⊥
+    fails : Suits whole P5 (p.cycle + write.1) p xs → ⊥
     fails suits =
-        let alone : is_met p xs write ≡ false
-        = All-contains (λ (other : Reg × ℕ). p.cycle + other.1 ≡ p.cycle + write.1 → is_met p xs other ≡ false) (register_writes p.insn) write suits found.is refl in
+        let alone : is_met whole p xs write ≡ false
+        = All-contains (λ (other : Reg × ℕ). p.cycle + other.1 ≡ p.cycle + write.1 → is_met whole p xs other ≡ false) (register_writes p.insn) write suits found.is refl in
         false≢true (sym alone ∙ found.passes)
 
-    at : (rule : PacketRule) (c : ℕ) → rank_of rule < rank_of P5 → Suits rule c p xs
-    at rule c lt = passed P5 rule c p xs (λ h. one) (λ h. two) (λ h. three) (λ h. four) lt
+    at : (rule : PacketRule) (c : ℕ) → rank_of rule < rank_of P5 → Suits whole rule c p xs
+    at rule c lt = passed whole P5 rule c p xs (λ h. one) (λ h. two) (λ h. three) (λ h. four) lt
 
-    below : (rule : PacketRule) (c : ℕ) → c < p.cycle + write.1 → Suits rule c p xs
+    below : (rule : PacketRule) (c : ℕ) → c < p.cycle + write.1 → Suits whole rule c p xs
     below P1 c lt = λ h. one
     below P2 c lt = λ h. two
     below P3 c lt = λ h. three
     below P4 c lt = λ h. four
-    below P5 c lt = All-weaker (λ (other : Reg × ℕ). other.1 < write.1 → is_met p xs other ≡ false) (λ (other : Reg × ℕ). p.cycle + other.1 ≡ c → is_met p xs other ≡ false)
+    below P5 c lt = All-weaker (λ (other : Reg × ℕ). other.1 < write.1 → is_met whole p xs other ≡ false) (λ (other : Reg × ℕ). p.cycle + other.1 ≡ c → is_met whole p xs other ≡ false)
         (λ other less h. less (omega (arith, lt, h))) (register_writes p.insn) found.less
 
-    before : (cycle : ℕ) (rule : PacketRule) → IsBefore cycle rule (p.cycle + write.1) P5 → Suits rule cycle p xs
+    before : (cycle : ℕ) (rule : PacketRule) → IsBefore cycle rule (p.cycle + write.1) P5 → Suits whole rule cycle p xs
     before cycle rule is = elim is [
       | inl lower ↦ below rule cycle lower
       | inr same ↦ at rule cycle same.1
     ]
 
-first_beside : (p : Placed) (xs : List Placed) → FirstOf (λ rule c. Suits rule c p xs) (broken_beside p xs)
+first_beside : (whole : List Placed) (p : Placed) (xs : List Placed) → FirstOf (λ rule c. Suits whole rule c p xs) (broken_beside whole p xs)
 unfolding Suits
-first_beside p xs = by_unit (list_any (shares_unit p) xs) refl
+first_beside whole p xs = by_unit (list_any (shares_unit p) xs) refl
   where
     by_reads : (b : Bool) → is_over_read p xs ≡ b → list_any (shares_unit p) xs ≡ false → list_any (shares_cross_path p) xs ≡ false
         → list_any (shares_data_path p) xs ≡ false
-        → FirstOf (λ rule c. Suits rule c p xs) (if b then Some (p.cycle, P4) else option_map (λ cycle. (cycle, P5)) (landing_beside p xs))
-    by_reads true four one two three = found_here P4 p xs (λ h. false≢true (sym (h refl) ∙ four))
-        (λ rule c lt. passed P4 rule c p xs (λ h. one) (λ h. two) (λ h. three) (λ h. absurd (omega (arith, h))) lt)
-    by_reads false four one two three = landing_first p xs (find (is_met p xs) (register_writes p.insn)) refl one two three four
+        → FirstOf (λ rule c. Suits whole rule c p xs) (if b then Some (p.cycle, P4) else option_map (λ cycle. (cycle, P5)) (landing_beside whole p xs))
+    by_reads true four one two three = found_here whole P4 p xs (λ h. false≢true (sym (h refl) ∙ four))
+        (λ rule c lt. passed whole P4 rule c p xs (λ h. one) (λ h. two) (λ h. three) (λ h. absurd (omega (arith, h))) lt)
+    by_reads false four one two three = landing_first whole p xs (find (is_met whole p xs) (register_writes p.insn)) refl one two three four
 
     by_path : (b : Bool) → list_any (shares_data_path p) xs ≡ b → list_any (shares_unit p) xs ≡ false → list_any (shares_cross_path p) xs ≡ false
-        → FirstOf (λ rule c. Suits rule c p xs)
-        (if b then Some (p.cycle, P3) else (if is_over_read p xs then Some (p.cycle, P4) else option_map (λ cycle. (cycle, P5)) (landing_beside p xs)))
-    by_path true three one two = found_here P3 p xs (λ h. false≢true (sym (h refl) ∙ three))
-        (λ rule c lt. passed P3 rule c p xs (λ h. one) (λ h. two) (λ h. absurd (omega (arith, h))) (λ h. absurd (omega (arith, h))) lt)
+        → FirstOf (λ rule c. Suits whole rule c p xs)
+        (if b then Some (p.cycle, P3) else (if is_over_read p xs then Some (p.cycle, P4) else option_map (λ cycle. (cycle, P5)) (landing_beside whole p xs)))
+    by_path true three one two = found_here whole P3 p xs (λ h. false≢true (sym (h refl) ∙ three))
+        (λ rule c lt. passed whole P3 rule c p xs (λ h. one) (λ h. two) (λ h. absurd (omega (arith, h))) (λ h. absurd (omega (arith, h))) lt)
     by_path false three one two = by_reads (is_over_read p xs) refl one two three
 
     by_cross : (b : Bool) → list_any (shares_cross_path p) xs ≡ b → list_any (shares_unit p) xs ≡ false
-        → FirstOf (λ rule c. Suits rule c p xs)
+        → FirstOf (λ rule c. Suits whole rule c p xs)
         (if b then Some (p.cycle, P2) else (if list_any (shares_data_path p) xs then Some (p.cycle, P3)
-        else (if is_over_read p xs then Some (p.cycle, P4) else option_map (λ cycle. (cycle, P5)) (landing_beside p xs))))
-    by_cross true two one = found_here P2 p xs (λ h. false≢true (sym (h refl) ∙ two))
-        (λ rule c lt. passed P2 rule c p xs (λ h. one) (λ h. absurd (omega (arith, h))) (λ h. absurd (omega (arith, h))) (λ h. absurd (omega (arith, h))) lt)
+        else (if is_over_read p xs then Some (p.cycle, P4) else option_map (λ cycle. (cycle, P5)) (landing_beside whole p xs))))
+    by_cross true two one = found_here whole P2 p xs (λ h. false≢true (sym (h refl) ∙ two))
+        (λ rule c lt. passed whole P2 rule c p xs (λ h. one) (λ h. absurd (omega (arith, h))) (λ h. absurd (omega (arith, h))) (λ h. absurd (omega (arith, h))) lt)
     by_cross false two one = by_path (list_any (shares_data_path p) xs) refl one two
 
     by_unit : (b : Bool) → list_any (shares_unit p) xs ≡ b
-        → FirstOf (λ rule c. Suits rule c p xs)
+        → FirstOf (λ rule c. Suits whole rule c p xs)
         (if b then Some (p.cycle, P1) else (if list_any (shares_cross_path p) xs then Some (p.cycle, P2)
         else (if list_any (shares_data_path p) xs then Some (p.cycle, P3)
-        else (if is_over_read p xs then Some (p.cycle, P4) else option_map (λ cycle. (cycle, P5)) (landing_beside p xs)))))
-    by_unit true one = found_here P1 p xs (λ h. false≢true (sym (h refl) ∙ one)) (λ rule c lt. absurd (omega (arith, lt)))
+        else (if is_over_read p xs then Some (p.cycle, P4) else option_map (λ cycle. (cycle, P5)) (landing_beside whole p xs)))))
+    by_unit true one = found_here whole P1 p xs (λ h. false≢true (sym (h refl) ∙ one)) (λ rule c lt. absurd (omega (arith, lt)))
     by_unit false one = by_cross (list_any (shares_cross_path p) xs) refl one
 
 -- ---- all instructions
 
-none_kept : (rule : PacketRule) (c : ℕ) → IsKept rule c (issued [])
-none_kept P1 c = λ unit i j p q at. absurd (none-some p at)
-none_kept P2 c = λ side i j p q at. absurd (none-some p at)
-none_kept P3 c = λ side i j p q at. absurd (none-some p at)
-none_kept P4 c = λ reg. omega arith
-none_kept P5 c = λ i j p q reg at. absurd (none-some p at)
+none_kept : (whole : List Placed) (rule : PacketRule) (c : ℕ) → IsKeptAmong (issued whole) rule c (issued [])
+none_kept whole P1 c = λ unit i j p q at. absurd (none-some p at)
+none_kept whole P2 c = λ side i j p q at. absurd (none-some p at)
+none_kept whole P3 c = λ side i j p q at. absurd (none-some p at)
+none_kept whole P4 c = λ reg. omega arith
+none_kept whole P5 c = λ i j p q reg at. absurd (none-some p at)
 
-first_in : (xs : List Placed) → FirstOf (λ rule c. IsKept rule c (issued xs)) (broken xs)
+first_in : (whole : List Placed) (xs : List Placed) → FirstOf (λ rule c. IsKeptAmong (issued whole) rule c (issued xs)) (broken whole xs)
 unfolding FirstOf
-first_in [] = nothing
+first_in whole [] = nothing
   where
-    nothing : FirstOf (λ rule c. IsKept rule c (issued [])) None
-    nothing = none_kept
-first_in (p ∷ xs) =
-    first-same (λ rule c. IsKept rule c (issued xs) × Suits rule c p xs) (λ rule c. IsKept rule c (issued (p ∷ xs))) (broken (p ∷ xs))
-    (λ rule c h. kept-cons rule c p xs h.0 h.1) (λ rule c h. (kept-rest rule c p xs h, kept-own rule c p xs h))
-    (first-both (λ rule c. IsKept rule c (issued xs)) (λ rule c. Suits rule c p xs) (broken xs) (broken_beside p xs) (first_in xs) (first_beside p xs))
+    nothing : FirstOf (λ rule c. IsKeptAmong (issued whole) rule c (issued [])) None
+    nothing = none_kept whole
+first_in whole (p ∷ xs) =
+    first-same (λ rule c. IsKeptAmong (issued whole) rule c (issued xs) × Suits whole rule c p xs) (λ rule c. IsKeptAmong (issued whole) rule c (issued (p ∷ xs))) (broken whole (p ∷ xs))
+    (λ rule c h. kept-cons whole rule c p xs h.0 h.1) (λ rule c h. (kept-rest whole rule c p xs h, kept-own whole rule c p xs h))
+    (first-both (λ rule c. IsKeptAmong (issued whole) rule c (issued xs)) (λ rule c. Suits whole rule c p xs) (broken whole xs) (broken_beside whole p xs) (first_in whole xs) (first_beside whole p xs))
 
 answer_from : (xs : List Placed) (o : Option (ℕ × PacketRule)) → FirstOf (λ rule c. IsKept rule c (issued xs)) o
     → MatchOption o (KeepsPacketRules (issued xs)) (λ found. IsFirstBroken found.0 found.1 xs)
@@ -388,14 +388,14 @@ unfolding FirstOf
 answer_from xs None h = (kept-each (issued xs)).whole h
 answer_from xs (Some found) h = record { broken = h.0; first = λ earlier other before. h.1 earlier other before }
 
-pub broken-first : (xs : List Placed) (o : Option (ℕ × PacketRule)) → o ≡ broken xs
+pub broken-first : (xs : List Placed) (o : Option (ℕ × PacketRule)) → o ≡ broken xs xs
     → MatchOption o (KeepsPacketRules (issued xs)) (λ found. IsFirstBroken found.0 found.1 xs)
-broken-first xs o e = answer_from xs o (subst (FirstOf (λ rule c. IsKept rule c (issued xs))) (sym e) (first_in xs))
+broken-first xs o e = answer_from xs o (subst (FirstOf (λ rule c. IsKept rule c (issued xs))) (sym e) (first_in xs xs))
 
 -- one more step of the walk from the back
-pub broken-step : (placed : List Placed) (at : ℕ) (p : Placed) (found beside : Option (ℕ × PacketRule)) → at < length placed → p ≡ get_or placed at p
-    → found ≡ broken (drop (at + 1) placed) → beside ≡ broken_beside p (drop (at + 1) placed) → earlier found beside ≡ broken (drop at placed)
-broken-step placed at p found beside lt is so_far here =
+pub broken-step : (whole placed : List Placed) (at : ℕ) (p : Placed) (found beside : Option (ℕ × PacketRule)) → at < length placed → p ≡ get_or placed at p
+    → found ≡ broken whole (drop (at + 1) placed) → beside ≡ broken_beside whole p (drop (at + 1) placed) → earlier found beside ≡ broken whole (drop at placed)
+broken-step whole placed at p found beside lt is so_far here =
     let next : at + 1 ≡ suc at = omega arith in
     let split : drop at placed ≡ p ∷ drop (at + 1) placed
     = drop-cons placed at p lt ∙ rw (← is, next) refl in

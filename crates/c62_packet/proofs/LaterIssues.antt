@@ -1,6 +1,6 @@
 -- What is issued later than a cycle is no matter to it.
 use Rattle.std.proofs.Common.{arith, ◌≡◌, ℕ, ◌+◌, ◌<◌, ◌≤◌, List, [], ◌∷◌, ◌++◌, length, get_or, drop, length-drop, Some, Bool, false, refl, sym, ap, ◌∙◌, leb}
-use Rattle.std.specs.Prelude.{◌==◌, ◌&&◌, nat_lt, sum_by, take_while, All}
+use Rattle.std.specs.Prelude.{◌==◌, ◌&&◌, not, nat_lt, sum_by, take_while, All}
 use Rattle.std.specs.List.{list_any, prefix_len}
 use Rattle.std.specs.List.Sorted.{IsNonDecreasingBy}
 use Rattle.std.proofs.Math.Bool.{or-false}
@@ -18,7 +18,7 @@ use Rattle.c62_op.proofs.UnitOrder.{index_of-below}
 use Rattle.c62_insn.specs.PacketRules.{reads_in}
 use Rattle.c62_packet.specs.declared.placed.Placed.{Placed}
 use Rattle.c62_packet.specs.Packed.{issue_of, issued, listing_position, IsInListingOrder}
-use Rattle.c62_packet.specs.Clash.{shares_unit, shares_side, both_cross, shares_cross_path, same_path, shares_data_path, reads_beside, is_over_read, lands, broken_by, broken_beside}
+use Rattle.c62_packet.specs.Clash.{shares_unit, shares_side, both_cross, shares_cross_path, same_path, shares_data_path, reads_beside, is_over_read, lands, are_excused, clashes, broken_by, broken_beside}
 use Rattle.c62_packet.proofs.RuleLemmas.{lands-late}
 
 abbrev pub IsLater : ℕ → Placed → Type 0
@@ -74,9 +74,10 @@ data_paths_until p others rise =
     (λ q far. first_fails (q.cycle == p.cycle) (same_path (data_path_of (operands_of q.insn)) (data_path_of (operands_of p.insn)))
     (not_same q.cycle p.cycle (λ e. omega (arith, far, e))))
 
-pub landings_until : (reg : Reg) (cycle : ℕ) (others : List Placed) → IsNonDecreasingBy (λ p. p.cycle) others
-    → list_any (lands reg cycle) (until cycle others) ≡ list_any (lands reg cycle) others
-landings_until reg cycle others rise = any_until (lands reg cycle) cycle others rise (λ q far. lands-late reg cycle q far)
+pub landings_until : (whole : List Placed) (p : Placed) (reg : Reg) (cycle : ℕ) (others : List Placed) → IsNonDecreasingBy (λ p. p.cycle) others
+    → list_any (clashes whole p reg cycle) (until cycle others) ≡ list_any (clashes whole p reg cycle) others
+landings_until whole p reg cycle others rise =
+    any_until (clashes whole p reg cycle) cycle others rise (λ q far. first_fails (lands reg cycle q) (not (are_excused whole p q)) (lands-late reg cycle q far))
 
 -- ---- reads
 
@@ -111,8 +112,8 @@ reads_until p others rise =
     ∙ ap (λ (qs : List Placed). reads_beside p qs reg) (take-append-drop n others)))
 
 -- those of its own cycle are enough beside an instruction
-pub beside_enough : (p : Placed) (others : List Placed) → IsNonDecreasingBy (λ p. p.cycle) others → broken_by p (until p.cycle others) others ≡ broken_beside p others
-beside_enough p others rise = rw (units_until p others rise, cross_paths_until p others rise, data_paths_until p others rise, reads_until p others rise) refl
+pub beside_enough : (whole : List Placed) (p : Placed) (others : List Placed) → IsNonDecreasingBy (λ p. p.cycle) others → broken_by whole p (until p.cycle others) others ≡ broken_beside whole p others
+beside_enough whole p others rise = rw (units_until p others rise, cross_paths_until p others rise, data_paths_until p others rise, reads_until p others rise) refl
 
 -- ---- listing order
 

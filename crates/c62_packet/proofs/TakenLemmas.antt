@@ -1,9 +1,9 @@
 -- What is taken by one more instruction, and that it then breaks no packet rule.
 use Rattle.std.proofs.Common.{arith, ◌≡◌, ℕ, ◌+◌, ◌-◌, ◌*◌, ◌/◌, ◌^◌, ◌%◌, ◌<◌, ◌≤◌, List, [], ◌∷◌, length, get_or, drop, set, get_or-set_same, get_or-set_other, Some, None, Bool, true, false, w32, bit_or, bit_and, refl, sym, ap, ◌∙◌, subst, inl, inr}
-use Rattle.std.specs.Prelude.{nat_lt, sum_by, count_by, slice_index, if◌then◌else◌, find, All, Contains}
+use Rattle.std.specs.Prelude.{not, nat_lt, sum_by, count_by, slice_index, if◌then◌else◌, find, All, Contains}
 use Rattle.std.specs.List.{list_any}
 use Rattle.std.specs.Int.{bit_at}
-use Rattle.std.proofs.lemmas.Bool.{cases_eq, eqb-true, false≢true, false_from_ne_true}
+use Rattle.std.proofs.lemmas.Bool.{cases_eq, and_parts, eqb-true, false≢true, false_from_ne_true}
 use Rattle.std.proofs.lemmas.Bool.Decides.{nat_tests}
 use Rattle.std.proofs.lemmas.Nat.Bits.{bit_at_set_same, bit_at_set_other, shr_and_one}
 use Rattle.std.proofs.lemmas.List.{get_or_default, drop_more, drop_all}
@@ -25,7 +25,7 @@ use Rattle.c62_packet.specs.declared.taken.Taken.{Taken}
 use Rattle.c62_packet.specs.declared.fault.PacketRule.TheVariants.{P4}
 use Rattle.c62_packet.specs.Packed.{issue_of, issued}
 use Rattle.c62_packet.specs.Rules.{IsKept}
-use Rattle.c62_packet.specs.Clash.{shares_unit, crosses, shares_cross_path, shares_data_path, is_over_read, lands, is_met, landing_beside, broken_beside}
+use Rattle.c62_packet.specs.Clash.{shares_unit, crosses, shares_cross_path, shares_data_path, is_over_read, lands, are_excused, clashes, is_met, landing_beside, broken_beside}
 use Rattle.c62_packet.specs.Taken.{number_in, AddsNumber, cross_number, path_number, AddsCrossPath, AddsDataPath, most_reads, AddsReads, landed, shifted, AddsLanding, AddsLandings}
 use Rattle.c62_packet.specs.Covers.{Covers}
 use Rattle.c62_packet.proofs.RuleLemmas.{tells_unit, tells_cross_path, tells_data_path, reads-own, reads_here, lands-is}
@@ -257,7 +257,7 @@ covers-cons old new units paths p rest adds covers = record {
       (λ i d within j e inner k low same.
       adds.landings.kept k (get_or (register_writes (get_or rest i d).insn) j e).0
       (covers.landings i d within j e inner k low (omega (arith, same, adds.same, adds.cycle))));
-  rules = rw (covers.rules, alone) refl;
+  rules = λ whole. rw (covers.rules whole, alone whole) refl;
 }
   where
     one_cycle : new.cycle ≡ old.cycle
@@ -342,8 +342,8 @@ covers-cons old new units paths p rest adds covers = record {
     not_over_read : is_over_read p rest ≡ false
     not_over_read = reads-own p.cycle p rest few_reads refl
 
-    not_met : All (λ (write : Reg × ℕ). is_met p rest write ≡ false) (register_writes p.insn)
-    not_met j e inner = taken_by (lands write.0 (p.cycle + write.1)) clash
+    not_met : (whole : List Placed) → All (λ (write : Reg × ℕ). is_met whole p rest write ≡ false) (register_writes p.insn)
+    not_met whole j e inner = taken_by (clashes whole p write.0 (p.cycle + write.1)) (λ q at met. clash q at (and_parts (lands write.0 (p.cycle + write.1) q) (not (are_excused whole p q)) met).0)
       where
         write : Reg × ℕ
         write = get_or (register_writes p.insn) j e
@@ -360,8 +360,8 @@ covers-cons old new units paths p rest adds covers = record {
             (register_writes q.insn) (write.0, lands.0) all lands.1 write.1 (omega (arith, short)) (lands.2 ∙ ap (λ (c : ℕ). c + write.1) (sym adds.cycle)) in
             false≢true (sym (adds.landings.free j e inner) ∙ there)
 
-    none_lands : landing_beside p rest ≡ None
-    none_lands = let none : find (is_met p rest) (register_writes p.insn) ≡ None = none-met (is_met p rest) (register_writes p.insn) not_met in rw none refl
+    none_lands : (whole : List Placed) → landing_beside whole p rest ≡ None
+    none_lands whole = let none : find (is_met whole p rest) (register_writes p.insn) ≡ None = none-met (is_met whole p rest) (register_writes p.insn) (not_met whole) in rw none refl
 
-    alone : broken_beside p rest ≡ None
-    alone = rw (unit_free, cross_path_free, data_path_free, not_over_read, none_lands) refl
+    alone : (whole : List Placed) → broken_beside whole p rest ≡ None
+    alone whole = rw (unit_free, cross_path_free, data_path_free, not_over_read, none_lands whole) refl

@@ -1,11 +1,13 @@
 -- The first packet rule that an instruction breaks together with others, in listing order (docs/MACHINE.md, "Packet rules").
-use Rattle.std.specs.Prelude.{ℕ, ◌+◌, Bool, false, ◌==◌, ◌&&◌, nat_lt, if◌then◌else◌, List, [], ◌∷◌, find, Option, Some, None, option_map, sum_by}
+use Rattle.std.specs.Prelude.{ℕ, ◌+◌, min, max, Bool, false, not, ◌==◌, ◌&&◌, nat_le, nat_lt, if◌then◌else◌, List, [], ◌∷◌, find, Option, Some, None, option_map, sum_by}
 use Rattle.std.specs.List.{list_any}
 use Rattle.c62_op.specs.declared.register.Side.{Side}
 use Rattle.c62_op.specs.declared.register.Reg.{Reg}
+use Rattle.c62_op.specs.declared.register.Cond.{Cond as Condition}
 use Rattle.c62_op.specs.Takes.{same_reg, same_side, same_unit}
 use Rattle.c62_op.specs.Shape.{crosses_to, data_path_of}
-use Rattle.c62_insn.specs.Insn.{operands_of, operand_reads, register_writes}
+use Rattle.c62_insn.specs.Insn.{operands_of, cond_of, operand_reads, register_writes}
+use Rattle.c62_insn.specs.Dependence.{are_opposite}
 use Rattle.c62_insn.specs.PacketRules.{reads_count, reads_in}
 use Rattle.c62_packet.specs.declared.placed.Placed.{Placed}
 use Rattle.c62_packet.specs.declared.fault.PacketRule.{PacketRule}
@@ -51,25 +53,44 @@ is_landing from reg cycle write = same_reg write.0 reg && (from + write.1 == cyc
 abbrev pub lands : Reg → ℕ → Placed → Bool
 lands reg cycle q = list_any (is_landing q.cycle reg cycle) (register_writes q.insn)
 
--- another write lands with this one
-abbrev pub is_met : Placed → List Placed → Reg × ℕ → Bool
-is_met p others write = list_any (lands write.0 (p.cycle + write.1)) others
+-- a write that lands in this register from one cycle on and before another
+abbrev pub is_between : ℕ → ℕ → Reg → ℕ → Reg × ℕ → Bool
+is_between from to reg cycle write = same_reg write.0 reg && (nat_le from (cycle + write.1) && nat_lt (cycle + write.1) to)
 
-abbrev pub landing_beside : Placed → List Placed → Option ℕ
-landing_beside p others = option_map (λ write. p.cycle + write.1) (find (is_met p others) (register_writes p.insn))
+abbrev pub lands_between : ℕ → ℕ → Reg → Placed → Bool
+lands_between from to reg q = list_any (is_between from to reg q.cycle) (register_writes q.insn)
+
+abbrev pub excused_under : List Placed → ℕ → ℕ → Option Condition → Option Condition → Bool
+excused_under whole from to (Some one) (Some other) = are_opposite one other && not (list_any (lands_between from to one.reg) whole)
+excused_under whole from to _ _ = false
+
+-- what two of a block write may land together
+abbrev pub are_excused : List Placed → Placed → Placed → Bool
+are_excused whole p q = excused_under whole (min p.cycle q.cycle) (max p.cycle q.cycle) (cond_of p.insn) (cond_of q.insn)
+
+-- the same, and no excuse of the two
+abbrev pub clashes : List Placed → Placed → Reg → ℕ → Placed → Bool
+clashes whole p reg cycle q = lands reg cycle q && not (are_excused whole p q)
+
+-- another write lands with this one
+abbrev pub is_met : List Placed → Placed → List Placed → Reg × ℕ → Bool
+is_met whole p others write = list_any (clashes whole p write.0 (p.cycle + write.1)) others
+
+abbrev pub landing_beside : List Placed → Placed → List Placed → Option ℕ
+landing_beside whole p others = option_map (λ write. p.cycle + write.1) (find (is_met whole p others) (register_writes p.insn))
 
 -- What the instruction breaks together with those beside it and with others: the least cycle, and there the first rule. The
 -- rules but the last speak of those beside it.
-abbrev pub broken_by : Placed → List Placed → List Placed → Option (ℕ × PacketRule)
-broken_by p beside others =
+abbrev pub broken_by : List Placed → Placed → List Placed → List Placed → Option (ℕ × PacketRule)
+broken_by whole p beside others =
     if list_any (shares_unit p) beside then Some (p.cycle, P1)
     else (if list_any (shares_cross_path p) beside then Some (p.cycle, P2)
     else (if list_any (shares_data_path p) beside then Some (p.cycle, P3)
     else (if is_over_read p beside then Some (p.cycle, P4)
-    else option_map (λ cycle. (cycle, P5)) (landing_beside p others))))
+    else option_map (λ cycle. (cycle, P5)) (landing_beside whole p others))))
 
-abbrev pub broken_beside : Placed → List Placed → Option (ℕ × PacketRule)
-broken_beside p others = broken_by p others others
+abbrev pub broken_beside : List Placed → Placed → List Placed → Option (ℕ × PacketRule)
+broken_beside whole p others = broken_by whole p others others
 
 abbrev pub is_before : ℕ × PacketRule → ℕ × PacketRule → Bool
 is_before (cycle, rule) (other, next) = if cycle == other then nat_lt (rank_of rule) (rank_of next) else nat_lt cycle other
@@ -79,7 +100,7 @@ earlier None found = found
 earlier found None = found
 earlier (Some one) (Some other) = if is_before other one then Some other else Some one
 
--- what these instructions break
-abbrev pub broken : List Placed → Option (ℕ × PacketRule)
-broken [] = None
-broken (p ∷ rest) = earlier (broken rest) (broken_beside p rest)
+-- what these instructions of a block break
+abbrev pub broken : List Placed → List Placed → Option (ℕ × PacketRule)
+broken whole [] = None
+broken whole (p ∷ rest) = earlier (broken whole rest) (broken_beside whole p rest)

@@ -20,7 +20,7 @@ pub record Covers (taken : Taken) (placed : List Placed) : Type 0 where
   pub data_paths : All (λ q. (side : Side) → q.cycle ≡ taken.cycle → data_path_of (operands_of q.insn) ≡ Some side → HasNumber taken.resources.bits (path_number side)) placed
   pub reads : (reg : Reg) → sum_by (reads_in taken.cycle reg) (issued placed) ≤ most_reads taken.reads.regs.bits taken.reads.again reg
   pub landings : All (λ q. All (λ write. (k : ℕ) → k < 5 → q.cycle + write.1 ≡ taken.cycle + k → landed taken.landings.cycles k write.0 ≡ true) (register_writes q.insn)) placed
-  pub rules : broken placed ≡ None
+  pub rules : (whole : List Placed) → broken whole placed ≡ None
 
 -- it covers whatever the other covers
 abbrev pub CoversTheSame : Taken → Taken → Type 0

@@ -1,10 +1,10 @@
 -- What each packet rule asks of one cycle (docs/MACHINE.md, "Packet rules"; SPRU189, "Resource Constraints"). A rule that
 -- is kept in each cycle is kept by all.
-use Rattle.std.specs.Prelude.{◌≡◌, ◌⊎◌, ℕ, ◌≤◌, sum_by, IsTrue}
+use Rattle.std.specs.Prelude.{◌≡◌, ◌⊎◌, ℕ, ◌≤◌, sum_by}
 use Rattle.c62_op.specs.declared.register.Side.{Side}
 use Rattle.c62_op.specs.declared.register.Reg.{Reg}
 use Rattle.c62_op.specs.declared.register.Unit.{Unit as FunctionalUnit}
-use Rattle.c62_insn.specs.PacketRules.{Issue, Issues, IsIssued, UsesCrossPath, UsesDataPath, reads_in, LandsIn, may_land_together, KeepsPacketRules}
+use Rattle.c62_insn.specs.PacketRules.{Issue, Issues, IsIssued, UsesCrossPath, UsesDataPath, reads_in, LandsIn, MayLandTogether, KeepsPacketRules}
 use Rattle.c62_packet.specs.declared.fault.PacketRule.{PacketRule}
 use Rattle.c62_packet.specs.declared.fault.PacketRule.TheVariants.{P1, P2, P3, P4, P5}
 
@@ -13,18 +13,22 @@ abbrev pub HasOneIn : ℕ → (Issue → Type 0) → Issues → Type 0
 HasOneIn cycle Is issues = (i j : ℕ) (p q : Issue) → IsIssued issues i p → IsIssued issues j q → p.cycle ≡ cycle → q.cycle ≡ cycle → Is p → Is q → i ≡ j
 
 -- of this cycle at most one lands in the register, or both may land together
-abbrev pub HasOneLandingIn : ℕ → Issues → Type 0
-HasOneLandingIn cycle issues =
+abbrev pub HasOneLandingIn : Issues → ℕ → Issues → Type 0
+HasOneLandingIn whole cycle issues =
     (i j : ℕ) (p q : Issue) (reg : Reg) → IsIssued issues i p → IsIssued issues j q → LandsIn p reg cycle → LandsIn q reg cycle
-    → (i ≡ j) ⊎ IsTrue (may_land_together issues i j)
+    → (i ≡ j) ⊎ MayLandTogether whole p q
 
--- the rule is kept in this cycle, for P5 by what lands in it
+-- the rule is kept in this cycle by some of a block, for P5 by what lands in it
+abbrev pub IsKeptAmong : Issues → PacketRule → ℕ → Issues → Type 0
+IsKeptAmong whole P1 cycle issues = (unit : FunctionalUnit) → HasOneIn cycle (λ p. p.unit ≡ unit) issues
+IsKeptAmong whole P2 cycle issues = (side : Side) → HasOneIn cycle (UsesCrossPath side) issues
+IsKeptAmong whole P3 cycle issues = (side : Side) → HasOneIn cycle (UsesDataPath side) issues
+IsKeptAmong whole P4 cycle issues = (reg : Reg) → sum_by (reads_in cycle reg) issues ≤ 4
+IsKeptAmong whole P5 cycle issues = HasOneLandingIn whole cycle issues
+
+-- the same of a whole block
 abbrev pub IsKept : PacketRule → ℕ → Issues → Type 0
-IsKept P1 cycle issues = (unit : FunctionalUnit) → HasOneIn cycle (λ p. p.unit ≡ unit) issues
-IsKept P2 cycle issues = (side : Side) → HasOneIn cycle (UsesCrossPath side) issues
-IsKept P3 cycle issues = (side : Side) → HasOneIn cycle (UsesDataPath side) issues
-IsKept P4 cycle issues = (reg : Reg) → sum_by (reads_in cycle reg) issues ≤ 4
-IsKept P5 cycle issues = HasOneLandingIn cycle issues
+IsKept rule cycle issues = IsKeptAmong issues rule cycle issues
 
 -- the packet rules are these, in all cycles
 pub record AreKeptInEach (issues : Issues) : Type 0 where

@@ -4,16 +4,17 @@ ghost use Rattle.std.specs.Prelude.{◌≡◌, ◌↔◌, ◌+◌, ◌<◌, ◌�
 ghost use Rattle.std.specs.List.{list_any};
 ghost use Rattle.std.specs.List.Sorted.{IsNonDecreasingBy};
 ghost use Rattle.c62_insn.specs.PacketRules.{reads_count, reads_in, KeepsPacketRules};
+ghost use Rattle.c62_insn.specs.Dependence.{are_opposite};
 ghost use Rattle.c62_read.specs.declared.limits.TheConstants.{MOST_INSTRUCTIONS};
 ghost use Rattle.c62_packet.specs.declared.limits.TheConstants.{MOST_CYCLES};
 ghost use Rattle.c62_packet.specs.Packed.{issue_of, issued, IsInListingOrder};
 ghost use Rattle.c62_packet.specs.Fault.{rank_of, FindsBroken};
-ghost use Rattle.c62_packet.specs.Clash.{shares_unit, crosses, shares_side, both_cross, shares_cross_path, same_path, shares_data_path, reads_beside, is_over_read, is_landing, lands, is_met, landing_beside, broken_by, broken_beside, is_before, earlier, broken};
+ghost use Rattle.c62_packet.specs.Clash.{shares_unit, crosses, shares_side, both_cross, shares_cross_path, same_path, shares_data_path, reads_beside, is_over_read, is_landing, lands, is_between, lands_between, are_excused, clashes, is_met, landing_beside, broken_by, broken_beside, is_before, earlier, broken};
 
 use crate::fault::PacketRule;
 use crate::placed::Placed;
 use crate::taken::Taken;
-use c62_insn::{Reg, Side};
+use c62_insn::{Cond, Reg, Side};
 
 /// Those of the instructions, whose cycles rise, that are issued in this cycle or before it.
 fn until(placed: &[Placed], cycle: u32) -> &[Placed]
@@ -150,30 +151,91 @@ fn lands(placed: &Placed, reg: Reg, cycle: u32) -> bool
 }
 
 /// Whether another write lands with this one. Nothing lands before the cycle of its issue.
-fn is_met(placed: &Placed, others: &[Placed], write: (Reg, u8)) -> bool
+fn is_met(all: &[Placed], placed: &Placed, others: &[Placed], write: (Reg, u8)) -> bool
     requires { IsNonDecreasingBy (λ p. p.cycle) others.now }
-    ensures { result ≡ is_met placed.now others.now write }
+    ensures { result ≡ is_met all.now placed.now others.now write }
 {
     let cycle = u32::from(placed.cycle) + u32::from(write.1);
-    any_lands(until(others, cycle), write.0, cycle)
+    any_clashes(all, placed, until(others, cycle), write.0, cycle)
 }
 
-/// Whether a write of one of the instructions lands in this register in this cycle.
-fn any_lands(placed: &[Placed], reg: Reg, cycle: u32) -> bool
-    ensures { result ≡ list_any (lands reg cycle) placed.now }
+/// Whether a write lands in this register from one cycle on and before another.
+fn is_between(write: (Reg, u8), from: u16, to: u16, reg: Reg, cycle: u16) -> bool
+    ensures { result ≡ is_between from to reg cycle write }
 {
-    placed.iter().any(|each| lands(each, reg, cycle))
+    let landing = u32::from(cycle) + u32::from(write.1);
+    write.0 == reg && (u32::from(from) <= landing && landing < u32::from(to))
+}
+
+/// The same of a write of an instruction.
+fn lands_between(placed: &Placed, from: u16, to: u16, reg: Reg) -> bool
+    ensures { result ≡ lands_between from to reg placed.now }
+{
+    let writes = placed.insn.writes();
+    writes
+        .as_slice()
+        .iter()
+        .any(|write| is_between(*write, from, to, reg, placed.cycle))
+}
+
+/// The same of some instruction.
+fn any_lands_between(all: &[Placed], from: u16, to: u16, reg: Reg) -> bool
+    ensures { result ≡ list_any (lands_between from to reg) all.now }
+{
+    all.iter().any(|each| lands_between(each, from, to, reg))
+}
+
+/// Whether one condition holds exactly where the other does not.
+fn are_opposite(one: Cond, other: Cond) -> bool
+    ensures { result ≡ are_opposite one other }
+{
+    one.reg == other.reg
+        && (if one.negated {
+            !other.negated
+        } else {
+            other.negated
+        })
+}
+
+/// Whether what two instructions of a block write may land together: they stand under opposite conditions on a register in
+/// which nothing lands between their issues.
+fn are_excused(all: &[Placed], placed: &Placed, other: &Placed) -> bool
+    ensures { result ≡ are_excused all.now placed.now other.now }
+{
+    let from = placed.cycle.min(other.cycle);
+    let to = placed.cycle.max(other.cycle);
+    match (placed.insn.cond(), other.insn.cond()) {
+        (Some(one), Some(test)) => are_opposite(one, test)
+            && !any_lands_between(all, from, to, one.reg),
+        _ => false,
+    }
+}
+
+/// Whether a write of another instruction lands in this register in this cycle, without an excuse.
+fn clashes(all: &[Placed], placed: &Placed, other: &Placed, reg: Reg, cycle: u32) -> bool
+    ensures { result ≡ clashes all.now placed.now reg cycle other.now }
+{
+    lands(other, reg, cycle) && !are_excused(all, placed, other)
+}
+
+/// The same of one of the instructions.
+fn any_clashes(all: &[Placed], placed: &Placed, others: &[Placed], reg: Reg, cycle: u32) -> bool
+    ensures { result ≡ list_any (clashes all.now placed.now reg cycle) others.now }
+{
+    others
+        .iter()
+        .any(|each| clashes(all, placed, each, reg, cycle))
 }
 
 /// The least cycle in which a write of the instruction lands with another.
-fn landing_beside(placed: &Placed, others: &[Placed]) -> Option<u16>
+fn landing_beside(all: &[Placed], placed: &Placed, others: &[Placed]) -> Option<u16>
     requires short { placed.now.cycle < MOST_CYCLES }
     requires rising { IsNonDecreasingBy (λ p. p.cycle) others.now }
-    ensures { result ≡ landing_beside placed.now others.now }
+    ensures { result ≡ landing_beside all.now placed.now others.now }
 {
     let writes = placed.insn.writes();
     for write in writes.as_slice() {
-        if is_met(placed, others, *write) {
+        if is_met(all, placed, others, *write) {
             return Some(placed.cycle + u16::from(write.1));
         }
     }
@@ -203,11 +265,16 @@ fn shares_a_data_path(placed: &Placed, others: &[Placed]) -> bool
 
 /// The least cycle and there the first rule that an instruction breaks together with those beside it and with others, whose
 /// cycles rise. The rules but the last speak of those beside it.
-fn broken_by(placed: &Placed, beside: &[Placed], others: &[Placed]) -> Option<(u16, PacketRule)>
+fn broken_by(
+    all: &[Placed],
+    placed: &Placed,
+    beside: &[Placed],
+    others: &[Placed],
+) -> Option<(u16, PacketRule)>
     requires short { placed.now.cycle < MOST_CYCLES }
     requires few { length beside.now ≤ MOST_INSTRUCTIONS }
     requires rising { IsNonDecreasingBy (λ p. p.cycle) others.now }
-    ensures { result ≡ broken_by placed.now beside.now others.now }
+    ensures { result ≡ broken_by all.now placed.now beside.now others.now }
 {
     if shares_a_unit(placed, beside) {
         return Some((placed.cycle, PacketRule::P1));
@@ -221,20 +288,20 @@ fn broken_by(placed: &Placed, beside: &[Placed], others: &[Placed]) -> Option<(u
     if is_over_read(placed, beside) {
         return Some((placed.cycle, PacketRule::P4));
     }
-    match landing_beside(placed, others) {
+    match landing_beside(all, placed, others) {
         Some(cycle) => Some((cycle, PacketRule::P5)),
         None => None,
     }
 }
 
 /// The same for an instruction and those behind it.
-fn broken_beside(placed: &Placed, others: &[Placed]) -> Option<(u16, PacketRule)>
+fn broken_beside(all: &[Placed], placed: &Placed, others: &[Placed]) -> Option<(u16, PacketRule)>
     requires short { placed.now.cycle < MOST_CYCLES }
     requires few { length others.now ≤ MOST_INSTRUCTIONS }
     requires rising { IsNonDecreasingBy (λ p. p.cycle) others.now }
-    ensures { result ≡ broken_beside placed.now others.now }
+    ensures { result ≡ broken_beside all.now placed.now others.now }
 {
-    broken_by(placed, until(others, u32::from(placed.cycle)), others)
+    broken_by(all, placed, until(others, u32::from(placed.cycle)), others)
 }
 
 fn rank(rule: PacketRule) -> u8
@@ -280,7 +347,7 @@ fn earlier(
 
 /// Whether each instruction takes units, paths, reads and landings that those behind it leave, so that none breaks a rule.
 fn are_apart(placed: &[Placed]) -> bool
-    ensures { IsTrue result → broken placed.now ≡ None }
+    ensures { IsTrue result → broken placed.now placed.now ≡ None }
 {
     let mut taken = Taken::new();
     let mut at = placed.len();
@@ -308,7 +375,7 @@ pub fn first_broken(placed: &[Placed]) -> Option<(u16, PacketRule)>
     let mut at = placed.len();
     while at > 0 {
         at -= 1;
-        found = earlier(found, broken_beside(&placed[at], &placed[at + 1..]));
+        found = earlier(found, broken_beside(placed, &placed[at], &placed[at + 1..]));
     }
     found
 }

@@ -4,8 +4,6 @@ use Rattle.c62_sheet.proofs.Common.{inl, inr, ◌⊎◌, get_or-set_same, get_or
 use Rattle.c62_sheet.proofs.Common.{nat_tests, Side, Reg, Issue, Issues, IsIssued, AtMostOne, UsesCrossPath, UsesDataPath, KeepsPacketRules, reads_in}
 use Rattle.c62_sheet.proofs.Common.{Resource, OnUnit, CrossPath, DataPath, LandsIn, Uses}
 use Rattle.c62_sheet.proofs.Common.{sum_by-set, HasFourReads, HasOneLanding, reads_count}
-use Rattle.std.proofs.lemmas.Bool.{both_ways}
-use Rattle.c62_insn.proofs.Excuses.{never_together}
 
 -- who is issued, with one more
 issued-added : (issues : Issues) (i k : ℕ) (p q : Issue) → i < length issues → IsIssued (slice_set issues i (Some p)) k q
@@ -16,28 +14,10 @@ issued-added issues i k p q lt is = grind (arith, get_or-set_same issues i (Some
 abbrev pub IsAlone : (Issue → Type 0) → Issues → Issue → Type 0
 IsAlone Is issues p = Is p → (k : ℕ) (q : Issue) → IsIssued issues k q → q.cycle ≡ p.cycle → Is q → ⊥
 
--- a write of the one that was added lands together with none
-abbrev pub LandsAlone : Issues → ℕ → Issue → Type 0
-LandsAlone issues i p = (k : ℕ) (q : Issue) (reg : Reg) (cycle : ℕ) → k ≢ i → IsIssued issues k q → LandsIn q reg cycle → LandsIn p reg cycle → ⊥
-
 module _ (issues : Issues) (i : ℕ) (p : Issue) (lt : i < length issues) where
   AtMostOne-added : (Is : Issue → Type 0) → AtMostOne Is issues → IsAlone Is issues p → AtMostOne Is (slice_set issues i (Some p))
   AtMostOne-added Is old alone j k q r at_j at_k same is_q is_r =
       grind (arith, issued-added issues i j p q lt at_j, issued-added issues i k p r lt at_k, alone, old j k q r)
-
-  one-landing : HasOneLanding issues → (j k : ℕ) (q r : Issue) (reg : Reg) (cycle : ℕ) → IsIssued issues j q → IsIssued issues k r → LandsIn q reg cycle
-      → LandsIn r reg cycle → j ≡ k
-  one-landing old j k q r reg cycle at_j at_k lands_q lands_r = elim (old j k q r reg cycle at_j at_k lands_q lands_r) [
-    | inl same ↦ same
-    | inr may ↦ absurd (both_ways _ (never_together issues j k) may)
-  ]
-
-  HasOneLanding-added : HasOneLanding issues → LandsAlone issues i p → HasOneLanding (slice_set issues i (Some p))
-  HasOneLanding-added old alone j k q r reg cycle at_j at_k lands_q lands_r =
-      let first = issued-added issues i j p q lt at_j in
-      let second = issued-added issues i k p r lt at_k in
-      let same : j ≡ k = grind (arith, first, second, alone k r reg cycle, alone j q reg cycle, one-landing old j k q r reg cycle) in
-      inl same
 
 -- the same of a number that was not issued
 module _ (issues : Issues) (i : ℕ) (p : Issue) (lt : i < length issues) (free : slice_index_or issues i None ≡ None) where
@@ -56,12 +36,12 @@ module _ (issues : Issues) (i : ℕ) (p : Issue) (lt : i < length issues) (free 
   HasFourReads-added old here cycle reg = grind (arith, nat_tests, reads-changed cycle reg, old cycle reg, here reg)
 
   pub rules-added : KeepsPacketRules issues → ((resource : Resource) → IsAlone (Uses resource) issues p)
-      → ((reg : Reg) → sum_by (reads_in p.cycle reg) (slice_set issues i (Some p)) ≤ 4) → LandsAlone issues i p
+      → ((reg : Reg) → sum_by (reads_in p.cycle reg) (slice_set issues i (Some p)) ≤ 4) → HasOneLanding (slice_set issues i (Some p))
       → KeepsPacketRules (slice_set issues i (Some p))
   rules-added rules alone few lands = record {
     p1 = λ unit. AtMostOne-added issues i p lt (λ q. q.unit ≡ unit) (rules.p1 unit) (alone (OnUnit unit));
     p2 = λ side. AtMostOne-added issues i p lt (UsesCrossPath side) (rules.p2 side) (alone (CrossPath side));
     p3 = λ side. AtMostOne-added issues i p lt (UsesDataPath side) (rules.p3 side) (alone (DataPath side));
     p4 = HasFourReads-added rules.p4 few;
-    p5 = HasOneLanding-added issues i p lt rules.p5 lands;
+    p5 = lands;
   }

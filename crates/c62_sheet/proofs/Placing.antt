@@ -6,24 +6,47 @@ use Rattle.c62_sheet.proofs.Common.{Depends, Resource, OnUnit, CrossPath, DataPa
 use Rattle.c62_sheet.proofs.Common.{issue_at, issues, IsLawful, IsAfter, IsLast, Meets, KeepsAll, Fits, part-without, part-keeps, get_or-set_same}
 use Rattle.c62_sheet.proofs.Common.{get_or-set_other, LandsIn, ◌-ℤ◌, WriteAfterWrite, Bounds, LandsTogether}
 use Rattle.c62_insn.specs.Insn.{register_writes}
-use Rattle.c62_insn.specs.Dependence.{are_exclusive}
+use Rattle.c62_insn.specs.Dependence.{KeepsBounds}
+use Rattle.c62_insn.proofs.Exclusive.{one_landing}
+use Rattle.std.proofs.Common.{◌≤ℤ◌, ◌+ℤ◌, ℤ}
+use Rattle.c62_insn.specs.PacketRules.{HasOneLanding}
 use Rattle.c62_sheet.proofs.Optional.{none_not_some}
 use Rattle.c62_sheet.proofs.Sets.{spot_at-placed_same, spot_at-placed_other, spot_at-withdrawn_other, IsAt-placed, IsAt-withdrawn}
 use Rattle.c62_sheet.proofs.IssuesOf.{issued-placement, issues-placed, issues-withdrawn, length-issues, issue-at}
 use Rattle.c62_sheet.proofs.Common.{Uses}
-use Rattle.c62_sheet.proofs.Adding.{IsAlone, LandsAlone, rules-added}
+use Rattle.c62_sheet.proofs.Adding.{IsAlone, rules-added}
 
--- two writers of one register are in order: none are exclusive
-writers_in_order : (block : List Insn) (i j : ℕ) (p q : Insn) (reg : Reg) (first second : ℕ) → i < j → slice_get block i ≡ Some p
-    → slice_get block j ≡ Some q
-    → Contains (register_writes p) (reg, first) → Contains (register_writes q) (reg, second) → are_exclusive block i j ≡ false
-    → Bounds block i j (pos (first + 1) -ℤ pos second)
-writers_in_order block i j p q reg first second before is_first is_second writes_first writes_second ordered =
-    let applies = WriteAfterWrite reg first second writes_first writes_second ordered refl in
-    record { first = p; second = q; is_first = is_first; is_second = is_second; before = before; applies = applies }
+-- the bounds between what is placed are kept
+abbrev pub KeepsDelays : List Insn → Spots → Type 0
+KeepsDelays block set =
+    (i j : ℕ) (bound : ℤ) (s t : Spot) → Bounds block i j bound → IsAt set i s → IsAt set j t → (pos s.cycle +ℤ bound) ≤ℤ pos t.cycle
 
-never_exclusive : (block : List Insn) (i j : ℕ) → are_exclusive block i j ≡ false
-never_exclusive block i j = refl
+kept_bounds : (block : List Insn) (set : Spots) → length set ≡ length block → KeepsDelays block set → KeepsBounds block (issues block set)
+kept_bounds block set sized delays = record {
+  insns = λ k p at. (let w = issued-placement block set k p sized at in rw w.is_issue w.is_insn);
+  keeps = λ i j bound p q b at_i at_j.
+      let v = issued-placement block set i p sized at_i in
+      let w = issued-placement block set j q sized at_j in
+      rw (v.is_issue, w.is_issue) (delays i j bound v.spot w.spot b v.is_at w.is_at);
+}
+
+-- so no two writes of one register land together but those that may
+pub landings_kept : (block : List Insn) (set : Spots) → length set ≡ length block → KeepsDelays block set → HasOneLanding (issues block set)
+landings_kept block set sized delays = one_landing block (issues block set) (kept_bounds block set sized delays)
+
+-- one number more keeps them, on which nothing placed depends
+pub delays_placed : (block : List Insn) (set : Spots) (i : ℕ) (s : Spot) → i < length set → KeepsDelays block set
+    → ((j : ℕ) (t : Spot) → Depends block i j → IsAt set j t → ⊥) → IsAfter block set i s.cycle → KeepsDelays block (placed set i s)
+delays_placed block set i s lt old no_dependent after h j bound t u w is_t is_u = elim (IsAt-placed set i j s u lt is_u) [
+  | inl v ↦ elim (IsAt-placed set i h s t lt is_t) [
+    | inl x ↦ absurd (omega (arith, w.before, x.0, v.0))
+    | inr x ↦ rw v.1 (after h bound t (rw v.0 at w) x.1)
+  ]
+  | inr v ↦ elim (IsAt-placed set i h s t lt is_t) [
+    | inl x ↦ absurd (no_dependent j u (bound, rw x.0 at w) v.1)
+    | inr x ↦ old h j bound t u w x.1 v.1
+  ]
+]
 
 -- a block, a set, and a number that is not placed
 module _ (block : List Insn) (set : Spots) (i : ℕ) (insn : Insn) (s : Spot) (sized : length set ≡ length block) (at : slice_get block i ≡ Some insn)
@@ -39,24 +62,6 @@ module _ (block : List Insn) (set : Spots) (i : ℕ) (insn : Insn) (s : Spot) (s
     (in_block : i < length block) (free : spot_at set i ≡ None) where
   in_issues : i < length (issues block set)
   in_issues = omega (arith, length-issues block set sized)
-
-  -- two writers of one register never land together: the later one of the block comes later
-  pub lands_alone : ((j : ℕ) (t : Spot) → Depends block i j → IsAt set j t → ⊥) → IsAfter block set i s.cycle
-      → LandsAlone (issues block set) i (issue_at insn s)
-  lands_alone no_dependent after k q reg cycle ne issued lands_q lands =
-      let w = issued-placement block set k q sized issued in
-      let theirs : LandsIn (issue_at w.insn w.spot) reg cycle = rw w.is_issue at lands_q in
-      elim (cases_lt k i) [
-        | inl lt ↦
-            (let ordered = never_exclusive block k i in
-            let bound = after k _ w.spot (writers_in_order block k i w.insn insn reg theirs.0 lands.0 lt w.is_insn at theirs.1 lands.1 ordered)
-            w.is_at in
-            absurd (omega (arith, ints, bound, lands.2, theirs.2)))
-        | inr ge ↦
-            no_dependent k w.spot
-            (_, writers_in_order block i k insn w.insn reg lands.0 theirs.0 (omega arith) at w.is_insn lands.1 theirs.1 (never_exclusive block i k))
-            w.is_at
-      ]
 
   meeting : (Is : Issue → Type 0) → Is (issue_at insn s) → (k : ℕ) (q : Issue) → IsIssued (issues block set) k q → q.cycle ≡ s.cycle → Is q
       → Meets Is block set i s
@@ -78,12 +83,12 @@ module _ (block : List Insn) (set : Spots) (i : ℕ) (insn : Insn) (s : Spot) (s
         | inr le ↦ rw (added block set i insn s sized at free) at le
       ]
 
-  pub rules_from_keeps : KeepsPacketRules (issues block set) → KeepsAll block set i s → LandsAlone (issues block set) i (issue_at insn s)
+  pub rules_from_keeps : KeepsPacketRules (issues block set) → KeepsAll block set i s → HasOneLanding (issues block (placed set i s))
       → KeepsPacketRules (issues block (placed set i s))
   rules_from_keeps rules keeps lands =
       rw (added block set i insn s sized at free)
       (rules-added (issues block set) i (issue_at insn s) in_issues (not_issued block set i insn s sized at free) rules
-      (alone_from_keeps keeps) (few_from_keeps keeps) lands)
+      (alone_from_keeps keeps) (few_from_keeps keeps) (rw (added block set i insn s sized at free) at lands))
 
   meets_none : (Is : Issue → Type 0) → AtMostOne Is (issues block (placed set i s)) → Meets Is block set i s → ⊥
   meets_none Is one m =
@@ -138,22 +143,13 @@ module _ (block : List Insn) (set : Spots) (i : ℕ) (s : Spot) (insn : Insn) (l
     units = λ j t is. grind (arith, IsAt-placed set i j s t in_lawful is, lawful.units j t, fits.stands);
     within = λ j t is. grind (arith, IsAt-placed set i j s t in_lawful is, lawful.within j t);
     rules = rules_from_keeps block set i insn s lawful.sized at in_block free lawful.rules fits.keeps
-        (lands_alone block set i insn s lawful.sized at in_block free no_dependent after);
+        (landings_kept block (placed set i s) (length-set set i (Some s) ∙ lawful.sized) (delays_placed block set i s in_lawful lawful.delays no_dependent after));
     founded = λ h j t dep is. elim (cases_eq h i) [
       | inl e ↦ rw (e, spot_at-placed_same set i s in_lawful) refl
       | inr ne ↦ rw (spot_at-placed_other set i h s ne)
           (elim (IsAt-placed set i j s t in_lawful is) [ inl w ↦ founded h (rw w.0 at dep) | inr w ↦ lawful.founded h j t dep w.1 ])
     ];
-    delays = λ h j bound t u w is_t is_u. elim (IsAt-placed set i j s u in_lawful is_u) [
-      | inl v ↦ elim (IsAt-placed set i h s t in_lawful is_t) [
-        | inl x ↦ absurd (omega (arith, w.before, x.0, v.0))
-        | inr x ↦ rw v.1 (after h bound t (rw v.0 at w) x.1)
-      ]
-      | inr v ↦ elim (IsAt-placed set i h s t in_lawful is_t) [
-        | inl x ↦ absurd (no_dependent j u (bound, rw x.0 at w) v.1)
-        | inr x ↦ lawful.delays h j bound t u w x.1 v.1
-      ]
-    ];
+    delays = delays_placed block set i s in_lawful lawful.delays no_dependent after;
   }
 
   pub fits_from_lawful : IsLawful block (placed set i s) → Fits block set i s

@@ -1,10 +1,12 @@
 -- What fits once one is taken out alone.
 use Rattle.c62_sheet.proofs.Common.{arith, ◌≡◌, ℕ, ◌<◌, List, length, None, ◌∙◌, length-set, slice_set, FunctionalUnit, Insn, KeepsPacketRules, Spots}
+use Rattle.c62_sheet.specs.Lawful.{placed}
+use Rattle.std.proofs.Common.{Some}
 use Rattle.c62_sheet.proofs.Common.{spot_at, withdrawn, issues, IsLawful, IsReady, IsAfter, Fits, part-without, part-keeps, Spot, FitsWithout}
 use Rattle.c62_sheet.proofs.Sets.{spot_at-withdrawn_same, spot_at-withdrawn_other, IsAt-withdrawn}
 use Rattle.c62_sheet.proofs.IssuesOf.{issues-withdrawn}
 use Rattle.c62_sheet.proofs.Used.{insn_at}
-use Rattle.c62_sheet.proofs.Placing.{no_dependent, lands_alone, rules_from_keeps, keeps_from_rules}
+use Rattle.c62_sheet.proofs.Placing.{no_dependent, landings_kept, delays_placed, rules_from_keeps, keeps_from_rules}
 
 module _ (block : List Insn) (set : Spots) (q : ℕ) (lawful : IsLawful block set) (in_block : q < length block) where
   pub rules_without : KeepsPacketRules (issues block (withdrawn set q))
@@ -30,9 +32,11 @@ module _ (block : List Insn) (set : Spots) (i cycle q : ℕ) (lawful : IsLawful 
         unit = unit;
         stands = fits.stands;
         rules = rules_from_keeps block (withdrawn set q) i insn.0 s sized insn.1 in_block free (rules_without block set q lawful q_in) fits.keeps
-            (lands_alone block (withdrawn set q) i insn.0 s sized insn.1 in_block free
+            (landings_kept block (placed (withdrawn set q) i s) (length-set (withdrawn set q) i (Some s) ∙ sized)
+            (delays_placed block (withdrawn set q) i s (omega (arith, in_block, sized))
+            (λ h j bound t u w is_t is_u. lawful.delays h j bound t u w (IsAt-withdrawn set q h t lt is_t).1 (IsAt-withdrawn set q j u lt is_u).1)
             (λ j t dep is. no_dependent block set i s insn.0 lawful insn.1 in_block ready.free j t dep (IsAt-withdrawn set q j t lt is).1)
-            (λ h bound t w is. after h bound t w (IsAt-withdrawn set q h t lt is).1));
+            (λ h bound t w is. after h bound t w (IsAt-withdrawn set q h t lt is).1)));
       }
 
   pub fits_from_without : (w : FitsWithout block set i cycle q) → Fits block (withdrawn set q) i (record { cycle = cycle; unit = w.unit })

@@ -4,7 +4,7 @@ use Rattle.std.specs.Prelude.{◌≡◌, ◌≢◌, ℕ, ◌*◌, ◌<◌, ◌�
 use Rattle.c62_op.specs.declared.register.Side.{Side}
 use Rattle.c62_op.specs.declared.register.Reg.{Reg}
 use Rattle.c62_insn.specs.declared.insn.Insn.{Insn}
-use Rattle.c62_insn.specs.PacketRules.{Issue, IsIssued, UsesCrossPath, UsesDataPath, LandsIn, reads_in, may_land_together}
+use Rattle.c62_insn.specs.PacketRules.{Issue, IsIssued, UsesCrossPath, UsesDataPath, LandsIn, reads_in, MayLandTogether}
 use Rattle.c62_insn.specs.Dependence.{Depends}
 use Rattle.c62_depend.specs.Side.{stands_on}
 use Rattle.c62_sheet.specs.declared.entry.Spot.{Spot}
@@ -44,7 +44,7 @@ pub record LandsTogether (block : List Insn) (set : Spots) (i : ℕ) (s : Spot) 
   pub is_other : IsIssued (issues block (placed set i s)) number other
   pub lands : LandsIn own reg cycle
   pub theirs : LandsIn other reg cycle
-  pub forbidden : may_land_together (issues block (placed set i s)) i number ≡ false
+  pub forbidden : MayLandTogether (issues block (placed set i s)) own other → ⊥
 
 -- what a rule has against the triple (i, s)
 abbrev pub Breaks : List Insn → Spots → ℕ → Spot → Rule → Type 0

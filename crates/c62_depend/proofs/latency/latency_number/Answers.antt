@@ -1,9 +1,20 @@
-use Rattle.c62_depend.proofs.Common.{refl, as_bound}
-use Rattle.c62_depend.proofs.Latencies.{latency_at}
+use Rattle.c62_depend.proofs.Common.{◌≡◌, Option, Some, sym, ap, ◌∙◌, refl, as_bound, insns_in, slice_get, Insn, are_exclusive, latency_of, cond_of, Bool}
+use Rattle.c62_insn.specs.Dependence.{exclusive_by, condition_in}
+use Rattle.c62_depend.proofs.Latencies.{latency_at, insn_at}
 use Rattle.c62_depend.proofs.latency.latency_number.Goals as goal
 
 pub returns : goal.returns
 returns c =
-    latency_at c.args.uses.now c.args.i c.args.j c.args.first.now c.index-uses-j.result (as_bound c.number_between.result)
-    c.requires.before c.requires.within c.requires.first c.index-uses-j.is
-    (rw (c.number_between.ensures, c.are_exclusive.ensures, c.are_disjoint.ensures) refl)
+    let uses = c.args.uses.now in
+    let block = insns_in uses in
+    let i = c.args.i in
+    let j = c.args.j in
+    let u = c.args.first.now in
+    let v = c.index-uses-j.result in
+    let at_i : slice_get block i ≡ Some u.insn = insn_at uses i u (omega (Rattle.std.proofs.Common.arith, c.requires.before, c.requires.within)) c.requires.first in
+    let at_j : slice_get block j ≡ Some v.insn = insn_at uses j v c.requires.within c.index-uses-j.is in
+    let same : are_exclusive block i j ≡ exclusive_by block i j (cond_of u.insn) (cond_of v.insn)
+    = ap (λ (o : Option Insn). exclusive_by block i j (condition_in o) (condition_in (slice_get block j))) at_i
+    ∙ ap (λ (o : Option Insn). exclusive_by block i j (cond_of u.insn) (condition_in o)) at_j in
+    latency_at uses i j u v (as_bound c.number_between.result) c.requires.before c.requires.within c.requires.first c.index-uses-j.is
+    (c.number_between.ensures ∙ ap (λ (b : Bool). latency_of b Rattle.std.proofs.Common.false u.insn v.insn) (c.are_exclusive.ensures block i j c.requires.written ∙ sym same))

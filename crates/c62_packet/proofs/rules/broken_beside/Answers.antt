@@ -7,5 +7,5 @@ pub returns : goal.returns
 returns c =
     let p = c.args.placed.now in
     let others = c.args.others.now in
-    c.broken_by.ensures ∙ ap (λ beside. broken_by p beside others) (c.until.ensures ∙ ap (λ (n : ℕ). until n others) c.from.ensures)
-    ∙ beside_enough p others c.requires.rising
+    c.broken_by.ensures ∙ ap (λ beside. broken_by c.args.all.now p beside others) (c.until.ensures ∙ ap (λ (n : ℕ). until n others) c.from.ensures)
+    ∙ beside_enough c.args.all.now p others c.requires.rising

@@ -11,7 +11,7 @@ use Rattle.c62_packet.proofs.rules.first_broken.Goals as goal
 pub returns : goal.returns
 returns c =
     let start : c.loop-at.at ≡ 0 = omega (arith, c.loop-at-test.false) in
-    broken-first c.args.placed.now c.loop-at.found (subst (λ (n : ℕ). c.loop-at.found ≡ broken (drop n c.args.placed.now)) start c.loop-at.invariant.1)
+    broken-first c.args.placed.now c.loop-at.found (subst (λ (n : ℕ). c.loop-at.found ≡ broken c.args.placed.now (drop n c.args.placed.now)) start c.loop-at.invariant.1)
 
 pub broken_beside-requires-clause-rising : goal.broken_beside-requires-clause-rising
 broken_beside-requires-clause-rising c =
@@ -27,10 +27,10 @@ loop-at-preserved c =
     let p = c.index-placed-at.result in
     let next : c.loop-at.at ≡ at + 1 = omega (arith, c.loop-at-test.true) in
     let within : at < length placed = omega (arith, c.loop-at-test.true, c.loop-at.invariant.0) in
-    let so_far = subst (λ (n : ℕ). c.loop-at.found ≡ broken (drop n placed)) next c.loop-at.invariant.1 in
-    let here = c.broken_beside.ensures ∙ ap (broken_beside p) (take_rest placed (at + 1)) in (
+    let so_far = subst (λ (n : ℕ). c.loop-at.found ≡ broken placed (drop n placed)) next c.loop-at.invariant.1 in
+    let here = c.broken_beside.ensures ∙ ap (broken_beside placed p) (take_rest placed (at + 1)) in (
       omega (arith, c.loop-at.invariant.0),
-      c.earlier-found.ensures ∙ broken-step placed at p c.loop-at.found c.broken_beside.result within c.index-placed-at.is so_far here,
+      c.earlier-found.ensures ∙ broken-step placed placed at p c.loop-at.found c.broken_beside.result within c.index-placed-at.is so_far here,
     )
 
 pub returns-then-are_apart : goal.returns-then-are_apart

@@ -1,6 +1,6 @@
 use Rattle.std.proofs.Common.{rules, ◌≡◌, ◌+◌, ℕ, ap, ◌∙◌}
 use Rattle.std.specs.List.{list_any}
-use Rattle.c62_packet.specs.Clash.{lands}
+use Rattle.c62_packet.specs.Clash.{clashes}
 use Rattle.c62_packet.proofs.LaterIssues.{until, landings_until}
 use Rattle.c62_packet.proofs.rules.is_met.Goals as goal
 
@@ -11,5 +11,5 @@ returns c =
     let cycle = c.args.placed.now.cycle + c.args.write.1 in
     let at = c.from.result + c.from-2.result in
     let same : at ≡ cycle = search rules in
-    c.any_lands.ensures ∙ ap (list_any (lands reg at)) c.until.ensures
-    ∙ ap (λ (n : ℕ). list_any (lands reg n) (until n others)) same ∙ landings_until reg cycle others c.requires
+    c.any_clashes.ensures ∙ ap (list_any (clashes c.args.all.now c.args.placed.now reg at)) c.until.ensures
+    ∙ ap (λ (n : ℕ). list_any (clashes c.args.all.now c.args.placed.now reg n) (until n others)) same ∙ landings_until c.args.all.now c.args.placed.now reg cycle others c.requires

@@ -1,0 +1,63 @@
+-- The registers that instructions of a block write, one after the other.
+use Rattle.c62_depend.proofs.Common.{◌≡◌, ℕ, suc, zero, ◌+◌, ◌-◌, ◌<◌, ◌≤◌, Bool, true, false, List, [], ◌∷◌, Option, Some, None, refl, sym, ap, ◌∙◌, subst, arith, length, get_or}
+use Rattle.c62_depend.proofs.Common.{◌||◌, list_any, Contains, slice_get, Reg, Insn, same_reg, same_reg-refl, same_reg-is, register_writes, RegSet, reg_in, Uses, insns_in, both_ways, or_cases, or_left, or_right}
+use Rattle.c62_depend.proofs.Common.{false_from_ne_true, inl, inr}
+use Rattle.c62_insn.specs.Dependence.{writes_in, is_written_by}
+use Rattle.c62_depend.specs.Written.{AreWritten}
+use Rattle.c62_depend.proofs.Bounds.{write_of, set_of, is_written}
+use Rattle.c62_depend.proofs.Latencies.{insn_at}
+
+some_write : (reg : Reg) (delay : ℕ) (writes : List (Reg × ℕ)) → Contains writes (reg, delay) → list_any (λ (write : Reg × ℕ). same_reg write.0 reg) writes ≡ true
+some_write reg delay [] (k, l, e) = absurd (omega (arith, l))
+some_write reg delay (w ∷ writes) (zero, l, e) =
+    or_left (same_reg w.0 reg) _ (ap (λ (x : Reg × ℕ). same_reg x.0 reg) e ∙ same_reg-refl reg)
+some_write reg delay (w ∷ writes) (suc k, l, e) = or_right (same_reg w.0 reg) _ (some_write reg delay writes (k, omega (arith, l), e))
+
+a_write : (reg : Reg) (writes : List (Reg × ℕ)) → list_any (λ (write : Reg × ℕ). same_reg write.0 reg) writes ≡ true → (delay : ℕ) × Contains writes (reg, delay)
+a_write reg [] h = cc
+a_write reg (w ∷ writes) h = elim (or_cases (same_reg w.0 reg) (list_any (λ (write : Reg × ℕ). same_reg write.0 reg) writes) h) [
+  | inl first ↦ (let same : w.0 ≡ reg = same_reg-is w.0 reg first in (w.1, (0, omega arith, ap (λ (r : Reg). (r, w.1)) same)))
+  | inr later ↦ (let found = a_write reg writes later in (found.0, (suc found.1.0, omega (arith, found.1.1), found.1.2)))
+]
+
+same_tests : (a b : Bool) → (a ≡ true → b ≡ true) → (b ≡ true → a ≡ true) → a ≡ b
+same_tests true b to from = sym (to refl)
+same_tests false b to from = sym (false_from_ne_true b (λ h. both_ways false refl (from h)))
+
+-- the set of what an instruction writes
+pub writes_are : (u : Uses) (reg : Reg) → reg_in u.written reg ≡ writes_in reg (Some u.insn)
+writes_are u reg = same_tests (reg_in u.written reg) (writes_in reg (Some u.insn)) to from
+  where
+    to : reg_in u.written reg ≡ true → writes_in reg (Some u.insn) ≡ true
+    to h = elim (or_cases (reg_in u.at_once reg) (reg_in u.results reg) (sym (u.written_are reg) ∙ h)) [
+      | inl now ↦ some_write reg 0 (register_writes u.insn) (write_of u false reg now)
+      | inr late ↦ some_write reg u.delay (register_writes u.insn) (write_of u true reg late)
+    ]
+
+    from : writes_in reg (Some u.insn) ≡ true → reg_in u.written reg ≡ true
+    from h =
+        let found = a_write reg (register_writes u.insn) h in
+        let there = set_of u reg found.0 found.1 in
+        is_written u there.0 reg there.2
+
+-- one instruction more
+pub written_more : (uses : List Uses) (i j : ℕ) (u : Uses) (old new : RegSet) → i ≤ j → j < length uses → u ≡ get_or uses j u
+    → ((reg : Reg) → reg_in new reg ≡ (reg_in old reg || reg_in u.written reg)) → AreWritten (insns_in uses) i j old → AreWritten (insns_in uses) i (j + 1) new
+written_more uses i j u old new le lt is joined are reg =
+    let count : j + 1 - i ≡ suc (j - i) = omega (arith, le) in
+    let last : i + (j - i) ≡ j = omega (arith, le) in
+    let at : slice_get (insns_in uses) (i + (j - i)) ≡ Some u.insn = subst (λ (k : ℕ). slice_get (insns_in uses) k ≡ Some u.insn) (sym last) (insn_at uses j u lt is) in
+    joined reg ∙ ap (λ (b : Bool). b || reg_in u.written reg) (are reg)
+    ∙ ap (λ (b : Bool). is_written_by (insns_in uses) i (j - i) reg || b) (writes_are u reg ∙ ap (writes_in reg) (sym at))
+    ∙ ap (λ (n : ℕ). is_written_by (insns_in uses) i n reg) (sym count)
+
+-- none
+pub written_none : (block : List Insn) (i : ℕ) (set : RegSet) → ((reg : Reg) → reg_in set reg ≡ false) → AreWritten block i i set
+written_none block i set none reg = let count : 0 ≡ i - i = omega arith in none reg ∙ ap (λ (n : ℕ). is_written_by block i n reg) count
+
+-- the first alone
+pub written_first : (uses : List Uses) (i : ℕ) (u : Uses) → i < length uses → u ≡ get_or uses i u → AreWritten (insns_in uses) i (i + 1) u.written
+written_first uses i u lt is reg =
+    let count : suc 0 ≡ i + 1 - i = omega arith in
+    let at : slice_get (insns_in uses) (i + 0) ≡ Some u.insn = let e : i + 0 ≡ i = omega arith in subst (λ (k : ℕ). slice_get (insns_in uses) k ≡ Some u.insn) (sym e) (insn_at uses i u lt is) in
+    writes_are u reg ∙ ap (writes_in reg) (sym at) ∙ ap (λ (n : ℕ). is_written_by (insns_in uses) i n reg) count
