@@ -2,7 +2,9 @@
 use Rattle.c62_depend.proofs.Common.{◌≡◌, ℕ, suc, zero, ◌+◌, ◌-◌, ◌<◌, ◌≤◌, Bool, true, false, List, [], ◌∷◌, Option, Some, None, refl, sym, ap, ◌∙◌, subst, arith, length, get_or}
 use Rattle.c62_depend.proofs.Common.{◌||◌, list_any, Contains, slice_get, Reg, Insn, same_reg, same_reg-refl, same_reg-is, register_writes, RegSet, reg_in, Uses, insns_in, both_ways, or_cases, or_left, or_right}
 use Rattle.c62_depend.proofs.Common.{false_from_ne_true, inl, inr}
-use Rattle.c62_insn.specs.Dependence.{writes_in, is_written_by}
+use Rattle.c62_depend.proofs.Common.{not, ◌&&◌}
+use Rattle.c62_insn.specs.Dependence.{writes_in, is_written_by, Range, range_in, are_apart, disjoint_by, are_disjoint}
+use Rattle.c62_depend.specs.Covered.{apart_by, never_meet}
 use Rattle.c62_depend.specs.Written.{AreWritten}
 use Rattle.c62_depend.proofs.Bounds.{write_of, set_of, is_written}
 use Rattle.c62_depend.proofs.Latencies.{insn_at}
@@ -61,3 +63,17 @@ written_first uses i u lt is reg =
     let count : suc 0 ≡ i + 1 - i = omega arith in
     let at : slice_get (insns_in uses) (i + 0) ≡ Some u.insn = let e : i + 0 ≡ i = omega arith in subst (λ (k : ℕ). slice_get (insns_in uses) k ≡ Some u.insn) (sym e) (insn_at uses i u lt is) in
     writes_are u reg ∙ ap (writes_in reg) (sym at) ∙ ap (λ (n : ℕ). is_written_by (insns_in uses) i n reg) count
+
+-- what never meets by the registers that are written between is disjoint, and the other way round
+apart_is_disjoint : (block : List Insn) (i j : ℕ) (written : RegSet) (a b : Option Range) → AreWritten block i j written
+    → apart_by written a b ≡ disjoint_by block i j a b
+apart_is_disjoint block i j written None b are = refl
+apart_is_disjoint block i j written (Some one) None are = refl
+apart_is_disjoint block i j written (Some one) (Some other) are = ap (λ (t : Bool). are_apart one other && not t) (are one.base)
+
+pub never_meet_is : (block : List Insn) (i j : ℕ) (p q : Insn) (written : RegSet) → AreWritten block i j written → slice_get block i ≡ Some p
+    → slice_get block j ≡ Some q → never_meet written p q ≡ are_disjoint block i j
+never_meet_is block i j p q written are at_i at_j =
+    apart_is_disjoint block i j written (range_in (Some p)) (range_in (Some q)) are
+    ∙ ap (λ (o : Option Insn). disjoint_by block i j (range_in o) (range_in (Some q))) (sym at_i)
+    ∙ ap (λ (o : Option Insn). disjoint_by block i j (range_in (slice_get block i)) (range_in o)) (sym at_j)

@@ -1,6 +1,7 @@
 pub mod RegSet
 pub mod Writes
 pub mod Written
+pub mod Covered
 pub mod Uses
 pub mod Numbers
 pub mod Latency

@@ -4,9 +4,11 @@
 ghost use Rattle.std.specs.Prelude.{◌≡◌, ℕ, List};
 ghost use Rattle.c62_insn.specs.declared.insn.Insn.{Insn as Instruction};
 ghost use Rattle.c62_insn.specs.Insn.{cond_of};
-ghost use Rattle.c62_insn.specs.Dependence.{are_opposite, exclusive_by, are_disjoint};
+ghost use Rattle.c62_insn.specs.Dependence.{are_opposite, exclusive_by};
 ghost use Rattle.c62_depend.specs.Written.{AreWritten};
+ghost use Rattle.c62_depend.specs.Covered.{never_meet};
 
+use crate::covered::{are_apart, covered_by};
 use crate::reg_set::RegSet;
 use crate::uses::Uses;
 use c62_insn::Cond;
@@ -32,6 +34,17 @@ pub(crate) fn are_exclusive(written: RegSet, first: &Uses, second: &Uses) -> boo
 {
     match (first.insn.cond(), second.insn.cond()) {
         (Some(one), Some(other)) => are_opposite(one, other) && !written.has(one.reg),
+        _ => false,
+    }
+}
+
+/// Whether the accesses of both never meet, so that they need no order, where these registers are written from the first
+/// one on and before the second.
+pub(crate) fn are_disjoint(written: RegSet, first: &Uses, second: &Uses) -> bool
+    ensures { result ≡ never_meet written first.now.insn second.now.insn }
+{
+    match (covered_by(first.insn), covered_by(second.insn)) {
+        (Some(one), Some(other)) => are_apart(one, other) && !written.has(one.base),
         _ => false,
     }
 }

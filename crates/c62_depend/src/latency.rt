@@ -6,9 +6,10 @@ ghost use Rattle.std.specs.Prelude.{◌≡◌, ◌<◌, ◌≤◌, ◌+◌, max,
 ghost use Rattle.c62_depend.specs.Latency.{latency_of, latency};
 ghost use Rattle.c62_depend.specs.Uses.{insns_in};
 ghost use Rattle.c62_depend.specs.Written.{AreWritten};
+ghost use Rattle.c62_depend.specs.Covered.{never_meet};
 ghost use Rattle.c62_depend.specs.Numbers.{as_bound, number_if, number_awaited, number_spared, number_after_result, number_after_at_once, number_overwritten, number_after_store, number_after_load, number_before_branch, number_of_registers, number_of_order};
 
-use crate::excuse::are_exclusive;
+use crate::excuse::{are_disjoint, are_exclusive};
 use crate::reg_set::RegSet;
 use crate::uses::Uses;
 
@@ -145,11 +146,11 @@ fn by_cases_of_order(disjoint: bool, first: &Uses, second: &Uses) -> u8
 
 /// The greatest bound of the other cases, of which none applies without a branch, or two accesses of which one stores.
 #[inline(always)]
-fn by_order(disjoint: bool, first: &Uses, second: &Uses) -> u8
-    ensures { result ≡ number_of_order disjoint first.now.insn second.now.insn }
+fn by_order(written: RegSet, first: &Uses, second: &Uses) -> u8
+    ensures { result ≡ number_of_order (never_meet written first.now.insn second.now.insn) first.now.insn second.now.insn }
 {
     if first.is_ordered(second) {
-        by_cases_of_order(disjoint, first, second)
+        by_cases_of_order(are_disjoint(written, first, second), first, second)
     } else {
         0
     }
@@ -166,32 +167,32 @@ fn after_result(first: &Uses) -> u8
 /// The greatest bound of all cases.
 #[inline(never)]
 #[tactic(auto, using(crate::proofs::Numbers::all_is))]
-fn by_all(exclusive: bool, disjoint: bool, first: &Uses, second: &Uses) -> u8
-    ensures { as_bound result ≡ latency_of exclusive disjoint first.now.insn second.now.insn }
+fn by_all(exclusive: bool, written: RegSet, first: &Uses, second: &Uses) -> u8
+    ensures { as_bound result ≡ latency_of exclusive (never_meet written first.now.insn second.now.insn) first.now.insn second.now.insn }
 {
     greater(
         by_registers(exclusive, first, second),
-        by_order(disjoint, first, second),
+        by_order(written, first, second),
     )
 }
 
 /// By how much the cycle of the second instruction must at least exceed that of the first: the greatest bound of the
 /// cases that apply. No bound exceeds that of a result which the second one awaits or writes over at once.
 #[inline(always)]
-fn number_between(exclusive: bool, disjoint: bool, first: &Uses, second: &Uses) -> u8
-    ensures { as_bound result ≡ latency_of exclusive disjoint first.now.insn second.now.insn }
+fn number_between(exclusive: bool, written: RegSet, first: &Uses, second: &Uses) -> u8
+    ensures { as_bound result ≡ latency_of exclusive (never_meet written first.now.insn second.now.insn) first.now.insn second.now.insn }
 {
     if first.results.meets(second.awaited(exclusive)) {
         after_result(first)
     } else if first.written.meets(second.used) {
-        by_all(exclusive, disjoint, first, second)
+        by_all(exclusive, written, first, second)
     } else if second.written.meets(first.reads) {
         greater(
             write_after_read(first, second),
-            by_order(disjoint, first, second),
+            by_order(written, first, second),
         )
     } else {
-        by_order(disjoint, first, second)
+        by_order(written, first, second)
     }
 }
 
@@ -206,7 +207,12 @@ pub(crate) fn latency_number(uses: &[Uses], written: RegSet, first: &Uses, i: us
     ensures { as_bound result ≡ latency (insns_in uses.now) i j }
 {
     let second = &uses[j];
-    number_between(are_exclusive(written, first, second), false, first, second)
+    number_between(
+        are_exclusive(written, first, second),
+        written,
+        first,
+        second,
+    )
 }
 
 /// The registers that instructions from `i` on and before `j` write.

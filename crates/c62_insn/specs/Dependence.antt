@@ -43,9 +43,40 @@ exclusive_by block i j _ _ = false
 abbrev pub are_exclusive : List Insn → ℕ → ℕ → Bool
 are_exclusive block i j = exclusive_by block i j (condition_in (slice_get block i)) (condition_in (slice_get block j))
 
--- whether two accesses never meet, so that they need no order: never
+-- the bytes that an access with a constant offset covers, counted from 124 bytes before its base: no such offset is greater
+pub record Range : Type 0 where
+  pub base : Reg
+  pub begin : ℕ
+  pub size : ℕ
+
+-- where they begin, of the offset in bytes
+abbrev pub begin_of : AddressForm → ℕ → ℕ
+begin_of Plus offset = 124 + offset
+begin_of PreIncrement offset = 124 + offset
+begin_of Minus offset = 124 - offset
+begin_of PreDecrement offset = 124 - offset
+begin_of _ offset = 124
+
+abbrev pub range_of : Op → Operands → Option Range
+range_of op (Access _ base form (ByConstant k)) = Some (record { base = base; begin = begin_of form (unsigned_abs k * size_of op); size = size_of op })
+range_of op _ = None
+
+abbrev pub range_in : Option Insn → Option Range
+range_in None = None
+range_in (Some insn) = range_of (op_of insn) (operands_of insn)
+
+-- both are from one base and do not meet
+abbrev pub are_apart : Range → Range → Bool
+are_apart a b = same_reg a.base b.base && (nat_le (a.begin + a.size) b.begin || nat_le (b.begin + b.size) a.begin)
+
+abbrev pub disjoint_by : List Insn → ℕ → ℕ → Option Range → Option Range → Bool
+disjoint_by block i j (Some a) (Some b) = are_apart a b && not (is_written_by block i (j - i) a.base)
+disjoint_by block i j _ _ = false
+
+-- The accesses of numbers i and j never meet, so that they need no order: their bytes from one base do not, and no
+-- instruction from i on and before j writes that.
 abbrev pub are_disjoint : List Insn → ℕ → ℕ → Bool
-are_disjoint block i j = false
+are_disjoint block i j = disjoint_by block i j (range_in (slice_get block i)) (range_in (slice_get block j))
 
 -- What the cycle of q, number j of a block, must at least exceed that of p, number i, by. A case each, for p before q.
 pub data IsBound (block : List Insn) (i j : ℕ) (p q : Insn) (bound : ℤ) : Type 0 where

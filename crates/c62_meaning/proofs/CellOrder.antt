@@ -2,7 +2,7 @@
 use Rattle.std.proofs.Common.{◌≡◌, ℕ, ◌+◌, ◌*◌, ◌<◌, ◌≤◌, List, Some, false, refl, sym, ◌∙◌, ap, subst, inl, inr, ℤ, pos, ◌+ℤ◌, ◌-ℤ◌, ◌≤ℤ◌, arith}
 use Rattle.std.specs.Prelude.{slice_get, Contains, ◌==◌, ◌&&◌, true}
 use Rattle.std.proofs.lemmas.Int.{ints}
-use Rattle.std.proofs.lemmas.Bool.{eq-eqb, false≢true, false_from_ne_true, leb-true, and_parts}
+use Rattle.std.proofs.lemmas.Bool.{eq-eqb, false_from_ne_true, leb-true, and_parts}
 use Rattle.c62_op.specs.declared.register.Side.{Side}
 use Rattle.c62_op.specs.declared.register.Side.TheVariants.{A, B}
 use Rattle.c62_op.specs.declared.register.Reg.{Reg}
@@ -16,6 +16,7 @@ use Rattle.c62_insn.specs.Dependence.{IsBound, are_exclusive, are_disjoint, Read
 use Rattle.c62_op.proofs.Registers.{same_reg-is}
 use Rattle.c62_insn.specs.declared.effect.Access.{Access as MemoryAccess}
 use Rattle.c62_insn.proofs.Exclusive.{exclusive-is}
+use Rattle.c62_insn.proofs.Ranges.{disjoint-is, Covers, covers, apart_bytes}
 use Rattle.c62_serial.specs.Memory.{is_good}
 use Rattle.c62_meaning.proofs.NotBoth.{writes_runs, word_kept, not_both}
 use Rattle.c62_serial.specs.State.{first_of, index_of, word_in, byte_in}
@@ -148,7 +149,19 @@ loaded_touches b k address h = record {
 -- disjoint accesses touch no byte together
 not_the_same : (b : Numbered) (h : KeepsBounds b) (j k a : ℕ) → j < k → k < b.count → Touches (b.entry j).insn (word_in (machine_at b j)) a
     → Touches (b.entry k).insn (word_in (machine_at b k)) a → are_disjoint h.block j k ≡ true → ⊥
-not_the_same b h j k a l u p q both = false≢true both
+not_the_same b h j k a l u p q both =
+    let x = disjoint-is h.block j k (b.entry j).insn (b.entry k).insn l (h.stands j (omega (arith, l, u))) (h.stands k u) both in
+    let c : Covers (word_in (machine_at b j) x.one.base) x.one p.access = covers (b.entry j).insn (word_in (machine_at b j)) x.one p.access x.is_one p.accesses in
+    let d : Covers (word_in (machine_at b k) x.other.base) x.other q.access = covers (b.entry k).insn (word_in (machine_at b k)) x.other q.access x.is_other q.accesses in
+    let kept : word_in (machine_at b k) x.one.base ≡ word_in (machine_at b j) x.one.base
+    = word_kept b j k x.one.base (omega (arith, l))
+    (λ i m low high writes same.
+    let reg : m.0 ≡ x.one.base = same_index m.0 x.one.base same in
+    x.unwritten i m.1 (b.entry i).insn low high (h.stands i (omega (arith, high, u)))
+    (subst (λ (r : Reg). Contains (register_writes (b.entry i).insn) (r, m.1)) reg writes)) in
+    let base : word_in (machine_at b k) x.other.base ≡ word_in (machine_at b j) x.one.base = ap (λ (r : Reg). word_in (machine_at b k) r) (sym x.same) ∙ kept in
+    apart_bytes (word_in (machine_at b j) x.one.base) x.one x.other p.access q.access a x.apart c (subst (λ (v : ℕ). Covers v x.other q.access) base d)
+    p.within q.within p.low p.high q.low q.high
 
 pub ordered : (b : Numbered) → KeepsBounds b → IsOrdered b
 ordered b h = record {
