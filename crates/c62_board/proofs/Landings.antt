@@ -9,10 +9,10 @@ use Rattle.std.proofs.lemmas.List.Elements.{All-head, All-tail, All-weaker}
 use Rattle.c62_op.specs.declared.register.Reg.{Reg}
 use Rattle.c62_insn.specs.declared.insn.Insn.{Insn}
 use Rattle.c62_op.specs.Shape.{delay_of, is_branch}
-use Rattle.c62_insn.specs.Insn.{op_of, register_writes}
-use Rattle.c62_insn.specs.PacketRules.{Issue, Issues, IsIssued, issued}
-use Rattle.c62_insn.specs.Dependence.{Bounds, BeforeBranch}
-use Rattle.c62_insn.specs.Length.{greatest_delay, landing_end, last_landing_end}
+use Rattle.c62_insn.specs.Insn.{op_of, register_writes, greatest_delay}
+use Rattle.c62_rules.specs.PacketRules.{Issue, Issues, IsIssued, issued}
+use Rattle.c62_rules.specs.Dependence.{Bounds, BeforeBranch}
+use Rattle.c62_rules.specs.Length.{landing_end, last_landing_end}
 use Rattle.c62_insn.proofs.InsnLemmas.{timely_writes}
 use Rattle.c62_depend.specs.Plan.{IsPlan}
 use Rattle.c62_sheet.specs.declared.entry.Spot.{Spot}

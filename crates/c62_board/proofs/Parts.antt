@@ -3,8 +3,8 @@ use Rattle.std.proofs.Common.{◌≡◌, ℕ, zero, suc, List, [], ◌∷◌, So
 use Rattle.std.specs.Prelude.{option_map}
 use Rattle.std.proofs.lemmas.Option.{none-some}
 use Rattle.c62_insn.specs.declared.insn.Insn.{Insn}
-use Rattle.c62_insn.specs.PacketRules.{Issue, IsIssued, KeepsPacketRules}
-use Rattle.c62_insn.proofs.Parts.{part-keeps}
+use Rattle.c62_rules.specs.PacketRules.{Issue, IsIssued, KeepsPacketRules}
+use Rattle.c62_rules.proofs.Parts.{part-keeps}
 use Rattle.c62_sheet.specs.declared.entry.Spot.{Spot}
 use Rattle.c62_sheet.specs.Lawful.{Spots, IsAt, issue_at, issues}
 

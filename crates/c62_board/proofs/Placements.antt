@@ -1,7 +1,7 @@
 -- Where a ready number may be placed.
 use Rattle.std.proofs.Common.{◌*◌, ◌<◌, ℕ, List, length, IsTrue}
 use Rattle.c62_insn.specs.declared.insn.Insn.{Insn}
-use Rattle.c62_insn.specs.PacketRules.{KeepsPacketRules}
+use Rattle.c62_rules.specs.PacketRules.{KeepsPacketRules}
 use Rattle.c62_depend.specs.Side.{stands_on}
 use Rattle.c62_sheet.specs.declared.entry.Spot.{Spot}
 use Rattle.c62_sheet.specs.Lawful.{Spots, placed, issues, IsLawful}

@@ -1,7 +1,7 @@
 -- Chains of dependences (docs/SCHEDULING.md, "Withdrawing").
 use Rattle.std.specs.Prelude.{ℕ, ◌<◌, ◌↔◌, Bool, false, List, length, slice_index_or, IsTrue}
 use Rattle.c62_insn.specs.declared.insn.Insn.{Insn}
-use Rattle.c62_insn.specs.Dependence.{Depends}
+use Rattle.c62_rules.specs.Dependence.{Depends}
 
 -- a chain of dependences leads from number i to j: j is i, or depends on a number to which one leads
 pub data Leads (block : List Insn) (i : ℕ) : ℕ → Type 0 where

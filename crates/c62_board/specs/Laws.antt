@@ -2,7 +2,7 @@
 use Rattle.std.specs.Prelude.{◌≡◌, ℕ, ◌≤◌, List, [], ◌∷◌, Some, slice_get}
 use Rattle.c62_op.specs.declared.register.Side.{Side}
 use Rattle.c62_insn.specs.declared.insn.Insn.{Insn}
-use Rattle.c62_insn.specs.Length.{landing_end}
+use Rattle.c62_rules.specs.Length.{landing_end}
 use Rattle.c62_sheet.specs.declared.entry.Spot.{Spot}
 use Rattle.c62_sheet.specs.declared.entry.Entry.{Entry}
 use Rattle.c62_sheet.specs.declared.entry.Entry.TheVariants.{Place, Withdraw}

@@ -20,8 +20,8 @@ pub use Rattle.c62_depend.specs.declared.links.Link.{Link}
 pub use Rattle.c62_depend.specs.declared.reg_set.RegSet.{RegSet}
 pub use Rattle.c62_depend.specs.declared.uses.Uses.{Uses}
 pub use Rattle.c62_op.proofs.Registers.{same_reg-is, same_reg-refl, same_side-is, same_side-refl, same_unit-refl}
-pub use Rattle.c62_insn.specs.Dependence.{IsBound, ReadAfterWrite, WriteAfterRead, WriteAfterWrite, AfterStore, StoreAfterLoad, BeforeBranch, Bounds}
-pub use Rattle.c62_insn.specs.Dependence.{Depends, IsLatency, are_exclusive, are_disjoint, IsGreatestBound}
+pub use Rattle.c62_rules.specs.Dependence.{IsBound, ReadAfterWrite, WriteAfterRead, WriteAfterWrite, AfterStore, StoreAfterLoad, BeforeBranch, Bounds}
+pub use Rattle.c62_rules.specs.Dependence.{Depends, IsLatency, are_exclusive, are_disjoint, IsGreatestBound}
 pub use Rattle.c62_insn.specs.Insn.{op_of, operands_of, register_writes, reads_register, unit_of, cond_of, is_condition_on}
 pub use Rattle.c62_op.specs.Shape.{delay_of, is_load, changes_base, writes_of, is_store, is_branch, side_of}
 pub use Rattle.c62_insn.specs.Stands.{may_stand}

@@ -3,7 +3,7 @@ use Rattle.c62_depend.proofs.Common.{◌≡◌, ℕ, suc, zero, ◌+◌, ◌-◌
 use Rattle.c62_depend.proofs.Common.{◌||◌, list_any, Contains, slice_get, Reg, Insn, same_reg, same_reg-refl, same_reg-is, register_writes, RegSet, reg_in, Uses, insns_in, both_ways, or_cases, or_left, or_right}
 use Rattle.c62_depend.proofs.Common.{false_from_ne_true, inl, inr}
 use Rattle.c62_depend.proofs.Common.{not, ◌&&◌}
-use Rattle.c62_insn.specs.Dependence.{writes_in, is_written_by, Range, range_in, are_apart, disjoint_by, are_disjoint}
+use Rattle.c62_rules.specs.Dependence.{writes_in, is_written_by, Range, range_in, are_apart, disjoint_by, are_disjoint}
 use Rattle.c62_depend.specs.Covered.{apart_by, never_meet}
 use Rattle.c62_depend.specs.Written.{AreWritten}
 use Rattle.c62_depend.proofs.Bounds.{write_of, set_of, is_written}

@@ -1,7 +1,7 @@
 -- Accesses that never meet, told by the registers that are written from the first one on and before the second.
 use Rattle.std.specs.Prelude.{Bool, false, not, ◌&&◌, Option, Some, None}
 use Rattle.c62_insn.specs.declared.insn.Insn.{Insn}
-use Rattle.c62_insn.specs.Dependence.{Range, range_in, are_apart}
+use Rattle.c62_rules.specs.Dependence.{Range, range_in, are_apart}
 use Rattle.c62_depend.specs.declared.covered.Covered.{Covered}
 use Rattle.c62_depend.specs.declared.reg_set.RegSet.{RegSet}
 use Rattle.c62_depend.specs.RegSet.{reg_in}

@@ -7,7 +7,7 @@ use Rattle.c62_insn.specs.declared.insn.Insn.{Insn}
 use Rattle.c62_op.specs.Takes.{same_reg}
 use Rattle.c62_op.specs.Shape.{delay_of, is_load, is_store, is_branch}
 use Rattle.c62_insn.specs.Insn.{op_of, register_writes, reads_register}
-use Rattle.c62_insn.specs.Dependence.{are_exclusive, are_disjoint}
+use Rattle.c62_rules.specs.Dependence.{are_exclusive, are_disjoint}
 
 abbrev pub greater : Option ℤ → Option ℤ → Option ℤ
 greater None b = b

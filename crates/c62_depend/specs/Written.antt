@@ -2,7 +2,7 @@
 use Rattle.std.specs.Prelude.{◌≡◌, ℕ, ◌-◌, List}
 use Rattle.c62_op.specs.declared.register.Reg.{Reg}
 use Rattle.c62_insn.specs.declared.insn.Insn.{Insn}
-use Rattle.c62_insn.specs.Dependence.{is_written_by}
+use Rattle.c62_rules.specs.Dependence.{is_written_by}
 use Rattle.c62_depend.specs.declared.reg_set.RegSet.{RegSet}
 use Rattle.c62_depend.specs.RegSet.{reg_in}
 

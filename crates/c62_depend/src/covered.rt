@@ -2,7 +2,7 @@
 
 ghost use Rattle.std.specs.Prelude.{◌≡◌, ◌≤◌, ◌+◌, ◌*◌, IfSome, option_map};
 ghost use Rattle.c62_insn.specs.Insn.{op_of, operands_of};
-ghost use Rattle.c62_insn.specs.Dependence.{begin_of, range_of, are_apart};
+ghost use Rattle.c62_rules.specs.Dependence.{begin_of, range_of, are_apart};
 ghost use Rattle.c62_depend.specs.Covered.{range_is};
 
 use c62_insn::{AddressForm, Insn, Offset, Operands, Reg};

@@ -4,7 +4,7 @@
 ghost use Rattle.std.specs.Prelude.{◌≡◌, ℕ, List};
 ghost use Rattle.c62_insn.specs.declared.insn.Insn.{Insn as Instruction};
 ghost use Rattle.c62_insn.specs.Insn.{cond_of};
-ghost use Rattle.c62_insn.specs.Dependence.{are_opposite, exclusive_by};
+ghost use Rattle.c62_rules.specs.Dependence.{are_opposite, exclusive_by};
 ghost use Rattle.c62_depend.specs.Written.{AreWritten};
 ghost use Rattle.c62_depend.specs.Covered.{never_meet};
 

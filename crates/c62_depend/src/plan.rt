@@ -35,7 +35,7 @@ impl Plan {
     ghost use Rattle.std.specs.Prelude.{ℕ, slice_get, Some, IsTrue};
     ghost use Rattle.c62_op.specs.declared.register.Unit.{Unit as FunctionalUnit};
     ghost use Rattle.c62_insn.specs.UnitSet.{unit_in};
-    ghost use Rattle.c62_insn.specs.Dependence.{Depends, IsLatency};
+    ghost use Rattle.c62_rules.specs.Dependence.{Depends, IsLatency};
     ghost use Rattle.c62_depend.specs.Latency.{latency};
     ghost use Rattle.c62_depend.specs.Links.{needs, followers};
     ghost use Rattle.c62_depend.specs.Height.{height};

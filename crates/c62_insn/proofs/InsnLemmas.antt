@@ -19,8 +19,7 @@ use Rattle.c62_op.specs.Takes.{takes, same_reg, is_written}
 use Rattle.c62_insn.specs.Fault.{form_fault, bad_condition, constant_out_of_range, two_crossed, has_misplaced, is_other_side, bad_side, no_unit}
 use Rattle.c62_op.specs.Shape.{side_of, delay_of, is_load, is_store, reads_destination, changes_base, offset_reads, reads_of, writes_of}
 use Rattle.c62_insn.specs.Stands.{may_stand}
-use Rattle.c62_insn.specs.Insn.{op_of, operands_of, cond_of, unit_of, operand_reads, register_writes}
-use Rattle.c62_insn.specs.PacketRules.{reads_count}
+use Rattle.c62_insn.specs.Insn.{op_of, operands_of, cond_of, unit_of, operand_reads, register_writes, reads_count}
 use Rattle.c62_insn.proofs.FaultLemmas.{faultless, some_unit}
 use Rattle.c62_op.proofs.Registers.{same_side-refl}
 use Rattle.c62_op.proofs.SideLemmas.{takes_on_side}

@@ -1,5 +1,5 @@
 -- The one spelling of an instruction on a unit (docs/LISTING.md, "Instructions", "The unit" and "Operands").
-use Rattle.std.specs.Prelude.{ℕ, Bool, false, if◌then◌else◌, List, [], ◌∷◌, ◌++◌, ℤ, pos, Option, Some, None, codes, decimal}
+use Rattle.std.specs.Prelude.{ℕ, Bool, false, if◌then◌else◌, List, [], ◌∷◌, ◌++◌, ℤ, pos, Option, Some, None, codes}
 use Rattle.std.specs.Fmt.{signed_decimal}
 use Rattle.std.specs.Ordering.{int_eq}
 use Rattle.c62_op.specs.declared.register.Side.{Side}
@@ -17,16 +17,13 @@ use Rattle.c62_op.specs.declared.operands.Offset.TheVariants.{Constant as ByCons
 use Rattle.c62_op.specs.declared.operands.Operands.{Operands}
 use Rattle.c62_op.specs.declared.operands.Operands.TheVariants.{Three, ConstantFirst, ConstantSecond, Two, Field, Constant, Access, Block, Register}
 use Rattle.c62_insn.specs.declared.insn.Insn.{Insn}
+use Rattle.c62_op.specs.Name.{register_name}
 use Rattle.c62_op.specs.Table.{mnemonic_of}
 use Rattle.c62_op.specs.Takes.{same_letter}
 use Rattle.c62_op.specs.Shape.{is_store, data_path_of, crosses_to}
 use Rattle.c62_insn.specs.Insn.{op_of, operands_of, cond_of}
 
--- a register file, and the number of its units and of its data path
-abbrev pub file_letter : Side → List ℕ
-file_letter A = codes "A"
-file_letter B = codes "B"
-
+-- the number of a side's units and of its data path
 abbrev pub side_digit : Side → List ℕ
 side_digit A = codes "1"
 side_digit B = codes "2"
@@ -36,10 +33,6 @@ unit_letter L = codes "L"
 unit_letter S = codes "S"
 unit_letter M = codes "M"
 unit_letter D = codes "D"
-
--- `A4`
-abbrev pub register_name : Reg → List ℕ
-register_name reg = file_letter reg.side ++ decimal reg.number
 
 -- `[A1] ` or `[!A1] `
 abbrev pub condition_spelling : Option Condition → List ℕ

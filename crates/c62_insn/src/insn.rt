@@ -53,7 +53,7 @@ fn is_written(written: Option<Unit>, unit: Unit) -> bool
 
 impl Insn {
     ghost use Rattle.std.specs.Prelude.{ℕ, true, false, ◌==◌, length, is_some, [], if◌then◌else◌};
-    ghost use Rattle.c62_insn.specs.Insn.{op_of, operands_of, cond_of, unit_of, HasParts};
+    ghost use Rattle.c62_insn.specs.Insn.{op_of, operands_of, cond_of, unit_of, register_writes, greatest_delay, aimed_operands, HasParts};
     ghost use Rattle.c62_op.specs.Takes.{takes};
     ghost use Rattle.c62_insn.specs.Stands.{may_stand};
     ghost use Rattle.c62_insn.specs.UnitSet.{unit_in};
@@ -213,6 +213,36 @@ impl Insn {
             Operands::Block(_) | Operands::Register(_) => {}
         }
         writes
+    }
+
+    /// The greatest delay of its writes, in cycles, and 0 where it writes nothing.
+    pub fn greatest_delay(self) -> u8
+        ensures { result ≡ greatest_delay (register_writes self) }
+    {
+        let mut greatest = 0;
+        for write in self.writes().as_slice() {
+            greatest = greatest.max(write.1);
+        }
+        greatest
+    }
+
+    /// The instruction with its branch, where it has one to a block, to the block of this number; any other as it is.
+    pub fn aimed(self, number: u8) -> Insn
+        ensures op { op_of result ≡ op_of self }
+        ensures operands { operands_of result ≡ aimed_operands number (operands_of self) }
+        ensures cond { cond_of result ≡ cond_of self }
+        ensures unit { unit_of result ≡ unit_of self }
+    {
+        match self.operands {
+            Operands::Block(_) => {
+                let Ok(insn) = Insn::new(self.op, Operands::Block(number), self.cond, self.unit)
+                else {
+                    unreachable!()
+                };
+                insn
+            }
+            _ => self,
+        }
     }
 
     /// The data path of a load or store, T1 as side A and T2 as side B: that of the file of the

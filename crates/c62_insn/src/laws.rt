@@ -6,33 +6,8 @@ ghost use Rattle.c62_op.specs.declared.register.Reg.{Reg as Register};
 ghost use Rattle.c62_insn.specs.declared.insn.Insn.{Insn};
 ghost use Rattle.c62_op.specs.declared.operands.Op.{Op as Operation};
 ghost use Rattle.c62_op.specs.declared.operands.Op.TheVariants.{B as Branch};
-ghost use Rattle.c62_insn.specs.Insn.{op_of, operand_reads, register_writes};
-ghost use Rattle.c62_insn.specs.PacketRules.{Issue, Issues, reads_count};
-ghost use Rattle.c62_insn.specs.Dependence.{BoundsKeepLandings};
-ghost use Rattle.c62_insn.specs.Breaches.{TwoOnOneUnit, TwoOverCrossPath, TwoOverDataPath, FiveReads, TwoLandings};
-ghost use Rattle.c62_insn.specs.Part.{PartKeepsRules, AnyOrderKeepsRules, AnyOrderIsAsLong};
+ghost use Rattle.c62_insn.specs.Insn.{op_of, operand_reads, register_writes, reads_count};
 ghost use Rattle.c62_insn.specs.Laws.{HasUnit, StandsOnOneSide, HasRisingDelays, WritesInTime, WritesBaseFirst, CrossesNotToD, WritesOwnSide, UsesItsPath, CrossesSecond, MultipliesByConstant, SubtractsByAdding};
-
-/// Part of what keeps the packet rules keeps them, under whatever numbers it is issued: the rules ask neither for
-/// the order of what is issued nor for numbers under which nothing is.
-pub fn part_keeps_rules()
-    ensures part { (issues others : Issues) → PartKeepsRules issues others }
-    ensures any_order { (issues others : Issues) → AnyOrderKeepsRules issues others }
-{}
-
-/// The breaches of the packet rules that `docs/MACHINE.md` gives as examples are breaches.
-pub fn breaches()
-    ensures units { TwoOnOneUnit }
-    ensures cross_paths { TwoOverCrossPath }
-    ensures data_paths { TwoOverDataPath }
-    ensures reads { FiveReads }
-    ensures landings { TwoLandings }
-{}
-
-/// Instructions of which at most one is a branch take as long in whatever order they are listed.
-pub fn any_order_is_as_long()
-    ensures { (issues others : List Issue) → AnyOrderIsAsLong issues others }
-{}
 
 /// Some unit takes every instruction: the written one, where one is written.
 pub fn has_unit()
@@ -100,11 +75,4 @@ pub fn multiplies_by_constant()
 /// SUB of a constant is the sum with its negation.
 pub fn subtracts_by_adding()
     ensures { (k : ℤ) → negsuc 15 ≤ℤ k → k ≤ℤ pos 31 → SubtractsByAdding k }
-{}
-
-/// Issues that keep the bounds of the dependences between them keep P5: of two writers of one register the later one lands
-/// later, or they are exclusive, and then nothing lands in the register of their conditions between their issues.
-#[tactic(auto, using(crate::proofs::Exclusive::one_landing))]
-pub fn bounds_keep_landings()
-    ensures { (block : List Insn) (issues : Issues) → BoundsKeepLandings block issues }
 {}

@@ -3,7 +3,8 @@ pub use Rattle.c62_op.specs.Takes.{has_kind}
 pub use Rattle.c62_insn.specs.Insn.{op_of}
 pub use Rattle.c62_op.specs.Shape.{crosses_to, is_branch}
 pub use Rattle.c62_op.specs.Table.{mnemonic_of}
-pub use Rattle.c62_insn.specs.Spelling.{register_name, file_letter, operands_spelling}
+pub use Rattle.c62_op.specs.Name.{register_name, file_letter}
+pub use Rattle.c62_insn.specs.Spelling.{operands_spelling}
 pub use Rattle.c62_insn.specs.declared.insn.Insn.{Insn}
 pub use Rattle.c62_op.specs.declared.operands.AddressForm.{AddressForm}
 pub use Rattle.c62_op.specs.declared.operands.Op.{Op}

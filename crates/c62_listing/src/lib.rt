@@ -5,7 +5,7 @@ mod spelling;
 mod writer;
 
 pub use spelling::push_spelling;
-pub use writer::list;
+pub use writer::{label_text, list};
 
 #[cfg(test)]
 mod tests;

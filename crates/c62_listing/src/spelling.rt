@@ -3,7 +3,8 @@
 ghost use Rattle.std.specs.Prelude.{◌≡◌, ◌++◌, OnOk, codes, decimal, encode_utf8};
 ghost use Rattle.std.specs.Fmt.{signed_decimal};
 ghost use Rattle.c62_insn.specs.Insn.{op_of, operands_of};
-ghost use Rattle.c62_insn.specs.Spelling.{file_letter, side_digit, unit_letter, register_name, condition_spelling, unit_spelling, offset_spelling, sign_of, step_of, is_base_alone, address_spelling, access_spelling, field_spelling, spelling};
+ghost use Rattle.c62_op.specs.Name.{file_letter, register_name};
+ghost use Rattle.c62_insn.specs.Spelling.{side_digit, unit_letter, condition_spelling, unit_spelling, offset_spelling, sign_of, step_of, is_base_alone, address_spelling, access_spelling, field_spelling, spelling};
 ghost use Rattle.c62_listing.specs.Names.{operands_to};
 ghost use Rattle.c62_listing.specs.Written.{AddsText};
 

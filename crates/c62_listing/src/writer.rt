@@ -41,7 +41,7 @@ fn push_idle(out: &mut String, cycles: u32) -> Result<(), AllocError>
 }
 
 /// The label as a text.
-fn label_text(label: &Label) -> &str
+pub fn label_text(label: &Label) -> &str
     ensures { result.now ≡ label.now }
 {
     match str::from_utf8(label.as_bytes()) {

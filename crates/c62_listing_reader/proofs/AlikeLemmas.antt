@@ -7,8 +7,8 @@ use Rattle.std.specs.Prelude.{cond, count_by}
 use Rattle.std.proofs.lemmas.Simd.{map-map}
 use Rattle.std.proofs.lemmas.Bool.Decides.{nat_tests}
 use Rattle.std.proofs.lemmas.List.Sums.{sum_by-cons}
-use Rattle.c62_insn.specs.Length.{length_of}
-use Rattle.c62_insn.specs.PacketRules.{Issue, KeepsPacketRules}
+use Rattle.c62_rules.specs.Length.{length_of}
+use Rattle.c62_rules.specs.PacketRules.{Issue, KeepsPacketRules}
 use Rattle.c62_op.specs.Shape.{is_branch}
 use Rattle.c62_packet.specs.Packed.{is_branching, issued, issues_of}
 use Rattle.c62_listing_reader.proofs.BackLemmas.{key_of, unlined}

@@ -1,7 +1,7 @@
 -- What several proofs of this crate use of the standard library, of the definitions and of other crates.
 pub use Rattle.c62_op.proofs.UnitOrder.{index_of-below}
 pub use Rattle.c62_insn.specs.Insn.{op_of, operands_of, unit_of}
-pub use Rattle.c62_insn.specs.Length.{landing_end}
+pub use Rattle.c62_rules.specs.Length.{landing_end}
 pub use Rattle.c62_insn.specs.Spelling.{spelling}
 pub use Rattle.c62_op.specs.Takes.{takes}
 pub use Rattle.c62_op.specs.Units.{index_of}

@@ -3,7 +3,7 @@ use Rattle.std.specs.Prelude.{◌≡◌, ℕ, ◌<◌, ◌≤◌, List, length, 
 use Rattle.std.specs.List.{AllByRecursion, IsDistinct, flat_map}
 use Rattle.std.specs.Option.{option_to_list}
 use Rattle.std.specs.Str.{bytes_eq}
-use Rattle.c62_insn.specs.PacketRules.{Issue}
+use Rattle.c62_rules.specs.PacketRules.{Issue}
 use Rattle.c62_token.specs.Number.{is_label}
 use Rattle.c62_read.specs.Program.{Name}
 use Rattle.c62_read.specs.declared.limits.TheConstants.{MOST_BLOCKS}

@@ -4,12 +4,12 @@ use Rattle.std.specs.Option.{option_to_list}
 use Rattle.std.specs.Str.{bytes_eq}
 use Rattle.c62_op.specs.declared.register.Unit.{Unit as FunctionalUnit}
 use Rattle.c62_insn.specs.declared.insn.Insn.{Insn}
-use Rattle.c62_insn.specs.Insn.{unit_of}
+use Rattle.c62_insn.specs.Insn.{unit_of, aimed_operands}
 use Rattle.c62_op.specs.Table.{mnemonic_of}
 use Rattle.c62_insn.specs.Spelling.{condition_spelling, unit_spelling, operands_spelling}
 use Rattle.c62_line.specs.Line.{Parts, parts_of, Says, Nothing, Pause, Does, Jumps}
 use Rattle.c62_line.specs.Line.{label_field}
-use Rattle.c62_read.specs.Program.{Name, aimed_operands}
+use Rattle.c62_read.specs.Program.{Name}
 use Rattle.c62_packet.specs.declared.placed.Placed.{Placed}
 use Rattle.c62_listing_reader.specs.declared.line.Front.{Front}
 use Rattle.c62_listing_reader.specs.declared.line.Front.TheVariants.{Empty, Beside}

@@ -8,7 +8,7 @@ ghost use Rattle.c62_packet.specs.Packed.{IsPacketBlock};
 ghost use Rattle.c62_packet.specs.Packets.{is_closed};
 ghost use Rattle.c62_listing_reader.specs.declared.fault.ListFault.TheVariants.{Memory as NoMemory};
 ghost use Rattle.c62_listing_reader.specs.Begin.{rest_of, is_beside};
-ghost use Rattle.c62_listing_reader.specs.Said.{Draft, aimed_parts, above_of, above_next, all_drafts};
+ghost use Rattle.c62_listing_reader.specs.Said.{Draft, above_of, above_next, all_drafts};
 ghost use Rattle.c62_listing_reader.specs.Faults.{draft_of, IsFirstFaulty, IsRead, cycles_added};
 ghost use Rattle.c62_listing_reader.specs.Fine.{IsFine};
 ghost use Rattle.c62_listing_reader.specs.Reading.{draft_open, drafts_of, said_by, read_as, HasUnit, Fits, ReadsBlocks, PacksBlocks, AddsSays, AddsLine, AddsSaid, RefusesLines, TellsOfLine, IsBlockOf, RefusesBlocks, Refuses};
@@ -19,7 +19,6 @@ use crate::judge::{is_beside, is_gap, judge};
 use crate::line::{Above, Front, beginning, rest};
 use crate::names::Names;
 use crate::text::{content, first_line};
-use c62_insn::{Insn, Operands};
 use c62_packet::{BlockFault, PacketBlock, Packets};
 use c62_read::{Cause, ReadFault, Reading, What, read_insn};
 use std::alloc::{AllocError, Global};
@@ -29,22 +28,6 @@ pub const MOST_BYTES: usize = 8_388_608;
 
 /// Room for the longest spelling of a line, in bytes.
 const LONGEST_LINE: usize = 64;
-
-/// A branch to a label goes to the block of this number.
-fn aimed(insn: Insn, number: u8) -> Insn
-    ensures { parts_of result ≡ aimed_parts number (parts_of insn) }
-{
-    match insn.operands() {
-        Operands::Block(_) => {
-            let Ok(insn) = Insn::new(insn.op(), Operands::Block(number), insn.cond(), insn.unit())
-            else {
-                unreachable!()
-            };
-            insn
-        }
-        _ => insn,
-    }
-}
 
 fn above_of(what: &What) -> Above
     ensures { result ≡ above_of (said_of what.now) }
@@ -89,7 +72,7 @@ impl OpenBlock {
             What::Insn(insn) => self.add_insn(beside, *insn, line),
             What::Jump(insn, target) => {
                 let number = names.number(target.as_bytes());
-                self.add_insn(beside, aimed(*insn, number), line)
+                self.add_insn(beside, insn.aimed(number), line)
             }
         }
     }

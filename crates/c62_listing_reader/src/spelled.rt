@@ -7,7 +7,7 @@ ghost use Rattle.c62_listing_reader.specs.Said.{front_spelling, insn_line, spell
 
 use crate::line::Front;
 use c62_insn::Insn;
-use c62_listing::push_spelling;
+use c62_listing::{label_text, push_spelling};
 use c62_read::{Label, What};
 use itoa::Buffer;
 use std::alloc::AllocError;
@@ -48,16 +48,6 @@ fn is_pause(spelling: &mut String, line: &[u8], cycles: u8) -> Result<bool, Allo
     spelling.push_str("   NOP ")?;
     spelling.push_str(buffer.format(cycles))?;
     Ok(line == spelling.as_bytes())
-}
-
-/// The label as a text.
-fn label_text(label: &Label) -> &str
-    ensures { result.now ≡ label.now }
-{
-    match str::from_utf8(label.as_bytes()) {
-        Ok(text) => text,
-        Err(_) => unreachable!(),
-    }
 }
 
 fn is_heading(spelling: &mut String, line: &[u8], label: &Label) -> Result<bool, AllocError>

@@ -5,6 +5,7 @@ ghost use Rattle.c62_read.specs.Text.{without_return};
 ghost use Rattle.c62_listing_reader.specs.Text.{lines_in, content, ends_in_return, is_ended, is_empty, begin_filled};
 ghost use Rattle.c62_listing_reader.specs.Cut.{line_cut, CutsFirst};
 
+use c62_read::without_return;
 use memchr::memchr;
 
 /// A line that is cut off a text, and the text behind it.
@@ -35,17 +36,6 @@ pub fn first_line(text: &[u8]) -> Option<Cut<'_>>
             fed: false,
             rest: &[],
         }),
-    }
-}
-
-/// A line without the carriage return that stands last.
-#[tactic(auto, using(c62_read::proofs::LineLemmas::without_last))]
-fn without_return(line: &[u8]) -> &[u8]
-    ensures { result.now ≡ without_return line.now }
-{
-    match line.split_last() {
-        None => line,
-        Some((last, rest)) => { if *last == b'\r' { rest } else { line } }
     }
 }
 

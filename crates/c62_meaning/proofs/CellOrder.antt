@@ -12,11 +12,11 @@ use Rattle.c62_op.specs.Shape.{is_store}
 use Rattle.c62_op.specs.Units.{index_of as unit_index}
 use Rattle.c62_insn.specs.Insn.{op_of, register_writes}
 use Rattle.c62_op.proofs.UnitOrder.{index_of-below}
-use Rattle.c62_insn.specs.Dependence.{IsBound, are_exclusive, are_disjoint, ReadAfterWrite, WriteAfterRead, WriteAfterWrite, AfterStore, StoreAfterLoad}
+use Rattle.c62_rules.specs.Dependence.{IsBound, are_exclusive, are_disjoint, ReadAfterWrite, WriteAfterRead, WriteAfterWrite, AfterStore, StoreAfterLoad}
 use Rattle.c62_op.proofs.Registers.{same_reg-is}
 use Rattle.c62_insn.specs.declared.effect.Access.{Access as MemoryAccess}
-use Rattle.c62_insn.proofs.Exclusive.{exclusive-is}
-use Rattle.c62_insn.proofs.Ranges.{disjoint-is, Covers, covers, apart_bytes}
+use Rattle.c62_rules.proofs.Exclusive.{exclusive-is}
+use Rattle.c62_rules.proofs.Ranges.{disjoint-is, Covers, covers, apart_bytes}
 use Rattle.c62_serial.specs.Memory.{is_good}
 use Rattle.c62_meaning.proofs.NotBoth.{writes_runs, word_kept, not_both}
 use Rattle.c62_serial.specs.State.{first_of, index_of, word_in, byte_in}

@@ -10,10 +10,10 @@ use Rattle.c62_op.specs.declared.operands.Operands.{Operands}
 use Rattle.c62_insn.specs.declared.effect.Target.{Target}
 use Rattle.c62_insn.specs.declared.insn.Insn.{Insn}
 use Rattle.c62_op.specs.Shape.{delay_of, is_branch, writes_of}
-use Rattle.c62_insn.specs.Insn.{op_of, operands_of, register_writes}
-use Rattle.c62_insn.specs.PacketRules.{Issue}
-use Rattle.c62_insn.specs.Dependence.{BeforeBranch}
-use Rattle.c62_insn.specs.Length.{greatest_delay, landing_end, last_landing_end}
+use Rattle.c62_insn.specs.Insn.{op_of, operands_of, register_writes, greatest_delay}
+use Rattle.c62_rules.specs.PacketRules.{Issue}
+use Rattle.c62_rules.specs.Dependence.{BeforeBranch}
+use Rattle.c62_rules.specs.Length.{landing_end, last_landing_end}
 use Rattle.c62_insn.proofs.InsnLemmas.{writes_delay, writes_delay_of}
 use Rattle.c62_serial.specs.declared.serial.Exit.{Exit}
 use Rattle.c62_serial.specs.declared.serial.Exit.TheVariants.{Next}

@@ -9,7 +9,7 @@ use Rattle.c62_op.specs.declared.register.Cond.{Cond as Condition}
 use Rattle.c62_insn.specs.declared.insn.Insn.{Insn}
 use Rattle.c62_insn.specs.Insn.{cond_of, register_writes}
 use Rattle.c62_insn.specs.Effect.{runs_of}
-use Rattle.c62_insn.specs.PacketRules.{Issue, IsIssued, LandsIn, MayLandTogether, HasOneLanding}
+use Rattle.c62_rules.specs.PacketRules.{Issue, IsIssued, LandsIn, MayLandTogether, HasOneLanding}
 use Rattle.c62_serial.specs.State.{Machine, index_of, word_in}
 use Rattle.c62_serial.specs.Effect.{Act, no_act, runs, operand_values, act_on, act_of}
 use Rattle.c62_packet.specs.declared.placed.Placed.{Placed}

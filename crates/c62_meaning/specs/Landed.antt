@@ -2,7 +2,7 @@
 -- (docs/MACHINE.md, "Packet rules" and "Cycles and delays").
 use Rattle.std.specs.Prelude.{◌≡◌, ℕ, ◌+◌, List, Contains, Some, slice_get}
 use Rattle.c62_op.specs.declared.register.Reg.{Reg}
-use Rattle.c62_insn.specs.PacketRules.{HasOneLanding}
+use Rattle.c62_rules.specs.PacketRules.{HasOneLanding}
 use Rattle.c62_serial.specs.State.{Machine}
 use Rattle.c62_packet.specs.declared.placed.Placed.{Placed}
 use Rattle.c62_packet.specs.Packed.{issued}

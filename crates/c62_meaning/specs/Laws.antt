@@ -3,8 +3,8 @@ use Rattle.std.specs.Prelude.{◌≡◌, ◌↔◌, ℕ, ◌≤ℤ◌, ◌+ℤ�
 use Rattle.c62_op.specs.declared.register.Reg.{Reg}
 use Rattle.c62_insn.specs.declared.insn.Insn.{Insn}
 use Rattle.c62_insn.specs.Insn.{op_of, operands_of, cond_of}
-use Rattle.c62_insn.specs.Dependence.{Bounds}
-use Rattle.c62_insn.specs.Length.{length_of}
+use Rattle.c62_rules.specs.Dependence.{Bounds}
+use Rattle.c62_rules.specs.Length.{length_of}
 use Rattle.c62_read.specs.declared.block.SerialInsn.{SerialInsn}
 use Rattle.c62_read.specs.Block.{branch_last, operations}
 use Rattle.c62_serial.specs.State.{Machine, IsSound}

@@ -1,4 +1,5 @@
 pub mod Register
+pub mod Name
 pub mod Table
 pub mod Takes
 pub mod Units

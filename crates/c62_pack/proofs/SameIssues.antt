@@ -11,9 +11,9 @@ use Rattle.c62_op.specs.declared.operands.Op.{Op}
 use Rattle.c62_op.specs.declared.operands.Operands.{Operands}
 use Rattle.c62_op.specs.Takes.{same_reg}
 use Rattle.c62_op.specs.Shape.{crosses_to, data_path_of, reads_of, writes_of, is_branch}
-use Rattle.c62_insn.specs.Insn.{op_of, operands_of, cond_of, register_writes}
-use Rattle.c62_insn.specs.PacketRules.{Issue, Issues, IsIssued, AtMostOne, reads_in, LandsIn, MayLandTogether, UsesCrossPath, UsesDataPath, KeepsPacketRules}
-use Rattle.c62_insn.specs.Length.{greatest_delay, landing_end, last_landing_end, length_of}
+use Rattle.c62_insn.specs.Insn.{op_of, operands_of, cond_of, register_writes, greatest_delay}
+use Rattle.c62_rules.specs.PacketRules.{Issue, Issues, IsIssued, AtMostOne, reads_in, LandsIn, MayLandTogether, UsesCrossPath, UsesDataPath, KeepsPacketRules}
+use Rattle.c62_rules.specs.Length.{landing_end, last_landing_end, length_of}
 
 -- the same issue, whichever unit is written
 pub record IsSameIssue (p q : Issue) : Type 0 where

@@ -1,7 +1,7 @@
 -- The headline of the project, of every board (README, "What is proved").
 use Rattle.std.specs.Prelude.{◌≡◌, ℕ, ◌≤ℤ◌, ◌+ℤ◌, ℤ, pos}
-use Rattle.c62_insn.specs.PacketRules.{KeepsPacketRules}
-use Rattle.c62_insn.specs.Dependence.{Bounds}
+use Rattle.c62_rules.specs.PacketRules.{KeepsPacketRules}
+use Rattle.c62_rules.specs.Dependence.{Bounds}
 use Rattle.c62_depend.specs.Plan.{insns_of}
 use Rattle.c62_sheet.specs.declared.entry.Spot.{Spot}
 use Rattle.c62_sheet.specs.Lawful.{IsAt, issues}

@@ -14,7 +14,7 @@ use Rattle.c62_op.specs.declared.operands.Operands.{Operands}
 use Rattle.c62_op.specs.declared.operands.Operands.TheVariants.{Three, ConstantFirst, ConstantSecond, Two, Field, Constant, Access, Block, Register}
 use Rattle.c62_op.specs.Shape.{is_load, delay_of, changes_base, writes_of}
 use Rattle.c62_insn.specs.Insn.{op_of, operands_of, register_writes}
-use Rattle.c62_insn.specs.PacketRules.{Issues, UsesCrossPath, UsesDataPath, KeepsPacketRules}
+use Rattle.c62_rules.specs.PacketRules.{Issues, UsesCrossPath, UsesDataPath, KeepsPacketRules}
 use Rattle.c62_packet.specs.declared.placed.Placed.{Placed}
 use Rattle.c62_packet.specs.declared.fault.PacketRule.{PacketRule}
 use Rattle.c62_packet.specs.declared.fault.PacketRule.TheVariants.{P1, P2, P3, P4, P5}

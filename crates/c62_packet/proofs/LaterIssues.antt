@@ -15,7 +15,7 @@ use Rattle.c62_op.specs.Takes.{same_side, same_unit}
 use Rattle.c62_op.specs.Shape.{data_path_of}
 use Rattle.c62_insn.specs.Insn.{operands_of, operand_reads}
 use Rattle.c62_op.proofs.UnitOrder.{index_of-below}
-use Rattle.c62_insn.specs.PacketRules.{reads_in}
+use Rattle.c62_rules.specs.PacketRules.{reads_in}
 use Rattle.c62_packet.specs.declared.placed.Placed.{Placed}
 use Rattle.c62_packet.specs.Packed.{issue_of, issued, listing_position, IsInListingOrder}
 use Rattle.c62_packet.specs.Clash.{shares_unit, shares_side, both_cross, shares_cross_path, same_path, shares_data_path, reads_beside, is_over_read, lands, are_excused, clashes, broken_by, broken_beside}

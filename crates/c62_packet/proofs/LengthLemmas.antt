@@ -4,8 +4,8 @@ use Rattle.std.specs.Prelude.{find}
 use Rattle.std.specs.Option.{option_map_or}
 use Rattle.c62_op.specs.Shape.{is_branch}
 use Rattle.c62_insn.specs.Insn.{op_of}
-use Rattle.c62_insn.specs.PacketRules.{Issue}
-use Rattle.c62_insn.specs.Length.{last_landing_end}
+use Rattle.c62_rules.specs.PacketRules.{Issue}
+use Rattle.c62_rules.specs.Length.{last_landing_end}
 
 -- the length of a block of which these instructions are left, the others being no branches that have landed below `end`
 abbrev pub length_after : ℕ → List Issue → ℕ

@@ -4,8 +4,7 @@ use Rattle.std.specs.Prelude.{nat_lt}
 use Rattle.std.specs.List.{list_any}
 use Rattle.std.proofs.lemmas.Bool.Decides.{nat_tests}
 use Rattle.c62_op.specs.declared.register.Reg.{Reg}
-use Rattle.c62_insn.specs.Insn.{operand_reads}
-use Rattle.c62_insn.specs.PacketRules.{reads_count}
+use Rattle.c62_insn.specs.Insn.{operand_reads, reads_count}
 use Rattle.c62_insn.proofs.InsnLemmas.{reads_count_at_most_three}
 use Rattle.c62_packet.specs.declared.placed.Placed.{Placed}
 use Rattle.c62_packet.specs.Clash.{reads_beside, is_over_read}

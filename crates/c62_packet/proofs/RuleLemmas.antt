@@ -14,11 +14,11 @@ use Rattle.c62_op.specs.declared.register.Unit.{Unit as FunctionalUnit}
 use Rattle.c62_op.specs.Takes.{same_reg, same_side, same_unit}
 use Rattle.c62_op.specs.declared.operands.Op.{Op}
 use Rattle.c62_op.specs.Shape.{data_path_of, delay_of}
-use Rattle.c62_insn.specs.Insn.{op_of, operands_of, cond_of, operand_reads, register_writes}
-use Rattle.c62_insn.proofs.Exclusive.{not_opposite, none_of, may-swapped}
-use Rattle.c62_insn.specs.Dependence.{are_opposite}
+use Rattle.c62_insn.specs.Insn.{op_of, operands_of, cond_of, operand_reads, register_writes, reads_count}
+use Rattle.c62_rules.proofs.Exclusive.{not_opposite, none_of, may-swapped}
+use Rattle.c62_rules.specs.Dependence.{are_opposite}
 use Rattle.c62_insn.proofs.InsnLemmas.{timely_writes}
-use Rattle.c62_insn.specs.PacketRules.{Issue, IsIssued, UsesCrossPath, UsesDataPath, reads_count, reads_in, LandsIn, MayLandTogether}
+use Rattle.c62_rules.specs.PacketRules.{Issue, IsIssued, UsesCrossPath, UsesDataPath, reads_in, LandsIn, MayLandTogether}
 use Rattle.c62_op.proofs.Registers.{same_reg-is, same_reg-refl, same_side-is, same_side-refl, same_unit-is, same_unit-refl}
 use Rattle.c62_packet.specs.declared.placed.Placed.{Placed}
 use Rattle.c62_packet.specs.declared.fault.PacketRule.TheVariants.{P4}

@@ -16,8 +16,8 @@ use Rattle.c62_op.specs.Takes.{same_reg}
 use Rattle.c62_op.specs.Register.{register_index}
 use Rattle.c62_op.specs.Units.{index_of}
 use Rattle.c62_op.specs.Shape.{data_path_of}
-use Rattle.c62_insn.specs.Insn.{operands_of, operand_reads, register_writes}
-use Rattle.c62_insn.specs.PacketRules.{reads_count, reads_in}
+use Rattle.c62_insn.specs.Insn.{operands_of, operand_reads, register_writes, reads_count}
+use Rattle.c62_rules.specs.PacketRules.{reads_in}
 use Rattle.c62_op.proofs.Registers.{same_reg-is}
 use Rattle.c62_insn.proofs.InsnLemmas.{writes_delay}
 use Rattle.c62_packet.specs.declared.placed.Placed.{Placed}

@@ -6,9 +6,9 @@ use Rattle.c62_op.specs.declared.register.Reg.{Reg}
 use Rattle.c62_op.specs.declared.register.Cond.{Cond as Condition}
 use Rattle.c62_op.specs.Takes.{same_reg, same_side, same_unit}
 use Rattle.c62_op.specs.Shape.{crosses_to, data_path_of}
-use Rattle.c62_insn.specs.Insn.{operands_of, cond_of, operand_reads, register_writes}
-use Rattle.c62_insn.specs.Dependence.{are_opposite}
-use Rattle.c62_insn.specs.PacketRules.{reads_count, reads_in}
+use Rattle.c62_insn.specs.Insn.{operands_of, cond_of, operand_reads, register_writes, reads_count}
+use Rattle.c62_rules.specs.Dependence.{are_opposite}
+use Rattle.c62_rules.specs.PacketRules.{reads_in}
 use Rattle.c62_packet.specs.declared.placed.Placed.{Placed}
 use Rattle.c62_packet.specs.declared.fault.PacketRule.{PacketRule}
 use Rattle.c62_packet.specs.declared.fault.PacketRule.TheVariants.{P1, P2, P3, P4, P5}

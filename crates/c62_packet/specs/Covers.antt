@@ -5,7 +5,7 @@ use Rattle.c62_op.specs.declared.register.Reg.{Reg}
 use Rattle.c62_op.specs.Units.{index_of}
 use Rattle.c62_op.specs.Shape.{data_path_of}
 use Rattle.c62_insn.specs.Insn.{operands_of, register_writes}
-use Rattle.c62_insn.specs.PacketRules.{reads_in}
+use Rattle.c62_rules.specs.PacketRules.{reads_in}
 use Rattle.c62_packet.specs.declared.placed.Placed.{Placed}
 use Rattle.c62_packet.specs.declared.taken.Taken.{Taken}
 use Rattle.c62_packet.specs.Packed.{issued}

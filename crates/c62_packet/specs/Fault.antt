@@ -1,7 +1,7 @@
 -- What stands against a block that is written with so many cycles (docs/LISTING.md, "Faults of a block").
 use Rattle.std.specs.Prelude.{◌≡◌, ◌⊎◌, ℕ, ◌<◌, List, Option, MatchOption, Result, MatchResult}
-use Rattle.c62_insn.specs.Length.{length_of}
-use Rattle.c62_insn.specs.PacketRules.{KeepsPacketRules}
+use Rattle.c62_rules.specs.Length.{length_of}
+use Rattle.c62_rules.specs.PacketRules.{KeepsPacketRules}
 use Rattle.c62_packet.specs.declared.placed.Placed.{Placed}
 use Rattle.c62_packet.specs.declared.fault.PacketRule.{PacketRule}
 use Rattle.c62_packet.specs.declared.fault.PacketRule.TheVariants.{P1, P2, P3, P4, P5}

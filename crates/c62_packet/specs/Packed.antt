@@ -4,8 +4,8 @@ use Rattle.std.specs.List.Sorted.{IsNonDecreasingBy}
 use Rattle.c62_op.specs.Units.{index_of}
 use Rattle.c62_op.specs.Shape.{is_branch}
 use Rattle.c62_insn.specs.Insn.{op_of, unit_of}
-use Rattle.c62_insn.specs.PacketRules.{Issue, Issues, KeepsPacketRules}
-use Rattle.c62_insn.specs.Length.{landing_end, length_of}
+use Rattle.c62_rules.specs.PacketRules.{Issue, Issues, KeepsPacketRules}
+use Rattle.c62_rules.specs.Length.{landing_end, length_of}
 use Rattle.c62_read.specs.declared.limits.TheConstants.{MOST_INSTRUCTIONS}
 use Rattle.c62_packet.specs.declared.limits.TheConstants.{MOST_CYCLES}
 use Rattle.c62_packet.specs.declared.placed.Placed.{Placed}

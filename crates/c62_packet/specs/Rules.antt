@@ -4,7 +4,7 @@ use Rattle.std.specs.Prelude.{◌≡◌, ◌⊎◌, ℕ, ◌≤◌, sum_by}
 use Rattle.c62_op.specs.declared.register.Side.{Side}
 use Rattle.c62_op.specs.declared.register.Reg.{Reg}
 use Rattle.c62_op.specs.declared.register.Unit.{Unit as FunctionalUnit}
-use Rattle.c62_insn.specs.PacketRules.{Issue, Issues, IsIssued, UsesCrossPath, UsesDataPath, reads_in, LandsIn, MayLandTogether, KeepsPacketRules}
+use Rattle.c62_rules.specs.PacketRules.{Issue, Issues, IsIssued, UsesCrossPath, UsesDataPath, reads_in, LandsIn, MayLandTogether, KeepsPacketRules}
 use Rattle.c62_packet.specs.declared.fault.PacketRule.{PacketRule}
 use Rattle.c62_packet.specs.declared.fault.PacketRule.TheVariants.{P1, P2, P3, P4, P5}
 

@@ -1,7 +1,7 @@
 //! Laws of the definitions. The functions do nothing: what each ensures is a law.
 
 ghost use Rattle.std.specs.Prelude.{ℕ, List};
-ghost use Rattle.c62_insn.specs.PacketRules.{Issues};
+ghost use Rattle.c62_rules.specs.PacketRules.{Issues};
 ghost use Rattle.c62_packet.specs.declared.placed.Placed.{Placed as Placement};
 ghost use Rattle.c62_packet.specs.Packed.{Packed};
 ghost use Rattle.c62_packet.specs.Fault.{HasNoFault, HasOneFault};

@@ -1,28 +1,16 @@
 //! How many cycles placed instructions take.
 
 ghost use Rattle.std.specs.Prelude.{◌≡◌, ◌↔◌, IsTrue};
-ghost use Rattle.c62_insn.specs.Insn.{register_writes};
-ghost use Rattle.c62_insn.specs.Length.{greatest_delay, landing_end, length_of};
+ghost use Rattle.c62_rules.specs.Length.{landing_end, length_of};
 ghost use Rattle.c62_packet.specs.Packed.{issue_of, issues_of, HaveOneBranch, AreDrained};
 
 use crate::placed::Placed;
-use c62_insn::Insn;
-
-fn greatest_delay(insn: Insn) -> u8
-    ensures { result ≡ greatest_delay (register_writes insn) }
-{
-    let mut greatest = 0;
-    for write in insn.writes().as_slice() {
-        greatest = greatest.max(write.1);
-    }
-    greatest
-}
 
 /// The cycle after an instruction's last landing.
 fn landing_end(placed: &Placed) -> u32
     ensures { result ≡ landing_end (issue_of placed.now) }
 {
-    u32::from(placed.cycle) + u32::from(greatest_delay(placed.insn)) + 1
+    u32::from(placed.cycle) + u32::from(placed.insn.greatest_delay()) + 1
 }
 
 /// The cycles of a block of these instructions.

@@ -3,8 +3,9 @@
 ghost use Rattle.std.specs.Prelude.{◌≡◌, ◌↔◌, ◌+◌, ◌<◌, ◌≤◌, All, length, nat_le, take_while, Some, None, IsTrue};
 ghost use Rattle.std.specs.List.{list_any};
 ghost use Rattle.std.specs.List.Sorted.{IsNonDecreasingBy};
-ghost use Rattle.c62_insn.specs.PacketRules.{reads_count, reads_in, KeepsPacketRules};
-ghost use Rattle.c62_insn.specs.Dependence.{are_opposite};
+ghost use Rattle.c62_rules.specs.PacketRules.{reads_in, KeepsPacketRules};
+ghost use Rattle.c62_insn.specs.Insn.{reads_count};
+ghost use Rattle.c62_rules.specs.Dependence.{are_opposite};
 ghost use Rattle.c62_read.specs.declared.limits.TheConstants.{MOST_INSTRUCTIONS};
 ghost use Rattle.c62_packet.specs.declared.limits.TheConstants.{MOST_CYCLES};
 ghost use Rattle.c62_packet.specs.Packed.{issue_of, issued, IsInListingOrder};

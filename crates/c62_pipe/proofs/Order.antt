@@ -5,7 +5,7 @@ use Rattle.std.proofs.lemmas.Bool.{cases_lt}
 use Rattle.std.proofs.lemmas.List.{take-append-drop, get_or-map}
 use Rattle.c62_op.specs.Units.{index_of as unit_index}
 use Rattle.c62_op.proofs.UnitOrder.{same_index, index_of-below}
-use Rattle.c62_insn.specs.PacketRules.{IsIssued}
+use Rattle.c62_rules.specs.PacketRules.{IsIssued}
 use Rattle.c62_packet.specs.declared.placed.Placed.{Placed}
 use Rattle.c62_packet.specs.Packed.{Packed, IsPacketBlock, issue_of, issued, listing_position}
 use Rattle.c62_meaning.proofs.Lookup.{In, Contains_from_In, In-append_left, In-append_right, In-append_cases}

@@ -12,8 +12,8 @@ use Rattle.std.proofs.lemmas.Grind.{flat_map-append}
 use Rattle.c62_op.specs.declared.register.Reg.{Reg}
 use Rattle.c62_insn.specs.declared.effect.Access.{Access as MemoryAccess}
 use Rattle.c62_insn.specs.declared.effect.Target.{Target}
-use Rattle.c62_insn.specs.Insn.{register_writes}
-use Rattle.c62_insn.specs.Length.{greatest_delay, landing_end}
+use Rattle.c62_insn.specs.Insn.{register_writes, greatest_delay}
+use Rattle.c62_rules.specs.Length.{landing_end}
 use Rattle.c62_op.specs.Units.{index_of as unit_index}
 use Rattle.c62_op.proofs.UnitOrder.{index_of-below}
 use Rattle.c62_serial.specs.declared.serial.Exit.{Exit}

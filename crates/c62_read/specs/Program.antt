@@ -4,8 +4,7 @@ use Rattle.std.specs.Prelude.{position, option_map, Result, Ok, Err, if◌then�
 use Rattle.std.specs.List.{list_any}
 use Rattle.std.specs.Option.{option_to_list}
 use Rattle.std.specs.Str.{bytes_eq}
-use Rattle.c62_op.specs.declared.operands.Operands.{Operands}
-use Rattle.c62_op.specs.declared.operands.Operands.TheVariants.{Block}
+use Rattle.c62_insn.specs.Insn.{aimed_operands}
 use Rattle.c62_read.specs.declared.limits.TheConstants.{MOST_BLOCKS, MOST_BYTES, MOST_INSTRUCTIONS}
 use Rattle.c62_line.specs.declared.fault.Cause.{Cause}
 use Rattle.c62_line.specs.declared.fault.Cause.TheVariants.{DuplicateLabel, UnknownTarget, TooManyInstructions, TooManyBlocks, TextTooLong, Memory}
@@ -161,10 +160,6 @@ drafts_in text =
 abbrev pub target_number : List Draft → Option Name → ℕ
 target_number drafts None = 0
 target_number drafts (Some label) = unwrap_or (position (λ draft. label_is label draft.label) drafts) 0
-
-abbrev pub aimed_operands : ℕ → Operands → Operands
-aimed_operands number (Block old) = Block number
-aimed_operands number operands = operands
 
 -- a branch to a label goes to the block of this number
 abbrev pub aimed : ℕ → Numbered → Numbered

@@ -5,7 +5,7 @@ ghost use Rattle.std.specs.Option.{option_copied};
 ghost use Rattle.c62_read.specs.declared.limits.TheConstants.{MOST_BLOCKS};
 ghost use Rattle.c62_read.specs.Block.{Serial, IsProgram, is_block, targets_stand};
 
-use c62_insn::{Insn, Operands};
+use c62_insn::Insn;
 use c62_line::{Label, copied_label};
 use std::alloc::{AllocError, Global};
 use std::marker::Model;
@@ -24,20 +24,7 @@ impl SerialInsn {
     pub(crate) fn aim(&mut self, number: u8)
         ensures { numbered_of self.new ≡ aimed number (numbered_of self.old) }
     {
-        match self.insn.operands() {
-            Operands::Block(_) => {
-                let Ok(insn) = Insn::new(
-                    self.insn.op(),
-                    Operands::Block(number),
-                    self.insn.cond(),
-                    self.insn.unit(),
-                ) else {
-                    unreachable!()
-                };
-                self.insn = insn;
-            }
-            _ => {}
-        }
+        self.insn = self.insn.aimed(number);
     }
 }
 

@@ -358,9 +358,9 @@ fn label_is(label: &[u8], other: &Option<Label>) -> bool
     }
 }
 
-/// A line without the carriage return that belongs to its line feed.
+/// A line without the carriage return that belongs to its line feed, where it ends in one.
 #[tactic(auto, using(crate::proofs::LineLemmas::without_last))]
-fn without_return(line: &[u8]) -> &[u8]
+pub fn without_return(line: &[u8]) -> &[u8]
     ensures { result.now ≡ without_return line.now }
 {
     match line.split_last() {

@@ -2,7 +2,7 @@
 
 ghost use Rattle.std.specs.Prelude.{◌≡◌, ◌==◌, ◌++◌, ◌*◌, ◌<◌, ◌≤◌, not, IfOk, OnOk, decimal, codes};
 ghost use Rattle.std.specs.List.{flat_map};
-ghost use Rattle.c62_insn.specs.Spelling.{file_letter, register_name};
+ghost use Rattle.c62_op.specs.Name.{file_letter, register_name};
 ghost use Rattle.c62_report.specs.Report.{hex_digit, hex, line, value_line, register_line, file_lines, word_line, word_lines, fault_line, exit_line, machine_lines, serial_report, packet_report};
 
 use c62_insn::{Reg, Side};

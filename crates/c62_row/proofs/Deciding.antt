@@ -11,8 +11,8 @@ use Rattle.c62_op.specs.declared.register.Unit.{Unit as FunctionalUnit}
 use Rattle.c62_op.specs.Shape.{crosses_to, data_path_of}
 use Rattle.c62_op.specs.Takes.{same_reg}
 use Rattle.c62_op.proofs.Registers.{same_reg-is}
-use Rattle.c62_insn.specs.Insn.{operands_of, operand_reads}
-use Rattle.c62_insn.specs.PacketRules.{Issue, Issues, IsIssued, reads_in, reads_count}
+use Rattle.c62_insn.specs.Insn.{operands_of, operand_reads, reads_count}
+use Rattle.c62_rules.specs.PacketRules.{Issue, Issues, IsIssued, reads_in}
 use Rattle.c62_row.specs.declared.resource.Resource.{Resource}
 use Rattle.c62_row.specs.declared.resource.Resource.TheVariants.{OnUnit, CrossPath, DataPath}
 use Rattle.c62_row.specs.declared.row.PacketRule.{PacketRule}

@@ -7,7 +7,8 @@ use Rattle.std.proofs.lemmas.List.Sums.{sum_by-set, sum_by-cons}
 use Rattle.std.proofs.lemmas.List.{get_or_past}
 use Rattle.std.proofs.lemmas.Option.{none-some, same_Some}
 use Rattle.c62_op.specs.declared.register.Reg.{Reg}
-use Rattle.c62_insn.specs.PacketRules.{Issue, Issues, IsIssued, reads_in, reads_count}
+use Rattle.c62_rules.specs.PacketRules.{Issue, Issues, IsIssued, reads_in}
+use Rattle.c62_insn.specs.Insn.{reads_count}
 use Rattle.c62_row.specs.declared.resource.Resource.{Resource}
 use Rattle.c62_row.specs.declared.row.Row.{Row}
 use Rattle.c62_row.specs.Resource.{uses}

@@ -8,7 +8,7 @@ use Rattle.c62_op.specs.Shape.{crosses_to, data_path_of}
 use Rattle.c62_op.specs.Takes.{same_side, same_unit}
 use Rattle.c62_op.proofs.Registers.{same_unit-is, same_unit-refl, same_side-is, same_side-refl}
 use Rattle.c62_insn.specs.Insn.{operands_of}
-use Rattle.c62_insn.specs.PacketRules.{Issue, Issues, IsIssued, UsesCrossPath, UsesDataPath}
+use Rattle.c62_rules.specs.PacketRules.{Issue, Issues, IsIssued, UsesCrossPath, UsesDataPath}
 use Rattle.c62_row.specs.declared.resource.Resource.{Resource}
 use Rattle.c62_row.specs.declared.resource.Resource.TheVariants.{OnUnit, CrossPath, DataPath}
 use Rattle.c62_row.specs.declared.row.PacketRule.TheVariants.{P1, P2, P3}

@@ -1,7 +1,7 @@
 -- Rows of issued instructions.
 use Rattle.std.specs.Prelude.{◌≡◌, ◌↔◌, ℕ, ◌+◌, ◌<◌, min, length, Option, Some, None, sum_by, slice_set, slice_index_or, IsTrue, MatchOption}
 use Rattle.c62_op.specs.declared.register.Reg.{Reg}
-use Rattle.c62_insn.specs.PacketRules.{Issue, Issues, IsIssued, reads_in}
+use Rattle.c62_rules.specs.PacketRules.{Issue, Issues, IsIssued, reads_in}
 use Rattle.c62_row.specs.declared.resource.Resource.{Resource}
 use Rattle.c62_row.specs.declared.row.Row.{Row}
 use Rattle.c62_row.specs.Resource.{uses}

@@ -7,8 +7,7 @@ use Rattle.c62_op.specs.declared.register.Reg.{Reg}
 use Rattle.c62_op.specs.declared.register.Unit.{Unit as FunctionalUnit}
 use Rattle.c62_op.specs.Shape.{crosses_to, data_path_of}
 use Rattle.c62_insn.specs.declared.insn.Insn.{Insn}
-use Rattle.c62_insn.specs.Insn.{operands_of, operand_reads}
-use Rattle.c62_insn.specs.PacketRules.{reads_count}
+use Rattle.c62_insn.specs.Insn.{operands_of, operand_reads, reads_count}
 use Rattle.c62_row.specs.declared.resource.Resource.{Resource}
 use Rattle.c62_row.specs.declared.resource.Resource.TheVariants.{OnUnit, CrossPath, DataPath}
 use Rattle.c62_row.specs.declared.row.PacketRule.{PacketRule}

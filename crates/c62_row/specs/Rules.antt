@@ -3,7 +3,7 @@ use Rattle.std.specs.Prelude.{◌≡◌, ℕ, ◌<◌, ◌≤◌, sum_by}
 use Rattle.c62_op.specs.declared.register.Side.{Side}
 use Rattle.c62_op.specs.declared.register.Reg.{Reg}
 use Rattle.c62_op.specs.declared.register.Unit.{Unit as FunctionalUnit}
-use Rattle.c62_insn.specs.PacketRules.{Issue, Issues, IsIssued, UsesCrossPath, UsesDataPath, reads_in}
+use Rattle.c62_rules.specs.PacketRules.{Issue, Issues, IsIssued, UsesCrossPath, UsesDataPath, reads_in}
 use Rattle.c62_row.specs.declared.row.PacketRule.{PacketRule}
 use Rattle.c62_row.specs.declared.row.PacketRule.TheVariants.{P1, P2, P3, P4}
 

@@ -2,7 +2,7 @@
 //! definitions that the contracts of a [`Row`](crate::Row) cite.
 
 ghost use Rattle.std.specs.Prelude.{ℕ};
-ghost use Rattle.c62_insn.specs.PacketRules.{Issue, Issues};
+ghost use Rattle.c62_rules.specs.PacketRules.{Issue, Issues};
 ghost use Rattle.c62_row.specs.declared.row.Row.{Row as Taken};
 ghost use Rattle.c62_row.specs.Issued.{RowDecides, RowFollows, RowIsLeft, RowStays, RowIsEmpty};
 

@@ -25,7 +25,7 @@ pub struct Row {
 }
 
 ghost use Rattle.std.specs.Prelude.{◌≡◌, ◌≤◌};
-ghost use Rattle.c62_insn.specs.PacketRules.{reads_count};
+ghost use Rattle.c62_insn.specs.Insn.{reads_count};
 
 /// How often the operands of an instruction read a register.
 fn count_own(insn: Insn, reg: Reg) -> usize

@@ -1,51 +1,16 @@
-//! What instructions ask of a state: the values that they read, and their loads and stores.
+//! What instructions ask of a state: their loads and stores.
 
-ghost use Rattle.std.specs.Prelude.{◌≡◌, ◌+◌, ◌<◌, ◌≤◌, length, not, map, option_map, IsTrue};
-ghost use Rattle.c62_insn.specs.Insn.{op_of, cond_of};
-ghost use Rattle.c62_serial.specs.State.{word_in, byte_in};
+ghost use Rattle.std.specs.Prelude.{◌≡◌, ◌+◌, ◌<◌, ◌≤◌, not, IsTrue};
+ghost use Rattle.c62_insn.specs.Insn.{op_of};
+ghost use Rattle.c62_serial.specs.State.{byte_in};
 ghost use Rattle.c62_serial.specs.Memory.{is_size, is_good, read};
 ghost use Rattle.c62_serial.specs.Faults.{with_fault_if, with_store};
-ghost use Rattle.c62_serial.specs.Effect.{extended, operand_values};
+ghost use Rattle.c62_serial.specs.Effect.{extended};
 
 use crate::state::State;
-use arrayvec::ArrayVec;
-use c62_insn::{Inputs, Insn, Reg};
-
-/// The words of at most three registers.
-fn words(registers: &[Reg], state: &State) -> ArrayVec<u32, 3>
-    requires { length registers.now ≤ 3 }
-    ensures { result.items ≡ map (word_in state.now.machine) registers.now }
-{
-    let mut words = ArrayVec::new();
-    match registers {
-        [] => {}
-        [a] => words.push(state.reg(*a)),
-        [a, b] => {
-            words.push(state.reg(*a));
-            words.push(state.reg(*b));
-        }
-        [a, b, c, ..] => {
-            words.push(state.reg(*a));
-            words.push(state.reg(*b));
-            words.push(state.reg(*c));
-        }
-    }
-    words
-}
+use c62_insn::Insn;
 
 impl State {
-    /// The values that an instruction reads: of its condition's register, where it has a condition,
-    /// and of its operands' registers.
-    pub fn inputs(&self, insn: Insn) -> Inputs
-        ensures cond { result.cond ≡ option_map (λ cond. word_in self.now.machine cond.reg) (cond_of insn) }
-        ensures reads { result.reads.items ≡ operand_values (word_in self.now.machine) insn }
-    {
-        Inputs {
-            cond: insn.cond().map(|cond| self.reg(cond.reg)),
-            reads: words(insn.reads().as_slice(), self),
-        }
-    }
-
     /// Makes the access of a load: 1, 2 or 4 bytes. Answers what it puts into its destination. Where
     /// the access is misaligned or reaches past the end of memory that is 0, and the line joins the
     /// faulted ones. It asks room for one, and takes no memory.

@@ -4,7 +4,7 @@ use crate::chain::{Chain, End, run_program};
 use crate::serial::run_block;
 use crate::state::State;
 use c62_insn::Side::{self, A, B};
-use c62_insn::{AddressForm, Cond, Insn, Offset, Op, Operands, Reg};
+use c62_insn::{AddressForm, Insn, Offset, Op, Operands, Reg};
 use c62_read::{Program, ReadFault, read_program};
 use std::alloc::Global;
 use std::process::Abort;
@@ -236,13 +236,6 @@ fn calls_of_instructions(rt: HostRuntime) -> Result<(), Fail> {
         form: AddressForm::PreIncrement,
         offset: Offset::Register(a1),
     };
-    let cond = Cond {
-        reg: a1,
-        negated: true,
-    };
-    let inputs = state.inputs(Insn::new(Op::Stw, address, Some(cond), None)?);
-    assert_eq!(&rt; inputs.cond, Some(5));
-    assert!(&rt; inputs.reads.as_slice() == [5, 8, 5].as_slice());
     state.room(3)?;
     state.make_store(4, 8, 2, 0x1_2380);
     state.make_store(2, 9, 2, 0x1_2380);

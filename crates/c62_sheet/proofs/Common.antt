@@ -6,12 +6,13 @@ pub use Rattle.c62_depend.specs.Links.{linked}
 pub use Rattle.c62_depend.specs.Plan.{IsPlan, IsShort, insns_of}
 pub use Rattle.c62_depend.specs.Side.{side, stands_on}
 pub use Rattle.c62_depend.specs.declared.links.Link.{Link}
-pub use Rattle.c62_insn.proofs.Parts.{part-keeps, part-without}
+pub use Rattle.c62_rules.proofs.Parts.{part-keeps, part-without}
 pub use Rattle.c62_op.proofs.Registers.{same_reg-is, same_side-is, same_side-refl, same_unit-is, same_unit-refl}
 pub use Rattle.c62_op.proofs.UnitOrder.{index_of-below, index_of-listed, same_index}
-pub use Rattle.c62_insn.specs.Dependence.{Bounds, Depends, IsGreatestBound, IsLatency, WriteAfterWrite}
-pub use Rattle.c62_insn.specs.PacketRules.{AtMostOne, HasFourReads, HasOneLanding, IsIssued, Issue, Issues, KeepsPacketRules, LandsIn, UsesCrossPath}
-pub use Rattle.c62_insn.specs.PacketRules.{UsesDataPath, issued, reads_count, reads_in}
+pub use Rattle.c62_rules.specs.Dependence.{Bounds, Depends, IsGreatestBound, IsLatency, WriteAfterWrite}
+pub use Rattle.c62_rules.specs.PacketRules.{AtMostOne, HasFourReads, HasOneLanding, IsIssued, Issue, Issues, KeepsPacketRules, LandsIn, UsesCrossPath}
+pub use Rattle.c62_rules.specs.PacketRules.{UsesDataPath, issued, reads_in}
+pub use Rattle.c62_insn.specs.Insn.{reads_count}
 pub use Rattle.c62_op.specs.Shape.{data_path_of, is_branch}
 pub use Rattle.c62_op.specs.Units.{all_units, index_of}
 pub use Rattle.c62_insn.specs.declared.insn.Insn.{Insn}

@@ -6,10 +6,10 @@ use Rattle.c62_sheet.proofs.Common.{Depends, Resource, OnUnit, CrossPath, DataPa
 use Rattle.c62_sheet.proofs.Common.{issue_at, issues, IsLawful, IsAfter, IsLast, Meets, KeepsAll, Fits, part-without, part-keeps, get_or-set_same}
 use Rattle.c62_sheet.proofs.Common.{get_or-set_other, LandsIn, ◌-ℤ◌, WriteAfterWrite, Bounds, LandsTogether}
 use Rattle.c62_insn.specs.Insn.{register_writes}
-use Rattle.c62_insn.specs.Dependence.{KeepsBounds}
-use Rattle.c62_insn.proofs.Exclusive.{one_landing}
+use Rattle.c62_rules.specs.Dependence.{KeepsBounds}
+use Rattle.c62_rules.proofs.Exclusive.{one_landing}
 use Rattle.std.proofs.Common.{◌≤ℤ◌, ◌+ℤ◌, ℤ}
-use Rattle.c62_insn.specs.PacketRules.{HasOneLanding}
+use Rattle.c62_rules.specs.PacketRules.{HasOneLanding}
 use Rattle.c62_sheet.proofs.Optional.{none_not_some}
 use Rattle.c62_sheet.proofs.Sets.{spot_at-placed_same, spot_at-placed_other, spot_at-withdrawn_other, IsAt-placed, IsAt-withdrawn}
 use Rattle.c62_sheet.proofs.IssuesOf.{issued-placement, issues-placed, issues-withdrawn, length-issues, issue-at}

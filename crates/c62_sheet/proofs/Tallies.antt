@@ -3,7 +3,7 @@ use Rattle.c62_sheet.proofs.Common.{arith, ◌≡◌, ℕ, ◌+◌, ◌<◌, ◌
 use Rattle.c62_sheet.proofs.Common.{Insn, is_branch, Issue, Spot, Spots, spot_at, issue_at, issues, add-one, find, drop-cons, drop_all, issued}
 use Rattle.c62_insn.specs.Insn.{op_of}
 use Rattle.std.specs.Option.{option_map_or}
-use Rattle.c62_insn.specs.Length.{landing_end, last_landing_end}
+use Rattle.c62_rules.specs.Length.{landing_end, last_landing_end}
 use Rattle.c62_sheet.proofs.IssuesOf.{length-issues, issue-at}
 use Rattle.c62_sheet.proofs.Used.{insn_at}
 

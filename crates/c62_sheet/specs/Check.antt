@@ -4,8 +4,8 @@ use Rattle.std.specs.Prelude.{◌≡◌, ◌≢◌, ℕ, ◌*◌, ◌<◌, ◌�
 use Rattle.c62_op.specs.declared.register.Side.{Side}
 use Rattle.c62_op.specs.declared.register.Reg.{Reg}
 use Rattle.c62_insn.specs.declared.insn.Insn.{Insn}
-use Rattle.c62_insn.specs.PacketRules.{Issue, IsIssued, UsesCrossPath, UsesDataPath, LandsIn, reads_in, MayLandTogether}
-use Rattle.c62_insn.specs.Dependence.{Depends}
+use Rattle.c62_rules.specs.PacketRules.{Issue, IsIssued, UsesCrossPath, UsesDataPath, LandsIn, reads_in, MayLandTogether}
+use Rattle.c62_rules.specs.Dependence.{Depends}
 use Rattle.c62_depend.specs.Side.{stands_on}
 use Rattle.c62_sheet.specs.declared.entry.Spot.{Spot}
 use Rattle.c62_sheet.specs.declared.entry.Rule.{Rule}

@@ -3,8 +3,8 @@ use Rattle.std.specs.Prelude.{◌≡◌, ◌⊎◌, ℕ, zero, suc, ◌+◌, Lis
 use Rattle.c62_op.specs.declared.register.Side.{Side}
 use Rattle.c62_op.specs.declared.register.Side.TheVariants.{A, B}
 use Rattle.c62_insn.specs.declared.insn.Insn.{Insn}
-use Rattle.c62_insn.specs.PacketRules.{issued}
-use Rattle.c62_insn.specs.Length.{length_of}
+use Rattle.c62_rules.specs.PacketRules.{issued}
+use Rattle.c62_rules.specs.Length.{length_of}
 use Rattle.c62_depend.specs.Side.{side}
 use Rattle.c62_sheet.specs.declared.entry.Counts.{Counts}
 use Rattle.c62_sheet.specs.Lawful.{Spots, spot_at, issues}

@@ -1,8 +1,8 @@
 -- Sets of placements, and which are lawful (docs/SCHEDULING.md, "Lawful").
 use Rattle.std.specs.Prelude.{◌≡◌, ℕ, ◌*◌, ◌<◌, ℤ, pos, ◌≤ℤ◌, ◌+ℤ◌, List, [], ◌∷◌, length, Option, Some, None, option_map, slice_index_or, slice_set, replicate, IsTrue, IsSome}
 use Rattle.c62_insn.specs.declared.insn.Insn.{Insn}
-use Rattle.c62_insn.specs.PacketRules.{Issue, Issues, KeepsPacketRules}
-use Rattle.c62_insn.specs.Dependence.{Bounds, Depends}
+use Rattle.c62_rules.specs.PacketRules.{Issue, Issues, KeepsPacketRules}
+use Rattle.c62_rules.specs.Dependence.{Bounds, Depends}
 use Rattle.c62_read.specs.Block.{Serial}
 use Rattle.c62_depend.specs.Side.{stands_on}
 use Rattle.c62_sheet.specs.declared.entry.Spot.{Spot}

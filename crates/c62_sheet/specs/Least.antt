@@ -4,8 +4,8 @@ use Rattle.c62_op.specs.declared.register.Side.{Side}
 use Rattle.c62_op.specs.declared.register.Unit.{Unit as FunctionalUnit}
 use Rattle.c62_insn.specs.declared.insn.Insn.{Insn}
 use Rattle.c62_op.specs.Units.{index_of}
-use Rattle.c62_insn.specs.PacketRules.{KeepsPacketRules}
-use Rattle.c62_insn.specs.Dependence.{Bounds, Depends}
+use Rattle.c62_rules.specs.PacketRules.{KeepsPacketRules}
+use Rattle.c62_rules.specs.Dependence.{Bounds, Depends}
 use Rattle.c62_depend.specs.Height.{height}
 use Rattle.c62_depend.specs.Side.{side, stands_on}
 use Rattle.c62_sheet.specs.declared.entry.Spot.{Spot}

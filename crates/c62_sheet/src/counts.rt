@@ -1,8 +1,7 @@
 //! How many instructions are placed and ready, and how long what is placed takes.
 
 ghost use Rattle.std.specs.Prelude.{◌≡◌, ◌↔◌, ◌<◌, ◌≤◌, length, IsTrue};
-ghost use Rattle.c62_insn.specs.Insn.{register_writes};
-ghost use Rattle.c62_insn.specs.Length.{greatest_delay, landing_end};
+ghost use Rattle.c62_rules.specs.Length.{landing_end};
 ghost use Rattle.c62_depend.specs.declared.limits.TheConstants.{ISSUE_CYCLES};
 ghost use Rattle.c62_depend.specs.Plan.{insns_of};
 ghost use Rattle.c62_sheet.specs.Lawful.{issue_at, IsLawful};
@@ -63,23 +62,12 @@ pub(crate) fn counts(plan: &Plan, spots: &[Option<Spot>], missing: &[u16]) -> Co
     }
 }
 
-/// The greatest delay of the writes of an instruction, in cycles.
-fn greatest_delay(insn: Insn) -> u8
-    ensures { result ≡ greatest_delay (register_writes insn) }
-{
-    let mut greatest = 0;
-    for write in insn.writes().as_slice() {
-        greatest = greatest.max(write.1);
-    }
-    greatest
-}
-
 /// The cycle after the last landing of an instruction at a spot.
 fn landing_end(insn: Insn, spot: Spot) -> u16
     requires { spot.cycle < ISSUE_CYCLES }
     ensures { result ≡ landing_end (issue_at insn spot) }
 {
-    spot.cycle + u16::from(greatest_delay(insn)) + 1
+    spot.cycle + u16::from(insn.greatest_delay()) + 1
 }
 
 /// How many cycles what is placed takes: six from the issue of a branch, and else until the last landing.

@@ -1,7 +1,7 @@
 //! Which placements are lawful, what is ready, and where it goes.
 
 ghost use Rattle.std.specs.Prelude.{◌≡◌, ◌↔◌, ℕ, ◌<◌, ◌≤◌, ◌∷◌, length, None, IfSome, IsTrue, take};
-ghost use Rattle.c62_insn.specs.PacketRules.{KeepsPacketRules};
+ghost use Rattle.c62_rules.specs.PacketRules.{KeepsPacketRules};
 ghost use Rattle.c62_depend.specs.Plan.{insns_of};
 ghost use Rattle.c62_op.specs.declared.register.Unit.{Unit as FunctionalUnit};
 ghost use Rattle.c62_insn.specs.UnitSet.{unit_in};

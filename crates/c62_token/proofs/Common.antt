@@ -1,5 +1,5 @@
 -- What several proofs of this crate use of the standard library and of the definitions.
-pub use Rattle.c62_insn.specs.Spelling.{register_name, file_letter}
+pub use Rattle.c62_op.specs.Name.{register_name, file_letter}
 pub use Rattle.c62_op.specs.declared.register.Reg.{Reg}
 pub use Rattle.c62_op.specs.declared.register.Side.{Side}
 pub use Rattle.c62_op.specs.declared.register.Side.TheVariants.{A, B}

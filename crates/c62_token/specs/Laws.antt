@@ -5,7 +5,7 @@ use Rattle.std.specs.Char.{is_ascii_digit}
 use Rattle.std.specs.Fmt.{signed_decimal}
 use Rattle.std.specs.List.{flat_map, list_all}
 use Rattle.c62_op.specs.declared.register.Reg.{Reg}
-use Rattle.c62_insn.specs.Spelling.{register_name}
+use Rattle.c62_op.specs.Name.{register_name}
 use Rattle.c62_token.specs.Token.{begins, is_blank, is_sign, is_solid, is_word_byte, tokens}
 use Rattle.c62_token.specs.Number.{negative, number_of, register_of}
 

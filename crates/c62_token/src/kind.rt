@@ -6,7 +6,7 @@ ghost use Rattle.c62_token.specs.Token.{tokens, words_left};
 use crate::number::{number, register};
 use crate::token::{Tokens, from_token, token_len};
 use arrayvec::ArrayVec;
-use c62_insn::Reg;
+use c62_op::Reg;
 
 /// What a token is. A name tells by its bytes what it stands for.
 #[derive(Clone, Copy, Default)]

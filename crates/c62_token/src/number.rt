@@ -8,7 +8,7 @@ ghost use Rattle.c62_token.specs.Token.{begins, is_word_byte};
 ghost use Rattle.c62_token.specs.Number.{spells, are_digits, decimal_of, hexadecimal_of, magnitude_of, signed_of, number_of, numbered, file_of, register_of, is_label};
 
 use crate::token::is_word_byte;
-use c62_insn::{Reg, Side};
+use c62_op::{Reg, Side};
 
 /// Whether the word is this name, in either case.
 pub fn spells(name: &[u8], word: &[u8]) -> bool

@@ -7,7 +7,7 @@ use Rattle.c62_op.specs.declared.operands.Operands.TheVariants.{Access}
 use Rattle.c62_op.specs.declared.operands.Offset.{Offset}
 use Rattle.c62_op.specs.declared.operands.Offset.TheVariants.{Constant as ByConstant}
 use Rattle.c62_op.specs.Meaning.{size_of}
-use Rattle.c62_insn.proofs.Ranges.{reaches}
+use Rattle.c62_rules.proofs.Ranges.{reaches}
 use Rattle.c62_depend.proofs.covered.covered_by.Goals as goal
 
 pub begin_of-begin-requires : goal.begin_of-begin-requires

@@ -1,7 +1,7 @@
 use Rattle.c62_depend.proofs.Common.{◌≡◌, Option, Some, sym, ap, ◌∙◌, refl, as_bound, insns_in, slice_get, Insn, are_exclusive, latency_of, cond_of, Bool}
-use Rattle.c62_insn.specs.Dependence.{exclusive_by, condition_in}
+use Rattle.c62_rules.specs.Dependence.{exclusive_by, condition_in}
 use Rattle.c62_depend.proofs.Latencies.{latency_at, insn_at}
-use Rattle.c62_insn.specs.Dependence.{are_disjoint}
+use Rattle.c62_rules.specs.Dependence.{are_disjoint}
 use Rattle.c62_depend.specs.Covered.{never_meet}
 use Rattle.c62_depend.proofs.WrittenLemmas.{never_meet_is}
 use Rattle.c62_depend.proofs.latency.latency_number.Goals as goal

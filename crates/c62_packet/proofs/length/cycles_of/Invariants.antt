@@ -1,5 +1,5 @@
 use Rattle.std.proofs.Common.{◌≡◌, drop}
-use Rattle.c62_insn.specs.Length.{length_of}
+use Rattle.c62_rules.specs.Length.{length_of}
 use Rattle.c62_packet.specs.Packed.{issues_of}
 use Rattle.c62_packet.proofs.LengthLemmas.{length_after}
 use Rattle.c62_packet.proofs.length.cycles_of.Given as goal

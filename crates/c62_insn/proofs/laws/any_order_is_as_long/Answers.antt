@@ -1,5 +1,0 @@
-use Rattle.c62_insn.proofs.Lengths.{any-order-length}
-use Rattle.c62_insn.proofs.laws.any_order_is_as_long.Goals as goal
-
-pub returns : goal.returns
-returns c = any-order-length

@@ -1,0 +1,5 @@
+pub mod Exclusive
+pub mod Ranges
+pub mod Parts
+pub mod Lengths
+mod Broken

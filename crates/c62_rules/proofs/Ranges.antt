@@ -1,0 +1,212 @@
+-- The bytes of an access with a constant offset, and that of two disjoint ones none is the same.
+use Rattle.std.proofs.Common.{◌≡◌, ℕ, zero, suc, ◌+◌, ◌-◌, ◌*◌, ◌%◌, ◌^◌, ◌<◌, ◌≤◌, ℤ, pos, negsuc, Bool, true, false, not, List, [], ◌∷◌, ◌++◌, map, Option, Some, None, refl, sym, ◌∙◌, ap, subst, ◌⊎◌, inl, inr, ⊎_elim, arith}
+use Rattle.std.specs.Prelude.{◌&&◌, ◌||◌, Contains, nat_le, slice_get, slice_index, unsigned_abs, if◌then◌else◌}
+use Rattle.std.specs.Prelude.{int_le}
+use Rattle.std.proofs.lemmas.Bool.{cases_Bool, and_parts, or_cases, leb-true, false≢true}
+use Rattle.std.proofs.lemmas.Option.{none-some, same_Some}
+use Rattle.c62_op.specs.declared.register.Reg.{Reg}
+use Rattle.c62_op.specs.declared.register.Letter.TheVariants.{D}
+use Rattle.c62_op.specs.declared.register.Unit.{Unit as FunctionalUnit}
+use Rattle.c62_op.specs.declared.operands.Op.{Op}
+use Rattle.c62_op.specs.declared.operands.Op.TheVariants.{Ldb, Ldbu, Ldh, Ldhu, Ldw, Stb, Sth, Stw}
+use Rattle.c62_op.specs.declared.operands.AddressForm.{AddressForm}
+use Rattle.c62_op.specs.declared.operands.AddressForm.TheVariants.{Plus, Minus, PreIncrement, PreDecrement, PostIncrement, PostDecrement}
+use Rattle.c62_op.specs.declared.operands.Offset.{Offset}
+use Rattle.c62_op.specs.declared.operands.Offset.TheVariants.{Constant as ByConstant, Register as ByRegister}
+use Rattle.c62_op.specs.declared.operands.Operands.{Operands}
+use Rattle.c62_op.specs.declared.operands.Operands.TheVariants.{Three, ConstantFirst, ConstantSecond, Two, Field, Constant, Access, Block, Register}
+use Rattle.c62_op.specs.Word.{word}
+use Rattle.c62_op.specs.Takes.{same_reg, same_letter, takes, in_range, registers_fit}
+use Rattle.c62_op.specs.Table.{ucst5}
+use Rattle.c62_op.specs.Shape.{is_store, reads_of}
+use Rattle.c62_op.specs.Meaning.{size_of, moved, address_of, base_index, base_after}
+use Rattle.c62_op.proofs.Registers.{same_reg-is}
+use Rattle.c62_insn.specs.declared.insn.Insn.{Insn}
+use Rattle.c62_insn.specs.declared.effect.Access.{Access as MemoryAccess}
+use Rattle.c62_insn.specs.Insn.{op_of, operands_of, operand_reads, register_writes}
+use Rattle.c62_insn.specs.Effect.{access_of}
+use Rattle.c62_rules.specs.Dependence.{Range, begin_of, range_of, range_in, are_apart, disjoint_by, are_disjoint, is_written_by}
+use Rattle.c62_insn.proofs.InsnLemmas.{has_unit}
+use Rattle.c62_rules.proofs.Exclusive.{none_of, unwritten_by}
+
+-- ---- disjoint accesses
+
+pub record IsDisjoint (block : List Insn) (i j : ℕ) (p q : Insn) : Type 0 where
+  pub one : Range
+  pub other : Range
+  pub is_one : range_of (op_of p) (operands_of p) ≡ Some one
+  pub is_other : range_of (op_of q) (operands_of q) ≡ Some other
+  pub same : one.base ≡ other.base
+  pub apart : (one.begin + one.size ≤ other.begin) ⊎ (other.begin + other.size ≤ one.begin)
+  pub unwritten : (k delay : ℕ) (insn : Insn) → i ≤ k → k < j → slice_get block k ≡ Some insn → Contains (register_writes insn) (one.base, delay) → ⊥
+
+pub disjoint-is : (block : List Insn) (i j : ℕ) (p q : Insn) → i < j → slice_get block i ≡ Some p → slice_get block j ≡ Some q → are_disjoint block i j ≡ true
+    → IsDisjoint block i j p q
+disjoint-is block i j p q before at_i at_j h =
+    by_ranges (range_of (op_of p) (operands_of p)) (range_of (op_of q) (operands_of q)) refl refl
+    (subst (λ (o : Option Insn). disjoint_by block i j (range_of (op_of p) (operands_of p)) (range_in o) ≡ true) at_j
+    (subst (λ (o : Option Insn). disjoint_by block i j (range_in o) (range_in (slice_get block j)) ≡ true) at_i h))
+  where
+    by_ranges : (a b : Option Range) → range_of (op_of p) (operands_of p) ≡ a → range_of (op_of q) (operands_of q) ≡ b → disjoint_by block i j a b ≡ true
+        → IsDisjoint block i j p q
+    by_ranges None b e f h = absurd (false≢true h)
+    by_ranges (Some one) None e f h = absurd (false≢true h)
+    by_ranges (Some one) (Some other) e f h =
+        let parts = and_parts (are_apart one other) (not (is_written_by block i (j - i) one.base)) h in
+        let tests = and_parts (same_reg one.base other.base) (nat_le (one.begin + one.size) other.begin || nat_le (other.begin + other.size) one.begin) parts.0 in
+        record {
+          one = one;
+          other = other;
+          is_one = e;
+          is_other = f;
+          same = same_reg-is one.base other.base tests.0;
+          apart = ⊎_elim {C = (one.begin + one.size ≤ other.begin) ⊎ (other.begin + other.size ≤ one.begin)}
+              (λ l. inl (leb-true (one.begin + one.size) other.begin l)) (λ r. inr (leb-true (other.begin + other.size) one.begin r))
+              (or_cases (nat_le (one.begin + one.size) other.begin) (nat_le (other.begin + other.size) one.begin) tests.1);
+          unwritten = λ k delay insn low high at writes.
+              unwritten_by block i (j - i) one.base (none_of (is_written_by block i (j - i) one.base) parts.1) k delay insn low (omega (arith, high, before)) at writes;
+        }
+
+-- ---- where the bytes lie
+
+sizes : (op : Op) → (size_of op ≡ 1) ⊎ ((size_of op ≡ 2) ⊎ (size_of op ≡ 4))
+sizes Ldb = inl refl
+sizes Ldbu = inl refl
+sizes Stb = inl refl
+sizes Ldh = inr (inl refl)
+sizes Ldhu = inr (inl refl)
+sizes Sth = inr (inl refl)
+sizes _ = inr (inr refl)
+
+fits_five : (k : ℤ) (a b : Bool) → ((in_range ucst5 k && a && b) || false) ≡ true → in_range ucst5 k ≡ true
+fits_five k a b h =
+    ⊎_elim {C = in_range ucst5 k ≡ true}
+    (λ e. (and_parts (in_range ucst5 k) a (and_parts (in_range ucst5 k && a) b e).0).0)
+    (λ e. absurd (false≢true e))
+    (or_cases (in_range ucst5 k && a && b) false h)
+
+offset_fits : (op : Op) (reg base : Reg) (form : AddressForm) (k : ℤ) (unit : FunctionalUnit) → takes op (Access reg base form (ByConstant k)) unit ≡ true → in_range ucst5 k ≡ true
+offset_fits Ldb reg base form k unit h = fits_five k (same_letter D unit.letter) _ h
+offset_fits Ldbu reg base form k unit h = fits_five k (same_letter D unit.letter) _ h
+offset_fits Ldh reg base form k unit h = fits_five k (same_letter D unit.letter) _ h
+offset_fits Ldhu reg base form k unit h = fits_five k (same_letter D unit.letter) _ h
+offset_fits Ldw reg base form k unit h = fits_five k (same_letter D unit.letter) _ h
+offset_fits Stb reg base form k unit h = fits_five k (same_letter D unit.letter) _ h
+offset_fits Sth reg base form k unit h = fits_five k (same_letter D unit.letter) _ h
+offset_fits Stw reg base form k unit h = fits_five k (same_letter D unit.letter) _ h
+offset_fits _ reg base form k unit h = cc
+
+small : (k : ℤ) → in_range ucst5 k ≡ true → (k ≡ pos (unsigned_abs k)) × (unsigned_abs k ≤ 31)
+small (pos n) h = (refl, leb-true n 31 (and_parts (int_le (pos 0) (pos n)) (int_le (pos n) (pos 31)) h).1)
+small (negsuc n) h = cc
+
+-- the offset in bytes
+distance : (n size : ℕ) → (size ≡ 1) ⊎ ((size ≡ 2) ⊎ (size ≡ 4)) → n ≤ 31 → ((word (pos n) * size) % 2 ^ 32 ≡ n * size) × (n * size ≤ 124)
+distance n size (inl e) le = subst (λ (s : ℕ). ((word (pos n) * s) % 2 ^ 32 ≡ n * s) × (n * s ≤ 124)) (sym e) (omega (arith, le), omega (arith, le))
+distance n size (inr (inl e)) le = subst (λ (s : ℕ). ((word (pos n) * s) % 2 ^ 32 ≡ n * s) × (n * s ≤ 124)) (sym e) (omega (arith, le), omega (arith, le))
+distance n size (inr (inr e)) le = subst (λ (s : ℕ). ((word (pos n) * s) % 2 ^ 32 ≡ n * s) × (n * s ≤ 124)) (sym e) (omega (arith, le), omega (arith, le))
+
+-- an offset of an instruction moves an address by 124 bytes at most
+pub reaches : (insn : Insn) (reg base : Reg) (form : AddressForm) (k : ℤ) → operands_of insn ≡ Access reg base form (ByConstant k)
+    → (unsigned_abs k * size_of (op_of insn) ≤ 124) × (size_of (op_of insn) ≤ 4)
+reaches insn reg base form k e =
+    let unit = has_unit insn in
+    let taken : takes (op_of insn) (Access reg base form (ByConstant k)) unit.0 ≡ true = subst (λ (o : Operands). takes (op_of insn) o unit.0 ≡ true) e unit.1 in
+    let fits = small k (offset_fits (op_of insn) reg base form k unit.0 taken) in
+    ((distance (unsigned_abs k) (size_of (op_of insn)) (sizes (op_of insn)) fits.1).1, few (sizes (op_of insn)))
+  where
+    few : {n : ℕ} → (n ≡ 1) ⊎ ((n ≡ 2) ⊎ (n ≡ 4)) → n ≤ 4
+    few (inl e) = omega (arith, e)
+    few (inr (inl e)) = omega (arith, e)
+    few (inr (inr e)) = omega (arith, e)
+
+-- an address within memory, of the base and the offset
+lies : (form : AddressForm) (x d : ℕ) → d ≤ 124 → address_of form x (moved form x d) ≤ 65536
+    → address_of form x (moved form x d) ≡ (x + (2 ^ 32 - 124) + begin_of form d) % 2 ^ 32
+lies Plus x d le low = omega (arith, le, low)
+lies Minus x d le low = omega (arith, le, low)
+lies PreIncrement x d le low = omega (arith, le, low)
+lies PreDecrement x d le low = omega (arith, le, low)
+lies PostIncrement x d le low = omega (arith, le, low)
+lies PostDecrement x d le low = omega (arith, le, low)
+
+base_read : (op : Op) (reg base : Reg) (form : AddressForm) (k : ℤ) (words : Reg → ℕ) → slice_index (map words (reads_of op (Access reg base form (ByConstant k)))) (base_index op) ≡ words base
+base_read op reg base form k words = by_store (is_store op)
+  where
+    by_store : (s : Bool) → slice_index (map words ((if s then reg ∷ [] else []) ++ base ∷ [])) (if s then 1 else 0) ≡ words base
+    by_store true = refl
+    by_store false = refl
+
+-- the access of an instruction with a range covers it
+pub record Covers (x : ℕ) (range : Range) (access : MemoryAccess) : Type 0 where
+  pub size : access.size ≡ range.size
+  pub at : access.address ≤ 65536 → access.address ≡ (x + (2 ^ 32 - 124) + range.begin) % 2 ^ 32
+  pub few : range.begin + range.size ≤ 252
+
+pub covers : (insn : Insn) (words : Reg → ℕ) (range : Range) (access : MemoryAccess) → range_of (op_of insn) (operands_of insn) ≡ Some range
+    → access_of (op_of insn) (operands_of insn) (map words (operand_reads insn)) ≡ Some access → Covers (words range.base) range access
+covers insn words range access is_range is_access = by_operands (op_of insn) (operands_of insn) (has_unit insn).0 (has_unit insn).1 is_range is_access
+  where
+    begins : (form : AddressForm) (d size : ℕ) → d ≤ 124 → (size ≡ 1) ⊎ ((size ≡ 2) ⊎ (size ≡ 4)) → begin_of form d + size ≤ 252
+    begins Plus d size le (inl e) = omega (arith, le, e)
+    begins Plus d size le (inr (inl e)) = omega (arith, le, e)
+    begins Plus d size le (inr (inr e)) = omega (arith, le, e)
+    begins PreIncrement d size le (inl e) = omega (arith, le, e)
+    begins PreIncrement d size le (inr (inl e)) = omega (arith, le, e)
+    begins PreIncrement d size le (inr (inr e)) = omega (arith, le, e)
+    begins Minus d size le (inl e) = omega (arith, le, e)
+    begins Minus d size le (inr (inl e)) = omega (arith, le, e)
+    begins Minus d size le (inr (inr e)) = omega (arith, le, e)
+    begins PreDecrement d size le (inl e) = omega (arith, le, e)
+    begins PreDecrement d size le (inr (inl e)) = omega (arith, le, e)
+    begins PreDecrement d size le (inr (inr e)) = omega (arith, le, e)
+    begins _ d size le (inl e) = omega (arith, le, e)
+    begins _ d size le (inr (inl e)) = omega (arith, le, e)
+    begins _ d size le (inr (inr e)) = omega (arith, le, e)
+
+    by_operands : (op : Op) (operands : Operands) (unit : FunctionalUnit) → takes op operands unit ≡ true → range_of op operands ≡ Some range
+        → access_of op operands (map words (reads_of op operands)) ≡ Some access → Covers (words range.base) range access
+    by_operands op (Access reg base form (ByConstant k)) unit taken r a =
+        let n : ℕ = unsigned_abs k in
+        let fits = small k (offset_fits op reg base form k unit taken) in
+        let d = distance n (size_of op) (sizes op) fits.1 in
+        let reads : List ℕ = map words (reads_of op (Access reg base form (ByConstant k))) in
+        let x : slice_index reads (base_index op) ≡ words base = base_read op reg base form k words in
+        let moves : base_after op form (ByConstant k) reads ≡ moved form (words base) (n * size_of op)
+        = ap (λ (v : ℕ). moved form v ((word k * size_of op) % 2 ^ 32)) x
+        ∙ ap (λ (z : ℤ). moved form (words base) ((word z * size_of op) % 2 ^ 32)) fits.0 ∙ ap (λ (v : ℕ). moved form (words base) v) d.0 in
+        let address : address_of form (slice_index reads (base_index op)) (base_after op form (ByConstant k) reads) ≡ address_of form (words base) (moved form (words base) (n * size_of op))
+        = ap (λ (v : ℕ). address_of form v (base_after op form (ByConstant k) reads)) x ∙ ap (λ (v : ℕ). address_of form (words base) v) moves in
+        let range_is : record { base = base; begin = begin_of form (n * size_of op); size = size_of op } ≡ range = same_Some _ range r in
+        let made : Covers (words base) (record { base = base; begin = begin_of form (n * size_of op); size = size_of op }) access = record {
+          size = ap (λ (m : MemoryAccess). m.size) (sym (same_Some _ access a));
+          at = λ low.
+              let is : access.address ≡ address_of form (words base) (moved form (words base) (n * size_of op))
+              = ap (λ (m : MemoryAccess). m.address) (sym (same_Some _ access a)) ∙ address in
+              is ∙ lies form (words base) (n * size_of op) d.1 (subst (λ (v : ℕ). v ≤ 65536) is low);
+          few = begins form (n * size_of op) (size_of op) d.1 (sizes op);
+        } in
+        subst (λ (z : Range). Covers (words z.base) z access) range_is made
+    by_operands op (Access reg base form (ByRegister offset)) unit taken r a = absurd (none-some range r)
+    by_operands op (Three _ _ _) unit taken r a = absurd (none-some range r)
+    by_operands op (ConstantFirst _ _ _) unit taken r a = absurd (none-some range r)
+    by_operands op (ConstantSecond _ _ _) unit taken r a = absurd (none-some range r)
+    by_operands op (Two _ _) unit taken r a = absurd (none-some range r)
+    by_operands op (Field _ _ _ _) unit taken r a = absurd (none-some range r)
+    by_operands op (Constant _ _) unit taken r a = absurd (none-some range r)
+    by_operands op (Block _) unit taken r a = absurd (none-some range r)
+    by_operands op (Register _) unit taken r a = absurd (none-some range r)
+
+-- two ranges of one base that do not meet have no byte of memory in common
+no_byte : (x b c m n s t a : ℕ) → b + m ≤ 252 → c + n ≤ 252 → (b + m ≤ c) ⊎ (c + n ≤ b)
+    → s ≡ (x + (2 ^ 32 - 124) + b) % 2 ^ 32 → t ≡ (x + (2 ^ 32 - 124) + c) % 2 ^ 32 → s ≤ a → a < s + m → t ≤ a → a < t + n → ⊥
+no_byte x b c m n s t a one other (inl apart) at_s at_t low high low' high' = omega arith
+no_byte x b c m n s t a one other (inr apart) at_s at_t low high low' high' = omega arith
+
+-- bytes of memory that two disjoint accesses cover, where the base is the same before both, are not one
+pub apart_bytes : (x : ℕ) (one other : Range) (p q : MemoryAccess) (a : ℕ) → (one.begin + one.size ≤ other.begin) ⊎ (other.begin + other.size ≤ one.begin)
+    → Covers x one p → Covers x other q → p.address + p.size ≤ 65536 → q.address + q.size ≤ 65536
+    → p.address ≤ a → a < p.address + p.size → q.address ≤ a → a < q.address + q.size → ⊥
+apart_bytes x one other p q a apart c d fits fits' low high low' high' =
+    no_byte x one.begin other.begin one.size other.size p.address q.address a c.few d.few apart (c.at (omega (arith, fits))) (d.at (omega (arith, fits')))
+    low (omega (arith, high, c.size)) low' (omega (arith, high', d.size))
