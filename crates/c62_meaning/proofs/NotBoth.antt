@@ -8,7 +8,7 @@ use Rattle.c62_op.specs.declared.register.Cond.{Cond as Condition}
 use Rattle.c62_insn.specs.declared.insn.Insn.{Insn}
 use Rattle.c62_insn.specs.Insn.{register_writes}
 use Rattle.c62_insn.specs.Effect.{runs_of}
-use Rattle.c62_rules.proofs.Exclusive.{IsExclusive}
+use Rattle.c62_rules.specs.Exclusive.{IsExclusive}
 use Rattle.c62_serial.specs.State.{index_of, word_in, byte_in}
 use Rattle.c62_serial.specs.Effect.{Act, no_act, runs, operand_values, act_on, act_of}
 use Rattle.c62_serial.specs.Serial.{after_write}

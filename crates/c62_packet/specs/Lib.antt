@@ -5,3 +5,4 @@ pub mod Clash
 pub mod Packets
 pub mod Taken
 pub mod Covers
+pub mod Alike

@@ -1,13 +1,13 @@
 -- Part of what is issued, and the same under other numbers.
 use Rattle.std.proofs.Common.{arith, ◌≡◌, ◌≢◌, ℕ, zero, suc, ◌+◌, ◌<◌, ◌≤◌, [], ◌∷◌, length, map, get_or, set, Option, Some, None, refl, sym, ap, ◌∙◌, inl, inr, ◌⊎◌}
-use Rattle.std.specs.Prelude.{sum_by, IsTrue, IsPermutation, if◌then◌else◌, ◌==◌}
+use Rattle.std.specs.Prelude.{sum_by, IsPermutation, if◌then◌else◌, ◌==◌}
 use Rattle.std.specs.List.{swap}
 use Rattle.std.proofs.lemmas.List.{get_or_past, get_or-set_same, get_or-set_other, length-set}
 use Rattle.std.proofs.lemmas.List.Edits.{swap_is}
 use Rattle.std.proofs.lemmas.List.Sums.{sum_by-set, sum_by-cons}
 use Rattle.std.proofs.lemmas.List.Sorted.{IsPermutation-keeps, IsPermutation-map}
 use Rattle.std.proofs.lemmas.Option.{none-some}
-use Rattle.std.proofs.lemmas.Bool.{cases_lt, cases_eq, eq-eqb, ne_eqb, both_ways}
+use Rattle.std.proofs.lemmas.Bool.{cases_lt, cases_eq, eq-eqb, ne_eqb}
 use Rattle.c62_rules.specs.PacketRules.{Issue, Issues, IsIssued, issued, AtMostOne, reads_in, MayLandTogether, UsesCrossPath, UsesDataPath, KeepsPacketRules}
 use Rattle.c62_rules.specs.Part.{IsPart}
 

@@ -1,8 +1,9 @@
 -- The bytes of an access with a constant offset, and that of two disjoint ones none is the same.
-use Rattle.std.proofs.Common.{◌≡◌, ℕ, zero, suc, ◌+◌, ◌-◌, ◌*◌, ◌%◌, ◌^◌, ◌<◌, ◌≤◌, ℤ, pos, negsuc, Bool, true, false, not, List, [], ◌∷◌, ◌++◌, map, Option, Some, None, refl, sym, ◌∙◌, ap, subst, ◌⊎◌, inl, inr, ⊎_elim, arith}
-use Rattle.std.specs.Prelude.{◌&&◌, ◌||◌, Contains, nat_le, slice_get, slice_index, unsigned_abs, if◌then◌else◌}
+use Rattle.std.proofs.Common.{◌≡◌, ℕ, ◌+◌, ◌-◌, ◌*◌, ◌%◌, ◌^◌, ◌<◌, ◌≤◌, ℤ, pos, negsuc, ◌≤ℤ◌, Bool, true, false, not, List, [], ◌∷◌, ◌++◌, map, Option, Some, None, refl, sym, ◌∙◌, ap, subst, ◌⊎◌, inl, inr, ⊎_elim, arith}
+use Rattle.std.specs.Prelude.{◌&&◌, ◌||◌, nat_le, slice_get, slice_index, unsigned_abs, if◌then◌else◌}
 use Rattle.std.specs.Prelude.{int_le}
-use Rattle.std.proofs.lemmas.Bool.{cases_Bool, and_parts, or_cases, leb-true, false≢true}
+use Rattle.std.proofs.lemmas.Bool.{cases_lt, and_parts, or_cases, or_left, or_right, leb-true, le-leb, false≢true}
+use Rattle.std.proofs.lemmas.Int.{ints}
 use Rattle.std.proofs.lemmas.Option.{none-some, same_Some}
 use Rattle.c62_op.specs.declared.register.Reg.{Reg}
 use Rattle.c62_op.specs.declared.register.Letter.TheVariants.{D}
@@ -11,34 +12,25 @@ use Rattle.c62_op.specs.declared.operands.Op.{Op}
 use Rattle.c62_op.specs.declared.operands.Op.TheVariants.{Ldb, Ldbu, Ldh, Ldhu, Ldw, Stb, Sth, Stw}
 use Rattle.c62_op.specs.declared.operands.AddressForm.{AddressForm}
 use Rattle.c62_op.specs.declared.operands.AddressForm.TheVariants.{Plus, Minus, PreIncrement, PreDecrement, PostIncrement, PostDecrement}
-use Rattle.c62_op.specs.declared.operands.Offset.{Offset}
 use Rattle.c62_op.specs.declared.operands.Offset.TheVariants.{Constant as ByConstant, Register as ByRegister}
 use Rattle.c62_op.specs.declared.operands.Operands.{Operands}
 use Rattle.c62_op.specs.declared.operands.Operands.TheVariants.{Three, ConstantFirst, ConstantSecond, Two, Field, Constant, Access, Block, Register}
 use Rattle.c62_op.specs.Word.{word}
-use Rattle.c62_op.specs.Takes.{same_reg, same_letter, takes, in_range, registers_fit}
+use Rattle.c62_op.specs.Takes.{same_reg, same_letter, takes, in_range}
 use Rattle.c62_op.specs.Table.{ucst5}
 use Rattle.c62_op.specs.Shape.{is_store, reads_of}
 use Rattle.c62_op.specs.Meaning.{size_of, moved, address_of, base_index, base_after}
-use Rattle.c62_op.proofs.Registers.{same_reg-is}
+use Rattle.c62_op.proofs.Registers.{same_reg-is, same_reg-refl}
 use Rattle.c62_insn.specs.declared.insn.Insn.{Insn}
 use Rattle.c62_insn.specs.declared.effect.Access.{Access as MemoryAccess}
-use Rattle.c62_insn.specs.Insn.{op_of, operands_of, operand_reads, register_writes}
+use Rattle.c62_insn.specs.Insn.{op_of, operands_of, operand_reads}
 use Rattle.c62_insn.specs.Effect.{access_of}
-use Rattle.c62_rules.specs.Dependence.{Range, begin_of, range_of, range_in, are_apart, disjoint_by, are_disjoint, is_written_by}
+use Rattle.c62_rules.specs.Exclusive.{is_written_by, IsUnwritten}
+use Rattle.c62_rules.specs.Disjoint.{Range, begin_of, range_of, range_in, are_apart, disjoint_by, are_disjoint, HasSmallOffset, LiesAtItsRange, ApartShareNothing, IsIn, MeetInAByte, IsDisjoint, DisjointIsTold}
 use Rattle.c62_insn.proofs.InsnLemmas.{has_unit}
-use Rattle.c62_rules.proofs.Exclusive.{none_of, unwritten_by}
+use Rattle.c62_rules.proofs.Exclusive.{none_of, none_written, unwritten_by, both_true}
 
 -- ---- disjoint accesses
-
-pub record IsDisjoint (block : List Insn) (i j : ℕ) (p q : Insn) : Type 0 where
-  pub one : Range
-  pub other : Range
-  pub is_one : range_of (op_of p) (operands_of p) ≡ Some one
-  pub is_other : range_of (op_of q) (operands_of q) ≡ Some other
-  pub same : one.base ≡ other.base
-  pub apart : (one.begin + one.size ≤ other.begin) ⊎ (other.begin + other.size ≤ one.begin)
-  pub unwritten : (k delay : ℕ) (insn : Insn) → i ≤ k → k < j → slice_get block k ≡ Some insn → Contains (register_writes insn) (one.base, delay) → ⊥
 
 pub disjoint-is : (block : List Insn) (i j : ℕ) (p q : Insn) → i < j → slice_get block i ≡ Some p → slice_get block j ≡ Some q → are_disjoint block i j ≡ true
     → IsDisjoint block i j p q
@@ -66,6 +58,28 @@ disjoint-is block i j p q before at_i at_j h =
           unwritten = λ k delay insn low high at writes.
               unwritten_by block i (j - i) one.base (none_of (is_written_by block i (j - i) one.base) parts.1) k delay insn low (omega (arith, high, before)) at writes;
         }
+
+-- one side of two ranges, as the test has it
+side_true : (b c m n : ℕ) → (b + m ≤ c) ⊎ (c + n ≤ b) → (nat_le (b + m) c || nat_le (c + n) b) ≡ true
+side_true b c m n (inl le) = or_left (nat_le (b + m) c) (nat_le (c + n) b) (le-leb (b + m) c le)
+side_true b c m n (inr le) = or_right (nat_le (b + m) c) (nat_le (c + n) b) (le-leb (c + n) b le)
+
+-- what are_disjoint tells
+pub disjoint-told : (block : List Insn) (i j : ℕ) (p q : Insn) → DisjointIsTold block i j p q
+disjoint-told block i j p q before at_i at_j = (disjoint-is block i j p q before at_i at_j, from)
+  where
+    from : IsDisjoint block i j p q → are_disjoint block i j ≡ true
+    from x =
+        let same : same_reg x.one.base x.other.base ≡ true = subst (λ (r : Reg). same_reg x.one.base r ≡ true) x.same (same_reg-refl x.one.base) in
+        let apart : are_apart x.one x.other ≡ true = both_true same (side_true x.one.begin x.other.begin x.one.size x.other.size x.apart) in
+        let count : j ≡ i + (j - i) = omega (arith, before) in
+        let free : is_written_by block i (j - i) x.one.base ≡ false
+        = none_written block i (j - i) x.one.base (subst (λ (n : ℕ). IsUnwritten block i n x.one.base) count x.unwritten) in
+        let told : disjoint_by block i j (Some x.one) (Some x.other) ≡ true = both_true apart (ap not free) in
+        subst (λ (o : Option Insn). disjoint_by block i j (range_in o) (range_in (slice_get block j)) ≡ true) (sym at_i)
+        (subst (λ (o : Option Insn). disjoint_by block i j (range_in (Some p)) (range_in o) ≡ true) (sym at_j)
+        (subst (λ (r : Option Range). disjoint_by block i j r (range_in (Some q)) ≡ true) (sym x.is_one)
+        (subst (λ (r : Option Range). disjoint_by block i j (Some x.one) r ≡ true) (sym x.is_other) told)))
 
 -- ---- where the bytes lie
 
@@ -210,3 +224,47 @@ pub apart_bytes : (x : ℕ) (one other : Range) (p q : MemoryAccess) (a : ℕ) �
 apart_bytes x one other p q a apart c d fits fits' low high low' high' =
     no_byte x one.begin other.begin one.size other.size p.address q.address a c.few d.few apart (c.at (omega (arith, fits))) (d.at (omega (arith, fits')))
     low (omega (arith, high, c.size)) low' (omega (arith, high', d.size))
+
+-- ---- the laws
+
+pub small-offset : (insn : Insn) → HasSmallOffset insn
+small-offset insn reg base form k e =
+    let unit = has_unit insn in
+    let taken : takes (op_of insn) (Access reg base form (ByConstant k)) unit.0 ≡ true = subst (λ (o : Operands). takes (op_of insn) o unit.0 ≡ true) e unit.1 in
+    let fits = small k (offset_fits (op_of insn) reg base form k unit.0 taken) in
+    (subst (λ (z : ℤ). pos 0 ≤ℤ z) (sym fits.0) (omega (arith, ints)), subst (λ (z : ℤ). z ≤ℤ pos 31) (sym fits.0) (omega (arith, ints, fits.1)))
+
+pub lies-at-range : (insn : Insn) → LiesAtItsRange insn
+lies-at-range insn words range access is_range is_access fits =
+    let c = covers insn words range access is_range is_access in (c.at (omega (arith, fits)), c.size)
+
+pub apart-share-nothing : (p q : Insn) → ApartShareNothing p q
+apart-share-nothing p q one other words others first second at is_one is_other apart same is_first is_second fits fits' mine theirs =
+    let tests = and_parts (same_reg one.base other.base) (nat_le (one.begin + one.size) other.begin || nat_le (other.begin + other.size) one.begin) apart in
+    let sides : (one.begin + one.size ≤ other.begin) ⊎ (other.begin + other.size ≤ one.begin)
+    = ⊎_elim {C = (one.begin + one.size ≤ other.begin) ⊎ (other.begin + other.size ≤ one.begin)}
+    (λ l. inl (leb-true (one.begin + one.size) other.begin l)) (λ r. inr (leb-true (other.begin + other.size) one.begin r))
+    (or_cases (nat_le (one.begin + one.size) other.begin) (nat_le (other.begin + other.size) one.begin) tests.1) in
+    let word : others other.base ≡ words one.base = ap others (sym (same_reg-is one.base other.base tests.0)) ∙ sym same in
+    let c = covers p words one first is_one is_first in
+    let d = subst (λ (v : ℕ). Covers v other second) word (covers q others other second is_other is_second) in
+    apart_bytes (words one.base) one other first second at sides c d fits fits' mine.0 mine.1 theirs.0 theirs.1
+
+pub meet-in-a-byte : (a b : Range) → MeetInAByte a b
+meet-in-a-byte a b same some other apart = by_order (cases_lt a.begin b.begin)
+  where
+    base : same_reg a.base b.base ≡ true
+    base = subst (λ (r : Reg). same_reg a.base r ≡ true) same (same_reg-refl a.base)
+
+    refused : (a.begin + a.size ≤ b.begin) ⊎ (b.begin + b.size ≤ a.begin) → ⊥
+    refused sides = false≢true (sym apart ∙ both_true base (side_true a.begin b.begin a.size b.size sides))
+
+    later : b.begin < a.begin + a.size
+    later = ⊎_elim {C = b.begin < a.begin + a.size} (λ lt. lt) (λ ge. absurd (refused (inl ge))) (cases_lt b.begin (a.begin + a.size))
+
+    sooner : a.begin < b.begin + b.size
+    sooner = ⊎_elim {C = a.begin < b.begin + b.size} (λ lt. lt) (λ ge. absurd (refused (inr ge))) (cases_lt a.begin (b.begin + b.size))
+
+    by_order : (a.begin < b.begin) ⊎ (b.begin ≤ a.begin) → (at : ℕ) × IsIn a at × IsIn b at
+    by_order (inl lt) = (b.begin, (omega (arith, lt), later), (omega arith, omega (arith, other)))
+    by_order (inr ge) = (a.begin, (omega arith, omega (arith, some)), (ge, sooner))

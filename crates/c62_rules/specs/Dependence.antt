@@ -1,82 +1,12 @@
 -- How far two instructions of a block must stand apart (docs/MACHINE.md, "Dependences"; SPRU189, "Delay Slots").
-use Rattle.std.specs.Prelude.{◌≡◌, ℕ, zero, suc, ◌+◌, ◌-◌, ◌*◌, ◌<◌, ◌⊎◌, ℤ, pos, ◌-ℤ◌, ◌≤ℤ◌, ◌+ℤ◌, Bool, false, not, nat_le, unsigned_abs, ◌&&◌, ◌||◌, if◌then◌else◌, List, Contains, Option, Some, None, MatchOption, slice_get, IsTrue}
-use Rattle.std.specs.List.{list_any}
-use Rattle.c62_op.specs.declared.register.Reg.{Reg}
-use Rattle.c62_op.specs.declared.register.Cond.{Cond as Condition}
+use Rattle.std.specs.Prelude.{◌≡◌, ℕ, ◌+◌, ◌<◌, ◌⊎◌, ℤ, pos, ◌-ℤ◌, ◌≤ℤ◌, ◌+ℤ◌, false, List, Contains, Option, Some, MatchOption, slice_get, IsTrue}
 use Rattle.c62_insn.specs.declared.insn.Insn.{Insn}
-use Rattle.c62_op.specs.declared.operands.Op.{Op}
-use Rattle.c62_op.specs.declared.operands.AddressForm.{AddressForm}
-use Rattle.c62_op.specs.declared.operands.AddressForm.TheVariants.{Plus, Minus, PreIncrement, PreDecrement}
-use Rattle.c62_op.specs.declared.operands.Offset.TheVariants.{Constant as ByConstant}
-use Rattle.c62_op.specs.declared.operands.Operands.{Operands}
-use Rattle.c62_op.specs.declared.operands.Operands.TheVariants.{Access}
-use Rattle.c62_op.specs.Meaning.{size_of}
-use Rattle.c62_op.specs.Takes.{same_reg}
+use Rattle.c62_op.specs.declared.register.Reg.{Reg}
 use Rattle.c62_op.specs.Shape.{delay_of, is_load, is_store, is_branch}
-use Rattle.c62_insn.specs.Insn.{op_of, operands_of, cond_of, register_writes, reads_register}
+use Rattle.c62_insn.specs.Insn.{op_of, register_writes, reads_register}
 use Rattle.c62_rules.specs.PacketRules.{Issue, Issues, IsIssued, HasOneLanding}
-
--- number k of a block writes this register, executed or not
-abbrev pub writes_in : Reg → Option Insn → Bool
-writes_in reg None = false
-writes_in reg (Some insn) = list_any (λ write. same_reg write.0 reg) (register_writes insn)
-
--- one of so many instructions from number i on writes this register
-abbrev pub is_written_by : List Insn → ℕ → ℕ → Reg → Bool
-is_written_by block i zero reg = false
-is_written_by block i (suc count) reg = is_written_by block i count reg || writes_in reg (slice_get block (i + count))
-
--- one holds exactly where the other does not
-abbrev pub are_opposite : Condition → Condition → Bool
-are_opposite one other = same_reg one.reg other.reg && (if one.negated then not other.negated else other.negated)
-
-abbrev pub condition_in : Option Insn → Option Condition
-condition_in None = None
-condition_in (Some insn) = cond_of insn
-
-abbrev pub exclusive_by : List Insn → ℕ → ℕ → Option Condition → Option Condition → Bool
-exclusive_by block i j (Some one) (Some other) = are_opposite one other && not (is_written_by block i (j - i) one.reg)
-exclusive_by block i j _ _ = false
-
--- of numbers i and j at most one runs, so that they need no order as writers of one register: they stand under opposite
--- conditions on a register that no instruction from i on and before j writes
-abbrev pub are_exclusive : List Insn → ℕ → ℕ → Bool
-are_exclusive block i j = exclusive_by block i j (condition_in (slice_get block i)) (condition_in (slice_get block j))
-
--- the bytes that an access with a constant offset covers, counted from 124 bytes before its base: no such offset is greater
-pub record Range : Type 0 where
-  pub base : Reg
-  pub begin : ℕ
-  pub size : ℕ
-
--- where they begin, of the offset in bytes
-abbrev pub begin_of : AddressForm → ℕ → ℕ
-begin_of Plus offset = 124 + offset
-begin_of PreIncrement offset = 124 + offset
-begin_of Minus offset = 124 - offset
-begin_of PreDecrement offset = 124 - offset
-begin_of _ offset = 124
-
-abbrev pub range_of : Op → Operands → Option Range
-range_of op (Access _ base form (ByConstant k)) = Some (record { base = base; begin = begin_of form (unsigned_abs k * size_of op); size = size_of op })
-range_of op _ = None
-
-abbrev pub range_in : Option Insn → Option Range
-range_in None = None
-range_in (Some insn) = range_of (op_of insn) (operands_of insn)
-
--- both are from one base and do not meet
-abbrev pub are_apart : Range → Range → Bool
-are_apart a b = same_reg a.base b.base && (nat_le (a.begin + a.size) b.begin || nat_le (b.begin + b.size) a.begin)
-
-abbrev pub disjoint_by : List Insn → ℕ → ℕ → Option Range → Option Range → Bool
-disjoint_by block i j (Some a) (Some b) = are_apart a b && not (is_written_by block i (j - i) a.base)
-disjoint_by block i j _ _ = false
-
--- The accesses of numbers i and j never meet, so that they need no order: their bytes from one base do not, and no
--- instruction from i on and before j writes that.
-abbrev pub are_disjoint : List Insn → ℕ → ℕ → Bool
-are_disjoint block i j = disjoint_by block i j (range_in (slice_get block i)) (range_in (slice_get block j))
+pub use Rattle.c62_rules.specs.Exclusive.{writes_in, is_written_by, are_opposite, condition_in, exclusive_by, are_exclusive}
+pub use Rattle.c62_rules.specs.Disjoint.{Range, begin_of, range_of, range_in, are_apart, disjoint_by, are_disjoint}
 
 -- What the cycle of q, number j of a block, must at least exceed that of p, number i, by. A case each, for p before q.
 pub data IsBound (block : List Insn) (i j : ℕ) (p q : Insn) (bound : ℤ) : Type 0 where

@@ -1,7 +1,6 @@
 -- How many cycles a block of issued instructions takes (docs/LISTING.md, "Length of a block"; SPRU189, "Delay Slots").
 use Rattle.std.specs.Prelude.{ℕ, ◌+◌, max, List, [], ◌∷◌, find}
 use Rattle.std.specs.Option.{option_map_or}
-use Rattle.c62_op.specs.declared.register.Reg.{Reg}
 use Rattle.c62_op.specs.Shape.{is_branch}
 use Rattle.c62_insn.specs.Insn.{op_of, register_writes, greatest_delay}
 use Rattle.c62_rules.specs.PacketRules.{Issue}

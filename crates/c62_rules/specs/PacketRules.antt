@@ -1,12 +1,11 @@
 -- Which instructions may share cycles: the five rules of execute packets (docs/MACHINE.md, "Packet rules"; SPRU189,
 -- "Resource Constraints").
-use Rattle.std.specs.Prelude.{◌≡◌, ◌≢◌, ◌⊎◌, ◌↔◌, ℕ, ◌+◌, ◌≤◌, ◌==◌, if◌then◌else◌, List, [], ◌∷◌, Contains, Option, Some, None, sum_by, count_by, slice_index_or, IsTrue}
+use Rattle.std.specs.Prelude.{◌≡◌, ◌≢◌, ◌⊎◌, ◌↔◌, ℕ, ◌+◌, ◌≤◌, ◌==◌, if◌then◌else◌, List, [], ◌∷◌, Contains, Option, Some, None, sum_by, slice_index_or, IsTrue}
 use Rattle.c62_op.specs.declared.register.Side.{Side}
 use Rattle.c62_op.specs.declared.register.Reg.{Reg}
 use Rattle.c62_op.specs.declared.register.Cond.{Cond as Condition}
 use Rattle.c62_op.specs.declared.register.Unit.{Unit as FunctionalUnit}
 use Rattle.c62_insn.specs.declared.insn.Insn.{Insn}
-use Rattle.c62_op.specs.Takes.{same_reg}
 use Rattle.c62_op.specs.Shape.{crosses_to, data_path_of}
 use Rattle.c62_insn.specs.Insn.{operands_of, cond_of, reads_count, register_writes}
 
@@ -78,8 +77,8 @@ pub record MayLandTogether (issues : Issues) (p q : Issue) : Type 0 where
   pub opposite : one.negated ≢ other.negated
   pub stays : (k : ℕ) (r : Issue) (t : ℕ) → IsIssued issues k r → LandsIn r one.reg t → (p.cycle ≤ t) ↔ (q.cycle ≤ t)
 
--- P5: no two writes of one register land in one cycle, executed or not, unless that is excused. The two writes of one instruction never do,
--- as they have different delays.
+-- P5: no two writes of one register land in one cycle, executed or not, unless that is excused. The two writes of one
+-- instruction never do, as they have different delays.
 abbrev pub HasOneLanding : Issues → Type 0
 HasOneLanding issues =
     (i j : ℕ) (p q : Issue) (reg : Reg) (cycle : ℕ) → IsIssued issues i p → IsIssued issues j q → LandsIn p reg cycle → LandsIn q reg cycle

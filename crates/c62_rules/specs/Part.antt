@@ -1,5 +1,5 @@
--- The packet rules and the length of a block ask only which instructions are issued, and neither under which numbers nor in
--- which order (docs/MACHINE.md, "Packet rules" and "Length of a block").
+-- The packet rules and the length of a block ask only which instructions are issued, and neither under which numbers nor
+-- in which order (docs/MACHINE.md, "Packet rules" and "Length of a block").
 use Rattle.std.specs.Prelude.{◌≡◌, ℕ, ◌≤◌, List, count_by, IsPermutation}
 use Rattle.c62_op.specs.Shape.{is_branch}
 use Rattle.c62_insn.specs.Insn.{op_of}

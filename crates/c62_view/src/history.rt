@@ -10,9 +10,9 @@ use std::marker::Model;
 use std::sync::Wait;
 
 /// The rule of the history.
-pub struct Law;
+pub struct Growth;
 
-impl Rule<Entry, u64> for Law {
+impl Rule<Entry, u64> for Growth {
     ghost use Rattle.std.specs.Prelude.{[]};
     ghost use base.Fml.{ftrue};
     ghost use Rattle.c62_view.specs.Past.{IsCounted};
@@ -30,26 +30,26 @@ impl Rule<Entry, u64> for Law {
     ghost moves = { λ ask before after answer. Unit {0} };
 }
 
-/// Nothing is traded.
-pub struct Nothing;
+/// A step that trades nothing with its client.
+pub struct NoTrade;
 
-impl Gain<Entry, u64> for Nothing {
+impl Gain<Entry, u64> for NoTrade {
     ghost use base.Fml.{ftrue};
 
     ghost after = { λ names about answer. ftrue };
 }
 
-/// A step that adds an entry.
-pub struct Add;
+/// A step that adds an entry to the history.
+pub struct AddEntry;
 
-impl Play<Entry, u64> for Add {
+impl Play<Entry, u64> for AddEntry {
     ghost use Rattle.c62_view.specs.Past.{Adds};
 
     ghost then = { Adds };
 }
 
 /// What a step asks for: the entry.
-impl Plain<Entry, Entry, u64> for Add {
+impl Plain<Entry, Entry, u64> for AddEntry {
     ghost use Rattle.std.specs.Prelude.{None};
 
     ghost ask = { λ entry. entry };
@@ -58,13 +58,13 @@ impl Plain<Entry, Entry, u64> for Add {
 }
 
 /// The word with the length of the history.
-pub type Head = Word<Entry, u64, Law>;
+pub type Head = Word<Entry, u64, Growth>;
 
 /// A beginning of a desk's history. Contracts see it as its `Past`.
 #[derive(Drop)]
 pub struct Front {
     count: u64,
-    seen: Seen<Entry, u64, Law>,
+    seen: Seen<Entry, u64, Growth>,
 }
 
 impl Model for Front {
@@ -124,10 +124,12 @@ impl Front {
         ensures added { OnTrue result (self.new.log ≡ self.old.log ++ entry ∷ []) }
     {
         let mut seen = self.seen.again();
-        let mut offer: Offer<Entry, u64, Law, Nothing> = seen.plain::<Nothing, Entry, Add>(&entry);
+        let mut offer: Offer<Entry, u64, Growth, NoTrade> = seen.plain::<NoTrade, Entry, AddEntry>(
+            &entry,
+        );
         let mut pen = seen.no_pen();
         let count = self.count;
-        let found = head.compare_exchange::<Add, Nothing>(
+        let found = head.compare_exchange::<AddEntry, NoTrade>(
             count,
             count + 1,
             &mut seen,

@@ -1,0 +1,5 @@
+use Rattle.c62_rules.proofs.Ranges.{disjoint-told}
+use Rattle.c62_rules.proofs.laws.disjoint_is_told.Goals as goal
+
+pub returns : goal.returns
+returns c = disjoint-told
