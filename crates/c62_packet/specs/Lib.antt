@@ -4,4 +4,4 @@ pub mod Fault
 pub mod Clash
 pub mod Packets
 pub mod Taken
-pub mod Covers
+pub mod Landed
