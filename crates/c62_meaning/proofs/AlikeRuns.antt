@@ -1,5 +1,5 @@
 -- Blocks with the same instructions in the same places, from whatever lines, do the same and leave the same but for faults.
-use Rattle.std.proofs.Common.{◌≡◌, ℕ, zero, suc, ◌*◌, ◌<◌, List, [], ◌∷◌, ◌++◌, map, get_or, refl, sym, ◌∙◌, ap, inl, inr, arith}
+use Rattle.std.proofs.Common.{◌≡◌, ℕ, zero, suc, ◌*◌, List, [], ◌∷◌, ◌++◌, map, get_or, refl, sym, ◌∙◌, ap, inl, inr, arith}
 use Rattle.std.specs.Prelude.{fold}
 use Rattle.std.specs.List.{flat_map}
 use Rattle.c62_op.specs.declared.register.Reg.{Reg}
@@ -14,8 +14,8 @@ use Rattle.c62_packet.specs.declared.placed.Placed.{Placed}
 use Rattle.c62_packet.specs.Packed.{issue_of, issues_of}
 use Rattle.c62_meaning.specs.Landing.{Landing, value_before}
 use Rattle.c62_meaning.specs.Packet.{Did, register_landings, memory_landings, word_before, byte_before, IsRun}
-use Rattle.c62_meaning.specs.Meaning.{Leaves, IsMeaning}
-use Rattle.c62_meaning.specs.Alike.{without_faults, AreSameButFaults, LeaveTheSame, MeanAlike}
+use Rattle.c62_meaning.specs.Meaning.{Leaves}
+use Rattle.c62_meaning.specs.Alike.{without_faults, AreSameButFaults, MeanAlike}
 use Rattle.c62_meaning.proofs.Lookup.{In}
 use Rattle.c62_meaning.proofs.Acting.{act_same}
 use Rattle.c62_meaning.proofs.Runs.{acts_to, the_run, the_run_runs, one_run}
