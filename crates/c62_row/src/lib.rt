@@ -8,3 +8,6 @@ mod row;
 
 pub use resource::Resource;
 pub use row::{PacketRule, Row};
+
+#[cfg(test)]
+mod tests;
