@@ -524,6 +524,54 @@ def reorder():
     return start, end, 1 + (n - 2) * 2 + carries + 1
 
 
+def merge():
+    first = [-32768, -5, -5, 0, 7, 7, 30001]
+    second = [-32767, -5, 3, 7, 8, 29999]
+    n = len(first) + len(second)
+    start = State(A2=n, A4=0x1B02, A8=0x1C02, B4=0x1B82)
+    start.halves(0x1B02, first + [32767]).halves(0x1B82, second + [32767])
+    merged = sorted(first + second)
+    end = start.then(
+        A1=0,
+        A2=0,
+        A4=0x1B02 + 2 * len(first),
+        A5=first[-1],
+        A6=merged[-1],
+        A8=0x1C02 + 2 * n,
+        B4=0x1B82 + 2 * len(second),
+        B5=32767,
+    ).halves(0x1C02, merged)
+    return start, end, n
+
+
+def delay_line():
+    h = [12000, -9001, 7003, -4000]
+    older = [32767, -32768, 5]
+    x = [1, -1, 32767, -32768, 12345, -30000, 29999, 0, 7]
+    n = len(x)
+    start = State(A1=n, A4=0x1D02, A6=0x1E02, B4=0x1D82).halves(0x1D02, x).halves(0x1E02, older + h)
+    newest = x[::-1] + older
+    windows = [newest[k : k + 4] for k in reversed(range(n))]
+    products = [[tap * sample for tap, sample in zip(h, window)] for window in windows]
+    y = [(sum(four) + 2**14) >> 15 for four in products]
+    assert all(map(is_half, y))
+    end = start.then(
+        A1=0,
+        A3=2**14,
+        A4=0x1D02 + 2 * n,
+        A5=x[-1],
+        A7=x[-2],
+        A8=x[-3],
+        A9=x[-4],
+        A10=products[-1][0],
+        A11=products[-1][0] + products[-1][1] + 2**14,
+        A12=products[-1][2],
+        A13=y[-1],
+        B4=0x1D82 + 2 * n,
+    ).halves(0x1E02, newest[:3]).halves(0x1D82, y)
+    return start, end, 1 + n
+
+
 def edge():
     words = [0x11111111, -2, 0x33333333]
     n, there = 6, len(words)
@@ -577,6 +625,8 @@ KERNELS = [
     gain,
     block_match,
     reorder,
+    merge,
+    delay_line,
     edge,
     gcd,
     noise,

@@ -5,7 +5,7 @@ use Rattle.c62_depend.proofs.Common.{or_cases, or_left, or_right, and_parts, con
 use Rattle.c62_depend.proofs.Common.{Op, Operands, Three, ConstantFirst, ConstantSecond, Two, Field, Constant, Access, same_reg, delay_of, is_load}
 use Rattle.c62_depend.proofs.Common.{changes_base, writes_of, op_of, operands_of, register_writes, reads_register, same_reg-is, same_reg-refl, Uses}
 use Rattle.c62_depend.proofs.Common.{RegSet, reg_in, shares, is_write_with, greater, read_after_write, write_after_read, write_after_write}
-use Rattle.c62_depend.proofs.Common.{by_registers, latency_of, eqb-true}
+use Rattle.c62_depend.proofs.Common.{by_registers, latency_of, eqb-true, ◌&&◌, not}
 use Rattle.std.proofs.lemmas.List.Folds.{list_any_at}
 use Rattle.c62_insn.proofs.InsnLemmas.{writes_delay_of}
 use Rattle.c62_depend.proofs.RegSets.{shared, shares_one}
@@ -259,19 +259,17 @@ module _ (p q : Uses) where
       IsGreatest-one (By exclusive disjoint p.insn q.insn) (Some (pos (p.delay + 1))) (latency_of exclusive disjoint p.insn q.insn)
       (is_one, λ b is. rw p.delay_is (bound_below exclusive disjoint b is)) (all-greatest p.insn q.insn exclusive disjoint)
 
-  result_is : (exclusive disjoint : Bool) → shares p.results q.reads ≡ true → Some (pos (p.delay + 1)) ≡ latency_of exclusive disjoint p.insn q.insn
-  unfolding ByRegisters
-  result_is exclusive disjoint h = attained exclusive disjoint (inl (inl (from_awaited (pos (p.delay + 1)) (true, (h, refl)))))
-
-  -- as little as that of a result which the second one writes over at once, or which lands where it reads or writes at once
-  pub landed_is : (exclusive disjoint : Bool) → shares p.results (if exclusive then q.reads else q.read_or_at_once) ≡ true
+  -- that of a result which the second one reads or, where the two are not exclusive, writes over at once
+  pub landed_is : (exclusive disjoint : Bool) → (shares p.results q.read_or_at_once && not exclusive) ≡ true
       → Some (pos (p.delay + 1)) ≡ latency_of exclusive disjoint p.insn q.insn
   unfolding ByRegisters
-  landed_is true disjoint h = result_is true disjoint h
+  landed_is true disjoint h = let clash : false ≡ true = (and_parts (shares p.results q.read_or_at_once) false h).1 in cc
   landed_is false disjoint h =
-      let found = shared p.results q.read_or_at_once h in
+      let found = shared p.results q.read_or_at_once (and_parts (shares p.results q.read_or_at_once) true h).0 in
       elim (or_cases (reg_in q.reads found.0) (reg_in q.at_once found.0) (sym (q.read_or_at_once_are found.0) ∙ found.2)) [
-        | inl read ↦ result_is false disjoint (shares_one p.results q.reads found.0 found.1 read)
+        | inl read ↦
+            let met = shares_one p.results q.reads found.0 found.1 read in
+            attained false disjoint (inl (inl (from_awaited (pos (p.delay + 1)) (true, (met, refl)))))
         | inr written ↦
             let is : pos (p.delay + 1) ≡ pos (p.delay + 1) -ℤ pos 0 = omega (arith, ints) in
             let met = shares_one p.results q.at_once found.0 found.1 written in

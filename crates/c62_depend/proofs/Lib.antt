@@ -11,3 +11,4 @@ pub mod Bounds
 pub mod Numbers
 pub mod Lists
 pub mod WrittenLemmas
+pub mod ConditionNumbers

@@ -1,5 +1,5 @@
 -- The numbers that the bounds are counted as.
-use Rattle.c62_depend.proofs.Common.{◌≡◌, ℕ, ◌+◌, ◌-◌, ◌<◌, ◌≤◌, max, ℤ, pos, ◌-ℤ◌, Bool, true, false, Option, Some, refl, ◌∙◌, arith, ◌&&◌, ◌||◌}
+use Rattle.c62_depend.proofs.Common.{◌≡◌, ℕ, ◌+◌, ◌<◌, ◌≤◌, max, ℤ, pos, ◌-ℤ◌, Bool, true, false, Option, Some, refl, ◌∙◌, arith, ◌&&◌, ◌||◌}
 use Rattle.c62_depend.proofs.Common.{not, ints, clamps, delay_of, is_load, is_store, is_branch, op_of, Uses, shares, as_bound, number_if}
 use Rattle.c62_depend.proofs.Common.{number_awaited, number_spared, number_after_result, number_after_at_once, number_overwritten}
 use Rattle.c62_depend.proofs.Common.{number_of_registers, number_of_order, greater, by_order, latency_of, nat_tests}

@@ -3,7 +3,11 @@ use Rattle.c62_depend.proofs.Common.{◌≡◌, ℕ, suc, zero, ◌+◌, ◌-◌
 use Rattle.c62_depend.proofs.Common.{◌||◌, list_any, Contains, slice_get, Reg, Insn, same_reg, same_reg-refl, same_reg-is, register_writes, RegSet, reg_in, Uses, insns_in, both_ways, or_cases, or_left, or_right}
 use Rattle.c62_depend.proofs.Common.{false_from_ne_true, inl, inr}
 use Rattle.c62_depend.proofs.Common.{not, ◌&&◌}
+use Rattle.c62_op.specs.declared.register.Cond.{Cond as Condition}
+use Rattle.c62_insn.specs.Insn.{cond_of}
 use Rattle.c62_rules.specs.Dependence.{writes_in, is_written_by, Range, range_in, are_apart, disjoint_by, are_disjoint}
+use Rattle.c62_rules.specs.Dependence.{are_opposite, condition_in, exclusive_by, are_exclusive}
+use Rattle.c62_depend.specs.Conditions.{opposed_by, never_both}
 use Rattle.c62_depend.specs.Covered.{apart_by, never_meet}
 use Rattle.c62_depend.specs.Written.{AreWritten}
 use Rattle.c62_depend.proofs.Bounds.{write_of, set_of, is_written}
@@ -77,3 +81,17 @@ never_meet_is block i j p q written are at_i at_j =
     apart_is_disjoint block i j written (range_in (Some p)) (range_in (Some q)) are
     ∙ ap (λ (o : Option Insn). disjoint_by block i j (range_in o) (range_in (Some q))) (sym at_i)
     ∙ ap (λ (o : Option Insn). disjoint_by block i j (range_in (slice_get block i)) (range_in o)) (sym at_j)
+
+-- likewise what never both run
+opposed_is_exclusive : (block : List Insn) (i j : ℕ) (written : RegSet) (a b : Option Condition) → AreWritten block i j written
+    → opposed_by written a b ≡ exclusive_by block i j a b
+opposed_is_exclusive block i j written None b are = refl
+opposed_is_exclusive block i j written (Some one) None are = refl
+opposed_is_exclusive block i j written (Some one) (Some other) are = ap (λ (t : Bool). are_opposite one other && not t) (are one.reg)
+
+pub never_both_is : (block : List Insn) (i j : ℕ) (p q : Insn) (written : RegSet) → AreWritten block i j written → slice_get block i ≡ Some p
+    → slice_get block j ≡ Some q → never_both written p q ≡ are_exclusive block i j
+never_both_is block i j p q written are at_i at_j =
+    opposed_is_exclusive block i j written (cond_of p) (cond_of q) are
+    ∙ ap (λ (o : Option Insn). exclusive_by block i j (condition_in o) (cond_of q)) (sym at_i)
+    ∙ ap (λ (o : Option Insn). exclusive_by block i j (condition_in (slice_get block i)) (condition_in o)) (sym at_j)

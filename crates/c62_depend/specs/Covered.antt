@@ -1,5 +1,5 @@
 -- Accesses that never meet, told by the registers that are written from the first one on and before the second.
-use Rattle.std.specs.Prelude.{Bool, false, not, ◌&&◌, Option, Some, None}
+use Rattle.std.specs.Prelude.{Bool, false, not, ◌&&◌, Option, Some}
 use Rattle.c62_insn.specs.declared.insn.Insn.{Insn}
 use Rattle.c62_rules.specs.Dependence.{Range, range_in, are_apart}
 use Rattle.c62_depend.specs.declared.covered.Covered.{Covered}

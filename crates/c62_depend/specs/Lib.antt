@@ -2,6 +2,7 @@ pub mod RegSet
 pub mod Writes
 pub mod Written
 pub mod Covered
+pub mod Conditions
 pub mod Uses
 pub mod Numbers
 pub mod Latency

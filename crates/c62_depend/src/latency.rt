@@ -2,11 +2,13 @@
 //!
 //! A bound is counted here as one number: 6 more than its cycles, which are -5 or more, and 0 where there is none.
 
-ghost use Rattle.std.specs.Prelude.{◌≡◌, ◌<◌, ◌≤◌, ◌+◌, max, length, slice_index_or};
-ghost use Rattle.c62_depend.specs.Latency.{latency_of, latency};
+ghost use Rattle.std.specs.Prelude.{◌≡◌, ◌<◌, ◌≤◌, ◌+◌, ◌&&◌, not, max, length, slice_index_or};
+ghost use Rattle.c62_depend.specs.Latency.{latency};
 ghost use Rattle.c62_depend.specs.Uses.{insns_in};
-ghost use Rattle.c62_depend.specs.Written.{AreWritten};
+ghost use Rattle.c62_depend.specs.Written.{AreWritten, latency_given};
+ghost use Rattle.c62_depend.specs.Conditions.{never_both};
 ghost use Rattle.c62_depend.specs.Covered.{never_meet};
+ghost use Rattle.c62_depend.specs.RegSet.{shares};
 ghost use Rattle.c62_depend.specs.Numbers.{as_bound, number_if, number_awaited, number_spared, number_after_result, number_after_at_once, number_overwritten, number_after_store, number_after_load, number_before_branch, number_of_registers, number_of_order};
 
 use crate::excuse::{are_disjoint, are_exclusive};
@@ -167,25 +169,34 @@ fn after_result(first: &Uses) -> u8
 /// The greatest bound of all cases.
 #[inline(never)]
 #[tactic(auto, using(crate::proofs::Numbers::all_is))]
-fn by_all(exclusive: bool, written: RegSet, first: &Uses, second: &Uses) -> u8
-    ensures { as_bound result ≡ latency_of exclusive (never_meet written first.now.insn second.now.insn) first.now.insn second.now.insn }
+fn by_all(written: RegSet, first: &Uses, second: &Uses) -> u8
+    ensures { as_bound result ≡ latency_given written first.now.insn second.now.insn }
 {
+    let exclusive = are_exclusive(written, first, second);
     greater(
         by_registers(exclusive, first, second),
         by_order(written, first, second),
     )
 }
 
+/// Whether the second instruction awaits a result of the first one, or writes over it at once and the two are not exclusive.
+#[inline(always)]
+fn is_landed(written: RegSet, first: &Uses, second: &Uses) -> bool
+    ensures { result ≡ (shares first.now.results second.now.read_or_at_once && not (never_both written first.now.insn second.now.insn)) }
+{
+    first.results.meets(second.read_or_at_once) && !are_exclusive(written, first, second)
+}
+
 /// By how much the cycle of the second instruction must at least exceed that of the first: the greatest bound of the
 /// cases that apply. No bound exceeds that of a result which the second one awaits or writes over at once.
 #[inline(always)]
-fn number_between(exclusive: bool, written: RegSet, first: &Uses, second: &Uses) -> u8
-    ensures { as_bound result ≡ latency_of exclusive (never_meet written first.now.insn second.now.insn) first.now.insn second.now.insn }
+fn number_between(written: RegSet, first: &Uses, second: &Uses) -> u8
+    ensures { as_bound result ≡ latency_given written first.now.insn second.now.insn }
 {
-    if first.results.meets(second.awaited(exclusive)) {
+    if is_landed(written, first, second) {
         after_result(first)
     } else if first.written.meets(second.used) {
-        by_all(exclusive, written, first, second)
+        by_all(written, first, second)
     } else if second.written.meets(first.reads) {
         greater(
             write_after_read(first, second),
@@ -206,13 +217,7 @@ pub(crate) fn latency_number(uses: &[Uses], written: RegSet, first: &Uses, i: us
     requires written { AreWritten (insns_in uses.now) i j written }
     ensures { as_bound result ≡ latency (insns_in uses.now) i j }
 {
-    let second = &uses[j];
-    number_between(
-        are_exclusive(written, first, second),
-        written,
-        first,
-        second,
-    )
+    number_between(written, first, &uses[j])
 }
 
 /// The registers that instructions from `i` on and before `j` write.

@@ -1,6 +1,7 @@
 //! The plan of a block: how far its instructions must stand apart, on which side each stands, and how urgent each is.
 #![tactic(auto)]
 
+mod condition;
 mod covered;
 mod excuse;
 mod height;

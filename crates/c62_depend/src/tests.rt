@@ -8,7 +8,7 @@ use std::process::Abort;
 use std::test::Fail;
 
 /// A text, all its dependences as `earlier>later:latency`, and its heights.
-const LATENCIES: [(&str, &str, &str); 19] = [
+const LATENCIES: [(&str, &str, &str); 37] = [
     (
         "MVK 3,A1\nADD A5,A1,A2\nLDW *A4,A5",
         "0>1:1 1>2:-4 ",
@@ -48,6 +48,38 @@ const LATENCIES: [(&str, &str, &str); 19] = [
         "0>1:0 0>2:1 0>3:-5 1>2:-3 1>3:1 2>3:5 ",
         "11 7 10 5 ",
     ),
+    // of two writers under opposite conditions at most one runs, while what they test keeps its value
+    ("[A1] ADD A3,A4,A2\n[!A1] SUB A3,A4,A2", "", "0 0 "),
+    ("[A1] LDW *A4,A5\n[!A1] MVK 1,A5", "", "4 0 "),
+    (
+        "[A1] MVK 1,A5\nSUB A1,1,A1\n[!A1] MVK 2,A5",
+        "0>1:0 0>2:1 1>2:1 ",
+        "1 1 0 ",
+    ),
+    (
+        "[A1] MVK 1,A5\n[!A1] MVK 2,A5\n[A1] MVK 3,A5",
+        "0>2:1 ",
+        "1 0 0 ",
+    ),
+    ("[A1] LDW *A4,A1\n[!A1] MVK 1,A1", "0>1:5 ", "5 0 "),
+    ("[!A1] MVK 2,A5\n[A1] SUB A1,1,A5", "", "0 0 "),
+    ("[A1] ADD A5,A3,A5\n[!A1] MVK 2,A5", "0>1:0 ", "0 0 "),
+    // accesses from one base whose bytes do not meet
+    (
+        "MPY A1,A2,A3\nSTW A3,*A4\nLDW *+A4[1],A5\nADD A5,A5,A6",
+        "0>1:2 2>3:5 ",
+        "2 0 5 0 ",
+    ),
+    ("STW A1,*A4\nLDW *-A4[1],A5", "", "0 4 "),
+    ("STH A1,*+A4[1]\nLDW *A4,A5", "0>1:1 ", "5 4 "),
+    ("STB A1,*+A4[4]\nLDW *A4,A5", "", "0 4 "),
+    ("STW A1,*A4++\nLDW *A4,A5", "0>1:1 ", "5 4 "),
+    ("STW A1,*A4\nLDW *++A4[1],A5", "0>1:0 ", "4 4 "),
+    ("STW A1,*+A4[1]\nLDW *A4++,A5", "0>1:0 ", "4 4 "),
+    ("STW A1,*+A4[A2]\nLDW *A4,A5", "0>1:1 ", "5 4 "),
+    ("STW A1,*A4\nLDW *A6,A5", "0>1:1 ", "5 4 "),
+    ("LDW *A4,A5\nSTW A1,*+A4[1]", "", "4 0 "),
+    ("STW A1,*A4\nSTW A2,*+A4[1]", "", "0 0 "),
 ];
 
 /// A text, and the sides of its instructions.

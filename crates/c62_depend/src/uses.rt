@@ -1,13 +1,18 @@
 //! What an instruction reads, writes and accesses.
 
-ghost use Rattle.std.specs.Prelude.{◌≡◌, ◌≤◌, ◌&&◌, ◌||◌, ◌==◌, [], ◌∷◌, if◌then◌else◌};
+ghost use Rattle.std.specs.Prelude.{◌≡◌, ◌≤◌, ◌&&◌, ◌||◌, ◌==◌, [], ◌∷◌, if◌then◌else◌, option_map};
 ghost use Rattle.std.specs.List.{list_any};
 ghost use Rattle.c62_op.specs.declared.register.Reg.{Reg as Register};
 ghost use Rattle.c62_op.specs.Shape.{delay_of, is_load, is_store, is_branch};
-ghost use Rattle.c62_insn.specs.Insn.{op_of, is_condition_on, reads_register};
+ghost use Rattle.c62_insn.specs.Insn.{op_of, operands_of, cond_of, is_condition_on, reads_register};
+ghost use Rattle.c62_rules.specs.Dependence.{range_of};
+ghost use Rattle.c62_depend.specs.Conditions.{test_of, opposite_of};
+ghost use Rattle.c62_depend.specs.Covered.{range_is};
 ghost use Rattle.c62_depend.specs.RegSet.{reg_in};
 ghost use Rattle.c62_depend.specs.Writes.{is_write_with, writes_with};
 
+use crate::condition::{opposite_of, test_of};
+use crate::covered::Covered;
 use crate::reg_set::RegSet;
 use c62_insn::{Cond, Insn, Reg};
 
@@ -27,6 +32,12 @@ pub(crate) struct Uses {
     pub written: RegSet,
     /// The registers that are read or written.
     pub used: RegSet,
+    /// The number of its condition, and of the opposite one, which differ where there is none: one condition holds exactly
+    /// where the other does not if the number of the one is the opposite of the other.
+    pub test: u8,
+    pub opposite: u8,
+    /// The bytes that it accesses from a base at a constant offset, where it does.
+    pub covered: Option<Covered>,
     pub delay: u8,
     pub loads: bool,
     pub stores: bool,
@@ -42,6 +53,9 @@ pub(crate) struct Uses {
     pub ghost read_or_at_once_are: { (reg : Register) → reg_in read_or_at_once reg ≡ (reg_in reads reg || reg_in at_once reg) },
     pub ghost written_are: { (reg : Register) → reg_in written reg ≡ (reg_in at_once reg || reg_in results reg) },
     pub ghost used_are: { (reg : Register) → reg_in used reg ≡ (reg_in reads reg || reg_in written reg) },
+    pub ghost test_is: { test ≡ test_of (cond_of insn) },
+    pub ghost opposite_is: { opposite ≡ opposite_of (cond_of insn) },
+    pub ghost covered_is: { option_map range_is covered ≡ range_of (op_of insn) (operands_of insn) },
     pub ghost delay_is: { delay ≡ delay_of (op_of insn) },
     pub ghost small: { delay ≤ 5 },
     pub ghost load_is: { loads ≡ is_load (op_of insn) },
@@ -126,25 +140,15 @@ impl Uses {
             read_or_at_once: reads.joined(at_once),
             written,
             used: reads.joined(written),
+            test: test_of(insn.cond()),
+            opposite: opposite_of(insn.cond()),
+            covered: Covered::by(insn),
             delay,
             loads,
             stores,
             branches,
             access,
             ordered: [branches, branches || stores, branches || (loads || stores)],
-        }
-    }
-
-    /// The registers in which a result of an earlier instruction must have landed: those that are read and, unless the
-    /// two are exclusive, those that are written with no delay.
-    #[inline(always)]
-    pub fn awaited(&self, exclusive: bool) -> RegSet
-        ensures { result ≡ (if exclusive then self.now.reads else self.now.read_or_at_once) }
-    {
-        if exclusive {
-            self.reads
-        } else {
-            self.read_or_at_once
         }
     }
 

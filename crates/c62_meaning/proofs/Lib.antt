@@ -10,3 +10,4 @@ pub mod Ends
 pub mod Faulted
 pub mod SerialPackets
 pub mod OneByOne
+pub mod AlikeRuns

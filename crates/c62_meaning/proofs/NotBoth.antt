@@ -1,5 +1,5 @@
 -- Of instructions under opposite conditions on a register that keeps its word at most one runs.
-use Rattle.std.proofs.Common.{◌≡◌, ◌≢◌, ℕ, zero, suc, ◌+◌, ◌<◌, ◌≤◌, Bool, true, false, not, cond, eqb, List, [], ◌∷◌, get_or, set, Option, Some, None, refl, sym, ◌∙◌, ap, subst, inl, inr, ⊎_elim, arith}
+use Rattle.std.proofs.Common.{◌≡◌, ◌≢◌, ℕ, zero, suc, ◌<◌, ◌≤◌, Bool, true, false, not, cond, eqb, List, [], ◌∷◌, get_or, set, Option, Some, refl, sym, ◌∙◌, ap, subst, inl, inr, ⊎_elim, arith}
 use Rattle.std.specs.Prelude.{Contains, fold, option_map}
 use Rattle.std.proofs.lemmas.Bool.{cases_lt, false≢true, cond_both}
 use Rattle.std.proofs.lemmas.List.{get_or-set_other}

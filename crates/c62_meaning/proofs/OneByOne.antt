@@ -1,17 +1,16 @@
 -- No two executed writes of one register land in one cycle.
-use Rattle.std.proofs.Common.{◌≡◌, ◌≢◌, ℕ, zero, suc, ◌+◌, ◌<◌, ◌≤◌, Bool, true, false, not, cond, eqb, ltb, ◌&&◌, List, [], ◌∷◌, length, map, Option, Some, None, refl, sym, ◌∙◌, ap, subst, ◌⊎◌, inl, inr, ⊎_elim, arith}
+use Rattle.std.proofs.Common.{◌≡◌, ℕ, zero, suc, ◌≤◌, Bool, true, not, cond, eqb, ltb, ◌&&◌, List, [], ◌∷◌, Option, Some, refl, sym, ◌∙◌, ap, subst, inl, inr, ⊎_elim, arith}
 use Rattle.std.specs.Prelude.{◌↔◌, Contains, slice_get, option_map}
 use Rattle.std.specs.List.{flat_map}
-use Rattle.std.proofs.lemmas.Bool.{cases_lt, cases_eq, and_left, ne_eqb, lt-ltb, le-ltb, false≢true, cond_both}
+use Rattle.std.proofs.lemmas.Bool.{cases_lt, cases_eq, and_left, ne_eqb, lt-ltb, le-ltb}
 use Rattle.std.proofs.lemmas.Option.{none-some, same_Some}
 use Rattle.c62_op.specs.declared.register.Reg.{Reg}
 use Rattle.c62_op.specs.declared.register.Cond.{Cond as Condition}
-use Rattle.c62_insn.specs.declared.insn.Insn.{Insn}
-use Rattle.c62_insn.specs.Insn.{cond_of, register_writes}
+use Rattle.c62_insn.specs.Insn.{register_writes}
 use Rattle.c62_insn.specs.Effect.{runs_of}
 use Rattle.c62_rules.specs.PacketRules.{Issue, IsIssued, LandsIn, MayLandTogether, HasOneLanding}
 use Rattle.c62_serial.specs.State.{Machine, index_of, word_in}
-use Rattle.c62_serial.specs.Effect.{Act, no_act, runs, operand_values, act_on, act_of}
+use Rattle.c62_serial.specs.Effect.{Act, runs, act_of}
 use Rattle.c62_packet.specs.declared.placed.Placed.{Placed}
 use Rattle.c62_packet.specs.Packed.{issue_of, issued}
 use Rattle.c62_meaning.specs.Landing.{Landing, later, latest, value_or}

@@ -3,3 +3,4 @@ pub mod Packet
 pub mod Meaning
 pub mod Laws
 pub mod Landed
+pub mod Alike

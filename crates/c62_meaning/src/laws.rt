@@ -6,6 +6,7 @@ ghost use Rattle.c62_insn.specs.declared.insn.Insn.{Insn};
 ghost use Rattle.c62_read.specs.declared.block.SerialInsn.{SerialInsn};
 ghost use Rattle.c62_serial.specs.State.{Machine, IsSound};
 ghost use Rattle.c62_packet.specs.declared.placed.Placed.{Placed};
+ghost use Rattle.c62_meaning.specs.Alike.{MeanAlike};
 ghost use Rattle.c62_meaning.specs.Landed.{RunsLandOneByOne};
 ghost use Rattle.c62_meaning.specs.Laws.{HasOneMeaning, IsSameInsn, ActsAlike, PacketsAreSerial};
 
@@ -31,4 +32,10 @@ pub fn acts_alike_on_all_units()
 /// In the run of packets that keep P5 no two executed writes of one register land in one cycle.
 pub fn lands_one_by_one()
     ensures { (block : List Placed) (opening : Machine) → RunsLandOneByOne block opening }
+{}
+
+/// Lines are names of faults and nothing else: the same instructions in the same places do the same
+/// and leave the same, but for the lines that faulted.
+pub fn lines_name_faults_alone()
+    ensures { (block others : List Placed) (cycles : ℕ) → MeanAlike block others cycles }
 {}

@@ -12,9 +12,9 @@ use Rattle.c62_packet.specs.Packed.{Packed}
 use Rattle.c62_meaning.specs.Laws.{AreSerial}
 use Rattle.c62_pack.specs.Packets.{ArePackets}
 
--- Every packet is one that the rules allow, every dependence between placed instructions keeps its distance, and the board is
--- its journal replayed from nothing. And with its whole block placed, its packets leave what the block leaves run serially,
--- from every machine.
+-- Every packet is one that the rules allow, every dependence between placed instructions keeps its distance, and the
+-- board is its journal replayed from nothing. And with its whole block placed, its packets leave what the block leaves
+-- run serially, from every sound machine.
 pub record HoldsHeadline (board : BoardState) : Type 0 where
   pub rules : KeepsPacketRules (issues (insns_of board.plan) board.spots)
   pub distances : (i j : ℕ) (bound : ℤ) (s t : Spot) → Bounds (insns_of board.plan) i j bound → IsAt board.spots i s → IsAt board.spots j t

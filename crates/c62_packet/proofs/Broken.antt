@@ -1,28 +1,33 @@
 -- What the walk finds is the first broken rule.
-use Rattle.std.proofs.Common.{arith, ◌≡◌, ℕ, suc, ◌+◌, ◌*◌, ◌<◌, ◌≤◌, List, [], ◌∷◌, ◌++◌, length, get_or, drop, drop-cons, Option, Some, None, Bool, true, false, refl, sym, ◌∙◌, subst, inl, inr}
-use Rattle.std.specs.Prelude.{◌==◌, nat_lt, if◌then◌else◌, find, option_map, Contains, All, MatchOption}
-use Rattle.std.specs.List.{list_any}
-use Rattle.std.proofs.lemmas.Bool.{cases_lt, cases_eq, false≢true}
+use Rattle.std.proofs.Common.{arith, ◌≡◌, ℕ, suc, ◌+◌, ◌*◌, ◌<◌, ◌≤◌, List, [], ◌∷◌, ◌++◌, length, Option, Some, None, Bool, true, false, refl, sym, ◌∙◌, subst, inl, inr}
+use Rattle.std.specs.Prelude.{◌==◌, ◌&&◌, nat_lt, if◌then◌else◌, find, option_map, Contains, All, MatchOption}
+use Rattle.std.proofs.lemmas.Bool.{cases_lt, cases_eq, false≢true, false_from_ne_true, and_parts}
 use Rattle.std.proofs.lemmas.Bool.Decides.{nat_tests}
 use Rattle.std.proofs.lemmas.Option.{same_Some, none-some}
 use Rattle.std.proofs.lemmas.List.Elements.{All-nil, All-cons, All-contains, All-weaker}
+use Rattle.c62_op.specs.declared.register.Side.{Side}
 use Rattle.c62_op.specs.declared.register.Reg.{Reg}
-use Rattle.c62_op.specs.declared.register.Unit.{Unit as FunctionalUnit}
 use Rattle.c62_op.specs.declared.operands.Op.{Op}
 use Rattle.c62_op.specs.declared.operands.Op.TheVariants.{Ldb, Ldbu, Ldh, Ldhu, Ldw}
 use Rattle.c62_op.specs.declared.operands.Operands.{Operands}
 use Rattle.c62_op.specs.declared.operands.Operands.TheVariants.{Three, ConstantFirst, ConstantSecond, Two, Field, Constant, Access, Block, Register}
-use Rattle.c62_op.specs.Shape.{is_load, delay_of, changes_base, writes_of}
+use Rattle.c62_op.specs.Shape.{is_load, delay_of, changes_base, writes_of, crosses_to, data_path_of}
 use Rattle.c62_insn.specs.Insn.{op_of, operands_of, register_writes}
-use Rattle.c62_rules.specs.PacketRules.{Issues, UsesCrossPath, UsesDataPath, KeepsPacketRules}
+use Rattle.c62_rules.specs.PacketRules.{Issues, KeepsPacketRules}
+use Rattle.c62_row.specs.declared.resource.Resource.TheVariants.{OnUnit, CrossPath, DataPath}
+use Rattle.c62_row.specs.declared.row.PacketRule.{PacketRule as RowRule}
+use Rattle.c62_row.specs.declared.row.Row.{Row}
+use Rattle.c62_row.specs.Row.{is_taken, is_path_taken, reads_too_often, rule_against}
+use Rattle.c62_row.specs.Issued.{IsRowOf}
+use Rattle.c62_row.proofs.Deciding.{first-told}
 use Rattle.c62_packet.specs.declared.placed.Placed.{Placed}
 use Rattle.c62_packet.specs.declared.fault.PacketRule.{PacketRule}
 use Rattle.c62_packet.specs.declared.fault.PacketRule.TheVariants.{P1, P2, P3, P4, P5}
 use Rattle.c62_packet.specs.Packed.{issued}
 use Rattle.c62_packet.specs.Rules.{IsKeptAmong, IsKept, AreKeptInEach}
-use Rattle.c62_packet.specs.Fault.{rank_of, IsBefore, IsFirstBroken}
-use Rattle.c62_packet.specs.Clash.{shares_unit, shares_cross_path, shares_data_path, is_over_read, is_met, landing_beside, broken_beside, is_before, earlier, broken}
-use Rattle.c62_packet.proofs.RuleLemmas.{one-cons, one-rest, one-alone, tells_unit, tells_cross_path, tells_data_path, reads-cons, reads-rest, reads-own, landing-cons, landing-rest, landing-own}
+use Rattle.c62_packet.specs.Fault.{rank_of, IsBefore, FindsBroken}
+use Rattle.c62_packet.specs.Clash.{is_met, landing_beside, rule_told, broken_by, broken_beside, is_before, earlier}
+use Rattle.c62_packet.proofs.RuleLemmas.{one-cons, one-rest, one-own, reads-cons, reads-rest, reads-own, landing-cons, landing-rest, landing-own}
 
 -- ---- rules cycle by cycle
 
@@ -47,36 +52,56 @@ kept-each issues = record {
 
 -- ---- one more instruction
 
--- the instruction does not break the rule in this cycle together with the others
-pub Suits : List Placed → PacketRule → ℕ → Placed → List Placed → Type 0
-Suits whole P1 c p xs = p.cycle ≡ c → list_any (shares_unit p) xs ≡ false
-Suits whole P2 c p xs = p.cycle ≡ c → list_any (shares_cross_path p) xs ≡ false
-Suits whole P3 c p xs = p.cycle ≡ c → list_any (shares_data_path p) xs ≡ false
-Suits whole P4 c p xs = p.cycle ≡ c → is_over_read p xs ≡ false
-Suits whole P5 c p xs = All (λ write. p.cycle + write.1 ≡ c → is_met whole p xs write ≡ false) (register_writes p.insn)
+-- the instruction does not break the rule in this cycle together with the others, which take this row of its cycle
+pub Suits : Row → List Placed → PacketRule → ℕ → Placed → List Placed → Type 0
+Suits row whole P1 c p xs = p.cycle ≡ c → is_taken row (OnUnit p.unit) ≡ false
+Suits row whole P2 c p xs = p.cycle ≡ c → (crosses_to p.unit.side (operands_of p.insn) && is_taken row (CrossPath p.unit.side)) ≡ false
+Suits row whole P3 c p xs = p.cycle ≡ c → is_path_taken row (data_path_of (operands_of p.insn)) ≡ false
+Suits row whole P4 c p xs = p.cycle ≡ c → reads_too_often row p.insn ≡ false
+Suits row whole P5 c p xs = All (λ write. p.cycle + write.1 ≡ c → is_met whole p xs write ≡ false) (register_writes p.insn)
 
-kept-cons : (whole : List Placed) (rule : PacketRule) (c : ℕ) (p : Placed) (xs : List Placed) → IsKeptAmong (issued whole) rule c (issued xs) → Suits whole rule c p xs → IsKeptAmong (issued whole) rule c (issued (p ∷ xs))
+path_free : (row : Row) (path : Option Side) (side : Side) → is_path_taken row path ≡ false → path ≡ Some side → is_taken row (DataPath side) ≡ true → ⊥
+path_free row path side free own taken = false≢true (sym free ∙ rw own taken)
+
+kept-cons : (row : Row) (whole : List Placed) (rule : PacketRule) (c : ℕ) (p : Placed) (xs : List Placed) → IsRowOf row p.cycle (issued xs)
+    → IsKeptAmong (issued whole) rule c (issued xs) → Suits row whole rule c p xs → IsKeptAmong (issued whole) rule c (issued (p ∷ xs))
 unfolding Suits
-kept-cons whole P1 c p xs old own = one-cons (λ (unit : FunctionalUnit) q. q.unit ≡ unit) shares_unit tells_unit c p xs old own
-kept-cons whole P2 c p xs old own = one-cons UsesCrossPath shares_cross_path tells_cross_path c p xs old own
-kept-cons whole P3 c p xs old own = one-cons UsesDataPath shares_data_path tells_data_path c p xs old own
-kept-cons whole P4 c p xs old own = reads-cons c p xs old own
-kept-cons whole P5 c p xs old own = landing-cons whole c p xs old own
+kept-cons row whole P1 c p xs is old own = λ unit.
+    one-cons row (OnUnit unit) c p xs is (λ here same taken. false≢true (sym (own here) ∙ rw (← same) at taken)) (old unit)
+kept-cons row whole P2 c p xs is old own = λ side.
+    one-cons row (CrossPath side) c p xs is
+    (λ here same taken.
+    let there : is_taken row (CrossPath p.unit.side) ≡ true = rw (← same.0) at taken in
+    false≢true (sym (own here) ∙ rw (same.1, there) refl)) (old side)
+kept-cons row whole P3 c p xs is old own = λ side.
+    one-cons row (DataPath side) c p xs is (λ here same taken. path_free row (data_path_of (operands_of p.insn)) side (own here) same taken) (old side)
+kept-cons row whole P4 c p xs is old own = reads-cons row c p xs is old own
+kept-cons row whole P5 c p xs is old own = landing-cons whole c p xs old own
 
 kept-rest : (whole : List Placed) (rule : PacketRule) (c : ℕ) (p : Placed) (xs : List Placed) → IsKeptAmong (issued whole) rule c (issued (p ∷ xs)) → IsKeptAmong (issued whole) rule c (issued xs)
-kept-rest whole P1 c p xs all = one-rest (λ (unit : FunctionalUnit) q. q.unit ≡ unit) c p xs all
-kept-rest whole P2 c p xs all = one-rest UsesCrossPath c p xs all
-kept-rest whole P3 c p xs all = one-rest UsesDataPath c p xs all
+kept-rest whole P1 c p xs all = λ unit. one-rest (OnUnit unit) c p xs (all unit)
+kept-rest whole P2 c p xs all = λ side. one-rest (CrossPath side) c p xs (all side)
+kept-rest whole P3 c p xs all = λ side. one-rest (DataPath side) c p xs (all side)
 kept-rest whole P4 c p xs all = reads-rest c p xs all
 kept-rest whole P5 c p xs all = landing-rest whole c p xs all
 
-kept-own : (whole : List Placed) (rule : PacketRule) (c : ℕ) (p : Placed) (xs : List Placed) → IsKeptAmong (issued whole) rule c (issued (p ∷ xs)) → Suits whole rule c p xs
+path_taken : (row : Row) (path : Option Side) → ((side : Side) → path ≡ Some side → is_taken row (DataPath side) ≡ true → ⊥) → is_path_taken row path ≡ false
+path_taken row None free = refl
+path_taken row (Some side) free = false_from_ne_true (is_taken row (DataPath side)) (free side refl)
+
+kept-own : (row : Row) (whole : List Placed) (rule : PacketRule) (c : ℕ) (p : Placed) (xs : List Placed) → IsRowOf row p.cycle (issued xs)
+    → IsKeptAmong (issued whole) rule c (issued (p ∷ xs)) → Suits row whole rule c p xs
 unfolding Suits
-kept-own whole P1 c p xs all = one-alone (λ (unit : FunctionalUnit) q. q.unit ≡ unit) shares_unit tells_unit c p xs all
-kept-own whole P2 c p xs all = one-alone UsesCrossPath shares_cross_path tells_cross_path c p xs all
-kept-own whole P3 c p xs all = one-alone UsesDataPath shares_data_path tells_data_path c p xs all
-kept-own whole P4 c p xs all = reads-own c p xs all
-kept-own whole P5 c p xs all = landing-own whole c p xs all
+kept-own row whole P1 c p xs is all = λ here.
+    false_from_ne_true (is_taken row (OnUnit p.unit)) (one-own row (OnUnit p.unit) c p xs is (all p.unit) here refl)
+kept-own row whole P2 c p xs is all = λ here.
+    false_from_ne_true (crosses_to p.unit.side (operands_of p.insn) && is_taken row (CrossPath p.unit.side)) (λ taken.
+    let parts = and_parts (crosses_to p.unit.side (operands_of p.insn)) (is_taken row (CrossPath p.unit.side)) taken in
+    one-own row (CrossPath p.unit.side) c p xs is (all p.unit.side) here (refl, parts.0) parts.1)
+kept-own row whole P3 c p xs is all = λ here.
+    path_taken row (data_path_of (operands_of p.insn)) (λ side own. one-own row (DataPath side) c p xs is (all side) here own)
+kept-own row whole P4 c p xs is all = reads-own row c p xs is all
+kept-own row whole P5 c p xs is all = landing-own whole c p xs all
 
 -- ---- the first that fails
 
@@ -174,13 +199,13 @@ first-both P Q (Some f) (Some g) x y = by_order (is_before g f) refl
 
 -- ---- what one instruction breaks
 
-early : (whole : List Placed) (rule : PacketRule) (c : ℕ) (p : Placed) (xs : List Placed) → c < p.cycle → Suits whole rule c p xs
+early : (row : Row) (whole : List Placed) (rule : PacketRule) (c : ℕ) (p : Placed) (xs : List Placed) → c < p.cycle → Suits row whole rule c p xs
 unfolding Suits
-early whole P1 c p xs lt = λ e. absurd (omega (arith, lt, e))
-early whole P2 c p xs lt = λ e. absurd (omega (arith, lt, e))
-early whole P3 c p xs lt = λ e. absurd (omega (arith, lt, e))
-early whole P4 c p xs lt = λ e. absurd (omega (arith, lt, e))
-early whole P5 c p xs lt = λ k d within e. absurd (omega (arith, lt, e))
+early row whole P1 c p xs lt = λ e. absurd (omega (arith, lt, e))
+early row whole P2 c p xs lt = λ e. absurd (omega (arith, lt, e))
+early row whole P3 c p xs lt = λ e. absurd (omega (arith, lt, e))
+early row whole P4 c p xs lt = λ e. absurd (omega (arith, lt, e))
+early row whole P5 c p xs lt = λ k d within e. absurd (omega (arith, lt, e))
 
 rank_at_most : (rule : PacketRule) → rank_of rule ≤ 4
 rank_at_most P1 = omega arith
@@ -190,24 +215,27 @@ rank_at_most P4 = omega arith
 rank_at_most P5 = omega arith
 
 -- the rules before this one are kept
-passed : (whole : List Placed) (found rule : PacketRule) (c : ℕ) (p : Placed) (xs : List Placed)
-    → (0 < rank_of found → list_any (shares_unit p) xs ≡ false) → (1 < rank_of found → list_any (shares_cross_path p) xs ≡ false)
-    → (2 < rank_of found → list_any (shares_data_path p) xs ≡ false) → (3 < rank_of found → is_over_read p xs ≡ false)
-    → rank_of rule < rank_of found → Suits whole rule c p xs
+passed : (row : Row) (whole : List Placed) (found rule : PacketRule) (c : ℕ) (p : Placed) (xs : List Placed)
+    → (0 < rank_of found → is_taken row (OnUnit p.unit) ≡ false)
+    → (1 < rank_of found → (crosses_to p.unit.side (operands_of p.insn) && is_taken row (CrossPath p.unit.side)) ≡ false)
+    → (2 < rank_of found → is_path_taken row (data_path_of (operands_of p.insn)) ≡ false)
+    → (3 < rank_of found → reads_too_often row p.insn ≡ false)
+    → rank_of rule < rank_of found → Suits row whole rule c p xs
 unfolding Suits
-passed whole found P1 c p xs one two three four lt = λ e. one lt
-passed whole found P2 c p xs one two three four lt = λ e. two lt
-passed whole found P3 c p xs one two three four lt = λ e. three lt
-passed whole found P4 c p xs one two three four lt = λ e. four lt
-passed whole found P5 c p xs one two three four lt = let most : rank_of found ≤ 4 = rank_at_most found in absurd (omega (arith, lt, most))
+passed row whole found P1 c p xs one two three four lt = λ e. one lt
+passed row whole found P2 c p xs one two three four lt = λ e. two lt
+passed row whole found P3 c p xs one two three four lt = λ e. three lt
+passed row whole found P4 c p xs one two three four lt = λ e. four lt
+passed row whole found P5 c p xs one two three four lt = let most : rank_of found ≤ 4 = rank_at_most found in absurd (omega (arith, lt, most))
 
-found_here : (whole : List Placed) (found : PacketRule) (p : Placed) (xs : List Placed) → (Suits whole found p.cycle p xs → ⊥)
-    → ((rule : PacketRule) (c : ℕ) → rank_of rule < rank_of found → Suits whole rule c p xs) → FirstOf (λ rule c. Suits whole rule c p xs) (Some (p.cycle, found))
+found_here : (row : Row) (whole : List Placed) (found : PacketRule) (p : Placed) (xs : List Placed) → (Suits row whole found p.cycle p xs → ⊥)
+    → ((rule : PacketRule) (c : ℕ) → rank_of rule < rank_of found → Suits row whole rule c p xs)
+    → FirstOf (λ rule c. Suits row whole rule c p xs) (Some (p.cycle, found))
 unfolding FirstOf
-found_here whole found p xs fails before = (
+found_here row whole found p xs fails before = (
   fails,
   λ c rule is. elim is [
-    | inl lower ↦ early whole rule c p xs lower
+    | inl lower ↦ early row whole rule c p xs lower
     | inr same ↦ before rule c same.1
   ],
 )
@@ -287,34 +315,35 @@ none_found test (first ∷ writes) e = by_first (test first) refl (λ rest. none
     by_first true h later = absurd (none-some first (sym (rw h at e)))
     by_first false h later = All-cons (λ other. test other ≡ false) first writes h (later (rw h at e))
 
-landing_first : (whole : List Placed) (p : Placed) (xs : List Placed) (o : Option (Reg × ℕ)) → find (is_met whole p xs) (register_writes p.insn) ≡ o
-    → list_any (shares_unit p) xs ≡ false → list_any (shares_cross_path p) xs ≡ false → list_any (shares_data_path p) xs ≡ false → is_over_read p xs ≡ false
-    → FirstOf (λ rule c. Suits whole rule c p xs) (option_map (λ cycle. (cycle, P5)) (option_map (λ write. p.cycle + write.1) o))
+landing_first : (row : Row) (whole : List Placed) (p : Placed) (xs : List Placed) (o : Option (Reg × ℕ)) → find (is_met whole p xs) (register_writes p.insn) ≡ o
+    → is_taken row (OnUnit p.unit) ≡ false → (crosses_to p.unit.side (operands_of p.insn) && is_taken row (CrossPath p.unit.side)) ≡ false
+    → is_path_taken row (data_path_of (operands_of p.insn)) ≡ false → reads_too_often row p.insn ≡ false
+    → FirstOf (λ rule c. Suits row whole rule c p xs) (option_map (λ cycle. (cycle, P5)) (option_map (λ write. p.cycle + write.1) o))
 unfolding FirstOf Suits
-landing_first whole p xs None e one two three four = all
+landing_first row whole p xs None e one two three four = all
   where
-    all : (rule : PacketRule) (c : ℕ) → Suits whole rule c p xs
+    all : (rule : PacketRule) (c : ℕ) → Suits row whole rule c p xs
     all P1 c = λ h. one
     all P2 c = λ h. two
     all P3 c = λ h. three
     all P4 c = λ h. four
     all P5 c = All-weaker (λ (write : Reg × ℕ). is_met whole p xs write ≡ false) (λ (write : Reg × ℕ). p.cycle + write.1 ≡ c → is_met whole p xs write ≡ false)
         (λ write fails h. fails) (register_writes p.insn) (none_found (is_met whole p xs) (register_writes p.insn) e)
-landing_first whole p xs (Some write) e one two three four = (fails, before)
+landing_first row whole p xs (Some write) e one two three four = (fails, before)
   where
     found : IsFound (is_met whole p xs) (register_writes p.insn) write
     found = find_found (is_met whole p xs) (register_writes p.insn) write (rise (op_of p.insn) (operands_of p.insn)) e
 
-    fails : Suits whole P5 (p.cycle + write.1) p xs → ⊥
+    fails : Suits row whole P5 (p.cycle + write.1) p xs → ⊥
     fails suits =
         let alone : is_met whole p xs write ≡ false
         = All-contains (λ (other : Reg × ℕ). p.cycle + other.1 ≡ p.cycle + write.1 → is_met whole p xs other ≡ false) (register_writes p.insn) write suits found.is refl in
         false≢true (sym alone ∙ found.passes)
 
-    at : (rule : PacketRule) (c : ℕ) → rank_of rule < rank_of P5 → Suits whole rule c p xs
-    at rule c lt = passed whole P5 rule c p xs (λ h. one) (λ h. two) (λ h. three) (λ h. four) lt
+    at : (rule : PacketRule) (c : ℕ) → rank_of rule < rank_of P5 → Suits row whole rule c p xs
+    at rule c lt = passed row whole P5 rule c p xs (λ h. one) (λ h. two) (λ h. three) (λ h. four) lt
 
-    below : (rule : PacketRule) (c : ℕ) → c < p.cycle + write.1 → Suits whole rule c p xs
+    below : (rule : PacketRule) (c : ℕ) → c < p.cycle + write.1 → Suits row whole rule c p xs
     below P1 c lt = λ h. one
     below P2 c lt = λ h. two
     below P3 c lt = λ h. three
@@ -322,45 +351,37 @@ landing_first whole p xs (Some write) e one two three four = (fails, before)
     below P5 c lt = All-weaker (λ (other : Reg × ℕ). other.1 < write.1 → is_met whole p xs other ≡ false) (λ (other : Reg × ℕ). p.cycle + other.1 ≡ c → is_met whole p xs other ≡ false)
         (λ other less h. less (omega (arith, lt, h))) (register_writes p.insn) found.less
 
-    before : (cycle : ℕ) (rule : PacketRule) → IsBefore cycle rule (p.cycle + write.1) P5 → Suits whole rule cycle p xs
+    before : (cycle : ℕ) (rule : PacketRule) → IsBefore cycle rule (p.cycle + write.1) P5 → Suits row whole rule cycle p xs
     before cycle rule is = elim is [
       | inl lower ↦ below rule cycle lower
       | inr same ↦ at rule cycle same.1
     ]
 
-first_beside : (whole : List Placed) (p : Placed) (xs : List Placed) → FirstOf (λ rule c. Suits whole rule c p xs) (broken_beside whole p xs)
+-- the row's rule is told before a landing
+by_rule : (Holds : PacketRule → ℕ → Type 0) (cycle : ℕ) (told : Option RowRule) (landing : Option ℕ)
+    → MatchOption told (FirstOf Holds (option_map (λ c. (c, P5)) landing)) (λ rule. FirstOf Holds (Some (cycle, rule_told rule)))
+    → FirstOf Holds (broken_by cycle told landing)
+by_rule Holds cycle None landing h = h
+by_rule Holds cycle (Some rule) landing h = h
+
+first_beside : (row : Row) (whole : List Placed) (p : Placed) (xs : List Placed) → FirstOf (λ rule c. Suits row whole rule c p xs) (broken_beside row whole p xs)
 unfolding Suits
-first_beside whole p xs = by_unit (list_any (shares_unit p) xs) refl
+first_beside row whole p xs =
+    by_rule Holds p.cycle (rule_against row p.insn p.unit) (landing_beside whole p xs)
+    (first-told (is_taken row (OnUnit p.unit)) (crosses_to p.unit.side (operands_of p.insn) && is_taken row (CrossPath p.unit.side))
+    (is_path_taken row (data_path_of (operands_of p.insn))) (reads_too_often row p.insn)
+    (FirstOf Holds (option_map (λ c. (c, P5)) (landing_beside whole p xs))) (λ rule. FirstOf Holds (Some (p.cycle, rule_told rule)))
+    (λ a. found_here row whole P1 p xs (λ h. false≢true (sym (h refl) ∙ a)) (λ rule c lt. absurd (omega (arith, lt))))
+    (λ a b. found_here row whole P2 p xs (λ h. false≢true (sym (h refl) ∙ b))
+    (λ rule c lt. passed row whole P2 rule c p xs (λ h. a) (λ h. absurd (omega (arith, h))) (λ h. absurd (omega (arith, h))) (λ h. absurd (omega (arith, h))) lt))
+    (λ a b d. found_here row whole P3 p xs (λ h. false≢true (sym (h refl) ∙ d))
+    (λ rule c lt. passed row whole P3 rule c p xs (λ h. a) (λ h. b) (λ h. absurd (omega (arith, h))) (λ h. absurd (omega (arith, h))) lt))
+    (λ a b d e. found_here row whole P4 p xs (λ h. false≢true (sym (h refl) ∙ e))
+    (λ rule c lt. passed row whole P4 rule c p xs (λ h. a) (λ h. b) (λ h. d) (λ h. absurd (omega (arith, h))) lt))
+    (λ a b d e. landing_first row whole p xs (find (is_met whole p xs) (register_writes p.insn)) refl a b d e))
   where
-    by_reads : (b : Bool) → is_over_read p xs ≡ b → list_any (shares_unit p) xs ≡ false → list_any (shares_cross_path p) xs ≡ false
-        → list_any (shares_data_path p) xs ≡ false
-        → FirstOf (λ rule c. Suits whole rule c p xs) (if b then Some (p.cycle, P4) else option_map (λ cycle. (cycle, P5)) (landing_beside whole p xs))
-    by_reads true four one two three = found_here whole P4 p xs (λ h. false≢true (sym (h refl) ∙ four))
-        (λ rule c lt. passed whole P4 rule c p xs (λ h. one) (λ h. two) (λ h. three) (λ h. absurd (omega (arith, h))) lt)
-    by_reads false four one two three = landing_first whole p xs (find (is_met whole p xs) (register_writes p.insn)) refl one two three four
-
-    by_path : (b : Bool) → list_any (shares_data_path p) xs ≡ b → list_any (shares_unit p) xs ≡ false → list_any (shares_cross_path p) xs ≡ false
-        → FirstOf (λ rule c. Suits whole rule c p xs)
-        (if b then Some (p.cycle, P3) else (if is_over_read p xs then Some (p.cycle, P4) else option_map (λ cycle. (cycle, P5)) (landing_beside whole p xs)))
-    by_path true three one two = found_here whole P3 p xs (λ h. false≢true (sym (h refl) ∙ three))
-        (λ rule c lt. passed whole P3 rule c p xs (λ h. one) (λ h. two) (λ h. absurd (omega (arith, h))) (λ h. absurd (omega (arith, h))) lt)
-    by_path false three one two = by_reads (is_over_read p xs) refl one two three
-
-    by_cross : (b : Bool) → list_any (shares_cross_path p) xs ≡ b → list_any (shares_unit p) xs ≡ false
-        → FirstOf (λ rule c. Suits whole rule c p xs)
-        (if b then Some (p.cycle, P2) else (if list_any (shares_data_path p) xs then Some (p.cycle, P3)
-        else (if is_over_read p xs then Some (p.cycle, P4) else option_map (λ cycle. (cycle, P5)) (landing_beside whole p xs))))
-    by_cross true two one = found_here whole P2 p xs (λ h. false≢true (sym (h refl) ∙ two))
-        (λ rule c lt. passed whole P2 rule c p xs (λ h. one) (λ h. absurd (omega (arith, h))) (λ h. absurd (omega (arith, h))) (λ h. absurd (omega (arith, h))) lt)
-    by_cross false two one = by_path (list_any (shares_data_path p) xs) refl one two
-
-    by_unit : (b : Bool) → list_any (shares_unit p) xs ≡ b
-        → FirstOf (λ rule c. Suits whole rule c p xs)
-        (if b then Some (p.cycle, P1) else (if list_any (shares_cross_path p) xs then Some (p.cycle, P2)
-        else (if list_any (shares_data_path p) xs then Some (p.cycle, P3)
-        else (if is_over_read p xs then Some (p.cycle, P4) else option_map (λ cycle. (cycle, P5)) (landing_beside whole p xs)))))
-    by_unit true one = found_here whole P1 p xs (λ h. false≢true (sym (h refl) ∙ one)) (λ rule c lt. absurd (omega (arith, lt)))
-    by_unit false one = by_cross (list_any (shares_cross_path p) xs) refl one
+    Holds : PacketRule → ℕ → Type 0
+    Holds rule c = Suits row whole rule c p xs
 
 -- ---- all instructions
 
@@ -371,32 +392,24 @@ none_kept whole P3 c = λ side i j p q at. absurd (none-some p at)
 none_kept whole P4 c = λ reg. omega arith
 none_kept whole P5 c = λ i j p q reg at. absurd (none-some p at)
 
-first_in : (whole : List Placed) (xs : List Placed) → FirstOf (λ rule c. IsKeptAmong (issued whole) rule c (issued xs)) (broken whole xs)
-unfolding FirstOf
-first_in whole [] = nothing
-  where
-    nothing : FirstOf (λ rule c. IsKeptAmong (issued whole) rule c (issued [])) None
-    nothing = none_kept whole
-first_in whole (p ∷ xs) =
-    first-same (λ rule c. IsKeptAmong (issued whole) rule c (issued xs) × Suits whole rule c p xs) (λ rule c. IsKeptAmong (issued whole) rule c (issued (p ∷ xs))) (broken whole (p ∷ xs))
-    (λ rule c h. kept-cons whole rule c p xs h.0 h.1) (λ rule c h. (kept-rest whole rule c p xs h, kept-own whole rule c p xs h))
-    (first-both (λ rule c. IsKeptAmong (issued whole) rule c (issued xs)) (λ rule c. Suits whole rule c p xs) (broken whole xs) (broken_beside whole p xs) (first_in whole xs) (first_beside whole p xs))
+-- the first cycle and rule that some of a block break
+pub FirstAmong : List Placed → List Placed → Option (ℕ × PacketRule) → Type 0
+FirstAmong whole xs found = FirstOf (λ rule c. IsKeptAmong (issued whole) rule c (issued xs)) found
 
-answer_from : (xs : List Placed) (o : Option (ℕ × PacketRule)) → FirstOf (λ rule c. IsKept rule c (issued xs)) o
-    → MatchOption o (KeepsPacketRules (issued xs)) (λ found. IsFirstBroken found.0 found.1 xs)
-unfolding FirstOf
-answer_from xs None h = (kept-each (issued xs)).whole h
-answer_from xs (Some found) h = record { broken = h.0; first = λ earlier other before. h.1 earlier other before }
+pub first-none : (whole : List Placed) → FirstAmong whole [] None
+unfolding FirstAmong FirstOf
+first-none whole = none_kept whole
 
-pub broken-first : (xs : List Placed) (o : Option (ℕ × PacketRule)) → o ≡ broken xs xs
-    → MatchOption o (KeepsPacketRules (issued xs)) (λ found. IsFirstBroken found.0 found.1 xs)
-broken-first xs o e = answer_from xs o (subst (FirstOf (λ rule c. IsKept rule c (issued xs))) (sym e) (first_in xs xs))
+pub first-cons : (row : Row) (whole : List Placed) (p : Placed) (xs : List Placed) (found : Option (ℕ × PacketRule)) → IsRowOf row p.cycle (issued xs)
+    → FirstAmong whole xs found → FirstAmong whole (p ∷ xs) (earlier found (broken_beside row whole p xs))
+unfolding FirstAmong
+first-cons row whole p xs found is h =
+    first-same (λ rule c. IsKeptAmong (issued whole) rule c (issued xs) × Suits row whole rule c p xs) (λ rule c. IsKeptAmong (issued whole) rule c (issued (p ∷ xs)))
+    (earlier found (broken_beside row whole p xs))
+    (λ rule c k. kept-cons row whole rule c p xs is k.0 k.1) (λ rule c k. (kept-rest whole rule c p xs k, kept-own row whole rule c p xs is k))
+    (first-both (λ rule c. IsKeptAmong (issued whole) rule c (issued xs)) (λ rule c. Suits row whole rule c p xs) found (broken_beside row whole p xs) h (first_beside row whole p xs))
 
--- one more step of the walk from the back
-pub broken-step : (whole placed : List Placed) (at : ℕ) (p : Placed) (found beside : Option (ℕ × PacketRule)) → at < length placed → p ≡ get_or placed at p
-    → found ≡ broken whole (drop (at + 1) placed) → beside ≡ broken_beside whole p (drop (at + 1) placed) → earlier found beside ≡ broken whole (drop at placed)
-broken-step whole placed at p found beside lt is so_far here =
-    let next : at + 1 ≡ suc at = omega arith in
-    let split : drop at placed ≡ p ∷ drop (at + 1) placed
-    = drop-cons placed at p lt ∙ rw (← is, next) refl in
-    rw (split, so_far, here) refl
+pub first-all : (xs : List Placed) (found : Option (ℕ × PacketRule)) → FirstAmong xs xs found → FindsBroken xs found
+unfolding FirstAmong FirstOf
+first-all xs None h = (kept-each (issued xs)).whole h
+first-all xs (Some found) h = record { broken = h.0; first = λ earlier other before. h.1 earlier other before }

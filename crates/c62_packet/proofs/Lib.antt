@@ -2,7 +2,7 @@ pub mod LengthLemmas
 pub mod PacketsLemmas
 pub mod RuleLemmas
 pub mod Broken
-pub mod LaterIssues
+pub mod ListingOrder
 pub mod OneFault
-pub mod ReadLemmas
+pub mod LandingSets
 pub mod TakenLemmas

@@ -1,30 +1,35 @@
 -- The packet rules, with one more instruction before the others: what they ask of the others, and that it does not clash.
 use Rattle.std.proofs.Common.{arith, ◌≡◌, ℕ, zero, suc, ◌+◌, ◌≢◌, ◌<◌, ◌≤◌, min, max, List, [], ◌∷◌, length, Option, Some, None, Bool, true, false, refl, sym, ap, ◌∙◌, subst, inl, inr}
-use Rattle.std.specs.Prelude.{◌==◌, ◌&&◌, not, nat_le, nat_lt, if◌then◌else◌, sum_by, count_by, Contains, All}
+use Rattle.std.specs.Prelude.{◌==◌, ◌&&◌, not, nat_le, nat_lt, if◌then◌else◌, sum_by, Contains, All}
 use Rattle.std.specs.List.{list_any}
 use Rattle.std.proofs.lemmas.Bool.{cases_eq, cases_lt, lt-ltb, ltb-true, le-leb, leb-true, and_parts, or_parts, both_ways, false≢true, false_from_ne_true}
 use Rattle.std.proofs.lemmas.Bool.Decides.{nat_tests}
 use Rattle.std.proofs.lemmas.List.Sums.{sum_by-cons}
 use Rattle.std.proofs.lemmas.List.Elements.{All-nil, All-cons, All-contains, All-tail}
 use Rattle.std.proofs.lemmas.Option.{same_Some, none-some}
-use Rattle.c62_op.specs.declared.register.Side.{Side}
 use Rattle.c62_op.specs.declared.register.Reg.{Reg}
 use Rattle.c62_op.specs.declared.register.Cond.{Cond as Condition}
-use Rattle.c62_op.specs.declared.register.Unit.{Unit as FunctionalUnit}
-use Rattle.c62_op.specs.Takes.{same_reg, same_side, same_unit}
+use Rattle.c62_op.specs.Takes.{same_reg}
 use Rattle.c62_op.specs.declared.operands.Op.{Op}
-use Rattle.c62_op.specs.Shape.{data_path_of, delay_of}
-use Rattle.c62_insn.specs.Insn.{op_of, operands_of, cond_of, operand_reads, register_writes, reads_count}
+use Rattle.c62_op.specs.Shape.{delay_of}
+use Rattle.c62_insn.specs.Insn.{op_of, cond_of, operand_reads, register_writes, reads_count}
 use Rattle.c62_rules.proofs.Exclusive.{not_opposite, none_of, may-swapped}
 use Rattle.c62_rules.specs.Dependence.{are_opposite}
 use Rattle.c62_insn.proofs.InsnLemmas.{timely_writes}
-use Rattle.c62_rules.specs.PacketRules.{Issue, IsIssued, UsesCrossPath, UsesDataPath, reads_in, LandsIn, MayLandTogether}
-use Rattle.c62_op.proofs.Registers.{same_reg-is, same_reg-refl, same_side-is, same_side-refl, same_unit-is, same_unit-refl}
+use Rattle.c62_rules.specs.PacketRules.{Issue, IsIssued, reads_in, LandsIn, MayLandTogether}
+use Rattle.c62_op.proofs.Registers.{same_reg-is, same_reg-refl}
+use Rattle.c62_row.specs.declared.resource.Resource.{Resource}
+use Rattle.c62_row.specs.declared.row.Row.{Row}
+use Rattle.c62_row.specs.Row.{is_taken, reads_taken, reads_too_often}
+use Rattle.c62_row.specs.Rules.{HasOneIn}
+use Rattle.c62_row.specs.Issued.{IsRowOf}
+use Rattle.c62_row.proofs.Users.{Uses, uses-is, is-use}
+use Rattle.c62_row.proofs.Deciding.{read-or-not, some-read}
 use Rattle.c62_packet.specs.declared.placed.Placed.{Placed}
 use Rattle.c62_packet.specs.declared.fault.PacketRule.TheVariants.{P4}
 use Rattle.c62_packet.specs.Packed.{issue_of, issued}
-use Rattle.c62_packet.specs.Rules.{HasOneIn, HasOneLandingIn, IsKept}
-use Rattle.c62_packet.specs.Clash.{shares_unit, crosses, shares_side, both_cross, shares_cross_path, same_path, shares_data_path, reads_beside, is_over_read, is_landing, lands, is_between, lands_between, excused_under, are_excused, clashes, is_met}
+use Rattle.c62_packet.specs.Rules.{HasOneLandingIn, IsKept}
+use Rattle.c62_packet.specs.Clash.{is_landing, lands, is_between, lands_between, excused_under, are_excused, clashes, is_met}
 
 -- ---- lists of placed instructions
 
@@ -41,6 +46,7 @@ number_same a b h = grind (arith, nat_tests)
 pub record IsOneOf (xs : List Placed) (j : ℕ) (q : Issue) : Type 0 where
   pub one : Placed
   pub is : q ≡ issue_of one
+  pub there : Contains xs one
   pub fails : (test : Placed → Bool) → list_any test xs ≡ false → test one ≡ false
 
 pub issued-one : (xs : List Placed) (j : ℕ) (q : Issue) → IsIssued (issued xs) j q → IsOneOf xs j q
@@ -48,11 +54,13 @@ issued-one [] j q at = absurd (none-some q at)
 issued-one (x ∷ xs) zero q at = record {
   one = x;
   is = sym (same_Some (issue_of x) q at);
+  there = (0, omega arith, refl);
   fails = λ test h. (or_parts (test x) (list_any test xs) h).0;
 }
 issued-one (x ∷ xs) (suc j) q at =
     let rest : IsOneOf xs j q = issued-one xs j q at in
-    record { one = rest.one; is = rest.is; fails = λ test h. rest.fails test (or_parts (test x) (list_any test xs) h).1 }
+    let there : Contains (x ∷ xs) rest.one = (suc rest.there.0, (let low : rest.there.0 < length xs = rest.there.1 in omega arith), rest.there.2) in
+    record { one = rest.one; is = rest.is; there = there; fails = λ test h. rest.fails test (or_parts (test x) (list_any test xs) h).1 }
 
 -- where no issued one passes, none does
 pub none-issued : (test : Placed → Bool) (xs : List Placed) → ((j : ℕ) (s : Placed) → IsIssued (issued xs) j (issue_of s) → test s ≡ true → ⊥)
@@ -114,88 +122,33 @@ some-contained {X} test (x ∷ xs) h = by_head (test x) refl (λ rest. some-cont
 
 -- ---- rules that one of a cycle is such
 
--- a test tells that two are such in one cycle
-pub record Tells {K : Type 0} (Is : K → Issue → Type 0) (test : Placed → Placed → Bool) : Type 0 where
-  pub yes : (p s : Placed) (k : K) → s.cycle ≡ p.cycle → Is k (issue_of p) → Is k (issue_of s) → test p s ≡ true
-  pub cycle : (p s : Placed) → test p s ≡ true → s.cycle ≡ p.cycle
-  pub kind : (p s : Placed) → test p s ≡ true → (k : K) × Is k (issue_of p) × Is k (issue_of s)
-
-pub one-cons : {K : Type 0} (Is : K → Issue → Type 0) (test : Placed → Placed → Bool) → Tells Is test → (c : ℕ) (p : Placed) (xs : List Placed)
-    → ((k : K) → HasOneIn c (Is k) (issued xs)) → (p.cycle ≡ c → list_any (test p) xs ≡ false) → (k : K) → HasOneIn c (Is k) (issued (p ∷ xs))
-one-cons {K} Is test tells c p xs old alone k = with_first
+pub one-cons : (row : Row) (r : Resource) (c : ℕ) (p : Placed) (xs : List Placed) → IsRowOf row p.cycle (issued xs)
+    → (p.cycle ≡ c → Uses r (issue_of p) → is_taken row r ≡ true → ⊥) → HasOneIn c (Uses r) (issued xs) → HasOneIn c (Uses r) (issued (p ∷ xs))
+one-cons row r c p xs is free old = with_first
   where
-    clash : (j : ℕ) (a b : Issue) → Some (issue_of p) ≡ Some a → IsIssued (issued xs) j b → a.cycle ≡ c → b.cycle ≡ c → Is k a → Is k b → ⊥
+    clash : (j : ℕ) (a b : Issue) → Some (issue_of p) ≡ Some a → IsIssued (issued xs) j b → a.cycle ≡ c → b.cycle ≡ c → Uses r a → Uses r b → ⊥
     clash j a b first at ca cb ia ib =
         let e : issue_of p ≡ a = same_Some (issue_of p) a first in
-        let one : IsOneOf xs j b = issued-one xs j b at in
         let here : p.cycle ≡ c = ap (λ (x : Issue). x.cycle) e ∙ ca in
-        let there : one.one.cycle ≡ c = sym (ap (λ (x : Issue). x.cycle) one.is) ∙ cb in
-        let no : test p one.one ≡ false = one.fails (test p) (alone here) in
-        let yes : test p one.one ≡ true = tells.yes p one.one k (there ∙ sym here) (subst (Is k) (sym e) ia) (subst (Is k) one.is ib) in
-        false≢true (sym no ∙ yes)
+        let own : Uses r (issue_of p) = subst (Uses r) (sym e) ia in
+        free here own ((is.taken r).1 (record { number = j; user = b; issued = at; now = cb ∙ sym here; uses = is-use r b ib }))
 
-    with_first : HasOneIn c (Is k) (issued (p ∷ xs))
+    with_first : HasOneIn c (Uses r) (issued (p ∷ xs))
     with_first zero zero a b ai bj ca cb ia ib = refl
     with_first zero (suc j) a b ai bj ca cb ia ib = absurd (clash j a b ai bj ca cb ia ib)
     with_first (suc i) zero a b ai bj ca cb ia ib = absurd (clash i b a bj ai cb ca ib ia)
-    with_first (suc i) (suc j) a b ai bj ca cb ia ib = ap suc (old k i j a b ai bj ca cb ia ib)
+    with_first (suc i) (suc j) a b ai bj ca cb ia ib = ap suc (old i j a b ai bj ca cb ia ib)
 
-pub one-rest : {K : Type 0} (Is : K → Issue → Type 0) (c : ℕ) (p : Placed) (xs : List Placed)
-    → ((k : K) → HasOneIn c (Is k) (issued (p ∷ xs))) → (k : K) → HasOneIn c (Is k) (issued xs)
-one-rest Is c p xs all k i j a b ai bj ca cb ia ib =
-    let e : suc i ≡ suc j = all k (suc i) (suc j) a b ai bj ca cb ia ib in omega arith
+pub one-rest : (r : Resource) (c : ℕ) (p : Placed) (xs : List Placed) → HasOneIn c (Uses r) (issued (p ∷ xs)) → HasOneIn c (Uses r) (issued xs)
+one-rest r c p xs all i j a b ai bj ca cb ia ib =
+    let e : suc i ≡ suc j = all (suc i) (suc j) a b ai bj ca cb ia ib in omega arith
 
-pub one-alone : {K : Type 0} (Is : K → Issue → Type 0) (test : Placed → Placed → Bool) → Tells Is test → (c : ℕ) (p : Placed) (xs : List Placed)
-    → ((k : K) → HasOneIn c (Is k) (issued (p ∷ xs))) → p.cycle ≡ c → list_any (test p) xs ≡ false
-one-alone Is test tells c p xs all here = none-issued (test p) xs (λ j s at yes.
-    let same : s.cycle ≡ p.cycle = tells.cycle p s yes in
-    let kind = tells.kind p s yes in
-    let e : 0 ≡ suc j = all kind.0 0 (suc j) (issue_of p) (issue_of s) refl at here (same ∙ here) kind.1 kind.2 in
-    omega arith)
-
--- ---- the first three rules
-
-pub tells_unit : Tells {K = FunctionalUnit} (λ unit p. p.unit ≡ unit) shares_unit
-tells_unit = record {
-  yes = λ p s k e one other. both (s.cycle == p.cycle) (same_unit s.unit p.unit) (same_number s.cycle p.cycle e) (rw (other ∙ sym one) (same_unit-refl p.unit));
-  cycle = λ p s h. number_same s.cycle p.cycle (and_parts (s.cycle == p.cycle) (same_unit s.unit p.unit) h).0;
-  kind = λ p s h. (p.unit, refl, same_unit-is s.unit p.unit (and_parts (s.cycle == p.cycle) (same_unit s.unit p.unit) h).1);
-}
-
-pub tells_cross_path : Tells UsesCrossPath shares_cross_path
-tells_cross_path = record {
-  yes = λ p s k e one other.
-      both (shares_side p s) (both_cross p s)
-      (both (s.cycle == p.cycle) (same_side s.unit.side p.unit.side) (same_number s.cycle p.cycle e) (rw (other.0 ∙ sym one.0) (same_side-refl p.unit.side)))
-      (both (crosses p) (crosses s) one.1 other.1);
-  cycle = λ p s h.
-      let side = (and_parts (shares_side p s) (both_cross p s) h).0 in
-      number_same s.cycle p.cycle (and_parts (s.cycle == p.cycle) (same_side s.unit.side p.unit.side) side).0;
-  kind = λ p s h.
-      let parts = and_parts (shares_side p s) (both_cross p s) h in
-      let cross = and_parts (crosses p) (crosses s) parts.1 in
-      (p.unit.side, (refl, cross.0), (same_side-is s.unit.side p.unit.side (and_parts (s.cycle == p.cycle) (same_side s.unit.side p.unit.side) parts.0).1, cross.1));
-}
-
-path_refl : (a b : Option Side) (side : Side) → a ≡ Some side → b ≡ Some side → same_path a b ≡ true
-path_refl a b side e f = rw (e, f) (same_side-refl side)
-
-path_is : (a b : Option Side) → same_path a b ≡ true → (side : Side) × (b ≡ Some side) × (a ≡ Some side)
-path_is (Some a) (Some b) h = (b, refl, ap Some (same_side-is a b h))
-path_is (Some a) None h = absurd (false≢true h)
-path_is None (Some b) h = absurd (false≢true h)
-path_is None None h = absurd (false≢true h)
-
-pub tells_data_path : Tells UsesDataPath shares_data_path
-tells_data_path = record {
-  yes = λ p s k e one other.
-      both (s.cycle == p.cycle) (same_path (data_path_of (operands_of s.insn)) (data_path_of (operands_of p.insn))) (same_number s.cycle p.cycle e)
-      (path_refl (data_path_of (operands_of s.insn)) (data_path_of (operands_of p.insn)) k other one);
-  cycle = λ p s h. number_same s.cycle p.cycle (and_parts (s.cycle == p.cycle) (same_path (data_path_of (operands_of s.insn)) (data_path_of (operands_of p.insn))) h).0;
-  kind = λ p s h.
-      path_is (data_path_of (operands_of s.insn)) (data_path_of (operands_of p.insn))
-      (and_parts (s.cycle == p.cycle) (same_path (data_path_of (operands_of s.insn)) (data_path_of (operands_of p.insn))) h).1;
-}
+pub one-own : (row : Row) (r : Resource) (c : ℕ) (p : Placed) (xs : List Placed) → IsRowOf row p.cycle (issued xs)
+    → HasOneIn c (Uses r) (issued (p ∷ xs)) → p.cycle ≡ c → Uses r (issue_of p) → is_taken row r ≡ true → ⊥
+one-own row r c p xs is one here own taken =
+    let u = (is.taken r).0 taken in
+    let e : 0 ≡ suc u.number = one 0 (suc u.number) (issue_of p) u.user refl u.issued here (u.now ∙ here) own (uses-is r u.user u.uses) in
+    absurd (omega (arith, e))
 
 -- ---- the fourth rule: a sum of reads that the instruction adds to
 
@@ -205,79 +158,43 @@ reads_here c reg p e = rw (same_number p.cycle c e) refl
 reads_elsewhere : (c : ℕ) (reg : Reg) (p : Placed) → (p.cycle ≡ c → ⊥) → reads_in c reg (Some (issue_of p)) ≡ 0
 reads_elsewhere c reg p ne = rw (false_from_ne_true (p.cycle == c) (λ e. ne (number_same p.cycle c e))) refl
 
--- what is counted is there
-counted : {X : Type 0} (test : X → Bool) (xs : List X) → list_any test xs ≡ false → count_by test xs ≡ 0
-counted test [] h = refl
-counted test (x ∷ xs) h =
-    let parts = or_parts (test x) (list_any test xs) h in
-    rw (parts.0) (counted test xs parts.1)
+split : (c : ℕ) (reg : Reg) (p : Placed) (xs : List Placed)
+    → sum_by (reads_in c reg) (issued (p ∷ xs)) ≡ reads_in c reg (Some (issue_of p)) + sum_by (reads_in c reg) (issued xs)
+split c reg p xs = sum_by-cons (reads_in c reg) (Some (issue_of p)) (issued xs)
 
-not_more : (a b : ℕ) → nat_lt a b ≡ false → b ≤ a
-not_more a b h = grind (arith, nat_tests)
-
-more : (a b : ℕ) → nat_lt a b ≡ true → a < b
-more a b h = grind (arith, nat_tests)
-
-pub reads-cons : (c : ℕ) (p : Placed) (xs : List Placed) → IsKept P4 c (issued xs) → (p.cycle ≡ c → is_over_read p xs ≡ false)
-    → IsKept P4 c (issued (p ∷ xs))
-reads-cons c p xs old own reg = elim (cases_eq p.cycle c) [
-  | inl here ↦ by_read here (list_any (λ read. same_reg read reg) (operand_reads p.insn)) refl
-  | inr ne ↦
-      let none : reads_in c reg (Some (issue_of p)) ≡ 0 = reads_elsewhere c reg p ne in
-      let split : sum_by (reads_in c reg) (issued (p ∷ xs)) ≡ reads_in c reg (Some (issue_of p)) + sum_by (reads_in c reg) (issued xs)
-      = sum_by-cons (reads_in c reg) (Some (issue_of p)) (issued xs) in
+pub reads-cons : (row : Row) (c : ℕ) (p : Placed) (xs : List Placed) → IsRowOf row p.cycle (issued xs) → IsKept P4 c (issued xs)
+    → (p.cycle ≡ c → reads_too_often row p.insn ≡ false) → IsKept P4 c (issued (p ∷ xs))
+reads-cons row c p xs is old own reg = elim (cases_eq p.cycle c) [
+  | inl here ↦
+      let counted : reads_taken row reg ≡ min 5 (sum_by (reads_in c reg) (issued xs)) = rw here at is.reads reg in
+      let own_reads : reads_in c reg (Some (issue_of p)) ≡ reads_count reg p.insn = reads_here c reg p here in
       let before : sum_by (reads_in c reg) (issued xs) ≤ 4 = old reg in
-      omega (arith, split, none, before)
+      elim (read-or-not (λ r. nat_lt 4 (reads_taken row r + reads_count r p.insn)) reg (operand_reads p.insn) (own here)) [
+        | inl e ↦
+            let few : reads_taken row reg + reads_count reg p.insn ≤ 4 = grind (arith, nat_tests) in
+            omega (arith, split c reg p xs, counted, own_reads, before, few)
+        | inr e ↦
+            let none : reads_count reg p.insn ≡ 0 = e in
+            omega (arith, split c reg p xs, own_reads, before, none)
+      ]
+  | inr ne ↦
+      let before : sum_by (reads_in c reg) (issued xs) ≤ 4 = old reg in
+      omega (arith, split c reg p xs, reads_elsewhere c reg p ne, before)
 ]
-  where
-    by_read : (here : p.cycle ≡ c) (b : Bool) → list_any (λ read. same_reg read reg) (operand_reads p.insn) ≡ b → sum_by (reads_in c reg) (issued (p ∷ xs)) ≤ 4
-    by_read here false none =
-        let zero_count : reads_count reg p.insn ≡ 0 = counted (λ read. same_reg read reg) (operand_reads p.insn) none in
-        let here_count : reads_in c reg (Some (issue_of p)) ≡ reads_count reg p.insn = reads_here c reg p here in
-        let split : sum_by (reads_in c reg) (issued (p ∷ xs)) ≡ reads_in c reg (Some (issue_of p)) + sum_by (reads_in c reg) (issued xs)
-        = sum_by-cons (reads_in c reg) (Some (issue_of p)) (issued xs) in
-        let before : sum_by (reads_in c reg) (issued xs) ≤ 4 = old reg in
-        omega (arith, split, zero_count, here_count, before)
-    by_read here true some =
-        let found = some-contained (λ read. same_reg read reg) (operand_reads p.insn) some in
-        let same : found.0 ≡ reg = same_reg-is found.0 reg found.2 in
-        let fine : nat_lt 4 (reads_beside p xs found.0) ≡ false
-        = All-contains (λ read. nat_lt 4 (reads_beside p xs read) ≡ false) (operand_reads p.insn) found.0
-        (all-fail (λ read. nat_lt 4 (reads_beside p xs read)) (operand_reads p.insn) (own here)) found.1 in
-        let few : reads_beside p xs found.0 ≤ 4 = not_more 4 (reads_beside p xs found.0) fine in
-        let few_here : reads_beside p xs reg ≤ 4 = subst (λ (r : Reg). reads_beside p xs r ≤ 4) same few in
-        let few_c : reads_count reg p.insn + sum_by (reads_in c reg) (issued xs) ≤ 4
-        = subst (λ (x : ℕ). reads_count reg p.insn + sum_by (reads_in x reg) (issued xs) ≤ 4) here few_here in
-        let here_count : reads_in c reg (Some (issue_of p)) ≡ reads_count reg p.insn = reads_here c reg p here in
-        let split : sum_by (reads_in c reg) (issued (p ∷ xs)) ≡ reads_in c reg (Some (issue_of p)) + sum_by (reads_in c reg) (issued xs)
-        = sum_by-cons (reads_in c reg) (Some (issue_of p)) (issued xs) in
-        omega (arith, split, few_c, here_count)
 
 pub reads-rest : (c : ℕ) (p : Placed) (xs : List Placed) → IsKept P4 c (issued (p ∷ xs)) → IsKept P4 c (issued xs)
 reads-rest c p xs all reg =
-    let split : sum_by (reads_in c reg) (issued (p ∷ xs)) ≡ reads_in c reg (Some (issue_of p)) + sum_by (reads_in c reg) (issued xs)
-    = sum_by-cons (reads_in c reg) (Some (issue_of p)) (issued xs) in
     let before : sum_by (reads_in c reg) (issued (p ∷ xs)) ≤ 4 = all reg in
-    omega (arith, split, before)
+    omega (arith, split c reg p xs, before)
 
-pub reads-own : (c : ℕ) (p : Placed) (xs : List Placed) → IsKept P4 c (issued (p ∷ xs)) → p.cycle ≡ c → is_over_read p xs ≡ false
-reads-own c p xs all here =
-    none_over (operand_reads p.insn)
-  where
-    few : (reg : Reg) → nat_lt 4 (reads_beside p xs reg) ≡ false
-    few reg =
-        let split : sum_by (reads_in c reg) (issued (p ∷ xs)) ≡ reads_in c reg (Some (issue_of p)) + sum_by (reads_in c reg) (issued xs)
-        = sum_by-cons (reads_in c reg) (Some (issue_of p)) (issued xs) in
-        let before : sum_by (reads_in c reg) (issued (p ∷ xs)) ≤ 4 = all reg in
-        let here_count : reads_in c reg (Some (issue_of p)) ≡ reads_count reg p.insn = reads_here c reg p here in
-        let few_c : reads_count reg p.insn + sum_by (reads_in c reg) (issued xs) ≤ 4 = omega (arith, split, before, here_count) in
-        let few_here : reads_beside p xs reg ≤ 4
-        = subst (λ (x : ℕ). reads_count reg p.insn + sum_by (reads_in x reg) (issued xs) ≤ 4) (sym here) few_c in
-        grind (arith, nat_tests)
-
-    none_over : (regs : List Reg) → list_any (λ reg. nat_lt 4 (reads_beside p xs reg)) regs ≡ false
-    none_over [] = refl
-    none_over (reg ∷ regs) = rw (few reg) (none_over regs)
+pub reads-own : (row : Row) (c : ℕ) (p : Placed) (xs : List Placed) → IsRowOf row p.cycle (issued xs) → IsKept P4 c (issued (p ∷ xs)) → p.cycle ≡ c
+    → reads_too_often row p.insn ≡ false
+reads-own row c p xs is all here = false_from_ne_true (reads_too_often row p.insn) (λ some.
+    let w = some-read (λ r. nat_lt 4 (reads_taken row r + reads_count r p.insn)) (operand_reads p.insn) some in
+    let over : 4 < reads_taken row w.0 + reads_count w.0 p.insn = grind (arith, nat_tests, w.1) in
+    let counted : reads_taken row w.0 ≡ min 5 (sum_by (reads_in c w.0) (issued xs)) = rw here at is.reads w.0 in
+    let few : sum_by (reads_in c w.0) (issued (p ∷ xs)) ≤ 4 = all w.0 in
+    absurd (omega (arith, over, counted, split c w.0 p xs, reads_here c w.0 p here, few)))
 
 -- ---- the fifth rule
 

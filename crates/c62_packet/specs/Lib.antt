@@ -4,5 +4,5 @@ pub mod Fault
 pub mod Clash
 pub mod Packets
 pub mod Taken
-pub mod Covers
+pub mod Landed
 pub mod Alike

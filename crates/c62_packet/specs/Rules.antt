@@ -1,16 +1,12 @@
 -- What each packet rule asks of one cycle (docs/MACHINE.md, "Packet rules"; SPRU189, "Resource Constraints"). A rule that
 -- is kept in each cycle is kept by all.
-use Rattle.std.specs.Prelude.{◌≡◌, ◌⊎◌, ℕ, ◌≤◌, sum_by}
-use Rattle.c62_op.specs.declared.register.Side.{Side}
+use Rattle.std.specs.Prelude.{◌≡◌, ◌⊎◌, ℕ}
 use Rattle.c62_op.specs.declared.register.Reg.{Reg}
-use Rattle.c62_op.specs.declared.register.Unit.{Unit as FunctionalUnit}
-use Rattle.c62_rules.specs.PacketRules.{Issue, Issues, IsIssued, UsesCrossPath, UsesDataPath, reads_in, LandsIn, MayLandTogether, KeepsPacketRules}
+use Rattle.c62_rules.specs.PacketRules.{Issue, Issues, IsIssued, LandsIn, MayLandTogether, KeepsPacketRules}
+use Rattle.c62_row.specs.declared.row.PacketRule.TheVariants.{P1 as RowP1, P2 as RowP2, P3 as RowP3, P4 as RowP4}
+use Rattle.c62_row.specs.Rules.{IsKept as IsKeptIn}
 use Rattle.c62_packet.specs.declared.fault.PacketRule.{PacketRule}
 use Rattle.c62_packet.specs.declared.fault.PacketRule.TheVariants.{P1, P2, P3, P4, P5}
-
--- of this cycle at most one issued instruction is such
-abbrev pub HasOneIn : ℕ → (Issue → Type 0) → Issues → Type 0
-HasOneIn cycle Is issues = (i j : ℕ) (p q : Issue) → IsIssued issues i p → IsIssued issues j q → p.cycle ≡ cycle → q.cycle ≡ cycle → Is p → Is q → i ≡ j
 
 -- of this cycle at most one lands in the register, or both may land together
 abbrev pub HasOneLandingIn : Issues → ℕ → Issues → Type 0
@@ -20,10 +16,10 @@ HasOneLandingIn whole cycle issues =
 
 -- the rule is kept in this cycle by some of a block, for P5 by what lands in it
 abbrev pub IsKeptAmong : Issues → PacketRule → ℕ → Issues → Type 0
-IsKeptAmong whole P1 cycle issues = (unit : FunctionalUnit) → HasOneIn cycle (λ p. p.unit ≡ unit) issues
-IsKeptAmong whole P2 cycle issues = (side : Side) → HasOneIn cycle (UsesCrossPath side) issues
-IsKeptAmong whole P3 cycle issues = (side : Side) → HasOneIn cycle (UsesDataPath side) issues
-IsKeptAmong whole P4 cycle issues = (reg : Reg) → sum_by (reads_in cycle reg) issues ≤ 4
+IsKeptAmong whole P1 cycle issues = IsKeptIn RowP1 cycle issues
+IsKeptAmong whole P2 cycle issues = IsKeptIn RowP2 cycle issues
+IsKeptAmong whole P3 cycle issues = IsKeptIn RowP3 cycle issues
+IsKeptAmong whole P4 cycle issues = IsKeptIn RowP4 cycle issues
 IsKeptAmong whole P5 cycle issues = HasOneLandingIn whole cycle issues
 
 -- the same of a whole block

@@ -3,6 +3,7 @@
 
 mod block;
 mod fault;
+mod landings;
 pub mod laws;
 mod length;
 mod limits;

@@ -36,7 +36,7 @@ first-told false false false true All First one two three four none = four refl 
 first-told false false false false All First one two three four none = none refl refl refl refl
 
 -- a register that an instruction reads fails the test that none of its reads passes, and the others it reads no time
-read-or-not : (test : Reg → Bool) (reg : Reg) (regs : List Reg) → list_any test regs ≡ false
+pub read-or-not : (test : Reg → Bool) (reg : Reg) (regs : List Reg) → list_any test regs ≡ false
     → (test reg ≡ false) ⊎ (count_by (λ read. same_reg read reg) regs ≡ 0)
 read-or-not test reg [] all = inr refl
 read-or-not test reg (r ∷ regs) all = grind (arith, common_steps, same_reg-is r reg, read-or-not test reg regs)

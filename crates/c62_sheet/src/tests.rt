@@ -76,7 +76,7 @@ const CHECKS: [(&str, u16, u16, u16, Unit, &str); 14] = [
 ];
 
 /// A block, where its instructions stand once they were placed in their order, and the length.
-const IN_ORDER: [(&str, &str, u16); 10] = [
+const IN_ORDER: [(&str, &str, u16); 15] = [
     ("MVK 5,A1\nMVK 7,A2\nADD A1,A2,A3", "0.S1 1.S1 2.L1 ", 3),
     ("MVK 3,A1\nADD A5,A1,A2\nLDW *A4,A5", "0.S1 1.L1 0.D1 ", 5),
     (TWO_WRITERS, "0.D1 5.S1 ", 6),
@@ -91,6 +91,19 @@ const IN_ORDER: [(&str, &str, u16); 10] = [
     ),
     ("L1: MPY A1,A2,A3\nB L1", "0.M1 0.S2 ", 6),
     (SIX, "0.D2 0.L2 0.L1 1.L1 1.M1 3.M1 ", 5),
+    ("[A1] ADD A3,A4,A2\n[!A1] SUB A3,A4,A2", "0.L1 0.S1 ", 1),
+    ("[A1] LDW *A4,A5\n[!A1] MVK 1,A5", "0.D1 0.S1 ", 5),
+    (
+        "[A1] MVK 1,A5\nSUB A1,1,A1\n[!A1] MVK 2,A5",
+        "0.S1 0.L1 1.S1 ",
+        2,
+    ),
+    ("[A1] ADD A5,A3,A5\n[!A1] MVK 2,A5", "0.L1 0.S1 ", 1),
+    (
+        "MPY A1,A2,A3\nSTW A3,*A4\nLDW *+A4[1],A5\nADD A5,A5,A6",
+        "0.M1 2.D1 0.D1 5.L1 ",
+        6,
+    ),
 ];
 
 /// Legal changes of the block of six, one after another: two are withdrawn, and stand later then.

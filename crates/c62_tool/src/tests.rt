@@ -80,7 +80,7 @@ impl Write for Unflushed {
 }
 
 /// Words and a text, and the listing of the text.
-const LISTED: [(&[&str], &[u8], &str); 19] = [
+const LISTED: [(&[&str], &[u8], &str); 23] = [
     (&[], b"", ""),
     (&["pack"], b"\r\n* \n", ""),
     (
@@ -137,6 +137,28 @@ const LISTED: [(&[&str], &[u8], &str); 19] = [
         &["pack", "--turns"],
         b"CMPGT B1,A2,A1\nADD 20,A2,A3",
         "   CMPLT .L1X A2,B1,A1\n|| ADD .D1 A2,20,A3\n",
+    ),
+    // both arms of a condition
+    (
+        &["pack", "--turns"],
+        b"[A1] ADD A3,A4,A2\n[!A1] SUB A3,A4,A2",
+        "   [A1] ADD .L1 A3,A4,A2\n|| [!A1] SUB .S1 A3,A4,A2\n",
+    ),
+    // loads that need not wait for a store from their base, and one that has to
+    (
+        &["pack", "--turns"],
+        b"MPY A1,A2,A3\nSTW A3,*A4\nLDW *+A4[1],A5\nADD A5,A5,A6",
+        "   MPY .M1 A1,A2,A3\n|| LDW .D1T1 *+A4[1],A5\n   NOP 1\n   STW .D1T1 A3,*A4\n   NOP 2\n   ADD .L1 A5,A5,A6\n",
+    ),
+    (
+        &["pack", "--turns"],
+        b"STW A1,*A4\nLDW *-A4[1],A5",
+        "   LDW .D1T1 *-A4[1],A5\n   STW .D1T1 A1,*A4\n   NOP 3\n",
+    ),
+    (
+        &["pack", "--turns"],
+        b"STH A1,*+A4[1]\nLDW *A4,A5",
+        "   STH .D1T1 A1,*+A4[1]\n   LDW .D1T1 *A4,A5\n   NOP 4\n",
     ),
     // an ejection pays, and there is none without a budget
     (&["pack", "--turns", "--eject", "1"], EJECTING, EJECTED),

@@ -86,7 +86,7 @@ const REPORTED: [(&[&str], &[u8], &str); 15] = [
 ];
 
 /// Words, a text, and the report of a run of its packets.
-const RUN: [(&[&str], &[u8], &str); 12] = [
+const RUN: [(&[&str], &[u8], &str); 13] = [
     (&["run"], b"", "blocks 0\ncycles 0\nexit end\n"),
     (
         &["run", "A4=8", "@8=99"],
@@ -133,6 +133,12 @@ const RUN: [(&[&str], &[u8], &str); 12] = [
         b"B B3",
         "blocks 1\ncycles 6\nexit register 00000100\nB3 00000100\n",
     ),
+    // a load that need not wait for a store
+    (
+        &["run", "--turns", "A1=2", "A2=3", "A4=8", "@12=5"],
+        b"MPY A1,A2,A3\nSTW A3,*A4\nLDW *+A4[1],A5\nADD A5,A5,A6",
+        "blocks 1\ncycles 6\nexit end\nA1 00000002\nA2 00000003\nA3 00000006\nA4 00000008\nA5 00000005\nA6 0000000a\n@0008 00000006\n@000c 00000005\n",
+    ),
     // the cycles of the schedule with its ejections
     (
         &["run", "--turns", "--eject", "0", "A1=1", "B1=2"],
@@ -140,6 +146,41 @@ const RUN: [(&[&str], &[u8], &str); 12] = [
         "blocks 2\ncycles 4\nexit end\nA1 00000001\nA2 00000002\nA6 00000004\nB1 00000002\n",
     ),
     (&["sim"], b"", "blocks 0\ncycles 0\nexit end\n"),
+];
+
+/// Two writers of one register under opposite conditions, as a text and as the listing with both in one cycle.
+const TWO_ARMS: [(&[&str], &[u8]); 2] = [
+    (
+        &["run", "--turns"],
+        b"[A1] ADD A3,A4,A2\n[!A1] SUB A3,A4,A2",
+    ),
+    (
+        &["sim"],
+        b"   [A1] ADD .L1 A3,A4,A2\n|| [!A1] SUB .S1 A3,A4,A2\n",
+    ),
+];
+
+/// A store and a load behind it that never meet.
+const APART: &[u8] = b"STW A1,*-A4[1]\nLDW *A4,A5";
+
+/// Where their base stands, and what is left: misaligned, below 0, past the end, and round the end.
+const FAULTING: [(&str, &str); 4] = [
+    (
+        "A4=2",
+        "A1 00000009\nA4 00000002\n@0000 00000007\nfault 1\nfault 2\n",
+    ),
+    (
+        "A4=0",
+        "A1 00000009\nA5 00000007\n@0000 00000007\nfault 1\n",
+    ),
+    (
+        "A4=0xffff",
+        "A1 00000009\nA4 0000ffff\n@0000 00000007\nfault 1\nfault 2\n",
+    ),
+    (
+        "A4=0xfffffffc",
+        "A1 00000009\nA4 fffffffc\n@0000 00000007\nfault 1\nfault 2\n",
+    ),
 ];
 
 /// A text that is no listing, and what is told of it.
@@ -187,6 +228,42 @@ fn reports(rt: HostRuntime) -> Result<(), Fail> {
         assert_eq!(rt; ran.errors.as_slice(), b"".as_slice());
         assert_eq!(rt; ran.output.as_slice(), report.as_bytes());
         assert_eq!(rt; ran.status, 0);
+    }
+    Ok(())
+}
+
+#[test]
+fn arms_of_a_condition(rt: HostRuntime) -> Result<(), Fail> {
+    for (words, text) in &TWO_ARMS {
+        for (tested, result) in [
+            ("A1=1", "A1 00000001\nA2 00000008"),
+            ("A1=0", "A2 00000002"),
+        ] {
+            let mut all = Vec::new(rt.alloc());
+            all.extend_from_slice(*words)?;
+            all.extend_from_slice(&[tested, "A3=5", "A4=3"])?;
+            let ran = run_on_bytes(&rt, all.as_slice(), text);
+            let report = format!(in rt.alloc();
+                "blocks 1\ncycles 1\nexit end\n{result}\nA3 00000005\nA4 00000003\n"
+            )?;
+            assert_eq!(rt; ran.output.as_slice(), report.as_bytes());
+            assert_eq!(rt; ran.status, 0);
+        }
+    }
+    Ok(())
+}
+
+#[test]
+fn accesses_apart_that_fault(rt: HostRuntime) -> Result<(), Fail> {
+    for (base, left) in &FAULTING {
+        let words = ["serial", "A1=9", "@0=7", *base];
+        let ran = run_on_bytes(&rt, words.as_slice(), APART);
+        let report = format!(in rt.alloc(); "blocks 1\nexit end\n{left}")?;
+        assert_eq!(rt; ran.output.as_slice(), report.as_bytes());
+        let words = ["run", "--turns", "A1=9", "@0=7", *base];
+        let ran = run_on_bytes(&rt, words.as_slice(), APART);
+        let report = format!(in rt.alloc(); "blocks 1\ncycles 5\nexit end\n{left}")?;
+        assert_eq!(rt; ran.output.as_slice(), report.as_bytes());
     }
     Ok(())
 }

@@ -4,7 +4,7 @@ use Rattle.c62_depend.proofs.Ranges.{pieces_more}
 use Rattle.c62_depend.proofs.Latencies.{many_uses}
 use Rattle.c62_depend.proofs.Lists.{row_more}
 use Rattle.c62_depend.proofs.Plans.{number_small}
-use Rattle.c62_depend.proofs.Common.{sym, Uses, reg_in, ◌||◌, slice_get}
+use Rattle.c62_depend.proofs.Common.{sym, Uses, reg_in, ◌||◌}
 use Rattle.c62_depend.proofs.WrittenLemmas.{written_more, written_first}
 use Rattle.c62_depend.proofs.links.gather_followers.Goals as goal
 
