@@ -1,11 +1,15 @@
 //! Reads a text that may be too long.
 
-ghost use Rattle.std.specs.Prelude.{◌≤◌, ◌+◌, IfOk};
+ghost use Rattle.std.specs.Prelude.{◌≢◌, ◌≤◌, ◌+◌, IfOk, IfErr};
+ghost use Rattle.std.specs.Io.{ReadsAtMost};
+ghost use Rattle.std.specs.Io.KnownBytes.{ReadConsumes};
+ghost use Rattle.std.specs.IoError.{error_kind};
 ghost use Rattle.c62_listing_reader.specs.declared.reader.TheConstants.{MOST_BYTES};
 ghost use Rattle.c62_tool.specs.Run.{TakesAtMost, BeginsAll};
 
 use std::alloc::{AllocError, Global};
-use std::io::Read;
+use std::io;
+use std::io::{ErrorKind, Read};
 
 /// Why a text was not read.
 #[derive(Debug, Drop)]
@@ -23,6 +27,25 @@ impl From<AllocError> for InputError {
 
 const CHUNK: usize = 4096;
 
+/// A read, made again where a signal interrupts it.
+fn read_some<R: Read>(reader: &mut R, buf: &mut [u8]) -> io::Result<usize>
+    ensures bound { ReadsAtMost result buf.new }
+    ensures bytes { ReadConsumes (R.remaining reader.old) (R.remaining reader.new) result buf.new }
+    ensures retried { IfErr result (λ e. error_kind e ≢ ErrorKind.Interrupted) }
+{
+    for _ in 0..u64::MAX {
+        match reader.read(buf) {
+            Ok(count) => return Ok(count),
+            Err(error) => {
+                if error.kind() != ErrorKind::Interrupted {
+                    return Err(error);
+                }
+            }
+        }
+    }
+    Err(io::Error::from(ErrorKind::Other))
+}
+
 /// All that the reader gives, but no more than one byte past this limit.
 pub fn read_text<R: Read>(
     alloc: Global,
@@ -37,7 +60,7 @@ pub fn read_text<R: Read>(
     let mut chunk = [0u8; CHUNK];
     while text.len() <= limit {
         let room = CHUNK.min(limit + 1 - text.len());
-        let Ok(count) = reader.read(&mut chunk[..room]) else {
+        let Ok(count) = read_some(reader, &mut chunk[..room]) else {
             return Err(InputError::Input);
         };
         if count == 0 {
