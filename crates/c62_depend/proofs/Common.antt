@@ -6,7 +6,7 @@ pub use Rattle.c62_depend.specs.Latency.{overwrites, access_after_store, store_a
 unfoldable pub use Rattle.c62_depend.specs.Latency.{by_registers, latency}
 pub use Rattle.c62_depend.specs.Links.{linked}
 unfoldable pub use Rattle.c62_depend.specs.Links.{followers, needs}
-pub use Rattle.c62_depend.specs.Lists.{start_of, AreLists, IsRow, pair_at, ArePairs}
+pub use Rattle.c62_depend.specs.Lists.{links_of, AreLists, IsRow, pair_at, ArePairs}
 pub use Rattle.c62_depend.specs.Numbers.{as_bound, number_if, number_awaited, number_spared, number_after_result, number_after_at_once}
 pub use Rattle.c62_depend.specs.Numbers.{number_overwritten, number_of_registers, number_of_order}
 pub use Rattle.c62_depend.specs.Plan.{IsShort, IsPlan, unnumbered, insns_of}

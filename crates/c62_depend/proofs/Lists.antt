@@ -1,90 +1,38 @@
--- Lists that stand one after the other in one list, and the latencies of all pairs.
-use Rattle.c62_depend.proofs.Common.{◌≡◌, ℕ, zero, suc, ◌+◌, ◌-◌, ◌*◌, ◌<◌, ◌≤◌, List, [], ◌∷◌, ◌++◌, map, length, take, drop, set, refl, sym, ap}
-use Rattle.c62_depend.proofs.Common.{◌∙◌, arith, inl, inr, slice_index, flat_map, range_with_len, slice_range, cases_eq, cases_lt, append_assoc}
-use Rattle.c62_depend.proofs.Common.{length-append, get_or-set_other, get_or-append_right, get_or-take, get_or-drop, length-take-le, length-drop}
-use Rattle.c62_depend.proofs.Common.{get_or-set_at, map-range_with_len_more, get_or-map-range_with_len, length-map-range_with_len, Insn, Link}
-use Rattle.c62_depend.proofs.Common.{latency, as_bound, start_of, AreLists, IsRow, pair_at, ArePairs, Uses, insns_in}
+-- The lists of dependences, and the latencies of all pairs.
+use Rattle.c62_depend.proofs.Common.{◌≡◌, ℕ, ◌+◌, ◌-◌, ◌*◌, ◌<◌, ◌≤◌, List, [], ◌∷◌, ◌++◌, length, drop, set, get_or, refl, sym, ap}
+use Rattle.c62_depend.proofs.Common.{◌∙◌, arith, inl, inr, slice_index, slice_range, cases_eq, cases_lt}
+use Rattle.c62_depend.proofs.Common.{length-append, length-map, get_or-set_other, get_or-append_right, get_or-take, get_or-drop, length-take-le, length-drop}
+use Rattle.c62_depend.proofs.Common.{get_or-set_at, map-range_with_len_more, length-map-range_with_len, Insn, Link}
+use Rattle.c62_depend.proofs.Common.{latency, as_bound, links_of, AreLists, IsRow, pair_at, ArePairs, Uses, insns_in}
+use Rattle.std.proofs.lemmas.List.{get_or-map, map_push}
 use Rattle.std.proofs.Math.ListN.{get_or-append}
-use Rattle.std.proofs.Math.Seq.{take-append_seam, drop-append_seam}
-use Rattle.c62_depend.specs.declared.links.Lists.{Lists}
+use Rattle.smallvec.specs.SmallVec.{SmallVec}
 use Rattle.c62_depend.proofs.Latencies.{many_uses}
-use Rattle.c62_depend.proofs.Ranges.{pieces_more}
+use Rattle.c62_depend.proofs.Ranges.{list_at}
 
--- ---- lists one after the other
+-- ---- the lists
+
+-- none
+pub lists_none : (f : ℕ → List Link) (lists : List (SmallVec Link)) → lists ≡ [] → AreLists f 0 lists
+lists_none f lists none = rw none refl
 
 -- a list more
-pub lists_more : (f : ℕ → List Link) (count : ℕ) (old new : Lists) (links : List Link) → AreLists f count old → links ≡ f count
-    → new.links.items ≡ old.links.items ++ links → new.starts.items ≡ old.starts.items ++ length new.links.items ∷ [] → AreLists f (count + 1) new
-lists_more f count old new links are is more next = record { links = all; starts = begin }
-  where
-    all : new.links.items ≡ flat_map f (range_with_len 0 (count + 1))
-    all =
-        pieces_more f 0 count (count + 1) count old.links.items new.links.items (omega arith) refl are.links
-        (more ∙ ap (λ (xs : List Link). old.links.items ++ xs) is)
+pub lists_more : (f : ℕ → List Link) (count : ℕ) (old new : List (SmallVec Link)) (list : SmallVec Link) → AreLists f count old → list.items ≡ f count
+    → new ≡ old ++ list ∷ [] → AreLists f (count + 1) new
+lists_more f count old new list are is more =
+    rw (more, map_push (λ (l : SmallVec Link). l.items) old list, are, is, map-range_with_len_more f 0 count count (omega arith)) refl
 
-    begin : new.starts.items ≡ map (start_of f) (range_with_len 0 (count + 1 + 1))
-    begin = rw (next, are.starts, all, map-range_with_len_more (start_of f) 0 (count + 1) (count + 1) (omega arith)) refl
+pub lists_long : (f : ℕ → List Link) (count : ℕ) (lists : List (SmallVec Link)) → AreLists f count lists → length lists ≡ count
+lists_long f count lists are =
+    sym (length-map lists (λ (l : SmallVec Link). l.items)) ∙ ap length are ∙ length-map-range_with_len f 0 count
 
--- all lists, parted at the one of number j
-parted : {A : Type 0} (f : ℕ → List A) (a i n k j : ℕ) → a + i ≡ j → i + suc k ≡ n
-    → flat_map f (range_with_len a n) ≡ flat_map f (range_with_len a i) ++ (f j ++ flat_map f (range_with_len (j + 1) k))
-parted f a i zero k j at size = absurd (omega arith)
-parted f a zero (suc m) k j at size = grind arith
-parted f a (suc i) (suc m) k j at size =
-    rw (parted f (a + 1) i m k j (omega arith) (omega arith))
-    (sym (append_assoc (f a) (flat_map f (range_with_len (a + 1) i)) (f j ++ flat_map f (range_with_len (j + 1) k))))
-
-at_number : {A : Type 0} (f : ℕ → List A) (i n : ℕ) → i < n
-    → flat_map f (range_with_len 0 n) ≡ flat_map f (range_with_len 0 i) ++ (f i ++ flat_map f (range_with_len (i + 1) (n - (i + 1))))
-at_number f i n within = parted f 0 i n (n - (i + 1)) i (omega arith) (omega arith)
-
-start_more : (f : ℕ → List Link) (i : ℕ) → start_of f (i + 1) ≡ start_of f i + length (f i)
-start_more f i =
-    let before = flat_map f (range_with_len 0 i) in
-    sym (ap length (pieces_more f 0 i (i + 1) i before (before ++ f i) (omega arith) refl refl refl)) ∙ length-append before (f i)
-
-start_below : (f : ℕ → List Link) (i n : ℕ) → i < n → start_of f i + length (f i) ≤ start_of f n
-start_below f i n within =
-    let before = flat_map f (range_with_len 0 i) in
-    let rest = flat_map f (range_with_len (i + 1) (n - (i + 1))) in
-    omega (arith, ap length (at_number f i n within), length-append before (f i ++ rest), length-append (f i) rest)
-
-part_is : {A : Type 0} (before piece rest : List A)
-    → take (length (before ++ piece) - length before) (drop (length before) (before ++ (piece ++ rest))) ≡ piece
-part_is {A} before piece rest =
-    let size : length (before ++ piece) - length before ≡ length piece = omega (arith, length-append before piece) in
-    rw (drop-append_seam before (piece ++ rest), size) (take-append_seam piece rest)
-
-start_at : (f : ℕ → List Link) (n k : ℕ) (lists : Lists) → AreLists f n lists → k ≤ n → slice_index lists.starts.items k ≡ start_of f k
-start_at f n k lists are within =
-    ap (λ (xs : List ℕ). slice_index xs k) are.starts ∙ get_or-map-range_with_len (start_of f) 0 (n + 1) k k 0 (omega arith) (omega arith)
-
--- what holds of the list of number i
-pub record IsKept (lists : Lists) (i : ℕ) : Type 0 where
-  pub within : i + 1 < length lists.starts.items
-  pub rising : slice_index lists.starts.items i ≤ slice_index lists.starts.items (i + 1)
-  pub inside : slice_index lists.starts.items (i + 1) ≤ length lists.links.items
-
-pub is_kept : (f : ℕ → List Link) (n i : ℕ) (lists : Lists) → AreLists f n lists → i < n → IsKept lists i
-is_kept f n i lists are within =
-    let first : slice_index lists.starts.items i ≡ start_of f i = start_at f n i lists are (omega arith) in
-    let next : slice_index lists.starts.items (i + 1) ≡ start_of f (i + 1) = start_at f n (i + 1) lists are (omega arith) in
-    let more : start_of f (i + 1) ≡ start_of f i + length (f i) = start_more f i in
-    let below : start_of f i + length (f i) ≤ start_of f n = start_below f i n within in
-    let whole : length lists.links.items ≡ start_of f n = ap length are.links in
-    let long : length lists.starts.items ≡ n + 1 = ap length are.starts ∙ length-map-range_with_len (start_of f) 0 (n + 1) in
-    record { within = omega arith; rising = omega arith; inside = omega arith }
-
-pub list_is : (f : ℕ → List Link) (n i : ℕ) (lists : Lists) → AreLists f n lists → i < n
-    → slice_range lists.links.items (slice_index lists.starts.items i) (slice_index lists.starts.items (i + 1)) ≡ f i
-list_is f n i lists are within =
-    let before = flat_map f (range_with_len 0 i) in
-    let rest = flat_map f (range_with_len (i + 1) (n - (i + 1))) in
-    let first : slice_index lists.starts.items i ≡ length before = start_at f n i lists are (omega arith) in
-    let next : slice_index lists.starts.items (i + 1) ≡ length (before ++ f i) =
-    start_at f n (i + 1) lists are (omega arith) ∙ start_more f i ∙ sym (length-append before (f i)) in
-    let whole : lists.links.items ≡ before ++ (f i ++ rest) = are.links ∙ at_number f i n within in
-    rw (whole, first, next) (part_is before (f i) rest)
+-- the list of number i
+pub list_is : (f : ℕ → List Link) (count i : ℕ) (lists : List (SmallVec Link)) (list : SmallVec Link) → AreLists f count lists → i < count
+    → list ≡ get_or lists i list → list.items ≡ f i
+list_is f count i lists list are within at =
+    list_at f count i (links_of lists) list.items are within
+    (ap (λ (l : SmallVec Link). l.items) at
+    ∙ sym (get_or-map (λ (l : SmallVec Link). l.items) lists i list list.items (rw (lists_long f count lists are) within)))
 
 -- ---- the latencies of all pairs
 

@@ -46,7 +46,7 @@ pub record IsPlan (block : List Insn) : Type 0 where
 -- the tables of a plan are those of its block
 pub record AreTables (block : List Insn) (tables : Tables) : Type 0 where
   pub insns : insns_in tables.uses.items ≡ block
-  pub needs : AreLists (needs block) (length block) tables.needs
-  pub followers : AreLists (followers block) (length block) tables.followers
+  pub needs : AreLists (needs block) (length block) tables.needs.items
+  pub followers : AreLists (followers block) (length block) tables.followers.items
   pub heights : tables.heights.items ≡ first_heights block (length block)
   pub choices : AreUnitChoices block (length block) tables.choices.items

@@ -1,15 +1,15 @@
 //! The dependences of an instruction, as lists.
 
-ghost use Rattle.std.specs.Prelude.{◌≡◌, ◌+◌, ◌*◌, ◌<◌, ◌≤◌, ◌++◌, ℕ, List, length, map, take, IfOk, OnOk};
-ghost use Rattle.c62_insn.specs.declared.insn.Insn.{Insn};
+ghost use Rattle.std.specs.Prelude.{◌≡◌, ◌+◌, ◌*◌, ◌<◌, ◌≤◌, ◌++◌, length, take, IfOk};
 ghost use Rattle.c62_depend.specs.Uses.{insns_in};
 ghost use Rattle.c62_depend.specs.Numbers.{as_bound};
 ghost use Rattle.c62_depend.specs.Links.{linked, needs, followers};
-ghost use Rattle.c62_depend.specs.Lists.{IsRow, ArePairs};
+ghost use Rattle.c62_depend.specs.Lists.{IsRow, ArePairs, AreLists, links_of};
 
 use crate::latency::{as_bound, latency_number};
 use crate::uses::Uses;
 use c62_read::MOST_INSTRUCTIONS;
+use smallvec::SmallVec;
 use std::alloc::{AllocError, Global};
 
 /// One end of a dependence: the number of the other instruction, and the latency of the dependence.
@@ -21,59 +21,8 @@ pub struct Link {
     pub latency: i8,
 }
 
-/// The dependences of each instruction, those of one behind those of the one before it.
-#[derive(Drop)]
-pub(crate) struct Lists {
-    links: Vec<Link>,
-    /// Where the dependences of each instruction begin, and where all end.
-    starts: Vec<usize>,
-}
-
-impl Lists {
-    ghost use Rattle.c62_depend.specs.declared.links.Link.{Link as End};
-    ghost use Rattle.c62_depend.specs.Lists.{AreLists, AddsList, AreSameLists, start_in, list_in};
-
-    /// No list, with room for so many, and for so many links in all.
-    fn new(alloc: Global, count: usize, links: usize) -> Result<Lists, AllocError>
-        requires { count ≤ MOST_INSTRUCTIONS }
-        ensures { (f : ℕ → List End) → IfOk result (AreLists f 0) }
-    {
-        let links = Vec::with_capacity(alloc, links)?;
-        let mut starts = Vec::with_capacity(alloc, count + 1)?;
-        starts.push(0)?;
-        Ok(Lists { links, starts })
-    }
-
-    /// Adds a list behind the others.
-    fn push(&mut self, links: &[Link]) -> Result<(), AllocError>
-        ensures { OnOk result (AddsList links.now self.old self.new) }
-    {
-        self.links.extend_from_slice(links)?;
-        self.starts.push(self.links.len())?;
-        Ok(())
-    }
-
-    /// The list of number `i`.
-    pub fn get(&self, i: usize) -> &[Link]
-        requires within { i + 1 < length self.now.starts.items }
-        requires rising { start_in self.now i ≤ start_in self.now (i + 1) }
-        requires inside { start_in self.now (i + 1) ≤ length self.now.links.items }
-        ensures { result.now ≡ list_in self.now i }
-    {
-        let start = self.starts[i];
-        let end = self.starts[i + 1];
-        &self.links[start..end]
-    }
-
-    /// Equal lists.
-    pub fn copy(&self, alloc: Global) -> Result<Lists, AllocError>
-        ensures { IfOk result (AreSameLists self.now) }
-    {
-        let links = Vec::from_slice(alloc, &self.links)?;
-        let starts = Vec::from_slice(alloc, &self.starts)?;
-        Ok(Lists { links, starts })
-    }
-}
+/// The dependences of one instruction. Most have few.
+pub(crate) type Links = SmallVec<Link, 8>;
 
 /// Room to gather the dependences of one instruction: at most one for each instruction of a block.
 type Gathered = [Link; MOST_INSTRUCTIONS];
@@ -151,44 +100,53 @@ fn gather_needs(gathered: &mut Gathered, pairs: &[u8], uses: &[Uses], j: usize) 
     count
 }
 
-impl Lists {
-    ghost use Rattle.c62_depend.specs.Lists.{AreLists};
-
-    /// What depends on each instruction; and the latencies of all pairs, as numbers.
-    pub fn followers(alloc: Global, uses: &[Uses]) -> Result<(Lists, Vec<u8>), AllocError>
-        requires { length uses.now ≤ MOST_INSTRUCTIONS }
-        ensures followers { IfOk result (λ both. AreLists (followers (insns_in uses.now)) (length uses.now) both.0) }
-        ensures pairs { IfOk result (λ both. ArePairs (insns_in uses.now) (length uses.now) both.1.items) }
-    {
-        let mut gathered = NONE_GATHERED;
-        let mut row = [0; MOST_INSTRUCTIONS];
-        let mut all = Lists::new(alloc, uses.len(), uses.len() * uses.len() / 2)?;
-        let mut pairs = Vec::with_capacity(alloc, uses.len() * MOST_INSTRUCTIONS)?;
-        for i in 0..uses.len() {
-            let count = gather_followers(&mut gathered, &mut row, uses, i);
-            all.push(&gathered[..count])?;
-            pairs.extend_from_slice(&row)?;
-        }
-        Ok((all, pairs))
+/// What depends on each instruction; and the latencies of all pairs, as numbers.
+pub(crate) fn all_followers(
+    alloc: Global,
+    uses: &[Uses],
+) -> Result<(Vec<Links>, Vec<u8>), AllocError>
+    requires { length uses.now ≤ MOST_INSTRUCTIONS }
+    ensures followers { IfOk result (λ both. AreLists (followers (insns_in uses.now)) (length uses.now) both.0.items) }
+    ensures pairs { IfOk result (λ both. ArePairs (insns_in uses.now) (length uses.now) both.1.items) }
+{
+    let mut gathered = NONE_GATHERED;
+    let mut row = [0; MOST_INSTRUCTIONS];
+    let mut all = Vec::with_capacity(alloc, uses.len())?;
+    let mut pairs = Vec::with_capacity(alloc, uses.len() * MOST_INSTRUCTIONS)?;
+    for i in 0..uses.len() {
+        let count = gather_followers(&mut gathered, &mut row, uses, i);
+        all.push(Links::from_slice(alloc, &gathered[..count])?)?;
+        pairs.extend_from_slice(&row)?;
     }
+    Ok((all, pairs))
+}
 
-    /// What each instruction depends on, as many links in all as in the lists of what depends on each.
-    pub fn needs(
-        alloc: Global,
-        followers: &Lists,
-        pairs: &[u8],
-        uses: &[Uses],
-    ) -> Result<Lists, AllocError>
-        requires few { length uses.now ≤ MOST_INSTRUCTIONS }
-        requires pairs { ArePairs (insns_in uses.now) (length uses.now) pairs.now }
-        ensures { IfOk result (AreLists (needs (insns_in uses.now)) (length uses.now)) }
-    {
-        let mut gathered = NONE_GATHERED;
-        let mut all = Lists::new(alloc, uses.len(), followers.links.len())?;
-        for j in 0..uses.len() {
-            let count = gather_needs(&mut gathered, pairs, uses, j);
-            all.push(&gathered[..count])?;
-        }
-        Ok(all)
+/// What each instruction depends on.
+pub(crate) fn all_needs(
+    alloc: Global,
+    pairs: &[u8],
+    uses: &[Uses],
+) -> Result<Vec<Links>, AllocError>
+    requires few { length uses.now ≤ MOST_INSTRUCTIONS }
+    requires pairs { ArePairs (insns_in uses.now) (length uses.now) pairs.now }
+    ensures { IfOk result (λ all. AreLists (needs (insns_in uses.now)) (length uses.now) all.items) }
+{
+    let mut gathered = NONE_GATHERED;
+    let mut all = Vec::with_capacity(alloc, uses.len())?;
+    for j in 0..uses.len() {
+        let count = gather_needs(&mut gathered, pairs, uses, j);
+        all.push(Links::from_slice(alloc, &gathered[..count])?)?;
     }
+    Ok(all)
+}
+
+/// Equal lists.
+pub(crate) fn copy_lists(alloc: Global, lists: &[Links]) -> Result<Vec<Links>, AllocError>
+    ensures { IfOk result (λ copies. links_of copies.items ≡ links_of lists.now) }
+{
+    let mut copies = Vec::with_capacity(alloc, lists.len())?;
+    for list in lists {
+        copies.push(Links::from_slice(alloc, list.as_slice())?)?;
+    }
+    Ok(copies)
 }

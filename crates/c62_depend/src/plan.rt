@@ -119,7 +119,7 @@ impl Plan {
         ensures { result.now ≡ needs (insns_of self.now) j }
     {
         let tables = &self.tables;
-        tables.needs.get(j as usize)
+        tables.needs[j as usize].as_slice()
     }
 
     /// What depends on instruction `i`, by rising numbers, each with the latency to it.
@@ -128,7 +128,7 @@ impl Plan {
         ensures { result.now ≡ followers (insns_of self.now) i }
     {
         let tables = &self.tables;
-        tables.followers.get(i as usize)
+        tables.followers[i as usize].as_slice()
     }
 
     /// By how much the cycle of instruction `j` must at least exceed that of instruction `i`: the greatest bound of the

@@ -6,7 +6,7 @@ ghost use Rattle.c62_read.specs.declared.limits.TheConstants.{MOST_INSTRUCTIONS}
 ghost use Rattle.c62_depend.specs.Uses.{insns_in};
 
 use crate::height::heights;
-use crate::links::Lists;
+use crate::links::{Links, all_followers, all_needs, copy_lists};
 use crate::side::{UnitChoice, unit_choices};
 use crate::uses::Uses;
 use c62_read::SerialInsn;
@@ -16,8 +16,8 @@ use std::alloc::{AllocError, Global};
 #[derive(Drop)]
 pub(crate) struct Tables {
     pub uses: Vec<Uses>,
-    pub needs: Lists,
-    pub followers: Lists,
+    pub needs: Vec<Links>,
+    pub followers: Vec<Links>,
     pub heights: Vec<u16>,
     pub choices: Vec<UnitChoice>,
 }
@@ -41,8 +41,8 @@ impl Tables {
         ensures { IfOk result (λ tables. AreTables (unnumbered insns.now) tables) }
     {
         let uses = all_uses(alloc, insns)?;
-        let (followers, pairs) = Lists::followers(alloc, &uses)?;
-        let needs = Lists::needs(alloc, &followers, &pairs, &uses)?;
+        let (followers, pairs) = all_followers(alloc, &uses)?;
+        let needs = all_needs(alloc, &pairs, &uses)?;
         let heights = heights(alloc, &uses, &pairs)?;
         let choices = unit_choices(alloc, &uses)?;
         Ok(Tables {
@@ -60,8 +60,8 @@ impl Tables {
     {
         Ok(Tables {
             uses: Vec::from_slice(alloc, &self.uses)?,
-            needs: self.needs.copy(alloc)?,
-            followers: self.followers.copy(alloc)?,
+            needs: copy_lists(alloc, &self.needs)?,
+            followers: copy_lists(alloc, &self.followers)?,
             heights: Vec::from_slice(alloc, &self.heights)?,
             choices: Vec::from_slice(alloc, &self.choices)?,
         })
