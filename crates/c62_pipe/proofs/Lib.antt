@@ -3,3 +3,4 @@ pub mod Slots
 pub mod Landed
 pub mod Running
 pub mod Chains
+pub mod AlikeChains

@@ -1,2 +1,3 @@
 pub mod Flight
 pub mod Chain
+pub mod Alike

@@ -4,6 +4,7 @@ ghost use Rattle.std.specs.Prelude.{ℕ, List};
 ghost use Rattle.c62_read.specs.Block.{Serial};
 ghost use Rattle.c62_serial.specs.State.{Machine, IsSound};
 ghost use Rattle.c62_packet.specs.Packed.{Packed};
+ghost use Rattle.c62_pipe.specs.Alike.{ChainAlike};
 ghost use Rattle.c62_pipe.specs.Chain.{RunsAlike, HasOneChain};
 
 /// Packets of a program's blocks, in which every dependence keeps its distance, run as the program
@@ -18,4 +19,11 @@ pub fn packets_run_as_their_program()
 pub fn packets_have_one_chain()
     ensures { (packets : List Packed) (opening : Machine) (limit : ℕ) → IsSound opening
         → HasOneChain packets opening limit }
+{}
+
+/// Packets that are alike but for lines run alike: the same chain, which takes the same cycles, and
+/// the same machine but for the lines that faulted, which are those of the same places.
+pub fn packets_alike_run_alike()
+    ensures { (packets others : List Packed) (opening opening' : Machine) (limit : ℕ)
+        → ChainAlike packets others opening opening' limit }
 {}
