@@ -13,16 +13,17 @@ use Rattle.c62_sheet.specs.Lawful.{Spots, Placements, placed, IsLawful}
 use Rattle.c62_sheet.specs.Least.{IsReady, IsLeast, HasNoSpot, IsPick}
 use Rattle.c62_sheet.specs.Journal.{replayed}
 use Rattle.c62_board.specs.declared.turn.Turn.TheVariants.{Placed, Ejected, Idle, Done, NoRoom, Memory}
-use Rattle.c62_board.specs.Chain.{Marks}
+use Rattle.c62_sheet.specs.Chain.{Marks}
 use Rattle.c62_board.specs.Who.{who_of}
 use Rattle.c62_board.specs.Withdrawal.{GoesWith, Withdraws, IsLeft, marked_below, withdrawals}
 use Rattle.c62_board.specs.Turn.{IsEjection}
-use Rattle.c62_board.specs.Victim.{IsEjected}
+use Rattle.c62_board.specs.Ejection.{IsEjected}
 use Rattle.c62_board.specs.State.{BoardState, IsSound, Adds, GainsRoom, IsWithdrawal, IsReadyNow, IsLeastNow, TakesTurn, HasNoRoomFor}
 use Rattle.c62_sheet.proofs.Picks.{pick_unique}
 use Rattle.c62_board.proofs.Journals.{adds_both, gains_adds, lawful_replayed}
 use Rattle.c62_board.proofs.Withdrawals.{withdrawn_many, one_below, withdraws_marked}
-use Rattle.c62_board.proofs.Victims.{one_victim, ready_left, spot_left}
+use Rattle.c62_sheet.proofs.Victims.{one_victim}
+use Rattle.c62_board.proofs.Victims.{ready_left, spot_left}
 use Rattle.c62_board.proofs.Turns.{pick_left, placed_ejected, stuck_ejected}
 
 -- a board, the same with more room, and without the victim

@@ -1,4 +1,3 @@
-pub mod Chains
 pub mod Placements
 pub mod Journals
 pub mod Withdrawals

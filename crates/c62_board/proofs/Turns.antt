@@ -14,14 +14,14 @@ use Rattle.c62_board.specs.declared.turn.Turn.{Turn}
 use Rattle.c62_board.specs.declared.turn.Turn.TheVariants.{Placed, Ejected, Idle, Done, NoRoom, Memory}
 use Rattle.c62_board.specs.Who.{who_of}
 use Rattle.c62_board.specs.Withdrawal.{Withdraws}
-use Rattle.c62_board.specs.Victim.{IsEjected}
+use Rattle.c62_board.specs.Ejection.{IsEjected}
 use Rattle.c62_board.specs.Turn.{IsPlaced, IsStuck, IsTurn}
 use Rattle.c62_board.specs.State.{BoardState, Adds, GainsRoom, TakesTurn, HasNoRoomFor}
 use Rattle.c62_sheet.proofs.Optional.{none_not_some}
 use Rattle.c62_sheet.proofs.Search.{least_unique}
 use Rattle.c62_sheet.proofs.Picks.{pick_unique}
 use Rattle.c62_board.proofs.Withdrawals.{one_below}
-use Rattle.c62_board.proofs.Victims.{one_victim}
+use Rattle.c62_sheet.proofs.Victims.{one_victim}
 
 -- ---- one turn
 

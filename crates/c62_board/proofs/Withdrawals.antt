@@ -10,11 +10,12 @@ use Rattle.c62_sheet.specs.declared.entry.Spot.{Spot}
 use Rattle.c62_sheet.specs.declared.entry.Who.{Who}
 use Rattle.c62_sheet.specs.Lawful.{Spots, IsAt, spot_at, withdrawn, IsLawful}
 use Rattle.c62_sheet.specs.Journal.{replayed, PermitsWithdraw, IsLegal}
-use Rattle.c62_board.specs.Chain.{Leads, more, IsMarked, Marks}
+use Rattle.c62_sheet.specs.Chain.{Leads, more, IsMarked, Marks}
 use Rattle.c62_board.specs.Withdrawal.{GoesWith, WithdrawsBelow, Withdraws, IsLeft, left_at, marked_below, withdrawals}
 use Rattle.c62_sheet.proofs.Optional.{value_of_some, some_is}
 use Rattle.c62_board.proofs.Journals.{replayed_more, legal_more, lawful_after}
-use Rattle.c62_board.proofs.Chains.{before}
+use Rattle.c62_sheet.proofs.Chains.{before}
+use Rattle.c62_sheet.proofs.Victims.{at_in}
 
 -- there is one list of withdrawals
 pub one_below : (block : List Insn) (set : Spots) (i : ℕ) (who : Who) (n : ℕ) (xs ys : List Entry)
@@ -39,13 +40,6 @@ pub record IsTakingOut (block : List Insn) (old : Spots) (i : ℕ) (who : Who) (
 pub not_there : {A : Type 0} (o : Option A) → ((x : A) → o ≡ Some x → ⊥) → o ≡ None
 not_there None h = refl
 not_there (Some x) h = absurd (h x refl)
-
--- a placed number is one of the block
-pub at_in : (block : List Insn) (set : Spots) (k : ℕ) (t : Spot) → length set ≡ length block → IsAt set k t → k < length block
-at_in block set k t sized at = elim (cases_lt k (length block)) [
-  | inl lt ↦ lt
-  | inr le ↦ absurd (none-some t (sym (get_or_past set k None (rw sized le)) ∙ at))
-]
 
 pub spot_at-withdrawn_other : (set : Spots) (i k : ℕ) → k ≢ i → spot_at (withdrawn set i) k ≡ spot_at set k
 spot_at-withdrawn_other set i k ne = get_or-set_other set i k None None ne

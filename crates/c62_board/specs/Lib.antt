@@ -1,7 +1,6 @@
-pub mod Chain
 pub mod Who
 pub mod Withdrawal
-pub mod Victim
+pub mod Ejection
 pub mod Turn
 pub mod Replay
 pub mod State

@@ -13,7 +13,7 @@ use Rattle.c62_board.specs.declared.turn.Turn.TheVariants.{Placed, Ejected, Idle
 use Rattle.c62_board.specs.declared.turn.Choice.{Choice}
 use Rattle.c62_board.specs.declared.turn.Choice.TheVariants.{Finished, Wait, Stop, Put, Eject}
 use Rattle.c62_board.specs.Who.{who_of}
-use Rattle.c62_board.specs.Victim.{IsEjected}
+use Rattle.c62_board.specs.Ejection.{IsEjected}
 use Rattle.c62_board.specs.Withdrawal.{Withdraws}
 
 -- the pick of the side goes to its least spot, and nothing makes way

@@ -9,7 +9,7 @@ use Rattle.c62_sheet.specs.declared.entry.Who.{Who}
 use Rattle.c62_depend.specs.Plan.{insns_of}
 use Rattle.c62_sheet.specs.Lawful.{Spots, spot_at, Placements}
 use Rattle.c62_sheet.specs.Journal.{replayed, IsLegal}
-use Rattle.c62_board.specs.Chain.{Leads, Marks}
+use Rattle.c62_sheet.specs.Chain.{Leads, Marks}
 
 -- j goes with i: it is placed, and a chain of dependences leads to it from i
 pub record GoesWith (block : List Insn) (set : Spots) (i j : ℕ) : Type 0 where

@@ -10,13 +10,14 @@ ghost use Rattle.c62_sheet.specs.Journal.{IsLegal, replayed};
 ghost use Rattle.c62_board.specs.Replay.{IsFirstBad};
 ghost use Rattle.c62_sheet.specs.declared.entry.Spot.{Spot as SpotOf};
 ghost use Rattle.c62_board.specs.Withdrawal.{MarksGoing, marked_below};
-ghost use Rattle.c62_board.specs.Victim.{FindsVictim, IsEjected, FindsEjected};
+ghost use Rattle.c62_sheet.specs.Victim.{FindsVictim};
+ghost use Rattle.c62_board.specs.Ejection.{IsEjected, FindsEjected};
 ghost use Rattle.c62_board.specs.Turn.{IsChoice, IsPlaced, EjectsTo};
 ghost use Rattle.c62_board.specs.Laws.{HasTurn};
 
 use crate::fault::{CommitFault, PlaceFault, ReplayFault, WithdrawFault};
 use crate::turn::{Choice, Proposal, Turn, who_of};
-use crate::{victim, withdrawal};
+use crate::withdrawal;
 use c62_depend::Plan;
 use c62_insn::Side;
 use c62_read::MOST_INSTRUCTIONS;
@@ -213,7 +214,7 @@ impl Board {
         requires has_spot { (s : SpotOf) × IsLeastNow self.now i s }
         ensures { FindsVictim (insns_of self.now.plan) self.now.spots i result }
     {
-        victim::victim(&self.sheet, i)
+        self.sheet.blocks_least(i)
     }
 
     /// Room for so many more entries. With room no call that adds them answers that memory ran out.

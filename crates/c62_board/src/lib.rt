@@ -2,17 +2,15 @@
 #![tactic(auto)]
 
 mod board;
-mod chain;
 mod fault;
 pub mod laws;
 mod turn;
-mod victim;
 mod withdrawal;
 
 pub use board::Board;
 pub use c62_sheet::{Counts, Entry, Rule, Sheet, Spot, Unlawful, Who};
 pub use fault::{CommitFault, PlaceFault, ReplayFault, WithdrawFault};
-pub use turn::{Proposal, Turn};
+pub use turn::{Proposal, Turn, who_of};
 
 #[cfg(test)]
 mod tests;

@@ -7,7 +7,8 @@ use c62_depend::Plan;
 use c62_insn::{Letter, Side, Unit};
 use c62_read::read_program;
 use c62_sheet::{Entry, Spot, Who};
-use std::alloc::Global;
+use smallvec::SmallVec;
+use std::alloc::{AllocError, Global};
 use std::process::Abort;
 use std::test::Fail;
 
@@ -43,6 +44,10 @@ const D2: Unit = Unit {
 
 const SIX: &str =
     "LDW *B4,B5\nADD B2,A2,B3\nADD A1,B1,A3\nADD A3,A3,A4\nMPY A5,B1,A2\nMPY A2,A2,A6";
+
+/// A block whose ejection withdraws four instructions.
+const TEN: &str =
+    "LDW *B4,B5\nLDW *B4,B6\nLDW *B4,B7\nADD B2,A2,B3\nADD A1,B1,A3\nADD A3,A3,A4\nADD A3,A3,A7\nADD A3,A3,A8\nMPY A5,B1,A2\nMPY A2,A2,A6";
 
 const ONE_PATH: &str = "LDW *A4,A5\nLDW *B4,A6";
 
@@ -219,6 +224,26 @@ fn turns_are_told_ahead(rt: HostRuntime) -> Result<(), Fail> {
         let added = board.journal().get(before..).unwrap_or_default();
         assert_eq!(rt; added, entries.as_slice());
     }
+    Ok(())
+}
+
+#[test]
+fn a_long_ejection_is_told_ahead(rt: HostRuntime) -> Result<(), Fail> {
+    let mut board = board_of(&rt, rt.alloc(), TEN, 1)?;
+    for k in 0..8 {
+        board.step(side_of(k));
+    }
+    let before = board.journal().len();
+    let (turn, entries) = board.ahead(Side::A)?;
+    assert_eq!(rt;
+        (turn, before),
+        (Turn::Ejected(4, 8, Spot { cycle: 0, unit: M1 }), 8)
+    );
+    let withdrawn = [7, 6, 5, 4].map(|i| Entry::Withdraw(i, Who::A));
+    assert_eq!(rt; entries.len(), 5);
+    assert_eq!(rt; entries.as_slice().get(..4), Some(&withdrawn[..]));
+    assert_eq!(rt; board.step(Side::A), turn);
+    assert_eq!(rt; board.journal().get(before..), Some(entries.as_slice()));
     Ok(())
 }
 
@@ -435,6 +460,32 @@ fn step_again(rt: &impl Abort, board: &mut Board, side: Side) -> Turn {
     }
 }
 
+/// What a side's turn comes to, asked for again where memory is refused.
+fn ahead_again(
+    rt: &impl Abort,
+    board: &Board,
+    side: Side,
+) -> Result<(Turn, SmallVec<Entry, 4>), AllocError> {
+    let before = look_at(rt, board);
+    let answer = match board.ahead(side) {
+        Ok(told) => Ok(told),
+        Err(_) => board.ahead(side),
+    };
+    assert_eq!(rt; look_at(rt, board), before);
+    answer
+}
+
+/// Room, asked for again where memory is refused.
+fn room_again(rt: &impl Abort, board: &mut Board, entries: usize) -> Result<(), AllocError> {
+    let before = look_at(rt, board);
+    let answer = match board.room(entries) {
+        Ok(()) => Ok(()),
+        Err(_) => board.room(entries),
+    };
+    assert_eq!(rt; look_at(rt, board), before);
+    answer
+}
+
 /// The same of a withdrawal.
 fn withdraw_again(rt: &impl Abort, board: &mut Board, i: u16) -> Result<u16, WithdrawFault> {
     let before = look_at(rt, board);
@@ -511,9 +562,20 @@ fn board_again(rt: &impl Abort, alloc: Global) -> Result<Board, Fail> {
 fn a_refused_growth_of_steps(rt: HostRuntime) -> Result<(), Fail> {
     let mut board = board_again(&rt, rt.alloc())?;
     for (k, want) in TURNS.iter().enumerate() {
+        assert_eq!(rt; ahead_again(&rt, &board, side_of(k))?.0, *want);
         assert_eq!(rt; step_again(&rt, &mut board, side_of(k)), *want);
     }
     assert!(rt; board.journal() == &JOURNAL[..]);
+    Ok(())
+}
+
+#[test]
+fn a_refused_growth_of_room(rt: HostRuntime) -> Result<(), Fail> {
+    let mut board = board_again(&rt, rt.alloc())?;
+    room_again(&rt, &mut board, 10)?;
+    for (k, want) in TURNS.iter().enumerate() {
+        assert_eq!(rt; board.step(side_of(k)), *want);
+    }
     Ok(())
 }
 

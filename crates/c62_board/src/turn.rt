@@ -50,7 +50,7 @@ pub struct Proposal {
 }
 
 /// Who makes the entries of a side's step.
-pub(crate) fn who_of(side: Side) -> Who
+pub fn who_of(side: Side) -> Who
     ensures { result ≡ who_of side }
 {
     match side {

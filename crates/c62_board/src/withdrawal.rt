@@ -4,12 +4,11 @@ ghost use Rattle.std.specs.Prelude.{◌≡◌, ◌↔◌, ◌+◌, ◌++◌, ◌
 ghost use Rattle.smallvec.specs.SmallVec.{HasRoomFor};
 ghost use Rattle.c62_depend.specs.Plan.{insns_of};
 ghost use Rattle.c62_sheet.specs.Lawful.{spot_at};
-ghost use Rattle.c62_board.specs.Chain.{IsMarked};
+ghost use Rattle.c62_sheet.specs.Chain.{IsMarked};
 ghost use Rattle.c62_sheet.specs.declared.entry.Who.{Who as WhoOf};
 ghost use Rattle.c62_board.specs.Withdrawal.{MarksGoing, HasRoomForMarked, TakesOut, IsLeft, left_at, marked_below, withdrawals};
 
-use crate::chain::{Chained, led_from};
-use c62_sheet::{Entry, Sheet, Spot, Who};
+use c62_sheet::{Chained, Entry, Sheet, Spot, Who, led_from};
 use smallvec::SmallVec;
 
 /// Whether instruction `j` is marked and placed.

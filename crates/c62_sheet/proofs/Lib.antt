@@ -18,3 +18,5 @@ pub mod Without
 pub mod Empty
 pub mod Room
 pub mod Prefix
+pub mod Chains
+pub mod Victims

@@ -9,3 +9,5 @@ pub mod Early
 pub mod View
 pub mod Laws
 pub mod Rows
+pub mod Chain
+pub mod Victim

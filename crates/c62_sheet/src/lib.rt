@@ -1,6 +1,7 @@
 //! Sets of placements of a block's instructions: which are lawful, what is ready, and where it goes.
 #![tactic(auto)]
 
+mod chain;
 mod counts;
 mod early;
 mod entry;
@@ -9,8 +10,10 @@ mod judge;
 pub mod laws;
 mod rows;
 mod sheet;
+mod victim;
 mod whole;
 
+pub use chain::{Chained, led_from};
 pub use entry::{Counts, Entry, Rule, Spot, Unlawful, Who};
 pub use sheet::Sheet;
 pub use whole::{are_lawful, least_in};

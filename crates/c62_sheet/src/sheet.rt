@@ -5,12 +5,13 @@ ghost use Rattle.std.specs.Bool.{OnTrue, OnFalse};
 ghost use Rattle.c62_depend.specs.Plan.{insns_of, IsPlan};
 ghost use Rattle.c62_sheet.specs.Lawful.{spot_at, placed, withdrawn, nothing_placed, empty_sheet, IsLawful};
 ghost use Rattle.c62_sheet.specs.Least.{IsReady, IsAfter, IsEarly, FindsLeast, Picks, IsLast, IsComplete, FitsWithout};
+ghost use Rattle.c62_sheet.specs.Victim.{FindsVictim};
 ghost use Rattle.c62_sheet.specs.Check.{IsOpen, Judges};
 ghost use Rattle.c62_sheet.specs.Counts.{AreCounts, set_length};
 ghost use Rattle.c62_sheet.specs.Journal.{after, PermitsPlace, PermitsWithdraw, Permits};
 
 use crate::entry::{Counts, Entry, Spot, Unlawful};
-use crate::{counts, early, index, judge, rows};
+use crate::{counts, early, index, judge, rows, victim};
 use c62_depend::Plan;
 use c62_insn::Side;
 use c62_row::Row;
@@ -165,6 +166,17 @@ impl Sheet {
         ensures { IsTrue result ↔ FitsWithout (insns_of self.now.plan) self.now.spots i cycle q }
     {
         judge::fits_without(&self.plan, &self.spots, &self.rows, i, cycle, q)
+    }
+
+    /// The victim of a ready instruction: of the less urgent instructions that keep it from its early cycle, and on which it
+    /// does not depend, the one of least height, for a tie of greatest number. Each keeps it from that cycle where without it
+    /// alone some unit of the instruction would keep the packet rules there.
+    pub fn blocks_least(&self, i: u16) -> Option<u16>
+        requires in_plan { i < length self.now.plan.insns }
+        requires ready { IsReady (insns_of self.now.plan) self.now.spots i }
+        ensures { FindsVictim (insns_of self.now.plan) self.now.spots i result }
+    {
+        victim::victim(self, i)
     }
 
     /// How many instructions of each side are placed, and how many are ready.

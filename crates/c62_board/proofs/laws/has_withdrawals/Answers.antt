@@ -1,7 +1,7 @@
 use Rattle.std.proofs.Common.{arith, length, subst}
 use Rattle.c62_depend.specs.Plan.{insns_of}
 use Rattle.c62_sheet.specs.Lawful.{Placements}
-use Rattle.c62_board.specs.Chain.{Marks}
+use Rattle.c62_sheet.specs.Chain.{Marks}
 use Rattle.c62_board.specs.Withdrawal.{GoesWith, withdrawals}
 use Rattle.c62_board.proofs.Withdrawals.{withdraws_marked}
 use Rattle.c62_board.proofs.laws.has_withdrawals.Goals as goal

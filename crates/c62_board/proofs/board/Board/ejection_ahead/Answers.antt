@@ -4,7 +4,7 @@ use Rattle.c62_read.specs.Block.{Serial}
 use Rattle.c62_depend.specs.Plan.{insns_of}
 use Rattle.c62_depend.proofs.Plans.{many_insns}
 use Rattle.c62_sheet.specs.declared.entry.Entry.{Entry}
-use Rattle.c62_board.specs.Chain.{Marks}
+use Rattle.c62_sheet.specs.Chain.{Marks}
 use Rattle.c62_board.specs.Withdrawal.{GoesWith, marked_below, withdrawals}
 use Rattle.c62_board.specs.State.{BoardState}
 use Rattle.c62_board.proofs.Ejections.{no_room_to_eject, listed_ejection, on_err}

@@ -2,7 +2,7 @@ use Rattle.std.proofs.Common.{◌≡◌, length, ap, ◌∙◌}
 use Rattle.c62_read.specs.Block.{Serial}
 use Rattle.c62_depend.specs.Plan.{insns_of}
 use Rattle.c62_sheet.specs.Least.{IsPick}
-use Rattle.c62_board.specs.Victim.{IsEjected}
+use Rattle.c62_board.specs.Ejection.{IsEjected}
 use Rattle.c62_board.specs.View.{state_of}
 use Rattle.c62_board.specs.Who.{who_of}
 use Rattle.c62_board.proofs.Ejections.{copy_lawful, copy_ready, copy_spot, copy_ejection}

@@ -3,7 +3,7 @@ use Rattle.c62_read.specs.Block.{Serial}
 use Rattle.c62_depend.specs.Plan.{insns_of}
 use Rattle.c62_depend.proofs.Plans.{many_insns}
 use Rattle.c62_sheet.specs.Lawful.{spot_at}
-use Rattle.c62_board.specs.Chain.{Marks}
+use Rattle.c62_sheet.specs.Chain.{Marks}
 use Rattle.c62_board.specs.Withdrawal.{GoesWith, marked_below}
 use Rattle.c62_board.specs.State.{BoardState}
 use Rattle.c62_board.proofs.Ejections.{gains_withdrawal, no_room_to_withdraw}

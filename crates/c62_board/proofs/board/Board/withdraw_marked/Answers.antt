@@ -3,7 +3,7 @@ use Rattle.c62_depend.specs.Plan.{insns_of}
 use Rattle.c62_depend.proofs.Plans.{many_insns}
 use Rattle.c62_sheet.specs.declared.entry.Entry.{Entry}
 use Rattle.c62_board.specs.State.{Adds, IsSound}
-use Rattle.c62_board.specs.Chain.{Marks}
+use Rattle.c62_sheet.specs.Chain.{Marks}
 use Rattle.c62_board.specs.Withdrawal.{GoesWith, marked_below}
 use Rattle.c62_board.specs.View.{state_of}
 use Rattle.c62_board.proofs.Journals.{sound_after}

@@ -14,7 +14,7 @@ use Rattle.c62_depend.specs.Links.{needs, followers}
 use Rattle.c62_depend.proofs.Latencies.{latency-is}
 use Rattle.c62_depend.proofs.Plans.{short_is}
 use Rattle.c62_depend.proofs.Rules.{needs_are, followers_are}
-use Rattle.c62_board.specs.Chain.{Leads, start, more, IsMarked, Marks}
+use Rattle.c62_sheet.specs.Chain.{Leads, start, more, IsMarked, Marks}
 
 -- ---- chains
 

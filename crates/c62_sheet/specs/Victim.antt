@@ -4,8 +4,8 @@ use Rattle.c62_insn.specs.declared.insn.Insn.{Insn}
 use Rattle.c62_depend.specs.Height.{height}
 use Rattle.c62_sheet.specs.declared.entry.Spot.{Spot}
 use Rattle.c62_sheet.specs.Lawful.{Spots, IsAt}
-use Rattle.c62_sheet.specs.Least.{IsEarly, IsLeast, FitsWithout}
-use Rattle.c62_board.specs.Chain.{Leads}
+use Rattle.c62_sheet.specs.Least.{IsEarly, FitsWithout}
+use Rattle.c62_sheet.specs.Chain.{Leads}
 
 -- q keeps i from a cycle: it stands there and is less urgent, i does not depend on it, directly or through others, and
 -- without it alone some unit of i keeps the packet rules there
@@ -44,17 +44,3 @@ HasNoVictim block set i = (early q : ℕ) → IsEarly block set i early → IsIn
 -- the victim of i, or that there is none
 abbrev pub FindsVictim : List Insn → Spots → ℕ → Option ℕ → Type 0
 FindsVictim block set i found = MatchOption found (HasNoVictim block set i) (IsVictim block set i)
-
--- q is ejected for i: ejections are left, the least spot of i is later than its early cycle, and q is its victim
-pub record IsEjected (block : List Insn) (set : Spots) (budget i q : ℕ) : Type 0 where
-  pub left : 0 < budget
-  pub least : Spot
-  pub is_least : IsLeast block set i least
-  pub early : ℕ
-  pub is_early : IsEarly block set i early
-  pub late : early < least.cycle
-  pub victim : IsVictim block set i q
-
--- the number that is ejected for i, or that there is none
-abbrev pub FindsEjected : List Insn → Spots → ℕ → ℕ → Option ℕ → Type 0
-FindsEjected block set budget i found = MatchOption found ((q : ℕ) → IsEjected block set budget i q → ⊥) (IsEjected block set budget i)

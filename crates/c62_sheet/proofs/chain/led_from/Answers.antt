@@ -4,9 +4,9 @@ use Rattle.c62_depend.specs.declared.links.Link.{Link}
 use Rattle.c62_depend.specs.Links.{needs}
 use Rattle.c62_depend.specs.Plan.{insns_of}
 use Rattle.c62_depend.proofs.Plans.{many_insns}
-use Rattle.c62_board.specs.Chain.{Leads}
-use Rattle.c62_board.proofs.Chains.{is_linked, led_start, led_more, needs_within, marks_from}
-use Rattle.c62_board.proofs.chain.led_from.Goals as goal
+use Rattle.c62_sheet.specs.Chain.{Leads}
+use Rattle.c62_sheet.proofs.Chains.{is_linked, led_start, led_more, needs_within, marks_from}
+use Rattle.c62_sheet.proofs.chain.led_from.Goals as goal
 
 pub loop-j-init : goal.loop-j-init
 loop-j-init c = led_start (insns_of c.args.plan.now) c.args.i (let few = c.len-n.ensures.sound.few in let many = many_insns c.args.plan.now.insns in omega (arith, c.requires))

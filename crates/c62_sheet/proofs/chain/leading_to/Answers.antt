@@ -4,8 +4,8 @@ use Rattle.c62_depend.specs.declared.links.Link.{Link}
 use Rattle.c62_depend.specs.Links.{followers}
 use Rattle.c62_depend.specs.Plan.{insns_of}
 use Rattle.c62_depend.proofs.Plans.{many_insns}
-use Rattle.c62_board.proofs.Chains.{is_linked, leading_start, leading_more, followers_within, marks_to}
-use Rattle.c62_board.proofs.chain.leading_to.Goals as goal
+use Rattle.c62_sheet.proofs.Chains.{is_linked, leading_start, leading_more, followers_within, marks_to}
+use Rattle.c62_sheet.proofs.chain.leading_to.Goals as goal
 
 pub loop-k-init : goal.loop-k-init
 loop-k-init c =

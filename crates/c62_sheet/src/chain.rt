@@ -3,13 +3,13 @@
 ghost use Rattle.std.specs.Prelude.{◌≡◌, ◌<◌, false, length, All, slice_index_or};
 ghost use Rattle.std.specs.List.{list_any};
 ghost use Rattle.c62_depend.specs.Plan.{insns_of};
-ghost use Rattle.c62_board.specs.Chain.{Leads, Marks};
+ghost use Rattle.c62_sheet.specs.Chain.{Leads, Marks};
 
 use c62_depend::{Link, Plan};
 use c62_read::MOST_INSTRUCTIONS;
 
 /// One mark for each number that a block may have.
-pub(crate) type Chained = [bool; MOST_INSTRUCTIONS];
+pub type Chained = [bool; MOST_INSTRUCTIONS];
 
 /// Whether the other end of some dependence is marked.
 fn is_any_marked(links: &[Link], marks: &[bool]) -> bool
@@ -20,7 +20,7 @@ fn is_any_marked(links: &[Link], marks: &[bool]) -> bool
 }
 
 /// Marks the numbers to which a chain of dependences leads from number `i`.
-pub(crate) fn led_from(plan: &Plan, i: u16) -> Chained
+pub fn led_from(plan: &Plan, i: u16) -> Chained
     requires { i < length plan.now.insns }
     ensures { Marks (insns_of plan.now) (Leads (insns_of plan.now) i) result }
 {

@@ -1,9 +1,9 @@
 use Rattle.std.proofs.Common.{sym, ◌∙◌, subst, ℕ, Option}
 use Rattle.std.proofs.lemmas.Bool.{false≢true}
 use Rattle.c62_depend.specs.Plan.{insns_of}
-use Rattle.c62_board.specs.Victim.{IsFirstBelow}
-use Rattle.c62_board.proofs.Victims.{first_skip, first_new}
-use Rattle.c62_board.proofs.victim.first_up_to.Goals as goal
+use Rattle.c62_sheet.specs.Victim.{IsFirstBelow}
+use Rattle.c62_sheet.proofs.Victims.{first_skip, first_new}
+use Rattle.c62_sheet.proofs.victim.first_up_to.Goals as goal
 
 pub returns-then-not-is_in_the_way : goal.returns-then-not-is_in_the_way
 returns-then-not-is_in_the_way c =

@@ -2,8 +2,8 @@ use Rattle.std.proofs.Common.{arith, ap, length}
 use Rattle.c62_read.specs.Block.{Serial}
 use Rattle.c62_depend.specs.Plan.{insns_of}
 use Rattle.c62_depend.proofs.Plans.{many_insns}
-use Rattle.c62_board.proofs.Victims.{victim_is}
-use Rattle.c62_board.proofs.victim.victim.Goals as goal
+use Rattle.c62_sheet.proofs.Victims.{victim_is}
+use Rattle.c62_sheet.proofs.victim.victim.Goals as goal
 
 pub returns : goal.returns
 returns c =

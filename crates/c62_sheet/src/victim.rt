@@ -3,11 +3,11 @@
 ghost use Rattle.std.specs.Prelude.{◌↔◌, ◌+◌, ◌<◌, ◌≤◌, IsTrue, length};
 ghost use Rattle.c62_depend.specs.Plan.{insns_of};
 ghost use Rattle.c62_sheet.specs.Least.{IsReady, IsAfter};
-ghost use Rattle.c62_board.specs.Chain.{Leads, Marks};
-ghost use Rattle.c62_board.specs.Victim.{IsInTheWay, FindsVictim, IsFirstBelow};
+ghost use Rattle.c62_sheet.specs.Chain.{Leads, Marks};
+ghost use Rattle.c62_sheet.specs.Victim.{IsInTheWay, FindsVictim, IsFirstBelow};
 
 use crate::chain::leading_to;
-use c62_sheet::Sheet;
+use crate::sheet::Sheet;
 
 /// Whether instruction `q` keeps instruction `i` from a cycle, and may make way. Marked are those on which `i` depends,
 /// directly or through others.
