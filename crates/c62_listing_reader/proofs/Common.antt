@@ -24,7 +24,7 @@ pub use Rattle.c62_listing_reader.specs.Faults.{IsRead, Refusal, after_label, an
 pub use Rattle.c62_listing_reader.specs.Faults.{is_alone, is_filled, is_issue, is_misplaced, is_taken, line_says, most_bytes, precedes, read_lines}
 pub use Rattle.c62_listing_reader.specs.Faults.{rest_says, unit_above, unit_said}
 pub use Rattle.c62_listing_reader.specs.Fine.{IsFine, part_position, unit_index}
-pub use Rattle.c62_listing_reader.specs.Laws.{AreAlike}
+pub use Rattle.c62_packet.specs.Alike.{AreAlike}
 pub use Rattle.c62_listing_reader.specs.Reading.{Refuses, draft_open}
 pub use Rattle.c62_listing_reader.specs.Said.{Draft, Drafts, Part, Said, above_next, above_of, aim_by, all_drafts, ended, front_spelling, is_text}
 pub use Rattle.c62_listing_reader.specs.Said.{jump_to, labels_of, named, names_in, no_drafts, number_after, number_of, opened, part_of}

@@ -17,3 +17,4 @@ pub mod BlockLemmas
 pub mod ReadLemmas
 pub mod PacketLemmas
 pub mod NameLemmas
+pub mod ShownLemmas

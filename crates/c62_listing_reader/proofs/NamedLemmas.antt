@@ -144,7 +144,7 @@ are_named labels aim line number drafts above (first ∷ below) final counted h 
 
 -- ---- there are few blocks
 
-few_by : (labels : List Name) (aim : Name → ℕ) (number : ℕ) (drafts : Drafts) (above : Above) (lines : List Line) (final : Drafts)
+pub few_by : (labels : List Name) (aim : Name → ℕ) (number : ℕ) (drafts : Drafts) (above : Above) (lines : List Line) (final : Drafts)
     → IsGoing drafts above
     → read_lines labels aim number drafts above lines ≡ Ok final → length (all_drafts final) ≤ 64
 few_by labels aim number drafts above [] final going h = rw (← over labels aim number drafts above final h) going.few

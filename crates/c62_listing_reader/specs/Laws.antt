@@ -3,11 +3,11 @@ use Rattle.std.specs.Prelude.{◌≡◌, ℕ, ◌<◌, ◌≤◌, List, length, 
 use Rattle.std.specs.List.{AllByRecursion, IsDistinct, flat_map}
 use Rattle.std.specs.Option.{option_to_list}
 use Rattle.std.specs.Str.{bytes_eq}
-use Rattle.c62_rules.specs.PacketRules.{Issue}
 use Rattle.c62_token.specs.Number.{is_label}
 use Rattle.c62_read.specs.Program.{Name}
 use Rattle.c62_read.specs.declared.limits.TheConstants.{MOST_BLOCKS}
-use Rattle.c62_packet.specs.Packed.{Packed, issues_of, IsPacketBlock}
+use Rattle.c62_packet.specs.Alike.{AreAlike}
+use Rattle.c62_packet.specs.Packed.{Packed, IsPacketBlock}
 use Rattle.c62_packet.specs.Packets.{labels_of, is_closed}
 use Rattle.c62_listing.specs.Listing.{listing}
 use Rattle.c62_listing_reader.specs.Faults.{IsRead}
@@ -36,19 +36,15 @@ pub record AreShown (packets : List Packed) : Type 0 where
   pub distinct : IsDistinct bytes_eq (labels_given packets)
   pub begun : AllByRecursion (λ block. block.label ≡ None → 0 < length block.placed) packets
 
--- a block without the lines of its instructions
-pub record Unlined : Type 0 where
-  pub label : Option Name
-  pub cycles : ℕ
-  pub issues : List Issue
-
-abbrev pub unlined : Packed → Unlined
-unlined block = record { label = block.label; cycles = block.cycles; issues = issues_of block.placed }
-
--- the same but for lines
-abbrev pub AreAlike : List Packed → List Packed → Type 0
-AreAlike packets others = map unlined packets ≡ map unlined others
-
 -- the listing of packets that it shows whole is read as these packets but for lines
 abbrev pub IsReadBack : List Packed → Type 0
 IsReadBack packets = AreShown packets → (others : List Packed) × IsRead (listing packets) others × AreAlike packets others
+
+-- ---- both directions
+
+-- A text is read exactly where it is the listing of packets that a listing shows whole: what is read are such packets, and
+-- such packets are what is read, but for lines.
+pub record IsReadExactly (text : List ℕ) : Type 0 where
+  pub reads_listings : (packets : List Packed) → IsRead text packets → AreShown packets × (listing packets ≡ text)
+  pub listings_are_read : (packets : List Packed) → AreShown packets → listing packets ≡ text
+      → (others : List Packed) × IsRead text others × AreAlike packets others

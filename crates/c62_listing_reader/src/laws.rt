@@ -4,7 +4,7 @@ ghost use Rattle.std.specs.Prelude.{◌≡◌, ℕ, List};
 ghost use Rattle.c62_packet.specs.declared.limits.TheConstants.{MOST_CYCLES};
 ghost use Rattle.c62_packet.specs.Packed.{Packed};
 ghost use Rattle.c62_listing_reader.specs.declared.reader.TheConstants.{MOST_BYTES};
-ghost use Rattle.c62_listing_reader.specs.Laws.{IsListedBack, AreOneReading, IsReadBack};
+ghost use Rattle.c62_listing_reader.specs.Laws.{IsListedBack, AreOneReading, IsReadBack, IsReadExactly};
 
 /// A listing has at most 8,388,608 bytes, and a block of it 2,048 cycles.
 pub fn limits_are()
@@ -25,4 +25,11 @@ pub fn texts_have_one_reading()
 /// The listing of packets that it shows whole is read as these packets, but for the lines of their instructions.
 pub fn what_is_listed_is_read_back()
     ensures { (packets : List Packed) → IsReadBack packets }
+{}
+
+/// A text is read exactly where it is the listing of proper packets: few packet blocks with labels of
+/// which no two are the same, whose branches go to labelled blocks, and of which each without a label has
+/// instructions.
+pub fn listings_alone_are_read()
+    ensures { (text : List ℕ) → IsReadExactly text }
 {}

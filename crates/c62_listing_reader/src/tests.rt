@@ -52,7 +52,7 @@ fn reads_listings_back(rt: HostRuntime) -> Result<(), Fail> {
 }
 
 /// Texts that are no listings, and why.
-const REFUSED: [(&str, &str); 60] = [
+const REFUSED: [(&str, &str); 71] = [
     ("   LDW .D1T1 *A4,A5\n   NOP 2\n   NOP 2\n", "line 3: Shape"),
     ("   ADD .L1 A1,B1,A2\n", "line 1: Shape"),
     ("|| MVK .S1 1,A1\n", "line 1: Shape"),
@@ -143,6 +143,44 @@ const REFUSED: [(&str, &str); 60] = [
         "   MVK .S1 1,A1\n\n   MPY .M1 A1,A2,A3\n|| MPY .M1 A1,A2,A4\n   MVK .S1 1,A1\n|| MVK .S1 2,A2\n",
         "block 1 cycle 0: P1",
     ),
+    ("L:\nL:\n", "line 2: DuplicateLabel"),
+    ("L:\n   MVK .S1 1,A1\nL:\n", "line 3: DuplicateLabel"),
+    (
+        "   ADD .L1X A1,B1,A2\n|| SUB .L1X A3,B3,A4\n",
+        "block 0 cycle 0: P1",
+    ),
+    (
+        "   ADD .L1X A1,B1,A2\n|| SUB .S1X A3,B3,A4\n|| LDW .D1T1 *A4,A5\n|| LDW .D2T1 *B4,A6\n   NOP 4\n",
+        "block 0 cycle 0: P2",
+    ),
+    (
+        "   MVK .S1 1,A10\n   ADD .L1 A1,A1,A5\n|| ADD .S1 A1,A1,A6\n|| MPY .M1 A1,A1,A7\n|| LDW .D1T1 *A4,A8\n|| LDW .D2T1 *B4,A9\n   NOP 4\n",
+        "block 0 cycle 1: P3",
+    ),
+    (
+        "   ADD .L1 A1,A1,A5\n|| ADD .S1 A1,A1,A5\n|| MPY .M1 A1,A1,A4\n   NOP 1\n",
+        "block 0 cycle 0: P4",
+    ),
+    (
+        "   ADD .L1X A1,B1,A2\n|| SUB .S1X A3,B3,A4\n   MVK .S1 1,A6\n|| MVK .S1 2,A7\n",
+        "block 0 cycle 0: P2",
+    ),
+    (
+        "   LDW .D1T1 *A4,A5\n   NOP 2\n   MPY .M1 A1,A2,A5\n   NOP 1\n",
+        "block 0 cycle 4: P5",
+    ),
+    (
+        "   LDW .D1T1 *A4,A5\n   NOP 1\n   MVK .S1 1,A6\n|| MVK .S1 2,A7\n   MPY .M1 A1,A2,A5\n   NOP 1\n",
+        "block 0 cycle 2: P1",
+    ),
+    (
+        "   ADD .L2X B1,A1,B2\n|| SUB .S2X B3,A3,B4\n",
+        "block 0 cycle 0: P2",
+    ),
+    (
+        "   LDW .D1T2 *A4,B5\n|| LDW .D2T2 *B4,B6\n   NOP 4\n",
+        "block 0 cycle 0: P3",
+    ),
 ];
 
 #[test]
@@ -155,7 +193,7 @@ fn refuses_what_is_no_listing(rt: HostRuntime) -> Result<(), Fail> {
 }
 
 /// Lines alike, how many there are, the text behind them, and why all this is refused; nothing where it is read.
-const LONG: [(&str, u32, &str, &str); 18] = [
+const LONG: [(&str, u32, &str, &str); 22] = [
     (" ", 255, "\n", "line 1: Shape"),
     (" ", 256, "\n", "line 1: LineTooLong"),
     (" ", 256, "\x7f\n", "line 1: NotAscii"),
@@ -214,6 +252,20 @@ const LONG: [(&str, u32, &str, &str); 18] = [
     ),
     ("   NOP 9\n", 932_067, "", "line 228: Shape"),
     ("   NOP 9\n", 932_068, "", "line 0: TextTooLong"),
+    ("   NOP 9\n", 932_067, "FOO!\n", "line 228: Shape"),
+    ("   NOP 9\n", 932_067, "FOO!!\n", "line 0: TextTooLong"),
+    (
+        "   MVK .S1 1,A1\n\n",
+        64,
+        "   B .S2 Q\n   NOP 5\n",
+        "line 129: UnknownTarget",
+    ),
+    (
+        "   MVK .S1 1,A1\n\n",
+        63,
+        "   B .S2 Q\n   NOP 5\n\n   MVK .S1 1,A1\n",
+        "line 127: UnknownTarget",
+    ),
 ];
 
 fn repeated(alloc: Global, line: &str, count: u32, rest: &str) -> Result<String, Fail> {
