@@ -108,6 +108,24 @@ const ONE_EJECTION: [Turn; 5] = [
     Turn::Done,
 ];
 
+/// Eight instructions, of which three stand in the early cycle of the last but one after six turns, and the same with a
+/// reader of one of them; and the seventh turn with one ejection. The victim is that of least height, and then of greatest
+/// number.
+const VICTIMS: [(&str, Turn); 3] = [
+    (
+        "LDW *B4,B5\nLDW *B6,B7\nADD B2,A2,B3\nADD A1,A1,A8\nADD A3,A3,A9\nADD A4,A4,A10\nSUB A5,A6,A2\nMPY A2,A2,A7",
+        Turn::Ejected(5, 6, Spot { cycle: 0, unit: D1 }),
+    ),
+    (
+        "LDW *B4,B5\nLDW *B6,B7\nADD B2,A2,B3\nADD A1,A1,A8\nADD A3,A3,A9\nADD A4,A4,A10\nSUB A5,A6,A2\nMPY A2,A2,A7\nSUB A9,A3,A11",
+        Turn::Ejected(5, 6, Spot { cycle: 0, unit: D1 }),
+    ),
+    (
+        "LDW *B4,B5\nLDW *B6,B7\nADD B2,A2,B3\nADD A1,A1,A8\nADD A3,A3,A9\nADD A4,A4,A10\nSUB A5,A6,A2\nMPY A2,A2,A7\nSUB A10,A3,A11",
+        Turn::Ejected(4, 6, Spot { cycle: 0, unit: D1 }),
+    ),
+];
+
 /// The plan of the only block of a text.
 fn plan_of(rt: &impl Abort, alloc: Global, text: &str) -> Result<Plan, Fail> {
     let mut blocks = read_program(alloc, text.as_bytes())?.into_blocks();
@@ -263,6 +281,18 @@ fn one_ejection_of_two(rt: HostRuntime) -> Result<(), Fail> {
     takes_turns(&rt, &mut board, 4, &ONE_EJECTION);
     assert_eq!(rt; board.budget(), 0);
     assert_eq!(rt; board.length(), 7);
+    Ok(())
+}
+
+#[test]
+fn the_least_urgent_makes_way(rt: HostRuntime) -> Result<(), Fail> {
+    for (text, want) in VICTIMS.iter() {
+        let mut board = board_of(&rt, rt.alloc(), text, 1)?;
+        for turn in 0..6 {
+            let _ = board.step(side_of(turn));
+        }
+        assert_eq!(rt; board.step(Side::A), *want, "{text}");
+    }
     Ok(())
 }
 

@@ -22,7 +22,7 @@ fn told(alloc: Global, text: &[u8]) -> Result<String, Fail> {
 }
 
 /// Listings.
-const LISTINGS: [&str; 15] = [
+const LISTINGS: [&str; 17] = [
     "",
     "   MVK .S1 5,A1\n   MVK .S1 7,A2\n   ADD .L1 A1,A2,A3\n",
     "   LDW .D1T1 *A4,A5\n   NOP 4\n   ADD .L1 A5,A5,A6\n",
@@ -38,6 +38,8 @@ const LISTINGS: [&str; 15] = [
     "   MVK .S1 1,A1\n   NOP 9\n   NOP 9\n   NOP 1\n   MVK .S1 2,A2\n",
     "   MPY .M1X A5,B1,A2\n|| ADD .L2X B2,A2,B3\n|| LDW .D2T2 *B4,B5\n   ADD .L1X A1,B1,A3\n   ADD .L1 A3,A3,A4\n|| MPY .M1 A2,A2,A6\n   NOP 2\n",
     "   ADD .L1X A1,B1,A3\n|| ADD .L2X B2,A2,B3\n|| LDW .D2T2 *B4,B5\n   ADD .L1 A3,A3,A4\n|| MPY .M1X A5,B1,A2\n   NOP 1\n   MPY .M1 A2,A2,A6\n   NOP 1\n",
+    "   [A1] MPY .M1 A3,A4,A2\n   [!A1] ADD .L1 A3,A4,A2\n",
+    "   MPY .M1 A1,A1,A1\n   NOP 1\n   [A1] MPY .M1 A3,A4,A2\n   [!A1] ADD .L1 A3,A4,A2\n",
 ];
 
 #[test]
@@ -52,7 +54,7 @@ fn reads_listings_back(rt: HostRuntime) -> Result<(), Fail> {
 }
 
 /// Texts that are no listings, and why.
-const REFUSED: [(&str, &str); 71] = [
+const REFUSED: [(&str, &str); 74] = [
     ("   LDW .D1T1 *A4,A5\n   NOP 2\n   NOP 2\n", "line 3: Shape"),
     ("   ADD .L1 A1,B1,A2\n", "line 1: Shape"),
     ("|| MVK .S1 1,A1\n", "line 1: Shape"),
@@ -108,8 +110,20 @@ const REFUSED: [(&str, &str); 71] = [
         "block 0 cycle 0: P4",
     ),
     (
+        "   ADD .L1 A2,A2,A7\n|| ADD .L1 A1,A1,A5\n|| ADD .S1 A1,A1,A6\n|| MPY .M1 A1,A1,A4\n   NOP 1\n",
+        "block 0 cycle 0: P1",
+    ),
+    (
         "   MPY .M1 A1,A2,A3\n   ADD .L1 A1,A1,A3\n",
         "block 0 cycle 1: P5",
+    ),
+    (
+        "   SUB .L1 A1,A1,A1\n|| [A1] MPY .M1 A3,A4,A2\n   [!A1] ADD .L1 A3,A4,A2\n",
+        "block 0 cycle 1: P5",
+    ),
+    (
+        "   MPY .M1 A1,A1,A1\n   [A1] MPY .M1 A3,A4,A2\n   [!A1] ADD .L1 A3,A4,A2\n",
+        "block 0 cycle 2: P5",
     ),
     ("   LDW .D1T1 *A4,A5\r\n   NOP 4\r\n", "line 1: Shape"),
     ("   LDW .D1T1 *A4,A5\n   NOP 4", "line 2: Shape"),

@@ -53,12 +53,24 @@ const ONE_PATH: &str = "LDW *A4,A5\nLDW *B4,A6";
 
 const TWO_WRITERS: &str = "LDW *A4,A5\nMVK 1,A5";
 
+const LATE_SUM: &str = "LDW *A4,A5\nMVK 1,A6\nADD A5,A6,A7";
+
+const EARLY_SUM: &str = "LDW *A4,A5\nADD A1,A1,A2\nADD A5,A5,A6";
+
+const CROSSING_LATER: &str = "MVK 3,A1\nADD A1,B1,A2\nSUB A1,B3,A4";
+
+const FIVE_READS: &str = "ADD A4,A4,A1\nADD A4,A4,A2\nLDW *B4,A6\nLDW *A4,A5";
+
+const TWO_CROSSING_TO_B: &str = "ADD B1,A1,B2\nSUB B3,A3,B4";
+
+const ONE_PATH_TO_B: &str = "LDW *A4,B5\nLDW *B4,B6";
+
 const SIX: &str =
     "LDW *B4,B5\nADD B2,A2,B3\nADD A1,B1,A3\nADD A3,A3,A4\nMPY A5,B1,A2\nMPY A2,A2,A6";
 
 /// A block, how many of its instructions are placed in their order, the instruction and the spot that are asked, and the
 /// answer.
-const CHECKS: [(&str, u16, u16, u16, Unit, &str); 14] = [
+const CHECKS: [(&str, u16, u16, u16, Unit, &str); 24] = [
     (THREE_READERS, 2, 2, 0, S1, "P4 in cycle 0"),
     (THREE_READERS, 2, 2, 0, L1, "P1 in cycle 0"),
     (THREE_READERS, 2, 2, 1, S1, "lawful"),
@@ -73,6 +85,16 @@ const CHECKS: [(&str, u16, u16, u16, Unit, &str); 14] = [
     (TWO_WRITERS, 1, 1, 9, S1, "lawful"),
     (TWO_WRITERS, 1, 0, 9, D1, "Placed in cycle 9"),
     (TWO_WRITERS, 1, 0, 9, S2, "Placed in cycle 9"),
+    (TWO_WRITERS, 1, 0, 10, D1, "Placed in cycle 10"),
+    (TWO_WRITERS, 1, 1, 10, L1, "Unit in cycle 10"),
+    (TWO_WRITERS, 0, 1, 10, S1, "Limit in cycle 10"),
+    (LATE_SUM, 1, 2, 2, L1, "Missing in cycle 2"),
+    (EARLY_SUM, 2, 2, 0, L1, "Delay in cycle 5"),
+    (TWO_CROSSING, 1, 1, 0, L1, "P1 in cycle 0"),
+    (CROSSING_LATER, 2, 2, 1, L1, "P1 in cycle 1"),
+    (FIVE_READS, 3, 3, 0, D1, "P3 in cycle 0"),
+    (TWO_CROSSING_TO_B, 1, 1, 0, S2, "P2 in cycle 0"),
+    (ONE_PATH_TO_B, 1, 1, 0, D2, "P3 in cycle 0"),
 ];
 
 /// A block, where its instructions stand once they were placed in their order, and the length.
@@ -305,6 +327,33 @@ fn changes_and_counts(rt: HostRuntime) -> Result<(), Fail> {
     sheet.clear();
     assert_eq!(rt; sheet.counts(), none);
     assert_eq!(rt; sheet.into_plan().len(), 6);
+    Ok(())
+}
+
+/// What was placed and withdrawn again leaves nothing in any cycle.
+#[test]
+fn withdrawn_as_new(rt: HostRuntime) -> Result<(), Fail> {
+    let mut sheet = sheet_of(&rt, rt.alloc(), SIX)?;
+    let fresh = sheet_of(&rt, rt.alloc(), SIX)?;
+    for entry in &CHANGES {
+        assert!(rt; sheet.apply(entry));
+    }
+    for last in 0..6 {
+        assert!(rt; sheet.apply(&Entry::Withdraw(5 - last, Who::A)));
+    }
+    for i in 0..6 {
+        assert!(rt; i < sheet.plan().len() && i < fresh.plan().len());
+        for cycle in 0..30 {
+            for unit in Unit::ALL {
+                let spot = Spot { cycle, unit };
+                assert_eq!(rt;
+                    sheet.check(i, spot),
+                    fresh.check(i, spot),
+                    "{i} at {cycle}"
+                );
+            }
+        }
+    }
     Ok(())
 }
 
