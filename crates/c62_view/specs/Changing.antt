@@ -7,6 +7,9 @@ use Rattle.c62_board.specs.declared.fault.CommitFault.TheVariants.{NotReady, Sta
 use Rattle.c62_board.specs.declared.turn.Proposal.{Proposal}
 use Rattle.c62_board.specs.declared.turn.Turn.{Turn}
 use Rattle.c62_board.specs.declared.turn.Turn.TheVariants.{Placed, Ejected, Memory as OutOfMemory}
+use Rattle.c62_view.specs.Course.{course}
+use Rattle.c62_view.specs.Past.{Past}
+use Rattle.c62_view.specs.ViewDesk.{DeskState}
 
 -- nothing was changed but that there is more room
 abbrev pub Stays : BoardState → BoardState → Type 0
@@ -25,3 +28,7 @@ IsDeskStep old side (Placed i s) new = TakesTurn old side (Placed i s) new
 IsDeskStep old side (Ejected q i s) new = TakesTurn old side (Ejected q i s) new
 IsDeskStep old side OutOfMemory new = Stays old new
 IsDeskStep old side turn new = TakesTurn old side turn new × (new ≡ old)
+
+-- what a desk told: all of its journal, which is published
+abbrev pub IsTold : DeskState → Past → Type 0
+IsTold desk told = (told.book ≡ desk.name) × (told.log ≡ desk.board.journal) × (course desk.shown ≡ (desk.board.plan, desk.board.journal))

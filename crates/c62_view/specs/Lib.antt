@@ -6,3 +6,4 @@ pub mod Planning
 pub mod Batches
 pub mod Knows
 pub mod Changing
+pub mod ViewDesk

@@ -8,7 +8,7 @@ ghost use Rattle.c62_view.specs.Course.{course, held, gone_on, IsLegalCourse};
 ghost use Rattle.c62_view.specs.Batches.{played};
 ghost use Rattle.c62_view.specs.Past.{head_of};
 ghost use Rattle.c62_view.specs.Knows.{IsOf, plan_seen};
-ghost use Rattle.c62_view.specs.Changing.{Stays, IsDeskFault, IsDeskStep};
+ghost use Rattle.c62_view.specs.Changing.{Stays, IsDeskFault, IsDeskStep, IsTold};
 ghost use Rattle.c62_sheet.specs.declared.entry.Entry.TheVariants.{Place};
 
 use crate::history::{Front, Head, open};
@@ -20,27 +20,34 @@ use c62_insn::Side;
 use core::mem::replace_with;
 use smallvec::SmallVec;
 use std::alloc::{AllocError, Global};
+use std::marker::Model;
 use std::sync::Wait;
 
 /// Why there is no desk.
 #[derive(Clone, Copy, Debug, PartialEq, Eq)]
 pub enum DeskFault {
-    /// Memory ran out.
+    /// Memory ran out, or the first publish was refused.
     Memory,
-    /// Viewers had no place.
+    /// A viewer had no place.
     NoSeat,
 }
 
-/// A board, the writer of what viewers see of it, and the history that its journal is.
+/// A board, the writer of what viewers see of it, and the history that its journal is. Contracts see it as its `DeskState`.
 pub struct Desk {
     board: Board,
     writer: VersionWriter,
     head: Head,
     front: Front,
-    ghost head_is: { head ≡ head_of front.book },
-    ghost noted: { front.log ≡ board.journal },
-    ghost followed: { (fold played (held writer.desk.shown.value) (drop writer.behind writer.log.items)).0 ≡ (board.plan, board.journal) },
-    ghost named: { writer.desk.shown.value.past.book ≡ front.book },
+}
+
+impl Model for Desk {
+    ghost use Rattle.c62_view.specs.ViewDesk.{DeskState, state_of, IsKept};
+
+    ghost Value = { DeskState };
+
+    ghost view = { state_of };
+
+    ghost invariant = { IsKept };
 }
 
 // Publishes all that is pending, with the history as far as it goes.
@@ -55,7 +62,7 @@ fn publish<R: Wait>(
     ensures kept { (fold played (held result.0.desk.shown.value) (drop result.0.behind result.0.log.items)).0 ≡ (fold played (held writer.desk.shown.value) (drop writer.behind writer.log.items)).0 }
     ensures named { result.0.desk.shown.value.past.book ≡ front.now.book }
     ensures told { MatchOption result.1 (result.0.desk.shown.value ≡ writer.desk.shown.value)
-        (λ t. (t.front ≡ front.now) × (course result.0.desk.shown.value ≡ (fold played (held writer.desk.shown.value) (drop writer.behind writer.log.items)).0)) }
+        (λ t. (t ≡ front.now) × (course result.0.desk.shown.value ≡ (fold played (held writer.desk.shown.value) (drop writer.behind writer.log.items)).0)) }
 {
     let Ok(()) = writer.append(Change::Note(front.again())) else {
         return (writer, None);
@@ -143,10 +150,9 @@ fn catch_up<R: Wait>(
     requires begins { IsPrefix front.log board.journal }
     requires followed { (fold played (held writer.desk.shown.value) (drop writer.behind writer.log.items)).0 ≡ (board.plan, board.journal) }
     requires named { writer.desk.shown.value.past.book ≡ front.book }
-    ensures name { result.0.front.book ≡ front.book }
+    ensures name { result.0.name ≡ front.book }
     ensures board { result.0.board ≡ board }
-    ensures told { MatchOption result.1 (result.0.writer.desk.shown.value ≡ writer.desk.shown.value)
-        (λ n. (n.front.book ≡ result.0.front.book) × (n.front.log ≡ board.journal) × (course result.0.writer.desk.shown.value ≡ (board.plan, board.journal))) }
+    ensures told { MatchOption result.1 (result.0.shown ≡ writer.desk.shown.value) (IsTold result.0) }
 {
     let front = front.caught_up(rt, &head, board.journal());
     let (writer, told) = publish(rt, writer, &front);
@@ -165,15 +171,14 @@ fn commit_by<R: Wait>(
     proposal: &Proposal,
     who: Who,
 ) -> (Desk, Result<(Spot, Option<Told>), CommitFault>)
-    ensures name { result.0.front.book ≡ desk.front.book }
+    ensures name { result.0.name ≡ desk.name }
     ensures ready { OnOk result.1 (IsReadyNow desk.board proposal.now.number) }
     ensures least { OnOk result.1 (IsLeastNow desk.board proposal.now.number proposal.now.spot) }
     ensures spot { IfOk result.1 (λ t. t.0 ≡ proposal.now.spot) }
     ensures added { IfOk result.1 (λ t. Adds desk.board (Place proposal.now.number t.0 who ∷ []) result.0.board) }
-    ensures told { IfOk result.1 (λ t. MatchOption t.1 (result.0.writer.desk.shown.value ≡ desk.writer.desk.shown.value)
-        (λ n. (n.front.book ≡ result.0.front.book) × (n.front.log ≡ result.0.board.journal) × (course result.0.writer.desk.shown.value ≡ (result.0.board.plan, result.0.board.journal)))) }
+    ensures told { IfOk result.1 (λ t. MatchOption t.1 (result.0.shown ≡ desk.shown) (IsTold result.0)) }
     ensures fault { IfErr result.1 (IsDeskFault desk.board proposal.now) }
-    ensures stays { OnErr result.1 (Stays desk.board result.0.board × (result.0.writer.desk.shown.value ≡ desk.writer.desk.shown.value)) }
+    ensures stays { OnErr result.1 (Stays desk.board result.0.board × (result.0.shown ≡ desk.shown)) }
 {
     let Desk {
         mut board,
@@ -199,10 +204,9 @@ fn commit_by<R: Wait>(
 }
 
 fn step_by<R: Wait>(desk: Desk, rt: &R, side: Side) -> (Desk, (Turn, Option<Told>))
-    ensures name { result.0.front.book ≡ desk.front.book }
+    ensures name { result.0.name ≡ desk.name }
     ensures step { IsDeskStep desk.board side result.1.0 result.0.board }
-    ensures told { MatchOption result.1.1 (result.0.writer.desk.shown.value ≡ desk.writer.desk.shown.value)
-        (λ n. (n.front.book ≡ result.0.front.book) × (n.front.log ≡ result.0.board.journal) × (course result.0.writer.desk.shown.value ≡ (result.0.board.plan, result.0.board.journal))) }
+    ensures told { MatchOption result.1.1 (result.0.shown ≡ desk.shown) (IsTold result.0) }
 {
     let Desk {
         mut board,
@@ -232,37 +236,45 @@ impl Desk {
         &self.board
     }
 
-    /// Commits a proposal as [`Board::commit`] does, and publishes that. What was published is told.
+    /// Places an instruction as proposed, where the spot is its least spot on the board as it is now, and publishes that. It
+    /// may wait for viewers. Answers the spot, and what is told where the whole journal is published. Where nothing is told,
+    /// what is published is as before, and the entry goes with the next publish.
+    ///
+    /// # Errors
+    ///
+    /// `NotReady` and `Stale` where [`Board::commit`] answers them, and `Memory` where the proposal may be committed and
+    /// memory ran out. The board is as before, but that it may have more room, and nothing was published.
     pub fn commit<R: Wait>(
         &mut self,
         rt: &R,
         proposal: &Proposal,
         who: Who,
     ) -> Result<(Spot, Option<Told>), CommitFault>
-        ensures name { self.new.front.book ≡ self.old.front.book }
+        ensures name { self.new.name ≡ self.old.name }
         ensures ready { OnOk result (IsReadyNow self.old.board proposal.now.number) }
         ensures least { OnOk result (IsLeastNow self.old.board proposal.now.number proposal.now.spot) }
         ensures spot { IfOk result (λ t. t.0 ≡ proposal.now.spot) }
         ensures added { IfOk result (λ t. Adds self.old.board (Place proposal.now.number t.0 who ∷ []) self.new.board) }
-        ensures told { IfOk result (λ t. MatchOption t.1 (self.new.writer.desk.shown.value ≡ self.old.writer.desk.shown.value)
-            (λ n. (n.front.book ≡ self.new.front.book) × (n.front.log ≡ self.new.board.journal) × (course self.new.writer.desk.shown.value ≡ (self.new.board.plan, self.new.board.journal)))) }
+        ensures told { IfOk result (λ t. MatchOption t.1 (self.new.shown ≡ self.old.shown) (IsTold self.new)) }
         ensures fault { IfErr result (IsDeskFault self.old.board proposal.now) }
-        ensures stays { OnErr result (Stays self.old.board self.new.board × (self.new.writer.desk.shown.value ≡ self.old.writer.desk.shown.value)) }
+        ensures stays { OnErr result (Stays self.old.board self.new.board × (self.new.shown ≡ self.old.shown)) }
     {
         replace_with(self, rt, |desk, rt| commit_by(desk, rt, proposal, who))
     }
 
-    /// Takes a side's turn as [`Board::step`] does, and publishes it. What was published is told.
+    /// Takes a side's turn on the board, and publishes its entries as one batch. It may wait for viewers. What is told is as
+    /// for [`Desk::commit`]; a turn that adds nothing tells nothing. On [`Turn::Memory`] the board is as before, but that it
+    /// may have more room.
     pub fn step<R: Wait>(&mut self, rt: &R, side: Side) -> (Turn, Option<Told>)
-        ensures name { self.new.front.book ≡ self.old.front.book }
+        ensures name { self.new.name ≡ self.old.name }
         ensures step { IsDeskStep self.old.board side result.0 self.new.board }
-        ensures told { MatchOption result.1 (self.new.writer.desk.shown.value ≡ self.old.writer.desk.shown.value)
-            (λ n. (n.front.book ≡ self.new.front.book) × (n.front.log ≡ self.new.board.journal) × (course self.new.writer.desk.shown.value ≡ (self.new.board.plan, self.new.board.journal))) }
+        ensures told { MatchOption result.1 (self.new.shown ≡ self.old.shown) (IsTold self.new) }
     {
         replace_with(self, rt, |desk, rt| step_by(desk, rt, side))
     }
 
-    /// Hands back the board. It waits for viewers.
+    /// Ends the desk, and hands back its board as the last call left it. It may wait for viewers, which are given nothing
+    /// from then on.
     pub fn close<R: Wait>(self, rt: &R) -> Board
         ensures { result ≡ self.board }
     {
@@ -313,6 +325,7 @@ fn writer_of<R: Wait>(
     ensures pending { IfOk result (λ w. drop w.behind w.log.items ≡ []) }
     ensures knows { IfOk result (λ w. view w.desk.place ≡ (front.now.book, (board.now.plan, board.now.journal)) ∷ []) }
 {
+    // By this call it is known here that the journal is legal and replays to the placements.
     board.budget();
     let first = version_of(alloc, board, front)?;
     let second = version_of(alloc, board, front)?;
@@ -327,18 +340,24 @@ fn writer_of<R: Wait>(
     }
 }
 
-/// A desk of a board, and two viewers of what it publishes. Where that can't be, the board comes back.
+/// A desk of a board, and two viewers of what it publishes, which know the board's journal. It publishes once, and may wait.
+///
+/// # Errors
+///
+/// `Memory` where memory ran out or the first publish was refused, and `NoSeat` where a viewer had no place. The board comes
+/// back.
 pub fn desk_of<R: Wait>(
     rt: &R,
     alloc: Global,
     board: Board,
 ) -> Result<(Desk, Viewer, Viewer), (Board, DeskFault)>
-    ensures first { IfOk result (λ t. t.1 ≡ record { desk = t.0.front.book; plan = board.plan; entries = board.journal }) }
-    ensures second { IfOk result (λ t. t.2 ≡ record { desk = t.0.front.book; plan = board.plan; entries = board.journal }) }
+    ensures first { IfOk result (λ t. t.1 ≡ record { desk = t.0.name; plan = board.plan; entries = board.journal }) }
+    ensures second { IfOk result (λ t. t.2 ≡ record { desk = t.0.name; plan = board.plan; entries = board.journal }) }
     ensures board { IfOk result (λ t. t.0.board ≡ board) }
     ensures back { IfErr result (λ e. e.0 ≡ board) }
 {
     let (head, front) = open();
+    // By this call it is known here that the journal is shorter than 2^64 entries.
     let _count = board.journal().len();
     let front = front.added_all(rt, &head, board.journal());
     let Ok(mut writer) = writer_of(rt, alloc, &board, &front) else {

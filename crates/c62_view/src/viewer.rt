@@ -20,6 +20,14 @@ pub struct Told {
     front: Front,
 }
 
+impl Model for Told {
+    ghost use Rattle.c62_view.specs.Past.{Past};
+
+    ghost Value = { Past };
+
+    ghost view = { λ t. t.front };
+}
+
 /// Plans on what a desk published. Contracts see it as what it `Knows`.
 #[derive(Drop)]
 pub struct Viewer {
@@ -89,7 +97,9 @@ impl Viewer {
         Viewer { reader, front }
     }
 
-    /// The pick of a side, and its least spot, on what was published.
+    /// The pick of a side and its least spot on what the desk published last, with the number of entries that led there. It
+    /// takes no memory and waits for nobody. `None` where there is no pick or no least spot; and where the viewer is given
+    /// nothing, as after the desk was closed, and it then knows what it knew.
     pub fn plan(&mut self, side: Side) -> Option<Proposal>
         ensures desk { self.new.desk ≡ self.old.desk }
         ensures plan { self.new.plan ≡ self.old.plan }
@@ -100,14 +110,15 @@ impl Viewer {
         replace_with(self, side, |viewer, side| plan_by(viewer, side))
     }
 
-    /// Takes in what the viewer's own desk told.
+    /// Takes in what the viewer's own desk told, on no less than which it plans from then on. It takes no memory and waits for
+    /// nobody.
     pub fn learn(&mut self, told: Told)
-        requires { told.front.book ≡ self.old.desk }
+        requires { told.book ≡ self.old.desk }
         ensures desk { self.new.desk ≡ self.old.desk }
         ensures plan { self.new.plan ≡ self.old.plan }
-        ensures told { IsPrefix told.front.log self.new.entries }
+        ensures told { IsPrefix told.log self.new.entries }
         ensures begins { IsPrefix self.old.entries self.new.entries }
-        ensures one { (self.new.entries ≡ told.front.log) ⊎ (self.new.entries ≡ self.old.entries) }
+        ensures one { (self.new.entries ≡ told.log) ⊎ (self.new.entries ≡ self.old.entries) }
     {
         let Told { front } = told;
         if self.front.begins(&front) {
@@ -118,7 +129,7 @@ impl Viewer {
 
 impl Told {
     pub(crate) fn of(front: Front) -> Told
-        ensures { result.front ≡ front }
+        ensures { result ≡ front }
     {
         Told { front }
     }
