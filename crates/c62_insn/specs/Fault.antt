@@ -1,6 +1,6 @@
 -- Why an operation, operands, condition and written unit make no instruction: five tests in their order (docs/MACHINE.md,
 -- "Form faults"). The order is this project's own.
-use Rattle.std.specs.Prelude.{ℕ, Bool, false, ◌&&◌, ◌||◌, not, ◌==◌, nat_lt, if◌then◌else◌, Option, Some, None}
+use Rattle.std.specs.Prelude.{ℕ, Bool, false, ◌&&◌, ◌||◌, not, ◌==◌, nat_lt, if◌then◌else◌, List, Option, Some, None, codes}
 use Rattle.std.specs.List.{list_any}
 use Rattle.c62_op.specs.declared.register.Side.{Side}
 use Rattle.c62_op.specs.declared.register.Side.TheVariants.{A, B}
@@ -15,6 +15,14 @@ use Rattle.c62_op.specs.Units.{all_units}
 use Rattle.c62_op.specs.Takes.{same_side, has_kind, in_some_range, offset_on, takes}
 use Rattle.c62_op.specs.Shape.{accesses_or_branches, side_of}
 use Rattle.c62_op.specs.Source.{first_source, second_source, lies_across, is_first_fixed, is_second_fixed}
+
+-- the name of a fault (docs/SERIAL_TEXT.md, "Faults of a line")
+abbrev pub form_name : FormFault → List ℕ
+form_name NoUnit = codes "NoUnit"
+form_name ConstantRange = codes "ConstantRange"
+form_name TwoCrossed = codes "TwoCrossed"
+form_name BadSide = codes "BadSide"
+form_name BadCondition = codes "BadCondition"
 
 -- A1, A2, B0, B1 and B2 may be a condition (SPRU189, "Conditional Operations")
 abbrev pub may_condition : Side → ℕ → Bool

@@ -1,36 +1,57 @@
 //! Why operands make no instruction.
 
-ghost use Rattle.std.specs.Prelude.{◌≡◌};
+ghost use Rattle.std.specs.Prelude.{◌≡◌, Some};
 ghost use Rattle.c62_op.specs.Takes.{in_some_range, takes, takes_somewhere};
 ghost use Rattle.c62_op.specs.Shape.{accesses_or_branches, side_of};
 ghost use Rattle.c62_op.specs.Source.{first_source, second_source, lies_across, is_first_fixed, is_second_fixed};
-ghost use Rattle.c62_insn.specs.Fault.{form_fault, bad_condition, constant_out_of_range, two_crossed, has_misplaced, is_other_side, bad_side, no_unit};
+ghost use Rattle.c62_insn.specs.Fault.{form_name, form_fault, bad_condition, constant_out_of_range, two_crossed, has_misplaced, is_other_side, bad_side, no_unit};
 ghost use Rattle.c62_op.specs.Units.{all_units};
 ghost use Rattle.c62_op.specs.Table.{forms_of};
 
 use c62_op::{Cond, Op, Operands, Side, Unit, unit_takes};
-use thiserror::Error;
+use std::error::Error;
+use std::fmt;
 
 /// Why parts make no instruction (`docs/MACHINE.md`, "Form faults"). Where several faults apply,
 /// [`Insn::new`](crate::Insn::new) says which one it gives.
-#[derive(Clone, Copy, PartialEq, Eq, Debug, Error)]
+#[derive(Clone, Copy, PartialEq, Eq, Debug)]
 pub enum FormFault {
     /// No unit, or not the written one, takes these operands.
-    #[error("NoUnit")]
     NoUnit,
     /// A constant lies outside all ranges that the instruction table gives it.
-    #[error("ConstantRange")]
     ConstantRange,
     /// Two sources lie on the side other than the destination's.
-    #[error("TwoCrossed")]
     TwoCrossed,
     /// A register that may not cross, or the written unit, lies on the wrong side.
-    #[error("BadSide")]
     BadSide,
     /// The register of the condition is not A1, A2, B0, B1 or B2.
-    #[error("BadCondition")]
     BadCondition,
 }
+
+impl FormFault {
+    /// Its name, as a fault of a line has it.
+    pub fn name(self) -> &'static str
+        ensures { result.now ≡ form_name self }
+    {
+        match self {
+            FormFault::NoUnit => "NoUnit",
+            FormFault::ConstantRange => "ConstantRange",
+            FormFault::TwoCrossed => "TwoCrossed",
+            FormFault::BadSide => "BadSide",
+            FormFault::BadCondition => "BadCondition",
+        }
+    }
+}
+
+impl fmt::Display for FormFault {
+    ghost output = { λ fault. Some (form_name fault) };
+
+    fn fmt<W: fmt::Write>(&self, f: &mut fmt::Formatter<W>) -> fmt::Result {
+        f.write_str(self.name())
+    }
+}
+
+impl Error for FormFault {}
 
 fn is_bad_condition(cond: Option<Cond>) -> bool
     ensures { result ≡ bad_condition cond }

@@ -3,6 +3,7 @@ pub mod Cut
 pub mod Begin
 pub mod Said
 pub mod Faults
+pub mod FaultText
 pub mod Fine
 pub mod Named
 pub mod Reading

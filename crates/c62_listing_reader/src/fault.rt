@@ -1,9 +1,10 @@
 //! Why a listing is refused.
 
-use c62_packet::PacketRule;
+use c62_packet::{BlockFault, PacketRule};
 use c62_read::{Cause, ReadFault};
 use std::alloc::{AllocError, AllocFailed};
-use thiserror::Error;
+use std::error::Error;
+use std::fmt;
 
 /// What is wrong with a line.
 #[derive(Clone, Copy)]
@@ -29,27 +30,50 @@ impl From<AllocError> for LineFault {
 
 /// Why a text is no listing. The lines of a text are counted from 1, its blocks from 0. The first faulty line decides; where
 /// no line has a fault, the first faulty block, and in it the first of `TwoBranches`, `NotDrained` and `Unlawful`.
-#[derive(Clone, Copy, Debug, Error)]
+#[derive(Clone, Copy, Debug)]
 pub enum ListFault {
     /// A fault that lines of serial text have too, or `TextTooLong` for a text of more than 8,388,608 bytes.
-    #[error("{0}")]
     Read(ReadFault),
     /// A packet rule is broken: the block, the least such cycle, and there the first rule.
-    #[error("block {0} cycle {1}: {2}")]
     Unlawful(u8, u16, PacketRule),
     /// The cycles written are not the length of the block, or something lands in or after that cycle.
-    #[error("block {0}: NotDrained")]
     NotDrained(u8),
     /// More than one branch.
-    #[error("block {0}: TwoBranches")]
     TwoBranches(u8),
     /// The line is not spelled as a listing spells what it says, or does not fit its neighbours.
-    #[error("line {0}: Shape")]
     Shape(u32),
     /// Memory ran out.
-    #[error("memory")]
     Memory,
 }
+
+impl fmt::Display for ListFault {
+    ghost use Rattle.std.specs.Prelude.{Some};
+    ghost use Rattle.c62_listing_reader.specs.FaultText.{list_fault_text};
+
+    ghost output = { λ fault. Some (list_fault_text fault) };
+
+    fn fmt<W: fmt::Write>(&self, f: &mut fmt::Formatter<W>) -> fmt::Result {
+        match self {
+            ListFault::Read(fault) => write!(f, "{fault}"),
+            ListFault::Unlawful(block, cycle, rule) => {
+                let fault = BlockFault::Unlawful(*cycle, *rule);
+                write!(f, "block {block} {fault}")
+            }
+            ListFault::NotDrained(block) => {
+                let fault = BlockFault::NotDrained;
+                write!(f, "block {block}: {fault}")
+            }
+            ListFault::TwoBranches(block) => {
+                let fault = BlockFault::TwoBranches;
+                write!(f, "block {block}: {fault}")
+            }
+            ListFault::Shape(line) => write!(f, "line {line}: Shape"),
+            ListFault::Memory => f.write_str("memory"),
+        }
+    }
+}
+
+impl Error for ListFault {}
 
 impl From<AllocError> for ListFault {
     ghost use Rattle.std.specs.Prelude.{◌≡◌};

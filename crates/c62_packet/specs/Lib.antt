@@ -1,6 +1,7 @@
 pub mod Packed
 pub mod Rules
 pub mod Fault
+pub mod FaultText
 pub mod Clash
 pub mod Packets
 pub mod Taken
