@@ -56,7 +56,7 @@ pub record IsPacked (insns : List SerialInsn) (block : List Placed) : Type 0 whe
 abbrev pub cycles_of : List Placed → ℕ
 cycles_of block = length_of (issues_of block)
 
--- from every machine the packets leave what the serial block leaves, and go on where it does
+-- from every sound machine the packets leave what the serial block leaves, and go on where it does
 abbrev pub AreSerial : List SerialInsn → List Placed → Type 0
 AreSerial insns block = (opening : Machine) (ran : Ran) → IsSound opening → IsMeaning block (cycles_of block) opening ran ↔ (ran ≡ serial insns opening)
 

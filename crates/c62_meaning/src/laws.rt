@@ -19,7 +19,7 @@ pub fn has_one_meaning()
 
 /// Packets are serial: where they hold the instructions of a block so that every dependence keeps its
 /// distance, they leave what the block leaves one instruction after the other, in registers, memory
-/// and faulted lines, and go on where it does, from every machine.
+/// and faulted lines, and go on where it does, from every sound machine.
 pub fn packets_are_serial()
     ensures { (insns : List SerialInsn) (block : List Placed) → PacketsAreSerial insns block }
 {}

@@ -34,7 +34,7 @@ fn spots_of(alloc: Global, board: &Board) -> Result<Vec<Spot>, AllocError>
 
 /// The packets of a complete board: its instructions in listing order, each with its line, and with the unit written on
 /// which it stands; its label, and its length in cycles. Run as packets, they leave what the board's block leaves run
-/// serially, in registers, memory and faulted lines, and go on where it does, from every machine.
+/// serially, in registers, memory and faulted lines, and go on where it does, from every sound machine.
 ///
 /// # Errors
 ///

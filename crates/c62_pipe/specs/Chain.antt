@@ -62,7 +62,7 @@ pub record ArePacked (program : List Serial) (packets : List Packed) : Type 0 wh
   pub each : (number : ℕ) (block : Serial) (packed : Packed) → slice_get program number ≡ Some block → slice_get packets number ≡ Some packed
       → IsBlockPacked block packed
 
--- from every machine, and under every limit, the packets run as the program does
+-- from every sound machine, and under every limit, the packets run as the program does
 pub record RunsAsProgram (program : List Serial) (packets : List Packed) (opening : Machine) (limit : ℕ) (chain : Chain) (final : Machine) : Type 0 where
   pub packed : RunsProgram program opening limit chain final → (cycles : ℕ) × RunsPackets packets opening limit chain cycles final
   pub serial : (cycles : ℕ) → RunsPackets packets opening limit chain cycles final → RunsProgram program opening limit chain final

@@ -8,7 +8,7 @@ ghost use Rattle.c62_pipe.specs.Alike.{ChainAlike};
 ghost use Rattle.c62_pipe.specs.Chain.{RunsAlike, HasOneChain};
 
 /// Packets of a program's blocks, in which every dependence keeps its distance, run as the program
-/// does: the same chain and the same machine, from every machine and under every limit.
+/// does: the same chain and the same machine, from every sound machine and under every limit.
 pub fn packets_run_as_their_program()
     ensures { (program : List Serial) (packets : List Packed) (opening : Machine) (limit : ℕ)
         → RunsAlike program packets opening limit }

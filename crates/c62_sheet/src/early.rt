@@ -2,7 +2,7 @@
 
 ghost use Rattle.std.specs.Prelude.{◌≡◌, ℕ, ◌<◌, ◌≤◌, ℤ, pos, negsuc, ◌≤ℤ◌, ◌+ℤ◌, length};
 ghost use Rattle.c62_depend.specs.declared.limits.TheConstants.{ISSUE_CYCLES};
-ghost use Rattle.c62_depend.specs.Plan.{insns_of};
+ghost use Rattle.c62_depend.specs.Plan.{insns_of, IsPlan};
 ghost use Rattle.c62_sheet.specs.Lawful.{IsLawful};
 ghost use Rattle.c62_sheet.specs.Least.{IsEarly};
 ghost use Rattle.c62_sheet.specs.Early.{IsPlacedEarly, IsBoundBy};
@@ -36,13 +36,20 @@ fn bound_by(spots: &[Option<Spot>], link: Link) -> u16
     }
 }
 
+/// Does nothing: where it is called, it is known what holds of every plan.
+fn known_of(plan: &Plan)
+    ensures { IsPlan (insns_of plan.now) }
+{
+    plan.len();
+}
+
 /// The first cycle in which instruction `i` keeps the bounds to all placed ones that it depends on.
 pub(crate) fn early(plan: &Plan, spots: &[Option<Spot>], i: u16) -> u16
     requires lawful { IsLawful (insns_of plan.now) spots.now }
     requires in_plan { i < length plan.now.insns }
     ensures { IsEarly (insns_of plan.now) spots.now i result }
 {
-    plan.len();
+    known_of(plan);
     let needs = plan.needs(i);
     let mut cycle = 0u16;
     for link in needs {
