@@ -501,8 +501,9 @@ impl Board {
         let mut entries = SmallVec::new(*self.journal.allocator());
         entries.reserve(usize::from(count) + 1)?;
         let spot = self.spot_without(&marks, q, i, side);
+        let placing = Entry::Place(i, spot, who_of(side));
         withdrawal::list_marked(&mut entries, &marks, n, who_of(side));
-        entries.push_reserved(Entry::Place(i, spot, who_of(side)));
+        entries.push_reserved(placing);
         Ok((Turn::Ejected(q, i, spot), entries))
     }
 

@@ -31,7 +31,7 @@ returns-clause-ahead c =
     c.len-n.ensures.len ∙ ap (λ (plan : Serial). length plan.insns) (c.plan.ensures.plan ∙ ap (λ (b : BoardState). b.plan) c.self.view_is)
     ∙ sym (many_insns c.args.self.now.plan.insns) in
     let none : c.reserve.new.self.items ≡ [] = c.reserve.ensures.items ∙ c.new-entries.ensures.items in
-    listed_ejection c.args.self.now c.args.side c.args.i c.args.q c.spot_without-spot.result c.going_with-marks.result c.len-n.result c.who_of.result c.who_of-2.result
-    c.spot_without-spot.ensures.0 c.list_marked.new.entries.items c.push_reserved.new.self.items marked all c.who_of.ensures c.who_of-2.ensures c.spot_without-spot.ensures.1
-    (c.list_marked.ensures.entries ∙ ap (λ (es : List Entry). es ++ withdrawals c.going_with-marks.result c.who_of.result c.len-n.result) none)
+    listed_ejection c.args.self.now c.args.side c.args.i c.args.q c.spot_without-spot.result c.going_with-marks.result c.len-n.result c.who_of-2.result c.who_of.result
+    c.spot_without-spot.ensures.0 c.list_marked.new.entries.items c.push_reserved.new.self.items marked all c.who_of-2.ensures c.who_of.ensures c.spot_without-spot.ensures.1
+    (c.list_marked.ensures.entries ∙ ap (λ (es : List Entry). es ++ withdrawals c.going_with-marks.result c.who_of-2.result c.len-n.result) none)
     c.push_reserved.ensures.items
