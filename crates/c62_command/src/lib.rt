@@ -8,3 +8,6 @@ mod setting;
 pub use command::{CommandError, Packing, Request, Start, command_of};
 pub use laws::takes_limits;
 pub use setting::Setting;
+
+#[cfg(test)]
+mod tests;

@@ -8,7 +8,7 @@ use std::process::Abort;
 use std::test::Fail;
 
 /// A text, all its dependences as `earlier>later:latency`, and its heights.
-const LATENCIES: [(&str, &str, &str); 37] = [
+const LATENCIES: [(&str, &str, &str); 19] = [
     (
         "MVK 3,A1\nADD A5,A1,A2\nLDW *A4,A5",
         "0>1:1 1>2:-4 ",
@@ -48,7 +48,10 @@ const LATENCIES: [(&str, &str, &str); 37] = [
         "0>1:0 0>2:1 0>3:-5 1>2:-3 1>3:1 2>3:5 ",
         "11 7 10 5 ",
     ),
-    // of two writers under opposite conditions at most one runs, while what they test keeps its value
+];
+
+/// The same of writers under conditions: of two under opposite ones at most one runs, while what they test keeps its value.
+const CONDITIONS: [(&str, &str, &str); 7] = [
     ("[A1] ADD A3,A4,A2\n[!A1] SUB A3,A4,A2", "", "0 0 "),
     ("[A1] LDW *A4,A5\n[!A1] MVK 1,A5", "", "4 0 "),
     (
@@ -64,7 +67,10 @@ const LATENCIES: [(&str, &str, &str); 37] = [
     ("[A1] LDW *A4,A1\n[!A1] MVK 1,A1", "0>1:5 ", "5 0 "),
     ("[!A1] MVK 2,A5\n[A1] SUB A1,1,A5", "", "0 0 "),
     ("[A1] ADD A5,A3,A5\n[!A1] MVK 2,A5", "0>1:0 ", "0 0 "),
-    // accesses from one base whose bytes do not meet
+];
+
+/// The same of accesses from one base, whose bytes meet or do not.
+const ACCESSES: [(&str, &str, &str); 11] = [
     (
         "MPY A1,A2,A3\nSTW A3,*A4\nLDW *+A4[1],A5\nADD A5,A5,A6",
         "0>1:2 2>3:5 ",
@@ -209,16 +215,44 @@ fn units(alloc: Global, plan: &Plan) -> Result<String, Fail> {
     Ok(all)
 }
 
+/// A text has these dependences and heights.
+fn is_planned(
+    rt: &impl Abort,
+    alloc: Global,
+    text: &str,
+    want: &str,
+    high: &str,
+) -> Result<(), Fail> {
+    let plan = plan_of(rt, alloc, text)?;
+    let found = latencies(alloc, &plan)?;
+    assert_eq!(rt; found.as_str(), want, "{text}");
+    let listed = followers(alloc, &plan)?;
+    assert_eq!(rt; listed.as_str(), want, "{text}");
+    let found = heights(alloc, &plan)?;
+    assert_eq!(rt; found.as_str(), high, "{text}");
+    Ok(())
+}
+
 #[test]
 fn dependences_and_heights(rt: HostRuntime) -> Result<(), Fail> {
     for (text, want, high) in &LATENCIES {
-        let plan = plan_of(&rt, rt.alloc(), text)?;
-        let found = latencies(rt.alloc(), &plan)?;
-        assert_eq!(rt; found.as_str(), *want, "{text}");
-        let listed = followers(rt.alloc(), &plan)?;
-        assert_eq!(rt; listed.as_str(), *want, "{text}");
-        let found = heights(rt.alloc(), &plan)?;
-        assert_eq!(rt; found.as_str(), *high, "{text}");
+        is_planned(&rt, rt.alloc(), text, want, high)?;
+    }
+    Ok(())
+}
+
+#[test]
+fn writers_under_conditions(rt: HostRuntime) -> Result<(), Fail> {
+    for (text, want, high) in &CONDITIONS {
+        is_planned(&rt, rt.alloc(), text, want, high)?;
+    }
+    Ok(())
+}
+
+#[test]
+fn accesses_from_one_base(rt: HostRuntime) -> Result<(), Fail> {
+    for (text, want, high) in &ACCESSES {
+        is_planned(&rt, rt.alloc(), text, want, high)?;
     }
     Ok(())
 }

@@ -4,3 +4,6 @@
 mod report;
 
 pub use report::{packet_report, serial_report};
+
+#[cfg(test)]
+mod tests;

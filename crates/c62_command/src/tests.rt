@@ -1,0 +1,94 @@
+//! What words ask for, as the README and docs/REPORT.md say.
+
+use crate::{CommandError, Packing, Request, Setting, Start, command_of};
+use c62_op::Side;
+use std::alloc::Global;
+use std::test::Fail;
+
+/// Words, and what they ask for or why they are refused.
+const ASKED: [(&[&str], &str); 12] = [
+    (&[], "pack by turns, 0 ejections"),
+    (&["pack"], "pack by workers, 0 ejections"),
+    (&["pack", "--turns"], "pack by turns, 0 ejections"),
+    (
+        &["pack", "--eject", "1000"],
+        "pack by workers, 1000 ejections",
+    ),
+    (&["run"], "run by workers, 0 ejections; 1000 blocks"),
+    (
+        &[
+            "run", "--turns", "--eject", "7", "--blocks", "1000000", "a4=0x100", "@8=-1",
+        ],
+        "run by turns, 7 ejections; 1000000 blocks, A4 = 256, @8 = 4294967295",
+    ),
+    (&["serial"], "serial; 1000 blocks"),
+    (
+        &["serial", "B15=+5", "--blocks", "2", "B15=6"],
+        "serial; 2 blocks, B15 = 5, B15 = 6",
+    ),
+    (
+        &["sim", "--blocks", "1", "@65532=1"],
+        "sim; 1 blocks, @65532 = 1",
+    ),
+    (&["serial", "A1=5", "x"], "setting 2"),
+    (&["serial", "--blocks", "0"], "words"),
+    (&["frob"], "words"),
+];
+
+fn packing_text(alloc: Global, packing: Packing) -> Result<String, Fail> {
+    let way = if packing.turns { "turns" } else { "workers" };
+    Ok(format!(in alloc; "by {way}, {} ejections", packing.budget)?)
+}
+
+fn setting_text(alloc: Global, setting: Setting) -> Result<String, Fail> {
+    Ok(match setting {
+        Setting::Register(reg, value) => {
+            let file = match reg.side {
+                Side::A => 'A',
+                Side::B => 'B',
+            };
+            format!(in alloc; "{file}{} = {value}", reg.number)?
+        }
+        Setting::Word(address, value) => format!(in alloc; "@{address} = {value}")?,
+    })
+}
+
+fn start_text(alloc: Global, start: &Start) -> Result<String, Fail> {
+    let mut text = format!(in alloc; "{} blocks", start.blocks)?;
+    for setting in &start.settings {
+        text.push_str(&format!(in alloc; ", {}", setting_text(alloc, *setting)?)?)?;
+    }
+    Ok(text)
+}
+
+fn request_text(alloc: Global, request: &Request) -> Result<String, Fail> {
+    Ok(match request {
+        Request::Pack(packing) => format!(in alloc; "pack {}", packing_text(alloc, *packing)?)?,
+        Request::Run(packing, start) => format!(in alloc;
+            "run {}; {}",
+            packing_text(alloc, *packing)?,
+            start_text(alloc, start)?
+        )?,
+        Request::Serial(start) => format!(in alloc; "serial; {}", start_text(alloc, start)?)?,
+        Request::Sim(start) => format!(in alloc; "sim; {}", start_text(alloc, start)?)?,
+    })
+}
+
+fn answer_text(alloc: Global, answer: &Result<Request, CommandError>) -> Result<String, Fail> {
+    match answer {
+        Ok(request) => request_text(alloc, request),
+        Err(CommandError::Words(_)) => Ok(format!(in alloc; "words")?),
+        Err(CommandError::Setting(number)) => Ok(format!(in alloc; "setting {number}")?),
+        Err(CommandError::Memory) => Ok(format!(in alloc; "memory")?),
+    }
+}
+
+#[test]
+fn words_ask(rt: HostRuntime) -> Result<(), Fail> {
+    for (words, want) in &ASKED {
+        let answer = command_of(rt.alloc(), words);
+        let found = answer_text(rt.alloc(), &answer)?;
+        assert_eq!(rt; found.as_str(), *want);
+    }
+    Ok(())
+}
