@@ -5,6 +5,7 @@
 mod alternating;
 mod finishing;
 mod gate;
+pub mod rounds;
 mod scheduling;
 mod workers;
 
@@ -14,6 +15,8 @@ pub use gate::{FreeGate, Gate};
 pub use scheduling::{Options, schedule};
 pub use workers::worker;
 
+#[cfg(test)]
+mod stopped_tests;
 #[cfg(test)]
 mod tests;
 #[cfg(test)]

@@ -1,6 +1,6 @@
 //! Worked blocks: steps of both sides in turn, and finishing.
 
-use crate::{finish, turns};
+use crate::{FreeGate, Options, finish, schedule, turns};
 use c62_board::{Board, Entry, Spot, Turn, Who};
 use c62_depend::Plan;
 use c62_insn::{Letter, Side, Unit};
@@ -185,7 +185,7 @@ fn plan_of_six(alloc: Global) -> Option<Plan> {
 }
 
 /// The plan of the block of six, asked for again where memory is refused.
-fn plan_again(rt: &impl Abort, alloc: Global) -> Result<Plan, Fail> {
+pub(crate) fn plan_again(rt: &impl Abort, alloc: Global) -> Result<Plan, Fail> {
     match plan_of_six(alloc) {
         Some(plan) => Ok(plan),
         None => plan_of(rt, alloc, SIX),
@@ -193,7 +193,7 @@ fn plan_again(rt: &impl Abort, alloc: Global) -> Result<Plan, Fail> {
 }
 
 /// An empty board of it with one ejection, made again where memory is refused.
-fn board_again(rt: &impl Abort, alloc: Global) -> Result<Board, Fail> {
+pub(crate) fn board_again(rt: &impl Abort, alloc: Global) -> Result<Board, Fail> {
     match Board::new(alloc, plan_again(rt, alloc)?, 1) {
         Ok(board) => Ok(board),
         Err((plan, _)) => match Board::new(alloc, plan, 1) {
@@ -231,5 +231,19 @@ fn a_refused_growth_of_finishing(rt: HostRuntime) -> Result<(), Fail> {
     let plan = plan_again(&rt, rt.alloc())?;
     let board = finish_again(&rt, rt.alloc(), &plan)?;
     has_cycles(&rt, &board);
+    Ok(())
+}
+
+/// Wherever one allocation is refused, a schedule is whole, or memory is the error.
+#[test]
+fn a_refused_growth_of_a_schedule(rt: HostRuntime) -> Result<(), Fail> {
+    for budget in [0, 1] {
+        let options = Options { turns: 100, budget };
+        let plan = plan_again(&rt, rt.alloc())?;
+        if let Ok(board) = schedule(&rt, rt.alloc(), plan, options, &FreeGate) {
+            assert!(rt; board.complete());
+            assert_eq!(rt; board.plan().len(), 6);
+        }
+    }
     Ok(())
 }

@@ -1,7 +1,10 @@
 //! Two workers on threads that share one board.
 
+ghost use Rattle.std.specs.Prelude.{◌≡◌, IfOk};
+
+use crate::rounds::serve;
 use crate::{FreeGate, Gate, Options, schedule, worker};
-use c62_board::{Board, Entry, Spot, Turn, Who};
+use c62_board::{Board, Entry, Proposal, Spot, Turn, Who};
 use c62_depend::Plan;
 use c62_insn::{Letter, Side, Unit};
 use c62_read::read_program;
@@ -10,7 +13,7 @@ use std::alloc::Global;
 use std::hint::spin_loop;
 use std::process::Abort;
 use std::sync::atomic::{AtomicU64, Ordering};
-use std::sync::{Mutex, Wait};
+use std::sync::{Mutex, MutexGuard, Wait};
 use std::test::Fail;
 
 /// Three instructions of side A, of which the last needs the other two.
@@ -41,7 +44,9 @@ fn board_of(rt: &impl Abort, alloc: Global, text: &str, budget: u16) -> Result<B
 }
 
 /// A desk of an empty board of a text, and a viewer of it.
-fn desk_on<R: Abort + Wait>(rt: &R, alloc: Global, text: &str) -> Result<(Desk, Viewer), Fail> {
+fn desk_on<R: Abort + Wait>(rt: &R, alloc: Global, text: &str) -> Result<(Desk, Viewer), Fail>
+    ensures { IfOk result (λ t. t.1.desk ≡ t.0.name) }
+{
     match desk_of(rt, alloc, board_of(rt, alloc, text, 0)?) {
         Ok((desk, viewer, _)) => Ok((desk, viewer)),
         Err(_) => Err("no desk".into()),
@@ -98,7 +103,7 @@ struct Meeting {
 /// How often a gate looks at most for what it waits for.
 const POLLS: u32 = 10_000_000;
 
-fn wait_for(flag: &AtomicU64) -> bool {
+pub(crate) fn wait_for(flag: &AtomicU64) -> bool {
     for _ in 0..POLLS {
         if flag.load(Ordering::SeqCst) == 1 {
             return true;
@@ -208,6 +213,99 @@ fn workers_make_their_turns(rt: HostRuntime) -> Result<(), Fail> {
     )?;
     let found = journal_text(rt.alloc(), &board)?;
     assert_eq!(rt; found.as_str(), "+0@0.S1A +1@1.S1A +2@2.L1T ");
+    Ok(())
+}
+
+/// Keeps what it is told of the turns of a worker, and whether the lock was free when it was told.
+#[derive(Drop)]
+struct Watch<'a> {
+    desk: &'a Mutex<Desk>,
+    told: [AtomicU64; 8],
+    count: AtomicU64,
+}
+
+impl Watch<'_> {
+    /// Whether nobody holds the lock.
+    fn is_free(&self) -> bool {
+        let Some(guard) = self.desk.try_lock() else {
+            return false;
+        };
+        MutexGuard::unlock(guard);
+        true
+    }
+
+    /// Keeps a number, or 0 where the lock is held.
+    fn keep(&self, number: u64) {
+        let place = self.count.fetch_add(1, Ordering::SeqCst);
+        if let Some(slot) = self.told.get(place as usize) {
+            slot.store(if self.is_free() { number } else { 0 }, Ordering::SeqCst);
+        }
+    }
+}
+
+/// A number for what is told of a turn of a side: thousands for the side, and hundreds for the turn.
+fn turn_number(side: Side, turn: u32, what: u32) -> u64 {
+    let thousands = match side {
+        Side::A => 1000,
+        Side::B => 2000,
+    };
+    thousands + 100 * u64::from(turn) + u64::from(what)
+}
+
+impl Gate for Watch<'_> {
+    fn before(&self, side: Side, turn: u32) {
+        self.keep(turn_number(side, turn, 1));
+    }
+
+    fn after(&self, side: Side, turn: u32, came: &Turn) {
+        let what = match came {
+            Turn::Placed(i, _) => 20 + u32::from(*i),
+            Turn::Idle => 2,
+            Turn::Done => 3,
+            Turn::Ejected(_, _, _) | Turn::NoRoom(_) | Turn::Memory => 4,
+        };
+        self.keep(turn_number(side, turn, what));
+    }
+}
+
+#[test]
+fn a_gate_is_told_each_turn(rt: HostRuntime) -> Result<(), Fail> {
+    let cases = [
+        (Side::A, [1001, 1020, 1101, 1121, 1201, 1222, 1301, 1303]),
+        (Side::B, [2001, 2002, 2101, 2102, 2201, 2202, 2301, 2302]),
+    ];
+    for (side, want) in &cases {
+        let (desk, mut viewer) = desk_on(&rt, rt.alloc(), SUM)?;
+        let desk = Mutex::new(desk);
+        let gate = Watch {
+            desk: &desk,
+            told: [0; 8].map(AtomicU64::new),
+            count: AtomicU64::new(0),
+        };
+        let turns = worker(&rt, &desk, &mut viewer, *side, 4, &gate);
+        let count = gate.count.load(Ordering::SeqCst);
+        let told = gate.told.map(|slot| slot.load(Ordering::SeqCst));
+        desk.into_inner().close(&rt);
+        assert_eq!(rt; (turns, count, told), (4, 8, *want));
+    }
+    Ok(())
+}
+
+#[test]
+fn rounds_of_a_side(rt: HostRuntime) -> Result<(), Fail> {
+    let (mut desk, mut viewer) = desk_on(&rt, rt.alloc(), SUM)?;
+    let last = serve(&rt, &mut desk, &mut viewer, Side::A, 1);
+    desk.close(&rt);
+    let unit = Unit {
+        letter: Letter::L,
+        side: Side::A,
+    };
+    let third = Proposal {
+        number: 2,
+        spot: Spot { cycle: 2, unit },
+        seen: 2,
+    };
+    assert_eq!(rt; last, Some(third));
     Ok(())
 }
 

@@ -4,7 +4,7 @@ ghost use Rattle.std.specs.Prelude.{◌≤◌};
 
 use crate::alternating::goes_on;
 use crate::gate::Gate;
-use c62_board::{CommitFault, Proposal, Turn, Who};
+use c62_board::{CommitFault, Proposal, Turn, who_of};
 use c62_insn::Side;
 use c62_view::{Desk, Viewer};
 use std::hint::spin_loop;
@@ -20,14 +20,6 @@ fn rest() {
         spin_loop();
     }
     yield_now();
-}
-
-/// Who makes a side's entries.
-fn who_of(side: Side) -> Who {
-    match side {
-        Side::A => Who::A,
-        Side::B => Who::B,
-    }
 }
 
 /// What a side's turn comes to on a desk.
