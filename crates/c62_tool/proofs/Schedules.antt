@@ -106,7 +106,7 @@ all_stand packing labels (b ∷ blocks) (q ∷ packets) all stand =
     let parts = both _ _ stand in
     rw (block_stands packing labels b q all.0 parts.0) (all_stand packing labels blocks packets all.1 parts.1)
 
-same_labels : (packing : Packing) (blocks : List Serial) (packets : List Packed) → AreScheduled packing blocks packets → labels_of packets ≡ labels_in blocks
+pub same_labels : (packing : Packing) (blocks : List Serial) (packets : List Packed) → AreScheduled packing blocks packets → labels_of packets ≡ labels_in blocks
 same_labels packing [] [] all = refl
 same_labels packing [] (q ∷ packets) all = absurd all
 same_labels packing (b ∷ blocks) [] all = absurd all

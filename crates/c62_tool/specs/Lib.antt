@@ -1,3 +1,5 @@
 pub mod Schedule
 pub mod Message
 pub mod Run
+pub mod ReadBack
+pub mod OneText

@@ -4,6 +4,7 @@
 mod answer;
 mod failure;
 mod input;
+mod laws;
 mod message;
 mod run;
 mod schedule;

@@ -1,0 +1,22 @@
+//! Laws of the program. The functions do nothing: what each ensures is a law.
+
+ghost use Rattle.std.specs.Prelude.{ℕ, List};
+ghost use Rattle.c62_read.specs.Block.{Serial};
+ghost use Rattle.c62_command.specs.declared.command.Packing.{Packing};
+ghost use Rattle.c62_tool.specs.ReadBack.{IsReadBack};
+ghost use Rattle.c62_tool.specs.OneText.{HasOneBoard, HaveOnePacking, HasOneText};
+
+/// What `pack` writes, by turns or by two workers, is a listing that is read back: as the packets that
+/// were packed, but for the lines of their instructions. So each report that `sim` gives of it is one of
+/// the program that the text says: the same chain, registers and memory, and faults of the same places.
+pub fn what_is_packed_is_read_back()
+    ensures { (packing : Packing) (text answer : List ℕ) → IsReadBack packing text answer }
+{}
+
+/// `pack --turns` can write one listing only of a text, with one budget of ejections: the board that
+/// turns and finishing lead to is one, and so are the packets and what is written.
+pub fn turns_pack_once()
+    ensures board { (packing : Packing) (block : Serial) → HasOneBoard packing block }
+    ensures packets { (packing : Packing) (program : List Serial) → HaveOnePacking packing program }
+    ensures text { (packing : Packing) (text : List ℕ) → HasOneText packing text }
+{}
