@@ -268,6 +268,24 @@ impl Gate for Watch<'_> {
     }
 }
 
+/// How many turns a worker makes, how often it told its gate of them, and what.
+fn watched<R: Wait>(
+    rt: &R,
+    desk: &Mutex<Desk>,
+    viewer: &mut Viewer,
+    side: Side,
+) -> (u32, u64, [u64; 8]) {
+    let gate = Watch {
+        desk,
+        told: [0; 8].map(AtomicU64::new),
+        count: AtomicU64::new(0),
+    };
+    let turns = worker(rt, desk, viewer, side, 4, &gate);
+    let count = gate.count.load(Ordering::SeqCst);
+    let told = gate.told.map(|slot| slot.load(Ordering::SeqCst));
+    (turns, count, told)
+}
+
 #[test]
 fn a_gate_is_told_each_turn(rt: HostRuntime) -> Result<(), Fail> {
     let cases = [
@@ -277,16 +295,9 @@ fn a_gate_is_told_each_turn(rt: HostRuntime) -> Result<(), Fail> {
     for (side, want) in &cases {
         let (desk, mut viewer) = desk_on(&rt, rt.alloc(), SUM)?;
         let desk = Mutex::new(desk);
-        let gate = Watch {
-            desk: &desk,
-            told: [0; 8].map(AtomicU64::new),
-            count: AtomicU64::new(0),
-        };
-        let turns = worker(&rt, &desk, &mut viewer, *side, 4, &gate);
-        let count = gate.count.load(Ordering::SeqCst);
-        let told = gate.told.map(|slot| slot.load(Ordering::SeqCst));
+        let seen = watched(&rt, &desk, &mut viewer, *side);
         desk.into_inner().close(&rt);
-        assert_eq!(rt; (turns, count, told), (4, 8, *want));
+        assert_eq!(rt; seen, (4, 8, *want));
     }
     Ok(())
 }
