@@ -1,6 +1,9 @@
 pub mod Schedules
 pub mod Answering
 pub mod Known
+pub mod FirstLine
+pub mod Checks
+pub mod Checking
 pub mod Runs
 pub mod Telling
 pub mod ReadBack
