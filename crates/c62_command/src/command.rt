@@ -210,7 +210,7 @@ fn check_command<'a>(alloc: Global) -> Command<'a>
     ensures local { IsLocal result }
 {
     Command::new(alloc, "check")
-        .about("Reads serial text, a line `---` and a listing, and tells whether each block is the same")
+        .about("Reads serial text, a line `---` and a listing, and compares their blocks")
         .override_usage("c62 check")
         .after_help(STREAMS_AND_STATUS)
 }

@@ -192,7 +192,7 @@ module _ (all : List ℕ) (n : ℕ) (enough : 9437190 ≤ n) where
   long_all text listing message parted long is =
       let size = cut_length parted.cut in (
         endless_all (length text) long (omega (arith, size))
-        (λ other rest cut. let least = parted.first other rest cut in omega (arith, long, least)),
+            (λ other rest cut. let least = parted.first other rest cut in omega (arith, long, least)),
         subst (λ (p : Result (List BlockParts) Refusal). IsErrAnd p (λ fault. message ≡ fault_message fault.0 fault.1)) (too_long text long) is,
       )
 
@@ -201,13 +201,13 @@ module _ (all : List ℕ) (n : ℕ) (enough : 9437190 ≤ n) where
       elim (cases_lt 1048576 (length is.text)) [
         | inl long ↦ let endless = long_all is.text is.listing is.fault is.parted long is.refused in Endless endless.0 (is.told ∙ ap of_text endless.1)
         | inr short ↦ FaultyText (record {
-            text = is.text;
-            listing = is.listing ++ drop n all;
-            parted = parted_of_front is.text is.listing is.parted short;
-            fault = is.fault;
-            refused = is.refused;
-            told = is.told;
-          })
+          text = is.text;
+          listing = is.listing ++ drop n all;
+          parted = parted_of_front is.text is.listing is.parted short;
+          fault = is.fault;
+          refused = is.refused;
+          told = is.told;
+        })
       ]
 
   faulty_listing_all : (message : List ℕ) → HasFaultyListing (take n all) message → IsNoCheck all message

@@ -1,6 +1,7 @@
 //! Runs over streams in memory, and over streams that fail.
 
 use crate::tool::{run_on_bytes, run_tool};
+use std::alloc::Global;
 use std::io;
 use std::io::{Read, Write};
 use std::process::Abort;
@@ -230,8 +231,14 @@ const SAME: [(&[u8], &str); 8] = [
         "block 0 same\n",
     ),
     // a unit that the text doesn't write, and a side that pack never chooses
-    (b"ADD .L1 A1,A2,A3\n---\n   ADD .D1 A1,A2,A3\n", "block 0 same\n"),
-    (b"L: B .S2 L\n---\nL:\n   B .S1 L\n   NOP 5\n", "block 0 same\n"),
+    (
+        b"ADD .L1 A1,A2,A3\n---\n   ADD .D1 A1,A2,A3\n",
+        "block 0 same\n",
+    ),
+    (
+        b"L: B .S2 L\n---\nL:\n   B .S1 L\n   NOP 5\n",
+        "block 0 same\n",
+    ),
     // an access that faults, on another line
     (
         b";\nMVK 1,A4\nLDW *A4,A5\n---\n   MVK .S1 1,A4\n   LDW .D1T1 *A4,A5\n   NOP 4\n",
@@ -277,27 +284,46 @@ const UNCHECKED: [(&[u8], &str); 14] = [
     (b"---\r", "text line 0: NoListing\n"),
     (b"\nFOO\n---\nBAR\n", "text line 2: UnknownMnemonic\n"),
     (b"\nFOO\n---\n---\n", "text line 2: UnknownMnemonic\n"),
-    (b"MVK 1,A1\r\n---\r\nBAR\n", "listing line 1: UnknownMnemonic\n"),
+    (
+        b"MVK 1,A1\r\n---\r\n   BAR\n",
+        "listing line 1: UnknownMnemonic\n",
+    ),
     (b"MVK 1,A1\n---\n\n", "listing line 1: Shape\n"),
-    (b"MVK 1,A1\n---\n   MVK .S1 1,A1\r\n", "listing line 1: Shape\n"),
-    (b"MVK 1,A1\n---\n   MVK .S1 1,A1\n---\n", "listing line 2: UnknownMnemonic\n"),
-    (b"---\n---", "listing line 1: UnknownMnemonic\n"),
-    (b"MVK 1,A1\n---\n   LDW .D1T1 *A4,A5\n", "listing block 0: NotDrained\n"),
+    (
+        b"MVK 1,A1\n---\n   MVK .S1 1,A1\r\n",
+        "listing line 1: Shape\n",
+    ),
+    (
+        b"MVK 1,A1\n---\n   MVK .S1 1,A1\n---\n",
+        "listing line 2: Shape\n",
+    ),
+    (b"---\n---", "listing line 1: Shape\n"),
+    (
+        b"MVK 1,A1\n---\n   LDW .D1T1 *A4,A5\n",
+        "listing block 0: NotDrained\n",
+    ),
     (
         b"MVK 1,A1\n---\n   LDW .D1T1 *A4,A5\n|| LDW .D2T1 *B4,A6\n   NOP 4\n",
         "listing block 0 cycle 0: P3\n",
     ),
-    (b"B Q\n---\n   B .S2 Q\n   NOP 5\n", "text line 1: UnknownTarget\n"),
+    (
+        b"B Q\n---\n   B .S2 Q\n   NOP 5\n",
+        "text line 1: UnknownTarget\n",
+    ),
 ];
 
-/// A byte or line, how often it stands, what stands behind it, and what is told of that by a check.
-const UNCHECKED_TEXTS: [(&[u8], usize, &[u8], &str); 6] = [
-    (b"\n", 1_048_576, b"---\nFOO", "listing line 1: UnknownMnemonic\n"),
-    (b"\n", 1_048_577, b"---\n", "text line 0: TextTooLong\n"),
-    (b"\n", 1_048_577, b"", "text line 0: TextTooLong\n"),
-    (b"\n", 1_048_576, b"", "text line 0: NoListing\n"),
-    (b"A", 1_048_576, b"\n---\n", "text line 0: TextTooLong\n"),
-    (b"A", 1_048_575, b"\n---\n", "text line 1: LineTooLong\n"),
+/// A line of 64 bytes that says nothing, and how often it stands in the longest text.
+const COMMENT: &[u8] = b";;;;;;;;;;;;;;;;;;;;;;;;;;;;;;;;;;;;;;;;;;;;;;;;;;;;;;;;;;;;;;;\n";
+
+const MOST_COMMENTS: usize = 16_384;
+
+/// Behind the longest text, what a check can't be made of, and what is told of it.
+const UNCHECKED_LONG: [(&[u8], &str); 5] = [
+    (b"", "text line 0: NoListing\n"),
+    (b"---\nFOO", "listing line 1: Shape\n"),
+    (b"\n", "text line 0: TextTooLong\n"),
+    (b"\n---\n", "text line 0: TextTooLong\n"),
+    (b"FOO\n---\nFOO", "text line 0: TextTooLong\n"),
 ];
 
 /// Where texts come from and go to, and what the statuses are.
@@ -331,7 +357,7 @@ Commands:
   run     Packs serial text, runs the packets and reports the end
   serial  Runs serial text, one instruction after the other, and reports the end
   sim     Reads a listing, runs its packets and reports the end
-  check   Reads serial text, a line `---` and a listing, and tells whether each block is the same
+  check   Reads serial text, a line `---` and a listing, and compares their blocks
   help    Print this message or the help of the given subcommand(s)
 
 Options:
@@ -401,7 +427,7 @@ Options:
     ),
     (
         &["check", "-h"],
-        "Reads serial text, a line `---` and a listing, and tells whether each block is the same
+        "Reads serial text, a line `---` and a listing, and compares their blocks
 
 Usage: c62 check
 
@@ -574,27 +600,29 @@ fn unchecked_texts(rt: HostRuntime) -> Result<(), Fail> {
     for (input, expected) in &UNCHECKED {
         refuses(&rt, "check", input, expected);
     }
-    for (line, count, rest, expected) in &UNCHECKED_TEXTS {
-        let mut input = Vec::new(rt.alloc());
-        for _ in 0..*count {
-            input.extend_from_slice(line)?;
-        }
-        input.extend_from_slice(rest)?;
-        refuses(&rt, "check", &input, expected);
-    }
     Ok(())
 }
 
-/// A text and a listing of as many bytes as they may have, with the longest line between them, and a listing of one byte more.
-#[test]
-fn longest_check(rt: HostRuntime) -> Result<(), Fail> {
-    let mut input = Vec::new(rt.alloc());
-    for _ in 0..524_288 {
-        input.extend_from_slice(b"\r\n")?;
+fn longest_text(alloc: Global) -> Result<Vec<u8>, Fail> {
+    let mut text = Vec::new(alloc);
+    for _ in 0..MOST_COMMENTS {
+        text.extend_from_slice(COMMENT)?;
     }
+    Ok(text)
+}
+
+/// The longest text, also with the longest listing and the longest line between the two, and with a byte more.
+#[test]
+fn longest_checks(rt: HostRuntime) -> Result<(), Fail> {
+    for (rest, expected) in &UNCHECKED_LONG {
+        let mut input = longest_text(rt.alloc())?;
+        input.extend_from_slice(rest)?;
+        refuses(&rt, "check", &input, expected);
+    }
+    let mut input = longest_text(rt.alloc())?;
     input.extend_from_slice(b"---\r\n")?;
-    for _ in 0..8_388_608 {
-        input.push(b'A')?;
+    for _ in 0..2048 {
+        input.extend_from_slice(&[b'A'; 4096])?;
     }
     refuses(&rt, "check", &input, "listing line 1: LineTooLong\n");
     input.push(b'A')?;
@@ -647,18 +675,12 @@ fn readers_that_fail(rt: HostRuntime) -> Result<(), Fail> {
         assert_eq!(rt; errors.as_slice(), b"input\n".as_slice());
     }
 
-    let rows: [(&[&str], &str); 2] = [
-        (&["pack"], "line 0: TextTooLong\n"),
-        (&["check"], "text line 0: TextTooLong\n"),
-    ];
-    for (words, expected) in &rows {
-        let mut output = Vec::new(rt.alloc());
-        let mut errors = Vec::new(rt.alloc());
-        let status = run_tool(&rt, *words, &mut Endless, &mut output, &mut errors);
-        assert_eq!(rt; status, 1);
-        assert!(rt; output.is_empty());
-        assert_eq!(rt; errors.as_slice(), expected.as_bytes());
-    }
+    let mut output = Vec::new(rt.alloc());
+    let mut errors = Vec::new(rt.alloc());
+    let status = run_tool(&rt, &["pack"], &mut Endless, &mut output, &mut errors);
+    assert_eq!(rt; status, 1);
+    assert!(rt; output.is_empty());
+    assert_eq!(rt; errors.as_slice(), b"line 0: TextTooLong\n".as_slice());
     Ok(())
 }
 
