@@ -211,7 +211,9 @@ fn check_command<'a>(alloc: Global) -> Command<'a>
 {
     Command::new(alloc, "check")
         .about("Reads serial text, a line `---` and a listing, and compares their blocks")
-        .override_usage("c62 check")
+        .override_usage(
+            "c62 check\n       ./c62 check <TEXT> <LISTING>  (the launcher joins two files)",
+        )
         .after_help(STREAMS_AND_STATUS)
 }
 

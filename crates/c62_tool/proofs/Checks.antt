@@ -76,15 +76,15 @@ module _ {input text listing : List ℕ} (cut : IsCut input text listing) where
   cut_length : length input ≡ length text + 3 + length cut.begun.end
   cut_length =
       let all : length input ≡ length text + length cut.behind = ap length cut.whole ∙ length-append text cut.behind in
-      let line : length cut.behind ≡ 3 + length cut.begun.end = ap length cut.begun.whole in
+      let line : length cut.behind ≡ 3 + length cut.begun.end = ap length cut.begun.whole ∙ length-append (codes "---") cut.begun.end in
       omega (arith, all, line)
 
   end_length : length cut.begun.end ≤ 2 + length listing
   end_length = go cut.begun.ended
     where
       go : IsEnded cut.begun.end listing → length cut.begun.end ≤ 2 + length listing
-      go (inl feed) = let size : length cut.begun.end ≡ 1 + length listing = ap length feed in omega (arith, size)
-      go (inr (inl feed)) = let size : length cut.begun.end ≡ 2 + length listing = ap length feed in omega (arith, size)
+      go (inl feed) = let size : length cut.begun.end ≡ 1 + length listing = ap length feed ∙ length-append (10 ∷ []) listing in omega (arith, size)
+      go (inr (inl feed)) = let size : length cut.begun.end ≡ 2 + length listing = ap length feed ∙ length-append (13 ∷ 10 ∷ []) listing in omega (arith, size)
       go (inr (inr none)) = let size : length cut.begun.end ≡ 0 = ap length none.0 in omega (arith, size)
 
 module _ (all : List ℕ) (n : ℕ) (enough : 9437190 ≤ n) where
