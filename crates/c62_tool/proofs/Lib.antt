@@ -2,6 +2,7 @@ pub mod Schedules
 pub mod Answering
 pub mod Known
 pub mod FirstLine
+pub mod OneParting
 pub mod Checks
 pub mod Checking
 pub mod Runs

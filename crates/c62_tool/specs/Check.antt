@@ -26,7 +26,7 @@ pub record IsCheck (input : List ℕ) (same : Bool) (answer : List ℕ) : Type 0
 
 -- ---- faults
 
--- there are more bytes than a text may have, and no line `---` stands behind fewer
+-- there are more bytes than a text may have, and so there are before each line `---`
 pub record IsEndless (input : List ℕ) : Type 0 where
   pub long : most_bytes < length input
   pub none : (text listing : List ℕ) → IsCut input text listing → most_bytes < length text

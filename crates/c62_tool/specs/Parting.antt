@@ -1,5 +1,5 @@
 -- How a serial text and a listing stand on one stream (docs/CHECK.md, "Input").
-use Rattle.std.specs.Prelude.{◌≡◌, ◌≢◌, ◌⊎◌, ℕ, ◌≤◌, List, [], ◌∷◌, ◌++◌, length, codes}
+use Rattle.std.specs.Prelude.{◌≡◌, ◌⊎◌, ℕ, ◌≤◌, List, [], ◌∷◌, ◌++◌, length, codes}
 
 -- whole lines: no bytes, or bytes of which the last is a line feed
 abbrev pub AreLines : List ℕ → Type 0
@@ -26,6 +26,10 @@ pub record IsCut (input text listing : List ℕ) : Type 0 where
 pub record IsParted (input text listing : List ℕ) : Type 0 where
   pub cut : IsCut input text listing
   pub first : (other rest : List ℕ) → IsCut input other rest → length text ≤ length other
+
+-- it is so in one way
+abbrev pub IsPartedOnce : List ℕ → Type 0
+IsPartedOnce input = (text listing other rest : List ℕ) → IsParted input text listing → IsParted input other rest → (text ≡ other) × (listing ≡ rest)
 
 -- no line of the input is `---`
 abbrev pub HasNoParting : List ℕ → Type 0
