@@ -4,7 +4,7 @@ pub mod Known
 pub mod FirstLine
 pub mod OneParting
 pub mod Checks
-pub mod Checking
+pub mod Verdicts
 pub mod Runs
 pub mod Telling
 pub mod ReadBack

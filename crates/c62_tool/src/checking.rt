@@ -16,7 +16,7 @@ use c62_read::{Cause, MOST_BYTES, Program, ReadFault, read_program};
 use std::alloc::Global;
 
 /// What is told of a check whose input has no line `---`.
-#[tactic(auto, using(crate::proofs::Checking::endless, crate::proofs::Checking::unparted))]
+#[tactic(auto, using(crate::proofs::Verdicts::endless, crate::proofs::Verdicts::unparted))]
 fn unparted(input: &[u8]) -> Failure
     requires { HasNoParting input.now }
     ensures { Gives Verdicts input.now (Err result) }

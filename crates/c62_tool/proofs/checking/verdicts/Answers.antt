@@ -1,6 +1,6 @@
 use Rattle.std.proofs.Common.{◌≡◌, true, subst}
 use Rattle.std.proofs.lemmas.Result.{err_from_is_err_and}
-use Rattle.c62_tool.proofs.Checking.{no_listing_part, no_text, told}
+use Rattle.c62_tool.proofs.Verdicts.{no_listing_part, no_text, told}
 use Rattle.c62_tool.proofs.checking.verdicts.Goals as goal
 
 pub returns-in_err-program : goal.returns-in_err-program
