@@ -46,9 +46,6 @@ module _ (block : List Insn) (placed : List Placed) (second : ℕ) (links : List
       let at_k = get_or-map (λ (link : Link). link.number) links k d in
       omega (arith, pair, at_h, at_k)
 
-  pub need_of : (k : ℕ) (link : Link) → k < length links → link ≡ get_or links k link → latency block link.number second ≡ Some link.latency
-  need_of k link inside at = subst (λ (l : Link). latency block l.number second ≡ Some l.latency) (sym at) (is_need k link inside)
-
   pub keeps_all : (k : ℕ) → length links ≤ k → AreKept block links placed second k → KeepsAll block placed second
   keeps_all k end kept i p q needed at_p at_q e =
       let link : Link = record { number = i; latency = needed } in
@@ -60,14 +57,14 @@ module _ (block : List Insn) (placed : List Placed) (second : ℕ) (links : List
   kept_before k d within kept i lt p q needed at_p at_q e =
       let link : Link = record { number = i; latency = needed } in
       let found = place i needed e in
-      let number : (get_or links found.0 d).number ≡ i = ap (λ (l : Link). l.number) (at_default found.0 found.1 ∙ found.2) in
+      let number : (get_or links found.0 d).number ≡ i = ap (λ (l : Link). l.number) (at_default found.0 link found.1 ∙ found.2) in
       elim (cases_lt found.0 k) [
         | inl below ↦ subst (λ (n : ℕ). Keeps block placed n second) number (kept found.0 d below) p q needed at_p at_q e
         | inr above ↦ absurd (not_above found.0 number above found.1)
       ]
     where
-      at_default : (h : ℕ) {e : Link} → h < length links → get_or links h d ≡ get_or links h e
-      at_default h {e} inside = grind (arith, common_steps, inside)
+      at_default : (h : ℕ) (e : Link) → h < length links → get_or links h d ≡ get_or links h e
+      at_default h e inside = grind (arith, common_steps, inside)
 
       not_above : (h : ℕ) → (get_or links h d).number ≡ i → k ≤ h → h < length links → ⊥
       not_above h number above inside = elim (cases_lt k h) [
@@ -78,28 +75,13 @@ module _ (block : List Insn) (placed : List Placed) (second : ℕ) (links : List
             omega (arith, number_k, lt))
       ]
 
-  pub first_early : (k : ℕ) (link : Link) (early : Early) → k < length links → link ≡ get_or links k link → AreKept block links placed second k → early.number ≡ second
-      → IsEarlyBehind block placed link.number early → IsEarly block placed early
-  first_early k link early within at kept number behind = record {
-    first = link.number;
+  pub first_early : (k : ℕ) (d : Link) (early : Early) → k < length links → AreKept block links placed second k → early.number ≡ second
+      → IsEarlyBehind block placed (get_or links k d).number early → IsEarly block placed early
+  first_early k d early within kept number behind = record {
+    first = (get_or links k d).number;
     behind = behind;
-    before = λ i lt.
-        (let number_is : link.number ≡ (get_or links k link).number = ap (λ (l : Link). l.number) at in
-        subst (λ (n : ℕ). Keeps block placed i n) (sym number) (kept_before k link within kept i (omega (arith, lt, number_is))));
+    before = λ i lt. subst (λ (n : ℕ). Keeps block placed i n) (sym number) (kept_before k d within kept i lt);
   }
-
-  pub kept_next : (k : ℕ) (link : Link) → k < length links → link ≡ get_or links k link → AreKept block links placed second k → Keeps block placed link.number second
-      → AreKept block links placed second (k + 1)
-  kept_next k link within at kept keeps h d lt = elim (cases_lt h k) [
-    | inl below ↦ kept h d below
-    | inr above ↦
-        (let here : h ≡ k = omega (arith, lt, above) in
-        let same : link ≡ get_or links h d = at ∙ (at_default ∙ ap (λ (n : ℕ). get_or links n d) (sym here)) in
-        subst (λ (l : Link). Keeps block placed l.number second) same keeps)
-  ]
-    where
-      at_default : get_or links k link ≡ get_or links k d
-      at_default = grind (arith, common_steps, within)
 
 -- one link
 

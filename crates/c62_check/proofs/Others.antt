@@ -1,8 +1,10 @@
 -- The first block that differs in its label.
-use Rattle.std.proofs.Common.{arith, ◌≡◌, ℕ, zero, suc, ◌<◌, ◌≤◌, List, [], ◌∷◌, length, map, false, Option, Some, None, refl, sym, ap, ◌∙◌, inl, inr, ◌⊎◌}
-use Rattle.std.specs.Prelude.{slice_get, option_map}
+use Rattle.std.proofs.Common.{arith, ◌≡◌, ℕ, zero, suc, ◌<◌, ◌≤◌, List, [], ◌∷◌, length, map, get_or, false, Option, Some, None, Bor, refl, sym, ap, ◌∙◌, inl, inr, ◌⊎◌}
+use Rattle.std.specs.Prelude.{slice_get, option_map, is_some, nat_lt, IfSome}
+use Rattle.std.specs.Option.{option_copied}
+use Rattle.std.proofs.lemmas.Bool.Decides.{nat_tests}
 use Rattle.std.proofs.lemmas.List.{length-map}
-use Rattle.std.proofs.lemmas.Option.{none-some, same_Some, slice_get-map}
+use Rattle.std.proofs.lemmas.Option.{none-some, same_Some, slice_get-map, slice_get_past, slice_get_read}
 use Rattle.c62_read.specs.Block.{Serial, labels_in}
 use Rattle.c62_packet.specs.Packed.{Packed}
 use Rattle.c62_packet.specs.Packets.{labels_of}
@@ -23,6 +25,12 @@ same_lists {X} (x ∷ xs) (y ∷ ys) each =
     later : (k : ℕ) → (k < length xs) ⊎ (k < length ys) → (suc k < suc (length xs)) ⊎ (suc k < suc (length ys))
     later k (inl lt) = inl (omega (arith, lt))
     later k (inr lt) = inr (omega (arith, lt))
+
+-- what `get` tells of a slice
+pub got_is : {X : Type 0} (xs : List X) (k : ℕ) (found : Option (Bor X)) → is_some found ≡ nat_lt k (length xs) → IfSome found (λ x. x.now ≡ get_or xs k x.now)
+    → option_copied found ≡ slice_get xs k
+got_is xs k None some value = sym (slice_get_past xs k (grind (arith, nat_tests, some)))
+got_is xs k (Some x) some value = sym (slice_get_read xs (length xs) k x.now refl (grind (arith, nat_tests, some)) value)
 
 abbrev label_of : Option Packed → Option (Option (List ℕ))
 label_of listed = option_map (λ one. one.label) listed

@@ -195,7 +195,7 @@ module _ (block : List Insn) (i j : ℕ) (p q : Insn) (cycles : ℤ) where
   read_of : (reg : Reg) → Asks (Reads reg) → HasWrite (IsRead q cycles) (register_writes p) reg
   read_of reg (ReadAfterWrite r d a b c, e) =
       let same : r ≡ reg = cc in
-      subst (λ (x : Reg). HasWrite (IsRead q cycles) (register_writes p) x) same (d, a, b, c)
+      subst (λ (x : Reg). HasWrite (IsRead q cycles) (register_writes p) x) same (d, a, (b, c))
   read_of reg (WriteAfterRead r d a b c, e) = absurd cc
   read_of reg (WriteAfterWrite r f s a b ex c, e) = absurd cc
   read_of reg (AfterStore a b c d, e) = absurd cc
@@ -203,7 +203,7 @@ module _ (block : List Insn) (i j : ℕ) (p q : Insn) (cycles : ℤ) where
   read_of reg (BeforeBranch a b, e) = absurd cc
 
   pub asks_read : (reg : Reg) → HasWrite (IsRead q cycles) (register_writes p) reg → Asks (Reads reg)
-  asks_read reg (d, a, b, c) = (ReadAfterWrite reg d a b c, refl)
+  asks_read reg (d, a, (b, c)) = (ReadAfterWrite reg d a b c, refl)
 
   pub none_read : All (λ write. IsRead q cycles write → ⊥) (register_writes p) → (reg : Reg) → Asks (Reads reg) → ⊥
   none_read none reg asks =
@@ -214,14 +214,14 @@ module _ (block : List Insn) (i j : ℕ) (p q : Insn) (cycles : ℤ) where
   overwritten_of reg (ReadAfterWrite r d a b c, e) = absurd cc
   overwritten_of reg (WriteAfterRead r d a b c, e) =
       let same : r ≡ reg = cc in
-      subst (λ (x : Reg). HasWrite (IsSpared p cycles) (register_writes q) x) same (d, a, b, c)
+      subst (λ (x : Reg). HasWrite (IsSpared p cycles) (register_writes q) x) same (d, a, (b, c))
   overwritten_of reg (WriteAfterWrite r f s a b ex c, e) = absurd cc
   overwritten_of reg (AfterStore a b c d, e) = absurd cc
   overwritten_of reg (StoreAfterLoad a b c d, e) = absurd cc
   overwritten_of reg (BeforeBranch a b, e) = absurd cc
 
   pub asks_spared : (reg : Reg) → HasWrite (IsSpared p cycles) (register_writes q) reg → Asks (Overwrites reg)
-  asks_spared reg (d, a, b, c) = (WriteAfterRead reg d a b c, refl)
+  asks_spared reg (d, a, (b, c)) = (WriteAfterRead reg d a b c, refl)
 
   pub none_spared : All (λ write. IsSpared p cycles write → ⊥) (register_writes q) → (reg : Reg) → Asks (Overwrites reg) → ⊥
   none_spared none reg asks =
@@ -229,12 +229,12 @@ module _ (block : List Insn) (i j : ℕ) (p q : Insn) (cycles : ℤ) where
       All-contains (λ write. IsSpared p cycles write → ⊥) (register_writes q) (reg, found.0) none found.1 found.2
 
   pub both_write : (reg : Reg) → HasWrite (IsOverwritten q cycles) (register_writes p) reg → BothWrite p q cycles reg
-  both_write reg (f, one, ((r, s), other, same, e)) =
+  both_write reg (f, one, ((r, s), other, (same, e))) =
       (f, one, s, subst (λ (x : Reg). Contains (register_writes q) (x, s)) same other, e)
 
   pub none_both : All (λ write. IsOverwritten q cycles write → ⊥) (register_writes p) → (reg : Reg) → BothWrite p q cycles reg → ⊥
   none_both none reg (f, one, s, other, e) =
-      All-contains (λ write. IsOverwritten q cycles write → ⊥) (register_writes p) (reg, f) none one ((reg, s), other, refl, e)
+      All-contains (λ write. IsOverwritten q cycles write → ⊥) (register_writes p) (reg, f) none one ((reg, s), other, (refl, e))
 
   both_of : (reg : Reg) → Asks (Writes reg) → BothWrite p q cycles reg
   both_of reg (ReadAfterWrite r d a b c, e) = absurd cc
@@ -385,15 +385,15 @@ module _ (block : List Insn) (i j : ℕ) (p q : Insn) (cycles : ℤ) where
 
   one_read : (r s : Reg) → IsAsked (Reads r) → IsAsked (Reads s) → r ≡ s
   one_read r s a b =
-      let (d, one, reads, c) = read_of block i j p q cycles r a in
-      let (e, other, also, f) = read_of block i j p q cycles s b in
+      let (d, one, (reads, c)) = read_of block i j p q cycles r a in
+      let (e, other, (also, f)) = read_of block i j p q cycles s b in
       let same : e ≡ d = omega (arith, ints, c, f) in
       one_register p r s d one (subst (λ (n : ℕ). Contains (register_writes p) (s, n)) same other)
 
   one_overwritten : (r s : Reg) → IsAsked (Overwrites r) → IsAsked (Overwrites s) → r ≡ s
   one_overwritten r s a b =
-      let (d, one, reads, c) = overwritten_of block i j p q cycles r a in
-      let (e, other, also, f) = overwritten_of block i j p q cycles s b in
+      let (d, one, (reads, c)) = overwritten_of block i j p q cycles r a in
+      let (e, other, (also, f)) = overwritten_of block i j p q cycles s b in
       let same : e ≡ d = omega (arith, ints, c, f) in
       one_register q r s d one (subst (λ (n : ℕ). Contains (register_writes q) (s, n)) same other)
 

@@ -45,7 +45,7 @@ holds_at P xs k x all at = subst P (get_or_from_slice_get xs k x x at) (all k x 
 
 -- ---- every block is a schedule
 
-as_many : (program : List Serial) (packets : List Packed) → labels_of packets ≡ labels_in program → length packets ≡ length program
+pub as_many : (program : List Serial) (packets : List Packed) → labels_of packets ≡ labels_in program → length packets ≡ length program
 as_many program packets labels =
     sym (length-map packets (λ (block : Packed). block.label))
     ∙ (ap (λ (ls : List (Option (List ℕ))). length ls) labels ∙ length-map program (λ (block : Serial). block.label))

@@ -10,6 +10,7 @@ use Rattle.c62_packet.specs.Packets.{labels_of}
 use Rattle.c62_check.specs.declared.verdict.Verdict.{Verdict}
 use Rattle.c62_check.specs.Verdict.{IsVerdict, is_same}
 use Rattle.c62_check.specs.Lines.{verdict_lines, lines_from}
+use Rattle.c62_check.proofs.Serially.{as_many}
 use Rattle.c62_check.specs.Checked.{IsChecked, AreVerdicts}
 use Rattle.c62_check.specs.Checked.IsChecked.{SameBlocks}
 
@@ -101,3 +102,15 @@ told_next done packets text more same all number block packed verdict told e at 
 pub all_told : (program : List Serial) (packets : List Packed) (text : List ℕ) (same : Bool) → labels_of packets ≡ labels_in program → AreTold program packets text same
     → IsChecked program packets text same
 all_told program packets text same labels told = SameBlocks labels told.verdicts told.are told.lines told.all
+
+-- a block that isn't told yet has its packets
+pub has_packets : (program done rest : List Serial) (block : Serial) (packets : List Packed) (number : ℕ) → done ++ block ∷ rest ≡ program
+    → labels_of packets ≡ labels_in program → number ≡ length done → number < length packets
+has_packets program done rest block packets number whole labels at =
+    let count : length done + suc (length rest) ≡ length program = sym (length-append done (block ∷ rest)) ∙ ap (λ (blocks : List Serial). length blocks) whole in
+    let many = as_many program packets labels in
+    omega (arith, count, many, at)
+
+pub nothing_left : {X : Type 0} (xs : List X) → length xs ≡ 0 → xs ≡ []
+nothing_left [] none = refl
+nothing_left (x ∷ xs) none = absurd (omega (arith, none))

@@ -11,16 +11,16 @@ AreNot Is writes count = (k : ℕ) (d : Reg × ℕ) → k < count → Is (get_or
 
 module _ (Is : Reg × ℕ → Type 0) (writes : List (Reg × ℕ)) (count : ℕ) where
   pub not_next : (write : Reg × ℕ) → AreNot Is writes count → count < length writes → write ≡ get_or writes count write → (Is write → ⊥) → AreNot Is writes (count + 1)
-  not_next write are within at no k d low is = elim (cases_lt k count) [
+  not_next write are within at never k d low is = elim (cases_lt k count) [
     | inl before ↦ are k d before is
     | inr after ↦
         (let here : k ≡ count = omega (arith, low, after) in
-        let same : get_or writes count d ≡ get_or writes count write = default_is in
-        no (subst Is (ap (λ (n : ℕ). get_or writes n d) here ∙ (same ∙ sym at)) is))
+        let same : get_or writes count d ≡ get_or writes count write = default_is d in
+        never (subst Is (ap (λ (n : ℕ). get_or writes n d) here ∙ (same ∙ sym at)) is))
   ]
     where
-      default_is : {d : Reg × ℕ} → get_or writes count d ≡ get_or writes count write
-      default_is {d} = grind (arith, common_steps, within)
+      default_is : (d : Reg × ℕ) → get_or writes count d ≡ get_or writes count write
+      default_is d = grind (arith, common_steps, within)
 
   pub none_is : AreNot Is writes count → length writes ≤ count → All (λ write. Is write → ⊥) writes
   none_is are end k d inside = are k d (omega (arith, inside, end))

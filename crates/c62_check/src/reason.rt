@@ -146,6 +146,7 @@ pub fn reason_between(plan: &Plan, first: u16, second: u16, cycles: i32) -> Reas
     requires latency { latency (insns_of plan.now) first second ≡ Some cycles }
     ensures { IsReason (insns_of plan.now) first second cycles result }
 {
+    let _all = plan.len();
     let first = plan.insn(first);
     let second = plan.insn(second);
     let writes = first.writes();

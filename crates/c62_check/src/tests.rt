@@ -150,8 +150,8 @@ const EARLY: [Row; 11] = [
     // Two that come too early, in the order of the text, each with the first in that order.
     Row {
         text: "MVK 1,A1\nMVK 2,B1\nADD A1,A1,A2\nADD B1,B1,B2\nADD A1,A2,A3\n",
-        listing: "   ADD .L1 A1,A1,A2\n|| ADD .L2 B1,B1,B2\n|| MVK .S1 1,A1\n|| MVK .S2 2,B1\n   ADD .L1 A1,A2,A3\n",
-        want: "block 0 early 1 after 3 needs 1 has 0 reads A1\nblock 0 early 2 after 4 needs 1 has 0 reads B1\n",
+        listing: "   ADD .L1 A1,A1,A2\n|| MVK .S1 1,A1\n|| ADD .L2 B1,B1,B2\n|| MVK .S2 2,B1\n   ADD .L1 A1,A2,A3\n",
+        want: "block 0 early 1 after 2 needs 1 has 0 reads A1\nblock 0 early 3 after 4 needs 1 has 0 reads B1\n",
     },
     // Every block has its lines.
     Row {
