@@ -21,11 +21,17 @@ reason_words AccessesMemory = codes "accesses memory"
 reason_words StoresMemory = codes "stores memory"
 reason_words Branches = codes "branches -"
 
--- `early M after L needs N has C` and the reason
+-- `early M after L`
+unfoldable pub early_lines : Early → List ℕ
+early_lines early = codes "early " ++ decimal early.line ++ codes " after " ++ decimal early.after
+
+-- ` needs N has C`
+unfoldable pub early_cycles : Early → List ℕ
+early_cycles early = codes " needs " ++ signed_decimal early.needs ++ codes " has " ++ signed_decimal early.has
+
+-- what is told of an instruction that comes too early
 unfoldable pub early_words : Early → List ℕ
-early_words early =
-    codes "early " ++ decimal early.line ++ codes " after " ++ decimal early.after ++ codes " needs " ++ signed_decimal early.needs ++ codes " has " ++ signed_decimal early.has
-    ++ codes " " ++ reason_words early.reason
+early_words early = early_lines early ++ early_cycles early ++ codes " " ++ reason_words early.reason
 
 -- the lines of a block: one, or one for each instruction that comes too early
 unfoldable pub verdict_lines : ℕ → Answer → List ℕ
@@ -46,8 +52,11 @@ unfoldable pub label_name : Option (List ℕ) → List ℕ
 label_name None = codes "-"
 label_name (Some label) = label
 
--- the label that a block has in the listing, and that which it has in the text, where it is there
+unfoldable pub label_words : Option (List ℕ) → Option (List ℕ) → List ℕ
+label_words listed label = codes "label " ++ label_name listed ++ codes " not " ++ label_name label
+
+-- of the label that a block has in the listing, and that which it has in the text, where it is there
 unfoldable pub other_words : Option (Option (List ℕ)) → Option (Option (List ℕ)) → List ℕ
-other_words (Some listed) (Some label) = codes "label " ++ label_name listed ++ codes " not " ++ label_name label
+other_words (Some listed) (Some label) = label_words listed label
 other_words None label = codes "only in text"
 other_words listed None = codes "only in listing"

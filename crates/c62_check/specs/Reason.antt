@@ -1,8 +1,8 @@
 -- Why an instruction must come so many cycles behind another (docs/MACHINE.md, "Dependences").
-use Rattle.std.specs.Prelude.{◌≡◌, ℕ, ◌+◌, ◌≤◌, ℤ, pos, ◌-ℤ◌, List, Contains, Some, slice_get}
+use Rattle.std.specs.Prelude.{◌≡◌, ℕ, ◌+◌, ◌≤◌, ℤ, pos, ◌-ℤ◌, List, All, Contains, Option, Some, slice_get, MatchOption, IsTrue}
 use Rattle.c62_op.specs.declared.register.Reg.{Reg}
 use Rattle.c62_insn.specs.declared.insn.Insn.{Insn}
-use Rattle.c62_insn.specs.Insn.{register_writes}
+use Rattle.c62_insn.specs.Insn.{register_writes, reads_register}
 use Rattle.c62_rules.specs.Dependence.{IsBound}
 use Rattle.c62_rules.specs.Dependence.IsBound.{ReadAfterWrite, WriteAfterRead, WriteAfterWrite, AfterStore, StoreAfterLoad, BeforeBranch}
 use Rattle.c62_check.specs.declared.reason.Reason.{Reason}
@@ -39,10 +39,25 @@ pub record IsReason (block : List Insn) (i j : ℕ) (cycles : ℤ) (reason : Rea
   pub asks : AsksFor block i j first second cycles reason
   pub earliest : (other : Reason) → AsksFor block i j first second cycles other → place_of reason ≤ place_of other
 
--- both write this register, which would keep them so many cycles apart
-abbrev pub BothWrite : Insn → Insn → ℤ → Reg → Type 0
-BothWrite p q cycles reg =
-    (first second : ℕ) × Contains (register_writes p) (reg, first) × Contains (register_writes q) (reg, second) × (cycles ≡ pos (first + 1) -ℤ pos second)
+-- q reads the register of an earlier write with this delay, and must come so many cycles behind it
+abbrev pub IsRead : Insn → ℤ → Reg × ℕ → Type 0
+IsRead q cycles write = IsTrue (reads_register q write.0) × (cycles ≡ pos (write.1 + 1))
+
+-- p reads the register of a later write with this delay, which must come so many cycles behind it
+abbrev pub IsSpared : Insn → ℤ → Reg × ℕ → Type 0
+IsSpared p cycles write = IsTrue (reads_register p write.0) × (cycles ≡ pos 0 -ℤ pos write.1)
+
+-- a later write is of the register of an earlier one, and must come so many cycles behind it
+abbrev pub IsBehind : ℤ → Reg × ℕ → Reg × ℕ → Type 0
+IsBehind cycles earlier write = (write.0 ≡ earlier.0) × (cycles ≡ pos (earlier.1 + 1) -ℤ pos write.1)
+
+-- q has such a write
+abbrev pub IsOverwritten : Insn → ℤ → Reg × ℕ → Type 0
+IsOverwritten q cycles earlier = (write : Reg × ℕ) × Contains (register_writes q) write × IsBehind cycles earlier write
+
+-- of these writes none is such, or the first such is of this register
+abbrev pub FindsWrite : (Reg × ℕ → Type 0) → List (Reg × ℕ) → Option Reg → Type 0
+FindsWrite Is writes found = MatchOption found (All (λ write. Is write → ⊥) writes) (λ reg. (delay : ℕ) × Contains writes (reg, delay) × Is (reg, delay))
 
 -- ---- laws
 

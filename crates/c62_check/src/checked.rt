@@ -92,6 +92,7 @@ fn first_other(blocks: &[Block], packets: &[PacketBlock]) -> Option<usize>
 }
 
 /// Appends the line of a block that differs in its label, or that only one of the two has.
+#[tactic(auto, unfolding(crate::specs::Lines::other_words))]
 fn push_other(
     out: &mut Vec<u8>,
     number: u64,

@@ -1,11 +1,12 @@
 //! The instructions of a block that its packets issue too early.
 
-ghost use Rattle.std.specs.Prelude.{◌≡◌, ◌<◌, length, IfOk};
+ghost use Rattle.std.specs.Prelude.{◌≡◌, ◌<◌, length, Some, IfOk, MatchOption};
+ghost use Rattle.c62_depend.specs.Latency.{latency};
 ghost use Rattle.c62_depend.specs.Plan.{insns_of};
-ghost use Rattle.c62_check.specs.Early.{gap_of, IsEarlyAt, AreEarly};
+ghost use Rattle.c62_check.specs.Early.{gap_of, Keeps, IsEarlyBehind, IsEarlyAt, AreEarly};
 
 use crate::reason::{Reason, reason_between};
-use c62_depend::Plan;
+use c62_depend::{Link, Plan};
 use c62_packet::Placed;
 use std::alloc::{AllocError, Global};
 
@@ -33,29 +34,42 @@ fn gap(first: &Placed, second: &Placed) -> i32
     i32::from(second.cycle) - i32::from(first.cycle)
 }
 
-/// What is told of instruction `number`, where it comes too early: the first instruction that it comes too early behind.
+/// What is told of instruction `number`, where it comes too early behind another on which it depends.
+fn early_behind(plan: &Plan, placed: &[Placed], number: u16, link: Link) -> Option<Early>
+    requires within { number < length plan.now.insns }
+    requires placed { length placed.now ≡ length plan.now.insns }
+    requires link { latency (insns_of plan.now) link.number number ≡ Some link.latency }
+    ensures { MatchOption result (Keeps (insns_of plan.now) placed.now link.number number)
+        (λ early. (early.number ≡ number) × IsEarlyBehind (insns_of plan.now) placed.now link.number early) }
+{
+    let _all = plan.len();
+    let first = &placed[usize::from(link.number)];
+    let second = &placed[usize::from(number)];
+    let needs = i32::from(link.latency);
+    let has = gap(first, second);
+    if needs <= has {
+        return None;
+    }
+    Some(Early {
+        number: number as u8,
+        line: second.line,
+        after: first.line,
+        needs,
+        has,
+        reason: reason_between(plan, u16::from(link.number), number, needs),
+    })
+}
+
+/// What is told of instruction `number`, where it comes too early: of the first that it comes too early behind.
 fn early_at(plan: &Plan, placed: &[Placed], number: u16) -> Option<Early>
     requires within { number < length plan.now.insns }
     requires placed { length placed.now ≡ length plan.now.insns }
     ensures { IsEarlyAt (insns_of plan.now) placed.now number result }
 {
-    let _all = plan.len();
-    let second = &placed[usize::from(number)];
     let needs = plan.needs(number);
     for k in 0..needs.len() {
-        let link = needs[k];
-        let first = &placed[usize::from(link.number)];
-        let needs = i32::from(link.latency);
-        let has = gap(first, second);
-        if has < needs {
-            return Some(Early {
-                number: number as u8,
-                line: second.line,
-                after: first.line,
-                needs,
-                has,
-                reason: reason_between(plan, u16::from(link.number), number, needs),
-            });
+        if let Some(early) = early_behind(plan, placed, number, needs[k]) {
+            return Some(early);
         }
     }
     None

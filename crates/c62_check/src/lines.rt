@@ -5,7 +5,7 @@ ghost use Rattle.std.specs.Fmt.{signed_decimal};
 ghost use Rattle.std.specs.List.{flat_map};
 ghost use Rattle.std.specs.Option.{option_copied};
 ghost use Rattle.c62_op.specs.Name.{file_letter, register_name};
-ghost use Rattle.c62_check.specs.Lines.{block_line, reason_words, early_words, verdict_lines, label_name, other_words};
+ghost use Rattle.c62_check.specs.Lines.{block_line, reason_words, early_lines, early_cycles, early_words, verdict_lines, label_name, label_words};
 
 use crate::early::Early;
 use crate::reason::Reason;
@@ -72,18 +72,41 @@ fn push_block(out: &mut Vec<u8>, number: u64) -> Result<(), AllocError>
     out.extend_from_slice(b" ")
 }
 
-/// The line of an instruction that comes too early.
+/// Which lines an instruction that comes too early, and the other, have.
+#[tactic(auto, unfolding(crate::specs::Lines::early_lines))]
+fn push_early_lines(out: &mut Vec<u8>, early: &Early) -> Result<(), AllocError>
+    ensures { OnOk result (out.new.items ≡ out.old.items ++ early_lines early.now) }
+{
+    push_count(out, b"early ", u64::from(early.line))?;
+    push_count(out, b" after ", u64::from(early.after))
+}
+
+/// How many cycles lie between them, and must.
+#[tactic(auto, unfolding(crate::specs::Lines::early_cycles))]
+fn push_early_cycles(out: &mut Vec<u8>, early: &Early) -> Result<(), AllocError>
+    ensures { OnOk result (out.new.items ≡ out.old.items ++ early_cycles early.now) }
+{
+    push_cycles(out, b" needs ", early.needs)?;
+    push_cycles(out, b" has ", early.has)
+}
+
+/// What is told of an instruction that comes too early.
 #[tactic(auto, unfolding(crate::specs::Lines::early_words))]
+fn push_early_words(out: &mut Vec<u8>, early: &Early) -> Result<(), AllocError>
+    ensures { OnOk result (out.new.items ≡ out.old.items ++ early_words early.now) }
+{
+    push_early_lines(out, early)?;
+    push_early_cycles(out, early)?;
+    out.extend_from_slice(b" ")?;
+    push_reason(out, early.reason)
+}
+
+/// The line of an instruction that comes too early.
 fn push_early(out: &mut Vec<u8>, number: u64, early: &Early) -> Result<(), AllocError>
     ensures { OnOk result (out.new.items ≡ out.old.items ++ block_line number (early_words early.now)) }
 {
     push_block(out, number)?;
-    push_count(out, b"early ", u64::from(early.line))?;
-    push_count(out, b" after ", u64::from(early.after))?;
-    push_cycles(out, b" needs ", early.needs)?;
-    push_cycles(out, b" has ", early.has)?;
-    out.extend_from_slice(b" ")?;
-    push_reason(out, early.reason)?;
+    push_early_words(out, early)?;
     out.extend_from_slice(b"\n")
 }
 
@@ -143,6 +166,27 @@ fn label_name(label: Option<&Label>) -> &[u8]
     }
 }
 
+/// A word, and a label behind it.
+fn push_label(out: &mut Vec<u8>, word: &[u8], label: Option<&Label>) -> Result<(), AllocError>
+    ensures { OnOk result (out.new.items ≡ out.old.items ++ word.now ++ label_name (option_copied label.entry)) }
+{
+    out.extend_from_slice(word)?;
+    out.extend_from_slice(label_name(label))
+}
+
+/// What is told of a block whose label in the listing isn't that of the text.
+#[tactic(auto, unfolding(crate::specs::Lines::label_words))]
+fn push_label_words(
+    out: &mut Vec<u8>,
+    listed: Option<&Label>,
+    label: Option<&Label>,
+) -> Result<(), AllocError>
+    ensures { OnOk result (out.new.items ≡ out.old.items ++ label_words (option_copied listed.entry) (option_copied label.entry)) }
+{
+    push_label(out, b"label ", listed)?;
+    push_label(out, b" not ", label)
+}
+
 /// The line of a block whose label in the listing isn't that of the text.
 pub(crate) fn push_labels(
     out: &mut Vec<u8>,
@@ -150,13 +194,9 @@ pub(crate) fn push_labels(
     listed: Option<&Label>,
     label: Option<&Label>,
 ) -> Result<(), AllocError>
-    ensures { OnOk result (out.new.items ≡ out.old.items
-        ++ block_line number (codes "label " ++ label_name (option_copied listed.entry) ++ codes " not " ++ label_name (option_copied label.entry))) }
+    ensures { OnOk result (out.new.items ≡ out.old.items ++ block_line number (label_words (option_copied listed.entry) (option_copied label.entry))) }
 {
     push_block(out, number)?;
-    out.extend_from_slice(b"label ")?;
-    out.extend_from_slice(label_name(listed))?;
-    out.extend_from_slice(b" not ")?;
-    out.extend_from_slice(label_name(label))?;
+    push_label_words(out, listed, label)?;
     out.extend_from_slice(b"\n")
 }
