@@ -88,7 +88,7 @@ answers ask (Some all) old new text reply read gives written = record {
   written = written;
 }
 
-Keeps-same : (known : Option (List ℕ)) → Keeps known known
+pub Keeps-same : (known : Option (List ℕ)) → Keeps known known
 Keeps-same None = tt
 Keeps-same (Some xs) = refl
 
