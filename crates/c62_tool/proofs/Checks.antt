@@ -1,10 +1,10 @@
 -- A check of the front of an input is one of the whole.
-use Rattle.std.proofs.Common.{◌≡◌, ◌∙◌, ◌⊎◌, ℕ, ◌+◌, ◌-◌, ◌<◌, ◌≤◌, Bool, List, [], ◌∷◌, ◌++◌, length, take, drop, map, Result, Ok, Err, refl, sym, ap, subst, arith, append_assoc, append-nil, inl, inr}
+use Rattle.std.proofs.Common.{◌≡◌, ◌∙◌, ℕ, ◌+◌, ◌-◌, ◌<◌, ◌≤◌, Bool, List, [], ◌∷◌, ◌++◌, length, take, drop, map, Result, Ok, Err, refl, sym, ap, subst, arith, append_assoc, append-nil, inl, inr}
 use Rattle.std.specs.Prelude.{codes, IsErrAnd}
 use Rattle.std.proofs.Math.Seq.{take-append-add}
 use Rattle.std.proofs.Math.ListN.{drop_of_length-le}
 use Rattle.std.proofs.lemmas.Bool.{cases_lt, lt-ltb}
-use Rattle.std.proofs.lemmas.List.{length-append, length-take, length-take-le, take-append-drop, take_all}
+use Rattle.std.proofs.lemmas.List.{length-append, length-take, take-append-drop, take_all}
 use Rattle.c62_line.specs.declared.fault.Cause.TheVariants.{TextTooLong}
 use Rattle.c62_read.specs.Block.{Serial}
 use Rattle.c62_read.specs.Program.{BlockParts, Refusal, block_parts, drafts_in, program_in}
@@ -15,8 +15,8 @@ use Rattle.c62_listing_reader.specs.declared.fault.LineFault.TheVariants.{Read}
 use Rattle.c62_listing_reader.specs.Reading.{Refuses}
 use Rattle.c62_packet.specs.Packed.{Packed}
 use Rattle.c62_tool.specs.Message.{fault_message, of_text}
-use Rattle.c62_tool.specs.Parting.{IsBegun, IsCut, IsEnded, IsParted}
-use Rattle.c62_tool.specs.Texts.{IsNoListing, IsNoProgram, SaysProgram}
+use Rattle.c62_tool.specs.Parting.{IsCut, IsEnded, IsParted}
+use Rattle.c62_tool.specs.Texts.{IsNoProgram, SaysProgram}
 use Rattle.c62_tool.specs.Check.{HasFaultyListing, HasFaultyText, IsCheck, IsEndless, IsNoCheck}
 use Rattle.c62_tool.specs.Check.IsNoCheck.{Endless, FaultyListing, FaultyText, Unparted}
 

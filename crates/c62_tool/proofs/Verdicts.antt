@@ -1,10 +1,10 @@
 -- What is told of a check, from what each step gave.
-use Rattle.std.proofs.Common.{◌≡◌, ℕ, ◌<◌, ◌≤◌, Bool, true, false, List, length, Err, refl, arith}
+use Rattle.std.proofs.Common.{ℕ, ◌<◌, ◌≤◌, Bool, true, false, List, length, Err, refl}
 use Rattle.c62_line.specs.declared.fault.Cause.TheVariants.{TextTooLong}
 use Rattle.c62_read.specs.Block.{Serial}
 use Rattle.c62_tool.specs.declared.failure.Failure.{Failure}
 use Rattle.c62_tool.specs.declared.failure.Failure.TheVariants as failures
-use Rattle.c62_tool.specs.Message.{fault_message, list_message, no_listing, of_listing, of_text}
+use Rattle.c62_tool.specs.Message.{fault_message, list_message, no_listing, of_text}
 use Rattle.c62_tool.specs.Parting.{HasNoParting, IsParted}
 use Rattle.c62_tool.specs.Texts.{SaysProgram}
 use Rattle.c62_tool.specs.Check.{IsCheck, IsNoCheck}

@@ -1,6 +1,5 @@
-use Rattle.std.proofs.Common.{ℕ, List, drop, rules}
+use Rattle.std.proofs.Common.{drop, rules}
 use Rattle.std.proofs.lemmas.List.{take_rest}
-use Rattle.memchr.specs.Find.{IsFirstByte, is_byte}
 use Rattle.c62_tool.specs.Parting.{IsBegun, NoneBegun}
 use Rattle.c62_tool.proofs.FirstLine.{at_the_end, parted, searched_on, searched_out}
 use Rattle.c62_tool.proofs.parting.parts_of.Goals as goal
