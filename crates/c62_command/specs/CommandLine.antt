@@ -19,7 +19,7 @@ use Rattle.c62_command.specs.declared.command.Packing.{Packing}
 use Rattle.c62_command.specs.declared.command.CommandError.{CommandError}
 use Rattle.c62_command.specs.declared.command.CommandError.TheVariants as refused
 use Rattle.c62_command.specs.declared.command.Request.{Request}
-use Rattle.c62_command.specs.declared.command.Request.TheVariants.{Pack, Run, Serial, Sim}
+use Rattle.c62_command.specs.declared.command.Request.TheVariants.{Pack, Run, Serial, Sim, Check}
 use Rattle.c62_command.specs.Settings.{settings_of, IsFirstBad}
 
 -- ---- what clap takes
@@ -66,6 +66,10 @@ serial_app = with_start (new_app (codes "serial"))
 abbrev pub sim_app : App
 sim_app = with_start (new_app (codes "sim"))
 
+-- `check`
+abbrev pub check_app : App
+check_app = new_app (codes "check")
+
 abbrev pub bare_app : App
 bare_app = let new = new_app (codes "c62") in record new { top = record new.top { no_binary_name = true; subcommand_required = true } }
 
@@ -73,9 +77,13 @@ bare_app = let new = new_app (codes "c62") in record new { top = record new.top 
 abbrev pub packing_app : App
 packing_app = with_subcommand (with_subcommand bare_app pack_app.top) run_app.top
 
+-- the subcommands that pack or run
+abbrev pub running_app : App
+running_app = with_subcommand (with_subcommand packing_app serial_app.top) sim_app.top
+
 -- the whole command line: exactly one subcommand
 abbrev pub tool_app : App
-tool_app = with_subcommand (with_subcommand packing_app serial_app.top) sim_app.top
+tool_app = with_subcommand running_app check_app.top
 
 -- ---- what was asked for
 
@@ -88,12 +96,15 @@ pub data Ask : Type 0 where
   PacketReport : Packing → (blocks : ℕ) → List Setting → Ask
   -- the report of such a run of the packets that a listing says
   ListingReport : (blocks : ℕ) → List Setting → Ask
+  -- what each block of a listing is, held against a text
+  Verdicts : Ask
 
 abbrev pub ask_of : Request → Ask
 ask_of (Pack packing) = Listing packing
 ask_of (Run packing start) = PacketReport packing start.blocks start.settings.items
 ask_of (Serial start) = SerialReport start.blocks start.settings.items
 ask_of (Sim start) = ListingReport start.blocks start.settings.items
+ask_of Check = Verdicts
 
 -- a flag was set
 abbrev pub is_set : Text → List Row → Bool
@@ -153,7 +164,8 @@ abbrev pub ask_in : Option (Text × List Row) → Option Ask
 ask_in None = Some (Listing plain_packing)
 ask_in (Some (name, rows)) =
     if bytes_eq name (codes "pack") then Some (Listing (packing_of rows))
-    else option_map (report_asked name rows) (settings_of (setting_words rows))
+    else (if bytes_eq name (codes "check") then Some Verdicts
+    else option_map (report_asked name rows) (settings_of (setting_words rows)))
 
 abbrev pub unless_fault : Kinds → Option Ask → Option Ask
 unless_fault [] ask = ask
@@ -164,10 +176,14 @@ unfoldable pub asked : List Text → Option Ask
 asked [] = Some (Listing plain_packing)
 asked (word ∷ words) = unless_fault (fault_of tool_app (word ∷ words)) (ask_in (subcommand_of tool_app (word ∷ words)))
 
+-- the subcommand of this name takes settings
+abbrev pub TakesSettings : Text → Type 0
+TakesSettings name = (bytes_eq name (codes "pack") ≡ false) × (bytes_eq name (codes "check") ≡ false)
+
 -- setting k of the subcommand, from 1, is its first bad one
 abbrev pub HasFirstBad : Option (Text × List Row) → ℕ → Type 0
 HasFirstBad None k = ⊥
-HasFirstBad (Some (name, rows)) k = (bytes_eq name (codes "pack") ≡ false) × IsFirstBad (setting_words rows) k
+HasFirstBad (Some (name, rows)) k = TakesSettings name × IsFirstBad (setting_words rows) k
 
 -- an error that blames a setting blames the first bad one of the subcommand
 abbrev pub IsBadIn : Option (Text × List Row) → SettingError → Type 0

@@ -2,7 +2,7 @@
 
 ghost use Rattle.std.specs.Prelude.{◌≡◌, IfOk, IfErr, Some, false, map, []};
 ghost use Rattle.clap.specs.Words.{app_of, rule_of, subcommand_of, subcommand_rows_of, fault_of};
-ghost use Rattle.c62_command.specs.CommandLine.{turns_rule, eject_rule, blocks_rule, settings_rule, pack_app, run_app, serial_app, sim_app, bare_app, packing_app, tool_app, with_packing, with_start, is_set, blocks_of, budget_of, packing_of, plain_packing, IsLocal, found_rows, words_of, named_rows, ask_in, ask_of, asked, IsBadIn, IsBlame, IsRefusal, IsWordsError, IsSettingError};
+ghost use Rattle.c62_command.specs.CommandLine.{turns_rule, eject_rule, blocks_rule, settings_rule, pack_app, run_app, serial_app, sim_app, check_app, bare_app, packing_app, running_app, tool_app, with_packing, with_start, is_set, blocks_of, budget_of, packing_of, plain_packing, IsLocal, found_rows, words_of, named_rows, ask_in, ask_of, asked, IsBadIn, IsBlame, IsRefusal, IsWordsError, IsSettingError};
 ghost use Rattle.c62_command.specs.Settings.{AreSettings, IsBadAmong};
 
 use crate::setting::{Setting, SettingError, read_settings};
@@ -22,11 +22,13 @@ as in: c62 pack < kernel.s
 Status, and what standard error says:
   0  done, and nothing is said
   1  the text is refused: `line 7: BadUnit` names its first faulty line and the fault;
-     of a listing also `block 0: NotDrained`, or `block 0 cycle 3: P5` and the packet rule
+     of a listing also `block 0: NotDrained`, or `block 0 cycle 3: P5` and the packet rule;
+     of a check it is `text line 7: BadUnit` or `listing line 7: Shape`, each part counted from 1
   2  the words are refused, by a text like this one, or `setting 2: bad`
   3  no memory: `memory`
   4  a stream failed: `input` or `output`
-docs/SERIAL_TEXT.md and docs/LISTING.md tell what each fault is.";
+  5  checked, and not each block is the same: the output tells, and nothing is said
+docs/SERIAL_TEXT.md, docs/LISTING.md and docs/CHECK.md tell what each fault is.";
 
 /// How blocks are packed.
 #[derive(Clone, Copy, PartialEq, Eq, Debug)]
@@ -55,6 +57,8 @@ pub enum Request {
     Serial(Start),
     /// The report of a run of the packets of a listing.
     Sim(Start),
+    /// What each block of a listing is, held against a serial text.
+    Check,
 }
 
 /// Why words ask for nothing.
@@ -201,6 +205,18 @@ fn sim_command<'a>(alloc: Global) -> Result<Command<'a>, AllocError>
     with_start(alloc, command)
 }
 
+fn check_command<'a>(alloc: Global) -> Command<'a>
+    ensures app { app_of result ≡ check_app }
+    ensures local { IsLocal result }
+{
+    Command::new(alloc, "check")
+        .about("Reads serial text, a line `---` and a listing, and compares their blocks")
+        .override_usage(
+            "c62 check\n       ./c62 check <TEXT> <LISTING>  (the launcher joins two files)",
+        )
+        .after_help(STREAMS_AND_STATUS)
+}
+
 /// The program with no subcommand yet.
 fn bare_command<'a>(alloc: Global) -> Command<'a>
     ensures app { app_of result ≡ bare_app }
@@ -224,12 +240,20 @@ fn packing_command<'a>(alloc: Global) -> Result<Command<'a>, AllocError>
         .subcommand(run_command(alloc)?)
 }
 
-fn tool_command<'a>(alloc: Global) -> Result<Command<'a>, AllocError>
-    ensures { IfOk result (λ c. app_of c ≡ tool_app) }
+/// The program with the subcommands that pack or run.
+fn running_command<'a>(alloc: Global) -> Result<Command<'a>, AllocError>
+    ensures app { IfOk result (λ c. app_of c ≡ running_app) }
+    ensures local { IfOk result IsLocal }
 {
     packing_command(alloc)?
         .subcommand(serial_command(alloc)?)?
         .subcommand(sim_command(alloc)?)
+}
+
+fn tool_command<'a>(alloc: Global) -> Result<Command<'a>, AllocError>
+    ensures { IfOk result (λ c. app_of c ≡ tool_app) }
+{
+    running_command(alloc)?.subcommand(check_command(alloc))
 }
 
 /// What clap reads of the words.
@@ -311,6 +335,9 @@ fn request_named(alloc: Global, name: &str, found: &ArgMatches<'_>) -> Result<Re
 {
     if name == "pack" {
         return Ok(Request::Pack(packing_in(found)));
+    }
+    if name == "check" {
+        return Ok(Request::Check);
     }
     let start = start_in(alloc, found)?;
     Ok(if name == "run" {

@@ -6,7 +6,7 @@ use std::alloc::Global;
 use std::test::Fail;
 
 /// Words, and what they ask for or why they are refused.
-const ASKED: [(&[&str], &str); 12] = [
+const ASKED: [(&[&str], &str); 14] = [
     (&[], "pack by turns, 0 ejections"),
     (&["pack"], "pack by workers, 0 ejections"),
     (&["pack", "--turns"], "pack by turns, 0 ejections"),
@@ -30,6 +30,8 @@ const ASKED: [(&[&str], &str); 12] = [
         &["sim", "--blocks", "1", "@65532=1"],
         "sim; 1 blocks, @65532 = 1",
     ),
+    (&["check"], "check"),
+    (&["check", "A1=5"], "words"),
     (&["serial", "A1=5", "x"], "setting 2"),
     (&["serial", "--blocks", "0"], "words"),
     (&["frob"], "words"),
@@ -71,6 +73,7 @@ fn request_text(alloc: Global, request: &Request) -> Result<String, Fail> {
         )?,
         Request::Serial(start) => format!(in alloc; "serial; {}", start_text(alloc, start)?)?,
         Request::Sim(start) => format!(in alloc; "sim; {}", start_text(alloc, start)?)?,
+        Request::Check => format!(in alloc; "check")?,
     })
 }
 

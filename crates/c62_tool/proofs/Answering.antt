@@ -9,7 +9,8 @@ use Rattle.c62_tool.specs.declared.failure.Failure.TheVariants as failures
 use Rattle.c62_tool.specs.Message.{fault_message}
 use Rattle.c62_command.specs.CommandLine.{Ask, ListingReport}
 use Rattle.c62_tool.specs.Schedule.{AreScheduled}
-use Rattle.c62_tool.specs.Run.{Gives, GivesProgram, GivesPackets, IsNoProgram, IsPacketReport, IsRefusedText, IsSameReport}
+use Rattle.c62_tool.specs.Texts.{IsNoProgram}
+use Rattle.c62_tool.specs.Run.{Gives, GivesProgram, GivesPackets, IsPacketReport, IsRefusedText, IsSameReport}
 use Rattle.c62_tool.proofs.Schedules.{runs_serially}
 
 module _ (ask : Ask) (text : List ℕ) where
@@ -17,6 +18,9 @@ module _ (ask : Ask) (text : List ℕ) where
   pub no_program : ((message : List ℕ) → IsNoProgram text message → IsRefusedText ask text message) → (f : Failure) → GivesProgram text (Err f) → Gives ask text (Err f)
   no_program same (failures.Unread fault) gives = same (fault_message fault.line fault.cause) gives
   no_program same (failures.Unlisted fault) gives = absurd gives
+  no_program same (failures.TextPart fault) gives = absurd gives
+  no_program same (failures.ListingPart fault) gives = absurd gives
+  no_program same failures.NoListing gives = absurd gives
   no_program same (failures.Words e) gives = absurd gives
   no_program same (failures.Setting k) gives = absurd gives
   no_program same failures.Memory gives = tt
@@ -26,6 +30,9 @@ module _ (ask : Ask) (text : List ℕ) where
 pub no_packets : (blocks : ℕ) (settings : List Setting) (text : List ℕ) (f : Failure) → GivesPackets text (Err f) → Gives (ListingReport blocks settings) text (Err f)
 no_packets blocks settings text (failures.Unread fault) gives = absurd gives
 no_packets blocks settings text (failures.Unlisted fault) gives = gives
+no_packets blocks settings text (failures.TextPart fault) gives = absurd gives
+no_packets blocks settings text (failures.ListingPart fault) gives = absurd gives
+no_packets blocks settings text failures.NoListing gives = absurd gives
 no_packets blocks settings text (failures.Words e) gives = absurd gives
 no_packets blocks settings text (failures.Setting k) gives = absurd gives
 no_packets blocks settings text failures.Memory gives = tt

@@ -1,6 +1,10 @@
 pub mod Schedules
 pub mod Answering
 pub mod Known
+pub mod FirstLine
+pub mod OneParting
+pub mod Checks
+pub mod Verdicts
 pub mod Runs
 pub mod Telling
 pub mod ReadBack

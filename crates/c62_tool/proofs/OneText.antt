@@ -25,7 +25,7 @@ use Rattle.c62_pack.specs.Packets.{AreNumbered, ArePackets, StandsAt}
 use Rattle.c62_listing.specs.Listing.{listing}
 use Rattle.c62_command.specs.declared.command.Packing.{Packing}
 use Rattle.c62_tool.specs.Schedule.{AreScheduled, IsScheduled}
-use Rattle.c62_tool.specs.Run.{SaysProgram}
+use Rattle.c62_tool.specs.Texts.{SaysProgram}
 use Rattle.c62_tool.specs.OneText.{HasOneText, HaveOnePacking}
 use Rattle.c62_tool.proofs.OneBoard.{one_board}
 

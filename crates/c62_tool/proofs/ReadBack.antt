@@ -30,7 +30,8 @@ use Rattle.c62_listing_reader.proofs.ShownLemmas.{field_good}
 use Rattle.c62_command.specs.declared.setting.Setting.{Setting}
 use Rattle.c62_command.specs.declared.command.Packing.{Packing}
 use Rattle.c62_tool.specs.Schedule.{AreScheduled, IsScheduled}
-use Rattle.c62_tool.specs.Run.{IsListingReport, SaysProgram}
+use Rattle.c62_tool.specs.Run.{IsListingReport}
+use Rattle.c62_tool.specs.Texts.{SaysProgram}
 use Rattle.c62_tool.specs.ReadBack.{IsReadBack, IsReportOf}
 use Rattle.c62_tool.proofs.Schedules.{as_many, closed, runs_serially, same_labels}
 

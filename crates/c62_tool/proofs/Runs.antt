@@ -1,32 +1,28 @@
 -- What a run did, from what each of its steps did.
-use Rattle.std.proofs.Common.{◌≡◌, ℕ, ◌+◌, ◌<◌, List, length, take, Option, Some, None, Result, Ok, Err, refl, sym, ap, subst, ◌∙◌, arith, rules, inl, inr}
+use Rattle.std.proofs.Common.{◌≡◌, ℕ, ◌+◌, true, false, List, length, take, Option, Some, None, Result, Ok, Err, refl, sym, ap, subst, ◌∙◌, arith, rules, inl, inr}
 use Rattle.std.specs.Prelude.{◌⊎◌, [], IfSome, IsErrAnd, codes}
 use Rattle.std.specs.Option.{IsSomeAnd}
-use Rattle.std.specs.Global.{Vec}
 use Rattle.std.specs.Io.KnownBytes.{Appends, Keeps}
-use Rattle.std.proofs.lemmas.Bool.{cases_lt, lt-ltb}
+use Rattle.std.proofs.lemmas.Bool.{cases_lt}
 use Rattle.std.proofs.lemmas.List.{take_all, length-take}
-use Rattle.c62_read.specs.Program.{BlockParts, Refusal, drafts_in, program_in}
-use Rattle.c62_line.specs.declared.fault.Cause.TheVariants.{TextTooLong}
+use Rattle.c62_read.specs.Program.{BlockParts, Refusal, program_in}
 use Rattle.c62_listing_reader.specs.Faults.{drafts_in as listed_in}
-use Rattle.c62_listing_reader.specs.declared.fault.ListFault.{ListFault}
-use Rattle.c62_listing_reader.specs.declared.fault.ListFault.TheVariants as listed
-use Rattle.c62_listing_reader.specs.declared.fault.LineFault.TheVariants.{Read}
-use Rattle.c62_listing_reader.specs.Reading.{Refuses}
-use Rattle.c62_tool.specs.Message.{IsFront, Tells, TellsOf, fault_message, list_message, message_of, setting_message}
-use Rattle.c62_tool.specs.Run.{AsksInVain, AsksNothing, Blames, Does, Fails, Gives, HasFailed, IsAnswer, IsCommandFailure, IsNoProgram, IsRefused, IsRefusedText, IsRun, IsRunOnBytes, Streams, TakesAtMost, limit_of, status_of}
+use Rattle.c62_tool.specs.Message.{IsFront, Tells, TellsOf, fault_message, list_message, message_of, no_listing, of_listing, of_text, setting_message}
+use Rattle.c62_tool.specs.Run.{AsksInVain, AsksNothing, Blames, Does, Fails, Gives, HasFailed, IsAnswer, IsCommandFailure, IsDone, IsRefused, IsRefusedText, IsRun, IsRunOnBytes, Streams, TakesAtMost, limit_of, status_done, status_of}
 use Rattle.c62_command.specs.declared.command.CommandError.{CommandError}
 use Rattle.c62_command.specs.declared.command.CommandError.TheVariants as command
-use Rattle.c62_command.specs.CommandLine.{Ask, HasBadSetting, IsRefusal, IsUnknown, Listing, ListingReport, PacketReport, SerialReport, asked}
+use Rattle.c62_command.specs.CommandLine.{Ask, HasBadSetting, IsRefusal, IsUnknown, Listing, ListingReport, PacketReport, SerialReport, Verdicts, asked}
 use Rattle.clap.specs.Words.{Text}
 use Rattle.c62_tool.specs.declared.failure.Failure.{Failure}
 use Rattle.c62_tool.specs.declared.failure.Failure.TheVariants as failures
+use Rattle.c62_tool.specs.declared.outcome.Outcome.{Outcome}
+use Rattle.c62_tool.specs.declared.outcome.Outcome.TheVariants.{Done, NotSame}
+use Rattle.c62_tool.specs.declared.outcome.Reply.{Reply}
+use Rattle.c62_tool.specs.Texts.{IsNoProgram}
+use Rattle.c62_tool.specs.Check.{IsCheck, IsNoCheck}
+use Rattle.c62_tool.proofs.Checks.{check_all, no_check_all, read_same, refuses_same, too_long, too_long_listing}
 
 -- ---- one byte past the limit tells enough
-
-too_long : (text : List ℕ) → 1048576 < length text → program_in text ≡ Err (0, TextTooLong)
-unfolding program_in drafts_in
-too_long text long = rw (lt-ltb 1048576 (length text) long) refl
 
 pub program_in-take : (all : List ℕ) → program_in (take 1048577 all) ≡ program_in all
 program_in-take all =
@@ -34,9 +30,6 @@ program_in-take all =
       | inl long ↦ too_long (take 1048577 all) (omega (arith, length-take 1048577 all)) ∙ sym (too_long all long)
       | inr short ↦ ap program_in (take_all 1048577 all (omega arith))
     ]
-
-too_long_listing : (text : List ℕ) → 8388608 < length text → listed_in text ≡ Err (0, Read TextTooLong)
-too_long_listing text long = rw (lt-ltb 8388608 (length text) long) refl
 
 pub listed_in-take : (all : List ℕ) → listed_in (take 8388609 all) ≡ listed_in all
 listed_in-take all =
@@ -53,58 +46,55 @@ listed_all : (all text : List ℕ) → text ≡ take 8388609 all → listed_in t
 listed_all all text read = ap listed_in read ∙ listed_in-take all
 
 -- the answer to what was read is the answer to all
-answered : (ask : Ask) (all text answer : List ℕ) → text ≡ take (limit_of ask + 1) all → IsAnswer ask text answer → IsAnswer ask all answer
-answered (Listing packing) all text answer read is = record {
+answered : (ask : Ask) (outcome : Outcome) (all text answer : List ℕ) → text ≡ take (limit_of ask + 1) all → IsAnswer ask outcome text answer → IsAnswer ask outcome all answer
+answered (Listing packing) Done all text answer read is = record {
   program = is.program;
   says = sym (program_all all text read) ∙ is.says;
   packets = is.packets;
   packed = is.packed;
   listed = is.listed;
 }
-answered (SerialReport blocks settings) all text answer read is = record {
+answered (SerialReport blocks settings) Done all text answer read is = record {
   program = is.program;
   says = sym (program_all all text read) ∙ is.says;
   reported = is.reported;
 }
-answered (PacketReport packing blocks settings) all text answer read is = record {
+answered (PacketReport packing blocks settings) Done all text answer read is = record {
   program = is.program;
   says = sym (program_all all text read) ∙ is.says;
   packets = is.packets;
   packed = is.packed;
   reported = is.reported;
 }
-answered (ListingReport blocks settings) all text answer read is = record {
+answered (ListingReport blocks settings) Done all text answer read is = record {
   packets = is.packets;
-  read = record {
-    drafts = is.read.drafts;
-    said = sym (listed_all all text read) ∙ is.read.said;
-    blocks = is.read.blocks;
-    are_blocks = is.read.are_blocks;
-  };
+  read = read_same text all is.packets (listed_all all text read) is.read;
   reported = is.reported;
 }
+answered Verdicts Done all text answer read is = check_all all 9437190 (omega arith) true answer (subst (λ (xs : List ℕ). IsCheck xs true answer) read is)
+answered Verdicts NotSame all text answer read is = check_all all 9437190 (omega arith) false answer (subst (λ (xs : List ℕ). IsCheck xs false answer) read is)
+answered (Listing packing) NotSame all text answer read is = absurd is
+answered (SerialReport blocks settings) NotSame all text answer read is = absurd is
+answered (PacketReport packing blocks settings) NotSame all text answer read is = absurd is
+answered (ListingReport blocks settings) NotSame all text answer read is = absurd is
 
 -- the answer to what was read, written
-pub answers : (ask : Ask) (known old new : Option (List ℕ)) (text : List ℕ) (v : Vec ℕ) → IfSome known (λ all. text ≡ take (limit_of ask + 1) all) → Gives ask text (Ok v)
-    → Appends old new v.items → Does ask known old new
-answers ask None old new text v read gives written = tt
-answers ask (Some all) old new text v read gives written = record { answer = v.items; is = answered ask all text v.items read gives; written = written }
+pub answers : (ask : Ask) (known old new : Option (List ℕ)) (text : List ℕ) (reply : Reply) → IfSome known (λ all. text ≡ take (limit_of ask + 1) all)
+    → Gives ask text (Ok reply) → Appends old new reply.text.items → Does ask reply.outcome known old new
+answers ask None old new text reply read gives written = tt
+answers ask (Some all) old new text reply read gives written = record {
+  answer = reply.text.items;
+  is = answered ask reply.outcome all text reply.text.items read gives;
+  written = written;
+}
 
-Keeps-same : (known : Option (List ℕ)) → Keeps known known
+pub Keeps-same : (known : Option (List ℕ)) → Keeps known known
 Keeps-same None = tt
 Keeps-same (Some xs) = refl
 
 no_program_all : (all text message : List ℕ) → text ≡ take 1048577 all → IsNoProgram text message → IsNoProgram all message
 no_program_all all text message read is =
     subst (λ (p : Result (List BlockParts) Refusal). IsErrAnd p (λ fault. message ≡ fault_message fault.0 fault.1)) (program_all all text read) is
-
-refuses_all : (all text : List ℕ) (fault : ListFault) → text ≡ take 8388609 all → Refuses text fault → Refuses all fault
-refuses_all all text (listed.Read fault) read is = sym (listed_all all text read) ∙ is
-refuses_all all text (listed.Shape line) read is = sym (listed_all all text read) ∙ is
-refuses_all all text (listed.TwoBranches number) read is = record { drafts = is.drafts; said = sym (listed_all all text read) ∙ is.said; block = is.block }
-refuses_all all text (listed.NotDrained number) read is = record { drafts = is.drafts; said = sym (listed_all all text read) ∙ is.said; block = is.block }
-refuses_all all text (listed.Unlawful number cycle rule) read is = record { drafts = is.drafts; said = sym (listed_all all text read) ∙ is.said; block = is.block }
-refuses_all all text listed.Memory read is = tt
 
 refused_all : (ask : Ask) (all text message : List ℕ) → text ≡ take (limit_of ask + 1) all → IsRefusedText ask text message → IsRefusedText ask all message
 refused_all (Listing packing) all text message read is = no_program_all all text message read is
@@ -113,9 +103,10 @@ refused_all (PacketReport packing blocks settings) all text message read is = no
 refused_all (ListingReport blocks settings) all text message read is = record {
   fault = is.fault;
   known = is.known;
-  refused = refuses_all all text is.fault read is.refused;
+  refused = refuses_same text all is.fault (listed_all all text read) is.refused;
   told = is.told;
 }
+refused_all Verdicts all text message read is = no_check_all all 9437190 (omega arith) message (subst (λ (xs : List ℕ). IsNoCheck xs message) read is)
 
 refused : (ask : Ask) (known : Option (List ℕ)) (text message : List ℕ) → IfSome known (λ all. text ≡ take (limit_of ask + 1) all) → IsRefusedText ask text message
     → IsRefused ask known message
@@ -127,6 +118,9 @@ pub refuses : (ask : Ask) (known old : Option (List ℕ)) (text : List ℕ) (f :
     → Fails ask known old old f
 refuses ask known old text (failures.Unread fault) read gives = (refused ask known text (fault_message fault.line fault.cause) read gives, Keeps-same old)
 refuses ask known old text (failures.Unlisted fault) read gives = (refused ask known text (list_message fault) read gives, Keeps-same old)
+refuses ask known old text (failures.TextPart fault) read gives = (refused ask known text (of_text (fault_message fault.line fault.cause)) read gives, Keeps-same old)
+refuses ask known old text (failures.ListingPart fault) read gives = (refused ask known text (of_listing (list_message fault)) read gives, Keeps-same old)
+refuses ask known old text failures.NoListing read gives = (refused ask known text no_listing read gives, Keeps-same old)
 refuses ask known old text failures.Memory read gives = Keeps-same old
 refuses ask known old text failures.Input read gives = absurd gives
 refuses ask known old text failures.Output read gives = absurd gives
@@ -149,19 +143,38 @@ pub record Reads (words : List Text) (old new : Option (List ℕ)) : Type 0 wher
   pub unread : asked words ≡ None → Keeps old new
   pub most : (ask : Ask) → asked words ≡ Some ask → TakesAtMost (limit_of ask + 1) old new
 
+neither : {P Q : Type 0} → P ⊎ Q → (P → ⊥) → (Q → ⊥) → ⊥
+neither (inl p) not_p not_q = not_p p
+neither (inr q) not_p not_q = not_q q
+
 some_none : {T : Type 0} (o : Option T) (P : T → Type 0) → IsSomeAnd o P → o ≡ None → ⊥
 some_none None P some none = some
 some_none (Some x) P some none = absurd cc
 
-pub done : (words : List Text) (old new : Streams) → Reads words old.input new.input → Keeps old.errors new.errors
-    → IsSomeAnd (asked words) (λ ask. Does ask old.input old.output new.output) → IsRun words old new 0
-done words old new reads silent does = record {
+pub done : (words : List Text) (old new : Streams) (outcome : Outcome) → Reads words old.input new.input → Keeps old.errors new.errors
+    → IsDone words outcome old.input old.output new.output → IsRun words old new (status_done outcome)
+done words old new Done reads silent does = record {
   known = search rules;
   done = λ _. does;
+  differs = λ e. absurd (omega arith);
   silent = λ _. silent;
   refused = λ e. absurd (omega arith);
   blamed = λ e. absurd (omega arith);
-  judged = λ none. absurd (some_none (asked words) (λ ask. Does ask old.input old.output new.output) does none);
+  judged = λ none. absurd (some_none (asked words) (λ ask. Does ask Done old.input old.output new.output) does none);
+  unread = reads.unread;
+  memory = λ e. absurd (omega arith);
+  stream = λ e. absurd (omega arith);
+  quiet = λ less more. absurd (omega arith);
+  most = reads.most;
+}
+done words old new NotSame reads silent does = record {
+  known = search rules;
+  done = λ e. absurd (omega arith);
+  differs = λ _. does;
+  silent = λ _. silent;
+  refused = λ e. absurd (omega arith);
+  blamed = λ e. absurd (omega arith);
+  judged = λ none. absurd (some_none (asked words) (λ ask. Does ask NotSame old.input old.output new.output) does none);
   unread = reads.unread;
   memory = λ e. absurd (omega arith);
   stream = λ e. absurd (omega arith);
@@ -174,7 +187,8 @@ module _ (words : List Text) (old new : Streams) (reads : Reads words old.input 
   is_refused quiet told some = record {
     known = search rules;
     done = λ e. absurd (omega arith);
-    silent = λ e. absurd (omega arith);
+    differs = λ e. absurd (omega arith);
+    silent = λ e. absurd (neither e (λ zero. omega (arith, zero)) (λ five. omega (arith, five)));
     refused = λ _. told;
     blamed = λ e. absurd (omega arith);
     judged = λ none. absurd (some none);
@@ -189,7 +203,8 @@ module _ (words : List Text) (old new : Streams) (reads : Reads words old.input 
   is_blamed quiet told = record {
     known = search rules;
     done = λ e. absurd (omega arith);
-    silent = λ e. absurd (omega arith);
+    differs = λ e. absurd (omega arith);
+    silent = λ e. absurd (neither e (λ zero. omega (arith, zero)) (λ five. omega (arith, five)));
     refused = λ e. absurd (omega arith);
     blamed = λ _. told;
     judged = λ _. inl refl;
@@ -204,7 +219,8 @@ module _ (words : List Text) (old new : Streams) (reads : Reads words old.input 
   is_out_of_memory quiet told = record {
     known = search rules;
     done = λ e. absurd (omega arith);
-    silent = λ e. absurd (omega arith);
+    differs = λ e. absurd (omega arith);
+    silent = λ e. absurd (neither e (λ zero. omega (arith, zero)) (λ five. omega (arith, five)));
     refused = λ e. absurd (omega arith);
     blamed = λ e. absurd (omega arith);
     judged = λ _. inr refl;
@@ -219,7 +235,8 @@ module _ (words : List Text) (old new : Streams) (reads : Reads words old.input 
   is_cut_off told some = record {
     known = search rules;
     done = λ e. absurd (omega arith);
-    silent = λ e. absurd (omega arith);
+    differs = λ e. absurd (omega arith);
+    silent = λ e. absurd (neither e (λ zero. omega (arith, zero)) (λ five. omega (arith, five)));
     refused = λ e. absurd (omega arith);
     blamed = λ e. absurd (omega arith);
     judged = λ none. absurd (some none);
@@ -244,6 +261,12 @@ module _ (words : List Text) (old new : Streams) (reads : Reads words old.input 
       is_refused fails.1 (record { text = list_message fault; is = for_asked words ask _ is fails.0; told = told }) (λ none. absurd cc)
   is_not_done (failures.Unread fault) ask is fails told =
       is_refused fails.1 (record { text = fault_message fault.line fault.cause; is = for_asked words ask _ is fails.0; told = told }) (λ none. absurd cc)
+  is_not_done (failures.TextPart fault) ask is fails told =
+      is_refused fails.1 (record { text = of_text (fault_message fault.line fault.cause); is = for_asked words ask _ is fails.0; told = told }) (λ none. absurd cc)
+  is_not_done (failures.ListingPart fault) ask is fails told =
+      is_refused fails.1 (record { text = of_listing (list_message fault); is = for_asked words ask _ is fails.0; told = told }) (λ none. absurd cc)
+  is_not_done failures.NoListing ask is fails told =
+      is_refused fails.1 (record { text = no_listing; is = for_asked words ask _ is fails.0; told = told }) (λ none. absurd cc)
   is_not_done failures.Memory ask is fails told = is_out_of_memory fails told
   is_not_done failures.Input ask is fails told = is_cut_off (inl told) (λ none. absurd cc)
   is_not_done failures.Output ask is fails told = is_cut_off (inr told) (λ none. absurd cc)
@@ -269,7 +292,8 @@ pub on_bytes : (words : List Text) (input rest output errors : List ℕ) (status
     → IsRunOnBytes words input output errors status
 on_bytes words input rest output errors status run = record {
   known = run.known;
-  done = λ e. answered_in (asked words) (run.done e);
+  done = λ e. answered_in Done (asked words) (run.done e);
+  differs = λ e. answered_in NotSame (asked words) (run.differs e);
   silent = run.silent;
   refused = λ e. let told = run.refused e in (told.text, told.is, held errors told.text told.told);
   blamed = λ e. blamed_in (run.blamed e);
@@ -279,9 +303,9 @@ on_bytes words input rest output errors status run = record {
   quiet = run.quiet;
 }
   where
-    answered_in : (a : Option Ask) → IsSomeAnd a (λ ask. Does ask (Some input) (Some []) (Some output)) → IsSomeAnd a (λ ask. IsAnswer ask input output)
-    answered_in None none = absurd none
-    answered_in (Some ask) does = subst (IsAnswer ask input) (sym does.written) does.is
+    answered_in : (outcome : Outcome) (a : Option Ask) → IsSomeAnd a (λ ask. Does ask outcome (Some input) (Some []) (Some output)) → IsSomeAnd a (λ ask. IsAnswer ask outcome input output)
+    answered_in outcome None none = absurd none
+    answered_in outcome (Some ask) does = subst (IsAnswer ask outcome input) (sym does.written) does.is
 
     blamed_in : AsksNothing words (Some []) (Some errors) → IsUnknown words ⊎ ((k : ℕ) × HasBadSetting words k × IsFront errors (setting_message k))
     blamed_in (inl unknown) = inl unknown

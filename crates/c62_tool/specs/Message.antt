@@ -16,6 +16,17 @@ fault_message line fault = fault_text line fault ++ codes "\n"
 abbrev pub list_message : ListFault → List ℕ
 list_message fault = list_fault_text fault ++ codes "\n"
 
+-- what is told of the text of a check, and of its listing
+abbrev pub of_text : List ℕ → List ℕ
+of_text message = codes "text " ++ message
+
+abbrev pub of_listing : List ℕ → List ℕ
+of_listing message = codes "listing " ++ message
+
+-- what is told of a check without a line `---`
+abbrev pub no_listing : List ℕ
+no_listing = codes "text line 0: NoListing\n"
+
 -- `setting K: bad`
 abbrev pub setting_message : ℕ → List ℕ
 setting_message number = codes "setting " ++ decimal number ++ codes ": bad\n"
@@ -24,6 +35,9 @@ setting_message number = codes "setting " ++ decimal number ++ codes ": bad\n"
 abbrev pub message_of : Failure → Option (List ℕ)
 message_of (failure.Unread fault) = Some (fault_message fault.line fault.cause)
 message_of (failure.Unlisted fault) = Some (list_message fault)
+message_of (failure.TextPart fault) = Some (of_text (fault_message fault.line fault.cause))
+message_of (failure.ListingPart fault) = Some (of_listing (list_message fault))
+message_of failure.NoListing = Some no_listing
 message_of (failure.Words error) = None
 message_of (failure.Setting number) = Some (setting_message number)
 message_of failure.Memory = Some (codes "memory\n")

@@ -1,11 +1,13 @@
 -- What the program does to its streams.
-use Rattle.std.specs.Prelude.{◌≡◌, ◌≢◌, ◌⊎◌, ℕ, ◌+◌, ◌<◌, ◌≤◌, List, [], length, map, take, fold, codes, Option, Some, None, Result, IfSome, IsErrAnd, Ok, Err}
+use Rattle.std.specs.Prelude.{◌≡◌, ◌≢◌, ◌⊎◌, ℕ, ◌+◌, ◌<◌, ◌≤◌, Bool, true, false, List, [], length, take, fold, codes, Option, Some, None, Result, IfSome, Ok, Err}
 use Rattle.std.specs.Io.KnownBytes.{Appends, Consumes, Keeps}
 use Rattle.std.specs.Option.{IsSomeAnd}
-use Rattle.std.specs.Global.{Vec}
 use Rattle.clap.specs.Words.{Text}
 use Rattle.c62_tool.specs.declared.failure.Failure.{Failure}
-use Rattle.c62_tool.specs.declared.failure.Failure.TheVariants.{Unread, Unlisted, Words, Setting, Memory, Input, Output}
+use Rattle.c62_tool.specs.declared.failure.Failure.TheVariants.{Unread, Unlisted, TextPart, ListingPart, NoListing, Words, Setting, Memory, Input, Output}
+use Rattle.c62_tool.specs.declared.outcome.Outcome.{Outcome}
+use Rattle.c62_tool.specs.declared.outcome.Outcome.TheVariants.{Done, NotSame}
+use Rattle.c62_tool.specs.declared.outcome.Reply.{Reply}
 use Rattle.c62_command.specs.declared.command.CommandError.{CommandError}
 use Rattle.c62_command.specs.declared.command.CommandError.TheVariants as command
 use Rattle.c62_command.specs.declared.setting.Setting.{Setting as Given}
@@ -14,7 +16,7 @@ use Rattle.c62_command.specs.declared.command.Packing.{Packing}
 use Rattle.c62_line.specs.declared.fault.Cause.TheVariants.{Memory as OutOfStore}
 use Rattle.c62_line.specs.declared.fault.ReadFault.{ReadFault}
 use Rattle.c62_read.specs.Block.{Serial}
-use Rattle.c62_read.specs.Program.{program_in, block_parts, most_bytes}
+use Rattle.c62_read.specs.Program.{most_bytes}
 use Rattle.c62_serial.specs.State.{Machine, IsSound, IsZero, with_word}
 use Rattle.c62_serial.specs.Memory.{with_bytes}
 use Rattle.c62_serial.specs.declared.chain.Chain.{Chain}
@@ -25,20 +27,29 @@ use Rattle.c62_listing.specs.Listing.{listing}
 use Rattle.c62_listing_reader.specs.declared.fault.ListFault.{ListFault}
 use Rattle.c62_listing_reader.specs.declared.fault.ListFault.TheVariants.{Memory as NoStore}
 use Rattle.c62_listing_reader.specs.Faults.{IsRead, most_bytes as most_listing_bytes}
-use Rattle.c62_listing_reader.specs.Reading.{Refuses}
 use Rattle.c62_tool.specs.Schedule.{AreScheduled}
 use Rattle.c62_report.specs.Report.{serial_report, packet_report}
-use Rattle.c62_command.specs.CommandLine.{Ask, Listing, SerialReport, PacketReport, ListingReport, IsRefusal, IsUnknown, HasBadSetting, asked}
-use Rattle.c62_tool.specs.Message.{fault_message, list_message, setting_message, IsFront, Tells, TellsOf}
+use Rattle.c62_command.specs.CommandLine.{Ask, Listing, SerialReport, PacketReport, ListingReport, Verdicts, IsRefusal, IsUnknown, HasBadSetting, asked}
+use Rattle.c62_tool.specs.Message.{fault_message, list_message, no_listing, of_listing, of_text, setting_message, IsFront, Tells, TellsOf}
+use Rattle.c62_tool.specs.Texts.{SaysProgram, IsNoProgram, IsNoListing}
+use Rattle.c62_tool.specs.Check.{IsCheck, IsNoCheck}
 
 abbrev pub status_of : Failure → ℕ
 status_of (Unread _) = 1
 status_of (Unlisted _) = 1
+status_of (TextPart _) = 1
+status_of (ListingPart _) = 1
+status_of NoListing = 1
 status_of (Words _) = 2
 status_of (Setting _) = 2
 status_of Memory = 3
 status_of Input = 4
 status_of Output = 4
+
+-- the status where it is done
+abbrev pub status_done : Outcome → ℕ
+status_done Done = 0
+status_done NotSame = 5
 
 -- what a fault of reading is
 abbrev pub IsReadFailure : ReadFault → Failure → Type 0
@@ -47,6 +58,13 @@ IsReadFailure fault f = ((fault.cause ≡ OutOfStore) × (f ≡ Memory)) ⊎ ((f
 -- what a fault of reading a listing is
 abbrev pub IsListFailure : ListFault → Failure → Type 0
 IsListFailure fault f = ((fault ≡ NoStore) × (f ≡ Memory)) ⊎ ((fault ≢ NoStore) × (f ≡ Unlisted fault))
+
+-- what a fault of the text of a check is, and one of its listing
+abbrev pub IsTextFailure : ReadFault → Failure → Type 0
+IsTextFailure fault f = ((fault.cause ≡ OutOfStore) × (f ≡ Memory)) ⊎ ((fault.cause ≢ OutOfStore) × (f ≡ TextPart fault))
+
+abbrev pub IsListingFailure : ListFault → Failure → Type 0
+IsListingFailure fault f = ((fault ≡ NoStore) × (f ≡ Memory)) ⊎ ((fault ≢ NoStore) × (f ≡ ListingPart fault))
 
 -- what an error of the command line is
 abbrev pub IsCommandFailure : CommandError → Failure → Type 0
@@ -62,9 +80,11 @@ TakesAtMost n old new = (bytes : List ℕ) × Consumes old new bytes × (length 
 abbrev pub BeginsAll : ℕ → Option (List ℕ) → List ℕ → Type 0
 BeginsAll limit all text = IfSome all (λ bytes. text ≡ take (limit + 1) bytes)
 
--- the most bytes that a text may have: a listing, or serial text
+-- the most bytes that may be given: of a listing, of a text and a listing with the longest line `---` between them, or of
+-- serial text
 abbrev pub limit_of : Ask → ℕ
 limit_of (ListingReport blocks settings) = most_listing_bytes
+limit_of Verdicts = most_bytes + 5 + most_listing_bytes
 limit_of _ = most_bytes
 
 -- where the words ask for something, no more is taken than one byte past the limit of that
@@ -72,10 +92,6 @@ abbrev pub TakesAsked : List Text → Option (List ℕ) → Option (List ℕ) �
 TakesAsked words old new = (ask : Ask) → asked words ≡ Some ask → TakesAtMost (limit_of ask + 1) old new
 
 -- ---- answers
-
--- the text says a program
-abbrev pub SaysProgram : List ℕ → List Serial → Type 0
-SaysProgram text program = program_in text ≡ Ok (map block_parts program)
 
 -- the text says a program, and this is the listing of its blocks, packed so
 pub record IsPackedText (packing : Packing) (text answer : List ℕ) : Type 0 where
@@ -145,46 +161,44 @@ pub record IsListingReport (settings : List Given) (blocks : ℕ) (text answer :
   pub read : IsRead text packets
   pub reported : IsPacketReport packets settings blocks answer
 
--- what answers a text: its listing, or the report of a run
-abbrev pub IsAnswer : Ask → List ℕ → List ℕ → Type 0
-IsAnswer (Listing packing) text answer = IsPackedText packing text answer
-IsAnswer (SerialReport blocks settings) text answer = IsSerialReport settings blocks text answer
-IsAnswer (PacketReport packing blocks settings) text answer = IsRunReport packing settings blocks text answer
-IsAnswer (ListingReport blocks settings) text answer = IsListingReport settings blocks text answer
+-- how a check ends where every block is the same, or not
+abbrev pub outcome_of : Bool → Outcome
+outcome_of true = Done
+outcome_of false = NotSame
+
+-- What answers a text: its listing, the report of a run, or what a check tells, where alone some block may not be the same.
+abbrev pub IsAnswer : Ask → Outcome → List ℕ → List ℕ → Type 0
+IsAnswer (Listing packing) Done text answer = IsPackedText packing text answer
+IsAnswer (SerialReport blocks settings) Done text answer = IsSerialReport settings blocks text answer
+IsAnswer (PacketReport packing blocks settings) Done text answer = IsRunReport packing settings blocks text answer
+IsAnswer (ListingReport blocks settings) Done text answer = IsListingReport settings blocks text answer
+IsAnswer Verdicts Done text answer = IsCheck text true answer
+IsAnswer Verdicts NotSame text answer = IsCheck text false answer
+IsAnswer _ NotSame text answer = ⊥
 
 -- ---- refusals
-
--- the text says no program, and the message tells its fault
-abbrev pub IsNoProgram : List ℕ → List ℕ → Type 0
-IsNoProgram text message = IsErrAnd (program_in text) (λ fault. message ≡ fault_message fault.0 fault.1)
-
--- the text is no listing, and the message tells its first fault
-pub record IsNoListing (text message : List ℕ) : Type 0 where
-  pub fault : ListFault
-  pub known : fault ≢ NoStore
-  pub refused : Refuses text fault
-  pub told : message ≡ list_message fault
 
 -- the text says nothing that could be answered, and the message tells its fault
 abbrev pub IsRefusedText : Ask → List ℕ → List ℕ → Type 0
 IsRefusedText (ListingReport blocks settings) text message = IsNoListing text message
+IsRefusedText Verdicts text message = IsNoCheck text message
 IsRefusedText _ text message = IsNoProgram text message
 
 -- ---- streams
 
 -- the answer to a text was written
-pub record Answers (ask : Ask) (text : List ℕ) (old new : Option (List ℕ)) : Type 0 where
+pub record Answers (ask : Ask) (outcome : Outcome) (text : List ℕ) (old new : Option (List ℕ)) : Type 0 where
   pub answer : List ℕ
-  pub is : IsAnswer ask text answer
+  pub is : IsAnswer ask outcome text answer
   pub written : Appends old new answer
 
 -- what was asked for was done, where the text is known
-abbrev pub Does : Ask → Option (List ℕ) → Option (List ℕ) → Option (List ℕ) → Type 0
-Does ask text old new = IfSome text (λ bytes. Answers ask bytes old new)
+abbrev pub Does : Ask → Outcome → Option (List ℕ) → Option (List ℕ) → Option (List ℕ) → Type 0
+Does ask outcome text old new = IfSome text (λ bytes. Answers ask outcome bytes old new)
 
 -- the words ask for something, and that was done
-abbrev pub IsDone : List Text → Option (List ℕ) → Option (List ℕ) → Option (List ℕ) → Type 0
-IsDone words text old new = IsSomeAnd (asked words) (λ ask. Does ask text old new)
+abbrev pub IsDone : List Text → Outcome → Option (List ℕ) → Option (List ℕ) → Option (List ℕ) → Type 0
+IsDone words outcome text old new = IsSomeAnd (asked words) (λ ask. Does ask outcome text old new)
 
 -- the text is refused, where it is known, and the message tells its fault
 abbrev pub IsRefused : Ask → Option (List ℕ) → List ℕ → Type 0
@@ -220,11 +234,28 @@ GivesPackets text (Err (Unlisted fault)) = IsNoListing text (list_message fault)
 GivesPackets text (Err Memory) = Unit {0}
 GivesPackets text (Err _) = ⊥
 
+-- the program that the text of a check says, or its fault, unless memory ran out
+abbrev pub GivesTextPart : List ℕ → Result (List Serial) Failure → Type 0
+GivesTextPart text (Ok program) = SaysProgram text program
+GivesTextPart text (Err (TextPart fault)) = IsNoProgram text (fault_message fault.line fault.cause)
+GivesTextPart text (Err Memory) = Unit {0}
+GivesTextPart text (Err _) = ⊥
+
+-- the packets that the listing of a check says, or its fault, unless memory ran out
+abbrev pub GivesListingPart : List ℕ → Result (List Packed) Failure → Type 0
+GivesListingPart text (Ok packets) = IsRead text packets
+GivesListingPart text (Err (ListingPart fault)) = IsNoListing text (list_message fault)
+GivesListingPart text (Err Memory) = Unit {0}
+GivesListingPart text (Err _) = ⊥
+
 -- the answer to a text, or its fault, unless memory ran out
-abbrev pub Gives : Ask → List ℕ → Result (Vec ℕ) Failure → Type 0
-Gives ask text (Ok v) = IsAnswer ask text v.items
+abbrev pub Gives : Ask → List ℕ → Result Reply Failure → Type 0
+Gives ask text (Ok reply) = IsAnswer ask reply.outcome text reply.text.items
 Gives ask text (Err (Unread fault)) = IsRefusedText ask text (fault_message fault.line fault.cause)
 Gives ask text (Err (Unlisted fault)) = IsRefusedText ask text (list_message fault)
+Gives ask text (Err (TextPart fault)) = IsRefusedText ask text (of_text (fault_message fault.line fault.cause))
+Gives ask text (Err (ListingPart fault)) = IsRefusedText ask text (of_listing (list_message fault))
+Gives ask text (Err NoListing) = IsRefusedText ask text no_listing
 Gives ask text (Err Memory) = Unit {0}
 Gives ask text (Err _) = ⊥
 
@@ -232,6 +263,9 @@ Gives ask text (Err _) = ⊥
 abbrev pub Fails : Ask → Option (List ℕ) → Option (List ℕ) → Option (List ℕ) → Failure → Type 0
 Fails ask text old new (Unread fault) = IsRefused ask text (fault_message fault.line fault.cause) × Keeps old new
 Fails ask text old new (Unlisted fault) = IsRefused ask text (list_message fault) × Keeps old new
+Fails ask text old new (TextPart fault) = IsRefused ask text (of_text (fault_message fault.line fault.cause)) × Keeps old new
+Fails ask text old new (ListingPart fault) = IsRefused ask text (of_listing (list_message fault)) × Keeps old new
+Fails ask text old new NoListing = IsRefused ask text no_listing × Keeps old new
 Fails ask text old new Memory = Keeps old new
 Fails ask text old new Input = Keeps old new
 Fails ask text old new Output = Unit {0}
@@ -255,10 +289,11 @@ streams input output errors = record { input = input; output = output; errors = 
 
 -- What a run on these words does to its streams, and the status that it ends with (README.md, "Command line").
 pub record IsRun (words : List Text) (old new : Streams) (status : ℕ) : Type 0 where
-  pub known : status ≤ 4
-  -- What the words ask for was written, and nothing is told.
-  pub done : status ≡ 0 → IsDone words old.input old.output new.output
-  pub silent : status ≡ 0 → Keeps old.errors new.errors
+  pub known : status ≤ 5
+  -- What the words ask for was written, and nothing is told. Of a check every block is the same, or on 5 some block isn't.
+  pub done : status ≡ 0 → IsDone words Done old.input old.output new.output
+  pub differs : status ≡ 5 → IsDone words NotSame old.input old.output new.output
+  pub silent : (status ≡ 0) ⊎ (status ≡ 5) → Keeps old.errors new.errors
   -- The text is refused, and its fault is told.
   pub refused : status ≡ 1 → TellsOf (AsksInVain (asked words) old.input) old.errors new.errors
   -- The words are refused. Words and settings are judged first: where they ask for nothing, nothing is read.
@@ -274,9 +309,10 @@ pub record IsRun (words : List Text) (old new : Streams) (status : ℕ) : Type 0
 
 -- the same of a run on these bytes, which wrote these to its output and its error stream
 pub record IsRunOnBytes (words : List Text) (input output errors : List ℕ) (status : ℕ) : Type 0 where
-  pub known : status ≤ 4
-  pub done : status ≡ 0 → IsSomeAnd (asked words) (λ ask. IsAnswer ask input output)
-  pub silent : status ≡ 0 → errors ≡ []
+  pub known : status ≤ 5
+  pub done : status ≡ 0 → IsSomeAnd (asked words) (λ ask. IsAnswer ask Done input output)
+  pub differs : status ≡ 5 → IsSomeAnd (asked words) (λ ask. IsAnswer ask NotSame input output)
+  pub silent : (status ≡ 0) ⊎ (status ≡ 5) → errors ≡ []
   pub refused : status ≡ 1 → (message : List ℕ) × IsSomeAnd (asked words) (λ ask. IsRefusedText ask input message) × IsFront errors message
   pub blamed : status ≡ 2 → IsUnknown words ⊎ ((k : ℕ) × HasBadSetting words k × IsFront errors (setting_message k))
   pub judged : asked words ≡ None → (status ≡ 2) ⊎ (status ≡ 3)

@@ -1,12 +1,16 @@
 //! What answers a text.
 
-ghost use Rattle.std.specs.Prelude.{◌≡◌, true, false, IfOk, IsTrue};
+ghost use Rattle.std.specs.Prelude.{◌≡◌, ◌≤◌, true, false, IfOk, IsTrue};
 ghost use Rattle.c62_listing.specs.Listing.{listing};
 ghost use Rattle.c62_packet.specs.Packets.{is_closed};
 ghost use Rattle.c62_command.specs.CommandLine.{Listing, SerialReport, PacketReport, ListingReport, ask_of};
 ghost use Rattle.c62_tool.specs.Run.{Gives, GivesProgram, GivesPackets, limit_of};
+ghost use Rattle.c62_tool.specs.declared.parting.TheConstants.{MOST_BYTES};
 
+use crate::checking::verdicts;
 use crate::failure::Failure;
+use crate::outcome::{Outcome, Reply};
+use crate::parting;
 use crate::run::{packet_run, serial_run};
 use crate::schedule::{packets_by_turns, packets_by_workers};
 use c62_command::{Packing, Request, Start};
@@ -47,13 +51,16 @@ fn listing_of(alloc: Global, packets: &Packets) -> Result<Vec<u8>, AllocError>
 }
 
 /// The listing of what a text says, packed by turns.
-fn pack_by_turns(alloc: Global, text: &[u8], packing: Packing) -> Result<Vec<u8>, Failure>
+fn pack_by_turns(alloc: Global, text: &[u8], packing: Packing) -> Result<Reply, Failure>
     requires { packing.turns ≡ true }
     ensures { Gives (Listing packing) text.now result }
 {
     let program = program_of(alloc, text)?;
     let packets = packets_by_turns(alloc, program, packing)?;
-    Ok(listing_of(alloc, &packets)?)
+    Ok(Reply {
+        text: listing_of(alloc, &packets)?,
+        outcome: Outcome::Done,
+    })
 }
 
 /// The report of a run of what a text says, packed by turns.
@@ -62,13 +69,16 @@ fn run_by_turns(
     text: &[u8],
     packing: Packing,
     start: &Start,
-) -> Result<Vec<u8>, Failure>
+) -> Result<Reply, Failure>
     requires { packing.turns ≡ true }
     ensures { Gives (PacketReport packing start.now.blocks start.now.settings.items) text.now result }
 {
     let program = program_of(alloc, text)?;
     let packets = packets_by_turns(alloc, program, packing)?;
-    Ok(packet_run(alloc, &packets, start)?)
+    Ok(Reply {
+        text: packet_run(alloc, &packets, start)?,
+        outcome: Outcome::Done,
+    })
 }
 
 /// The listing of what a text says, packed by workers.
@@ -76,13 +86,16 @@ fn pack_by_workers<H: AllocGlobal + Threads + Wait + Sync>(
     rt: &H,
     text: &[u8],
     packing: Packing,
-) -> Result<Vec<u8>, Failure>
+) -> Result<Reply, Failure>
     requires { packing.turns ≡ false }
     ensures { Gives (Listing packing) text.now result }
 {
     let program = program_of(rt.alloc(), text)?;
     let packets = packets_by_workers(rt, program, packing)?;
-    Ok(listing_of(rt.alloc(), &packets)?)
+    Ok(Reply {
+        text: listing_of(rt.alloc(), &packets)?,
+        outcome: Outcome::Done,
+    })
 }
 
 /// The report of a run of what a text says, packed by workers.
@@ -91,29 +104,38 @@ fn run_by_workers<H: AllocGlobal + Threads + Wait + Sync>(
     text: &[u8],
     packing: Packing,
     start: &Start,
-) -> Result<Vec<u8>, Failure>
+) -> Result<Reply, Failure>
     requires { packing.turns ≡ false }
     ensures { Gives (PacketReport packing start.now.blocks start.now.settings.items) text.now result }
 {
     let program = program_of(rt.alloc(), text)?;
     let packets = packets_by_workers(rt, program, packing)?;
-    Ok(packet_run(rt.alloc(), &packets, start)?)
+    Ok(Reply {
+        text: packet_run(rt.alloc(), &packets, start)?,
+        outcome: Outcome::Done,
+    })
 }
 
 /// The report of the serial run of what a text says.
-fn serial(alloc: Global, text: &[u8], start: &Start) -> Result<Vec<u8>, Failure>
+fn serial(alloc: Global, text: &[u8], start: &Start) -> Result<Reply, Failure>
     ensures { Gives (SerialReport start.now.blocks start.now.settings.items) text.now result }
 {
     let program = program_of(alloc, text)?;
-    Ok(serial_run(alloc, &program, start)?)
+    Ok(Reply {
+        text: serial_run(alloc, &program, start)?,
+        outcome: Outcome::Done,
+    })
 }
 
 /// The report of a run of the packets of a listing.
-fn sim(alloc: Global, text: &[u8], start: &Start) -> Result<Vec<u8>, Failure>
+fn sim(alloc: Global, text: &[u8], start: &Start) -> Result<Reply, Failure>
     ensures { Gives (ListingReport start.now.blocks start.now.settings.items) text.now result }
 {
     let packets = packets_in(alloc, text)?;
-    Ok(packet_run(alloc, &packets, start)?)
+    Ok(Reply {
+        text: packet_run(alloc, &packets, start)?,
+        outcome: Outcome::Done,
+    })
 }
 
 /// The answer to a text.
@@ -121,7 +143,7 @@ pub fn answer<H: AllocGlobal + Threads + Wait + Sync>(
     rt: &H,
     request: &Request,
     text: &[u8],
-) -> Result<Vec<u8>, Failure>
+) -> Result<Reply, Failure>
     ensures { Gives (ask_of request.now) text.now result }
 {
     match request {
@@ -141,14 +163,17 @@ pub fn answer<H: AllocGlobal + Threads + Wait + Sync>(
         }
         Request::Serial(start) => serial(rt.alloc(), text, start),
         Request::Sim(start) => sim(rt.alloc(), text, start),
+        Request::Check => verdicts(rt.alloc(), text),
     }
 }
 
 /// The most bytes of a text that is answered.
 pub fn limit_of(request: &Request) -> usize
-    ensures { result ≡ limit_of (ask_of request.now) }
+    ensures limit { result ≡ limit_of (ask_of request.now) }
+    ensures most { result ≤ MOST_BYTES }
 {
     match request {
+        Request::Check => parting::MOST_BYTES,
         Request::Sim(_) => c62_listing_reader::MOST_BYTES,
         Request::Pack(_) | Request::Run(_, _) | Request::Serial(_) => c62_read::MOST_BYTES,
     }

@@ -2,7 +2,7 @@
 
 ghost use Rattle.std.specs.Prelude.{◌≡◌, ◌⊎◌};
 ghost use Rattle.c62_tool.specs.declared.failure.Failure.TheVariants.{Memory, Input};
-ghost use Rattle.c62_tool.specs.Run.{status_of, IsCommandFailure, IsReadFailure, IsListFailure};
+ghost use Rattle.c62_tool.specs.Run.{status_of, IsCommandFailure, IsReadFailure, IsListFailure, IsTextFailure, IsListingFailure};
 
 use crate::input::InputError;
 use c62_command::CommandError;
@@ -17,6 +17,12 @@ pub enum Failure {
     Unread(ReadFault),
     /// The listing has a fault.
     Unlisted(ListFault),
+    /// The serial text of what is to be checked has a fault.
+    TextPart(ReadFault),
+    /// The listing of what is to be checked has a fault.
+    ListingPart(ListFault),
+    /// What is to be checked has no line `---`, and so no listing.
+    NoListing,
     /// The words ask for nothing that there is.
     Words(clap::Error),
     /// The setting with this number, from 1, is none.
@@ -36,9 +42,30 @@ impl Failure {
     {
         match self {
             Failure::Unread(_) | Failure::Unlisted(_) => 1,
+            Failure::TextPart(_) | Failure::ListingPart(_) | Failure::NoListing => 1,
             Failure::Words(_) | Failure::Setting(_) => 2,
             Failure::Memory => 3,
             Failure::Input | Failure::Output => 4,
+        }
+    }
+
+    /// The failure of a check whose text has this fault.
+    pub fn of_text(fault: ReadFault) -> Failure
+        ensures { IsTextFailure fault result }
+    {
+        match fault.cause {
+            Cause::Memory => Failure::Memory,
+            _ => Failure::TextPart(fault),
+        }
+    }
+
+    /// The failure of a check whose listing has this fault.
+    pub fn of_listing(fault: ListFault) -> Failure
+        ensures { IsListingFailure fault result }
+    {
+        match fault {
+            ListFault::Memory => Failure::Memory,
+            _ => Failure::ListingPart(fault),
         }
     }
 }

@@ -4,7 +4,7 @@ ghost use Rattle.std.specs.Prelude.{◌≢◌, ◌≤◌, ◌+◌, IfOk, IfErr};
 ghost use Rattle.std.specs.Io.{ReadsAtMost};
 ghost use Rattle.std.specs.Io.KnownBytes.{ReadConsumes};
 ghost use Rattle.std.specs.IoError.{error_kind};
-ghost use Rattle.c62_listing_reader.specs.declared.reader.TheConstants.{MOST_BYTES};
+ghost use Rattle.c62_tool.specs.declared.parting.TheConstants.{MOST_BYTES};
 ghost use Rattle.c62_tool.specs.Run.{TakesAtMost, BeginsAll};
 
 use std::alloc::{AllocError, Global};

@@ -5,6 +5,7 @@ ghost use Rattle.c62_read.specs.Block.{Serial};
 ghost use Rattle.c62_command.specs.declared.command.Packing.{Packing};
 ghost use Rattle.c62_tool.specs.ReadBack.{IsReadBack};
 ghost use Rattle.c62_tool.specs.OneText.{HasOneBoard, HaveOnePacking, HasOneText};
+ghost use Rattle.c62_tool.specs.Parting.{IsPartedOnce};
 
 /// What `pack` writes, by turns or by two workers, is a listing that is read back: as the packets that
 /// were packed, but for the lines of their instructions. So each report that `sim` gives of it is one of
@@ -19,4 +20,9 @@ pub fn turns_pack_once()
     ensures board { (packing : Packing) (block : Serial) → HasOneBoard packing block }
     ensures packets { (packing : Packing) (program : List Serial) → HaveOnePacking packing program }
     ensures text { (packing : Packing) (text : List ℕ) → HasOneText packing text }
+{}
+
+/// What is to be checked is parted in one way: it has one first line `---`.
+pub fn an_input_is_parted_once()
+    ensures { (input : List ℕ) → IsPartedOnce input }
 {}

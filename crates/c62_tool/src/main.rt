@@ -2,10 +2,13 @@
 #![tactic(auto)]
 
 mod answer;
+mod checking;
 mod failure;
 mod input;
 mod laws;
 mod message;
+mod outcome;
+mod parting;
 mod run;
 mod schedule;
 mod tool;

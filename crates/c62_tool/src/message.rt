@@ -20,6 +20,9 @@ impl fmt::Display for Failure {
         match self {
             Failure::Unread(fault) => writeln!(f, "{fault}"),
             Failure::Unlisted(fault) => writeln!(f, "{fault}"),
+            Failure::TextPart(fault) => writeln!(f, "text {fault}"),
+            Failure::ListingPart(fault) => writeln!(f, "listing {fault}"),
+            Failure::NoListing => writeln!(f, "text line 0: NoListing"),
             Failure::Words(error) => write!(f, "{error}"),
             Failure::Setting(number) => writeln!(f, "setting {number}: bad"),
             Failure::Memory => writeln!(f, "memory"),

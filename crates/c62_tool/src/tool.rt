@@ -1,6 +1,6 @@
 //! The run over a reader and writers.
 
-ghost use Rattle.std.specs.Prelude.{◌≡◌, ◌+◌, None, IfErr, OnOk, map};
+ghost use Rattle.std.specs.Prelude.{◌≡◌, ◌+◌, None, IfErr, IfOk, OnOk, map};
 ghost use Rattle.std.specs.Io.KnownBytes.{Appends, Keeps};
 ghost use Rattle.c62_tool.specs.Run.{TakesAtMost, TakesAsked, Does, IsDone, Fails, HasFailed, IsRun, IsRunOnBytes, limit_of, streams};
 ghost use Rattle.c62_command.specs.CommandLine.{ask_of, asked};
@@ -9,6 +9,7 @@ use crate::answer::{answer, limit_of};
 use crate::failure::Failure;
 use crate::input::read_text;
 use crate::message::report;
+use crate::outcome::Outcome;
 use c62_command::{Request, command_of};
 use std::convert::AsStr;
 use std::io::{Read, Write};
@@ -36,16 +37,17 @@ fn perform<H: AllocGlobal + Threads + Wait + Sync, R: Read, W: Write>(
     request: &Request,
     reader: &mut R,
     output: &mut W,
-) -> Result<(), Failure>
-    ensures ok { OnOk result (Does (ask_of request.now) (R.remaining reader.old) (W.contents output.old)
-        (W.contents output.new)) }
+) -> Result<Outcome, Failure>
+    ensures ok { IfOk result (λ outcome. Does (ask_of request.now) outcome (R.remaining reader.old)
+        (W.contents output.old) (W.contents output.new)) }
     ensures err { IfErr result (Fails (ask_of request.now) (R.remaining reader.old) (W.contents output.old)
         (W.contents output.new)) }
     ensures most { TakesAtMost (limit_of (ask_of request.now) + 1) (R.remaining reader.old) (R.remaining reader.new) }
 {
     let text = read_text(rt.alloc(), reader, limit_of(request))?;
-    let answer = answer(rt, request, &text)?;
-    write_out(output, &answer)
+    let reply = answer(rt, request, &text)?;
+    write_out(output, &reply.text)?;
+    Ok(reply.outcome)
 }
 
 /// Does what the words ask for. They are judged before anything is read.
@@ -54,9 +56,9 @@ fn run<H: AllocGlobal + Threads + Wait + Sync, S: AsStr, R: Read, W: Write>(
     words: &[S],
     reader: &mut R,
     output: &mut W,
-) -> Result<(), Failure>
-    ensures ok { OnOk result (IsDone (map S.text words.now) (R.remaining reader.old) (W.contents output.old)
-        (W.contents output.new)) }
+) -> Result<Outcome, Failure>
+    ensures ok { IfOk result (λ outcome. IsDone (map S.text words.now) outcome (R.remaining reader.old)
+        (W.contents output.old) (W.contents output.new)) }
     ensures err { IfErr result (HasFailed (map S.text words.now) (R.remaining reader.old) (W.contents output.old)
         (W.contents output.new)) }
     ensures unread { asked (map S.text words.now) ≡ None → Keeps (R.remaining reader.old) (R.remaining reader.new) }
@@ -71,7 +73,8 @@ fn run<H: AllocGlobal + Threads + Wait + Sync, S: AsStr, R: Read, W: Write>(
 /// so that it is seen to end.
 ///
 /// Where reader and output tell their bytes, a 0 means that the answer to the text was written, a 1 that the text is refused
-/// by the fault that is told, and a 2 that the words are refused before anything is read.
+/// by the fault that is told, and a 2 that the words are refused before anything is read. Of a check a 0 means that every
+/// block of the listing is the same as the text's, so that its packets run as the text does, and a 5 that some block isn't.
 pub fn run_tool<H: AllocGlobal + Threads + Wait + Sync, S: AsStr, R: Read, W: Write, E: Write>(
     rt: &H,
     words: &[S],
@@ -84,7 +87,7 @@ pub fn run_tool<H: AllocGlobal + Threads + Wait + Sync, S: AsStr, R: Read, W: Wr
         IsRun (map S.text words.now) old new result }
 {
     match run(rt, words, reader, output) {
-        Ok(()) => 0,
+        Ok(outcome) => outcome.status(),
         Err(failure) => {
             report(errors, &failure);
             failure.status()

@@ -1,0 +1,9 @@
+pub mod Matched
+pub mod Reason
+pub mod Early
+pub mod Schedule
+pub mod Twins
+pub mod Verdict
+pub mod Lines
+pub mod Checked
+pub mod Serial

@@ -1,0 +1,62 @@
+-- The lines that tell what was found (docs/CHECK.md).
+use Rattle.std.specs.Prelude.{ℕ, ◌+◌, List, [], ◌∷◌, ◌++◌, Option, Some, None, decimal, codes}
+use Rattle.std.specs.Fmt.{signed_decimal}
+use Rattle.std.specs.List.{flat_map}
+use Rattle.c62_op.specs.Name.{register_name}
+use Rattle.c62_check.specs.declared.early.Early.{Early}
+use Rattle.c62_check.specs.declared.reason.Reason.{Reason}
+use Rattle.c62_check.specs.declared.reason.Reason.TheVariants.{Reads, Overwrites, Writes, AccessesMemory, StoresMemory, Branches}
+use Rattle.c62_check.specs.declared.verdict.Verdict.{Verdict as Answer}
+use Rattle.c62_check.specs.declared.verdict.Verdict.TheVariants.{Same, Missing, Extra, TooEarly}
+
+-- `block K`, and what is told of that block
+abbrev pub block_line : ℕ → List ℕ → List ℕ
+block_line number what = codes "block " ++ decimal number ++ codes " " ++ what ++ codes "\n"
+
+unfoldable pub reason_words : Reason → List ℕ
+reason_words (Reads reg) = codes "reads " ++ register_name reg
+reason_words (Overwrites reg) = codes "overwrites " ++ register_name reg
+reason_words (Writes reg) = codes "writes " ++ register_name reg
+reason_words AccessesMemory = codes "accesses memory"
+reason_words StoresMemory = codes "stores memory"
+reason_words Branches = codes "branches -"
+
+-- `early M after L`
+unfoldable pub early_lines : Early → List ℕ
+early_lines early = codes "early " ++ decimal early.line ++ codes " after " ++ decimal early.after
+
+-- ` needs N has C`
+unfoldable pub early_cycles : Early → List ℕ
+early_cycles early = codes " needs " ++ signed_decimal early.needs ++ codes " has " ++ signed_decimal early.has
+
+-- what is told of an instruction that comes too early
+unfoldable pub early_words : Early → List ℕ
+early_words early = early_lines early ++ early_cycles early ++ codes " " ++ reason_words early.reason
+
+-- the lines of a block: one, or one for each instruction that comes too early
+unfoldable pub verdict_lines : ℕ → Answer → List ℕ
+verdict_lines number Same = block_line number (codes "same")
+verdict_lines number (Missing line) = block_line number (codes "missing " ++ decimal line)
+verdict_lines number (Extra line) = block_line number (codes "extra " ++ decimal line)
+verdict_lines number (TooEarly early) = flat_map (λ each. block_line number (early_words each)) early.items
+
+-- the lines of the blocks from this number on
+abbrev pub lines_from : ℕ → List Answer → List ℕ
+lines_from number [] = []
+lines_from number (answer ∷ answers) = verdict_lines number answer ++ lines_from (number + 1) answers
+
+-- ---- blocks that differ in their labels
+
+-- a label, and `-` for none
+unfoldable pub label_name : Option (List ℕ) → List ℕ
+label_name None = codes "-"
+label_name (Some label) = label
+
+unfoldable pub label_words : Option (List ℕ) → Option (List ℕ) → List ℕ
+label_words listed label = codes "label " ++ label_name listed ++ codes " not " ++ label_name label
+
+-- of the label that a block has in the listing, and that which it has in the text, where it is there
+unfoldable pub other_words : Option (Option (List ℕ)) → Option (Option (List ℕ)) → List ℕ
+other_words (Some listed) (Some label) = label_words listed label
+other_words None label = codes "only in text"
+other_words listed None = codes "only in listing"

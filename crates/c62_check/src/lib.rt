@@ -1,0 +1,21 @@
+//! Whether packets, made by anyone, do what a serial text does: each block of them is held against the block of the text.
+#![tactic(auto)]
+
+mod checked;
+mod early;
+pub mod laws;
+mod lines;
+mod matched;
+mod reason;
+mod verdict;
+
+pub use checked::{Checked, check};
+pub use early::Early;
+pub use reason::Reason;
+pub use verdict::{Verdict, check_block};
+
+
+
+
+#[cfg(test)]
+mod tests;

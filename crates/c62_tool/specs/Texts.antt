@@ -1,0 +1,23 @@
+-- What texts say, and what is told of those that say nothing.
+use Rattle.std.specs.Prelude.{◌≡◌, ◌≢◌, ℕ, List, map, Ok, IsErrAnd}
+use Rattle.c62_read.specs.Block.{Serial}
+use Rattle.c62_read.specs.Program.{program_in, block_parts}
+use Rattle.c62_listing_reader.specs.declared.fault.ListFault.{ListFault}
+use Rattle.c62_listing_reader.specs.declared.fault.ListFault.TheVariants.{Memory as NoStore}
+use Rattle.c62_listing_reader.specs.Reading.{Refuses}
+use Rattle.c62_tool.specs.Message.{fault_message, list_message}
+
+-- the text says a program
+abbrev pub SaysProgram : List ℕ → List Serial → Type 0
+SaysProgram text program = program_in text ≡ Ok (map block_parts program)
+
+-- the text says no program, and the message tells its fault
+abbrev pub IsNoProgram : List ℕ → List ℕ → Type 0
+IsNoProgram text message = IsErrAnd (program_in text) (λ fault. message ≡ fault_message fault.0 fault.1)
+
+-- the text is no listing, and the message tells its first fault
+pub record IsNoListing (text message : List ℕ) : Type 0 where
+  pub fault : ListFault
+  pub known : fault ≢ NoStore
+  pub refused : Refuses text fault
+  pub told : message ≡ list_message fault
