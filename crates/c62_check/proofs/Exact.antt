@@ -22,7 +22,7 @@ use Rattle.c62_check.specs.declared.early.Early.{Early}
 use Rattle.c62_check.specs.declared.verdict.Verdict.{Verdict}
 use Rattle.c62_check.specs.declared.verdict.Verdict.TheVariants.{Same, Missing, Extra, TooEarly}
 use Rattle.c62_check.specs.Early.{IsEarly, AreEarly}
-use Rattle.c62_check.specs.Verdict.{IsVerdict, IsExact, ComeEarly}
+use Rattle.c62_check.specs.Verdict.{IsVerdict, IsExact}
 use Rattle.c62_read.specs.Block.{Serial, is_block}
 use Rattle.c62_depend.proofs.Plans.{plan_is, few_insns, last_branch}
 use Rattle.c62_depend.proofs.Latencies.{greatest_from}

@@ -13,7 +13,7 @@ use Rattle.c62_read.specs.declared.block.SerialInsn.{SerialInsn}
 use Rattle.c62_packet.specs.declared.placed.Placed.{Placed}
 use Rattle.c62_packet.specs.Packed.{issue_of, issues_of}
 use Rattle.c62_depend.specs.Latency.{latency}
-use Rattle.c62_depend.specs.Plan.{unnumbered, insns_of}
+use Rattle.c62_depend.specs.Plan.{insns_of}
 use Rattle.c62_depend.proofs.Latencies.{latency-is}
 use Rattle.c62_meaning.specs.Laws.{StandsAs, IsPlacing, IsPacked, cycles_of}
 use Rattle.c62_rules.specs.PacketRules.{Issue}

@@ -1,8 +1,8 @@
 -- What an instruction needs, gone over one by one.
-use Rattle.std.proofs.Common.{arith, ◌≡◌, ℕ, ◌<◌, ◌≤◌, ◌+◌, ℤ, ◌≤ℤ◌, ◌<ℤ◌, List, length, map, get_or, Some, refl, sym, ap, inl, inr, subst, ◌∙◌}
+use Rattle.std.proofs.Common.{arith, ◌≡◌, ℕ, ◌<◌, ◌≤◌, ℤ, ◌≤ℤ◌, ◌<ℤ◌, List, length, map, get_or, Some, refl, sym, ap, inl, inr, subst, ◌∙◌}
 use Rattle.std.specs.List.{slice_get, Contains, AllPairs}
 use Rattle.std.proofs.lemmas.Bool.{cases_lt}
-use Rattle.std.proofs.lemmas.Option.{slice_get-get_or, slice_get_read, same_Some, slice_get_within}
+use Rattle.std.proofs.lemmas.Option.{slice_get_read, same_Some}
 use Rattle.std.proofs.lemmas.List.{length-map}
 use Rattle.std.proofs.Math.ListN.{get_or-map}
 use Rattle.std.proofs.lemmas.List.Kept.{AllPairs-from_increasing}
@@ -12,7 +12,6 @@ use Rattle.c62_packet.specs.declared.placed.Placed.{Placed}
 use Rattle.c62_depend.specs.declared.links.Link.{Link}
 use Rattle.c62_depend.specs.Latency.{latency}
 use Rattle.c62_depend.specs.Links.{needs}
-use Rattle.c62_depend.specs.Plan.{IsPlan}
 use Rattle.c62_depend.proofs.Rules.{needs_are}
 use Rattle.c62_check.specs.declared.reason.Reason.{Reason}
 use Rattle.c62_check.specs.Reason.{IsReason}

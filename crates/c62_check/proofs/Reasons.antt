@@ -1,6 +1,6 @@
 -- Which case of dependence asks for a latency.
-use Rattle.std.proofs.Common.{arith, ◌≡◌, ◌≢◌, ℕ, zero, suc, ◌+◌, ◌<◌, ◌≤◌, ℤ, pos, ◌-ℤ◌, Bool, true, false, List, [], ◌∷◌, ◌++◌, Option, Some, None, get_or, length, refl, sym, ap, subst, ◌∙◌, inl, inr, ◌⊎◌}
-use Rattle.std.specs.Prelude.{All, Contains, if◌then◌else◌, ◌||◌, slice_get, IsTrue}
+use Rattle.std.proofs.Common.{arith, ◌≡◌, ◌≢◌, ℕ, zero, suc, ◌+◌, ◌<◌, ◌≤◌, ℤ, pos, ◌-ℤ◌, Bool, true, false, List, [], ◌∷◌, ◌++◌, Option, Some, get_or, refl, sym, ap, subst, ◌∙◌, inl, inr, ◌⊎◌}
+use Rattle.std.specs.Prelude.{All, Contains, if◌then◌else◌, ◌||◌, slice_get}
 use Rattle.std.specs.List.{list_any}
 use Rattle.std.proofs.lemmas.Int.{ints}
 use Rattle.std.proofs.lemmas.Bool.{cases_eq}
@@ -19,7 +19,7 @@ use Rattle.c62_op.proofs.FormLemmas.{taken_kind}
 use Rattle.c62_insn.specs.declared.insn.Insn.{Insn}
 use Rattle.c62_insn.specs.Insn.{op_of, operands_of, cond_of, register_writes, reads_register, is_condition_on}
 use Rattle.c62_insn.proofs.InsnLemmas.{has_unit, writes_delay_of, writes_distinct}
-use Rattle.c62_rules.specs.Dependence.{IsBound, Bounds, IsLatency, are_exclusive}
+use Rattle.c62_rules.specs.Dependence.{IsBound}
 use Rattle.c62_rules.specs.Dependence.IsBound.{ReadAfterWrite, WriteAfterRead, WriteAfterWrite, AfterStore, StoreAfterLoad, BeforeBranch}
 use Rattle.c62_depend.specs.Latency.{latency}
 use Rattle.c62_depend.proofs.Latencies.{greatest_from}
@@ -95,9 +95,11 @@ write_by op (Constant k d) cond reg delay kind h = result_is op (Constant k d) c
 write_by op (Access r base form offset) cond reg delay kind h =
     elim (two_of (changes_base form) (is_load op) (base, 0) (r, delay_of op) (reg, delay) h) [
       | inl e ↦
-          inl (ap (λ (w : Reg × ℕ). w.1) e,
-          subst (λ (x : Reg). list_any (λ read. same_reg read x) (reads_of op (Access r base form offset)) || is_condition_on x cond ≡ true)
-          (sym (ap (λ (w : Reg × ℕ). w.0) e)) (reads_base (is_store op) r base (offset_reads offset) (is_condition_on base cond)))
+          inl (
+            ap (λ (w : Reg × ℕ). w.1) e,
+            subst (λ (x : Reg). list_any (λ read. same_reg read x) (reads_of op (Access r base form offset)) || is_condition_on x cond ≡ true)
+                (sym (ap (λ (w : Reg × ℕ). w.0) e)) (reads_base (is_store op) r base (offset_reads offset) (is_condition_on base cond)),
+          )
       | inr e ↦ inr (ap (λ (w : Reg × ℕ). w.1) e.0, no_store op e.1 (is_store op) refl)
     ]
   where

@@ -1,5 +1,5 @@
 -- Packets that are checked to be the same, block by block.
-use Rattle.std.proofs.Common.{arith, ◌≡◌, ℕ, zero, suc, ◌<◌, Bool, true, false, List, [], ◌∷◌, length, map, Option, Some, refl, sym, ap, subst, ◌∙◌}
+use Rattle.std.proofs.Common.{arith, ◌≡◌, ℕ, zero, suc, ◌<◌, Bool, true, List, [], ◌∷◌, length, map, Option, Some, refl, sym, ap, subst, ◌∙◌}
 use Rattle.std.specs.Prelude.{All, slice_get, IsTrue, ◌&&◌}
 use Rattle.std.specs.List.{list_all}
 use Rattle.std.proofs.lemmas.Bool.{and_parts}
@@ -105,9 +105,11 @@ run_as program lined packets opening limit alike are sound = record {
       let other = chain_alike lined packets opening opening limit (sym alike) refl sound chain one.0 final one.1 in
       (one.0, other.left, other.runs, record { machine = other.machine; places = other.places; faulted = other.faulted; others_faulted = other.others_faulted }));
   serial = λ chain cycles left runs.
-      (let other = chain_alike packets lined opening opening limit alike refl sound chain cycles left runs in
-      (other.left, (run_alike program lined opening other.left limit chain are sound).serial cycles other.runs,
-      record { machine = sym other.machine; places = other.places; faulted = other.others_faulted; others_faulted = other.faulted }));
+      (let other = chain_alike packets lined opening opening limit alike refl sound chain cycles left runs in (
+        other.left,
+        (run_alike program lined opening other.left limit chain are sound).serial cycles other.runs,
+        record { machine = sym other.machine; places = other.places; faulted = other.others_faulted; others_faulted = other.faulted },
+      ));
 }
 
 pub checked_are_serial : (program : List Serial) (packets : List Packed) (text : List ℕ) → CheckedAreSerial program packets text

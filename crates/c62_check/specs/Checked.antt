@@ -1,5 +1,5 @@
 -- What is told of a program and packets (docs/CHECK.md).
-use Rattle.std.specs.Prelude.{◌≡◌, ◌≢◌, ◌↔◌, ℕ, ◌<◌, Bool, true, false, List, All, length, slice_get, Some, IsTrue}
+use Rattle.std.specs.Prelude.{◌≡◌, ◌≢◌, ◌↔◌, ℕ, ◌<◌, Bool, false, List, All, length, slice_get, Some, IsTrue}
 use Rattle.std.specs.List.{list_all}
 use Rattle.c62_read.specs.Block.{Serial, is_block, labels_in}
 use Rattle.c62_packet.specs.declared.placed.Placed.{Placed}

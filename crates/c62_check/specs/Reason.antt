@@ -55,7 +55,7 @@ IsBehind cycles earlier write = (write.0 ≡ earlier.0) × (cycles ≡ pos (earl
 abbrev pub IsOverwritten : Insn → ℤ → Reg × ℕ → Type 0
 IsOverwritten q cycles earlier = (write : Reg × ℕ) × Contains (register_writes q) write × IsBehind cycles earlier write
 
--- of these writes none is such, or the first such is of this register
+-- none of these writes is such, or one that is such is of this register
 abbrev pub FindsWrite : (Reg × ℕ → Type 0) → List (Reg × ℕ) → Option Reg → Type 0
 FindsWrite Is writes found = MatchOption found (All (λ write. Is write → ⊥) writes) (λ reg. (delay : ℕ) × Contains writes (reg, delay) × Is (reg, delay))
 

@@ -120,7 +120,12 @@ fn check_other(
     ensures { IfOk result (λ checked. IsChecked blocks.now packets.now checked.text.items checked.same) }
 {
     let mut text = Vec::new(alloc);
-    push_other(&mut text, number as u64, packets.get(number), blocks.get(number))?;
+    push_other(
+        &mut text,
+        number as u64,
+        packets.get(number),
+        blocks.get(number),
+    )?;
     Ok(Checked { text, same: false })
 }
 
@@ -141,11 +146,7 @@ fn verdict_of(alloc: Global, block: Block, packets: &PacketBlock) -> Result<Verd
 }
 
 /// What is found where the blocks and their labels are the same.
-fn check_blocks(
-    alloc: Global,
-    program: Program,
-    packets: &Packets,
-) -> Result<Checked, AllocError>
+fn check_blocks(alloc: Global, program: Program, packets: &Packets) -> Result<Checked, AllocError>
     requires { labels_of packets.now ≡ labels_in program }
     ensures { IfOk result (λ checked. IsChecked program packets.now checked.text.items checked.same) }
 {

@@ -14,8 +14,5 @@ pub use early::Early;
 pub use reason::Reason;
 pub use verdict::{Verdict, check_block};
 
-
-
-
 #[cfg(test)]
 mod tests;

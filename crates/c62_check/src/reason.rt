@@ -62,7 +62,7 @@ fn is_read(second: Insn, cycles: i32, write: (Reg, u8)) -> bool
     reads_register(second, write.0) && cycles == i32::from(write.1) + 1
 }
 
-/// The register of the first such write.
+/// The register of such a write, where there is one.
 fn first_read(second: Insn, cycles: i32, writes: &[(Reg, u8)]) -> Option<Reg>
     ensures { FindsWrite (IsRead second cycles) writes.now result }
 {
@@ -81,7 +81,7 @@ fn is_spared(first: Insn, cycles: i32, write: (Reg, u8)) -> bool
     reads_register(first, write.0) && cycles == -i32::from(write.1)
 }
 
-/// The register of the first such write.
+/// The register of such a write, where there is one.
 fn first_spared(first: Insn, cycles: i32, writes: &[(Reg, u8)]) -> Option<Reg>
     ensures { FindsWrite (IsSpared first cycles) writes.now result }
 {
@@ -113,7 +113,7 @@ fn is_overwritten(second: Insn, cycles: i32, earlier: (Reg, u8)) -> bool
     false
 }
 
-/// The register of the first write of the first instruction that is overwritten so.
+/// The register of a write of the first instruction that is overwritten so, where there is one.
 fn first_overwritten(second: Insn, cycles: i32, writes: &[(Reg, u8)]) -> Option<Reg>
     ensures { FindsWrite (IsOverwritten second cycles) writes.now result }
 {

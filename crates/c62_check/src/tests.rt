@@ -37,6 +37,7 @@ fn first_wrong(alloc: Global, rows: &[Row]) -> Result<String, Fail> {
 }
 
 const THREE: &str = "MVK 5,A1\nMVK 7,A2\nADD A1,A2,A3\n";
+
 const TWO_BLOCKS: &str = "L1: MVK 1,A1\nL2: MVK 2,A2\n";
 
 const SAME: [Row; 9] = [

@@ -1,4 +1,4 @@
-use Rattle.std.proofs.Common.{◌≡◌, ◌∙◌, ◌∷◌, ◌++◌, [], ℕ, ◌+◌, ◌<◌, List, length, refl, sym, ap, subst, append_assoc, append-nil, arith}
+use Rattle.std.proofs.Common.{◌≡◌, ◌∙◌, ◌∷◌, ◌++◌, [], ◌<◌, List, length, refl, sym, ap, subst, append_assoc, append-nil, arith}
 use Rattle.std.specs.Vec.Iter.{into_iter_items}
 use Rattle.std.proofs.lemmas.List.{length-append}
 use Rattle.std.proofs.lemmas.Option.{slice_get_read}
@@ -22,12 +22,12 @@ loop-block-preserved c =
     let within : at.number < length packets = has_packets c.args.program at.yielded rest block packets at.number whole labels place in (
       append_assoc at.yielded (block ∷ []) _ ∙ rw (← steps) at.invariant.0,
       told_next at.yielded packets at.checked.text.items c.add.new.self.text.items at.checked.same c.add.new.self.same at.number block c.index-packets-number.result
-      c.in_ok-verdict.verdict at.invariant.1 place (slice_get_read packets (length packets) at.number c.index-packets-number.result refl within c.index-packets-number.is)
-      c.in_ok-verdict.ensures c.in_ok-add.ensures.0 c.in_ok-add.ensures.1,
+          c.in_ok-verdict.verdict at.invariant.1 place (slice_get_read packets (length packets) at.number c.index-packets-number.result refl within c.index-packets-number.is)
+          c.in_ok-verdict.ensures c.in_ok-add.ensures.0 c.in_ok-add.ensures.1,
       (let was = at.invariant.2 in
-      let gone = c.in-Some.ensures.steps.1 in
-      let short = ap length steps in
-      omega arith),
+          let gone = c.in-Some.ensures.steps.1 in
+          let short = ap length steps in
+          omega arith),
       (let more = length-append at.yielded (block ∷ []) in omega (arith, more, place)),
     )
 
@@ -45,12 +45,12 @@ loop-block-preserved-in_ok-add c =
     let within : at.number < length packets = has_packets c.args.program at.yielded rest block packets at.number whole labels place in (
       append_assoc at.yielded (block ∷ []) _ ∙ rw (← steps) at.invariant.0,
       told_next at.yielded packets at.checked.text.items c.add.new.self.text.items at.checked.same c.add.new.self.same at.number block c.index-packets-number.result
-      c.in_ok-verdict.verdict at.invariant.1 place (slice_get_read packets (length packets) at.number c.index-packets-number.result refl within c.index-packets-number.is)
-      c.in_ok-verdict.ensures c.in_ok-add.ensures.0 c.in_ok-add.ensures.1,
+          c.in_ok-verdict.verdict at.invariant.1 place (slice_get_read packets (length packets) at.number c.index-packets-number.result refl within c.index-packets-number.is)
+          c.in_ok-verdict.ensures c.in_ok-add.ensures.0 c.in_ok-add.ensures.1,
       (let was = at.invariant.2 in
-      let gone = c.in-Some.ensures.steps.1 in
-      let short = ap length steps in
-      omega arith),
+          let gone = c.in-Some.ensures.steps.1 in
+          let short = ap length steps in
+          omega arith),
       (let more = length-append at.yielded (block ∷ []) in omega (arith, more, place)),
     )
 

@@ -1,4 +1,4 @@
-use Rattle.std.proofs.Common.{rules, arith, ◌≡◌, ℕ, ◌<◌, ◌≤◌, length, sym, subst, inl, inr}
+use Rattle.std.proofs.Common.{rules, arith, ◌≡◌, ℕ, ◌≤◌, length, sym, subst, inl, inr}
 use Rattle.std.specs.Prelude.{slice_get}
 use Rattle.std.specs.Option.{option_copied}
 use Rattle.std.proofs.lemmas.Bool.{cases_lt}
@@ -13,10 +13,10 @@ loop-number-preserved c = λ earlier low. elim (cases_lt earlier c.loop-number.n
   | inr after ↦
       (let here : earlier ≡ c.loop-number.number = omega (arith, low, after) in
       subst (λ (n : ℕ). slice_get (labels_of c.args.packets.now) n ≡ slice_get (labels_in c.args.blocks.now) n) (sym here)
-      (labels_at c.args.blocks.now c.args.packets.now c.loop-number.number (option_copied c.get.result) (option_copied c.get-in-loop-number.result) 
+      (labels_at c.args.blocks.now c.args.packets.now c.loop-number.number (option_copied c.get.result) (option_copied c.get-in-loop-number.result)
       (got_is c.args.packets.now c.loop-number.number c.get.result c.get.ensures.lookup.0 c.get.ensures.lookup.1)
       (got_is c.args.blocks.now c.loop-number.number c.get-in-loop-number.result c.get-in-loop-number.ensures.lookup.0 c.get-in-loop-number.ensures.lookup.1)
-       (c.is_same_block.ensures.0 (search rules))))
+      (c.is_same_block.ensures.0 (search rules))))
 ]
 
 pub returns : goal.returns

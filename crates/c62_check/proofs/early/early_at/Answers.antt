@@ -15,7 +15,7 @@ pub returns-in-Some : goal.returns-in-Some
 returns-in-Some c = (
   c.in-Some.ensures.0,
   first_early (insns_of c.args.plan.now) c.args.placed.now c.args.number c.needs-needs.result.now c.needs-needs.ensures c.loop-k.k none c.in-Some.early c.loop-k-test.true
-  c.loop-k.invariant c.in-Some.ensures.0 c.in-Some.ensures.1,
+      c.loop-k.invariant c.in-Some.ensures.0 c.in-Some.ensures.1,
 )
 
 pub returns : goal.returns

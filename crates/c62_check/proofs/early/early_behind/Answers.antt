@@ -1,4 +1,4 @@
-use Rattle.std.proofs.Common.{rules, arith, ◌≡◌, ◌<◌, ◌≤ℤ◌, ◌<ℤ◌, ◌∙◌, ℕ, ℤ, w8, w32, FitsSigned, to_z, of_z, refl, subst}
+use Rattle.std.proofs.Common.{rules, arith, ◌≤ℤ◌, ◌<ℤ◌, ◌∙◌, ℕ, w8, w32, FitsSigned, to_z, of_z, refl, subst}
 use Rattle.std.proofs.lemmas.Int.{to_z-of_z, ints}
 use Rattle.c62_depend.specs.Plan.{insns_of}
 use Rattle.c62_check.specs.Reason.{IsReason}
@@ -39,12 +39,12 @@ returns c =
     let because : IsReason (insns_of c.args.plan.now) c.from-3.result c.args.number (to_z w32 (of_z w32 c.from-needs.result)) c.reason_between.result = c.reason_between.ensures in (
       refl,
       early_one (insns_of c.args.plan.now) c.args.placed.now c.args.link.number c.args.number c.index-placed-from.result c.index-placed-from-2.result
-      (to_z w32 (of_z w32 c.from-needs.result)) (to_z w32 (of_z w32 c.gap-has.result)) c.args.link.latency
-      (read_at c.args.placed.now c.from.result c.args.link.number c.index-placed-from.result c.from.ensures
-      (omega (arith, before, c.requires.within, c.requires.placed, c.from.ensures)) c.index-placed-from.is)
-      (read_at c.args.placed.now c.from-2.result c.args.number c.index-placed-from-2.result c.from-2.ensures
-      (omega (arith, c.requires.within, c.requires.placed, c.from-2.ensures)) c.index-placed-from-2.is)
-      c.requires.link (to_z-of_z w32 c.from-needs.result needs_fits ∙ (c.from-needs.ensures ∙ to_z-of_z w8 c.args.link.latency small))
-      (to_z-of_z w32 c.gap-has.result has_fits ∙ c.gap-has.ensures) c.reason_between.result early
-      (subst (λ (n : ℕ). IsReason (insns_of c.args.plan.now) n c.args.number (to_z w32 (of_z w32 c.from-needs.result)) c.reason_between.result) c.from-3.ensures because),
+          (to_z w32 (of_z w32 c.from-needs.result)) (to_z w32 (of_z w32 c.gap-has.result)) c.args.link.latency
+          (read_at c.args.placed.now c.from.result c.args.link.number c.index-placed-from.result c.from.ensures
+          (omega (arith, before, c.requires.within, c.requires.placed, c.from.ensures)) c.index-placed-from.is)
+          (read_at c.args.placed.now c.from-2.result c.args.number c.index-placed-from-2.result c.from-2.ensures
+          (omega (arith, c.requires.within, c.requires.placed, c.from-2.ensures)) c.index-placed-from-2.is)
+          c.requires.link (to_z-of_z w32 c.from-needs.result needs_fits ∙ (c.from-needs.ensures ∙ to_z-of_z w8 c.args.link.latency small))
+          (to_z-of_z w32 c.gap-has.result has_fits ∙ c.gap-has.ensures) c.reason_between.result early
+          (subst (λ (n : ℕ). IsReason (insns_of c.args.plan.now) n c.args.number (to_z w32 (of_z w32 c.from-needs.result)) c.reason_between.result) c.from-3.ensures because),
     )

@@ -1,7 +1,6 @@
-use Rattle.std.proofs.Common.{rules, ◌≡◌, ◌≤◌, ℕ, ℤ, w32, FitsSigned, to_z, of_z, length, subst}
+use Rattle.std.proofs.Common.{rules, ◌≤◌, ℤ, w32, FitsSigned, to_z, of_z, length, subst}
 use Rattle.std.specs.Prelude.{All}
 use Rattle.std.proofs.lemmas.Int.{to_z-of_z}
-use Rattle.c62_op.specs.declared.register.Reg.{Reg}
 use Rattle.c62_check.specs.Reason.{IsOverwritten}
 use Rattle.c62_check.proofs.Writes.{not_next, none_is, is_there}
 use Rattle.c62_check.proofs.reason.first_overwritten.Goals as goal

@@ -1,4 +1,4 @@
-use Rattle.std.proofs.Common.{rules, ◌≡◌, ◌≤◌, ℕ, ℤ, w32, FitsSigned, to_z, of_z, true, List, length, refl, subst}
+use Rattle.std.proofs.Common.{rules, ◌≡◌, ℕ, ℤ, w32, FitsSigned, true, List, refl, subst}
 use Rattle.std.specs.Prelude.{Contains}
 use Rattle.std.proofs.lemmas.Int.{to_z-of_z}
 use Rattle.c62_op.specs.declared.register.Reg.{Reg}
@@ -16,7 +16,7 @@ returns-then-is_behind c =
       λ _. (
         c.write-item.result,
         subst (λ (ws : List (Reg × ℕ)). Contains ws c.write-item.result) items
-        (is_there (IsBehind c.args.cycles c.args.earlier) c.as_slice-write-items.result.now at.write-index c.write-item.result c.loop-write-test.true c.write-item.is),
+            (is_there (IsBehind c.args.cycles c.args.earlier) c.as_slice-write-items.result.now at.write-index c.write-item.result c.loop-write-test.true c.write-item.is),
         subst (λ (z : ℤ). IsBehind z c.args.earlier c.write-item.result) (to_z-of_z w32 c.args.cycles fits) (c.is_behind.ensures.0 c.if-is_behind.true),
       ),
       λ _. yes,
