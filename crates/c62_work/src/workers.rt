@@ -12,14 +12,20 @@ use std::sync::{Mutex, MutexGuard, Wait};
 use std::thread::yield_now;
 
 /// How long a side rests that found nothing to place.
-const RESTS: u32 = 200;
+const SPINS: u32 = 200;
+
+/// In how many turns a side that rests leaves its processor once. Where all processors are busy it gets it back late, and a
+/// side whose other side ended early rests in each of its turns.
+const TURNS_A_YIELD: u32 = 64;
 
 /// Leaves the lock to the other side, until it may have placed something on which this side waits.
-fn rest() {
-    for _ in 0..RESTS {
+fn rest(turn: u32) {
+    for _ in 0..SPINS {
         spin_loop();
     }
-    yield_now();
+    if turn % TURNS_A_YIELD == 0 {
+        yield_now();
+    }
 }
 
 /// What a side's turn comes to on a desk.
@@ -69,7 +75,7 @@ pub fn worker<R: Wait, G: Gate>(
             return turn + 1;
         }
         if came == Turn::Idle {
-            rest();
+            rest(turn);
         }
     }
     turns
