@@ -11,12 +11,11 @@ use Rattle.std.proofs.lemmas.List.Sorted.{length_permutation, IsPermutation-sym,
 use Rattle.c62_op.proofs.UnitOrder.{index_of-below}
 use Rattle.c62_op.specs.Shape.{is_branch}
 use Rattle.c62_insn.specs.declared.insn.Insn.{Insn}
-use Rattle.c62_insn.specs.Insn.{op_of}
+use Rattle.c62_insn.specs.Insn.{IsSameInsn, op_of}
 use Rattle.c62_read.specs.declared.block.SerialInsn.{SerialInsn}
 use Rattle.c62_packet.specs.declared.placed.Placed.{Placed}
 use Rattle.c62_packet.specs.Packed.{listing_position}
 use Rattle.c62_depend.specs.Plan.{unnumbered, IsPlan}
-use Rattle.c62_meaning.specs.Laws.{IsSameInsn}
 use Rattle.c62_check.specs.Matched.{AreSame, AreTaken, AreNumbered, IsMissing, IsExtra}
 use Rattle.c62_check.specs.declared.early.Early.{Early}
 use Rattle.c62_check.specs.declared.verdict.Verdict.{Verdict}
@@ -29,7 +28,7 @@ use Rattle.c62_depend.proofs.Latencies.{greatest_from}
 use Rattle.c62_packet.specs.Packed.{Packed, IsPacketBlock}
 use Rattle.c62_check.specs.Schedule.{IsNumbering, IsSchedule, AreDistinct, HasOneNumbering}
 use Rattle.c62_check.proofs.Lined.{same_length}
-use Rattle.c62_check.proofs.Twins.{are_in_order}
+use Rattle.c62_rules.proofs.Twins.{are_in_order}
 use Rattle.c62_check.proofs.Distinct.{are_distinct}
 
 at_default : (xs : List Placed) (j : ℕ) (d e : Placed) → j < length xs → get_or xs j d ≡ get_or xs j e

@@ -2,11 +2,8 @@ pub mod Taking
 pub mod Needs
 pub mod Rising
 pub mod Lined
-pub mod Twins
 pub mod Distinct
 pub mod Exact
-pub mod Writes
-pub mod Reasons
 pub mod Others
 pub mod Telling
 pub mod Serially

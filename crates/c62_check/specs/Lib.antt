@@ -1,8 +1,6 @@
 pub mod Matched
-pub mod Reason
 pub mod Early
 pub mod Schedule
-pub mod Twins
 pub mod Verdict
 pub mod Lines
 pub mod Checked

@@ -5,8 +5,7 @@ ghost use Rattle.c62_depend.specs.Latency.{latency};
 ghost use Rattle.c62_depend.specs.Plan.{insns_of};
 ghost use Rattle.c62_check.specs.Early.{gap_of, Keeps, IsEarlyBehind, IsEarlyAt, AreEarly};
 
-use crate::reason::{Reason, reason_between};
-use c62_depend::{Link, Plan};
+use c62_depend::{Link, Plan, Reason};
 use c62_packet::Placed;
 use std::alloc::{AllocError, Global};
 
@@ -56,7 +55,7 @@ fn early_behind(plan: &Plan, placed: &[Placed], number: u16, link: Link) -> Opti
         after: first.line,
         needs,
         has,
-        reason: reason_between(plan, u16::from(link.number), number, needs),
+        reason: plan.reason(u16::from(link.number), number, needs),
     })
 }
 

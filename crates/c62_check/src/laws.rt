@@ -1,16 +1,13 @@
 //! Laws of what is found. The functions do nothing: what each ensures is a law, proved of the definitions that other
 //! contracts cite.
 
-ghost use Rattle.std.specs.Prelude.{ℕ, ℤ, Bool, List};
-ghost use Rattle.c62_insn.specs.declared.insn.Insn.{Insn};
+ghost use Rattle.std.specs.Prelude.{ℕ, Bool, List};
 ghost use Rattle.c62_read.specs.declared.block.SerialInsn.{SerialInsn};
 ghost use Rattle.c62_read.specs.Block.{Serial};
 ghost use Rattle.c62_packet.specs.declared.placed.Placed.{Placed};
 ghost use Rattle.c62_packet.specs.Packed.{Packed};
 ghost use Rattle.c62_check.specs.declared.verdict.Verdict.{Verdict as Answer};
-ghost use Rattle.c62_check.specs.Reason.{HasOneReason};
 ghost use Rattle.c62_check.specs.Schedule.{SchedulesArePacked, HasOneNumbering};
-ghost use Rattle.c62_check.specs.Twins.{AreInOrder};
 ghost use Rattle.c62_check.specs.Verdict.{IsExact};
 ghost use Rattle.c62_check.specs.Checked.{SaysSame};
 ghost use Rattle.c62_check.specs.Serial.{CheckedAreSerial};
@@ -37,19 +34,7 @@ pub fn has_one_numbering()
     ensures { (insns : List SerialInsn) (listed numbered : List Placed) → HasOneNumbering insns listed numbered }
 {}
 
-/// Of two instructions of a block that are the same but for the written unit, and no branches, the later one comes at least
-/// a cycle behind the earlier one, wherever all dependences keep their distances.
-pub fn twins_in_order()
-    ensures { (block : List Insn) → AreInOrder block }
-{}
-
 /// A schedule of a block, with the lines of its instructions in place of the listing's, is packets of the block.
 pub fn schedules_are_packed()
     ensures { (block : Serial) (packed : Packed) → SchedulesArePacked block packed }
-{}
-
-/// There is one reason for which an instruction must come so many cycles behind another, by the first case of dependence
-/// that asks for as many.
-pub fn reasons_are_one()
-    ensures { (block : List Insn) (i j : ℕ) (cycles : ℤ) → HasOneReason block i j cycles }
 {}

@@ -12,3 +12,5 @@ pub mod Numbers
 pub mod Lists
 pub mod WrittenLemmas
 pub mod ConditionNumbers
+pub mod GoneOver
+pub mod Reasons

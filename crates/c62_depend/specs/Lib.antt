@@ -13,3 +13,4 @@ pub mod Side
 pub mod UnitChoices
 pub mod Plan
 pub mod Laws
+pub mod Reason

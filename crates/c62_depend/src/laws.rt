@@ -1,9 +1,10 @@
 //! Laws of a plan's definitions, in the words of the rules. The functions do nothing: what each ensures is a law, proved
 //! of the definitions that the contracts of a plan cite.
 
-ghost use Rattle.std.specs.Prelude.{List};
+ghost use Rattle.std.specs.Prelude.{ℕ, ℤ, List};
 ghost use Rattle.c62_insn.specs.declared.insn.Insn.{Insn};
 ghost use Rattle.c62_depend.specs.Laws.{HasLatencies, HasHeights, HasNeeds, HasFollowers};
+ghost use Rattle.c62_depend.specs.Reason.{HasOneReason};
 
 /// A latency is the greatest bound of the cases of dependence that apply, and none where none applies.
 pub fn has_latencies()
@@ -23,4 +24,10 @@ pub fn has_needs()
 /// The list of what depends on an instruction has each such dependence once, by rising numbers, and nothing else.
 pub fn has_followers()
     ensures { (block : List Insn) → HasFollowers block }
+{}
+
+/// There is one reason for which an instruction must come so many cycles behind another, by the first case of dependence
+/// that asks for as many.
+pub fn reasons_are_one()
+    ensures { (block : List Insn) (i j : ℕ) (cycles : ℤ) → HasOneReason block i j cycles }
 {}

@@ -10,6 +10,7 @@ pub mod laws;
 mod limits;
 mod links;
 mod plan;
+mod reason;
 mod reg_set;
 mod same;
 mod side;
@@ -19,6 +20,7 @@ mod uses;
 pub use limits::ISSUE_CYCLES;
 pub use links::Link;
 pub use plan::Plan;
+pub use reason::Reason;
 
 #[cfg(test)]
 mod tests;

@@ -17,13 +17,12 @@ use Rattle.c62_insn.specs.declared.effect.Access.{Access as MemoryAccess}
 use Rattle.c62_insn.specs.declared.insn.Insn.{Insn}
 use Rattle.c62_op.specs.Takes.{same_reg, takes}
 use Rattle.c62_op.specs.Shape.{is_load, is_store, reads_of, writes_of}
-use Rattle.c62_insn.specs.Insn.{op_of, operands_of, cond_of, operand_reads, register_writes, is_condition_on, reads_register}
+use Rattle.c62_insn.specs.Insn.{IsSameInsn, op_of, operands_of, cond_of, operand_reads, register_writes, is_condition_on, reads_register}
 use Rattle.c62_op.specs.Meaning.{low_bytes_of}
 use Rattle.c62_insn.specs.Effect.{runs_of, values_of, stored, access_of, target_of}
 use Rattle.c62_op.proofs.Registers.{same_reg-refl}
 use Rattle.c62_insn.proofs.InsnLemmas.{has_unit}
 use Rattle.c62_serial.specs.Memory.{is_good, number_of, bytes_from, read}
-use Rattle.c62_meaning.specs.Laws.{IsSameInsn}
 use Rattle.c62_serial.specs.Effect.{Act, no_act, runs, operand_values, extended, loaded, act_on, act_of}
 
 abbrev pub Reads : Insn → Reg → Type 0

@@ -10,7 +10,7 @@ use Rattle.c62_op.specs.declared.operands.Operands.{Operands}
 use Rattle.c62_insn.specs.declared.effect.Target.{Target}
 use Rattle.c62_insn.specs.declared.insn.Insn.{Insn}
 use Rattle.c62_op.specs.Shape.{delay_of, is_branch, writes_of}
-use Rattle.c62_insn.specs.Insn.{op_of, operands_of, register_writes, greatest_delay}
+use Rattle.c62_insn.specs.Insn.{IsSameInsn, op_of, operands_of, register_writes, greatest_delay}
 use Rattle.c62_rules.specs.PacketRules.{Issue}
 use Rattle.c62_rules.specs.Dependence.{BeforeBranch}
 use Rattle.c62_rules.specs.Length.{landing_end, last_landing_end}
@@ -24,7 +24,7 @@ use Rattle.c62_serial.proofs.BranchLemmas.{goes_branch}
 use Rattle.c62_packet.specs.declared.placed.Placed.{Placed}
 use Rattle.c62_meaning.specs.Packet.{Did}
 use Rattle.c62_meaning.specs.Meaning.{exit_by}
-use Rattle.c62_meaning.specs.Laws.{IsSameInsn, StandsAs, cycles_of}
+use Rattle.c62_meaning.specs.Laws.{StandsAs, cycles_of}
 use Rattle.c62_packet.specs.Packed.{issue_of}
 use Rattle.c62_meaning.proofs.Lookup.{In, Contains_from_In}
 use Rattle.c62_meaning.proofs.SameRuns.{Numbered, ran_at, machine_at, serial_act, IsBlock, IsOver}

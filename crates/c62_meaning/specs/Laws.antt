@@ -2,7 +2,7 @@
 use Rattle.std.specs.Prelude.{◌≡◌, ◌↔◌, ℕ, ◌≤ℤ◌, ◌+ℤ◌, ℤ, pos, List, length, map, Contains, slice_get, Some, IsTrue}
 use Rattle.c62_op.specs.declared.register.Reg.{Reg}
 use Rattle.c62_insn.specs.declared.insn.Insn.{Insn}
-use Rattle.c62_insn.specs.Insn.{op_of, operands_of, cond_of}
+use Rattle.c62_insn.specs.Insn.{IsSameInsn}
 use Rattle.c62_rules.specs.Dependence.{Bounds}
 use Rattle.c62_rules.specs.Length.{length_of}
 use Rattle.c62_read.specs.declared.block.SerialInsn.{SerialInsn}
@@ -23,12 +23,6 @@ pub record HasOneMeaning (block : List Placed) (cycles : ℕ) (opening : Machine
   pub only : (other : Ran) → IsMeaning block cycles opening other → other ≡ ran
 
 -- ---- packets are serial
-
--- the same instruction, whichever unit is written
-pub record IsSameInsn (one other : Insn) : Type 0 where
-  pub op : op_of one ≡ op_of other
-  pub operands : operands_of one ≡ operands_of other
-  pub cond : cond_of one ≡ cond_of other
 
 -- both do the same where registers have these words and memory these bytes
 abbrev pub ActsAlike : Insn → Insn → Type 0

@@ -2,13 +2,14 @@
 //! definitions that other contracts cite.
 
 ghost use Rattle.std.specs.Prelude.{ℕ, List};
+ghost use Rattle.c62_insn.specs.Insn.{IsSameInsn};
 ghost use Rattle.c62_insn.specs.declared.insn.Insn.{Insn};
 ghost use Rattle.c62_read.specs.declared.block.SerialInsn.{SerialInsn};
 ghost use Rattle.c62_serial.specs.State.{Machine, IsSound};
 ghost use Rattle.c62_packet.specs.declared.placed.Placed.{Placed};
 ghost use Rattle.c62_meaning.specs.Alike.{MeanAlike};
 ghost use Rattle.c62_meaning.specs.Landed.{RunsLandOneByOne};
-ghost use Rattle.c62_meaning.specs.Laws.{HasOneMeaning, IsSameInsn, ActsAlike, PacketsAreSerial};
+ghost use Rattle.c62_meaning.specs.Laws.{HasOneMeaning, ActsAlike, PacketsAreSerial};
 
 /// Every block of packets has just one meaning, whatever its instructions do and wherever they are
 /// placed.

@@ -2,4 +2,5 @@ pub mod Exclusive
 pub mod Ranges
 pub mod Parts
 pub mod Lengths
+pub mod Twins
 mod Broken

@@ -5,3 +5,4 @@ pub mod Breaches
 pub mod Exclusive
 pub mod Disjoint
 pub mod Dependence
+pub mod Twins

@@ -9,6 +9,7 @@ ghost use Rattle.c62_rules.specs.Exclusive.{OppositeIsEither, ExclusiveIsTold};
 ghost use Rattle.c62_rules.specs.Disjoint.{Range, HasSmallOffset, LiesAtItsRange, ApartShareNothing, MeetInAByte, DisjointIsTold};
 ghost use Rattle.c62_rules.specs.Dependence.{BoundsKeepLandings};
 ghost use Rattle.c62_rules.specs.Breaches.{TwoOnOneUnit, TwoOverCrossPath, TwoOverDataPath, FiveReads, TwoLandings};
+ghost use Rattle.c62_rules.specs.Twins.{AreInOrder};
 ghost use Rattle.c62_rules.specs.Part.{PartKeepsRules, AnyOrderKeepsRules, AnyOrderIsAsLong};
 
 /// Part of what keeps the packet rules keeps them, under whatever numbers it is issued: the rules ask neither for
@@ -71,4 +72,10 @@ pub fn apart_ranges_share_nothing()
 /// first one on and before the second writes the base: the first one counts, the second does not.
 pub fn disjoint_is_told()
     ensures { (block : List Insn) (i j : ℕ) (p q : Insn) → DisjointIsTold block i j p q }
+{}
+
+/// Of two instructions of a block that are the same but for the written unit, and no branches, the later one comes at least
+/// a cycle behind the earlier one, wherever all dependences keep their distances.
+pub fn twins_in_order()
+    ensures { (block : List Insn) → AreInOrder block }
 {}

@@ -19,12 +19,11 @@ use Rattle.c62_op.specs.Takes.{has_kind}
 use Rattle.c62_op.specs.Shape.{is_branch, is_load, is_store, delay_of, changes_base, writes_of}
 use Rattle.c62_op.proofs.FormLemmas.{taken_kind}
 use Rattle.c62_insn.specs.declared.insn.Insn.{Insn}
-use Rattle.c62_insn.specs.Insn.{op_of, operands_of, cond_of, register_writes}
+use Rattle.c62_insn.specs.Insn.{IsSameInsn, op_of, operands_of, cond_of, register_writes}
 use Rattle.c62_rules.specs.Dependence.{IsBound}
 use Rattle.c62_rules.specs.Dependence.IsBound.{WriteAfterWrite, AfterStore}
 use Rattle.c62_insn.proofs.InsnLemmas.{has_unit}
-use Rattle.c62_meaning.specs.Laws.{IsSameInsn}
-use Rattle.c62_check.specs.Twins.{AreInOrder}
+use Rattle.c62_rules.specs.Twins.{AreInOrder}
 
 to_block : (op : Op) (k : ℕ) → has_kind op (Block k) ≡ true → is_branch op ≡ true
 to_block B k h = refl

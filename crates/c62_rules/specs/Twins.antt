@@ -2,9 +2,8 @@
 use Rattle.std.specs.Prelude.{◌≡◌, ℕ, ◌<◌, pos, false, List, slice_get, Some}
 use Rattle.c62_op.specs.Shape.{is_branch}
 use Rattle.c62_insn.specs.declared.insn.Insn.{Insn}
-use Rattle.c62_insn.specs.Insn.{op_of}
+use Rattle.c62_insn.specs.Insn.{IsSameInsn, op_of}
 use Rattle.c62_rules.specs.Dependence.{Bounds}
-use Rattle.c62_meaning.specs.Laws.{IsSameInsn}
 
 -- of two that are the same, and no branches, the later one comes at least a cycle behind the earlier one
 abbrev pub AreInOrder : List Insn → Type 0
