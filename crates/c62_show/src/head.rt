@@ -1,0 +1,190 @@
+//! What stands above the rows of a block: its head, its critical path, and its greatest need.
+
+ghost use Rattle.std.specs.Prelude.{◌≡◌, ◌++◌, ◌-◌, ◌<◌, ◌≤◌, OnOk, IfOk, length, codes, decimal, string_bytes, IsTrue};
+ghost use Rattle.std.specs.List.{flat_map};
+ghost use Rattle.std.specs.Option.{option_copied};
+ghost use Rattle.c62_listing.specs.Written.{AddsText};
+ghost use Rattle.c62_show.specs.Head.{name, verdict, size, fact, path_words, path_ends, path_line, room_name, need_words, is_told, units_line};
+
+use crate::limits::Limits;
+use crate::words::{push_counted, push_left, push_number, push_right_number};
+use c62_bound::{Kind, Need};
+use c62_insn::Side;
+use c62_listing::label_text;
+use c62_read::Label;
+use std::alloc::{AllocError, Global};
+
+/// The most columns of a line that names all lines of a path.
+const MOST_COLUMNS: usize = 98;
+
+/// The label of a block, or its number.
+pub(crate) fn push_name(
+    out: &mut String,
+    number: u32,
+    label: Option<&Label>,
+) -> Result<(), AllocError>
+    ensures { OnOk result (AddsText out.old (name number (option_copied label.entry)) out.new) }
+{
+    match label {
+        Some(label) => out.push_str(label_text(label)),
+        None => {
+            out.push_str("block ")?;
+            push_number(out, number)
+        }
+    }
+}
+
+/// By how much a block is longer than the bound.
+fn push_verdict(out: &mut String, cycles: u32, least: u32) -> Result<(), AllocError>
+    ensures { OnOk result (AddsText out.old (verdict cycles least) out.new) }
+{
+    if cycles == least {
+        return out.push_str("no schedule is shorter");
+    }
+    push_number(out, cycles.saturating_sub(least))?;
+    out.push_str(" over the bound of ")?;
+    push_number(out, least)
+}
+
+/// How many instructions and cycles a block has, and whether it could be shorter.
+#[tactic(auto, unfolding(crate::specs::Head::size))]
+pub(crate) fn push_size(
+    out: &mut String,
+    count: u32,
+    cycles: u32,
+    least: u32,
+) -> Result<(), AllocError>
+    ensures { OnOk result (AddsText out.old (size count cycles least) out.new) }
+{
+    out.push_str(": ")?;
+    push_counted(out, count, "instruction")?;
+    out.push_str(" in ")?;
+    push_counted(out, cycles, "cycle")?;
+    out.push_str("; ")?;
+    push_verdict(out, cycles, least)?;
+    out.push_str("\n")
+}
+
+/// A line that says why a schedule takes so many cycles at least.
+#[tactic(auto, unfolding(crate::specs::Head::fact))]
+fn push_fact(out: &mut String, word: &str, cycles: u32, why: &str) -> Result<(), AllocError>
+    ensures { OnOk result (AddsText out.old (fact word.now cycles why.now) out.new) }
+{
+    out.push_str("   ")?;
+    push_left(out, 5, word)?;
+    push_right_number(out, 5, cycles)?;
+    out.push_str(": ")?;
+    out.push_str(why)
+}
+
+fn push_path_lines(out: &mut String, path: &[u32]) -> Result<(), AllocError>
+    ensures { OnOk result (AddsText out.old (flat_map (λ number. codes " " ++ decimal number) path.now) out.new) }
+{
+    for number in path {
+        out.push_str(" ")?;
+        push_number(out, *number)?;
+    }
+    Ok(())
+}
+
+/// The lines of a path.
+#[tactic(auto, unfolding(crate::specs::Head::path_words))]
+fn path_words(alloc: Global, path: &[u32]) -> Result<String, AllocError>
+    ensures { IfOk result (λ text. string_bytes text ≡ path_words path.now) }
+{
+    let mut text = String::new(alloc);
+    text.push_str(if path.len() == 1 { "line" } else { "lines" })?;
+    push_path_lines(&mut text, path)?;
+    Ok(text)
+}
+
+/// How many lines a path has, and its ends.
+#[tactic(auto, unfolding(crate::specs::Head::path_ends))]
+fn path_ends(alloc: Global, path: &[u32]) -> Result<String, AllocError>
+    requires some { 0 < length path.now }
+    requires few { length path.now ≤ MOST_INSTRUCTIONS }
+    ensures { IfOk result (λ text. string_bytes text ≡ path_ends path.now) }
+{
+    let mut text = String::new(alloc);
+    push_number(&mut text, path.len() as u32)?;
+    text.push_str(" lines from ")?;
+    push_number(&mut text, path[0])?;
+    text.push_str(" to ")?;
+    push_number(&mut text, path[path.len() - 1])?;
+    text.push_str(", marked *")?;
+    Ok(text)
+}
+
+/// The line of the critical path: each of its lines, or where these are too many its ends.
+pub(crate) fn push_path(alloc: Global, out: &mut String, limits: &Limits) -> Result<(), AllocError>
+    requires { length limits.now.path.items ≤ MOST_INSTRUCTIONS }
+    ensures { OnOk result (AddsText out.old (path_line limits.now) out.new) }
+{
+    let cycles = u32::from(limits.path_length);
+    let mut whole = String::new(alloc);
+    push_fact(&mut whole, "path", cycles, path_words(alloc, &limits.path)?.as_str())?;
+    if whole.len() <= MOST_COLUMNS {
+        out.push_str(whole.as_str())?;
+    } else {
+        push_fact(out, "path", cycles, path_ends(alloc, &limits.path)?.as_str())?;
+    }
+    out.push_str("\n")
+}
+
+/// What instructions wait for.
+fn room_name(kind: Kind, side: Side) -> &'static str
+    ensures { result.now ≡ room_name kind side }
+{
+    match (kind, side) {
+        (Kind::L, Side::A) => ".L1",
+        (Kind::L, Side::B) => ".L2",
+        (Kind::S, Side::A) => ".S1",
+        (Kind::S, Side::B) => ".S2",
+        (Kind::M, Side::A) => ".M1",
+        (Kind::M, Side::B) => ".M2",
+        (Kind::D, Side::A) => ".D1",
+        (Kind::D, Side::B) => ".D2",
+        (Kind::Ls, Side::A) => ".L1 .S1",
+        (Kind::Ls, Side::B) => ".L2 .S2",
+        (Kind::Lsd, Side::A) => ".L1 .S1 .D1",
+        (Kind::Lsd, Side::B) => ".L2 .S2 .D2",
+        (Kind::Path, Side::A) => "T1",
+        (Kind::Path, Side::B) => "T2",
+    }
+}
+
+/// How many instructions wait for what, and what follows behind them.
+#[tactic(auto, unfolding(crate::specs::Head::need_words))]
+fn need_words(alloc: Global, need: Need) -> Result<String, AllocError>
+    ensures { IfOk result (λ text. string_bytes text ≡ need_words need) }
+{
+    let mut text = String::new(alloc);
+    push_number(&mut text, u32::from(need.count))?;
+    text.push_str(" on ")?;
+    text.push_str(room_name(need.kind, need.side))?;
+    text.push_str(", and ")?;
+    push_number(&mut text, u32::from(need.tail))?;
+    text.push_str(" behind the last")?;
+    Ok(text)
+}
+
+/// Whether a need has as many cycles as the path, and more instructions than find room in one cycle.
+fn is_told(need: Need, path_length: u16) -> bool
+    ensures { result ≡ is_told need path_length }
+{
+    u32::from(path_length) <= need.cycles() && need.kind.width() < need.count
+}
+
+/// The line of the greatest need, where it is told.
+pub(crate) fn push_units(alloc: Global, out: &mut String, limits: &Limits) -> Result<(), AllocError>
+    ensures { OnOk result (AddsText out.old (units_line limits.now.path_length limits.now.need) out.new) }
+{
+    match limits.need {
+        Some(need) if is_told(need, limits.path_length) => {
+            let why = need_words(alloc, need)?;
+            push_fact(out, "units", need.cycles(), why.as_str())?;
+            out.push_str("\n")
+        }
+        _ => Ok(()),
+    }
+}

@@ -1,0 +1,1 @@
+//! Laws of pictures. The functions do nothing: what each ensures is a law.

@@ -1,0 +1,110 @@
+//! The picture of a text's blocks.
+
+ghost use Rattle.std.specs.Prelude.{◌≡◌, ◌≤◌, OnOk, IfOk, length, string_bytes, All};
+ghost use Rattle.c62_listing.specs.Written.{AddsText};
+ghost use Rattle.c62_read.specs.declared.limits.TheConstants.{MOST_INSTRUCTIONS};
+ghost use Rattle.c62_show.specs.Picture.{block_rows, block_text, gap, picture, widths_of};
+ghost use Rattle.c62_show.specs.Widths.{widths_with};
+
+use crate::grid::Grid;
+use crate::head::{push_name, push_path, push_size, push_units};
+use crate::landing::landings_of;
+use crate::limits::Limits;
+use crate::widths::Widths;
+use c62_packet::{PacketBlock, Placed};
+use std::alloc::{AllocError, Global};
+
+/// A block that is shown: its packets, and how short they could be at best.
+#[derive(Drop)]
+pub struct Shown {
+    pub limits: Limits,
+    pub packets: PacketBlock,
+}
+
+/// Room for these instructions too.
+fn widths_with(widths: Widths, placed: &[Placed]) -> Widths
+    ensures { result ≡ widths_with widths placed.now }
+{
+    let mut widths = widths;
+    for each in placed {
+        widths = widths.with(each);
+    }
+    widths
+}
+
+/// Room for the instructions of all blocks.
+fn widths_of(shown: &[Shown]) -> Widths
+    ensures { result ≡ widths_of shown.now }
+{
+    let mut widths = Widths::least();
+    for each in shown {
+        widths = widths_with(widths, each.packets.placed());
+    }
+    widths
+}
+
+/// What is told of a block that has instructions, behind its name.
+#[tactic(auto, unfolding(crate::specs::Picture::block_rows))]
+fn push_rows(
+    alloc: Global,
+    out: &mut String,
+    widths: Widths,
+    shown: &Shown,
+) -> Result<(), AllocError>
+    ensures { OnOk result (AddsText out.old (block_rows widths shown.now) out.new) }
+{
+    let placed = shown.packets.placed();
+    let cycles = u32::from(shown.packets.length());
+    push_size(out, placed.len() as u32, cycles, shown.limits.least())?;
+    push_path(alloc, out, &shown.limits)?;
+    push_units(alloc, out, &shown.limits)?;
+    let landings = landings_of(alloc, placed)?;
+    let grid = Grid {
+        widths,
+        path: &shown.limits.path,
+        cycles,
+        placed,
+        landings: &landings,
+    };
+    grid.push(alloc, out)
+}
+
+/// A block.
+#[tactic(auto, unfolding(crate::specs::Picture::block_text))]
+fn push_block(
+    alloc: Global,
+    out: &mut String,
+    widths: Widths,
+    number: u32,
+    shown: &Shown,
+) -> Result<(), AllocError>
+    ensures { OnOk result (AddsText out.old (block_text widths number shown.now) out.new) }
+{
+    push_name(out, number, shown.packets.label())?;
+    if shown.packets.placed().is_empty() {
+        return out.push_str(": no instruction\n");
+    }
+    push_rows(alloc, out, widths, shown)
+}
+
+/// The picture of these blocks, in their order, with an empty line between two of them.
+///
+/// # Errors
+///
+/// Where memory ran out.
+pub fn picture(alloc: Global, shown: &[Shown]) -> Result<String, AllocError>
+    requires { length shown.now ≤ MOST_BLOCKS }
+    ensures { IfOk result (λ text. string_bytes text ≡ picture shown.now) }
+{
+    let widths = widths_of(shown);
+    let mut out = String::new(alloc);
+    let mut number = 0;
+    for each in shown {
+        if number > 0 {
+            out.push_str("\n")?;
+        }
+        push_block(alloc, &mut out, widths, number, each)?;
+        number += 1;
+    }
+    Ok(out)
+}
