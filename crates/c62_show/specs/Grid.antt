@@ -63,16 +63,16 @@ next_issue placed cycles cycle = cycle_or cycles (find (is_behind cycle) placed)
 unfoldable pub range_text : ℕ → ℕ → List ℕ
 range_text first last = decimal first ++ (if nat_lt first last then codes "-" ++ decimal last else [])
 
--- cycles in which nothing is issued: the first and the last, and what lands
+-- cycles in which nothing is issued, up to the next in which something is: the first and the last, and what lands
 unfoldable pub pause_row : Widths → List Placed → ℕ → ℕ → List ℕ
-pause_row widths placed first last =
-    right 5 (range_text first last) ++ spaces widths.line ++ codes "  idle" ++ landing_list (landed_between (landings_of placed) first last)
+pause_row widths placed first next =
+    right 5 (range_text first (next - 1)) ++ spaces widths.line ++ codes "  idle" ++ landing_list (landed_between (landings_of placed) first next)
 
 -- the row of a cycle in which something is issued, or of all cycles up to the next such one where this is the first of them
 unfoldable pub row_at : Widths → List ℕ → ℕ → List Placed → ℕ → List ℕ
 row_at widths path cycles placed cycle =
     if is_issued placed cycle then line (cycle_row widths path placed cycle)
-    else (if begins placed cycle then line (pause_row widths placed cycle (next_issue placed cycles cycle - 1))
+    else (if begins placed cycle then line (pause_row widths placed cycle (next_issue placed cycles cycle))
     else [])
 
 abbrev pub rows : Widths → List ℕ → ℕ → List Placed → List ℕ

@@ -1,5 +1,5 @@
 -- What stands above the rows of a block (docs/SHOW.md, "The head").
-use Rattle.std.specs.Prelude.{ℕ, ◌-◌, ◌==◌, nat_le, nat_lt, Bool, ◌&&◌, List, [], ◌++◌, length, slice_index, codes, decimal, Option, Some, None, if◌then◌else◌}
+use Rattle.std.specs.Prelude.{ℕ, ◌-◌, ◌==◌, nat_le, nat_lt, Bool, ◌&&◌, List, [], ◌++◌, length, slice_get, unwrap_or, codes, decimal, Option, Some, None, if◌then◌else◌}
 use Rattle.std.specs.List.{flat_map}
 use Rattle.c62_op.specs.declared.register.Side.{Side}
 use Rattle.c62_op.specs.declared.register.Letter.{Letter}
@@ -42,17 +42,25 @@ fact word cycles why = codes "   " ++ left 5 word ++ right 5 (decimal cycles) ++
 unfoldable pub path_words : List ℕ → List ℕ
 path_words path = (if length path == 1 then codes "line" else codes "lines") ++ flat_map (λ number. codes " " ++ decimal number) path
 
+-- a line of a path by its place, or 0 where there is none
+abbrev pub line_at : List ℕ → ℕ → ℕ
+line_at path place = unwrap_or (slice_get path place) 0
+
 -- `42 lines from 25 to 254, marked *`
 unfoldable pub path_ends : List ℕ → List ℕ
 path_ends path =
-    decimal (length path) ++ codes " lines from " ++ decimal (slice_index path 0) ++ codes " to " ++ decimal (slice_index path (length path - 1))
+    decimal (length path) ++ codes " lines from " ++ decimal (line_at path 0) ++ codes " to " ++ decimal (line_at path (length path - 1))
     ++ codes ", marked *"
 
 -- each line of the path, where they find room in 98 columns
-unfoldable pub path_line : Limits → List ℕ
-path_line limits =
-    let whole = fact (codes "path") limits.path_length (path_words limits.path.items) in
-    (if nat_le (length whole) 98 then whole else fact (codes "path") limits.path_length (path_ends limits.path.items)) ++ codes "\n"
+unfoldable pub path_fact : ℕ → List ℕ → List ℕ
+path_fact cycles path =
+    let whole = fact (codes "path") cycles (path_words path) in
+    if nat_le (length whole) 98 then whole
+    else fact (codes "path") cycles (path_ends path)
+
+abbrev pub path_line : Limits → List ℕ
+path_line limits = path_fact limits.path_length limits.path.items ++ codes "\n"
 
 -- the unit of this letter on a side
 abbrev pub unit_on : Letter → Side → List ℕ

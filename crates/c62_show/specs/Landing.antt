@@ -1,5 +1,5 @@
 -- What lands behind the cycle of its issue (docs/SHOW.md, "What lands"; SPRU189, "Delay Slots").
-use Rattle.std.specs.Prelude.{ℕ, ◌+◌, ◌-◌, ◌==◌, Bool, List, [], ◌∷◌, ◌++◌, filter, codes, decimal, if◌then◌else◌}
+use Rattle.std.specs.Prelude.{ℕ, ◌+◌, ◌-◌, ◌==◌, List, [], ◌∷◌, ◌++◌, codes, decimal, if◌then◌else◌}
 use Rattle.std.specs.List.{flat_map, range_with_len}
 use Rattle.c62_op.specs.declared.register.Reg.{Reg}
 use Rattle.c62_op.specs.Name.{register_name}
@@ -27,12 +27,13 @@ landings_by p = flat_map (delayed p.cycle) (register_writes p.insn) ++ (if is_br
 abbrev pub landings_of : List Placed → List Landing
 landings_of placed = flat_map landings_by placed
 
-abbrev pub lands_in : ℕ → Landing → Bool
-lands_in cycle landing = landing.cycle == cycle
+-- a landing, where it is in this cycle
+abbrev pub landed_at : ℕ → Landing → List Landing
+landed_at cycle landing = if landing.cycle == cycle then landing ∷ [] else []
 
--- those that land from one cycle to another, by cycle and in a cycle by issue
+-- those that land from one cycle on and before another, by cycle and in a cycle by issue
 abbrev pub landed_between : List Landing → ℕ → ℕ → List Landing
-landed_between landings first last = flat_map (λ cycle. filter (lands_in cycle) landings) (range_with_len first (last + 1 - first))
+landed_between landings first next = flat_map (λ cycle. flat_map (landed_at cycle) landings) (range_with_len first (next - first))
 
 -- `A5`, or `branch`
 abbrev pub landed_name : Landed → List ℕ
@@ -50,4 +51,4 @@ landing_list (first ∷ others) = codes ", landing: " ++ landing_words first ++ 
 
 -- what lands in the cycle of a row
 abbrev pub landed_in_row : ℕ → Landing → List ℕ
-landed_in_row cycle landing = if lands_in cycle landing then codes " " ++ landed_name landing.what else []
+landed_in_row cycle landing = if landing.cycle == cycle then codes " " ++ landed_name landing.what else []

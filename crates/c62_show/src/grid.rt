@@ -55,7 +55,7 @@ fn push_insn(
     ensures { OnOk result (AddsText row.old (insn_cell widths path.now placed.now) row.new) }
 {
     row.push_str(" ")?;
-    push_right_number(row, widths.line, placed.line)?;
+    push_right_number(row, widths.line, u64::from(placed.line))?;
     row.push_str(mark(path, placed.line))?;
     push_left(row, widths.word, placed.insn.op().mnemonic())
 }
@@ -64,10 +64,8 @@ fn push_insn(
 fn standing(placed: &[Placed], cycle: u32, unit: Unit) -> Option<Placed>
     ensures { result ≡ find (stands_at cycle unit) placed.now }
 {
-    placed
-        .iter()
-        .copied()
-        .find(|each| u32::from(each.cycle) == cycle && each.unit.index() == unit.index())
+    placed.iter().copied().find(|each| u32::from(each.cycle) == cycle
+        && each.unit.index() == unit.index())
 }
 
 /// What is issued in a cycle on a unit, or a point.
@@ -126,10 +124,10 @@ fn range_text(alloc: Global, first: u32, last: u32) -> Result<String, AllocError
     ensures { IfOk result (λ text. string_bytes text ≡ range_text first last) }
 {
     let mut text = String::new(alloc);
-    push_number(&mut text, first)?;
+    push_number(&mut text, u64::from(first))?;
     if first < last {
         text.push_str("-")?;
-        push_number(&mut text, last)?;
+        push_number(&mut text, u64::from(last))?;
     }
     Ok(text)
 }
@@ -157,7 +155,7 @@ fn share(alloc: Global, count: usize, cycles: u32) -> Result<String, AllocError>
         text.push_str("-")?;
         return Ok(text);
     }
-    push_number(&mut text, 100 * count as u32 / cycles)?;
+    push_number(&mut text, 100 * count as u64 / u64::from(cycles))?;
     text.push_str("%")?;
     Ok(text)
 }
@@ -214,26 +212,26 @@ impl Grid<'_> {
         requires { self.now.landings.now ≡ landings_of self.now.placed.now }
         ensures { OnOk result (AddsText row.old (cycle_row self.now.widths self.now.path.now self.now.placed.now cycle) row.new) }
     {
-        push_right_number(row, CYCLE_WIDTH, cycle)?;
+        push_right_number(row, CYCLE_WIDTH, u64::from(cycle))?;
         self.push_cells(row, cycle)?;
         push_all_landed(row, self.landings, cycle)
     }
 
-    /// The row of the cycles from the first to the last, in which nothing is issued.
+    /// The row of the cycles from the first to the one before the next, in which nothing is issued.
     #[tactic(auto, unfolding(crate::specs::Grid::pause_row))]
     fn push_pause(
         &self,
         alloc: Global,
         row: &mut String,
         first: u32,
-        last: u32,
+        next: u32,
     ) -> Result<(), AllocError>
         requires landings { self.now.landings.now ≡ landings_of self.now.placed.now }
-        requires some { first ≤ last }
-        ensures { OnOk result (AddsText row.old (pause_row self.now.widths self.now.placed.now first last) row.new) }
+        requires some { first < next }
+        ensures { OnOk result (AddsText row.old (pause_row self.now.widths self.now.placed.now first next) row.new) }
     {
-        let cycles = range_text(alloc, first, last)?;
-        let found = landed_between(alloc, self.landings, first, last)?;
+        let cycles = range_text(alloc, first, next - 1)?;
+        let found = landed_between(alloc, self.landings, first, next)?;
         push_right(row, CYCLE_WIDTH, cycles.as_str())?;
         push_spaces(row, self.widths.line)?;
         row.push_str("  idle")?;
@@ -254,7 +252,7 @@ impl Grid<'_> {
         }
         if begins(self.placed, cycle) {
             let next = next_issue(self.placed, self.cycles, cycle);
-            self.push_pause(alloc, &mut row, cycle, next - 1)?;
+            self.push_pause(alloc, &mut row, cycle, next)?;
             return push_line(out, row.as_str());
         }
         Ok(())

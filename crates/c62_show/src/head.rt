@@ -1,10 +1,10 @@
 //! What stands above the rows of a block: its head, its critical path, and its greatest need.
 
-ghost use Rattle.std.specs.Prelude.{◌≡◌, ◌++◌, ◌-◌, ◌<◌, ◌≤◌, OnOk, IfOk, length, codes, decimal, string_bytes, IsTrue};
+ghost use Rattle.std.specs.Prelude.{◌≡◌, ◌++◌, OnOk, IfOk, codes, decimal, string_bytes};
 ghost use Rattle.std.specs.List.{flat_map};
 ghost use Rattle.std.specs.Option.{option_copied};
 ghost use Rattle.c62_listing.specs.Written.{AddsText};
-ghost use Rattle.c62_show.specs.Head.{name, verdict, size, fact, path_words, path_ends, path_line, room_name, need_words, is_told, units_line};
+ghost use Rattle.c62_show.specs.Head.{name, verdict, size, fact, path_words, line_at, path_ends, path_fact, path_line, room_name, need_words, is_told, units_line};
 
 use crate::limits::Limits;
 use crate::words::{push_counted, push_left, push_number, push_right_number};
@@ -20,7 +20,7 @@ const MOST_COLUMNS: usize = 98;
 /// The label of a block, or its number.
 pub(crate) fn push_name(
     out: &mut String,
-    number: u32,
+    number: u64,
     label: Option<&Label>,
 ) -> Result<(), AllocError>
     ensures { OnOk result (AddsText out.old (name number (option_copied label.entry)) out.new) }
@@ -35,7 +35,7 @@ pub(crate) fn push_name(
 }
 
 /// By how much a block is longer than the bound.
-fn push_verdict(out: &mut String, cycles: u32, least: u32) -> Result<(), AllocError>
+fn push_verdict(out: &mut String, cycles: u64, least: u64) -> Result<(), AllocError>
     ensures { OnOk result (AddsText out.old (verdict cycles least) out.new) }
 {
     if cycles == least {
@@ -50,9 +50,9 @@ fn push_verdict(out: &mut String, cycles: u32, least: u32) -> Result<(), AllocEr
 #[tactic(auto, unfolding(crate::specs::Head::size))]
 pub(crate) fn push_size(
     out: &mut String,
-    count: u32,
-    cycles: u32,
-    least: u32,
+    count: u64,
+    cycles: u64,
+    least: u64,
 ) -> Result<(), AllocError>
     ensures { OnOk result (AddsText out.old (size count cycles least) out.new) }
 {
@@ -67,7 +67,7 @@ pub(crate) fn push_size(
 
 /// A line that says why a schedule takes so many cycles at least.
 #[tactic(auto, unfolding(crate::specs::Head::fact))]
-fn push_fact(out: &mut String, word: &str, cycles: u32, why: &str) -> Result<(), AllocError>
+fn push_fact(out: &mut String, word: &str, cycles: u64, why: &str) -> Result<(), AllocError>
     ensures { OnOk result (AddsText out.old (fact word.now cycles why.now) out.new) }
 {
     out.push_str("   ")?;
@@ -82,7 +82,7 @@ fn push_path_lines(out: &mut String, path: &[u32]) -> Result<(), AllocError>
 {
     for number in path {
         out.push_str(" ")?;
-        push_number(out, *number)?;
+        push_number(out, u64::from(*number))?;
     }
     Ok(())
 }
@@ -98,36 +98,60 @@ fn path_words(alloc: Global, path: &[u32]) -> Result<String, AllocError>
     Ok(text)
 }
 
+/// A line of a path by its place, or 0 where there is none.
+fn line_at(path: &[u32], place: usize) -> u64
+    ensures { result ≡ line_at path.now place }
+{
+    match path.get(place) {
+        Some(line) => u64::from(*line),
+        None => 0,
+    }
+}
+
 /// How many lines a path has, and its ends.
 #[tactic(auto, unfolding(crate::specs::Head::path_ends))]
 fn path_ends(alloc: Global, path: &[u32]) -> Result<String, AllocError>
-    requires some { 0 < length path.now }
-    requires few { length path.now ≤ MOST_INSTRUCTIONS }
     ensures { IfOk result (λ text. string_bytes text ≡ path_ends path.now) }
 {
     let mut text = String::new(alloc);
-    push_number(&mut text, path.len() as u32)?;
+    push_number(&mut text, path.len() as u64)?;
     text.push_str(" lines from ")?;
-    push_number(&mut text, path[0])?;
+    push_number(&mut text, line_at(path, 0))?;
     text.push_str(" to ")?;
-    push_number(&mut text, path[path.len() - 1])?;
+    push_number(&mut text, line_at(path, path.len().saturating_sub(1)))?;
     text.push_str(", marked *")?;
     Ok(text)
 }
 
-/// The line of the critical path: each of its lines, or where these are too many its ends.
+/// A line that says why a schedule takes so many cycles at least.
+fn fact(alloc: Global, word: &str, cycles: u64, why: &str) -> Result<String, AllocError>
+    ensures { IfOk result (λ text. string_bytes text ≡ fact word.now cycles why.now) }
+{
+    let mut text = String::new(alloc);
+    push_fact(&mut text, word, cycles, why)?;
+    Ok(text)
+}
+
+/// Of the critical path each of its lines, or where these are too many its ends.
+#[tactic(auto, unfolding(crate::specs::Head::path_fact))]
+fn path_fact(alloc: Global, cycles: u64, path: &[u32]) -> Result<String, AllocError>
+    ensures { IfOk result (λ text. string_bytes text ≡ path_fact cycles path.now) }
+{
+    let words = path_words(alloc, path)?;
+    let whole = fact(alloc, "path", cycles, words.as_str())?;
+    if whole.len() <= MOST_COLUMNS {
+        return Ok(whole);
+    }
+    let ends = path_ends(alloc, path)?;
+    fact(alloc, "path", cycles, ends.as_str())
+}
+
+/// The line of the critical path.
 pub(crate) fn push_path(alloc: Global, out: &mut String, limits: &Limits) -> Result<(), AllocError>
-    requires { length limits.now.path.items ≤ MOST_INSTRUCTIONS }
     ensures { OnOk result (AddsText out.old (path_line limits.now) out.new) }
 {
-    let cycles = u32::from(limits.path_length);
-    let mut whole = String::new(alloc);
-    push_fact(&mut whole, "path", cycles, path_words(alloc, &limits.path)?.as_str())?;
-    if whole.len() <= MOST_COLUMNS {
-        out.push_str(whole.as_str())?;
-    } else {
-        push_fact(out, "path", cycles, path_ends(alloc, &limits.path)?.as_str())?;
-    }
+    let text = path_fact(alloc, u64::from(limits.path_length), &limits.path)?;
+    out.push_str(text.as_str())?;
     out.push_str("\n")
 }
 
@@ -159,11 +183,11 @@ fn need_words(alloc: Global, need: Need) -> Result<String, AllocError>
     ensures { IfOk result (λ text. string_bytes text ≡ need_words need) }
 {
     let mut text = String::new(alloc);
-    push_number(&mut text, u32::from(need.count))?;
+    push_number(&mut text, u64::from(need.count))?;
     text.push_str(" on ")?;
     text.push_str(room_name(need.kind, need.side))?;
     text.push_str(", and ")?;
-    push_number(&mut text, u32::from(need.tail))?;
+    push_number(&mut text, u64::from(need.tail))?;
     text.push_str(" behind the last")?;
     Ok(text)
 }
@@ -182,7 +206,7 @@ pub(crate) fn push_units(alloc: Global, out: &mut String, limits: &Limits) -> Re
     match limits.need {
         Some(need) if is_told(need, limits.path_length) => {
             let why = need_words(alloc, need)?;
-            push_fact(out, "units", need.cycles(), why.as_str())?;
+            push_fact(out, "units", u64::from(need.cycles()), why.as_str())?;
             out.push_str("\n")
         }
         _ => Ok(()),

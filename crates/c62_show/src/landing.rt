@@ -1,10 +1,10 @@
 //! What lands behind the cycle of its issue.
 
-ghost use Rattle.std.specs.Prelude.{◌≡◌, ◌++◌, ◌+◌, ◌-◌, ◌≤◌, IfOk, OnOk, length, codes, decimal, filter};
-ghost use Rattle.std.specs.List.{flat_map, range_with_len};
+ghost use Rattle.std.specs.Prelude.{◌≡◌, ◌++◌, ◌≤◌, IfOk, OnOk, codes};
+ghost use Rattle.std.specs.List.{flat_map};
 ghost use Rattle.c62_insn.specs.Insn.{register_writes};
 ghost use Rattle.c62_listing.specs.Written.{AddsText};
-ghost use Rattle.c62_show.specs.Landing.{lands_in, delayed, landings_by, landings_of, landed_between, landed_name, landing_words, landing_list, landed_in_row};
+ghost use Rattle.c62_show.specs.Landing.{delayed, landed_at, landings_by, landings_of, landed_between, landed_name, landing_words, landing_list, landed_in_row};
 
 use crate::words::{push_number, push_register};
 use c62_insn::Reg;
@@ -86,34 +86,39 @@ pub(crate) fn landings_of(alloc: Global, placed: &[Placed]) -> Result<Vec<Landin
     Ok(landings)
 }
 
+/// Adds a landing, where it is in this cycle.
+fn push_landed_at(found: &mut Vec<Landing>, landing: Landing, cycle: u32) -> Result<(), AllocError>
+    ensures { OnOk result (found.new.items ≡ found.old.items ++ landed_at cycle landing) }
+{
+    if landing.cycle != cycle {
+        return Ok(());
+    }
+    found.push(landing)?;
+    Ok(())
+}
+
 /// Adds those that land in this cycle.
-fn push_landed(
-    found: &mut Vec<Landing>,
-    landings: &[Landing],
-    cycle: u32,
-) -> Result<(), AllocError>
-    ensures { OnOk result (found.new.items ≡ found.old.items ++ filter (lands_in cycle) landings.now) }
+fn push_landed(found: &mut Vec<Landing>, landings: &[Landing], cycle: u32) -> Result<(), AllocError>
+    ensures { OnOk result (found.new.items ≡ found.old.items ++ flat_map (landed_at cycle) landings.now) }
 {
     for landing in landings {
-        if landing.cycle == cycle {
-            found.push(*landing)?;
-        }
+        push_landed_at(found, *landing, cycle)?;
     }
     Ok(())
 }
 
-/// Those that land in a cycle from the first to the last, by cycle.
+/// Those that land from the first cycle on and before the next, by cycle.
 pub(crate) fn landed_between(
     alloc: Global,
     landings: &[Landing],
     first: u32,
-    last: u32,
+    next: u32,
 ) -> Result<Vec<Landing>, AllocError>
-    requires { first ≤ last }
-    ensures { IfOk result (λ found. found.items ≡ landed_between landings.now first last) }
+    requires { first ≤ next }
+    ensures { IfOk result (λ found. found.items ≡ landed_between landings.now first next) }
 {
     let mut found = Vec::new(alloc);
-    for cycle in first..=last {
+    for cycle in first..next {
         push_landed(&mut found, landings, cycle)?;
     }
     Ok(found)
@@ -135,7 +140,7 @@ fn push_landing(out: &mut String, landing: &Landing) -> Result<(), AllocError>
 {
     push_landed_name(out, landing.what)?;
     out.push_str(" in ")?;
-    push_number(out, landing.cycle)
+    push_number(out, u64::from(landing.cycle))
 }
 
 /// What lands in cycles in which nothing is issued.

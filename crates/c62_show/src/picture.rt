@@ -1,8 +1,7 @@
 //! The picture of a text's blocks.
 
-ghost use Rattle.std.specs.Prelude.{◌≡◌, ◌≤◌, OnOk, IfOk, length, string_bytes, All};
+ghost use Rattle.std.specs.Prelude.{◌≡◌, OnOk, IfOk, string_bytes};
 ghost use Rattle.c62_listing.specs.Written.{AddsText};
-ghost use Rattle.c62_read.specs.declared.limits.TheConstants.{MOST_INSTRUCTIONS};
 ghost use Rattle.c62_show.specs.Picture.{block_rows, block_text, gap, picture, widths_of};
 ghost use Rattle.c62_show.specs.Widths.{widths_with};
 
@@ -55,7 +54,12 @@ fn push_rows(
 {
     let placed = shown.packets.placed();
     let cycles = u32::from(shown.packets.length());
-    push_size(out, placed.len() as u32, cycles, shown.limits.least())?;
+    push_size(
+        out,
+        placed.len() as u64,
+        u64::from(cycles),
+        u64::from(shown.limits.least()),
+    )?;
     push_path(alloc, out, &shown.limits)?;
     push_units(alloc, out, &shown.limits)?;
     let landings = landings_of(alloc, placed)?;
@@ -75,7 +79,7 @@ fn push_block(
     alloc: Global,
     out: &mut String,
     widths: Widths,
-    number: u32,
+    number: u64,
     shown: &Shown,
 ) -> Result<(), AllocError>
     ensures { OnOk result (AddsText out.old (block_text widths number shown.now) out.new) }
@@ -87,22 +91,30 @@ fn push_block(
     push_rows(alloc, out, widths, shown)
 }
 
+/// The empty line before each block but the first.
+fn push_gap(out: &mut String, number: u64) -> Result<(), AllocError>
+    ensures { OnOk result (AddsText out.old (gap number) out.new) }
+{
+    if number == 0 {
+        Ok(())
+    } else {
+        out.push_str("\n")
+    }
+}
+
 /// The picture of these blocks, in their order, with an empty line between two of them.
 ///
 /// # Errors
 ///
 /// Where memory ran out.
 pub fn picture(alloc: Global, shown: &[Shown]) -> Result<String, AllocError>
-    requires { length shown.now ≤ MOST_BLOCKS }
     ensures { IfOk result (λ text. string_bytes text ≡ picture shown.now) }
 {
     let widths = widths_of(shown);
     let mut out = String::new(alloc);
     let mut number = 0;
     for each in shown {
-        if number > 0 {
-            out.push_str("\n")?;
-        }
+        push_gap(&mut out, number)?;
         push_block(alloc, &mut out, widths, number, each)?;
         number += 1;
     }

@@ -9,7 +9,7 @@ use c62_insn::{Letter, Reg, Side, Unit};
 use itoa::Buffer;
 use std::alloc::AllocError;
 
-pub(crate) fn push_number(out: &mut String, number: u32) -> Result<(), AllocError>
+pub(crate) fn push_number(out: &mut String, number: u64) -> Result<(), AllocError>
     ensures { OnOk result (AddsText out.old (decimal number) out.new) }
 {
     let mut buffer = Buffer::new();
@@ -47,7 +47,7 @@ pub(crate) fn push_right(out: &mut String, width: usize, word: &str) -> Result<(
 pub(crate) fn push_right_number(
     out: &mut String,
     width: usize,
-    number: u32,
+    number: u64,
 ) -> Result<(), AllocError>
     ensures { OnOk result (AddsText out.old (right width (decimal number)) out.new) }
 {
@@ -57,7 +57,7 @@ pub(crate) fn push_right_number(
 
 /// How many there are of something, as `1 cycle` or `2 cycles`.
 #[tactic(auto, unfolding(crate::specs::Words::counted))]
-pub(crate) fn push_counted(out: &mut String, count: u32, one: &str) -> Result<(), AllocError>
+pub(crate) fn push_counted(out: &mut String, count: u64, one: &str) -> Result<(), AllocError>
     ensures { OnOk result (AddsText out.old (counted count one.now) out.new) }
 {
     push_number(out, count)?;
@@ -92,7 +92,7 @@ pub(crate) fn push_register(out: &mut String, reg: Reg) -> Result<(), AllocError
     ensures { OnOk result (AddsText out.old (register_name reg) out.new) }
 {
     out.push_str(file_letter(reg.side))?;
-    push_number(out, u32::from(reg.number))
+    push_number(out, u64::from(reg.number))
 }
 
 pub(crate) fn unit_name(unit: Unit) -> &'static str

@@ -1,9 +1,8 @@
 //! What answers a text.
 
-ghost use Rattle.std.specs.Prelude.{◌≡◌, ◌≤◌, true, false, length, IfOk, IsTrue};
+ghost use Rattle.std.specs.Prelude.{◌≡◌, ◌≤◌, true, false, IfOk, IsTrue};
 ghost use Rattle.c62_listing.specs.Listing.{listing};
 ghost use Rattle.c62_packet.specs.Packets.{is_closed};
-ghost use Rattle.c62_read.specs.declared.limits.TheConstants.{MOST_BLOCKS};
 ghost use Rattle.c62_show.specs.Picture.{picture};
 ghost use Rattle.c62_command.specs.CommandLine.{Listing, Picture, SerialReport, PacketReport, ListingReport, ask_of};
 ghost use Rattle.c62_tool.specs.Run.{Gives, GivesProgram, GivesPackets, limit_of};
@@ -54,7 +53,6 @@ fn listing_of(alloc: Global, packets: &Packets) -> Result<Vec<u8>, AllocError>
 }
 
 fn picture_of(alloc: Global, shown: &[Shown]) -> Result<Vec<u8>, AllocError>
-    requires { length shown.now ≤ MOST_BLOCKS }
     ensures { IfOk result (λ text. text.items ≡ picture shown.now) }
 {
     Ok(picture(alloc, shown)?.into_bytes())

@@ -1,6 +1,6 @@
 //! Packs the blocks of a program.
 
-ghost use Rattle.std.specs.Prelude.{◌≡◌, ◌<◌, ◌≤◌, true, false, length, IfOk, IsTrue, OnOk};
+ghost use Rattle.std.specs.Prelude.{◌≡◌, ◌<◌, true, false, length, IfOk, IsTrue, OnOk};
 ghost use Rattle.c62_sheet.specs.Least.{IsComplete};
 ghost use Rattle.c62_depend.specs.Plan.{insns_of};
 ghost use Rattle.c62_board.specs.State.{IsSound};
@@ -144,8 +144,7 @@ pub fn shown_by_turns(
     packing: Packing,
 ) -> Result<Vec<Shown>, AllocError>
     requires { packing.turns ≡ true }
-    ensures shown { IfOk result (λ shown. AreShown packing program shown.items) }
-    ensures few { IfOk result (λ shown. length shown.items ≤ MOST_BLOCKS) }
+    ensures { IfOk result (λ shown. AreShown packing program shown.items) }
 {
     let mut shown = Vec::new(alloc);
     for block in program.into_blocks() {
@@ -162,8 +161,7 @@ pub fn shown_by_workers<H: AllocGlobal + Threads + Wait + Sync>(
     packing: Packing,
 ) -> Result<Vec<Shown>, AllocError>
     requires { packing.turns ≡ false }
-    ensures shown { IfOk result (λ shown. AreShown packing program shown.items) }
-    ensures few { IfOk result (λ shown. length shown.items ≤ MOST_BLOCKS) }
+    ensures { IfOk result (λ shown. AreShown packing program shown.items) }
 {
     let mut shown = Vec::new(rt.alloc());
     for block in program.into_blocks() {
