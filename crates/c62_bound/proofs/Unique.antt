@@ -9,6 +9,7 @@ use Rattle.c62_bound.specs.declared.need.Kind.{Kind}
 use Rattle.c62_bound.specs.declared.need.Kind.TheVariants.{L as OnL, S as OnS, M as OnM, D as OnD, Ls, Lsd, Path}
 use Rattle.c62_bound.specs.declared.need.Need.{Need}
 use Rattle.c62_bound.specs.Bound.{cycles_of, width, kind_index, place, ComesFirst, IsGreatestNeed}
+use Rattle.c62_bound.proofs.Counting.{same_parts}
 use Rattle.c62_bound.specs.Length.{IsNeeded, IsLeastLength}
 use Rattle.c62_bound.specs.Laws.{HasOneGreatest, HasOneLeastLength, NothingTakesNoCycle}
 
@@ -38,7 +39,7 @@ one_greatest block a b p q =
     let same = same_place a b (p.first b q.is) (q.first a p.is) in
     let room = same_room a.kind b.kind a.side b.side same.2 in
     let tail = same_tail a b same.0 same.1 room.0 in
-    cc (room.0, room.1, same.1, tail)
+    same_parts a b room.0 room.1 same.1 tail
 
 not_above : (block : List Insn) (a b : ℕ) → IsLeastLength block a → IsLeastLength block b → a ≤ b
 not_above block a b p q = elim (cases_lt 0 a) [
