@@ -6,7 +6,7 @@ use Rattle.c62_insn.specs.Insn.{register_writes}
 use Rattle.c62_depend.specs.Plan.{insns_of}
 use Rattle.c62_depend.specs.Reason.{IsRead, IsSpared, IsOverwritten}
 use Rattle.c62_depend.proofs.Reasons.{HasWrite, none_read, none_spared, none_both, asks_read, asks_spared, both_write, read_reason, overwritten_reason, written_reason, order_reason}
-use Rattle.c62_depend.proofs.reason.Plan.reason.Goals as goal
+use Rattle.c62_depend.proofs.plan.Plan.reason.Goals as goal
 
 pub insn-first-requires : goal.insn-first-requires
 insn-first-requires c =
