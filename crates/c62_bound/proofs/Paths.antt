@@ -17,7 +17,7 @@ use Rattle.c62_sheet.specs.Lawful.{Spots, IsAt, spot_at, IsLawful}
 use Rattle.c62_sheet.specs.Least.{IsComplete}
 use Rattle.c62_sheet.specs.Counts.{set_length}
 use Rattle.c62_sheet.proofs.Used.{insn_at}
-use Rattle.c62_bound.proofs.Issued.{delay_ends}
+use Rattle.c62_sheet.proofs.Landings.{delay_ends}
 
 -- the spot of a placed number
 pub spot_of : (o : Option Spot) → IsSome o → (s : Spot) × (o ≡ Some s)

@@ -1,4 +1,4 @@
--- All that is placed has landed, each instruction by its own delay, when the length ends.
+-- All that is lawfully placed has landed when its length ends, each instruction by its own delay.
 use Rattle.std.proofs.Common.{arith, ◌≡◌, ℕ, zero, suc, ◌+◌, ◌<◌, ◌≤◌, List, [], ◌∷◌, ◌++◌, length, Option, Some, None, refl, sym, ap, ◌∙◌, inl, inr, Bool, true, false, cond}
 use Rattle.std.specs.Prelude.{slice_get, find, IsTrue, pos, ◌-ℤ◌}
 use Rattle.std.specs.Option.{option_map_or}
@@ -72,12 +72,12 @@ written_last op (Block number) u h e = absurd (cc (to_branch op number u h, e))
 written_last op (Register target) u h e = absurd (cc (to_register op target u h, e))
 
 -- what is no branch writes with its delay, or has none
-pub lands_with_delay : (insn : Insn) → is_branch (op_of insn) ≡ false → delay_of (op_of insn) ≤ greatest_delay (register_writes insn)
+lands_with_delay : (insn : Insn) → is_branch (op_of insn) ≡ false → delay_of (op_of insn) ≤ greatest_delay (register_writes insn)
 lands_with_delay insn e = let found = has_unit insn in written_last (op_of insn) (operands_of insn) found.0 found.1 e
 
 -- ---- what is issued
 
-abbrev branches : Issue → Bool
+abbrev pub branches : Issue → Bool
 branches p = is_branch (op_of p.insn)
 
 lands_last : (issues : Issues) (k : ℕ) (p : Issue) → IsIssued issues k p → landing_end p ≤ last_landing_end (issued issues)
@@ -89,15 +89,15 @@ lands_last (Some q ∷ issues) zero p is =
 lands_last (Some q ∷ issues) (suc k) p is = let later = lands_last issues k p is in omega (arith, later)
 
 -- a branch that is issued under some number
-record IsBranchAt (issues : Issues) (b : Issue) : Type 0 where
-  number : ℕ
-  at : IsIssued issues number b
-  branching : IsTrue (branches b)
+pub record IsBranchAt (issues : Issues) (b : Issue) : Type 0 where
+  pub number : ℕ
+  pub at : IsIssued issues number b
+  pub branching : IsTrue (branches b)
 
 later_branch : (first : Option Issue) (issues : Issues) (b : Issue) → IsBranchAt issues b → IsBranchAt (first ∷ issues) b
 later_branch first issues b w = record { number = suc w.number; at = w.at; branching = w.branching }
 
-found_branch : (issues : Issues) (b : Issue) → find branches (issued issues) ≡ Some b → IsBranchAt issues b
+pub found_branch : (issues : Issues) (b : Issue) → find branches (issued issues) ≡ Some b → IsBranchAt issues b
 found_branch [] b found = absurd (none-some b found)
 found_branch (None ∷ issues) b found = later_branch None issues b (found_branch issues b found)
 found_branch (Some q ∷ issues) b found = go (λ rest. found_branch issues b rest) (branches q) refl
