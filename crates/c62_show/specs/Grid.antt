@@ -91,9 +91,15 @@ is_on unit p = index_of p.unit == index_of unit
 unfoldable pub share : ℕ → ℕ → List ℕ
 share count cycles = if count == 0 then codes "-" else decimal (100 * count / cycles) ++ codes "%"
 
--- in how many of 100 cycles each unit is used
+-- in how many of 100 cycles a unit is used, and each unit
+abbrev pub use_cell : Widths → ℕ → List Placed → FunctionalUnit → List ℕ
+use_cell widths cycles placed unit = word_cell widths (share (count_by (is_on unit) placed) cycles)
+
+abbrev pub use_cells : Widths → ℕ → List Placed → List ℕ
+use_cells widths cycles placed = flat_map (use_cell widths cycles placed) all_units
+
 abbrev pub use_row : Widths → ℕ → List Placed → List ℕ
-use_row widths cycles placed = right 5 (codes "use") ++ flat_map (λ unit. word_cell widths (share (count_by (is_on unit) placed) cycles)) all_units
+use_row widths cycles placed = right 5 (codes "use") ++ use_cells widths cycles placed
 
 -- all rows of a block
 unfoldable pub grid : Widths → List ℕ → ℕ → List Placed → List ℕ

@@ -5,3 +5,4 @@ pub mod Landing
 pub mod Head
 pub mod Grid
 pub mod Picture
+pub mod Laws

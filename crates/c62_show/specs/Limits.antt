@@ -12,7 +12,7 @@ abbrev pub line_in : Option SerialInsn → ℕ
 line_in None = 0
 line_in (Some entry) = entry.line
 
--- the line of an instruction of a block
+-- the line of an instruction of a block, or 0 where there is none of this number
 abbrev pub line_of : List SerialInsn → ℕ → ℕ
 line_of insns number = line_in (slice_get insns number)
 

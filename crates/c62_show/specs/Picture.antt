@@ -3,7 +3,7 @@ use Rattle.std.specs.Prelude.{ℕ, ◌+◌, ◌==◌, List, [], ◌∷◌, ◌++
 use Rattle.c62_packet.specs.declared.placed.Placed.{Placed}
 use Rattle.c62_packet.specs.Packed.{Packed}
 use Rattle.c62_show.specs.declared.limits.Limits.{Limits}
-use Rattle.c62_show.specs.declared.picture.Shown.{Shown}
+use Rattle.c62_show.specs.declared.shown.Shown.{Shown}
 use Rattle.c62_show.specs.declared.widths.Widths.{Widths}
 use Rattle.c62_show.specs.Limits.{least_of}
 use Rattle.c62_show.specs.Widths.{least_widths, widths_with}

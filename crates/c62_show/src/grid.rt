@@ -193,7 +193,7 @@ pub(crate) struct Grid<'a> {
 }
 
 impl Grid<'_> {
-    ghost use Rattle.c62_show.specs.Grid.{cells, cycle_row, pause_row, row_at, rows, use_row, grid};
+    ghost use Rattle.c62_show.specs.Grid.{cells, cycle_row, pause_row, row_at, rows, use_cell, use_cells, use_row, grid};
 
     /// What is issued in a cycle, unit by unit.
     fn push_cells(&self, row: &mut String, cycle: u32) -> Result<(), AllocError>
@@ -268,6 +268,28 @@ impl Grid<'_> {
         Ok(())
     }
 
+    /// How much a unit is used.
+    fn push_share(&self, alloc: Global, row: &mut String, unit: Unit) -> Result<(), AllocError>
+        requires few { length self.now.placed.now ≤ MOST_INSTRUCTIONS }
+        requires some { 0 < self.now.cycles }
+        ensures { OnOk result (AddsText row.old (use_cell self.now.widths self.now.cycles self.now.placed.now unit) row.new) }
+    {
+        let share = share(alloc, count_on(self.placed, unit), self.cycles)?;
+        push_word(row, self.widths, share.as_str())
+    }
+
+    /// How much each unit is used.
+    fn push_shares(&self, alloc: Global, row: &mut String) -> Result<(), AllocError>
+        requires few { length self.now.placed.now ≤ MOST_INSTRUCTIONS }
+        requires some { 0 < self.now.cycles }
+        ensures { OnOk result (AddsText row.old (use_cells self.now.widths self.now.cycles self.now.placed.now) row.new) }
+    {
+        for unit in Unit::ALL {
+            self.push_share(alloc, row, unit)?;
+        }
+        Ok(())
+    }
+
     /// The row of how much each unit is used.
     fn push_use(&self, alloc: Global, row: &mut String) -> Result<(), AllocError>
         requires few { length self.now.placed.now ≤ MOST_INSTRUCTIONS }
@@ -275,11 +297,7 @@ impl Grid<'_> {
         ensures { OnOk result (AddsText row.old (use_row self.now.widths self.now.cycles self.now.placed.now) row.new) }
     {
         push_right(row, CYCLE_WIDTH, "use")?;
-        for unit in Unit::ALL {
-            let share = share(alloc, count_on(self.placed, unit), self.cycles)?;
-            push_word(row, self.widths, share.as_str())?;
-        }
-        Ok(())
+        self.push_shares(alloc, row)
     }
 
     /// Appends all rows of the block.

@@ -6,12 +6,12 @@ mod head;
 mod landing;
 pub mod laws;
 mod limits;
-mod picture;
+mod shown;
 mod widths;
 mod words;
 
 pub use limits::{Limits, limits_of};
-pub use picture::{Shown, picture};
+pub use shown::{Shown, picture};
 
 #[cfg(test)]
 mod tests;

@@ -1,8 +1,6 @@
 //! How short a schedule of a block can be at best, and why.
 
-ghost use Rattle.std.specs.Prelude.{◌≡◌, ◌<◌, ◌≤◌, All, IfOk, length, map};
-ghost use Rattle.c62_depend.specs.Plan.{insns_of};
-ghost use Rattle.c62_bound.specs.Path.{IsCriticalPath};
+ghost use Rattle.std.specs.Prelude.{◌≡◌, IfOk, map};
 ghost use Rattle.c62_show.specs.Limits.{line_of, AreLimits};
 
 use c62_bound::{Need, bound, critical_path, path_length};
@@ -35,17 +33,18 @@ impl Limits {
     }
 }
 
-/// The line of an instruction of a plan.
+/// The line of an instruction of a plan, or 0 where there is none of this number.
 fn line_of(plan: &Plan, number: u16) -> u32
-    requires { number < length plan.now.insns }
     ensures { result ≡ line_of plan.now.insns number }
 {
-    plan.block().insns()[usize::from(number)].line
+    match plan.block().insns().get(usize::from(number)) {
+        Some(entry) => entry.line,
+        None => 0,
+    }
 }
 
 /// The lines of a critical path.
 fn path_lines(alloc: Global, plan: &Plan, path: &[u16]) -> Result<Vec<u32>, AllocError>
-    requires { All (λ number. number < length plan.now.insns) path.now }
     ensures { IfOk result (λ lines. lines.items ≡ map (line_of plan.now.insns) path.now) }
 {
     let mut lines = Vec::with_capacity(alloc, path.len())?;

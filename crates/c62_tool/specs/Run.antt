@@ -27,7 +27,7 @@ use Rattle.c62_listing.specs.Listing.{listing}
 use Rattle.c62_listing_reader.specs.declared.fault.ListFault.{ListFault}
 use Rattle.c62_listing_reader.specs.declared.fault.ListFault.TheVariants.{Memory as NoStore}
 use Rattle.c62_listing_reader.specs.Faults.{IsRead, most_bytes as most_listing_bytes}
-use Rattle.c62_show.specs.declared.picture.Shown.{Shown}
+use Rattle.c62_show.specs.declared.shown.Shown.{Shown}
 use Rattle.c62_show.specs.Picture.{picture}
 use Rattle.c62_tool.specs.Schedule.{AreScheduled, AreShown}
 use Rattle.c62_report.specs.Report.{serial_report, packet_report}

@@ -1,6 +1,6 @@
 //! The picture of a text's blocks.
 
-ghost use Rattle.std.specs.Prelude.{◌≡◌, OnOk, IfOk, string_bytes};
+ghost use Rattle.std.specs.Prelude.{◌≡◌, ◌<◌, length, OnOk, IfOk, string_bytes};
 ghost use Rattle.c62_listing.specs.Written.{AddsText};
 ghost use Rattle.c62_show.specs.Picture.{block_rows, block_text, gap, picture, widths_of};
 ghost use Rattle.c62_show.specs.Widths.{widths_with};
@@ -50,6 +50,7 @@ fn push_rows(
     widths: Widths,
     shown: &Shown,
 ) -> Result<(), AllocError>
+    requires { 0 < length shown.now.packets.placed }
     ensures { OnOk result (AddsText out.old (block_rows widths shown.now) out.new) }
 {
     let placed = shown.packets.placed();
