@@ -1,6 +1,6 @@
 -- What the head of a block says.
-use Rattle.std.proofs.Common.{◌≡◌, ◌∙◌, ℕ, zero, suc, ◌+◌, ◌-◌, ◌^◌, ◌<◌, ◌≤◌, ◌==◌, Bool, true, false, List, [], ◌∷◌, ◌++◌, map, Option, Some, None, refl, sym, ap, arith, cond, drop, get_or}
-use Rattle.std.specs.Prelude.{codes, decimal}
+use Rattle.std.proofs.Common.{◌≡◌, ◌∙◌, ℕ, zero, suc, ◌+◌, ◌-◌, ◌^◌, ◌<◌, ◌≤◌, ◌==◌, Bool, true, false, List, [], ◌∷◌, ◌++◌, map, Option, Some, None, refl, sym, ap, arith, cond, get_or}
+use Rattle.std.specs.Prelude.{decimal}
 use Rattle.std.specs.Int.Digits.{AllBelowBase, digits_of}
 use Rattle.std.proofs.lemmas.Int.Digits.{all_below_base_digits_of}
 use Rattle.std.proofs.lemmas.Fmt.{decimal_digit, decimal-digits_of}
@@ -17,7 +17,7 @@ use Rattle.c62_bound.specs.Laws.{IsNoShorter as BoundsHold}
 use Rattle.c62_bound.proofs.Needs.{no_shorter}
 use Rattle.c62_show.specs.declared.shown.Shown.{Shown}
 use Rattle.c62_show.specs.Limits.{least_of, needed}
-use Rattle.c62_show.specs.Head.{verdict, none_is_shorter}
+use Rattle.c62_show.specs.Head.{none_is_shorter, over_bound, verdict}
 use Rattle.c62_show.specs.Laws.{HeadIsTrue}
 
 -- ---- the bound
@@ -34,27 +34,36 @@ need_holds block set (Some need) is holds = holds.needs need is.is
 
 -- ---- the words
 
--- what begins with digits or a space doesn't begin with an n
-no_letter : (ds rest more : List ℕ) → AllBelowBase 10 ds → map (λ d. 48 + d) ds ++ 32 ∷ rest ≡ 110 ∷ more → ⊥
-no_letter [] rest more small e = let first : 32 ≡ 110 = ap (λ text. get_or text 0 0) e in omega (arith, first)
-no_letter (d ∷ ds) rest more small e = let first : 48 + d ≡ 110 = ap (λ text. get_or text 0 0) e in omega (arith, first, small.0)
+abbrev first_byte : List ℕ → ℕ
+first_byte text = get_or text 0 0
 
-no_number : (n : ℕ) (rest more : List ℕ) → n < 2 ^ 64 → decimal n ++ 32 ∷ rest ≡ 110 ∷ more → ⊥
-no_number zero rest more small e =
-    let first : 48 ≡ 110 = ap (λ text. get_or text 0 0) (ap (λ text. text ++ 32 ∷ rest) (sym (decimal_digit 0 (omega arith))) ∙ e) in
-    omega (arith, first)
-no_number (suc n) rest more small e =
-    no_letter (digits_of 10 (suc n)) rest more (all_below_base_digits_of 10 (suc n) (omega arith))
-    (ap (λ text. text ++ 32 ∷ rest) (sym (decimal-digits_of (suc n) (omega arith) small)) ∙ e)
+-- digits before a space don't begin with an n
+no_letter : (ds rest text : List ℕ) → AllBelowBase 10 ds → first_byte rest ≡ 32 → first_byte text ≡ 110 → map (λ d. 48 + d) ds ++ rest ≡ text → ⊥
+no_letter [] rest text small space letter e = let first = ap first_byte e in omega (arith, first, space, letter)
+no_letter (d ∷ ds) rest text small space letter e =
+    let first : 48 + d ≡ first_byte text = ap first_byte e in
+    omega (arith, first, letter, small.0)
 
-told : (b : Bool) (cycles least : ℕ) → (cycles == least) ≡ b → cycles ≤ 2048
-    → cond b none_is_shorter (decimal (cycles - least) ++ codes " over the bound of " ++ decimal least) ≡ none_is_shorter → cycles ≡ least
-told true cycles least is small e = grind (arith, nat_tests, is)
-told false cycles least is small e = absurd (no_number (cycles - least) (drop 1 (codes " over the bound of ") ++ decimal least) (drop 1 none_is_shorter) (omega (arith, small)) e)
+no_number : (n : ℕ) (rest text : List ℕ) → n < 2 ^ 64 → first_byte rest ≡ 32 → first_byte text ≡ 110 → decimal n ++ rest ≡ text → ⊥
+no_number zero rest text small space letter e =
+    let first : 48 ≡ first_byte text = ap first_byte (ap (λ digits. digits ++ rest) (sym (decimal_digit 0 (omega arith))) ∙ e) in
+    omega (arith, first, letter)
+no_number (suc n) rest text small space letter e =
+    no_letter (digits_of 10 (suc n)) rest text (all_below_base_digits_of 10 (suc n) (omega arith)) space letter
+    (ap (λ digits. digits ++ rest) (sym (decimal-digits_of (suc n) (omega arith) small)) ∙ e)
+
+told : (b : Bool) (cycles least : ℕ) (rest : List ℕ) → (cycles == least) ≡ b → cycles ≤ 2048 → first_byte rest ≡ 32
+    → cond b none_is_shorter (decimal (cycles - least) ++ rest) ≡ none_is_shorter → cycles ≡ least
+told true cycles least rest is small space e = grind (arith, nat_tests, is)
+told false cycles least rest is small space e = absurd (no_number (cycles - least) rest none_is_shorter (omega (arith, small)) space refl e)
+
+space_first : (least : ℕ) → first_byte (over_bound least) ≡ 32
+unfolding over_bound
+space_first least = refl
 
 -- a head that tells by how much a block is longer doesn't say that none is shorter
 tells_none : (cycles least : ℕ) → cycles ≤ 2048 → verdict cycles least ≡ none_is_shorter → cycles ≡ least
-tells_none cycles least small e = told (cycles == least) cycles least refl small e
+tells_none cycles least small e = told (cycles == least) cycles least (over_bound least) refl small (space_first least) e
 
 pub head_is_true : (block : Serial) (shown : Shown) → HeadIsTrue block shown
 head_is_true block shown set sound are plan lawful complete =

@@ -22,11 +22,14 @@ name number (Some label) = label
 abbrev pub none_is_shorter : List ℕ
 none_is_shorter = codes "no schedule is shorter"
 
--- whether a block of so many cycles could be shorter, by how many cycles each schedule takes at least
+unfoldable pub over_bound : ℕ → List ℕ
+over_bound least = codes " over the bound of " ++ decimal least
+
+-- whether a block of so many cycles could be shorter, by how many cycles each schedule takes at least: `15 over the bound of 80`
 abbrev pub verdict : ℕ → ℕ → List ℕ
 verdict cycles least =
     if cycles == least then none_is_shorter
-    else decimal (cycles - least) ++ codes " over the bound of " ++ decimal least
+    else decimal (cycles - least) ++ over_bound least
 
 -- `: 5 instructions in 7 cycles; no schedule is shorter`
 unfoldable pub size : ℕ → ℕ → ℕ → List ℕ

@@ -4,7 +4,7 @@ ghost use Rattle.std.specs.Prelude.{◌≡◌, ◌++◌, OnOk, IfOk, codes, deci
 ghost use Rattle.std.specs.List.{flat_map};
 ghost use Rattle.std.specs.Option.{option_copied};
 ghost use Rattle.c62_listing.specs.Written.{AddsText};
-ghost use Rattle.c62_show.specs.Head.{name, verdict, size, fact, path_words, line_at, path_ends, path_fact, path_line, room_name, need_words, is_told, units_line};
+ghost use Rattle.c62_show.specs.Head.{name, over_bound, verdict, size, fact, path_words, line_at, path_ends, path_fact, path_line, room_name, need_words, is_told, units_line};
 
 use crate::limits::Limits;
 use crate::words::{push_counted, push_left, push_number, push_right_number};
@@ -34,6 +34,15 @@ pub(crate) fn push_name(
     }
 }
 
+#[tactic(auto, unfolding(crate::specs::Head::over_bound))]
+fn push_over_bound(out: &mut String, least: u64) -> Result<(), AllocError>
+    ensures { OnOk result (AddsText out.old (over_bound least) out.new) }
+{
+    out.push_str(" over the bound of ")?;
+    push_number(out, least)?;
+    Ok(())
+}
+
 /// By how much a block is longer than the bound.
 fn push_verdict(out: &mut String, cycles: u64, least: u64) -> Result<(), AllocError>
     ensures { OnOk result (AddsText out.old (verdict cycles least) out.new) }
@@ -42,8 +51,7 @@ fn push_verdict(out: &mut String, cycles: u64, least: u64) -> Result<(), AllocEr
         return out.push_str("no schedule is shorter");
     }
     push_number(out, cycles.saturating_sub(least))?;
-    out.push_str(" over the bound of ")?;
-    push_number(out, least)
+    push_over_bound(out, least)
 }
 
 /// How many instructions and cycles a block has, and whether it could be shorter.
