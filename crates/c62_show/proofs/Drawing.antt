@@ -1,5 +1,5 @@
 -- What is written so far, with what is still to be written.
-use Rattle.std.proofs.Common.{◌≡◌, ◌∙◌, ℕ, suc, ◌+◌, ◌-◌, ◌<◌, List, ◌∷◌, ◌++◌, length, get_or, drop, refl, sym, ap, arith, append_assoc, add-one, drop-cons}
+use Rattle.std.proofs.Common.{◌≡◌, ◌∙◌, ℕ, suc, ◌+◌, ◌-◌, ◌<◌, List, ◌∷◌, ◌++◌, length, get_or, drop, sym, ap, arith, append_assoc, add-one, drop-cons}
 use Rattle.std.specs.List.{flat_map, range_with_len}
 
 first_of : {X : Type 0} (f : ℕ → List X) (a n k : ℕ) → n ≡ suc k → flat_map f (range_with_len a n) ≡ f a ++ flat_map f (range_with_len (a + 1) k)

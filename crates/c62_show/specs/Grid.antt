@@ -1,5 +1,5 @@
 -- The rows of a block (docs/SHOW.md, "The grid").
-use Rattle.std.specs.Prelude.{ℕ, ◌+◌, ◌-◌, ◌*◌, ◌/◌, ◌==◌, nat_lt, Bool, ◌&&◌, ◌||◌, List, [], ◌++◌, codes, decimal, find, count_by, Option, Some, None, if◌then◌else◌}
+use Rattle.std.specs.Prelude.{ℕ, ◌-◌, ◌*◌, ◌/◌, ◌==◌, nat_lt, Bool, ◌&&◌, ◌||◌, List, [], ◌++◌, codes, decimal, find, count_by, Option, Some, None, if◌then◌else◌}
 use Rattle.std.specs.List.{flat_map, range_with_len, list_any}
 use Rattle.c62_op.specs.declared.register.Unit.{Unit as FunctionalUnit}
 use Rattle.c62_op.specs.Units.{all_units, index_of}

@@ -1,5 +1,5 @@
 -- What stands above the rows of a block (docs/SHOW.md, "The head").
-use Rattle.std.specs.Prelude.{ℕ, ◌-◌, ◌==◌, nat_le, nat_lt, Bool, ◌&&◌, List, [], ◌++◌, length, slice_get, unwrap_or, codes, decimal, Option, Some, None, if◌then◌else◌}
+use Rattle.std.specs.Prelude.{ℕ, ◌-◌, ◌==◌, nat_le, nat_lt, Bool, List, [], ◌++◌, length, slice_get, unwrap_or, codes, decimal, Option, Some, None, if◌then◌else◌}
 use Rattle.std.specs.List.{flat_map}
 use Rattle.c62_op.specs.declared.register.Side.{Side}
 use Rattle.c62_op.specs.declared.register.Letter.{Letter}
@@ -83,12 +83,12 @@ room_name Path side = codes "T" ++ side_digit side
 unfoldable pub need_words : Need → List ℕ
 need_words need = decimal need.count ++ codes " on " ++ room_name need.kind need.side ++ codes ", and " ++ decimal need.tail ++ codes " behind the last"
 
--- a need has as many cycles as the path, and more instructions than find room in one cycle
-abbrev pub is_told : Need → ℕ → Bool
-is_told need path_length = nat_le path_length (cycles_of need) && nat_lt (width need.kind) need.count
+-- A need has more instructions than find room in one cycle. The greatest need has no fewer cycles than the path.
+abbrev pub is_told : Need → Bool
+is_told need = nat_lt (width need.kind) need.count
 
-abbrev pub units_line : ℕ → Option Need → List ℕ
-units_line path_length None = []
-units_line path_length (Some need) =
-    if is_told need path_length then fact (codes "units") (cycles_of need) (need_words need) ++ codes "\n"
+abbrev pub units_line : Option Need → List ℕ
+units_line None = []
+units_line (Some need) =
+    if is_told need then fact (codes "units") (cycles_of need) (need_words need) ++ codes "\n"
     else []

@@ -1,8 +1,6 @@
 -- The picture of a text's blocks (docs/SHOW.md).
 use Rattle.std.specs.Prelude.{ℕ, ◌+◌, ◌==◌, List, [], ◌∷◌, ◌++◌, length, fold, codes, if◌then◌else◌}
 use Rattle.c62_packet.specs.declared.placed.Placed.{Placed}
-use Rattle.c62_packet.specs.Packed.{Packed}
-use Rattle.c62_show.specs.declared.limits.Limits.{Limits}
 use Rattle.c62_show.specs.declared.shown.Shown.{Shown}
 use Rattle.c62_show.specs.declared.widths.Widths.{Widths}
 use Rattle.c62_show.specs.Limits.{least_of}
@@ -15,7 +13,7 @@ unfoldable pub block_rows : Widths → Shown → List ℕ
 block_rows widths shown =
     size (length shown.packets.placed) shown.packets.cycles (least_of shown.limits)
     ++ path_line shown.limits
-    ++ units_line shown.limits.path_length shown.limits.need
+    ++ units_line shown.limits.need
     ++ grid widths shown.limits.path.items shown.packets.cycles shown.packets.placed
 
 abbrev pub rows_of : Widths → Shown → List Placed → List ℕ

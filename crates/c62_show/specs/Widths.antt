@@ -1,5 +1,5 @@
 -- How wide the columns of a picture are (docs/SHOW.md, "The grid").
-use Rattle.std.specs.Prelude.{ℕ, max, List, length, decimal, fold}
+use Rattle.std.specs.Prelude.{max, List, length, decimal, fold}
 use Rattle.c62_op.specs.Table.{mnemonic_of}
 use Rattle.c62_insn.specs.Insn.{op_of}
 use Rattle.c62_packet.specs.declared.placed.Placed.{Placed}

@@ -60,12 +60,21 @@ fn push_insn(
     push_left(row, widths.word, placed.insn.op().mnemonic())
 }
 
+/// Whether an instruction is issued in this cycle on this unit.
+fn stands_at(placed: &Placed, cycle: u32, unit: Unit) -> bool
+    ensures { result ≡ stands_at cycle unit placed.now }
+{
+    u32::from(placed.cycle) == cycle && placed.unit.index() == unit.index()
+}
+
 /// What is issued in this cycle on this unit.
 fn standing(placed: &[Placed], cycle: u32, unit: Unit) -> Option<Placed>
     ensures { result ≡ find (stands_at cycle unit) placed.now }
 {
-    placed.iter().copied().find(|each| u32::from(each.cycle) == cycle
-        && each.unit.index() == unit.index())
+    placed
+        .iter()
+        .copied()
+        .find(|each| stands_at(each, cycle, unit))
 }
 
 /// What is issued in a cycle on a unit, or a point.

@@ -200,19 +200,23 @@ fn need_words(alloc: Global, need: Need) -> Result<String, AllocError>
     Ok(text)
 }
 
-/// Whether a need has as many cycles as the path, and more instructions than find room in one cycle.
-fn is_told(need: Need, path_length: u16) -> bool
-    ensures { result ≡ is_told need path_length }
+/// Whether a need has more instructions than find room in one cycle.
+fn is_told(need: Need) -> bool
+    ensures { result ≡ is_told need }
 {
-    u32::from(path_length) <= need.cycles() && need.kind.width() < need.count
+    need.kind.width() < need.count
 }
 
 /// The line of the greatest need, where it is told.
-pub(crate) fn push_units(alloc: Global, out: &mut String, limits: &Limits) -> Result<(), AllocError>
-    ensures { OnOk result (AddsText out.old (units_line limits.now.path_length limits.now.need) out.new) }
+pub(crate) fn push_units(
+    alloc: Global,
+    out: &mut String,
+    need: Option<Need>,
+) -> Result<(), AllocError>
+    ensures { OnOk result (AddsText out.old (units_line need) out.new) }
 {
-    match limits.need {
-        Some(need) if is_told(need, limits.path_length) => {
+    match need {
+        Some(need) if is_told(need) => {
             let why = need_words(alloc, need)?;
             push_fact(out, "units", u64::from(need.cycles()), why.as_str())?;
             out.push_str("\n")

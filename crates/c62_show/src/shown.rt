@@ -62,7 +62,7 @@ fn push_rows(
         u64::from(shown.limits.least()),
     )?;
     push_path(alloc, out, &shown.limits)?;
-    push_units(alloc, out, &shown.limits)?;
+    push_units(alloc, out, shown.limits.need)?;
     let landings = landings_of(alloc, placed)?;
     let grid = Grid {
         widths,
