@@ -7,6 +7,7 @@ pub mod Used
 pub mod Placing
 pub mod Missing
 pub mod EarlyCycles
+pub mod Followers
 pub mod Turns
 pub mod Asking
 pub mod RowsOf
