@@ -67,8 +67,8 @@ pub shown_next : (packing : Packing) (blocks : List Serial) (shown new : List Sh
 shown_next packing blocks shown new block board all made pushed =
     let one : Shown = pushed.0 in
     let is : IsShown packing block one = record {
-        scheduled = scheduled_one packing block board one.packets made pushed.1 pushed.2 pushed.3;
-        limits = subst (λ (plan : Serial). AreLimits plan one.limits) made.plan_is pushed.4;
+      scheduled = scheduled_one packing block board one.packets made pushed.1 pushed.2 pushed.3;
+      limits = subst (λ (plan : Serial). AreLimits plan one.limits) made.plan_is pushed.4;
     } in
     subst (λ (whole : List Shown). AreShown packing (blocks ++ block ∷ []) whole) (sym pushed.5) (shown_more packing blocks shown block one all is)
 
