@@ -1,5 +1,5 @@
 -- The rows of a block (docs/SHOW.md, "The grid").
-use Rattle.std.specs.Prelude.{ℕ, ◌-◌, ◌*◌, ◌/◌, ◌==◌, nat_lt, Bool, ◌&&◌, ◌||◌, List, [], ◌++◌, codes, decimal, find, count_by, Option, Some, None, if◌then◌else◌}
+use Rattle.std.specs.Prelude.{ℕ, ◌-◌, ◌*◌, ◌/◌, ◌==◌, nat_lt, Bool, ◌||◌, List, [], ◌∷◌, ◌++◌, codes, decimal, find, count_by, Option, Some, None, if◌then◌else◌}
 use Rattle.std.specs.List.{flat_map, range_with_len, list_any}
 use Rattle.c62_op.specs.declared.register.Unit.{Unit as FunctionalUnit}
 use Rattle.c62_op.specs.Units.{all_units, index_of}
@@ -28,18 +28,26 @@ abbrev pub cell : Widths → List ℕ → Option Placed → List ℕ
 cell widths path None = word_cell widths (codes ".")
 cell widths path (Some p) = insn_cell widths path p
 
-abbrev pub stands_at : ℕ → FunctionalUnit → Placed → Bool
-stands_at cycle unit p = p.cycle == cycle && index_of p.unit == index_of unit
+abbrev pub is_on : FunctionalUnit → Placed → Bool
+is_on unit p = index_of p.unit == index_of unit
 
--- what is issued in a cycle, unit by unit
-abbrev pub cells : Widths → List ℕ → List Placed → ℕ → List ℕ
-cells widths path placed cycle = flat_map (λ unit. cell widths path (find (stands_at cycle unit) placed)) all_units
+-- an instruction, where it is issued in this cycle
+abbrev pub issued_at : ℕ → Placed → List Placed
+issued_at cycle p = if p.cycle == cycle then p ∷ [] else []
+
+-- what is issued in a cycle
+abbrev pub packet : List Placed → ℕ → List Placed
+packet placed cycle = flat_map (issued_at cycle) placed
+
+-- what a packet has on each unit
+abbrev pub cells : Widths → List ℕ → List Placed → List ℕ
+cells widths path issued = flat_map (λ unit. cell widths path (find (is_on unit) issued)) all_units
 
 -- ---- rows
 
 -- a cycle in which something is issued: what is, and what lands
 unfoldable pub cycle_row : Widths → List ℕ → List Placed → ℕ → List ℕ
-cycle_row widths path placed cycle = right 5 (decimal cycle) ++ cells widths path placed cycle ++ flat_map (landed_in_row cycle) (landings_of placed)
+cycle_row widths path placed cycle = right 5 (decimal cycle) ++ cells widths path (packet placed cycle) ++ flat_map (landed_in_row cycle) (landings_of placed)
 
 abbrev pub is_issued : List Placed → ℕ → Bool
 is_issued placed cycle = list_any (λ p. p.cycle == cycle) placed
@@ -83,9 +91,6 @@ rows widths path cycles placed = flat_map (row_at widths path cycles placed) (ra
 -- the names of the units
 unfoldable pub heads : Widths → List ℕ
 heads widths = codes "cycle" ++ flat_map (λ unit. word_cell widths (unit_name unit)) all_units ++ codes " lands"
-
-abbrev pub is_on : FunctionalUnit → Placed → Bool
-is_on unit p = index_of p.unit == index_of unit
 
 -- of 100 cycles so many, rounded down
 unfoldable pub share : ℕ → ℕ → List ℕ

@@ -1,12 +1,12 @@
 //! The rows of a block: what is issued in a cycle on each unit, and what lands.
 
-ghost use Rattle.std.specs.Prelude.{◌≡◌, ◌<◌, ◌≤◌, ◌==◌, OnOk, IfOk, length, codes, decimal, find, count_by, string_bytes};
+ghost use Rattle.std.specs.Prelude.{◌≡◌, ◌++◌, ◌<◌, ◌≤◌, ◌==◌, OnOk, IfOk, length, codes, decimal, find, count_by, string_bytes};
 ghost use Rattle.std.specs.List.{flat_map, range_with_len, list_any};
 ghost use Rattle.c62_read.specs.declared.limits.TheConstants.{MOST_INSTRUCTIONS};
 ghost use Rattle.c62_op.specs.Units.{all_units};
 ghost use Rattle.c62_listing.specs.Written.{AddsText};
 ghost use Rattle.c62_show.specs.Words.{unit_name};
-ghost use Rattle.c62_show.specs.Grid.{word_cell, mark, insn_cell, stands_at, cell, is_issued, begins, is_behind, next_issue, range_text, heads, is_on, share};
+ghost use Rattle.c62_show.specs.Grid.{word_cell, mark, insn_cell, issued_at, packet, cell, is_issued, begins, is_behind, next_issue, range_text, heads, is_on, share};
 ghost use Rattle.c62_show.specs.Landing.{landings_of};
 
 use crate::landing::{Landing, landed_between, push_all_landed, push_landing_list};
@@ -60,21 +60,36 @@ fn push_insn(
     push_left(row, widths.word, placed.insn.op().mnemonic())
 }
 
-/// Whether an instruction is issued in this cycle on this unit.
-fn stands_at(placed: &Placed, cycle: u32, unit: Unit) -> bool
-    ensures { result ≡ stands_at cycle unit placed.now }
+/// Adds an instruction, where it is issued in this cycle.
+fn push_issued(issued: &mut Vec<Placed>, placed: Placed, cycle: u32) -> Result<(), AllocError>
+    ensures { OnOk result (issued.new.items ≡ issued.old.items ++ issued_at cycle placed) }
 {
-    u32::from(placed.cycle) == cycle && placed.unit.index() == unit.index()
+    if u32::from(placed.cycle) != cycle {
+        return Ok(());
+    }
+    issued.push(placed)?;
+    Ok(())
 }
 
-/// What is issued in this cycle on this unit.
-fn standing(placed: &[Placed], cycle: u32, unit: Unit) -> Option<Placed>
-    ensures { result ≡ find (stands_at cycle unit) placed.now }
+/// What is issued in this cycle.
+fn packet(alloc: Global, placed: &[Placed], cycle: u32) -> Result<Vec<Placed>, AllocError>
+    ensures { IfOk result (λ issued. issued.items ≡ packet placed.now cycle) }
 {
-    placed
+    let mut issued = Vec::new(alloc);
+    for each in placed {
+        push_issued(&mut issued, *each, cycle)?;
+    }
+    Ok(issued)
+}
+
+/// What a packet has on this unit.
+fn standing(issued: &[Placed], unit: Unit) -> Option<Placed>
+    ensures { result ≡ find (is_on unit) issued.now }
+{
+    issued
         .iter()
         .copied()
-        .find(|each| stands_at(each, cycle, unit))
+        .find(|each| each.unit.index() == unit.index())
 }
 
 /// What is issued in a cycle on a unit, or a point.
@@ -204,25 +219,25 @@ pub(crate) struct Grid<'a> {
 impl Grid<'_> {
     ghost use Rattle.c62_show.specs.Grid.{cells, cycle_row, pause_row, row_at, rows, use_cell, use_cells, use_row, grid};
 
-    /// What is issued in a cycle, unit by unit.
-    fn push_cells(&self, row: &mut String, cycle: u32) -> Result<(), AllocError>
-        ensures { OnOk result (AddsText row.old (cells self.now.widths self.now.path.now self.now.placed.now cycle) row.new) }
+    /// What a packet has on each unit.
+    fn push_cells(&self, row: &mut String, issued: &[Placed]) -> Result<(), AllocError>
+        ensures { OnOk result (AddsText row.old (cells self.now.widths self.now.path.now issued.now) row.new) }
     {
         for unit in Unit::ALL {
-            let standing = standing(self.placed, cycle, unit);
-            push_cell(row, self.widths, self.path, standing)?;
+            push_cell(row, self.widths, self.path, standing(issued, unit))?;
         }
         Ok(())
     }
 
     /// The row of a cycle in which something is issued.
     #[tactic(auto, unfolding(crate::specs::Grid::cycle_row))]
-    fn push_cycle(&self, row: &mut String, cycle: u32) -> Result<(), AllocError>
+    fn push_cycle(&self, alloc: Global, row: &mut String, cycle: u32) -> Result<(), AllocError>
         requires { self.now.landings.now ≡ landings_of self.now.placed.now }
         ensures { OnOk result (AddsText row.old (cycle_row self.now.widths self.now.path.now self.now.placed.now cycle) row.new) }
     {
+        let issued = packet(alloc, self.placed, cycle)?;
         push_right_number(row, CYCLE_WIDTH, u64::from(cycle))?;
-        self.push_cells(row, cycle)?;
+        self.push_cells(row, &issued)?;
         push_all_landed(row, self.landings, cycle)
     }
 
@@ -256,7 +271,7 @@ impl Grid<'_> {
     {
         let mut row = String::new(alloc);
         if is_issued(self.placed, cycle) {
-            self.push_cycle(&mut row, cycle)?;
+            self.push_cycle(alloc, &mut row, cycle)?;
             return push_line(out, row.as_str());
         }
         if begins(self.placed, cycle) {
