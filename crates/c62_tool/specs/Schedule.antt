@@ -13,7 +13,6 @@ use Rattle.c62_packet.specs.Packed.{Packed}
 use Rattle.c62_meaning.specs.Laws.{AreSerial}
 use Rattle.c62_pipe.specs.Chain.{IsBlockPacked}
 use Rattle.c62_pack.specs.Packets.{ArePackets}
-use Rattle.c62_show.specs.declared.limits.Limits.{Limits}
 use Rattle.c62_show.specs.declared.shown.Shown.{Shown}
 use Rattle.c62_show.specs.Limits.{AreLimits}
 use Rattle.c62_command.specs.declared.command.Packing.{Packing}
