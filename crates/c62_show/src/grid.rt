@@ -1,7 +1,7 @@
 //! The rows of a block: what is issued in a cycle on each unit, and what lands.
 
-ghost use Rattle.std.specs.Prelude.{◌≡◌, ◌++◌, ◌<◌, ◌≤◌, ◌==◌, OnOk, IfOk, length, codes, decimal, find, count_by, string_bytes};
-ghost use Rattle.std.specs.List.{flat_map, range_with_len, list_any};
+ghost use Rattle.std.specs.Prelude.{◌≡◌, ◌++◌, ◌<◌, ◌≤◌, ◌==◌, OnOk, IfOk, length, find, count_by, string_bytes};
+ghost use Rattle.std.specs.List.{flat_map, list_any};
 ghost use Rattle.c62_read.specs.declared.limits.TheConstants.{MOST_INSTRUCTIONS};
 ghost use Rattle.c62_op.specs.Units.{all_units};
 ghost use Rattle.c62_listing.specs.Written.{AddsText};

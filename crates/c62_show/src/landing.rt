@@ -2,7 +2,6 @@
 
 ghost use Rattle.std.specs.Prelude.{◌≡◌, ◌++◌, ◌≤◌, IfOk, OnOk, codes};
 ghost use Rattle.std.specs.List.{flat_map};
-ghost use Rattle.c62_insn.specs.Insn.{register_writes};
 ghost use Rattle.c62_listing.specs.Written.{AddsText};
 ghost use Rattle.c62_show.specs.Landing.{delayed, landed_at, landings_by, landings_of, landed_between, landed_name, landing_words, landing_list, landed_in_row};
 

@@ -1,6 +1,6 @@
 //! Numbers and words in their columns.
 
-ghost use Rattle.std.specs.Prelude.{◌≡◌, ◌++◌, OnOk, codes, decimal};
+ghost use Rattle.std.specs.Prelude.{◌≡◌, OnOk, decimal};
 ghost use Rattle.c62_op.specs.Name.{file_letter, register_name};
 ghost use Rattle.c62_listing.specs.Written.{AddsText};
 ghost use Rattle.c62_show.specs.Words.{spaces, left, right, counted, line, unit_name};
