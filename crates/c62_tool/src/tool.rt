@@ -69,8 +69,8 @@ fn run<H: AllocGlobal + Threads + Wait + Sync, S: AsStr, R: Read, W: Write>(
 }
 
 /// Runs the program on these words, which are those after its name, and answers its status. It may wait for its streams and,
-/// for `pack` and `run` without `--turns`, for its own two workers. What answers the other commands is given no way to wait,
-/// so that it is seen to end.
+/// for `pack`, `show` and `run` without `--turns`, for its own two workers. What answers the other commands is given no way to
+/// wait, so that it is seen to end.
 ///
 /// Where reader and output tell their bytes, a 0 means that the answer to the text was written, a 1 that the text is refused
 /// by the fault that is told, and a 2 that the words are refused before anything is read. Of a check a 0 means that every
