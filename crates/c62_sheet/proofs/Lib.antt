@@ -8,6 +8,9 @@ pub mod Placing
 pub mod Missing
 pub mod EarlyCycles
 pub mod Followers
+pub mod ReadyOrder
+pub mod Counting
+pub mod ReadySets
 pub mod Turns
 pub mod Asking
 pub mod RowsOf

@@ -9,6 +9,7 @@ mod entry;
 mod index;
 mod judge;
 pub mod laws;
+mod ready;
 mod rows;
 mod sheet;
 mod victim;

@@ -19,6 +19,7 @@ invariant_of-self c =
         nothing,
         with_items_is b.earliest c.reset-2.new.earliest (omega (arith, c.reset-2.auto.earliest, c.deref_mut-2.ensures.len)),
       ) c.reset-2.ensures;
+      ready = rw c.deref.ensures.value at c.add_all.ensures;
       rows = rw (
         with_items_is b.spots c.take_out_all.new.spots sized,
         nothing,
