@@ -1,23 +1,20 @@
 //! Which placed instruction makes way for a more urgent one.
 
-ghost use Rattle.std.specs.Prelude.{◌↔◌, ◌+◌, ◌<◌, ◌≤◌, IsTrue, length};
+ghost use Rattle.std.specs.Prelude.{◌↔◌, ◌+◌, ◌<◌, IsTrue, length};
 ghost use Rattle.c62_depend.specs.Plan.{insns_of};
 ghost use Rattle.c62_sheet.specs.Least.{IsReady, IsAfter};
-ghost use Rattle.c62_sheet.specs.Chain.{Leads, Marks};
 ghost use Rattle.c62_sheet.specs.Victim.{IsInTheWay, FindsVictim, IsFirstBelow};
 
 use crate::chain::leading_to;
 use crate::sheet::Sheet;
 
-/// Whether instruction `q` keeps instruction `i` from a cycle, and may make way. Marked are those on which `i` depends,
-/// directly or through others.
-fn is_in_the_way(sheet: &Sheet, i: u16, cycle: u16, leading: &[bool], q: u16) -> bool
+/// Whether instruction `q` keeps instruction `i` from a cycle, and may make way. Few stand in the cycle, so that a chain
+/// to `i` is looked for only where all else is in order.
+fn is_in_the_way(sheet: &Sheet, i: u16, cycle: u16, q: u16) -> bool
     requires in_plan { i < length sheet.now.plan.insns }
     requires ready { IsReady (insns_of sheet.now.plan) sheet.now.spots i }
     requires after { IsAfter (insns_of sheet.now.plan) sheet.now.spots i cycle }
     requires other { q < length sheet.now.plan.insns }
-    requires marked { Marks (insns_of sheet.now.plan) (λ k. Leads (insns_of sheet.now.plan) k i) leading.now }
-    requires room { length sheet.now.plan.insns ≤ length leading.now }
     ensures { IsTrue result ↔ IsInTheWay (insns_of sheet.now.plan) sheet.now.spots i cycle q }
 {
     let plan = sheet.plan();
@@ -26,29 +23,20 @@ fn is_in_the_way(sheet: &Sheet, i: u16, cycle: u16, leading: &[bool], q: u16) ->
     };
     spot.cycle == cycle
         && plan.height(q) < plan.height(i)
-        && !leading[q as usize]
         && sheet.fits_without(i, cycle, q)
+        && !leading_to(plan, i)[q as usize]
 }
 
 /// The first to make way of the numbers up to `q`, given the one of those below it.
-fn first_up_to(
-    sheet: &Sheet,
-    i: u16,
-    cycle: u16,
-    leading: &[bool],
-    q: u16,
-    first: Option<u16>,
-) -> Option<u16>
+fn first_up_to(sheet: &Sheet, i: u16, cycle: u16, q: u16, first: Option<u16>) -> Option<u16>
     requires in_plan { i < length sheet.now.plan.insns }
     requires ready { IsReady (insns_of sheet.now.plan) sheet.now.spots i }
     requires after { IsAfter (insns_of sheet.now.plan) sheet.now.spots i cycle }
     requires other { q < length sheet.now.plan.insns }
-    requires marked { Marks (insns_of sheet.now.plan) (λ k. Leads (insns_of sheet.now.plan) k i) leading.now }
-    requires room { length sheet.now.plan.insns ≤ length leading.now }
     requires first { IsFirstBelow (insns_of sheet.now.plan) sheet.now.spots i cycle q first }
     ensures { IsFirstBelow (insns_of sheet.now.plan) sheet.now.spots i cycle (q + 1) result }
 {
-    if !is_in_the_way(sheet, i, cycle, leading, q) {
+    if !is_in_the_way(sheet, i, cycle, q) {
         return first;
     }
     let plan = sheet.plan();
@@ -73,10 +61,9 @@ pub(crate) fn victim(sheet: &Sheet, i: u16) -> Option<u16>
     let plan = sheet.plan();
     let n = plan.len();
     let cycle = sheet.early(i);
-    let leading = leading_to(plan, i);
     let mut first = None;
     for q in 0..n {
-        first = first_up_to(sheet, i, cycle, &leading, q, first);
+        first = first_up_to(sheet, i, cycle, q, first);
     }
     first
 }
