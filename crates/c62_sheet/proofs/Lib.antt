@@ -24,3 +24,4 @@ pub mod Room
 pub mod Prefix
 pub mod Chains
 pub mod Victims
+pub mod StandingSpots

@@ -10,5 +10,6 @@ pub mod View
 pub mod Laws
 pub mod Ready
 pub mod Rows
+pub mod Standing
 pub mod Chain
 pub mod Victim

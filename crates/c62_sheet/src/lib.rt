@@ -12,6 +12,7 @@ pub mod laws;
 mod ready;
 mod rows;
 mod sheet;
+mod standing;
 mod victim;
 mod whole;
 

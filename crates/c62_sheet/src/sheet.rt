@@ -1,9 +1,9 @@
 //! A lawful set of placements.
 
-ghost use Rattle.std.specs.Prelude.{◌≡◌, ◌↔◌, ℕ, ◌<◌, ◌≤◌, length, None, IsTrue, IsSome, IfOk, IfErr};
+ghost use Rattle.std.specs.Prelude.{◌≡◌, ◌↔◌, ℕ, ◌*◌, ◌<◌, ◌≤◌, length, None, IsTrue, IsSome, IfOk, IfErr};
 ghost use Rattle.std.specs.Bool.{OnTrue, OnFalse};
 ghost use Rattle.c62_depend.specs.Plan.{insns_of, IsPlan};
-ghost use Rattle.c62_sheet.specs.Lawful.{spot_at, placed, withdrawn, nothing_placed, empty_sheet, IsLawful};
+ghost use Rattle.c62_sheet.specs.Lawful.{IsAt, spot_at, placed, withdrawn, nothing_placed, empty_sheet, IsLawful};
 ghost use Rattle.c62_sheet.specs.Least.{IsReady, IsAfter, IsEarly, FindsLeast, Picks, IsLast, IsComplete, FitsWithout};
 ghost use Rattle.c62_sheet.specs.Victim.{FindsVictim};
 ghost use Rattle.c62_sheet.specs.Check.{IsOpen, Judges};
@@ -12,7 +12,7 @@ ghost use Rattle.c62_sheet.specs.Journal.{after, PermitsPlace, PermitsWithdraw, 
 
 use crate::entry::{Counts, Entry, Spot, Unlawful};
 use crate::ready::ReadyLists;
-use crate::{counts, earliest, index, judge, ready, rows, victim};
+use crate::{counts, earliest, index, judge, ready, rows, standing, victim};
 use c62_depend::Plan;
 use c62_insn::Side;
 use c62_row::Row;
@@ -29,6 +29,7 @@ pub struct Sheet {
     earliest: Vec<u16>,
     ready: ReadyLists,
     rows: Vec<Row>,
+    standing: Vec<u16>,
 }
 
 impl Model for Sheet {
@@ -75,6 +76,9 @@ impl Sheet {
             return Err((plan, AllocError));
         };
         ready::add_all(&plan, &spots, &missing, &mut ready);
+        let Ok(standing) = standing::none_standing(alloc, &plan) else {
+            return Err((plan, AllocError));
+        };
         match rows::all_rows(alloc, &plan) {
             Ok(rows) => Ok(Sheet {
                 plan,
@@ -83,6 +87,7 @@ impl Sheet {
                 earliest,
                 ready,
                 rows,
+                standing,
             }),
             Err(error) => Err((plan, error)),
         }
@@ -103,6 +108,7 @@ impl Sheet {
             earliest: Vec::from_slice(alloc, &self.earliest)?,
             ready: ready::copy(alloc, &self.plan, &self.ready)?,
             rows: Vec::from_slice(alloc, &self.rows)?,
+            standing: Vec::from_slice(alloc, &self.standing)?,
         })
     }
 
@@ -203,6 +209,17 @@ impl Sheet {
         victim::victim(self, i)
     }
 
+    /// The instruction that was placed last at a spot, which is the one that stands there, where one does. Where none was
+    /// placed there, it is any.
+    pub(crate) fn last_at(&self, spot: Spot) -> u16
+        requires { spot.cycle < 5 * length self.now.plan.insns }
+        ensures in_plan { result < length self.now.plan.insns }
+        ensures stands { (q : ℕ) → IsAt self.now.spots q spot → result ≡ q }
+    {
+        let place = standing::place_of(spot);
+        self.standing[place]
+    }
+
     /// How many instructions of each side are placed, and how many are ready.
     pub fn counts(&self) -> Counts
         ensures { AreCounts (insns_of self.now.plan) self.now.spots result }
@@ -243,6 +260,7 @@ impl Sheet {
         index::lower_followers(&self.plan, &mut self.missing, i);
         earliest::raise_followers(&self.plan, &self.spots, &mut self.earliest, i, spot);
         rows::take(&self.plan, &self.spots, &mut self.rows, i, spot);
+        self.standing[standing::place_of(spot)] = i;
         self.spots[usize::from(i)] = Some(spot);
         ready::add_followers(&self.plan, &self.spots, &self.missing, &mut self.ready, i);
     }

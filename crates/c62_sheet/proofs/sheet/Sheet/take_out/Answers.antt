@@ -3,6 +3,7 @@ use Rattle.c62_sheet.proofs.Placing.{lawful_withdrawn}
 use Rattle.c62_sheet.proofs.Missing.{counted_room, index-withdrawn}
 use Rattle.c62_sheet.proofs.Followers.{early-without}
 use Rattle.c62_sheet.proofs.ReadySets.{taken_not_listed, ready_withdrawn}
+use Rattle.c62_sheet.proofs.StandingSpots.{standing_withdrawn}
 use Rattle.c62_sheet.proofs.sheet.Sheet.take_out.Goals as goal
 
 pub raise_followers-requires-clause-room : goal.raise_followers-requires-clause-room
@@ -48,6 +49,8 @@ invariant_of-self c =
       ready = rw c.from.ensures (ready_withdrawn (insns_of b.plan) b.spots.items c.args.i c.drop_followers.new.lists c.add.new.lists
           (omega (arith, in_plan, many_insns, c.self.invariant.lawful.sized)) c.add.ensures.urgent taken c.self.invariant.lawful
           (rw c.deref.ensures.value at c.drop_followers.ensures) c.add.ensures.listed);
+      standing = rw c.from.ensures (standing_withdrawn (insns_of b.plan) b.spots.items b.standing.items c.args.i (omega (arith, in_plan, many_insns))
+          c.self.invariant.lawful.sized c.self.invariant.standing);
       rows = rw (with_items_is b.rows c.free.new.rows (omega (arith, c.free.auto.rows, c.deref_mut-2.ensures.len)), c.from.ensures)
           (rw c.deref-3.ensures.value at c.free.ensures);
     }
