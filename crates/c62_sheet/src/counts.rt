@@ -5,7 +5,7 @@ ghost use Rattle.c62_rules.specs.Length.{landing_end};
 ghost use Rattle.c62_depend.specs.declared.limits.TheConstants.{ISSUE_CYCLES};
 ghost use Rattle.c62_depend.specs.Plan.{insns_of};
 ghost use Rattle.c62_sheet.specs.Lawful.{issue_at, IsLawful};
-ghost use Rattle.c62_sheet.specs.Least.{IsReadyOn, IsComplete};
+ghost use Rattle.c62_sheet.specs.Least.{IsReadyOn};
 ghost use Rattle.c62_sheet.specs.Counts.{HasCount, IsPlacedOn, AreCounts, set_length};
 ghost use Rattle.c62_sheet.specs.Ready.{AreReady};
 
@@ -84,17 +84,4 @@ pub(crate) fn length(plan: &Plan, spots: &[Option<Spot>]) -> u16
         end = end.max(landing_end(insn, spot));
     }
     end
-}
-
-/// Whether all instructions are placed.
-pub(crate) fn is_complete(plan: &Plan, spots: &[Option<Spot>]) -> bool
-    requires { length spots.now ≡ length (insns_of plan.now) }
-    ensures { IsTrue result ↔ IsComplete (insns_of plan.now) spots.now }
-{
-    for k in 0..plan.len() {
-        if spots[usize::from(k)].is_none() {
-            return false;
-        }
-    }
-    true
 }

@@ -227,11 +227,11 @@ impl Sheet {
         counts::counts(&self.plan, &self.spots, &self.ready)
     }
 
-    /// Whether all instructions are placed.
+    /// Whether all instructions are placed: none is ready then, and only then.
     pub fn complete(&self) -> bool
         ensures { IsTrue result ↔ IsComplete (insns_of self.now.plan) self.now.spots }
     {
-        counts::is_complete(&self.plan, &self.spots)
+        self.ready.is_empty()
     }
 
     /// The cycles that what is placed takes: where a branch is placed, six from its issue, and else until the last landing,
