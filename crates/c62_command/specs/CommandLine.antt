@@ -19,7 +19,7 @@ use Rattle.c62_command.specs.declared.command.Packing.{Packing}
 use Rattle.c62_command.specs.declared.command.CommandError.{CommandError}
 use Rattle.c62_command.specs.declared.command.CommandError.TheVariants as refused
 use Rattle.c62_command.specs.declared.command.Request.{Request}
-use Rattle.c62_command.specs.declared.command.Request.TheVariants.{Pack, Run, Serial, Sim, Check}
+use Rattle.c62_command.specs.declared.command.Request.TheVariants.{Pack, Show, Run, Serial, Sim, Check}
 use Rattle.c62_command.specs.Settings.{settings_of, IsFirstBad}
 
 -- ---- what clap takes
@@ -54,6 +54,10 @@ with_start app = with_rule (with_rule app blocks_rule) settings_rule
 abbrev pub pack_app : App
 pack_app = with_packing (new_app (codes "pack"))
 
+-- `show [--turns] [--eject N]`
+abbrev pub show_app : App
+show_app = with_packing (new_app (codes "show"))
+
 -- `run [--turns] [--eject N] [--blocks N] [SETTING]..`
 abbrev pub run_app : App
 run_app = with_start (with_packing (new_app (codes "run")))
@@ -73,9 +77,13 @@ check_app = new_app (codes "check")
 abbrev pub bare_app : App
 bare_app = let new = new_app (codes "c62") in record new { top = record new.top { no_binary_name = true; subcommand_required = true } }
 
+-- the subcommands that pack and write what is packed
+abbrev pub listing_app : App
+listing_app = with_subcommand (with_subcommand bare_app pack_app.top) show_app.top
+
 -- the subcommands that pack
 abbrev pub packing_app : App
-packing_app = with_subcommand (with_subcommand bare_app pack_app.top) run_app.top
+packing_app = with_subcommand listing_app run_app.top
 
 -- the subcommands that pack or run
 abbrev pub running_app : App
@@ -90,6 +98,8 @@ tool_app = with_subcommand running_app check_app.top
 pub data Ask : Type 0 where
   -- the listing of a text, packed so
   Listing : Packing → Ask
+  -- the picture of a text's blocks, packed so
+  Picture : Packing → Ask
   -- the report of a serial run of at most so many blocks, from a state with these settings
   SerialReport : (blocks : ℕ) → List Setting → Ask
   -- the report of the same run of the packets of a text, packed so
@@ -101,6 +111,7 @@ pub data Ask : Type 0 where
 
 abbrev pub ask_of : Request → Ask
 ask_of (Pack packing) = Listing packing
+ask_of (Show packing) = Picture packing
 ask_of (Run packing start) = PacketReport packing start.blocks start.settings.items
 ask_of (Serial start) = SerialReport start.blocks start.settings.items
 ask_of (Sim start) = ListingReport start.blocks start.settings.items
@@ -164,8 +175,9 @@ abbrev pub ask_in : Option (Text × List Row) → Option Ask
 ask_in None = Some (Listing plain_packing)
 ask_in (Some (name, rows)) =
     if bytes_eq name (codes "pack") then Some (Listing (packing_of rows))
+    else (if bytes_eq name (codes "show") then Some (Picture (packing_of rows))
     else (if bytes_eq name (codes "check") then Some Verdicts
-    else option_map (report_asked name rows) (settings_of (setting_words rows)))
+    else option_map (report_asked name rows) (settings_of (setting_words rows))))
 
 abbrev pub unless_fault : Kinds → Option Ask → Option Ask
 unless_fault [] ask = ask
@@ -178,7 +190,7 @@ asked (word ∷ words) = unless_fault (fault_of tool_app (word ∷ words)) (ask_
 
 -- the subcommand of this name takes settings
 abbrev pub TakesSettings : Text → Type 0
-TakesSettings name = (bytes_eq name (codes "pack") ≡ false) × (bytes_eq name (codes "check") ≡ false)
+TakesSettings name = (bytes_eq name (codes "pack") ≡ false) × (bytes_eq name (codes "show") ≡ false) × (bytes_eq name (codes "check") ≡ false)
 
 -- setting k of the subcommand, from 1, is its first bad one
 abbrev pub HasFirstBad : Option (Text × List Row) → ℕ → Type 0

@@ -2,7 +2,7 @@
 
 ghost use Rattle.std.specs.Prelude.{◌≡◌, IfOk, IfErr, Some, false, map, []};
 ghost use Rattle.clap.specs.Words.{app_of, rule_of, subcommand_of, subcommand_rows_of, fault_of};
-ghost use Rattle.c62_command.specs.CommandLine.{turns_rule, eject_rule, blocks_rule, settings_rule, pack_app, run_app, serial_app, sim_app, check_app, bare_app, packing_app, running_app, tool_app, with_packing, with_start, is_set, blocks_of, budget_of, packing_of, plain_packing, IsLocal, found_rows, words_of, named_rows, ask_in, ask_of, asked, IsBadIn, IsBlame, IsRefusal, IsWordsError, IsSettingError};
+ghost use Rattle.c62_command.specs.CommandLine.{turns_rule, eject_rule, blocks_rule, settings_rule, pack_app, show_app, run_app, serial_app, sim_app, check_app, bare_app, listing_app, packing_app, running_app, tool_app, with_packing, with_start, is_set, blocks_of, budget_of, packing_of, plain_packing, IsLocal, found_rows, words_of, named_rows, ask_in, ask_of, asked, IsBadIn, IsBlame, IsRefusal, IsWordsError, IsSettingError};
 ghost use Rattle.c62_command.specs.Settings.{AreSettings, IsBadAmong};
 
 use crate::setting::{Setting, SettingError, read_settings};
@@ -51,6 +51,8 @@ pub struct Start {
 pub enum Request {
     /// The listing of a serial text.
     Pack(Packing),
+    /// The picture of a serial text's blocks.
+    Show(Packing),
     /// The report of a run of the packets of a serial text.
     Run(Packing, Start),
     /// The report of the serial run of a serial text.
@@ -172,6 +174,17 @@ fn pack_command<'a>(alloc: Global) -> Result<Command<'a>, AllocError>
     with_packing(alloc, command)
 }
 
+fn show_command<'a>(alloc: Global) -> Result<Command<'a>, AllocError>
+    ensures app { IfOk result (λ c. app_of c ≡ show_app) }
+    ensures local { IfOk result IsLocal }
+{
+    let command = Command::new(alloc, "show")
+        .about("Packs serial text and shows each block's schedule, and how short one can be")
+        .override_usage("c62 show [--turns] [--eject <N>]")
+        .after_help(STREAMS_AND_STATUS);
+    with_packing(alloc, command)
+}
+
 fn run_command<'a>(alloc: Global) -> Result<Command<'a>, AllocError>
     ensures app { IfOk result (λ c. app_of c ≡ run_app) }
     ensures local { IfOk result IsLocal }
@@ -230,14 +243,22 @@ fn bare_command<'a>(alloc: Global) -> Command<'a>
         .subcommand_required(true)
 }
 
+/// The program with the subcommands that pack and write what is packed.
+fn listing_command<'a>(alloc: Global) -> Result<Command<'a>, AllocError>
+    ensures app { IfOk result (λ c. app_of c ≡ listing_app) }
+    ensures local { IfOk result IsLocal }
+{
+    bare_command(alloc)
+        .subcommand(pack_command(alloc)?)?
+        .subcommand(show_command(alloc)?)
+}
+
 /// The program with the subcommands that pack.
 fn packing_command<'a>(alloc: Global) -> Result<Command<'a>, AllocError>
     ensures app { IfOk result (λ c. app_of c ≡ packing_app) }
     ensures local { IfOk result IsLocal }
 {
-    bare_command(alloc)
-        .subcommand(pack_command(alloc)?)?
-        .subcommand(run_command(alloc)?)
+    listing_command(alloc)?.subcommand(run_command(alloc)?)
 }
 
 /// The program with the subcommands that pack or run.
@@ -335,6 +356,9 @@ fn request_named(alloc: Global, name: &str, found: &ArgMatches<'_>) -> Result<Re
 {
     if name == "pack" {
         return Ok(Request::Pack(packing_in(found)));
+    }
+    if name == "show" {
+        return Ok(Request::Show(packing_in(found)));
     }
     if name == "check" {
         return Ok(Request::Check);

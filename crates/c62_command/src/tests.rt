@@ -6,7 +6,7 @@ use std::alloc::Global;
 use std::test::Fail;
 
 /// Words, and what they ask for or why they are refused.
-const ASKED: [(&[&str], &str); 14] = [
+const ASKED: [(&[&str], &str); 17] = [
     (&[], "pack by turns, 0 ejections"),
     (&["pack"], "pack by workers, 0 ejections"),
     (&["pack", "--turns"], "pack by turns, 0 ejections"),
@@ -14,6 +14,12 @@ const ASKED: [(&[&str], &str); 14] = [
         &["pack", "--eject", "1000"],
         "pack by workers, 1000 ejections",
     ),
+    (
+        &["show", "--eject=9", "--turns"],
+        "show by turns, 9 ejections",
+    ),
+    (&["show", "--blocks", "2"], "words"),
+    (&["show", "A1=5"], "words"),
     (&["run"], "run by workers, 0 ejections; 1000 blocks"),
     (
         &[
@@ -66,6 +72,7 @@ fn start_text(alloc: Global, start: &Start) -> Result<String, Fail> {
 fn request_text(alloc: Global, request: &Request) -> Result<String, Fail> {
     Ok(match request {
         Request::Pack(packing) => format!(in alloc; "pack {}", packing_text(alloc, *packing)?)?,
+        Request::Show(packing) => format!(in alloc; "show {}", packing_text(alloc, *packing)?)?,
         Request::Run(packing, start) => format!(in alloc;
             "run {}; {}",
             packing_text(alloc, *packing)?,

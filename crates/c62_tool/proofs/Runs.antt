@@ -11,7 +11,7 @@ use Rattle.c62_tool.specs.Message.{IsFront, Tells, TellsOf, fault_message, list_
 use Rattle.c62_tool.specs.Run.{AsksInVain, AsksNothing, Blames, Does, Fails, Gives, HasFailed, IsAnswer, IsCommandFailure, IsDone, IsRefused, IsRefusedText, IsRun, IsRunOnBytes, Streams, TakesAtMost, limit_of, status_done, status_of}
 use Rattle.c62_command.specs.declared.command.CommandError.{CommandError}
 use Rattle.c62_command.specs.declared.command.CommandError.TheVariants as command
-use Rattle.c62_command.specs.CommandLine.{Ask, HasBadSetting, IsRefusal, IsUnknown, Listing, ListingReport, PacketReport, SerialReport, Verdicts, asked}
+use Rattle.c62_command.specs.CommandLine.{Ask, HasBadSetting, IsRefusal, IsUnknown, Listing, ListingReport, PacketReport, Picture, SerialReport, Verdicts, asked}
 use Rattle.clap.specs.Words.{Text}
 use Rattle.c62_tool.specs.declared.failure.Failure.{Failure}
 use Rattle.c62_tool.specs.declared.failure.Failure.TheVariants as failures
@@ -54,6 +54,13 @@ answered (Listing packing) Done all text answer read is = record {
   packed = is.packed;
   listed = is.listed;
 }
+answered (Picture packing) Done all text answer read is = record {
+  program = is.program;
+  says = sym (program_all all text read) ∙ is.says;
+  shown = is.shown;
+  packed = is.packed;
+  drawn = is.drawn;
+}
 answered (SerialReport blocks settings) Done all text answer read is = record {
   program = is.program;
   says = sym (program_all all text read) ∙ is.says;
@@ -74,6 +81,7 @@ answered (ListingReport blocks settings) Done all text answer read is = record {
 answered Verdicts Done all text answer read is = check_all all 9437190 (omega arith) true answer (subst (λ (xs : List ℕ). IsCheck xs true answer) read is)
 answered Verdicts NotSame all text answer read is = check_all all 9437190 (omega arith) false answer (subst (λ (xs : List ℕ). IsCheck xs false answer) read is)
 answered (Listing packing) NotSame all text answer read is = absurd is
+answered (Picture packing) NotSame all text answer read is = absurd is
 answered (SerialReport blocks settings) NotSame all text answer read is = absurd is
 answered (PacketReport packing blocks settings) NotSame all text answer read is = absurd is
 answered (ListingReport blocks settings) NotSame all text answer read is = absurd is
@@ -98,6 +106,7 @@ no_program_all all text message read is =
 
 refused_all : (ask : Ask) (all text message : List ℕ) → text ≡ take (limit_of ask + 1) all → IsRefusedText ask text message → IsRefusedText ask all message
 refused_all (Listing packing) all text message read is = no_program_all all text message read is
+refused_all (Picture packing) all text message read is = no_program_all all text message read is
 refused_all (SerialReport blocks settings) all text message read is = no_program_all all text message read is
 refused_all (PacketReport packing blocks settings) all text message read is = no_program_all all text message read is
 refused_all (ListingReport blocks settings) all text message read is = record {

@@ -23,7 +23,9 @@ use Rattle.c62_board.specs.State.{BoardState}
 use Rattle.c62_meaning.specs.Laws.{AreSerial}
 use Rattle.c62_pack.specs.Packets.{AreNumbered, ArePackets}
 use Rattle.c62_command.specs.declared.command.Packing.{Packing}
-use Rattle.c62_tool.specs.Schedule.{AddsPackets, AreScheduled, IsMade, IsScheduled}
+use Rattle.c62_show.specs.declared.shown.Shown.{Shown}
+use Rattle.c62_show.specs.Limits.{AreLimits}
+use Rattle.c62_tool.specs.Schedule.{AddsPackets, AddsShown, AreScheduled, AreShown, IsMade, IsScheduled, IsShown}
 
 -- one block more
 pub scheduled_more : (packing : Packing) (blocks : List Serial) (packets : List Packed) (block : Serial) (packed : Packed) → AreScheduled packing blocks packets
@@ -50,6 +52,25 @@ pub scheduled_next : (packing : Packing) (blocks : List Serial) (packets new : L
 scheduled_next packing blocks packets new block board all made pushed =
     let one = scheduled_one packing block board pushed.0 made pushed.1 pushed.2 pushed.3 in
     subst (λ (whole : List Packed). AreScheduled packing (blocks ++ block ∷ []) whole) (sym pushed.4) (scheduled_more packing blocks packets block pushed.0 all one)
+
+-- what is shown of one block more
+pub shown_more : (packing : Packing) (blocks : List Serial) (shown : List Shown) (block : Serial) (one : Shown) → AreShown packing blocks shown
+    → IsShown packing block one → AreShown packing (blocks ++ block ∷ []) (shown ++ one ∷ [])
+shown_more packing [] [] block one all is = (is, tt)
+shown_more packing [] (q ∷ shown) block one all is = absurd all
+shown_more packing (b ∷ blocks) [] block one all is = absurd all
+shown_more packing (b ∷ blocks) (q ∷ shown) block one all is = (all.0, shown_more packing blocks shown block one all.1 is)
+
+-- what is shown of one block more was appended
+pub shown_next : (packing : Packing) (blocks : List Serial) (shown new : List Shown) (block : Serial) (board : BoardState) → AreShown packing blocks shown
+    → IsMade packing block board → AddsShown board.plan board.spots shown new → AreShown packing (blocks ++ block ∷ []) new
+shown_next packing blocks shown new block board all made pushed =
+    let one : Shown = pushed.0 in
+    let is : IsShown packing block one = record {
+      scheduled = scheduled_one packing block board one.packets made pushed.1 pushed.2 pushed.3;
+      limits = subst (λ (plan : Serial). AreLimits plan one.limits) made.plan_is pushed.4;
+    } in
+    subst (λ (whole : List Shown). AreShown packing (blocks ++ block ∷ []) whole) (sym pushed.5) (shown_more packing blocks shown block one all is)
 
 -- as many blocks as before
 pub as_many : (packing : Packing) (blocks : List Serial) (packets : List Packed) → AreScheduled packing blocks packets → length packets ≡ length blocks

@@ -27,9 +27,11 @@ use Rattle.c62_listing.specs.Listing.{listing}
 use Rattle.c62_listing_reader.specs.declared.fault.ListFault.{ListFault}
 use Rattle.c62_listing_reader.specs.declared.fault.ListFault.TheVariants.{Memory as NoStore}
 use Rattle.c62_listing_reader.specs.Faults.{IsRead, most_bytes as most_listing_bytes}
-use Rattle.c62_tool.specs.Schedule.{AreScheduled}
+use Rattle.c62_show.specs.declared.shown.Shown.{Shown}
+use Rattle.c62_show.specs.Picture.{picture}
+use Rattle.c62_tool.specs.Schedule.{AreScheduled, AreShown}
 use Rattle.c62_report.specs.Report.{serial_report, packet_report}
-use Rattle.c62_command.specs.CommandLine.{Ask, Listing, SerialReport, PacketReport, ListingReport, Verdicts, IsRefusal, IsUnknown, HasBadSetting, asked}
+use Rattle.c62_command.specs.CommandLine.{Ask, Listing, Picture, SerialReport, PacketReport, ListingReport, Verdicts, IsRefusal, IsUnknown, HasBadSetting, asked}
 use Rattle.c62_tool.specs.Message.{fault_message, list_message, no_listing, of_listing, of_text, setting_message, IsFront, Tells, TellsOf}
 use Rattle.c62_tool.specs.Texts.{SaysProgram, IsNoProgram, IsNoListing}
 use Rattle.c62_tool.specs.Check.{IsCheck, IsNoCheck}
@@ -101,6 +103,14 @@ pub record IsPackedText (packing : Packing) (text answer : List ℕ) : Type 0 wh
   pub packed : AreScheduled packing program packets
   pub listed : answer ≡ listing packets
 
+-- the text says a program, and this is the picture of its blocks, packed so
+pub record IsShownText (packing : Packing) (text answer : List ℕ) : Type 0 where
+  pub program : List Serial
+  pub says : SaysProgram text program
+  pub shown : List Shown
+  pub packed : AreShown packing program shown
+  pub drawn : answer ≡ picture shown
+
 -- the machine after a setting
 abbrev pub with_setting : Machine → Given → Machine
 with_setting machine (given.Register reg value) = with_word reg value machine
@@ -166,9 +176,10 @@ abbrev pub outcome_of : Bool → Outcome
 outcome_of true = Done
 outcome_of false = NotSame
 
--- What answers a text: its listing, the report of a run, or what a check tells, where alone some block may not be the same.
+-- What answers a text: its listing or its picture, the report of a run, or what a check tells, where alone some block may not be the same.
 abbrev pub IsAnswer : Ask → Outcome → List ℕ → List ℕ → Type 0
 IsAnswer (Listing packing) Done text answer = IsPackedText packing text answer
+IsAnswer (Picture packing) Done text answer = IsShownText packing text answer
 IsAnswer (SerialReport blocks settings) Done text answer = IsSerialReport settings blocks text answer
 IsAnswer (PacketReport packing blocks settings) Done text answer = IsRunReport packing settings blocks text answer
 IsAnswer (ListingReport blocks settings) Done text answer = IsListingReport settings blocks text answer

@@ -13,6 +13,8 @@ use Rattle.c62_packet.specs.Packed.{Packed}
 use Rattle.c62_meaning.specs.Laws.{AreSerial}
 use Rattle.c62_pipe.specs.Chain.{IsBlockPacked}
 use Rattle.c62_pack.specs.Packets.{ArePackets}
+use Rattle.c62_show.specs.declared.shown.Shown.{Shown}
+use Rattle.c62_show.specs.Limits.{AreLimits}
 use Rattle.c62_command.specs.declared.command.Packing.{Packing}
 
 -- Both sides took steps by turns on an empty board of the block with this budget, and what was missing then was placed.
@@ -50,3 +52,22 @@ abbrev pub AreScheduled : Packing → List Serial → List Packed → Type 0
 AreScheduled packing [] [] = Unit {0}
 AreScheduled packing (block ∷ blocks) (packed ∷ packets) = IsScheduled packing block packed × AreScheduled packing blocks packets
 AreScheduled packing _ _ = ⊥
+
+-- ---- what is shown
+
+-- The packets of such a board, and how short they could be at best.
+pub record IsShown (packing : Packing) (block : Serial) (shown : Shown) : Type 0 where
+  pub scheduled : IsScheduled packing block shown.packets
+  pub limits : AreLimits block shown.limits
+
+-- what is shown of the packets of these spots stands behind the others
+abbrev pub AddsShown : Serial → Spots → List Shown → List Shown → Type 0
+AddsShown block spots old new =
+    (shown : Shown) × ArePackets block spots shown.packets × AreSerial block.insns shown.packets.placed × IsBlockPacked block shown.packets
+    × AreLimits block shown.limits × (new ≡ old ++ shown ∷ [])
+
+-- block by block
+abbrev pub AreShown : Packing → List Serial → List Shown → Type 0
+AreShown packing [] [] = Unit {0}
+AreShown packing (block ∷ blocks) (shown ∷ rest) = IsShown packing block shown × AreShown packing blocks rest
+AreShown packing _ _ = ⊥

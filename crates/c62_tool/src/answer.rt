@@ -3,7 +3,8 @@
 ghost use Rattle.std.specs.Prelude.{◌≡◌, ◌≤◌, true, false, IfOk, IsTrue};
 ghost use Rattle.c62_listing.specs.Listing.{listing};
 ghost use Rattle.c62_packet.specs.Packets.{is_closed};
-ghost use Rattle.c62_command.specs.CommandLine.{Listing, SerialReport, PacketReport, ListingReport, ask_of};
+ghost use Rattle.c62_show.specs.Picture.{picture};
+ghost use Rattle.c62_command.specs.CommandLine.{Listing, Picture, SerialReport, PacketReport, ListingReport, ask_of};
 ghost use Rattle.c62_tool.specs.Run.{Gives, GivesProgram, GivesPackets, limit_of};
 ghost use Rattle.c62_tool.specs.declared.parting.TheConstants.{MOST_BYTES};
 
@@ -12,12 +13,13 @@ use crate::failure::Failure;
 use crate::outcome::{Outcome, Reply};
 use crate::parting;
 use crate::run::{packet_run, serial_run};
-use crate::schedule::{packets_by_turns, packets_by_workers};
+use crate::schedule::{packets_by_turns, packets_by_workers, shown_by_turns, shown_by_workers};
 use c62_command::{Packing, Request, Start};
 use c62_listing::list;
 use c62_listing_reader::read_listing;
 use c62_packet::Packets;
 use c62_read::{Program, read_program};
+use c62_show::{Shown, picture};
 use std::alloc::{AllocError, Global};
 use std::sync::Wait;
 use std::thread::Threads;
@@ -50,6 +52,12 @@ fn listing_of(alloc: Global, packets: &Packets) -> Result<Vec<u8>, AllocError>
     Ok(list(alloc, packets)?.into_bytes())
 }
 
+fn picture_of(alloc: Global, shown: &[Shown]) -> Result<Vec<u8>, AllocError>
+    ensures { IfOk result (λ text. text.items ≡ picture shown.now) }
+{
+    Ok(picture(alloc, shown)?.into_bytes())
+}
+
 /// The listing of what a text says, packed by turns.
 fn pack_by_turns(alloc: Global, text: &[u8], packing: Packing) -> Result<Reply, Failure>
     requires { packing.turns ≡ true }
@@ -59,6 +67,19 @@ fn pack_by_turns(alloc: Global, text: &[u8], packing: Packing) -> Result<Reply, 
     let packets = packets_by_turns(alloc, program, packing)?;
     Ok(Reply {
         text: listing_of(alloc, &packets)?,
+        outcome: Outcome::Done,
+    })
+}
+
+/// The picture of what a text says, packed by turns.
+fn show_by_turns(alloc: Global, text: &[u8], packing: Packing) -> Result<Reply, Failure>
+    requires { packing.turns ≡ true }
+    ensures { Gives (Picture packing) text.now result }
+{
+    let program = program_of(alloc, text)?;
+    let shown = shown_by_turns(alloc, program, packing)?;
+    Ok(Reply {
+        text: picture_of(alloc, &shown)?,
         outcome: Outcome::Done,
     })
 }
@@ -94,6 +115,23 @@ fn pack_by_workers<H: AllocGlobal + Threads + Wait + Sync>(
     let packets = packets_by_workers(rt, program, packing)?;
     Ok(Reply {
         text: listing_of(rt.alloc(), &packets)?,
+        outcome: Outcome::Done,
+    })
+}
+
+/// The picture of what a text says, packed by workers.
+fn show_by_workers<H: AllocGlobal + Threads + Wait + Sync>(
+    rt: &H,
+    text: &[u8],
+    packing: Packing,
+) -> Result<Reply, Failure>
+    requires { packing.turns ≡ false }
+    ensures { Gives (Picture packing) text.now result }
+{
+    let program = program_of(rt.alloc(), text)?;
+    let shown = shown_by_workers(rt, program, packing)?;
+    Ok(Reply {
+        text: picture_of(rt.alloc(), &shown)?,
         outcome: Outcome::Done,
     })
 }
@@ -154,6 +192,13 @@ pub fn answer<H: AllocGlobal + Threads + Wait + Sync>(
                 pack_by_workers(rt, text, *packing)
             }
         }
+        Request::Show(packing) => {
+            if packing.turns {
+                show_by_turns(rt.alloc(), text, *packing)
+            } else {
+                show_by_workers(rt, text, *packing)
+            }
+        }
         Request::Run(packing, start) => {
             if packing.turns {
                 run_by_turns(rt.alloc(), text, *packing, start)
@@ -175,6 +220,8 @@ pub fn limit_of(request: &Request) -> usize
     match request {
         Request::Check => parting::MOST_BYTES,
         Request::Sim(_) => c62_listing_reader::MOST_BYTES,
-        Request::Pack(_) | Request::Run(_, _) | Request::Serial(_) => c62_read::MOST_BYTES,
+        Request::Pack(_) | Request::Show(_) | Request::Run(_, _) | Request::Serial(_) => {
+            c62_read::MOST_BYTES
+        }
     }
 }

@@ -44,4 +44,6 @@ fn main(rt: HostRuntime) -> ExitCode {
 }
 
 #[cfg(test)]
+mod show_tests;
+#[cfg(test)]
 mod tests;

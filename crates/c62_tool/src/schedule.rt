@@ -6,7 +6,7 @@ ghost use Rattle.c62_depend.specs.Plan.{insns_of};
 ghost use Rattle.c62_board.specs.State.{IsSound};
 ghost use Rattle.c62_read.specs.declared.limits.TheConstants.{MOST_BLOCKS};
 ghost use Rattle.c62_packet.specs.Packets.{is_closed};
-ghost use Rattle.c62_tool.specs.Schedule.{AreScheduled, AddsPackets, IsMade, IsTurned};
+ghost use Rattle.c62_tool.specs.Schedule.{AreScheduled, AddsPackets, AddsShown, AreShown, IsMade, IsTurned};
 
 use c62_board::{Board, Turn};
 use c62_command::Packing;
@@ -14,6 +14,7 @@ use c62_depend::Plan;
 use c62_pack::packets_of;
 use c62_packet::Packets;
 use c62_read::{Block, Program};
+use c62_show::{Shown, limits_of};
 use c62_work::{FreeGate, Options, finish, schedule, turns};
 use std::alloc::{AllocError, Global};
 use std::sync::Wait;
@@ -122,4 +123,50 @@ pub fn packets_by_workers<H: AllocGlobal + Threads + Wait + Sync>(
         push_packets(rt.alloc(), &mut packets, &board)?;
     }
     Ok(packets)
+}
+
+/// Appends what is shown of a complete board.
+fn push_shown(alloc: Global, shown: &mut Vec<Shown>, board: &Board) -> Result<(), AllocError>
+    requires { IsComplete (insns_of board.now.plan) board.now.spots }
+    ensures { OnOk result (AddsShown board.now.plan board.now.spots shown.old.items shown.new.items) }
+{
+    shown.push(Shown {
+        limits: limits_of(alloc, board.plan())?,
+        packets: packets_of(alloc, board)?,
+    })?;
+    Ok(())
+}
+
+/// What is shown of a program's blocks, packed by turns. `AllocError` where memory ran out.
+pub fn shown_by_turns(
+    alloc: Global,
+    program: Program,
+    packing: Packing,
+) -> Result<Vec<Shown>, AllocError>
+    requires { packing.turns ≡ true }
+    ensures { IfOk result (λ shown. AreShown packing program shown.items) }
+{
+    let mut shown = Vec::new(alloc);
+    for block in program.into_blocks() {
+        let board = board_by_turns(alloc, block, packing)?;
+        push_shown(alloc, &mut shown, &board)?;
+    }
+    Ok(shown)
+}
+
+/// What is shown of a program's blocks, packed by workers. `AllocError` where memory ran out.
+pub fn shown_by_workers<H: AllocGlobal + Threads + Wait + Sync>(
+    rt: &H,
+    program: Program,
+    packing: Packing,
+) -> Result<Vec<Shown>, AllocError>
+    requires { packing.turns ≡ false }
+    ensures { IfOk result (λ shown. AreShown packing program shown.items) }
+{
+    let mut shown = Vec::new(rt.alloc());
+    for block in program.into_blocks() {
+        let board = board_by_workers(rt, block, packing)?;
+        push_shown(rt.alloc(), &mut shown, &board)?;
+    }
+    Ok(shown)
 }

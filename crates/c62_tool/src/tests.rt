@@ -343,7 +343,7 @@ docs/SERIAL_TEXT.md, docs/LISTING.md and docs/CHECK.md tell what each fault is.
 ";
 
 /// Words, and the whole text that refuses them, but for the ending of a help.
-const TOLD: [(&[&str], &str, &str); 9] = [
+const TOLD: [(&[&str], &str, &str); 10] = [
     (
         &["--help"],
         "Packs and runs TMS320C62x instructions
@@ -353,6 +353,7 @@ Usage: c62 <COMMAND>
 
 Commands:
   pack    Reads serial text and writes its listing
+  show    Packs serial text and shows each block's schedule, and how short one can be
   run     Packs serial text, runs the packets and reports the end
   serial  Runs serial text, one instruction after the other, and reports the end
   sim     Reads a listing, runs its packets and reports the end
@@ -369,6 +370,19 @@ Options:
         "Reads serial text and writes its listing
 
 Usage: c62 pack [--turns] [--eject <N>]
+
+Options:
+      --turns      Packs on one thread, one side after the other
+      --eject <N>  Ejects at most N placed instructions of a block, 0 to 1000; 0 where none is given
+  -h, --help       Print help
+",
+        ENDING,
+    ),
+    (
+        &["show", "--help"],
+        "Packs serial text and shows each block's schedule, and how short one can be
+
+Usage: c62 show [--turns] [--eject <N>]
 
 Options:
       --turns      Packs on one thread, one side after the other
@@ -466,7 +480,7 @@ For more information, try '--help'.
 ];
 
 /// Words that are no command line.
-const REFUSED_WORDS: [&[&str]; 25] = [
+const REFUSED_WORDS: [&[&str]; 27] = [
     &["-h"],
     &["help"],
     &["help", "pack"],
@@ -484,6 +498,8 @@ const REFUSED_WORDS: [&[&str]; 25] = [
     &["pack", "--turns", "--turns"],
     &["pack", "--turns=yes"],
     &["pack", "pack"],
+    &["show", "--blocks", "2"],
+    &["show", "A1=1"],
     &["serial", "--blocks"],
     &["serial", "--blocks", "1000001"],
     &["serial", "--blocks", "0x5"],
@@ -556,7 +572,7 @@ fn longest_program(rt: HostRuntime) -> Result<(), Fail> {
 #[test]
 fn refused_texts(rt: HostRuntime) -> Result<(), Fail> {
     for (text, expected) in &REFUSED {
-        for command in ["pack", "run", "serial"] {
+        for command in ["pack", "show", "run", "serial"] {
             refuses(&rt, command, text, expected);
         }
     }

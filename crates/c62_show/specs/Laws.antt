@@ -1,0 +1,30 @@
+-- Laws of pictures.
+use Rattle.std.specs.Prelude.{◌≡◌, ℕ, ◌<◌, ◌≤◌, false, List}
+use Rattle.c62_read.specs.Block.{Serial}
+use Rattle.c62_depend.specs.Plan.{insns_of, IsPlan}
+use Rattle.c62_sheet.specs.Lawful.{Spots, IsLawful}
+use Rattle.c62_sheet.specs.Least.{IsComplete}
+use Rattle.c62_sheet.specs.Counts.{set_length}
+use Rattle.c62_packet.specs.declared.placed.Placed.{Placed}
+use Rattle.c62_packet.specs.Packed.{IsInListingOrder, IsPacketBlock}
+use Rattle.c62_show.specs.declared.shown.Shown.{Shown}
+use Rattle.c62_show.specs.Limits.{AreLimits, least_of}
+use Rattle.c62_show.specs.Head.{verdict, none_is_shorter}
+use Rattle.c62_show.specs.Grid.{is_issued, next_issue}
+
+-- Each lawful schedule has at least as many cycles as the bound, and where the head of a block says that no schedule is
+-- shorter, at least as many as the block.
+pub record IsNoShorter (block : Serial) (shown : Shown) (set : Spots) : Type 0 where
+  pub bound : least_of shown.limits ≤ set_length (insns_of block) set
+  pub none : verdict shown.packets.cycles (least_of shown.limits) ≡ none_is_shorter → shown.packets.cycles ≤ set_length (insns_of block) set
+
+-- this holds of every lawful schedule that places all
+abbrev pub HeadIsTrue : Serial → Shown → Type 0
+HeadIsTrue block shown =
+    (set : Spots) → IsPacketBlock shown.packets → AreLimits block shown.limits → IsPlan (insns_of block) → IsLawful (insns_of block) set
+    → IsComplete (insns_of block) set → IsNoShorter block shown set
+
+-- from a cycle in which nothing is issued, nothing is issued before the next cycle of which the row tells
+abbrev pub IsIdleUntil : List Placed → ℕ → ℕ → Type 0
+IsIdleUntil placed cycles cycle =
+    (k : ℕ) → IsInListingOrder placed → is_issued placed cycle ≡ false → cycle ≤ k → k < next_issue placed cycles cycle → is_issued placed k ≡ false

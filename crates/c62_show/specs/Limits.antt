@@ -1,0 +1,34 @@
+-- How short a schedule of a block can be at best, and why (docs/SCHEDULING.md, "Needs").
+use Rattle.std.specs.Prelude.{◌≡◌, ℕ, max, List, map, Option, Some, None, slice_get}
+use Rattle.c62_read.specs.declared.block.SerialInsn.{SerialInsn}
+use Rattle.c62_read.specs.Block.{Serial}
+use Rattle.c62_depend.specs.Plan.{insns_of}
+use Rattle.c62_bound.specs.declared.need.Need.{Need}
+use Rattle.c62_bound.specs.Bound.{FindsNeed, cycles_of}
+use Rattle.c62_bound.specs.Path.{IsPathLength, IsCriticalPath}
+use Rattle.c62_show.specs.declared.limits.Limits.{Limits}
+
+abbrev pub line_in : Option SerialInsn → ℕ
+line_in None = 0
+line_in (Some entry) = entry.line
+
+-- the line of an instruction of a block, or 0 where there is none of this number
+abbrev pub line_of : List SerialInsn → ℕ → ℕ
+line_of insns number = line_in (slice_get insns number)
+
+-- the length of the block's critical path, the lines of one, and the greatest need
+pub record AreLimits (block : Serial) (limits : Limits) : Type 0 where
+  pub path_length : IsPathLength (insns_of block) limits.path_length
+  pub path : List ℕ
+  pub is_path : IsCriticalPath (insns_of block) path
+  pub lines : limits.path.items ≡ map (line_of block.insns) path
+  pub need : FindsNeed (insns_of block) limits.need
+
+-- the cycles of a need, where there is one
+abbrev pub needed : Option Need → ℕ
+needed None = 0
+needed (Some need) = cycles_of need
+
+-- how many cycles each schedule takes at least: those of the path, or of the need where that has more
+abbrev pub least_of : Limits → ℕ
+least_of limits = max limits.path_length (needed limits.need)

@@ -1,0 +1,36 @@
+//! Pictures of blocks without instructions; those with instructions are shown from texts in a crate above.
+
+use crate::{Limits, Shown, picture};
+use c62_packet::PacketBlock;
+use c62_read::read_insn;
+use std::test::Fail;
+
+/// Lines with labels, and the picture of blocks under them.
+const EMPTY: [(&[&[u8]], &str); 3] = [
+    (&[], ""),
+    (&[b"L:"], "L: no instruction\n"),
+    (
+        &[b"", b"_end$:", b""],
+        "block 0: no instruction\n\n_end$: no instruction\n\nblock 2: no instruction\n",
+    ),
+];
+
+#[test]
+fn blocks_without_instructions(rt: HostRuntime) -> Result<(), Fail> {
+    for (lines, want) in &EMPTY {
+        let mut shown = Vec::new(rt.alloc());
+        for line in *lines {
+            shown.push(Shown {
+                limits: Limits {
+                    path_length: 0,
+                    path: Vec::new(rt.alloc()),
+                    need: None,
+                },
+                packets: PacketBlock::new(read_insn(line)?.label, 0, Vec::new(rt.alloc()))?,
+            })?;
+        }
+        let text = picture(rt.alloc(), &shown)?;
+        assert_eq!(rt; text.as_str(), *want);
+    }
+    Ok(())
+}

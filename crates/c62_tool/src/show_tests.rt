@@ -1,0 +1,171 @@
+//! Pictures of texts, by the rules of docs/SHOW.md.
+
+use crate::tool::run_on_bytes;
+use std::test::Fail;
+
+/// Words and a text, and the picture of its blocks.
+const SHOWN: [(&[&str], &[u8], &str); 9] = [
+    (&["show"], b"\r\n* \n", ""),
+    (&["show", "--turns"], b"L:", "L: no instruction\n"),
+    (
+        &["show"],
+        b"MVK 1,A1",
+        "\
+block 0: 1 instruction in 1 cycle; no schedule is shorter
+   path     1: line 1
+cycle   .L1    .S1    .M1    .D1    .L2    .S2    .M2    .D2  lands
+    0   .    1*MVK    .      .      .      .      .      .
+  use   -      100%   -      -      -      -      -      -
+",
+    ),
+    // a load, and the cycles in which it is waited for
+    (
+        &["show", "--turns"],
+        b"LDW *A4,A5\nADD A5,A5,A6",
+        "\
+block 0: 2 instructions in 6 cycles; no schedule is shorter
+   path     6: lines 1 2
+cycle   .L1    .S1    .M1    .D1    .L2    .S2    .M2    .D2  lands
+    0   .      .      .    1*LDW    .      .      .      .
+  1-4   idle, landing: A5 in 4
+    5 2*ADD    .      .      .      .      .      .      .
+  use   16%    -      -      16%    -      -      -      -
+",
+    ),
+    // two loads from bases of both sides, which go over one data path
+    (
+        &["show", "--turns"],
+        b"LDW *A4,A5\nLDW *B4,A6",
+        "\
+block 0: 2 instructions in 6 cycles; no schedule is shorter
+   path     5: line 1
+   units    6: 2 on T1, and 4 behind the last
+cycle   .L1    .S1    .M1    .D1    .L2    .S2    .M2    .D2  lands
+    0   .      .      .    1*LDW    .      .      .      .
+    1   .      .      .      .      .      .      .    2 LDW
+  2-5   idle, landing: A5 in 4, A6 in 5
+  use   -      -      -      16%    -      -      -      16%
+",
+    ),
+    // a branch, and a block with its label alone
+    (
+        &["show", "--turns"],
+        b"L1: SUB A1,1,A1\n[A1] B L1\nEnd_1:",
+        "\
+L1: 2 instructions in 7 cycles; no schedule is shorter
+   path     7: lines 1 2
+cycle   .L1    .S1    .M1    .D1    .L2    .S2    .M2    .D2  lands
+    0 1*SUB    .      .      .      .      .      .      .
+    1   .      .      .      .      .    2*B      .      .
+  2-6   idle, landing: branch in 6
+  use   14%    -      -      -      -      14%    -      -
+
+End_1: no instruction
+",
+    ),
+    // one cross path, which no need counts
+    (
+        &["show", "--turns"],
+        b"ADD A1,B1,A2\nSUB A3,B3,A4",
+        "\
+block 0: 2 instructions in 2 cycles; 1 over the bound of 1
+   path     1: line 1
+cycle   .L1    .S1    .M1    .D1    .L2    .S2    .M2    .D2  lands
+    0 1*ADD    .      .      .      .      .      .      .
+    1 2 SUB    .      .      .      .      .      .      .
+  use   100%   -      -      -      -      -      -      -
+",
+    ),
+    // an ejection, and none without a budget
+    (
+        &["show", "--turns", "--eject", "1"],
+        EJECTING,
+        "\
+block 0: 6 instructions in 5 cycles; no schedule is shorter
+   path     5: line 1
+cycle   .L1    .S1    .M1    .D1    .L2    .S2    .M2    .D2  lands
+    0   .      .    5 MPY    .    2 ADD    .      .    1*LDW
+    1 3 ADD    .      .      .      .      .      .      .    A2
+    2 4 ADD    .    6 MPY    .      .      .      .      .
+  3-4   idle, landing: A6 in 3, B5 in 4
+  use   40%    -      40%    -      20%    -      -      20%
+",
+    ),
+    (
+        &["show", "--turns"],
+        EJECTING,
+        "\
+block 0: 6 instructions in 5 cycles; no schedule is shorter
+   path     5: line 1
+cycle   .L1    .S1    .M1    .D1    .L2    .S2    .M2    .D2  lands
+    0 3 ADD    .      .      .    2 ADD    .      .    1*LDW
+    1 4 ADD    .    5 MPY    .      .      .      .      .
+    2   idle, landing: A2 in 2
+    3   .      .    6 MPY    .      .      .      .      .
+    4   idle, landing: B5 in 4, A6 in 4
+  use   40%    -      40%    -      20%    -      -      20%
+",
+    ),
+];
+
+/// A block that an ejection changes.
+const EJECTING: &[u8] =
+    b"LDW *B4,B5\nADD B2,A2,B3\nADD A1,B1,A3\nADD A3,A3,A4\nMPY A5,B1,A2\nMPY A2,A2,A6";
+
+/// A line, how often it stands, what follows it, and how the picture of that begins.
+const SHOWN_TEXTS: [(&[u8], usize, &[u8], &str); 2] = [
+    // four digits
+    (
+        b"\n",
+        999,
+        b"MVK 1,A1",
+        "\
+block 0: 1 instruction in 1 cycle; no schedule is shorter
+   path     1: line 1000
+cycle      .L1       .S1       .M1       .D1       .L2       .S2       .M2       .D2  lands
+    0      .    1000*MVK       .         .         .         .         .         .
+  use      -         100%      -         -         -         -         -         -
+",
+    ),
+    // as many instructions as a block may have
+    (
+        b"MVK 1,A1\n",
+        256,
+        b"",
+        "\
+block 0: 256 instructions in 256 cycles; no schedule is shorter
+   path   256: 256 lines from 1 to 256, marked *
+   units  256: 256 on .S1, and 0 behind the last
+cycle     .L1      .S1      .M1      .D1      .L2      .S2      .M2      .D2  lands
+    0     .      1*MVK      .        .        .        .        .        .
+    1     .      2*MVK      .        .        .        .        .        .
+",
+    ),
+];
+
+#[test]
+fn pictures(rt: HostRuntime) -> Result<(), Fail> {
+    for (words, text, picture) in &SHOWN {
+        let ran = run_on_bytes(&rt, *words, text);
+        assert_eq!(rt; ran.status, 0);
+        assert_eq!(rt; ran.output.as_slice(), picture.as_bytes());
+        assert!(rt; ran.errors.is_empty());
+    }
+    Ok(())
+}
+
+#[test]
+fn pictures_of_long_texts(rt: HostRuntime) -> Result<(), Fail> {
+    for (line, count, rest, front) in &SHOWN_TEXTS {
+        let mut text = Vec::new(rt.alloc());
+        for _ in 0..*count {
+            text.extend_from_slice(line)?;
+        }
+        text.extend_from_slice(rest)?;
+        let ran = run_on_bytes(&rt, &["show", "--turns"], &text);
+        assert_eq!(rt; ran.status, 0);
+        assert!(rt; ran.output.starts_with(front.as_bytes()));
+        assert!(rt; ran.errors.is_empty());
+    }
+    Ok(())
+}
