@@ -1,0 +1,3 @@
+pub mod Common
+pub mod Labels
+pub mod SpacedWords

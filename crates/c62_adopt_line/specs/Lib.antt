@@ -1,0 +1,4 @@
+pub mod Directive
+pub mod FaultName
+pub mod Plain
+pub mod Line
