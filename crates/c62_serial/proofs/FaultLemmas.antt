@@ -1,7 +1,6 @@
 -- A line joins rising lines, which are told by their members.
-use Rattle.std.proofs.Common.{◌≡◌, ◌⊎◌, ℕ, zero, suc, ◌+◌, ◌<◌, ◌≤◌, Bool, true, false, List, [], ◌∷◌, ◌++◌, length, take, drop, refl, inl, inr, ◌∙◌, sym, subst, cond, ap, arith, Result, Ok, Err, get_or, add-one}
-use Rattle.std.specs.Prelude.{◌↔◌, All, Contains, filter, nat_lt, slice_index_or, insert, MatchOption}
-use Rattle.std.specs.Result.{result_err}
+use Rattle.std.proofs.Common.{◌≡◌, ◌⊎◌, ℕ, zero, suc, ◌+◌, ◌<◌, ◌≤◌, Bool, true, false, List, [], ◌∷◌, ◌++◌, length, take, drop, refl, inl, inr, ◌∙◌, sym, subst, cond, ap, arith, Some, Result, Ok, Err, get_or, add-one}
+use Rattle.std.specs.Prelude.{◌↔◌, All, Contains, filter, nat_lt, slice_get, slice_index_or, insert}
 use Rattle.std.specs.Ordering.{nat_cmp}
 use Rattle.std.specs.List.Sorted.{IsStrictlyIncreasing, IsBinarySearchResult}
 use Rattle.std.proofs.lemmas.Bool.{cases_lt, false≢true}
@@ -11,7 +10,8 @@ use Rattle.std.proofs.lemmas.List.{take-append-drop, get_or-take, get_or-drop, l
 use Rattle.std.proofs.lemmas.List.Elements.{All-head, All-tail, All-from_get_or, filter_passes, filter-append, Contains-append_left, Contains-append_right, Contains-append_cases}
 use Rattle.std.proofs.lemmas.List.Kept.{IsStrictlyIncreasing-filter, AllPairs-from_increasing}
 use Rattle.std.proofs.lemmas.List.Sorted.{searched}
-use Rattle.c62_serial.specs.Faults.{joined}
+use Rattle.std.proofs.lemmas.Option.{get_or_from_slice_get, slice_get-get_or, slice_get_within}
+use Rattle.c62_serial.specs.Faults.{joined, FindsPlace}
 
 kept : (p : ℕ → Bool) (xs : List ℕ) → All (λ x. p x ≡ true) xs → filter p xs ≡ xs
 kept p [] h = refl
@@ -102,11 +102,18 @@ joined_same line i lines rising l e =
 rising_apart : (lines : List ℕ) (i j : ℕ) → IsStrictlyIncreasing lines → i ≤ j → j < length lines → get_or lines i 0 ≤ get_or lines j 0
 rising_apart lines i j rising l b = grind (arith, apart lines i j rising)
 
+-- a line that stands somewhere changes nothing
+pub joined_standing : (line i : ℕ) (lines : List ℕ) → IsStrictlyIncreasing lines → slice_get lines i ≡ Some line → joined line lines ≡ lines
+joined_standing line i lines rising at =
+    joined_same line i lines rising (slice_get_within lines i line at) (get_or_from_slice_get lines i line 0 at)
+
 -- what a binary search in rising lines finds
 pub found : (lines : List ℕ) (line : ℕ) (r : Result ℕ ℕ) → IsStrictlyIncreasing lines → IsBinarySearchResult (λ y. nat_cmp y line) lines r
-    → MatchOption (result_err r) (joined line lines ≡ lines) (λ i. (i ≤ length lines) × (joined line lines ≡ insert lines i line))
+    → FindsPlace line lines r
 found lines line (Ok i) rising h =
-    let s = searched lines line (Ok i) h (λ i j. rising_apart lines i j rising) in joined_same line i lines rising s.0 s.1
+    let s = searched lines line (Ok i) h (λ i j. rising_apart lines i j rising) in
+    let at : slice_get lines i ≡ Some line = slice_get-get_or lines i 0 s.0 ∙ ap (λ (n : ℕ). Some n) s.1 in
+    (at, joined_same line i lines rising s.0 s.1)
 found lines line (Err i) rising h =
     let s = searched lines line (Err i) h (λ i j. rising_apart lines i j rising) in (s.0, joined_insert line i lines s.0 s.1 s.2)
 

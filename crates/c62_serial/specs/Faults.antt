@@ -1,5 +1,5 @@
 -- The set of lines whose accesses faulted, as a rising list (docs/MACHINE.md, "Memory").
-use Rattle.std.specs.Prelude.{◌≡◌, ◌≤◌, ℕ, nat_lt, Bool, not, List, ◌∷◌, ◌++◌, filter, insert, length, Option, MatchOption, if◌then◌else◌}
+use Rattle.std.specs.Prelude.{◌≡◌, ◌≤◌, ℕ, nat_lt, Bool, not, List, ◌∷◌, ◌++◌, filter, insert, length, Some, slice_get, Result, MatchResult, if◌then◌else◌}
 use Rattle.c62_serial.specs.State.{Machine}
 use Rattle.c62_serial.specs.Memory.{is_good, with_bytes}
 
@@ -7,10 +7,11 @@ use Rattle.c62_serial.specs.Memory.{is_good, with_bytes}
 abbrev pub joined : ℕ → List ℕ → List ℕ
 joined line lines = filter (λ other. nat_lt other line) lines ++ line ∷ filter (λ other. nat_lt line other) lines
 
--- the index at which a line joins rising lines, where it is not among them
-abbrev pub FindsNewIndex : ℕ → List ℕ → Option ℕ → Type 0
-FindsNewIndex line lines found =
-    MatchOption found (joined line lines ≡ lines) (λ index. (index ≤ length lines) × (joined line lines ≡ insert lines index line))
+-- the index of a line among rising lines, or the one at which it joins them
+abbrev pub FindsPlace : ℕ → List ℕ → Result ℕ ℕ → Type 0
+FindsPlace line lines found = MatchResult found
+    (λ index. (slice_get lines index ≡ Some line) × (joined line lines ≡ lines))
+    (λ index. (index ≤ length lines) × (joined line lines ≡ insert lines index line))
 
 abbrev pub with_fault : ℕ → Machine → Machine
 with_fault line machine = record machine { faults = joined line machine.faults }

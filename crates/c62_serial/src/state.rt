@@ -1,6 +1,6 @@
 //! The state of the machine.
 
-ghost use Rattle.std.specs.Prelude.{◌≡◌, ◌+◌, ◌<◌, ◌≤◌, length, slice_index, insert, IsTrue, IsOk, IfOk, OnOk, OnErr, MatchOption};
+ghost use Rattle.std.specs.Prelude.{◌≡◌, ◌↔◌, ◌+◌, ◌<◌, ◌≤◌, length, slice_index, slice_get, insert, Some, IsTrue, IsOk, IfOk, OnOk, OnErr, MatchOption};
 ghost use Rattle.std.specs.List.Sorted.{IsStrictlyIncreasing};
 
 use c62_insn::Reg;
@@ -12,6 +12,9 @@ const WORD: u8 = 4;
 /// How many bytes of memory there are.
 pub const MEMORY_BYTES: usize = 65_536;
 
+/// How many lines of a row have a place each: as many as a block can have instructions.
+const PLACES: usize = 256;
+
 /// Thirty-two registers, 65,536 bytes of memory, and the lines whose accesses faulted, each once and
 /// rising. It has room for some more such lines; all calls but [`State::new`] and [`State::room`] take
 /// no memory.
@@ -20,6 +23,8 @@ pub struct State {
     registers: [u32; 32],
     memory: Vec<u8>,
     faults: Vec<u32>,
+    /// The index at which a faulted line was found last, by the line's remainder. Another line may stand there by now.
+    places: [usize; PLACES],
 }
 
 impl Model for State {
@@ -39,7 +44,7 @@ impl Model for State {
 
 ghost use Rattle.c62_serial.specs.State.{Machine, IsSound, line_capacity, IsZero, word_in, byte_in, with_word};
 ghost use Rattle.c62_serial.specs.Memory.{is_size, is_good, number_of, bytes_from, bytes_of, read, put, with_bytes};
-ghost use Rattle.c62_serial.specs.Faults.{with_fault, FindsNewIndex};
+ghost use Rattle.c62_serial.specs.Faults.{joined, with_fault, FindsPlace};
 
 /// Whether the access lies on its size and within memory.
 fn is_good(address: u32, size: u8) -> bool
@@ -77,12 +82,22 @@ fn put(memory: &mut [u8], at: usize, size: u8, value: u32)
     }
 }
 
-/// The index for a line among rising lines, where it is not among them.
-fn new_index(lines: &[u32], line: u32) -> Option<usize>
+/// The index of a line among rising lines; where it is not among them, the one at which it joins them.
+fn place_among(lines: &[u32], line: u32) -> Result<usize, usize>
     requires { IsStrictlyIncreasing lines.now }
-    ensures { FindsNewIndex line lines.now result }
+    ensures { FindsPlace line lines.now result }
 {
-    lines.binary_search(&line).err()
+    lines.binary_search(&line)
+}
+
+/// Whether this line stands at the index.
+fn stands_at(lines: &[u32], index: usize, line: u32) -> bool
+    ensures { IsTrue result ↔ (slice_get lines.now index ≡ Some line) }
+{
+    match lines.get(index) {
+        Some(other) => *other == line,
+        None => false,
+    }
 }
 
 impl State {
@@ -98,6 +113,7 @@ impl State {
             registers: [0; 32],
             memory: vec![in alloc; 0; MEMORY_BYTES]?,
             faults: Vec::new(alloc),
+            places: [0; PLACES],
         })
     }
 
@@ -181,19 +197,46 @@ impl State {
         self.faults.reserve(lines)
     }
 
+    /// Whether a line that faulted stands where one with its remainder was found last. Where it stands
+    /// elsewhere, the answer is no.
+    #[tactic(auto, using(crate::proofs::FaultLemmas::joined_standing))]
+    fn is_at_hand(&self, line: u32) -> bool
+        ensures { IsTrue result → joined line self.now.machine.faults ≡ self.now.machine.faults }
+    {
+        stands_at(&self.faults, self.places[line as usize % PLACES], line)
+    }
+
+    /// Puts a line among those that faulted, where it is not yet, and keeps its place at hand.
+    #[inline(never)]
+    #[tactic(auto, using(crate::proofs::FaultLemmas::joined_rises))]
+    fn join(&mut self, line: u32)
+        requires { 0 < self.old.room }
+        ensures machine { self.new.machine ≡ with_fault line self.old.machine }
+        ensures room { line_capacity self.new ≡ line_capacity self.old }
+        ensures one_at_most { self.old.room ≤ self.new.room + 1 }
+    {
+        let index = match place_among(&self.faults, line) {
+            Ok(index) => index,
+            Err(index) => {
+                let Ok(()) = self.faults.insert(index, line) else {
+                    unreachable!()
+                };
+                index
+            }
+        };
+        self.places[line as usize % PLACES] = index;
+    }
+
     /// Puts a line among those that faulted, where it is not yet. It asks room for one, and takes no
     /// memory.
-    #[tactic(auto, using(crate::proofs::FaultLemmas::joined_rises))]
     pub fn fault(&mut self, line: u32)
         requires { 0 < self.old.room }
         ensures machine { self.new.machine ≡ with_fault line self.old.machine }
         ensures room { line_capacity self.new ≡ line_capacity self.old }
         ensures one_at_most { self.old.room ≤ self.new.room + 1 }
     {
-        if let Some(index) = new_index(&self.faults, line) {
-            let Ok(()) = self.faults.insert(index, line) else {
-                unreachable!()
-            };
+        if !self.is_at_hand(line) {
+            self.join(line);
         }
     }
 

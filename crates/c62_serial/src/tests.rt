@@ -213,11 +213,11 @@ fn calls_of_a_state(rt: HostRuntime) -> Result<(), Fail> {
     for (address, size, want) in [(9, 1, Some(0x56)), (8, 4, Some(0x5678_5678)), (10, 4, None)] {
         assert_eq!(&rt; state.load(address, size), want, "at {address}");
     }
-    for line in [7, 3, 9, 3] {
+    for line in [7, 3, 9, 3, 7, 263, 7, 263] {
         state.room(1)?;
         state.fault(line);
     }
-    assert!(&rt; state.faults() == [3, 7, 9].as_slice());
+    assert!(&rt; state.faults() == [3, 7, 9, 263].as_slice());
     Ok(())
 }
 

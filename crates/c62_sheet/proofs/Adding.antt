@@ -1,8 +1,8 @@
 -- The packet rules, with one more instruction issued.
-use Rattle.c62_sheet.proofs.Common.{[], arith, ◌≡◌, ◌≢◌, ℕ, ◌+◌, ◌<◌, ◌≤◌, List, ◌∷◌, length, Option, Some, None, Bool, true, false, refl, sym, ap}
-use Rattle.c62_sheet.proofs.Common.{inl, inr, ◌⊎◌, get_or-set_same, get_or-set_other, slice_set, slice_index_or, sum_by, count_by, false≢true}
-use Rattle.c62_sheet.proofs.Common.{nat_tests, Side, Reg, Issue, Issues, IsIssued, AtMostOne, UsesCrossPath, UsesDataPath, KeepsPacketRules, reads_in}
-use Rattle.c62_sheet.proofs.Common.{Resource, OnUnit, CrossPath, DataPath, LandsIn, Uses}
+use Rattle.c62_sheet.proofs.Common.{arith, ◌≡◌, ◌≢◌, ℕ, ◌+◌, ◌<◌, ◌≤◌, length, Some, None}
+use Rattle.c62_sheet.proofs.Common.{◌⊎◌, get_or-set_same, get_or-set_other, slice_set, slice_index_or, sum_by}
+use Rattle.c62_sheet.proofs.Common.{nat_tests, Reg, Issue, Issues, IsIssued, AtMostOne, UsesCrossPath, UsesDataPath, KeepsPacketRules, reads_in}
+use Rattle.c62_sheet.proofs.Common.{Resource, OnUnit, CrossPath, DataPath, Uses}
 use Rattle.c62_sheet.proofs.Common.{sum_by-set, HasFourReads, HasOneLanding, reads_count}
 
 -- who is issued, with one more

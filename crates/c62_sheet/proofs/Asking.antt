@@ -1,9 +1,9 @@
 -- What a row says against a number is what the packet rules P1 to P4 say.
-use Rattle.c62_sheet.proofs.Common.{arith, ◌≡◌, ℕ, ◌+◌, ◌<◌, ◌≤◌, List, length, Some, None, Option, true, false, refl, sym, ◌∙◌, slice_get, slice_set, Side, Reg, Insn, Issue, Issues, IsIssued}
+use Rattle.c62_sheet.proofs.Common.{arith, ◌≡◌, ℕ, ◌+◌, ◌<◌, ◌≤◌, List, length, Some, None, Option, true, false, refl, sym, ◌∙◌, slice_get, slice_set, Side, Insn, Issue, Issues}
 use Rattle.c62_sheet.proofs.Common.{UsesDataPath, UsesCrossPath, KeepsPacketRules, Resource, OnUnit, CrossPath, DataPath, Spot, Rule, P1, P2, P3, P4}
-use Rattle.c62_sheet.proofs.Common.{Spots, spot_at, placed, issue_at, issues, Meets, Breaks, turn_of, BreaksFirst, false≢true, KeepsAll, rule_of}
-use Rattle.c62_sheet.proofs.Common.{IsTrue, same_Some, slice_get_within, MatchOption, data_path_of, sum_by, reads_in, reads_count, Row, PacketRule, is_taken, is_path_taken}
-use Rattle.c62_sheet.proofs.Common.{reads_taken, reads_too_often, rule_against, IsRowOf, IsUsed, uses, Uses, uses-is, is-use, ◌&&◌}
+use Rattle.c62_sheet.proofs.Common.{Spots, spot_at, issue_at, issues, Meets, Breaks, turn_of, BreaksFirst, false≢true, KeepsAll, rule_of}
+use Rattle.c62_sheet.proofs.Common.{IsTrue, same_Some, slice_get_within, MatchOption, data_path_of, sum_by, reads_in, reads_count, Row, is_taken, is_path_taken}
+use Rattle.c62_sheet.proofs.Common.{reads_taken, reads_too_often, rule_against, IsRowOf, Uses, uses-is, is-use, ◌&&◌}
 use Rattle.std.specs.Prelude.{nat_lt}
 use Rattle.std.proofs.lemmas.Bool.{and_parts}
 use Rattle.std.proofs.lemmas.Bool.Decides.{nat_tests}

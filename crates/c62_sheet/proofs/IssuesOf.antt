@@ -1,7 +1,7 @@
 -- What is issued by a block and the spots of its numbers.
-use Rattle.c62_sheet.proofs.Common.{[], arith, ◌≡◌, ℕ, zero, suc, ◌+◌, ◌<◌, List, ◌∷◌, length, take, get_or, Option, Some, None, refl, sym, ap, ◌∙◌}
-use Rattle.c62_sheet.proofs.Common.{inl, inr, slice_get, slice_set, option_map, sum_by, get_or_default, get_or_past, sum_by_more, same_Some}
-use Rattle.c62_sheet.proofs.Common.{none-some, slice_get_cases, Reg, Insn, Issue, IsIssued, reads_in, Spot, Spots, IsAt, spot_at, placed, withdrawn}
+use Rattle.c62_sheet.proofs.Common.{[], arith, ◌≡◌, ℕ, zero, suc, List, ◌∷◌, length, get_or, Option, Some, None, refl, sym, ap, ◌∙◌}
+use Rattle.c62_sheet.proofs.Common.{inl, inr, slice_get, slice_set, option_map, get_or_past, same_Some}
+use Rattle.c62_sheet.proofs.Common.{none-some, slice_get_cases, Insn, Issue, IsIssued, Spot, Spots, IsAt, spot_at, placed, withdrawn}
 use Rattle.c62_sheet.proofs.Common.{issue_at, issues}
 
 pub length-issues : (block : List Insn) (set : Spots) → length set ≡ length block → length (issues block set) ≡ length block

@@ -7,6 +7,7 @@ pub mod Used
 pub mod Placing
 pub mod Missing
 pub mod EarlyCycles
+pub mod Followers
 pub mod Turns
 pub mod Asking
 pub mod RowsOf
@@ -20,3 +21,4 @@ pub mod Room
 pub mod Prefix
 pub mod Chains
 pub mod Victims
+pub mod Landings

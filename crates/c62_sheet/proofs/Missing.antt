@@ -7,6 +7,7 @@ use Rattle.c62_sheet.proofs.Common.{times, latency, needs_are, All-get_or, commo
 use Rattle.c62_sheet.proofs.Common.{eq-eqb, sum_by-cons, sum_by-append, sum_by-take-le, get_or-le-sum_by, count_by-le-length, linked, All-contains}
 use Rattle.c62_sheet.proofs.Common.{IsLatency, IsGreatestBound, followers_are, is_missing, IsIndex, AreLower, AreHigher}
 use Rattle.c62_depend.specs.Links.{needs, followers}
+use Rattle.c62_depend.specs.Plan.{IsShort}
 use Rattle.std.specs.List.{flat_map, range_with_len}
 use Rattle.c62_depend.proofs.Latencies.{latency-is}
 use Rattle.c62_sheet.proofs.Optional.{value_of_some, is_none-is, none_not_some}
@@ -183,7 +184,7 @@ module _ (block : List Insn) (set : Spots) (missing : List ℕ) (i n : ℕ) (ind
 
 module _ (links : List Link) (old now : List ℕ) (k : ℕ) (d : Link) (lt : k < length links) where
   -- one more of the followers stands at the end of the walk
-  times-more : (j : ℕ) → times j (take (k + 1) links) ≡ times j (take k links) + cond ((get_or links k d).number == j) 1 0
+  pub times-more : (j : ℕ) → times j (take (k + 1) links) ≡ times j (take k links) + cond ((get_or links k d).number == j) 1 0
   times-more j = sum_by_more (λ (link : Link). cond (link.number == j) 1 0) links k d lt
 
   times-part : (j : ℕ) → times j (take (k + 1) links) ≤ times j links
@@ -211,13 +212,16 @@ module _ (links : List Link) (old now : List ℕ) (k : ℕ) (d : Link) (lt : k <
 -- ---- what depends on a number
 
 module _ (block : List Insn) (i : ℕ) (links : List Link) (is : links ≡ followers block i) where
-  follower_is : (k : ℕ) (d : Link) → k < length links → latency block i (get_or links k d).number ≡ Some (get_or links k d).latency
+  pub follower_is : (k : ℕ) (d : Link) → k < length links → latency block i (get_or links k d).number ≡ Some (get_or links k d).latency
   follower_is k d lt =
       All-get_or (λ (x : Link). latency block i x.number ≡ Some x.latency) links k d lt
       (rw is (followers_are block i).all)
 
+  pub follower_short : (k : ℕ) (d : Link) → k < length links → IsShort block i (get_or links k d).number (get_or links k d).latency
+  follower_short k d lt = short_is block i (get_or links k d).number (get_or links k d).latency (follower_is k d lt)
+
   pub follower_at : (k : ℕ) (d : Link) → k < length links → (get_or links k d).number < length block
-  follower_at k d lt = (short_is block i (get_or links k d).number (get_or links k d).latency (follower_is k d lt)).within
+  follower_at k d lt = (follower_short k d lt).within
 
   -- a placed follower
   pub not_last : (set : Spots) (k n : ℕ) (d : Link) (o : Option Spot) → k < length links → length set ≡ length block → n ≡ (get_or links k d).number

@@ -1,11 +1,10 @@
 -- What adding one triple to a lawful set asks, and what taking one out leaves.
-use Rattle.c62_sheet.proofs.Common.{stands_on, true, arith, ◌≡◌, ℕ, ◌+◌, ◌*◌, ◌<◌, ◌≤◌, pos, List, length, Some, None, refl, sym, ap, ◌∙◌, inl, inr}
-use Rattle.c62_sheet.proofs.Common.{length-set, Contains, IsSome, slice_get, slice_set, slice_index_or, option_map, sum_by, cases_eq, cases_lt, ints}
-use Rattle.c62_sheet.proofs.Common.{none-some, Reg, Insn, Issue, IsIssued, AtMostOne, UsesCrossPath, UsesDataPath, KeepsPacketRules, reads_in, false}
+use Rattle.c62_sheet.proofs.Common.{stands_on, true, arith, ◌≡◌, ℕ, ◌*◌, ◌<◌, ◌≤◌, pos, List, length, Some, None, refl, sym, ap, ◌∙◌, inl, inr}
+use Rattle.c62_sheet.proofs.Common.{length-set, IsSome, slice_get, slice_set, slice_index_or, option_map, sum_by, cases_eq, cases_lt}
+use Rattle.c62_sheet.proofs.Common.{none-some, Reg, Insn, Issue, IsIssued, AtMostOne, UsesCrossPath, UsesDataPath, KeepsPacketRules, reads_in}
 use Rattle.c62_sheet.proofs.Common.{Depends, Resource, OnUnit, CrossPath, DataPath, Spot, P1, P2, P3, P4, Spots, IsAt, spot_at, placed, withdrawn}
 use Rattle.c62_sheet.proofs.Common.{issue_at, issues, IsLawful, IsAfter, IsLast, Meets, KeepsAll, Fits, part-without, part-keeps, get_or-set_same}
-use Rattle.c62_sheet.proofs.Common.{get_or-set_other, LandsIn, ◌-ℤ◌, WriteAfterWrite, Bounds, LandsTogether}
-use Rattle.c62_insn.specs.Insn.{register_writes}
+use Rattle.c62_sheet.proofs.Common.{get_or-set_other, Bounds, LandsTogether}
 use Rattle.c62_rules.specs.Dependence.{KeepsBounds}
 use Rattle.c62_rules.proofs.Exclusive.{one_landing}
 use Rattle.std.proofs.Common.{◌≤ℤ◌, ◌+ℤ◌, ℤ}

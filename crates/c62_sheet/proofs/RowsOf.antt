@@ -1,15 +1,14 @@
 -- The rows of a set of placements, after one was placed or taken out.
-use Rattle.c62_sheet.proofs.Common.{arith, ◌≡◌, ◌≢◌, ℕ, ◌+◌, ◌*◌, ◌<◌, ◌≤◌, List, length, Some, None, refl, sym, ap, ◌∙◌, inl, inr, ◌⊎◌, slice_get, slice_set, slice_index_or, get_or, get_or-set_same, get_or-set_other}
-use Rattle.c62_sheet.proofs.Common.{length-set, cases_eq, Insn, Issue, Issues, IsIssued, KeepsPacketRules, Spot, Spots, IsAt, spot_at, placed, withdrawn, nothing_placed, issue_at, issues, IsLawful}
-use Rattle.c62_sheet.proofs.Common.{AreRows, Row, PacketRule, IsRowOf, IsWith, IsWithout, IsEmpty, HasReads, rule_against, slice_get_within, MatchOption, get_or_default, KeepsAll, rule_of, BreaksFirst}
-use Rattle.c62_sheet.proofs.Common.{Reg, reads_count, reads_taken, reads_in, sum_by, length-replicate, get_or-replicate, set-get_or, FunctionalUnit, FitsRow, stands_on, Fits, true, Option}
+use Rattle.c62_sheet.proofs.Common.{arith, ◌≡◌, ℕ, ◌*◌, ◌<◌, ◌≤◌, List, length, Some, None, refl, sym, ap, ◌∙◌, inl, inr, slice_get, slice_set, slice_index_or, get_or, get_or-set_same, get_or-set_other}
+use Rattle.c62_sheet.proofs.Common.{length-set, cases_eq, Insn, Issue, IsIssued, KeepsPacketRules, Spot, Spots, IsAt, spot_at, placed, withdrawn, nothing_placed, issue_at, issues, IsLawful}
+use Rattle.c62_sheet.proofs.Common.{AreRows, Row, PacketRule, IsRowOf, IsWith, IsWithout, IsEmpty, HasReads, rule_against, slice_get_within, MatchOption, KeepsAll, rule_of, BreaksFirst}
+use Rattle.c62_sheet.proofs.Common.{reads_in, sum_by, length-replicate, get_or-replicate, set-get_or, FunctionalUnit, FitsRow, stands_on, Fits, true, Option}
 use Rattle.std.specs.Prelude.{replicate}
 use Rattle.c62_insn.specs.declared.unit_set.UnitSet.{UnitSet}
 use Rattle.c62_insn.specs.UnitSet.{unit_in}
 use Rattle.c62_row.specs.Issued.{IsFree}
 use Rattle.c62_row.proofs.Issuing.{row_follows, row_is_left, row_stays_placed, row_stays_taken_out, row_is_empty, reads-left, reads-now}
-use Rattle.c62_row.specs.declared.row.PacketRule.TheVariants.{P4 as FourthRule}
-use Rattle.c62_sheet.proofs.IssuesOf.{length-issues, issues-placed, issues-withdrawn, placement-issued, issued-placement}
+use Rattle.c62_sheet.proofs.IssuesOf.{length-issues, issues-withdrawn, placement-issued, issued-placement}
 use Rattle.c62_sheet.proofs.Placing.{added, not_issued}
 use Rattle.c62_sheet.proofs.Asking.{kept_in, row_tells}
 use Rattle.c62_sheet.proofs.Sets.{nothing_at, IsAt-withdrawn}

@@ -10,15 +10,15 @@ ghost use Rattle.c62_sheet.specs.Early.{IsPlacedEarly, IsBoundBy};
 use crate::entry::Spot;
 use c62_depend::{Link, Plan};
 
-/// The first cycle that exceeds another by a latency.
-fn first_after(cycle: u16, latency: i32) -> u16
+/// The first cycle in which the latency of a dependence is over, where its other end stands in a cycle.
+pub(crate) fn first_after(cycle: u16, link: Link) -> u16
     requires early { cycle < ISSUE_CYCLES }
-    requires above { negsuc 4 ≤ℤ latency }
-    requires below { latency ≤ℤ pos 5 }
-    ensures after { (pos cycle +ℤ latency) ≤ℤ pos result }
-    ensures least { (other : ℕ) → (pos cycle +ℤ latency) ≤ℤ pos other → result ≤ other }
+    requires above { negsuc 4 ≤ℤ link.latency }
+    requires below { link.latency ≤ℤ pos 5 }
+    ensures after { (pos cycle +ℤ link.latency) ≤ℤ pos result }
+    ensures least { (other : ℕ) → (pos cycle +ℤ link.latency) ≤ℤ pos other → result ≤ other }
 {
-    let first = i32::from(cycle) + latency;
+    let first = i32::from(cycle) + i32::from(link.latency);
     if first < 0 { 0 } else { first as u16 }
 }
 
@@ -32,7 +32,7 @@ fn bound_by(spots: &[Option<Spot>], link: Link) -> u16
 {
     match spots[usize::from(link.number)] {
         None => 0,
-        Some(spot) => first_after(spot.cycle, i32::from(link.latency)),
+        Some(spot) => first_after(spot.cycle, link),
     }
 }
 

@@ -8,13 +8,12 @@ ghost use Rattle.c62_insn.specs.UnitSet.{unit_in};
 ghost use Rattle.c62_depend.specs.Height.{height};
 ghost use Rattle.c62_depend.specs.Side.{stands_on};
 ghost use Rattle.c62_sheet.specs.Lawful.{spot_at, withdrawn, issues, IsLawful};
-ghost use Rattle.c62_sheet.specs.Least.{IsReady, IsReadyOn, IsAfter, IsLeast, FindsLeast, Picks, IsLast, FitsWithout};
+ghost use Rattle.c62_sheet.specs.Least.{IsReady, IsReadyOn, IsAfter, IsEarly, IsLeast, FindsLeast, Picks, IsLast, FitsWithout};
 ghost use Rattle.c62_sheet.specs.Check.{Judges};
 ghost use Rattle.c62_sheet.specs.Index.{IsIndex};
 ghost use Rattle.c62_sheet.specs.Packet.{rule_of};
 ghost use Rattle.c62_sheet.specs.Rows.{AreRows, FitsRow};
 
-use crate::early::early;
 use crate::entry::{Rule, Spot, Unlawful};
 use crate::rows::row_without;
 use c62_depend::Plan;
@@ -33,12 +32,13 @@ fn rule_of(rule: PacketRule) -> Rule
     }
 }
 
-/// Whether instruction `i` may be placed at a spot, or the first rule against it.
+/// Whether instruction `i` may be placed at a spot, or the first rule against it. Its early cycle is given.
 pub(crate) fn check(
     plan: &Plan,
     spots: &[Option<Spot>],
     missing: &[u16],
     rows: &[Row],
+    first: u16,
     i: u16,
     spot: Spot,
 ) -> Result<(), Unlawful>
@@ -46,6 +46,7 @@ pub(crate) fn check(
     requires index { IsIndex (insns_of plan.now) spots.now missing.now }
     requires rows { AreRows (insns_of plan.now) spots.now rows.now }
     requires in_plan { i < length plan.now.insns }
+    requires early { IsEarly (insns_of plan.now) spots.now i first }
     ensures { Judges (insns_of plan.now) spots.now i spot result }
 {
     let cycle = spot.cycle;
@@ -73,7 +74,6 @@ pub(crate) fn check(
             cycle,
         });
     }
-    let first = early(plan, spots, i);
     if cycle < first {
         return Err(Unlawful {
             rule: Rule::Delay,
@@ -106,17 +106,25 @@ fn fits(row: &Row, units: UnitSet, insn: Insn, unit: Unit) -> bool
     units.has(unit) && row.rule_against(insn, unit).is_none()
 }
 
-/// The least spot of a ready instruction: the first cycle, and there the first unit, at which it may be placed.
-pub(crate) fn least(plan: &Plan, spots: &[Option<Spot>], rows: &[Row], i: u16) -> Option<Spot>
+/// The least spot of a ready instruction: the first cycle, and there the first unit, at which it may be placed. Its early
+/// cycle is given.
+pub(crate) fn least(
+    plan: &Plan,
+    spots: &[Option<Spot>],
+    rows: &[Row],
+    first: u16,
+    i: u16,
+) -> Option<Spot>
     requires lawful { IsLawful (insns_of plan.now) spots.now }
     requires rows { AreRows (insns_of plan.now) spots.now rows.now }
     requires in_plan { i < length plan.now.insns }
     requires ready { IsReady (insns_of plan.now) spots.now i }
+    requires early { IsEarly (insns_of plan.now) spots.now i first }
     ensures { FindsLeast (insns_of plan.now) spots.now i result }
 {
     let units = plan.units(i);
     let insn = plan.insn(i);
-    for cycle in early(plan, spots, i)..5 * plan.len() {
+    for cycle in first..5 * plan.len() {
         let row = rows[usize::from(cycle)];
         for unit in Unit::ALL {
             if fits(&row, units, insn, unit) {
@@ -213,11 +221,12 @@ pub(crate) fn is_last(plan: &Plan, spots: &[Option<Spot>], i: u16) -> bool
     true
 }
 
-/// Whether a spot is the least one of a ready instruction.
+/// Whether a spot is the least one of a ready instruction. Its early cycle is given.
 pub(crate) fn is_least(
     plan: &Plan,
     spots: &[Option<Spot>],
     rows: &[Row],
+    first: u16,
     i: u16,
     spot: Spot,
 ) -> bool
@@ -225,11 +234,12 @@ pub(crate) fn is_least(
     requires rows { AreRows (insns_of plan.now) spots.now rows.now }
     requires in_plan { i < length plan.now.insns }
     requires ready { IsReady (insns_of plan.now) spots.now i }
+    requires early { IsEarly (insns_of plan.now) spots.now i first }
     ensures { IsTrue result ↔ IsLeast (insns_of plan.now) spots.now i spot }
 {
-    match least(plan, spots, rows, i) {
+    match least(plan, spots, rows, first, i) {
         None => false,
-        Some(first) => is_same_spot(first, spot),
+        Some(found) => is_same_spot(found, spot),
     }
 }
 

@@ -3,6 +3,7 @@
 
 mod chain;
 mod counts;
+mod earliest;
 mod early;
 mod entry;
 mod index;

@@ -11,7 +11,7 @@ ghost use Rattle.c62_sheet.specs.Counts.{AreCounts, set_length};
 ghost use Rattle.c62_sheet.specs.Journal.{after, PermitsPlace, PermitsWithdraw, Permits};
 
 use crate::entry::{Counts, Entry, Spot, Unlawful};
-use crate::{counts, early, index, judge, rows, victim};
+use crate::{counts, earliest, index, judge, rows, victim};
 use c62_depend::Plan;
 use c62_insn::Side;
 use c62_row::Row;
@@ -25,6 +25,7 @@ pub struct Sheet {
     plan: Plan,
     spots: Vec<Option<Spot>>,
     missing: Vec<u16>,
+    earliest: Vec<u16>,
     rows: Vec<Row>,
 }
 
@@ -65,11 +66,15 @@ impl Sheet {
         let Ok(missing) = index::all_missing(alloc, &plan) else {
             return Err((plan, AllocError));
         };
+        let Ok(earliest) = vec![in alloc; 0u16; usize::from(plan.len())] else {
+            return Err((plan, AllocError));
+        };
         match rows::all_rows(alloc, &plan) {
             Ok(rows) => Ok(Sheet {
                 plan,
                 spots,
                 missing,
+                earliest,
                 rows,
             }),
             Err(error) => Err((plan, error)),
@@ -88,6 +93,7 @@ impl Sheet {
             plan: self.plan.copy(alloc)?,
             spots: Vec::from_slice(alloc, &self.spots)?,
             missing: Vec::from_slice(alloc, &self.missing)?,
+            earliest: Vec::from_slice(alloc, &self.earliest)?,
             rows: Vec::from_slice(alloc, &self.rows)?,
         })
     }
@@ -120,7 +126,16 @@ impl Sheet {
         requires { i < length self.now.plan.insns }
         ensures { Judges (insns_of self.now.plan) self.now.spots i spot result }
     {
-        judge::check(&self.plan, &self.spots, &self.missing, &self.rows, i, spot)
+        let first = self.early(i);
+        judge::check(
+            &self.plan,
+            &self.spots,
+            &self.missing,
+            &self.rows,
+            first,
+            i,
+            spot,
+        )
     }
 
     /// Whether instruction `i` is ready: it is not placed, and all that it depends on is.
@@ -136,7 +151,8 @@ impl Sheet {
         requires { i < length self.now.plan.insns }
         ensures { IsEarly (insns_of self.now.plan) self.now.spots i result }
     {
-        early::early(&self.plan, &self.spots, i)
+        let number = usize::from(i);
+        self.earliest[number]
     }
 
     /// The least spot of a ready instruction: the first cycle, and there the first unit in the order L, S, M, D, at which
@@ -146,7 +162,7 @@ impl Sheet {
         requires ready { IsReady (insns_of self.now.plan) self.now.spots i }
         ensures { FindsLeast (insns_of self.now.plan) self.now.spots i result }
     {
-        judge::least(&self.plan, &self.spots, &self.rows, i)
+        judge::least(&self.plan, &self.spots, &self.rows, self.early(i), i)
     }
 
     /// The ready instruction of a side that is greatest in height, for a tie the lowest. `None` where none is ready.
@@ -216,6 +232,7 @@ impl Sheet {
         ensures { self.new ≡ record self.old { spots = placed self.old.spots i spot } }
     {
         index::lower_followers(&self.plan, &mut self.missing, i);
+        earliest::raise_followers(&self.plan, &self.spots, &mut self.earliest, i, spot);
         rows::take(&self.plan, &self.spots, &mut self.rows, i, spot);
         self.spots[usize::from(i)] = Some(spot);
     }
@@ -230,6 +247,7 @@ impl Sheet {
         index::raise_followers(&self.plan, &mut self.missing, i);
         rows::free(&self.plan, &self.spots, &mut self.rows, i);
         self.spots[usize::from(i)] = None;
+        earliest::find_followers(&self.plan, &self.spots, &mut self.earliest, i);
     }
 
     fn permits_place(&self, i: u16, spot: Spot) -> bool
@@ -237,7 +255,7 @@ impl Sheet {
     {
         i < self.plan.len()
             && self.ready(i)
-            && judge::is_least(&self.plan, &self.spots, &self.rows, i, spot)
+            && judge::is_least(&self.plan, &self.spots, &self.rows, self.early(i), i, spot)
     }
 
     fn permits_withdraw(&self, i: u16) -> bool
@@ -278,6 +296,7 @@ impl Sheet {
         ensures { self.new ≡ record self.old { spots = nothing_placed (length self.old.plan.insns) } }
     {
         index::reset(&self.plan, &mut self.missing);
+        earliest::reset(&self.plan, &mut self.earliest);
         rows::free_all(&self.plan, &mut self.rows);
         take_out_all(&mut self.spots);
     }

@@ -69,5 +69,5 @@ pub fn least_in(plan: &Plan, spots: &[Option<Spot>], i: u16) -> Option<Spot>
     prove!(count <= MOST_INSTRUCTIONS);
     let mut rows = [Row::new(); 5 * MOST_INSTRUCTIONS];
     take_all(plan, spots, &mut rows);
-    judge::least(plan, spots, &rows, i)
+    judge::least(plan, spots, &rows, early(plan, spots, i), i)
 }

@@ -4,7 +4,7 @@ use Rattle.c62_sheet.proofs.Search.{first_unit, searched_none, searched_unit, se
 use Rattle.c62_sheet.proofs.judge.least.Goals as goal
 
 pub loop-cycle-init : goal.loop-cycle-init
-loop-cycle-init c = searched_none _ _ _ c.requires.lawful (omega (arith, many_insns)) c.requires.ready _ c.early-cycle.ensures
+loop-cycle-init c = searched_none _ _ _ c.requires.lawful (omega (arith, many_insns)) c.requires.ready _ c.requires.early
 
 pub returns-then-fits : goal.returns-then-fits
 returns-then-fits c =

@@ -1,5 +1,5 @@
-use Rattle.c62_sheet.proofs.Common.{arith, insns_of, IsAt, IsRowOf, issues, get_or}
-use Rattle.c62_sheet.proofs.RowsOf.{within_rows, has_reads, rows_withdrawn, nothing_out}
+use Rattle.c62_sheet.proofs.Common.{insns_of, IsAt}
+use Rattle.c62_sheet.proofs.RowsOf.{within_rows, has_reads, rows_withdrawn}
 use Rattle.c62_sheet.proofs.rows.free.Goals as goal
 
 pub remove-requires : goal.remove-requires

@@ -1,4 +1,4 @@
-use Rattle.c62_sheet.proofs.Common.{arith, insns_of, many_insns, IsAt, ◌≡◌, ◌<◌, length, get_or, Row, IsRowOf, issues, sym, ◌∙◌}
+use Rattle.c62_sheet.proofs.Common.{arith, insns_of, many_insns, IsAt, get_or, sym, ◌∙◌}
 use Rattle.c62_sheet.proofs.RowsOf.{row_behind, row_left, row_kept, has_reads, row_at, any_row}
 use Rattle.c62_sheet.proofs.Used.{insn_at}
 use Rattle.c62_sheet.proofs.rows.row_without.Goals as goal

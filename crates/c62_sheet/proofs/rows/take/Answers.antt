@@ -1,4 +1,4 @@
-use Rattle.c62_sheet.proofs.Common.{arith, insns_of, many_insns}
+use Rattle.c62_sheet.proofs.Common.{arith, insns_of}
 use Rattle.c62_sheet.proofs.RowsOf.{rows_placed}
 use Rattle.c62_sheet.proofs.rows.take.Goals as goal
 

@@ -1,4 +1,4 @@
-use Rattle.c62_sheet.proofs.Common.{arith, ◌≡◌, ◌+◌, ◌<◌, length, None, Some, ap, sym, suc, add-one, ◌∙◌, insns_of, many_insns, IsAt, spot_at, AreRows, get_or, placed}
+use Rattle.c62_sheet.proofs.Common.{arith, ◌≡◌, length, None, suc, add-one, ◌∙◌, insns_of, many_insns, IsAt, spot_at, placed}
 use Rattle.c62_sheet.proofs.RowsOf.{rows_placed}
 use Rattle.c62_sheet.proofs.Fronts.{first_placed, length-first, first-none, first-all, first-free, first-more, first-same}
 use Rattle.c62_sheet.proofs.rows.take_all.Goals.{in-Some, in_default}

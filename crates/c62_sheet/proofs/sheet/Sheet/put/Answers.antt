@@ -11,6 +11,14 @@ lower_followers-requires-clause-counted c j =
     rw c.deref_mut.ensures.value (counted_enough _ _ _ _ c.self.invariant.index j c.self.invariant.lawful.sized
     (omega (arith, in_plan, many_insns)) may.free)
 
+pub raise_followers-requires-clause-within : goal.raise_followers-requires-clause-within
+raise_followers-requires-clause-within c =
+    let b = c.self.inside in
+    let may : IsOpen (insns_of b.plan) b.spots.items c.args.i c.args.spot = rw (← c.self.view_is) at c.requires.may in
+    let in_plan : c.args.i < length b.plan.insns = rw (← c.self.view_is) at c.requires.in_plan in
+    let within = within_from_lawful (insns_of b.plan) b.spots.items c.args.i c.args.spot (omega (arith, in_plan, many_insns, c.self.invariant.lawful.sized)) may.lawful in
+    omega (arith, within, c.self.invariant.known.few)
+
 pub take-requires-clause-within : goal.take-requires-clause-within
 take-requires-clause-within c =
     let b = c.self.inside in
@@ -32,6 +40,8 @@ invariant_of-self c =
           (index-placed _ _ _ _ c.self.invariant.index c.lower_followers.new.missing _ c.self.invariant.lawful.sized
           (omega (arith, in_plan, many_insns))
           may.free same (λ j. rw (← c.deref_mut.ensures.value) (c.lower_followers.ensures j)));
-      rows = rw (with_items_is b.rows c.take.new.rows (omega (arith, c.take.auto.rows, c.deref_mut-2.ensures.len)), c.from.ensures)
-          (rw c.deref.ensures.value at c.take.ensures);
+      early = rw (with_items_is b.earliest c.raise_followers.new.earliest (omega (arith, c.raise_followers.auto.earliest, c.deref_mut-2.ensures.len)), c.from.ensures)
+          (rw c.deref.ensures.value at c.raise_followers.ensures);
+      rows = rw (with_items_is b.rows c.take.new.rows (omega (arith, c.take.auto.rows, c.deref_mut-3.ensures.len)), c.from.ensures)
+          (rw c.deref-2.ensures.value at c.take.ensures);
     }

@@ -1,10 +1,23 @@
 use Rattle.c62_sheet.proofs.Common.{arith, ◌≡◌, ◌<◌, ◌∙◌, ap, length, ℕ, IsSome, with_items_is, insns_of, many_insns, spot_at, IsLast}
 use Rattle.c62_sheet.proofs.Placing.{lawful_withdrawn}
 use Rattle.c62_sheet.proofs.Missing.{counted_room, index-withdrawn}
+use Rattle.c62_sheet.proofs.Followers.{early-without}
 use Rattle.c62_sheet.proofs.sheet.Sheet.take_out.Goals as goal
 
 pub raise_followers-requires-clause-room : goal.raise_followers-requires-clause-room
 raise_followers-requires-clause-room c j = rw c.deref_mut.ensures.value (counted_room _ _ _ _ c.self.invariant.index j c.self.invariant.known.few)
+
+pub find_followers-requires-clause-lawful : goal.find_followers-requires-clause-lawful
+find_followers-requires-clause-lawful c =
+    let b = c.self.inside in
+    let last : IsLast (insns_of b.plan) b.spots.items c.args.i = rw (← c.self.view_is) at c.requires.last in
+    let in_plan : c.args.i < length b.plan.insns = rw (← c.self.view_is) at c.requires.in_plan in
+    rw (c.deref-2.ensures.value, c.from.ensures) (lawful_withdrawn _ _ _ c.self.invariant.lawful (omega (arith, in_plan, many_insns)) last)
+
+pub find_followers-requires-clause-others : goal.find_followers-requires-clause-others
+find_followers-requires-clause-others c =
+    let b = c.self.inside in
+    rw (c.deref-2.ensures.value, c.deref_mut-3.ensures.value, c.from.ensures) (early-without (insns_of b.plan) b.spots.items c.args.i b.earliest.items c.self.invariant.early)
 
 pub invariant_of-self : goal.invariant_of-self
 invariant_of-self c =
@@ -21,6 +34,8 @@ invariant_of-self c =
           (index-withdrawn _ _ _ _ c.self.invariant.index c.raise_followers.new.missing c.self.invariant.lawful.sized
           (omega (arith, in_plan, many_insns))
           taken same (λ j. rw (← c.deref_mut.ensures.value) (c.raise_followers.ensures j)));
+      early = rw (with_items_is b.earliest c.find_followers.new.earliest (omega (arith, c.find_followers.auto.earliest, c.deref_mut-3.ensures.len)))
+          (rw c.deref-2.ensures.value at c.find_followers.ensures);
       rows = rw (with_items_is b.rows c.free.new.rows (omega (arith, c.free.auto.rows, c.deref_mut-2.ensures.len)), c.from.ensures)
           (rw c.deref.ensures.value at c.free.ensures);
     }

@@ -1,0 +1,4 @@
+pub mod Bound
+pub mod Path
+pub mod Length
+pub mod Laws

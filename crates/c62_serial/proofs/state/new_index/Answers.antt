@@ -1,5 +1,0 @@
-use Rattle.c62_serial.proofs.FaultLemmas.{found}
-use Rattle.c62_serial.proofs.state.new_index.Goals as goal
-
-pub returns : goal.returns
-returns c = rw c.err.ensures.value (found c.args.lines.now c.args.line c.binary_search.result c.requires c.binary_search.ensures.position)
