@@ -6,3 +6,4 @@ pub mod FaultText
 pub mod Text
 pub mod Added
 pub mod Flight
+pub mod Laws

@@ -5,6 +5,7 @@ mod clock;
 mod draft;
 mod fault;
 mod flight;
+pub mod laws;
 mod text;
 
 pub use clock::Stand;

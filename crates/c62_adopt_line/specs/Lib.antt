@@ -2,3 +2,4 @@ pub mod Directive
 pub mod FaultName
 pub mod Plain
 pub mod Line
+pub mod Laws
