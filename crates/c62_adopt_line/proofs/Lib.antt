@@ -2,3 +2,4 @@ pub mod Common
 pub mod Labels
 pub mod SpacedWords
 pub mod WholeLines
+pub mod SerialLines

@@ -169,11 +169,14 @@ fn read_labelled(
 }
 
 /// The label of a line, with `_` in place of dots.
-#[tactic(auto, using(crate::proofs::Labels::field_is_label))]
+#[tactic(auto, using(crate::proofs::Labels::field_is_label, crate::proofs::Labels::no_colon_no_label))]
 fn label_of(line: &[u8]) -> Option<Label>
     requires { length line.now ≤ 255 }
     ensures { result ≡ label_field (undotted true line.now) }
 {
+    if !scan_line(line).colon {
+        return None;
+    }
     owned_label(label_field(&undotted(true, line)))
 }
 
