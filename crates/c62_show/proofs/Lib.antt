@@ -1,3 +1,4 @@
 pub mod Drawing
 pub mod Pauses
 pub mod Heads
+pub mod Cells

@@ -1,4 +1,4 @@
--- What stands above the rows of a block (docs/SHOW.md, "The head").
+-- What stands above the rows of a block (docs/SHOW.md, "The head" and "The path and the units").
 use Rattle.std.specs.Prelude.{ℕ, ◌-◌, ◌==◌, nat_le, nat_lt, Bool, List, [], ◌++◌, length, slice_get, unwrap_or, codes, decimal, Option, Some, None, if◌then◌else◌}
 use Rattle.std.specs.List.{flat_map}
 use Rattle.c62_op.specs.declared.register.Side.{Side}

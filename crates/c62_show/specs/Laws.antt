@@ -1,16 +1,16 @@
 -- Laws of pictures.
-use Rattle.std.specs.Prelude.{◌≡◌, ℕ, ◌<◌, ◌≤◌, false, List}
+use Rattle.std.specs.Prelude.{◌≡◌, ℕ, ◌<◌, ◌≤◌, false, List, find, Some, slice_get}
 use Rattle.c62_read.specs.Block.{Serial}
 use Rattle.c62_depend.specs.Plan.{insns_of, IsPlan}
 use Rattle.c62_sheet.specs.Lawful.{Spots, IsLawful}
 use Rattle.c62_sheet.specs.Least.{IsComplete}
 use Rattle.c62_sheet.specs.Counts.{set_length}
 use Rattle.c62_packet.specs.declared.placed.Placed.{Placed}
-use Rattle.c62_packet.specs.Packed.{IsInListingOrder, IsPacketBlock}
+use Rattle.c62_packet.specs.Packed.{Packed, IsInListingOrder, IsPacketBlock}
 use Rattle.c62_show.specs.declared.shown.Shown.{Shown}
 use Rattle.c62_show.specs.Limits.{AreLimits, least_of}
 use Rattle.c62_show.specs.Head.{verdict, none_is_shorter}
-use Rattle.c62_show.specs.Grid.{is_issued, next_issue}
+use Rattle.c62_show.specs.Grid.{is_issued, is_on, next_issue, packet}
 
 -- Each lawful schedule has at least as many cycles as the bound, and where the head of a block says that no schedule is
 -- shorter, at least as many as the block.
@@ -28,3 +28,8 @@ HeadIsTrue block shown =
 abbrev pub IsIdleUntil : List Placed → ℕ → ℕ → Type 0
 IsIdleUntil placed cycles cycle =
     (k : ℕ) → IsInListingOrder placed → is_issued placed cycle ≡ false → cycle ≤ k → k < next_issue placed cycles cycle → is_issued placed k ≡ false
+
+-- each instruction of a packet block is what the cell of its cycle and unit has
+abbrev pub AreAllShown : Packed → Type 0
+AreAllShown block =
+    (k : ℕ) (p : Placed) → IsPacketBlock block → slice_get block.placed k ≡ Some p → find (is_on p.unit) (packet block.placed p.cycle) ≡ Some p
