@@ -1,5 +1,5 @@
 -- The greater of the critical path and the greatest need.
-use Rattle.std.proofs.Common.{arith, ◌≡◌, ℕ, ◌+◌, ◌<◌, ◌≤◌, List, [], length, max, refl, sym, ◌∙◌, subst, inl, inr}
+use Rattle.std.proofs.Common.{arith, ◌≡◌, ℕ, ◌<◌, ◌≤◌, List, [], length, max, refl, ◌∙◌, inl, inr}
 use Rattle.std.proofs.lemmas.Bool.{cases_lt}
 use Rattle.c62_insn.specs.declared.insn.Insn.{Insn}
 use Rattle.c62_bound.specs.declared.need.Need.{Need}

@@ -24,7 +24,7 @@ use Rattle.c62_sheet.proofs.Used.{insn_at}
 use Rattle.c62_bound.specs.declared.need.Kind.{Kind}
 use Rattle.c62_bound.specs.declared.need.Kind.TheVariants.{M as OnM, Lsd}
 use Rattle.c62_bound.specs.declared.need.Need.{Need}
-use Rattle.c62_bound.specs.Bound.{has_letter, width, StandsOnlyOn, WaitsFor, IsConfined, IsNeed, cycles_of, IsGreatestNeed}
+use Rattle.c62_bound.specs.Bound.{has_letter, width, StandsOnlyOn, WaitsFor, IsConfined, IsNeed}
 use Rattle.c62_bound.specs.Laws.{ReachesThePath}
 use Rattle.c62_bound.proofs.Seats.{some_width}
 use Rattle.c62_bound.proofs.Lengths.{no_fewer}

@@ -1,14 +1,13 @@
 -- What is greatest is one.
-use Rattle.std.proofs.Common.{arith, ◌≡◌, ℕ, ◌+◌, ◌<◌, ◌≤◌, List, [], length, refl, sym, ap, ◌∙◌, inl, inr}
+use Rattle.std.proofs.Common.{arith, ◌≡◌, ℕ, ◌<◌, ◌≤◌, List, [], refl, inl, inr}
 use Rattle.std.specs.Int.{div_ceil}
 use Rattle.std.proofs.lemmas.Bool.{cases_lt}
 use Rattle.c62_op.specs.declared.register.Side.{Side}
 use Rattle.c62_op.specs.declared.register.Side.TheVariants.{A, B}
 use Rattle.c62_insn.specs.declared.insn.Insn.{Insn}
 use Rattle.c62_bound.specs.declared.need.Kind.{Kind}
-use Rattle.c62_bound.specs.declared.need.Kind.TheVariants.{L as OnL, S as OnS, M as OnM, D as OnD, Ls, Lsd, Path}
 use Rattle.c62_bound.specs.declared.need.Need.{Need}
-use Rattle.c62_bound.specs.Bound.{cycles_of, width, kind_index, place, ComesFirst, IsGreatestNeed}
+use Rattle.c62_bound.specs.Bound.{cycles_of, width, kind_index, place, ComesFirst}
 use Rattle.c62_bound.proofs.Counting.{same_parts}
 use Rattle.c62_bound.specs.Length.{IsNeeded, IsLeastLength}
 use Rattle.c62_bound.specs.Laws.{HasOneGreatest, HasOneLeastLength, NothingTakesNoCycle}

@@ -1,4 +1,5 @@
 pub mod Bound
+pub mod Waiting
 pub mod Path
 pub mod Length
 pub mod Laws

@@ -1,6 +1,4 @@
-use Rattle.std.proofs.Common.{◌≡◌, max}
 use Rattle.c62_depend.specs.Plan.{insns_of}
-use Rattle.c62_bound.specs.Bound.{cycles_of}
 use Rattle.c62_bound.proofs.Lengths.{least_with}
 use Rattle.c62_bound.proofs.length.least_length.Goals as goal
 
