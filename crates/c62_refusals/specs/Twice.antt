@@ -1,5 +1,5 @@
 -- What comes of a call that is made again where memory was refused.
-use Rattle.std.specs.Prelude.{◌≡◌, ◌≢◌, ◌⊎◌, ℕ, Option, Some, None}
+use Rattle.std.specs.Prelude.{◌≡◌, ◌≢◌, ◌⊎◌, ℕ, Bool, if◌then◌else◌, Option, Some, None}
 use Rattle.std.specs.Fn.{Shared}
 use denote.Ref.{MutBor}
 use Rattle.c62_refusals.specs.declared.twice.Came.{Came}
@@ -50,3 +50,10 @@ module _ {T : Type 0} (Looks : T → ℕ → Type 0) where
       Never : IsRefusedAgain old new → LookSame old new → CameOf old new Memory
       OtherAtOnce : Calls old None new → LookOther old new → CameOf old new Changed
       OtherAfterwards : IsRefusedAgain old new → LookOther old new → CameOf old new Changed
+
+-- a call at a desk that was refused memory changed something where it published something
+abbrev pub if_published : Came → Bool → Came
+if_published Memory published = if published then Changed else Memory
+if_published (Answer answer) published = Answer answer
+if_published (Again answer) published = Again answer
+if_published Changed published = Changed

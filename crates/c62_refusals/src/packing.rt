@@ -1,5 +1,7 @@
 //! Calls that make packets and lists of them.
 
+ghost use Rattle.std.specs.Prelude.{◌≡◌, None};
+
 use crate::answer::answered;
 use crate::given::{packed, whole_board, with_block};
 use crate::twice::{Came, twice};
@@ -52,7 +54,10 @@ fn full_list(alloc: Global, board: &Board) -> Option<Packets> {
 }
 
 /// Appends the block, or puts it back.
-fn push_block(packets: &mut Packets, block: &mut Option<PacketBlock>) -> Option<u64> {
+fn push_block(packets: &mut Packets, block: &mut Option<PacketBlock>) -> Option<u64>
+    ensures list { result ≡ None → packets.new ≡ packets.old }
+    ensures back { result ≡ None → block.new ≡ block.old }
+{
     if packets.len() >= MOST_BLOCKS {
         return None;
     }

@@ -1,6 +1,6 @@
 //! Calls on boards.
 
-ghost use Rattle.std.specs.Prelude.{◌≡◌, ◌<◌, ◌++◌, length, IfSome, MatchOption, true, false};
+ghost use Rattle.std.specs.Prelude.{◌≡◌, ◌<◌, ◌++◌, length, None, IfSome, MatchOption, true, false};
 ghost use Rattle.c62_depend.specs.Plan.{insns_of};
 ghost use Rattle.c62_sheet.specs.Least.{Picks};
 ghost use Rattle.c62_refusals.specs.Placing.{among, IsNext, IsProposed, IsFirst};
@@ -17,7 +17,9 @@ use c62_work::{finish, turns};
 use std::alloc::Global;
 
 /// Begins a board of the plan, or puts it back.
-fn begin_board(alloc: Global, plan: &mut Option<Plan>) -> Option<u64> {
+fn begin_board(alloc: Global, plan: &mut Option<Plan>) -> Option<u64>
+    ensures { result ≡ None → plan.new ≡ plan.old }
+{
     match Board::new(alloc, plan.take()?, BUDGET) {
         Ok(board) => Some(look_at(&board)),
         Err((back, _)) => {
@@ -46,7 +48,9 @@ fn course_of(alloc: Global, board: &Board) -> Option<(Plan, Vec<Entry>)>
 }
 
 /// Replays the entries, or puts the plan back.
-fn replay_board(alloc: Global, plan: &mut Option<Plan>, entries: &[Entry]) -> Option<u64> {
+fn replay_board(alloc: Global, plan: &mut Option<Plan>, entries: &[Entry]) -> Option<u64>
+    ensures { result ≡ None → plan.new ≡ plan.old }
+{
     match Board::replay(alloc, plan.take()?, BUDGET, entries) {
         Ok(board) => Some(look_at(&board)),
         Err((back, fault)) => {

@@ -1,5 +1,7 @@
 //! Calls that read and write texts, that plan, and that hold a listing against a text.
 
+ghost use Rattle.std.specs.Prelude.{◌≡◌, None};
+
 use crate::answer::answered;
 use crate::given::{block_of, listing_of, packets_in, plan_of, program_of};
 use crate::twice::{Came, twice};
@@ -35,7 +37,9 @@ pub(crate) fn lists(alloc: Global, text: &str) -> Option<Came> {
 }
 
 /// Plans the block, or puts it back.
-fn plan_block(alloc: Global, block: &mut Option<Block>) -> Option<u64> {
+fn plan_block(alloc: Global, block: &mut Option<Block>) -> Option<u64>
+    ensures { result ≡ None → block.new ≡ block.old }
+{
     match Plan::new(alloc, block.take()?) {
         Ok(plan) => Some(look_at(&plan)),
         Err((back, _)) => {

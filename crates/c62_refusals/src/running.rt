@@ -1,5 +1,10 @@
 //! Calls that run blocks and programs.
 
+ghost use Rattle.std.specs.Prelude.{◌≡◌, ◌++◌, None, Some, Contains, IfOk, OnErr};
+ghost use Rattle.c62_seen.specs.Digest.{digest_of};
+ghost use Rattle.c62_seen.specs.State.{of_contents};
+ghost use Rattle.c62_refusals.specs.declared.answer.TheConstants.{FAULT as OTHER_FAULT};
+
 use crate::answer::{FAULT, answered};
 use crate::given::{block_of, packed, packets_in, program_of, whole_board};
 use crate::opening::opening;
@@ -56,7 +61,11 @@ fn chained<T: Seen + Drop>(
     answer: Result<T, AllocError>,
     state: &State,
     starts: &[u64],
-) -> Option<u64> {
+) -> Option<u64>
+    ensures value { IfOk answer (λ value. result ≡ Some (digest_of (T.shown value ++ of_contents state.now))) }
+    ensures start { OnErr answer (Contains starts.now (digest_of (of_contents state.now)) → result ≡ None) }
+    ensures within { OnErr answer ((Contains starts.now (digest_of (of_contents state.now)) → ⊥) → result ≡ Some OTHER_FAULT) }
+{
     if answer.is_err() && !starts.contains(&look_at(state)) {
         return Some(FAULT);
     }

@@ -1,5 +1,8 @@
 //! Calls on desks, and schedules by two workers.
 
+ghost use Rattle.std.specs.Prelude.{◌≡◌, None};
+ghost use Rattle.c62_refusals.specs.Twice.{if_published};
+
 use crate::answer::{answered, taken};
 use crate::given::{begun_board, plan_of};
 use crate::placing::{proposed, side_of};
@@ -14,7 +17,9 @@ use std::sync::Wait;
 use std::thread::Threads;
 
 /// Opens a desk of the board, or puts it back.
-fn open_desk<R: Wait>(rt: &R, alloc: Global, board: &mut Option<Board>) -> Option<u64> {
+fn open_desk<R: Wait>(rt: &R, alloc: Global, board: &mut Option<Board>) -> Option<u64>
+    ensures { result ≡ None → board.new ≡ board.old }
+{
     match desk_of(rt, alloc, board.take()?) {
         Ok((desk, _, _)) => Some(look_at(&desk.close(rt))),
         Err((back, fault)) => {
@@ -32,6 +37,16 @@ pub(crate) fn opens<R: Wait>(rt: &R, alloc: Global, text: &str) -> Option<Came> 
     )
 }
 
+/// What came of a call at a desk: a refused one published nothing.
+fn if_published(came: Came, published: bool) -> Came
+    ensures { result ≡ if_published came published }
+{
+    match came {
+        Came::Memory if published => Came::Changed,
+        came => came,
+    }
+}
+
 /// A call on a desk of a board. Where it is refused, nothing is published.
 fn on_desk<R: Wait, F: Fn(&mut Desk) -> Option<u64>>(
     rt: &R,
@@ -46,11 +61,7 @@ fn on_desk<R: Wait, F: Fn(&mut Desk) -> Option<u64>>(
     let came = twice_on(&mut desk, &|desk| look_at(desk), &call);
     let plans = (viewer.plan(Side::A), viewer.plan(Side::B));
     desk.close(rt);
-    if came == Came::Memory && plans != planned {
-        Some(Came::Changed)
-    } else {
-        Some(came)
-    }
+    Some(if_published(came, plans != planned))
 }
 
 /// Takes a side's turn at a desk.
