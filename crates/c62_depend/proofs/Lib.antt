@@ -1,5 +1,8 @@
 pub mod Common
 pub mod RegSets
+pub mod Words
+pub mod Meets
+pub mod Gatherings
 pub mod Ranges
 pub mod Greatest
 pub mod Latencies

@@ -19,7 +19,7 @@ choice_from uses i u s units within at is units_are =
     let here : slice_get (insns_in uses) i ≡ Some u.insn = insn_at uses i u within at in
     record { side = rw here is; units = λ unit. rw (here, ← is) (units_are unit) }
 
-each_more : {X : Type 0} (P : ℕ → X → Type 0) (xs ys : List X) (x : X) → ((k : ℕ) (d : X) → k < length xs → P k (get_or xs k d)) → ys ≡ xs ++ x ∷ []
+pub each_more : {X : Type 0} (P : ℕ → X → Type 0) (xs ys : List X) (x : X) → ((k : ℕ) (d : X) → k < length xs → P k (get_or xs k d)) → ys ≡ xs ++ x ∷ []
     → P (length xs) x → (k : ℕ) (d : X) → k < length ys → P k (get_or ys k d)
 each_more P xs ys x before added one k d within =
     let long : length ys ≡ length xs + 1 = ap length added ∙ length-append xs (x ∷ []) in

@@ -4,10 +4,12 @@ pub mod Written
 pub mod Covered
 pub mod Conditions
 pub mod Uses
+pub mod Group
 pub mod Numbers
 pub mod Latency
 pub mod Links
 pub mod Lists
+pub mod Gathering
 pub mod Height
 pub mod Side
 pub mod UnitChoices

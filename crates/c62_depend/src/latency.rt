@@ -5,7 +5,7 @@
 ghost use Rattle.std.specs.Prelude.{◌≡◌, ◌<◌, ◌≤◌, ◌+◌, ◌&&◌, not, max, length, slice_index_or};
 ghost use Rattle.c62_depend.specs.Latency.{latency};
 ghost use Rattle.c62_depend.specs.Uses.{insns_in};
-ghost use Rattle.c62_depend.specs.Written.{AreWritten, latency_given};
+ghost use Rattle.c62_depend.specs.Written.{AreWrittenFor, latency_given};
 ghost use Rattle.c62_depend.specs.Conditions.{never_both};
 ghost use Rattle.c62_depend.specs.Covered.{never_meet};
 ghost use Rattle.c62_depend.specs.RegSet.{shares};
@@ -214,23 +214,36 @@ pub(crate) fn latency_number(uses: &[Uses], written: RegSet, first: &Uses, i: us
     requires before { i < j }
     requires within { j < length uses.now }
     requires first { first.now ≡ slice_index_or uses.now i first.now }
-    requires written { AreWritten (insns_in uses.now) i j written }
+    requires written { AreWrittenFor (insns_in uses.now) i j first.now.insn written }
     ensures { as_bound result ≡ latency (insns_in uses.now) i j }
 {
     number_between(written, first, &uses[j])
 }
 
-/// The registers that instructions from `i` on and before `j` write.
-fn written_between(uses: &[Uses], i: usize, j: usize) -> RegSet
-    requires before { i < j }
-    requires within { j < length uses.now }
-    ensures { AreWritten (insns_in uses.now) i j result }
+/// The registers that instructions from `i`, which is `first`, on and before `until` write, of those that its excuses ask for.
+/// They are known before `from`.
+#[inline(always)]
+pub(crate) fn written_until(
+    uses: &[Uses],
+    first: &Uses,
+    written: RegSet,
+    i: usize,
+    from: usize,
+    until: usize,
+) -> RegSet
+    requires after { i ≤ from }
+    requires order { from ≤ until }
+    requires within { until ≤ length uses.now }
+    requires written { AreWrittenFor (insns_in uses.now) i from first.now.insn written }
+    ensures { AreWrittenFor (insns_in uses.now) i until first.now.insn result }
 {
-    let mut written = RegSet::new();
-    for k in i..j {
-        written = written.joined(uses[k].written);
+    let mut all = written;
+    if first.is_excusable() {
+        for k in from..until {
+            all = all.joined(uses[k].written);
+        }
     }
-    written
+    all
 }
 
 /// By how much the cycle of instruction `j` must at least exceed that of instruction `i`, which stands before it: the
@@ -240,6 +253,7 @@ pub(crate) fn latency(uses: &[Uses], i: usize, j: usize) -> Option<i32>
     requires within { j < length uses.now }
     ensures latency { result ≡ latency (insns_in uses.now) i j }
 {
-    let written = written_between(uses, i, j);
-    as_bound(latency_number(uses, written, &uses[i], i, j))
+    let first = &uses[i];
+    let written = written_until(uses, first, RegSet::new(), i, i, j);
+    as_bound(latency_number(uses, written, first, i, j))
 }

@@ -4,6 +4,7 @@
 mod condition;
 mod covered;
 mod excuse;
+mod group;
 mod height;
 mod latency;
 pub mod laws;

@@ -43,6 +43,13 @@ impl RegSet {
         }
     }
 
+    /// The set as a word, with a bit for each register at its index.
+    pub fn bits(self) -> u32
+        ensures { result ≡ self.bits }
+    {
+        self.bits
+    }
+
     /// Whether `reg` is in the set.
     #[tactic(auto, using(crate::proofs::RegSets::has_one))]
     pub fn has(self, reg: Reg) -> bool

@@ -124,6 +124,15 @@ const SAME: [(&str, &str, bool); 6] = [
     ("L: MVK 1,A1", "L: MVK 1,A1\nMVK 1,A1", false),
 ];
 
+/// Lines that make long blocks when they are repeated: of which few depend on one another, most, and some though their bases or
+/// conditions are written between them.
+const REPEATED: [&str; 4] = [
+    "ADD A1,A2,A3\nMPY B1,B2,B3\nSUB A4,A5,A6\nXOR B7,B8,B9\nMVK 5,A10\n",
+    "ADD A1,A2,A1\nADD A1,A3,A2\nSUB A2,A1,A3\nMPY A1,A2,A1\nMVK 1,A2\n",
+    "LDW *A4++,A5\nADD A5,A6,A6\nSTW A6,*B4++\nLDW *+B5[1],B6\nSTW B6,*+B5[2]\n",
+    "[A1] MVK 1,A2\n[!A1] MVK 2,A2\n[A1] ADD A2,A3,A3\n[!A1] STW A3,*+A4[1]\nLDW *+A4[3],A5\n",
+];
+
 /// The plan of the only block of a text.
 fn plan_of(rt: &impl Abort, alloc: Global, text: &str) -> Result<Plan, Fail> {
     let mut blocks = read_program(alloc, text.as_bytes())?.into_blocks();
@@ -314,6 +323,23 @@ fn a_full_block(rt: HostRuntime) -> Result<(), Fail> {
     let copy = plan.copy(rt.alloc())?;
     assert!(rt; copy.same(&plan));
     assert_eq!(rt; copy.needs(255).len(), 255);
+    Ok(())
+}
+
+/// In long blocks the lists have what the instructions asked one by one tell.
+#[test]
+fn long_blocks(rt: HostRuntime) -> Result<(), Fail> {
+    for lines in &REPEATED {
+        let mut text = String::new(rt.alloc());
+        for _ in 0..16 {
+            text.push_str(lines)?;
+        }
+        let plan = plan_of(&rt, rt.alloc(), &text)?;
+        assert_eq!(rt; plan.len(), 80);
+        let listed = followers(rt.alloc(), &plan)?;
+        let found = latencies(rt.alloc(), &plan)?;
+        assert_eq!(rt; listed.as_str(), found.as_str(), "{lines}");
+    }
     Ok(())
 }
 

@@ -1,6 +1,6 @@
 //! What an instruction reads, writes and accesses.
 
-ghost use Rattle.std.specs.Prelude.{◌≡◌, ◌≤◌, ◌&&◌, ◌||◌, ◌==◌, [], ◌∷◌, if◌then◌else◌, option_map};
+ghost use Rattle.std.specs.Prelude.{◌≡◌, ◌≤◌, ◌&&◌, ◌||◌, ◌==◌, [], ◌∷◌, if◌then◌else◌, option_map, is_some};
 ghost use Rattle.std.specs.List.{list_any};
 ghost use Rattle.c62_op.specs.declared.register.Reg.{Reg as Register};
 ghost use Rattle.c62_op.specs.Shape.{delay_of, is_load, is_store, is_branch};
@@ -150,6 +150,14 @@ impl Uses {
             access,
             ordered: [branches, branches || stores, branches || (loads || stores)],
         }
+    }
+
+    /// Whether it has a condition, or accesses memory from a base at a constant offset: without these nothing that is
+    /// written behind it matters to its dependences.
+    pub fn is_excusable(&self) -> bool
+        ensures { result ≡ (is_some (cond_of self.now.insn) || is_some self.now.covered) }
+    {
+        self.insn.cond().is_some() || self.covered.is_some()
     }
 
     /// Whether some case asks the two for more than registers.

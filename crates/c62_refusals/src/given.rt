@@ -1,108 +1,202 @@
 //! What calls are made on. `None` where memory was refused.
 
-use c62_board::{Board, Turn};
+ghost use Rattle.std.specs.Prelude.{◌≡◌, ◌++◌, ◌∷◌, [], IfSome, OnSome, map, Some};
+ghost use Rattle.std.specs.String.{string_bytes};
+ghost use Rattle.c62_listing.specs.Listing.{listing};
+ghost use Rattle.c62_board.specs.State.{Has};
+ghost use Rattle.c62_pack.specs.Packets.{ArePackets};
+ghost use Rattle.c62_refusals.specs.Given.{SaysProgram, IsLongest, IsLongestIn, IsEmptyBoard, IsTurned, IsWholeBoard, begun_entries, IsBegunBoard, IsPackedByTurns, ArePackedByTurns, ArePacketsIn};
+
+use c62_board::{Board, Entry, Turn};
 use c62_depend::Plan;
-use c62_insn::{Reg, Side};
 use c62_listing::list;
 use c62_pack::packets_of;
 use c62_packet::{PacketBlock, Packets};
 use c62_read::{Block, MOST_BLOCKS, Program, read_program};
-use c62_serial::State;
 use c62_work::turns;
 use std::alloc::Global;
 
 /// The ejections of a board.
-pub const BUDGET: u16 = 1;
+pub(crate) const BUDGET: u16 = 1;
 
 /// The most entries of a board that is begun: before the ejection, where there is one.
 const BEGUN: usize = 8;
 
-pub fn program_of(alloc: Global, text: &str) -> Option<Program> {
-    read_program(alloc, text.as_bytes()).ok()
+/// The program of a text.
+pub(crate) fn program_of(alloc: Global, text: &str) -> Option<Program>
+    ensures { IfSome result (SaysProgram text.now) }
+{
+    match read_program(alloc, text.as_bytes()) {
+        Ok(program) => Some(program),
+        Err(_) => None,
+    }
 }
 
-/// The longest block of a text.
-pub fn block_of(alloc: Global, text: &str) -> Option<Block> {
-    let blocks = program_of(alloc, text)?.into_blocks();
+/// The longest of these blocks.
+fn longest(blocks: Vec<Block>) -> Option<Block>
+    ensures { IfSome result (IsLongest blocks.items) }
+{
     blocks.into_iter().max_by_key(|block| block.insns().len())
 }
 
-pub fn plan_of(alloc: Global, text: &str) -> Option<Plan> {
-    Plan::new(alloc, block_of(alloc, text)?).ok()
+/// The longest block of a text.
+pub(crate) fn block_of(alloc: Global, text: &str) -> Option<Block>
+    ensures { IfSome result (IsLongestIn text.now) }
+{
+    longest(program_of(alloc, text)?.into_blocks())
+}
+
+fn planned(alloc: Global, block: Block) -> Option<Plan>
+    ensures { IfSome result (λ plan. plan ≡ block) }
+{
+    match Plan::new(alloc, block) {
+        Ok(plan) => Some(plan),
+        Err(_) => None,
+    }
+}
+
+/// The plan of the longest block.
+pub(crate) fn plan_of(alloc: Global, text: &str) -> Option<Plan>
+    ensures { IfSome result (IsLongestIn text.now) }
+{
+    planned(alloc, block_of(alloc, text)?)
+}
+
+fn begun(alloc: Global, plan: Plan) -> Option<Board>
+    ensures { IfSome result (Has plan [] BUDGET) }
+{
+    match Board::new(alloc, plan, BUDGET) {
+        Ok(board) => Some(board),
+        Err(_) => None,
+    }
 }
 
 /// An empty board of the longest block.
-pub fn empty_board(alloc: Global, text: &str) -> Option<Board> {
-    Board::new(alloc, plan_of(alloc, text)?, BUDGET).ok()
+fn empty_board(alloc: Global, text: &str) -> Option<Board>
+    ensures { IfSome result (IsEmptyBoard text.now) }
+{
+    begun(alloc, plan_of(alloc, text)?)
 }
 
-fn turned(mut board: Board) -> Option<Board> {
+/// The board after all turns of both sides.
+fn turned(mut board: Board) -> Option<Board>
+    ensures { IfSome result (IsTurned board) }
+{
     match turns(&mut board) {
         Turn::Memory => None,
         _ => Some(board),
     }
 }
 
-/// A board of it on which both sides had all their turns.
-pub fn whole_board(alloc: Global, text: &str) -> Option<Board> {
+/// A board of the longest block on which both sides had all their turns.
+pub(crate) fn whole_board(alloc: Global, text: &str) -> Option<Board>
+    ensures { IfSome result (IsWholeBoard text.now) }
+{
     turned(empty_board(alloc, text)?)
 }
 
-/// A board of it on which they had their first turns. Its journal is full.
-pub fn begun_board(alloc: Global, text: &str) -> Option<Board> {
-    let whole = whole_board(alloc, text)?;
-    let entries = whole.journal();
-    let count = BEGUN.min(entries.len().saturating_sub(1));
-    let plan = whole.plan().copy(alloc).ok()?;
-    Board::replay(alloc, plan, BUDGET, entries.get(..count)?).ok()
-}
-
-/// The packets of a complete board.
-pub fn packed(alloc: Global, board: &Board) -> Option<PacketBlock> {
-    if board.complete() {
-        packets_of(alloc, board).ok()
+/// The first entries of a whole journal, without its last.
+fn begun_entries(entries: &[Entry]) -> Option<&[Entry]>
+    ensures { IfSome result (λ front. front.now ≡ begun_entries entries.now) }
+{
+    if entries.len() > BEGUN {
+        entries.get(..BEGUN)
     } else {
-        None
+        entries.get(..entries.len().saturating_sub(1))
     }
 }
 
-fn packed_block(alloc: Global, block: Block) -> Option<PacketBlock> {
-    let plan = Plan::new(alloc, block).ok()?;
-    packed(alloc, &turned(Board::new(alloc, plan, BUDGET).ok()?)?)
+/// The board that these entries lead to.
+fn replayed(alloc: Global, plan: Plan, entries: &[Entry]) -> Option<Board>
+    ensures { IfSome result (Has plan entries.now BUDGET) }
+{
+    match Board::replay(alloc, plan, BUDGET, entries) {
+        Ok(board) => Some(board),
+        Err(_) => None,
+    }
 }
 
-/// The packets of a text's blocks.
-pub fn packets_in(alloc: Global, text: &str) -> Option<Packets> {
+fn copied(alloc: Global, plan: &Plan) -> Option<Plan>
+    ensures { IfSome result (λ copy. copy ≡ plan.now) }
+{
+    match plan.copy(alloc) {
+        Ok(copy) => Some(copy),
+        Err(_) => None,
+    }
+}
+
+/// A board of it on which they had their first turns. Its journal is full.
+pub(crate) fn begun_board(alloc: Global, text: &str) -> Option<Board>
+    ensures { IfSome result (IsBegunBoard text.now) }
+{
+    let whole = whole_board(alloc, text)?;
+    let plan = copied(alloc, whole.plan())?;
+    let entries = begun_entries(whole.journal())?;
+    replayed(alloc, plan, entries)
+}
+
+/// The packets of a complete board.
+pub(crate) fn packed(alloc: Global, board: &Board) -> Option<PacketBlock>
+    ensures { IfSome result (ArePackets board.now.plan board.now.spots) }
+{
+    if !board.complete() {
+        return None;
+    }
+    match packets_of(alloc, board) {
+        Ok(block) => Some(block),
+        Err(_) => None,
+    }
+}
+
+/// The packets of a block, which both sides place by turns.
+fn packed_block(alloc: Global, block: Block) -> Option<PacketBlock>
+    ensures { IfSome result (IsPackedByTurns block) }
+{
+    let board = turned(begun(alloc, planned(alloc, block)?)?)?;
+    packed(alloc, &board)
+}
+
+/// The list with one more block, where there is room for it.
+pub(crate) fn with_block(mut packets: Packets, block: PacketBlock) -> Option<Packets>
+    ensures { IfSome result (λ more. more ≡ packets ++ block ∷ []) }
+{
+    if packets.len() >= MOST_BLOCKS {
+        return None;
+    }
+    match packets.push(block) {
+        Ok(()) => Some(packets),
+        Err(_) => None,
+    }
+}
+
+/// The packets of a program's blocks.
+fn packets_of_program(alloc: Global, program: Program) -> Option<Packets>
+    ensures { IfSome result (ArePackedByTurns program) }
+{
     let mut packets = Packets::new(alloc);
-    for block in program_of(alloc, text)?.into_blocks() {
-        if packets.len() >= MOST_BLOCKS {
-            return None;
-        }
-        packets.push(packed_block(alloc, block)?).ok()?;
+    for block in program.into_blocks() {
+        let packed = packed_block(alloc, block)?;
+        packets = with_block(packets, packed)?;
     }
     Some(packets)
 }
 
-/// The listing of packets.
-pub fn listing_of(alloc: Global, packets: &Packets) -> Option<String> {
-    if packets.closed() {
-        list(alloc, packets).ok()
-    } else {
-        None
-    }
+/// The packets of a text's blocks.
+pub(crate) fn packets_in(alloc: Global, text: &str) -> Option<Packets>
+    ensures { IfSome result (ArePacketsIn text.now) }
+{
+    packets_of_program(alloc, program_of(alloc, text)?)
 }
 
-/// The state from which each text runs: A4, from which words are loaded, is aligned, and B4 is not.
-pub fn opening(alloc: Global) -> Option<State> {
-    let mut state = State::new(alloc).ok()?;
-    for number in 0..16u8 {
-        let word = 9 * u32::from(number);
-        let (a, b) = (Side::A, Side::B);
-        state.set(Reg { side: a, number }, word);
-        state.set(Reg { side: b, number }, word + 5);
+/// The listing of packets whose branches all have targets.
+pub(crate) fn listing_of(alloc: Global, packets: &Packets) -> Option<String>
+    ensures { IfSome result (λ text. string_bytes text ≡ listing packets.now) }
+{
+    if !packets.closed() {
+        return None;
     }
-    for address in [36, 40, 44] {
-        state.poke(address, address.wrapping_mul(1_000_003));
+    match list(alloc, packets) {
+        Ok(text) => Some(text),
+        Err(_) => None,
     }
-    Some(state)
 }

@@ -6,25 +6,27 @@
 //! is made on, or to both calls, and that all stayed as it was.
 #![tactic(auto)]
 
-mod digest;
+mod answer;
 mod given;
+mod opening;
 mod packing;
 mod placing;
 mod reading;
 mod running;
-mod seen;
 mod sharing;
+mod telling;
 mod texts;
+mod turning;
 mod twice;
 
 use c62_work::Options;
 use std::alloc::Global;
-use std::io::Eprint;
+use std::env;
 use std::process::ExitCode;
 use std::rt::Env;
 use std::sync::Wait;
 use std::thread::Threads;
-use std::{env, io};
+use telling::tell;
 use texts::text_of;
 use twice::Came;
 
@@ -36,6 +38,7 @@ fn alone(alloc: Global, call: &str, text: &'static str) -> Option<Came> {
         "list" => reading::lists(alloc, text),
         "Plan::new" => reading::plans(alloc, text),
         "Plan::copy" => reading::copies(alloc, text),
+        "check" => reading::checks(alloc, text),
         "Board::new" => placing::begins(alloc, text),
         "ahead" => placing::looks_ahead(alloc, text),
         "room" => placing::makes_room(alloc, text),
@@ -97,24 +100,11 @@ fn asked<R: Env + AllocGlobal + Threads + Wait + Sync>(rt: &R) -> Option<Came> {
     )
 }
 
-/// Prints the answer, and gives the status.
-fn told(rt: &(impl Print + Eprint), came: Option<Came>) -> io::Result<u8> {
-    match came {
-        Some(Came::Answer(answer)) => println!(rt; "{answer:x}")?,
-        Some(Came::Again(answer)) => {
-            eprintln!(rt; "again")?;
-            println!(rt; "{answer:x}")?;
-        }
-        Some(Came::Changed) => {
-            println!(rt; "changed")?;
-            return Ok(1);
-        }
-        Some(Came::Memory) | None => return Ok(3),
-    }
-    Ok(0)
-}
-
 fn main(rt: HostRuntime) -> ExitCode {
     let came = asked(&rt);
-    ExitCode::from(told(&rt, came).unwrap_or(4))
+    let told = tell(&mut rt.stdout(), &mut rt.stderr(), came);
+    ExitCode::from(told.unwrap_or(4))
 }
+
+#[cfg(test)]
+mod tests;

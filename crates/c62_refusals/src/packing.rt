@@ -1,39 +1,43 @@
 //! Calls that make packets and lists of them.
 
-use crate::digest::printed;
-use crate::given::{packed, whole_board};
-use crate::seen::look_at;
+ghost use Rattle.std.specs.Prelude.{◌≡◌, None};
+
+use crate::answer::answered;
+use crate::given::{packed, whole_board, with_block};
 use crate::twice::{Came, twice};
 use c62_board::{Board, Spot};
-use c62_pack::{AtFault, packets_at};
-use c62_packet::Packets;
+use c62_depend::Plan;
+use c62_pack::{packets_at, packets_of};
+use c62_packet::{PacketBlock, Packets};
 use c62_read::MOST_BLOCKS;
+use c62_seen::look_at;
 use std::alloc::Global;
 
-pub fn packs(alloc: Global, text: &str) -> Option<Came> {
-    twice(
-        whole_board(alloc, text)?,
-        |board| Some(look_at(&packed(alloc, board)?)),
-    )
+/// Makes the packets of a board.
+pub(crate) fn packs(alloc: Global, text: &str) -> Option<Came> {
+    twice(whole_board(alloc, text)?, |board| {
+        if !board.complete() {
+            return None;
+        }
+        answered(&packets_of(alloc, board), &())
+    })
 }
 
-fn spots_of(alloc: Global, board: &Board) -> Option<Vec<Spot>> {
+/// The spots of a complete board, and a copy of its plan.
+fn spots_of(alloc: Global, board: &Board) -> Option<(Plan, Vec<Spot>)> {
+    let plan = board.plan().copy(alloc).ok()?;
     let mut spots = Vec::new(alloc);
     for i in 0..board.plan().len() {
         spots.push(board.spot_of(i)?).ok()?;
     }
-    Some(spots)
+    Some((plan, spots))
 }
 
-pub fn packs_at(alloc: Global, text: &str) -> Option<Came> {
+/// Makes the packets of a plan at spots.
+pub(crate) fn packs_at(alloc: Global, text: &str) -> Option<Came> {
     let board = whole_board(alloc, text)?;
-    let spots = spots_of(alloc, &board)?;
-    twice((board, spots), |given| {
-        match packets_at(alloc, given.0.plan(), &given.1) {
-            Ok(block) => Some(look_at(&block)),
-            Err(AtFault::Memory) => None,
-            Err(fault) => Some(printed(&fault)),
-        }
+    twice(spots_of(alloc, &board)?, |given| {
+        answered(&packets_at(alloc, &given.0, &given.1), &())
     })
 }
 
@@ -44,28 +48,34 @@ const FULL: usize = 4;
 fn full_list(alloc: Global, board: &Board) -> Option<Packets> {
     let mut packets = Packets::new(alloc);
     for _ in 0..FULL {
-        if packets.len() >= MOST_BLOCKS {
-            return None;
-        }
-        packets.push(packed(alloc, board)?).ok()?;
+        packets = with_block(packets, packed(alloc, board)?)?;
     }
     Some(packets)
 }
 
-/// The block comes back.
-pub fn pushes(alloc: Global, text: &str) -> Option<Came> {
+/// Appends the block, or puts it back.
+fn push_block(packets: &mut Packets, block: &mut Option<PacketBlock>) -> Option<u64>
+    ensures list { result ≡ None → packets.new ≡ packets.old }
+    ensures back { result ≡ None → block.new ≡ block.old }
+{
+    if packets.len() >= MOST_BLOCKS {
+        return None;
+    }
+    match packets.push(block.take()?) {
+        Ok(()) => Some(look_at(packets)),
+        Err((back, _)) => {
+            *block = Some(back);
+            None
+        }
+    }
+}
+
+/// Appends a block to a list, or the block comes back.
+pub(crate) fn pushes(alloc: Global, text: &str) -> Option<Came> {
     let board = whole_board(alloc, text)?;
     let block = packed(alloc, &board)?;
-    twice((full_list(alloc, &board)?, Some(block)), |given| {
-        if given.0.len() >= MOST_BLOCKS {
-            return None;
-        }
-        match given.0.push(given.1.take()?) {
-            Ok(()) => Some(look_at(&given.0)),
-            Err((back, _)) => {
-                given.1 = Some(back);
-                None
-            }
-        }
-    })
+    twice(
+        (full_list(alloc, &board)?, Some(block)),
+        |given| push_block(&mut given.0, &mut given.1),
+    )
 }

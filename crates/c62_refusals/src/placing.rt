@@ -1,57 +1,76 @@
 //! Calls on boards.
 
-ghost use Rattle.std.specs.Prelude.{◌<◌, length, IfSome};
+ghost use Rattle.std.specs.Prelude.{◌≡◌, ◌<◌, ◌++◌, length, None, IfSome, MatchOption, true, false};
+ghost use Rattle.c62_depend.specs.Plan.{insns_of};
+ghost use Rattle.c62_sheet.specs.Least.{Picks};
+ghost use Rattle.c62_refusals.specs.Placing.{among, IsNext, IsProposed, IsFirst};
 
-use crate::digest::{Digest, printed};
+use crate::answer::{answered, taken};
 use crate::given::{BUDGET, begun_board, plan_of, whole_board};
-use crate::seen::{Seen, look_at};
+use crate::turning::Turning;
 use crate::twice::{Came, twice};
-use c62_board::{
-    Board, CommitFault, Entry, PlaceFault, Proposal, ReplayFault, Turn, Who, WithdrawFault,
-};
+use c62_board::{Board, Entry, Proposal, ReplayFault, Who};
 use c62_depend::Plan;
 use c62_insn::Side;
+use c62_seen::look_at;
 use c62_work::{finish, turns};
 use std::alloc::Global;
-use std::fmt::Debug;
 
-/// The plan comes back.
-pub fn begins(alloc: Global, text: &str) -> Option<Came> {
-    twice(Some(plan_of(alloc, text)?), |plan| {
-        match Board::new(alloc, plan.take()?, BUDGET) {
-            Ok(board) => Some(look_at(&board)),
-            Err((back, _)) => {
-                *plan = Some(back);
-                None
-            }
+/// Begins a board of the plan, or puts it back.
+fn begin_board(alloc: Global, plan: &mut Option<Plan>) -> Option<u64>
+    ensures { result ≡ None → plan.new ≡ plan.old }
+{
+    match Board::new(alloc, plan.take()?, BUDGET) {
+        Ok(board) => Some(look_at(&board)),
+        Err((back, _)) => {
+            *plan = Some(back);
+            None
         }
-    })
+    }
+}
+
+/// Begins a board of a plan, which comes back.
+pub(crate) fn begins(alloc: Global, text: &str) -> Option<Came> {
+    twice(Some(plan_of(alloc, text)?), |plan| begin_board(alloc, plan))
 }
 
 /// A board's plan, and its journal.
-fn course_of(alloc: Global, board: &Board) -> Option<(Plan, Vec<Entry>)> {
-    let plan = board.plan().copy(alloc).ok()?;
-    let entries = Vec::from_slice(alloc, board.journal()).ok()?;
+fn course_of(alloc: Global, board: &Board) -> Option<(Plan, Vec<Entry>)>
+    ensures { IfSome result (λ course. (course.0 ≡ board.now.plan) × (course.1.items ≡ board.now.journal)) }
+{
+    let Ok(plan) = board.plan().copy(alloc) else {
+        return None;
+    };
+    let Ok(entries) = Vec::from_slice(alloc, board.journal()) else {
+        return None;
+    };
     Some((plan, entries))
 }
 
-/// The plan comes back.
-pub fn replays(alloc: Global, text: &str) -> Option<Came> {
-    let (plan, entries) = course_of(alloc, &whole_board(alloc, text)?)?;
-    twice((Some(plan), entries), |given| {
-        match Board::replay(alloc, given.0.take()?, BUDGET, &given.1) {
-            Ok(board) => Some(look_at(&board)),
-            Err((back, ReplayFault::Memory)) => {
-                given.0 = Some(back);
-                None
-            }
-            Err((_, fault)) => Some(printed(&fault)),
+/// Replays the entries, or puts the plan back.
+fn replay_board(alloc: Global, plan: &mut Option<Plan>, entries: &[Entry]) -> Option<u64>
+    ensures { result ≡ None → plan.new ≡ plan.old }
+{
+    match Board::replay(alloc, plan.take()?, BUDGET, entries) {
+        Ok(board) => Some(look_at(&board)),
+        Err((back, fault)) => {
+            *plan = Some(back);
+            answered(&Result::<(), ReplayFault>::Err(fault), &())
         }
-    })
+    }
+}
+
+/// Replays the journal of a whole board with its plan, which comes back.
+pub(crate) fn replays(alloc: Global, text: &str) -> Option<Came> {
+    let (plan, entries) = course_of(alloc, &whole_board(alloc, text)?)?;
+    twice(
+        (Some(plan), entries),
+        |given| replay_board(alloc, &mut given.0, &given.1),
+    )
 }
 
 /// A side that has something to place, where one has.
-pub fn side_of(board: &Board) -> Side {
+pub(crate) fn side_of(board: &Board) -> Side {
     match board.pick(Side::A) {
         Some(_) => Side::A,
         None => Side::B,
@@ -60,7 +79,7 @@ pub fn side_of(board: &Board) -> Side {
 
 /// The number, where the board's plan has it.
 fn among(board: &Board, number: u16) -> Option<u16>
-    ensures { IfSome result (λ i. i < length board.now.plan.insns) }
+    ensures { result ≡ among board.now number }
 {
     if number < board.plan().len() {
         Some(number)
@@ -71,13 +90,15 @@ fn among(board: &Board, number: u16) -> Option<u16>
 
 /// What that side is to place.
 fn next_of(board: &Board) -> Option<u16>
-    ensures { IfSome result (λ i. i < length board.now.plan.insns) }
+    ensures { IfSome result (IsNext board.now) }
 {
     among(board, board.pick(side_of(board))?)
 }
 
 /// That, at its least spot.
-pub fn proposed(board: &Board) -> Option<Proposal> {
+pub(crate) fn proposed(board: &Board) -> Option<Proposal>
+    ensures { IfSome result (IsProposed board.now) }
+{
     let number = next_of(board)?;
     if !board.ready(number) {
         return None;
@@ -89,108 +110,82 @@ pub fn proposed(board: &Board) -> Option<Proposal> {
     })
 }
 
-/// What a call answered, and the board that it left.
-pub fn left<T: Debug>(answer: &T, board: &Board) -> Option<u64> {
-    let mut digest = Digest::new();
-    digest.add(answer);
-    board.add_to(&mut digest);
-    Some(digest.sum())
-}
-
-pub fn looks_ahead(alloc: Global, text: &str) -> Option<Came> {
+/// Tells what a side is about to do.
+pub(crate) fn looks_ahead(alloc: Global, text: &str) -> Option<Came> {
     twice(begun_board(alloc, text)?, |board| {
         let (turn, entries) = board.ahead(side_of(board)).ok()?;
-        Some(printed(&(turn, entries.as_slice())))
+        Some(look_at(&(turn, entries.as_slice())))
     })
 }
 
-pub fn makes_room(alloc: Global, text: &str) -> Option<Came> {
-    twice(begun_board(alloc, text)?, |board| {
-        board.room(100).ok()?;
-        Some(look_at(board))
-    })
+/// Makes room for entries.
+pub(crate) fn makes_room(alloc: Global, text: &str) -> Option<Came> {
+    twice(
+        begun_board(alloc, text)?,
+        |board| answered(&board.room(100), board),
+    )
 }
 
-pub fn places(alloc: Global, text: &str) -> Option<Came> {
+/// Places what is next.
+pub(crate) fn places(alloc: Global, text: &str) -> Option<Came> {
     twice(begun_board(alloc, text)?, |board| {
         let number = next_of(board)?;
-        match board.place(number, Who::Tail) {
-            Err(PlaceFault::Memory) => None,
-            answer => left(&answer, board),
-        }
+        answered(&board.place(number, Who::Tail), board)
     })
 }
 
-pub fn commits(alloc: Global, text: &str) -> Option<Came> {
+/// Commits a proposal of what is next.
+pub(crate) fn commits(alloc: Global, text: &str) -> Option<Came> {
     twice(begun_board(alloc, text)?, |board| {
         let proposal = proposed(board)?;
-        match board.commit(&proposal, Who::Tail) {
-            Err(CommitFault::Memory) => None,
-            answer => left(&answer, board),
-        }
+        answered(&board.commit(&proposal, Who::Tail), board)
     })
 }
 
 /// What was placed first.
 fn first_of(board: &Board) -> Option<u16>
-    ensures { IfSome result (λ i. i < length board.now.plan.insns) }
+    ensures { IfSome result (IsFirst board.now) }
 {
     match *board.journal().first()? {
         Entry::Place(number, _, _) | Entry::Withdraw(number, _) => among(board, number),
     }
 }
 
-pub fn withdraws(alloc: Global, text: &str) -> Option<Came> {
+/// Withdraws what was placed first, with all that depends on it.
+pub(crate) fn withdraws(alloc: Global, text: &str) -> Option<Came> {
     twice(begun_board(alloc, text)?, |board| {
         let number = first_of(board)?;
-        match board.withdraw(number, Who::Tail) {
-            Err(WithdrawFault::Memory) => None,
-            answer => left(&answer, board),
-        }
+        answered(&board.withdraw(number, Who::Tail), board)
     })
 }
 
-pub fn steps(alloc: Global, text: &str) -> Option<Came> {
+/// Takes a side's turn.
+pub(crate) fn steps(alloc: Global, text: &str) -> Option<Came> {
     twice(begun_board(alloc, text)?, |board| {
-        match board.step(side_of(board)) {
-            Turn::Memory => None,
-            answer => left(&answer, board),
-        }
+        let turn = board.step(side_of(board));
+        answered(&taken(turn), board)
     })
 }
 
-/// A board on which sides take turns, and the journal that they come to.
-#[derive(Drop)]
-struct Turning {
-    board: Board,
-    whole: Vec<Entry>,
-}
-
-/// The steps before a refused one stay: the journal is a front of the whole one.
-impl Seen for Turning {
-    fn add_to(&self, digest: &mut Digest) {
-        self.board.plan().add_to(digest);
-        digest.add(&self.whole.starts_with(self.board.journal()));
-    }
-}
-
-pub fn turns_taken(alloc: Global, text: &str) -> Option<Came> {
+/// Takes all turns of both sides.
+pub(crate) fn turns_taken(alloc: Global, text: &str) -> Option<Came> {
     let (plan, whole) = course_of(alloc, &whole_board(alloc, text)?)?;
-    let board = Board::new(alloc, plan, BUDGET).ok()?;
+    let Ok(board) = Board::new(alloc, plan, BUDGET) else {
+        return None;
+    };
     twice(Turning { board, whole }, |turning| {
-        match turns(&mut turning.board) {
-            Turn::Memory => None,
-            answer => left(&answer, &turning.board),
-        }
+        let turn = turns(&mut turning.board);
+        answered(&taken(turn), &turning.board)
     })
 }
 
-/// What a board lacks is placed.
-pub fn finishes(alloc: Global, text: &str) -> Option<Came> {
+/// Places what a board lacks.
+pub(crate) fn finishes(alloc: Global, text: &str) -> Option<Came> {
     twice(course_of(alloc, &begun_board(alloc, text)?)?, |course| {
         let plan = course.0.copy(alloc).ok()?;
-        let board = Board::replay(alloc, plan, BUDGET, &course.1).ok()?;
-        let board = finish(alloc, board, &course.0).ok()?;
-        left(&board.complete(), &board)
+        let Ok(board) = Board::replay(alloc, plan, BUDGET, &course.1) else {
+            return None;
+        };
+        answered(&finish(alloc, board, &course.0), &())
     })
 }

@@ -1,67 +1,74 @@
-//! Calls that read and write texts, and that plan.
+//! Calls that read and write texts, that plan, and that hold a listing against a text.
 
-use crate::digest::printed;
-use crate::given::{block_of, listing_of, packets_in, plan_of};
-use crate::seen::look_at;
+ghost use Rattle.std.specs.Prelude.{◌≡◌, None};
+
+use crate::answer::answered;
+use crate::given::{block_of, listing_of, packets_in, plan_of, program_of};
 use crate::twice::{Came, twice};
+use c62_check::check;
 use c62_depend::Plan;
-use c62_listing_reader::{ListFault, read_listing};
-use c62_read::{Cause, ReadFault, read_program};
+use c62_listing::list;
+use c62_listing_reader::read_listing;
+use c62_read::{Block, read_program};
+use c62_seen::look_at;
 use std::alloc::Global;
 
-pub fn reads_program(alloc: Global, text: &'static str) -> Option<Came> {
-    twice((), |_| match read_program(alloc, text.as_bytes()) {
-        Ok(program) => Some(look_at(&program)),
-        Err(
-            ReadFault {
-                cause: Cause::Memory,
-                ..
-            },
-        ) => None,
-        Err(fault) => Some(printed(&fault)),
-    })
+/// Reads a text.
+pub(crate) fn reads_program(alloc: Global, text: &'static str) -> Option<Came> {
+    twice((), |_| answered(&read_program(alloc, text.as_bytes()), &()))
 }
 
-pub fn reads_listing(alloc: Global, text: &str) -> Option<Came> {
-    twice(listing_of(alloc, &packets_in(alloc, text)?)?, |text| {
-        match read_listing(alloc, text.as_bytes()) {
-            Ok(packets) => Some(look_at(&packets)),
-            Err(ListFault::Memory) => None,
-            Err(
-                ListFault::Read(
-                    ReadFault {
-                        cause: Cause::Memory,
-                        ..
-                    },
-                ),
-            ) => None,
-            Err(fault) => Some(printed(&fault)),
-        }
-    })
+/// Reads the listing of a text's packets.
+pub(crate) fn reads_listing(alloc: Global, text: &str) -> Option<Came> {
+    twice(
+        listing_of(alloc, &packets_in(alloc, text)?)?,
+        |listing| answered(&read_listing(alloc, listing.as_bytes()), &()),
+    )
 }
 
-pub fn lists(alloc: Global, text: &str) -> Option<Came> {
+/// Lists a text's packets.
+pub(crate) fn lists(alloc: Global, text: &str) -> Option<Came> {
     twice(packets_in(alloc, text)?, |packets| {
-        Some(look_at(&listing_of(alloc, packets)?))
-    })
-}
-
-/// The block comes back.
-pub fn plans(alloc: Global, text: &str) -> Option<Came> {
-    twice(Some(block_of(alloc, text)?), |block| {
-        match Plan::new(alloc, block.take()?) {
-            Ok(plan) => Some(look_at(&plan)),
-            Err((back, _)) => {
-                *block = Some(back);
-                None
-            }
+        if !packets.closed() {
+            return None;
         }
+        answered(&list(alloc, packets), &())
     })
 }
 
-pub fn copies(alloc: Global, text: &str) -> Option<Came> {
+/// Plans the block, or puts it back.
+fn plan_block(alloc: Global, block: &mut Option<Block>) -> Option<u64>
+    ensures { result ≡ None → block.new ≡ block.old }
+{
+    match Plan::new(alloc, block.take()?) {
+        Ok(plan) => Some(look_at(&plan)),
+        Err((back, _)) => {
+            *block = Some(back);
+            None
+        }
+    }
+}
+
+/// Plans a block, which comes back.
+pub(crate) fn plans(alloc: Global, text: &str) -> Option<Came> {
+    twice(
+        Some(block_of(alloc, text)?),
+        |block| plan_block(alloc, block),
+    )
+}
+
+/// Copies a plan.
+pub(crate) fn copies(alloc: Global, text: &str) -> Option<Came> {
     twice(
         plan_of(alloc, text)?,
-        |plan| Some(look_at(&plan.copy(alloc).ok()?)),
+        |plan| answered(&plan.copy(alloc), &()),
     )
+}
+
+/// Holds the packets of a text against its program.
+pub(crate) fn checks(alloc: Global, text: &'static str) -> Option<Came> {
+    twice(packets_in(alloc, text)?, |packets| {
+        let program = program_of(alloc, text)?;
+        answered(&check(alloc, program, packets), &())
+    })
 }

@@ -1,52 +1,50 @@
 //! Calls that run blocks and programs.
 
-use crate::digest::{Digest, printed};
-use crate::given::{block_of, opening, packed, packets_in, program_of, whole_board};
-use crate::seen::{Seen, look_at};
+ghost use Rattle.std.specs.Prelude.{◌≡◌, ◌++◌, None, Some, Contains, IfOk, OnErr};
+ghost use Rattle.c62_seen.specs.Digest.{digest_of};
+ghost use Rattle.c62_seen.specs.State.{of_contents};
+ghost use Rattle.c62_refusals.specs.declared.answer.TheConstants.{FAULT as OTHER_FAULT};
+
+use crate::answer::{FAULT, answered};
+use crate::given::{block_of, packed, packets_in, program_of, whole_board};
+use crate::opening::opening;
 use crate::twice::{Came, twice};
 use c62_pipe::{Pipe, run_chain};
+use c62_seen::{Seen, look_at};
 use c62_serial::{State, run_block, run_program};
 use std::alloc::{AllocError, Global};
-use std::fmt::Debug;
 
 /// How many blocks a chain has at most.
 const LIMIT: u32 = 6;
 
-/// What a run answered, and the state that it left.
-fn left<T: Debug>(answer: &T, state: &State) -> Option<u64> {
-    let mut digest = Digest::new();
-    digest.add(answer);
-    state.add_to(&mut digest);
-    Some(digest.sum())
+/// Makes a state.
+pub(crate) fn begins(alloc: Global) -> Option<Came> {
+    twice((), |_| answered(&State::new(alloc), &()))
 }
 
-pub fn begins(alloc: Global) -> Option<Came> {
-    twice((), |_| Some(look_at(&State::new(alloc).ok()?)))
+/// Makes room for faulted lines.
+pub(crate) fn makes_room(alloc: Global) -> Option<Came> {
+    twice(opening(alloc)?, |state| answered(&state.room(100), state))
 }
 
-pub fn makes_room(alloc: Global) -> Option<Came> {
-    twice(opening(alloc)?, |state| {
-        state.room(100).ok()?;
-        Some(look_at(state))
-    })
+/// Runs a block.
+pub(crate) fn runs_block(alloc: Global, text: &str) -> Option<Came> {
+    twice(
+        (block_of(alloc, text)?, opening(alloc)?),
+        |given| answered(&run_block(&given.0, &mut given.1), &given.1),
+    )
 }
 
-pub fn runs_block(alloc: Global, text: &str) -> Option<Came> {
-    twice((block_of(alloc, text)?, opening(alloc)?), |given| {
-        let exit = run_block(&given.0, &mut given.1).ok()?;
-        left(&exit, &given.1)
-    })
-}
-
-pub fn runs_packets(alloc: Global, text: &str) -> Option<Came> {
+/// Runs packets.
+pub(crate) fn runs_packets(alloc: Global, text: &str) -> Option<Came> {
     let block = packed(alloc, &whole_board(alloc, text)?)?;
-    twice((block, opening(alloc)?), |given| {
-        let exit = Pipe::run(&given.0, &mut given.1).ok()?;
-        left(&exit, &given.1)
-    })
+    twice(
+        (block, opening(alloc)?),
+        |given| answered(&Pipe::run(&given.0, &mut given.1), &given.1),
+    )
 }
 
-/// The states at the starts of a program's blocks, in the order of its chain.
+/// The looks of the states at the starts of a program's blocks, in the order of its chain.
 fn starts_of(alloc: Global, text: &str) -> Option<Vec<u64>> {
     let program = program_of(alloc, text)?;
     let mut starts = Vec::new(alloc);
@@ -58,20 +56,24 @@ fn starts_of(alloc: Global, text: &str) -> Option<Vec<u64>> {
     Some(starts)
 }
 
-/// What a chain answered, and the state that it left. `None` where it was refused memory at the start of a block.
-fn chained<T: Debug + Drop>(
+/// What a chain answered, and the state that it left. A refusal leaves the state at the start of a block.
+fn chained<T: Seen + Drop>(
     answer: Result<T, AllocError>,
     state: &State,
     starts: &[u64],
-) -> Option<u64> {
-    match answer {
-        Ok(chain) => left(&chain, state),
-        Err(_) if starts.contains(&look_at(state)) => None,
-        Err(_) => Some(printed(&"within a block")),
+) -> Option<u64>
+    ensures value { IfOk answer (λ value. result ≡ Some (digest_of (T.shown value ++ of_contents state.now))) }
+    ensures start { OnErr answer (Contains starts.now (digest_of (of_contents state.now)) → result ≡ None) }
+    ensures within { OnErr answer ((Contains starts.now (digest_of (of_contents state.now)) → ⊥) → result ≡ Some OTHER_FAULT) }
+{
+    if answer.is_err() && !starts.contains(&look_at(state)) {
+        return Some(FAULT);
     }
+    answered(&answer, state)
 }
 
-pub fn runs_program(alloc: Global, text: &str) -> Option<Came> {
+/// Runs a program.
+pub(crate) fn runs_program(alloc: Global, text: &str) -> Option<Came> {
     twice(
         (program_of(alloc, text)?, starts_of(alloc, text)?),
         |given| {
@@ -82,8 +84,8 @@ pub fn runs_program(alloc: Global, text: &str) -> Option<Came> {
     )
 }
 
-/// Its packets go through the states of the program.
-pub fn runs_chain(alloc: Global, text: &str) -> Option<Came> {
+/// Runs the packets of a program, which go through its states.
+pub(crate) fn runs_chain(alloc: Global, text: &str) -> Option<Came> {
     twice(
         (packets_in(alloc, text)?, starts_of(alloc, text)?),
         |given| {

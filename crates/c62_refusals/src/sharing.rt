@@ -1,30 +1,50 @@
 //! Calls on desks, and schedules by two workers.
 
-use crate::digest::printed;
+ghost use Rattle.std.specs.Prelude.{◌≡◌, None};
+ghost use Rattle.c62_refusals.specs.Twice.{if_published};
+
+use crate::answer::{answered, taken};
 use crate::given::{begun_board, plan_of};
-use crate::placing::{left, proposed, side_of};
-use crate::seen::look_at;
+use crate::placing::{proposed, side_of};
 use crate::twice::{Came, twice, twice_on};
-use c62_board::{Board, CommitFault, Turn, Who};
+use c62_board::{Board, Who};
 use c62_insn::Side;
+use c62_seen::look_at;
 use c62_view::{Desk, DeskFault, desk_of};
 use c62_work::{FreeGate, Options, schedule};
 use std::alloc::Global;
 use std::sync::Wait;
 use std::thread::Threads;
 
-/// The board comes back.
-pub fn opens<R: Wait>(rt: &R, alloc: Global, text: &str) -> Option<Came> {
-    twice(Some(begun_board(alloc, text)?), |board| {
-        match desk_of(rt, alloc, board.take()?) {
-            Ok((desk, _, _)) => Some(look_at(&desk.close(rt))),
-            Err((back, DeskFault::Memory)) => {
-                *board = Some(back);
-                None
-            }
-            Err((_, fault)) => Some(printed(&fault)),
+/// Opens a desk of the board, or puts it back.
+fn open_desk<R: Wait>(rt: &R, alloc: Global, board: &mut Option<Board>) -> Option<u64>
+    ensures { result ≡ None → board.new ≡ board.old }
+{
+    match desk_of(rt, alloc, board.take()?) {
+        Ok((desk, _, _)) => Some(look_at(&desk.close(rt))),
+        Err((back, fault)) => {
+            *board = Some(back);
+            answered(&Result::<(), DeskFault>::Err(fault), &())
         }
-    })
+    }
+}
+
+/// Opens a desk of a board, which comes back.
+pub(crate) fn opens<R: Wait>(rt: &R, alloc: Global, text: &str) -> Option<Came> {
+    twice(
+        Some(begun_board(alloc, text)?),
+        |board| open_desk(rt, alloc, board),
+    )
+}
+
+/// What came of a call at a desk: a refused one published nothing.
+fn if_published(came: Came, published: bool) -> Came
+    ensures { result ≡ if_published came published }
+{
+    match came {
+        Came::Memory if published => Came::Changed,
+        came => came,
+    }
 }
 
 /// A call on a desk of a board. Where it is refused, nothing is published.
@@ -38,38 +58,34 @@ fn on_desk<R: Wait, F: Fn(&mut Desk) -> Option<u64>>(
 {
     let (mut desk, mut viewer, _other) = desk_of(rt, alloc, board).ok()?;
     let planned = (viewer.plan(Side::A), viewer.plan(Side::B));
-    let came = twice_on(&mut desk, call);
+    let came = twice_on(&mut desk, &|desk| look_at(desk), &call);
     let plans = (viewer.plan(Side::A), viewer.plan(Side::B));
     desk.close(rt);
-    if came == Came::Memory && plans != planned {
-        Some(Came::Changed)
-    } else {
-        Some(came)
-    }
+    Some(if_published(came, plans != planned))
 }
 
-pub fn steps<R: Wait>(rt: &R, alloc: Global, text: &str) -> Option<Came> {
+/// Takes a side's turn at a desk.
+pub(crate) fn steps<R: Wait>(rt: &R, alloc: Global, text: &str) -> Option<Came> {
     on_desk(rt, alloc, begun_board(alloc, text)?, |desk| {
-        match desk.step(rt, side_of(desk.board())).0 {
-            Turn::Memory => None,
-            turn => left(&turn, desk.board()),
-        }
+        let turn = desk.step(rt, side_of(desk.board())).0;
+        answered(&taken(turn), desk)
     })
 }
 
-pub fn commits<R: Wait>(rt: &R, alloc: Global, text: &str) -> Option<Came> {
+/// Commits a proposal at a desk.
+pub(crate) fn commits<R: Wait>(rt: &R, alloc: Global, text: &str) -> Option<Came> {
     on_desk(rt, alloc, begun_board(alloc, text)?, |desk| {
         let proposal = proposed(desk.board())?;
         match desk.commit(rt, &proposal, Who::Tail) {
-            Ok((spot, _)) => left(&spot, desk.board()),
-            Err(CommitFault::Memory) => None,
-            Err(fault) => Some(printed(&fault)),
+            Ok((spot, _)) => Some(look_at(&(spot, desk.board()))),
+            Err(fault) => answered(&Result::<(), c62_board::CommitFault>::Err(fault), &()),
         }
     })
 }
 
-/// The board is complete, and of the plan. How it comes about depends on how the turns of its workers fall.
-pub fn schedules<R: Threads + Wait + Sync>(
+/// Schedules by two workers. The board is complete, and of the plan. How it comes about depends on how the turns of its workers
+/// fall.
+pub(crate) fn schedules<R: Threads + Wait + Sync>(
     rt: &R,
     alloc: Global,
     text: &str,
@@ -78,6 +94,6 @@ pub fn schedules<R: Threads + Wait + Sync>(
     twice(plan_of(alloc, text)?, |plan| {
         let given = plan.copy(alloc).ok()?;
         let board = schedule(rt, alloc, given, options, &FreeGate).ok()?;
-        Some(printed(&(board.complete(), board.plan().same(plan))))
+        Some(look_at(&(board.complete(), board.plan().same(plan))))
     })
 }

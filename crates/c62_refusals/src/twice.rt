@@ -1,45 +1,78 @@
 //! A call that is made again where memory was refused.
 
-use crate::seen::{Seen, look_at};
+ghost use Rattle.std.specs.Prelude.{◌≡◌, IfSome};
+ghost use Rattle.std.specs.Fn.{FnReturnsAt};
+ghost use Rattle.c62_seen.specs.Digest.{digest_of};
+ghost use Rattle.c62_refusals.specs.Twice.{FnReturnsAtMut, CameOf};
+
+use c62_seen::{Seen, look_at};
 
 /// What came of a call.
 #[derive(Clone, Copy, PartialEq, Eq, Debug)]
-pub enum Came {
+pub(crate) enum Came {
     /// It answered this.
     Answer(u64),
-    /// It was refused memory, all stayed as it was, and made again it answered this.
+    /// It was refused memory, all looked as before, and made again it answered this.
     Again(u64),
-    /// It was refused memory, perhaps twice, and all stayed as it was.
+    /// It was refused memory twice, and all looked as before.
     Memory,
-    /// It was refused memory, and something changed.
+    /// It was refused memory, once or twice, and something looked different.
     Changed,
 }
 
-/// Makes a call on a value, and again where it answers `None`, by which it says that it was refused memory. What is seen of the
-/// value must then be as before.
-pub fn twice_on<T: Seen, F: Fn(&mut T) -> Option<u64>>(value: &mut T, call: F) -> Came
-    requires { F.IsAlwaysCallable call }
+/// What a value looks like.
+fn looked<T, L: Fn(&T) -> u64>(look: &L, value: &T) -> u64
+    requires { L.IsAlwaysCallable look.now }
+    ensures { FnReturnsAt L.Fn look.now value.now result }
 {
-    let before = look_at(value);
-    if let Some(answer) = call(value) {
-        return Came::Answer(answer);
+    look(value)
+}
+
+/// What a call on a value answers.
+fn called<T, F: Fn(&mut T) -> Option<u64>>(call: &F, value: &mut T) -> Option<u64>
+    requires { F.IsAlwaysCallable call.now }
+    ensures { FnReturnsAtMut F.Fn call.now value.old result value.new }
+{
+    call(value)
+}
+
+/// Makes a call on a value, and again where it answers `None`, by which it says that it was refused memory. After each refusal the
+/// value must look as before.
+pub(crate) fn twice_on<T, L: Fn(&T) -> u64, F: Fn(&mut T) -> Option<u64>>(
+    value: &mut T,
+    look: &L,
+    call: &F,
+) -> Came
+    requires look { L.IsAlwaysCallable look.now }
+    requires call { F.IsAlwaysCallable call.now }
+    ensures { CameOf (FnReturnsAt L.Fn look.now) (FnReturnsAtMut F.Fn call.now) value.old value.new result }
+{
+    let before = looked(look, value);
+    match called(call, value) {
+        Some(answer) => return Came::Answer(answer),
+        None => {}
     }
-    if look_at(value) != before {
+    if looked(look, value) != before {
         return Came::Changed;
     }
-    if let Some(answer) = call(value) {
-        return Came::Again(answer);
+    match called(call, value) {
+        Some(answer) => return Came::Again(answer),
+        None => {}
     }
-    if look_at(value) == before {
+    if looked(look, value) == before {
         Came::Memory
     } else {
         Came::Changed
     }
 }
 
-/// The same of a value that is then dropped.
-pub fn twice<T: Seen + Drop, F: Fn(&mut T) -> Option<u64>>(mut value: T, call: F) -> Option<Came>
+/// What comes of a call on a value that is then dropped. All that is seen of it must be as before.
+pub(crate) fn twice<T: Seen + Drop, F: Fn(&mut T) -> Option<u64>>(
+    mut value: T,
+    call: F,
+) -> Option<Came>
     requires { F.IsAlwaysCallable call }
+    ensures { IfSome result (λ came. (left : T) × CameOf (λ seen look. look ≡ digest_of (T.shown seen)) (FnReturnsAtMut F.Fn call) value left came) }
 {
-    Some(twice_on(&mut value, call))
+    Some(twice_on(&mut value, &|seen| look_at(seen), &call))
 }

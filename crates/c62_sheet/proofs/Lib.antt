@@ -8,6 +8,9 @@ pub mod Placing
 pub mod Missing
 pub mod EarlyCycles
 pub mod Followers
+pub mod ReadyOrder
+pub mod Counting
+pub mod ReadySets
 pub mod Turns
 pub mod Asking
 pub mod RowsOf
@@ -22,3 +25,4 @@ pub mod Prefix
 pub mod Chains
 pub mod Victims
 pub mod Landings
+pub mod StandingSpots

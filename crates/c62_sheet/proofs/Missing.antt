@@ -187,7 +187,7 @@ module _ (links : List Link) (old now : List ℕ) (k : ℕ) (d : Link) (lt : k <
   pub times-more : (j : ℕ) → times j (take (k + 1) links) ≡ times j (take k links) + cond ((get_or links k d).number == j) 1 0
   times-more j = sum_by_more (λ (link : Link). cond (link.number == j) 1 0) links k d lt
 
-  times-part : (j : ℕ) → times j (take (k + 1) links) ≤ times j links
+  pub times-part : (j : ℕ) → times j (take (k + 1) links) ≤ times j links
   times-part j = sum_by-take-le (λ (link : Link). cond (link.number == j) 1 0) links (k + 1)
 
   pub lowered_some : ((j : ℕ) → times j links ≤ slice_index old j) → ((j : ℕ) → slice_index now j + times j (take k links) ≡ slice_index old j)

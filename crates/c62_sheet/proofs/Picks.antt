@@ -55,7 +55,7 @@ pick_unique block set of i k a b = grind (arith, a.best k b.competes, b.best i a
 -- ---- somebody has something to do
 
 -- all numbers below n are placed, or there is a lowest one that is not
-lowest_missing : (set : Spots) (n : ℕ)
+pub lowest_missing : (set : Spots) (n : ℕ)
     → ((k : ℕ) → k < n → IsSome (spot_at set k)) ⊎ ((i : ℕ) × (i < n) × (spot_at set i ≡ None) × ((k : ℕ) → k < i → IsSome (spot_at set k)))
 lowest_missing set zero = inl (λ k lt. absurd (omega (arith, lt)))
 lowest_missing set (suc n) = elim (lowest_missing set n) [

@@ -8,6 +8,8 @@ pub mod Index
 pub mod Early
 pub mod View
 pub mod Laws
+pub mod Ready
 pub mod Rows
+pub mod Standing
 pub mod Chain
 pub mod Victim

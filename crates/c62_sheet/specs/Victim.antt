@@ -1,5 +1,6 @@
 -- Which placed number makes way for a more urgent one (docs/SCHEDULING.md, "A step of a side").
 use Rattle.std.specs.Prelude.{◌≡◌, ◌⊎◌, ℕ, ◌<◌, ◌≤◌, List, Option, MatchOption}
+use Rattle.c62_op.specs.Units.{index_of}
 use Rattle.c62_insn.specs.declared.insn.Insn.{Insn}
 use Rattle.c62_depend.specs.Height.{height}
 use Rattle.c62_sheet.specs.declared.entry.Spot.{Spot}
@@ -28,14 +29,14 @@ pub record IsVictim (block : List Insn) (set : Spots) (i q : ℕ) : Type 0 where
   pub in_the_way : IsInTheWay block set i early q
   pub first : (k : ℕ) → IsInTheWay block set i early k → MakesWayBefore block q k
 
--- of the numbers below n that keep i from a cycle the first to make way
+-- of those on the first n units of a cycle that keep i from it the first to make way
 pub record IsFirstOf (block : List Insn) (set : Spots) (i cycle n q : ℕ) : Type 0 where
-  pub low : q < n
   pub in_the_way : IsInTheWay block set i cycle q
-  pub first : (k : ℕ) → k < n → IsInTheWay block set i cycle k → MakesWayBefore block q k
+  pub first : (k : ℕ) (way : IsInTheWay block set i cycle k) → index_of way.spot.unit < n → MakesWayBefore block q k
 
-abbrev pub IsFirstBelow : List Insn → Spots → ℕ → ℕ → ℕ → Option ℕ → Type 0
-IsFirstBelow block set i cycle n first = MatchOption first ((k : ℕ) → k < n → IsInTheWay block set i cycle k → ⊥) (IsFirstOf block set i cycle n)
+abbrev pub IsFirstBefore : List Insn → Spots → ℕ → ℕ → ℕ → Option ℕ → Type 0
+IsFirstBefore block set i cycle n first =
+    MatchOption first ((k : ℕ) (way : IsInTheWay block set i cycle k) → index_of way.spot.unit < n → ⊥) (IsFirstOf block set i cycle n)
 
 -- nothing keeps i from its early cycle that may make way
 abbrev pub HasNoVictim : List Insn → Spots → ℕ → Type 0

@@ -5,12 +5,12 @@ ghost use Rattle.c62_rules.specs.Length.{landing_end};
 ghost use Rattle.c62_depend.specs.declared.limits.TheConstants.{ISSUE_CYCLES};
 ghost use Rattle.c62_depend.specs.Plan.{insns_of};
 ghost use Rattle.c62_sheet.specs.Lawful.{issue_at, IsLawful};
-ghost use Rattle.c62_sheet.specs.Least.{IsReadyOn, IsComplete};
+ghost use Rattle.c62_sheet.specs.Least.{IsReadyOn};
 ghost use Rattle.c62_sheet.specs.Counts.{HasCount, IsPlacedOn, AreCounts, set_length};
-ghost use Rattle.c62_sheet.specs.Index.{IsIndex};
+ghost use Rattle.c62_sheet.specs.Ready.{AreReady};
 
 use crate::entry::{Counts, Spot};
-use crate::judge::is_ready_on;
+use crate::ready::ReadyLists;
 use c62_depend::Plan;
 use c62_insn::{Insn, Side};
 
@@ -35,30 +35,27 @@ fn count_placed(plan: &Plan, spots: &[Option<Spot>], of: Side) -> u16
     count
 }
 
-/// How many instructions of a side are ready.
-fn count_ready(plan: &Plan, spots: &[Option<Spot>], missing: &[u16], of: Side) -> u16
+/// How many instructions of a side are ready: as many as are listed.
+fn count_ready(plan: &Plan, spots: &[Option<Spot>], lists: &ReadyLists, of: Side) -> u16
     requires sized { length spots.now ≡ length (insns_of plan.now) }
-    requires index { IsIndex (insns_of plan.now) spots.now missing.now }
+    requires ready { AreReady (insns_of plan.now) spots.now lists.now }
     ensures { HasCount (IsReadyOn (insns_of plan.now) spots.now of) (length (insns_of plan.now)) result }
 {
-    let mut count = 0;
-    for k in 0..plan.len() {
-        count += u16::from(is_ready_on(plan, spots, missing, of, k));
-    }
-    count
+    prove!(usize::from(plan.len()) == spots.len());
+    lists.of(of).len() as u16
 }
 
 /// How many instructions of each side are placed, and how many are ready.
-pub(crate) fn counts(plan: &Plan, spots: &[Option<Spot>], missing: &[u16]) -> Counts
+pub(crate) fn counts(plan: &Plan, spots: &[Option<Spot>], lists: &ReadyLists) -> Counts
     requires sized { length spots.now ≡ length (insns_of plan.now) }
-    requires index { IsIndex (insns_of plan.now) spots.now missing.now }
+    requires ready { AreReady (insns_of plan.now) spots.now lists.now }
     ensures { AreCounts (insns_of plan.now) spots.now result }
 {
     Counts {
         placed_a: count_placed(plan, spots, Side::A),
         placed_b: count_placed(plan, spots, Side::B),
-        ready_a: count_ready(plan, spots, missing, Side::A),
-        ready_b: count_ready(plan, spots, missing, Side::B),
+        ready_a: count_ready(plan, spots, lists, Side::A),
+        ready_b: count_ready(plan, spots, lists, Side::B),
     }
 }
 
@@ -87,17 +84,4 @@ pub(crate) fn length(plan: &Plan, spots: &[Option<Spot>]) -> u16
         end = end.max(landing_end(insn, spot));
     }
     end
-}
-
-/// Whether all instructions are placed.
-pub(crate) fn is_complete(plan: &Plan, spots: &[Option<Spot>]) -> bool
-    requires { length spots.now ≡ length (insns_of plan.now) }
-    ensures { IsTrue result ↔ IsComplete (insns_of plan.now) spots.now }
-{
-    for k in 0..plan.len() {
-        if spots[usize::from(k)].is_none() {
-            return false;
-        }
-    }
-    true
 }

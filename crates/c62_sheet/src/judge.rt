@@ -1,14 +1,13 @@
 //! Which placements are lawful, what is ready, and where it goes.
 
-ghost use Rattle.std.specs.Prelude.{◌≡◌, ◌↔◌, ℕ, ◌<◌, ◌≤◌, ◌∷◌, length, None, IfSome, IsTrue, take};
+ghost use Rattle.std.specs.Prelude.{◌≡◌, ◌↔◌, ℕ, ◌<◌, ◌≤◌, ◌∷◌, length, None, IsTrue, take};
 ghost use Rattle.c62_rules.specs.PacketRules.{KeepsPacketRules};
 ghost use Rattle.c62_depend.specs.Plan.{insns_of};
 ghost use Rattle.c62_op.specs.declared.register.Unit.{Unit as FunctionalUnit};
 ghost use Rattle.c62_insn.specs.UnitSet.{unit_in};
-ghost use Rattle.c62_depend.specs.Height.{height};
 ghost use Rattle.c62_depend.specs.Side.{stands_on};
 ghost use Rattle.c62_sheet.specs.Lawful.{spot_at, withdrawn, issues, IsLawful};
-ghost use Rattle.c62_sheet.specs.Least.{IsReady, IsReadyOn, IsAfter, IsEarly, IsLeast, FindsLeast, Picks, IsLast, FitsWithout};
+ghost use Rattle.c62_sheet.specs.Least.{IsReady, IsAfter, IsEarly, IsLeast, FindsLeast, IsLast, FitsWithout};
 ghost use Rattle.c62_sheet.specs.Check.{Judges};
 ghost use Rattle.c62_sheet.specs.Index.{IsIndex};
 ghost use Rattle.c62_sheet.specs.Packet.{rule_of};
@@ -17,7 +16,7 @@ ghost use Rattle.c62_sheet.specs.Rows.{AreRows, FitsRow};
 use crate::entry::{Rule, Spot, Unlawful};
 use crate::rows::row_without;
 use c62_depend::Plan;
-use c62_insn::{Insn, Side, Unit, UnitSet};
+use c62_insn::{Insn, Unit, UnitSet};
 use c62_row::{PacketRule, Row};
 
 /// A packet rule among the rules for a spot.
@@ -161,49 +160,6 @@ pub(crate) fn fits_without(
         }
     }
     false
-}
-
-/// Whether instruction `k` comes before the best so far: it is greater in height.
-fn is_higher(plan: &Plan, k: u16, best: Option<u16>) -> bool
-    requires in_plan { k < length plan.now.insns }
-    requires best_in_plan { IfSome best (λ b. b < length plan.now.insns) }
-    ensures { IsTrue result ↔ IfSome best (λ b. height (insns_of plan.now) b < height (insns_of plan.now) k) }
-{
-    match best {
-        None => true,
-        Some(best) => plan.height(best) < plan.height(k),
-    }
-}
-
-/// Whether instruction `k` is a ready one of a side.
-pub(crate) fn is_ready_on(
-    plan: &Plan,
-    spots: &[Option<Spot>],
-    missing: &[u16],
-    of: Side,
-    k: u16,
-) -> bool
-    requires sized { length spots.now ≡ length (insns_of plan.now) }
-    requires index { IsIndex (insns_of plan.now) spots.now missing.now }
-    requires in_plan { k < length plan.now.insns }
-    ensures { IsTrue result ↔ IsReadyOn (insns_of plan.now) spots.now of k }
-{
-    plan.side(k) == of && is_ready(plan, spots, missing, k)
-}
-
-/// The ready instruction of a side that is greatest in height, and then the lowest.
-pub(crate) fn pick(plan: &Plan, spots: &[Option<Spot>], missing: &[u16], of: Side) -> Option<u16>
-    requires sized { length spots.now ≡ length (insns_of plan.now) }
-    requires index { IsIndex (insns_of plan.now) spots.now missing.now }
-    ensures { Picks (insns_of plan.now) spots.now of result }
-{
-    let mut best = None;
-    for k in 0..plan.len() {
-        if is_higher(plan, k, best) && is_ready_on(plan, spots, missing, of, k) {
-            best = Some(k);
-        }
-    }
-    best
 }
 
 /// Whether no placed instruction depends on instruction `i`.

@@ -9,8 +9,10 @@ mod entry;
 mod index;
 mod judge;
 pub mod laws;
+mod ready;
 mod rows;
 mod sheet;
+mod standing;
 mod victim;
 mod whole;
 

@@ -1,9 +1,9 @@
 //! A lawful set of placements.
 
-ghost use Rattle.std.specs.Prelude.{◌≡◌, ◌↔◌, ℕ, ◌<◌, ◌≤◌, length, None, IsTrue, IsSome, IfOk, IfErr};
+ghost use Rattle.std.specs.Prelude.{◌≡◌, ◌↔◌, ℕ, ◌*◌, ◌<◌, ◌≤◌, length, None, IsTrue, IsSome, IfOk, IfErr};
 ghost use Rattle.std.specs.Bool.{OnTrue, OnFalse};
 ghost use Rattle.c62_depend.specs.Plan.{insns_of, IsPlan};
-ghost use Rattle.c62_sheet.specs.Lawful.{spot_at, placed, withdrawn, nothing_placed, empty_sheet, IsLawful};
+ghost use Rattle.c62_sheet.specs.Lawful.{IsAt, spot_at, placed, withdrawn, nothing_placed, empty_sheet, IsLawful};
 ghost use Rattle.c62_sheet.specs.Least.{IsReady, IsAfter, IsEarly, FindsLeast, Picks, IsLast, IsComplete, FitsWithout};
 ghost use Rattle.c62_sheet.specs.Victim.{FindsVictim};
 ghost use Rattle.c62_sheet.specs.Check.{IsOpen, Judges};
@@ -11,7 +11,8 @@ ghost use Rattle.c62_sheet.specs.Counts.{AreCounts, set_length};
 ghost use Rattle.c62_sheet.specs.Journal.{after, PermitsPlace, PermitsWithdraw, Permits};
 
 use crate::entry::{Counts, Entry, Spot, Unlawful};
-use crate::{counts, earliest, index, judge, rows, victim};
+use crate::ready::ReadyLists;
+use crate::{counts, earliest, index, judge, ready, rows, standing, victim};
 use c62_depend::Plan;
 use c62_insn::Side;
 use c62_row::Row;
@@ -26,7 +27,9 @@ pub struct Sheet {
     spots: Vec<Option<Spot>>,
     missing: Vec<u16>,
     earliest: Vec<u16>,
+    ready: ReadyLists,
     rows: Vec<Row>,
+    standing: Vec<u16>,
 }
 
 impl Model for Sheet {
@@ -69,13 +72,22 @@ impl Sheet {
         let Ok(earliest) = vec![in alloc; 0u16; usize::from(plan.len())] else {
             return Err((plan, AllocError));
         };
+        let Ok(mut ready) = ready::no_lists(alloc, &plan) else {
+            return Err((plan, AllocError));
+        };
+        ready::add_all(&plan, &spots, &missing, &mut ready);
+        let Ok(standing) = standing::none_standing(alloc, &plan) else {
+            return Err((plan, AllocError));
+        };
         match rows::all_rows(alloc, &plan) {
             Ok(rows) => Ok(Sheet {
                 plan,
                 spots,
                 missing,
                 earliest,
+                ready,
                 rows,
+                standing,
             }),
             Err(error) => Err((plan, error)),
         }
@@ -94,7 +106,9 @@ impl Sheet {
             spots: Vec::from_slice(alloc, &self.spots)?,
             missing: Vec::from_slice(alloc, &self.missing)?,
             earliest: Vec::from_slice(alloc, &self.earliest)?,
+            ready: ready::copy(alloc, &self.plan, &self.ready)?,
             rows: Vec::from_slice(alloc, &self.rows)?,
+            standing: Vec::from_slice(alloc, &self.standing)?,
         })
     }
 
@@ -169,7 +183,7 @@ impl Sheet {
     pub fn pick(&self, side: Side) -> Option<u16>
         ensures { Picks (insns_of self.now.plan) self.now.spots side result }
     {
-        judge::pick(&self.plan, &self.spots, &self.missing, side)
+        self.ready.of(side).first().copied()
     }
 
     /// Whether a ready instruction keeps the packet rules in a cycle that its dependences allow, on some unit that it may
@@ -195,18 +209,29 @@ impl Sheet {
         victim::victim(self, i)
     }
 
+    /// The instruction that was placed last at a spot, which is the one that stands there, where one does. Where none was
+    /// placed there, it is any.
+    pub(crate) fn last_at(&self, spot: Spot) -> u16
+        requires { spot.cycle < 5 * length self.now.plan.insns }
+        ensures in_plan { result < length self.now.plan.insns }
+        ensures stands { (q : ℕ) → IsAt self.now.spots q spot → result ≡ q }
+    {
+        let place = standing::place_of(spot);
+        self.standing[place]
+    }
+
     /// How many instructions of each side are placed, and how many are ready.
     pub fn counts(&self) -> Counts
         ensures { AreCounts (insns_of self.now.plan) self.now.spots result }
     {
-        counts::counts(&self.plan, &self.spots, &self.missing)
+        counts::counts(&self.plan, &self.spots, &self.ready)
     }
 
-    /// Whether all instructions are placed.
+    /// Whether all instructions are placed: none is ready then, and only then.
     pub fn complete(&self) -> bool
         ensures { IsTrue result ↔ IsComplete (insns_of self.now.plan) self.now.spots }
     {
-        counts::is_complete(&self.plan, &self.spots)
+        self.ready.is_empty()
     }
 
     /// The cycles that what is placed takes: where a branch is placed, six from its issue, and else until the last landing,
@@ -231,10 +256,13 @@ impl Sheet {
         requires may { IsOpen (insns_of self.old.plan) self.old.spots i spot }
         ensures { self.new ≡ record self.old { spots = placed self.old.spots i spot } }
     {
+        ready::take_off(&self.plan, &mut self.ready, i);
         index::lower_followers(&self.plan, &mut self.missing, i);
         earliest::raise_followers(&self.plan, &self.spots, &mut self.earliest, i, spot);
         rows::take(&self.plan, &self.spots, &mut self.rows, i, spot);
+        self.standing[standing::place_of(spot)] = i;
         self.spots[usize::from(i)] = Some(spot);
+        ready::add_followers(&self.plan, &self.spots, &self.missing, &mut self.ready, i);
     }
 
     /// Takes out placed instruction `i`, on which no placed one depends.
@@ -244,6 +272,8 @@ impl Sheet {
         requires last { IsLast (insns_of self.old.plan) self.old.spots i }
         ensures { self.new ≡ record self.old { spots = withdrawn self.old.spots i } }
     {
+        ready::drop_followers(&self.plan, &self.spots, &self.missing, &mut self.ready, i);
+        ready::add(&self.plan, &mut self.ready, i);
         index::raise_followers(&self.plan, &mut self.missing, i);
         rows::free(&self.plan, &self.spots, &mut self.rows, i);
         self.spots[usize::from(i)] = None;
@@ -299,6 +329,8 @@ impl Sheet {
         earliest::reset(&self.plan, &mut self.earliest);
         rows::free_all(&self.plan, &mut self.rows);
         take_out_all(&mut self.spots);
+        ready::take_all_off(&mut self.ready);
+        ready::add_all(&self.plan, &self.spots, &self.missing, &mut self.ready);
     }
 
     /// The plan alone.

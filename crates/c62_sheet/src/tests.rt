@@ -142,6 +142,20 @@ const CHANGES: [Entry; 10] = [
     Entry::Place(3, Spot { cycle: 2, unit: L1 }, Who::A),
 ];
 
+/// After each of these changes: the picks of sides A and B, and the early cycles of the instructions 3 and 5.
+const AFTER: [(Option<u16>, Option<u16>, u16, u16); 10] = [
+    (Some(3), Some(0), 1, 0),
+    (Some(3), Some(1), 1, 0),
+    (None, Some(1), 1, 0),
+    (Some(4), None, 1, 0),
+    (Some(4), None, 1, 0),
+    (Some(4), None, 0, 0),
+    (Some(2), None, 0, 2),
+    (Some(5), None, 2, 2),
+    (Some(3), None, 2, 2),
+    (None, None, 2, 2),
+];
+
 /// Changes that are not legal after the first four of these.
 const REFUSED: [Entry; 8] = [
     Entry::Withdraw(2, Who::A),
@@ -327,6 +341,25 @@ fn changes_and_counts(rt: HostRuntime) -> Result<(), Fail> {
     sheet.clear();
     assert_eq!(rt; sheet.counts(), none);
     assert_eq!(rt; sheet.into_plan().len(), 6);
+    Ok(())
+}
+
+/// Each change is made on a copy, so that a copy keeps what it needs for changes.
+#[test]
+fn picks_and_early_cycles(rt: HostRuntime) -> Result<(), Fail> {
+    let mut sheet = sheet_of(&rt, rt.alloc(), SIX)?;
+    for k in 0..10 {
+        sheet = sheet.copy(rt.alloc())?;
+        assert!(rt; sheet.apply(&CHANGES[k]));
+        assert_eq!(rt; sheet.plan().len(), 6);
+        let seen = (
+            sheet.pick(Side::A),
+            sheet.pick(Side::B),
+            sheet.early(3),
+            sheet.early(5),
+        );
+        assert_eq!(rt; seen, AFTER[k], "change {k}");
+    }
     Ok(())
 }
 

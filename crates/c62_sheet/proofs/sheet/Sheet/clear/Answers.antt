@@ -1,5 +1,6 @@
 use Rattle.c62_sheet.proofs.Common.{arith, ◌≡◌, ◌∙◌, ap, length, Option, with_items_is, insns_of, Spot, nothing_placed}
 use Rattle.c62_sheet.proofs.Empty.{lawful_empty}
+use Rattle.c62_sheet.proofs.StandingSpots.{standing_nothing}
 use Rattle.c62_sheet.proofs.sheet.Sheet.clear.Goals as goal
 
 pub invariant_of-self : goal.invariant_of-self
@@ -19,6 +20,8 @@ invariant_of-self c =
         nothing,
         with_items_is b.earliest c.reset-2.new.earliest (omega (arith, c.reset-2.auto.earliest, c.deref_mut-2.ensures.len)),
       ) c.reset-2.ensures;
+      ready = rw c.deref.ensures.value at c.add_all.ensures;
+      standing = rw (with_items_is b.spots c.take_out_all.new.spots sized, nothing) (standing_nothing (insns_of b.plan) b.spots.items b.standing.items c.self.invariant.standing);
       rows = rw (
         with_items_is b.spots c.take_out_all.new.spots sized,
         nothing,

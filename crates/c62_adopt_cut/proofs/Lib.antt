@@ -1,0 +1,4 @@
+pub mod ClockLemmas
+pub mod DraftLemmas
+pub mod ReadLemmas
+pub mod FineLemmas

@@ -1,0 +1,16 @@
+-- Blocks as the code has them.
+use Rattle.std.specs.Prelude.{map, option_map}
+use Rattle.c62_line.specs.Line.{parts_of}
+use Rattle.c62_adopt_cut.specs.Blocks.{Issue, Draft, Drafts}
+use Rattle.c62_adopt_cut.specs.declared.draft.Issue.{Issue as IssueRead}
+use Rattle.c62_adopt_cut.specs.declared.draft.Draft.{Draft as DraftRead}
+use Rattle.c62_adopt_cut.specs.declared.draft.Drafts.{Drafts as DraftsRead}
+
+abbrev pub issue_of : IssueRead → Issue
+issue_of issue = record { parts = parts_of issue.insn; target = issue.target; line = issue.line; cycle = issue.cycle }
+
+abbrev pub draft_of : DraftRead → Draft
+draft_of draft = record { label = draft.label; start = draft.start; issues = map issue_of draft.issues.items }
+
+abbrev pub drafts_of : DraftsRead → Drafts
+drafts_of drafts = record { done = map draft_of drafts.done.items; current = option_map draft_of drafts.current }

@@ -1,0 +1,10 @@
+//! Laws of texts of packets.
+
+ghost use Rattle.std.specs.Prelude.{ℕ, List};
+ghost use Rattle.c62_adopt_cut.specs.Laws.{BlocksAreFine};
+
+/// Of every text that is read there are at most 64 blocks of at most 256 instructions, each with its unit written, and none in
+/// flight behind the 2,048th cycle of its block.
+pub fn blocks_are_fine()
+    ensures { (text : List ℕ) → BlocksAreFine text }
+{}

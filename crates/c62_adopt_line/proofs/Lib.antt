@@ -1,0 +1,5 @@
+pub mod Common
+pub mod Labels
+pub mod SpacedWords
+pub mod WholeLines
+pub mod SerialLines

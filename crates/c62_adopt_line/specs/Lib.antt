@@ -1,0 +1,5 @@
+pub mod Directive
+pub mod FaultName
+pub mod Plain
+pub mod Line
+pub mod Laws

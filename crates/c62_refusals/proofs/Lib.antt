@@ -1,0 +1,3 @@
+mod Came
+mod Packed
+mod Words

@@ -1,0 +1,10 @@
+-- The names of the texts that calls are made on.
+use Rattle.std.specs.Prelude.{List, ℕ, Option, Some, None, codes, if◌then◌else◌, ◌==◌}
+use Rattle.std.specs.Str.{bytes_eq}
+use Rattle.c62_refusals.specs.declared.texts.TheConstants.{EJECTING, BRANCHING, STORING}
+
+abbrev pub text_named : List ℕ → Option (List ℕ)
+text_named name = if bytes_eq name (codes "ejecting") then Some EJECTING.now
+    else (if bytes_eq name (codes "branching") then Some BRANCHING.now
+    else (if bytes_eq name (codes "storing") then Some STORING.now
+    else None))

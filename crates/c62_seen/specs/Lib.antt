@@ -1,0 +1,10 @@
+pub mod Desk
+pub mod Digest
+pub mod Common
+pub mod Insn
+pub mod Program
+pub mod Plan
+pub mod Board
+pub mod Check
+pub mod Packets
+pub mod State
