@@ -2,3 +2,4 @@ pub mod ClockLemmas
 pub mod DraftLemmas
 pub mod ReadLemmas
 pub mod FineLemmas
+pub mod OverLemmas

@@ -97,8 +97,3 @@ stand_at place = record { cycle = cycle_at place; start = start_of (cycle_at pla
 -- a line stands where the first line of its packet does
 abbrev pub stand_of : List Line → Line → Stand
 stand_of above line = stand_at (first_of above line)
-
--- where these lines stand, below those
-abbrev pub stands_below : List Line → List Line → List Stand
-stands_below above [] = []
-stands_below above (line ∷ lines) = stand_of above line ∷ stands_below (line ∷ above) lines

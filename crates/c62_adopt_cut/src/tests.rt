@@ -63,7 +63,7 @@ fn first_wrong(alloc: Global, rows: &[(&'static str, &'static str)]) -> Result<&
 }
 
 /// Texts, and their blocks.
-const BLOCKS: [(&str, &str); 24] = [
+const BLOCKS: [(&str, &str); 27] = [
     ("", ""),
     ("NOP 3\n; c\n\t.text\n", ""),
     (
@@ -130,6 +130,21 @@ const BLOCKS: [(&str, &str); 24] = [
     (
         "\t.global dot\n\t.type dot, @function\ndot:\n\t\tmvk\t.s1\t0, A3\n\t||\tmvk\t.s2\t16, B0\n.L3:\n\t\tldw\t.d1t1\t*A4++[1], A5\n\t||\tldw\t.d2t2\t*B4++[1], B5\n\t||\tsub\t.l2\tB0, 1, B0\n\t[B0]\tb\t.s2\t.L3\n\t\tnop\t3\n\t\tmpy\t.m1x\tA5, B5, A6\n\t\tnop\t1\n\t\tadd\t.l1\tA3, A6, A3\n\t\tret\t.s2\tB3\n\t\tnop\t5\n\t.size\tdot, .-dot\n",
         "dot@0 4:0 5:0\n_L3@1 7:0 8:0 9:0 10:1>_L3 12:5\n@8 14:0 15:1\n",
+    ),
+    // A function as GNU's compiler writes it, with what it tells a debugger.
+    (
+        "\t.section\t.text.f,\"ax\",@progbits\n\t.align\t5\nf:\n\t.cfi_startproc\n\t\tstw\t.d2t2\tB3, *B15--[2]\n\t||\tmv\t.l1\tA4, A5\n\t.cfi_def_cfa_offset 8\n\t.loc 1 3\n\t\tldw\t.d2t2\t*++B15[2], B3\n\t||\tmpy\t.m1\tA5, A5, A4\n\t\tnop\t4\n\t\tret\t.s2\tB3\n\t\tnop\t5\n\t.cfi_endproc\n\t.size\tf, .-f\n\t.ident\t\"GCC: (GNU) 9\"\n",
+        "f@0 5:0 6:0 9:1 10:1 12:6\n",
+    ),
+    // The same function's delay slots filled by hand, a branch to a label with dots ahead.
+    (
+        "f.part.0:\n  [A1] b .s1 .L2\n   ldw .d1t1 *a4,a5\n   mvk .s1 0,a6\n   nop 3\n   add .l1 a5,a6,a6\n.L2:\n   b .s2 b3\n|| mv .l1 a6,a4\n   nop 5\n",
+        "f_part_0@0 2:0>_L2 3:1 4:2\n@6 6:0\n_L2@7 8:0 9:0\n",
+    ),
+    // A loop by TI's compiler, with its bars in the first column and bytes for offsets.
+    (
+        "$C$L2:    ; PIPED LOOP KERNEL\n   [ B0]   SUB     .L2     B0,1,B0           ; |7| <0,0> \n||         LDH     .D1T1   *A4++(2),A5       ; |7| <0,0> \n||         LDH     .D2T2   *B4++(2),B5       ; |7| <0,0> \n   [ B0]   B       .S2     $C$L2             ; |7| <0,1> \n           NOP             3\n           MPY     .M1X    A5,B5,A6          ; |7| <0,5> \n           NOP             1\n           ADD     .L1     A6,A7,A7          ; |7| <0,7> \n;** ---*\n           RET     .S2     B3                ; |9| \n||         STW     .D2T1   A7,*+B15(12)      ; |9| \n           NOP             5\n           ; BRANCH OCCURS {B3}              ; |9| \n",
+        "$C$L2@0 2:0 3:0 4:0 5:1>$C$L2 7:5\n@7 9:0 11:1 12:1\n",
     ),
     // A loop as TI's compiler writes it.
     (

@@ -3,3 +3,4 @@ pub mod Labels
 pub mod SpacedWords
 pub mod WholeLines
 pub mod SerialLines
+pub mod ListedLines

@@ -16,12 +16,12 @@ use Rattle.c62_line.specs.Unit.{is_dot}
 use Rattle.c62_line.proofs.HeadLemmas.{no_colon_at_all, no_label}
 use Rattle.c62_adopt_line.specs.Plain.{in_accesses, operands_behind, plain_words, bytes_named, undotted}
 use Rattle.c62_adopt_line.specs.Line.{behind_bars, from_solid, has_colon, instruction_says, line_said, line_says, statement_says, with_unit, words_say}
-use Rattle.c62_adopt_line.specs.Laws.{HasUnit, IsPlain, ReadsAsSerial, has_one_dot}
+use Rattle.c62_adopt_line.specs.Laws.{HasUnit, IsPlain, ReadsAsSerial, has_one_dot, has_return}
 use Rattle.c62_adopt_line.proofs.Labels.{no_colon_no_label}
 
 -- ---- dots
 
-undotted_none : (line : List ℕ) → list_any (λ b. eqb b 46) line ≡ false → undotted true line ≡ line
+pub undotted_none : (line : List ℕ) → list_any (λ b. eqb b 46) line ≡ false → undotted true line ≡ line
 undotted_none [] none = refl
 undotted_none (b ∷ line) none =
     let other : eqb b 46 ≡ false = grind (arith, nat_tests) in
@@ -63,14 +63,18 @@ operands_same : (size : Option ℕ) (words : List Word) → list_any (λ word. s
 operands_same None words none = refl
 operands_same (Some size) words none = accesses_same size words none
 
-plain_same : (last : Word) (words : List Word) → list_any (λ word. spells (codes "RET") word) words ≡ false
-    → list_any (λ word. spells (codes "(") word) words ≡ false → plain_words last words ≡ words
+plain_same : (last : Word) (words : List Word) → has_return words ≡ false → list_any (λ word. spells (codes "(") word) words ≡ false
+    → plain_words last words ≡ words
 plain_same last [] ret round = refl
 plain_same last (word ∷ words) ret round =
     let name : spells (codes "RET") word ≡ false = grind (arith, nat_tests) in
     let operands = operands_same (bytes_named last) words (grind (arith, nat_tests)) in
-    let front = plain_same word words (grind (arith, nat_tests)) (grind (arith, nat_tests)) in
-    rw (name, operands, front, either) refl
+    elim (cases_Bool (begins is_dot word)) [
+      | inl dot ↦ rw (name, dot, operands) refl
+      | inr plain ↦
+          let front = plain_same word words (rw (name, plain) at ret) (grind (arith, nat_tests)) in
+          rw (name, plain, front) refl
+    ]
 
 -- ---- heads
 
@@ -78,11 +82,11 @@ head_is : (line : List ℕ) → list_any (λ b. eqb b 58) line ≡ false → wit
 head_is line none = let colons = no_colon_at_all line none in rw (no_label (tokens line) colons, colons) refl
 
 -- what a line by itself says in these cases, of which the last is what stands behind its head
-record HasSteps (allowed long star bars : Bool) (line : List ℕ) (says : Says) : Type 0 where
-  all_allowed : allowed ≡ true
-  is_short : long ≡ false
-  rest : star ≡ false → (bars ≡ false) × (rest_says (tokens line) ≡ Ok says)
-  comment : star ≡ true → says ≡ Nothing
+pub record HasSteps (allowed long star bars : Bool) (line : List ℕ) (says : Says) : Type 0 where
+  pub all_allowed : allowed ≡ true
+  pub is_short : long ≡ false
+  pub rest : star ≡ false → (bars ≡ false) × (rest_says (tokens line) ≡ Ok says)
+  pub comment : star ≡ true → says ≡ Nothing
 
 with_rest_is : (read : Result Says Cause) (says : Says) → with_rest None read ≡ Ok (None, says) → read ≡ Ok says
 with_rest_is (Ok other) says is = grind arith
@@ -100,7 +104,7 @@ steps_of true false false true line says is = absurd cc
 steps_of true false false false line says is =
     record { all_allowed = refl; is_short = refl; rest = λ other. (refl, with_rest_is (rest_says (tokens line)) says is); comment = λ here. absurd cc }
 
-line_steps : (line : List ℕ) (says : Says) → list_any (λ b. eqb b 58) line ≡ false → line_of line ≡ Ok (None, says)
+pub line_steps : (line : List ℕ) (says : Says) → list_any (λ b. eqb b 58) line ≡ false → line_of line ≡ Ok (None, says)
     → HasSteps (list_all is_allowed line) (ltb 255 (length line)) (begins is_star line) (is_bars (tokens line)) line says
 unfolding line_of head_of
 line_steps line says none is =
@@ -123,7 +127,7 @@ bars_front (b ∷ c ∷ line) starts =
     let second : c ≡ 124 = grind (arith, nat_tests) in
     rw (first, second) refl
 
-no_bars : (line : List ℕ) → is_bars (tokens line) ≡ false → behind_bars line ≡ None
+pub no_bars : (line : List ℕ) → is_bars (tokens line) ≡ false → behind_bars line ≡ None
 no_bars line none = elim (cases_Bool (starts_with nat_eq (from_solid line) (codes "||"))) [
   | inl bars ↦ let found = bars_front (from_solid line) bars in absurd (both_ways _ none (ap is_bars (sym (solid_tokens line)) ∙ found))
   | inr other ↦ rw other refl

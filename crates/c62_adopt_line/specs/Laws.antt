@@ -1,9 +1,17 @@
 -- Laws of lines of packets (docs/ADOPT.md).
-use Rattle.std.specs.Prelude.{◌≡◌, ℕ, ◌≤◌, Bool, true, false, not, ◌==◌, if◌then◌else◌, List, [], ◌∷◌, ◌++◌, length, codes, None, is_some, Ok}
+use Rattle.std.specs.Prelude.{◌≡◌, ℕ, ◌≤◌, Bool, true, false, not, ◌==◌, ◌&&◌, ◌||◌, if◌then◌else◌, List, [], ◌∷◌, ◌++◌, length, codes, decimal, Some, None, is_some, Ok, IsTrue}
 use Rattle.std.specs.List.{list_any}
-use Rattle.c62_token.specs.Number.{spells}
-use Rattle.c62_token.specs.Token.{tokens}
-use Rattle.c62_line.specs.Line.{Says, Nothing, Does, Jumps, line_of}
+use Rattle.c62_op.specs.declared.register.Unit.{Unit as FunctionalUnit}
+use Rattle.c62_op.specs.Takes.{takes}
+use Rattle.c62_insn.specs.declared.insn.Insn.{Insn}
+use Rattle.c62_insn.specs.Insn.{op_of, operands_of}
+use Rattle.c62_insn.specs.Spelling.{spelling}
+use Rattle.c62_token.specs.Number.{is_label, spells}
+use Rattle.c62_token.specs.Token.{begins, tokens}
+use Rattle.c62_token.specs.Kind.{Word}
+use Rattle.c62_line.specs.Unit.{is_dot}
+use Rattle.c62_line.specs.Line.{Says, Nothing, Pause, Does, Jumps, line_of}
+use Rattle.c62_line.specs.Laws.{NamesTarget, says_on}
 use Rattle.c62_adopt_line.specs.Line.{Line, line_said, line_says}
 
 -- an instruction has its unit written
@@ -28,15 +36,41 @@ abbrev pub has_one_dot : List ℕ → Bool
 has_one_dot [] = true
 has_one_dot (b ∷ line) = if b == 46 then not (list_any (λ c. c == 46) line) else has_one_dot line
 
--- a line with neither a label, nor a dot but its unit's, nor round brackets, nor the name RET
+-- the name RET stands before the unit, which is the first word with a dot
+abbrev pub has_return : List Word → Bool
+has_return [] = false
+has_return (word ∷ words) = spells (codes "RET") word || not (begins is_dot word) && has_return words
+
+-- a line with neither a label, nor a dot but its unit's, nor round brackets, nor the name RET for B
 pub record IsPlain (line : List ℕ) : Type 0 where
   pub no_colon : list_any (λ b. b == 58) line ≡ false
   pub one_dot : has_one_dot line ≡ true
   pub no_round : list_any (λ b. b == 40) line ≡ false
-  pub no_return : list_any (λ word. spells (codes "RET") word) (tokens line) ≡ false
+  pub no_return : has_return (tokens line) ≡ false
 
 -- where such a line of serial text has its unit, it says the same as a line of packets, and so it does behind bars
 pub record ReadsAsSerial (line : List ℕ) : Type 0 where
   pub alone : (says : Says) → line_of line ≡ Ok (None, says) → HasUnit says → line_says line ≡ Ok (line_said false None says)
   pub beside : (says : Says) → line_of line ≡ Ok (None, says) → HasUnit says → (says ≡ Nothing → ⊥) → length line ≤ 253
       → line_says (codes "||" ++ line) ≡ Ok (line_said true None says)
+
+-- ---- the lines of a listing read as themselves (docs/LISTING.md)
+
+-- an instruction on a unit that takes it, as the first of its packet and as another
+abbrev pub InstructionReads : (ℕ → Word) → Insn → FunctionalUnit → Type 0
+InstructionReads name insn unit =
+    IsTrue (takes (op_of insn) (operands_of insn) unit) → NamesTarget name (operands_of insn)
+    → (line_says (codes "   " ++ spelling name insn unit) ≡ Ok (line_said false None (says_on name insn unit)))
+    × (line_says (codes "|| " ++ spelling name insn unit) ≡ Ok (line_said true None (says_on name insn unit)))
+
+-- cycles without instructions
+abbrev pub PauseReads : ℕ → Type 0
+PauseReads n = 1 ≤ n → n ≤ 9 → line_says (codes "   NOP " ++ decimal n) ≡ Ok (line_said false None (Pause n))
+
+-- a label
+abbrev pub LabelReads : Word → Type 0
+LabelReads label = IsTrue (is_label label) → line_says (label ++ codes ":") ≡ Ok (line_said false (Some label) Nothing)
+
+-- an empty line
+abbrev pub EmptyReads : Type 0
+EmptyReads = line_says [] ≡ Ok (line_said false None Nothing)

@@ -1,7 +1,9 @@
 //! Laws of lines of packets.
 
 ghost use Rattle.std.specs.Prelude.{ℕ, List};
-ghost use Rattle.c62_adopt_line.specs.Laws.{SaysWhole, IsPlain, ReadsAsSerial};
+ghost use Rattle.c62_op.specs.declared.register.Unit.{Unit as FunctionalUnit};
+ghost use Rattle.c62_insn.specs.declared.insn.Insn.{Insn};
+ghost use Rattle.c62_adopt_line.specs.Laws.{SaysWhole, IsPlain, ReadsAsSerial, InstructionReads, PauseReads, LabelReads, EmptyReads};
 
 /// An instruction that is read has its unit written, and a line with bars has no label.
 pub fn lines_are_whole()
@@ -9,7 +11,20 @@ pub fn lines_are_whole()
 {}
 
 /// A line of serial text that has its unit says the same as a line of packets, alone and behind bars: where it has neither a
-/// label, nor a dot but its unit's, nor round brackets, nor the name RET.
+/// label, nor a dot but its unit's, nor round brackets, nor the name RET before its unit.
 pub fn serial_lines_read_as_they_are()
     ensures { (line : List ℕ) → IsPlain line → ReadsAsSerial line }
+{}
+
+/// The lines of an instruction in a listing, that of the first of a packet and that of another, read as this instruction on its
+/// unit.
+pub fn listed_instructions_read_as_they_are()
+    ensures { (name : ℕ → List ℕ) (insn : Insn) (unit : FunctionalUnit) → InstructionReads name insn unit }
+{}
+
+/// The lines of a listing without instructions, which are those of pauses, labels and nothing, read as what they say there.
+pub fn other_listed_lines_read_as_they_are()
+    ensures pauses { (n : ℕ) → PauseReads n }
+    ensures labels { (label : List ℕ) → LabelReads label }
+    ensures empty { EmptyReads }
 {}

@@ -1,0 +1,105 @@
+-- Where no instruction of a block has a fault, nothing is in flight when the block is over.
+use Rattle.std.proofs.Common.{◌≡◌, ◌≤◌, ◌+◌, ◌∙◌, refl, true, false, ◌&&◌, ltb, ℕ, Bool, List, ◌∷◌, [], Option, Some, None, Ok, Err, cond, arith, inl, inr, subst}
+use Rattle.std.specs.Prelude.{Result, count_by}
+use Rattle.std.specs.List.{AllByRecursion, list_any}
+use Rattle.std.proofs.lemmas.Bool.{cases_Bool}
+use Rattle.std.proofs.lemmas.Bool.Decides.{nat_tests}
+use Rattle.std.proofs.lemmas.List.Sums.{sum_by-cons}
+use Rattle.c62_adopt_cut.specs.declared.fault.TextCause.{TextCause}
+use Rattle.c62_adopt_cut.specs.declared.fault.TextCause.TheVariants.{TwoBranches, NotDrained}
+use Rattle.c62_line.specs.declared.fault.Cause.TheVariants.{UnknownTarget}
+use Rattle.c62_adopt_cut.specs.Cut.{cycles_of}
+use Rattle.c62_adopt_cut.specs.Blocks.{Issue, Draft, all_drafts}
+use Rattle.c62_adopt_cut.specs.Text.{Reading, Refusal, end_of, read_cause, text_read}
+use Rattle.c62_adopt_cut.specs.Flight.{blocks_in, blocks_read, branches, first_faulty, first_in_flight, is_lost, issue_fault, next_start, or_behind, or_later, over_in, unless_in_flight}
+use Rattle.c62_adopt_cut.specs.Laws.{AreOver, BlocksAreOver}
+
+-- what no fault of an instruction says
+record IsFree (whole : List Draft) (start over : ℕ) (issue : Issue) (others : List Issue) : Type 0 where
+  found : is_lost whole issue.target ≡ false
+  alone : (branches issue && list_any branches others) ≡ false
+  drained : ltb over (end_of issue.parts (start + issue.cycle)) ≡ false
+
+free_by : (lost two late : Bool)
+    → cond lost (Some (read_cause UnknownTarget)) (cond two (Some TwoBranches) (cond late (Some NotDrained) None)) ≡ None
+    → (lost ≡ false) × (two ≡ false) × (late ≡ false)
+free_by false false false none = (refl, refl, refl)
+free_by true two late none = absurd cc
+free_by false true late none = absurd cc
+free_by false false true none = absurd cc
+
+free_of : (whole : List Draft) (start over : ℕ) (issue : Issue) (others : List Issue) → issue_fault whole start over issue others ≡ None
+    → IsFree whole start over issue others
+free_of whole start over issue others none =
+    let all = free_by (is_lost whole issue.target) (branches issue && list_any branches others) (ltb over (end_of issue.parts (start + issue.cycle))) none in
+    record { found = all.0; alone = all.1; drained = all.2 }
+
+-- the first of a list has no fault, and neither have the others
+parts_of : (line : ℕ) (fault : Option TextCause) (later : Option Refusal) → or_later line fault later ≡ None → (fault ≡ None) × (later ≡ None)
+parts_of line None later none = (refl, none)
+parts_of line (Some cause) later none = absurd cc
+
+counts : (issue : Issue) (others : List Issue) → count_by branches (issue ∷ others) ≡ cond (branches issue) 1 0 + count_by branches others
+counts issue others = sum_by-cons (λ (x : Issue). cond (branches x) 1 0) issue others
+
+none_branch : (issues : List Issue) → list_any branches issues ≡ false → count_by branches issues ≡ 0
+none_branch [] none = refl
+none_branch (issue ∷ issues) none =
+    let here : branches issue ≡ false = grind (arith, nat_tests) in
+    let behind = none_branch issues (grind (arith, nat_tests)) in
+    counts issue issues ∙ rw (here, behind) refl
+
+record AreFree (whole : List Draft) (start over : ℕ) (issues : List Issue) : Type 0 where
+  drained : AllByRecursion (λ issue. end_of issue.parts (start + issue.cycle) ≤ over) issues
+  one_branch : count_by branches issues ≤ 1
+  found : AllByRecursion (λ issue. is_lost whole issue.target ≡ false) issues
+
+one_more_branch : (issue : Issue) (others : List Issue) → (branches issue && list_any branches others) ≡ false → count_by branches others ≤ 1
+    → count_by branches (issue ∷ others) ≤ 1
+one_more_branch issue others alone one =
+    rw (counts issue others) (elim (cases_Bool (branches issue)) [
+      | inl branch ↦ let none = none_branch others (rw branch at alone) in rw (branch, none) (omega arith)
+      | inr other ↦ rw other (omega arith)
+    ])
+
+are_free : (whole : List Draft) (start over : ℕ) (issues : List Issue) → first_faulty whole start over issues ≡ None → AreFree whole start over issues
+are_free whole start over [] none = record { drained = tt; one_branch = omega arith; found = tt }
+are_free whole start over (issue ∷ others) none =
+    let parts = parts_of issue.line (issue_fault whole start over issue others) (first_faulty whole start over others) none in
+    let here = free_of whole start over issue others parts.0 in
+    let behind = are_free whole start over others parts.1 in
+    let drained = here.drained in
+    record {
+      drained = (grind (arith, nat_tests), behind.drained);
+      one_branch = one_more_branch issue others here.alone behind.one_branch;
+      found = (here.found, behind.found);
+    }
+
+behind_of : (first behind : Option Refusal) → or_behind first behind ≡ None → (first ≡ None) × (behind ≡ None)
+behind_of None behind none = (refl, none)
+behind_of (Some refusal) behind none = absurd cc
+
+are_over : (whole : List Draft) (end : ℕ) (drafts : List Draft) → first_in_flight whole end drafts ≡ None → AreOver whole end drafts
+are_over whole end [] none = tt
+are_over whole end (draft ∷ drafts) none =
+    let over = over_in (next_start end drafts) draft in
+    let parts = behind_of (first_faulty whole draft.start over draft.issues) (first_in_flight whole end drafts) none in
+    let free = are_free whole draft.start over draft.issues parts.0 in
+    (record { drained = free.drained; one_branch = free.one_branch; found = free.found }, are_over whole end drafts parts.1)
+
+flight_over : (end : ℕ) (all drafts : List Draft) (found : Option Refusal) → (found ≡ None → AreOver all end all)
+    → unless_in_flight found all ≡ Ok drafts → (last : ℕ) × AreOver drafts last drafts
+flight_over end all drafts (Some refusal) over is = absurd cc
+flight_over end all drafts None over is =
+    let same : all ≡ drafts = grind arith in (end, subst (λ (blocks : List Draft). AreOver blocks end blocks) same (over refl))
+
+read_over : (read : Result Reading Refusal) (drafts : List Draft) → blocks_read read ≡ Ok drafts → (last : ℕ) × AreOver drafts last drafts
+read_over (Err refusal) drafts is = absurd cc
+read_over (Ok reading) drafts is =
+    let all = all_drafts reading.drafts in
+    let end = cycles_of reading.lines in
+    flight_over end all drafts (first_in_flight all end all) (are_over all end all) is
+
+pub blocks_are_over : (text : List ℕ) → BlocksAreOver text
+unfolding blocks_in
+blocks_are_over text drafts is = read_over (text_read text) drafts is
