@@ -36,8 +36,16 @@ pub record AddsLine (above : List Line) (number : ℕ) (bytes : List ℕ) (old n
 abbrev pub RefusesLine : List Line → List ℕ → Reader → TextCause → Type 0
 RefusesLine above bytes old cause = (cause ≡ no_memory) ⊎ (line_judged above (drafts_of old.drafts) bytes ≡ Err cause)
 
+-- which is of no line
+abbrev pub memory_fault : TextFault
+memory_fault = record { line = 0; cause = no_memory }
+
+-- what is told of a line with this fault
+abbrev pub IsToldOf : ℕ → TextCause → TextFault → Type 0
+IsToldOf line cause told = ((cause ≡ no_memory) × (told ≡ memory_fault)) ⊎ ((cause ≡ no_memory → ⊥) × (told ≡ record { line = line; cause = cause }))
+
 abbrev pub Fails : TextFault → Result Reading Refusal → Type 0
-Fails fault says = (fault.cause ≡ no_memory) ⊎ (says ≡ Err (fault.line, fault.cause))
+Fails fault says = (fault ≡ memory_fault) ⊎ (says ≡ Err (fault.line, fault.cause))
 
 -- the reader has what the lines of the text say, or their first fault is told
 abbrev pub ReadsLines : List ℕ → Result Reader TextFault → Type 0

@@ -15,7 +15,7 @@ use Rattle.c62_adopt_cut.specs.Cut.{cycles_of}
 use Rattle.c62_adopt_cut.specs.Blocks.{Issue, Draft, all_drafts}
 use Rattle.c62_adopt_cut.specs.Text.{Reading, Refusal, end_of, read_cause, text_read}
 use Rattle.c62_adopt_cut.specs.Drafted.{draft_of}
-use Rattle.c62_adopt_cut.specs.Added.{no_memory}
+use Rattle.c62_adopt_cut.specs.Added.{memory_fault}
 
 abbrev pub branches : Issue → Bool
 branches issue = is_branch issue.parts.op
@@ -82,7 +82,7 @@ refusal_of fault = (fault.line, fault.cause)
 abbrev pub AnswersBlocks : Result (List Draft) Refusal → Result (Vec DraftRead Global) TextFault → Type 0
 AnswersBlocks says read = MatchResult read
     (λ drafts. says ≡ Ok (map draft_of drafts.items))
-    (λ fault. (fault.cause ≡ no_memory) ⊎ (says ≡ Err (refusal_of fault)))
+    (λ fault. (fault ≡ memory_fault) ⊎ (says ≡ Err (refusal_of fault)))
 
 abbrev pub ReadsReading : Reading → Result (Vec DraftRead Global) TextFault → Type 0
 ReadsReading reading read = AnswersBlocks (blocks_read (Ok reading)) read

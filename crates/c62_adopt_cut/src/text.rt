@@ -36,7 +36,7 @@ pub(crate) struct Reader {
 }
 
 ghost use Rattle.c62_adopt_cut.specs.Text.{is_taken, end_of, ends_behind, is_too_late, begins_block, is_full, is_one_more, begins_one_more, hindrance, line_judged, reading_of};
-ghost use Rattle.c62_adopt_cut.specs.Added.{AddsWritten, RefusesWritten, AddsLine, RefusesLine, ReadsLines, Fails, no_memory};
+ghost use Rattle.c62_adopt_cut.specs.Added.{AddsWritten, RefusesWritten, AddsLine, RefusesLine, ReadsLines, Fails, IsToldOf, no_memory};
 ghost use Rattle.c62_adopt_cut.specs.Blocks.{no_drafts, all_drafts};
 ghost use Rattle.c62_adopt_cut.specs.Flight.{ReadsReading, ReadsBlocks};
 
@@ -231,6 +231,16 @@ fn first_line(text: &[u8]) -> Option<(&[u8], &[u8])>
     }
 }
 
+/// What is told of a line with this fault. That memory ran out is told of none.
+fn told_of(line: u32, cause: TextCause) -> TextFault
+    ensures { IsToldOf line cause result }
+{
+    match cause {
+        TextCause::Line(LineFault::Memory) => TextFault::at(0, cause),
+        _ => TextFault::at(line, cause),
+    }
+}
+
 /// The lines of a text that is not too long.
 fn read_lines(alloc: Global, text: &[u8]) -> Result<Reader, TextFault>
     requires { length text.now ≤ MOST_BYTES }
@@ -242,7 +252,7 @@ fn read_lines(alloc: Global, text: &[u8]) -> Result<Reader, TextFault>
     let mut number = 1;
     while let Some((line, after)) = first_line(rest) {
         if let Err(cause) = reader.add_line(alloc, &mut plain, number, line) {
-            return Err(TextFault::at(number, cause));
+            return Err(told_of(number, cause));
         }
         number += 1;
         rest = after;
@@ -285,7 +295,7 @@ fn blocks_of(reader: Reader) -> Result<Vec<Draft>, TextFault>
 ///
 /// `TextTooLong` with line 0 where the text has more than [`MOST_BYTES`] bytes. Else the first line that has a fault by itself
 /// or below the lines above it. Else the first line that has one because of the lines below it: `UnknownTarget`, `TwoBranches` or
-/// `NotDrained` (docs/ADOPT.md, "Faults of a text"). `Memory` may come in place of any answer.
+/// `NotDrained` (docs/ADOPT.md, "Faults of a text"). `Memory`, with line 0, may come in place of any answer.
 #[tactic(auto, unfolding(crate::specs::Text::text_read, crate::specs::Flight::blocks_in))]
 pub fn read_blocks(alloc: Global, text: &[u8]) -> Result<Vec<Draft>, TextFault>
     ensures { ReadsBlocks text.now result }

@@ -6,12 +6,15 @@ pub returns-in-Err : goal.returns-in-Err
 returns-in-Err c =
     let far = c.loop-line.invariant in
     let said = rw c.in-Err.is at (c.add_line.ensures far.above far.clock) in
-    rw c.at.ensures (elim said [
-      | inl memory ↦ inl memory
-      | inr judged ↦
-          inr (refused_at c.loop-line.reader c.loop-line.number c.in-Some.line.now c.loop-line.rest.now c.in-Some.after.now c.args.text.now c.in-Err.cause far
-          c.in-Some.ensures.found judged)
-    ])
+    elim c.told_of.ensures [
+      | inl memory ↦ inl memory.1
+      | inr told ↦ elim said [
+        | inl memory ↦ absurd (told.0 memory)
+        | inr judged ↦
+            rw told.1 (inr (refused_at c.loop-line.reader c.loop-line.number c.in-Some.line.now c.loop-line.rest.now c.in-Some.after.now c.args.text.now
+            c.in-Err.cause far c.in-Some.ensures.found judged))
+      ]
+    ]
 
 pub loop-line-preserved : goal.loop-line-preserved
 loop-line-preserved c =
