@@ -125,14 +125,20 @@ fn copied(alloc: Global, plan: &Plan) -> Option<Plan>
     }
 }
 
+/// The board that the first entries of a whole one's journal lead to.
+fn begun_of(alloc: Global, whole: &Board) -> Option<Board>
+    ensures { IfSome result (Has whole.now.plan (begun_entries whole.now.journal) BUDGET) }
+{
+    let plan = copied(alloc, whole.plan())?;
+    let entries = begun_entries(whole.journal())?;
+    replayed(alloc, plan, entries)
+}
+
 /// A board of it on which they had their first turns. Its journal is full.
 pub(crate) fn begun_board(alloc: Global, text: &str) -> Option<Board>
     ensures { IfSome result (IsBegunBoard text.now) }
 {
-    let whole = whole_board(alloc, text)?;
-    let plan = copied(alloc, whole.plan())?;
-    let entries = begun_entries(whole.journal())?;
-    replayed(alloc, plan, entries)
+    begun_of(alloc, &whole_board(alloc, text)?)
 }
 
 /// The packets of a complete board.
