@@ -14,8 +14,11 @@ use std::thread::yield_now;
 /// How long a side rests that found nothing to place.
 const SPINS: u32 = 200;
 
-/// In how many turns a side that rests leaves its processor once. Where all processors are busy it gets it back late, and a
-/// side whose other side ended early rests in each of its turns.
+/// In so many turns a side that rests leaves its processor each time, so that the other side gets on where the two share one.
+const PROMPT_TURNS: u32 = 4_096;
+
+/// In later turns it does so once in so many: where all processors are busy it gets it back late, and a side whose other side
+/// ended early rests in each of its turns.
 const TURNS_A_YIELD: u32 = 64;
 
 /// Leaves the lock to the other side, until it may have placed something on which this side waits.
@@ -23,7 +26,7 @@ fn rest(turn: u32) {
     for _ in 0..SPINS {
         spin_loop();
     }
-    if turn % TURNS_A_YIELD == 0 {
+    if turn < PROMPT_TURNS || turn % TURNS_A_YIELD == 0 {
         yield_now();
     }
 }
