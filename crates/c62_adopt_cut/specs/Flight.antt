@@ -1,21 +1,15 @@
--- What is in flight where a block is over, and the blocks of a text where nothing is (docs/ADOPT.md, "Faults of a text").
-use Rattle.std.specs.Prelude.{◌≡◌, ◌⊎◌, ℕ, ◌+◌, min, Bool, false, not, ◌&&◌, nat_lt, if◌then◌else◌, List, [], ◌∷◌, Option, Some, None}
-use Rattle.std.specs.Prelude.{Result, Ok, Err, MatchResult, Vec, map}
+-- What is in flight where a block is over, and the cycles that lack until it has landed (docs/ADOPT.md, "Faults of a text" and
+-- "Cycles that lack").
+use Rattle.std.specs.Prelude.{ℕ, ◌+◌, ◌-◌, min, max, Bool, not, ◌&&◌, nat_lt, if◌then◌else◌, List, [], ◌∷◌, Option, Some, None}
 use Rattle.std.specs.List.{find, list_any}
 use Rattle.std.specs.Option.{option_map_or}
-use Rattle.std.specs.declared.alloc.Global.{Global}
 use Rattle.c62_op.specs.Shape.{is_branch}
 use Rattle.c62_line.specs.declared.fault.Cause.TheVariants.{UnknownTarget}
 use Rattle.c62_read.specs.Program.{Name, label_is}
-use Rattle.c62_adopt_cut.specs.declared.draft.Draft.{Draft as DraftRead}
 use Rattle.c62_adopt_cut.specs.declared.fault.TextCause.{TextCause}
 use Rattle.c62_adopt_cut.specs.declared.fault.TextCause.TheVariants.{TwoBranches, NotDrained}
-use Rattle.c62_adopt_cut.specs.declared.fault.TextFault.{TextFault}
-use Rattle.c62_adopt_cut.specs.Cut.{cycles_of}
-use Rattle.c62_adopt_cut.specs.Blocks.{Issue, Draft, all_drafts}
-use Rattle.c62_adopt_cut.specs.Text.{Reading, Refusal, end_of, read_cause, text_read}
-use Rattle.c62_adopt_cut.specs.Drafted.{draft_of}
-use Rattle.c62_adopt_cut.specs.Added.{memory_fault}
+use Rattle.c62_adopt_cut.specs.Blocks.{Issue, Draft}
+use Rattle.c62_adopt_cut.specs.Text.{Cut, Refusal, end_of, read_cause}
 
 abbrev pub branches : Issue → Bool
 branches issue = is_branch issue.parts.op
@@ -23,6 +17,20 @@ branches issue = is_branch issue.parts.op
 -- the cycle of the text in which a block is over, where the next one, or the text's end, is in this cycle
 abbrev pub over_in : ℕ → Draft → ℕ
 over_in next draft = option_map_or (λ issue. min next (draft.start + issue.cycle + 6)) (find branches draft.issues) next
+
+-- the cycle before which all lands of these instructions, whose block begins in this cycle
+abbrev pub landed : ℕ → List Issue → ℕ
+landed start [] = 0
+landed start (issue ∷ issues) = max (end_of issue.parts (start + issue.cycle)) (landed start issues)
+
+-- How many cycles a block lacks, where the next one, or the text's end, is in this cycle: those until all has landed. One with a
+-- branch lacks none, as the branch takes effect all the same.
+abbrev pub lacking : ℕ → Draft → ℕ
+lacking next draft = if list_any branches draft.issues then 0 else landed draft.start draft.issues - next
+
+-- where the next block, or the text's end, is once the cycles are added that lack
+abbrev pub next_drained : Bool → ℕ → Draft → ℕ
+next_drained drain next draft = if drain then next + lacking next draft else next
 
 -- whether the instruction branches to a label that none of these blocks has
 abbrev pub is_lost : List Draft → Option Name → Bool
@@ -56,36 +64,25 @@ abbrev pub or_behind : Option Refusal → Option Refusal → Option Refusal
 or_behind (Some refusal) behind = Some refusal
 or_behind None behind = behind
 
+-- the first of a block's instructions that has a fault, where the next block, or the text's end, is in this cycle
+abbrev pub faulty_in : Bool → List Draft → ℕ → Draft → Option Refusal
+faulty_in drain whole next draft = first_faulty whole draft.start (over_in (next_drained drain next draft) draft) draft.issues
+
 -- the first faulty instruction of these blocks of a text, which is over in this cycle
-abbrev pub first_in_flight : List Draft → ℕ → List Draft → Option Refusal
-first_in_flight whole end [] = None
-first_in_flight whole end (draft ∷ drafts) =
-    or_behind (first_faulty whole draft.start (over_in (next_start end drafts) draft) draft.issues) (first_in_flight whole end drafts)
+abbrev pub faulty_among : Bool → List Draft → ℕ → List Draft → Option Refusal
+faulty_among drain whole end [] = None
+faulty_among drain whole end (draft ∷ drafts) =
+    or_behind (faulty_in drain whole (next_start end drafts) draft) (faulty_among drain whole end drafts)
 
-abbrev pub unless_in_flight : Option Refusal → List Draft → Result (List Draft) Refusal
-unless_in_flight None drafts = Ok drafts
-unless_in_flight (Some refusal) drafts = Err refusal
+-- the first instruction of a text that has a fault because of the lines below it, with the cycles added that lack or without them
+abbrev pub first_in_flight : Bool → Cut → Option Refusal
+first_in_flight drain cut = faulty_among drain cut.drafts cut.cycles cut.drafts
 
-abbrev pub blocks_read : Result Reading Refusal → Result (List Draft) Refusal
-blocks_read (Ok reading) =
-    unless_in_flight (first_in_flight (all_drafts reading.drafts) (cycles_of reading.lines) (all_drafts reading.drafts)) (all_drafts reading.drafts)
-blocks_read (Err refusal) = Err refusal
+-- how many cycles lack before the blocks' ends, of a text that is over in this cycle
+abbrev pub all_lacking : ℕ → List Draft → ℕ
+all_lacking end [] = 0
+all_lacking end (draft ∷ drafts) = lacking (next_start end drafts) draft + all_lacking end drafts
 
--- the blocks of a text, or its first fault
-unfoldable pub blocks_in : List ℕ → Result (List Draft) Refusal
-blocks_in text = blocks_read (text_read text)
-
-abbrev pub refusal_of : TextFault → Refusal
-refusal_of fault = (fault.line, fault.cause)
-
--- the blocks of what was read, or the first fault; memory may run out before any answer
-abbrev pub AnswersBlocks : Result (List Draft) Refusal → Result (Vec DraftRead Global) TextFault → Type 0
-AnswersBlocks says read = MatchResult read
-    (λ drafts. says ≡ Ok (map draft_of drafts.items))
-    (λ fault. (fault ≡ memory_fault) ⊎ (says ≡ Err (refusal_of fault)))
-
-abbrev pub ReadsReading : Reading → Result (Vec DraftRead Global) TextFault → Type 0
-ReadsReading reading read = AnswersBlocks (blocks_read (Ok reading)) read
-
-abbrev pub ReadsBlocks : List ℕ → Result (Vec DraftRead Global) TextFault → Type 0
-ReadsBlocks text read = AnswersBlocks (blocks_in text) read
+-- how many cycles are added to a text that is drained
+abbrev pub cycles_lacking : Cut → ℕ
+cycles_lacking cut = all_lacking cut.cycles cut.drafts

@@ -1,11 +1,18 @@
--- What holds of the blocks of every text that is read (docs/ADOPT.md, "Limits").
-use Rattle.std.specs.Prelude.{◌≡◌, ℕ, ◌+◌, ◌≤◌, true, false, List, [], ◌∷◌, length, count_by, is_some, Ok}
-use Rattle.std.specs.List.{AllByRecursion}
+-- What holds of what is read of every text (docs/ADOPT.md, "Limits", "Names", "Faults of a text" and "Cycles that lack").
+use Rattle.std.specs.Prelude.{◌≡◌, ◌↔◌, ℕ, ◌+◌, ◌<◌, ◌≤◌, Bool, true, false, List, [], ◌∷◌, length, map, count_by, Option, Some, None, is_some, IsTrue}
+use Rattle.std.specs.List.{AllByRecursion, IsDistinct, flat_map}
+use Rattle.std.specs.List.Sorted.{IsNonDecreasingBy}
+use Rattle.std.specs.Option.{option_to_list}
+use Rattle.std.specs.Str.{bytes_eq}
+use Rattle.c62_token.specs.Number.{is_label}
+use Rattle.c62_read.specs.Program.{Name}
 use Rattle.c62_read.specs.declared.limits.TheConstants.{MOST_BLOCKS, MOST_INSTRUCTIONS}
 use Rattle.c62_packet.specs.declared.limits.TheConstants.{MOST_CYCLES}
 use Rattle.c62_adopt_cut.specs.Blocks.{Issue, Draft}
-use Rattle.c62_adopt_cut.specs.Text.{end_of}
-use Rattle.c62_adopt_cut.specs.Flight.{blocks_in, branches, is_lost, next_start, over_in}
+use Rattle.c62_adopt_cut.specs.Text.{Cut, end_of, text_cut}
+use Rattle.c62_adopt_cut.specs.Flight.{branches, is_lost, next_start, next_drained, over_in, first_in_flight, cycles_lacking}
+
+-- ---- limits
 
 -- the instruction has its unit written, and is not in flight behind the last cycle that its block may have
 pub record IsPlaced (start : ℕ) (issue : Issue) : Type 0 where
@@ -23,7 +30,32 @@ pub record AreFine (drafts : List Draft) : Type 0 where
   pub fine : AllByRecursion IsFine drafts
 
 abbrev pub BlocksAreFine : List ℕ → Type 0
-BlocksAreFine text = (drafts : List Draft) → blocks_in text ≡ Ok drafts → AreFine drafts
+BlocksAreFine text = AreFine (text_cut text).drafts
+
+-- ---- names
+
+-- the labels that blocks have
+abbrev pub labels_given : List Draft → List Name
+labels_given drafts = flat_map option_to_list (map (λ draft. draft.label) drafts)
+
+-- labels of which no two are the same, and instructions in each block without one
+pub record AreNamed (drafts : List Draft) : Type 0 where
+  pub labels : AllByRecursion (λ label. IsTrue (is_label label)) (labels_given drafts)
+  pub distinct : IsDistinct bytes_eq (labels_given drafts)
+  pub begun : AllByRecursion (λ draft. draft.label ≡ None → 0 < length draft.issues) drafts
+
+abbrev pub BlocksAreNamed : List ℕ → Type 0
+BlocksAreNamed text = AreNamed (text_cut text).drafts
+
+-- ---- order
+
+-- further down stand later instructions: of no lower line, and in no earlier cycle
+pub record IsInOrder (draft : Draft) : Type 0 where
+  pub lines : IsNonDecreasingBy (λ issue. issue.line) draft.issues
+  pub cycles : IsNonDecreasingBy (λ issue. issue.cycle) draft.issues
+
+abbrev pub BlocksAreInOrder : List ℕ → Type 0
+BlocksAreInOrder text = AllByRecursion IsInOrder (text_cut text).drafts
 
 -- ---- nothing is in flight where a block is over
 
@@ -34,10 +66,18 @@ pub record IsOver (whole : List Draft) (next : ℕ) (draft : Draft) : Type 0 whe
   pub one_branch : count_by branches draft.issues ≤ 1
   pub found : AllByRecursion (λ issue. is_lost whole issue.target ≡ false) draft.issues
 
--- so it is of all blocks of a text that ends in this cycle
-abbrev pub AreOver : List Draft → ℕ → List Draft → Type 0
-AreOver whole end [] = Unit {0}
-AreOver whole end (draft ∷ drafts) = IsOver whole (next_start end drafts) draft × AreOver whole end drafts
+-- so it is of all blocks of a text that ends in this cycle, with the cycles added that lack or without them
+abbrev pub AreOver : Bool → List Draft → ℕ → List Draft → Type 0
+AreOver drain whole end [] = Unit {0}
+AreOver drain whole end (draft ∷ drafts) = IsOver whole (next_drained drain (next_start end drafts) draft) draft × AreOver drain whole end drafts
 
-abbrev pub BlocksAreOver : List ℕ → Type 0
-BlocksAreOver text = (drafts : List Draft) → blocks_in text ≡ Ok drafts → (end : ℕ) × AreOver drafts end drafts
+abbrev pub CutIsOver : Bool → Cut → Type 0
+CutIsOver drain cut = AreOver drain cut.drafts cut.cycles cut.drafts
+
+-- where no instruction has a fault because of the lines below it, all blocks are over
+abbrev pub BlocksAreOver : Bool → Cut → Type 0
+BlocksAreOver drain cut = first_in_flight drain cut ≡ None → CutIsOver drain cut
+
+-- nothing is in flight as the text stands exactly where nothing is in flight once it is drained, and no cycles lack for that
+abbrev pub LacksNoneWhereOver : Cut → Type 0
+LacksNoneWhereOver cut = (first_in_flight false cut ≡ None) ↔ ((first_in_flight true cut ≡ None) × (cycles_lacking cut ≡ 0))

@@ -19,7 +19,7 @@ use Rattle.c62_adopt_cut.specs.declared.clock.Stand.{Stand}
 use Rattle.c62_adopt_cut.specs.declared.fault.TextCause.{TextCause}
 use Rattle.c62_adopt_cut.specs.declared.fault.TextCause.TheVariants.{Line as OfLine, TooManyCycles}
 use Rattle.c62_adopt_cut.specs.declared.text.TheConstants.{MOST_BYTES}
-use Rattle.c62_adopt_cut.specs.Cut.{last_packet, stand_of}
+use Rattle.c62_adopt_cut.specs.Cut.{cycles_of, last_packet, stand_of}
 use Rattle.c62_adopt_cut.specs.Blocks.{Draft, Drafts, all_drafts, begins_at, no_drafts, with_line}
 
 -- ---- a line below others
@@ -83,30 +83,36 @@ line_judged above drafts bytes = judged above drafts (line_says bytes)
 
 -- ---- a text
 
--- the lines of a text, of which the last is the first, and its blocks
-pub record Reading : Type 0 where
-  pub lines : List Line
-  pub drafts : Drafts
-
-abbrev pub reading_of : List Line → Drafts → Reading
-reading_of lines drafts = record { lines = lines; drafts = drafts }
-
 -- the number of a line, and its fault
 abbrev pub Refusal : Type 0
 Refusal = ℕ × TextCause
 
-abbrev pub and_line : ℕ → Result Line TextCause → (Line → Result Reading Refusal) → Result Reading Refusal
-and_line number (Ok line) next = next line
-and_line number (Err cause) next = Err (number, cause)
+-- what is read of a text: its blocks as far as its first line with a fault, the cycles of the lines above that, and that fault
+pub record Cut : Type 0 where
+  pub drafts : List Draft
+  pub cycles : ℕ
+  pub fault : Option Refusal
+
+abbrev pub cut_at : List Line → Drafts → Option Refusal → Cut
+cut_at above drafts fault = record { drafts = all_drafts drafts; cycles = cycles_of above; fault = fault }
+
+abbrev pub and_line : List Line → Drafts → ℕ → Result Line TextCause → (Line → Cut) → Cut
+and_line above drafts number (Ok line) next = next line
+and_line above drafts number (Err cause) next = cut_at above drafts (Some (number, cause))
 
 -- these lines below those, the first of them with this number
-unfoldable pub read_below : List Line → Drafts → ℕ → List (List ℕ) → Result Reading Refusal
-read_below above drafts number [] = Ok (reading_of above drafts)
+unfoldable pub read_below : List Line → Drafts → ℕ → List (List ℕ) → Cut
+read_below above drafts number [] = cut_at above drafts None
 read_below above drafts number (bytes ∷ lines) =
-    and_line number (line_judged above drafts bytes) (λ line. read_below (line ∷ above) (with_line number (stand_of above line) line drafts) (number + 1) lines)
+    and_line above drafts number (line_judged above drafts bytes)
+    (λ line. read_below (line ∷ above) (with_line number (stand_of above line) line drafts) (number + 1) lines)
 
 abbrev pub most_bytes : ℕ
 most_bytes = MOST_BYTES
 
-unfoldable pub text_read : List ℕ → Result Reading Refusal
-text_read text = if nat_lt most_bytes (length text) then Err (0, read_cause TextTooLong) else read_below [] no_drafts 1 (lines_of text)
+abbrev pub too_long : Cut
+too_long = cut_at [] no_drafts (Some (0, read_cause TextTooLong))
+
+-- what is read of a text; one that is too long is not looked at
+unfoldable pub text_cut : List ℕ → Cut
+text_cut text = if nat_lt most_bytes (length text) then too_long else read_below [] no_drafts 1 (lines_of text)
