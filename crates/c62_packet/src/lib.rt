@@ -18,6 +18,7 @@ pub use length::cycles_of;
 pub use limits::MOST_CYCLES;
 pub use packets::Packets;
 pub use placed::Placed;
+pub use rules::first_broken;
 
 #[cfg(test)]
 mod tests;

@@ -217,7 +217,9 @@ fn earlier(
     }
 }
 
-/// The least cycle in which a packet rule is broken, and there the first rule.
+/// The least cycle, from 0, in which these instructions of a block break a packet rule, and there the first rule; for P5 it is the
+/// cycle in which two writes land. `None` where all rules are kept. They stand in listing order (`docs/MACHINE.md`, "Packet
+/// rules").
 pub fn first_broken(placed: &[Placed]) -> Option<(u16, PacketRule)>
     requires few { length placed.now ≤ MOST_INSTRUCTIONS }
     requires short { All (λ p. p.cycle < MOST_CYCLES) placed.now }
