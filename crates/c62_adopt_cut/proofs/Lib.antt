@@ -6,3 +6,4 @@ pub mod StandLemmas
 pub mod FineLemmas
 pub mod NameLemmas
 pub mod OverLemmas
+pub mod DrainLemmas
