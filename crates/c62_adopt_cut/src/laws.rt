@@ -10,7 +10,7 @@ pub fn blocks_are_fine()
     ensures { (text : List ℕ) → BlocksAreFine text }
 {}
 
-/// No two blocks of a text have the same label, and each without one has an instruction.
+/// The labels of the blocks that are read are labels, and no two are the same; each block without one has an instruction.
 pub fn blocks_are_named()
     ensures { (text : List ℕ) → BlocksAreNamed text }
 {}
