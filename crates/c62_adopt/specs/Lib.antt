@@ -1,0 +1,5 @@
+pub mod Blocks
+pub mod Breach
+pub mod Answer
+pub mod FaultText
+pub mod Laws

@@ -1,0 +1,1 @@
+//! Laws of texts of packets and their listings.
