@@ -1,6 +1,6 @@
 -- Packets as they are written and their listings (docs/ADOPT.md, "What holds").
-use Rattle.std.specs.Prelude.{◌≡◌, ◌⊎◌, ℕ, ◌≤◌, Bool, true, false, List, [], ◌∷◌, None, count_by, ◌↔◌}
-use Rattle.c62_packet.specs.Packed.{Packed, is_branching}
+use Rattle.std.specs.Prelude.{◌≡◌, ℕ, Bool, true, false, List}
+use Rattle.c62_packet.specs.Packed.{Packed}
 use Rattle.c62_packet.specs.Alike.{AreAlike}
 use Rattle.c62_listing.specs.Listing.{listing}
 use Rattle.c62_listing_reader.specs.Faults.{IsRead}
@@ -20,32 +20,6 @@ pub record IsReadBack (packets : List Packed) : Type 0 where
 
 abbrev pub AdoptsListings : Bool → List ℕ → Type 0
 AdoptsListings drain text = (packets : List Packed) (added : ℕ) → IsAdopted drain text packets added → IsReadBack packets
-
--- ---- a listing is adopted as itself
-
--- what comes behind a block that stands alone needs a label
-abbrev pub HasBranch : Packed → Type 0
-HasBranch block = 1 ≤ count_by is_branching block.placed
-
--- behind this block each block without a label stands behind one with a branch
-abbrev pub ArePartedBehind : Packed → List Packed → Type 0
-ArePartedBehind block [] = Unit {0}
-ArePartedBehind block (next ∷ blocks) = (next.label ≡ None → HasBranch block) × ArePartedBehind next blocks
-
--- each block without a label is the first, or stands behind one with a branch
-abbrev pub AreParted : List Packed → Type 0
-AreParted [] = Unit {0}
-AreParted (block ∷ blocks) = ArePartedBehind block blocks
-
--- the listing of packets is adopted, drained or not, and as what it lists: without a cycle more, and to the byte
-pub record IsAdoptedAsItself (drain : Bool) (packets : List Packed) : Type 0 where
-  pub others : List Packed
-  pub adopted : IsAdopted drain (listing packets) others 0
-  pub alike : AreAlike packets others
-  pub same : listing others ≡ listing packets
-
-abbrev pub ListingsStay : Bool → List Packed → Type 0
-ListingsStay drain packets = AreShown packets → AreParted packets → IsAdoptedAsItself drain packets
 
 -- ---- one answer
 
