@@ -1,5 +1,6 @@
 pub mod Blocks
 pub mod Breach
+pub mod Judged
 pub mod Answer
 pub mod FaultText
 pub mod Laws

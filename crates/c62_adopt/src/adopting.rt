@@ -4,9 +4,13 @@ ghost use Rattle.std.specs.Prelude.{MatchResult, IfOk, IsTrue};
 ghost use Rattle.c62_packet.specs.Packets.{is_closed};
 ghost use Rattle.c62_adopt.specs.Answer.{IsAdopted, Refuses};
 
+use crate::breach::first_breach;
 use crate::fault::AdoptFault;
-use c62_packet::Packets;
-use std::alloc::Global;
+use crate::listed::listed;
+use c62_adopt_cut::{Cut, Draft, TextFault, cycles_lacking, first_in_flight, read_cut};
+use c62_line::copied_label;
+use c62_packet::{PacketBlock, Packets, cycles_of};
+use std::alloc::{AllocError, Global};
 
 /// What a text is adopted as.
 #[derive(Drop)]
@@ -14,6 +18,37 @@ pub struct Adopted {
     pub packets: Packets,
     /// How many cycles were added to drain the text.
     pub added: u64,
+}
+
+/// The packet block of a block of a text.
+fn packet_block(alloc: Global, drafts: &[Draft], draft: &Draft) -> Result<PacketBlock, AllocError> {
+    let placed = listed(alloc, drafts, &draft.issues)?;
+    let cycles = cycles_of(&placed) as u16;
+    Ok(PacketBlock::of_lawful(copied_label(&draft.label), cycles, placed))
+}
+
+fn put(packets: &mut Packets, block: PacketBlock) -> Result<(), AllocError> {
+    match packets.push(block) {
+        Ok(()) => Ok(()),
+        Err((_, error)) => Err(error),
+    }
+}
+
+/// The packet blocks of the blocks of a text.
+fn packets_of(alloc: Global, drafts: &[Draft]) -> Result<Packets, AllocError> {
+    let mut packets = Packets::new(alloc);
+    for draft in drafts {
+        put(&mut packets, packet_block(alloc, drafts, draft)?)?;
+    }
+    Ok(packets)
+}
+
+/// The first fault that a line has but for the packet rules.
+fn fault_of(cut: &Cut, drain: bool) -> Option<TextFault> {
+    match cut.fault {
+        Some(fault) => Some(fault),
+        None => first_in_flight(cut, drain),
+    }
 }
 
 /// The packets of a text of packets, as people and compilers write them (docs/ADOPT.md). Each instruction stands in the cycle and
@@ -25,9 +60,20 @@ pub struct Adopted {
 /// `Rule` for the first line whose instruction breaks a packet rule together with those above it in its block, as far as the
 /// text is read. `Text` for the first line that has another fault by itself or because of the lines above it, and else for the
 /// first that has one because of the lines below it. `Memory` where memory ran out, which may come in place of any answer.
-pub fn adopt(_alloc: Global, _text: &[u8], _drain: bool) -> Result<Adopted, AdoptFault>
-    ensures adopted { MatchResult result (λ adopted. IsAdopted _drain _text.now adopted.packets adopted.added) (λ fault. Refuses _drain _text.now fault) }
+pub fn adopt(alloc: Global, text: &[u8], drain: bool) -> Result<Adopted, AdoptFault>
+    ensures adopted { MatchResult result (λ adopted. IsAdopted drain text.now adopted.packets adopted.added) (λ fault. Refuses drain text.now fault) }
     ensures closed { IfOk result (λ adopted. IsTrue (is_closed adopted.packets)) }
 {
-    Err(AdoptFault::Memory)
+    let cut = read_cut(alloc, text)?;
+    if let Some((line, rule)) = first_breach(alloc, &cut.drafts)? {
+        return Err(AdoptFault::Rule(line, rule));
+    }
+    if let Some(fault) = fault_of(&cut, drain) {
+        return Err(AdoptFault::Text(fault));
+    }
+    let packets = packets_of(alloc, &cut.drafts)?;
+    Ok(Adopted {
+        packets,
+        added: cycles_lacking(&cut),
+    })
 }

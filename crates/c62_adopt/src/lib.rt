@@ -2,8 +2,13 @@
 #![tactic(auto)]
 
 mod adopting;
+mod breach;
 mod fault;
 pub mod laws;
+mod listed;
 
 pub use adopting::{Adopted, adopt};
 pub use fault::AdoptFault;
+
+#[cfg(test)]
+mod tests;
