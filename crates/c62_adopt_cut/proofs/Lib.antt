@@ -1,5 +1,6 @@
 pub mod ClockLemmas
 pub mod DraftLemmas
 pub mod ReadLemmas
+pub mod KeptLemmas
 pub mod FineLemmas
 pub mod OverLemmas
