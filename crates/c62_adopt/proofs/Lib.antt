@@ -1,0 +1,5 @@
+pub mod Placing
+pub mod Orders
+pub mod Breaches
+pub mod BlockLemmas
+pub mod PacketsLemmas

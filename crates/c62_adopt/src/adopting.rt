@@ -1,8 +1,14 @@
 //! The packets of a text of packets.
 
-ghost use Rattle.std.specs.Prelude.{MatchResult, IfOk, IsTrue};
+ghost use Rattle.std.specs.Prelude.{◌≡◌, ◌<◌, ◌≤◌, ◌++◌, ◌∷◌, [], All, length, map, option_map, MatchResult, IfOk, OnOk, IsTrue};
+ghost use Rattle.std.specs.List.{AllZip};
+ghost use Rattle.c62_read.specs.declared.limits.TheConstants.{MOST_BLOCKS};
 ghost use Rattle.c62_packet.specs.Packets.{is_closed};
+ghost use Rattle.c62_adopt_cut.specs.Drafted.{draft_of, refusal_of, cut_of};
+ghost use Rattle.c62_adopt_cut.specs.Flight.{first_in_flight, or_behind};
 ghost use Rattle.c62_adopt.specs.Answer.{IsAdopted, Refuses};
+ghost use Rattle.c62_adopt.specs.Blocks.{IsBlockOf};
+ghost use Rattle.c62_adopt.specs.Packing.{IsSound};
 
 use crate::breach::first_breach;
 use crate::fault::AdoptFault;
@@ -21,13 +27,25 @@ pub struct Adopted {
 }
 
 /// The packet block of a block of a text.
-fn packet_block(alloc: Global, drafts: &[Draft], draft: &Draft) -> Result<PacketBlock, AllocError> {
+fn packet_block(
+    alloc: Global,
+    drafts: &[Draft],
+    draft: &Draft,
+) -> Result<PacketBlock, AllocError>
+    requires few { length drafts.now ≤ MOST_BLOCKS }
+    requires sound { IsSound (map draft_of drafts.now) (draft_of draft.now) }
+    ensures { IfOk result (IsBlockOf (map draft_of drafts.now) (draft_of draft.now)) }
+{
     let placed = listed(alloc, drafts, &draft.issues)?;
     let cycles = cycles_of(&placed) as u16;
-    Ok(PacketBlock::of_lawful(copied_label(&draft.label), cycles, placed))
+    let label = copied_label(&draft.label);
+    Ok(PacketBlock::of_lawful(label, cycles, placed))
 }
 
-fn put(packets: &mut Packets, block: PacketBlock) -> Result<(), AllocError> {
+fn put(packets: &mut Packets, block: PacketBlock) -> Result<(), AllocError>
+    requires { length packets.old < MOST_BLOCKS }
+    ensures { OnOk result (packets.new ≡ packets.old ++ block ∷ []) }
+{
     match packets.push(block) {
         Ok(()) => Ok(()),
         Err((_, error)) => Err(error),
@@ -35,7 +53,11 @@ fn put(packets: &mut Packets, block: PacketBlock) -> Result<(), AllocError> {
 }
 
 /// The packet blocks of the blocks of a text.
-fn packets_of(alloc: Global, drafts: &[Draft]) -> Result<Packets, AllocError> {
+fn packets_of(alloc: Global, drafts: &[Draft]) -> Result<Packets, AllocError>
+    requires few { length drafts.now ≤ MOST_BLOCKS }
+    requires sound { All (λ draft. IsSound (map draft_of drafts.now) (draft_of draft)) drafts.now }
+    ensures { IfOk result (AllZip (IsBlockOf (map draft_of drafts.now)) (map draft_of drafts.now)) }
+{
     let mut packets = Packets::new(alloc);
     for draft in drafts {
         put(&mut packets, packet_block(alloc, drafts, draft)?)?;
@@ -44,7 +66,9 @@ fn packets_of(alloc: Global, drafts: &[Draft]) -> Result<Packets, AllocError> {
 }
 
 /// The first fault that a line has but for the packet rules.
-fn fault_of(cut: &Cut, drain: bool) -> Option<TextFault> {
+fn fault_of(cut: &Cut, drain: bool) -> Option<TextFault>
+    ensures { option_map refusal_of result ≡ or_behind (cut_of cut.now).fault (first_in_flight drain (cut_of cut.now)) }
+{
     match cut.fault {
         Some(fault) => Some(fault),
         None => first_in_flight(cut, drain),

@@ -3,6 +3,7 @@
 ghost use Rattle.std.specs.Prelude.{◌≤◌, length, map, All, IfOk, MatchOption};
 ghost use Rattle.c62_read.specs.declared.limits.TheConstants.{MOST_BLOCKS, MOST_INSTRUCTIONS};
 ghost use Rattle.c62_adopt_cut.specs.Drafted.{issue_of, draft_of};
+ghost use Rattle.c62_adopt_cut.specs.Laws.{IsFine};
 ghost use Rattle.c62_adopt.specs.Breach.{KeepsRules, IsFirstBreach};
 ghost use Rattle.c62_adopt.specs.Judged.{MayStand, FindsRule, FindsBreachIn};
 
@@ -22,7 +23,7 @@ fn rule_broken(
 ) -> Result<Option<PacketRule>, AllocError>
     requires blocks { length drafts.now ≤ MOST_BLOCKS }
     requires few { length issues.now ≤ MOST_INSTRUCTIONS }
-    requires stand { All MayStand (map issue_of issues.now) }
+    requires stand { All (λ issue. MayStand (issue_of issue)) issues.now }
     ensures { IfOk result (FindsRule (map draft_of drafts.now) (map issue_of issues.now)) }
 {
     let placed = listed(alloc, drafts, issues)?;
@@ -35,9 +36,8 @@ fn rule_broken(
 /// The first instruction of a block that breaks a rule with those above it: so many above it keep all rules, and with it they
 /// break one.
 fn breach_in(alloc: Global, drafts: &[Draft], draft: &Draft) -> Result<Option<Breach>, AllocError>
-    requires blocks { length drafts.now ≤ MOST_BLOCKS }
-    requires few { length draft.now.issues.items ≤ MOST_INSTRUCTIONS }
-    requires stand { All MayStand (map issue_of draft.now.issues.items) }
+    requires few { length drafts.now ≤ MOST_BLOCKS }
+    requires fine { IsFine (draft_of draft.now) }
     ensures { IfOk result (FindsBreachIn (map draft_of drafts.now) (draft_of draft.now)) }
 {
     let issues = &draft.issues;
@@ -61,9 +61,8 @@ fn breach_in(alloc: Global, drafts: &[Draft], draft: &Draft) -> Result<Option<Br
 
 /// The first instruction of a text that breaks a rule with those above it in its block.
 pub(crate) fn first_breach(alloc: Global, drafts: &[Draft]) -> Result<Option<Breach>, AllocError>
-    requires blocks { length drafts.now ≤ MOST_BLOCKS }
-    requires few { All (λ draft. length draft.issues ≤ MOST_INSTRUCTIONS) (map draft_of drafts.now) }
-    requires stand { All (λ draft. All MayStand draft.issues) (map draft_of drafts.now) }
+    requires few { length drafts.now ≤ MOST_BLOCKS }
+    requires fine { All (λ draft. IsFine (draft_of draft)) drafts.now }
     ensures { IfOk result (λ found. MatchOption found
         (All (KeepsRules (map draft_of drafts.now)) (map draft_of drafts.now))
         (λ breach. IsFirstBreach (map draft_of drafts.now) breach.0 breach.1)) }
