@@ -22,28 +22,8 @@ use Rattle.c62_adopt_cut.specs.Cut.{cycle_at, cycles_of, cuts_of, first_of, last
 use Rattle.c62_adopt_cut.specs.Blocks.{Issue, Draft, Drafts, add_issue, all_drafts, begins_at, issue_at, new_draft, no_drafts, opened, with_block, with_issue, with_line, with_says}
 use Rattle.c62_adopt_cut.specs.Text.{begins_one_more, end_of, hindrance, is_full, is_one_more, is_taken, is_too_late, read_cause}
 use Rattle.c62_adopt_cut.specs.Laws.{IsPlaced, IsFine, AreFine, BlocksAreFine}
-use Rattle.c62_adopt_cut.proofs.KeptLemmas.{IsFree, text_kept}
-
-all_append : {X : Type 0} (P : X → Type 0) (xs ys : List X) → AllByRecursion P xs → AllByRecursion P ys → AllByRecursion P (xs ++ ys)
-all_append P [] ys one other = other
-all_append P (x ∷ xs) ys one other = (one.0, all_append P xs ys one.1 other)
-
--- ---- where lines stand
-
-start_low : (cycle : ℕ) (cuts : List ℕ) → start_of cycle cuts ≤ cycle
-start_low cycle [] = omega arith
-start_low cycle (cut ∷ cuts) = grind (arith, nat_tests, start_low cycle cuts)
-
-pub stand_low : (above : List Line) (line : Line) → (stand_of above line).start ≤ (stand_of above line).cycle
-stand_low above line = let place = first_of above line in start_low (cycle_at place) (with_label_cut place (cuts_of place.above))
-
-start_here : (cycle : ℕ) (cuts : List ℕ) → start_of cycle (cycle ∷ cuts) ≡ cycle
-start_here cycle cuts = grind (arith, nat_tests, start_low cycle cuts)
-
--- a label begins a block in its own cycle
-labelled_stand : (above : List Line) (line : Line) → is_some line.label ≡ true → line.beside ≡ false
-    → (stand_of above line).start ≡ (stand_of above line).cycle
-labelled_stand above line labelled alone = rw (alone, labelled) (start_here _ (cuts_of above))
+use Rattle.c62_adopt_cut.proofs.KeptLemmas.{IsFree, all_append, text_kept}
+use Rattle.c62_adopt_cut.proofs.StandLemmas.{alone, labelled_stand, stand_low}
 
 -- ---- blocks
 
@@ -142,11 +122,6 @@ labelled_fine number stand beside (Some label) says drafts fine low unit late mo
     (λ instruction begins. grind (arith, nat_tests)) (λ instruction begins. absurd (grind (arith, nat_tests)))
 
 -- ---- a text
-
-alone : (beside : Bool) (label : Option Name) → is_some label ≡ true → (beside ≡ true → label ≡ None) → beside ≡ false
-alone false label labelled none = refl
-alone true None labelled none = absurd cc
-alone true (Some label) labelled none = let no = none refl in absurd cc
 
 line_fine : (above : List Line) (number : ℕ) (drafts : Drafts) (line : Line) → IsWhole line → IsFree above drafts line
     → AreFineSoFar drafts → AreFineSoFar (with_line number (stand_of above line) line drafts)

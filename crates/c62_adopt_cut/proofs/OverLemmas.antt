@@ -74,11 +74,11 @@ are_free whole start over (issue ∷ others) none =
       found = (here.found, behind.found);
     }
 
-behind_of : (first behind : Option Refusal) → or_behind first behind ≡ None → (first ≡ None) × (behind ≡ None)
+pub behind_of : (first behind : Option Refusal) → or_behind first behind ≡ None → (first ≡ None) × (behind ≡ None)
 behind_of None behind none = (refl, none)
 behind_of (Some refusal) behind none = absurd cc
 
-block_over : (drain : Bool) (whole : List Draft) (next : ℕ) (draft : Draft) → faulty_in drain whole next draft ≡ None
+pub block_over : (drain : Bool) (whole : List Draft) (next : ℕ) (draft : Draft) → faulty_in drain whole next draft ≡ None
     → IsOver whole (next_drained drain next draft) draft
 unfolding faulty_in
 block_over drain whole next draft none =
