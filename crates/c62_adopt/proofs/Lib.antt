@@ -3,3 +3,4 @@ pub mod Orders
 pub mod Breaches
 pub mod BlockLemmas
 pub mod PacketsLemmas
+pub mod AimLemmas
