@@ -4,3 +4,4 @@ pub mod Breaches
 pub mod BlockLemmas
 pub mod PacketsLemmas
 pub mod AimLemmas
+pub mod SoundLemmas
