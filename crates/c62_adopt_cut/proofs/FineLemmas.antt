@@ -1,26 +1,20 @@
 -- Blocks of a text keep the limits as lines are added.
-use Rattle.std.proofs.Common.{◌≡◌, ◌≤◌, ◌<◌, ◌+◌, ◌-◌, ◌++◌, refl, true, false, ◌&&◌, ltb, ℕ, Bool, List, ◌∷◌, [], length, Option, Some, None, Ok, Err, cond}
-use Rattle.std.proofs.Common.{arith, inl, inr, length-append, subst}
-use Rattle.std.specs.Prelude.{is_some, is_none, IfSome, Result}
+use Rattle.std.proofs.Common.{◌≡◌, ◌≤◌, ◌<◌, ◌+◌, ◌-◌, refl, true, false, ltb, ℕ, Bool, List, ◌∷◌, [], length, Option, Some, None}
+use Rattle.std.proofs.Common.{arith, inl, inr, length-append}
+use Rattle.std.specs.Prelude.{is_some, IfSome}
 use Rattle.std.specs.List.{AllByRecursion}
 use Rattle.std.specs.Option.{option_to_list}
 use Rattle.std.proofs.lemmas.Bool.{cases_Bool, eqb-true}
 use Rattle.std.proofs.lemmas.Bool.Decides.{nat_tests}
 use Rattle.c62_line.specs.Line.{Parts, Says, Nothing, Pause, Does, Jumps}
-use Rattle.c62_line.specs.declared.fault.Cause.TheVariants.{ParallelBar, DuplicateLabel, TooManyInstructions, TooManyBlocks}
 use Rattle.c62_read.specs.Program.{Name}
 use Rattle.c62_read.specs.Walk.{is_instruction}
-use Rattle.c62_read.specs.Text.{lines_of}
-use Rattle.c62_adopt_line.specs.declared.fault.LineFault.{LineFault}
-use Rattle.c62_adopt_line.specs.Line.{Line, line_said, line_says}
+use Rattle.c62_adopt_line.specs.Line.{Line, line_said}
 use Rattle.c62_adopt_line.specs.Laws.{HasUnit, IsWhole}
-use Rattle.c62_adopt_line.proofs.WholeLines.{line_whole}
 use Rattle.c62_adopt_cut.specs.declared.clock.Stand.{Stand}
-use Rattle.c62_adopt_cut.specs.declared.fault.TextCause.{TextCause}
-use Rattle.c62_adopt_cut.specs.declared.fault.TextCause.TheVariants.{TooManyCycles}
-use Rattle.c62_adopt_cut.specs.Cut.{cycle_at, cycles_of, cuts_of, first_of, last_packet, stand_of, start_of, with_label_cut}
+use Rattle.c62_adopt_cut.specs.Cut.{stand_of}
 use Rattle.c62_adopt_cut.specs.Blocks.{Issue, Draft, Drafts, add_issue, all_drafts, begins_at, issue_at, new_draft, no_drafts, opened, with_block, with_issue, with_line, with_says}
-use Rattle.c62_adopt_cut.specs.Text.{begins_one_more, end_of, hindrance, is_full, is_one_more, is_taken, is_too_late, read_cause}
+use Rattle.c62_adopt_cut.specs.Text.{begins_one_more, end_of, is_full, is_one_more, is_too_late}
 use Rattle.c62_adopt_cut.specs.Laws.{IsPlaced, IsFine, AreFine, BlocksAreFine}
 use Rattle.c62_adopt_cut.proofs.KeptLemmas.{IsFree, all_append, text_kept}
 use Rattle.c62_adopt_cut.proofs.StandLemmas.{alone, labelled_stand, stand_low}

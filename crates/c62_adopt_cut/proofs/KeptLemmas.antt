@@ -9,7 +9,6 @@ use Rattle.c62_adopt_line.specs.declared.fault.LineFault.{LineFault}
 use Rattle.c62_adopt_line.specs.Line.{Line, line_says}
 use Rattle.c62_adopt_line.specs.Laws.{IsWhole}
 use Rattle.c62_adopt_line.proofs.WholeLines.{line_whole}
-use Rattle.c62_adopt_cut.specs.declared.clock.Stand.{Stand}
 use Rattle.c62_adopt_cut.specs.declared.fault.TextCause.{TextCause}
 use Rattle.c62_adopt_cut.specs.declared.fault.TextCause.TheVariants.{TooManyCycles}
 use Rattle.c62_adopt_cut.specs.Cut.{last_packet, stand_of}

@@ -1,6 +1,6 @@
 -- Blocks of a text have labels that differ, or instructions.
-use Rattle.std.proofs.Common.{◌≡◌, ◌<◌, ◌+◌, ◌++◌, ◌∙◌, ap, sym, subst, refl, true, false, ℕ, Bool, List, ◌∷◌, [], length, Option, Some, None}
-use Rattle.std.proofs.Common.{arith, inl, inr, append-nil, append_assoc, length-append}
+use Rattle.std.proofs.Common.{◌≡◌, ◌<◌, ◌++◌, ◌∙◌, ap, sym, refl, true, false, ℕ, Bool, List, ◌∷◌, [], length, Option, Some, None}
+use Rattle.std.proofs.Common.{arith, inl, inr, append-nil, length-append}
 use Rattle.std.specs.Prelude.{map, IfSome, IsTrue}
 use Rattle.std.specs.List.{AllByRecursion, IsDistinct, flat_map, list_any}
 use Rattle.std.specs.Option.{option_to_list}
@@ -19,7 +19,7 @@ use Rattle.c62_adopt_line.specs.Line.{Line}
 use Rattle.c62_adopt_line.specs.Laws.{IsWhole}
 use Rattle.c62_adopt_cut.specs.declared.clock.Stand.{Stand}
 use Rattle.c62_adopt_cut.specs.Cut.{stand_of}
-use Rattle.c62_adopt_cut.specs.Blocks.{Issue, Draft, Drafts, add_issue, all_drafts, begins_at, issue_at, new_draft, no_drafts, opened, with_block, with_issue, with_label, with_line, with_says}
+use Rattle.c62_adopt_cut.specs.Blocks.{Issue, Draft, Drafts, add_issue, all_drafts, begins_at, issue_at, new_draft, opened, with_issue, with_label, with_line, with_says}
 use Rattle.c62_adopt_cut.specs.Text.{is_taken}
 use Rattle.c62_adopt_cut.specs.Laws.{AreNamed, BlocksAreNamed, labels_given}
 use Rattle.c62_adopt_cut.proofs.KeptLemmas.{IsFree, all_append, text_kept}

@@ -1,5 +1,5 @@
 -- Instructions of a block stand in order.
-use Rattle.std.proofs.Common.{◌≡◌, ◌≤◌, ◌<◌, ◌+◌, ◌-◌, ◌++◌, refl, true, ℕ, List, ◌∷◌, [], length, get_or, Option, Some, None, arith, inl, inr}
+use Rattle.std.proofs.Common.{◌≡◌, ◌≤◌, ◌+◌, ◌-◌, ◌++◌, refl, true, ℕ, List, ◌∷◌, [], length, Option, Some, None, arith, inl, inr}
 use Rattle.std.specs.Prelude.{IfSome}
 use Rattle.std.specs.List.{AllByRecursion}
 use Rattle.std.specs.List.Sorted.{IsNonDecreasingBy}
@@ -14,7 +14,7 @@ use Rattle.c62_adopt_line.specs.Line.{Line}
 use Rattle.c62_adopt_line.specs.Laws.{IsWhole}
 use Rattle.c62_adopt_cut.specs.declared.clock.Stand.{Stand}
 use Rattle.c62_adopt_cut.specs.Cut.{is_filled, stand_of}
-use Rattle.c62_adopt_cut.specs.Blocks.{Issue, Draft, Drafts, add_issue, all_drafts, begins_at, issue_at, new_draft, no_drafts, opened, with_block, with_issue, with_label, with_line, with_says}
+use Rattle.c62_adopt_cut.specs.Blocks.{Issue, Draft, Drafts, add_issue, all_drafts, begins_at, issue_at, new_draft, opened, with_block, with_issue, with_label, with_line, with_says}
 use Rattle.c62_adopt_cut.specs.Laws.{BlocksAreInOrder, IsInOrder}
 use Rattle.c62_adopt_cut.proofs.KeptLemmas.{IsFree, all_append, text_kept}
 use Rattle.c62_adopt_cut.proofs.StandLemmas.{latest, latest_rises, stand_late, stand_latest, stand_low}

@@ -1,6 +1,6 @@
 -- Where no instruction of a block has a fault, nothing is in flight when the block is over.
-use Rattle.std.proofs.Common.{◌≡◌, ◌≤◌, ◌+◌, ◌∙◌, refl, true, false, ◌&&◌, ltb, ℕ, Bool, List, ◌∷◌, [], Option, Some, None, Ok, Err, cond, arith, inl, inr, subst}
-use Rattle.std.specs.Prelude.{Result, count_by}
+use Rattle.std.proofs.Common.{◌≡◌, ◌≤◌, ◌+◌, ◌∙◌, refl, true, false, ◌&&◌, ltb, ℕ, Bool, List, ◌∷◌, [], Option, Some, None, cond, arith, inl, inr}
+use Rattle.std.specs.Prelude.{count_by}
 use Rattle.std.specs.List.{AllByRecursion, list_any}
 use Rattle.std.proofs.lemmas.Bool.{cases_Bool}
 use Rattle.std.proofs.lemmas.Bool.Decides.{nat_tests}

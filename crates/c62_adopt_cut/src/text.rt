@@ -302,8 +302,8 @@ fn read_lines(alloc: Global, text: &[u8]) -> Result<Cut, AllocError>
 }
 
 /// What is read of a text of packets: its blocks, each with its label and its instructions where they stand (docs/ADOPT.md,
-/// "Blocks"), as far as its first line with a fault by itself or below the lines above it, and that fault. The line has none of
-/// the blocks' instructions, labels and cycles.
+/// "Blocks"), as far as its first line with a fault by itself or below the lines above it, and that fault. Nothing of that line
+/// is among the blocks.
 ///
 /// A text with more than [`MOST_BYTES`] bytes has the fault `TextTooLong` with line 0, and no blocks.
 ///
