@@ -1,6 +1,6 @@
 -- The branches of what is adopted go to blocks that are there and have labels.
-use Rattle.std.proofs.Common.{arith, ◌≡◌, ℕ, ◌<◌, ◌+◌, Bool, true, false, ◌&&◌, List, [], ◌∷◌, ◌++◌, length, map, refl, sym, ap, subst, ◌∙◌, inl, inr, Option, Some, None, append-nil}
-use Rattle.std.specs.Prelude.{All, position, unwrap_or, slice_get}
+use Rattle.std.proofs.Common.{arith, ◌≡◌, ℕ, ◌<◌, Bool, true, false, List, [], ◌∷◌, ◌++◌, length, map, refl, ap, ◌∙◌, inl, inr, Option, Some, None}
+use Rattle.std.specs.Prelude.{All, slice_get}
 use Rattle.std.specs.List.{AllByRecursion, AllZip, list_any, list_all, position_or_len}
 use Rattle.std.specs.Option.{option_to_list}
 use Rattle.std.proofs.lemmas.Bool.{cases_Bool}
@@ -10,7 +10,7 @@ use Rattle.std.proofs.lemmas.List.Sorted.{All-permutation}
 use Rattle.c62_op.specs.declared.operands.Operands.{Operands}
 use Rattle.c62_op.specs.declared.operands.Operands.TheVariants.{Three, ConstantFirst, ConstantSecond, Two, Field, Constant, Access, Block, Register}
 use Rattle.c62_insn.specs.Insn.{operands_of, aimed_operands}
-use Rattle.c62_line.specs.Line.{Parts, Says, Nothing, Pause, Does, Jumps}
+use Rattle.c62_line.specs.Line.{Says, Nothing, Pause, Does, Jumps}
 use Rattle.c62_read.specs.Program.{Name, label_is}
 use Rattle.c62_read.specs.Block.{is_labelled, target_stands}
 use Rattle.c62_packet.specs.declared.placed.Placed.{Placed}
@@ -26,7 +26,7 @@ use Rattle.c62_adopt_cut.specs.Text.{text_cut}
 use Rattle.c62_adopt_cut.specs.Flight.{is_lost}
 use Rattle.c62_adopt_cut.specs.Laws.{AreOver}
 use Rattle.c62_adopt_cut.proofs.KeptLemmas.{IsFree, all_append, text_kept}
-use Rattle.c62_adopt.specs.Blocks.{target_number, part_in, AreOf, IsBlockOf}
+use Rattle.c62_adopt.specs.Blocks.{target_number, part_in, IsBlockOf}
 
 -- ---- only branches to labels go to blocks
 

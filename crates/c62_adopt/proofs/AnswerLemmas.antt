@@ -1,10 +1,9 @@
 -- A text has one answer.
-use Rattle.std.proofs.Common.{arith, ◌≡◌, ℕ, ◌≤◌, ◌+◌, suc, Bool, true, false, List, [], ◌∷◌, ◌++◌, length, map, refl, sym, ap, subst, ◌∙◌, append_assoc, Option, Some, None}
-use Rattle.std.specs.Prelude.{All}
+use Rattle.std.proofs.Common.{arith, ◌≡◌, ℕ, Bool, List, [], ◌∷◌, ◌++◌, refl, sym, ap, subst, ◌∙◌, append_assoc, Option, Some, None}
 use Rattle.std.specs.List.{AllZip}
 use Rattle.std.proofs.lemmas.Option.{none-some}
 use Rattle.std.proofs.lemmas.List.Sorted.{IsPermutation-sym}
-use Rattle.c62_rules.specs.PacketRules.{Issues, IsIssued, KeepsPacketRules}
+use Rattle.c62_rules.specs.PacketRules.{Issues, KeepsPacketRules}
 use Rattle.c62_rules.specs.Length.{length_of}
 use Rattle.c62_rules.specs.Part.{IsPart}
 use Rattle.c62_rules.proofs.Parts.{part-cons, part-keeps}
@@ -12,14 +11,14 @@ use Rattle.c62_packet.specs.declared.placed.Placed.{Placed}
 use Rattle.c62_packet.specs.declared.fault.PacketRule.{PacketRule}
 use Rattle.c62_packet.specs.Packed.{Packed, issue_of, issues_of, issued}
 use Rattle.c62_packet.proofs.Broken.{kept-each}
-use Rattle.c62_adopt_cut.specs.Blocks.{Draft, Issue}
-use Rattle.c62_adopt_cut.specs.Text.{Cut, Refusal, text_cut}
+use Rattle.c62_adopt_cut.specs.Blocks.{Draft}
+use Rattle.c62_adopt_cut.specs.Text.{Refusal, text_cut}
 use Rattle.c62_adopt_cut.specs.Drafted.{refusal_of}
-use Rattle.c62_adopt_cut.specs.Flight.{first_in_flight, cycles_lacking, or_behind}
+use Rattle.c62_adopt_cut.specs.Flight.{first_in_flight, or_behind}
 use Rattle.c62_adopt_cut.proofs.DrainLemmas.{lacks_none_where_over}
 use Rattle.c62_adopt.specs.declared.fault.AdoptFault.{AdoptFault}
 use Rattle.c62_adopt.specs.declared.fault.AdoptFault.TheVariants.{Text, Rule, Memory}
-use Rattle.c62_adopt.specs.Blocks.{AreOf, IsBlockOf}
+use Rattle.c62_adopt.specs.Blocks.{IsBlockOf}
 use Rattle.c62_adopt.specs.Breach.{KeepsRules, IsBreachIn, IsFirstBreach}
 use Rattle.c62_adopt.specs.Answer.{IsAdopted, Refuses}
 use Rattle.c62_adopt.specs.Laws.{HasOneAnswer, HasOneAdoption, DrainsNothing}

@@ -1,5 +1,5 @@
 -- The packet rules ask nothing of the order in which instructions stand.
-use Rattle.std.proofs.Common.{arith, ◌≡◌, ℕ, ◌≤◌, List, Some, inl, inr}
+use Rattle.std.proofs.Common.{arith, ℕ, ◌≤◌, List, Some, inl, inr}
 use Rattle.std.specs.Prelude.{sum_by, IsPermutation}
 use Rattle.std.proofs.lemmas.List.Sorted.{IsPermutation-map, IsPermutation-sym, sum_by-IsPermutation}
 use Rattle.c62_rules.specs.PacketRules.{Issue, Issues, reads_in, MayLandTogether, KeepsPacketRules}

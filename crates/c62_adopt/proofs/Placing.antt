@@ -1,5 +1,5 @@
 -- Instructions of a text where they are placed.
-use Rattle.std.proofs.Common.{arith, ◌≡◌, ℕ, ◌<◌, ◌≤◌, ◌+◌, List, [], ◌∷◌, ◌++◌, length, map, take, refl, sym, ap, ◌∙◌, Option, Some, None}
+use Rattle.std.proofs.Common.{arith, ◌≡◌, ℕ, ◌<◌, ◌≤◌, List, [], ◌∷◌, length, map, refl, sym, ap, ◌∙◌}
 use Rattle.std.specs.List.{position}
 use Rattle.std.proofs.lemmas.Bool.Decides.{nat_tests}
 use Rattle.std.proofs.lemmas.List.{length-map}
@@ -7,8 +7,8 @@ use Rattle.c62_read.specs.Program.{Name, label_is}
 use Rattle.c62_read.proofs.BlockLemmas.{position_map}
 use Rattle.c62_adopt_cut.specs.declared.draft.Draft.{Draft as DraftRead}
 use Rattle.c62_adopt_cut.specs.Blocks.{Draft, Issue}
-use Rattle.std.specs.Prelude.{All, MatchOption}
-use Rattle.std.proofs.lemmas.List.Elements.{All-nil, All-cons, All-tail, All-map}
+use Rattle.std.specs.Prelude.{All}
+use Rattle.std.proofs.lemmas.List.Elements.{All-nil, All-cons, All-tail}
 use Rattle.std.proofs.lemmas.List.Sorted.{IsPermutation-sym, length_permutation, All-permutation}
 use Rattle.c62_rules.specs.PacketRules.{KeepsPacketRules}
 use Rattle.c62_packet.specs.declared.placed.Placed.{Placed}
@@ -18,7 +18,7 @@ use Rattle.c62_packet.specs.Fault.{IsFirstBroken}
 use Rattle.c62_listing_reader.specs.Said.{Part, part_of}
 use Rattle.c62_adopt.specs.Blocks.{part_in, AreOf}
 use Rattle.c62_adopt.proofs.Orders.{rules_same, broken_same}
-use Rattle.c62_adopt.specs.Judged.{MayStand, AreListed, KeepRules, BreakFirst, FindsRule}
+use Rattle.c62_adopt.specs.Judged.{MayStand, AreListed, KeepRules, BreakFirst}
 use Rattle.c62_adopt_cut.specs.declared.draft.Issue.{Issue as IssueRead}
 use Rattle.std.specs.List.{AllByRecursion}
 use Rattle.c62_adopt_cut.specs.Laws.{IsPlaced, IsFine}

@@ -1,5 +1,5 @@
 -- What a text of packets is adopted as, or why it is refused (docs/ADOPT.md).
-use Rattle.std.specs.Prelude.{◌≡◌, ℕ, Bool, List, All, Option, Some, None}
+use Rattle.std.specs.Prelude.{◌≡◌, ℕ, Bool, List, All, Some, None}
 use Rattle.std.specs.List.{AllZip}
 use Rattle.c62_packet.specs.Packed.{Packed}
 use Rattle.c62_adopt_cut.specs.Text.{Cut, text_cut}

@@ -27,11 +27,7 @@ pub struct Adopted {
 }
 
 /// The packet block of a block of a text.
-fn packet_block(
-    alloc: Global,
-    drafts: &[Draft],
-    draft: &Draft,
-) -> Result<PacketBlock, AllocError>
+fn packet_block(alloc: Global, drafts: &[Draft], draft: &Draft) -> Result<PacketBlock, AllocError>
     requires few { length drafts.now ≤ MOST_BLOCKS }
     requires sound { IsSound (map draft_of drafts.now) (draft_of draft.now) }
     ensures { IfOk result (IsBlockOf (map draft_of drafts.now) (draft_of draft.now)) }

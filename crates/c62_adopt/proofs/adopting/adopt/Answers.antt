@@ -1,8 +1,8 @@
-use Rattle.std.proofs.Common.{arith, ◌≡◌, ◌≤◌, List, None, length, map, sym, ap, subst, ◌∙◌}
+use Rattle.std.proofs.Common.{arith, List, length, map, sym, ap, subst}
 use Rattle.std.specs.Prelude.{All}
 use Rattle.std.specs.List.{AllZip}
 use Rattle.c62_adopt_cut.specs.declared.draft.Draft.{Draft as DraftRead}
-use Rattle.c62_adopt_cut.specs.Drafted.{draft_of, cut_of, refusal_of}
+use Rattle.c62_adopt_cut.specs.Drafted.{draft_of, cut_of}
 use Rattle.c62_adopt_cut.specs.Flight.{first_in_flight}
 use Rattle.c62_adopt_cut.specs.Laws.{IsFine}
 use Rattle.c62_adopt.specs.Blocks.{IsBlockOf}

@@ -1,4 +1,4 @@
-use Rattle.std.proofs.Common.{arith, ◌<◌, ◌+◌, List, length, map, take, sym, subst}
+use Rattle.std.proofs.Common.{arith, ◌+◌, List, map, take, sym, subst}
 use Rattle.std.specs.List.{AllZip}
 use Rattle.c62_packet.specs.Packed.{Packed}
 use Rattle.c62_adopt_cut.specs.declared.draft.Draft.{Draft as DraftRead}

@@ -1,12 +1,11 @@
-use Rattle.std.proofs.Common.{arith, ◌≡◌, ◌<◌, ◌≤◌, ◌+◌, ◌-◌, ◌/◌, ℕ, List, length, map, take, take_all, sym, ap, subst, ◌∙◌}
+use Rattle.std.proofs.Common.{arith, ◌≡◌, ◌+◌, ◌-◌, ◌/◌, ℕ, List, length, map, take, take_all, sym, ap, subst, ◌∙◌}
 use Rattle.std.specs.Prelude.{All}
 use Rattle.std.proofs.lemmas.List.{length-map}
 use Rattle.std.proofs.lemmas.List.Elements.{All-take}
 use Rattle.c62_adopt.proofs.Placing.{fine_stand}
-use Rattle.c62_packet.specs.declared.fault.PacketRule.{PacketRule}
 use Rattle.c62_adopt_cut.specs.declared.draft.Issue.{Issue as IssueRead}
 use Rattle.c62_adopt_cut.specs.Drafted.{issue_of, draft_of}
-use Rattle.c62_adopt.specs.Judged.{MayStand, KeepRules, BreakFirst, FindsRule}
+use Rattle.c62_adopt.specs.Judged.{MayStand, BreakFirst}
 use Rattle.c62_adopt.proofs.Breaches.{none_keep, some_break, breach_at}
 use Rattle.c62_adopt.proofs.breach.breach_in.Goals as goal
 

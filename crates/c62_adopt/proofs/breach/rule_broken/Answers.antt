@@ -1,4 +1,4 @@
-use Rattle.std.proofs.Common.{arith, ◌≡◌, ◌<◌, ◌≤◌, List, length, map, sym, ap, subst, ◌∙◌}
+use Rattle.std.proofs.Common.{arith, ◌<◌, List, length, map, sym, ap, subst}
 use Rattle.std.specs.Prelude.{All}
 use Rattle.std.proofs.lemmas.List.{length-map}
 use Rattle.std.proofs.lemmas.List.Elements.{All-map}
@@ -7,7 +7,7 @@ use Rattle.c62_rules.specs.PacketRules.{KeepsPacketRules}
 use Rattle.c62_packet.specs.Fault.{IsFirstBroken}
 use Rattle.c62_packet.specs.Packed.{issued, IsInListingOrder}
 use Rattle.c62_adopt_cut.specs.Drafted.{issue_of, draft_of}
-use Rattle.c62_adopt.specs.Judged.{MayStand, AreListed}
+use Rattle.c62_adopt.specs.Judged.{MayStand}
 use Rattle.c62_adopt.proofs.Placing.{as_many_listed, listed_short, found_rule, found_none}
 use Rattle.c62_adopt.proofs.breach.rule_broken.Goals as goal
 
