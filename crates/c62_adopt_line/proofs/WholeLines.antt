@@ -12,13 +12,14 @@ use Rattle.c62_line.specs.declared.fault.Cause.{Cause}
 use Rattle.c62_line.specs.Line.{Says, Nothing, Pause, Does, Jumps, behind_unit, instruction_of, is_star, jumps_or_does, label_alone, label_field, pause_of, rest_says, target_of}
 use Rattle.c62_line.specs.Unit.{is_dot}
 use Rattle.c62_line.specs.declared.fault.Cause.TheVariants.{BadLabel, Directive, NotAscii, LineTooLong}
+use Rattle.c62_line.proofs.SaysLemmas.{IsProper, proper}
 use Rattle.c62_adopt_line.specs.declared.fault.LineFault.{LineFault}
 use Rattle.c62_adopt_line.specs.declared.fault.LineFault.TheVariants.{Read}
 use Rattle.c62_adopt_line.specs.Directive.{lays_nothing}
 use Rattle.c62_adopt_line.specs.Plain.{plain_words, undotted}
 use Rattle.c62_adopt_line.specs.Line.{Line, behind_bars, behind_colon, has_colon, instruction_says, lacks_unit, line_said, line_says}
 use Rattle.c62_adopt_line.specs.Line.{statement_says, with_bars, with_front, with_label, with_unit, words_say}
-use Rattle.c62_adopt_line.specs.Laws.{HasTarget, HasUnit, IsWhole}
+use Rattle.c62_adopt_line.specs.Laws.{HasTarget, HasUnit, IsWhole, names_block}
 use Rattle.c62_adopt_line.proofs.Labels.{field_has_label}
 
 some_unit : {X : Type 0} (unit : Option X) → is_none unit ≡ false → is_some unit ≡ true
@@ -27,13 +28,13 @@ some_unit (Some unit) none = refl
 
 -- ---- what a branch goes to
 
-abbrev has_target : Says → Bool
-has_target (Jumps parts label) = is_label label
-has_target _ = true
+abbrev goes_to_label : Says → Bool
+goes_to_label (Jumps parts label) = is_label label
+goes_to_label _ = true
 
-abbrev OkTarget : Result Says Cause → Type 0
-OkTarget (Ok says) = has_target says ≡ true
-OkTarget (Err cause) = Unit {0}
+abbrev OkLabel : Result Says Cause → Type 0
+OkLabel (Ok says) = goes_to_label says ≡ true
+OkLabel (Err cause) = Unit {0}
 
 alone_is_label : (words : List Word) (label : Word) → label_alone words ≡ Some label → is_label label ≡ true
 alone_is_label [] label is = absurd cc
@@ -44,24 +45,38 @@ target_is_label : (mnemonic : _) (words : List Word) (label : Word) → target_o
 target_is_label mnemonic words label is = grind (arith, nat_tests, alone_is_label)
 
 aimed_target : (aim : Option Word) (mnemonic : _) (condition : Option Condition) (written : _) (words : List Word)
-    → ((label : Word) → aim ≡ Some label → is_label label ≡ true) → OkTarget (jumps_or_does aim mnemonic condition written words)
+    → ((label : Word) → aim ≡ Some label → is_label label ≡ true) → OkLabel (jumps_or_does aim mnemonic condition written words)
 aimed_target (Some label) mnemonic condition written words aims = let named = aims label refl in grind arith
 aimed_target None mnemonic condition written words aims = grind arith
 
-pause_target : (condition : Option Condition) (kinds : List Kind) → OkTarget (pause_of condition kinds)
+pause_target : (condition : Option Condition) (kinds : List Kind) → OkLabel (pause_of condition kinds)
 unfolding pause_of
 pause_target condition kinds = grind arith
 
-unit_target : (mnemonic : _) (condition : Option Condition) (written : _) (words : List Word) → OkTarget (behind_unit mnemonic condition written words)
+unit_target : (mnemonic : _) (condition : Option Condition) (written : _) (words : List Word) → OkLabel (behind_unit mnemonic condition written words)
 unfolding behind_unit
 unit_target mnemonic condition written words =
     let aimed = aimed_target (target_of mnemonic words) mnemonic condition written words (target_is_label mnemonic words) in
     let paused = pause_target condition (kinds_of words) in
     grind arith
 
-rest_target : (words : List Word) (says : Says) → rest_says words ≡ Ok says → has_target says ≡ true
+rest_label : (words : List Word) (says : Says) → rest_says words ≡ Ok says → goes_to_label says ≡ true
 unfolding rest_says instruction_of
-rest_target words says is = grind (arith, unit_target)
+rest_label words says is = grind (arith, unit_target)
+
+abbrev has_target : Says → Bool
+has_target (Does parts) = not (names_block parts.operands)
+has_target (Jumps parts label) = is_label label
+has_target _ = true
+
+target_said : (says : Says) → goes_to_label says ≡ true → IsProper says → has_target says ≡ true
+target_said Nothing label proper = refl
+target_said (Pause n) label proper = refl
+target_said (Does parts) label proper = grind (arith, nat_tests)
+target_said (Jumps parts target) label proper = label
+
+rest_target : (words : List Word) (says : Says) → rest_says words ≡ Ok says → has_target says ≡ true
+rest_target words says is = target_said says (rest_label words says is) (proper words says is)
 
 -- ---- a statement
 
@@ -71,7 +86,7 @@ is_whole says = not (lacks_unit says) && has_target says
 whole_said : (says : Says) → is_whole says ≡ true → HasUnit says × HasTarget says
 whole_said Nothing whole = (tt, tt)
 whole_said (Pause n) whole = (tt, tt)
-whole_said (Does parts) whole = (some_unit parts.unit (grind (arith, nat_tests)), tt)
+whole_said (Does parts) whole = (some_unit parts.unit (grind (arith, nat_tests)), grind (arith, nat_tests))
 whole_said (Jumps parts label) whole = (some_unit parts.unit (grind (arith, nat_tests)), grind (arith, nat_tests))
 
 unit_whole : (read : Result Says Cause) (says : Says) → ((other : Says) → read ≡ Ok other → has_target other ≡ true)

@@ -2,6 +2,8 @@
 use Rattle.std.specs.Prelude.{◌≡◌, ℕ, ◌≤◌, Bool, true, false, not, ◌==◌, ◌&&◌, ◌||◌, if◌then◌else◌, List, [], ◌∷◌, ◌++◌, length, codes, decimal, Some, None, is_some, IfSome, Ok, IsTrue}
 use Rattle.std.specs.List.{list_any}
 use Rattle.c62_op.specs.declared.register.Unit.{Unit as FunctionalUnit}
+use Rattle.c62_op.specs.declared.operands.Operands.{Operands}
+use Rattle.c62_op.specs.declared.operands.Operands.TheVariants.{Block}
 use Rattle.c62_op.specs.Takes.{takes}
 use Rattle.c62_insn.specs.declared.insn.Insn.{Insn}
 use Rattle.c62_insn.specs.Insn.{op_of, operands_of}
@@ -20,8 +22,13 @@ HasUnit (Does parts) = is_some parts.unit ≡ true
 HasUnit (Jumps parts label) = is_some parts.unit ≡ true
 HasUnit _ = Unit {0}
 
--- a branch to a label goes to one that may be written
+abbrev pub names_block : Operands → Bool
+names_block (Block number) = true
+names_block operands = false
+
+-- a branch to a label goes to one that may be written, and no other instruction goes to a block
 abbrev pub HasTarget : Says → Type 0
+HasTarget (Does parts) = names_block parts.operands ≡ false
 HasTarget (Jumps parts label) = IsTrue (is_label label)
 HasTarget _ = Unit {0}
 

@@ -1,0 +1,10 @@
+pub mod Orders
+pub mod Placing
+pub mod Breaches
+pub mod BlockLemmas
+pub mod PacketsLemmas
+pub mod AimLemmas
+pub mod SoundLemmas
+pub mod SortedLemmas
+pub mod ReadBackLemmas
+pub mod AnswerLemmas

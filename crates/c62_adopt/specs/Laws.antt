@@ -1,0 +1,39 @@
+-- Packets as they are written and their listings (docs/ADOPT.md, "What holds").
+use Rattle.std.specs.Prelude.{◌≡◌, ℕ, Bool, true, false, List}
+use Rattle.c62_packet.specs.Packed.{Packed}
+use Rattle.c62_packet.specs.Alike.{AreAlike}
+use Rattle.c62_listing.specs.Listing.{listing}
+use Rattle.c62_listing_reader.specs.Faults.{IsRead}
+use Rattle.c62_listing_reader.specs.Laws.{AreShown}
+use Rattle.c62_adopt.specs.declared.fault.AdoptFault.{AdoptFault}
+use Rattle.c62_adopt.specs.declared.fault.AdoptFault.TheVariants.{Memory}
+use Rattle.c62_adopt.specs.Answer.{IsAdopted, Refuses}
+
+-- ---- what is adopted is read back
+
+-- the listing of what is adopted is read as these packets, but for lines
+pub record IsReadBack (packets : List Packed) : Type 0 where
+  pub shown : AreShown packets
+  pub others : List Packed
+  pub read : IsRead (listing packets) others
+  pub alike : AreAlike packets others
+
+abbrev pub AdoptsListings : Bool → List ℕ → Type 0
+AdoptsListings drain text = (packets : List Packed) (added : ℕ) → IsAdopted drain text packets added → IsReadBack packets
+
+-- ---- one answer
+
+-- a text is adopted in one way
+abbrev pub HasOneAdoption : Bool → List ℕ → Type 0
+HasOneAdoption drain text =
+    (packets others : List Packed) (added more : ℕ) → IsAdopted drain text packets added → IsAdopted drain text others more
+    → (packets ≡ others) × (added ≡ more)
+
+-- what is adopted is not refused but for memory, and nothing is refused in two ways
+pub record HasOneAnswer (drain : Bool) (text : List ℕ) : Type 0 where
+  pub adoption : HasOneAdoption drain text
+  pub refusal : (packets : List Packed) (added : ℕ) (fault : AdoptFault) → IsAdopted drain text packets added → Refuses drain text fault → fault ≡ Memory
+
+-- where a text is adopted as it stands, it is drained without a cycle more
+abbrev pub DrainsNothing : List ℕ → List Packed → Type 0
+DrainsNothing text packets = (added : ℕ) → IsAdopted false text packets added → (added ≡ 0) × IsAdopted true text packets 0

@@ -1,0 +1,99 @@
+//! The packets of a text of packets.
+
+ghost use Rattle.std.specs.Prelude.{◌≡◌, ◌<◌, ◌≤◌, ◌++◌, ◌∷◌, [], All, length, map, option_map, MatchResult, IfOk, OnOk, IsTrue};
+ghost use Rattle.std.specs.List.{AllZip};
+ghost use Rattle.c62_read.specs.declared.limits.TheConstants.{MOST_BLOCKS};
+ghost use Rattle.c62_packet.specs.Packets.{is_closed};
+ghost use Rattle.c62_adopt_cut.specs.Drafted.{draft_of, refusal_of, cut_of};
+ghost use Rattle.c62_adopt_cut.specs.Flight.{first_in_flight, or_behind};
+ghost use Rattle.c62_adopt.specs.Answer.{IsAdopted, Refuses};
+ghost use Rattle.c62_adopt.specs.Blocks.{IsBlockOf};
+ghost use Rattle.c62_adopt.specs.Packing.{IsSound};
+
+use crate::breach::first_breach;
+use crate::fault::AdoptFault;
+use crate::listed::listed;
+use c62_adopt_cut::{Cut, Draft, TextFault, cycles_lacking, first_in_flight, read_cut};
+use c62_line::copied_label;
+use c62_packet::{PacketBlock, Packets, cycles_of};
+use std::alloc::{AllocError, Global};
+
+/// What a text is adopted as.
+#[derive(Drop)]
+pub struct Adopted {
+    pub packets: Packets,
+    /// How many cycles were added to drain the text.
+    pub added: u64,
+}
+
+/// The packet block of a block of a text.
+fn packet_block(alloc: Global, drafts: &[Draft], draft: &Draft) -> Result<PacketBlock, AllocError>
+    requires few { length drafts.now ≤ MOST_BLOCKS }
+    requires sound { IsSound (map draft_of drafts.now) (draft_of draft.now) }
+    ensures { IfOk result (IsBlockOf (map draft_of drafts.now) (draft_of draft.now)) }
+{
+    let placed = listed(alloc, drafts, &draft.issues)?;
+    let cycles = cycles_of(&placed) as u16;
+    let label = copied_label(&draft.label);
+    Ok(PacketBlock::of_lawful(label, cycles, placed))
+}
+
+fn put(packets: &mut Packets, block: PacketBlock) -> Result<(), AllocError>
+    requires { length packets.old < MOST_BLOCKS }
+    ensures { OnOk result (packets.new ≡ packets.old ++ block ∷ []) }
+{
+    match packets.push(block) {
+        Ok(()) => Ok(()),
+        Err((_, error)) => Err(error),
+    }
+}
+
+/// The packet blocks of the blocks of a text.
+fn packets_of(alloc: Global, drafts: &[Draft]) -> Result<Packets, AllocError>
+    requires few { length drafts.now ≤ MOST_BLOCKS }
+    requires sound { All (λ draft. IsSound (map draft_of drafts.now) (draft_of draft)) drafts.now }
+    ensures { IfOk result (AllZip (IsBlockOf (map draft_of drafts.now)) (map draft_of drafts.now)) }
+{
+    let mut packets = Packets::new(alloc);
+    for draft in drafts {
+        put(&mut packets, packet_block(alloc, drafts, draft)?)?;
+    }
+    Ok(packets)
+}
+
+/// The first fault that a line has but for the packet rules.
+fn fault_of(cut: &Cut, drain: bool) -> Option<TextFault>
+    ensures { option_map refusal_of result ≡ or_behind (cut_of cut.now).fault (first_in_flight drain (cut_of cut.now)) }
+{
+    match cut.fault {
+        Some(fault) => Some(fault),
+        None => first_in_flight(cut, drain),
+    }
+}
+
+/// The packets of a text of packets, as people and compilers write them (docs/ADOPT.md). Each instruction stands in the cycle and
+/// on the unit in which the text has it, and each branch to a label goes to a block that has it. Where the text is drained, the
+/// cycles that lack are added before the ends of its blocks; otherwise none are.
+///
+/// # Errors
+///
+/// `Rule` for the first line whose instruction breaks a packet rule together with those above it in its block, as far as the
+/// text is read. `Text` for the first line that has another fault by itself or because of the lines above it, and else for the
+/// first that has one because of the lines below it. `Memory` where memory ran out, which may come in place of any answer.
+pub fn adopt(alloc: Global, text: &[u8], drain: bool) -> Result<Adopted, AdoptFault>
+    ensures adopted { MatchResult result (λ adopted. IsAdopted drain text.now adopted.packets adopted.added) (λ fault. Refuses drain text.now fault) }
+    ensures closed { IfOk result (λ adopted. IsTrue (is_closed adopted.packets)) }
+{
+    let cut = read_cut(alloc, text)?;
+    if let Some((line, rule)) = first_breach(alloc, &cut.drafts)? {
+        return Err(AdoptFault::Rule(line, rule));
+    }
+    if let Some(fault) = fault_of(&cut, drain) {
+        return Err(AdoptFault::Text(fault));
+    }
+    let packets = packets_of(alloc, &cut.drafts)?;
+    Ok(Adopted {
+        packets,
+        added: cycles_lacking(&cut),
+    })
+}

@@ -1,0 +1,20 @@
+//! Laws of texts of packets and their listings.
+
+ghost use Rattle.std.specs.Prelude.{ℕ, Bool, List};
+ghost use Rattle.c62_packet.specs.Packed.{Packed};
+ghost use Rattle.c62_adopt.specs.Laws.{AdoptsListings, HasOneAnswer, DrainsNothing};
+
+/// The listing of what a text is adopted as is read as the same packets, but for the lines of their instructions.
+pub fn what_is_adopted_is_read_back()
+    ensures { (drain : Bool) (text : List ℕ) → AdoptsListings drain text }
+{}
+
+/// A text is adopted in one way, and what is adopted is refused for memory alone.
+pub fn texts_have_one_answer()
+    ensures { (drain : Bool) (text : List ℕ) → HasOneAnswer drain text }
+{}
+
+/// What is adopted as it stands is adopted as the same packets where it is drained, and no cycle is added.
+pub fn texts_that_stand_lack_nothing()
+    ensures { (text : List ℕ) (packets : List Packed) → DrainsNothing text packets }
+{}
