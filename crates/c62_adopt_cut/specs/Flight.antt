@@ -1,6 +1,6 @@
 -- What is in flight where a block is over, and the cycles that lack until it has landed (docs/ADOPT.md, "Faults of a text" and
 -- "Cycles that lack").
-use Rattle.std.specs.Prelude.{ℕ, ◌+◌, ◌-◌, min, max, Bool, not, ◌&&◌, nat_lt, if◌then◌else◌, List, [], ◌∷◌, Option, Some, None}
+use Rattle.std.specs.Prelude.{ℕ, ◌+◌, ◌-◌, min, max, Bool, false, not, ◌&&◌, nat_lt, if◌then◌else◌, List, [], ◌∷◌, Option, Some, None}
 use Rattle.std.specs.List.{find, list_any}
 use Rattle.std.specs.Option.{option_map_or}
 use Rattle.c62_op.specs.Shape.{is_branch}
