@@ -1,0 +1,4 @@
+pub mod Common
+pub mod Leading
+pub mod Cuts
+pub mod Said
