@@ -2,3 +2,5 @@ pub mod Common
 pub mod Leading
 pub mod Cuts
 pub mod Said
+pub mod Blocks
+pub mod Issues
