@@ -102,7 +102,7 @@ module _ (site : Site) (next : ℕ) (branched : Bool) (placed : List Placed) (ab
       rw (said.branching, ap (λ (s : Stand). s.cycle) stands.stand)
       (more_cuts branched (is_branching_placed p) site.start site.cycles p.cycle (cuts_of above) is.cuts one fits.last)
 
-  is_below : (number : ℕ) → (is_branching_placed p ≡ true → branched ≡ false) → Fits site.cycles p
+  pub is_below : (number : ℕ) → (is_branching_placed p ≡ true → branched ≡ false) → Fits site.cycles p
       → IsAt site (p.cycle + 1) (branched || is_branching_placed p) (placed ++ p ∷ []) (here ∷ above) (with_line number (stand_of above here) here drafts)
   is_below number one fits = rw (with_here number) (record {
     passed = grind (arith, nat_tests, is.passed, stands.time, said.cycle);
@@ -113,7 +113,7 @@ module _ (site : Site) (next : ℕ) (branched : Bool) (placed : List Placed) (ab
     begun = λ some. grind (arith, nat_tests, is.is.starts);
   })
 
-  nothing_against : length site.done < 64 → length placed < 256 → site.cycles ≤ 2048 → Fits site.cycles p → hindrance above drafts here ≡ None
+  pub nothing_against : length site.done < 64 → length placed < 256 → site.cycles ≤ 2048 → Fits site.cycles p → hindrance above drafts here ≡ None
   nothing_against blocks few short fits =
       let count : length placed ≡ length is.draft.issues = AllZip-long (IsIssueOf site.name) is.draft.issues placed is.is.issues in
       free above drafts beside says stands.below

@@ -4,3 +4,5 @@ pub mod Cuts
 pub mod Said
 pub mod Blocks
 pub mod Issues
+pub mod Pauses
+pub mod Cycles
