@@ -37,9 +37,9 @@ packet_below above true says (Some place) is filled below = rw (filled, is) refl
 -- ---- an instruction
 
 -- what is asked of an instruction of a block of so many cycles
-pub record IsListed (site : Site) (p : Placed) : Type 0 where
-  pub writable : IsWritable site.name p
-  pub fits : Fits site.cycles p
+pub record IsListed (name : ℕ → List ℕ) (cycles : ℕ) (p : Placed) : Type 0 where
+  pub writable : IsWritable name p
+  pub fits : Fits cycles p
 
 said_so : (site : Site) (p : Placed) → IsSaid (parts_written p) (target_written site.name p) (says_on site.name p.insn p.unit)
 said_so site p = rw (says_is site.name p) (is_said (parts_written p) (target_written site.name p))
@@ -57,7 +57,7 @@ module _ (site : Site) (few : length site.done < 64) (short : site.cycles ≤ 20
   issue_leads : (next : ℕ) (branched : Bool) (placed : List Placed) (number : ℕ) (above : List Line) (drafts : Drafts) (p : Placed) (beside : Bool)
       → IsAt site next branched placed above drafts
       → Stands site next p above beside (line_said beside None (says_on site.name p.insn p.unit))
-      → IsListed site p → (is_branching_placed p ≡ true → branched ≡ false) → length placed < 256
+      → IsListed site.name site.cycles p → (is_branching_placed p ≡ true → branched ≡ false) → length placed < 256
       → Leads above drafts number ((front beside ++ spelling site.name p.insn p.unit) ∷ []) (IsBehind site (branched || is_branching_placed p) placed p)
   issue_leads next branched placed number above drafts p beside is stands listed one room =
       let says : Says = says_on site.name p.insn p.unit in
@@ -96,7 +96,7 @@ module _ (site : Site) (few : length site.done < 64) (short : site.cycles ≤ 20
 
   -- an instruction that begins a packet, with the cycles before it
   first_leads : (next : ℕ) (branched : Bool) (placed : List Placed) (number : ℕ) (above : List Line) (drafts : Drafts) (p : Placed)
-      → IsAt site next branched placed above drafts → next ≤ p.cycle → IsListed site p → (is_branching_placed p ≡ true → branched ≡ false)
+      → IsAt site next branched placed above drafts → next ≤ p.cycle → IsListed site.name site.cycles p → (is_branching_placed p ≡ true → branched ≡ false)
       → length placed < 256
       → Leads above drafts number (idle_lines (p.cycle - next) ++ (codes "   " ++ spelling site.name p.insn p.unit) ∷ [])
       (IsBehind site (branched || is_branching_placed p) placed p)
@@ -113,7 +113,7 @@ module _ (site : Site) (few : length site.done < 64) (short : site.cycles ≤ 20
   -- an instruction behind another
   next_leads : (b : Bool) (branched : Bool) (placed : List Placed) (q p : Placed) (number : ℕ) (above : List Line) (drafts : Drafts)
       → nat_lt p.cycle (q.cycle + 1) ≡ b → listing_position q ≤ listing_position p → IsBehind site branched placed q above drafts
-      → IsListed site p → (is_branching_placed p ≡ true → branched ≡ false) → length (placed ++ q ∷ []) < 256
+      → IsListed site.name site.cycles p → (is_branching_placed p ≡ true → branched ≡ false) → length (placed ++ q ∷ []) < 256
       → Leads above drafts number (if b then (codes "|| " ++ spelling site.name p.insn p.unit) ∷ []
       else idle_lines (p.cycle - (q.cycle + 1)) ++ (codes "   " ++ spelling site.name p.insn p.unit) ∷ [])
       (IsBehind site (branched || is_branching_placed p) (placed ++ q ∷ []) p)
@@ -129,17 +129,17 @@ module _ (site : Site) (few : length site.done < 64) (short : site.cycles ≤ 20
 -- ---- the cycles of a block
 
 -- none of these is a branch behind another
-pub BranchOnce : Bool → List Placed → Type 0
+unfoldable pub BranchOnce : Bool → List Placed → Type 0
 BranchOnce branched [] = Unit {0}
 BranchOnce branched (p ∷ placed) = (is_branching_placed p ≡ true → branched ≡ false) × BranchOnce (branched || is_branching_placed p) placed
 
-pub branched_behind : Bool → List Placed → Bool
+unfoldable pub branched_behind : Bool → List Placed → Bool
 branched_behind branched [] = branched
 branched_behind branched (p ∷ placed) = branched_behind (branched || is_branching_placed p) placed
 
 module _ (site : Site) (few : length site.done < 64) (short : site.cycles ≤ 2048) where
   rest_lead : (rest placed : List Placed) (branched : Bool) (q : Placed) (number : ℕ) (above : List Line) (drafts : Drafts)
-      → IsBehind site branched placed q above drafts → AllByRecursion (IsListed site) rest → AreBehind q rest → BranchOnce branched rest
+      → IsBehind site branched placed q above drafts → AllByRecursion (IsListed site.name site.cycles) rest → AreBehind q rest → BranchOnce branched rest
       → length placed + 1 + length rest ≤ 256 → q.cycle < site.cycles
       → Leads above drafts number (cycle_lines site.name (q.cycle + 1) site.cycles rest)
       (IsAt site site.cycles (branched_behind branched rest) (placed ++ q ∷ rest))
@@ -163,7 +163,7 @@ module _ (site : Site) (few : length site.done < 64) (short : site.cycles ≤ 20
 
   -- from the first cycle
   pub cycles_lead : (placed : List Placed) (number : ℕ) (above : List Line) (drafts : Drafts) → IsAt site 0 false [] above drafts
-      → AllByRecursion (IsListed site) placed → ((p : Placed) (rest : List Placed) → placed ≡ p ∷ rest → AreBehind p rest)
+      → AllByRecursion (IsListed site.name site.cycles) placed → ((p : Placed) (rest : List Placed) → placed ≡ p ∷ rest → AreBehind p rest)
       → BranchOnce false placed → length placed ≤ 256
       → Leads above drafts number (cycle_lines site.name 0 site.cycles placed) (IsAt site site.cycles (branched_behind false placed) placed)
   unfolding BranchOnce branched_behind

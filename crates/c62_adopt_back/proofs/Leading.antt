@@ -45,3 +45,8 @@ one_line above drafts number bytes line Is says free is = record {
   reads = λ below. reads_line above drafts number bytes below line says free;
   is = is;
 }
+
+pub so_leads : (above : List Line) (drafts : Drafts) (number : ℕ) (lines : List (List ℕ)) (Is To : List Line → Drafts → Type 0)
+    → Leads above drafts number lines Is → ((a : List Line) (d : Drafts) → Is a d → To a d) → Leads above drafts number lines To
+so_leads above drafts number lines Is To lead then_is =
+    record { end = lead.end; passed = lead.passed; final = lead.final; reads = lead.reads; is = then_is lead.passed lead.final lead.is }

@@ -6,3 +6,5 @@ pub mod Blocks
 pub mod Issues
 pub mod Pauses
 pub mod Cycles
+pub mod Starts
+pub mod Walk
