@@ -8,3 +8,4 @@ pub mod Pauses
 pub mod Cycles
 pub mod Starts
 pub mod Walk
+pub mod Over
