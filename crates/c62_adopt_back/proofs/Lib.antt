@@ -9,3 +9,4 @@ pub mod Cycles
 pub mod Starts
 pub mod Walk
 pub mod Over
+pub mod Targets
