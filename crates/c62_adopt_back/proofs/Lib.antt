@@ -10,3 +10,5 @@ pub mod Starts
 pub mod Walk
 pub mod Over
 pub mod Targets
+pub mod Alike
+pub mod Adopted
