@@ -12,3 +12,4 @@ pub mod Over
 pub mod Targets
 pub mod Alike
 pub mod Adopted
+pub mod Good

@@ -89,7 +89,7 @@ module _ (packets : List Packed) (shown : AreShown packets) where
     aimed = λ number is. aimed_so number (has_target labels (operands_of p.insn) number stands is);
   }
 
-  all_placed : (P : Placed → Type 0) → ((p : Placed) → unit_of p.insn ≡ Some p.unit → target_stands labels (operands_of p.insn) ≡ true → P p)
+  pub all_placed : (P : Placed → Type 0) → ((p : Placed) → unit_of p.insn ≡ Some p.unit → target_stands labels (operands_of p.insn) ≡ true → P p)
       → (placed : List Placed)
       → All (λ p. unit_of p.insn ≡ Some p.unit) placed → list_all (λ p. target_stands labels (operands_of p.insn)) placed ≡ true → All P placed
   all_placed P each [] written stand = All-nil P
