@@ -41,13 +41,13 @@ all_read_as : List Draft → List Draft → List Packed → List ReadDraft
 all_read_as whole (draft ∷ drafts) (block ∷ blocks) = read_as whole draft block ∷ all_read_as whole drafts blocks
 all_read_as whole _ _ = []
 
-pub ArePlacedIn : (ℕ → Name) → List Draft → Packed → Type 0
+abbrev pub ArePlacedIn : (ℕ → Name) → List Draft → Packed → Type 0
 ArePlacedIn name whole block = AllByRecursion (IsPlacedIn name whole) block.placed
 
 like_so : (name : ℕ → Name) (whole : List Draft) (start end : ℕ) (drafts : List Draft) (blocks : List Packed) → AreRead name start end drafts blocks
     → AllByRecursion (ArePlacedIn name whole) blocks
     → AllLike (all_read_as whole drafts blocks) blocks
-unfolding AreRead AllLike all_read_as read_as ArePlacedIn
+unfolding AreRead AllLike all_read_as read_as
 like_so name whole start end [] [] are placed = tt
 like_so name whole start end [] (block ∷ blocks) are placed = absurd are
 like_so name whole start end (draft ∷ drafts) [] are placed = absurd are

@@ -13,3 +13,4 @@ pub mod Targets
 pub mod Alike
 pub mod Adopted
 pub mod Good
+pub mod Listed
