@@ -65,7 +65,7 @@ or_behind (Some refusal) behind = Some refusal
 or_behind None behind = behind
 
 -- the first of a block's instructions that has a fault, where the next block, or the text's end, is in this cycle
-abbrev pub faulty_in : Bool → List Draft → ℕ → Draft → Option Refusal
+unfoldable pub faulty_in : Bool → List Draft → ℕ → Draft → Option Refusal
 faulty_in drain whole next draft = first_faulty whole draft.start (over_in (next_drained drain next draft) draft) draft.issues
 
 -- the first faulty instruction of these blocks of a text, which is over in this cycle

@@ -145,6 +145,7 @@ fn next_start(end: u32, drafts: &[Draft]) -> u32
 }
 
 /// The first of a block's instructions that has a fault, where the next block, or the text's end, is in this cycle.
+#[tactic(auto, unfolding(crate::specs::Flight::faulty_in))]
 fn faulty_in(drain: bool, drafts: &[Draft], next: u32, draft: &Draft) -> Option<TextFault>
     ensures { option_map refusal_of result ≡ faulty_in drain (map draft_of drafts.now) next (draft_of draft.now) }
 {

@@ -104,7 +104,8 @@ impl Drafts {
 /// The cycle before which all lands that an instruction writes which is issued in this cycle. A branch takes effect in it.
 pub(crate) fn end_of(insn: Insn, cycle: u64) -> u64
     requires { cycle < 2 ^ 40 }
-    ensures { result ≡ end_of (parts_of insn) cycle }
+    ensures end { result ≡ end_of (parts_of insn) cycle }
+    ensures near { result ≤ cycle + 256 }
 {
     if insn.op().is_branch() {
         cycle + 6
