@@ -100,6 +100,7 @@ module _ (name : ℕ → Name) (whole : List Draft) (start : ℕ) (draft : Draft
   drained_here drain = grind (arith, nat_tests, lacks_none)
 
   none_in : (drain : Bool) → faulty_in drain whole (start + block.cycles) draft ≡ None
+  unfolding faulty_in
   none_in drain =
       rw (drained_here drain, over_here, is.starts)
       (none_faulty name whole start block.cycles (start + block.cycles) draft.issues block.placed false refl is.issues settled.found settled.once)
