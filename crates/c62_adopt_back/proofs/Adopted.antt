@@ -3,14 +3,13 @@ use Rattle.c62_adopt_back.proofs.Common.{arith, ◌≡◌, ℕ, ◌+◌, List, [
 use Rattle.c62_adopt_back.proofs.Common.{operands_of, unit_of, Placed, Packed, IsPacketBlock, Draft, Issue}
 use Rattle.std.proofs.lemmas.List.Sorted.{IsPermutation-refl}
 use Rattle.c62_packet.specs.Alike.{AreAlike}
-use Rattle.c62_line.specs.Line.{parts_of}
-use Rattle.c62_listing_reader.specs.Said.{Draft as ReadDraft, aimed_parts}
+use Rattle.c62_listing_reader.specs.Said.{Draft as ReadDraft}
 use Rattle.c62_listing_reader.specs.Faults.{draft_of}
-use Rattle.c62_listing_reader.proofs.AlikeLemmas.{AreMade, made}
+use Rattle.c62_listing_reader.proofs.AlikeLemmas.{made}
 use Rattle.c62_listing_reader.proofs.BackLemmas.{key_of, unlined}
-use Rattle.c62_listing_reader.proofs.BlocksLemmas.{AllLike, IsLike}
-use Rattle.c62_adopt.specs.Blocks.{IsBlockOf, part_in, target_number}
-use Rattle.c62_adopt_back.proofs.Blocks.{IsDraftOf, IsIssueOf}
+use Rattle.c62_listing_reader.proofs.BlocksLemmas.{AllLike}
+use Rattle.c62_adopt.specs.Blocks.{IsBlockOf, part_in}
+use Rattle.c62_adopt_back.proofs.Blocks.{IsIssueOf}
 use Rattle.c62_adopt_back.proofs.Targets.{IsAimed}
 use Rattle.c62_adopt_back.proofs.Walk.{AreRead}
 

@@ -1,11 +1,10 @@
 -- What is adopted of a listing, but for the lines of its instructions.
-use Rattle.c62_adopt_back.proofs.Common.{nat_tests, arith, ◌≡◌, ℕ, ◌+◌, List, [], ◌∷◌, ◌++◌, map, Option, Some, None, refl, sym, ap, ◌∙◌, subst, All}
-use Rattle.c62_adopt_back.proofs.Common.{All-tail, AllByRecursion, AllZip, slice_get, Name, Operands, operands_of, unit_of, Placed, Packed, IsPacketBlock, issue_of}
-use Rattle.c62_adopt_back.proofs.Common.{all_lines, block_lines, cycle_lines, parted_lines, name_in, listing, Draft, Issue}
-use Rattle.c62_packet.specs.Alike.{AreAlike, Unlined, unlined as unlined_block}
+use Rattle.c62_adopt_back.proofs.Common.{arith, ◌≡◌, ℕ, ◌+◌, List, [], ◌∷◌, Option, refl, ap, ◌∙◌, slice_get, Name, Placed, Packed, all_lines}
+use Rattle.c62_adopt_back.proofs.Common.{block_lines, cycle_lines, parted_lines, name_in, listing}
+use Rattle.c62_packet.specs.Alike.{AreAlike, unlined as unlined_block}
 use Rattle.c62_packet.specs.Packed.{issues_of}
 use Rattle.c62_packet.specs.Packets.{labels_of}
-use Rattle.c62_listing.specs.Listing.{label_text, placed_lines, text_of}
+use Rattle.c62_listing.specs.Listing.{label_text, text_of}
 
 -- ---- packets that are alike have one listing
 

@@ -1,15 +1,8 @@
 -- A block that is being read.
-use Rattle.c62_adopt_back.proofs.Common.{nat_tests, arith, ◌≡◌, ℕ, ◌+◌, ◌<◌, ◌≤◌, List, [], ◌∷◌, ◌++◌, length, Bool, true, false, not, Option, Some, None}
-use Rattle.c62_adopt_back.proofs.Common.{refl, sym, ap, ◌∙◌, subst, is_none, ◌&&◌, ◌||◌, nat_le, if◌then◌else◌, AllZip, Name, Parts, Says, Placed}
-use Rattle.c62_adopt_back.proofs.Common.{is_branching_placed, issue_of, Line, line_said, Stand, cuts_of, cycles_of, last_packet, stand_of, Draft, Drafts}
-use Rattle.c62_adopt_back.proofs.Common.{Issue, all_drafts, begins_at, opened, with_line, end_of}
-use Rattle.std.proofs.lemmas.Slice.Zip.{AllZip-long}
-use Rattle.c62_rules.specs.Length.{landing_end}
-use Rattle.c62_read.specs.Walk.{is_instruction}
-use Rattle.c62_adopt_cut.specs.Blocks.{add_issue, issue_at, with_issue}
-use Rattle.c62_adopt_cut.specs.Text.{begins_one_more, hindrance, is_full, is_one_more, is_too_late}
-use Rattle.c62_adopt_back.proofs.Cuts.{AreCuts, cut_by_branch, last_cut}
-use Rattle.c62_adopt_back.proofs.Said.{IsSaid, lands_at, parts_written, target_written}
+use Rattle.c62_adopt_back.proofs.Common.{nat_tests, arith, ◌≡◌, ℕ, ◌+◌, ◌<◌, List, [], ◌∷◌, ◌++◌, length, Bool, true, false, Option, Some, None}
+use Rattle.c62_adopt_back.proofs.Common.{AllZip, Name, Placed, Line, cuts_of, cycles_of, Draft, Drafts, Issue, all_drafts, begins_at, opened}
+use Rattle.c62_adopt_back.proofs.Cuts.{AreCuts, last_cut}
+use Rattle.c62_adopt_back.proofs.Said.{parts_written, target_written}
 
 -- ---- what is read of a block
 
@@ -52,7 +45,7 @@ pub record IsAt (site : Site) (next : ℕ) (branched : Bool) (placed : List Plac
 pub as_opened : (start : ℕ) (drafts next : Drafts) → opened start drafts ≡ next → begins_at start drafts.current ≡ true → drafts ≡ next
 as_opened start drafts next opens begun = grind (arith, nat_tests)
 
-pub not_opened : (start : ℕ) (drafts : Drafts) (done : List Draft) (draft : Draft) → opened start drafts ≡ record { done = done; current = Some draft }
-    → begins_at start drafts.current ≡ false
+pub not_opened : (start : ℕ) (drafts : Drafts) (done : List Draft) (draft : Draft)
+    → opened start drafts ≡ record { done = done; current = Some draft } → begins_at start drafts.current ≡ false
     → all_drafts drafts ≡ done
 not_opened start drafts done draft opens none = grind (arith, nat_tests)

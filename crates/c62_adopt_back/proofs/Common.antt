@@ -1,7 +1,7 @@
 -- What several proofs of this crate use of the standard library, of the definitions and of other crates.
-pub use Rattle.std.proofs.Common.{Bool, List, None, Option, Some, [], ap, append-nil, append_assoc, arith, false, get_or, length, length-append, map}
-pub use Rattle.std.proofs.Common.{not, refl, subst, suc, sym, true, zero, ℕ, ◌%◌, ◌*◌, ◌++◌, ◌+◌, ◌-◌, ◌/◌, ◌<◌, ◌∙◌, ◌∷◌, ◌≡◌, ◌≤◌}
-pub use Rattle.std.specs.Prelude.{All, IsTrue, Ok, codes, if◌then◌else◌, is_none, is_some, nat_le, nat_lt, replicate, ◌&&◌, ◌==◌, ◌||◌}
+pub use Rattle.std.proofs.Common.{Bool, List, None, Option, Some, [], ap, append-nil, append_assoc, arith, false, length, length-append, map}
+pub use Rattle.std.proofs.Common.{refl, subst, suc, sym, true, zero, ℕ, ◌%◌, ◌*◌, ◌++◌, ◌+◌, ◌-◌, ◌/◌, ◌<◌, ◌∙◌, ◌∷◌, ◌≡◌, ◌≤◌}
+pub use Rattle.std.specs.Prelude.{All, Ok, codes, if◌then◌else◌, is_none, nat_le, nat_lt, replicate, ◌&&◌, ◌||◌}
 pub use Rattle.std.specs.List.{AllByRecursion, AllZip, list_all, list_any, slice_get}
 pub use Rattle.std.proofs.lemmas.Bool.Decides.{nat_tests}
 pub use Rattle.std.proofs.lemmas.List.Elements.{All-tail}
@@ -18,6 +18,6 @@ pub use Rattle.c62_listing.specs.Listing.{all_lines, block_lines, cycle_lines, i
 pub use Rattle.c62_listing_reader.proofs.BackLemmas.{IsWritable}
 pub use Rattle.c62_adopt_line.specs.Line.{Line, line_said, line_says}
 pub use Rattle.c62_adopt_cut.specs.declared.clock.Stand.{Stand}
-pub use Rattle.c62_adopt_cut.specs.Cut.{cuts_of, cycles_of, first_of, is_cut_behind, last_packet, place_of, stand_at, stand_of, start_of}
+pub use Rattle.c62_adopt_cut.specs.Cut.{cuts_of, cycles_of, first_of, is_cut_behind, last_packet, stand_at, stand_of, start_of}
 pub use Rattle.c62_adopt_cut.specs.Blocks.{Draft, Drafts, Issue, all_drafts, begins_at, no_drafts, opened, with_line}
 pub use Rattle.c62_adopt_cut.specs.Text.{cut_at, end_of}

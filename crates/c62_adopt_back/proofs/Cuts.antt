@@ -1,6 +1,6 @@
 -- The cuts of a text above a line.
-use Rattle.c62_adopt_back.proofs.Common.{nat_tests, arith, ◌≡◌, ℕ, ◌+◌, ◌<◌, ◌≤◌, List, [], ◌∷◌, Bool, true, false, refl, nat_le, nat_lt}
-use Rattle.c62_adopt_back.proofs.Common.{if◌then◌else◌, is_cut_behind, start_of}
+use Rattle.c62_adopt_back.proofs.Common.{nat_tests, arith, ◌≡◌, ℕ, ◌+◌, ◌<◌, ◌≤◌, List, [], ◌∷◌, Bool, false, nat_le, nat_lt, if◌then◌else◌}
+use Rattle.c62_adopt_back.proofs.Common.{is_cut_behind, start_of}
 use Rattle.c62_adopt_cut.specs.Cut.{with_cut}
 
 -- from one of these cuts on, the other is the last

@@ -1,21 +1,19 @@
 -- The lines of a block's cycles.
-use Rattle.c62_adopt_back.proofs.Common.{nat_tests, arith, ◌≡◌, ℕ, suc, ◌+◌, ◌-◌, ◌*◌, ◌<◌, ◌≤◌, List, [], ◌∷◌, ◌++◌, length, Bool, true, false, not}
-use Rattle.c62_adopt_back.proofs.Common.{Option, Some, None, Ok, refl, sym, ap, ◌∙◌, subst, append_assoc, length-append, is_none, ◌&&◌, ◌||◌, nat_lt}
-use Rattle.c62_adopt_back.proofs.Common.{if◌then◌else◌, codes, AllByRecursion, op_of, operands_of, spelling, says_on, Says, Placed, is_branching_placed}
-use Rattle.c62_adopt_back.proofs.Common.{issue_of, cycle_lines, idle_lines, IsWritable, Line, line_said, line_says, Stand, cuts_of, cycles_of, first_of}
-use Rattle.c62_adopt_back.proofs.Common.{last_packet, stand_at, stand_of, start_of, Drafts}
+use Rattle.c62_adopt_back.proofs.Common.{nat_tests, arith, ◌≡◌, ℕ, ◌+◌, ◌-◌, ◌<◌, ◌≤◌, List, [], ◌∷◌, ◌++◌, length, Bool, true, false, Option, Some}
+use Rattle.c62_adopt_back.proofs.Common.{None, Ok, refl, sym, subst, append_assoc, length-append, is_none, ◌&&◌, ◌||◌, nat_lt, if◌then◌else◌, codes}
+use Rattle.c62_adopt_back.proofs.Common.{AllByRecursion, spelling, says_on, Says, Placed, is_branching_placed, cycle_lines, idle_lines, IsWritable}
+use Rattle.c62_adopt_back.proofs.Common.{Line, line_said, line_says, cuts_of, cycles_of, first_of, last_packet, stand_at, Drafts}
 use Rattle.std.proofs.lemmas.Bool.{false≢true, ltb-false, ltb-true}
 use Rattle.c62_op.proofs.UnitOrder.{index_of-below}
-use Rattle.c62_rules.specs.Length.{landing_end}
 use Rattle.c62_packet.specs.Packed.{listing_position}
 use Rattle.c62_adopt_line.proofs.ListedLines.{instruction_reads}
 use Rattle.c62_listing_reader.proofs.BackLemmas.{AreBehind}
 use Rattle.c62_adopt_cut.specs.Cut.{Place, is_filled}
 use Rattle.c62_adopt_back.proofs.Cuts.{starts_here}
-use Rattle.c62_adopt_back.proofs.Said.{IsSaid, is_said, parts_written, said_with, says_is, target_written}
+use Rattle.c62_adopt_back.proofs.Said.{IsSaid, is_said, parts_written, says_is, target_written}
 use Rattle.c62_adopt_back.proofs.Blocks.{IsAt, Site}
 use Rattle.c62_adopt_back.proofs.Issues.{Fits, Stands, is_below, nothing_against}
-use Rattle.c62_adopt_back.proofs.Leading.{Leads, no_lines, one_line, then_lines}
+use Rattle.c62_adopt_back.proofs.Leading.{Leads, one_line, then_lines}
 use Rattle.c62_adopt_back.proofs.Pauses.{idle_leads}
 
 -- ---- the packet of the line above
@@ -58,7 +56,8 @@ module _ (site : Site) (few : length site.done < 64) (short : site.cycles ≤ 20
       → IsAt site next branched placed above drafts
       → Stands site next p above beside (line_said beside None (says_on site.name p.insn p.unit))
       → IsListed site.name site.cycles p → (is_branching_placed p ≡ true → branched ≡ false) → length placed < 256
-      → Leads above drafts number ((front beside ++ spelling site.name p.insn p.unit) ∷ []) (IsBehind site (branched || is_branching_placed p) placed p)
+      → Leads above drafts number ((front beside ++ spelling site.name p.insn p.unit) ∷ [])
+      (IsBehind site (branched || is_branching_placed p) placed p)
   issue_leads next branched placed number above drafts p beside is stands listed one room =
       let says : Says = says_on site.name p.insn p.unit in
       let said = said_so site p in
@@ -96,8 +95,8 @@ module _ (site : Site) (few : length site.done < 64) (short : site.cycles ≤ 20
 
   -- an instruction that begins a packet, with the cycles before it
   first_leads : (next : ℕ) (branched : Bool) (placed : List Placed) (number : ℕ) (above : List Line) (drafts : Drafts) (p : Placed)
-      → IsAt site next branched placed above drafts → next ≤ p.cycle → IsListed site.name site.cycles p → (is_branching_placed p ≡ true → branched ≡ false)
-      → length placed < 256
+      → IsAt site next branched placed above drafts → next ≤ p.cycle → IsListed site.name site.cycles p
+      → (is_branching_placed p ≡ true → branched ≡ false) → length placed < 256
       → Leads above drafts number (idle_lines (p.cycle - next) ++ (codes "   " ++ spelling site.name p.insn p.unit) ∷ [])
       (IsBehind site (branched || is_branching_placed p) placed p)
   unfolding front
@@ -139,8 +138,8 @@ branched_behind branched (p ∷ placed) = branched_behind (branched || is_branch
 
 module _ (site : Site) (few : length site.done < 64) (short : site.cycles ≤ 2048) where
   rest_lead : (rest placed : List Placed) (branched : Bool) (q : Placed) (number : ℕ) (above : List Line) (drafts : Drafts)
-      → IsBehind site branched placed q above drafts → AllByRecursion (IsListed site.name site.cycles) rest → AreBehind q rest → BranchOnce branched rest
-      → length placed + 1 + length rest ≤ 256 → q.cycle < site.cycles
+      → IsBehind site branched placed q above drafts → AllByRecursion (IsListed site.name site.cycles) rest → AreBehind q rest
+      → BranchOnce branched rest → length placed + 1 + length rest ≤ 256 → q.cycle < site.cycles
       → Leads above drafts number (cycle_lines site.name (q.cycle + 1) site.cycles rest)
       (IsAt site site.cycles (branched_behind branched rest) (placed ++ q ∷ rest))
   unfolding AreBehind BranchOnce branched_behind

@@ -1,24 +1,23 @@
 -- The blocks that a listing shows whole are good to read.
-use Rattle.c62_adopt_back.proofs.Common.{nat_tests, arith, ◌≡◌, ℕ, suc, ◌+◌, ◌<◌, ◌≤◌, List, [], ◌∷◌, ◌++◌, length, Bool, true, false, Option, Some}
-use Rattle.c62_adopt_back.proofs.Common.{None, refl, sym, ap, ◌∙◌, subst, append_assoc, ◌||◌, if◌then◌else◌, All, All-tail, AllByRecursion, Name}
-use Rattle.c62_adopt_back.proofs.Common.{op_of, Placed, Packed, IsPacketBlock, is_branch, is_branching_placed, issue_of, name_in, IsWritable}
+use Rattle.c62_adopt_back.proofs.Common.{nat_tests, arith, ◌≡◌, ℕ, ◌+◌, ◌≤◌, List, [], ◌∷◌, ◌++◌, Bool, true, false, None, refl, sym, ◌∙◌, subst}
+use Rattle.c62_adopt_back.proofs.Common.{append_assoc, ◌||◌, if◌then◌else◌, All, All-tail, AllByRecursion, Name, op_of, Placed, Packed, IsPacketBlock}
+use Rattle.c62_adopt_back.proofs.Common.{is_branch, is_branching_placed, issue_of, name_in, IsWritable}
 use Rattle.std.specs.Prelude.{count_by}
 use Rattle.std.specs.List.{IsDistinct, find}
 use Rattle.std.specs.Option.{option_map_or}
 use Rattle.std.specs.Str.{bytes_eq}
 use Rattle.std.proofs.lemmas.Bool.{true≢false}
 use Rattle.std.proofs.lemmas.List.Sums.{sum_by-cons}
-use Rattle.c62_rules.specs.Length.{landing_end, last_landing_end, length_of}
+use Rattle.c62_rules.specs.Length.{landing_end, last_landing_end}
 use Rattle.c62_rules.specs.PacketRules.{Issue}
 use Rattle.c62_packet.specs.Packed.{AreDrained, issues_of}
 use Rattle.c62_packet.specs.Packets.{labels_of}
 use Rattle.c62_listing_reader.specs.Laws.{AreShown}
 use Rattle.c62_listing_reader.proofs.LinesLemmas.{given}
 use Rattle.c62_listing_reader.proofs.ReadBackLemmas.{IsFit, all_writable, free_by, order_by}
-use Rattle.c62_adopt_back.specs.Laws.{AreParted, ArePartedBehind, HasBranch}
+use Rattle.c62_adopt_back.specs.Laws.{AreParted, ArePartedBehind}
 use Rattle.c62_adopt_back.proofs.Cycles.{BranchOnce, IsListed, branched_behind}
-use Rattle.c62_adopt_back.proofs.Issues.{Fits}
-use Rattle.c62_adopt_back.proofs.Walk.{AllGood, IsGood}
+use Rattle.c62_adopt_back.proofs.Walk.{AllGood}
 
 -- ---- the branch of a block
 

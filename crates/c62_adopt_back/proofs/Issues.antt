@@ -1,16 +1,14 @@
 -- The line of an instruction in its block.
-use Rattle.c62_adopt_back.proofs.Common.{nat_tests, arith, ◌≡◌, ℕ, ◌+◌, ◌<◌, ◌≤◌, List, [], ◌∷◌, ◌++◌, length, Bool, true, false, not, Option, Some, None}
-use Rattle.c62_adopt_back.proofs.Common.{refl, sym, ap, ◌∙◌, subst, is_none, is_some, ◌&&◌, ◌||◌, nat_le, if◌then◌else◌, Name, Parts, Says, Placed}
-use Rattle.c62_adopt_back.proofs.Common.{is_branching_placed, issue_of, Line, line_said, Stand, cuts_of, cycles_of, last_packet, stand_of, Draft, Drafts}
-use Rattle.c62_adopt_back.proofs.Common.{Issue, begins_at, opened, with_line}
+use Rattle.c62_adopt_back.proofs.Common.{nat_tests, arith, ◌≡◌, ℕ, ◌+◌, ◌<◌, ◌≤◌, List, [], ◌∷◌, ◌++◌, length, Bool, true, false, Some, None, refl}
+use Rattle.c62_adopt_back.proofs.Common.{sym, ap, subst, is_none, ◌&&◌, ◌||◌, if◌then◌else◌, Says, Placed, is_branching_placed, issue_of, Line}
+use Rattle.c62_adopt_back.proofs.Common.{line_said, Stand, cuts_of, last_packet, stand_of, Draft, Drafts, Issue, begins_at, opened, with_line}
 use Rattle.std.proofs.lemmas.Bool.{cases_Bool, true≢false}
-use Rattle.std.proofs.Common.{inl, inr, length-append}
+use Rattle.std.proofs.Common.{inl, inr}
 use Rattle.std.proofs.lemmas.Slice.Zip.{AllZip-long}
 use Rattle.c62_rules.specs.Length.{landing_end}
 use Rattle.c62_adopt_cut.specs.Cut.{with_cut}
-use Rattle.c62_read.specs.Walk.{is_instruction}
-use Rattle.c62_adopt_cut.specs.Blocks.{add_issue, issue_at, with_issue}
-use Rattle.c62_adopt_cut.specs.Text.{begins_one_more, ends_behind, hindrance, is_full, is_one_more, is_too_late}
+use Rattle.c62_adopt_cut.specs.Blocks.{issue_at, with_issue}
+use Rattle.c62_adopt_cut.specs.Text.{begins_one_more, ends_behind, hindrance, is_one_more, is_too_late}
 use Rattle.c62_adopt_back.proofs.Cuts.{AreCuts, cut_by_branch, last_cut}
 use Rattle.c62_adopt_back.proofs.Said.{IsSaid, lands_at, parts_written, target_written}
 use Rattle.c62_adopt_back.proofs.Blocks.{IsAt, IsDraftOf, IsIssueOf, Site, as_opened, not_opened, zip_more}
@@ -70,8 +68,8 @@ more_cuts false true start cycles cycle cuts are one last =
 more_cuts true false start cycles cycle cuts are one last = are
 more_cuts false false start cycles cycle cuts are one last = are
 
-module _ (site : Site) (next : ℕ) (branched : Bool) (placed : List Placed) (above : List Line) (drafts : Drafts) (is : IsAt site next branched placed above drafts)
-    (p : Placed) (beside : Bool) (says : Says) (said : IsSaid (parts_written p) (target_written site.name p) says)
+module _ (site : Site) (next : ℕ) (branched : Bool) (placed : List Placed) (above : List Line) (drafts : Drafts)
+    (is : IsAt site next branched placed above drafts) (p : Placed) (beside : Bool) (says : Says) (said : IsSaid (parts_written p) (target_written site.name p) says)
     (stands : Stands site next p above beside (line_said beside None says)) where
   abbrev here : Line
   here = line_said beside None says
@@ -103,7 +101,8 @@ module _ (site : Site) (next : ℕ) (branched : Bool) (placed : List Placed) (ab
       (more_cuts branched (is_branching_placed p) site.start site.cycles p.cycle (cuts_of above) is.cuts one fits.last)
 
   pub is_below : (number : ℕ) → (is_branching_placed p ≡ true → branched ≡ false) → Fits site.cycles p
-      → IsAt site (p.cycle + 1) (branched || is_branching_placed p) (placed ++ p ∷ []) (here ∷ above) (with_line number (stand_of above here) here drafts)
+      → IsAt site (p.cycle + 1) (branched || is_branching_placed p) (placed ++ p ∷ []) (here ∷ above)
+      (with_line number (stand_of above here) here drafts)
   is_below number one fits = rw (with_here number) (record {
     passed = grind (arith, nat_tests, is.passed, stands.time, said.cycle);
     cuts = cuts_below one fits;

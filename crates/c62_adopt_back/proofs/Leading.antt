@@ -1,6 +1,6 @@
 -- Lines below others that are read without a fault.
-use Rattle.c62_adopt_back.proofs.Common.{◌≡◌, ℕ, ◌+◌, List, [], ◌∷◌, ◌++◌, None, Ok, refl, ap, ◌∙◌, append_assoc}
-use Rattle.c62_adopt_back.proofs.Common.{Line, line_says, Drafts, stand_of, with_line}
+use Rattle.c62_adopt_back.proofs.Common.{◌≡◌, ℕ, ◌+◌, List, [], ◌∷◌, ◌++◌, None, Ok, refl, ◌∙◌, append_assoc, Line, line_says, Drafts, stand_of}
+use Rattle.c62_adopt_back.proofs.Common.{with_line}
 use Rattle.c62_adopt_cut.specs.Text.{hindrance, read_below}
 
 -- reading these lines leads to lines and blocks that are such
@@ -30,7 +30,8 @@ then_lines above drafts number lines more Is To first next =
 
 reads_line : (above : List Line) (drafts : Drafts) (number : ℕ) (bytes : List ℕ) (below : List (List ℕ)) (line : Line)
     → line_says bytes ≡ Ok line → hindrance above drafts line ≡ None
-    → read_below above drafts number (bytes ∷ below) ≡ read_below (line ∷ above) (with_line number (stand_of above line) line drafts) (number + 1) below
+    → read_below above drafts number (bytes ∷ below)
+    ≡ read_below (line ∷ above) (with_line number (stand_of above line) line drafts) (number + 1) below
 unfolding read_below
 reads_line above drafts number bytes below line says free = rw (says, free) refl
 

@@ -1,10 +1,8 @@
 -- A listing is adopted as itself.
-use Rattle.c62_adopt_back.proofs.Common.{nat_tests, arith, ◌≡◌, ℕ, ◌+◌, ◌<◌, ◌≤◌, List, [], ◌∷◌, ◌++◌, length, map, Bool, true, false, Option, Some, None}
-use Rattle.c62_adopt_back.proofs.Common.{refl, sym, ap, ◌∙◌, subst, append_assoc, append-nil, codes, nat_lt, All, All-tail, AllByRecursion, list_all, Name}
-use Rattle.c62_adopt_back.proofs.Common.{operands_of, unit_of, Placed, Packed, IsPacketBlock, all_lines, listing, name_in, Line, cycles_of, Draft, Drafts}
-use Rattle.c62_adopt_back.proofs.Common.{all_drafts, no_drafts, cut_at}
+use Rattle.c62_adopt_back.proofs.Common.{nat_tests, arith, ◌≡◌, ℕ, ◌≤◌, List, [], ◌∷◌, ◌++◌, length, map, Bool, true, false, None, refl, sym, ap, ◌∙◌}
+use Rattle.c62_adopt_back.proofs.Common.{subst, append_assoc, append-nil, codes, nat_lt, All, All-tail, AllByRecursion, list_all, Name, operands_of}
+use Rattle.c62_adopt_back.proofs.Common.{Packed, all_lines, listing, name_in, Line, cycles_of, Draft, Drafts, all_drafts, no_drafts, cut_at}
 use Rattle.std.proofs.lemmas.Bool.{and_parts, le-ltb}
-use Rattle.c62_read.specs.Block.{target_stands}
 use Rattle.c62_read.specs.Text.{lines_of}
 use Rattle.c62_packet.specs.Packets.{labels_of}
 use Rattle.c62_listing.specs.Listing.{text_of}
@@ -13,11 +11,11 @@ use Rattle.c62_listing_reader.proofs.BlocksLemmas.{HasLines, IsSmall}
 use Rattle.c62_listing_reader.proofs.LinesLemmas.{all_allowed, all_length}
 use Rattle.c62_listing_reader.proofs.ReadBackLemmas.{IsFit, all_placed, all_writable, each, fit, lines_of as has_lines, small}
 use Rattle.c62_listing_reader.proofs.UntoldLemmas.{are_allowed}
-use Rattle.c62_adopt_cut.specs.Flight.{cycles_lacking, first_in_flight}
+use Rattle.c62_adopt_cut.specs.Flight.{cycles_lacking}
 use Rattle.c62_adopt_cut.specs.Text.{Cut, most_bytes, read_below, text_cut}
 use Rattle.c62_adopt.specs.Answer.{IsAdopted, IsAdoptedCut}
 use Rattle.c62_adopt_back.specs.Laws.{AreParted, IsAdoptedAsItself, ListingsStay}
-use Rattle.c62_adopt_back.proofs.Adopted.{ArePlacedIn, AreTaken, IsPlacedIn, taken}
+use Rattle.c62_adopt_back.proofs.Adopted.{ArePlacedIn, IsPlacedIn, taken}
 use Rattle.c62_adopt_back.proofs.Alike.{listing_alike}
 use Rattle.c62_adopt_back.proofs.Cycles.{IsListed}
 use Rattle.c62_adopt_back.proofs.Good.{all_good, all_listed, branch_once}
@@ -65,8 +63,8 @@ module _ (packets : List Packed) (shown : AreShown packets) (drafts : List Draft
   placed_in block is =
       recursive (IsPlacedIn name drafts) block.placed
       (all_placed packets shown (IsPlacedIn name drafts)
-      (λ p written stands. record { written = written; aimed = all_aimed packets drafts same shown.distinct (operands_of p.insn) stands }) block.placed
-      is.is.as_written is.stand)
+      (λ p written stands. record { written = written; aimed = all_aimed packets drafts same shown.distinct (operands_of p.insn) stands })
+      block.placed is.is.as_written is.stand)
 
   settled : (block : Packed) → IsFit packets shown block → IsSettled name drafts block
   settled block is = record {

@@ -1,18 +1,17 @@
 -- Nothing of a listing is in flight where its blocks are over.
-use Rattle.c62_adopt_back.proofs.Common.{nat_tests, arith, ◌≡◌, ℕ, ◌+◌, ◌-◌, ◌<◌, ◌≤◌, List, [], ◌∷◌, length, Bool, true, false, Option, Some, None}
-use Rattle.c62_adopt_back.proofs.Common.{refl, sym, ap, ◌∙◌, subst, ◌&&◌, ◌||◌, if◌then◌else◌, AllByRecursion, AllZip, list_any, is_branch, Name, Parts}
-use Rattle.c62_adopt_back.proofs.Common.{Placed, Packed, is_branching_placed, issue_of, Draft, Issue, end_of}
+use Rattle.c62_adopt_back.proofs.Common.{nat_tests, arith, ◌≡◌, ℕ, ◌+◌, ◌≤◌, List, [], ◌∷◌, Bool, true, false, None, refl, sym, ap, subst, ◌&&◌, ◌||◌}
+use Rattle.c62_adopt_back.proofs.Common.{AllByRecursion, AllZip, list_any, is_branch, Name, Parts, Placed, Packed, is_branching_placed, Draft, Issue}
+use Rattle.c62_adopt_back.proofs.Common.{end_of}
 use Rattle.std.specs.Prelude.{min}
 use Rattle.std.proofs.Common.{inl, inr}
 use Rattle.std.proofs.lemmas.Bool.{cases_Bool, or_right}
 use Rattle.std.specs.List.{find}
 use Rattle.std.specs.Option.{option_map_or}
-use Rattle.c62_rules.specs.Length.{landing_end}
-use Rattle.c62_adopt_cut.specs.Flight.{all_lacking, branches, faulty_among, faulty_in, first_faulty, is_lost, issue_fault, lacking, landed, next_drained}
-use Rattle.c62_adopt_cut.specs.Flight.{next_start, over_in}
+use Rattle.c62_adopt_cut.specs.Flight.{all_lacking, branches, faulty_among, faulty_in, first_faulty, is_lost, issue_fault, lacking, landed}
+use Rattle.c62_adopt_cut.specs.Flight.{next_drained, next_start, over_in}
 use Rattle.c62_adopt_back.proofs.Blocks.{IsDraftOf, IsIssueOf}
 use Rattle.c62_adopt_back.proofs.Cycles.{BranchOnce, IsListed}
-use Rattle.c62_adopt_back.proofs.Said.{lands_at, parts_written, target_written}
+use Rattle.c62_adopt_back.proofs.Said.{lands_at, target_written}
 use Rattle.c62_adopt_back.proofs.Walk.{AreRead}
 
 -- ---- an instruction
@@ -48,8 +47,8 @@ module _ (name : ℕ → Name) (whole : List Draft) (start cycles : ℕ) where
       let goes : is_lost whole issue.target ≡ false = rw is.target found.found in
       let alone : (branches issue && list_any branches others) ≡ false = elim (cases_Bool (is_branching_placed p)) [
         | inl here ↦
-          let all : BranchOnce true placed = subst (λ (b : Bool). BranchOnce b placed) (or_right branched (is_branching_placed p) here) once in
-          rw (branches_so name issue p is, here) (none_behind name others placed are all)
+            let all : BranchOnce true placed = subst (λ (b : Bool). BranchOnce b placed) (or_right branched (is_branching_placed p) here) once in
+            rw (branches_so name issue p is, here) (none_behind name others placed are all)
         | inr other ↦ rw (branches_so name issue p is, other) refl
       ] in
       grind (arith, nat_tests, goes, alone, ends_so name start cycles issue p is found.listed)

@@ -1,6 +1,6 @@
 -- The lines of a block's cycles without instructions.
-use Rattle.c62_adopt_back.proofs.Common.{arith, ◌≡◌, ℕ, zero, suc, ◌+◌, ◌*◌, ◌/◌, ◌%◌, ◌<◌, ◌≤◌, List, [], ◌∷◌, ◌++◌, Bool, false, None, refl, ap, ◌∙◌}
-use Rattle.c62_adopt_back.proofs.Common.{subst, append_assoc, replicate, Pause, Placed, pause_line, idle_lines, Line, line_said, Drafts}
+use Rattle.c62_adopt_back.proofs.Common.{arith, ◌≡◌, ℕ, zero, suc, ◌+◌, ◌*◌, ◌/◌, ◌%◌, ◌<◌, ◌≤◌, List, [], ◌∷◌, Bool, false, None, refl, subst}
+use Rattle.c62_adopt_back.proofs.Common.{replicate, Pause, Placed, pause_line, idle_lines, Line, line_said, Drafts}
 use Rattle.c62_adopt_line.proofs.ListedLines.{pause_reads}
 use Rattle.c62_adopt_cut.specs.Text.{hindrance}
 use Rattle.c62_listing_reader.proofs.ListedLemmas.{rest_is, rest_line}

@@ -1,7 +1,7 @@
 -- What the line of a listing's instruction says.
-use Rattle.c62_adopt_back.proofs.Common.{nat_tests, arith, ◌≡◌, ℕ, ◌+◌, List, Bool, Option, Some, None, true, false, refl, ap, is_branch, Operands}
-use Rattle.c62_adopt_back.proofs.Common.{op_of, operands_of, says_on, Does, Jumps, Parts, Says, Name, Placed, is_branching_placed, issue_of}
-use Rattle.c62_adopt_back.proofs.Common.{Stand, Drafts, opened, end_of, if◌then◌else◌}
+use Rattle.c62_adopt_back.proofs.Common.{nat_tests, arith, ◌≡◌, ℕ, ◌+◌, Option, Some, None, true, refl, is_branch, Operands, op_of, operands_of}
+use Rattle.c62_adopt_back.proofs.Common.{says_on, Does, Jumps, Parts, Says, Name, Placed, is_branching_placed, issue_of, Stand, Drafts, opened}
+use Rattle.c62_adopt_back.proofs.Common.{end_of, if◌then◌else◌}
 use Rattle.c62_op.specs.declared.operands.Operands.TheVariants.{Block}
 use Rattle.c62_op.specs.Shape.{writes_of}
 use Rattle.c62_line.specs.Laws.{parts_on, says_with}
@@ -29,10 +29,20 @@ pub record IsSaid (parts : Parts) (target : Option Name) (says : Says) : Type 0 
 
 pub is_said : (parts : Parts) (target : Option Name) → IsSaid parts target (said_with parts target)
 is_said parts None = record {
-  cycle = refl; filled = refl; instruction = refl; branching = refl; late = λ stand. refl; adds = λ number stand drafts. refl;
+  cycle = refl;
+  filled = refl;
+  instruction = refl;
+  branching = refl;
+  late = λ stand. refl;
+  adds = λ number stand drafts. refl;
 }
 is_said parts (Some target) = record {
-  cycle = refl; filled = refl; instruction = refl; branching = refl; late = λ stand. refl; adds = λ number stand drafts. refl;
+  cycle = refl;
+  filled = refl;
+  instruction = refl;
+  branching = refl;
+  late = λ stand. refl;
+  adds = λ number stand drafts. refl;
 }
 
 -- ---- of a packet's instruction

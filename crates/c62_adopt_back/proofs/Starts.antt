@@ -1,14 +1,13 @@
 -- Where a block begins behind others.
-use Rattle.c62_adopt_back.proofs.Common.{nat_tests, arith, ◌≡◌, ℕ, ◌+◌, ◌<◌, ◌≤◌, List, [], ◌∷◌, ◌++◌, length, Bool, true, false, Option, Some, None}
-use Rattle.c62_adopt_back.proofs.Common.{refl, ap, ◌∙◌, subst, nat_le, list_any, codes, label_lines, Nothing, Name, label_is, Placed, Line, line_said}
-use Rattle.c62_adopt_back.proofs.Common.{cuts_of, cycles_of, stand_of, Draft, Drafts, all_drafts, begins_at, with_line}
-use Rattle.std.proofs.lemmas.Bool.{false≢true}
+use Rattle.c62_adopt_back.proofs.Common.{nat_tests, arith, ◌≡◌, ℕ, ◌<◌, ◌≤◌, List, [], ◌∷◌, ◌++◌, length, Bool, true, false, Option, Some, None, refl}
+use Rattle.c62_adopt_back.proofs.Common.{list_any, codes, label_lines, Nothing, Name, label_is, Line, line_said, cuts_of, cycles_of, stand_of, Drafts}
+use Rattle.c62_adopt_back.proofs.Common.{all_drafts, begins_at, with_line}
 use Rattle.c62_token.specs.Number.{is_label}
 use Rattle.c62_adopt_line.proofs.ListedLines.{empty_reads, label_reads}
 use Rattle.c62_adopt_cut.specs.Blocks.{new_draft}
 use Rattle.c62_adopt_cut.specs.Text.{hindrance}
-use Rattle.c62_adopt_back.proofs.Cuts.{AreCuts, cut_by_label, last_cut, no_cuts}
-use Rattle.c62_adopt_back.proofs.Blocks.{IsAt, Site, as_opened}
+use Rattle.c62_adopt_back.proofs.Cuts.{AreCuts, cut_by_label}
+use Rattle.c62_adopt_back.proofs.Blocks.{IsAt, Site}
 use Rattle.c62_adopt_back.proofs.Leading.{Leads, no_lines, one_line}
 
 -- The blocks above are over, and the next begins in this cycle, where it has a label or they cut the text there.

@@ -1,7 +1,6 @@
 -- What the branches of a listing go to.
-use Rattle.c62_adopt_back.proofs.Common.{nat_tests, arith, ◌≡◌, ℕ, zero, suc, ◌+◌, ◌<◌, ◌≤◌, List, [], ◌∷◌, length, map, Bool, true, false, not, Option}
-use Rattle.c62_adopt_back.proofs.Common.{Some, None, refl, sym, ap, ◌∙◌, subst, nat_lt, if◌then◌else◌, list_any, slice_get, Name, label_is, Operands}
-use Rattle.c62_adopt_back.proofs.Common.{Packed, Draft, Placed, operands_of}
+use Rattle.c62_adopt_back.proofs.Common.{nat_tests, arith, ◌≡◌, ℕ, zero, suc, ◌+◌, ◌<◌, List, [], ◌∷◌, length, map, true, false, Option, Some, None}
+use Rattle.c62_adopt_back.proofs.Common.{refl, sym, ap, ◌∙◌, list_any, slice_get, Name, label_is, Operands, Packed, Draft}
 use Rattle.std.specs.List.{IsDistinct, position_or_len}
 use Rattle.std.specs.Str.{bytes_eq}
 use Rattle.std.proofs.lemmas.Bool.{lt-ltb}
@@ -86,7 +85,12 @@ module _ (packets : List Packed) (drafts : List Draft) (same : map (λ draft. dr
       sym (position_map (label_is label) (λ (draft : Draft). draft.label) drafts)
       ∙ ap (position_or_len (label_is label)) same ∙ number_at (labels_of packets) k label distinct target.at in
       let within : k < length drafts =
-      omega (arith, slice_get_within (labels_of packets) k (Some label) target.at, ap length same, length-map drafts (λ (draft : Draft). draft.label)) in
+      omega (
+        arith,
+        slice_get_within (labels_of packets) k (Some label) target.at,
+        ap length same,
+        length-map drafts (λ (draft : Draft). draft.label),
+      ) in
       rw (named, known, number, lt-ltb k (length drafts) within) (refl, refl)
 
   pub all_aimed : (operands : Operands) → target_stands (labels_of packets) operands ≡ true → IsAimed (name_in packets) drafts operands

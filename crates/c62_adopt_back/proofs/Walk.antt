@@ -1,7 +1,7 @@
 -- The lines of a listing are read as its blocks.
 use Rattle.c62_adopt_back.proofs.Common.{nat_tests, arith, ◌≡◌, ℕ, ◌+◌, ◌<◌, ◌≤◌, List, [], ◌∷◌, ◌++◌, length, Bool, true, false, Option, Some, None}
-use Rattle.c62_adopt_back.proofs.Common.{refl, sym, ap, ◌∙◌, subst, append_assoc, append-nil, length-append, ◌||◌, AllByRecursion, list_any, Name, label_is}
-use Rattle.c62_adopt_back.proofs.Common.{Placed, Packed, is_branching_placed, Line, cycles_of, Draft, Drafts, all_drafts, begins_at, no_drafts}
+use Rattle.c62_adopt_back.proofs.Common.{refl, sym, ap, ◌∙◌, subst, append_assoc, append-nil, length-append, ◌||◌, AllByRecursion, list_any, Name}
+use Rattle.c62_adopt_back.proofs.Common.{label_is, Placed, Packed, is_branching_placed, Line, cycles_of, Draft, Drafts, all_drafts, no_drafts}
 use Rattle.c62_adopt_back.proofs.Common.{all_lines, block_lines, cycle_lines, label_lines, parted_lines}
 use Rattle.std.proofs.Common.{suc}
 use Rattle.std.proofs.lemmas.Bool.{false≢true}
@@ -125,7 +125,8 @@ module _ (name : ℕ → Name) where
 -- each of these blocks is good behind those before it
 unfoldable pub AllGood : (ℕ → Name) → List Packed → Bool → List Packed → Type 0
 AllGood name passed cut [] = Unit {0}
-AllGood name passed cut (block ∷ blocks) = IsGood name passed cut block × AllGood name (passed ++ block ∷ []) (branched_behind false block.placed) blocks
+AllGood name passed cut (block ∷ blocks) =
+    IsGood name passed cut block × AllGood name (passed ++ block ∷ []) (branched_behind false block.placed) blocks
 
 -- all are passed, wherever the last one is cut
 pub record AreAllPassed (name : ℕ → Name) (packets : List Packed) (above : List Line) (drafts : Drafts) : Type 0 where

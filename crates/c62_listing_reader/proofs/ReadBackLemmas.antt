@@ -140,7 +140,7 @@ module _ (packets : List Packed) (shown : AreShown packets) where
   pub order_by : (all : List Placed) → IsNonDecreasingBy listing_position all → (p : Placed) (rest : List Placed) → all ≡ p ∷ rest → AreBehind p rest
   order_by all up p rest is = behind_by p rest (rw is at up)
 
-  pub within_by : (cycles : ℕ) (placed : List Placed) → All (λ p. landing_end (issue_of p) ≤ cycles) placed → All (λ p. p.cycle + 1 ≤ cycles) placed
+  within_by : (cycles : ℕ) (placed : List Placed) → All (λ p. landing_end (issue_of p) ≤ cycles) placed → All (λ p. p.cycle + 1 ≤ cycles) placed
   within_by cycles placed all =
       All-weaker (λ (p : Placed). landing_end (issue_of p) ≤ cycles) (λ (p : Placed). p.cycle + 1 ≤ cycles) (λ p le. omega (arith, le)) placed all
 
