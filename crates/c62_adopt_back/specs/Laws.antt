@@ -1,5 +1,5 @@
 -- A listing is adopted as itself (docs/ADOPT.md, "What holds").
-use Rattle.std.specs.Prelude.{◌≡◌, ℕ, ◌≤◌, Bool, List, [], ◌∷◌, None, count_by}
+use Rattle.std.specs.Prelude.{◌≡◌, ◌≤◌, Bool, List, [], ◌∷◌, None, count_by}
 use Rattle.c62_packet.specs.Packed.{Packed, is_branching}
 use Rattle.c62_packet.specs.Alike.{AreAlike}
 use Rattle.c62_listing.specs.Listing.{listing}
