@@ -8,11 +8,10 @@ use Rattle.std.proofs.lemmas.List.Sums.{sum_by-cons}
 use Rattle.c62_adopt_cut.specs.declared.fault.TextCause.{TextCause}
 use Rattle.c62_adopt_cut.specs.declared.fault.TextCause.TheVariants.{TwoBranches, NotDrained}
 use Rattle.c62_line.specs.declared.fault.Cause.TheVariants.{UnknownTarget}
-use Rattle.c62_adopt_cut.specs.Cut.{cycles_of}
-use Rattle.c62_adopt_cut.specs.Blocks.{Issue, Draft, all_drafts}
-use Rattle.c62_adopt_cut.specs.Text.{Reading, Refusal, end_of, read_cause, text_read}
-use Rattle.c62_adopt_cut.specs.Flight.{blocks_in, blocks_read, branches, first_faulty, first_in_flight, is_lost, issue_fault, next_start, or_behind, or_later, over_in, unless_in_flight}
-use Rattle.c62_adopt_cut.specs.Laws.{AreOver, BlocksAreOver}
+use Rattle.c62_adopt_cut.specs.Blocks.{Issue, Draft}
+use Rattle.c62_adopt_cut.specs.Text.{Cut, Refusal, end_of, read_cause}
+use Rattle.c62_adopt_cut.specs.Flight.{branches, faulty_among, faulty_in, first_faulty, is_lost, issue_fault, next_drained, next_start, or_behind, or_later, over_in}
+use Rattle.c62_adopt_cut.specs.Laws.{AreOver, BlocksAreOver, IsOver}
 
 -- what no fault of an instruction says
 record IsFree (whole : List Draft) (start over : ℕ) (issue : Issue) (others : List Issue) : Type 0 where
@@ -75,31 +74,23 @@ are_free whole start over (issue ∷ others) none =
       found = (here.found, behind.found);
     }
 
-behind_of : (first behind : Option Refusal) → or_behind first behind ≡ None → (first ≡ None) × (behind ≡ None)
+pub behind_of : (first behind : Option Refusal) → or_behind first behind ≡ None → (first ≡ None) × (behind ≡ None)
 behind_of None behind none = (refl, none)
 behind_of (Some refusal) behind none = absurd cc
 
-are_over : (whole : List Draft) (end : ℕ) (drafts : List Draft) → first_in_flight whole end drafts ≡ None → AreOver whole end drafts
-are_over whole end [] none = tt
-are_over whole end (draft ∷ drafts) none =
-    let over = over_in (next_start end drafts) draft in
-    let parts = behind_of (first_faulty whole draft.start over draft.issues) (first_in_flight whole end drafts) none in
-    let free = are_free whole draft.start over draft.issues parts.0 in
-    (record { drained = free.drained; one_branch = free.one_branch; found = free.found }, are_over whole end drafts parts.1)
+pub block_over : (drain : Bool) (whole : List Draft) (next : ℕ) (draft : Draft) → faulty_in drain whole next draft ≡ None
+    → IsOver whole (next_drained drain next draft) draft
+unfolding faulty_in
+block_over drain whole next draft none =
+    let free = are_free whole draft.start (over_in (next_drained drain next draft) draft) draft.issues none in
+    record { drained = free.drained; one_branch = free.one_branch; found = free.found }
 
-flight_over : (end : ℕ) (all drafts : List Draft) (found : Option Refusal) → (found ≡ None → AreOver all end all)
-    → unless_in_flight found all ≡ Ok drafts → (last : ℕ) × AreOver drafts last drafts
-flight_over end all drafts (Some refusal) over is = absurd cc
-flight_over end all drafts None over is =
-    let same : all ≡ drafts = grind arith in (end, subst (λ (blocks : List Draft). AreOver blocks end blocks) same (over refl))
+are_over : (drain : Bool) (whole : List Draft) (end : ℕ) (drafts : List Draft) → faulty_among drain whole end drafts ≡ None
+    → AreOver drain whole end drafts
+are_over drain whole end [] none = tt
+are_over drain whole end (draft ∷ drafts) none =
+    let parts = behind_of (faulty_in drain whole (next_start end drafts) draft) (faulty_among drain whole end drafts) none in
+    (block_over drain whole (next_start end drafts) draft parts.0, are_over drain whole end drafts parts.1)
 
-read_over : (read : Result Reading Refusal) (drafts : List Draft) → blocks_read read ≡ Ok drafts → (last : ℕ) × AreOver drafts last drafts
-read_over (Err refusal) drafts is = absurd cc
-read_over (Ok reading) drafts is =
-    let all = all_drafts reading.drafts in
-    let end = cycles_of reading.lines in
-    flight_over end all drafts (first_in_flight all end all) (are_over all end all) is
-
-pub blocks_are_over : (text : List ℕ) → BlocksAreOver text
-unfolding blocks_in
-blocks_are_over text drafts is = read_over (text_read text) drafts is
+pub blocks_are_over : (drain : Bool) (cut : Cut) → BlocksAreOver drain cut
+blocks_are_over drain cut none = are_over drain cut.drafts cut.cycles cut.drafts none

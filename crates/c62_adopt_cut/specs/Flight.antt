@@ -1,6 +1,6 @@
 -- What is in flight where a block is over, and the cycles that lack until it has landed (docs/ADOPT.md, "Faults of a text" and
 -- "Cycles that lack").
-use Rattle.std.specs.Prelude.{ℕ, ◌+◌, ◌-◌, min, max, Bool, not, ◌&&◌, nat_lt, if◌then◌else◌, List, [], ◌∷◌, Option, Some, None}
+use Rattle.std.specs.Prelude.{ℕ, ◌+◌, ◌-◌, min, max, Bool, false, not, ◌&&◌, nat_lt, if◌then◌else◌, List, [], ◌∷◌, Option, Some, None}
 use Rattle.std.specs.List.{find, list_any}
 use Rattle.std.specs.Option.{option_map_or}
 use Rattle.c62_op.specs.Shape.{is_branch}
@@ -65,7 +65,7 @@ or_behind (Some refusal) behind = Some refusal
 or_behind None behind = behind
 
 -- the first of a block's instructions that has a fault, where the next block, or the text's end, is in this cycle
-abbrev pub faulty_in : Bool → List Draft → ℕ → Draft → Option Refusal
+unfoldable pub faulty_in : Bool → List Draft → ℕ → Draft → Option Refusal
 faulty_in drain whole next draft = first_faulty whole draft.start (over_in (next_drained drain next draft) draft) draft.issues
 
 -- the first faulty instruction of these blocks of a text, which is over in this cycle

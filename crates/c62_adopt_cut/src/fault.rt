@@ -2,11 +2,8 @@
 
 ghost use Rattle.std.specs.Prelude.{◌≡◌, Some};
 ghost use Rattle.c62_adopt_cut.specs.FaultText.{cause_name, fault_text};
-ghost use Rattle.c62_adopt_cut.specs.declared.fault.TextCause.TheVariants.{Line};
-ghost use Rattle.c62_adopt_line.specs.declared.fault.LineFault.TheVariants.{Memory};
 
 use c62_adopt_line::LineFault;
-use std::alloc::{AllocError, AllocFailed};
 use std::error::Error;
 use std::fmt;
 
@@ -34,22 +31,6 @@ impl TextCause {
             TextCause::TwoBranches => "TwoBranches",
             TextCause::NotDrained => "NotDrained",
         }
-    }
-}
-
-impl From<AllocError> for TextCause {
-    ghost from_gives = { λ _ cause. cause ≡ Line Memory };
-
-    fn from(_error: AllocError) -> TextCause {
-        TextCause::Line(LineFault::Memory)
-    }
-}
-
-impl<T: Drop> From<AllocFailed<T>> for TextCause {
-    ghost from_gives = { λ _ cause. cause ≡ Line Memory };
-
-    fn from(_error: AllocFailed<T>) -> TextCause {
-        TextCause::Line(LineFault::Memory)
     }
 }
 

@@ -1,15 +1,16 @@
-//! What is in flight where a block is over.
+//! What is in flight where a block is over, and the cycles that lack until it has landed.
 
-ghost use Rattle.std.specs.Prelude.{◌≡◌, ◌<◌, ◌^◌, ◌+◌, map, option_map};
+ghost use Rattle.std.specs.Prelude.{◌≡◌, ◌<◌, ◌≤◌, ◌^◌, ◌+◌, length, map, option_map};
 ghost use Rattle.std.specs.List.{find, list_any};
 ghost use Rattle.std.specs.Option.{option_copied};
 ghost use Rattle.c62_read.specs.Program.{label_is};
-ghost use Rattle.c62_adopt_cut.specs.Drafted.{issue_of, draft_of};
-ghost use Rattle.c62_adopt_cut.specs.Flight.{branches, over_in, is_lost, issue_fault, first_faulty, next_start, first_in_flight, refusal_of};
+ghost use Rattle.c62_read.specs.declared.limits.TheConstants.{MOST_BLOCKS};
+ghost use Rattle.c62_adopt_cut.specs.Drafted.{issue_of, draft_of, refusal_of, cut_of};
+ghost use Rattle.c62_adopt_cut.specs.Flight.{branches, over_in, landed, lacking, next_drained, is_lost, issue_fault, first_faulty, next_start, faulty_in, faulty_among, first_in_flight, all_lacking, cycles_lacking};
 
 use crate::draft::{Draft, Issue};
 use crate::fault::{TextCause, TextFault};
-use crate::text::{end_of, is_given};
+use crate::text::{Cut, end_of, is_given};
 use c62_adopt_line::LineFault;
 use c62_line::{Cause, Label};
 
@@ -42,13 +43,48 @@ fn cycle_behind(start: u32, issue: &Issue) -> u64
 
 /// The cycle of the text in which a block is over, where the next one, or the text's end, is in this cycle.
 #[tactic(auto, using(crate::proofs::DraftLemmas::find_issue))]
-fn over_in(next: u32, draft: &Draft) -> u64
+fn over_in(next: u64, draft: &Draft) -> u64
     ensures { result ≡ over_in next (draft_of draft.now) }
 {
-    let next = u64::from(next);
     match first_branch(&draft.issues) {
         Some(branch) => next.min(cycle_behind(draft.start, branch) + 6),
         None => next,
+    }
+}
+
+/// The cycle of the text before which all lands of these instructions, whose block begins in this one.
+fn landed(start: u32, issues: &[Issue]) -> u64
+    ensures landed { result ≡ landed start (map issue_of issues.now) }
+    ensures small { result < 2 ^ 34 }
+{
+    let mut last = 0;
+    for issue in issues {
+        last = end_of(issue.insn, cycle_behind(start, issue)).max(last);
+    }
+    last
+}
+
+/// How many cycles a block lacks, where the next one, or the text's end, is in this cycle.
+#[tactic(auto, using(crate::proofs::DraftLemmas::any_issue))]
+fn lacking(next: u32, draft: &Draft) -> u64
+    ensures lacking { result ≡ lacking next (draft_of draft.now) }
+    ensures small { result < 2 ^ 34 }
+{
+    if any_branches(&draft.issues) {
+        0
+    } else {
+        landed(draft.start, &draft.issues).saturating_sub(u64::from(next))
+    }
+}
+
+/// Where the next block, or the text's end, is once the cycles are added that lack.
+fn next_drained(drain: bool, next: u32, draft: &Draft) -> u64
+    ensures { result ≡ next_drained drain next (draft_of draft.now) }
+{
+    if drain {
+        u64::from(next) + lacking(next, draft)
+    } else {
+        u64::from(next)
     }
 }
 
@@ -108,17 +144,55 @@ fn next_start(end: u32, drafts: &[Draft]) -> u32
     }
 }
 
+/// The first of a block's instructions that has a fault, where the next block, or the text's end, is in this cycle.
+#[tactic(auto, unfolding(crate::specs::Flight::faulty_in))]
+fn faulty_in(drain: bool, drafts: &[Draft], next: u32, draft: &Draft) -> Option<TextFault>
+    ensures { option_map refusal_of result ≡ faulty_in drain (map draft_of drafts.now) next (draft_of draft.now) }
+{
+    let over = over_in(next_drained(drain, next, draft), draft);
+    first_faulty(drafts, draft.start, over, &draft.issues)
+}
+
 /// The first faulty instruction of the blocks of a text, which is over in this cycle.
-pub(crate) fn first_in_flight(drafts: &[Draft], end: u32) -> Option<TextFault>
-    ensures { option_map refusal_of result ≡ first_in_flight (map draft_of drafts.now) end (map draft_of drafts.now) }
+fn faulty_among(drain: bool, drafts: &[Draft], end: u32) -> Option<TextFault>
+    ensures { option_map refusal_of result ≡ faulty_among drain (map draft_of drafts.now) end (map draft_of drafts.now) }
 {
     let mut left = drafts;
     while let [draft, behind @ ..] = left {
-        let over = over_in(next_start(end, behind), draft);
-        if let Some(fault) = first_faulty(drafts, draft.start, over, &draft.issues) {
+        if let Some(fault) = faulty_in(drain, drafts, next_start(end, behind), draft) {
             return Some(fault);
         }
         left = behind;
     }
     None
+}
+
+/// The first instruction that has a fault because of the lines below it: `UnknownTarget`, `TwoBranches` or `NotDrained`
+/// (docs/ADOPT.md, "Faults of a text"). With `drain` the cycles are added first that lack.
+pub fn first_in_flight(cut: &Cut, drain: bool) -> Option<TextFault>
+    ensures { option_map refusal_of result ≡ first_in_flight drain (cut_of cut.now) }
+{
+    faulty_among(drain, &cut.drafts, cut.cycles)
+}
+
+/// How many cycles these blocks lack, of a text that is over in this cycle.
+fn all_lacking(drafts: &[Draft], end: u32) -> u64
+    requires few { length drafts.now ≤ MOST_BLOCKS }
+    ensures { result ≡ all_lacking end (map draft_of drafts.now) }
+{
+    let mut cycles = 0;
+    let mut left = drafts;
+    while let [draft, behind @ ..] = left {
+        cycles += lacking(next_start(end, behind), draft);
+        left = behind;
+    }
+    cycles
+}
+
+/// How many cycles are added to a text that is drained (docs/ADOPT.md, "Cycles that lack").
+pub fn cycles_lacking(cut: &Cut) -> u64
+    requires few { length cut.now.drafts.items ≤ MOST_BLOCKS }
+    ensures { result ≡ cycles_lacking (cut_of cut.now) }
+{
+    all_lacking(&cut.drafts, cut.cycles)
 }

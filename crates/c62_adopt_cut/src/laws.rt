@@ -1,16 +1,33 @@
-//! Laws of texts of packets.
+//! Laws of what is read of texts of packets.
 
-ghost use Rattle.std.specs.Prelude.{ℕ, List};
-ghost use Rattle.c62_adopt_cut.specs.Laws.{BlocksAreFine, BlocksAreOver};
+ghost use Rattle.std.specs.Prelude.{ℕ, Bool, List};
+ghost use Rattle.c62_adopt_cut.specs.Text.{Cut};
+ghost use Rattle.c62_adopt_cut.specs.Laws.{BlocksAreFine, BlocksAreNamed, BlocksAreInOrder, BlocksAreOver, LacksNoneWhereOver};
 
-/// Of every text that is read there are at most 64 blocks of at most 256 instructions, each with its unit written, and none in
+/// Of every text at most 64 blocks are read, each of at most 256 instructions, which have their units written, and none in
 /// flight behind the 2,048th cycle of its block.
 pub fn blocks_are_fine()
     ensures { (text : List ℕ) → BlocksAreFine text }
 {}
 
-/// Of every text that is read nothing is in flight where a block is over, no block has more than one branch, and each branch to a
-/// label goes to one of the blocks.
+/// No two blocks of a text have the same label, and each without one has an instruction.
+pub fn blocks_are_named()
+    ensures { (text : List ℕ) → BlocksAreNamed text }
+{}
+
+/// The instructions of each block stand in the order of their lines and of their cycles.
+pub fn blocks_are_in_order()
+    ensures { (text : List ℕ) → BlocksAreInOrder text }
+{}
+
+/// Where no instruction has a fault because of the lines below it, nothing is in flight where a block is over, no block has more
+/// than one branch, and each branch to a label goes to one of the blocks: of the text as it stands, and of that with the cycles
+/// added that lack.
 pub fn blocks_are_over()
-    ensures { (text : List ℕ) → BlocksAreOver text }
+    ensures { (drain : Bool) (cut : Cut) → BlocksAreOver drain cut }
+{}
+
+/// A text as it stands has nothing in flight exactly where it has nothing in flight once it is drained, and lacks no cycles.
+pub fn drained_texts_lack_none()
+    ensures { (cut : Cut) → LacksNoneWhereOver cut }
 {}

@@ -1,7 +1,8 @@
 //! Texts of packets, and where their instructions stand.
 
-use crate::{Draft, Issue, read_blocks};
+use crate::{Cut, Draft, Issue, TextFault, cycles_lacking, first_in_flight, read_cut};
 use c62_line::Label;
+use c62_read::MOST_BLOCKS;
 use std::alloc::{AllocError, Global};
 use std::test::Fail;
 
@@ -38,18 +39,37 @@ fn push_draft(out: &mut String, alloc: Global, draft: &Draft) -> Result<(), Fail
     Ok(())
 }
 
+fn push_drafts(out: &mut String, alloc: Global, drafts: &[Draft]) -> Result<(), Fail> {
+    for draft in drafts {
+        push_draft(out, alloc, draft)?;
+    }
+    Ok(())
+}
+
+/// The first fault of a text, as it stands or with the cycles added that lack.
+fn fault_of(cut: &Cut, drain: bool) -> Option<TextFault> {
+    match cut.fault {
+        Some(fault) => Some(fault),
+        None => first_in_flight(cut, drain),
+    }
+}
+
+/// Why a text is refused; nothing where it is read.
+fn refused(alloc: Global, cut: &Cut, drain: bool) -> Result<String, Fail> {
+    match fault_of(cut, drain) {
+        Some(fault) => Ok(format!(in alloc; "{fault}")?),
+        None => Ok(String::new(alloc)),
+    }
+}
+
 /// The blocks of a text, or why it is refused.
 fn told(alloc: Global, text: &[u8]) -> Result<String, Fail> {
-    match read_blocks(alloc, text) {
-        Ok(drafts) => {
-            let mut out = String::new(alloc);
-            for draft in drafts.iter() {
-                push_draft(&mut out, alloc, draft)?;
-            }
-            Ok(out)
-        }
-        Err(fault) => Ok(format!(in alloc; "{fault}")?),
+    let cut = read_cut(alloc, text)?;
+    let mut out = refused(alloc, &cut, false)?;
+    if out.is_empty() {
+        push_drafts(&mut out, alloc, &cut.drafts)?;
     }
+    Ok(out)
 }
 
 /// The first text of which something else is told.
@@ -270,10 +290,8 @@ fn told_of_long(alloc: Global, line: &str, times: u32, behind: &str) -> Result<S
         text.push_str(line)?;
     }
     text.push_str(behind)?;
-    match read_blocks(alloc, text.as_bytes()) {
-        Ok(_) => Ok(String::new(alloc)),
-        Err(fault) => Ok(format!(in alloc; "{fault}")?),
-    }
+    let cut = read_cut(alloc, text.as_bytes())?;
+    refused(alloc, &cut, false)
 }
 
 #[test]
@@ -281,6 +299,151 @@ fn limits_are_told(rt: HostRuntime) -> Result<(), Fail> {
     for (line, times, behind, want) in LONG.iter() {
         let told = told_of_long(rt.alloc(), line, *times, behind)?;
         assert!(rt; told.as_str() == *want, "{line} {times} {behind} {told}");
+    }
+    Ok(())
+}
+
+/// Texts with a faulty line, the blocks of the lines above it, and their cycles and the fault.
+const FAULTY: [(&str, &str); 11] = [
+    ("FOO\n", "0 line 1: UnknownMnemonic"),
+    ("FOO\nBAR\n ADD A1,A2,A3\n", "0 line 1: UnknownMnemonic"),
+    (
+        "MVK .S1 1,A1\n NOP 2\nL: MVK .S1 2,A1\n|| MVK .S2 2,B1\n FOO\nM: MVK .S1 3,A1\n NOP 9\n",
+        "@0 1:0\nL@3 3:0 4:0\n4 line 5: UnknownMnemonic",
+    ),
+    // Nothing of the line itself is left: neither its label, nor what it says, nor its cycles.
+    (
+        "MVK .S1 1,A1\nL: FOO\n",
+        "@0 1:0\n1 line 2: UnknownMnemonic",
+    ),
+    (
+        "L: MVK .S1 1,A1\nL: NOP 9\n",
+        "L@0 1:0\n1 line 2: DuplicateLabel",
+    ),
+    (
+        "MVK .S1 1,A1\nL:\n|| MVK .S2 1,B1\n",
+        "@0 1:0\nL@1\n1 line 3: ParallelBar",
+    ),
+    ("NOP 4\n ADD A1,A2,A3\n NOP 4\n", "4 line 2: UnitWanted"),
+    // An empty block stays, and one that is over.
+    ("L:\n NOP 3\n FOO\n", "L@0\n3 line 3: UnknownMnemonic"),
+    (
+        "L: B .S2 L\n NOP 5\n MVK .S1 1,A1\n FOO\n",
+        "L@0 1:0>L\n@6 3:0\n7 line 4: UnknownMnemonic",
+    ),
+    // What is in flight there, and a branch to a label below.
+    (
+        "LDW .D1T1 *A4,A5\n FOO\n NOP 4\n",
+        "@0 1:0\n1 line 2: UnknownMnemonic",
+    ),
+    (
+        "B .S2 M\n NOP 5\n FOO\nM:\n",
+        "@0 1:0>M\n6 line 3: UnknownMnemonic",
+    ),
+];
+
+/// The blocks of a text above its first faulty line, and their cycles and the fault.
+fn told_above(alloc: Global, text: &[u8]) -> Result<String, Fail> {
+    let cut = read_cut(alloc, text)?;
+    let mut out = String::new(alloc);
+    push_drafts(&mut out, alloc, &cut.drafts)?;
+    if let Some(fault) = cut.fault {
+        let cycles = cut.cycles;
+        out.push_str(format!(in alloc; "{cycles} {fault}")?.as_str())?;
+    }
+    Ok(out)
+}
+
+#[test]
+fn blocks_above_a_fault_are_told(rt: HostRuntime) -> Result<(), Fail> {
+    for (text, want) in FAULTY.iter() {
+        let told = told_above(rt.alloc(), text.as_bytes())?;
+        assert!(rt; told.as_str() == *want, "{text} {told}");
+    }
+    Ok(())
+}
+
+/// Texts, how many cycles they lack, and why they are refused with these added; nothing where they are not.
+const DRAINED: [(&str, u64, &str); 22] = [
+    ("", 0, ""),
+    // Before the text's end, and before a label.
+    ("LDW .D1T1 *A4,A5\n", 4, ""),
+    ("LDW .D1T1 *A4,A5\n NOP 3\n", 1, ""),
+    ("LDW .D1T1 *A4,A5\nL: MVK .S1 1,A1\n", 4, ""),
+    (
+        "MVK .S1 1,A1\n|| LDW .D1T1 *A4,A5\n NOP\nL:\n NOP 9\n",
+        3,
+        "",
+    ),
+    ("MPY .M1 A1,A1,A2\n", 1, ""),
+    ("LDW .D1T1 *A4,A5\n|| NOP 4\n", 1, ""),
+    // What lands last counts, wherever it stands.
+    ("LDW .D1T1 *A4,A5\n NOP 3\n MPY .M1 A1,A1,A2\n", 1, ""),
+    ("LDW .D1T1 *A4,A5\n MPY .M1 A1,A1,A2\n NOP 2\n", 1, ""),
+    (
+        "LDW .D1T1 *A4,A5\n MPY .M1 A1,A1,A2\n MVK .S1 1,A1\n",
+        2,
+        "",
+    ),
+    // Each block its own.
+    (
+        "LDW .D1T1 *A4,A5\nL: MPY .M1 A1,A1,A2\nM: LDW .D1T1 *A4,A5\n NOP\n",
+        8,
+        "",
+    ),
+    (
+        "MVK .S1 1,A1\nL: MPY .M1 A1,A1,A2\n NOP\nM: LDW .D1T1 *A4,A5\n",
+        4,
+        "",
+    ),
+    // One with a branch gets none.
+    (
+        "L: B .S2 L\n NOP\n LDW .D1T1 *A4,A5\n NOP 9\n",
+        0,
+        "line 3: NotDrained",
+    ),
+    (
+        "LDW .D1T1 *A4,A5\n RET .S2 B3\n NOP 4\n",
+        0,
+        "line 2: NotDrained",
+    ),
+    ("B .S2 L\n NOP 4\nL:\n NOP\n", 0, "line 1: NotDrained"),
+    (
+        "L: B .S2 L\n NOP 4\n LDW .D1T1 *A4,A5\nM: LDW .D1T1 *A4,A5\n",
+        4,
+        "line 3: NotDrained",
+    ),
+    // Behind the delay slots of a branch there may be one that does.
+    ("L: B .S2 L\n NOP 5\n LDW .D1T1 *A4,A5\n", 4, ""),
+    // Nothing lacks.
+    (
+        "LDW .D1T1 *A4,A5\n NOP 4\nL: MPY .M1 A5,A5,A6\n NOP\n",
+        0,
+        "",
+    ),
+    ("LDW .D1T1 *A4,A5\n NOP 9\n", 0, ""),
+    ("L:\n NOP 3\nM:\n", 0, ""),
+    // Other faults stay.
+    (
+        "LDW .D1T1 *A4,A5\n|| B .S2 Q\n NOP 5\n",
+        0,
+        "line 2: UnknownTarget",
+    ),
+    (
+        "LDW .D1T1 *A4,A5\nL: B .S2 L\n B .S2 L\n NOP 9\n",
+        4,
+        "line 2: TwoBranches",
+    ),
+];
+
+#[test]
+fn lacking_cycles_are_added(rt: HostRuntime) -> Result<(), Fail> {
+    for (text, lacking, want) in DRAINED.iter() {
+        let cut = read_cut(rt.alloc(), text.as_bytes())?;
+        assert!(rt; cut.drafts.len() <= MOST_BLOCKS);
+        let told = refused(rt.alloc(), &cut, true)?;
+        assert!(rt; told.as_str() == *want, "{text} {told}");
+        assert_eq!(rt; cycles_lacking(&cut), *lacking);
     }
     Ok(())
 }

@@ -1,6 +1,6 @@
 //! The blocks of a text of packets.
 
-ghost use Rattle.std.specs.Prelude.{◌≡◌, ◌⊎◌, ◌≤◌, ◌<◌, ◌^◌, ◌+◌, not, ◌&&◌, ◌||◌, ◌∷◌, [], ℕ, List, length, map, is_some, nat_lt, Ok, Err, Some, None, MatchResult, IfSome};
+ghost use Rattle.std.specs.Prelude.{◌≡◌, ◌⊎◌, ◌≤◌, ◌<◌, ◌^◌, ◌+◌, not, ◌&&◌, ◌||◌, ◌∷◌, [], ℕ, List, length, map, is_some, nat_lt, Ok, Err, Some, None, IfOk, IfSome, option_map};
 ghost use Rattle.std.specs.List.{list_any};
 ghost use Rattle.std.specs.Option.{option_to_list};
 ghost use Rattle.c62_line.specs.Line.{said_of, parts_of};
@@ -16,14 +16,13 @@ ghost use Rattle.c62_adopt_cut.specs.Drafted.{draft_of, drafts_of};
 use crate::clock::{Clock, Stand};
 use crate::draft::{Draft, Drafts};
 use crate::fault::{TextCause, TextFault};
-use crate::flight::first_in_flight;
 use c62_adopt_line::{LineFault, Written, read_line};
 use c62_insn::Insn;
 use c62_line::{Cause, Label, What};
 use c62_packet::MOST_CYCLES;
 use c62_read::{MOST_BLOCKS, MOST_INSTRUCTIONS, without_return};
 use memchr::memchr;
-use std::alloc::Global;
+use std::alloc::{AllocError, Global};
 
 /// The most bytes that a text of packets may have.
 pub const MOST_BYTES: usize = 8_388_608;
@@ -35,10 +34,21 @@ pub(crate) struct Reader {
     pub drafts: Drafts,
 }
 
-ghost use Rattle.c62_adopt_cut.specs.Text.{is_taken, end_of, ends_behind, is_too_late, begins_block, is_full, is_one_more, begins_one_more, hindrance, line_judged, reading_of};
-ghost use Rattle.c62_adopt_cut.specs.Added.{AddsWritten, RefusesWritten, AddsLine, RefusesLine, ReadsLines, Fails, IsToldOf, no_memory};
+/// What is read of a text of packets: its blocks as far as its first line with a fault, and that fault.
+#[derive(Drop)]
+pub struct Cut {
+    /// The blocks of the lines above the fault, or of the whole text.
+    pub drafts: Vec<Draft>,
+    /// How many cycles those lines take.
+    pub cycles: u32,
+    /// The first fault that a line has by itself or because of the lines above it.
+    pub fault: Option<TextFault>,
+}
+
+ghost use Rattle.c62_adopt_cut.specs.Text.{is_taken, end_of, ends_behind, is_too_late, begins_block, is_full, is_one_more, begins_one_more, hindrance, line_judged, cut_at, read_below, text_cut};
+ghost use Rattle.c62_adopt_cut.specs.Added.{TellsCause, TellsOfWritten, TellsOfLine};
 ghost use Rattle.c62_adopt_cut.specs.Blocks.{no_drafts, all_drafts};
-ghost use Rattle.c62_adopt_cut.specs.Flight.{ReadsReading, ReadsBlocks};
+ghost use Rattle.c62_adopt_cut.specs.Drafted.{refusal_of, cut_of};
 
 fn label_is(label: &[u8], other: &Option<Label>) -> bool
     ensures { result ≡ label_is label.now other.now }
@@ -94,7 +104,8 @@ impl Drafts {
 /// The cycle before which all lands that an instruction writes which is issued in this cycle. A branch takes effect in it.
 pub(crate) fn end_of(insn: Insn, cycle: u64) -> u64
     requires { cycle < 2 ^ 40 }
-    ensures { result ≡ end_of (parts_of insn) cycle }
+    ensures end { result ≡ end_of (parts_of insn) cycle }
+    ensures near { result ≤ cycle + 256 }
 {
     if insn.op().is_branch() {
         cycle + 6
@@ -169,6 +180,29 @@ impl Reader {
     }
 }
 
+impl Drafts {
+    /// The blocks, of which the last is over.
+    fn ended(self) -> Result<Vec<Draft>, AllocError>
+        ensures { IfOk result (λ drafts. map draft_of drafts.items ≡ all_drafts (drafts_of self)) }
+    {
+        let mut drafts = self.done;
+        if let Some(draft) = self.current {
+            drafts.push(draft)?;
+        }
+        Ok(drafts)
+    }
+}
+
+/// The fault of a line, where it doesn't say that memory ran out.
+fn cause_of(fault: LineFault) -> Result<TextCause, AllocError>
+    ensures { TellsCause fault result }
+{
+    match fault {
+        LineFault::Memory => Err(AllocError),
+        LineFault::Read(_) | LineFault::UnitWanted => Ok(TextCause::Line(fault)),
+    }
+}
+
 impl Reader {
     fn new(alloc: Global) -> Reader
         ensures clock { IsClockOf result.clock [] }
@@ -180,40 +214,57 @@ impl Reader {
         }
     }
 
-    /// Adds a line of this number that says something by itself.
-    fn add_written(&mut self, alloc: Global, number: u32, line: Written) -> Result<(), TextCause>
+    /// Adds a line of this number that says something by itself. One with a fault is not added, and the fault is answered.
+    fn add_written(
+        &mut self,
+        alloc: Global,
+        number: u32,
+        line: Written,
+    ) -> Result<Option<TextCause>, AllocError>
         requires small { self.old.clock.now < 2 ^ 31 }
         requires clock { HasClock self.old.clock }
         ensures { (above : List Line) → IsClockOf self.old.clock above
-            → MatchResult result (λ _. AddsWritten above number (line_written line) self.old self.new) (λ cause. RefusesWritten above (line_written line) self.old cause) }
+            → IfOk result (TellsOfWritten above number (line_written line) self.old self.new) }
     {
         let mut clock = self.clock;
         let stand = clock.pass(&line);
         if let Some(cause) = self.hindrance(stand, &line) {
-            return Err(cause);
+            return Ok(Some(cause));
         }
         self.drafts.add(alloc, number, stand, line)?;
         self.clock = clock;
-        Ok(())
+        Ok(None)
     }
 
-    /// Adds a line of this number, or answers its fault.
+    /// Adds a line of this number. One with a fault is not added, and the fault is answered.
     fn add_line(
         &mut self,
         alloc: Global,
         text: &mut Vec<u8>,
         number: u32,
         bytes: &[u8],
-    ) -> Result<(), TextCause>
+    ) -> Result<Option<TextCause>, AllocError>
         requires small { self.old.clock.now < 2 ^ 31 }
         requires clock { HasClock self.old.clock }
         ensures { (above : List Line) → IsClockOf self.old.clock above
-            → MatchResult result (λ _. AddsLine above number bytes.now self.old self.new) (λ cause. RefusesLine above bytes.now self.old cause) }
+            → IfOk result (TellsOfLine above number bytes.now self.old self.new) }
     {
         match read_line(text, bytes) {
             Ok(line) => self.add_written(alloc, number, line),
-            Err(fault) => Err(TextCause::Line(fault)),
+            Err(fault) => cause_of(fault).map(Some),
         }
+    }
+
+    /// What was read, as far as this fault.
+    fn cut(self, fault: Option<TextFault>) -> Result<Cut, AllocError>
+        ensures { (above : List Line) → IsClockOf self.clock above
+            → IfOk result (λ cut. cut_of cut ≡ cut_at above (drafts_of self.drafts) (option_map refusal_of fault)) }
+    {
+        Ok(Cut {
+            cycles: self.clock.cycles(),
+            drafts: self.drafts.ended()?,
+            fault,
+        })
     }
 }
 
@@ -231,79 +282,41 @@ fn first_line(text: &[u8]) -> Option<(&[u8], &[u8])>
     }
 }
 
-/// What is told of a line with this fault. That memory ran out is told of none.
-fn told_of(line: u32, cause: TextCause) -> TextFault
-    ensures { IsToldOf line cause result }
-{
-    match cause {
-        TextCause::Line(LineFault::Memory) => TextFault::at(0, cause),
-        _ => TextFault::at(line, cause),
-    }
-}
-
-/// The lines of a text that is not too long.
-fn read_lines(alloc: Global, text: &[u8]) -> Result<Reader, TextFault>
+/// What is read of a text that is not too long.
+fn read_lines(alloc: Global, text: &[u8]) -> Result<Cut, AllocError>
     requires { length text.now ≤ MOST_BYTES }
-    ensures { ReadsLines text.now result }
+    ensures { IfOk result (λ cut. cut_of cut ≡ read_below [] no_drafts 1 (lines_of text.now)) }
 {
     let mut reader = Reader::new(alloc);
     let mut plain = Vec::new(alloc);
     let mut rest = text;
     let mut number = 1;
     while let Some((line, after)) = first_line(rest) {
-        if let Err(cause) = reader.add_line(alloc, &mut plain, number, line) {
-            return Err(told_of(number, cause));
+        if let Some(cause) = reader.add_line(alloc, &mut plain, number, line)? {
+            return reader.cut(Some(TextFault::at(number, cause)));
         }
         number += 1;
         rest = after;
     }
-    Ok(reader)
+    reader.cut(None)
 }
 
-impl Drafts {
-    /// The blocks, of which the last is over.
-    fn ended(self) -> Result<Vec<Draft>, TextCause>
-        ensures { MatchResult result (λ drafts. map draft_of drafts.items ≡ all_drafts (drafts_of self)) (λ cause. cause ≡ no_memory) }
-    {
-        let mut drafts = self.done;
-        if let Some(draft) = self.current {
-            drafts.push(draft)?;
-        }
-        Ok(drafts)
-    }
-}
-
-/// The blocks of what was read.
-fn blocks_of(reader: Reader) -> Result<Vec<Draft>, TextFault>
-    ensures { (lines : List Line) → IsClockOf reader.clock lines → ReadsReading (reading_of lines (drafts_of reader.drafts)) result }
-{
-    let end = reader.clock.cycles();
-    let drafts = match reader.drafts.ended() {
-        Ok(drafts) => drafts,
-        Err(cause) => return Err(TextFault::at(0, cause)),
-    };
-    match first_in_flight(&drafts, end) {
-        Some(fault) => Err(fault),
-        None => Ok(drafts),
-    }
-}
-
-/// The blocks of a text of packets, each with its label and its instructions where they stand (docs/ADOPT.md, "Blocks"). Each
-/// branch to a label goes to one of the blocks.
+/// What is read of a text of packets: its blocks, each with its label and its instructions where they stand (docs/ADOPT.md,
+/// "Blocks"), as far as its first line with a fault by itself or below the lines above it, and that fault. The line has none of
+/// the blocks' instructions, labels and cycles.
+///
+/// A text with more than [`MOST_BYTES`] bytes has the fault `TextTooLong` with line 0, and no blocks.
 ///
 /// # Errors
 ///
-/// `TextTooLong` with line 0 where the text has more than [`MOST_BYTES`] bytes. Else the first line that has a fault by itself
-/// or below the lines above it. Else the first line that has one because of the lines below it: `UnknownTarget`, `TwoBranches` or
-/// `NotDrained` (docs/ADOPT.md, "Faults of a text"). `Memory`, with line 0, may come in place of any answer.
-#[tactic(auto, unfolding(crate::specs::Text::text_read, crate::specs::Flight::blocks_in))]
-pub fn read_blocks(alloc: Global, text: &[u8]) -> Result<Vec<Draft>, TextFault>
-    ensures { ReadsBlocks text.now result }
+/// Where memory runs out.
+#[tactic(auto, unfolding(crate::specs::Text::text_cut))]
+pub fn read_cut(alloc: Global, text: &[u8]) -> Result<Cut, AllocError>
+    ensures { IfOk result (λ cut. cut_of cut ≡ text_cut text.now) }
 {
     if text.len() > MOST_BYTES {
         let cause = TextCause::Line(LineFault::Read(Cause::TextTooLong));
-        return Err(TextFault::at(0, cause));
+        return Reader::new(alloc).cut(Some(TextFault::at(0, cause)));
     }
-    let reader = read_lines(alloc, text)?;
-    blocks_of(reader)
+    read_lines(alloc, text)
 }

@@ -16,6 +16,15 @@ front_is_label (name ∷ colon ∷ words) label is = grind (arith, nat_tests)
 front_is_label (name ∷ []) label is = absurd cc
 front_is_label [] label is = absurd cc
 
+some_label : (words : List Word) (found : Option Word) → (label_front words).0 ≡ found → IfSome found (λ label. IsTrue (is_label label))
+some_label words None is = tt
+some_label words (Some label) is = front_is_label words label is
+
+-- the label in a label field, where there is one
+pub field_has_label : (line : List ℕ) → IfSome (label_field line) (λ label. IsTrue (is_label label))
+unfolding label_field
+field_has_label line = some_label (tokens line) (label_front (tokens line)).0 refl
+
 pub field_is_label : (line : List ℕ) (found : Option (Bor (List ℕ))) → option_copied found ≡ label_field line
     → IfSome found (λ word. IsTrue (is_label word.now))
 unfolding label_field

@@ -2,69 +2,128 @@
 use Rattle.c62_adopt_line.proofs.Common.{◌≡◌, ℕ, true, false, Bool, cond, not, ◌&&◌, List, [], ◌∷◌, Option, Some, None, refl, arith, nat_tests, cases_Bool, inl, inr, Word}
 use Rattle.std.proofs.Common.{Ok, Err, Result, length, ltb, subst}
 use Rattle.std.specs.List.{list_all}
-use Rattle.std.specs.Prelude.{is_none, is_some}
+use Rattle.std.specs.Prelude.{is_none, is_some, IfSome, IsTrue}
+use Rattle.c62_op.specs.declared.register.Cond.{Cond as Condition}
+use Rattle.c62_token.specs.Kind.{kinds_of}
+use Rattle.c62_token.specs.Number.{is_label}
 use Rattle.c62_token.specs.Token.{begins, is_allowed, tokens}
+use Rattle.c62_token.specs.declared.kind.Kind.{Kind}
 use Rattle.c62_line.specs.declared.fault.Cause.{Cause}
-use Rattle.c62_line.specs.Line.{Says, Nothing, Pause, Does, Jumps, is_star, label_field}
+use Rattle.c62_line.specs.Line.{Says, Nothing, Pause, Does, Jumps, behind_unit, instruction_of, is_star, jumps_or_does, label_alone, label_field, pause_of, rest_says, target_of}
 use Rattle.c62_line.specs.Unit.{is_dot}
-use Rattle.c62_line.specs.declared.fault.Cause.TheVariants.{Directive, NotAscii, LineTooLong}
+use Rattle.c62_line.specs.declared.fault.Cause.TheVariants.{BadLabel, Directive, NotAscii, LineTooLong}
 use Rattle.c62_adopt_line.specs.declared.fault.LineFault.{LineFault}
 use Rattle.c62_adopt_line.specs.declared.fault.LineFault.TheVariants.{Read}
 use Rattle.c62_adopt_line.specs.Directive.{lays_nothing}
-use Rattle.c62_adopt_line.specs.Plain.{undotted}
-use Rattle.c62_adopt_line.specs.Line.{Line, behind_bars, behind_colon, instruction_says, lacks_unit, line_said, line_says}
+use Rattle.c62_adopt_line.specs.Plain.{plain_words, undotted}
+use Rattle.c62_adopt_line.specs.Line.{Line, behind_bars, behind_colon, has_colon, instruction_says, lacks_unit, line_said, line_says}
 use Rattle.c62_adopt_line.specs.Line.{statement_says, with_bars, with_front, with_label, with_unit, words_say}
-use Rattle.c62_adopt_line.specs.Laws.{HasUnit, IsWhole}
+use Rattle.c62_adopt_line.specs.Laws.{HasTarget, HasUnit, IsWhole}
+use Rattle.c62_adopt_line.proofs.Labels.{field_has_label}
 
 some_unit : {X : Type 0} (unit : Option X) → is_none unit ≡ false → is_some unit ≡ true
 some_unit None none = absurd cc
 some_unit (Some unit) none = refl
 
-unit_written : (says : Says) → lacks_unit says ≡ false → HasUnit says
-unit_written Nothing unit = tt
-unit_written (Pause n) unit = tt
-unit_written (Does parts) unit = some_unit parts.unit unit
-unit_written (Jumps parts label) unit = some_unit parts.unit unit
+-- ---- what a branch goes to
 
-with_unit_whole : (read : Result Says Cause) (says : Says) → with_unit read ≡ Ok says → lacks_unit says ≡ false
-with_unit_whole (Err cause) says is = absurd cc
-with_unit_whole (Ok read) says is = grind (arith, nat_tests)
+abbrev has_target : Says → Bool
+has_target (Jumps parts label) = is_label label
+has_target _ = true
 
-instruction_whole : (bytes : List ℕ) (says : Says) → instruction_says bytes ≡ Ok says → lacks_unit says ≡ false
+abbrev OkTarget : Result Says Cause → Type 0
+OkTarget (Ok says) = has_target says ≡ true
+OkTarget (Err cause) = Unit {0}
+
+alone_is_label : (words : List Word) (label : Word) → label_alone words ≡ Some label → is_label label ≡ true
+alone_is_label [] label is = absurd cc
+alone_is_label (word ∷ []) label is = grind (arith, nat_tests)
+alone_is_label (word ∷ other ∷ words) label is = absurd cc
+
+target_is_label : (mnemonic : _) (words : List Word) (label : Word) → target_of mnemonic words ≡ Some label → is_label label ≡ true
+target_is_label mnemonic words label is = grind (arith, nat_tests, alone_is_label)
+
+aimed_target : (aim : Option Word) (mnemonic : _) (condition : Option Condition) (written : _) (words : List Word)
+    → ((label : Word) → aim ≡ Some label → is_label label ≡ true) → OkTarget (jumps_or_does aim mnemonic condition written words)
+aimed_target (Some label) mnemonic condition written words aims = let named = aims label refl in grind arith
+aimed_target None mnemonic condition written words aims = grind arith
+
+pause_target : (condition : Option Condition) (kinds : List Kind) → OkTarget (pause_of condition kinds)
+unfolding pause_of
+pause_target condition kinds = grind arith
+
+unit_target : (mnemonic : _) (condition : Option Condition) (written : _) (words : List Word) → OkTarget (behind_unit mnemonic condition written words)
+unfolding behind_unit
+unit_target mnemonic condition written words =
+    let aimed = aimed_target (target_of mnemonic words) mnemonic condition written words (target_is_label mnemonic words) in
+    let paused = pause_target condition (kinds_of words) in
+    grind arith
+
+rest_target : (words : List Word) (says : Says) → rest_says words ≡ Ok says → has_target says ≡ true
+unfolding rest_says instruction_of
+rest_target words says is = grind (arith, unit_target)
+
+-- ---- a statement
+
+abbrev is_whole : Says → Bool
+is_whole says = not (lacks_unit says) && has_target says
+
+whole_said : (says : Says) → is_whole says ≡ true → HasUnit says × HasTarget says
+whole_said Nothing whole = (tt, tt)
+whole_said (Pause n) whole = (tt, tt)
+whole_said (Does parts) whole = (some_unit parts.unit (grind (arith, nat_tests)), tt)
+whole_said (Jumps parts label) whole = (some_unit parts.unit (grind (arith, nat_tests)), grind (arith, nat_tests))
+
+unit_whole : (read : Result Says Cause) (says : Says) → ((other : Says) → read ≡ Ok other → has_target other ≡ true)
+    → with_unit read ≡ Ok says → is_whole says ≡ true
+unit_whole (Err cause) says target is = absurd cc
+unit_whole (Ok read) says target is = let aims = target read refl in grind (arith, nat_tests)
+
+no_fault : (fault : LineFault) (says : Says) → Err fault ≡ Ok says → ⊥
+no_fault fault says is = cc
+
+instruction_whole : (bytes : List ℕ) (says : Says) → instruction_says bytes ≡ Ok says → is_whole says ≡ true
 unfolding instruction_says
-instruction_whole bytes says is = grind (arith, nat_tests, with_unit_whole)
+instruction_whole bytes says is =
+    let words = plain_words [] (tokens (undotted false bytes)) in
+    elim (cases_Bool (has_colon bytes)) [
+      | inl colon ↦ absurd (no_fault (Read BadLabel) says (rw colon at is))
+      | inr none ↦ unit_whole (rest_says words) says (rest_target words) (rw none at is)
+    ]
 
 directive_whole : (beside lays : Bool) (says : Says) → cond (not beside && lays) (Ok Nothing) (Err (Read Directive)) ≡ Ok says
-    → lacks_unit says ≡ false
+    → is_whole says ≡ true
 directive_whole beside lays says is = grind (arith, nat_tests)
 
-words_whole : (beside : Bool) (bytes : List ℕ) (words : List Word) (says : Says) → words_say beside bytes words ≡ Ok says → lacks_unit says ≡ false
+words_whole : (beside : Bool) (bytes : List ℕ) (words : List Word) (says : Says) → words_say beside bytes words ≡ Ok says → is_whole says ≡ true
 words_whole beside bytes [] says is = grind (arith, nat_tests)
 words_whole beside bytes (word ∷ words) says is = elim (cases_Bool (begins is_dot word)) [
   | inl dot ↦ directive_whole beside (lays_nothing (word ∷ words)) says (rw dot at is)
   | inr plain ↦ instruction_whole bytes says (rw plain at is)
 ]
 
-statement_whole : (beside : Bool) (bytes : List ℕ) (says : Says) → statement_says beside bytes ≡ Ok says → lacks_unit says ≡ false
+statement_whole : (beside : Bool) (bytes : List ℕ) (says : Says) → statement_says beside bytes ≡ Ok says → is_whole says ≡ true
 unfolding statement_says
 statement_whole beside bytes says is = words_whole beside bytes (tokens bytes) says is
 
 front_whole : (beside : Bool) (label : Option Word) (read : Result Says LineFault) (line : Line) → (beside ≡ true → label ≡ None)
-    → ((says : Says) → read ≡ Ok says → lacks_unit says ≡ false) → with_front beside label read ≡ Ok line → IsWhole line
-front_whole beside label (Err fault) line alone whole is = absurd cc
-front_whole beside label (Ok says) line alone whole is =
+    → IfSome label (λ word. IsTrue (is_label word))
+    → ((says : Says) → read ≡ Ok says → is_whole says ≡ true) → with_front beside label read ≡ Ok line → IsWhole line
+front_whole beside label (Err fault) line alone labelled whole is = absurd cc
+front_whole beside label (Ok says) line alone labelled whole is =
     let same : line_said beside label says ≡ line = grind arith in
-    subst IsWhole same (record { unit = unit_written says (whole says refl); beside = alone })
+    let both = whole_said says (whole says refl) in
+    subst IsWhole same (record { unit = both.0; target = both.1; label = labelled; beside = alone })
 
-label_whole : (bytes : List ℕ) (label : Option Word) (line : Line) → with_label bytes label ≡ Ok line → IsWhole line
-label_whole bytes (Some label) line is =
-    front_whole false (Some label) (statement_says false (behind_colon bytes)) line (λ beside. absurd cc)
+label_whole : (bytes : List ℕ) (label : Option Word) (line : Line) → IfSome label (λ word. IsTrue (is_label word)) → with_label bytes label ≡ Ok line → IsWhole line
+label_whole bytes (Some label) line labelled is =
+    front_whole false (Some label) (statement_says false (behind_colon bytes)) line (λ beside. absurd cc) labelled
     (statement_whole false (behind_colon bytes)) is
-label_whole bytes None line is = front_whole false None (statement_says false bytes) line (λ beside. refl) (statement_whole false bytes) is
+label_whole bytes None line labelled is = front_whole false None (statement_says false bytes) line (λ beside. refl) tt (statement_whole false bytes) is
 
 bars_whole : (bytes : List ℕ) (behind : Option (List ℕ)) (line : Line) → with_bars bytes behind ≡ Ok line → IsWhole line
-bars_whole bytes (Some rest) line is = front_whole true None (statement_says true rest) line (λ beside. refl) (statement_whole true rest) is
-bars_whole bytes None line is = label_whole bytes (label_field (undotted true bytes)) line is
+bars_whole bytes (Some rest) line is = front_whole true None (statement_says true rest) line (λ beside. refl) tt (statement_whole true rest) is
+bars_whole bytes None line is = label_whole bytes (label_field (undotted true bytes)) line (field_has_label (undotted true bytes)) is
 
 steps_whole : (allowed long star : Bool) (rest : Result Line LineFault) (line : Line) → ((other : Line) → rest ≡ Ok other → IsWhole other)
     → cond (not allowed) (Err (Read NotAscii)) (cond long (Err (Read LineTooLong)) (cond star (Ok (line_said false None Nothing)) rest)) ≡ Ok line
@@ -73,7 +132,7 @@ steps_whole false long star rest line whole is = absurd cc
 steps_whole true true star rest line whole is = absurd cc
 steps_whole true false true rest line whole is =
     let same : line_said false None Nothing ≡ line = grind arith in
-    subst IsWhole same (record { unit = tt; beside = λ beside. refl })
+    subst IsWhole same (record { unit = tt; target = tt; label = tt; beside = λ beside. refl })
 steps_whole true false false rest line whole is = whole line is
 
 pub line_whole : (bytes : List ℕ) (line : Line) → line_says bytes ≡ Ok line → IsWhole line

@@ -1,5 +1,5 @@
 -- Laws of lines of packets (docs/ADOPT.md).
-use Rattle.std.specs.Prelude.{◌≡◌, ℕ, ◌≤◌, Bool, true, false, not, ◌==◌, ◌&&◌, ◌||◌, if◌then◌else◌, List, [], ◌∷◌, ◌++◌, length, codes, decimal, Some, None, is_some, Ok, IsTrue}
+use Rattle.std.specs.Prelude.{◌≡◌, ℕ, ◌≤◌, Bool, true, false, not, ◌==◌, ◌&&◌, ◌||◌, if◌then◌else◌, List, [], ◌∷◌, ◌++◌, length, codes, decimal, Some, None, is_some, IfSome, Ok, IsTrue}
 use Rattle.std.specs.List.{list_any}
 use Rattle.c62_op.specs.declared.register.Unit.{Unit as FunctionalUnit}
 use Rattle.c62_op.specs.Takes.{takes}
@@ -20,9 +20,16 @@ HasUnit (Does parts) = is_some parts.unit ≡ true
 HasUnit (Jumps parts label) = is_some parts.unit ≡ true
 HasUnit _ = Unit {0}
 
--- so does that of a line, and a line with bars has no label
+-- a branch to a label goes to one that may be written
+abbrev pub HasTarget : Says → Type 0
+HasTarget (Jumps parts label) = IsTrue (is_label label)
+HasTarget _ = Unit {0}
+
+-- so it is of a line's instruction, the line's label may be written, too, and a line with bars has none
 pub record IsWhole (line : Line) : Type 0 where
   pub unit : HasUnit line.says
+  pub target : HasTarget line.says
+  pub label : IfSome line.label (λ label. IsTrue (is_label label))
   pub beside : line.beside ≡ true → line.label ≡ None
 
 -- so it is of every line that says something

@@ -5,7 +5,8 @@ ghost use Rattle.c62_op.specs.declared.register.Unit.{Unit as FunctionalUnit};
 ghost use Rattle.c62_insn.specs.declared.insn.Insn.{Insn};
 ghost use Rattle.c62_adopt_line.specs.Laws.{SaysWhole, IsPlain, ReadsAsSerial, InstructionReads, PauseReads, LabelReads, EmptyReads};
 
-/// An instruction that is read has its unit written, and a line with bars has no label.
+/// An instruction that is read has its unit written, a line's label and that to which a branch goes are labels, and a line with
+/// bars has none.
 pub fn lines_are_whole()
     ensures { (bytes : List ℕ) → SaysWhole bytes }
 {}

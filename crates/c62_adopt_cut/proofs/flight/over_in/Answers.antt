@@ -12,6 +12,5 @@ returns-in-Some c =
     rw c.deref.ensures.value at (rw c.in-Some.is at c.first_branch.ensures) in
     let over = over_at c.args.next c.args.draft.now c.in-Some.branch.now found in
     let behind = c.cycle_behind.ensures.cycle in
-    let next = c.from-next.ensures in
     let least = c.min.ensures in
     cc

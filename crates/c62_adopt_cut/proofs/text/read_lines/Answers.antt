@@ -1,29 +1,27 @@
-use Rattle.std.proofs.Common.{inl, inr}
+use Rattle.std.proofs.Common.{subst, sym}
+use Rattle.c62_adopt_cut.specs.declared.text.Reader.{Reader}
+use Rattle.c62_adopt_cut.specs.Clock.{IsClockOf}
 use Rattle.c62_adopt_cut.proofs.ReadLemmas.{all_read, one_more, refused_at}
 use Rattle.c62_adopt_cut.proofs.text.read_lines.Goals as goal
 
-pub returns-in-Err : goal.returns-in-Err
-returns-in-Err c =
+pub returns-in-Some-2 : goal.returns-in-Some-2
+returns-in-Some-2 c =
     let far = c.loop-line.invariant in
-    let said = rw c.in-Err.is at (c.add_line.ensures far.above far.clock) in
-    elim c.told_of.ensures [
-      | inl memory ↦ inl memory.1
-      | inr told ↦ elim said [
-        | inl memory ↦ absurd (told.0 memory)
-        | inr judged ↦
-            rw told.1 (inr (refused_at c.loop-line.reader c.loop-line.number c.in-Some.line.now c.loop-line.rest.now c.in-Some.after.now c.args.text.now
-            c.in-Err.cause far c.in-Some.ensures.found judged))
-      ]
-    ]
+    let refuses = rw c.in-Some-2.is at (c.in_ok-cause.ensures far.above far.clock) in
+    let clock = subst (λ (reader : Reader). IsClockOf reader.clock far.above) (sym refuses.same) far.clock in
+    let told = refused_at c.loop-line.reader c.add_line.new.self c.loop-line.number c.in-Some.line.now c.loop-line.rest.now c.in-Some.after.now
+    c.args.text.now c.in-Some-2.cause far c.in-Some.ensures.found refuses in
+    rw (← told) (rw c.at.ensures at (c.cut.ensures far.above clock))
 
 pub loop-line-preserved : goal.loop-line-preserved
 loop-line-preserved c =
     let far = c.loop-line.invariant in
-    let adds = rw c.in_default-add_line.is at (c.add_line.ensures far.above far.clock) in
+    let adds = rw c.in_default-2.is at (c.in_ok-cause.ensures far.above far.clock) in
     one_more c.loop-line.reader c.add_line.new.self c.loop-line.number c.in-Some.line.now c.loop-line.rest.now c.in-Some.after.now c.args.text.now far
     c.in-Some.ensures.found c.in-Some.ensures.shorter adds
 
 pub returns : goal.returns
 returns c =
     let far = c.loop-line.invariant in
-    (far.above, far.clock, all_read c.loop-line.reader c.loop-line.number c.loop-line.rest.now c.args.text.now far c.in_default.ensures.found)
+    let told = all_read c.loop-line.reader c.loop-line.number c.loop-line.rest.now c.args.text.now far c.in_default.ensures.found in
+    rw (← told) (c.cut-2.ensures far.above far.clock)
