@@ -8,7 +8,7 @@ ghost use Rattle.c62_command.specs.CommandLine.{ask_of, asked};
 use crate::answer::{answer, limit_of};
 use crate::failure::Failure;
 use crate::input::read_text;
-use crate::message::report;
+use crate::message::{report, tell_outcome};
 use crate::outcome::Outcome;
 use c62_command::{Request, command_of};
 use std::convert::AsStr;
@@ -87,7 +87,10 @@ pub fn run_tool<H: AllocGlobal + Threads + Wait + Sync, S: AsStr, R: Read, W: Wr
         IsRun (map S.text words.now) old new result }
 {
     match run(rt, words, reader, output) {
-        Ok(outcome) => outcome.status(),
+        Ok(outcome) => {
+            tell_outcome(errors, outcome);
+            outcome.status()
+        }
         Err(failure) => {
             report(errors, &failure);
             failure.status()
