@@ -50,9 +50,10 @@ all_drained whole end (draft ∷ drafts) none =
     let next = next_start end drafts in
     let parts = behind_of (faulty_in false whole next draft) (faulty_among false whole end drafts) none in
     let lacks = lacks_none whole next draft parts.0 in
-    let behind = all_drained whole end drafts parts.1 in
-    (none_behind (faulty_in true whole next draft) (faulty_among true whole end drafts) (same_drained whole next draft lacks ∙ parts.0) behind.0,
-    omega (arith, lacks, behind.1))
+    let behind = all_drained whole end drafts parts.1 in (
+      none_behind (faulty_in true whole next draft) (faulty_among true whole end drafts) (same_drained whole next draft lacks ∙ parts.0) behind.0,
+      omega (arith, lacks, behind.1),
+    )
 
 all_over : (whole : List Draft) (end : ℕ) (drafts : List Draft) → faulty_among true whole end drafts ≡ None → all_lacking end drafts ≡ 0
     → faulty_among false whole end drafts ≡ None

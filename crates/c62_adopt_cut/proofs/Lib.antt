@@ -7,3 +7,4 @@ pub mod FineLemmas
 pub mod NameLemmas
 pub mod OverLemmas
 pub mod DrainLemmas
+pub mod OrderLemmas
