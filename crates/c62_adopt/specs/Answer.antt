@@ -1,5 +1,6 @@
 -- What a text of packets is adopted as, or why it is refused (docs/ADOPT.md).
-use Rattle.std.specs.Prelude.{◌≡◌, ℕ, Bool, List, All, AllPairs, Option, Some, None}
+use Rattle.std.specs.Prelude.{◌≡◌, ℕ, Bool, List, All, Option, Some, None}
+use Rattle.std.specs.List.{AllZip}
 use Rattle.c62_packet.specs.Packed.{Packed}
 use Rattle.c62_adopt_cut.specs.Text.{Cut, text_cut}
 use Rattle.c62_adopt_cut.specs.Drafted.{refusal_of}
@@ -13,7 +14,7 @@ use Rattle.c62_adopt.specs.Breach.{KeepsRules, IsFirstBreach}
 pub record IsAdoptedCut (drain : Bool) (cut : Cut) (packets : List Packed) : Type 0 where
   pub whole : cut.fault ≡ None
   pub over : first_in_flight drain cut ≡ None
-  pub blocks : AllPairs (IsBlockOf cut.drafts) cut.drafts packets
+  pub blocks : AllZip (IsBlockOf cut.drafts) cut.drafts packets
 
 -- A text's packets, and how many cycles were added to drain it. Where that isn't asked for, none lack.
 pub record IsAdopted (drain : Bool) (text : List ℕ) (packets : List Packed) (added : ℕ) : Type 0 where
