@@ -10,7 +10,7 @@ use Rattle.c62_adopt.specs.FaultText.{adopt_fault_text}
 use Rattle.c62_tool.specs.declared.failure.Failure.{Failure}
 use Rattle.c62_tool.specs.declared.failure.Failure.TheVariants as failure
 use Rattle.c62_tool.specs.declared.outcome.Outcome.{Outcome}
-use Rattle.c62_tool.specs.declared.outcome.Outcome.TheVariants.{Done, Drained, NotSame}
+use Rattle.c62_tool.specs.declared.outcome.Outcome.TheVariants.{Drained}
 
 -- ---- the lines
 
@@ -78,11 +78,9 @@ pub record TellsOf (IsText : List ℕ → Type 0) (old new : Option (List ℕ)) 
 -- Of a text that was drained it was told how many cycles were added. Else nothing was.
 abbrev pub TellsOutcome : Outcome → Option (List ℕ) → Option (List ℕ) → Type 0
 TellsOutcome (Drained added) old new = Tells old new (drained_message added)
-TellsOutcome Done old new = Keeps old new
-TellsOutcome NotSame old new = Keeps old new
+TellsOutcome _ old new = Keeps old new
 
 -- so it was told on a stream that held nothing
 abbrev pub IsToldOf : Outcome → List ℕ → Type 0
 IsToldOf (Drained added) errors = IsFront errors (drained_message added)
-IsToldOf Done errors = errors ≡ []
-IsToldOf NotSame errors = errors ≡ []
+IsToldOf _ errors = errors ≡ []

@@ -178,12 +178,12 @@ fn sim(alloc: Global, text: &[u8], start: &Start) -> Result<Reply, Failure>
     })
 }
 
-/// The listing of a text of packets, with the cycles added that lack in it, or of one that lacks none.
+/// The listing of a text of packets as people and compilers write them. Where it is drained, the cycles are added that lack.
 fn adopted(alloc: Global, text: &[u8], drain: bool) -> Result<Reply, Failure>
     ensures { Gives (Adoption drain) text.now result }
 {
     let adopted = adopt(alloc, text, drain)?;
-    // It tells that a text that stands without them lacks no cycles.
+    // It tells that no cycles lack where the text need not be drained.
     drained_texts_lack_none();
     Ok(Reply {
         text: listing_of(alloc, &adopted.packets)?,

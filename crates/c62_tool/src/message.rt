@@ -10,7 +10,7 @@ use std::fmt;
 use std::fmt::Write as _;
 use std::io::Write;
 
-/// How many bytes a line has at most that is told, and more.
+/// How many bytes a line that is told has at most, and more.
 const LONGEST: usize = 64;
 
 /// One line for each failure but clap's, whose text has lines of its own.
@@ -47,9 +47,9 @@ fn tell<E: Write>(errors: &mut E, text: &[u8])
     }
 }
 
-/// Writes what a value shows, where that is no longer than a line has at most.
+/// Tells what a value shows, where that is no longer than a line.
 fn tell_shown<E: Write, D: fmt::Display>(errors: &mut E, shown: &D)
-    ensures { IfSome (D.Display.output shown.now) (Tells (E.contents errors.old) (E.contents errors.new)) }
+    ensures { IfSome (D.output shown.now) (Tells (E.contents errors.old) (E.contents errors.new)) }
 {
     let mut text = ArrayString::<LONGEST>::new();
     if let Ok(()) = write!(text, "{shown}") {
@@ -79,8 +79,7 @@ fn tell_added<E: Write>(errors: &mut E, added: u64)
     }
 }
 
-/// Tells of a text that was drained how many cycles were added, and of others nothing. A failure of this stream changes nothing
-/// more.
+/// Tells of a text that was drained how many cycles were added, and else nothing. A failure of this stream changes nothing more.
 pub fn tell_outcome<E: Write>(errors: &mut E, outcome: Outcome)
     ensures { TellsOutcome outcome (E.contents errors.old) (E.contents errors.new) }
 {
