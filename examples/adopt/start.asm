@@ -20,8 +20,7 @@
 	nop	4
 	nop	9				; nothing comes here
 	nop
-.Lsamples:
-	nop	2
+.Lsamples: nop	2
 	mvk	.s1	1, a6
 	nop	3				; of no block
 .Lforever:
