@@ -6,7 +6,7 @@ use Rattle.c62_listing.specs.Listing.{listing}
 use Rattle.c62_listing_reader.specs.Laws.{AreShown}
 use Rattle.c62_adopt.specs.Answer.{IsAdopted}
 
--- what comes behind a block that stands alone needs a label
+-- some instruction of the block is a branch
 abbrev pub HasBranch : Packed → Type 0
 HasBranch block = 1 ≤ count_by is_branching block.placed
 
