@@ -197,7 +197,8 @@ fn all_lacking(drafts: &[Draft], end: u32) -> u64
     cycles
 }
 
-/// How many cycles are added to a text that is drained (docs/ADOPT.md, "Cycles that lack").
+/// How many cycles are added to a text that is drained, of at most [`MOST_BLOCKS`](c62_read::MOST_BLOCKS) blocks (docs/ADOPT.md,
+/// "Cycles that lack").
 pub fn cycles_lacking(cut: &Cut) -> u64
     requires few { length cut.now.drafts.items ≤ MOST_BLOCKS }
     ensures { result ≡ cycles_lacking (cut_of cut.now) }
