@@ -1,4 +1,4 @@
--- A text has one answer.
+-- A text is adopted in one way, and what is adopted is not refused.
 use Rattle.std.proofs.Common.{arith, ◌≡◌, ℕ, Bool, List, [], ◌∷◌, ◌++◌, refl, sym, ap, subst, ◌∙◌, append_assoc, Option, Some, None}
 use Rattle.std.specs.List.{AllZip}
 use Rattle.std.proofs.lemmas.Option.{none-some}
@@ -21,7 +21,7 @@ use Rattle.c62_adopt.specs.declared.fault.AdoptFault.TheVariants.{Text, Rule, Me
 use Rattle.c62_adopt.specs.Blocks.{IsBlockOf}
 use Rattle.c62_adopt.specs.Breach.{KeepsRules, IsBreachIn, IsFirstBreach}
 use Rattle.c62_adopt.specs.Answer.{IsAdopted, Refuses}
-use Rattle.c62_adopt.specs.Laws.{HasOneAnswer, HasOneAdoption, DrainsNothing}
+use Rattle.c62_adopt.specs.Laws.{HasOneAdoption, DrainsNothing}
 use Rattle.c62_adopt.proofs.Orders.{rules_same}
 use Rattle.c62_adopt.proofs.Breaches.{same_placed}
 use Rattle.c62_adopt.proofs.SortedLemmas.{same_listed}
@@ -54,7 +54,7 @@ same_blocks whole (draft ∷ drafts) (p ∷ packets) (q ∷ others) one other =
     let rest = same_blocks whole drafts packets others one.1 other.1 in
     cc
 
-one_adoption : (drain : Bool) (text : List ℕ) → HasOneAdoption drain text
+pub one_adoption : (drain : Bool) (text : List ℕ) → HasOneAdoption drain text
 one_adoption drain text packets others added more is also = (
   same_blocks (text_cut text).drafts (text_cut text).drafts packets others is.cut.blocks also.cut.blocks,
   is.lacking ∙ sym also.lacking,
@@ -65,12 +65,12 @@ one_adoption drain text packets others added more is also = (
 no_part : (others : Issues) → IsPart [] others
 no_part others = record { number = λ i. i; issued = λ i p at. absurd (none-some p at); apart = λ i j p q at. absurd (none-some p at) }
 
-front_part : (above below : List Placed) → IsPart (issued above) (issued (above ++ below))
+pub front_part : (above below : List Placed) → IsPart (issued above) (issued (above ++ below))
 front_part [] below = no_part (issued below)
 front_part (p ∷ above) below = part-cons (Some (issue_of p)) (issued above) (issued (above ++ below)) (front_part above below)
 
 -- a block in which a rule is broken keeps not all rules
-no_breach : (drafts : List Draft) (draft : Draft) (line : ℕ) (rule : PacketRule) → KeepsRules drafts draft → IsBreachIn drafts line rule draft → ⊥
+pub no_breach : (drafts : List Draft) (draft : Draft) (line : ℕ) (rule : PacketRule) → KeepsRules drafts draft → IsBreachIn drafts line rule draft → ⊥
 no_breach drafts draft line rule keeps breach =
     let whole : List Placed = breach.above ++ breach.next ∷ breach.below in
     let same : keeps.placed ≡ whole = same_placed drafts draft.issues keeps.placed whole keeps.stand breach.stand in
@@ -106,15 +106,12 @@ no_fault : (first behind : Option Refusal) (refusal : Refusal) → first ≡ Non
 no_fault None behind refusal none also is = none-some refusal (sym also ∙ is)
 no_fault (Some other) behind refusal none also is = none-some other (sym none)
 
-not_refused : (drain : Bool) (text : List ℕ) (packets : List Packed) (added : ℕ) (fault : AdoptFault) → IsAdopted drain text packets added
+pub not_refused : (drain : Bool) (text : List ℕ) (packets : List Packed) (added : ℕ) (fault : AdoptFault) → IsAdopted drain text packets added
     → Refuses drain text fault → fault ≡ Memory
 not_refused drain text packets added (Text fault) is refused =
     absurd (no_fault (text_cut text).fault (first_in_flight drain (text_cut text)) (refusal_of fault) is.cut.whole is.cut.over refused.1)
 not_refused drain text packets added (Rule line rule) is refused = absurd (no_first_breach (text_cut text).drafts packets line rule is.cut.blocks refused)
 not_refused drain text packets added Memory is refused = refl
-
-pub one_answer : (drain : Bool) (text : List ℕ) → HasOneAnswer drain text
-one_answer drain text = record { adoption = one_adoption drain text; refusal = not_refused drain text }
 
 -- ---- where nothing lacks
 

@@ -8,3 +8,4 @@ pub mod SoundLemmas
 pub mod SortedLemmas
 pub mod ReadBackLemmas
 pub mod AnswerLemmas
+pub mod RefusalLemmas

@@ -1,5 +1,5 @@
 -- Packets as they are written and their listings (docs/ADOPT.md, "What holds").
-use Rattle.std.specs.Prelude.{◌≡◌, ℕ, Bool, true, false, List}
+use Rattle.std.specs.Prelude.{◌≡◌, ◌⊎◌, ℕ, Bool, true, false, List}
 use Rattle.c62_packet.specs.Packed.{Packed}
 use Rattle.c62_packet.specs.Alike.{AreAlike}
 use Rattle.c62_listing.specs.Listing.{listing}
@@ -29,10 +29,16 @@ HasOneAdoption drain text =
     (packets others : List Packed) (added more : ℕ) → IsAdopted drain text packets added → IsAdopted drain text others more
     → (packets ≡ others) × (added ≡ more)
 
--- what is adopted is not refused but for memory, and nothing is refused in two ways
+-- and refused in one way, where memory does not run out
+abbrev pub HasOneRefusal : Bool → List ℕ → Type 0
+HasOneRefusal drain text =
+    (fault other : AdoptFault) → Refuses drain text fault → Refuses drain text other → (fault ≡ other) ⊎ ((fault ≡ Memory) ⊎ (other ≡ Memory))
+
+-- what is adopted is not refused but for memory, and nothing is adopted or refused in two ways
 pub record HasOneAnswer (drain : Bool) (text : List ℕ) : Type 0 where
   pub adoption : HasOneAdoption drain text
   pub refusal : (packets : List Packed) (added : ℕ) (fault : AdoptFault) → IsAdopted drain text packets added → Refuses drain text fault → fault ≡ Memory
+  pub one_refusal : HasOneRefusal drain text
 
 -- where a text is adopted as it stands, it is drained without a cycle more
 abbrev pub DrainsNothing : List ℕ → List Packed → Type 0

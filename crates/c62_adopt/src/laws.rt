@@ -9,7 +9,7 @@ pub fn what_is_adopted_is_read_back()
     ensures { (drain : Bool) (text : List ℕ) → AdoptsListings drain text }
 {}
 
-/// A text is adopted in one way, and what is adopted is refused for memory alone.
+/// A text has one answer: it is adopted in one way, or refused in one way. Only memory that ran out may come in its place.
 pub fn texts_have_one_answer()
     ensures { (drain : Bool) (text : List ℕ) → HasOneAnswer drain text }
 {}

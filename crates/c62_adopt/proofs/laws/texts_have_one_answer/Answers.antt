@@ -1,4 +1,4 @@
-use Rattle.c62_adopt.proofs.AnswerLemmas.{one_answer}
+use Rattle.c62_adopt.proofs.RefusalLemmas.{one_answer}
 use Rattle.c62_adopt.proofs.laws.texts_have_one_answer.Goals as goal
 
 pub returns : goal.returns
