@@ -1,12 +1,11 @@
 -- What answers a text, from what each step gave.
-use Rattle.std.proofs.Common.{◌≡◌, ◌∙◌, ℕ, Bool, true, false, List, Err, refl, subst, inl, inr}
+use Rattle.std.proofs.Common.{◌≡◌, ℕ, Bool, true, false, List, Err, refl, subst, inl, inr}
 use Rattle.c62_read.specs.Block.{Serial}
 use Rattle.c62_packet.specs.Packed.{Packed}
 use Rattle.c62_listing.specs.Listing.{listing}
-use Rattle.c62_adopt_cut.specs.Text.{text_cut}
-use Rattle.c62_adopt_cut.specs.Laws.{LacksNoneWhereOver}
 use Rattle.c62_adopt.specs.declared.fault.AdoptFault.{AdoptFault}
 use Rattle.c62_adopt.specs.Answer.{IsAdopted, Refuses}
+use Rattle.c62_adopt.specs.Laws.{DrainsNothing}
 use Rattle.c62_command.specs.declared.setting.Setting.{Setting}
 use Rattle.c62_command.specs.declared.command.Packing.{Packing}
 use Rattle.c62_tool.specs.declared.failure.Failure.{Failure}
@@ -63,9 +62,8 @@ no_adoption drain text fault f (inl memory) refused = rw (memory.1) tt
 no_adoption drain text fault f (inr known) refused = rw (known.1) (record { fault = fault; known = known.0; refused = refused; told = refl })
 
 -- where it does, this is
-pub adopted_text : (drain : Bool) (text answer : List ℕ) (packets : List Packed) (added : ℕ) → LacksNoneWhereOver (text_cut text)
+pub adopted_text : (drain : Bool) (text answer : List ℕ) (packets : List Packed) (added : ℕ) → DrainsNothing text packets
     → IsAdopted drain text packets added → answer ≡ listing packets → IsAnswer (Adoption drain) (outcome_adopted drain added) text answer
 adopted_text true text answer packets added lacks is listed = record { packets = packets; adopted = is; listed = listed }
 adopted_text false text answer packets added lacks is listed =
-    let none : added ≡ 0 = is.lacking ∙ (lacks.0 is.cut.over).1 in
-    record { packets = packets; adopted = subst (IsAdopted false text packets) none is; listed = listed }
+    record { packets = packets; adopted = subst (IsAdopted false text packets) (lacks added is).0 is; listed = listed }

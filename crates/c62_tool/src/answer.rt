@@ -15,7 +15,7 @@ use crate::parting;
 use crate::run::{packet_run, serial_run};
 use crate::schedule::{packets_by_turns, packets_by_workers, shown_by_turns, shown_by_workers};
 use c62_adopt::adopt;
-use c62_adopt_cut::laws::drained_texts_lack_none;
+use c62_adopt::laws::texts_that_stand_lack_nothing;
 use c62_command::{Packing, Request, Start};
 use c62_listing::list;
 use c62_listing_reader::read_listing;
@@ -183,8 +183,8 @@ fn adopted(alloc: Global, text: &[u8], drain: bool) -> Result<Reply, Failure>
     ensures { Gives (Adoption drain) text.now result }
 {
     let adopted = adopt(alloc, text, drain)?;
-    // It tells that no cycles lack where the text need not be drained.
-    drained_texts_lack_none();
+    // It tells that no cycle is added where the text isn't drained.
+    texts_that_stand_lack_nothing();
     Ok(Reply {
         text: listing_of(alloc, &adopted.packets)?,
         outcome: Outcome::of_adoption(drain, adopted.added),

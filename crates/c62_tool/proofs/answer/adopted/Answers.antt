@@ -1,5 +1,4 @@
 use Rattle.std.proofs.lemmas.Result.{err_from_is_err_and}
-use Rattle.c62_adopt_cut.specs.Text.{text_cut}
 use Rattle.c62_tool.proofs.Answering.{adopted_text, no_adoption}
 use Rattle.c62_tool.proofs.answer.adopted.Goals as goal
 
@@ -12,4 +11,4 @@ pub returns : goal.returns
 returns c =
     let adopted = c.in_ok-adopted.adopted in
     rw c.of_adoption.ensures (adopted_text c.args.drain c.args.text.now c.in_ok-listing_of.field-0.items adopted.packets adopted.added
-    (c.drained_texts_lack_none.ensures (text_cut c.args.text.now)) c.in_ok-adopted.ensures.adopted c.in_ok-listing_of.ensures)
+    (c.texts_that_stand_lack_nothing.ensures c.args.text.now adopted.packets) c.in_ok-adopted.ensures.adopted c.in_ok-listing_of.ensures)
