@@ -117,6 +117,30 @@ def dot():
     return start, end, 1 + n // 2 + 1
 
 
+def dot_pipelined():
+    x = [5, -6, 32767, -32768, -12345, 20000, -7, 30001, -1, 255, 16384, -28672]
+    y = [-5, -32768, 32767, -32768, 23456, -20001, 9, -30002, 7, -256, 3, 32767]
+    n = len(x)
+    start = State(A1=n, A4=0x1C00, A6=1, B4=0x1C80, B6=1).halves(0x1C00, x).halves(0x1C80, y)
+    products = [a * b for a, b in zip(x, y)]
+    end = start.then(
+        A1=0,
+        A4=0x1C00 + 2 * n,
+        A5=pack(x[-3], x[-4]),
+        A6=sum(products),
+        A7=products[-4],
+        A8=pack(x[-1], x[-2]),
+        A9=products[-2],
+        B4=0x1C80 + 2 * n,
+        B5=pack(y[-3], y[-4]),
+        B6=sum(products[1::2]),
+        B7=products[-3],
+        B8=pack(y[-1], y[-2]),
+        B9=products[-1],
+    )
+    return start, end, 1 + (n // 4 - 1) + 1
+
+
 def fir():
     h = [-3277, 9830, 16384, 9831, -3276]
     x = [0, 0, 1, 0, 0, 0, 2, 1, 32767, -32768, 15, -20000, -1, -30000, -29999, 30001]
@@ -609,6 +633,7 @@ def noise():
 KERNELS = [
     first,
     dot,
+    dot_pipelined,
     fir,
     biquad,
     complex,

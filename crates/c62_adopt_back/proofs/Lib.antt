@@ -1,0 +1,16 @@
+pub mod Common
+pub mod Leading
+pub mod Cuts
+pub mod Said
+pub mod Blocks
+pub mod Issues
+pub mod Pauses
+pub mod Cycles
+pub mod Starts
+pub mod Walk
+pub mod Over
+pub mod Targets
+pub mod Alike
+pub mod Adopted
+pub mod Good
+pub mod Listed

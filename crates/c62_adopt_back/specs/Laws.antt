@@ -1,12 +1,12 @@
 -- A listing is adopted as itself (docs/ADOPT.md, "What holds").
-use Rattle.std.specs.Prelude.{◌≡◌, ℕ, ◌≤◌, Bool, List, [], ◌∷◌, None, count_by}
+use Rattle.std.specs.Prelude.{◌≡◌, ◌≤◌, Bool, List, [], ◌∷◌, None, count_by}
 use Rattle.c62_packet.specs.Packed.{Packed, is_branching}
 use Rattle.c62_packet.specs.Alike.{AreAlike}
 use Rattle.c62_listing.specs.Listing.{listing}
 use Rattle.c62_listing_reader.specs.Laws.{AreShown}
 use Rattle.c62_adopt.specs.Answer.{IsAdopted}
 
--- what comes behind a block that stands alone needs a label
+-- some instruction of the block is a branch
 abbrev pub HasBranch : Packed → Type 0
 HasBranch block = 1 ≤ count_by is_branching block.placed
 

@@ -1,11 +1,12 @@
 -- A text lacks no cycles exactly where nothing is in flight as it stands.
-use Rattle.std.proofs.Common.{◌≡◌, ◌≤◌, ◌+◌, ◌∙◌, ap, sym, refl, true, false, ℕ, List, ◌∷◌, [], Option, Some, None, arith, inl, inr}
+use Rattle.std.proofs.Common.{◌≡◌, ◌≤◌, ◌<◌, ◌+◌, ◌-◌, ◌∙◌, ap, sym, refl, true, false, ℕ, List, ◌∷◌, [], Option, Some, None, arith, inl, inr}
 use Rattle.std.specs.List.{AllByRecursion, find, list_any}
 use Rattle.std.proofs.lemmas.Bool.{cases_Bool}
+use Rattle.std.proofs.lemmas.Bool.Decides.{nat_tests}
 use Rattle.c62_adopt_cut.specs.Blocks.{Issue, Draft}
 use Rattle.c62_adopt_cut.specs.Text.{Cut, Refusal, end_of}
 use Rattle.c62_adopt_cut.specs.Flight.{all_lacking, branches, faulty_among, faulty_in, first_faulty, lacking, landed, next_drained, next_start, or_behind, over_in}
-use Rattle.c62_adopt_cut.specs.Laws.{LacksNoneWhereOver}
+use Rattle.c62_adopt_cut.specs.Laws.{IsJustDrained, LacksNoneWhereOver}
 use Rattle.c62_adopt_cut.proofs.OverLemmas.{behind_of, block_over}
 
 -- ---- a block
@@ -69,3 +70,35 @@ all_over whole end (draft ∷ drafts) none lacks =
 pub lacks_none_where_over : (cut : Cut) → LacksNoneWhereOver cut
 lacks_none_where_over cut =
     (all_drained cut.drafts cut.cycles cut.drafts, λ both. all_over cut.drafts cut.cycles cut.drafts both.0 both.1)
+
+-- ---- enough cycles, and no fewer
+
+found_none : (issues : List Issue) → list_any branches issues ≡ false → find branches issues ≡ None
+found_none [] none = refl
+found_none (issue ∷ issues) none =
+    let here : branches issue ≡ false = grind (arith, nat_tests) in
+    rw here (found_none issues (grind (arith, nat_tests)))
+
+landed_in_time : (start last : ℕ) (issues : List Issue) → landed start issues ≤ last
+    → AllByRecursion (λ issue. end_of issue.parts (start + issue.cycle) ≤ last) issues
+landed_in_time start last [] landed_first = tt
+landed_in_time start last (issue ∷ issues) landed_first =
+    (omega (arith, landed_first), landed_in_time start last issues (omega (arith, landed_first)))
+
+alone_over : (next : ℕ) (draft : Draft) → list_any branches draft.issues ≡ false → over_in next draft ≡ next
+alone_over next draft none = rw (found_none draft.issues none) refl
+
+alone_lacks : (next : ℕ) (draft : Draft) → list_any branches draft.issues ≡ false → landed draft.start draft.issues ≤ next + lacking next draft
+alone_lacks next draft none = rw none (omega arith)
+
+few_lack : (next fewer : ℕ) (draft : Draft) → fewer < lacking next draft → landed draft.start draft.issues ≤ next + fewer → ⊥
+few_lack next fewer draft less landed_first = elim (cases_Bool (list_any branches draft.issues)) [
+  | inl branch ↦ let none : fewer < 0 = rw branch at less in omega (arith, none)
+  | inr alone ↦ let most : fewer < landed draft.start draft.issues - next = rw alone at less in omega (arith, most, landed_first)
+]
+
+pub is_just_drained : (next : ℕ) (draft : Draft) → IsJustDrained next draft
+is_just_drained next draft = record {
+  enough = λ alone. rw (alone_over (next_drained true next draft) draft alone) (landed_in_time draft.start (next + lacking next draft) draft.issues (alone_lacks next draft alone));
+  least = λ fewer less all. few_lack next fewer draft less (landed_before draft.start (next + fewer) draft.issues all);
+}

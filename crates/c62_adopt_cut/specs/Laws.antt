@@ -1,6 +1,6 @@
 -- What holds of what is read of every text (docs/ADOPT.md, "Limits", "Names", "Faults of a text" and "Cycles that lack").
 use Rattle.std.specs.Prelude.{◌≡◌, ◌↔◌, ℕ, ◌+◌, ◌<◌, ◌≤◌, Bool, true, false, List, [], ◌∷◌, length, map, count_by, None, is_some, IsTrue}
-use Rattle.std.specs.List.{AllByRecursion, IsDistinct, flat_map}
+use Rattle.std.specs.List.{AllByRecursion, IsDistinct, flat_map, list_any}
 use Rattle.std.specs.List.Sorted.{IsNonDecreasingBy}
 use Rattle.std.specs.Option.{option_to_list}
 use Rattle.std.specs.Str.{bytes_eq}
@@ -10,7 +10,7 @@ use Rattle.c62_read.specs.declared.limits.TheConstants.{MOST_BLOCKS, MOST_INSTRU
 use Rattle.c62_packet.specs.declared.limits.TheConstants.{MOST_CYCLES}
 use Rattle.c62_adopt_cut.specs.Blocks.{Issue, Draft}
 use Rattle.c62_adopt_cut.specs.Text.{Cut, end_of, text_cut}
-use Rattle.c62_adopt_cut.specs.Flight.{branches, is_lost, next_start, next_drained, over_in, first_in_flight, cycles_lacking}
+use Rattle.c62_adopt_cut.specs.Flight.{branches, is_lost, lacking, next_start, next_drained, over_in, first_in_flight, cycles_lacking}
 
 -- ---- limits
 
@@ -81,3 +81,12 @@ BlocksAreOver drain cut = first_in_flight drain cut ≡ None → CutIsOver drain
 -- nothing is in flight as the text stands exactly where nothing is in flight once it is drained, and no cycles lack for that
 abbrev pub LacksNoneWhereOver : Cut → Type 0
 LacksNoneWhereOver cut = (first_in_flight false cut ≡ None) ↔ ((first_in_flight true cut ≡ None) × (cycles_lacking cut ≡ 0))
+
+-- ---- the cycles that lack are enough, and no fewer are
+
+-- With the cycles added that lack, all has landed before a block without a branch is over; with fewer, something is in flight.
+pub record IsJustDrained (next : ℕ) (draft : Draft) : Type 0 where
+  pub enough : list_any branches draft.issues ≡ false
+      → AllByRecursion (λ issue. end_of issue.parts (draft.start + issue.cycle) ≤ over_in (next_drained true next draft) draft) draft.issues
+  pub least : (fewer : ℕ) → fewer < lacking next draft
+      → AllByRecursion (λ issue. end_of issue.parts (draft.start + issue.cycle) ≤ next + fewer) draft.issues → ⊥

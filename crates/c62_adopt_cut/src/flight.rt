@@ -1,10 +1,11 @@
 //! What is in flight where a block is over, and the cycles that lack until it has landed.
 
-ghost use Rattle.std.specs.Prelude.{◌≡◌, ◌<◌, ◌≤◌, ◌^◌, ◌+◌, length, map, option_map};
+ghost use Rattle.std.specs.Prelude.{◌≡◌, ◌<◌, ◌≤◌, ◌^◌, ◌+◌, length, map, nat_lt, option_map};
 ghost use Rattle.std.specs.List.{find, list_any};
 ghost use Rattle.std.specs.Option.{option_copied};
 ghost use Rattle.c62_read.specs.Program.{label_is};
 ghost use Rattle.c62_read.specs.declared.limits.TheConstants.{MOST_BLOCKS};
+ghost use Rattle.c62_adopt_cut.specs.Text.{end_of};
 ghost use Rattle.c62_adopt_cut.specs.Drafted.{issue_of, draft_of, refusal_of, cut_of};
 ghost use Rattle.c62_adopt_cut.specs.Flight.{branches, over_in, landed, lacking, next_drained, is_lost, issue_fault, first_faulty, next_start, faulty_in, faulty_among, first_in_flight, all_lacking, cycles_lacking};
 
@@ -99,6 +100,13 @@ fn is_lost(drafts: &[Draft], target: &Option<Label>) -> bool
     }
 }
 
+/// Whether something of an instruction is in flight in this cycle, whose block begins in that one.
+fn is_in_flight(over: u64, start: u32, issue: &Issue) -> bool
+    ensures { result ≡ nat_lt over (end_of (issue_of issue.now).parts (start + issue.now.cycle)) }
+{
+    over < end_of(issue.insn, cycle_behind(start, issue))
+}
+
 /// What stands against an instruction of a block that begins and is over in these cycles, before others of the block.
 #[tactic(auto, using(crate::proofs::DraftLemmas::any_issue))]
 fn issue_fault(
@@ -114,7 +122,7 @@ fn issue_fault(
         Some(TextCause::Line(LineFault::Read(Cause::UnknownTarget)))
     } else if branches(issue) && any_branches(others) {
         Some(TextCause::TwoBranches)
-    } else if over < end_of(issue.insn, cycle_behind(start, issue)) {
+    } else if is_in_flight(over, start, issue) {
         Some(TextCause::NotDrained)
     } else {
         None
@@ -189,7 +197,8 @@ fn all_lacking(drafts: &[Draft], end: u32) -> u64
     cycles
 }
 
-/// How many cycles are added to a text that is drained (docs/ADOPT.md, "Cycles that lack").
+/// How many cycles are added to a text that is drained, of at most [`MOST_BLOCKS`](c62_read::MOST_BLOCKS) blocks (docs/ADOPT.md,
+/// "Cycles that lack").
 pub fn cycles_lacking(cut: &Cut) -> u64
     requires few { length cut.now.drafts.items ≤ MOST_BLOCKS }
     ensures { result ≡ cycles_lacking (cut_of cut.now) }

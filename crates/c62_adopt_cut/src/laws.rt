@@ -2,7 +2,8 @@
 
 ghost use Rattle.std.specs.Prelude.{ℕ, Bool, List};
 ghost use Rattle.c62_adopt_cut.specs.Text.{Cut};
-ghost use Rattle.c62_adopt_cut.specs.Laws.{BlocksAreFine, BlocksAreNamed, BlocksAreInOrder, BlocksAreOver, LacksNoneWhereOver};
+ghost use Rattle.c62_adopt_cut.specs.Blocks.{Draft};
+ghost use Rattle.c62_adopt_cut.specs.Laws.{BlocksAreFine, BlocksAreNamed, BlocksAreInOrder, BlocksAreOver, LacksNoneWhereOver, IsJustDrained};
 
 /// Of every text at most 64 blocks are read, each of at most 256 instructions, which have their units written, and none in
 /// flight behind the 2,048th cycle of its block.
@@ -10,7 +11,7 @@ pub fn blocks_are_fine()
     ensures { (text : List ℕ) → BlocksAreFine text }
 {}
 
-/// No two blocks of a text have the same label, and each without one has an instruction.
+/// The labels of the blocks that are read are labels, and no two are the same; each block without one has an instruction.
 pub fn blocks_are_named()
     ensures { (text : List ℕ) → BlocksAreNamed text }
 {}
@@ -30,4 +31,10 @@ pub fn blocks_are_over()
 /// A text as it stands has nothing in flight exactly where it has nothing in flight once it is drained, and lacks no cycles.
 pub fn drained_texts_lack_none()
     ensures { (cut : Cut) → LacksNoneWhereOver cut }
+{}
+
+/// With the cycles added that a block without a branch lacks, all its instructions have landed before it is over, and with fewer
+/// they haven't.
+pub fn lacking_cycles_are_just_enough()
+    ensures { (next : ℕ) (draft : Draft) → IsJustDrained next draft }
 {}

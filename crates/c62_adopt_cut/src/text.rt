@@ -45,7 +45,7 @@ pub struct Cut {
     pub fault: Option<TextFault>,
 }
 
-ghost use Rattle.c62_adopt_cut.specs.Text.{is_taken, end_of, ends_behind, is_too_late, begins_block, is_full, is_one_more, begins_one_more, hindrance, line_judged, cut_at, read_below, text_cut};
+ghost use Rattle.c62_adopt_cut.specs.Text.{is_taken, end_of, ends_behind, is_too_late, begins_block, is_full, is_one_more, begins_one_more, hindrance, line_judged, cut_at, read_below, too_long, text_cut};
 ghost use Rattle.c62_adopt_cut.specs.Added.{TellsCause, TellsOfWritten, TellsOfLine};
 ghost use Rattle.c62_adopt_cut.specs.Blocks.{no_drafts, all_drafts};
 ghost use Rattle.c62_adopt_cut.specs.Drafted.{refusal_of, cut_of};
@@ -301,6 +301,14 @@ fn read_lines(alloc: Global, text: &[u8]) -> Result<Cut, AllocError>
     reader.cut(None)
 }
 
+/// What is read of a text that is too long.
+fn too_long(alloc: Global) -> Result<Cut, AllocError>
+    ensures { IfOk result (λ cut. cut_of cut ≡ too_long) }
+{
+    let cause = TextCause::Line(LineFault::Read(Cause::TextTooLong));
+    Reader::new(alloc).cut(Some(TextFault::at(0, cause)))
+}
+
 /// What is read of a text of packets: its blocks, each with its label and its instructions where they stand (docs/ADOPT.md,
 /// "Blocks"), as far as its first line with a fault by itself or below the lines above it, and that fault. Nothing of that line
 /// is among the blocks.
@@ -315,8 +323,8 @@ pub fn read_cut(alloc: Global, text: &[u8]) -> Result<Cut, AllocError>
     ensures { IfOk result (λ cut. cut_of cut ≡ text_cut text.now) }
 {
     if text.len() > MOST_BYTES {
-        let cause = TextCause::Line(LineFault::Read(Cause::TextTooLong));
-        return Reader::new(alloc).cut(Some(TextFault::at(0, cause)));
+        too_long(alloc)
+    } else {
+        read_lines(alloc, text)
     }
-    read_lines(alloc, text)
 }

@@ -32,7 +32,7 @@ no_settings rows k bad = ap settings_of bad.whole ∙ none_of bad.before bad.tex
 
 nothing_in : (found : Option (Text × List Row)) (k : ℕ) → HasFirstBad found k → ask_in found ≡ None
 nothing_in None k e = absurd e
-nothing_in (Some (name, rows)) k e = rw (e.0.0, e.0.1, e.0.2, no_settings rows k e.1) refl
+nothing_in (Some (name, rows)) k e = rw (e.0.0, e.0.1, e.0.2, e.0.3, no_settings rows k e.1) refl
 
 pub asked-bad : (words : List Text) (k : ℕ) → HasBadSetting words k → asked words ≡ None
 unfolding asked

@@ -129,7 +129,7 @@ blocks_checked = (
         ((λ e. ((λ count. absurd cc), λ values none. values_pass false (parser.Signed (pos 1) (pos 1000000)) values none)), ((λ e. absurd cc), ((λ e. absurd cc), tt))),
         (
           ((λ e. ((λ count. absurd cc), λ values none. values_pass false (parser.Signed (pos 1) (pos 1000000)) values none)), ((λ e. absurd cc), ((λ e. absurd cc), tt))),
-          (((λ e. absurd cc), tt), (((λ e. absurd cc), tt), tt)),
+          (((λ e. absurd cc), ((λ e. absurd cc), tt)), (((λ e. absurd cc), tt), (((λ e. absurd cc), tt), tt))),
         ),
       ),
     ),
@@ -145,7 +145,7 @@ eject_checked = (
       ((λ e. absurd cc), ((λ e. ((λ count. absurd cc), λ values none. values_pass false (parser.Signed (pos 0) (pos 1000)) values none)), ((λ e. absurd cc), ((λ e. absurd cc), ((λ e. absurd cc), tt))))),
       (
         ((λ e. absurd cc), ((λ e. absurd cc), ((λ e. absurd cc), tt))),
-        (((λ e. absurd cc), ((λ e. absurd cc), ((λ e. absurd cc), tt))), (((λ e. absurd cc), tt), (((λ e. absurd cc), tt), tt))),
+        (((λ e. absurd cc), ((λ e. absurd cc), ((λ e. absurd cc), tt))), (((λ e. absurd cc), ((λ e. absurd cc), tt)), (((λ e. absurd cc), tt), (((λ e. absurd cc), tt), tt)))),
       ),
     ),
   ),

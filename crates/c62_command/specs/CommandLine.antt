@@ -19,7 +19,7 @@ use Rattle.c62_command.specs.declared.command.Packing.{Packing}
 use Rattle.c62_command.specs.declared.command.CommandError.{CommandError}
 use Rattle.c62_command.specs.declared.command.CommandError.TheVariants as refused
 use Rattle.c62_command.specs.declared.command.Request.{Request}
-use Rattle.c62_command.specs.declared.command.Request.TheVariants.{Pack, Show, Run, Serial, Sim, Check}
+use Rattle.c62_command.specs.declared.command.Request.TheVariants.{Pack, Show, Run, Serial, Sim, Adopt, Check}
 use Rattle.c62_command.specs.Settings.{settings_of, IsFirstBad}
 
 -- ---- what clap takes
@@ -39,6 +39,10 @@ eject_rule = record (new_rule (codes "eject")) { long = Some (codes "eject"); va
 -- `--blocks N`, from 1 to 1,000,000
 abbrev pub blocks_rule : Rule
 blocks_rule = record (new_rule (codes "blocks")) { long = Some (codes "blocks"); value_names = 1; parser = Some (Signed (pos 1) (pos 1000000)) }
+
+-- `--drain`
+abbrev pub drain_rule : Rule
+drain_rule = record (new_rule (codes "drain")) { long = Some (codes "drain"); action = Some SetTrue }
 
 -- `[SETTING]..`
 abbrev pub settings_rule : Rule
@@ -70,6 +74,10 @@ serial_app = with_start (new_app (codes "serial"))
 abbrev pub sim_app : App
 sim_app = with_start (new_app (codes "sim"))
 
+-- `adopt [--drain]`
+abbrev pub adopt_app : App
+adopt_app = with_rule (new_app (codes "adopt")) drain_rule
+
 -- `check`
 abbrev pub check_app : App
 check_app = new_app (codes "check")
@@ -91,7 +99,7 @@ running_app = with_subcommand (with_subcommand packing_app serial_app.top) sim_a
 
 -- the whole command line: exactly one subcommand
 abbrev pub tool_app : App
-tool_app = with_subcommand running_app check_app.top
+tool_app = with_subcommand (with_subcommand running_app adopt_app.top) check_app.top
 
 -- ---- what was asked for
 
@@ -106,6 +114,8 @@ pub data Ask : Type 0 where
   PacketReport : Packing → (blocks : ℕ) → List Setting → Ask
   -- the report of such a run of the packets that a listing says
   ListingReport : (blocks : ℕ) → List Setting → Ask
+  -- the listing of a text of packets, with the cycles added that lack in it or without them
+  Adoption : (drain : Bool) → Ask
   -- what each block of a listing is, held against a text
   Verdicts : Ask
 
@@ -115,6 +125,7 @@ ask_of (Show packing) = Picture packing
 ask_of (Run packing start) = PacketReport packing start.blocks start.settings.items
 ask_of (Serial start) = SerialReport start.blocks start.settings.items
 ask_of (Sim start) = ListingReport start.blocks start.settings.items
+ask_of (Adopt drain) = Adoption drain
 ask_of Check = Verdicts
 
 -- a flag was set
@@ -176,8 +187,9 @@ ask_in None = Some (Listing plain_packing)
 ask_in (Some (name, rows)) =
     if bytes_eq name (codes "pack") then Some (Listing (packing_of rows))
     else (if bytes_eq name (codes "show") then Some (Picture (packing_of rows))
+    else (if bytes_eq name (codes "adopt") then Some (Adoption (is_set (codes "drain") rows))
     else (if bytes_eq name (codes "check") then Some Verdicts
-    else option_map (report_asked name rows) (settings_of (setting_words rows))))
+    else option_map (report_asked name rows) (settings_of (setting_words rows)))))
 
 abbrev pub unless_fault : Kinds → Option Ask → Option Ask
 unless_fault [] ask = ask
@@ -190,7 +202,9 @@ asked (word ∷ words) = unless_fault (fault_of tool_app (word ∷ words)) (ask_
 
 -- the subcommand of this name takes settings
 abbrev pub TakesSettings : Text → Type 0
-TakesSettings name = (bytes_eq name (codes "pack") ≡ false) × (bytes_eq name (codes "show") ≡ false) × (bytes_eq name (codes "check") ≡ false)
+TakesSettings name =
+    (bytes_eq name (codes "pack") ≡ false) × (bytes_eq name (codes "show") ≡ false) × (bytes_eq name (codes "adopt") ≡ false)
+    × (bytes_eq name (codes "check") ≡ false)
 
 -- setting k of the subcommand, from 1, is its first bad one
 abbrev pub HasFirstBad : Option (Text × List Row) → ℕ → Type 0

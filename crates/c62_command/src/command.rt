@@ -2,7 +2,7 @@
 
 ghost use Rattle.std.specs.Prelude.{◌≡◌, IfOk, IfErr, Some, false, map, []};
 ghost use Rattle.clap.specs.Words.{app_of, rule_of, subcommand_of, subcommand_rows_of, fault_of};
-ghost use Rattle.c62_command.specs.CommandLine.{turns_rule, eject_rule, blocks_rule, settings_rule, pack_app, show_app, run_app, serial_app, sim_app, check_app, bare_app, listing_app, packing_app, running_app, tool_app, with_packing, with_start, is_set, blocks_of, budget_of, packing_of, plain_packing, IsLocal, found_rows, words_of, named_rows, ask_in, ask_of, asked, IsBadIn, IsBlame, IsRefusal, IsWordsError, IsSettingError};
+ghost use Rattle.c62_command.specs.CommandLine.{turns_rule, eject_rule, blocks_rule, settings_rule, drain_rule, pack_app, show_app, run_app, serial_app, sim_app, adopt_app, check_app, bare_app, listing_app, packing_app, running_app, tool_app, with_packing, with_start, is_set, blocks_of, budget_of, packing_of, plain_packing, IsLocal, found_rows, words_of, named_rows, ask_in, ask_of, asked, IsBadIn, IsBlame, IsRefusal, IsWordsError, IsSettingError};
 ghost use Rattle.c62_command.specs.Settings.{AreSettings, IsBadAmong};
 
 use crate::setting::{Setting, SettingError, read_settings};
@@ -20,15 +20,16 @@ The text is read from standard input, and the answer is written to standard outp
 as in: c62 pack < kernel.s
 
 Status, and what standard error says:
-  0  done, and nothing is said
+  0  done, and nothing is said but how many cycles were added to drain packets
   1  the text is refused: `line 7: BadUnit` names its first faulty line and the fault;
      of a listing also `block 0: NotDrained`, or `block 0 cycle 3: P5` and the packet rule;
+     of packets to be adopted also `line 7: NotDrained`, or `line 7: P5` and the packet rule;
      of a check it is `text line 7: BadUnit` or `listing line 7: Shape`, each part counted from 1
   2  the words are refused, by a text like this one, or `setting 2: bad`
   3  no memory: `memory`
   4  a stream failed: `input` or `output`
   5  checked, and not each block is the same: the output tells, and nothing is said
-docs/SERIAL_TEXT.md, docs/LISTING.md and docs/CHECK.md tell what each fault is.";
+docs/SERIAL_TEXT.md, docs/LISTING.md, docs/ADOPT.md and docs/CHECK.md tell what each fault is.";
 
 /// How blocks are packed.
 #[derive(Clone, Copy, PartialEq, Eq, Debug)]
@@ -59,6 +60,8 @@ pub enum Request {
     Serial(Start),
     /// The report of a run of the packets of a listing.
     Sim(Start),
+    /// The listing of a text of packets as people and compilers write them. Where it is drained, the cycles are added that lack.
+    Adopt(bool),
     /// What each block of a listing is, held against a serial text.
     Check,
 }
@@ -133,6 +136,16 @@ fn blocks_option<'a>(alloc: Global) -> Arg<'a>
         .value_name("N")
         .value_parser(value_parser!(u32).range(1..=1_000_000))
         .help("Runs at most N blocks, 1 to 1000000; 1000 where none is given")
+}
+
+fn drain_flag<'a>(alloc: Global) -> Arg<'a>
+    ensures rule { rule_of result ≡ drain_rule }
+    ensures local { result.global ≡ false }
+{
+    Arg::new(alloc, "drain")
+        .long("drain")
+        .action(ArgAction::SetTrue)
+        .help("Adds the NOPs that lack before labels and at the end, and says how many cycles")
 }
 
 fn settings_words<'a>(alloc: Global) -> Arg<'a>
@@ -218,6 +231,17 @@ fn sim_command<'a>(alloc: Global) -> Result<Command<'a>, AllocError>
     with_start(alloc, command)
 }
 
+fn adopt_command<'a>(alloc: Global) -> Result<Command<'a>, AllocError>
+    ensures app { IfOk result (λ c. app_of c ≡ adopt_app) }
+    ensures local { IfOk result IsLocal }
+{
+    Command::new(alloc, "adopt")
+        .about("Reads packets as they are written for an assembler and writes their listing")
+        .override_usage("c62 adopt [--drain]")
+        .after_help(STREAMS_AND_STATUS)
+        .arg(drain_flag(alloc))
+}
+
 fn check_command<'a>(alloc: Global) -> Command<'a>
     ensures app { app_of result ≡ check_app }
     ensures local { IsLocal result }
@@ -274,7 +298,9 @@ fn running_command<'a>(alloc: Global) -> Result<Command<'a>, AllocError>
 fn tool_command<'a>(alloc: Global) -> Result<Command<'a>, AllocError>
     ensures { IfOk result (λ c. app_of c ≡ tool_app) }
 {
-    running_command(alloc)?.subcommand(check_command(alloc))
+    running_command(alloc)?
+        .subcommand(adopt_command(alloc)?)?
+        .subcommand(check_command(alloc))
 }
 
 /// What clap reads of the words.
@@ -359,6 +385,9 @@ fn request_named(alloc: Global, name: &str, found: &ArgMatches<'_>) -> Result<Re
     }
     if name == "show" {
         return Ok(Request::Show(packing_in(found)));
+    }
+    if name == "adopt" {
+        return Ok(Request::Adopt(is_set(found, "drain")));
     }
     if name == "check" {
         return Ok(Request::Check);

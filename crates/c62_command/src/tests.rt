@@ -6,7 +6,7 @@ use std::alloc::Global;
 use std::test::Fail;
 
 /// Words, and what they ask for or why they are refused.
-const ASKED: [(&[&str], &str); 17] = [
+const ASKED: [(&[&str], &str); 20] = [
     (&[], "pack by turns, 0 ejections"),
     (&["pack"], "pack by workers, 0 ejections"),
     (&["pack", "--turns"], "pack by turns, 0 ejections"),
@@ -36,6 +36,9 @@ const ASKED: [(&[&str], &str); 17] = [
         &["sim", "--blocks", "1", "@65532=1"],
         "sim; 1 blocks, @65532 = 1",
     ),
+    (&["adopt"], "adopt"),
+    (&["adopt", "--drain"], "adopt, drained"),
+    (&["adopt", "--turns"], "words"),
     (&["check"], "check"),
     (&["check", "A1=5"], "words"),
     (&["serial", "A1=5", "x"], "setting 2"),
@@ -80,6 +83,10 @@ fn request_text(alloc: Global, request: &Request) -> Result<String, Fail> {
         )?,
         Request::Serial(start) => format!(in alloc; "serial; {}", start_text(alloc, start)?)?,
         Request::Sim(start) => format!(in alloc; "sim; {}", start_text(alloc, start)?)?,
+        Request::Adopt(drain) => {
+            let way = if *drain { ", drained" } else { "" };
+            format!(in alloc; "adopt{way}")?
+        }
         Request::Check => format!(in alloc; "check")?,
     })
 }

@@ -30,7 +30,7 @@ unit_taking p written =
     not-false (takes (op_of p.insn) (operands_of p.insn) p.unit) (ap (no_unit (op_of p.insn) (operands_of p.insn)) (sym written) ∙ none)
 
 -- a branch goes to a block with a label
-record HasTarget (labels : List (Option Name)) (number : ℕ) : Type 0 where
+pub record HasTarget (labels : List (Option Name)) (number : ℕ) : Type 0 where
   pub label : Name
   pub at : slice_get labels number ≡ Some (Some label)
 
@@ -40,7 +40,7 @@ target_by labels number None at is = absurd (false≢true is)
 target_by labels number (Some None) at is = absurd (false≢true is)
 target_by labels number (Some (Some label)) at is = record { label = label; at = at }
 
-has_target : (labels : List (Option Name)) (operands : Operands) (number : ℕ) → target_stands labels operands ≡ true → operands ≡ Block number
+pub has_target : (labels : List (Option Name)) (operands : Operands) (number : ℕ) → target_stands labels operands ≡ true → operands ≡ Block number
     → HasTarget labels number
 has_target labels operands number stands is = target_by labels number (slice_get labels number) refl (ap (target_stands labels) (sym is) ∙ stands)
 
@@ -89,7 +89,7 @@ module _ (packets : List Packed) (shown : AreShown packets) where
     aimed = λ number is. aimed_so number (has_target labels (operands_of p.insn) number stands is);
   }
 
-  all_placed : (P : Placed → Type 0) → ((p : Placed) → unit_of p.insn ≡ Some p.unit → target_stands labels (operands_of p.insn) ≡ true → P p)
+  pub all_placed : (P : Placed → Type 0) → ((p : Placed) → unit_of p.insn ≡ Some p.unit → target_stands labels (operands_of p.insn) ≡ true → P p)
       → (placed : List Placed)
       → All (λ p. unit_of p.insn ≡ Some p.unit) placed → list_all (λ p. target_stands labels (operands_of p.insn)) placed ≡ true → All P placed
   all_placed P each [] written stand = All-nil P
@@ -101,7 +101,7 @@ module _ (packets : List Packed) (shown : AreShown packets) where
       (all_placed P each placed (All-tail (λ (q : Placed). unit_of q.insn ≡ Some q.unit) p placed written) parts.1)
 
   -- what is asked of one block
-  record IsFit (block : Packed) : Type 0 where
+  pub record IsFit (block : Packed) : Type 0 where
     pub is : IsPacketBlock block
     pub stand : list_all (λ p. target_stands labels (operands_of p.insn)) block.placed ≡ true
     pub label : (l : Name) → block.label ≡ Some l → is_label l ≡ true
@@ -112,7 +112,7 @@ module _ (packets : List Packed) (shown : AreShown packets) where
   label_by None more all = (λ l is. absurd (none-some l is), all)
   label_by (Some label) more all = (λ l is. grind (arith, all.0), all.1)
 
-  fit : (blocks : List Packed) → All IsPacketBlock blocks
+  pub fit : (blocks : List Packed) → All IsPacketBlock blocks
       → list_all (λ block. list_all (λ p. target_stands labels (operands_of p.insn)) block.placed) blocks ≡ true
       → AllByRecursion (λ l. IsTrue (is_label l)) (given (packet_labels blocks))
       → AllByRecursion (λ block. block.label ≡ None → 0 < length block.placed) blocks
@@ -125,7 +125,7 @@ module _ (packets : List Packed) (shown : AreShown packets) where
         fit blocks (All-tail IsPacketBlock block blocks are) parts.1 both.1 begun.1,
       )
 
-  each : (P : Packed → Type 0) → ((block : Packed) → IsFit block → P block) → (blocks : List Packed) → AllByRecursion IsFit blocks
+  pub each : (P : Packed → Type 0) → ((block : Packed) → IsFit block → P block) → (blocks : List Packed) → AllByRecursion IsFit blocks
       → AllByRecursion P blocks
   each P all [] are = tt
   each P all (block ∷ blocks) are = (all block are.0, each P all blocks are.1)
@@ -137,20 +137,20 @@ module _ (packets : List Packed) (shown : AreShown packets) where
       let first : listing_position q ≤ listing_position p = up 0 1 q (omega arith) (omega arith) in
       (first, behind_by p placed (λ i j d le within. up (suc i) (suc j) d (omega (arith, le)) (omega (arith, within))))
 
-  order_by : (all : List Placed) → IsNonDecreasingBy listing_position all → (p : Placed) (rest : List Placed) → all ≡ p ∷ rest → AreBehind p rest
+  pub order_by : (all : List Placed) → IsNonDecreasingBy listing_position all → (p : Placed) (rest : List Placed) → all ≡ p ∷ rest → AreBehind p rest
   order_by all up p rest is = behind_by p rest (rw is at up)
 
   within_by : (cycles : ℕ) (placed : List Placed) → All (λ p. landing_end (issue_of p) ≤ cycles) placed → All (λ p. p.cycle + 1 ≤ cycles) placed
   within_by cycles placed all =
       All-weaker (λ (p : Placed). landing_end (issue_of p) ≤ cycles) (λ (p : Placed). p.cycle + 1 ≤ cycles) (λ p le. omega (arith, le)) placed all
 
-  all_writable : (block : Packed) → IsFit block → All (IsWritable name) block.placed
+  pub all_writable : (block : Packed) → IsFit block → All (IsWritable name) block.placed
   all_writable block is = all_placed (IsWritable name) writable block.placed is.is.as_written is.stand
 
-  lines_of : (block : Packed) → IsFit block → HasLines name block
+  pub lines_of : (block : Packed) → IsFit block → HasLines name block
   lines_of block is = has_lines name block is.label is.begun (all_writable block is)
 
-  small : (block : Packed) → IsFit block → IsSmall name block
+  pub small : (block : Packed) → IsFit block → IsSmall name block
   small block is = record {
     label = is.label;
     writable = all_writable block is;
@@ -165,7 +165,7 @@ module _ (packets : List Packed) (shown : AreShown packets) where
   any_label label [] = refl
   any_label label (block ∷ passed) = grind (arith, any_label label passed)
 
-  free_by : (passed rest : List Packed) (block : Packed) (label : Name) → IsDistinct bytes_eq (given (packet_labels (passed ++ block ∷ rest)))
+  pub free_by : (passed rest : List Packed) (block : Packed) (label : Name) → IsDistinct bytes_eq (given (packet_labels (passed ++ block ∷ rest)))
       → block.label ≡ Some label
       → list_any (λ other. label_is label other.label) passed ≡ false
   free_by passed rest block label distinct is =

@@ -1,16 +1,20 @@
 -- What answers a text, from what each step gave.
-use Rattle.std.proofs.Common.{ℕ, List, Err}
+use Rattle.std.proofs.Common.{◌≡◌, ℕ, Bool, true, false, List, Err, refl, subst, inl, inr}
 use Rattle.c62_read.specs.Block.{Serial}
 use Rattle.c62_packet.specs.Packed.{Packed}
+use Rattle.c62_listing.specs.Listing.{listing}
+use Rattle.c62_adopt.specs.declared.fault.AdoptFault.{AdoptFault}
+use Rattle.c62_adopt.specs.Answer.{IsAdopted, Refuses}
+use Rattle.c62_adopt.specs.Laws.{DrainsNothing}
 use Rattle.c62_command.specs.declared.setting.Setting.{Setting}
 use Rattle.c62_command.specs.declared.command.Packing.{Packing}
 use Rattle.c62_tool.specs.declared.failure.Failure.{Failure}
 use Rattle.c62_tool.specs.declared.failure.Failure.TheVariants as failures
 use Rattle.c62_tool.specs.Message.{fault_message}
-use Rattle.c62_command.specs.CommandLine.{Ask, ListingReport}
+use Rattle.c62_command.specs.CommandLine.{Adoption, Ask, ListingReport}
 use Rattle.c62_tool.specs.Schedule.{AreScheduled}
 use Rattle.c62_tool.specs.Texts.{IsNoProgram}
-use Rattle.c62_tool.specs.Run.{Gives, GivesProgram, GivesPackets, IsPacketReport, IsRefusedText, IsSameReport}
+use Rattle.c62_tool.specs.Run.{Gives, GivesProgram, GivesPackets, IsAdoptFailure, IsAnswer, IsPacketReport, IsRefusedText, IsSameReport, outcome_adopted}
 use Rattle.c62_tool.proofs.Schedules.{runs_serially}
 
 module _ (ask : Ask) (text : List ℕ) where
@@ -18,6 +22,7 @@ module _ (ask : Ask) (text : List ℕ) where
   pub no_program : ((message : List ℕ) → IsNoProgram text message → IsRefusedText ask text message) → (f : Failure) → GivesProgram text (Err f) → Gives ask text (Err f)
   no_program same (failures.Unread fault) gives = same (fault_message fault.line fault.cause) gives
   no_program same (failures.Unlisted fault) gives = absurd gives
+  no_program same (failures.Unadopted fault) gives = absurd gives
   no_program same (failures.TextPart fault) gives = absurd gives
   no_program same (failures.ListingPart fault) gives = absurd gives
   no_program same failures.NoListing gives = absurd gives
@@ -30,6 +35,7 @@ module _ (ask : Ask) (text : List ℕ) where
 pub no_packets : (blocks : ℕ) (settings : List Setting) (text : List ℕ) (f : Failure) → GivesPackets text (Err f) → Gives (ListingReport blocks settings) text (Err f)
 no_packets blocks settings text (failures.Unread fault) gives = absurd gives
 no_packets blocks settings text (failures.Unlisted fault) gives = gives
+no_packets blocks settings text (failures.Unadopted fault) gives = absurd gives
 no_packets blocks settings text (failures.TextPart fault) gives = absurd gives
 no_packets blocks settings text (failures.ListingPart fault) gives = absurd gives
 no_packets blocks settings text failures.NoListing gives = absurd gives
@@ -46,3 +52,18 @@ same_report packing program packets settings blocks answer all reported = record
   reported = reported;
   serial = runs_serially packing program packets reported.opening reported.final blocks reported.cycles reported.chain all reported.begin.sound reported.run;
 }
+
+-- ---- packets that are adopted
+
+-- where a text makes no packets, that is the answer
+pub no_adoption : (drain : Bool) (text : List ℕ) (fault : AdoptFault) (f : Failure) → IsAdoptFailure fault f → Refuses drain text fault
+    → Gives (Adoption drain) text (Err f)
+no_adoption drain text fault f (inl memory) refused = rw (memory.1) tt
+no_adoption drain text fault f (inr known) refused = rw (known.1) (record { fault = fault; known = known.0; refused = refused; told = refl })
+
+-- where it does, this is
+pub adopted_text : (drain : Bool) (text answer : List ℕ) (packets : List Packed) (added : ℕ) → DrainsNothing text packets
+    → IsAdopted drain text packets added → answer ≡ listing packets → IsAnswer (Adoption drain) (outcome_adopted drain added) text answer
+adopted_text true text answer packets added lacks is listed = record { packets = packets; adopted = is; listed = listed }
+adopted_text false text answer packets added lacks is listed =
+    record { packets = packets; adopted = subst (IsAdopted false text packets) (lacks added is).0 is; listed = listed }

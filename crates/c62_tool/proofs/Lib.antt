@@ -10,3 +10,4 @@ pub mod Telling
 pub mod ReadBack
 pub mod OneBoard
 pub mod OneText
+mod AdoptedBack

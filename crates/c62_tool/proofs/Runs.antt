@@ -1,24 +1,29 @@
 -- What a run did, from what each of its steps did.
 use Rattle.std.proofs.Common.{◌≡◌, ℕ, ◌+◌, true, false, List, length, take, Option, Some, None, Result, Ok, Err, refl, sym, ap, subst, ◌∙◌, arith, rules, inl, inr}
-use Rattle.std.specs.Prelude.{◌⊎◌, [], IfSome, IsErrAnd, codes}
+use Rattle.std.specs.Prelude.{◌⊎◌, ◌<◌, Bool, [], IfSome, IsErrAnd, codes}
 use Rattle.std.specs.Option.{IsSomeAnd}
 use Rattle.std.specs.Io.KnownBytes.{Appends, Keeps}
-use Rattle.std.proofs.lemmas.Bool.{cases_lt}
+use Rattle.std.proofs.lemmas.Bool.{cases_lt, lt-ltb}
 use Rattle.std.proofs.lemmas.List.{take_all, length-take}
 use Rattle.c62_read.specs.Program.{BlockParts, Refusal, program_in}
+use Rattle.c62_packet.specs.Packed.{Packed}
 use Rattle.c62_listing_reader.specs.Faults.{drafts_in as listed_in}
-use Rattle.c62_tool.specs.Message.{IsFront, Tells, TellsOf, fault_message, list_message, message_of, no_listing, of_listing, of_text, setting_message}
-use Rattle.c62_tool.specs.Run.{AsksInVain, AsksNothing, Blames, Does, Fails, Gives, HasFailed, IsAnswer, IsCommandFailure, IsDone, IsRefused, IsRefusedText, IsRun, IsRunOnBytes, Streams, TakesAtMost, limit_of, status_done, status_of}
+use Rattle.c62_adopt_cut.specs.Text.{Cut, text_cut, too_long as too_long_cut}
+use Rattle.c62_adopt_cut.specs.Flight.{cycles_lacking}
+use Rattle.c62_adopt.specs.declared.fault.AdoptFault.{AdoptFault}
+use Rattle.c62_adopt.specs.Answer.{IsAdopted, IsAdoptedCut, Refuses as RefusesPackets, RefusesCut}
+use Rattle.c62_tool.specs.Message.{IsFront, IsToldOf, Tells, TellsOf, TellsOutcome, adopt_message, drained_message, fault_message, list_message, message_of, no_listing, of_listing, of_text, setting_message}
+use Rattle.c62_tool.specs.Run.{AsksInVain, AsksNothing, Blames, Does, Ends, EndsOnBytes, Fails, Gives, HasFailed, IsAdoptedText, IsAnswer, IsCommandFailure, IsDone, IsRefused, IsRefusedText, IsRun, IsRunOnBytes, Streams, TakesAtMost, limit_of, status_done, status_of}
 use Rattle.c62_command.specs.declared.command.CommandError.{CommandError}
 use Rattle.c62_command.specs.declared.command.CommandError.TheVariants as command
-use Rattle.c62_command.specs.CommandLine.{Ask, HasBadSetting, IsRefusal, IsUnknown, Listing, ListingReport, PacketReport, Picture, SerialReport, Verdicts, asked}
+use Rattle.c62_command.specs.CommandLine.{Adoption, Ask, HasBadSetting, IsRefusal, IsUnknown, Listing, ListingReport, PacketReport, Picture, SerialReport, Verdicts, asked}
 use Rattle.clap.specs.Words.{Text}
 use Rattle.c62_tool.specs.declared.failure.Failure.{Failure}
 use Rattle.c62_tool.specs.declared.failure.Failure.TheVariants as failures
 use Rattle.c62_tool.specs.declared.outcome.Outcome.{Outcome}
-use Rattle.c62_tool.specs.declared.outcome.Outcome.TheVariants.{Done, NotSame}
+use Rattle.c62_tool.specs.declared.outcome.Outcome.TheVariants.{Done, Drained, NotSame}
 use Rattle.c62_tool.specs.declared.outcome.Reply.{Reply}
-use Rattle.c62_tool.specs.Texts.{IsNoProgram}
+use Rattle.c62_tool.specs.Texts.{IsNoPackets, IsNoProgram}
 use Rattle.c62_tool.specs.Check.{IsCheck, IsNoCheck}
 use Rattle.c62_tool.proofs.Checks.{check_all, no_check_all, read_same, refuses_same, too_long, too_long_listing}
 
@@ -38,12 +43,44 @@ listed_in-take all =
       | inr short ↦ ap listed_in (take_all 8388609 all (omega arith))
     ]
 
+too_long_packets : (text : List ℕ) → 8388608 < length text → text_cut text ≡ too_long_cut
+unfolding text_cut
+too_long_packets text long = rw (lt-ltb 8388608 (length text) long) refl
+
+pub text_cut-take : (all : List ℕ) → text_cut (take 8388609 all) ≡ text_cut all
+text_cut-take all =
+    elim (cases_lt 8388608 (length all)) [
+      | inl long ↦ too_long_packets (take 8388609 all) (omega (arith, length-take 8388609 all)) ∙ sym (too_long_packets all long)
+      | inr short ↦ ap text_cut (take_all 8388609 all (omega arith))
+    ]
+
 -- what a part that tells enough says is what all says
 program_all : (all text : List ℕ) → text ≡ take 1048577 all → program_in text ≡ program_in all
 program_all all text read = ap program_in read ∙ program_in-take all
 
 listed_all : (all text : List ℕ) → text ≡ take 8388609 all → listed_in text ≡ listed_in all
 listed_all all text read = ap listed_in read ∙ listed_in-take all
+
+cut_all : (all text : List ℕ) → text ≡ take 8388609 all → text_cut text ≡ text_cut all
+cut_all all text read = ap text_cut read ∙ text_cut-take all
+
+adopted_all : (drain : Bool) (added : ℕ) (all text answer : List ℕ) → text ≡ take 8388609 all → IsAdoptedText drain added text answer → IsAdoptedText drain added all answer
+adopted_all drain added all text answer read is = record {
+  packets = is.packets;
+  adopted = record {
+    cut = subst (λ (cut : Cut). IsAdoptedCut drain cut is.packets) (cut_all all text read) is.adopted.cut;
+    lacking = is.adopted.lacking ∙ ap cycles_lacking (cut_all all text read);
+  };
+  listed = is.listed;
+}
+
+no_packets_all : (drain : Bool) (all text message : List ℕ) → text ≡ take 8388609 all → IsNoPackets drain text message → IsNoPackets drain all message
+no_packets_all drain all text message read is = record {
+  fault = is.fault;
+  known = is.known;
+  refused = subst (λ (cut : Cut). RefusesCut drain cut is.fault) (cut_all all text read) is.refused;
+  told = is.told;
+}
 
 -- the answer to what was read is the answer to all
 answered : (ask : Ask) (outcome : Outcome) (all text answer : List ℕ) → text ≡ take (limit_of ask + 1) all → IsAnswer ask outcome text answer → IsAnswer ask outcome all answer
@@ -78,19 +115,39 @@ answered (ListingReport blocks settings) Done all text answer read is = record {
   read = read_same text all is.packets (listed_all all text read) is.read;
   reported = is.reported;
 }
+answered (Adoption false) Done all text answer read is = adopted_all false 0 all text answer read is
+answered (Adoption true) (Drained added) all text answer read is = adopted_all true added all text answer read is
 answered Verdicts Done all text answer read is = check_all all 9437190 (omega arith) true answer (subst (λ (xs : List ℕ). IsCheck xs true answer) read is)
 answered Verdicts NotSame all text answer read is = check_all all 9437190 (omega arith) false answer (subst (λ (xs : List ℕ). IsCheck xs false answer) read is)
+answered (Listing packing) (Drained added) all text answer read is = absurd is
 answered (Listing packing) NotSame all text answer read is = absurd is
+answered (Picture packing) (Drained added) all text answer read is = absurd is
 answered (Picture packing) NotSame all text answer read is = absurd is
+answered (SerialReport blocks settings) (Drained added) all text answer read is = absurd is
 answered (SerialReport blocks settings) NotSame all text answer read is = absurd is
+answered (PacketReport packing blocks settings) (Drained added) all text answer read is = absurd is
 answered (PacketReport packing blocks settings) NotSame all text answer read is = absurd is
+answered (ListingReport blocks settings) (Drained added) all text answer read is = absurd is
 answered (ListingReport blocks settings) NotSame all text answer read is = absurd is
+answered (Adoption false) (Drained added) all text answer read is = absurd is
+answered (Adoption false) NotSame all text answer read is = absurd is
+answered (Adoption true) Done all text answer read is = absurd is
+answered (Adoption true) NotSame all text answer read is = absurd is
+answered Verdicts (Drained added) all text answer read is = absurd is
 
 -- the answer to what was read, written
 pub answers : (ask : Ask) (known old new : Option (List ℕ)) (text : List ℕ) (reply : Reply) → IfSome known (λ all. text ≡ take (limit_of ask + 1) all)
     → Gives ask text (Ok reply) → Appends old new reply.text.items → Does ask reply.outcome known old new
-answers ask None old new text reply read gives written = tt
+answers ask None old new text reply read gives written = record {
+  text = text;
+  same = tt;
+  answer = reply.text.items;
+  is = gives;
+  written = written;
+}
 answers ask (Some all) old new text reply read gives written = record {
+  text = all;
+  same = refl;
   answer = reply.text.items;
   is = answered ask reply.outcome all text reply.text.items read gives;
   written = written;
@@ -115,6 +172,7 @@ refused_all (ListingReport blocks settings) all text message read is = record {
   refused = refuses_same text all is.fault (listed_all all text read) is.refused;
   told = is.told;
 }
+refused_all (Adoption drain) all text message read is = no_packets_all drain all text message read is
 refused_all Verdicts all text message read is = no_check_all all 9437190 (omega arith) message (subst (λ (xs : List ℕ). IsNoCheck xs message) read is)
 
 refused : (ask : Ask) (known : Option (List ℕ)) (text message : List ℕ) → IfSome known (λ all. text ≡ take (limit_of ask + 1) all) → IsRefusedText ask text message
@@ -127,6 +185,7 @@ pub refuses : (ask : Ask) (known old : Option (List ℕ)) (text : List ℕ) (f :
     → Fails ask known old old f
 refuses ask known old text (failures.Unread fault) read gives = (refused ask known text (fault_message fault.line fault.cause) read gives, Keeps-same old)
 refuses ask known old text (failures.Unlisted fault) read gives = (refused ask known text (list_message fault) read gives, Keeps-same old)
+refuses ask known old text (failures.Unadopted fault) read gives = (refused ask known text (adopt_message fault) read gives, Keeps-same old)
 refuses ask known old text (failures.TextPart fault) read gives = (refused ask known text (of_text (fault_message fault.line fault.cause)) read gives, Keeps-same old)
 refuses ask known old text (failures.ListingPart fault) read gives = (refused ask known text (of_listing (list_message fault)) read gives, Keeps-same old)
 refuses ask known old text failures.NoListing read gives = (refused ask known text no_listing read gives, Keeps-same old)
@@ -160,34 +219,30 @@ some_none : {T : Type 0} (o : Option T) (P : T → Type 0) → IsSomeAnd o P →
 some_none None P some none = some
 some_none (Some x) P some none = absurd cc
 
-pub done : (words : List Text) (old new : Streams) (outcome : Outcome) → Reads words old.input new.input → Keeps old.errors new.errors
+-- the statuses of a run that is done
+ends_with : (outcome : Outcome) → (status_done outcome ≡ 0) ⊎ (status_done outcome ≡ 5)
+ends_with Done = inl refl
+ends_with (Drained added) = inl refl
+ends_with NotSame = inr refl
+
+ends_otherwise : (outcome : Outcome) (status : ℕ) → 0 < status → status < 5 → status_done outcome ≡ status → ⊥
+ends_otherwise outcome status more less ends = neither (ends_with outcome) (λ zero. omega (arith, zero, ends, more)) (λ five. omega (arith, five, ends, less))
+
+pub done : (words : List Text) (old new : Streams) (outcome : Outcome) → Reads words old.input new.input → TellsOutcome outcome old.errors new.errors
     → IsDone words outcome old.input old.output new.output → IsRun words old new (status_done outcome)
-done words old new Done reads silent does = record {
-  known = search rules;
-  done = λ _. does;
-  differs = λ e. absurd (omega arith);
-  silent = λ _. silent;
-  refused = λ e. absurd (omega arith);
-  blamed = λ e. absurd (omega arith);
-  judged = λ none. absurd (some_none (asked words) (λ ask. Does ask Done old.input old.output new.output) does none);
+done words old new outcome reads told does = record {
+  known = elim (ends_with outcome) [
+    | inl zero ↦ omega (arith, zero)
+    | inr five ↦ omega (arith, five)
+  ];
+  done = λ _. record { outcome = outcome; ends = refl; done = does; told = told };
+  refused = λ e. absurd (ends_otherwise outcome 1 (omega arith) (omega arith) e);
+  blamed = λ e. absurd (ends_otherwise outcome 2 (omega arith) (omega arith) e);
+  judged = λ none. absurd (some_none (asked words) (λ ask. Does ask outcome old.input old.output new.output) does none);
   unread = reads.unread;
-  memory = λ e. absurd (omega arith);
-  stream = λ e. absurd (omega arith);
-  quiet = λ less more. absurd (omega arith);
-  most = reads.most;
-}
-done words old new NotSame reads silent does = record {
-  known = search rules;
-  done = λ e. absurd (omega arith);
-  differs = λ _. does;
-  silent = λ _. silent;
-  refused = λ e. absurd (omega arith);
-  blamed = λ e. absurd (omega arith);
-  judged = λ none. absurd (some_none (asked words) (λ ask. Does ask NotSame old.input old.output new.output) does none);
-  unread = reads.unread;
-  memory = λ e. absurd (omega arith);
-  stream = λ e. absurd (omega arith);
-  quiet = λ less more. absurd (omega arith);
+  memory = λ e. absurd (ends_otherwise outcome 3 (omega arith) (omega arith) e);
+  stream = λ e. absurd (ends_otherwise outcome 4 (omega arith) (omega arith) e);
+  quiet = λ more less. absurd (ends_otherwise outcome (status_done outcome) more (omega (arith, less)) refl);
   most = reads.most;
 }
 
@@ -195,9 +250,7 @@ module _ (words : List Text) (old new : Streams) (reads : Reads words old.input 
   is_refused : Keeps old.output new.output → TellsOf (AsksInVain (asked words) old.input) old.errors new.errors → (asked words ≡ None → ⊥) → IsRun words old new 1
   is_refused quiet told some = record {
     known = search rules;
-    done = λ e. absurd (omega arith);
-    differs = λ e. absurd (omega arith);
-    silent = λ e. absurd (neither e (λ zero. omega (arith, zero)) (λ five. omega (arith, five)));
+    done = λ e. absurd (neither e (λ zero. omega (arith, zero)) (λ five. omega (arith, five)));
     refused = λ _. told;
     blamed = λ e. absurd (omega arith);
     judged = λ none. absurd (some none);
@@ -211,9 +264,7 @@ module _ (words : List Text) (old new : Streams) (reads : Reads words old.input 
   is_blamed : Keeps old.output new.output → AsksNothing words old.errors new.errors → IsRun words old new 2
   is_blamed quiet told = record {
     known = search rules;
-    done = λ e. absurd (omega arith);
-    differs = λ e. absurd (omega arith);
-    silent = λ e. absurd (neither e (λ zero. omega (arith, zero)) (λ five. omega (arith, five)));
+    done = λ e. absurd (neither e (λ zero. omega (arith, zero)) (λ five. omega (arith, five)));
     refused = λ e. absurd (omega arith);
     blamed = λ _. told;
     judged = λ _. inl refl;
@@ -227,9 +278,7 @@ module _ (words : List Text) (old new : Streams) (reads : Reads words old.input 
   is_out_of_memory : Keeps old.output new.output → Tells old.errors new.errors (codes "memory\n") → IsRun words old new 3
   is_out_of_memory quiet told = record {
     known = search rules;
-    done = λ e. absurd (omega arith);
-    differs = λ e. absurd (omega arith);
-    silent = λ e. absurd (neither e (λ zero. omega (arith, zero)) (λ five. omega (arith, five)));
+    done = λ e. absurd (neither e (λ zero. omega (arith, zero)) (λ five. omega (arith, five)));
     refused = λ e. absurd (omega arith);
     blamed = λ e. absurd (omega arith);
     judged = λ _. inr refl;
@@ -243,9 +292,7 @@ module _ (words : List Text) (old new : Streams) (reads : Reads words old.input 
   is_cut_off : Tells old.errors new.errors (codes "input\n") ⊎ Tells old.errors new.errors (codes "output\n") → (asked words ≡ None → ⊥) → IsRun words old new 4
   is_cut_off told some = record {
     known = search rules;
-    done = λ e. absurd (omega arith);
-    differs = λ e. absurd (omega arith);
-    silent = λ e. absurd (neither e (λ zero. omega (arith, zero)) (λ five. omega (arith, five)));
+    done = λ e. absurd (neither e (λ zero. omega (arith, zero)) (λ five. omega (arith, five)));
     refused = λ e. absurd (omega arith);
     blamed = λ e. absurd (omega arith);
     judged = λ none. absurd (some none);
@@ -268,6 +315,8 @@ module _ (words : List Text) (old new : Streams) (reads : Reads words old.input 
       → IsRun words old new (status_of f)
   is_not_done (failures.Unlisted fault) ask is fails told =
       is_refused fails.1 (record { text = list_message fault; is = for_asked words ask _ is fails.0; told = told }) (λ none. absurd cc)
+  is_not_done (failures.Unadopted fault) ask is fails told =
+      is_refused fails.1 (record { text = adopt_message fault; is = for_asked words ask _ is fails.0; told = told }) (λ none. absurd cc)
   is_not_done (failures.Unread fault) ask is fails told =
       is_refused fails.1 (record { text = fault_message fault.line fault.cause; is = for_asked words ask _ is fails.0; told = told }) (λ none. absurd cc)
   is_not_done (failures.TextPart fault) ask is fails told =
@@ -301,9 +350,7 @@ pub on_bytes : (words : List Text) (input rest output errors : List ℕ) (status
     → IsRunOnBytes words input output errors status
 on_bytes words input rest output errors status run = record {
   known = run.known;
-  done = λ e. answered_in Done (asked words) (run.done e);
-  differs = λ e. answered_in NotSame (asked words) (run.differs e);
-  silent = run.silent;
+  done = λ e. ended_in (run.done e);
   refused = λ e. let told = run.refused e in (told.text, told.is, held errors told.text told.told);
   blamed = λ e. blamed_in (run.blamed e);
   judged = run.judged;
@@ -314,7 +361,21 @@ on_bytes words input rest output errors status run = record {
   where
     answered_in : (outcome : Outcome) (a : Option Ask) → IsSomeAnd a (λ ask. Does ask outcome (Some input) (Some []) (Some output)) → IsSomeAnd a (λ ask. IsAnswer ask outcome input output)
     answered_in outcome None none = absurd none
-    answered_in outcome (Some ask) does = subst (IsAnswer ask outcome input) (sym does.written) does.is
+    answered_in outcome (Some ask) does =
+        subst (λ (text : List ℕ). IsAnswer ask outcome text output) (sym does.same) (subst (IsAnswer ask outcome does.text) (sym does.written) does.is)
+
+    told_in : (outcome : Outcome) → TellsOutcome outcome (Some []) (Some errors) → IsToldOf outcome errors
+    told_in Done told = told
+    told_in (Drained added) told = held errors (drained_message added) told
+    told_in NotSame told = told
+
+    ended_in : Ends words (record { input = Some input; output = Some []; errors = Some [] }) (record { input = Some rest; output = Some output; errors = Some errors }) status → EndsOnBytes words input output errors status
+    ended_in ended = record {
+      outcome = ended.outcome;
+      ends = ended.ends;
+      done = answered_in ended.outcome (asked words) ended.done;
+      told = told_in ended.outcome ended.told;
+    }
 
     blamed_in : AsksNothing words (Some []) (Some errors) → IsUnknown words ⊎ ((k : ℕ) × HasBadSetting words k × IsFront errors (setting_message k))
     blamed_in (inl unknown) = inl unknown

@@ -24,6 +24,7 @@ module _ (input text listing : List ℕ) (parted : IsParted input text listing) 
   pub no_text : (f : Failure) → GivesTextPart text (Err f) → Gives Verdicts input (Err f)
   no_text (failures.Unread fault) gives = absurd gives
   no_text (failures.Unlisted fault) gives = absurd gives
+  no_text (failures.Unadopted fault) gives = absurd gives
   no_text (failures.TextPart fault) gives =
       FaultyText (record {
         text = text;
@@ -45,6 +46,7 @@ module _ (input text listing : List ℕ) (parted : IsParted input text listing) 
   pub no_listing_part : (program : List Serial) → SaysProgram text program → (f : Failure) → GivesListingPart listing (Err f) → Gives Verdicts input (Err f)
   no_listing_part program says (failures.Unread fault) gives = absurd gives
   no_listing_part program says (failures.Unlisted fault) gives = absurd gives
+  no_listing_part program says (failures.Unadopted fault) gives = absurd gives
   no_listing_part program says (failures.TextPart fault) gives = absurd gives
   no_listing_part program says (failures.ListingPart fault) gives =
       FaultyListing (record {

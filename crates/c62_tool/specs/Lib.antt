@@ -6,3 +6,4 @@ pub mod Check
 pub mod Run
 pub mod ReadBack
 pub mod OneText
+pub mod AdoptedBack

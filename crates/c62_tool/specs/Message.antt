@@ -1,12 +1,16 @@
 -- What is told on standard error (README.md, "Command line").
-use Rattle.std.specs.Prelude.{◌≡◌, ℕ, List, ◌++◌, take, Option, Some, None, codes, decimal}
-use Rattle.std.specs.Io.KnownBytes.{Appends}
+use Rattle.std.specs.Prelude.{◌≡◌, ◌==◌, ℕ, List, [], ◌++◌, take, Option, Some, None, codes, decimal, if◌then◌else◌}
+use Rattle.std.specs.Io.KnownBytes.{Appends, Keeps}
 use Rattle.c62_line.specs.declared.fault.Cause.{Cause}
 use Rattle.c62_line.specs.Fault.{fault_text}
 use Rattle.c62_listing_reader.specs.declared.fault.ListFault.{ListFault}
 use Rattle.c62_listing_reader.specs.FaultText.{list_fault_text}
+use Rattle.c62_adopt.specs.declared.fault.AdoptFault.{AdoptFault}
+use Rattle.c62_adopt.specs.FaultText.{adopt_fault_text}
 use Rattle.c62_tool.specs.declared.failure.Failure.{Failure}
 use Rattle.c62_tool.specs.declared.failure.Failure.TheVariants as failure
+use Rattle.c62_tool.specs.declared.outcome.Outcome.{Outcome}
+use Rattle.c62_tool.specs.declared.outcome.Outcome.TheVariants.{Drained}
 
 -- ---- the lines
 
@@ -15,6 +19,9 @@ fault_message line fault = fault_text line fault ++ codes "\n"
 
 abbrev pub list_message : ListFault → List ℕ
 list_message fault = list_fault_text fault ++ codes "\n"
+
+abbrev pub adopt_message : AdoptFault → List ℕ
+adopt_message fault = adopt_fault_text fault ++ codes "\n"
 
 -- what is told of the text of a check, and of its listing
 abbrev pub of_text : List ℕ → List ℕ
@@ -35,6 +42,7 @@ setting_message number = codes "setting " ++ decimal number ++ codes ": bad\n"
 abbrev pub message_of : Failure → Option (List ℕ)
 message_of (failure.Unread fault) = Some (fault_message fault.line fault.cause)
 message_of (failure.Unlisted fault) = Some (list_message fault)
+message_of (failure.Unadopted fault) = Some (adopt_message fault)
 message_of (failure.TextPart fault) = Some (of_text (fault_message fault.line fault.cause))
 message_of (failure.ListingPart fault) = Some (of_listing (list_message fault))
 message_of failure.NoListing = Some no_listing
@@ -43,6 +51,13 @@ message_of (failure.Setting number) = Some (setting_message number)
 message_of failure.Memory = Some (codes "memory\n")
 message_of failure.Input = Some (codes "input\n")
 message_of failure.Output = Some (codes "output\n")
+
+-- how many cycles were added to drain a text; nothing where there were none
+abbrev pub drained_message : ℕ → List ℕ
+drained_message added =
+    if added == 0 then []
+    else (if added == 1 then codes "1 cycle added\n"
+    else decimal added ++ codes " cycles added\n")
 
 -- ---- what the error stream got
 
@@ -59,3 +74,13 @@ pub record TellsOf (IsText : List ℕ → Type 0) (old new : Option (List ℕ)) 
   pub text : List ℕ
   pub is : IsText text
   pub told : Tells old new text
+
+-- Of a text that was drained it was told how many cycles were added. Else nothing was.
+abbrev pub TellsOutcome : Outcome → Option (List ℕ) → Option (List ℕ) → Type 0
+TellsOutcome (Drained added) old new = Tells old new (drained_message added)
+TellsOutcome _ old new = Keeps old new
+
+-- so it was told on a stream that held nothing
+abbrev pub IsToldOf : Outcome → List ℕ → Type 0
+IsToldOf (Drained added) errors = IsFront errors (drained_message added)
+IsToldOf _ errors = errors ≡ []

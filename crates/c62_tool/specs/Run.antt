@@ -4,9 +4,9 @@ use Rattle.std.specs.Io.KnownBytes.{Appends, Consumes, Keeps}
 use Rattle.std.specs.Option.{IsSomeAnd}
 use Rattle.clap.specs.Words.{Text}
 use Rattle.c62_tool.specs.declared.failure.Failure.{Failure}
-use Rattle.c62_tool.specs.declared.failure.Failure.TheVariants.{Unread, Unlisted, TextPart, ListingPart, NoListing, Words, Setting, Memory, Input, Output}
+use Rattle.c62_tool.specs.declared.failure.Failure.TheVariants.{Unread, Unlisted, Unadopted, TextPart, ListingPart, NoListing, Words, Setting, Memory, Input, Output}
 use Rattle.c62_tool.specs.declared.outcome.Outcome.{Outcome}
-use Rattle.c62_tool.specs.declared.outcome.Outcome.TheVariants.{Done, NotSame}
+use Rattle.c62_tool.specs.declared.outcome.Outcome.TheVariants.{Done, Drained, NotSame}
 use Rattle.c62_tool.specs.declared.outcome.Reply.{Reply}
 use Rattle.c62_command.specs.declared.command.CommandError.{CommandError}
 use Rattle.c62_command.specs.declared.command.CommandError.TheVariants as command
@@ -27,18 +27,23 @@ use Rattle.c62_listing.specs.Listing.{listing}
 use Rattle.c62_listing_reader.specs.declared.fault.ListFault.{ListFault}
 use Rattle.c62_listing_reader.specs.declared.fault.ListFault.TheVariants.{Memory as NoStore}
 use Rattle.c62_listing_reader.specs.Faults.{IsRead, most_bytes as most_listing_bytes}
+use Rattle.c62_adopt_cut.specs.Text.{most_bytes as most_packets_bytes}
+use Rattle.c62_adopt.specs.declared.fault.AdoptFault.{AdoptFault}
+use Rattle.c62_adopt.specs.declared.fault.AdoptFault.TheVariants.{Memory as NoRoom}
+use Rattle.c62_adopt.specs.Answer.{IsAdopted}
 use Rattle.c62_show.specs.declared.shown.Shown.{Shown}
 use Rattle.c62_show.specs.Picture.{picture}
 use Rattle.c62_tool.specs.Schedule.{AreScheduled, AreShown}
 use Rattle.c62_report.specs.Report.{serial_report, packet_report}
-use Rattle.c62_command.specs.CommandLine.{Ask, Listing, Picture, SerialReport, PacketReport, ListingReport, Verdicts, IsRefusal, IsUnknown, HasBadSetting, asked}
-use Rattle.c62_tool.specs.Message.{fault_message, list_message, no_listing, of_listing, of_text, setting_message, IsFront, Tells, TellsOf}
-use Rattle.c62_tool.specs.Texts.{SaysProgram, IsNoProgram, IsNoListing}
+use Rattle.c62_command.specs.CommandLine.{Ask, Listing, Picture, SerialReport, PacketReport, ListingReport, Adoption, Verdicts, IsRefusal, IsUnknown, HasBadSetting, asked}
+use Rattle.c62_tool.specs.Message.{adopt_message, fault_message, list_message, no_listing, of_listing, of_text, setting_message, IsFront, IsToldOf, Tells, TellsOf, TellsOutcome}
+use Rattle.c62_tool.specs.Texts.{SaysProgram, IsNoProgram, IsNoListing, IsNoPackets}
 use Rattle.c62_tool.specs.Check.{IsCheck, IsNoCheck}
 
 abbrev pub status_of : Failure → ℕ
 status_of (Unread _) = 1
 status_of (Unlisted _) = 1
+status_of (Unadopted _) = 1
 status_of (TextPart _) = 1
 status_of (ListingPart _) = 1
 status_of NoListing = 1
@@ -51,6 +56,7 @@ status_of Output = 4
 -- the status where it is done
 abbrev pub status_done : Outcome → ℕ
 status_done Done = 0
+status_done (Drained _) = 0
 status_done NotSame = 5
 
 -- what a fault of reading is
@@ -60,6 +66,10 @@ IsReadFailure fault f = ((fault.cause ≡ OutOfStore) × (f ≡ Memory)) ⊎ ((f
 -- what a fault of reading a listing is
 abbrev pub IsListFailure : ListFault → Failure → Type 0
 IsListFailure fault f = ((fault ≡ NoStore) × (f ≡ Memory)) ⊎ ((fault ≢ NoStore) × (f ≡ Unlisted fault))
+
+-- what a fault of a text of packets is
+abbrev pub IsAdoptFailure : AdoptFault → Failure → Type 0
+IsAdoptFailure fault f = ((fault ≡ NoRoom) × (f ≡ Memory)) ⊎ ((fault ≢ NoRoom) × (f ≡ Unadopted fault))
 
 -- what a fault of the text of a check is, and one of its listing
 abbrev pub IsTextFailure : ReadFault → Failure → Type 0
@@ -82,10 +92,11 @@ TakesAtMost n old new = (bytes : List ℕ) × Consumes old new bytes × (length 
 abbrev pub BeginsAll : ℕ → Option (List ℕ) → List ℕ → Type 0
 BeginsAll limit all text = IfSome all (λ bytes. text ≡ take (limit + 1) bytes)
 
--- the most bytes that may be given: of a listing, of a text and a listing with the longest line `---` between them, or of
--- serial text
+-- the most bytes that may be given: of a listing, of packets as they are written, of a text and a listing with the longest line
+-- `---` between them, or of serial text
 abbrev pub limit_of : Ask → ℕ
 limit_of (ListingReport blocks settings) = most_listing_bytes
+limit_of (Adoption drain) = most_packets_bytes
 limit_of Verdicts = most_bytes + 5 + most_listing_bytes
 limit_of _ = most_bytes
 
@@ -171,41 +182,54 @@ pub record IsListingReport (settings : List Given) (blocks : ℕ) (text answer :
   pub read : IsRead text packets
   pub reported : IsPacketReport packets settings blocks answer
 
+-- the text is adopted as packets, with so many cycles added to drain it, and this is their listing
+pub record IsAdoptedText (drain : Bool) (added : ℕ) (text answer : List ℕ) : Type 0 where
+  pub packets : List Packed
+  pub adopted : IsAdopted drain text packets added
+  pub listed : answer ≡ listing packets
+
+-- how an adoption ends, where so many cycles were added
+abbrev pub outcome_adopted : Bool → ℕ → Outcome
+outcome_adopted true added = Drained added
+outcome_adopted false added = Done
+
 -- how a check ends where every block is the same, or not
 abbrev pub outcome_of : Bool → Outcome
 outcome_of true = Done
 outcome_of false = NotSame
 
--- What answers a text: its listing or its picture, the report of a run, or what a check tells, where alone some block may not be the same.
+-- What answers a text: its listing or its picture, the report of a run, or what a check tells. A text is drained only where that
+-- is asked for, and only of a check some block may not be the same.
 abbrev pub IsAnswer : Ask → Outcome → List ℕ → List ℕ → Type 0
 IsAnswer (Listing packing) Done text answer = IsPackedText packing text answer
 IsAnswer (Picture packing) Done text answer = IsShownText packing text answer
 IsAnswer (SerialReport blocks settings) Done text answer = IsSerialReport settings blocks text answer
 IsAnswer (PacketReport packing blocks settings) Done text answer = IsRunReport packing settings blocks text answer
 IsAnswer (ListingReport blocks settings) Done text answer = IsListingReport settings blocks text answer
+IsAnswer (Adoption false) Done text answer = IsAdoptedText false 0 text answer
+IsAnswer (Adoption true) (Drained added) text answer = IsAdoptedText true added text answer
 IsAnswer Verdicts Done text answer = IsCheck text true answer
 IsAnswer Verdicts NotSame text answer = IsCheck text false answer
-IsAnswer _ NotSame text answer = ⊥
+IsAnswer _ _ text answer = ⊥
 
 -- ---- refusals
 
 -- the text says nothing that could be answered, and the message tells its fault
 abbrev pub IsRefusedText : Ask → List ℕ → List ℕ → Type 0
 IsRefusedText (ListingReport blocks settings) text message = IsNoListing text message
+IsRefusedText (Adoption drain) text message = IsNoPackets drain text message
 IsRefusedText Verdicts text message = IsNoCheck text message
 IsRefusedText _ text message = IsNoProgram text message
 
 -- ---- streams
 
--- the answer to a text was written
-pub record Answers (ask : Ask) (outcome : Outcome) (text : List ℕ) (old new : Option (List ℕ)) : Type 0 where
+-- What was asked for was done: the answer to a text was written, which is the known one, where one is known.
+pub record Does (ask : Ask) (outcome : Outcome) (known old new : Option (List ℕ)) : Type 0 where
+  pub text : List ℕ
+  pub same : IfSome known (λ bytes. bytes ≡ text)
   pub answer : List ℕ
   pub is : IsAnswer ask outcome text answer
   pub written : Appends old new answer
-
--- what was asked for was done, where the text is known
-abbrev pub Does : Ask → Outcome → Option (List ℕ) → Option (List ℕ) → Option (List ℕ) → Type 0
-Does ask outcome text old new = IfSome text (λ bytes. Answers ask outcome bytes old new)
 
 -- the words ask for something, and that was done
 abbrev pub IsDone : List Text → Outcome → Option (List ℕ) → Option (List ℕ) → Option (List ℕ) → Type 0
@@ -264,6 +288,7 @@ abbrev pub Gives : Ask → List ℕ → Result Reply Failure → Type 0
 Gives ask text (Ok reply) = IsAnswer ask reply.outcome text reply.text.items
 Gives ask text (Err (Unread fault)) = IsRefusedText ask text (fault_message fault.line fault.cause)
 Gives ask text (Err (Unlisted fault)) = IsRefusedText ask text (list_message fault)
+Gives ask text (Err (Unadopted fault)) = IsRefusedText ask text (adopt_message fault)
 Gives ask text (Err (TextPart fault)) = IsRefusedText ask text (of_text (fault_message fault.line fault.cause))
 Gives ask text (Err (ListingPart fault)) = IsRefusedText ask text (of_listing (list_message fault))
 Gives ask text (Err NoListing) = IsRefusedText ask text no_listing
@@ -274,6 +299,7 @@ Gives ask text (Err _) = ⊥
 abbrev pub Fails : Ask → Option (List ℕ) → Option (List ℕ) → Option (List ℕ) → Failure → Type 0
 Fails ask text old new (Unread fault) = IsRefused ask text (fault_message fault.line fault.cause) × Keeps old new
 Fails ask text old new (Unlisted fault) = IsRefused ask text (list_message fault) × Keeps old new
+Fails ask text old new (Unadopted fault) = IsRefused ask text (adopt_message fault) × Keeps old new
 Fails ask text old new (TextPart fault) = IsRefused ask text (of_text (fault_message fault.line fault.cause)) × Keeps old new
 Fails ask text old new (ListingPart fault) = IsRefused ask text (of_listing (list_message fault)) × Keeps old new
 Fails ask text old new NoListing = IsRefused ask text no_listing × Keeps old new
@@ -298,13 +324,19 @@ pub record Streams : Type 0 where
 abbrev pub streams : Option (List ℕ) → Option (List ℕ) → Option (List ℕ) → Streams
 streams input output errors = record { input = input; output = output; errors = errors }
 
+-- How a run ends that is done: what the words ask for was written, and told is only how many cycles were added where a text
+-- was drained.
+pub record Ends (words : List Text) (old new : Streams) (status : ℕ) : Type 0 where
+  pub outcome : Outcome
+  pub ends : status ≡ status_done outcome
+  pub done : IsDone words outcome old.input old.output new.output
+  pub told : TellsOutcome outcome old.errors new.errors
+
 -- What a run on these words does to its streams, and the status that it ends with (README.md, "Command line").
 pub record IsRun (words : List Text) (old new : Streams) (status : ℕ) : Type 0 where
   pub known : status ≤ 5
-  -- What the words ask for was written, and nothing is told. Of a check every block is the same, or on 5 some block isn't.
-  pub done : status ≡ 0 → IsDone words Done old.input old.output new.output
-  pub differs : status ≡ 5 → IsDone words NotSame old.input old.output new.output
-  pub silent : (status ≡ 0) ⊎ (status ≡ 5) → Keeps old.errors new.errors
+  -- What the words ask for was written. On 5 that is what a check tells, and some block isn't the same.
+  pub done : (status ≡ 0) ⊎ (status ≡ 5) → Ends words old new status
   -- The text is refused, and its fault is told.
   pub refused : status ≡ 1 → TellsOf (AsksInVain (asked words) old.input) old.errors new.errors
   -- The words are refused. Words and settings are judged first: where they ask for nothing, nothing is read.
@@ -318,12 +350,17 @@ pub record IsRun (words : List Text) (old new : Streams) (status : ℕ) : Type 0
   pub quiet : 0 < status → status < 4 → Keeps old.output new.output
   pub most : TakesAsked words old.input new.input
 
--- the same of a run on these bytes, which wrote these to its output and its error stream
+-- how a run ends that is done, on these bytes
+pub record EndsOnBytes (words : List Text) (input output errors : List ℕ) (status : ℕ) : Type 0 where
+  pub outcome : Outcome
+  pub ends : status ≡ status_done outcome
+  pub done : IsSomeAnd (asked words) (λ ask. IsAnswer ask outcome input output)
+  pub told : IsToldOf outcome errors
+
+-- what a run does to these bytes, which wrote these to its output and its error stream
 pub record IsRunOnBytes (words : List Text) (input output errors : List ℕ) (status : ℕ) : Type 0 where
   pub known : status ≤ 5
-  pub done : status ≡ 0 → IsSomeAnd (asked words) (λ ask. IsAnswer ask Done input output)
-  pub differs : status ≡ 5 → IsSomeAnd (asked words) (λ ask. IsAnswer ask NotSame input output)
-  pub silent : (status ≡ 0) ⊎ (status ≡ 5) → errors ≡ []
+  pub done : (status ≡ 0) ⊎ (status ≡ 5) → EndsOnBytes words input output errors status
   pub refused : status ≡ 1 → (message : List ℕ) × IsSomeAnd (asked words) (λ ask. IsRefusedText ask input message) × IsFront errors message
   pub blamed : status ≡ 2 → IsUnknown words ⊎ ((k : ℕ) × HasBadSetting words k × IsFront errors (setting_message k))
   pub judged : asked words ≡ None → (status ≡ 2) ⊎ (status ≡ 3)

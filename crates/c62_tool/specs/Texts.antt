@@ -1,11 +1,14 @@
 -- What texts say, and what is told of those that say nothing.
-use Rattle.std.specs.Prelude.{◌≡◌, ◌≢◌, ℕ, List, map, Ok, IsErrAnd}
+use Rattle.std.specs.Prelude.{◌≡◌, ◌≢◌, ℕ, Bool, List, map, Ok, IsErrAnd}
 use Rattle.c62_read.specs.Block.{Serial}
 use Rattle.c62_read.specs.Program.{program_in, block_parts}
 use Rattle.c62_listing_reader.specs.declared.fault.ListFault.{ListFault}
 use Rattle.c62_listing_reader.specs.declared.fault.ListFault.TheVariants.{Memory as NoStore}
 use Rattle.c62_listing_reader.specs.Reading.{Refuses}
-use Rattle.c62_tool.specs.Message.{fault_message, list_message}
+use Rattle.c62_adopt.specs.declared.fault.AdoptFault.{AdoptFault}
+use Rattle.c62_adopt.specs.declared.fault.AdoptFault.TheVariants.{Memory as NoRoom}
+use Rattle.c62_adopt.specs.Answer.{Refuses as RefusesPackets}
+use Rattle.c62_tool.specs.Message.{adopt_message, fault_message, list_message}
 
 -- the text says a program
 abbrev pub SaysProgram : List ℕ → List Serial → Type 0
@@ -21,3 +24,10 @@ pub record IsNoListing (text message : List ℕ) : Type 0 where
   pub known : fault ≢ NoStore
   pub refused : Refuses text fault
   pub told : message ≡ list_message fault
+
+-- the text makes no packets, drained or as it stands, and the message tells its first fault
+pub record IsNoPackets (drain : Bool) (text message : List ℕ) : Type 0 where
+  pub fault : AdoptFault
+  pub known : fault ≢ NoRoom
+  pub refused : RefusesPackets drain text fault
+  pub told : message ≡ adopt_message fault

@@ -4,7 +4,7 @@ ghost use Rattle.std.specs.Prelude.{◌≡◌, ◌≤◌, true, false, IfOk, IsT
 ghost use Rattle.c62_listing.specs.Listing.{listing};
 ghost use Rattle.c62_packet.specs.Packets.{is_closed};
 ghost use Rattle.c62_show.specs.Picture.{picture};
-ghost use Rattle.c62_command.specs.CommandLine.{Listing, Picture, SerialReport, PacketReport, ListingReport, ask_of};
+ghost use Rattle.c62_command.specs.CommandLine.{Listing, Picture, SerialReport, PacketReport, ListingReport, Adoption, ask_of};
 ghost use Rattle.c62_tool.specs.Run.{Gives, GivesProgram, GivesPackets, limit_of};
 ghost use Rattle.c62_tool.specs.declared.parting.TheConstants.{MOST_BYTES};
 
@@ -14,6 +14,8 @@ use crate::outcome::{Outcome, Reply};
 use crate::parting;
 use crate::run::{packet_run, serial_run};
 use crate::schedule::{packets_by_turns, packets_by_workers, shown_by_turns, shown_by_workers};
+use c62_adopt::adopt;
+use c62_adopt::laws::texts_that_stand_lack_nothing;
 use c62_command::{Packing, Request, Start};
 use c62_listing::list;
 use c62_listing_reader::read_listing;
@@ -176,6 +178,19 @@ fn sim(alloc: Global, text: &[u8], start: &Start) -> Result<Reply, Failure>
     })
 }
 
+/// The listing of a text of packets as people and compilers write them. Where it is drained, the cycles are added that lack.
+fn adopted(alloc: Global, text: &[u8], drain: bool) -> Result<Reply, Failure>
+    ensures { Gives (Adoption drain) text.now result }
+{
+    let adopted = adopt(alloc, text, drain)?;
+    // It tells that no cycle is added where the text isn't drained.
+    texts_that_stand_lack_nothing();
+    Ok(Reply {
+        text: listing_of(alloc, &adopted.packets)?,
+        outcome: Outcome::of_adoption(drain, adopted.added),
+    })
+}
+
 /// The answer to a text.
 pub fn answer<H: AllocGlobal + Threads + Wait + Sync>(
     rt: &H,
@@ -208,6 +223,7 @@ pub fn answer<H: AllocGlobal + Threads + Wait + Sync>(
         }
         Request::Serial(start) => serial(rt.alloc(), text, start),
         Request::Sim(start) => sim(rt.alloc(), text, start),
+        Request::Adopt(drain) => adopted(rt.alloc(), text, *drain),
         Request::Check => verdicts(rt.alloc(), text),
     }
 }
@@ -220,6 +236,7 @@ pub fn limit_of(request: &Request) -> usize
     match request {
         Request::Check => parting::MOST_BYTES,
         Request::Sim(_) => c62_listing_reader::MOST_BYTES,
+        Request::Adopt(_) => c62_adopt_cut::MOST_BYTES,
         Request::Pack(_) | Request::Show(_) | Request::Run(_, _) | Request::Serial(_) => {
             c62_read::MOST_BYTES
         }

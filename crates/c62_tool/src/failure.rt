@@ -2,9 +2,10 @@
 
 ghost use Rattle.std.specs.Prelude.{◌≡◌, ◌⊎◌};
 ghost use Rattle.c62_tool.specs.declared.failure.Failure.TheVariants.{Memory, Input};
-ghost use Rattle.c62_tool.specs.Run.{status_of, IsCommandFailure, IsReadFailure, IsListFailure, IsTextFailure, IsListingFailure};
+ghost use Rattle.c62_tool.specs.Run.{status_of, IsCommandFailure, IsReadFailure, IsListFailure, IsAdoptFailure, IsTextFailure, IsListingFailure};
 
 use crate::input::InputError;
+use c62_adopt::AdoptFault;
 use c62_command::CommandError;
 use c62_listing_reader::ListFault;
 use c62_read::{Cause, ReadFault};
@@ -17,6 +18,8 @@ pub enum Failure {
     Unread(ReadFault),
     /// The listing has a fault.
     Unlisted(ListFault),
+    /// The text of packets has a fault.
+    Unadopted(AdoptFault),
     /// The serial text of what is to be checked has a fault.
     TextPart(ReadFault),
     /// The listing of what is to be checked has a fault.
@@ -41,7 +44,7 @@ impl Failure {
         ensures { result ≡ status_of self.now }
     {
         match self {
-            Failure::Unread(_) | Failure::Unlisted(_) => 1,
+            Failure::Unread(_) | Failure::Unlisted(_) | Failure::Unadopted(_) => 1,
             Failure::TextPart(_) | Failure::ListingPart(_) | Failure::NoListing => 1,
             Failure::Words(_) | Failure::Setting(_) => 2,
             Failure::Memory => 3,
@@ -107,6 +110,17 @@ impl From<ListFault> for Failure {
         match fault {
             ListFault::Memory => Failure::Memory,
             _ => Failure::Unlisted(fault),
+        }
+    }
+}
+
+impl From<AdoptFault> for Failure {
+    ghost from_gives = { λ fault f. IsAdoptFailure fault f };
+
+    fn from(fault: AdoptFault) -> Failure {
+        match fault {
+            AdoptFault::Memory => Failure::Memory,
+            _ => Failure::Unadopted(fault),
         }
     }
 }

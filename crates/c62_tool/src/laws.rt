@@ -1,9 +1,10 @@
 //! Laws of the program. The functions do nothing: what each ensures is a law.
 
-ghost use Rattle.std.specs.Prelude.{ℕ, List};
+ghost use Rattle.std.specs.Prelude.{ℕ, Bool, List};
 ghost use Rattle.c62_read.specs.Block.{Serial};
 ghost use Rattle.c62_command.specs.declared.command.Packing.{Packing};
 ghost use Rattle.c62_tool.specs.ReadBack.{IsReadBack};
+ghost use Rattle.c62_tool.specs.AdoptedBack.{IsAdoptedBack};
 ghost use Rattle.c62_tool.specs.OneText.{HasOneBoard, HaveOnePacking, HasOneText};
 ghost use Rattle.c62_tool.specs.Parting.{IsPartedOnce};
 
@@ -12,6 +13,12 @@ ghost use Rattle.c62_tool.specs.Parting.{IsPartedOnce};
 /// the program that the text says: the same chain, registers and memory, and faults of the same places.
 pub fn what_is_packed_is_read_back()
     ensures { (packing : Packing) (text answer : List ℕ) → IsReadBack packing text answer }
+{}
+
+/// What `pack` writes, by turns or by two workers, is adopted as itself, drained or not: to the byte, and without a cycle
+/// more.
+pub fn what_is_packed_is_adopted_as_itself()
+    ensures { (packing : Packing) (drain : Bool) (text answer : List ℕ) → IsAdoptedBack packing drain text answer }
 {}
 
 /// `pack --turns` can write one listing only of a text, with one budget of ejections: the board that

@@ -1,4 +1,4 @@
-//! The program c62: packs serial text into execute packets, and runs text and packets.
+//! The program c62: packs serial text into execute packets, adopts packets as others write them, and runs text and packets.
 #![tactic(auto)]
 
 mod answer;
@@ -43,6 +43,8 @@ fn main(rt: HostRuntime) -> ExitCode {
     ))
 }
 
+#[cfg(test)]
+mod adopt_tests;
 #[cfg(test)]
 mod show_tests;
 #[cfg(test)]

@@ -331,19 +331,20 @@ The text is read from standard input, and the answer is written to standard outp
 as in: c62 pack < kernel.s
 
 Status, and what standard error says:
-  0  done, and nothing is said
+  0  done, and nothing is said but how many cycles were added to drain packets
   1  the text is refused: `line 7: BadUnit` names its first faulty line and the fault;
      of a listing also `block 0: NotDrained`, or `block 0 cycle 3: P5` and the packet rule;
+     of packets to be adopted also `line 7: NotDrained`, or `line 7: P5` and the packet rule;
      of a check it is `text line 7: BadUnit` or `listing line 7: Shape`, each part counted from 1
   2  the words are refused, by a text like this one, or `setting 2: bad`
   3  no memory: `memory`
   4  a stream failed: `input` or `output`
   5  checked, and not each block is the same: the output tells, and nothing is said
-docs/SERIAL_TEXT.md, docs/LISTING.md and docs/CHECK.md tell what each fault is.
+docs/SERIAL_TEXT.md, docs/LISTING.md, docs/ADOPT.md and docs/CHECK.md tell what each fault is.
 ";
 
 /// Words, and the whole text that refuses them, but for the ending of a help.
-const TOLD: [(&[&str], &str, &str); 10] = [
+const TOLD: [(&[&str], &str, &str); 11] = [
     (
         &["--help"],
         "Packs and runs TMS320C62x instructions
@@ -357,6 +358,7 @@ Commands:
   run     Packs serial text, runs the packets and reports the end
   serial  Runs serial text, one instruction after the other, and reports the end
   sim     Reads a listing, runs its packets and reports the end
+  adopt   Reads packets as they are written for an assembler and writes their listing
   check   Reads serial text, a line `---` and a listing, and compares their blocks
   help    Print this message or the help of the given subcommand(s)
 
@@ -439,6 +441,18 @@ Options:
         ENDING,
     ),
     (
+        &["adopt", "-h"],
+        "Reads packets as they are written for an assembler and writes their listing
+
+Usage: c62 adopt [--drain]
+
+Options:
+      --drain  Adds the NOPs that lack before labels and at the end, and says how many cycles
+  -h, --help   Print help
+",
+        ENDING,
+    ),
+    (
         &["check", "-h"],
         "Reads serial text, a line `---` and a listing, and compares their blocks
 
@@ -480,7 +494,7 @@ For more information, try '--help'.
 ];
 
 /// Words that are no command line.
-const REFUSED_WORDS: [&[&str]; 27] = [
+const REFUSED_WORDS: [&[&str]; 30] = [
     &["-h"],
     &["help"],
     &["help", "pack"],
@@ -505,6 +519,9 @@ const REFUSED_WORDS: [&[&str]; 27] = [
     &["serial", "--blocks", "0x5"],
     &["serial", "--blocks", "1", "--blocks", "1"],
     &["serial", "-5"],
+    &["adopt", "--turns"],
+    &["adopt", "A1=1"],
+    &["adopt", "--drain=yes"],
     &["check", "--turns"],
     &["check", "A1=1"],
     &["check", "text.s", "hand.lst"],

@@ -8,7 +8,7 @@ ghost use Rattle.c62_command.specs.CommandLine.{ask_of, asked};
 use crate::answer::{answer, limit_of};
 use crate::failure::Failure;
 use crate::input::read_text;
-use crate::message::report;
+use crate::message::{report, tell_outcome};
 use crate::outcome::Outcome;
 use c62_command::{Request, command_of};
 use std::convert::AsStr;
@@ -73,8 +73,9 @@ fn run<H: AllocGlobal + Threads + Wait + Sync, S: AsStr, R: Read, W: Write>(
 /// wait, so that it is seen to end.
 ///
 /// Where reader and output tell their bytes, a 0 means that the answer to the text was written, a 1 that the text is refused
-/// by the fault that is told, and a 2 that the words are refused before anything is read. Of a check a 0 means that every
-/// block of the listing is the same as the text's, so that its packets run as the text does, and a 5 that some block isn't.
+/// by the fault that is told, and a 2 that the words are refused before anything is read. On a 0 nothing is told but how many
+/// cycles were added to a text that was drained. Of a check a 0 means that every block of the listing is the same as the text's,
+/// so that its packets run as the text does, and a 5 that some block isn't.
 pub fn run_tool<H: AllocGlobal + Threads + Wait + Sync, S: AsStr, R: Read, W: Write, E: Write>(
     rt: &H,
     words: &[S],
@@ -87,7 +88,10 @@ pub fn run_tool<H: AllocGlobal + Threads + Wait + Sync, S: AsStr, R: Read, W: Wr
         IsRun (map S.text words.now) old new result }
 {
     match run(rt, words, reader, output) {
-        Ok(outcome) => outcome.status(),
+        Ok(outcome) => {
+            tell_outcome(errors, outcome);
+            outcome.status()
+        }
         Err(failure) => {
             report(errors, &failure);
             failure.status()

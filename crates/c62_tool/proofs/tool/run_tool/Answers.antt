@@ -1,14 +1,14 @@
 use Rattle.std.proofs.Common.{map}
 use Rattle.c62_tool.specs.Run.{streams}
-use Rattle.c62_tool.proofs.Runs.{Keeps-same, done, failed}
+use Rattle.c62_tool.proofs.Runs.{done, failed}
 use Rattle.c62_tool.proofs.tool.run_tool.Goals as goal
 
 pub returns-in-Ok : goal.returns-in-Ok
 returns-in-Ok g c =
     rw c.status.ensures (done (map g.S.AsStr.text c.args.words.now)
     (streams (g.R.Read.remaining c.args.reader.now) (g.W.Write.contents c.args.output.now) (g.E.Write.contents c.args.errors.now))
-    (streams (g.R.Read.remaining c.run.new.reader) (g.W.Write.contents c.run.new.output) (g.E.Write.contents c.args.errors.now)) c.in-Ok.outcome
-    (record { unread = c.in-Ok.ensures.unread; most = c.in-Ok.ensures.most }) (Keeps-same (g.E.Write.contents c.args.errors.now)) c.in-Ok.ensures.ok)
+    (streams (g.R.Read.remaining c.run.new.reader) (g.W.Write.contents c.run.new.output) (g.E.Write.contents c.tell_outcome.new.errors)) c.in-Ok.outcome
+    (record { unread = c.in-Ok.ensures.unread; most = c.in-Ok.ensures.most }) c.tell_outcome.ensures c.in-Ok.ensures.ok)
 
 pub returns-in-Err : goal.returns-in-Err
 returns-in-Err g c =
