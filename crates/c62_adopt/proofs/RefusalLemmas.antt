@@ -1,5 +1,5 @@
 -- A text is refused in one way.
-use Rattle.std.proofs.Common.{arith, ◌≡◌, ◌⊎◌, ℕ, zero, suc, ◌<◌, ◌≤◌, Bool, List, [], ◌∷◌, ◌++◌, length, refl, sym, ap, subst, ◌∙◌, inl, inr, Option, Some, None}
+use Rattle.std.proofs.Common.{arith, ◌≡◌, ◌⊎◌, ℕ, zero, suc, Bool, List, [], ◌∷◌, ◌++◌, refl, sym, ap, subst, ◌∙◌, inl, inr}
 use Rattle.std.specs.Prelude.{All, Contains}
 use Rattle.std.proofs.lemmas.Bool.{cases_lt}
 use Rattle.std.proofs.lemmas.Option.{same_Some}
@@ -14,13 +14,10 @@ use Rattle.c62_packet.specs.Fault.{rank_of, IsFirstBroken}
 use Rattle.c62_packet.proofs.Broken.{kept-each}
 use Rattle.c62_adopt_cut.specs.declared.fault.TextFault.{TextFault}
 use Rattle.c62_adopt_cut.specs.Blocks.{Draft}
-use Rattle.c62_adopt_cut.specs.Text.{Refusal, text_cut}
+use Rattle.c62_adopt_cut.specs.Text.{text_cut}
 use Rattle.c62_adopt_cut.specs.Drafted.{refusal_of}
-use Rattle.c62_adopt_cut.specs.Flight.{first_in_flight, or_behind}
-use Rattle.c62_adopt.specs.declared.fault.AdoptFault.{AdoptFault}
 use Rattle.c62_adopt.specs.declared.fault.AdoptFault.TheVariants.{Text, Rule, Memory}
 use Rattle.c62_adopt.specs.Breach.{KeepsRules, IsBreachIn, IsFirstBreach}
-use Rattle.c62_adopt.specs.Answer.{Refuses}
 use Rattle.c62_adopt.specs.Laws.{HasOneAnswer, HasOneRefusal}
 use Rattle.c62_adopt.proofs.Breaches.{same_placed}
 use Rattle.c62_adopt.proofs.AnswerLemmas.{one_adoption, not_refused, no_breach, front_part}

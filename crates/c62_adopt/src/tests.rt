@@ -2,28 +2,26 @@
 
 use crate::adopt;
 use c62_listing::list;
-use std::alloc::Global;
+use std::alloc::{AllocError, Global};
 use std::test::Fail;
 
 /// The listing of a text behind the number of cycles that were added, or what it is refused for.
-fn told(alloc: Global, text: &str, drain: bool) -> Result<String, Fail> {
+fn told(alloc: Global, text: &str, drain: bool) -> Result<String, AllocError> {
     match adopt(alloc, text.as_bytes(), drain) {
         Ok(adopted) => {
             let added = adopted.added;
             let listing = list(alloc, &adopted.packets)?;
-            Ok(format!(in alloc; "{added}\n{listing}")?)
+            format!(in alloc; "{added}\n{listing}")
         }
-        Err(fault) => Ok(format!(in alloc; "{fault}")?),
+        Err(fault) => format!(in alloc; "{fault}"),
     }
 }
 
 /// The same, asked for again where memory is refused.
-fn told_again(alloc: Global, text: &str, drain: bool) -> Result<String, Fail> {
-    let first = told(alloc, text, drain)?;
-    if first.as_str() == "memory" {
-        told(alloc, text, drain)
-    } else {
-        Ok(first)
+fn told_again(alloc: Global, text: &str, drain: bool) -> Result<String, AllocError> {
+    match told(alloc, text, drain) {
+        Ok(first) if first.as_str() != "memory" => Ok(first),
+        Ok(_) | Err(_) => told(alloc, text, drain),
     }
 }
 
