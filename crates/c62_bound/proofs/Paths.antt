@@ -13,11 +13,9 @@ use Rattle.c62_depend.specs.Height.{height, delay_at, delay_in, IsHeight}
 use Rattle.c62_depend.proofs.Rules.{height_is}
 use Rattle.c62_depend.proofs.Latencies.{latency-is}
 use Rattle.c62_sheet.specs.declared.entry.Spot.{Spot}
-use Rattle.c62_sheet.specs.Lawful.{Spots, IsAt, spot_at, IsLawful}
-use Rattle.c62_sheet.specs.Least.{IsComplete}
-use Rattle.c62_sheet.specs.Counts.{set_length}
+use Rattle.c62_sheet.specs.Lawful.{Spots, IsAt, spot_at}
 use Rattle.c62_sheet.proofs.Used.{insn_at}
-use Rattle.c62_sheet.proofs.Landings.{delay_ends}
+use Rattle.c62_bound.specs.Laws.{IsSeated}
 
 -- the spot of a placed number
 pub spot_of : (o : Option Spot) → IsSome o → (s : Spot) × (o ≡ Some s)
@@ -28,17 +26,17 @@ bound_of : (block : List Insn) (i j : ℕ) (o : Option ℤ) (cycles : ℤ) → I
 bound_of block i j None cycles is e = absurd (none-some cycles e)
 bound_of block i j (Some l) cycles is e = subst (λ x. Bounds block i j x) (same_Some l cycles e) is.applies
 
-module _ (block : List Insn) (set : Spots) (plan : IsPlan block) (lawful : IsLawful block set) (complete : IsComplete block set) where
+module _ (block : List Insn) (set : Spots) (most : ℕ) (plan : IsPlan block) (seated : IsSeated block set most) where
   -- by the delay of i
-  own_delay : (i : ℕ) (s : Spot) → i < length block → IsAt set i s → height block i ≡ delay_at block i → s.cycle + height block i + 1 ≤ set_length block set
+  own_delay : (i : ℕ) (s : Spot) → i < length block → IsAt set i s → height block i ≡ delay_at block i → s.cycle + height block i + 1 ≤ most
   own_delay i s within is e =
       let w = insn_at block i within in
-      let ends = delay_ends block set plan lawful i w.0 s w.1 is in
+      let ends = seated.ends i w.0 s w.1 is in
       let own : delay_at block i ≡ delay_of (op_of w.0) = ap delay_in w.1 in
       omega (arith, ends, own, e)
 
   -- the height of each number ends within the length, from the last numbers up
-  rises : (steps i : ℕ) (s : Spot) → i < length block → length block ≤ i + steps → IsAt set i s → s.cycle + height block i + 1 ≤ set_length block set
+  rises : (steps i : ℕ) (s : Spot) → i < length block → length block ≤ i + steps → IsAt set i s → s.cycle + height block i + 1 ≤ most
   rises zero i s within few is = absurd (omega (arith, within, few))
   rises (suc steps) i s within few is =
       let h : IsHeight block i (height block i) = height_is block i within in
@@ -50,17 +48,17 @@ module _ (block : List Insn) (set : Spots) (plan : IsPlan block) (lawful : IsLaw
             let short = plan.short i j cycles w.2 in
             let before : i < j = short.before in
             let inside : j < length block = short.within in
-            let t = spot_of (spot_at set j) (complete j inside) in
-            let kept = lawful.delays i j cycles s t.0 (bound_of block i j (latency block i j) cycles (latency-is block i j) w.2) is t.1 in
+            let t = spot_of (spot_at set j) (seated.complete j inside) in
+            let kept = seated.delays i j cycles s t.0 (bound_of block i j (latency block i j) cycles (latency-is block i j) w.2) is t.1 in
             let behind = rises steps j t.0 inside (omega (arith, before, few)) t.1 in
             omega (arith, ints, kept, behind, w.3))
       ]
 
-  pub height_ends : (i : ℕ) (s : Spot) → i < length block → IsAt set i s → s.cycle + height block i + 1 ≤ set_length block set
+  pub height_ends : (i : ℕ) (s : Spot) → i < length block → IsAt set i s → s.cycle + height block i + 1 ≤ most
   height_ends i s within is = rises (length block) i s within (omega arith) is
 
-  pub height_below : (i : ℕ) → i < length block → height block i + 1 ≤ set_length block set
+  pub height_below : (i : ℕ) → i < length block → height block i + 1 ≤ most
   height_below i within =
-      let s = spot_of (spot_at set i) (complete i within) in
+      let s = spot_of (spot_at set i) (seated.complete i within) in
       let ends = height_ends i s.0 within s.1 in
       omega (arith, ends)

@@ -1,8 +1,9 @@
--- Each instruction waits for a room, so the greatest need is no shorter than the critical path.
-use Rattle.std.proofs.Common.{arith, ◌≡◌, ℕ, zero, suc, ◌+◌, ◌*◌, ◌<◌, ◌≤◌, List, length, Option, Some, refl, ap, subst, ◌⊎◌, inl, inr, Bool, true, false, ◌&&◌}
+-- All but a branch to a block waits for a room, so the greatest need is no shorter than a path that begins with it.
+use Rattle.std.proofs.Common.{arith, ◌≡◌, ℕ, zero, suc, ◌+◌, ◌*◌, ◌<◌, ◌≤◌, List, length, Option, Some, refl, ap, subst, ◌⊎◌, inl, inr, Bool, true, false}
 use Rattle.std.specs.Prelude.{slice_get, IsTrue}
 use Rattle.std.specs.Int.{div_ceil}
-use Rattle.std.proofs.lemmas.Bool.{cases_Bool, cases_eq, cases_lt, and_parts}
+use Rattle.std.proofs.lemmas.Bool.{cases_Bool, cases_eq, cases_lt}
+use Rattle.std.proofs.lemmas.Option.{slice_get_within}
 use Rattle.std.proofs.lemmas.Grind.{div_ceil_times}
 use Rattle.c62_op.specs.declared.register.Side.{Side}
 use Rattle.c62_op.specs.declared.register.Side.TheVariants.{A, B}
@@ -10,22 +11,19 @@ use Rattle.c62_op.specs.declared.register.Letter.{Letter}
 use Rattle.c62_op.specs.declared.register.Letter.TheVariants.{L, S, M, D}
 use Rattle.c62_op.specs.declared.register.Unit.{Unit as FunctionalUnit}
 use Rattle.c62_op.specs.declared.operands.Op.{Op}
-use Rattle.c62_op.specs.Takes.{takes, same_side, has_letter as stands_on_letter}
+use Rattle.c62_op.specs.Takes.{takes, has_letter as stands_on_letter}
+use Rattle.c62_op.specs.Shape.{side_of}
 use Rattle.c62_op.proofs.FormLemmas.{taken_letter}
+use Rattle.c62_op.proofs.SideLemmas.{takes_on_side}
 use Rattle.c62_insn.specs.declared.insn.Insn.{Insn}
-use Rattle.c62_insn.specs.Insn.{op_of, operands_of, unit_of}
-use Rattle.c62_op.specs.Takes.{is_written}
-use Rattle.c62_insn.specs.Stands.{may_stand}
-use Rattle.c62_depend.specs.Plan.{IsPlan}
+use Rattle.c62_insn.specs.Insn.{op_of, operands_of}
 use Rattle.c62_depend.specs.Height.{height}
-use Rattle.c62_depend.specs.Side.{side, side_in, stands_on, suits_at}
 use Rattle.c62_sheet.specs.Counts.{HasCount}
-use Rattle.c62_sheet.proofs.Used.{insn_at}
 use Rattle.c62_bound.specs.declared.need.Kind.{Kind}
 use Rattle.c62_bound.specs.declared.need.Kind.TheVariants.{M as OnM, Lsd}
 use Rattle.c62_bound.specs.declared.need.Need.{Need}
-use Rattle.c62_bound.specs.Bound.{has_letter, width, StandsOnlyOn, WaitsFor, IsConfined, IsNeed}
-use Rattle.c62_bound.specs.Laws.{ReachesThePath}
+use Rattle.c62_bound.specs.Bound.{has_letter, width, taken_in, is_taken, StandsOnlyOn, WaitsFor, IsConfined, IsNeed}
+use Rattle.c62_bound.specs.Laws.{ReachesPaths}
 use Rattle.c62_bound.proofs.Seats.{some_width}
 use Rattle.c62_bound.proofs.Lengths.{no_fewer}
 
@@ -36,13 +34,9 @@ multiplies op letter on h = grind (arith, on, h)
 others : (op : Op) (letter : Letter) → stands_on_letter op M ≡ false → stands_on_letter op letter ≡ true → has_letter Lsd letter ≡ true
 others op letter off h = grind (arith, off, h)
 
-taken_there : (block : List Insn) (i : ℕ) (insn : Insn) (unit : FunctionalUnit) → slice_get block i ≡ Some insn → IsTrue (stands_on block i unit)
+taken_there : (block : List Insn) (i : ℕ) (insn : Insn) (unit : FunctionalUnit) → slice_get block i ≡ Some insn → IsTrue (is_taken block i unit)
     → takes (op_of insn) (operands_of insn) unit ≡ true
-unfolding stands_on
-taken_there block i insn unit at is =
-    let suits : (same_side unit.side (side_in block insn) && may_stand insn unit) ≡ true = subst (λ (o : Option Insn). suits_at block o unit ≡ true) at is in
-    let stands = (and_parts (same_side unit.side (side_in block insn)) (may_stand insn unit) suits).1 in
-    (and_parts (is_written (unit_of insn) unit) (takes (op_of insn) (operands_of insn) unit) stands).1
+taken_there block i insn unit at is = subst (λ (o : Option Insn). taken_in o unit ≡ true) at is
 
 -- ---- what can be told can be counted
 
@@ -99,38 +93,35 @@ tell_if P Q (inl p) (inr none) = inr (λ f. none (f p))
 
 tell_only : (block : List Insn) (kind : Kind) (s : Side) (j : ℕ) → CanTell (StandsOnlyOn block kind s j)
 tell_only block kind s j =
-    tell_units (λ u. IsTrue (stands_on block j u) → (u.side ≡ s) × IsTrue (has_letter kind u.letter))
-    (λ u. tell_if (IsTrue (stands_on block j u)) ((u.side ≡ s) × IsTrue (has_letter kind u.letter)) (tell_true (stands_on block j u))
+    tell_units (λ u. IsTrue (is_taken block j u) → (u.side ≡ s) × IsTrue (has_letter kind u.letter))
+    (λ u. tell_if (IsTrue (is_taken block j u)) ((u.side ≡ s) × IsTrue (has_letter kind u.letter)) (tell_true (is_taken block j u))
     (both (u.side ≡ s) (IsTrue (has_letter kind u.letter)) (tell_side u.side s) (tell_true (has_letter kind u.letter))))
 
--- a room for which number i waits
-record HasRoom (block : List Insn) (i : ℕ) : Type 0 where
+-- a room of a side for which number i waits
+record HasRoom (block : List Insn) (s : Side) (i : ℕ) : Type 0 where
   kind : Kind
-  waits : WaitsFor block kind (side block i) i
-  tell : (j : ℕ) → CanTell (WaitsFor block kind (side block i) j)
+  waits : WaitsFor block kind s i
+  tell : (j : ℕ) → CanTell (WaitsFor block kind s j)
 
-room_of : (block : List Insn) → IsPlan block → (i : ℕ) → i < length block → HasRoom block i
-room_of block plan i within = go (insn_at block i within).0 (insn_at block i within).1
-  where
-    go : (insn : Insn) → slice_get block i ≡ Some insn → HasRoom block i
-    go insn at = elim (cases_Bool (stands_on_letter (op_of insn) M)) [
-      | inl on ↦ record {
-        kind = OnM;
-        waits = λ unit is. (
-          plan.on_side i unit is,
-          multiplies (op_of insn) unit.letter on (taken_letter (op_of insn) (operands_of insn) unit (taken_there block i insn unit at is)),
-        );
-        tell = tell_only block OnM (side block i);
-      }
-      | inr off ↦ record {
-        kind = Lsd;
-        waits = λ unit is. (
-          plan.on_side i unit is,
-          others (op_of insn) unit.letter off (taken_letter (op_of insn) (operands_of insn) unit (taken_there block i insn unit at is)),
-        );
-        tell = tell_only block Lsd (side block i);
-      }
-    ]
+room_of : (block : List Insn) (i : ℕ) (insn : Insn) (s : Side) → slice_get block i ≡ Some insn → side_of (operands_of insn) ≡ Some s → HasRoom block s i
+room_of block i insn s at decided = elim (cases_Bool (stands_on_letter (op_of insn) M)) [
+  | inl on ↦ record {
+    kind = OnM;
+    waits = λ unit is. (
+      takes_on_side (op_of insn) (operands_of insn) unit s decided (taken_there block i insn unit at is),
+      multiplies (op_of insn) unit.letter on (taken_letter (op_of insn) (operands_of insn) unit (taken_there block i insn unit at is)),
+    );
+    tell = tell_only block OnM s;
+  }
+  | inr off ↦ record {
+    kind = Lsd;
+    waits = λ unit is. (
+      takes_on_side (op_of insn) (operands_of insn) unit s decided (taken_there block i insn unit at is),
+      others (op_of insn) unit.letter off (taken_letter (op_of insn) (operands_of insn) unit (taken_there block i insn unit at is)),
+    );
+    tell = tell_only block Lsd s;
+  }
+]
 
 tell_confined : (block : List Insn) (kind : Kind) (s : Side) (tail j : ℕ) → CanTell (WaitsFor block kind s j) → CanTell (IsConfined block kind s tail j)
 tell_confined block kind s tail j tell = elim (cases_lt (height block j) tail) [
@@ -171,12 +162,13 @@ one_round count by some wide =
           absurd (omega (arith, up, all, some)))
     ]
 
-pub reaches_path : (block : List Insn) → ReachesThePath block
-reaches_path block plan need greatest i within =
-    let room = room_of block plan i within in
-    let Is : ℕ → Type 0 = IsConfined block room.kind (side block i) (height block i) in
-    let count = count_of Is (λ j. tell_confined block room.kind (side block i) (height block i) j (room.tell j)) (length block) in
-    let own : Need = record { kind = room.kind; side = side block i; count = count.0; tail = height block i } in
+pub reaches_paths : (block : List Insn) → ReachesPaths block
+reaches_paths block need greatest i insn s at decided =
+    let within = slice_get_within block i insn at in
+    let room = room_of block i insn s at decided in
+    let Is : ℕ → Type 0 = IsConfined block room.kind s (height block i) in
+    let count = count_of Is (λ j. tell_confined block room.kind s (height block i) j (room.tell j)) (length block) in
+    let own : Need = record { kind = room.kind; side = s; count = count.0; tail = height block i } in
     let is : IsNeed block own = record { last = i; within = within; of = record { is_kind = refl; is_side = refl; is_tail = refl; counted = count.1 } } in
     let some = some_counted Is (length block) count.0 i count.1 within (record { tall = omega arith; waits = room.waits }) in
     let round = one_round count.0 (width room.kind) some (some_width room.kind) in

@@ -28,13 +28,24 @@ const SEVEN_ON_B: &str =
 
 /// Blocks: kind, side, count and tail of the greatest need, its cycles, the length of the critical path, and its numbers.
 /// The cycles are the count, over the width of the kind and rounded up, and the tail.
-const BOUNDS: [(&str, (Kind, Side, u16, u16), u32, u16, &[u16]); 25] = [
+const BOUNDS: [(&str, (Kind, Side, u16, u16), u32, u16, &[u16]); 29] = [
     // Of .S1, of .L1 and .S1, and of all three: the first of the kinds.
     ("MVK 1,A1", (Kind::S, A, 1, 0), 1, 1, &[0]),
     // A load's delay is 4. Its data path is needed as much as .D1, which comes first.
     ("LDW *A4,A5", (Kind::D, A, 1, 4), 5, 5, &[0]),
-    // The delay of a branch is 5; for a tie it stands on side B.
-    ("L1: B L1", (Kind::S, B, 1, 5), 6, 6, &[0]),
+    // The delay of a branch is 5. One to a block stands on .S1 or .S2, and so waits for neither.
+    ("L1: B L1", (Kind::L, A, 0, 5), 5, 6, &[0]),
+    ("L1: B .S1 L1", (Kind::L, A, 0, 5), 5, 6, &[0]),
+    // One to a register stands on .S2.
+    ("B B3", (Kind::S, B, 1, 5), 6, 6, &[0]),
+    // With B on .S1 in cycle 0 there are 6 cycles, as the load has to land with the branch.
+    (
+        "L: MVK 100,B4\nLDW *B4,B5\nADD A1,A1,A1\nADD A2,A2,A2\nB L",
+        (Kind::S, B, 1, 5),
+        6,
+        6,
+        &[0, 1, 4],
+    ),
     // The branch reads A1 a cycle later: the height of SUB is 1 + 5, and it stands on .L1, .S1 or .D1.
     (
         "L1: SUB A1,1,A1\n[A1] B L1",
@@ -46,7 +57,7 @@ const BOUNDS: [(&str, (Kind, Side, u16, u16), u32, u16, &[u16]); 25] = [
     // On .D1 and .D2, but over one data path.
     ("LDW *A4,A5\nLDW *B4,A6", (Kind::Path, A, 2, 4), 6, 5, &[0]),
     ("LDW *A4,B5\nLDW *B4,B6", (Kind::Path, B, 2, 4), 6, 5, &[0]),
-    // Comparisons stand on .L alone, or where it is written.
+    // Comparisons stand on .L alone.
     (
         "CMPEQ A1,A2,A3\nCMPEQ A1,A2,A4",
         (Kind::L, A, 2, 0),
@@ -55,9 +66,17 @@ const BOUNDS: [(&str, (Kind, Side, u16, u16), u32, u16, &[u16]); 25] = [
         &[0],
     ),
     (
-        "ADD .L2 B1,B2,B3\nADD .L2 B1,B2,B4",
+        "CMPEQ B1,B2,B3\nCMPEQ B1,B2,B4",
         (Kind::L, B, 2, 0),
         2,
+        1,
+        &[0],
+    ),
+    // Where .L2 is written both may stand on .L2, .S2 and .D2 all the same.
+    (
+        "ADD .L2 B1,B2,B3\nADD .L2 B1,B2,B4",
+        (Kind::Lsd, B, 2, 0),
+        1,
         1,
         &[0],
     ),
@@ -122,10 +141,10 @@ const BOUNDS: [(&str, (Kind, Side, u16, u16), u32, u16, &[u16]); 25] = [
         7,
         &[0, 1, 2],
     ),
-    // All the path's latencies are 1, and its last delay is 1; the sums of the other side need more cycles.
+    // All the path's latencies are 1, and its last delay is 1; the constants of the other side need more cycles.
     (
-        "ADD B2,B1,B2\nMVK 1,A1\nMPY A1,A1,A2\nADD .L2 B3,B1,B3\nADD .L2 B4,B1,B4\nADD .L2 B5,B1,B5\nADD .L2 B6,B1,B6",
-        (Kind::L, B, 4, 0),
+        "ADD B2,B1,B2\nMVK 1,A1\nMPY A1,A1,A2\nMVK 1,B3\nMVK 2,B4\nMVK 3,B5\nMVK 4,B6",
+        (Kind::S, B, 4, 0),
         4,
         3,
         &[1, 2],
@@ -157,7 +176,8 @@ fn bounds(rt: HostRuntime) -> Result<(), Fail> {
         assert_eq!(rt; need, want, "{text}");
         assert_eq!(rt; need.cycles(), *cycles, "{text}");
         assert_eq!(rt; path_length(&plan), *length, "{text}");
-        assert_eq!(rt; least_length(&plan), *cycles, "{text}");
+        let least = (*cycles).max(u32::from(*length));
+        assert_eq!(rt; least_length(&plan), least, "{text}");
         let found = critical_path(rt.alloc(), &plan)?;
         assert!(rt; &found[..] == *path, "{text}");
     }

@@ -191,7 +191,7 @@ module _ (insns : List SerialInsn) (listed numbered : List Placed) (plan : IsPla
 pub one_numbering : (insns : List SerialInsn) (listed numbered : List Placed) → HasOneNumbering insns listed numbered
 one_numbering insns listed numbered plan distinct is count taken left are i d inside = up_to insns listed numbered plan distinct is count taken left are (suc i) i d (omega arith) inside
 
-is_plan : (insns : List SerialInsn) → IsTrue (is_block insns) → IsPlan (unnumbered insns)
+pub is_plan : (insns : List SerialInsn) → IsTrue (is_block insns) → IsPlan (unnumbered insns)
 is_plan insns sound = plan_is (unnumbered insns) (few_insns insns sound) (last_branch insns sound)
 
 -- ---- where a lawful numbering is, nothing stands against the packets

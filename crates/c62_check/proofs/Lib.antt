@@ -7,3 +7,4 @@ pub mod Exact
 pub mod Others
 pub mod Telling
 pub mod Serially
+pub mod Least

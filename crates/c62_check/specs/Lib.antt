@@ -4,4 +4,5 @@ pub mod Schedule
 pub mod Verdict
 pub mod Lines
 pub mod Checked
+pub mod Least
 pub mod Serial

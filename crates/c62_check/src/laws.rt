@@ -8,6 +8,7 @@ ghost use Rattle.c62_packet.specs.declared.placed.Placed.{Placed};
 ghost use Rattle.c62_packet.specs.Packed.{Packed};
 ghost use Rattle.c62_check.specs.declared.verdict.Verdict.{Verdict as Answer};
 ghost use Rattle.c62_check.specs.Schedule.{SchedulesArePacked, HasOneNumbering};
+ghost use Rattle.c62_check.specs.Least.{PacketsAreSeated, NoPacketsAreShorter, NoCheckedAreShorter};
 ghost use Rattle.c62_check.specs.Verdict.{IsExact};
 ghost use Rattle.c62_check.specs.Checked.{SaysSame};
 ghost use Rattle.c62_check.specs.Serial.{CheckedAreSerial};
@@ -37,4 +38,22 @@ pub fn has_one_numbering()
 /// A schedule of a block, with the lines of its instructions in place of the listing's, is packets of the block.
 pub fn schedules_are_packed()
     ensures { (block : Serial) (packed : Packed) → SchedulesArePacked block packed }
+{}
+
+/// In packets that are a schedule of a block each of its instructions has a cycle and a unit that takes it, so that all bounds
+/// are kept and no two are on one unit or data path in a cycle.
+pub fn packets_are_seated()
+    ensures { (block : Serial) (packed : Packed) → PacketsAreSeated block packed }
+{}
+
+/// Packets that are a schedule of a block take no fewer cycles than its critical path, than any of its needs, and than its
+/// least length, which [`c62_bound::least_length`] answers: what is told as the bound of a block holds of all packets of which
+/// the verdict is `Same`.
+pub fn no_packets_are_shorter()
+    ensures { (block : Serial) (packed : Packed) → NoPacketsAreShorter block packed }
+{}
+
+/// Where all is the same, each block's packets take no fewer cycles than what is told as its bound.
+pub fn no_checked_packets_are_shorter()
+    ensures { (program : List Serial) (packets : List Packed) (text : List ℕ) → NoCheckedAreShorter program packets text }
 {}

@@ -72,7 +72,7 @@ written_last op (Block number) u h e = absurd (cc (to_branch op number u h, e))
 written_last op (Register target) u h e = absurd (cc (to_register op target u h, e))
 
 -- what is no branch writes with its delay, or has none
-lands_with_delay : (insn : Insn) → is_branch (op_of insn) ≡ false → delay_of (op_of insn) ≤ greatest_delay (register_writes insn)
+pub lands_with_delay : (insn : Insn) → is_branch (op_of insn) ≡ false → delay_of (op_of insn) ≤ greatest_delay (register_writes insn)
 lands_with_delay insn e = let found = has_unit insn in written_last (op_of insn) (operands_of insn) found.0 found.1 e
 
 -- ---- what is issued

@@ -1,5 +1,5 @@
 -- What the head of a block says.
-use Rattle.std.proofs.Common.{◌≡◌, ◌∙◌, ℕ, zero, suc, ◌+◌, ◌-◌, ◌^◌, ◌<◌, ◌≤◌, ◌==◌, Bool, true, false, List, [], ◌∷◌, ◌++◌, map, Option, Some, None, refl, sym, ap, arith, cond, get_or}
+use Rattle.std.proofs.Common.{◌≡◌, ◌∙◌, ℕ, zero, suc, ◌+◌, ◌-◌, ◌^◌, ◌<◌, ◌≤◌, ◌==◌, Bool, true, false, List, [], ◌∷◌, ◌++◌, map, Option, Some, None, refl, sym, ap, subst, max, arith, cond, get_or}
 use Rattle.std.specs.Prelude.{decimal}
 use Rattle.std.specs.Int.Digits.{AllBelowBase, digits_of}
 use Rattle.std.proofs.lemmas.Int.Digits.{all_below_base_digits_of}
@@ -8,29 +8,30 @@ use Rattle.std.proofs.lemmas.Bool.Decides.{nat_tests}
 use Rattle.c62_insn.specs.declared.insn.Insn.{Insn}
 use Rattle.c62_read.specs.Block.{Serial}
 use Rattle.c62_depend.specs.Plan.{insns_of}
-use Rattle.c62_sheet.specs.Lawful.{Spots}
 use Rattle.c62_sheet.specs.Counts.{set_length}
 use Rattle.c62_bound.specs.declared.need.Need.{Need}
 use Rattle.c62_bound.specs.Bound.{FindsNeed}
 use Rattle.c62_bound.specs.Path.{IsPathLength}
-use Rattle.c62_bound.specs.Laws.{IsNoShorter as BoundsHold}
-use Rattle.c62_bound.proofs.Needs.{no_shorter}
+use Rattle.c62_bound.specs.Length.{IsLeastLength}
+use Rattle.c62_bound.proofs.Lengths.{least_with, least_without}
+use Rattle.c62_bound.proofs.Needs.{no_seating_shorter}
+use Rattle.c62_bound.proofs.Seated.{schedules_seated}
+use Rattle.c62_show.specs.declared.limits.Limits.{Limits}
 use Rattle.c62_show.specs.declared.shown.Shown.{Shown}
 use Rattle.c62_show.specs.Limits.{least_of, needed}
 use Rattle.c62_show.specs.Head.{none_is_shorter, over_bound, verdict}
-use Rattle.c62_show.specs.Laws.{HeadIsTrue}
+use Rattle.c62_show.specs.Laws.{HeadIsTrue, HeadIsTrueOfSchedules, BoundIsLeastLength}
 
 -- ---- the bound
 
-path_holds : (block : List Insn) (set : Spots) (path : ℕ) → IsPathLength block path → BoundsHold block set → path ≤ set_length block set
-path_holds block set zero is holds = omega arith
-path_holds block set (suc path) is holds =
-    let tallest = is.attained (omega arith) in
-    omega (arith, tallest.2, holds.path tallest.0 tallest.1)
+least_of_both : (block : List Insn) (path : ℕ) (need : Option Need) → IsPathLength block path → FindsNeed block need → IsLeastLength block (max path (needed need))
+least_of_both block path None is_path empty =
+    let same : path ≡ max path 0 = omega arith in
+    subst (IsLeastLength block) same (least_without block path empty is_path)
+least_of_both block path (Some need) is_path is_need = least_with block path need is_path is_need
 
-need_holds : (block : List Insn) (set : Spots) (need : Option Need) → FindsNeed block need → BoundsHold block set → needed need ≤ set_length block set
-need_holds block set None is holds = omega arith
-need_holds block set (Some need) is holds = holds.needs need is.is
+pub bound_is_least : (block : Serial) (limits : Limits) → BoundIsLeastLength block limits
+bound_is_least block limits are = least_of_both (insns_of block) limits.path_length limits.need are.path_length are.need
 
 -- ---- the words
 
@@ -66,14 +67,14 @@ tells_none : (cycles least : ℕ) → cycles ≤ 2048 → verdict cycles least �
 tells_none cycles least small e = told (cycles == least) cycles least (over_bound least) refl small (space_first least) e
 
 pub head_is_true : (block : Serial) (shown : Shown) → HeadIsTrue block shown
-head_is_true block shown set sound are plan lawful complete =
-    let insns = insns_of block in
-    let limits = shown.limits in
-    let holds : BoundsHold insns set = no_shorter insns set plan lawful complete in
-    let path : limits.path_length ≤ set_length insns set = path_holds insns set limits.path_length are.path_length holds in
-    let need : needed limits.need ≤ set_length insns set = need_holds insns set limits.need are.need holds in
-    let bound : least_of limits ≤ set_length insns set = omega (arith, path, need) in
+head_is_true block shown set cycles sound are plan seated =
+    let holds = no_seating_shorter (insns_of block) set cycles plan seated in
+    let bound : least_of shown.limits ≤ cycles = holds.least (least_of shown.limits) (bound_is_least block shown.limits are) in
     record {
       bound = bound;
-      none = λ e. let same = tells_none shown.packets.cycles (least_of limits) sound.short e in omega (arith, same, bound);
+      none = λ e. let same = tells_none shown.packets.cycles (least_of shown.limits) sound.short e in omega (arith, same, bound);
     }
+
+pub head_is_true_of_schedules : (block : Serial) (shown : Shown) → HeadIsTrueOfSchedules block shown
+head_is_true_of_schedules block shown set sound are plan lawful complete =
+    head_is_true block shown set (set_length (insns_of block) set) sound are plan (schedules_seated (insns_of block) set plan lawful complete)

@@ -7,22 +7,36 @@ use Rattle.c62_sheet.specs.Least.{IsComplete}
 use Rattle.c62_sheet.specs.Counts.{set_length}
 use Rattle.c62_packet.specs.declared.placed.Placed.{Placed}
 use Rattle.c62_packet.specs.Packed.{Packed, IsInListingOrder, IsPacketBlock}
+use Rattle.c62_bound.specs.Length.{IsLeastLength}
+use Rattle.c62_bound.specs.Laws.{IsSeated}
+use Rattle.c62_show.specs.declared.limits.Limits.{Limits}
 use Rattle.c62_show.specs.declared.shown.Shown.{Shown}
 use Rattle.c62_show.specs.Limits.{AreLimits, least_of}
 use Rattle.c62_show.specs.Head.{verdict, none_is_shorter}
 use Rattle.c62_show.specs.Grid.{is_issued, is_on, next_issue, packet}
 
--- Each lawful schedule has at least as many cycles as the bound, and where the head of a block says that no schedule is
--- shorter, at least as many as the block.
-pub record IsNoShorter (block : Serial) (shown : Shown) (set : Spots) : Type 0 where
-  pub bound : least_of shown.limits ≤ set_length (insns_of block) set
-  pub none : verdict shown.packets.cycles (least_of shown.limits) ≡ none_is_shorter → shown.packets.cycles ≤ set_length (insns_of block) set
+-- So many cycles are at least the bound, and where the head of a block says that no schedule is shorter, at least as many as
+-- the block has.
+pub record IsNoShorter (shown : Shown) (cycles : ℕ) : Type 0 where
+  pub bound : least_of shown.limits ≤ cycles
+  pub none : verdict shown.packets.cycles (least_of shown.limits) ≡ none_is_shorter → shown.packets.cycles ≤ cycles
 
--- this holds of every lawful schedule that places all
+-- this holds of all in which each instruction has a cycle and a unit that takes it, on whichever side: so of all packets that
+-- `check` calls the same as the block
 abbrev pub HeadIsTrue : Serial → Shown → Type 0
 HeadIsTrue block shown =
+    (set : Spots) (cycles : ℕ) → IsPacketBlock shown.packets → AreLimits block shown.limits → IsPlan (insns_of block) → IsSeated (insns_of block) set cycles
+    → IsNoShorter shown cycles
+
+-- and of every lawful schedule that places all
+abbrev pub HeadIsTrueOfSchedules : Serial → Shown → Type 0
+HeadIsTrueOfSchedules block shown =
     (set : Spots) → IsPacketBlock shown.packets → AreLimits block shown.limits → IsPlan (insns_of block) → IsLawful (insns_of block) set
-    → IsComplete (insns_of block) set → IsNoShorter block shown set
+    → IsComplete (insns_of block) set → IsNoShorter shown (set_length (insns_of block) set)
+
+-- the bound that is told of a block is its least length
+abbrev pub BoundIsLeastLength : Serial → Limits → Type 0
+BoundIsLeastLength block limits = AreLimits block limits → IsLeastLength (insns_of block) (least_of limits)
 
 -- from a cycle in which nothing is issued, nothing is issued before the next cycle of which the row tells
 abbrev pub IsIdleUntil : List Placed → ℕ → ℕ → Type 0

@@ -5,12 +5,20 @@ ghost use Rattle.c62_packet.specs.declared.placed.Placed.{Placed};
 ghost use Rattle.c62_packet.specs.Packed.{Packed};
 ghost use Rattle.c62_read.specs.Block.{Serial};
 ghost use Rattle.c62_show.specs.declared.shown.Shown.{Shown};
-ghost use Rattle.c62_show.specs.Laws.{HeadIsTrue, IsIdleUntil, AreAllShown};
+ghost use Rattle.c62_show.specs.Laws.{HeadIsTrue, HeadIsTrueOfSchedules, BoundIsLeastLength, IsIdleUntil, AreAllShown};
+ghost use Rattle.c62_show.specs.declared.limits.Limits.{Limits};
 
-/// Where the head of a block says that no schedule is shorter, none is that is lawful and places all instructions; and none
-/// is shorter than the bound that it tells otherwise.
+/// Where the head of a block says that no schedule is shorter, none is in which each instruction has a cycle and a unit that
+/// takes it, whichever is written, so that all bounds are kept; and none is shorter than the bound that it tells otherwise. So
+/// none of the packets that `check` calls the same as the block is, and no lawful set that places all instructions.
 pub fn heads_are_true()
-    ensures { (block : Serial) (shown : Shown) → HeadIsTrue block shown }
+    ensures seated { (block : Serial) (shown : Shown) → HeadIsTrue block shown }
+    ensures lawful { (block : Serial) (shown : Shown) → HeadIsTrueOfSchedules block shown }
+{}
+
+/// The bound that is told of a block is its least length.
+pub fn bounds_are_least_lengths()
+    ensures { (block : Serial) (limits : Limits) → BoundIsLeastLength block limits }
 {}
 
 /// In the cycles that stand in one row nothing is issued.

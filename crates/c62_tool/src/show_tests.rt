@@ -113,7 +113,28 @@ const EJECTING: &[u8] =
     b"LDW *B4,B5\nADD B2,A2,B3\nADD A1,B1,A3\nADD A3,A3,A4\nMPY A5,B1,A2\nMPY A2,A2,A6";
 
 /// A line, how often it stands, what follows it, and how the picture of that begins.
-const SHOWN_TEXTS: [(&[u8], usize, &[u8], &str); 2] = [
+const SHOWN_TEXTS: [(&[u8], usize, &[u8], &str); 4] = [
+    // A branch to a block waits for neither side: with this one on .S1 in cycle 0 there are six cycles.
+    (
+        b"",
+        0,
+        b"L: MVK 100,B4\nLDW *B4,B5\nADD A1,A1,A1\nADD A2,A2,A2\nB L",
+        "\
+L: 5 instructions in 7 cycles; 1 over the bound of 6
+   path     6: lines 1 2 5
+cycle",
+    ),
+    // What keeps the written units takes a cycle more than the bound, which asks for none.
+    (
+        b"",
+        0,
+        b"PAIR: LDH .D1T1 *A4++[2],A5\nLDH .D2T2 *B4++[2],B5\nCMPGT .L1 A5,A6,A2\nCMPGT .L2 B5,B6,B0\n\
+[A2] MV A5,A6\n[A2] MV A8,A7\n[B0] MV B5,B6\n[B0] MV B8,B7\nADDK .S1 2,A8\nADDK .S2 2,B8\nSUB .D1 A1,1,A1\n[A1] B .S1 PAIR",
+        "\
+PAIR: 12 instructions in 8 cycles; 1 over the bound of 7
+   path     7: lines 1 3 5 12
+cycle",
+    ),
     // four digits
     (
         b"\n",
