@@ -1,5 +1,5 @@
 -- The packets of a program's blocks.
-use Rattle.std.proofs.Common.{◌≡◌, ◌∙◌, ℕ, zero, suc, ◌+◌, ◌<◌, ◌≤◌, true, List, [], ◌∷◌, ◌++◌, length, Option, Some, refl, sym, ap, subst, arith}
+use Rattle.std.proofs.Common.{◌≡◌, ◌∙◌, ℕ, zero, suc, ◌+◌, ◌<◌, ◌≤◌, true, List, [], ◌∷◌, ◌++◌, length, take, drop, take-append-drop, Option, Some, refl, sym, ap, subst, arith}
 use Rattle.std.specs.Prelude.{slice_get, All}
 use Rattle.std.specs.List.{list_all}
 use Rattle.std.proofs.lemmas.List.{length-append}
@@ -52,6 +52,22 @@ pub scheduled_next : (packing : Packing) (blocks : List Serial) (packets new : L
 scheduled_next packing blocks packets new block board all made pushed =
     let one = scheduled_one packing block board pushed.0 made pushed.1 pushed.2 pushed.3 in
     subst (λ (whole : List Packed). AreScheduled packing (blocks ++ block ∷ []) whole) (sym pushed.4) (scheduled_more packing blocks packets block pushed.0 all one)
+
+-- the blocks of one list, and then those of another
+pub scheduled_both : (packing : Packing) (blocks others : List Serial) (packets rest : List Packed) → AreScheduled packing blocks packets → AreScheduled packing others rest
+    → AreScheduled packing (blocks ++ others) (packets ++ rest)
+scheduled_both packing [] others [] rest all more = more
+scheduled_both packing [] others (q ∷ packets) rest all more = absurd all
+scheduled_both packing (b ∷ blocks) others [] rest all more = absurd all
+scheduled_both packing (b ∷ blocks) others (q ∷ packets) rest all more = (all.0, scheduled_both packing blocks others packets rest all.1 more)
+
+-- the blocks of a list, cut in two
+pub scheduled_halves : (packing : Packing) (all low high : List Serial) (at : ℕ) (front back packets : List Packed) → low ≡ take at all → high ≡ drop at all
+    → packets ≡ front ++ back → AreScheduled packing low front → AreScheduled packing high back → AreScheduled packing all packets
+scheduled_halves packing all low high at front back packets begin end whole first second =
+    let blocks : low ++ high ≡ all = ap (λ (l : List Serial). l ++ high) begin ∙ ap (λ (l : List Serial). take at all ++ l) end ∙ take-append-drop at all in
+    subst (λ (l : List Serial). AreScheduled packing l packets) blocks
+    (subst (λ (l : List Packed). AreScheduled packing (low ++ high) l) (sym whole) (scheduled_both packing low high front back first second))
 
 -- what is shown of one block more
 pub shown_more : (packing : Packing) (blocks : List Serial) (shown : List Shown) (block : Serial) (one : Shown) → AreShown packing blocks shown

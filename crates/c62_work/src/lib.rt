@@ -3,6 +3,7 @@
 #![tactic(auto)]
 
 mod alternating;
+mod bells;
 mod finishing;
 mod gate;
 pub mod rounds;

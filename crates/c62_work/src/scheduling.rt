@@ -3,13 +3,14 @@
 ghost use Rattle.std.specs.Prelude.{IfOk};
 ghost use Rattle.c62_work.specs.Schedule.{IsWhole};
 
+use crate::bells::Bells;
 use crate::finishing::finish;
 use crate::gate::Gate;
-use crate::workers::worker;
+use crate::workers::work;
 use c62_board::Board;
 use c62_depend::Plan;
 use c62_insn::Side;
-use c62_view::{DeskFault, desk_of};
+use c62_view::{Desk, DeskFault, Viewer, desk_of};
 use std::alloc::{AllocError, Global};
 use std::sync::{Mutex, Wait};
 use std::thread::{Threads, join};
@@ -21,6 +22,22 @@ pub struct Options {
     pub turns: u32,
     /// The most ejections of the whole schedule.
     pub budget: u16,
+}
+
+/// A worker beside another one, which learns when this one begins and when it has ended.
+fn beside<R: Wait, G: Gate>(
+    rt: &R,
+    desk: &Mutex<Desk>,
+    viewer: &mut Viewer,
+    side: Side,
+    turns: u32,
+    gate: &G,
+    bells: &Bells,
+) -> u32 {
+    bells.began(side);
+    let made = work(rt, desk, viewer, side, turns, gate, Some(bells));
+    bells.ended(side);
+    made
 }
 
 /// The board once two workers had their turns on it, or as it was where viewers had no place.
@@ -37,10 +54,11 @@ fn worked<R: Threads + Wait + Sync, G: Gate + Sync>(
         Err((_, DeskFault::Memory)) => return Err(AllocError),
     };
     let shared = Mutex::new(desk);
+    let bells = Bells::new();
     join(
         rt,
-        || worker(rt, &shared, &mut first, Side::A, turns, gate),
-        || worker(rt, &shared, &mut second, Side::B, turns, gate),
+        || beside(rt, &shared, &mut first, Side::A, turns, gate, &bells),
+        || beside(rt, &shared, &mut second, Side::B, turns, gate, &bells),
     );
     Ok(shared.into_inner().close(rt))
 }

@@ -3,6 +3,7 @@
 ghost use Rattle.std.specs.Prelude.{◌≤◌};
 
 use crate::alternating::goes_on;
+use crate::bells::Bells;
 use crate::gate::Gate;
 use c62_board::{CommitFault, Proposal, Turn, who_of};
 use c62_insn::Side;
@@ -14,6 +15,12 @@ use std::thread::yield_now;
 /// How long a side rests that found nothing to place.
 const SPINS: u32 = 200;
 
+/// How often the lock is tried before a worker sleeps for it.
+const TRIES: u32 = 16;
+
+/// How long a worker pauses between two tries.
+const PAUSES: u32 = 8;
+
 /// In so many turns a side that rests leaves its processor each time, so that the other side gets on where the two share one.
 const PROMPT_TURNS: u32 = 4_096;
 
@@ -21,7 +28,7 @@ const PROMPT_TURNS: u32 = 4_096;
 /// ended early rests in each of its turns.
 const TURNS_A_YIELD: u32 = 64;
 
-/// Leaves the lock to the other side, until it may have placed something on which this side waits.
+/// Leaves the lock to another worker, until that may have placed something on which this one waits.
 fn rest(turn: u32) {
     for _ in 0..SPINS {
         spin_loop();
@@ -29,6 +36,20 @@ fn rest(turn: u32) {
     if turn < PROMPT_TURNS || turn % TURNS_A_YIELD == 0 {
         yield_now();
     }
+}
+
+/// Takes the lock. Whoever sleeps for it is woken by whoever lets it go, and the next one who comes then sleeps at once. So
+/// it is tried a few times before that.
+fn take<'a, R: Wait>(rt: &R, desk: &'a Mutex<Desk>) -> MutexGuard<'a, Desk> {
+    for _ in 0..TRIES {
+        if let Some(guard) = desk.try_lock() {
+            return guard;
+        }
+        for _ in 0..PAUSES {
+            spin_loop();
+        }
+    }
+    desk.lock(rt)
 }
 
 /// What a side's turn comes to on a desk.
@@ -48,11 +69,56 @@ fn turn_on<R: Wait>(rt: &R, desk: &mut Desk, planned: Option<Proposal>, side: Si
 
 /// Commits what was planned, where something was, no ejections are left and it is not refused. The turn of the side is
 /// taken where it is not.
-fn take_turn<R: Wait>(rt: &R, desk: &Mutex<Desk>, planned: Option<Proposal>, side: Side) -> Turn {
-    let mut guard = desk.lock(rt);
+fn take_turn<R: Wait>(
+    rt: &R,
+    desk: &Mutex<Desk>,
+    planned: Option<Proposal>,
+    side: Side,
+    bells: Option<&Bells>,
+) -> Turn {
+    let mut guard = take(rt, desk);
     let came = turn_on(rt, &mut guard, planned, side);
+    let Some(bells) = bells else {
+        MutexGuard::unlock(guard);
+        return came;
+    };
+    let is_awaited = bells.turned(side, came, guard.board());
     MutexGuard::unlock(guard);
+    if is_awaited {
+        bells.call_other(side);
+    }
     came
+}
+
+/// Takes turns for a side on a desk behind a lock, as [`worker`] does. Where it shares bells with a worker of the other
+/// side, it rests until that has placed something on which it waits.
+pub(crate) fn work<R: Wait, G: Gate>(
+    rt: &R,
+    desk: &Mutex<Desk>,
+    viewer: &mut Viewer,
+    side: Side,
+    turns: u32,
+    gate: &G,
+    bells: Option<&Bells>,
+) -> u32
+    ensures { result ≤ turns }
+{
+    for turn in 0..turns {
+        gate.before(side, turn);
+        let planned = viewer.plan(side);
+        let came = take_turn(rt, desk, planned, side, bells);
+        gate.after(side, turn, &came);
+        if !goes_on(came) {
+            return turn + 1;
+        }
+        if came == Turn::Idle {
+            match bells {
+                Some(bells) => bells.rest(rt, side),
+                None => rest(turn),
+            }
+        }
+    }
+    turns
 }
 
 /// Takes turns for a side on a desk behind a lock. A turn is the gate's `before`, a plan of the viewer without the lock,
@@ -69,17 +135,5 @@ pub fn worker<R: Wait, G: Gate>(
 ) -> u32
     ensures { result ≤ turns }
 {
-    for turn in 0..turns {
-        gate.before(side, turn);
-        let planned = viewer.plan(side);
-        let came = take_turn(rt, desk, planned, side);
-        gate.after(side, turn, &came);
-        if !goes_on(came) {
-            return turn + 1;
-        }
-        if came == Turn::Idle {
-            rest(turn);
-        }
-    }
-    turns
+    work(rt, desk, viewer, side, turns, gate, None)
 }
