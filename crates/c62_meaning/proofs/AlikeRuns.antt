@@ -8,13 +8,13 @@ use Rattle.c62_serial.specs.declared.serial.Exit.{Exit}
 use Rattle.c62_serial.specs.declared.serial.Exit.TheVariants.{Next}
 use Rattle.c62_serial.specs.State.{Machine, IsSound, index_of}
 use Rattle.c62_serial.specs.Effect.{Act, act_of}
-use Rattle.c62_serial.specs.Serial.{Ran, exit_after}
+use Rattle.c62_serial.specs.Serial.{exit_after}
 use Rattle.c62_serial.proofs.MachineLemmas.{same_machine}
 use Rattle.c62_packet.specs.declared.placed.Placed.{Placed}
 use Rattle.c62_packet.specs.Packed.{issue_of, issues_of}
 use Rattle.c62_meaning.specs.Landing.{Landing, value_before}
 use Rattle.c62_meaning.specs.Packet.{Did, register_landings, memory_landings, word_before, byte_before, IsRun}
-use Rattle.c62_meaning.specs.Meaning.{Leaves}
+use Rattle.c62_meaning.specs.Meaning.{LeavesState}
 use Rattle.c62_meaning.specs.Alike.{without_faults, AreSameButFaults, MeanAlike}
 use Rattle.c62_meaning.proofs.Lookup.{In}
 use Rattle.c62_meaning.proofs.Acting.{act_same}
@@ -110,10 +110,10 @@ run_listed block s did run =
 bare_is_sound : (machine : Machine) → IsSound machine → IsSound (without_faults machine)
 bare_is_sound machine sound = record { registers = sound.registers; memory = sound.memory; rising = λ i l. absurd (omega arith) }
 
-same_left : (block others : List Placed) (cycles : ℕ) (opening opening' : Machine) (ran ran' : Ran) → FindAlike block others opening opening' (the_run block opening) (the_run others opening')
-    → Leaves block cycles opening (the_run block opening) ran → Leaves others cycles opening' (the_run others opening') ran' → AreSameButFaults ran.machine ran'.machine
-same_left block others cycles opening opening' ran ran' h p q =
-    same_machine (without_faults ran.machine) (without_faults ran'.machine) (bare_is_sound ran.machine p.sound) (bare_is_sound ran'.machine q.sound) (record {
+same_left : (block others : List Placed) (cycles : ℕ) (opening opening' final final' : Machine) → FindAlike block others opening opening' (the_run block opening) (the_run others opening')
+    → LeavesState block cycles opening (the_run block opening) final → LeavesState others cycles opening' (the_run others opening') final' → AreSameButFaults final final'
+same_left block others cycles opening opening' final final' h p q =
+    same_machine (without_faults final) (without_faults final') (bare_is_sound final p.sound) (bare_is_sound final' q.sound) (record {
       words = λ reg. p.words reg ∙ words_alike block others opening opening' (the_run block opening) (the_run others opening') cycles reg h ∙ sym (q.words reg);
       bytes = λ a l. p.bytes a l ∙ bytes_alike block others opening opening' (the_run block opening) (the_run others opening') cycles a h ∙ sym (q.bytes a l);
       faults = λ line. ((λ c. c), (λ c. c));
@@ -133,9 +133,9 @@ mean_alike block others cycles alike opening opening' ran ran' same one other =
     ∙ sym (run_listed others opening' other.did other.run) in
     record {
       acts = acts;
-      machine = same_left block others cycles opening opening' ran ran' h
-          (meaning_leaves block cycles opening ran (the_run block opening) (the_run_runs block opening) one)
-          (meaning_leaves others cycles opening' ran' (the_run others opening') (the_run_runs others opening') other);
+      machine = same_left block others cycles opening opening' ran.machine ran'.machine h
+          (meaning_leaves block cycles opening ran (the_run block opening) (the_run_runs block opening) one).state
+          (meaning_leaves others cycles opening' ran' (the_run others opening') (the_run_runs others opening') other).state;
       exit = one.leaves.exit ∙ exit_listed one.did block Next ∙ ap (λ (acts : List Act). fold (λ exit (act : Act). exit_after exit act.target) Next acts) acts
           ∙ sym (exit_listed other.did others Next) ∙ sym other.leaves.exit;
     }

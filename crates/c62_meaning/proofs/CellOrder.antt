@@ -22,16 +22,17 @@ use Rattle.c62_meaning.proofs.NotBoth.{writes_runs, word_kept, not_both}
 use Rattle.c62_serial.specs.State.{first_of, index_of, word_in, byte_in}
 use Rattle.c62_meaning.specs.Landing.{Landing}
 use Rattle.c62_meaning.specs.Packet.{access_time}
+use Rattle.c62_meaning.specs.Instances.{IsOfData}
 use Rattle.c62_meaning.proofs.Lookup.{In, Contains_from_In}
 use Rattle.c62_meaning.proofs.Acting.{Reads, LoadsByte, access_at, is_loads}
 use Rattle.c62_meaning.proofs.Landings.{from_In-writes, from_In-access, act_writes, act_accesses, stores_byte}
 use Rattle.c62_meaning.proofs.SameRuns.{Numbered, machine_at, serial_act, reg_writes, byte_writes, IsOrdered}
 
--- whatever bounds the distance of two instructions of a block is kept
-pub record KeepsBounds (b : Numbered) : Type 0 where
-  pub block : List Insn
-  pub stands : (i : ℕ) → i < b.count → slice_get block i ≡ Some (b.entry i).insn
-  pub keeps : (j k : ℕ) (bound : ℤ) → j < k → k < b.count → IsBound block j k (b.entry j).insn (b.entry k).insn bound
+-- whatever bounds the distance of two instructions of a path by registers or memory is kept
+pub record KeepsData (b : Numbered) : Type 0 where
+  pub path : List Insn
+  pub stands : (i : ℕ) → i < b.count → slice_get path i ≡ Some (b.entry i).insn
+  pub keeps : (j k : ℕ) (bound : ℤ) → j < k → k < b.count → (applies : IsBound path j k (b.entry j).insn (b.entry k).insn bound) → IsOfData applies
       → (pos (b.at j).cycle +ℤ bound) ≤ℤ pos (b.at k).cycle
 
 -- of a landing in a register, the write that made it
@@ -69,12 +70,12 @@ pub same_index : (a b : Reg) → index_of a ≡ index_of b → a ≡ b
 same_index a b e = same_reg-is a b (same_parts a.side b.side a.number b.number a.in_range b.in_range e)
 
 -- exclusive ones do not both write
-exclusive_order : (b : Numbered) (h : KeepsBounds b) (j k : ℕ) (v w : Landing) → j < k → k < b.count → In v (reg_writes b j) → In w (reg_writes b k) → are_exclusive h.block j k ≡ true → ⊥
+exclusive_order : (b : Numbered) (h : KeepsData b) (j k : ℕ) (v w : Landing) → j < k → k < b.count → In v (reg_writes b j) → In w (reg_writes b k) → are_exclusive h.path j k ≡ true → ⊥
 exclusive_order b h j k v w l u c d both =
     let p = from_In-writes (b.at j).cycle (serial_act b j).writes v c in
     let q = from_In-writes (b.at k).cycle (serial_act b k).writes w d in
-    let x = exclusive-is h.block j k (b.entry j).insn (b.entry k).insn l (h.stands j (omega (arith, l, u))) (h.stands k u) both in
-    not_both b h.block j k (omega (arith, l)) x
+    let x = exclusive-is h.path j k (b.entry j).insn (b.entry k).insn l (h.stands j (omega (arith, l, u))) (h.stands k u) both in
+    not_both b h.path j k (omega (arith, l)) x
     (λ i m low high writes same.
     let reg : m.0 ≡ x.one.reg = same_index m.0 x.one.reg same in
     x.unwritten i m.1 (b.entry i).insn low high (h.stands i (omega (arith, high, u)))
@@ -82,36 +83,36 @@ exclusive_order b h j k v w l u c d both =
     (writes_runs (b.entry j).insn (word_in (machine_at b j)) (byte_in (machine_at b j)) p.0 p.1)
     (writes_runs (b.entry k).insn (word_in (machine_at b k)) (byte_in (machine_at b k)) q.0 q.1)
 
-reg_order : (b : Numbered) → KeepsBounds b → (j k : ℕ) (v w : Landing) → j < k → k < b.count → In v (reg_writes b j) → In w (reg_writes b k) → v.cell ≡ w.cell → v.time < w.time
+reg_order : (b : Numbered) → KeepsData b → (j k : ℕ) (v w : Landing) → j < k → k < b.count → In v (reg_writes b j) → In w (reg_writes b k) → v.cell ≡ w.cell → v.time < w.time
 reg_order b h j k v w l u c d e =
     let p = write_of b j v c in
     let q = write_of b k w d in
     let same : q.reg ≡ p.reg = same_index q.reg p.reg (sym q.cell ∙ sym e ∙ p.cell) in
     let inside : Contains (register_writes (b.entry k).insn) (p.reg, q.delay) = subst (λ r. Contains (register_writes (b.entry k).insn) (r, q.delay)) same q.inside in
-    let free : are_exclusive h.block j k ≡ false = false_from_ne_true (are_exclusive h.block j k) (exclusive_order b h j k v w l u c d) in
+    let free : are_exclusive h.path j k ≡ false = false_from_ne_true (are_exclusive h.path j k) (exclusive_order b h j k v w l u c d) in
     let bound : (pos (b.at j).cycle +ℤ (pos (p.delay + 1) -ℤ pos q.delay)) ≤ℤ pos (b.at k).cycle
-    = h.keeps j k (pos (p.delay + 1) -ℤ pos q.delay) l u (WriteAfterWrite p.reg p.delay q.delay p.inside inside free refl) in
+    = h.keeps j k (pos (p.delay + 1) -ℤ pos q.delay) l u (WriteAfterWrite p.reg p.delay q.delay p.inside inside free refl) tt in
     let s : v.time ≡ (b.at j).cycle + p.delay = p.time in
     let t : w.time ≡ (b.at k).cycle + q.delay = q.time in
     omega (arith, ints)
 
-reg_read : (b : Numbered) → KeepsBounds b → (j k : ℕ) (v : Landing) (reg : Reg) → j < k → k < b.count → In v (reg_writes b j) → Reads (b.entry k).insn reg → v.cell ≡ index_of reg → v.time < (b.at k).cycle
+reg_read : (b : Numbered) → KeepsData b → (j k : ℕ) (v : Landing) (reg : Reg) → j < k → k < b.count → In v (reg_writes b j) → Reads (b.entry k).insn reg → v.cell ≡ index_of reg → v.time < (b.at k).cycle
 reg_read b h j k v reg l u c reads e =
     let p = write_of b j v c in
     let same : reg ≡ p.reg = same_index reg p.reg (sym e ∙ p.cell) in
     let read : Reads (b.entry k).insn p.reg = subst (λ r. Reads (b.entry k).insn r) same reads in
     let bound : (pos (b.at j).cycle +ℤ pos (p.delay + 1)) ≤ℤ pos (b.at k).cycle
-    = h.keeps j k (pos (p.delay + 1)) l u (ReadAfterWrite p.reg p.delay p.inside read refl) in
+    = h.keeps j k (pos (p.delay + 1)) l u (ReadAfterWrite p.reg p.delay p.inside read refl) tt in
     let s : v.time ≡ (b.at j).cycle + p.delay = p.time in
     omega (arith, ints)
 
-reg_kept : (b : Numbered) → KeepsBounds b → (j k : ℕ) (w : Landing) (reg : Reg) → j < k → k < b.count → Reads (b.entry j).insn reg → In w (reg_writes b k) → w.cell ≡ index_of reg → (b.at j).cycle ≤ w.time
+reg_kept : (b : Numbered) → KeepsData b → (j k : ℕ) (w : Landing) (reg : Reg) → j < k → k < b.count → Reads (b.entry j).insn reg → In w (reg_writes b k) → w.cell ≡ index_of reg → (b.at j).cycle ≤ w.time
 reg_kept b h j k w reg l u reads d e =
     let q = write_of b k w d in
     let same : reg ≡ q.reg = same_index reg q.reg (sym e ∙ q.cell) in
     let read : Reads (b.entry j).insn q.reg = subst (λ r. Reads (b.entry j).insn r) same reads in
     let bound : (pos (b.at j).cycle +ℤ (pos 0 -ℤ pos q.delay)) ≤ℤ pos (b.at k).cycle
-    = h.keeps j k (pos 0 -ℤ pos q.delay) l u (WriteAfterRead q.reg q.delay q.inside read refl) in
+    = h.keeps j k (pos 0 -ℤ pos q.delay) l u (WriteAfterRead q.reg q.delay q.inside read refl) tt in
     let t : w.time ≡ (b.at k).cycle + q.delay = q.time in
     omega (arith, ints)
 
@@ -147,10 +148,10 @@ loaded_touches b k address h = record {
 }
 
 -- disjoint accesses touch no byte together
-not_the_same : (b : Numbered) (h : KeepsBounds b) (j k a : ℕ) → j < k → k < b.count → Touches (b.entry j).insn (word_in (machine_at b j)) a
-    → Touches (b.entry k).insn (word_in (machine_at b k)) a → are_disjoint h.block j k ≡ true → ⊥
+not_the_same : (b : Numbered) (h : KeepsData b) (j k a : ℕ) → j < k → k < b.count → Touches (b.entry j).insn (word_in (machine_at b j)) a
+    → Touches (b.entry k).insn (word_in (machine_at b k)) a → are_disjoint h.path j k ≡ true → ⊥
 not_the_same b h j k a l u p q both =
-    let x = disjoint-is h.block j k (b.entry j).insn (b.entry k).insn l (h.stands j (omega (arith, l, u))) (h.stands k u) both in
+    let x = disjoint-is h.path j k (b.entry j).insn (b.entry k).insn l (h.stands j (omega (arith, l, u))) (h.stands k u) both in
     let c : Covers (word_in (machine_at b j) x.one.base) x.one p.access = covers (b.entry j).insn (word_in (machine_at b j)) x.one p.access x.is_one p.accesses in
     let d : Covers (word_in (machine_at b k) x.other.base) x.other q.access = covers (b.entry k).insn (word_in (machine_at b k)) x.other q.access x.is_other q.accesses in
     let kept : word_in (machine_at b k) x.one.base ≡ word_in (machine_at b j) x.one.base
@@ -163,7 +164,7 @@ not_the_same b h j k a l u p q both =
     apart_bytes (word_in (machine_at b j) x.one.base) x.one x.other p.access q.access a x.apart c (subst (λ (v : ℕ). Covers v x.other q.access) base d)
     p.within q.within p.low p.high q.low q.high
 
-pub ordered : (b : Numbered) → KeepsBounds b → IsOrdered b
+pub ordered : (b : Numbered) → KeepsData b → IsOrdered b
 ordered b h = record {
   reg_order = reg_order b h;
   reg_read = reg_read b h;
@@ -171,28 +172,28 @@ ordered b h = record {
   byte_order = λ j k v w l u c d e.
       let p = store_of b j v c in
       let q = store_of b k w d in
-      let free : are_disjoint h.block j k ≡ false = false_from_ne_true (are_disjoint h.block j k)
+      let free : are_disjoint h.path j k ≡ false = false_from_ne_true (are_disjoint h.path j k)
       (not_the_same b h j k v.cell l u (stored_touches b j v c) (subst (λ (a : ℕ). Touches (b.entry k).insn (word_in (machine_at b k)) a) (sym e) (stored_touches b k w d))) in
-      let bound : (pos (b.at j).cycle +ℤ pos 1) ≤ℤ pos (b.at k).cycle = h.keeps j k (pos 1) l u (AfterStore p.0 (inr q.0) free refl) in
+      let bound : (pos (b.at j).cycle +ℤ pos 1) ≤ℤ pos (b.at k).cycle = h.keeps j k (pos 1) l u (AfterStore p.0 (inr q.0) free refl) tt in
       let s : v.time ≡ 8 * (b.at j).cycle + unit_index (b.at j).unit = p.1 in
       let t : w.time ≡ 8 * (b.at k).cycle + unit_index (b.at k).unit = q.1 in
       let rank : unit_index (b.at j).unit < 8 = index_of-below (b.at j).unit in
       omega (arith, ints);
   byte_read = λ j k v l u c loads.
       let p = store_of b j v c in
-      let free : are_disjoint h.block j k ≡ false = false_from_ne_true (are_disjoint h.block j k)
+      let free : are_disjoint h.path j k ≡ false = false_from_ne_true (are_disjoint h.path j k)
       (not_the_same b h j k v.cell l u (stored_touches b j v c) (loaded_touches b k v.cell loads)) in
       let bound : (pos (b.at j).cycle +ℤ pos 1) ≤ℤ pos (b.at k).cycle
-      = h.keeps j k (pos 1) l u (AfterStore p.0 (inl (is_loads (b.entry k).insn (word_in (machine_at b k)) v.cell loads)) free refl) in
+      = h.keeps j k (pos 1) l u (AfterStore p.0 (inl (is_loads (b.entry k).insn (word_in (machine_at b k)) v.cell loads)) free refl) tt in
       let s : v.time ≡ 8 * (b.at j).cycle + unit_index (b.at j).unit = p.1 in
       let rank : unit_index (b.at j).unit < 8 = index_of-below (b.at j).unit in
       omega (arith, ints);
   byte_kept = λ j k w l u loads d.
       let q = store_of b k w d in
-      let free : are_disjoint h.block j k ≡ false = false_from_ne_true (are_disjoint h.block j k)
+      let free : are_disjoint h.path j k ≡ false = false_from_ne_true (are_disjoint h.path j k)
       (not_the_same b h j k w.cell l u (loaded_touches b j w.cell loads) (stored_touches b k w d)) in
       let bound : (pos (b.at j).cycle +ℤ pos 0) ≤ℤ pos (b.at k).cycle
-      = h.keeps j k (pos 0) l u (StoreAfterLoad (is_loads (b.entry j).insn (word_in (machine_at b j)) w.cell loads) q.0 free refl) in
+      = h.keeps j k (pos 0) l u (StoreAfterLoad (is_loads (b.entry j).insn (word_in (machine_at b j)) w.cell loads) q.0 free refl) tt in
       let t : w.time ≡ 8 * (b.at k).cycle + unit_index (b.at k).unit = q.1 in
       omega (arith, ints);
 }

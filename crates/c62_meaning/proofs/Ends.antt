@@ -1,8 +1,7 @@
 -- The end of a block: where it goes on, and that by then all has landed.
-use Rattle.std.proofs.Common.{◌≡◌, ℕ, zero, suc, ◌+◌, ◌<◌, ◌≤◌, Bool, true, false, List, [], ◌∷◌, map, max, Option, Some, None, refl, sym, ◌∙◌, ap, subst, ◌⊎◌, inl, inr, ⊎_elim, pos, ◌+ℤ◌, ◌-ℤ◌, ◌≤ℤ◌, arith}
+use Rattle.std.proofs.Common.{◌≡◌, ℕ, zero, suc, ◌+◌, ◌<◌, ◌≤◌, Bool, true, false, List, [], ◌∷◌, map, max, Option, Some, None, refl, sym, ◌∙◌, ap, subst, ◌⊎◌, inl, inr, ⊎_elim, arith}
 use Rattle.std.specs.Prelude.{fold, find}
 use Rattle.std.specs.Option.{option_map_or}
-use Rattle.std.proofs.lemmas.Int.{ints}
 use Rattle.std.proofs.lemmas.Bool.{cases_Bool, cases_eq, cases_lt, cond-true, cond-false}
 use Rattle.c62_op.specs.declared.register.Reg.{Reg}
 use Rattle.c62_op.specs.declared.operands.Op.{Op}
@@ -12,7 +11,6 @@ use Rattle.c62_insn.specs.declared.insn.Insn.{Insn}
 use Rattle.c62_op.specs.Shape.{delay_of, is_branch, writes_of}
 use Rattle.c62_insn.specs.Insn.{IsSameInsn, op_of, operands_of, register_writes, greatest_delay}
 use Rattle.c62_rules.specs.PacketRules.{Issue}
-use Rattle.c62_rules.specs.Dependence.{BeforeBranch}
 use Rattle.c62_rules.specs.Length.{landing_end, last_landing_end}
 use Rattle.c62_insn.proofs.InsnLemmas.{writes_delay, writes_delay_of}
 use Rattle.c62_serial.specs.declared.serial.Exit.{Exit}
@@ -28,7 +26,6 @@ use Rattle.c62_meaning.specs.Laws.{StandsAs, cycles_of}
 use Rattle.c62_packet.specs.Packed.{issue_of}
 use Rattle.c62_meaning.proofs.Lookup.{In, Contains_from_In}
 use Rattle.c62_meaning.proofs.SameRuns.{Numbered, ran_at, machine_at, serial_act, IsBlock, IsOver}
-use Rattle.c62_meaning.proofs.CellOrder.{KeepsBounds}
 
 -- ---- the exit
 
@@ -138,26 +135,34 @@ same_writes : (one other : Insn) → IsSameInsn one other → register_writes on
 same_writes one other h =
     ap (λ (op : Op). writes_of op (operands_of one)) h.op ∙ ap (λ (operands : Operands). writes_of (op_of other) operands) h.operands
 
-pub over : (block : List Placed) (b : Numbered) → IsBlock block b → AllStand b → KeepsBounds b → BranchLast b → IsOver b (cycles_of block)
-over block b is stand keep last = go (find_branch block)
+-- where nothing lands from t on
+pub drained : (block : List Placed) (b : Numbered) (t : ℕ) → IsBlock block b → AllStand b → ((p : Placed) → In p block → landing_end (issue_of p) ≤ t) → IsOver b t
+drained block b t is stand late = record {
+  issued = λ j l.
+      let a : (b.at j).cycle + greatest_delay (register_writes (b.at j).insn) + 1 ≤ t = late (b.at j) (is.all j l) in omega arith;
+  landed = λ j w l h.
+      let a : (b.at j).cycle + greatest_delay (register_writes (b.at j).insn) + 1 ≤ t = late (b.at j) (is.all j l) in
+      let k : In w (register_writes (b.at j).insn) = subst (λ ws. In w ws) (same_writes (b.entry j).insn (b.at j).insn (stand j l).insn) h in
+      let d : w.1 ≤ greatest_delay (register_writes (b.at j).insn) = past_write (register_writes (b.at j).insn) w k in omega arith;
+}
+
+-- all lands before a branch takes effect
+abbrev pub LandBeforeBranch : Numbered → Type 0
+LandBeforeBranch b = (j k : ℕ) → j < k → k < b.count → is_branch (op_of (b.entry k).insn) ≡ true
+    → (b.at j).cycle + delay_of (op_of (b.entry j).insn) ≤ (b.at k).cycle + 5
+
+pub over : (block : List Placed) (b : Numbered) → IsBlock block b → AllStand b → LandBeforeBranch b → BranchLast b → IsOver b (cycles_of block)
+over block b is stand lands last = go (find_branch block)
   where
     ended : IsOver b (last_landing_end (map issue_of block))
-    ended = record {
-      issued = λ j l.
-          let a : (b.at j).cycle + greatest_delay (register_writes (b.at j).insn) + 1 ≤ last_landing_end (map issue_of block) = past_all block (b.at j) (is.all j l) in omega arith;
-      landed = λ j w l h.
-          let a : (b.at j).cycle + greatest_delay (register_writes (b.at j).insn) + 1 ≤ last_landing_end (map issue_of block) = past_all block (b.at j) (is.all j l) in
-          let k : In w (register_writes (b.at j).insn) = subst (λ ws. In w ws) (same_writes (b.entry j).insn (b.at j).insn (stand j l).insn) h in
-          let d : w.1 ≤ greatest_delay (register_writes (b.at j).insn) = past_write (register_writes (b.at j).insn) w k in omega arith;
-    }
+    ended = drained block b (last_landing_end (map issue_of block)) is stand (past_all block)
 
     -- nothing is in flight six cycles after the branch
     before : (i : ℕ) → i < b.count → is_branch (op_of (b.entry i).insn) ≡ true → (j : ℕ) → j < b.count → (j < i) ⊎ (i ≤ j)
         → (b.at j).cycle < (b.at i).cycle + 6
     before i l t j u (inl lt) =
-        let bound : (pos (b.at j).cycle +ℤ (pos (delay_of (op_of (b.entry j).insn)) -ℤ pos 5)) ≤ℤ pos (b.at i).cycle
-        = keep.keeps j i (pos (delay_of (op_of (b.entry j).insn)) -ℤ pos 5) lt l (BeforeBranch t refl) in
-        omega (arith, ints)
+        let bound : (b.at j).cycle + delay_of (op_of (b.entry j).insn) ≤ (b.at i).cycle + 5 = lands j i lt l t in
+        omega arith
     before i l t j u (inr ge) =
         let end : i + 1 ≡ b.count = last i l t in
         let same : i ≡ j = omega arith in
@@ -166,10 +171,9 @@ over block b is stand keep last = go (find_branch block)
     landing : (i : ℕ) → i < b.count → is_branch (op_of (b.entry i).insn) ≡ true → (j : ℕ) (w : Reg × ℕ) → j < b.count → In w (register_writes (b.entry j).insn)
         → (j < i) ⊎ (i ≤ j) → (b.at j).cycle + w.1 < (b.at i).cycle + 6
     landing i l t j w u h (inl lt) =
-        let bound : (pos (b.at j).cycle +ℤ (pos (delay_of (op_of (b.entry j).insn)) -ℤ pos 5)) ≤ℤ pos (b.at i).cycle
-        = keep.keeps j i (pos (delay_of (op_of (b.entry j).insn)) -ℤ pos 5) lt l (BeforeBranch t refl) in
+        let bound : (b.at j).cycle + delay_of (op_of (b.entry j).insn) ≤ (b.at i).cycle + 5 = lands j i lt l t in
         let d : w.1 ≤ delay_of (op_of (b.entry j).insn) = writes_delay_of (b.entry j).insn w.0 w.1 (Contains_from_In w (register_writes (b.entry j).insn) h) in
-        omega (arith, ints)
+        omega arith
     landing i l t j w u h (inr ge) =
         let end : i + 1 ≡ b.count = last i l t in
         let same : i ≡ j = omega arith in

@@ -8,6 +8,7 @@ pub mod CellOrder
 pub mod Runs
 pub mod Ends
 pub mod Faulted
+pub mod Instances
 pub mod SerialPackets
 pub mod OneByOne
 pub mod AlikeRuns

@@ -33,18 +33,27 @@ pub record StandsAs (entry : SerialInsn) (p : Placed) : Type 0 where
   pub insn : IsSameInsn entry.insn p.insn
   pub line : entry.line ≡ p.line
 
--- The instructions of a block, placed, in serial order. Whatever bounds the distance of two of them is kept.
-pub record IsPlacing (insns : List SerialInsn) (placed : List Placed) : Type 0 where
+-- Instructions, placed, in serial order. Each distance that is asked for is kept: by how much the cycle of number j must at
+-- least exceed that of number i.
+pub record IsPlacingBy (asked : List Insn → ℕ → ℕ → ℤ → Type 0) (insns : List SerialInsn) (placed : List Placed) : Type 0 where
   pub count : length placed ≡ length insns
   pub stands : (i : ℕ) (entry : SerialInsn) (p : Placed) → slice_get insns i ≡ Some entry → slice_get placed i ≡ Some p → StandsAs entry p
   pub keeps : (i j : ℕ) (p q : Placed) (bound : ℤ) → slice_get placed i ≡ Some p → slice_get placed j ≡ Some q
-      → Bounds (map (λ entry. entry.insn) insns) i j bound → (pos p.cycle +ℤ bound) ≤ℤ pos q.cycle
+      → asked (map (λ entry. entry.insn) insns) i j bound → (pos p.cycle +ℤ bound) ≤ℤ pos q.cycle
 
--- a block of packets holds the instructions of a serial block so placed, in any order
-pub record IsPacked (insns : List SerialInsn) (block : List Placed) : Type 0 where
+-- packets hold instructions so placed, in any order
+pub record IsPackedBy (asked : List Insn → ℕ → ℕ → ℤ → Type 0) (insns : List SerialInsn) (block : List Placed) : Type 0 where
   pub placed : List Placed
-  pub placing : IsPlacing insns placed
+  pub placing : IsPlacingBy asked insns placed
   pub members : (p : Placed) → Contains block p ↔ Contains placed p
+
+-- of the instructions of a block all bounds are asked
+abbrev pub IsPlacing : List SerialInsn → List Placed → Type 0
+IsPlacing insns placed = IsPlacingBy Bounds insns placed
+
+-- a block of packets holds the instructions of a serial block
+abbrev pub IsPacked : List SerialInsn → List Placed → Type 0
+IsPacked insns block = IsPackedBy Bounds insns block
 
 -- the cycles that a block of packets takes
 abbrev pub cycles_of : List Placed → ℕ

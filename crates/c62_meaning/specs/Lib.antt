@@ -3,4 +3,5 @@ pub mod Packet
 pub mod Meaning
 pub mod Laws
 pub mod Landed
+pub mod Instances
 pub mod Alike

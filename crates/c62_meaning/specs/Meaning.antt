@@ -22,12 +22,16 @@ pub record HasFaulted (block : List Placed) (did : Did) (line : ℕ) : Type 0 wh
 abbrev pub exit_by : Did → List Placed → Exit
 exit_by did block = fold (λ exit p. exit_after exit (did p).target) Next block
 
--- what the instructions did leaves this machine after so many cycles, and goes on there
+-- what the instructions did leaves this machine after so many cycles
+pub record LeavesState (block : List Placed) (cycles : ℕ) (opening : Machine) (did : Did) (final : Machine) : Type 0 where
+  pub sound : IsSound final
+  pub words : (reg : Reg) → word_in final reg ≡ word_before block opening did cycles reg
+  pub bytes : (address : ℕ) → address < MEMORY_BYTES → byte_in final address ≡ byte_before block opening did cycles address
+  pub faults : (line : ℕ) → Contains final.faults line ↔ (Contains opening.faults line ⊎ HasFaulted block did line)
+
+-- and goes on there
 pub record Leaves (block : List Placed) (cycles : ℕ) (opening : Machine) (did : Did) (ran : Ran) : Type 0 where
-  pub sound : IsSound ran.machine
-  pub words : (reg : Reg) → word_in ran.machine reg ≡ word_before block opening did cycles reg
-  pub bytes : (address : ℕ) → address < MEMORY_BYTES → byte_in ran.machine address ≡ byte_before block opening did cycles address
-  pub faults : (line : ℕ) → Contains ran.machine.faults line ↔ (Contains opening.faults line ⊎ HasFaulted block did line)
+  pub state : LeavesState block cycles opening did ran.machine
   pub exit : ran.exit ≡ exit_by did block
 
 -- the meaning of a block of so many cycles

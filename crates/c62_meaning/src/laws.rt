@@ -10,6 +10,7 @@ ghost use Rattle.c62_packet.specs.declared.placed.Placed.{Placed};
 ghost use Rattle.c62_meaning.specs.Alike.{MeanAlike};
 ghost use Rattle.c62_meaning.specs.Landed.{RunsLandOneByOne};
 ghost use Rattle.c62_meaning.specs.Laws.{HasOneMeaning, ActsAlike, PacketsAreSerial};
+ghost use Rattle.c62_meaning.specs.Instances.{InstancesAreSerial};
 
 /// Every block of packets has just one meaning, whatever its instructions do and wherever they are
 /// placed.
@@ -23,6 +24,14 @@ pub fn has_one_meaning()
 /// and faulted lines, and go on where it does, from every sound machine.
 pub fn packets_are_serial()
     ensures { (insns : List SerialInsn) (block : List Placed) → PacketsAreSerial insns block }
+{}
+
+/// Instances of a path are serial, over branches and loops: where the instructions that a run takes are
+/// issued at cycles that keep the bounds of registers and memory between any two, each does what it does
+/// after those before it in the path, no two write one register in one cycle, and once all has landed
+/// they leave the registers, memory and faulted lines of the serial run, from every sound machine.
+pub fn instances_are_serial()
+    ensures { (path : List SerialInsn) (issued : List Placed) → InstancesAreSerial path issued }
 {}
 
 /// What an instruction does is the same on whichever unit it is written.

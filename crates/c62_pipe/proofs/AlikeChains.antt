@@ -149,7 +149,7 @@ lead_alike packets others opening opening' final position last (number ∷ numbe
     let one : IsMeaning block.placed block.cycles opening ran = leads.2 in
     let meaning = has_one_meaning other.placed block.cycles opening' sound in
     let both = mean_alike block.placed other.placed block.cycles (ap (λ (u : Unlined). u.issues) e) opening opening' ran meaning.ran same one meaning.is in
-    let rest = lead_alike packets others ran.machine meaning.ran.machine final (position_after (length packets) number ran.exit) last numbers alike both.machine meaning.is.leaves.sound leads.3 in
+    let rest = lead_alike packets others ran.machine meaning.ran.machine final (position_after (length packets) number ran.exit) last numbers alike both.machine meaning.is.leaves.state.sound leads.3 in
     let Does : ℕ → Type 0 = λ cycles. IsMeaning other.placed cycles opening' meaning.ran in
     let From : Exit → Type 0 = λ exit. Leads (length packets) (packet_blocks others) meaning.ran.machine (position_after (length packets) number exit) numbers rest.left last in
     let acts : List Act = map one.did block.placed in
@@ -158,9 +158,9 @@ lead_alike packets others opening opening' final position last (number ∷ numbe
       leads = (leads.0, meaning.ran, subst Does (ap (λ (u : Unlined). u.cycles) e) meaning.is, subst From both.exit rest.leads);
       machine = rest.machine;
       places = with_block rest.places number acts;
-      faulted = more_faulted packets number one.did acts rest.places opening ran.machine final (record { acted = refl; first = one.leaves.faults; rest = rest.faulted });
+      faulted = more_faulted packets number one.did acts rest.places opening ran.machine final (record { acted = refl; first = one.leaves.state.faults; rest = rest.faulted });
       others_faulted = more_faulted others number meaning.is.did acts rest.places opening' meaning.ran.machine rest.left
-          (record { acted = sym both.acts; first = meaning.is.leaves.faults; rest = rest.others_faulted });
+          (record { acted = sym both.acts; first = meaning.is.leaves.state.faults; rest = rest.others_faulted });
     }
 
 cycles_alike : (packets others : List Packed) (numbers : List ℕ) → AreAlike packets others → cycles_taken packets numbers ≡ cycles_taken others numbers

@@ -125,7 +125,7 @@ pub packets_determined : (packets : List Packed) → IsDetermined (length packet
 packets_determined packets = record {
   one = λ number before ran other below sound first second.
       one_meaning (block_of packets number).placed (block_of packets number).cycles before ran other first second;
-  sound = λ number before ran below sound does. does.leaves.sound;
+  sound = λ number before ran below sound does. does.leaves.state.sound;
 }
 
 -- ---- packets of a program
@@ -172,7 +172,7 @@ run_alike program packets opening final limit chain h sound =
       serial = λ cycles run. record {
         standing = run.standing;
         whole = chain_along (length program) (packet_blocks packets) (serial_blocks program) opening limit run.standing
-            (λ number before ran l s does. (does.leaves.sound, (same_block program packets number before ran h l s).0 does))
+            (λ number before ran l s does. (does.leaves.state.sound, (same_block program packets number before ran h l s).0 does))
             sound (subst (λ count. Packs count run.standing) h.count run.whole);
         told = run.told;
         left = run.left;

@@ -292,12 +292,14 @@ finish block opening cycle flight machine exit room h e = record {
   did = the_run block.placed opening;
   run = the_run_runs block.placed opening;
   leaves = record {
-    sound = h.sound;
-    words = λ reg. h.words reg ∙ ap (λ c. word_before block.placed opening (the_run block.placed opening) c reg) e;
-    bytes = λ a l. h.bytes a ∙ ap (λ c. byte_before block.placed opening (the_run block.placed opening) c a) e;
-    faults = λ line.
-        let P : List ℕ → Type 0 = λ lines. Contains lines line ↔ (Contains opening.faults line ⊎ HasFaulted block.placed (the_run block.placed opening) line) in
-        subst P (sym (h.lines ∙ ap (λ ps. lines_after (the_run block.placed opening) opening.faults ps) all)) (lines_hold (the_run block.placed opening) opening.faults block.placed line);
+    state = record {
+      sound = h.sound;
+      words = λ reg. h.words reg ∙ ap (λ c. word_before block.placed opening (the_run block.placed opening) c reg) e;
+      bytes = λ a l. h.bytes a ∙ ap (λ c. byte_before block.placed opening (the_run block.placed opening) c a) e;
+      faults = λ line.
+          let P : List ℕ → Type 0 = λ lines. Contains lines line ↔ (Contains opening.faults line ⊎ HasFaulted block.placed (the_run block.placed opening) line) in
+          subst P (sym (h.lines ∙ ap (λ ps. lines_after (the_run block.placed opening) opening.faults ps) all)) (lines_hold (the_run block.placed opening) opening.faults block.placed line);
+    };
     exit = h.leads ∙ ap (λ ps. exit_by (the_run block.placed opening) ps) all;
   };
 }
