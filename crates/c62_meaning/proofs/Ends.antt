@@ -116,7 +116,7 @@ find_branch (p ∷ ps) = go (cases_Bool (is_branch (op_of p.insn))) (find_branch
     go (inr f) (inl none) = inl (cond-false _ _ _ f ∙ none)
     go (inr f) (inr (q, h, t, e)) = inr (q, inr h, t, cond-false _ _ _ f ∙ e)
 
-past_write : (ws : List (Reg × ℕ)) (w : Reg × ℕ) → In w ws → w.1 ≤ greatest_delay ws
+pub past_write : (ws : List (Reg × ℕ)) (w : Reg × ℕ) → In w ws → w.1 ≤ greatest_delay ws
 past_write [] w h = absurd h
 past_write (v ∷ ws) w (inl e) = let d : v.1 ≡ w.1 = ap (λ (u : Reg × ℕ). u.1) e in omega arith
 past_write (v ∷ ws) w (inr h) = let r : w.1 ≤ greatest_delay ws = past_write ws w h in omega arith

@@ -35,7 +35,7 @@ use Rattle.c62_meaning.proofs.Faulted.{faults_end}
 
 -- ---- by number
 
-in_map : {X Y : Type 0} (f : X → Y) (x : X) (xs : List X) → In x xs → In (f x) (map f xs)
+pub in_map : {X Y : Type 0} (f : X → Y) (x : X) (xs : List X) → In x xs → In (f x) (map f xs)
 in_map f x [] h = absurd h
 in_map f x (y ∷ ys) (inl e) = inl (ap f e)
 in_map f x (y ∷ ys) (inr h) = inr (in_map f x ys h)

@@ -12,3 +12,7 @@ pub mod Instances
 pub mod SerialPackets
 pub mod OneByOne
 pub mod AlikeRuns
+pub mod MovedLandings
+pub mod Cuts
+pub mod CutLandings
+pub mod Parts

@@ -45,7 +45,7 @@ latest-stays cell t u (x ∷ xs) h =
         (λ p. and_left _ _ (ne_eqb _ _ p) ∙ sym (and_left _ _ (ne_eqb _ _ p)))
         (cases_eq x.cell cell)
 
-inside_at : (block : List Placed) (i : ℕ) (p : Placed) → slice_get block i ≡ Some p → In p block
+pub inside_at : (block : List Placed) (i : ℕ) (p : Placed) → slice_get block i ≡ Some p → In p block
 inside_at [] i p e = absurd (none-some p e)
 inside_at (q ∷ block) zero p e = inl (same_Some q p e)
 inside_at (q ∷ block) (suc i) p e = inr (inside_at block i p e)

@@ -9,7 +9,7 @@ use Rattle.c62_serial.specs.Effect.{Act, no_act, act_of}
 use Rattle.c62_packet.specs.declared.placed.Placed.{Placed}
 use Rattle.c62_meaning.specs.Landing.{latest, value_or}
 use Rattle.c62_meaning.specs.Packet.{Did, write_landing, access_landings, access_time, register_landings, memory_landings, word_before, byte_before, IsRun}
-use Rattle.c62_meaning.proofs.Lookup.{In, Contains_from_In, latest-append, latest-late}
+use Rattle.c62_meaning.proofs.Lookup.{In, In_from_Contains, Contains_from_In, latest-append, latest-late}
 use Rattle.c62_meaning.proofs.Acting.{act_same}
 use Rattle.c62_meaning.proofs.Landings.{from_In-writes, from_In-access}
 
@@ -54,6 +54,11 @@ act_after_same block s did did' p same =
     act_same p.insn (word_before block s did p.cycle) (word_before block s did' p.cycle) (byte_before block s did p.cycle) (byte_before block s did' p.cycle)
     (λ reg h. same_words block s did did' p.cycle reg same)
     (λ a h. same_bytes block s did did' p.cycle a same)
+
+-- what does the same as a run is one
+pub run_same : (block : List Placed) (s : Machine) (did did' : Did) → ((p : Placed) → In p block → did p ≡ did' p) → IsRun block s did → IsRun block s did'
+run_same block s did did' same run p h =
+    sym (same p (In_from_Contains p block h)) ∙ run p h ∙ act_after_same block s did did' p (λ q k l. same q k)
 
 -- two runs of a block do the same
 pub one_run : (block : List Placed) (s : Machine) (did did' : Did) → IsRun block s did → IsRun block s did' → (t : ℕ) → Same block did did' t

@@ -34,7 +34,7 @@ use Rattle.c62_meaning.proofs.Instances.{no_entry, no_placed, numbered, serial_i
 -- ---- what a run leaves
 
 -- a run leaves one machine
-state_one : (block : List Placed) (cycles : ℕ) (opening : Machine) (did : Did) (one other : Machine) → LeavesState block cycles opening did one → LeavesState block cycles opening did other → one ≡ other
+pub state_one : (block : List Placed) (cycles : ℕ) (opening : Machine) (did : Did) (one other : Machine) → LeavesState block cycles opening did one → LeavesState block cycles opening did other → one ≡ other
 state_one block cycles opening did one other p q = same_machine one other p.sound q.sound (record {
   words = λ reg. p.words reg ∙ sym (q.words reg);
   bytes = λ a l. p.bytes a l ∙ sym (q.bytes a l);
@@ -64,7 +64,7 @@ faulted_same block did did' line same h = record {
 }
 
 -- what does the same leaves the same
-state_same : (block : List Placed) (cycles : ℕ) (opening : Machine) (did did' : Did) (final : Machine) → ((p : Placed) → In p block → did p ≡ did' p)
+pub state_same : (block : List Placed) (cycles : ℕ) (opening : Machine) (did did' : Did) (final : Machine) → ((p : Placed) → In p block → did p ≡ did' p)
     → LeavesState block cycles opening did final → LeavesState block cycles opening did' final
 state_same block cycles opening did did' final same h = record {
   sound = h.sound;
@@ -93,7 +93,7 @@ one_meaning block cycles opening one other p q =
 
 -- ---- every block has a meaning
 
-abbrev made : List Placed → ℕ → Machine → Did → Machine
+abbrev pub made : List Placed → ℕ → Machine → Did → Machine
 made block cycles opening did = record {
   registers = map (λ cell. value_before cell cycles (flat_map (register_landings did) block) (get_or opening.registers cell 0)) (range_with_len 0 (length opening.registers));
   memory = map (λ a. byte_before block opening did cycles a) (range_with_len 0 (length opening.memory));
@@ -107,7 +107,7 @@ made_sound block cycles opening did sound = record {
   rising = lines_rise did opening.faults block sound.rising;
 }
 
-made_leaves : (block : List Placed) (cycles : ℕ) (opening : Machine) (did : Did) → IsSound opening
+pub made_leaves : (block : List Placed) (cycles : ℕ) (opening : Machine) (did : Did) → IsSound opening
     → LeavesState block cycles opening did (made block cycles opening did)
 made_leaves block cycles opening did sound = record {
   sound = made_sound block cycles opening did sound;

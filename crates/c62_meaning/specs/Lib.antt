@@ -5,3 +5,4 @@ pub mod Laws
 pub mod Landed
 pub mod Instances
 pub mod Alike
+pub mod Cut

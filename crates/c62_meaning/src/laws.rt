@@ -11,6 +11,7 @@ ghost use Rattle.c62_meaning.specs.Alike.{MeanAlike};
 ghost use Rattle.c62_meaning.specs.Landed.{RunsLandOneByOne};
 ghost use Rattle.c62_meaning.specs.Laws.{HasOneMeaning, ActsAlike, PacketsAreSerial};
 ghost use Rattle.c62_meaning.specs.Instances.{InstancesAreSerial};
+ghost use Rattle.c62_meaning.specs.Cut.{RunsLater, LandedCuts, DrainedCuts, Settles, Part, PartsRunInTurn};
 
 /// Every block of packets has just one meaning, whatever its instructions do and wherever they are
 /// placed.
@@ -48,4 +49,33 @@ pub fn lands_one_by_one()
 /// and leave the same, but for the lines that faulted.
 pub fn lines_name_faults_alone()
     ensures { (block others : List Placed) (cycles : ℕ) → MeanAlike block others cycles }
+{}
+
+/// Instructions that are all issued so many cycles later do the same, and leave the same, so many cycles
+/// later.
+pub fn runs_later()
+    ensures { (t : ℕ) (issued : List Placed) → RunsLater t issued }
+{}
+
+/// Where all that was issued early has landed by a cycle, and the rest is issued from that cycle on, a run
+/// is one of the early and, from the machine that it leaves, one of the rest, with cycles counted from
+/// there; and two such runs are one.
+pub fn landed_cuts()
+    ensures { (t : ℕ) (early late : List Placed) → LandedCuts t early late }
+{}
+
+/// So it is where nothing that is issued early can land from that cycle on, whatever it does.
+pub fn drained_cuts()
+    ensures { (t : ℕ) (early late : List Placed) → DrainedCuts t early late }
+{}
+
+/// Once all that was issued has landed nothing changes any more.
+pub fn runs_settle()
+    ensures { (t : ℕ) (issued : List Placed) → Settles t issued }
+{}
+
+/// Parts one behind the other, each of which has landed when the next begins, run as one: each from the
+/// machine that the one before it leaves.
+pub fn parts_run_in_turn()
+    ensures { (parts : List Part) → PartsRunInTurn parts }
 {}

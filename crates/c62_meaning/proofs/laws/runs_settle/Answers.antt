@@ -1,0 +1,5 @@
+use Rattle.c62_meaning.proofs.Cuts.{settles}
+use Rattle.c62_meaning.proofs.laws.runs_settle.Goals as goal
+
+pub returns : goal.returns
+returns c = settles
