@@ -32,7 +32,7 @@ use Rattle.c62_meaning.proofs.MovedLandings.{moved_landing, value_behind, value_
 
 -- ---- what instructions find before the cut and behind it
 
-from_map : {X Y : Type 0} (f : X → Y) (y : Y) (xs : List X) → In y (map f xs) → (x : X) × In x xs × (f x ≡ y)
+pub from_map : {X Y : Type 0} (f : X → Y) (y : Y) (xs : List X) → In y (map f xs) → (x : X) × In x xs × (f x ≡ y)
 from_map f y [] h = absurd h
 from_map f y (x ∷ xs) (inl e) = (x, inl refl, e)
 from_map f y (x ∷ xs) (inr h) = let r = from_map f y xs h in (r.0, inr r.1, r.2)
@@ -270,7 +270,7 @@ nothing_left t opening did = record {
   faults = λ line. ((λ c. inl c), (λ c. elim c [ inl q ↦ q | inr q ↦ absurd (In_from_Contains q.placed [] q.inside) ]));
 }
 
-nothing_landed : (t : ℕ) (did : Did) → HaveLanded t [] did
+pub nothing_landed : (t : ℕ) (did : Did) → HaveLanded t [] did
 nothing_landed t did = record { before = λ p h. absurd (In_from_Contains p [] h); landed = λ p write h w. absurd (In_from_Contains p [] h) }
 
 pub runs_nothing : (cycles : ℕ) (opening : Machine) (did : Did) → IsSound opening → RunsTo [] cycles opening did opening
@@ -295,6 +295,19 @@ runs_later t issued opening cycles did final =
       back = there did;
     }
 
+-- what is joined does first what the one did, and behind it what the other did
+pub joined_early : (t : ℕ) (first second : Did) (p : Placed) → p.cycle < t → joined t first second p ≡ first p
+joined_early t first second p l = cond-true _ _ _ (lt-ltb p.cycle t l)
+
+pub joined_late : (t : ℕ) (first second : Did) (p : Placed) → since t (joined t first second) p ≡ second p
+joined_late t first second p = cond-false _ _ _ (le-ltb (t + p.cycle) t (omega arith)) ∙ delayed_since t second p
+
+pub joined_landed : (t : ℕ) (early : List Placed) (first second : Did) → HaveLanded t early first → HaveLanded t early (joined t first second)
+joined_landed t early first second have = record {
+  before = have.before;
+  landed = λ p write h w. have.landed p write h (subst (λ (a : Act). Contains a.writes write) (joined_early t first second p (have.before p h)) w);
+}
+
 module _ (t : ℕ) (early late : List Placed) where
   pub splits : (opening : Machine) (cycles : ℕ) (did : Did) (final : Machine) → IsSound opening → HaveLanded t early did
       → RunsTo (behind t early late) (t + cycles) opening did final
@@ -306,18 +319,9 @@ module _ (t : ℕ) (early late : List Placed) where
   pub joins : (opening middle : Machine) (cycles : ℕ) (first second : Did) (final : Machine) → HaveLanded t early first → RunsTo early t opening first middle
       → RunsTo late cycles middle second final → RunsTo (behind t early late) (t + cycles) opening (joined t first second) final
   joins opening middle cycles first second final have one other =
-      (on t early late opening (joined t first second) both middle cycles final
-      (runs_alike early t opening first (joined t first second) middle (λ p h. sym (as_first p (Contains_from_In p early h))) one)).1
-      (runs_alike late cycles middle second (since t (joined t first second)) final (λ p h. sym (as_second p)) other)
-    where
-      as_first : (p : Placed) → Contains early p → joined t first second p ≡ first p
-      as_first p h = cond-true _ _ _ (lt-ltb p.cycle t (have.before p h))
-
-      as_second : (p : Placed) → since t (joined t first second) p ≡ second p
-      as_second p = cond-false _ _ _ (le-ltb (t + p.cycle) t (omega arith)) ∙ delayed_since t second p
-
-      both : HaveLanded t early (joined t first second)
-      both = record { before = have.before; landed = λ p write h w. have.landed p write h (subst (λ (a : Act). Contains a.writes write) (as_first p h) w) }
+      (on t early late opening (joined t first second) (joined_landed t early first second have) middle cycles final
+      (runs_alike early t opening first (joined t first second) middle (λ p h. sym (joined_early t first second p (have.before p (Contains_from_In p early h)))) one)).1
+      (runs_alike late cycles middle second (since t (joined t first second)) final (λ p h. sym (joined_late t first second p)) other)
 
 -- once all has landed nothing changes
 pub landed_settles : (t : ℕ) (issued : List Placed) (opening : Machine) (more : ℕ) (did : Did) (final : Machine) → IsSound opening → HaveLanded t issued did

@@ -19,7 +19,7 @@ use Rattle.c62_meaning.proofs.Lookup.{In, latest-append, latest-late}
 abbrev pub moved_landing : ℕ → Landing → Landing
 moved_landing t w = record w { time = t + w.time }
 
-ltb_moved : (t a b : ℕ) → ltb (t + a) (t + b) ≡ ltb a b
+pub ltb_moved : (t a b : ℕ) → ltb (t + a) (t + b) ≡ ltb a b
 ltb_moved t a b =
     ⊎_elim {C = ltb (t + a) (t + b) ≡ ltb a b}
     (λ l. lt-ltb (t + a) (t + b) (omega arith) ∙ sym (lt-ltb a b l))

@@ -1,0 +1,15 @@
+pub mod Lists
+pub mod Fronts
+pub mod OneFlight
+pub mod Flying
+pub mod Rows
+pub mod Told
+pub mod Joined
+pub mod Underway
+pub mod Loop
+pub mod Straight
+pub mod LaidBlock
+pub mod Laid
+pub mod TwoBlocks
+pub mod Numbered
+pub mod Limits

@@ -1,0 +1,10 @@
+pub mod Text
+pub mod Issued
+pub mod Broken
+pub mod Flight
+pub mod Laws
+pub mod Samples
+pub mod Told
+pub mod Cut
+pub mod Laid
+pub mod Numbered
