@@ -2,7 +2,7 @@
 use Rattle.std.proofs.Common.{◌≡◌, ℕ, ◌+◌, ◌*◌, ◌<◌, ◌≤◌, List, Some, false, refl, sym, ◌∙◌, ap, subst, inl, inr, ℤ, pos, ◌+ℤ◌, ◌-ℤ◌, ◌≤ℤ◌, arith}
 use Rattle.std.specs.Prelude.{slice_get, Contains, ◌==◌, ◌&&◌, true}
 use Rattle.std.proofs.lemmas.Int.{ints}
-use Rattle.std.proofs.lemmas.Bool.{eq-eqb, false_from_ne_true, leb-true, and_parts}
+use Rattle.std.proofs.lemmas.Bool.{eq-eqb, false_from_ne_true, leb-true, and_parts, cond-true}
 use Rattle.c62_op.specs.declared.register.Side.{Side}
 use Rattle.c62_op.specs.declared.register.Side.TheVariants.{A, B}
 use Rattle.c62_op.specs.declared.register.Reg.{Reg}
@@ -18,22 +18,35 @@ use Rattle.c62_insn.specs.declared.effect.Access.{Access as MemoryAccess}
 use Rattle.c62_rules.proofs.Exclusive.{exclusive-is}
 use Rattle.c62_rules.proofs.Ranges.{disjoint-is, Covers, covers, apart_bytes}
 use Rattle.c62_serial.specs.Memory.{is_good}
+use Rattle.c62_serial.specs.Effect.{Act, no_act, runs}
 use Rattle.c62_meaning.proofs.NotBoth.{writes_runs, word_kept, not_both}
 use Rattle.c62_serial.specs.State.{first_of, index_of, word_in, byte_in}
 use Rattle.c62_meaning.specs.Landing.{Landing}
 use Rattle.c62_meaning.specs.Packet.{access_time}
-use Rattle.c62_meaning.specs.Instances.{IsOfData}
+use Rattle.c62_meaning.specs.Instances.{IsOfData, IsOfMemory}
 use Rattle.c62_meaning.proofs.Lookup.{In, Contains_from_In}
 use Rattle.c62_meaning.proofs.Acting.{Reads, LoadsByte, access_at, is_loads}
 use Rattle.c62_meaning.proofs.Landings.{from_In-writes, from_In-access, act_writes, act_accesses, stores_byte}
 use Rattle.c62_meaning.proofs.SameRuns.{Numbered, machine_at, serial_act, reg_writes, byte_writes, IsOrdered}
 
--- whatever bounds the distance of two instructions of a path by registers or memory is kept
+-- an instruction loads or stores a byte in the serial run
+pub record AccessesAt (b : Numbered) (i address : ℕ) : Type 0 where
+  pub access : MemoryAccess
+  pub accesses : (serial_act b i).access ≡ Some access
+  pub good : is_good access.address access.size ≡ true
+  pub low : access.address ≤ address
+  pub high : address < access.address + access.size
+
+-- two meet at one
+abbrev pub MeetAt : Numbered → ℕ → ℕ → Type 0
+MeetAt b i j = (address : ℕ) × AccessesAt b i address × AccessesAt b j address
+
+-- whatever bounds the distance of two instructions of a path by registers, or by memory where they meet, is kept
 pub record KeepsData (b : Numbered) : Type 0 where
   pub path : List Insn
   pub stands : (i : ℕ) → i < b.count → slice_get path i ≡ Some (b.entry i).insn
   pub keeps : (j k : ℕ) (bound : ℤ) → j < k → k < b.count → (applies : IsBound path j k (b.entry j).insn (b.entry k).insn bound) → IsOfData applies
-      → (pos (b.at j).cycle +ℤ bound) ≤ℤ pos (b.at k).cycle
+      → (IsOfMemory applies → MeetAt b j k) → (pos (b.at j).cycle +ℤ bound) ≤ℤ pos (b.at k).cycle
 
 -- of a landing in a register, the write that made it
 record IsWrite (b : Numbered) (j : ℕ) (v : Landing) : Type 0 where
@@ -91,7 +104,7 @@ reg_order b h j k v w l u c d e =
     let inside : Contains (register_writes (b.entry k).insn) (p.reg, q.delay) = subst (λ r. Contains (register_writes (b.entry k).insn) (r, q.delay)) same q.inside in
     let free : are_exclusive h.path j k ≡ false = false_from_ne_true (are_exclusive h.path j k) (exclusive_order b h j k v w l u c d) in
     let bound : (pos (b.at j).cycle +ℤ (pos (p.delay + 1) -ℤ pos q.delay)) ≤ℤ pos (b.at k).cycle
-    = h.keeps j k (pos (p.delay + 1) -ℤ pos q.delay) l u (WriteAfterWrite p.reg p.delay q.delay p.inside inside free refl) tt in
+    = h.keeps j k (pos (p.delay + 1) -ℤ pos q.delay) l u (WriteAfterWrite p.reg p.delay q.delay p.inside inside free refl) tt (λ m. absurd m) in
     let s : v.time ≡ (b.at j).cycle + p.delay = p.time in
     let t : w.time ≡ (b.at k).cycle + q.delay = q.time in
     omega (arith, ints)
@@ -102,7 +115,7 @@ reg_read b h j k v reg l u c reads e =
     let same : reg ≡ p.reg = same_index reg p.reg (sym e ∙ p.cell) in
     let read : Reads (b.entry k).insn p.reg = subst (λ r. Reads (b.entry k).insn r) same reads in
     let bound : (pos (b.at j).cycle +ℤ pos (p.delay + 1)) ≤ℤ pos (b.at k).cycle
-    = h.keeps j k (pos (p.delay + 1)) l u (ReadAfterWrite p.reg p.delay p.inside read refl) tt in
+    = h.keeps j k (pos (p.delay + 1)) l u (ReadAfterWrite p.reg p.delay p.inside read refl) tt (λ m. absurd m) in
     let s : v.time ≡ (b.at j).cycle + p.delay = p.time in
     omega (arith, ints)
 
@@ -112,7 +125,7 @@ reg_kept b h j k w reg l u reads d e =
     let same : reg ≡ q.reg = same_index reg q.reg (sym e ∙ q.cell) in
     let read : Reads (b.entry j).insn q.reg = subst (λ r. Reads (b.entry j).insn r) same reads in
     let bound : (pos (b.at j).cycle +ℤ (pos 0 -ℤ pos q.delay)) ≤ℤ pos (b.at k).cycle
-    = h.keeps j k (pos 0 -ℤ pos q.delay) l u (WriteAfterRead q.reg q.delay q.inside read refl) tt in
+    = h.keeps j k (pos 0 -ℤ pos q.delay) l u (WriteAfterRead q.reg q.delay q.inside read refl) tt (λ m. absurd m) in
     let t : w.time ≡ (b.at k).cycle + q.delay = q.time in
     omega (arith, ints)
 
@@ -147,6 +160,20 @@ loaded_touches b k address h = record {
   high = h.high;
 }
 
+stored_at : (b : Numbered) (j : ℕ) (v : Landing) → In v (byte_writes b j) → AccessesAt b j v.cell
+stored_at b j v h =
+    let s = from_In-access (access_time (b.at j)) (serial_act b j).access v h in
+    record { access = s.access; accesses = s.accesses; good = s.good; low = s.low; high = s.high }
+
+loaded_at : (b : Numbered) (k address : ℕ) → LoadsByte (b.entry k).insn (word_in (machine_at b k)) address → AccessesAt b k address
+loaded_at b k address h = record {
+  access = h.access;
+  accesses = ap (λ (a : Act). a.access) (cond-true (runs (word_in (machine_at b k)) (b.entry k).insn) _ no_act h.runs) ∙ h.accesses;
+  good = h.good;
+  low = h.low;
+  high = h.high;
+}
+
 -- disjoint accesses touch no byte together
 not_the_same : (b : Numbered) (h : KeepsData b) (j k a : ℕ) → j < k → k < b.count → Touches (b.entry j).insn (word_in (machine_at b j)) a
     → Touches (b.entry k).insn (word_in (machine_at b k)) a → are_disjoint h.path j k ≡ true → ⊥
@@ -174,7 +201,8 @@ ordered b h = record {
       let q = store_of b k w d in
       let free : are_disjoint h.path j k ≡ false = false_from_ne_true (are_disjoint h.path j k)
       (not_the_same b h j k v.cell l u (stored_touches b j v c) (subst (λ (a : ℕ). Touches (b.entry k).insn (word_in (machine_at b k)) a) (sym e) (stored_touches b k w d))) in
-      let bound : (pos (b.at j).cycle +ℤ pos 1) ≤ℤ pos (b.at k).cycle = h.keeps j k (pos 1) l u (AfterStore p.0 (inr q.0) free refl) tt in
+      let bound : (pos (b.at j).cycle +ℤ pos 1) ≤ℤ pos (b.at k).cycle = h.keeps j k (pos 1) l u (AfterStore p.0 (inr q.0) free refl) tt
+      (λ m. (v.cell, stored_at b j v c, subst (λ (a : ℕ). AccessesAt b k a) (sym e) (stored_at b k w d))) in
       let s : v.time ≡ 8 * (b.at j).cycle + unit_index (b.at j).unit = p.1 in
       let t : w.time ≡ 8 * (b.at k).cycle + unit_index (b.at k).unit = q.1 in
       let rank : unit_index (b.at j).unit < 8 = index_of-below (b.at j).unit in
@@ -184,7 +212,8 @@ ordered b h = record {
       let free : are_disjoint h.path j k ≡ false = false_from_ne_true (are_disjoint h.path j k)
       (not_the_same b h j k v.cell l u (stored_touches b j v c) (loaded_touches b k v.cell loads)) in
       let bound : (pos (b.at j).cycle +ℤ pos 1) ≤ℤ pos (b.at k).cycle
-      = h.keeps j k (pos 1) l u (AfterStore p.0 (inl (is_loads (b.entry k).insn (word_in (machine_at b k)) v.cell loads)) free refl) tt in
+      = h.keeps j k (pos 1) l u (AfterStore p.0 (inl (is_loads (b.entry k).insn (word_in (machine_at b k)) v.cell loads)) free refl) tt
+      (λ m. (v.cell, stored_at b j v c, loaded_at b k v.cell loads)) in
       let s : v.time ≡ 8 * (b.at j).cycle + unit_index (b.at j).unit = p.1 in
       let rank : unit_index (b.at j).unit < 8 = index_of-below (b.at j).unit in
       omega (arith, ints);
@@ -193,7 +222,8 @@ ordered b h = record {
       let free : are_disjoint h.path j k ≡ false = false_from_ne_true (are_disjoint h.path j k)
       (not_the_same b h j k w.cell l u (loaded_touches b j w.cell loads) (stored_touches b k w d)) in
       let bound : (pos (b.at j).cycle +ℤ pos 0) ≤ℤ pos (b.at k).cycle
-      = h.keeps j k (pos 0) l u (StoreAfterLoad (is_loads (b.entry j).insn (word_in (machine_at b j)) w.cell loads) q.0 free refl) tt in
+      = h.keeps j k (pos 0) l u (StoreAfterLoad (is_loads (b.entry j).insn (word_in (machine_at b j)) w.cell loads) q.0 free refl) tt
+      (λ m. (w.cell, loaded_at b j w.cell loads, stored_at b k w d)) in
       let t : w.time ≡ 8 * (b.at k).cycle + unit_index (b.at k).unit = q.1 in
       omega (arith, ints);
 }

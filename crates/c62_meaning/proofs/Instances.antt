@@ -25,11 +25,11 @@ use Rattle.c62_meaning.specs.Packet.{Did, write_landing, word_before, byte_befor
 use Rattle.c62_meaning.specs.Meaning.{LeavesState}
 use Rattle.c62_meaning.specs.Landed.{HasLanded}
 use Rattle.c62_meaning.specs.Laws.{IsPlacingBy}
-use Rattle.c62_meaning.specs.Instances.{DataBounds, AreInstances, AreAsSerial, InstancesAreSerial}
+use Rattle.c62_meaning.specs.Instances.{DataBounds, MetBounds, Accesses, AreInstancesFrom, AreAsSerial, InstancesAreSerialFrom, InstancesAreSerial}
 use Rattle.c62_meaning.proofs.Lookup.{In, In_from_Contains, Contains_from_In}
 use Rattle.c62_meaning.proofs.SameRuns.{Numbered, ran_at, machine_at, serial_act, reg_writes, IsBlock, IsOrdered, RunsAt, IsOver, sound_at, agrees, word_end, byte_end}
 use Rattle.c62_meaning.proofs.Acting.{same_act}
-use Rattle.c62_meaning.proofs.CellOrder.{ordered}
+use Rattle.c62_meaning.proofs.CellOrder.{AccessesAt, ordered}
 use Rattle.c62_meaning.proofs.Ends.{AllStand, AllAgree, drained}
 use Rattle.c62_meaning.proofs.Faulted.{faults_end}
 
@@ -126,7 +126,7 @@ block_at insns placed block opening n h = record {
       (c.0, l, sym c.2 ∙ get_or_default placed c.0 p no_placed u);
 }
 
-pub stand_at : (insns : List SerialInsn) (placed : List Placed) (opening : Machine) → IsPlacingBy DataBounds insns placed → AllStand (numbered insns placed opening)
+pub stand_at : (insns : List SerialInsn) (placed : List Placed) (opening : Machine) → IsPlacingBy (MetBounds insns opening) insns placed → AllStand (numbered insns placed opening)
 stand_at insns placed opening h i l =
     let n : length placed ≡ length insns = h.count in
     h.stands i (get_or insns i no_entry) (get_or placed i no_placed) (slice_get-get_or insns i no_entry l) (slice_get-get_or placed i no_placed (omega arith))
@@ -137,20 +137,43 @@ insn_at insns i l =
     slice_get-get_or (map (λ (entry : SerialInsn). entry.insn) insns) i no_insn u
     ∙ ap (λ (x : Insn). Some x) (get_or-map (λ (entry : SerialInsn). entry.insn) insns i no_entry no_insn l)
 
-pub order_at : (insns : List SerialInsn) (placed : List Placed) (opening : Machine) → IsPlacingBy DataBounds insns placed → IsOrdered (numbered insns placed opening)
-order_at insns placed opening h = ordered (numbered insns placed opening) (record {
-  path = map (λ (entry : SerialInsn). entry.insn) insns;
-  stands = λ i l. insn_at insns i l;
-  keeps = λ j k bound lt l applies is.
-      let n : length placed ≡ length insns = h.count in
+-- what meets by number meets in the path
+accesses_in : (path : List SerialInsn) (placed : List Placed) (opening : Machine) (i address : ℕ) → i < length path → AccessesAt (numbered path placed opening) i address
+    → Accesses path opening i address
+accesses_in path placed opening i address l h = record {
+  entry = get_or path i no_entry;
+  is = slice_get-get_or path i no_entry l;
+  access = h.access;
+  accesses = ap (λ (ran : Ran). (act_in ran.machine (get_or path i no_entry)).access) (sym (ran_is path placed opening i (omega (arith, l)))) ∙ h.accesses;
+  good = h.good;
+  covers = (h.low, h.high);
+}
+
+pub order_at : (path : List SerialInsn) (placed : List Placed) (opening : Machine) → IsPlacingBy (MetBounds path opening) path placed → IsOrdered (numbered path placed opening)
+order_at path placed opening h = ordered (numbered path placed opening) (record {
+  path = map (λ (entry : SerialInsn). entry.insn) path;
+  stands = λ i l. insn_at path i l;
+  keeps = λ j k bound lt l applies is meet.
+      let n : length placed ≡ length path = h.count in
       h.keeps j k (get_or placed j no_placed) (get_or placed k no_placed) bound (slice_get-get_or placed j no_placed (omega arith)) (slice_get-get_or placed k no_placed (omega arith))
       (record {
-        bounds = record { first = (get_or insns j no_entry).insn; second = (get_or insns k no_entry).insn; is_first = insn_at insns j (omega arith); is_second = insn_at insns k l; before = lt; applies = applies };
-        of_data = is;
+        bounds = record {
+          bounds = record { first = (get_or path j no_entry).insn; second = (get_or path k no_entry).insn; is_first = insn_at path j (omega arith); is_second = insn_at path k l; before = lt; applies = applies };
+          of_data = is;
+        };
+        met = λ m. (let at = meet m in (at.0, accesses_in path placed opening j at.0 (omega (arith, lt, l)) at.1, accesses_in path placed opening k at.0 l at.2));
       });
 })
 
-module _ (path : List SerialInsn) (issued : List Placed) (instances : AreInstances path issued) (opening : Machine) (did : Did) (sound : IsSound opening)
+-- what keeps all bounds of memory keeps those of what meets
+met_placing : (path : List SerialInsn) (placed : List Placed) (opening : Machine) → IsPlacingBy DataBounds path placed → IsPlacingBy (MetBounds path opening) path placed
+met_placing path placed opening h = record {
+  count = h.count;
+  stands = h.stands;
+  keeps = λ i j p q bound at_p at_q asked. h.keeps i j p q bound at_p at_q asked.bounds;
+}
+
+module _ (opening : Machine) (path : List SerialInsn) (issued : List Placed) (instances : AreInstancesFrom opening path issued) (did : Did) (sound : IsSound opening)
     (run : IsRun issued opening did) where
   abbrev placed : List Placed
   placed = instances.placed
@@ -191,5 +214,10 @@ module _ (path : List SerialInsn) (issued : List Placed) (instances : AreInstanc
         (drained issued b cycles is stand (λ p h. All-contains (λ q. landing_end (issue_of q) ≤ cycles) issued p late (Contains_from_In p issued h))));
   }
 
+pub instances_are_serial_from : (opening : Machine) (path : List SerialInsn) (issued : List Placed) → InstancesAreSerialFrom opening path issued
+instances_are_serial_from opening path issued = are_as_serial opening path issued
+
 pub instances_are_serial : (path : List SerialInsn) (issued : List Placed) → InstancesAreSerial path issued
-instances_are_serial path issued = are_as_serial path issued
+instances_are_serial path issued instances opening did sound run =
+    instances_are_serial_from opening path issued
+    (record { placed = instances.placed; placing = met_placing path instances.placed opening instances.placing; members = instances.members }) did sound run

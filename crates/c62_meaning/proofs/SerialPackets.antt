@@ -23,7 +23,7 @@ use Rattle.c62_meaning.specs.Landing.{value_before}
 use Rattle.c62_meaning.specs.Packet.{Did, register_landings, byte_before, IsRun}
 use Rattle.c62_meaning.specs.Meaning.{HasFaulted, exit_by, LeavesState, Leaves, IsMeaning}
 use Rattle.c62_meaning.specs.Laws.{HasOneMeaning, IsPlacingBy, IsPlacing, IsPacked, cycles_of, AreSerial}
-use Rattle.c62_meaning.specs.Instances.{DataBounds}
+use Rattle.c62_meaning.specs.Instances.{MetBounds}
 use Rattle.c62_meaning.proofs.Lookup.{In, In_from_Contains}
 use Rattle.c62_meaning.proofs.SameRuns.{Numbered, ran_at, IsBlock, IsOrdered}
 use Rattle.c62_meaning.proofs.Runs.{the_run, the_run_runs, one_run, same_words, same_bytes}
@@ -130,8 +130,8 @@ has_one_meaning block cycles opening sound =
 -- ---- packets are serial
 
 -- what keeps all bounds keeps those of registers and memory
-data_placing : (insns : List SerialInsn) (placed : List Placed) → IsPlacing insns placed → IsPlacingBy DataBounds insns placed
-data_placing insns placed h = record { count = h.count; stands = h.stands; keeps = λ i j p q bound at_p at_q asked. h.keeps i j p q bound at_p at_q asked.bounds }
+data_placing : (insns : List SerialInsn) (placed : List Placed) (opening : Machine) → IsPlacing insns placed → IsPlacingBy (MetBounds insns opening) insns placed
+data_placing insns placed opening h = record { count = h.count; stands = h.stands; keeps = λ i j p q bound at_p at_q asked. h.keeps i j p q bound at_p at_q asked.bounds.bounds }
 
 -- and that of a branch
 land_at : (insns : List SerialInsn) (placed : List Placed) (opening : Machine) → IsPlacing insns placed → LandBeforeBranch (numbered insns placed opening)
@@ -157,7 +157,7 @@ pub are_serial : (insns : List SerialInsn) (block : List Placed) → branch_last
 are_serial insns block last packed opening ran sound =
     let b = numbered insns packed.placed opening in
     let did = the_run block opening in
-    let placing : IsPlacingBy DataBounds insns packed.placed = data_placing insns packed.placed packed.placing in
+    let placing : IsPlacingBy (MetBounds insns opening) insns packed.placed = data_placing insns packed.placed opening packed.placing in
     let leaves : Leaves block (cycles_of block) opening did (ran_at b (length insns))
     = serial_leaves block b did (block_at insns packed.placed block opening placing.count packed.members) (stand_at insns packed.placed opening placing)
     (order_at insns packed.placed opening placing) (land_at insns packed.placed opening packed.placing) (branch_at insns packed.placed opening last) sound (the_run_runs block opening) in

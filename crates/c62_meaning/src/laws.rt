@@ -10,7 +10,7 @@ ghost use Rattle.c62_packet.specs.declared.placed.Placed.{Placed};
 ghost use Rattle.c62_meaning.specs.Alike.{MeanAlike};
 ghost use Rattle.c62_meaning.specs.Landed.{RunsLandOneByOne};
 ghost use Rattle.c62_meaning.specs.Laws.{HasOneMeaning, ActsAlike, PacketsAreSerial};
-ghost use Rattle.c62_meaning.specs.Instances.{InstancesAreSerial};
+ghost use Rattle.c62_meaning.specs.Instances.{InstancesAreSerial, InstancesAreSerialFrom};
 ghost use Rattle.c62_meaning.specs.Cut.{RunsLater, LandedCuts, DrainedCuts, Settles, Part, PartsRunInTurn};
 
 /// Every block of packets has just one meaning, whatever its instructions do and wherever they are
@@ -33,6 +33,13 @@ pub fn packets_are_serial()
 /// they leave the registers, memory and faulted lines of the serial run, from every sound machine.
 pub fn instances_are_serial()
     ensures { (path : List SerialInsn) (issued : List Placed) → InstancesAreSerial path issued }
+{}
+
+/// Two accesses to memory need that order only where they meet in the serial run: where one of them
+/// doesn't run there, or they never have a byte in common, they may stand anywhere.
+pub fn instances_that_meet_are_serial()
+    ensures { (opening : Machine) (path : List SerialInsn) (issued : List Placed)
+        → InstancesAreSerialFrom opening path issued }
 {}
 
 /// What an instruction does is the same on whichever unit it is written.
