@@ -49,11 +49,8 @@ same_placed drafts issues placed others first other = same_parted placed others 
 
 none_kept : KeepsPacketRules (issued [])
 none_kept = record {
-  p1 = λ unit i j p q at_i at_j. absurd (none-some p at_i);
-  p2 = λ side i j p q at_i at_j. absurd (none-some p at_i);
-  p3 = λ side i j p q at_i at_j. absurd (none-some p at_i);
-  p4 = λ cycle reg. omega arith;
-  p5 = λ i j p q reg cycle at_i at_j. absurd (none-some p at_i);
+  enough = λ cycle r. omega arith;
+  landing = λ i j p q reg cycle at_i at_j. absurd (none-some p at_i);
 }
 
 pub none_keep : (drafts : List Draft) → KeepRules drafts []

@@ -8,10 +8,10 @@ use Rattle.c62_rules.specs.PacketRules.{KeepsPacketRules}
 use Rattle.c62_rules.proofs.Parts.{part-keeps}
 use Rattle.c62_packet.specs.declared.placed.Placed.{Placed}
 use Rattle.c62_packet.specs.declared.fault.PacketRule.{PacketRule}
-use Rattle.c62_packet.specs.declared.fault.PacketRule.TheVariants.{P1, P2, P3, P4, P5}
 use Rattle.c62_packet.specs.Packed.{issued}
-use Rattle.c62_packet.specs.Fault.{rank_of, IsFirstBroken}
+use Rattle.c62_packet.specs.Fault.{IsFirstBroken}
 use Rattle.c62_packet.proofs.Broken.{kept-each}
+use Rattle.c62_packet.proofs.OneFault.{same_break}
 use Rattle.c62_adopt_cut.specs.declared.fault.TextFault.{TextFault}
 use Rattle.c62_adopt_cut.specs.Blocks.{Draft}
 use Rattle.c62_adopt_cut.specs.Text.{text_cut}
@@ -24,40 +24,9 @@ use Rattle.c62_adopt.proofs.AnswerLemmas.{one_adoption, not_refused, no_breach, 
 
 -- ---- the first broken rule is one
 
-rule_at : ℕ → PacketRule
-rule_at zero = P1
-rule_at (suc zero) = P2
-rule_at (suc (suc zero)) = P3
-rule_at (suc (suc (suc zero))) = P4
-rule_at (suc (suc (suc (suc n)))) = P5
-
-rule_of_rank : (rule : PacketRule) → rule_at (rank_of rule) ≡ rule
-unfolding rule_at
-rule_of_rank P1 = refl
-rule_of_rank P2 = refl
-rule_of_rank P3 = refl
-rule_of_rank P4 = refl
-rule_of_rank P5 = refl
-
 same_rule : (placed : List Placed) (cycle other : ℕ) (rule next : PacketRule) → IsFirstBroken cycle rule placed → IsFirstBroken other next placed
     → rule ≡ next
-same_rule placed cycle other rule next one two = elim (cases_lt cycle other) [
-  | inl lower ↦ absurd (one.broken (two.first cycle rule (inl lower)))
-  | inr above ↦ elim (cases_lt other cycle) [
-    | inl lower ↦ absurd (two.broken (one.first other next (inl lower)))
-    | inr below ↦
-        let same : cycle ≡ other = omega (arith, above, below) in
-        elim (cases_lt (rank_of rule) (rank_of next)) [
-          | inl lower ↦ absurd (one.broken (two.first cycle rule (inr (same, lower))))
-          | inr higher ↦ elim (cases_lt (rank_of next) (rank_of rule)) [
-            | inl lower ↦ absurd (two.broken (one.first other next (inr (sym same, lower))))
-            | inr least ↦
-                let rank : rank_of rule ≡ rank_of next = omega (arith, higher, least) in
-                sym (rule_of_rank rule) ∙ ap rule_at rank ∙ rule_of_rank next
-          ]
-        ]
-  ]
-]
+same_rule placed cycle other rule next one two = (same_break placed cycle other rule next one two).1
 
 -- ---- of two places in a list one is further up, or they are the same
 

@@ -7,7 +7,7 @@ use Rattle.c62_sheet.specs.declared.entry.Spot.{Spot}
 use Rattle.c62_sheet.specs.Lawful.{Spots, placed, issues, IsLawful}
 use Rattle.c62_sheet.specs.Least.{IsReady, IsAfter}
 use Rattle.c62_sheet.proofs.Used.{insn_at}
-use Rattle.c62_sheet.proofs.Placing.{keeps_from_rules, lawful_from_fits}
+use Rattle.c62_sheet.proofs.Placing.{lawful_from_fits}
 
 -- a ready number may stand where its delays are over and the packet rules are kept
 pub lawful_placed : (block : List Insn) (set : Spots) (i : ℕ) (s : Spot) → IsLawful block set → i < length block → IsReady block set i
@@ -16,4 +16,4 @@ pub lawful_placed : (block : List Insn) (set : Spots) (i : ℕ) (s : Spot) → I
 lawful_placed block set i s lawful within ready stands low after rules =
     let insn = insn_at block i within in
     lawful_from_fits block set i s insn.0 lawful insn.1 within ready.free ready.founded after low
-    (record { stands = stands; keeps = keeps_from_rules block set i insn.0 s lawful.sized insn.1 within ready.free rules })
+    (record { stands = stands; keeps = rules.enough s.cycle })

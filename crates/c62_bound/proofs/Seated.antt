@@ -8,7 +8,8 @@ use Rattle.c62_insn.specs.declared.insn.Insn.{Insn}
 use Rattle.c62_insn.specs.Insn.{op_of, operands_of, unit_of}
 use Rattle.c62_insn.specs.Stands.{may_stand}
 use Rattle.c62_depend.specs.Side.{side_in, stands_on, suits_at}
-use Rattle.c62_sheet.specs.Lawful.{issue_at}
+use Rattle.c62_rules.proofs.Capacities.{one-each-unit, one-each-data-path}
+use Rattle.c62_sheet.specs.Lawful.{issue_at, issues}
 use Rattle.c62_sheet.specs.Counts.{set_length}
 use Rattle.c62_sheet.proofs.IssuesOf.{placement-issued}
 use Rattle.c62_sheet.proofs.Landings.{delay_ends}
@@ -35,13 +36,13 @@ schedules_seated block set plan lawful complete = record {
   each_unit = λ i j s t low small is_i is_j cycles units. (
       let first = insn_at block i low in
       let second = insn_at block j small in
-      lawful.rules.p1 t.unit i j (issue_at first.0 s) (issue_at second.0 t)
+      one-each-unit (issues block set) lawful.rules t.unit i j (issue_at first.0 s) (issue_at second.0 t)
       (placement-issued block set i first.0 s lawful.sized first.1 is_i) (placement-issued block set j second.0 t lawful.sized second.1 is_j)
       cycles units refl);
   each_path = λ side i j s t low small is_i is_j cycles over_i over_j. (
       let first = insn_at block i low in
       let second = insn_at block j small in
-      lawful.rules.p3 side i j (issue_at first.0 s) (issue_at second.0 t)
+      one-each-data-path (issues block set) lawful.rules side i j (issue_at first.0 s) (issue_at second.0 t)
       (placement-issued block set i first.0 s lawful.sized first.1 is_i) (placement-issued block set j second.0 t lawful.sized second.1 is_j)
       cycles (over_i first.0 first.1) (over_j second.0 second.1));
   delays = λ i j bound s t bounds is_i is_j. lawful.delays i j bound s t bounds is_i is_j;

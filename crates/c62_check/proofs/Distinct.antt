@@ -5,6 +5,7 @@ use Rattle.std.proofs.lemmas.List.{get_or-map}
 use Rattle.std.proofs.lemmas.List.Edits.{length-swap}
 use Rattle.std.proofs.lemmas.List.Sorted.{IsPermutation-keeps}
 use Rattle.std.proofs.lemmas.Bool.{cases_eq}
+use Rattle.c62_rules.proofs.Capacities.{one-each-unit}
 use Rattle.c62_rules.specs.PacketRules.{IsIssued, KeepsPacketRules}
 use Rattle.c62_packet.specs.declared.placed.Placed.{Placed}
 use Rattle.c62_packet.specs.Packed.{issue_of, issued}
@@ -18,7 +19,7 @@ is_issued placed i d lt = get_or-map (λ (p : Placed). Some (issue_of p)) placed
 
 once_by_rules : (placed : List Placed) → KeepsPacketRules (issued placed) → AreOnce placed
 once_by_rules placed rules i j d one other same =
-    rules.p1 (get_or placed i d).unit i j (issue_of (get_or placed i d)) (issue_of (get_or placed j d)) (is_issued placed i d one) (is_issued placed j d other)
+    one-each-unit (issued placed) rules (get_or placed i d).unit i j (issue_of (get_or placed i d)) (issue_of (get_or placed j d)) (is_issued placed i d one) (is_issued placed j d other)
     (ap (λ (p : Placed). p.cycle) same) refl (ap (λ (p : Placed). p.unit) (sym same))
 
 -- which place came to place k

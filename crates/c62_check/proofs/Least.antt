@@ -18,6 +18,7 @@ use Rattle.c62_insn.specs.declared.insn.Insn.{Insn}
 use Rattle.c62_insn.specs.Insn.{IsSameInsn, op_of, operands_of, unit_of}
 use Rattle.c62_insn.proofs.InsnLemmas.{has_written_unit}
 use Rattle.c62_rules.specs.PacketRules.{Issue, IsIssued}
+use Rattle.c62_rules.proofs.Capacities.{one-each-unit, one-each-data-path}
 use Rattle.c62_rules.specs.Length.{landing_end, last_landing_end, length_of}
 use Rattle.c62_read.specs.declared.block.SerialInsn.{SerialInsn}
 use Rattle.c62_read.specs.Block.{Serial, is_block, branch_last, operations}
@@ -197,7 +198,7 @@ module _ (block : Serial) (packed : Packed) (is : IsSchedule block packed) (soun
       let first = listed i one.own one.at in
       let second = listed j other.own other.at in
       same_number i j one.own other.own one.at other.at
-      (lawful.rules.p1 other.own.unit first.place second.place (issue_of one.own) (issue_of other.own)
+      (one-each-unit (issued packed.placed) lawful.rules other.own.unit first.place second.place (issue_of one.own) (issue_of other.own)
       (issued_at packed.placed first.place one.own first.at) (issued_at packed.placed second.place other.own second.at)
       (one.cycle ∙ (cycles ∙ sym other.cycle)) (one.unit ∙ (units ∙ sym other.unit)) refl)
 
@@ -214,7 +215,7 @@ packets_seated block packed is sound lawful = record {
       let here = stands block packed is sound lawful i one.own one.at in
       let there = stands block packed is sound lawful j other.own other.at in
       same_number block packed is sound lawful i j one.own other.own one.at other.at
-      (lawful.rules.p3 side first.place second.place (issue_of one.own) (issue_of other.own)
+      (one-each-data-path (issued packed.placed) lawful.rules side first.place second.place (issue_of one.own) (issue_of other.own)
       (issued_at packed.placed first.place one.own first.at) (issued_at packed.placed second.place other.own second.at)
       (one.cycle ∙ (cycles ∙ sym other.cycle)) (ap data_path_of (sym here.same.operands) ∙ over_i here.insn here.at)
       (ap data_path_of (sym there.same.operands) ∙ over_j there.insn there.at)));

@@ -245,7 +245,7 @@ module _ (text : Text) (block : Packed) (row count lead : ℕ) (laid : IsLaid te
       sym (broken_behind lead [] rows m.did did parted c)
       ∙ ap (λ ps. broken (record { placed = ps; did = m.did }) (lead + c)) laid.holds
       ∙ ap (λ o. option_or o (clash m.did (lead + c) block.placed)) (few_branches (lead + c))
-      ∙ (clash_told block.placed m.did).1 (runs_one_by_one block.placed before m.did packet.rules.p5 m.run) (lead + c)
+      ∙ (clash_told block.placed m.did).1 (runs_one_by_one block.placed before m.did packet.rules.landing m.run) (lead + c)
     where
       parted : IsParted lead [] rows m.did did
       parted = record {

@@ -1,5 +1,5 @@
 -- The packet rules and a block's length don't ask which unit is written in an instruction.
-use Rattle.std.proofs.Common.{arith, ◌≡◌, ℕ, zero, suc, ◌+◌, ◌≤◌, List, [], ◌∷◌, Option, Some, None, refl, sym, ap, ◌∙◌, Bool, true, false, cond, subst, max, inl, inr}
+use Rattle.std.proofs.Common.{arith, ◌≡◌, ℕ, zero, suc, ◌+◌, ◌≤◌, List, [], ◌∷◌, ◌++◌, map, Option, Some, None, refl, sym, ap, ◌∙◌, Bool, true, false, cond, subst, max, inl, inr}
 use Rattle.std.specs.Prelude.{sum_by, count_by, find, IsTrue, if◌then◌else◌, ◌==◌}
 use Rattle.std.specs.Option.{option_map_or}
 use Rattle.std.proofs.lemmas.Option.{none-some, same_Some}
@@ -12,7 +12,11 @@ use Rattle.c62_op.specs.declared.operands.Operands.{Operands}
 use Rattle.c62_op.specs.Takes.{same_reg}
 use Rattle.c62_op.specs.Shape.{crosses_to, data_path_of, reads_of, writes_of, is_branch}
 use Rattle.c62_insn.specs.Insn.{op_of, operands_of, cond_of, register_writes, greatest_delay}
-use Rattle.c62_rules.specs.PacketRules.{Issue, Issues, IsIssued, AtMostOne, reads_in, LandsIn, MayLandTogether, UsesCrossPath, UsesDataPath, KeepsPacketRules}
+use Rattle.c62_rules.specs.declared.resource.Resource.{Resource}
+use Rattle.c62_rules.specs.declared.resource.Resource.TheVariants.{OnUnit, ReadsOf}
+use Rattle.c62_rules.specs.Resource.{cross_path_taken, data_path_taken, taken_by, same_resource}
+use Rattle.c62_rules.specs.Capacity.{uses_in, used}
+use Rattle.c62_rules.specs.PacketRules.{Issue, Issues, IsIssued, LandsIn, MayLandTogether, KeepsPacketRules}
 use Rattle.c62_rules.specs.Length.{landing_end, last_landing_end, length_of}
 
 -- the same issue, whichever unit is written
@@ -55,42 +59,32 @@ mirrored (p ∷ ps) (r ∷ qs) (suc i) q same e =
 
 -- ---- the rules
 
-one_each : (Is : Issue → Type 0) (ps qs : Issues) → ((p q : Issue) → IsSameIssue p q → Is q → Is p) → AreSame ps qs → AtMostOne Is ps → AtMostOne Is qs
-one_each Is ps qs like same rule i j p q h k e is_p is_q =
-    let a = mirrored ps qs i p same h in
-    let b = mirrored ps qs j q same k in
-    rule i j a.other b.other a.issued b.issued (a.same.cycle ∙ (e ∙ sym b.same.cycle)) (like a.other p a.same is_p) (like b.other q b.same is_q)
+-- what an instruction takes, of its operation and operands
+abbrev taken_of : Op → Operands → FunctionalUnit → List Resource
+taken_of op operands unit =
+    OnUnit unit ∷ [] ++ cross_path_taken unit.side (crosses_to unit.side operands) ++ data_path_taken (data_path_of operands) ++ map ReadsOf (reads_of op operands)
 
-crosses_same : (side : Side) (p q : Issue) → IsSameIssue p q → UsesCrossPath side q → UsesCrossPath side p
-crosses_same side p q same (on_side, crosses) = (
-  ap (λ (u : FunctionalUnit). u.side) same.unit ∙ on_side,
-  subst (λ (o : Operands). IsTrue (crosses_to p.unit.side o)) (sym same.operands)
-      (subst (λ (u : FunctionalUnit). IsTrue (crosses_to u.side (operands_of q.insn))) (sym same.unit) crosses),
-)
+takes_same : (p q : Issue) → IsSameIssue p q → taken_by p.insn p.unit ≡ taken_by q.insn q.unit
+takes_same p q same =
+    ap (taken_of (op_of p.insn) (operands_of p.insn)) same.unit
+    ∙ (ap (λ (op : Op). taken_of op (operands_of p.insn) q.unit) same.op ∙ ap (λ (o : Operands). taken_of (op_of q.insn) o q.unit) same.operands)
 
-path_same : (side : Side) (p q : Issue) → IsSameIssue p q → UsesDataPath side q → UsesDataPath side p
-path_same side p q same uses = ap data_path_of same.operands ∙ uses
+uses_same : (cycle : ℕ) (r : Resource) (p q : Option Issue) → AreSameOptions p q → uses_in cycle r p ≡ uses_in cycle r q
+uses_same cycle r None None same = refl
+uses_same cycle r None (Some q) same = absurd same
+uses_same cycle r (Some p) None same = absurd same
+uses_same cycle r (Some p) (Some q) same =
+    ap (λ (k : ℕ). if k == cycle then count_by (λ taken. same_resource taken r) (taken_by p.insn p.unit) else 0) same.cycle
+    ∙ ap (λ (taken : List Resource). if q.cycle == cycle then count_by (λ t. same_resource t r) taken else 0) (takes_same p q same)
 
-reads_same : (cycle : ℕ) (reg : Reg) (p q : Issue) → IsSameIssue p q → reads_in cycle reg (Some p) ≡ reads_in cycle reg (Some q)
-reads_same cycle reg p q same =
-    ap (λ (k : ℕ). if k == cycle then count_by (λ read. same_reg read reg) (reads_of (op_of p.insn) (operands_of p.insn)) else 0) same.cycle
-    ∙ (ap (λ (op : Op). if q.cycle == cycle then count_by (λ read. same_reg read reg) (reads_of op (operands_of p.insn)) else 0) same.op
-    ∙ ap (λ (o : Operands). if q.cycle == cycle then count_by (λ read. same_reg read reg) (reads_of (op_of q.insn) o) else 0) same.operands)
-
-option_reads : (cycle : ℕ) (reg : Reg) (p q : Option Issue) → AreSameOptions p q → reads_in cycle reg p ≡ reads_in cycle reg q
-option_reads cycle reg None None same = refl
-option_reads cycle reg None (Some q) same = absurd same
-option_reads cycle reg (Some p) None same = absurd same
-option_reads cycle reg (Some p) (Some q) same = reads_same cycle reg p q same
-
-sum_same : (cycle : ℕ) (reg : Reg) (ps qs : Issues) → AreSame ps qs → sum_by (reads_in cycle reg) ps ≡ sum_by (reads_in cycle reg) qs
-sum_same cycle reg [] [] same = refl
-sum_same cycle reg [] (q ∷ qs) same = absurd same
-sum_same cycle reg (p ∷ ps) [] same = absurd same
-sum_same cycle reg (p ∷ ps) (q ∷ qs) same =
-    let head = option_reads cycle reg p q same.0 in
-    let tail = sum_same cycle reg ps qs same.1 in
-    omega (arith, sum_by-cons (reads_in cycle reg) p ps, sum_by-cons (reads_in cycle reg) q qs)
+sum_same : (cycle : ℕ) (r : Resource) (ps qs : Issues) → AreSame ps qs → used r cycle ps ≡ used r cycle qs
+sum_same cycle r [] [] same = refl
+sum_same cycle r [] (q ∷ qs) same = absurd same
+sum_same cycle r (p ∷ ps) [] same = absurd same
+sum_same cycle r (p ∷ ps) (q ∷ qs) same =
+    let head = uses_same cycle r p q same.0 in
+    let tail = sum_same cycle r ps qs same.1 in
+    omega (arith, sum_by-cons (uses_in cycle r) p ps, sum_by-cons (uses_in cycle r) q qs)
 
 pub writes_same : (p q : Issue) → IsSameIssue p q → register_writes p.insn ≡ register_writes q.insn
 writes_same p q same = ap (λ (op : Op). writes_of op (operands_of p.insn)) same.op ∙ ap (λ (o : Operands). writes_of (op_of q.insn) o) same.operands
@@ -121,14 +115,11 @@ may_same ps qs same a b p q first second may = record {
 
 pub rules_same : (ps qs : Issues) → AreSame ps qs → KeepsPacketRules ps → KeepsPacketRules qs
 rules_same ps qs same rules = record {
-  p1 = λ unit. one_each (λ p. p.unit ≡ unit) ps qs (λ p q s e. s.unit ∙ e) same (rules.p1 unit);
-  p2 = λ side. one_each (UsesCrossPath side) ps qs (crosses_same side) same (rules.p2 side);
-  p3 = λ side. one_each (UsesDataPath side) ps qs (path_same side) same (rules.p3 side);
-  p4 = λ cycle reg. subst (λ (n : ℕ). n ≤ 4) (sum_same cycle reg ps qs same) (rules.p4 cycle reg);
-  p5 = λ i j p q reg cycle h k lands theirs.
+  enough = λ cycle r. omega (arith, sum_same cycle r ps qs same, rules.enough cycle r);
+  landing = λ i j p q reg cycle h k lands theirs.
       let a = mirrored ps qs i p same h in
       let b = mirrored ps qs j q same k in
-      elim (rules.p5 i j a.other b.other reg cycle a.issued b.issued (lands_same reg cycle a.other p a.same lands) (lands_same reg cycle b.other q b.same theirs)) [
+      elim (rules.landing i j a.other b.other reg cycle a.issued b.issued (lands_same reg cycle a.other p a.same lands) (lands_same reg cycle b.other q b.same theirs)) [
         | inl same_number ↦ inl same_number
         | inr may ↦ inr (may_same ps qs same a.other b.other p q a.same b.same may)
       ];

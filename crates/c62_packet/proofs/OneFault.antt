@@ -1,9 +1,10 @@
 -- A block has one fault at most, and a packet block has none.
 use Rattle.std.proofs.Common.{arith, ◌≡◌, ℕ, zero, suc, List, refl, sym, ap, ◌∙◌, inl, inr}
 use Rattle.std.proofs.lemmas.Bool.{cases_lt}
+use Rattle.c62_rules.proofs.Places.{rank-few, same-rank}
 use Rattle.c62_packet.specs.declared.placed.Placed.{Placed}
 use Rattle.c62_packet.specs.declared.fault.PacketRule.{PacketRule}
-use Rattle.c62_packet.specs.declared.fault.PacketRule.TheVariants.{P1, P2, P3, P4, P5}
+use Rattle.c62_packet.specs.declared.fault.PacketRule.TheVariants.{InCycle, P5}
 use Rattle.c62_packet.specs.declared.fault.BlockFault.TheVariants.{TwoBranches, NotDrained, Unlawful}
 use Rattle.c62_packet.specs.Packed.{Packed, issued}
 use Rattle.c62_packet.specs.Fault.{rank_of, IsFirstBroken, HasNoFault, HasOneFault}
@@ -14,25 +15,13 @@ no-fault block packed TwoBranches fault = fault packed.one_branch
 no-fault block packed NotDrained fault = fault.1 (record { own_length = packed.own_length; drained = packed.drained })
 no-fault block packed (Unlawful cycle rule) fault = fault.2.broken ((kept-each (issued block.placed)).each packed.rules rule cycle)
 
-rule_at : ℕ → PacketRule
-rule_at zero = P1
-rule_at (suc zero) = P2
-rule_at (suc (suc zero)) = P3
-rule_at (suc (suc (suc zero))) = P4
-rule_at (suc (suc (suc (suc n)))) = P5
-
-rule_at-rank_of : (rule : PacketRule) → rule_at (rank_of rule) ≡ rule
-unfolding rule_at
-rule_at-rank_of P1 = refl
-rule_at-rank_of P2 = refl
-rule_at-rank_of P3 = refl
-rule_at-rank_of P4 = refl
-rule_at-rank_of P5 = refl
-
 same_rule : (rule other : PacketRule) → rank_of rule ≡ rank_of other → rule ≡ other
-same_rule rule other e = sym (rule_at-rank_of rule) ∙ ap rule_at e ∙ rule_at-rank_of other
+same_rule (InCycle rule) (InCycle other) e = ap InCycle (same-rank rule other e)
+same_rule (InCycle rule) P5 e = absurd (omega (arith, e, rank-few rule))
+same_rule P5 (InCycle other) e = absurd (omega (arith, e, rank-few other))
+same_rule P5 P5 e = refl
 
-same_break : (placed : List Placed) (cycle other : ℕ) (rule next : PacketRule) → IsFirstBroken cycle rule placed → IsFirstBroken other next placed
+pub same_break : (placed : List Placed) (cycle other : ℕ) (rule next : PacketRule) → IsFirstBroken cycle rule placed → IsFirstBroken other next placed
     → (cycle ≡ other) × (rule ≡ next)
 same_break placed cycle other rule next one two = elim (cases_lt cycle other) [
   | inl lower ↦ absurd (one.broken (two.first cycle rule (inl lower)))

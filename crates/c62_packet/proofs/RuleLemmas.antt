@@ -1,4 +1,4 @@
--- The packet rules, with one more instruction before the others: what they ask of the others, and that it does not clash.
+-- The fifth packet rule, with one more instruction before the others: what it asks of the others, and that it does not clash.
 use Rattle.std.proofs.Common.{arith, ◌≡◌, ℕ, zero, suc, ◌+◌, ◌≢◌, ◌<◌, ◌≤◌, min, max, List, [], ◌∷◌, length, Option, Some, None, Bool, true, false, refl, sym, ap, ◌∙◌, subst, inl, inr}
 use Rattle.std.specs.Prelude.{◌==◌, ◌&&◌, not, nat_le, nat_lt, if◌then◌else◌, sum_by, Contains, All}
 use Rattle.std.specs.List.{list_any}
@@ -16,19 +16,11 @@ use Rattle.c62_insn.specs.Insn.{op_of, cond_of, operand_reads, register_writes, 
 use Rattle.c62_rules.proofs.Exclusive.{not_opposite, none_of, may-swapped}
 use Rattle.c62_rules.specs.Dependence.{are_opposite}
 use Rattle.c62_insn.proofs.InsnLemmas.{timely_writes}
-use Rattle.c62_rules.specs.PacketRules.{Issue, IsIssued, reads_in, LandsIn, MayLandTogether}
+use Rattle.c62_rules.specs.PacketRules.{Issue, IsIssued, LandsIn, MayLandTogether}
 use Rattle.c62_op.proofs.Registers.{same_reg-is, same_reg-refl}
-use Rattle.c62_row.specs.declared.resource.Resource.{Resource}
-use Rattle.c62_row.specs.declared.row.Row.{Row}
-use Rattle.c62_row.specs.Row.{is_taken, reads_taken, reads_too_often}
-use Rattle.c62_row.specs.Rules.{HasOneIn}
-use Rattle.c62_row.specs.Issued.{IsRowOf}
-use Rattle.c62_row.proofs.Users.{Uses, uses-is, is-use}
-use Rattle.c62_row.proofs.Deciding.{read-or-not, some-read}
 use Rattle.c62_packet.specs.declared.placed.Placed.{Placed}
-use Rattle.c62_packet.specs.declared.fault.PacketRule.TheVariants.{P4}
 use Rattle.c62_packet.specs.Packed.{issue_of, issued}
-use Rattle.c62_packet.specs.Rules.{HasOneLandingIn, IsKept}
+use Rattle.c62_packet.specs.Rules.{HasOneLandingIn}
 use Rattle.c62_packet.specs.Clash.{is_landing, lands, is_between, lands_between, excused_under, are_excused, clashes, is_met}
 
 -- ---- lists of placed instructions
@@ -119,82 +111,6 @@ some-contained {X} test (x ∷ xs) h = by_head (test x) refl (λ rest. some-cont
     by_head false e later =
         let rest = later (rw e at h) in
         (rest.0, (suc rest.1.0, (let low : rest.1.0 < length xs = rest.1.1 in omega arith), rest.1.2), rest.2)
-
--- ---- rules that one of a cycle is such
-
-pub one-cons : (row : Row) (r : Resource) (c : ℕ) (p : Placed) (xs : List Placed) → IsRowOf row p.cycle (issued xs)
-    → (p.cycle ≡ c → Uses r (issue_of p) → is_taken row r ≡ true → ⊥) → HasOneIn c (Uses r) (issued xs) → HasOneIn c (Uses r) (issued (p ∷ xs))
-one-cons row r c p xs is free old = with_first
-  where
-    clash : (j : ℕ) (a b : Issue) → Some (issue_of p) ≡ Some a → IsIssued (issued xs) j b → a.cycle ≡ c → b.cycle ≡ c → Uses r a → Uses r b → ⊥
-    clash j a b first at ca cb ia ib =
-        let e : issue_of p ≡ a = same_Some (issue_of p) a first in
-        let here : p.cycle ≡ c = ap (λ (x : Issue). x.cycle) e ∙ ca in
-        let own : Uses r (issue_of p) = subst (Uses r) (sym e) ia in
-        free here own ((is.taken r).1 (record { number = j; user = b; issued = at; now = cb ∙ sym here; uses = is-use r b ib }))
-
-    with_first : HasOneIn c (Uses r) (issued (p ∷ xs))
-    with_first zero zero a b ai bj ca cb ia ib = refl
-    with_first zero (suc j) a b ai bj ca cb ia ib = absurd (clash j a b ai bj ca cb ia ib)
-    with_first (suc i) zero a b ai bj ca cb ia ib = absurd (clash i b a bj ai cb ca ib ia)
-    with_first (suc i) (suc j) a b ai bj ca cb ia ib = ap suc (old i j a b ai bj ca cb ia ib)
-
-pub one-rest : (r : Resource) (c : ℕ) (p : Placed) (xs : List Placed) → HasOneIn c (Uses r) (issued (p ∷ xs)) → HasOneIn c (Uses r) (issued xs)
-one-rest r c p xs all i j a b ai bj ca cb ia ib =
-    let e : suc i ≡ suc j = all (suc i) (suc j) a b ai bj ca cb ia ib in omega arith
-
-pub one-own : (row : Row) (r : Resource) (c : ℕ) (p : Placed) (xs : List Placed) → IsRowOf row p.cycle (issued xs)
-    → HasOneIn c (Uses r) (issued (p ∷ xs)) → p.cycle ≡ c → Uses r (issue_of p) → is_taken row r ≡ true → ⊥
-one-own row r c p xs is one here own taken =
-    let u = (is.taken r).0 taken in
-    let e : 0 ≡ suc u.number = one 0 (suc u.number) (issue_of p) u.user refl u.issued here (u.now ∙ here) own (uses-is r u.user u.uses) in
-    absurd (omega (arith, e))
-
--- ---- the fourth rule: a sum of reads that the instruction adds to
-
-pub reads_here : (c : ℕ) (reg : Reg) (p : Placed) → p.cycle ≡ c → reads_in c reg (Some (issue_of p)) ≡ reads_count reg p.insn
-reads_here c reg p e = rw (same_number p.cycle c e) refl
-
-reads_elsewhere : (c : ℕ) (reg : Reg) (p : Placed) → (p.cycle ≡ c → ⊥) → reads_in c reg (Some (issue_of p)) ≡ 0
-reads_elsewhere c reg p ne = rw (false_from_ne_true (p.cycle == c) (λ e. ne (number_same p.cycle c e))) refl
-
-split : (c : ℕ) (reg : Reg) (p : Placed) (xs : List Placed)
-    → sum_by (reads_in c reg) (issued (p ∷ xs)) ≡ reads_in c reg (Some (issue_of p)) + sum_by (reads_in c reg) (issued xs)
-split c reg p xs = sum_by-cons (reads_in c reg) (Some (issue_of p)) (issued xs)
-
-pub reads-cons : (row : Row) (c : ℕ) (p : Placed) (xs : List Placed) → IsRowOf row p.cycle (issued xs) → IsKept P4 c (issued xs)
-    → (p.cycle ≡ c → reads_too_often row p.insn ≡ false) → IsKept P4 c (issued (p ∷ xs))
-reads-cons row c p xs is old own reg = elim (cases_eq p.cycle c) [
-  | inl here ↦
-      let counted : reads_taken row reg ≡ min 5 (sum_by (reads_in c reg) (issued xs)) = rw here at is.reads reg in
-      let own_reads : reads_in c reg (Some (issue_of p)) ≡ reads_count reg p.insn = reads_here c reg p here in
-      let before : sum_by (reads_in c reg) (issued xs) ≤ 4 = old reg in
-      elim (read-or-not (λ r. nat_lt 4 (reads_taken row r + reads_count r p.insn)) reg (operand_reads p.insn) (own here)) [
-        | inl e ↦
-            let few : reads_taken row reg + reads_count reg p.insn ≤ 4 = grind (arith, nat_tests) in
-            omega (arith, split c reg p xs, counted, own_reads, before, few)
-        | inr e ↦
-            let none : reads_count reg p.insn ≡ 0 = e in
-            omega (arith, split c reg p xs, own_reads, before, none)
-      ]
-  | inr ne ↦
-      let before : sum_by (reads_in c reg) (issued xs) ≤ 4 = old reg in
-      omega (arith, split c reg p xs, reads_elsewhere c reg p ne, before)
-]
-
-pub reads-rest : (c : ℕ) (p : Placed) (xs : List Placed) → IsKept P4 c (issued (p ∷ xs)) → IsKept P4 c (issued xs)
-reads-rest c p xs all reg =
-    let before : sum_by (reads_in c reg) (issued (p ∷ xs)) ≤ 4 = all reg in
-    omega (arith, split c reg p xs, before)
-
-pub reads-own : (row : Row) (c : ℕ) (p : Placed) (xs : List Placed) → IsRowOf row p.cycle (issued xs) → IsKept P4 c (issued (p ∷ xs)) → p.cycle ≡ c
-    → reads_too_often row p.insn ≡ false
-reads-own row c p xs is all here = false_from_ne_true (reads_too_often row p.insn) (λ some.
-    let w = some-read (λ r. nat_lt 4 (reads_taken row r + reads_count r p.insn)) (operand_reads p.insn) some in
-    let over : 4 < reads_taken row w.0 + reads_count w.0 p.insn = grind (arith, nat_tests, w.1) in
-    let counted : reads_taken row w.0 ≡ min 5 (sum_by (reads_in c w.0) (issued xs)) = rw here at is.reads w.0 in
-    let few : sum_by (reads_in c w.0) (issued (p ∷ xs)) ≤ 4 = all w.0 in
-    absurd (omega (arith, over, counted, split c w.0 p xs, reads_here c w.0 p here, few)))
 
 -- ---- the fifth rule
 

@@ -14,9 +14,10 @@ use Rattle.c62_insn.specs.declared.insn.Insn.{Insn}
 use Rattle.c62_insn.specs.Insn.{register_writes}
 use Rattle.c62_insn.proofs.InsnLemmas.{writes_delay}
 use Rattle.c62_rules.specs.PacketRules.{Issue, IsIssued}
-use Rattle.c62_row.specs.Row.{IsEmpty, IsWith}
+use Rattle.c62_row.specs.declared.row.Uses.{Uses}
+use Rattle.c62_row.specs.Row.{AreUses, IsUnused, IsWith}
 use Rattle.c62_row.specs.Issued.{IsRowOf}
-use Rattle.c62_row.proofs.Issuing.{row_is_empty, row_of_cons}
+use Rattle.c62_row.proofs.Deciding.{row_is_empty, row_of_cons}
 use Rattle.c62_packet.specs.declared.placed.Placed.{Placed}
 use Rattle.c62_packet.specs.declared.taken.Taken.{Taken}
 use Rattle.c62_packet.specs.Packed.{issue_of, issued}
@@ -26,7 +27,7 @@ use Rattle.c62_packet.specs.Taken.{IsTakenBy}
 use Rattle.c62_packet.proofs.RuleLemmas.{issued-one, lands-late, all-fail}
 
 -- what no instruction takes, none takes
-pub taken-none : (taken : Taken) → IsEmpty taken.row → ((k : ℕ) (reg : Reg) → k < 5 → landed taken.landings.cycles k reg ≡ false) → IsTakenBy taken []
+pub taken-none : (taken : Taken) → IsUnused taken.row → ((k : ℕ) (reg : Reg) → k < 5 → landed taken.landings.cycles k reg ≡ false) → IsTakenBy taken []
 taken-none taken empty none = record {
   later = All-nil (λ (q : Placed). taken.cycle ≤ q.cycle);
   row = row_is_empty taken.row taken.cycle (issued []) empty (λ i p at. let one = issued-one [] i p at in let low : one.there.0 < 0 = one.there.1 in absurd (omega (arith, low)));
@@ -38,7 +39,7 @@ taken-none taken empty none = record {
 none_in : (reg : Reg) → has_register 0 reg ≡ false
 none_in reg = rw (bit_at-zero (register_index reg)) refl
 
-pub taken-earlier : (taken next : Taken) (rest : List Placed) → next.cycle < taken.cycle → IsEmpty next.row
+pub taken-earlier : (taken next : Taken) (rest : List Placed) → next.cycle < taken.cycle → IsUnused next.row
     → AreShifted taken.landings.cycles (taken.cycle - next.cycle) next.landings.cycles → IsTakenBy taken rest → IsTakenBy next rest
 taken-earlier taken next rest before empty moved is = record {
   later = All-weaker (λ (q : Placed). taken.cycle ≤ q.cycle) (λ (q : Placed). next.cycle ≤ q.cycle) (λ q le. omega (arith, le, before)) rest is.later;
@@ -85,13 +86,13 @@ or_swap true false = refl
 or_swap false true = refl
 or_swap false false = refl
 
-pub taken-more : (old new : Taken) (p : Placed) (rest : List Placed) → p.cycle ≡ old.cycle → new.cycle ≡ old.cycle → IsWith old.row new.row p.insn p.unit
+pub taken-more : (old new : Taken) (uses : Uses) (p : Placed) (rest : List Placed) → p.cycle ≡ old.cycle → new.cycle ≡ old.cycle → AreUses uses p.insn p.unit → IsWith old.row new.row uses
     → AreLandingsMore old.landings.cycles new.landings.cycles (register_writes p.insn) → IsTakenBy old rest → IsTakenBy new (p ∷ rest)
-taken-more old new p rest here same with more is = record {
+taken-more old new uses p rest here same are with more is = record {
   later = All-cons (λ (q : Placed). new.cycle ≤ q.cycle) p rest (omega (arith, here, same))
       (All-weaker (λ (q : Placed). old.cycle ≤ q.cycle) (λ (q : Placed). new.cycle ≤ q.cycle) (λ q le. omega (arith, le, same)) rest is.later);
   row = subst (λ (c : ℕ). IsRowOf new.row c (issued (p ∷ rest))) (here ∙ sym same)
-      (row_of_cons old.row new.row (issue_of p) (issued rest) (subst (λ (c : ℕ). IsRowOf old.row c (issued rest)) (sym here) is.row) with);
+      (row_of_cons old.row new.row uses (issue_of p) (issued rest) (subst (λ (c : ℕ). IsRowOf old.row c (issued rest)) (sym here) is.row) are with);
   landings = landings;
 }
   where

@@ -1,18 +1,18 @@
 -- The first packet rule that an instruction breaks together with others, in listing order (docs/MACHINE.md, "Packet rules").
-use Rattle.std.specs.Prelude.{ℕ, ◌+◌, min, max, Bool, false, not, ◌==◌, ◌&&◌, nat_le, nat_lt, if◌then◌else◌, List, find, Option, Some, None, option_map}
+use Rattle.std.specs.Prelude.{◌≡◌, ℕ, ◌+◌, min, max, Bool, false, not, ◌==◌, ◌&&◌, nat_le, nat_lt, if◌then◌else◌, List, find, Option, Some, None, option_map}
 use Rattle.std.specs.List.{list_any}
 use Rattle.c62_op.specs.declared.register.Reg.{Reg}
 use Rattle.c62_op.specs.declared.register.Cond.{Cond as Condition}
 use Rattle.c62_op.specs.Takes.{same_reg}
 use Rattle.c62_insn.specs.Insn.{cond_of, register_writes}
+use Rattle.c62_rules.specs.declared.resource.CycleRule.{CycleRule}
 use Rattle.c62_rules.specs.Dependence.{are_opposite}
 use Rattle.c62_row.specs.declared.row.Row.{Row}
-use Rattle.c62_row.specs.declared.row.PacketRule.{PacketRule as RowRule}
-use Rattle.c62_row.specs.declared.row.PacketRule.TheVariants.{P1 as RowP1, P2 as RowP2, P3 as RowP3, P4 as RowP4}
-use Rattle.c62_row.specs.Row.{rule_against}
+use Rattle.c62_row.specs.declared.row.Uses.{Uses}
+use Rattle.c62_row.specs.Row.{Tells}
 use Rattle.c62_packet.specs.declared.placed.Placed.{Placed}
 use Rattle.c62_packet.specs.declared.fault.PacketRule.{PacketRule}
-use Rattle.c62_packet.specs.declared.fault.PacketRule.TheVariants.{P1, P2, P3, P4, P5}
+use Rattle.c62_packet.specs.declared.fault.PacketRule.TheVariants.{InCycle, P5}
 use Rattle.c62_packet.specs.Fault.{rank_of}
 
 -- a write that is issued in one cycle lands in this register in another
@@ -49,21 +49,17 @@ is_met whole p others write = list_any (clashes whole p write.0 (p.cycle + write
 abbrev pub landing_beside : List Placed → Placed → List Placed → Option ℕ
 landing_beside whole p others = option_map (λ write. p.cycle + write.1) (find (is_met whole p others) (register_writes p.insn))
 
--- the rule that a row tells
-abbrev pub rule_told : RowRule → PacketRule
-rule_told RowP1 = P1
-rule_told RowP2 = P2
-rule_told RowP3 = P3
-rule_told RowP4 = P4
-
-abbrev pub broken_by : ℕ → Option RowRule → Option ℕ → Option (ℕ × PacketRule)
-broken_by cycle (Some rule) landing = Some (cycle, rule_told rule)
+-- the rule that its row tells, in its cycle, and else a landing
+abbrev pub broken_by : ℕ → Option CycleRule → Option ℕ → Option (ℕ × PacketRule)
+broken_by cycle (Some rule) landing = Some (cycle, InCycle rule)
 broken_by cycle None landing = option_map (λ c. (c, P5)) landing
 
--- What the instruction breaks together with others, which take this row of its cycle: the least cycle, and there the first
--- rule.
-abbrev pub broken_beside : Row → List Placed → Placed → List Placed → Option (ℕ × PacketRule)
-broken_beside row whole p others = broken_by p.cycle (rule_against row p.insn p.unit) (landing_beside whole p others)
+-- What the instruction, which takes so much, breaks together with others, which take this row of its cycle: the least cycle,
+-- and there the first rule.
+pub record IsBrokenBeside (row : Row) (uses : Uses) (whole : List Placed) (p : Placed) (others : List Placed) (found : Option (ℕ × PacketRule)) : Type 0 where
+  pub told : Option CycleRule
+  pub tells : Tells row uses told
+  pub is : found ≡ broken_by p.cycle told (landing_beside whole p others)
 
 abbrev pub is_before : ℕ × PacketRule → ℕ × PacketRule → Bool
 is_before (cycle, rule) (other, next) = if cycle == other then nat_lt (rank_of rule) (rank_of next) else nat_lt cycle other

@@ -2,9 +2,10 @@
 use Rattle.std.specs.Prelude.{◌≡◌, ◌⊎◌, ℕ, ◌<◌, List, Option, MatchOption, Result, MatchResult}
 use Rattle.c62_rules.specs.Length.{length_of}
 use Rattle.c62_rules.specs.PacketRules.{KeepsPacketRules}
+use Rattle.c62_rules.specs.Capacity.{rank_of as rank_in_cycle}
 use Rattle.c62_packet.specs.declared.placed.Placed.{Placed}
 use Rattle.c62_packet.specs.declared.fault.PacketRule.{PacketRule}
-use Rattle.c62_packet.specs.declared.fault.PacketRule.TheVariants.{P1, P2, P3, P4, P5}
+use Rattle.c62_packet.specs.declared.fault.PacketRule.TheVariants.{InCycle, P5}
 use Rattle.c62_packet.specs.declared.fault.BlockFault.{BlockFault}
 use Rattle.c62_packet.specs.declared.fault.BlockFault.TheVariants.{TwoBranches, NotDrained, Unlawful}
 use Rattle.c62_packet.specs.Packed.{Packed, issued, issues_of, HaveOneBranch, AreDrained, IsPacketBlock}
@@ -15,12 +16,10 @@ pub record HaveLength (cycles : ℕ) (placed : List Placed) : Type 0 where
   pub own_length : cycles ≡ length_of (issues_of placed)
   pub drained : AreDrained cycles placed
 
+-- the rules of a cycle in their order, and P5 behind all
 abbrev pub rank_of : PacketRule → ℕ
-rank_of P1 = 0
-rank_of P2 = 1
-rank_of P3 = 2
-rank_of P4 = 3
-rank_of P5 = 4
+rank_of (InCycle rule) = rank_in_cycle rule
+rank_of P5 = 16
 
 -- by cycle, and in a cycle in the order of the rules
 abbrev pub IsBefore : ℕ → PacketRule → ℕ → PacketRule → Type 0

@@ -1,15 +1,13 @@
 -- What is told of a fault of a packet block (docs/LISTING.md, "Faults of a block").
 use Rattle.std.specs.Prelude.{ℕ, List, ◌++◌, codes, decimal}
+use Rattle.c62_rules.specs.Resource.{rule_name as name_in_cycle}
 use Rattle.c62_packet.specs.declared.fault.PacketRule.{PacketRule}
-use Rattle.c62_packet.specs.declared.fault.PacketRule.TheVariants.{P1, P2, P3, P4, P5}
+use Rattle.c62_packet.specs.declared.fault.PacketRule.TheVariants.{InCycle, P5}
 use Rattle.c62_packet.specs.declared.fault.BlockFault.{BlockFault}
 use Rattle.c62_packet.specs.declared.fault.BlockFault.TheVariants.{TwoBranches, NotDrained, Unlawful}
 
 abbrev pub rule_name : PacketRule → List ℕ
-rule_name P1 = codes "P1"
-rule_name P2 = codes "P2"
-rule_name P3 = codes "P3"
-rule_name P4 = codes "P4"
+rule_name (InCycle rule) = name_in_cycle rule
 rule_name P5 = codes "P5"
 
 -- `TwoBranches`, `NotDrained` or `cycle C: RULE`

@@ -3,10 +3,9 @@
 use Rattle.std.specs.Prelude.{◌≡◌, ◌⊎◌, ℕ}
 use Rattle.c62_op.specs.declared.register.Reg.{Reg}
 use Rattle.c62_rules.specs.PacketRules.{Issue, Issues, IsIssued, LandsIn, MayLandTogether, KeepsPacketRules}
-use Rattle.c62_row.specs.declared.row.PacketRule.TheVariants.{P1 as RowP1, P2 as RowP2, P3 as RowP3, P4 as RowP4}
-use Rattle.c62_row.specs.Rules.{IsKept as IsKeptIn}
+use Rattle.c62_rules.specs.Capacity.{IsKept as IsKeptIn}
 use Rattle.c62_packet.specs.declared.fault.PacketRule.{PacketRule}
-use Rattle.c62_packet.specs.declared.fault.PacketRule.TheVariants.{P1, P2, P3, P4, P5}
+use Rattle.c62_packet.specs.declared.fault.PacketRule.TheVariants.{InCycle, P5}
 
 -- of this cycle at most one lands in the register, or both may land together
 abbrev pub HasOneLandingIn : Issues → ℕ → Issues → Type 0
@@ -16,10 +15,7 @@ HasOneLandingIn whole cycle issues =
 
 -- the rule is kept in this cycle by some of a block, for P5 by what lands in it
 abbrev pub IsKeptAmong : Issues → PacketRule → ℕ → Issues → Type 0
-IsKeptAmong whole P1 cycle issues = IsKeptIn RowP1 cycle issues
-IsKeptAmong whole P2 cycle issues = IsKeptIn RowP2 cycle issues
-IsKeptAmong whole P3 cycle issues = IsKeptIn RowP3 cycle issues
-IsKeptAmong whole P4 cycle issues = IsKeptIn RowP4 cycle issues
+IsKeptAmong whole (InCycle rule) cycle issues = IsKeptIn rule cycle issues
 IsKeptAmong whole P5 cycle issues = HasOneLandingIn whole cycle issues
 
 -- the same of a whole block

@@ -3,20 +3,15 @@
 ghost use Rattle.std.specs.Prelude.{◌≡◌, Some};
 ghost use Rattle.c62_packet.specs.FaultText.{rule_name, block_fault_text};
 
+use c62_rules::CycleRule;
 use std::error::Error;
 use std::fmt;
 
 /// A rule of execute packets (`docs/MACHINE.md`, "Packet rules"; SPRU189, "Resource Constraints").
 #[derive(Clone, Copy, PartialEq, Eq, Debug)]
 pub enum PacketRule {
-    /// One instruction for each unit.
-    P1,
-    /// At most one user of each cross path.
-    P2,
-    /// Two accesses use different data paths.
-    P3,
-    /// At most four reads of a register.
-    P4,
+    /// One of the rules P1 to P4, of the resources of a cycle.
+    InCycle(CycleRule),
     /// No two writes of a register land together.
     P5,
 }
@@ -27,10 +22,7 @@ impl PacketRule {
         ensures { result.now ≡ rule_name self }
     {
         match self {
-            PacketRule::P1 => "P1",
-            PacketRule::P2 => "P2",
-            PacketRule::P3 => "P3",
-            PacketRule::P4 => "P4",
+            PacketRule::InCycle(rule) => rule.name(),
             PacketRule::P5 => "P5",
         }
     }

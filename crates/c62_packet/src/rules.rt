@@ -7,14 +7,14 @@ ghost use Rattle.c62_read.specs.declared.limits.TheConstants.{MOST_INSTRUCTIONS}
 ghost use Rattle.c62_packet.specs.declared.limits.TheConstants.{MOST_CYCLES};
 ghost use Rattle.c62_packet.specs.Packed.{IsInListingOrder};
 ghost use Rattle.c62_packet.specs.Fault.{rank_of, FindsBroken};
-ghost use Rattle.c62_packet.specs.Clash.{is_landing, lands, is_between, lands_between, are_excused, clashes, is_met, landing_beside, rule_told, broken_beside, is_before, earlier};
+ghost use Rattle.c62_packet.specs.Clash.{is_landing, lands, is_between, lands_between, are_excused, clashes, is_met, landing_beside, IsBrokenBeside, is_before, earlier};
 ghost use Rattle.c62_packet.specs.Taken.{IsTakenBy};
 
 use crate::fault::PacketRule;
 use crate::placed::Placed;
 use crate::taken::Taken;
 use c62_insn::{Cond, Reg};
-use c62_row::PacketRule as RowRule;
+use c62_row::Uses;
 
 /// Whether a write that is issued in one cycle lands in this register in another.
 fn is_landing(write: (Reg, u8), from: u16, reg: Reg, cycle: u32) -> bool
@@ -141,21 +141,10 @@ fn landing_beside(taken: &Taken, all: &[Placed], placed: &Placed, others: &[Plac
     None
 }
 
-/// The rule that a row tells.
-fn rule_told(rule: RowRule) -> PacketRule
-    ensures { result ≡ rule_told rule }
-{
-    match rule {
-        RowRule::P1 => PacketRule::P1,
-        RowRule::P2 => PacketRule::P2,
-        RowRule::P3 => PacketRule::P3,
-        RowRule::P4 => PacketRule::P4,
-    }
-}
-
-/// The least cycle and there the first rule that an instruction breaks together with those behind it.
+/// The least cycle and there the first rule that an instruction, which takes so much, breaks together with those behind it.
 fn broken_beside(
     taken: &Taken,
+    uses: &Uses,
     all: &[Placed],
     placed: &Placed,
     others: &[Placed],
@@ -163,10 +152,10 @@ fn broken_beside(
     requires short { placed.now.cycle < MOST_CYCLES }
     requires here { placed.now.cycle ≡ taken.now.cycle }
     requires taken { IsTakenBy taken.now others.now }
-    ensures { result ≡ broken_beside taken.now.row all.now placed.now others.now }
+    ensures { IsBrokenBeside taken.now.row uses.now all.now placed.now others.now result }
 {
-    match taken.row.rule_against(placed.insn, placed.unit) {
-        Some(rule) => Some((placed.cycle, rule_told(rule))),
+    match taken.row.rule_against(uses) {
+        Some(rule) => Some((placed.cycle, PacketRule::InCycle(rule))),
         None => {
             match landing_beside(taken, all, placed, others) {
                 Some(cycle) => Some((cycle, PacketRule::P5)),
@@ -180,11 +169,8 @@ fn rank(rule: PacketRule) -> u8
     ensures { result ≡ rank_of rule }
 {
     match rule {
-        PacketRule::P1 => 0,
-        PacketRule::P2 => 1,
-        PacketRule::P3 => 2,
-        PacketRule::P4 => 3,
-        PacketRule::P5 => 4,
+        PacketRule::InCycle(rule) => rule.rank(),
+        PacketRule::P5 => 16,
     }
 }
 
@@ -233,11 +219,12 @@ pub fn first_broken(placed: &[Placed]) -> Option<(u16, PacketRule)>
         at -= 1;
         let next = &placed[at];
         taken = taken.from_cycle(next.cycle);
+        let uses = Uses::of(next.insn, next.unit);
         found = earlier(
             found,
-            broken_beside(&taken, placed, next, &placed[at + 1..]),
+            broken_beside(&taken, &uses, placed, next, &placed[at + 1..]),
         );
-        taken.add(next);
+        taken.add(next, &uses);
     }
     found
 }

@@ -1,11 +1,12 @@
 //! What instructions take that are issued in a cycle or later.
 
 ghost use Rattle.std.specs.Prelude.{◌≡◌, ◌≤◌, []};
+ghost use Rattle.c62_row.specs.Row.{AreUses};
 ghost use Rattle.c62_packet.specs.Taken.{IsTakenBy, TakesTheSame, TakesMore};
 
 use crate::landings::Landings;
 use crate::placed::Placed;
-use c62_row::Row;
+use c62_row::{Row, Uses};
 
 /// What instructions take that are issued in a cycle or later: the row of that cycle, and the registers in which they land
 /// in it and in the four next.
@@ -45,13 +46,14 @@ impl Taken {
         }
     }
 
-    /// Takes what an instruction takes that is issued in the cycle.
-    pub fn add(&mut self, placed: &Placed)
-        requires { placed.now.cycle ≡ self.old.cycle }
+    /// Takes what an instruction takes that is issued in the cycle: of resources so much.
+    pub fn add(&mut self, placed: &Placed, uses: &Uses)
+        requires here { placed.now.cycle ≡ self.old.cycle }
+        requires uses { AreUses uses.now placed.now.insn placed.now.unit }
         ensures same { self.new.cycle ≡ self.old.cycle }
         ensures taken { TakesMore self.old self.new placed.now }
     {
-        self.row.add(placed.insn, placed.unit);
+        self.row.add(uses);
         self.landings.add_all(placed.insn.writes().as_slice());
     }
 }

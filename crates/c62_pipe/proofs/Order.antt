@@ -5,6 +5,7 @@ use Rattle.std.proofs.lemmas.Bool.{cases_lt}
 use Rattle.std.proofs.lemmas.List.{take-append-drop, get_or-map}
 use Rattle.c62_op.specs.Units.{index_of as unit_index}
 use Rattle.c62_op.proofs.UnitOrder.{same_index, index_of-below}
+use Rattle.c62_rules.proofs.Capacities.{one-each-unit}
 use Rattle.c62_rules.specs.PacketRules.{IsIssued}
 use Rattle.c62_packet.specs.declared.placed.Placed.{Placed}
 use Rattle.c62_packet.specs.Packed.{Packed, IsPacketBlock, issue_of, issued, listing_position}
@@ -35,7 +36,7 @@ positions_differ block h i j d l u e =
     let unit : p.unit ≡ q.unit = same_index p.unit q.unit (omega arith) in
     let at_i : IsIssued (issued block.placed) i (issue_of p) = get_or-map (λ (z : Placed). Some (issue_of z)) block.placed i d None (omega arith) in
     let at_j : IsIssued (issued block.placed) j (issue_of q) = get_or-map (λ (z : Placed). Some (issue_of z)) block.placed j d None u in
-    let same : i ≡ j = h.rules.p1 q.unit i j (issue_of p) (issue_of q) at_i at_j cycle unit refl in
+    let same : i ≡ j = one-each-unit (issued block.placed) h.rules q.unit i j (issue_of p) (issue_of q) at_i at_j cycle unit refl in
     omega arith
 
 pub ascends : (block : Packed) → IsPacketBlock block → Ascends block.placed

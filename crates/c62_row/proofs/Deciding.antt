@@ -1,156 +1,226 @@
--- What a row says against an instruction is what the packet rules say.
-use Rattle.std.proofs.Common.{arith, ◌≡◌, ◌≢◌, ℕ, ◌+◌, ◌<◌, ◌≤◌, min, List, [], ◌∷◌, Option, Some, None, Bool, true, false, refl, sym, ap, ◌∙◌, inl, inr, ◌⊎◌}
-use Rattle.std.specs.Prelude.{◌&&◌, if◌then◌else◌, nat_lt, IsTrue, MatchOption, slice_set, sum_by, count_by}
-use Rattle.std.specs.List.{list_any}
-use Rattle.std.proofs.lemmas.Bool.{false≢true, or_cases, and_parts}
+-- What a row tells is what the packet rules say, and it follows what is issued.
+use Rattle.std.proofs.Common.{arith, ◌≡◌, ◌≢◌, ℕ, zero, suc, ◌+◌, ◌-◌, ◌<◌, ◌≤◌, min, List, [], ◌∷◌, length, Option, Some, None, Bool, true, false, cond, refl, sym, ap, ◌∙◌, inl, inr, subst}
+use Rattle.std.specs.Prelude.{◌==◌, ◌↔◌, if◌then◌else◌, slice_set, sum_by, count_by, MatchOption}
+use Rattle.std.proofs.lemmas.Bool.{cases_eq, cases_lt, cases_Bool}
 use Rattle.std.proofs.lemmas.Bool.Decides.{nat_tests}
-use Rattle.std.proofs.lemmas.Grind.{common_steps}
-use Rattle.c62_op.specs.declared.register.Side.{Side}
-use Rattle.c62_op.specs.declared.register.Reg.{Reg}
-use Rattle.c62_op.specs.declared.register.Unit.{Unit as FunctionalUnit}
-use Rattle.c62_op.specs.Shape.{crosses_to, data_path_of}
-use Rattle.c62_op.specs.Takes.{same_reg}
-use Rattle.c62_op.proofs.Registers.{same_reg-is}
-use Rattle.c62_insn.specs.Insn.{operands_of, operand_reads, reads_count}
-use Rattle.c62_rules.specs.PacketRules.{Issue, Issues, IsIssued, reads_in}
-use Rattle.c62_row.specs.declared.resource.Resource.{Resource}
-use Rattle.c62_row.specs.declared.resource.Resource.TheVariants.{OnUnit, CrossPath, DataPath}
-use Rattle.c62_row.specs.declared.row.PacketRule.{PacketRule}
-use Rattle.c62_row.specs.declared.row.PacketRule.TheVariants.{P1, P2, P3, P4}
+use Rattle.std.proofs.lemmas.List.Sums.{sum_by-cons, sum_by-set}
+use Rattle.c62_rules.specs.declared.resource.CycleRule.{CycleRule}
+use Rattle.c62_rules.specs.declared.resource.Resource.{Resource}
+use Rattle.c62_rules.specs.PacketRules.{Issue, Issues, IsIssued}
+use Rattle.c62_rules.specs.Resource.{rule_of, capacity_of, taken_by, same_resource, place_of, rule_at, capacity_at}
+use Rattle.c62_rules.specs.Capacity.{uses, uses_in, used, AreEnough, IsKept, IsFirstBroken, rank_of}
+use Rattle.c62_rules.proofs.Parts.{issued-within}
+use Rattle.c62_rules.proofs.Places.{same-place, place-few, rule-here, capacity-here, ranks-rise}
+use Rattle.c62_row.specs.declared.row.Uses.{Uses}
 use Rattle.c62_row.specs.declared.row.Row.{Row}
-use Rattle.c62_row.specs.Row.{is_taken, reads_taken, is_path_taken, reads_too_often, rule_against}
-use Rattle.c62_row.specs.Rules.{HasOneIn, IsKept, AreKept, rank_of, IsFirstBroken}
-use Rattle.c62_row.specs.Issued.{IsUsed, IsRowOf, IsFree, RowDecides}
-use Rattle.c62_row.proofs.Users.{Uses, uses-is, is-use, one_of}
-use Rattle.c62_row.proofs.Issuing.{issued-added, is-added, is-kept, reads-added, reads-now}
+use Rattle.c62_row.specs.Fields.{EachPlace, times_at}
+use Rattle.c62_row.proofs.Words.{zeros}
+use Rattle.c62_row.specs.Row.{row_at, uses_at, start_at, AreUses, Fits, IsFirstOver, IsRuleOver, Tells, IsWith, IsWithin}
+use Rattle.c62_row.specs.Issued.{IsFree, taken_at, IsRowOf, RowDecides, RowFollows, RowIsLeft, RowStays, RowIsEmpty}
 
--- which of four tests is the first that holds
-pub first-told : (a b c d : Bool) (All : Type 0) (First : PacketRule → Type 0) → (a ≡ true → First P1) → (a ≡ false → b ≡ true → First P2)
-    → (a ≡ false → b ≡ false → c ≡ true → First P3) → (a ≡ false → b ≡ false → c ≡ false → d ≡ true → First P4)
-    → (a ≡ false → b ≡ false → c ≡ false → d ≡ false → All)
-    → MatchOption (if a then Some P1 else (if b then Some P2 else (if c then Some P3 else (if d then Some P4 else None)))) All First
-first-told true b c d All First one two three four none = one refl
-first-told false true c d All First one two three four none = two refl refl
-first-told false false true d All First one two three four none = three refl refl refl
-first-told false false false true All First one two three four none = four refl refl refl refl
-first-told false false false false All First one two three four none = none refl refl refl refl
+-- ---- places and resources
 
--- a register that an instruction reads fails the test that none of its reads passes, and the others it reads no time
-pub read-or-not : (test : Reg → Bool) (reg : Reg) (regs : List Reg) → list_any test regs ≡ false
-    → (test reg ≡ false) ⊎ (count_by (λ read. same_reg read reg) regs ≡ 0)
-read-or-not test reg [] all = inr refl
-read-or-not test reg (r ∷ regs) all = grind (arith, common_steps, same_reg-is r reg, read-or-not test reg regs)
+same-test : (r x : Resource) → cond {A = ℕ} (place_of x == place_of r) 1 0 ≡ cond (same_resource x r) 1 0
+same-test r x = ap (λ (b : Bool). cond {A = ℕ} b 1 0) (same-place x r)
 
-pub some-read : (test : Reg → Bool) (regs : List Reg) → list_any test regs ≡ true → (reg : Reg) × (test reg ≡ true)
-some-read test [] h = absurd (false≢true h)
-some-read test (reg ∷ regs) h = elim (or_cases (test reg) (list_any test regs) h) [ inl e ↦ (reg, e) | inr e ↦ some-read test regs e ]
+times-same : (r : Resource) (taken : List Resource) → times_at (place_of r) taken ≡ count_by (λ x. same_resource x r) taken
+times-same r [] = refl
+times-same r (x ∷ taken) =
+    omega (
+      arith,
+      sum_by-cons (λ (y : Resource). cond {A = ℕ} (place_of y == place_of r) 1 0) x taken,
+      sum_by-cons (λ (y : Resource). cond {A = ℕ} (same_resource y r) 1 0) x taken,
+      same-test r x,
+      times-same r taken,
+    )
 
-module _ (row : Row) (issues : Issues) (i : ℕ) (p : Issue) (free : IsFree issues i) (kept : AreKept p.cycle issues) (is : IsRowOf row p.cycle issues) where
-  with_it : Issues
-  with_it = slice_set issues i (Some p)
+taken-same : (r : Resource) (cycle : ℕ) (o : Option Issue) → taken_at cycle (place_of r) o ≡ uses_in cycle r o
+taken-same r cycle None = refl
+taken-same r cycle (Some p) = ap (λ (n : ℕ). if p.cycle == cycle then n else 0) (times-same r (taken_by p.insn p.unit))
 
-  -- a resource that is taken, and used once more
-  clash : (r : Resource) → IsTrue (is_taken row r) → Uses r p → HasOneIn p.cycle (Uses r) (slice_set issues i (Some p)) → ⊥
-  clash r taken own one =
-      let u = (is.taken r).0 taken in
-      let there = is-kept issues i u.number p u.user free u.issued in
-      there.0 (one u.number i u.user p there.1 (is-added issues i p free.0) u.now refl (uses-is r u.user u.uses) own)
+-- what is taken of a place is what is taken of its resource
+used-same : (r : Resource) (cycle : ℕ) (issues : Issues) → sum_by (taken_at cycle (place_of r)) issues ≡ used r cycle issues
+used-same r cycle [] = refl
+used-same r cycle (o ∷ issues) =
+    omega (arith, sum_by-cons (taken_at cycle (place_of r)) o issues, sum_by-cons (uses_in cycle r) o issues, taken-same r cycle o, used-same r cycle issues)
 
-  no_clash : (r : Resource) → (IsTrue (is_taken row r) → Uses r p → ⊥) → HasOneIn p.cycle (Uses r) (slice_set issues i (Some p))
-  no_clash r apart j k q s at_j at_k now_q now_s by_q by_s =
-      elim (issued-added issues i j p q free.0 at_j) [
-        | inl v ↦ elim (issued-added issues i k p s free.0 at_k) [
-          | inl w ↦ v.0 ∙ sym w.0
-          | inr w ↦ absurd (apart (taken_by k s w.1 now_s by_s) (rw v.1 at by_q))
-        ]
-        | inr v ↦ elim (issued-added issues i k p s free.0 at_k) [
-          | inl w ↦ absurd (apart (taken_by j q v.1 now_q by_q) (rw w.1 at by_s))
-          | inr w ↦ one_of issues p.cycle kept r j k q s v.1 w.1 now_q now_s by_q by_s
-        ]
-      ]
+-- of what is taken there is a resource at the place
+some-taken : (place : ℕ) (taken : List Resource) → 0 < times_at place taken → (r : Resource) × (place_of r ≡ place)
+some-taken place [] some = absurd (omega (arith, some))
+some-taken place (x ∷ taken) some = elim (cases_eq (place_of x) place) [
+  | inl here ↦ (x, here)
+  | inr other ↦
+      let none : cond {A = ℕ} (place_of x == place) 1 0 ≡ 0 = grind (arith, nat_tests) in
+      some-taken place taken (omega (arith, some, none, sum_by-cons (λ (y : Resource). cond {A = ℕ} (place_of y == place) 1 0) x taken))
+]
+
+some-in : (cycle place : ℕ) (o : Option Issue) → 0 < taken_at cycle place o → (r : Resource) × (place_of r ≡ place)
+some-in cycle place None some = absurd (omega (arith, some))
+some-in cycle place (Some p) some = elim (cases_eq p.cycle cycle) [
+  | inl here ↦ (let all : taken_at cycle place (Some p) ≡ times_at place (taken_by p.insn p.unit) = grind (arith, nat_tests) in
+      some-taken place (taken_by p.insn p.unit) (omega (arith, some, all)))
+  | inr other ↦ (let none : taken_at cycle place (Some p) ≡ 0 = grind (arith, nat_tests) in absurd (omega (arith, some, none)))
+]
+
+some-used : (cycle place : ℕ) (issues : Issues) → 0 < sum_by (taken_at cycle place) issues → (r : Resource) × (place_of r ≡ place)
+some-used cycle place [] some = absurd (omega (arith, some))
+some-used cycle place (o ∷ issues) some = elim (cases_lt 0 (taken_at cycle place o)) [
+  | inl own ↦ some-in cycle place o own
+  | inr none ↦ some-used cycle place issues (omega (arith, some, none, sum_by-cons (taken_at cycle place) o issues))
+]
+
+-- ---- one more, and one fewer
+
+taken-now : (p : Issue) (place : ℕ) → taken_at p.cycle place (Some p) ≡ times_at place (taken_by p.insn p.unit)
+taken-now p place = grind (arith, nat_tests)
+
+taken-other : (p : Issue) (cycle place : ℕ) → (p.cycle ≡ cycle → ⊥) → taken_at cycle place (Some p) ≡ 0
+taken-other p cycle place other = grind (arith, nat_tests)
+
+sum-added : (issues : Issues) (i : ℕ) (p : Issue) (cycle place : ℕ) → IsFree issues i
+    → sum_by (taken_at cycle place) (slice_set issues i (Some p)) ≡ sum_by (taken_at cycle place) issues + taken_at cycle place (Some p)
+sum-added issues i p cycle place free = grind (arith, free.1, sum_by-set (taken_at cycle place) issues i (Some p) None free.0)
+
+sum-left : (issues : Issues) (i : ℕ) (p : Issue) (cycle place : ℕ) → IsIssued issues i p
+    → sum_by (taken_at cycle place) (slice_set issues i None) + taken_at cycle place (Some p) ≡ sum_by (taken_at cycle place) issues
+sum-left issues i p cycle place is = grind (arith, is, sum_by-set (taken_at cycle place) issues i None None (issued-within issues i p is))
+
+capacity-some : (place : ℕ) → capacity_at place ≤ 7
+capacity-some place = grind (arith, nat_tests)
+
+-- ---- deciding
+
+-- what is issued, with one instruction more
+abbrev pub IsWithIssue : Issues → Issues → Issue → Type 0
+IsWithIssue issues with_it p = (place : ℕ) → sum_by (taken_at p.cycle place) with_it ≡ sum_by (taken_at p.cycle place) issues + taken_at p.cycle place (Some p)
+
+module _ (row : Row) (own : Uses) (issues with_it : Issues) (p : Issue) (more : IsWithIssue issues with_it p) (is : IsRowOf row p.cycle issues)
+    (are : AreUses own p.insn p.unit) where
+  -- what is taken of a place, with it
+  both : (place : ℕ) → place < 48 → sum_by (taken_at p.cycle place) with_it ≡ sum_by (taken_at p.cycle place) issues + uses_at own place
+  both place low = omega (arith, more place, taken-now p place, are place low)
+
+  -- it is enough exactly where the sum is below 8
+  enough : (place : ℕ) → place < 48 → row_at row place + uses_at own place < 8 → sum_by (taken_at p.cycle place) with_it ≤ capacity_at place
+  enough place low fits = omega (arith, both place low, is place low, fits, capacity-some place)
+
+  too-much : (place : ℕ) → place < 48 → 8 ≤ row_at row place + uses_at own place → capacity_at place < sum_by (taken_at p.cycle place) with_it
+  too-much place low over = omega (arith, both place low, is place low, over, capacity-some place)
+
+  of-resource : (r : Resource) → row_at row (place_of r) + uses_at own (place_of r) < 8 → used r p.cycle with_it ≤ capacity_of r
+  of-resource r fits =
+      let low : place_of r < 48 = omega (arith, place-few r) in
+      let is_enough = enough (place_of r) low fits in
+      omega (arith, is_enough, used-same r p.cycle with_it, capacity-here r)
+
+  first-broken : (place : ℕ) → IsFirstOver row own place → IsFirstBroken (rule_at place) p.cycle with_it
+  first-broken place over = record {
+    broken = λ kept. (let few = kept r (sym (rule-here r) ∙ ap rule_at there) in
+        omega (arith, few, much, used-same r p.cycle with_it, capacity-here r, ap capacity_at there, ap (λ (k : ℕ). sum_by (taken_at p.cycle k) with_it) there));
+    first = λ other less x under. of-resource x (over.first (place_of x) (before other less x under));
+  }
     where
-      taken_by : (n : ℕ) (user : Issue) → IsIssued issues n user → user.cycle ≡ p.cycle → Uses r user → IsTrue (is_taken row r)
-      taken_by n user at now by = (is.taken r).1 (record { number = n; user = user; issued = at; now = now; uses = is-use r user by })
+      much : capacity_at place < sum_by (taken_at p.cycle place) with_it
+      much = too-much place over.within over.over
 
-  reads_with : (reg : Reg) → sum_by (reads_in p.cycle reg) (slice_set issues i (Some p)) ≡ sum_by (reads_in p.cycle reg) issues + reads_count reg p.insn
-  reads_with reg = omega (arith, reads-added issues i p p.cycle reg free, reads-now p reg)
+      found : (x : Resource) × (place_of x ≡ place)
+      found = some-used p.cycle place with_it (omega (arith, much))
 
-  kept_units : is_taken row (OnUnit p.unit) ≡ false → IsKept P1 p.cycle (slice_set issues i (Some p))
-  kept_units none unit = no_clash (OnUnit unit) (λ taken own. false≢true (sym none ∙ rw (← own) at taken))
+      r : Resource
+      r = found.0
 
-  kept_cross_paths : (crosses_to p.unit.side (operands_of p.insn) && is_taken row (CrossPath p.unit.side)) ≡ false
-      → IsKept P2 p.cycle (slice_set issues i (Some p))
-  kept_cross_paths none side =
-      no_clash (CrossPath side) (λ taken own. (let there : is_taken row (CrossPath p.unit.side) ≡ true = rw (← own.0) at taken in
-      false≢true (sym none ∙ rw (own.1, there) refl)))
+      there : place_of r ≡ place
+      there = found.1
 
-  kept_data_paths : is_path_taken row (data_path_of (operands_of p.insn)) ≡ false → IsKept P3 p.cycle (slice_set issues i (Some p))
-  kept_data_paths none side = no_clash (DataPath side) (λ taken own. false≢true (sym none ∙ rw own taken))
-
-  pub kept_reads : reads_too_often row p.insn ≡ false → IsKept P4 p.cycle (slice_set issues i (Some p))
-  kept_reads none reg =
-      let few : sum_by (reads_in p.cycle reg) issues ≤ 4 = kept P4 reg in
-      let counted = is.reads reg in
-      let now = reads_with reg in
-      elim (read-or-not (λ r. nat_lt 4 (reads_taken row r + reads_count r p.insn)) reg (operand_reads p.insn) none) [
-        | inl e ↦ grind (arith, nat_tests)
-        | inr e ↦ omega (arith, now, few, e)
+      before : (other : CycleRule) → rank_of other < rank_of (rule_at place) → (x : Resource) → rule_of x ≡ other → place_of x < place
+      before other less x under = elim (cases_lt (place_of x) place) [
+        | inl lt ↦ lt
+        | inr past ↦
+            let rises = ranks-rise place (place_of x) past in
+            let same : rank_of (rule_at (place_of x)) ≡ rank_of other = ap rank_of (rule-here x ∙ under) in
+            absurd (omega (arith, rises, same, less))
       ]
 
-  broken_reads : reads_too_often row p.insn ≡ true → IsKept P4 p.cycle (slice_set issues i (Some p)) → ⊥
-  broken_reads some few =
-      let w = some-read (λ r. nat_lt 4 (reads_taken row r + reads_count r p.insn)) (operand_reads p.insn) some in
-      let over : 4 < reads_taken row w.0 + reads_count w.0 p.insn = grind (arith, nat_tests, w.1) in
-      absurd (omega (arith, over, is.reads w.0, reads_with w.0, few w.0))
+  decided : (told : Option CycleRule) → Tells row own told
+      → MatchOption told (AreEnough p.cycle with_it) (λ rule. IsFirstBroken rule p.cycle with_it)
+  decided None fits = λ r. of-resource r (fits (place_of r) (omega (arith, place-few r)))
+  decided (Some rule) (place, over, same) = subst (λ (q : CycleRule). IsFirstBroken q p.cycle with_it) (sym same) (first-broken place over)
 
-  broken_data_paths : (path : Option Side) → data_path_of (operands_of p.insn) ≡ path → is_path_taken row path ≡ true
-      → IsKept P3 p.cycle (slice_set issues i (Some p)) → ⊥
-  broken_data_paths None own some one = false≢true some
-  broken_data_paths (Some side) own some one = clash (DataPath side) some own (one side)
+pub row_decides : (row : Row) (own : Uses) (told : Option CycleRule) (issues : Issues) (i : ℕ) (p : Issue) → RowDecides row own told issues i p
+row_decides row own told issues i p free is are tells =
+    decided row own issues (slice_set issues i (Some p)) p (λ place. sum-added issues i p p.cycle place free) is are told tells
 
-  broken_cross_path : (crosses_to p.unit.side (operands_of p.insn) && is_taken row (CrossPath p.unit.side)) ≡ true
-      → IsKept P2 p.cycle (slice_set issues i (Some p)) → ⊥
-  broken_cross_path some one =
-      let parts = and_parts (crosses_to p.unit.side (operands_of p.insn)) (is_taken row (CrossPath p.unit.side)) some in
-      clash (CrossPath p.unit.side) parts.1 (refl, parts.0) (one p.unit.side)
+-- the same of an instruction that stands before these
+in-front : (issues : Issues) (p : Issue) → IsWithIssue issues (Some p ∷ issues) p
+in-front issues p place = omega (arith, sum_by-cons (taken_at p.cycle place) (Some p) issues)
 
-  before_cross_paths : is_taken row (OnUnit p.unit) ≡ false → (other : PacketRule) → rank_of other < 1 → IsKept other p.cycle (slice_set issues i (Some p))
-  before_cross_paths a P1 lt = kept_units a
-  before_cross_paths a P2 lt = absurd (omega (arith, lt))
-  before_cross_paths a P3 lt = absurd (omega (arith, lt))
-  before_cross_paths a P4 lt = absurd (omega (arith, lt))
+pub decides-cons : (row : Row) (own : Uses) (told : Option CycleRule) (issues : Issues) (p : Issue) → IsRowOf row p.cycle issues → AreUses own p.insn p.unit → Tells row own told
+    → MatchOption told (AreEnough p.cycle (Some p ∷ issues)) (λ rule. IsFirstBroken rule p.cycle (Some p ∷ issues))
+decides-cons row own told issues p is are tells = decided row own issues (Some p ∷ issues) p (in-front issues p) is are told tells
 
-  before_data_paths : is_taken row (OnUnit p.unit) ≡ false → (crosses_to p.unit.side (operands_of p.insn) && is_taken row (CrossPath p.unit.side)) ≡ false
-      → (other : PacketRule) → rank_of other < 2 → IsKept other p.cycle (slice_set issues i (Some p))
-  before_data_paths a b P1 lt = kept_units a
-  before_data_paths a b P2 lt = kept_cross_paths b
-  before_data_paths a b P3 lt = absurd (omega (arith, lt))
-  before_data_paths a b P4 lt = absurd (omega (arith, lt))
+pub row_of_cons : (old new : Row) (own : Uses) (p : Issue) (issues : Issues) → IsRowOf old p.cycle issues → AreUses own p.insn p.unit → IsWith old new own
+    → IsRowOf new p.cycle (Some p ∷ issues)
+row_of_cons old new own p issues is are more place low =
+    omega (arith, more place low, is place low, in-front issues p place, taken-now p place, are place low)
 
-  before_reads : is_taken row (OnUnit p.unit) ≡ false → (crosses_to p.unit.side (operands_of p.insn) && is_taken row (CrossPath p.unit.side)) ≡ false
-      → is_path_taken row (data_path_of (operands_of p.insn)) ≡ false
-      → (other : PacketRule) → rank_of other < 3 → IsKept other p.cycle (slice_set issues i (Some p))
-  before_reads a b c P1 lt = kept_units a
-  before_reads a b c P2 lt = kept_cross_paths b
-  before_reads a b c P3 lt = kept_data_paths c
-  before_reads a b c P4 lt = absurd (omega (arith, lt))
+-- where of each resource there is enough, so there is of each place: at those past the last nothing is taken
+pub enough-at : (cycle : ℕ) (issues : Issues) → AreEnough cycle issues → (place : ℕ) → sum_by (taken_at cycle place) issues ≤ capacity_at place
+enough-at cycle issues enough place = elim (cases_lt 0 (sum_by (taken_at cycle place) issues)) [
+  | inr none ↦ omega (arith, none)
+  | inl some ↦
+      let found = some-used cycle place issues some in
+      let few = enough found.0 in
+      omega (arith, few, used-same found.0 cycle issues, capacity-here found.0, ap capacity_at found.1, ap (λ (k : ℕ). sum_by (taken_at cycle k) issues) found.1)
+]
 
-  all_kept : is_taken row (OnUnit p.unit) ≡ false → (crosses_to p.unit.side (operands_of p.insn) && is_taken row (CrossPath p.unit.side)) ≡ false
-      → is_path_taken row (data_path_of (operands_of p.insn)) ≡ false → reads_too_often row p.insn ≡ false
-      → AreKept p.cycle (slice_set issues i (Some p))
-  all_kept a b c d P1 = kept_units a
-  all_kept a b c d P2 = kept_cross_paths b
-  all_kept a b c d P3 = kept_data_paths c
-  all_kept a b c d P4 = kept_reads d
+-- a row has room for an instruction exactly where there is enough in its cycle with it
+pub room_is_enough : (row : Row) (issues : Issues) (i : ℕ) (p : Issue) → IsFree issues i → IsRowOf row p.cycle issues
+    → EachPlace (λ place. row_at row place + times_at place (taken_by p.insn p.unit) < 8) ↔ AreEnough p.cycle (slice_set issues i (Some p))
+room_is_enough row issues i p free is = (
+  (λ room r. (let low : place_of r < 48 = omega (arith, place-few r) in
+      omega (arith, room (place_of r) low, is (place_of r) low, with_it (place_of r), capacity-some (place_of r), used-same r p.cycle (slice_set issues i (Some p)), capacity-here r))),
+  (λ enough place low. (let few = enough-at p.cycle (slice_set issues i (Some p)) enough place in
+      omega (arith, few, is place low, with_it place, capacity-some place))),
+)
+  where
+    with_it : (place : ℕ) → sum_by (taken_at p.cycle place) (slice_set issues i (Some p)) ≡ sum_by (taken_at p.cycle place) issues + times_at place (taken_by p.insn p.unit)
+    with_it place = omega (arith, sum-added issues i p p.cycle place free, taken-now p place)
 
-  pub row_decides : MatchOption (rule_against row p.insn p.unit) (AreKept p.cycle (slice_set issues i (Some p)))
-      (λ rule. IsFirstBroken rule p.cycle (slice_set issues i (Some p)))
-  row_decides =
-      first-told (is_taken row (OnUnit p.unit)) (crosses_to p.unit.side (operands_of p.insn) && is_taken row (CrossPath p.unit.side))
-      (is_path_taken row (data_path_of (operands_of p.insn))) (reads_too_often row p.insn)
-      (AreKept p.cycle (slice_set issues i (Some p))) (λ rule. IsFirstBroken rule p.cycle (slice_set issues i (Some p)))
-      (λ a. record { broken = λ one. clash (OnUnit p.unit) a refl (one p.unit); first = λ other lt. absurd (omega (arith, lt)) })
-      (λ a b. record { broken = λ one. broken_cross_path b one; first = before_cross_paths a })
-      (λ a b c. record { broken = broken_data_paths (data_path_of (operands_of p.insn)) refl c; first = before_data_paths a b })
-      (λ a b c d. record { broken = broken_reads d; first = before_reads a b c })
-      all_kept
+pub row_follows : (old new : Row) (own : Uses) (issues : Issues) (i : ℕ) (p : Issue) → RowFollows old new own issues i p
+row_follows old new own issues i p free is are more place low =
+    omega (arith, more place low, is place low, sum-added issues i p p.cycle place free, taken-now p place, are place low)
+
+-- ---- out again
+
+pub row_within : (old : Row) (own : Uses) (issues : Issues) (i : ℕ) (p : Issue) → IsIssued issues i p → IsRowOf old p.cycle issues → AreUses own p.insn p.unit
+    → ((place : ℕ) → place < 48 → sum_by (taken_at p.cycle place) issues ≤ capacity_at place) → IsWithin old own
+row_within old own issues i p at is are few place low =
+    omega (arith, is place low, sum-left issues i p p.cycle place at, taken-now p place, are place low, few place low, capacity-some place)
+
+pub row_is_left : (old new : Row) (own : Uses) (issues : Issues) (i : ℕ) (p : Issue) → RowIsLeft old new own issues i p
+row_is_left old new own issues i p = record {
+  within = λ at enough is are. row_within old own issues i p at is are (λ place low. enough-at p.cycle issues enough place);
+  left = λ at enough is are less place low.
+      (let few = enough-at p.cycle issues enough place in
+      omega (arith, less place low, is place low, sum-left issues i p p.cycle place at, taken-now p place, are place low, few, capacity-some place));
+}
+
+pub row_stays : (row : Row) (cycle : ℕ) (issues : Issues) (i : ℕ) (p : Issue) → RowStays row cycle issues i p
+row_stays row cycle issues i p = record {
+  placed = λ free other is place low. omega (arith, is place low, sum-added issues i p cycle place free, taken-other p cycle place other);
+  taken_out = λ at other is place low. omega (arith, is place low, sum-left issues i p cycle place at, taken-other p cycle place other);
+}
+
+none-taken : (cycle place : ℕ) (issues : Issues) → ((i : ℕ) (p : Issue) → IsIssued issues i p → p.cycle ≡ cycle → ⊥) → sum_by (taken_at cycle place) issues ≡ 0
+none-taken cycle place [] none = refl
+none-taken cycle place (None ∷ issues) none =
+    omega (arith, sum_by-cons (taken_at cycle place) None issues, none-taken cycle place issues (λ i p at. none (suc i) p at))
+none-taken cycle place (Some p ∷ issues) none =
+    omega (arith, sum_by-cons (taken_at cycle place) (Some p) issues, taken-other p cycle place (none 0 p refl), none-taken cycle place issues (λ i q at. none (suc i) q at))
+
+pub row_is_empty : (row : Row) (cycle : ℕ) (issues : Issues) → RowIsEmpty row cycle issues
+row_is_empty row cycle issues unused none place low = omega (arith, unused place low, none-taken cycle place issues none, capacity-some place)
+
+-- a row, where one is asked for that is not used
+pub any_row : Row
+any_row = record { words = 0 ∷ 0 ∷ 0 ∷ []; small = λ place low. omega (arith, zeros place low) }

@@ -1,6 +1,4 @@
-mod Sets
-mod Counts
 mod Digits
-pub mod Users
-pub mod Issuing
+mod Fields
+mod Words
 pub mod Deciding

@@ -1,5 +1,3 @@
-pub mod Resource
-pub mod Reads
+pub mod Fields
 pub mod Row
-pub mod Rules
 pub mod Issued

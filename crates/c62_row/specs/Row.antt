@@ -1,60 +1,62 @@
--- What the instructions of a cycle take, and what is said against one more (docs/MACHINE.md, "Packet rules"; SPRU189,
--- "Resource Constraints").
-use Rattle.std.specs.Prelude.{◌≡◌, ℕ, ◌+◌, ◌≤◌, ◌<◌, min, nat_lt, Bool, false, ◌&&◌, ◌||◌, not, if◌then◌else◌, Option, Some, None, IsTrue}
-use Rattle.std.specs.List.{list_any}
-use Rattle.c62_op.specs.declared.register.Side.{Side}
-use Rattle.c62_op.specs.declared.register.Reg.{Reg}
+-- How much is taken of each resource: a field of four bits for each place of a resource, sixteen fields in a word.
+use Rattle.std.specs.Prelude.{◌≡◌, ℕ, ◌+◌, ◌-◌, ◌/◌, ◌%◌, ◌<◌, ◌≤◌, ◌==◌, min, if◌then◌else◌, List, slice_index, Option, MatchOption, count_by}
 use Rattle.c62_op.specs.declared.register.Unit.{Unit as FunctionalUnit}
-use Rattle.c62_op.specs.Shape.{crosses_to, data_path_of}
 use Rattle.c62_insn.specs.declared.insn.Insn.{Insn}
-use Rattle.c62_insn.specs.Insn.{operands_of, operand_reads, reads_count}
-use Rattle.c62_row.specs.declared.resource.Resource.{Resource}
-use Rattle.c62_row.specs.declared.resource.Resource.TheVariants.{OnUnit, CrossPath, DataPath}
-use Rattle.c62_row.specs.declared.row.PacketRule.{PacketRule}
-use Rattle.c62_row.specs.declared.row.PacketRule.TheVariants.{P1, P2, P3, P4}
+use Rattle.c62_rules.specs.declared.resource.CycleRule.{CycleRule}
+use Rattle.c62_rules.specs.declared.resource.Resource.{Resource}
+use Rattle.c62_rules.specs.Resource.{place_of, rule_at, capacity_at, taken_by}
+use Rattle.c62_row.specs.declared.row.Uses.{Uses}
 use Rattle.c62_row.specs.declared.row.Row.{Row}
-use Rattle.c62_row.specs.Resource.{is_in, uses}
-use Rattle.c62_row.specs.Reads.{read_often}
+use Rattle.c62_row.specs.Fields.{field_at, EachPlace, times_at}
 
--- the resource is used
-abbrev pub is_taken : Row → Resource → Bool
-is_taken row resource = is_in row.taken.bits resource
+-- ---- what an instruction takes
 
--- how often a register is read: five stands for more
-abbrev pub reads_taken : Row → Reg → ℕ
-reads_taken row reg = read_often row.reads.counts reg
+abbrev pub uses_at : Uses → ℕ → ℕ
+uses_at uses place = field_at uses.words place
 
-abbrev pub is_path_taken : Row → Option Side → Bool
-is_path_taken row None = false
-is_path_taken row (Some side) = is_taken row (DataPath side)
+-- what an instruction issued on a unit takes
+abbrev pub AreUses : Uses → Insn → FunctionalUnit → Type 0
+AreUses uses insn unit = EachPlace (λ place. uses_at uses place ≡ times_at place (taken_by insn unit))
 
--- an instruction would read a register that is then read too often
-abbrev pub reads_too_often : Row → Insn → Bool
-reads_too_often row insn = list_any (λ reg. nat_lt 4 (reads_taken row reg + reads_count reg insn)) (operand_reads insn)
+-- ---- what a cycle is loaded with
 
--- the first packet rule that speaks against an instruction on a unit, beside what takes the row
-abbrev pub rule_against : Row → Insn → FunctionalUnit → Option PacketRule
-rule_against row insn unit =
-    if is_taken row (OnUnit unit) then Some P1
-    else (if crosses_to unit.side (operands_of insn) && is_taken row (CrossPath unit.side) then Some P2
-    else (if is_path_taken row (data_path_of (operands_of insn)) then Some P3
-    else (if reads_too_often row insn then Some P4 else None)))
+-- What is taken of a place's resource, counted from so far below 8 that more than there is makes 8. That stands for still more
+-- too.
+abbrev pub row_at : Row → ℕ → ℕ
+row_at row place = field_at row.words place
 
--- nothing is taken
-pub record IsEmpty (row : Row) : Type 0 where
-  pub taken : (r : Resource) → is_taken row r ≡ false
-  pub reads : (reg : Reg) → reads_taken row reg ≡ 0
+-- where nothing is taken
+abbrev pub start_at : ℕ → ℕ
+start_at place = 7 - capacity_at place
 
--- the row with an instruction more
-pub record IsWith (old new : Row) (insn : Insn) (unit : FunctionalUnit) : Type 0 where
-  pub taken : (r : Resource) → is_taken new r ≡ (is_taken old r || uses r insn unit)
-  pub reads : (reg : Reg) → reads_taken new reg ≡ min 5 (reads_taken old reg + reads_count reg insn)
+abbrev pub IsUnused : Row → Type 0
+IsUnused row = EachPlace (λ place. row_at row place ≡ start_at place)
 
--- the row with an instruction fewer
-pub record IsWithout (old new : Row) (insn : Insn) (unit : FunctionalUnit) : Type 0 where
-  pub taken : (r : Resource) → is_taken new r ≡ (is_taken old r && not (uses r insn unit))
-  pub reads : (reg : Reg) → reads_taken new reg + reads_count reg insn ≡ reads_taken old reg
+-- there is enough for what is taken and this
+abbrev pub Fits : Row → Uses → Type 0
+Fits row uses = EachPlace (λ place. row_at row place + uses_at uses place < 8)
 
--- all that an instruction reads is among the reads, of which none are too many
-abbrev pub HasReads : Row → Insn → Type 0
-HasReads row insn = (reg : Reg) → (reads_count reg insn ≤ reads_taken row reg) × (reads_taken row reg < 5)
+-- the first place of which there is not
+pub record IsFirstOver (row : Row) (uses : Uses) (place : ℕ) : Type 0 where
+  pub within : place < 48
+  pub over : 8 ≤ row_at row place + uses_at uses place
+  pub first : (other : ℕ) → other < place → row_at row other + uses_at uses other < 8
+
+-- the rule of that place
+abbrev pub IsRuleOver : Row → Uses → CycleRule → Type 0
+IsRuleOver row uses rule = (place : ℕ) × IsFirstOver row uses place × (rule ≡ rule_at place)
+
+-- what is said against it
+abbrev pub Tells : Row → Uses → Option CycleRule → Type 0
+Tells row uses told = MatchOption told (Fits row uses) (IsRuleOver row uses)
+
+-- with it, and without it
+abbrev pub IsWith : Row → Row → Uses → Type 0
+IsWith old new uses = EachPlace (λ place. row_at new place ≡ min 8 (row_at old place + uses_at uses place))
+
+abbrev pub IsWithout : Row → Row → Uses → Type 0
+IsWithout old new uses = EachPlace (λ place. row_at new place ≡ row_at old place - uses_at uses place)
+
+-- it is among what is taken, of which nothing is too much
+abbrev pub IsWithin : Row → Uses → Type 0
+IsWithin row uses = EachPlace (λ place. uses_at uses place ≤ row_at row place)

@@ -2,12 +2,9 @@
 #![tactic(auto)]
 
 pub mod laws;
-mod reads;
-mod resource;
 mod row;
 
-pub use resource::Resource;
-pub use row::{PacketRule, Row};
+pub use row::{Row, Uses};
 
 #[cfg(test)]
 mod tests;

@@ -1,113 +1,175 @@
-//! Rows of what the instructions of one cycle take.
+//! How much of each resource the instructions of a cycle take: a field of four bits for each resource, sixteen in a word, so
+//! that whether one more instruction fits is an addition and a mask.
 
-use crate::reads::Reads;
-use crate::resource::{Resource, ResourceSet, used};
-use c62_insn::{Insn, Reg, Side, Unit};
+ghost use Rattle.std.specs.Prelude.{◌≡◌, ◌↔◌, ℕ, ◌+◌, ◌-◌, ◌<◌, ◌≤◌, ◌==◌, min, if◌then◌else◌, IsTrue, MatchOption};
+ghost use Rattle.c62_rules.specs.Resource.{place_of};
+ghost use Rattle.c62_row.specs.Fields.{count_at};
+ghost use Rattle.c62_row.specs.Fields.{field_at, EachField, EachPlace, IsClear, IsFirstHigh, AreBelow};
 
-/// A rule of execute packets (`docs/MACHINE.md`, "Packet rules"; SPRU189, "Resource Constraints").
-#[derive(Clone, Copy, PartialEq, Eq, Debug)]
-pub enum PacketRule {
-    /// One instruction for each unit.
-    P1,
-    /// At most one user of each cross path.
-    P2,
-    /// Two accesses use different data paths.
-    P3,
-    /// At most four reads of a register.
-    P4,
+use c62_insn::{Insn, Unit};
+use c62_rules::{CycleRule, Resource, taken_by};
+
+/// The highest bit of each field of a word.
+const GUARDS: u64 = 0x8888_8888_8888_8888;
+
+/// The sum of two words of which no field carries.
+fn sum(one: u64, other: u64) -> u64
+    requires { EachField (λ j. count_at one j + count_at other j < 16) }
+    ensures { EachField (λ j. count_at result j ≡ count_at one j + count_at other j) }
+{
+    one + other
 }
 
-/// What the instructions of a cycle take.
+/// The difference of two words of which no field borrows.
+fn difference(one: u64, other: u64) -> u64
+    requires { EachField (λ j. count_at other j ≤ count_at one j) }
+    ensures { EachField (λ j. count_at result j ≡ count_at one j - count_at other j) }
+{
+    one - other
+}
+
+/// A word with one more in a field.
+fn one_more(word: u64, field: u8) -> u64
+    requires within { field < 16 }
+    requires few { EachField (λ j. count_at word j < 15) }
+    ensures { EachField (λ j. count_at result j ≡ count_at word j + (if field == j then 1 else 0)) }
+{
+    sum(word, 1 << (4 * field))
+}
+
+/// A word with 8 in each field that has more.
+fn capped(word: u64) -> u64
+    ensures { EachField (λ j. count_at result j ≡ min 8 (count_at word j)) }
+{
+    let high = word & GUARDS;
+    word & !(high - (high >> 3))
+}
+
+/// Whether all fields of three words are below 8.
+fn are_clear(one: u64, two: u64, three: u64) -> bool
+    ensures { IsTrue result ↔ (IsClear one × IsClear two × IsClear three) }
+{
+    (one | two | three) & GUARDS == 0
+}
+
+/// The first field of a word that is 8 or more.
+fn first_high(word: u64) -> Option<u8>
+    ensures { MatchOption result (IsClear word) (IsFirstHigh word) }
+{
+    let high = word & GUARDS;
+    if high == 0 {
+        None
+    } else {
+        Some((high.trailing_zeros() / 4) as u8)
+    }
+}
+
+/// One more of a resource.
+fn add(words: &mut [u64; 3], resource: Resource)
+    requires { AreBelow 15 words.old }
+    ensures { EachPlace (λ place. field_at words.new place ≡ field_at words.old place + (if place_of resource == place then 1 else 0)) }
+{
+    let place = resource.place();
+    let at = usize::from(place / 16);
+    words[at] = one_more(words[at], place % 16);
+}
+
+/// How much an instruction issued on a unit takes of each resource.
+#[derive(Clone, Copy)]
+pub struct Uses {
+    words: [u64; 3],
+    /// No instruction takes more than seven of a resource.
+    pub ghost few: { AreBelow 8 words },
+}
+
+impl Uses {
+    ghost use Rattle.c62_row.specs.Row.{AreUses};
+
+    /// What an instruction issued on a unit takes.
+    pub fn of(insn: Insn, unit: Unit) -> Uses
+        ensures { AreUses result insn unit }
+    {
+        let mut words = [0; 3];
+        for resource in taken_by(insn, unit).as_slice() {
+            add(&mut words, *resource);
+        }
+        Uses { words }
+    }
+}
+
+/// What the instructions of a cycle take, beside what there is.
 #[derive(Clone, Copy)]
 pub struct Row {
-    taken: ResourceSet,
-    reads: Reads,
-}
-
-ghost use Rattle.std.specs.Prelude.{◌≡◌, ◌≤◌};
-ghost use Rattle.c62_insn.specs.Insn.{reads_count};
-
-/// How often the operands of an instruction read a register.
-fn count_own(insn: Insn, reg: Reg) -> usize
-    ensures own { result ≡ reads_count reg insn }
-    ensures few { result ≤ 3 }
-{
-    let reads = insn.reads();
-    reads.as_slice().iter().filter(|read| **read == reg).count()
+    words: [u64; 3],
+    /// More than there is is 8.
+    pub ghost small: { AreBelow 9 words },
 }
 
 impl Row {
-    ghost use Rattle.std.specs.Prelude.{◌<◌, ◌+◌, nat_lt, false};
-    ghost use Rattle.c62_row.specs.Row.{is_taken, reads_taken, is_path_taken, reads_too_often, rule_against, IsEmpty, IsWith, IsWithout, HasReads};
+    ghost use Rattle.c62_row.specs.Row.{IsUnused, Fits, Tells, IsWith, IsWithout, IsWithin};
 
     /// What no instruction takes.
     pub fn new() -> Row
-        ensures { IsEmpty result }
+        ensures { IsUnused result }
     {
         Row {
-            taken: ResourceSet::new(),
-            reads: Reads::new(),
+            words: [
+                0x3333_6666_6666_6666,
+                0x3333_3333_3333_3333,
+                0x0000_3333_3333_3333,
+            ],
         }
     }
 
-    fn is_path_taken(&self, path: Option<Side>) -> bool
-        ensures { result ≡ is_path_taken self.now path }
+    /// Whether there is enough for an instruction that takes so much too.
+    pub fn fits(&self, uses: &Uses) -> bool
+        ensures { IsTrue result ↔ Fits self.now uses.now }
     {
-        match path {
-            None => false,
-            Some(side) => self.taken.has(Resource::DataPath(side)),
-        }
+        are_clear(
+            sum(self.words[0], uses.words[0]),
+            sum(self.words[1], uses.words[1]),
+            sum(self.words[2], uses.words[2]),
+        )
     }
 
-    fn is_over_read(&self, insn: Insn, reg: Reg) -> bool
-        ensures { result ≡ nat_lt 4 (reads_taken self.now reg + reads_count reg insn) }
+    /// The first packet rule that is broken together with an instruction that takes so much.
+    pub fn rule_against(&self, uses: &Uses) -> Option<CycleRule>
+        ensures { Tells self.now uses.now result }
     {
-        4 < usize::from(self.reads.of(reg)) + count_own(insn, reg)
-    }
-
-    fn reads_too_often(&self, insn: Insn) -> bool
-        ensures { result ≡ reads_too_often self.now insn }
-    {
-        let reads = insn.reads();
-        reads
-            .as_slice()
-            .iter()
-            .any(|reg| self.is_over_read(insn, *reg))
-    }
-
-    /// The first packet rule that speaks against an instruction on a unit, beside those that take the row.
-    pub fn rule_against(&self, insn: Insn, unit: Unit) -> Option<PacketRule>
-        ensures { result ≡ rule_against self.now insn unit }
-    {
-        if self.taken.has(Resource::OnUnit(unit)) {
-            return Some(PacketRule::P1);
+        if let Some(place) = first_high(sum(self.words[0], uses.words[0])) {
+            return Some(CycleRule::at(place));
         }
-        if insn.crosses(unit) && self.taken.has(Resource::CrossPath(unit.side)) {
-            return Some(PacketRule::P2);
+        if let Some(place) = first_high(sum(self.words[1], uses.words[1])) {
+            return Some(CycleRule::at(16 + place));
         }
-        if self.is_path_taken(insn.data_path()) {
-            return Some(PacketRule::P3);
-        }
-        if self.reads_too_often(insn) {
-            return Some(PacketRule::P4);
+        if let Some(place) = first_high(sum(self.words[2], uses.words[2])) {
+            return Some(CycleRule::at(32 + place));
         }
         None
     }
 
-    /// Takes what an instruction on a unit uses.
-    pub fn add(&mut self, insn: Insn, unit: Unit)
-        ensures { IsWith self.old self.new insn unit }
+    /// Takes so much too.
+    pub fn add(&mut self, uses: &Uses)
+        ensures { IsWith self.old self.new uses.now }
     {
-        self.taken = self.taken.with(used(insn, unit));
-        self.reads.add_all(insn.reads().as_slice());
+        let words = [
+            capped(sum(self.words[0], uses.words[0])),
+            capped(sum(self.words[1], uses.words[1])),
+            capped(sum(self.words[2], uses.words[2])),
+        ];
+        *self = Row { words };
     }
 
-    /// Frees what an instruction on a unit uses, where no other uses it.
-    pub fn remove(&mut self, insn: Insn, unit: Unit)
-        requires { HasReads self.old insn }
-        ensures { IsWithout self.old self.new insn unit }
+    /// Frees so much, of what is taken.
+    pub fn remove(&mut self, uses: &Uses)
+        requires { IsWithin self.old uses.now }
+        ensures { IsWithout self.old self.new uses.now }
     {
-        self.taken = self.taken.without(used(insn, unit));
-        self.reads.remove_all(insn.reads().as_slice());
+        let words = [
+            difference(self.words[0], uses.words[0]),
+            difference(self.words[1], uses.words[1]),
+            difference(self.words[2], uses.words[2]),
+        ];
+        *self = Row { words };
     }
 }

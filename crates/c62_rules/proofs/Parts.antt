@@ -8,7 +8,8 @@ use Rattle.std.proofs.lemmas.List.Sums.{sum_by-set, sum_by-cons}
 use Rattle.std.proofs.lemmas.List.Sorted.{IsPermutation-keeps, IsPermutation-map}
 use Rattle.std.proofs.lemmas.Option.{none-some}
 use Rattle.std.proofs.lemmas.Bool.{cases_lt, cases_eq, eq-eqb, ne_eqb}
-use Rattle.c62_rules.specs.PacketRules.{Issue, Issues, IsIssued, issued, AtMostOne, reads_in, MayLandTogether, UsesCrossPath, UsesDataPath, KeepsPacketRules}
+use Rattle.c62_rules.specs.PacketRules.{Issue, Issues, IsIssued, issued, MayLandTogether, KeepsPacketRules}
+use Rattle.c62_rules.specs.Capacity.{uses_in}
 use Rattle.c62_rules.specs.Part.{IsPart}
 
 -- ---- how parts are made
@@ -82,11 +83,7 @@ issued-part (Some p ∷ issues) = part-cons (Some p) (map Some (issued issues)) 
 
 -- ---- part of what keeps the rules keeps them
 
-part-one : (Is : Issue → Type 0) (issues others : Issues) → IsPart issues others → AtMostOne Is others → AtMostOne Is issues
-part-one Is issues others part one i j p q h k together first second =
-    part.apart i j p q h k (one (part.number i) (part.number j) p q (part.issued i p h) (part.issued j q k) together first second)
-
-issued-within : (issues : Issues) (i : ℕ) (p : Issue) → IsIssued issues i p → i < length issues
+pub issued-within : (issues : Issues) (i : ℕ) (p : Issue) → IsIssued issues i p → i < length issues
 issued-within issues i p h = elim (cases_lt i (length issues)) [
   | inl low ↦ low
   | inr high ↦ absurd (none-some p (sym (get_or_past issues i None high) ∙ h))
@@ -138,14 +135,9 @@ part-excused issues others part p q may = record {
 
 pub part-keeps : (issues others : Issues) → IsPart issues others → KeepsPacketRules others → KeepsPacketRules issues
 part-keeps issues others part keeps = record {
-  p1 = λ unit. part-one (λ p. p.unit ≡ unit) issues others part (keeps.p1 unit);
-  p2 = λ side. part-one (UsesCrossPath side) issues others part (keeps.p2 side);
-  p3 = λ side. part-one (UsesDataPath side) issues others part (keeps.p3 side);
-  p4 = λ cycle reg.
-      (let less : sum_by (reads_in cycle reg) issues ≤ sum_by (reads_in cycle reg) others = part-sum (reads_in cycle reg) refl issues others part in
-      omega (arith, less, keeps.p4 cycle reg));
-  p5 = λ i j p q reg cycle h k first second.
-      elim (keeps.p5 (part.number i) (part.number j) p q reg cycle (part.issued i p h) (part.issued j q k) first second) [
+  enough = λ cycle r. omega (arith, part-sum (uses_in cycle r) refl issues others part, keeps.enough cycle r);
+  landing = λ i j p q reg cycle h k first second.
+      elim (keeps.landing (part.number i) (part.number j) p q reg cycle (part.issued i p h) (part.issued j q k) first second) [
         | inl same ↦ inl (part.apart i j p q h k same)
         | inr may ↦ inr (part-excused issues others part p q may)
       ];

@@ -10,7 +10,8 @@ use Rattle.c62_op.specs.declared.operands.Offset.{Offset}
 use Rattle.c62_op.specs.declared.operands.Operands.TheVariants.{Three, Access}
 use Rattle.c62_insn.specs.declared.insn.Insn.{Insn}
 use Rattle.c62_insn.specs.Insn.{op_of, operands_of, cond_of}
-use Rattle.c62_rules.specs.PacketRules.{Issue, HasOneEachUnit, HasOneEachCrossPath, HasOneEachDataPath, HasFourReads, HasOneLanding}
+use Rattle.c62_rules.specs.PacketRules.{Issue, HasOneLanding}
+use Rattle.c62_rules.specs.Manual.{HasOneEachUnit, HasOneEachCrossPath, HasOneEachDataPath, HasFourReads}
 
 abbrev pub l1 : FunctionalUnit
 l1 = record { letter = L; side = A }

@@ -1,3 +1,7 @@
+pub mod Issues
+pub mod Resource
+pub mod Capacity
+pub mod Manual
 pub mod PacketRules
 pub mod Length
 pub mod Part

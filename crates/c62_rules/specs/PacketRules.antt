@@ -1,66 +1,11 @@
--- Which instructions may share cycles: the five rules of execute packets (docs/MACHINE.md, "Packet rules"; SPRU189,
--- "Resource Constraints").
-use Rattle.std.specs.Prelude.{◌≡◌, ◌≢◌, ◌⊎◌, ◌↔◌, ℕ, ◌+◌, ◌≤◌, ◌==◌, if◌then◌else◌, List, [], ◌∷◌, Contains, Option, Some, None, sum_by, slice_index_or, IsTrue}
-use Rattle.c62_op.specs.declared.register.Side.{Side}
+-- Which instructions may share cycles: the rules of execute packets (docs/MACHINE.md, "Packet rules"; SPRU189, "Resource
+-- Constraints").
+use Rattle.std.specs.Prelude.{◌≡◌, ◌≢◌, ◌⊎◌, ◌↔◌, ℕ, ◌+◌, ◌≤◌, Contains, Some}
 use Rattle.c62_op.specs.declared.register.Reg.{Reg}
 use Rattle.c62_op.specs.declared.register.Cond.{Cond as Condition}
-use Rattle.c62_op.specs.declared.register.Unit.{Unit as FunctionalUnit}
-use Rattle.c62_insn.specs.declared.insn.Insn.{Insn}
-use Rattle.c62_op.specs.Shape.{crosses_to, data_path_of}
-use Rattle.c62_insn.specs.Insn.{operands_of, cond_of, reads_count, register_writes}
-
--- an instruction issued in a cycle on a unit
-pub record Issue : Type 0 where
-  pub insn : Insn
-  pub cycle : ℕ
-  pub unit : FunctionalUnit
-
--- instructions by number, each issued or not
-abbrev pub Issues : Type 0
-Issues = List (Option Issue)
-
--- the instruction of this number is issued so
-abbrev pub IsIssued : Issues → ℕ → Issue → Type 0
-IsIssued issues i p = slice_index_or issues i None ≡ Some p
-
--- what is issued, without the numbers
-abbrev pub issued : Issues → List Issue
-issued [] = []
-issued (None ∷ issues) = issued issues
-issued (Some p ∷ issues) = p ∷ issued issues
-
--- of each cycle at most one issued instruction is such
-abbrev pub AtMostOne : (Issue → Type 0) → Issues → Type 0
-AtMostOne Is issues = (i j : ℕ) (p q : Issue) → IsIssued issues i p → IsIssued issues j q → p.cycle ≡ q.cycle → Is p → Is q → i ≡ j
-
--- P1: one instruction for each unit and cycle
-abbrev pub HasOneEachUnit : Issues → Type 0
-HasOneEachUnit issues = (unit : FunctionalUnit) → AtMostOne (λ p. p.unit ≡ unit) issues
-
--- an operand comes over the cross path to the units of this side: 1X to side A, 2X to side B
-abbrev pub UsesCrossPath : Side → Issue → Type 0
-UsesCrossPath side p = (p.unit.side ≡ side) × IsTrue (crosses_to p.unit.side (operands_of p.insn))
-
--- P2: of each cycle at most one uses 1X, and at most one 2X
-abbrev pub HasOneEachCrossPath : Issues → Type 0
-HasOneEachCrossPath issues = (side : Side) → AtMostOne (UsesCrossPath side) issues
-
--- an access over the data path of this file: T1 of file A, T2 of file B
-abbrev pub UsesDataPath : Side → Issue → Type 0
-UsesDataPath side p = data_path_of (operands_of p.insn) ≡ Some side
-
--- P3: two accesses of one cycle use different data paths
-abbrev pub HasOneEachDataPath : Issues → Type 0
-HasOneEachDataPath issues = (side : Side) → AtMostOne (UsesDataPath side) issues
-
--- how often what is issued in a cycle reads a register
-abbrev pub reads_in : ℕ → Reg → Option Issue → ℕ
-reads_in cycle reg None = 0
-reads_in cycle reg (Some p) = if p.cycle == cycle then reads_count reg p.insn else 0
-
--- P4: in a cycle at most four operands read one register
-abbrev pub HasFourReads : Issues → Type 0
-HasFourReads issues = (cycle : ℕ) (reg : Reg) → sum_by (reads_in cycle reg) issues ≤ 4
+use Rattle.c62_insn.specs.Insn.{cond_of, register_writes}
+use Rattle.c62_rules.specs.Capacity.{AreEnough}
+pub use Rattle.c62_rules.specs.Issues.{Issue, Issues, IsIssued, issued}
 
 -- the instruction writes this register, and the write lands in this cycle
 abbrev pub LandsIn : Issue → Reg → ℕ → Type 0
@@ -84,9 +29,7 @@ HasOneLanding issues =
     (i j : ℕ) (p q : Issue) (reg : Reg) (cycle : ℕ) → IsIssued issues i p → IsIssued issues j q → LandsIn p reg cycle → LandsIn q reg cycle
     → (i ≡ j) ⊎ MayLandTogether issues p q
 
+-- the packet rules: of each resource there is enough in each cycle (P1 to P4), and P5
 pub record KeepsPacketRules (issues : Issues) : Type 0 where
-  pub p1 : HasOneEachUnit issues
-  pub p2 : HasOneEachCrossPath issues
-  pub p3 : HasOneEachDataPath issues
-  pub p4 : HasFourReads issues
-  pub p5 : HasOneLanding issues
+  pub enough : (cycle : ℕ) → AreEnough cycle issues
+  pub landing : HasOneLanding issues

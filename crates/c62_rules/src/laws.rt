@@ -10,7 +10,21 @@ ghost use Rattle.c62_rules.specs.Disjoint.{Range, HasSmallOffset, LiesAtItsRange
 ghost use Rattle.c62_rules.specs.Dependence.{BoundsKeepLandings};
 ghost use Rattle.c62_rules.specs.Breaches.{TwoOnOneUnit, TwoOverCrossPath, TwoOverDataPath, FiveReads, TwoLandings};
 ghost use Rattle.c62_rules.specs.Twins.{AreInOrder};
+ghost use Rattle.c62_rules.specs.Capacity.{HasItsPlace};
+ghost use Rattle.c62_rules.specs.declared.resource.Resource.{Resource as Shared};
+ghost use Rattle.c62_rules.specs.Manual.{AreTheRules};
 ghost use Rattle.c62_rules.specs.Part.{PartKeepsRules, AnyOrderKeepsRules, AnyOrderIsAsLong};
+
+/// The packet rules P1 to P4, as the manual has them, are one rule: of no resource more is taken than there is.
+
+pub fn rules_are_capacities()
+    ensures { (issues : Issues) → AreTheRules issues }
+{}
+
+/// No two resources have one place.
+pub fn resources_have_places()
+    ensures { (r : Shared) → HasItsPlace r }
+{}
 
 /// Part of what keeps the packet rules keeps them, under whatever numbers it is issued: the rules ask neither for
 /// the order of what is issued nor for numbers under which nothing is.

@@ -3,3 +3,6 @@
 #![tactic(auto)]
 
 pub mod laws;
+mod resource;
+
+pub use resource::{CycleRule, Resource, taken_by};

@@ -10,9 +10,8 @@ pub use Rattle.c62_rules.proofs.Parts.{part-keeps, part-without}
 pub use Rattle.c62_op.proofs.Registers.{same_reg-is, same_side-is, same_side-refl, same_unit-is, same_unit-refl}
 pub use Rattle.c62_op.proofs.UnitOrder.{index_of-below, index_of-listed, same_index}
 pub use Rattle.c62_rules.specs.Dependence.{Bounds, Depends, IsGreatestBound, IsLatency, WriteAfterWrite}
-pub use Rattle.c62_rules.specs.PacketRules.{AtMostOne, HasFourReads, HasOneLanding, IsIssued, Issue, Issues, KeepsPacketRules, LandsIn, UsesCrossPath}
-pub use Rattle.c62_rules.specs.PacketRules.{UsesDataPath, issued, reads_in}
-pub use Rattle.c62_insn.specs.Insn.{reads_count}
+pub use Rattle.c62_rules.specs.PacketRules.{HasOneLanding, IsIssued, Issue, Issues, KeepsPacketRules, LandsIn, issued}
+pub use Rattle.c62_rules.specs.declared.resource.CycleRule.{CycleRule}
 pub use Rattle.c62_op.specs.Shape.{data_path_of, is_branch}
 pub use Rattle.c62_op.specs.Units.{all_units, index_of}
 pub use Rattle.c62_insn.specs.declared.insn.Insn.{Insn}
@@ -21,25 +20,22 @@ pub use Rattle.c62_op.specs.declared.register.Reg.{Reg}
 pub use Rattle.c62_op.specs.declared.register.Side.{Side}
 pub use Rattle.c62_op.specs.declared.register.Side.TheVariants.{A, B}
 pub use Rattle.c62_op.specs.declared.register.Unit.{Unit as FunctionalUnit}
-pub use Rattle.c62_sheet.specs.Check.{Breaks, IsFirst, IsOpen, IsRefused, IsTold, LacksSome, LandsTogether, Meets, turn_of}
+pub use Rattle.c62_sheet.specs.Check.{Breaks, IsFirst, IsOpen, IsRefused, IsTold, LacksSome, turn_of}
 pub use Rattle.c62_sheet.specs.Counts.{HasCount, IsPlacedOn, set_length}
 pub use Rattle.c62_sheet.specs.Index.{AreHigher, AreLower, IsIndex, is_missing, lacking, times}
 pub use Rattle.c62_sheet.specs.Lawful.{IsAt, IsLawful, Spots, issue_at, issues, nothing_placed, placed, spot_at, withdrawn}
 pub use Rattle.c62_sheet.specs.Least.{FitsWithout, HasNoPick, HasNoSpot, IsAfter, IsBefore, IsComplete, IsEarly, IsLast, IsLeast, IsPick, IsReady}
 pub use Rattle.c62_sheet.specs.Least.{IsReadyOn, Precedes}
-pub use Rattle.c62_sheet.specs.Packet.{BreaksFirst, Fits, KeepsAll, rule_of}
+pub use Rattle.c62_sheet.specs.Packet.{BreaksFirst, Fits, KeepsAll}
 pub use Rattle.c62_sheet.specs.Rows.{AreRows, FitsRow}
 pub use Rattle.c62_sheet.specs.declared.entry.Rule.{Rule}
-pub use Rattle.c62_sheet.specs.declared.entry.Rule.TheVariants.{Delay, Limit, Missing, P1, P2, P3, P4, P5, Placed, Unit as WrongUnit}
+pub use Rattle.c62_sheet.specs.declared.entry.Rule.TheVariants.{Delay, InCycle, Limit, Missing, Placed, Unit as WrongUnit}
 pub use Rattle.c62_sheet.specs.declared.entry.Spot.{Spot}
-pub use Rattle.c62_row.specs.declared.resource.Resource.{Resource}
-pub use Rattle.c62_row.specs.declared.resource.Resource.TheVariants.{CrossPath, DataPath, OnUnit}
-pub use Rattle.c62_row.specs.declared.row.PacketRule.{PacketRule}
 pub use Rattle.c62_row.specs.declared.row.Row.{Row}
-pub use Rattle.c62_row.specs.Row.{is_taken, is_path_taken, reads_taken, reads_too_often, rule_against, IsWith, IsWithout, IsEmpty, HasReads}
-pub use Rattle.c62_row.specs.Issued.{IsRowOf, IsUsed}
-pub use Rattle.c62_row.specs.Resource.{uses}
-pub use Rattle.c62_row.proofs.Users.{Uses, uses-is, is-use}
+pub use Rattle.c62_row.specs.declared.row.Uses.{Uses}
+pub use Rattle.c62_row.specs.Row.{AreUses, IsUnused, IsWith, IsWithin, IsWithout, Tells}
+pub use Rattle.c62_row.specs.Issued.{IsRowOf}
+pub use Rattle.c62_row.proofs.Deciding.{any_row}
 pub use Rattle.std.proofs.Common.{Bool, List, None, Option, Some, [], add-one, ap, arith, cond, drop, false, get_or, get_or-set_other}
 pub use Rattle.std.proofs.Common.{get_or-set_same, inl, inr, leb, length, length-set, ltb, map, max, pos, refl, rules, subst, suc, sym, take, true}
 pub use Rattle.std.proofs.Common.{zero, ℕ, ℤ, ◌*◌, ◌+ℤ◌, ◌+◌, ◌-ℤ◌, ◌-◌, ◌<◌, ◌∙◌, ◌∷◌, ◌≡◌, ◌≢◌, ◌≤◌, ◌⊎◌}

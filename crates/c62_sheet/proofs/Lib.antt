@@ -2,7 +2,6 @@ pub mod Common
 pub mod Optional
 pub mod Sets
 pub mod IssuesOf
-pub mod Adding
 pub mod Used
 pub mod Placing
 pub mod Missing

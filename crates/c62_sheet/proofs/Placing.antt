@@ -1,10 +1,10 @@
 -- What adding one triple to a lawful set asks, and what taking one out leaves.
 use Rattle.c62_sheet.proofs.Common.{stands_on, true, arith, ◌≡◌, ℕ, ◌*◌, ◌<◌, ◌≤◌, pos, List, length, Some, None, refl, sym, ap, ◌∙◌, inl, inr}
 use Rattle.c62_sheet.proofs.Common.{length-set, IsSome, slice_get, slice_set, slice_index_or, option_map, sum_by, cases_eq, cases_lt}
-use Rattle.c62_sheet.proofs.Common.{none-some, Reg, Insn, Issue, IsIssued, AtMostOne, UsesCrossPath, UsesDataPath, KeepsPacketRules, reads_in}
-use Rattle.c62_sheet.proofs.Common.{Depends, Resource, OnUnit, CrossPath, DataPath, Spot, P1, P2, P3, P4, Spots, IsAt, spot_at, placed, withdrawn}
-use Rattle.c62_sheet.proofs.Common.{issue_at, issues, IsLawful, IsAfter, IsLast, Meets, KeepsAll, Fits, part-without, part-keeps, get_or-set_same}
-use Rattle.c62_sheet.proofs.Common.{get_or-set_other, Bounds, LandsTogether}
+use Rattle.c62_sheet.proofs.Common.{none-some, Insn, Issue, IsIssued, KeepsPacketRules}
+use Rattle.c62_sheet.proofs.Common.{Depends, Spot, Spots, IsAt, spot_at, placed, withdrawn}
+use Rattle.c62_sheet.proofs.Common.{issue_at, issues, IsLawful, IsAfter, IsLast, KeepsAll, Fits, part-without, part-keeps, get_or-set_same}
+use Rattle.c62_sheet.proofs.Common.{get_or-set_other, Bounds}
 use Rattle.c62_rules.specs.Dependence.{KeepsBounds}
 use Rattle.c62_rules.proofs.Exclusive.{one_landing}
 use Rattle.std.proofs.Common.{◌≤ℤ◌, ◌+ℤ◌, ℤ}
@@ -12,8 +12,7 @@ use Rattle.c62_rules.specs.PacketRules.{HasOneLanding}
 use Rattle.c62_sheet.proofs.Optional.{none_not_some}
 use Rattle.c62_sheet.proofs.Sets.{spot_at-placed_same, spot_at-placed_other, spot_at-withdrawn_other, IsAt-placed, IsAt-withdrawn}
 use Rattle.c62_sheet.proofs.IssuesOf.{issued-placement, issues-placed, issues-withdrawn, length-issues, issue-at}
-use Rattle.c62_sheet.proofs.Common.{Uses}
-use Rattle.c62_sheet.proofs.Adding.{IsAlone, rules-added}
+use Rattle.c62_rules.proofs.Capacities.{enough-added}
 
 -- the bounds between what is placed are kept
 abbrev pub KeepsDelays : List Insn → Spots → Type 0
@@ -62,51 +61,14 @@ module _ (block : List Insn) (set : Spots) (i : ℕ) (insn : Insn) (s : Spot) (s
   in_issues : i < length (issues block set)
   in_issues = omega (arith, length-issues block set sized)
 
-  meeting : (Is : Issue → Type 0) → Is (issue_at insn s) → (k : ℕ) (q : Issue) → IsIssued (issues block set) k q → q.cycle ≡ s.cycle → Is q
-      → Meets Is block set i s
-  meeting Is own k q issued same theirs =
-      record { insn = insn; is_insn = at; own = own; number = k; other = q; issued = issued; together = same; theirs = theirs }
-
-  alone_from_keeps : KeepsAll block set i s → (resource : Resource) → IsAlone (Uses resource) (issues block set) (issue_at insn s)
-  alone_from_keeps keeps (OnUnit unit) is k q issued same uses =
-      keeps P1 (omega arith) (omega arith) (meeting (λ p. p.unit ≡ s.unit) refl k q issued same (uses ∙ sym is))
-  alone_from_keeps keeps (CrossPath side) is k q issued same uses =
-      keeps P2 (omega arith) (omega arith) (meeting (UsesCrossPath s.unit.side) (refl, is.1) k q issued same (uses.0 ∙ sym is.0, uses.1))
-  alone_from_keeps keeps (DataPath side) is k q issued same uses =
-      keeps P3 (omega arith) (omega arith) (side, meeting (UsesDataPath side) is k q issued same uses)
-
-  few_from_keeps : KeepsAll block set i s → (reg : Reg) → sum_by (reads_in s.cycle reg) (slice_set (issues block set) i (Some (issue_at insn s))) ≤ 4
-  few_from_keeps keeps reg =
-      elim (cases_lt 4 (sum_by (reads_in s.cycle reg) (issues block (placed set i s)))) [
-        | inl over ↦ absurd (keeps P4 (omega arith) (omega arith) (reg, over))
-        | inr le ↦ rw (added block set i insn s sized at free) at le
-      ]
-
   pub rules_from_keeps : KeepsPacketRules (issues block set) → KeepsAll block set i s → HasOneLanding (issues block (placed set i s))
       → KeepsPacketRules (issues block (placed set i s))
-  rules_from_keeps rules keeps lands =
-      rw (added block set i insn s sized at free)
-      (rules-added (issues block set) i (issue_at insn s) in_issues (not_issued block set i insn s sized at free) rules
-      (alone_from_keeps keeps) (few_from_keeps keeps) (rw (added block set i insn s sized at free) at lands))
-
-  meets_none : (Is : Issue → Type 0) → AtMostOne Is (issues block (placed set i s)) → Meets Is block set i s → ⊥
-  meets_none Is one m =
-      let same = get_or-set_same (issues block set) i (Some (issue_at insn s)) None in_issues in
-      let other = get_or-set_other (issues block set) i m.number (Some (issue_at insn s)) None in
-      let is = added block set i insn s sized at free in
-      grind (arith, not_issued block set i insn s sized at free, is, one m.number i m.other (issue_at m.insn s), same, other)
-
-  pub keeps_from_rules : KeepsPacketRules (issues block (placed set i s)) → KeepsAll block set i s
-  keeps_from_rules rules P1 low high b = meets_none (λ p. p.unit ≡ s.unit) (rules.p1 s.unit) b
-  keeps_from_rules rules P2 low high b = meets_none (UsesCrossPath s.unit.side) (rules.p2 s.unit.side) b
-  keeps_from_rules rules P3 low high b = meets_none (UsesDataPath b.0) (rules.p3 b.0) b.1
-  keeps_from_rules rules P4 low high b = omega (arith, rules.p4 s.cycle b.0, b.1)
-  keeps_from_rules rules _ low high b = absurd (omega (arith, low, high))
-
-  -- no write of the number lands together with another's, where the packet rules are kept
-  pub never_together : KeepsPacketRules (issues block (placed set i s)) → (cycle : ℕ) → LandsTogether block set i s cycle → ⊥
-  never_together rules cycle w =
-      grind (arith, w.apart, w.forbidden, rules.p5 i w.number w.own w.other w.reg cycle w.is_own w.is_other w.lands w.theirs)
+  rules_from_keeps rules keeps lands = record {
+    enough = rw (added block set i insn s sized at free)
+        (enough-added (issues block set) i (issue_at insn s) in_issues (not_issued block set i insn s sized at free) rules.enough
+        (rw (added block set i insn s sized at free) at keeps));
+    landing = lands;
+  }
 
 -- what a lawful set with the triple tells of it
 module _ (block : List Insn) (set : Spots) (i : ℕ) (s : Spot) (in_set : i < length set) (new : IsLawful block (placed set i s)) where
@@ -154,7 +116,7 @@ module _ (block : List Insn) (set : Spots) (i : ℕ) (s : Spot) (insn : Insn) (l
   pub fits_from_lawful : IsLawful block (placed set i s) → Fits block set i s
   fits_from_lawful new = record {
     stands = stands_from_lawful block set i s in_lawful new;
-    keeps = keeps_from_rules block set i insn s lawful.sized at in_block free new.rules;
+    keeps = new.rules.enough s.cycle;
   }
 
 -- a set stays lawful where one is taken out that no placed one depends on

@@ -1,15 +1,13 @@
 -- Every ready instruction finds room behind what is placed.
-use Rattle.c62_sheet.proofs.Common.{arith, ◌≡◌, ℕ, ◌+◌, ◌*◌, ◌<◌, ◌≤◌, List, length, Some, refl, slice_get, sum_by, IsTrue, ints, Reg, Insn, Issue}
-use Rattle.c62_sheet.proofs.Common.{IsIssued, reads_in, stands_on, Spot, P1, P2, P3, P4, Spots, IsAt, placed, issue_at, issues, IsLawful, IsReady}
+use Rattle.c62_sheet.proofs.Common.{arith, ◌≡◌, ℕ, ◌+◌, ◌*◌, ◌<◌, ◌≤◌, List, length, Some, refl, slice_get, IsTrue, ints, Insn, Issue}
+use Rattle.c62_sheet.proofs.Common.{IsIssued, stands_on, Spot, Spots, IsAt, placed, issue_at, issues, IsLawful, IsReady}
 use Rattle.c62_sheet.proofs.Common.{IsAfter, KeepsAll, IsPlan}
-use Rattle.c62_insn.proofs.InsnLemmas.{reads_count_at_most_three}
+use Rattle.c62_rules.proofs.Capacities.{used-added, none-used-in, counts-here, alone-fits}
 use Rattle.c62_depend.proofs.Latencies.{bounds-small}
 use Rattle.c62_sheet.specs.Laws.{HasRoom}
 use Rattle.c62_sheet.proofs.IssuesOf.{issued-placement, length-issues}
-use Rattle.c62_sheet.proofs.Adding.{reads-added}
 use Rattle.c62_sheet.proofs.Used.{insn_at}
 use Rattle.c62_sheet.proofs.Placing.{added, not_issued, lawful_from_fits}
-use Rattle.c62_sheet.proofs.Empty.{nothing_read}
 
 module _ (block : List Insn) (set : Spots) (i k : ℕ) (s : Spot) (lawful : IsLawful block set) (ready : IsReady block set i)
     (in_block : i < length block)
@@ -23,20 +21,13 @@ module _ (block : List Insn) (set : Spots) (i k : ℕ) (s : Spot) (lawful : IsLa
       let w = issued-placement block set j q lawful.sized is in
       grind (arith, behind j w.spot w.is_at, w.is_issue, there)
 
-  few : (reg : Reg) → sum_by (reads_in s.cycle reg) (issues block (placed set i s)) ≤ 4
-  few reg =
+  keeps : KeepsAll block set i s
+  keeps r =
       let first : Insn = (insn_at block i in_block).0 in
       let in_issues : i < length (issues block set) = omega (arith, length-issues block set lawful.sized) in
-      let sum = reads-added (issues block set) i (issue_at first s) in_issues (not_issued block set i first s lawful.sized at ready.free) reg in
+      let sum = used-added r s.cycle (issues block set) i (issue_at first s) in_issues (not_issued block set i first s lawful.sized at ready.free) in
       rw (added block set i first s lawful.sized at ready.free)
-      (omega (arith, nothing_read (issues block set) s.cycle reg before, reads_count_at_most_three reg first, sum))
-
-  keeps : KeepsAll block set i s
-  keeps P1 low high b = before b.number b.other b.issued b.together
-  keeps P2 low high b = before b.number b.other b.issued b.together
-  keeps P3 low high b = before b.1.number b.1.other b.1.issued b.1.together
-  keeps P4 low high b = omega (arith, few b.0, b.1)
-  keeps _ low high b = absurd (omega (arith, low, high))
+      (omega (arith, none-used-in s.cycle r (issues block set) before, counts-here r s.cycle (issue_at first s) refl, alone-fits r first s.unit, sum))
 
   after : IsAfter block set i s.cycle
   after h bound t w is = omega (arith, ints, (bounds-small block h i bound w).1, behind h t is, there)

@@ -1,8 +1,9 @@
 -- Who stands at a spot, where numbers are placed and taken out.
 use Rattle.c62_sheet.proofs.Common.{arith, ◌≡◌, ℕ, ◌*◌, ◌<◌, List, length, slice_set, None, refl, sym, ◌∙◌, inl, inr, cases_eq}
 use Rattle.c62_sheet.proofs.Common.{get_or-set_same, get_or-set_other, length-set, get_or-replicate, length-replicate, none-some, Insn, Spot, Spots, IsAt, spot_at}
-use Rattle.c62_sheet.proofs.Common.{placed, withdrawn, nothing_placed, IsLawful, index_of-below, same_index}
+use Rattle.c62_sheet.proofs.Common.{placed, withdrawn, nothing_placed, IsLawful, issues, index_of-below, same_index}
 use Rattle.std.specs.Prelude.{replicate}
+use Rattle.c62_rules.proofs.Capacities.{one-each-unit}
 use Rattle.c62_sheet.specs.Standing.{place_of, AreStanding}
 use Rattle.c62_sheet.proofs.Used.{insn_at}
 use Rattle.c62_sheet.proofs.Victims.{at_in}
@@ -25,7 +26,7 @@ alone block set i j s t lawful is_s is_t e =
     let v = insn_at block i (at_in block set i s lawful.sized is_s) in
     let w = insn_at block j (at_in block set j t lawful.sized is_t) in
     let same = same_place s t e in
-    lawful.rules.p1 t.unit i j _ _ (placement-issued block set i v.0 s lawful.sized v.1 is_s) (placement-issued block set j w.0 t lawful.sized w.1 is_t) same.0 same.1 refl
+    one-each-unit (issues block set) lawful.rules t.unit i j _ _ (placement-issued block set i v.0 s lawful.sized v.1 is_s) (placement-issued block set j w.0 t lawful.sized w.1 is_t) same.0 same.1 refl
 
 module _ (block : List Insn) (set : Spots) (standing : List ℕ) (i : ℕ) (lt : i < length block) (sized : length set ≡ length block)
     (are : AreStanding block set standing) where

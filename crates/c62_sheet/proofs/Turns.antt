@@ -1,14 +1,18 @@
 -- The rules in the order in which they are asked.
 use Rattle.c62_sheet.proofs.Common.{arith, ◌≡◌, ℕ, ◌+◌, ◌*◌, ◌<◌, ◌≤◌, pos, List, length, Some, None, true, refl, sym, ◌∙◌, slice_get, false≢true}
 use Rattle.c62_sheet.proofs.Common.{ints, Insn, Depends, stands_on, Spot, Rule, Delay, Spots, spot_at, IsLawful, IsAfter, IsEarly, LacksSome, Breaks}
-use Rattle.c62_sheet.proofs.Common.{turn_of, IsOpen, KeepsAll, BreaksFirst, Missing, Placed, WrongUnit, Limit, P5, ◌+ℤ◌, by_lt_z, IsFirst, IsTold}
+use Rattle.c62_sheet.proofs.Common.{turn_of, IsOpen, KeepsAll, BreaksFirst, Missing, Placed, WrongUnit, Limit, InCycle, CycleRule, ◌+ℤ◌, by_lt_z, IsTold, ap, inl, inr, cases_lt, placed, issues}
 use Rattle.c62_sheet.proofs.Common.{IsRefused}
+use Rattle.c62_rules.specs.Resource.{rule_of, capacity_of}
+use Rattle.c62_rules.specs.Capacity.{used}
+use Rattle.c62_rules.proofs.Places.{rank-few, same-rank}
 use Rattle.c62_sheet.proofs.Optional.{some_from_not_none, none_not_some}
 use Rattle.c62_sheet.proofs.Used.{insn_at}
-use Rattle.c62_sheet.proofs.Placing.{lawful_from_fits, fits_from_lawful, stands_from_lawful, after_from_lawful, founded_from_lawful}
-use Rattle.c62_sheet.proofs.Placing.{within_from_lawful, never_together}
+use Rattle.c62_sheet.proofs.Placing.{lawful_from_fits, stands_from_lawful, after_from_lawful, founded_from_lawful}
+use Rattle.c62_sheet.proofs.Placing.{within_from_lawful}
 
 same_turn : (r q : Rule) → turn_of r ≡ turn_of q → r ≡ q
+same_turn (InCycle rule) (InCycle other) e = ap InCycle (same-rank rule other (omega (arith, e)))
 same_turn r q e = grind arith
 
 -- of the rules from one turn on, none that is asked before another speaks against the triple
@@ -23,8 +27,12 @@ module _ {block : List Insn} {set : Spots} {i : ℕ} {s : Spot} where
       → IsClear block set i s m (n + 1)
   clear_more rule turn clear not = record { kept = λ r low high b. grind (arith, same_turn r rule, clear.kept r, not) }
 
-  pub clear_all : IsClear block set i s 0 5 → KeepsAll block set i s → IsClear block set i s 0 9
-  clear_all clear keeps = record { kept = λ rule low high b. grind (arith, clear.kept rule low, keeps rule) }
+  pub clear_all : IsClear block set i s 0 5 → KeepsAll block set i s → IsClear block set i s 0 21
+  clear_all clear keeps = record { kept = kept }
+    where
+      kept : (rule : Rule) → 0 ≤ turn_of rule → turn_of rule < 21 → Breaks block set i s rule → ⊥
+      kept (InCycle rule) low high b = b (λ r is. keeps r)
+      kept rule low high b = clear.kept rule low (omega arith) b
 
 -- what the first three rules ask
 pub clear_three : (block : List Insn) (set : Spots) (i : ℕ) (s : Spot) → spot_at set i ≡ None → stands_on block i s.unit ≡ true
@@ -62,11 +70,16 @@ module _ (block : List Insn) (set : Spots) (i : ℕ) (s : Spot) (lawful : IsLawf
   open_keeps may Limit b = omega (arith, within_from_lawful block set i s in_set may.lawful, b)
   open_keeps may Missing b = none_not_some _ b.2 (founded_from_lawful block set i s in_set may.lawful b.0 b.1)
   open_keeps may Delay b = b (after_from_lawful block set i s in_set may.lawful)
-  open_keeps may P5 b = never_together block set i insn s lawful.sized at in_block may.free may.lawful.rules b.0 b.1
-  open_keeps may rule b = (fits_from_lawful block set i s insn lawful at in_block may.free may.lawful).keeps rule (omega arith) (omega arith) b
+  open_keeps may (InCycle rule) b = b (λ r is. may.lawful.rules.enough s.cycle r)
 
-  -- where none of the first nine rules is broken, the triple may be added
-  pub clear_open : IsClear block set i s 0 9 → IsOpen block set i s
+  -- where no rule is broken, the triple may be added
+  clear_enough : IsClear block set i s 0 21 → KeepsAll block set i s
+  clear_enough clear r = elim (cases_lt (capacity_of r) (used r s.cycle (issues block (placed set i s)))) [
+    | inl over ↦ absurd (clear.kept (InCycle (rule_of r)) (omega arith) (omega (arith, rank-few (rule_of r))) (λ kept. (let few = kept r refl in omega (arith, few, over))))
+    | inr few ↦ few
+  ]
+
+  pub clear_open : IsClear block set i s 0 21 → IsOpen block set i s
   clear_open clear =
       let free : spot_at set i ≡ None = grind (arith, clear.kept Placed) in
       let stands : stands_on block i s.unit ≡ true = grind (arith, clear.kept WrongUnit) in
@@ -79,12 +92,8 @@ module _ (block : List Insn) (set : Spots) (i : ℕ) (s : Spot) (lawful : IsLawf
       record {
         free = free;
         lawful = lawful_from_fits block set i s insn lawful at in_block free founded after within
-            (record { stands = stands; keeps = λ rule low. clear.kept rule (omega arith) });
+            (record { stands = stands; keeps = clear_enough clear });
       }
-
-  -- two writes never land together first
-  pub never_first : IsFirst block set i s P5 → ⊥
-  never_first first = open_keeps (clear_open (record { kept = λ rule low. first.kept rule })) P5 first.broken
 
   pub refused_by : (rule : Rule) (cycle : ℕ) → IsClear block set i s 0 (turn_of rule) → Breaks block set i s rule
       → IsTold block set i s rule cycle → IsRefused block set i s (record { rule = rule; cycle = cycle })
@@ -94,13 +103,10 @@ module _ (block : List Insn) (set : Spots) (i : ℕ) (s : Spot) (lawful : IsLawf
     told = told;
   }
 
-  told_cycle : (rule : Rule) → 5 ≤ turn_of rule → turn_of rule < 9 → IsTold block set i s rule s.cycle
-  told_cycle Delay low high = absurd (omega (arith, low))
-  told_cycle P5 low high = absurd (omega (arith, high))
-  told_cycle _ low high = refl
-
-  pub refused_packet : (rule : Rule) → IsClear block set i s 0 5 → BreaksFirst block set i s rule
-      → IsRefused block set i s (record { rule = rule; cycle = s.cycle })
-  refused_packet rule clear first =
-      refused_by rule s.cycle (record { kept = λ r low high b. grind (arith, clear.kept r low, first.kept r) }) first.broken
-      (told_cycle rule first.among first.few)
+  pub refused_packet : (rule : CycleRule) → IsClear block set i s 0 5 → BreaksFirst block set i s rule
+      → IsRefused block set i s (record { rule = InCycle rule; cycle = s.cycle })
+  refused_packet rule clear first = refused_by (InCycle rule) s.cycle (record { kept = kept }) first.broken refl
+    where
+      kept : (earlier : Rule) → 0 ≤ turn_of earlier → turn_of earlier < turn_of (InCycle rule) → Breaks block set i s earlier → ⊥
+      kept (InCycle other) low high b = b (first.first other (omega (arith, high)))
+      kept earlier low high b = clear.kept earlier low (omega arith) b

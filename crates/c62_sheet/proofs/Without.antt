@@ -6,7 +6,7 @@ use Rattle.c62_sheet.proofs.Common.{spot_at, withdrawn, issues, IsLawful, IsRead
 use Rattle.c62_sheet.proofs.Sets.{spot_at-withdrawn_same, spot_at-withdrawn_other, IsAt-withdrawn}
 use Rattle.c62_sheet.proofs.IssuesOf.{issues-withdrawn}
 use Rattle.c62_sheet.proofs.Used.{insn_at}
-use Rattle.c62_sheet.proofs.Placing.{no_dependent, landings_kept, delays_placed, rules_from_keeps, keeps_from_rules}
+use Rattle.c62_sheet.proofs.Placing.{no_dependent, landings_kept, delays_placed, rules_from_keeps}
 
 module _ (block : List Insn) (set : Spots) (q : ℕ) (lawful : IsLawful block set) (in_block : q < length block) where
   pub rules_without : KeepsPacketRules (issues block (withdrawn set q))
@@ -42,7 +42,5 @@ module _ (block : List Insn) (set : Spots) (i cycle q : ℕ) (lawful : IsLawful 
   pub fits_from_without : (w : FitsWithout block set i cycle q) → Fits block (withdrawn set q) i (record { cycle = cycle; unit = w.unit })
   fits_from_without w = record {
     stands = w.stands;
-    keeps = keeps_from_rules block (withdrawn set q) i (insn_at block i in_block).0 (record { cycle = cycle; unit = w.unit })
-        (length-set set q None ∙ lawful.sized) (insn_at block i in_block).1 in_block
-        (free_without block set q lawful q_in i ready.free) w.rules;
+    keeps = w.rules.enough cycle;
   }

@@ -5,10 +5,8 @@ use Rattle.c62_op.specs.declared.register.Unit.{Unit as FunctionalUnit}
 use Rattle.c62_insn.specs.declared.insn.Insn.{Insn}
 use Rattle.c62_depend.specs.Plan.{IsPlan}
 use Rattle.c62_sheet.specs.declared.entry.Spot.{Spot}
-use Rattle.c62_sheet.specs.declared.entry.Rule.TheVariants.{P5}
 use Rattle.c62_sheet.specs.Lawful.{Spots, IsAt, placed, withdrawn, nothing_placed, IsLawful}
 use Rattle.c62_sheet.specs.Least.{IsReady, IsReadyOn, IsLeast, IsPick, IsLast, IsComplete}
-use Rattle.c62_sheet.specs.Check.{IsFirst}
 
 -- a number has one least spot at most
 abbrev pub HasOneLeast : List Insn → Spots → ℕ → Type 0
@@ -32,10 +30,6 @@ pub record HasRoom (block : List Insn) (set : Spots) (i k : ℕ) : Type 0 where
 abbrev pub FindsRoom : List Insn → Spots → Type 0
 FindsRoom block set = (i k : ℕ) → IsPlan block → IsLawful block set → IsReady block set i → i < length block → k < length block
     → ((j : ℕ) (t : Spot) → IsAt set j t → t.cycle + 5 ≤ 5 * k) → HasRoom block set i k
-
--- two writes that would land together break another rule first
-abbrev pub NeverLandTogether : List Insn → Spots → Type 0
-NeverLandTogether block set = (i : ℕ) (s : Spot) → IsLawful block set → i < length block → IsFirst block set i s P5 → ⊥
 
 -- what no placed number depends on can be taken out
 abbrev pub CanTakeOut : List Insn → Spots → Type 0

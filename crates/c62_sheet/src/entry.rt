@@ -1,6 +1,7 @@
 //! Spots, changes of a set of placements, and why a placement is refused.
 
 use c62_insn::Unit;
+use c62_rules::CycleRule;
 use thiserror::Error;
 
 /// Where an instruction stands: a cycle, from 0, and a functional unit.
@@ -57,21 +58,9 @@ pub enum Rule {
     /// The cycle is too early for something that the instruction depends on.
     #[error("Delay")]
     Delay,
-    /// The unit is taken in this cycle.
-    #[error("P1")]
-    P1,
-    /// The cross path is used in this cycle.
-    #[error("P2")]
-    P2,
-    /// The data path is used in this cycle.
-    #[error("P3")]
-    P3,
-    /// A register would be read more than four times in this cycle.
-    #[error("P4")]
-    P4,
-    /// Another write of the same register lands in the same cycle.
-    #[error("P5")]
-    P5,
+    /// One of the packet rules P1 to P4 would be broken in this cycle.
+    #[error("{0}")]
+    InCycle(CycleRule),
 }
 
 /// Why a spot is refused.
@@ -80,8 +69,7 @@ pub enum Rule {
 pub struct Unlawful {
     /// The first rule that speaks against it.
     pub rule: Rule,
-    /// For [`Rule::Delay`] the first cycle that is late enough, for [`Rule::P5`] the first in which two writes would land
-    /// together, and else the cycle of the spot.
+    /// For [`Rule::Delay`] the first cycle that is late enough, and else the cycle of the spot.
     pub cycle: u16,
 }
 

@@ -10,26 +10,13 @@ ghost use Rattle.c62_sheet.specs.Lawful.{spot_at, withdrawn, issues, IsLawful};
 ghost use Rattle.c62_sheet.specs.Least.{IsReady, IsAfter, IsEarly, IsLeast, FindsLeast, IsLast, FitsWithout};
 ghost use Rattle.c62_sheet.specs.Check.{Judges};
 ghost use Rattle.c62_sheet.specs.Index.{IsIndex};
-ghost use Rattle.c62_sheet.specs.Packet.{rule_of};
 ghost use Rattle.c62_sheet.specs.Rows.{AreRows, FitsRow};
 
 use crate::entry::{Rule, Spot, Unlawful};
 use crate::rows::row_without;
 use c62_depend::Plan;
 use c62_insn::{Insn, Unit, UnitSet};
-use c62_row::{PacketRule, Row};
-
-/// A packet rule among the rules for a spot.
-fn rule_of(rule: PacketRule) -> Rule
-    ensures { result ≡ rule_of rule }
-{
-    match rule {
-        PacketRule::P1 => Rule::P1,
-        PacketRule::P2 => Rule::P2,
-        PacketRule::P3 => Rule::P3,
-        PacketRule::P4 => Rule::P4,
-    }
-}
+use c62_row::{Row, Uses};
 
 /// Whether instruction `i` may be placed at a spot, or the first rule against it. Its early cycle is given.
 pub(crate) fn check(
@@ -79,9 +66,9 @@ pub(crate) fn check(
             cycle: first,
         });
     }
-    match rows[usize::from(cycle)].rule_against(plan.insn(i), spot.unit) {
+    match rows[usize::from(cycle)].rule_against(&Uses::of(plan.insn(i), spot.unit)) {
         Some(rule) => Err(Unlawful {
-            rule: rule_of(rule),
+            rule: Rule::InCycle(rule),
             cycle,
         }),
         None => Ok(()),
@@ -102,7 +89,7 @@ pub(crate) fn is_ready(plan: &Plan, spots: &[Option<Spot>], missing: &[u16], i: 
 fn fits(row: &Row, units: UnitSet, insn: Insn, unit: Unit) -> bool
     ensures { IsTrue result ↔ FitsRow row.now units insn unit }
 {
-    units.has(unit) && row.rule_against(insn, unit).is_none()
+    units.has(unit) && row.fits(&Uses::of(insn, unit))
 }
 
 /// The least spot of a ready instruction: the first cycle, and there the first unit, at which it may be placed. Its early

@@ -6,7 +6,7 @@ ghost use Rattle.c62_op.specs.declared.register.Side.{Side};
 ghost use Rattle.c62_insn.specs.declared.insn.Insn.{Insn};
 ghost use Rattle.std.specs.Prelude.{ℕ};
 ghost use Rattle.c62_sheet.specs.Lawful.{Spots};
-ghost use Rattle.c62_sheet.specs.Laws.{HasOneLeast, HasOnePick, HasSomeReady, FindsRoom, NeverLandTogether, CanTakeOut, IsLawfulEmpty};
+ghost use Rattle.c62_sheet.specs.Laws.{HasOneLeast, HasOnePick, HasSomeReady, FindsRoom, CanTakeOut, IsLawfulEmpty};
 
 /// An instruction has one least spot at most.
 #[tactic(auto, using(crate::proofs::Search::least_unique))]
@@ -32,12 +32,6 @@ pub fn has_some_ready()
 #[tactic(auto, using(crate::proofs::Room::finds_room))]
 pub fn finds_room()
     ensures { (block : List Insn) (set : Spots) → FindsRoom block set }
-{}
-
-/// P5 is never the first rule against a placement: of two writers of one register the later one in the block lands later
-/// by their dependence, which is asked before.
-pub fn never_land_together()
-    ensures { (block : List Insn) (set : Spots) → NeverLandTogether block set }
 {}
 
 /// A lawful set stays lawful where an instruction is taken out that no placed one depends on.

@@ -8,7 +8,7 @@ ghost use Rattle.c62_sheet.specs.Rows.{AreRows};
 
 use crate::entry::Spot;
 use c62_depend::Plan;
-use c62_row::Row;
+use c62_row::{Row, Uses};
 use std::alloc::{AllocError, Global};
 
 /// The rows while nothing is placed.
@@ -28,7 +28,7 @@ pub(crate) fn take(plan: &Plan, spots: &[Option<Spot>], rows: &mut [Row], i: u16
     requires within { spot.cycle < 5 * length (insns_of plan.now) }
     ensures { AreRows (insns_of plan.now) (placed spots.now i spot) rows.new }
 {
-    rows[usize::from(spot.cycle)].add(plan.insn(i), spot.unit);
+    rows[usize::from(spot.cycle)].add(&Uses::of(plan.insn(i), spot.unit));
 }
 
 /// Takes what the instructions of a lawful set use, of rows in which nothing is taken.
@@ -39,7 +39,7 @@ pub(crate) fn take_all(plan: &Plan, spots: &[Option<Spot>], rows: &mut [Row])
 {
     for i in 0..plan.len() {
         if let Some(spot) = spots[usize::from(i)] {
-            rows[usize::from(spot.cycle)].add(plan.insn(i), spot.unit);
+            rows[usize::from(spot.cycle)].add(&Uses::of(plan.insn(i), spot.unit));
         }
     }
 }
@@ -52,7 +52,7 @@ pub(crate) fn free(plan: &Plan, spots: &[Option<Spot>], rows: &mut [Row], i: u16
     ensures { AreRows (insns_of plan.now) (withdrawn spots.now i) rows.new }
 {
     if let Some(spot) = spots[usize::from(i)] {
-        rows[usize::from(spot.cycle)].remove(plan.insn(i), spot.unit);
+        rows[usize::from(spot.cycle)].remove(&Uses::of(plan.insn(i), spot.unit));
     }
 }
 
@@ -89,7 +89,7 @@ pub(crate) fn row_without(
             if spot.cycle != cycle {
                 return row;
             }
-            row.remove(plan.insn(q), spot.unit);
+            row.remove(&Uses::of(plan.insn(q), spot.unit));
             row
         }
     }

@@ -12,7 +12,7 @@ use crate::judge;
 use crate::rows::{take, take_all};
 use c62_depend::Plan;
 use c62_read::MOST_INSTRUCTIONS;
-use c62_row::Row;
+use c62_row::{Row, Uses};
 
 /// Whether the set with ready instruction `i` at a spot is lawful.
 fn is_lawful_with(plan: &Plan, spots: &[Option<Spot>], rows: &[Row], i: u16, spot: Spot) -> bool
@@ -32,7 +32,7 @@ fn is_lawful_with(plan: &Plan, spots: &[Option<Spot>], rows: &[Row], i: u16, spo
         return false;
     }
     let row = rows[usize::from(spot.cycle)];
-    row.rule_against(plan.insn(i), spot.unit).is_none()
+    row.fits(&Uses::of(plan.insn(i), spot.unit))
 }
 
 /// Whether these spots, that of instruction `i` at index `i`, are a lawful set in which every instruction of the plan is

@@ -5,6 +5,7 @@ use Rattle.std.proofs.lemmas.Option.{same_Some}
 use Rattle.std.proofs.lemmas.Bool.Decides.{nat_tests}
 use Rattle.c62_op.specs.Units.{index_of}
 use Rattle.c62_op.proofs.UnitOrder.{same_index}
+use Rattle.c62_rules.proofs.Capacities.{one-each-unit}
 use Rattle.c62_rules.specs.PacketRules.{IsIssued}
 use Rattle.c62_packet.specs.declared.placed.Placed.{Placed}
 use Rattle.c62_packet.specs.Packed.{Packed, issue_of, issued}
@@ -43,7 +44,7 @@ is_issued_at (q ∷ rest) (suc k) p e = is_issued_at rest k p e
 pub all_shown : (block : Packed) → AreAllShown block
 all_shown block k p sound e =
     let alone : IsAlone block.placed p =
-    λ j q f cycle unit. let number : j ≡ k = sound.rules.p1 p.unit j k (issue_of q) (issue_of p) (is_issued_at block.placed j q f) (is_issued_at block.placed k p e)
+    λ j q f cycle unit. let number : j ≡ k = one-each-unit (issued block.placed) sound.rules p.unit j k (issue_of q) (issue_of p) (is_issued_at block.placed j q f) (is_issued_at block.placed k p e)
     cycle (same_index q.unit p.unit unit) refl in
     same_Some q p (sym f ∙ (ap (slice_get block.placed) number ∙ e)) in
     shown block.placed p k alone e

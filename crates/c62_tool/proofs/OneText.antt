@@ -12,7 +12,8 @@ use Rattle.c62_op.proofs.UnitOrder.{index_of-below, same_index}
 use Rattle.c62_insn.specs.declared.insn.Insn.{Insn}
 use Rattle.c62_insn.proofs.SameLemmas.{same_parts}
 use Rattle.c62_line.specs.Line.{parts_of}
-use Rattle.c62_rules.specs.PacketRules.{HasOneEachUnit}
+use Rattle.c62_rules.proofs.Capacities.{one-each-unit}
+use Rattle.c62_rules.specs.Manual.{HasOneEachUnit}
 use Rattle.c62_read.specs.declared.block.SerialInsn.{SerialInsn}
 use Rattle.c62_read.specs.Block.{Serial}
 use Rattle.c62_read.specs.Program.{BlockParts, Refusal, block_parts, numbered_of}
@@ -193,7 +194,8 @@ packets_once block set one other first last =
     let serial : last.serial ≡ first.serial = one_numbering block.insns first.spots last.serial first.serial numbered first.numbered in
     let listed : IsPermutation first.serial other.placed = subst (λ (xs : List Placed). IsPermutation xs other.placed) serial last.listed in
     let placed : one.placed ≡ other.placed =
-    one_order one.placed other.placed (rises one.placed first.sound.in_order first.sound.rules.p1) (rises other.placed last.sound.in_order last.sound.rules.p1)
+    one_order one.placed other.placed (rises one.placed first.sound.in_order (one-each-unit (issued one.placed) first.sound.rules))
+    (rises other.placed last.sound.in_order (one-each-unit (issued other.placed) last.sound.rules))
     (among_both first.serial one.placed other.placed first.listed listed) (among_both first.serial other.placed one.placed listed first.listed) in
     same_packed one other (first.label ∙ sym last.label) (first.cycles ∙ sym last.cycles) placed
 

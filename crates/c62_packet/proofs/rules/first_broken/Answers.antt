@@ -4,7 +4,7 @@ use Rattle.c62_row.specs.Issued.{IsRowOf}
 use Rattle.c62_packet.specs.declared.placed.Placed.{Placed}
 use Rattle.c62_packet.specs.Packed.{issued}
 use Rattle.c62_packet.specs.Taken.{IsTakenBy}
-use Rattle.c62_packet.specs.Clash.{broken_beside, earlier}
+use Rattle.c62_packet.specs.Clash.{IsBrokenBeside, earlier}
 use Rattle.c62_packet.proofs.Broken.{FirstAmong, first-none, first-cons, first-all}
 use Rattle.c62_packet.proofs.ListingOrder.{cycles_rise}
 use Rattle.c62_packet.proofs.rules.first_broken.Goals as goal
@@ -45,9 +45,9 @@ loop-at-preserved c =
     = c.from_cycle-taken.ensures.taken rest (subst (λ (n : ℕ). IsTakenBy c.loop-at.taken (drop n placed)) next c.loop-at.invariant.taken) in
     let row : IsRowOf taken.row p.cycle (issued rest) = subst (λ (n : ℕ). IsRowOf taken.row n (issued rest)) c.from_cycle-taken.ensures.same behind.row in
     let so_far : FirstAmong placed rest c.loop-at.found = subst (λ (n : ℕ). FirstAmong placed (drop n placed) c.loop-at.found) next c.loop-at.invariant.found in
-    let beside : c.broken_beside.result ≡ broken_beside taken.row placed p rest = c.broken_beside.ensures ∙ ap (broken_beside taken.row placed p) (take_rest placed (at + 1)) in
-    let found : c.earlier-found.result ≡ earlier c.loop-at.found (broken_beside taken.row placed p rest)
-    = c.earlier-found.ensures ∙ ap (earlier c.loop-at.found) beside in
+    let own = c.of-uses.result in
+    let beside : IsBrokenBeside taken.row own placed p rest c.broken_beside.result
+    = subst (λ (others : List Placed). IsBrokenBeside taken.row own placed p others c.broken_beside.result) (take_rest placed (at + 1)) c.broken_beside.ensures in
     record {
       within = omega (arith, c.loop-at.invariant.within);
       before = λ i d lt.
@@ -56,7 +56,8 @@ loop-at-preserved c =
           omega (arith, rises, ap (λ (q : Placed). q.cycle) last, c.add.ensures.same, c.from_cycle-taken.ensures.same);
       taken = subst (IsTakenBy c.add.new.self) (sym parts) (c.add.ensures.taken rest behind);
       found = subst (λ (qs : List Placed). FirstAmong placed qs c.earlier-found.result) (sym parts)
-          (subst (FirstAmong placed (p ∷ rest)) (sym found) (first-cons taken.row placed p rest c.loop-at.found row so_far));
+          (subst (FirstAmong placed (p ∷ rest)) (sym c.earlier-found.ensures)
+          (first-cons taken.row own placed p rest c.loop-at.found c.broken_beside.result row c.of-uses.ensures beside so_far));
     }
 
 pub returns : goal.returns

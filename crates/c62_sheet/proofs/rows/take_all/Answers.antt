@@ -16,9 +16,9 @@ loop-i-preserved c = elim c.match-spots-from.branch [
       let is : IsAt set c.loop-i.i w.in-Some.spot = rw (← c.from.ensures) w.in-Some.is in
       let more : placed (first_placed set c.loop-i.i) c.loop-i.i w.in-Some.spot ≡ first_placed set (suc c.loop-i.i) = rw is at (first-more set c.loop-i.i) in
       rw (w.rows-is, add-one c.loop-i.i, ← more) (rows_placed (insns_of c.args.plan.now) (first_placed set c.loop-i.i) c.loop-i.i w.in-Some.spot w.insn.result c.loop-i.rows
-      w.from-in-Some.result _ w.add.new.self (length-first set c.loop-i.i ∙ c.requires.lawful.sized) c.loop-i.invariant w.insn.ensures
+      w.from-in-Some.result _ w.add.new.self w.of.result (length-first set c.loop-i.i ∙ c.requires.lawful.sized) c.loop-i.invariant w.insn.ensures
       (first-free set c.loop-i.i) w.from-in-Some.ensures
-      (omega (arith, c.loop-i.invariant.sized, c.requires.lawful.within c.loop-i.i w.in-Some.spot is)) w.add.ensures))
+      (omega (arith, c.loop-i.invariant.sized, c.requires.lawful.within c.loop-i.i w.in-Some.spot is)) w.of.ensures w.add.ensures))
   | in_default w ↦
       (let set = c.args.spots.now in
       let none : spot_at set c.loop-i.i ≡ None = rw (← c.from.ensures) w.in_default.is in

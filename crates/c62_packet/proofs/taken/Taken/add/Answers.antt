@@ -13,5 +13,5 @@ add_all-requires c =
 pub returns-clause-taken : goal.returns-clause-taken
 returns-clause-taken c = λ rest.
     let old = c.args.self.now in
-    taken-more old _ c.args.placed.now rest c.requires refl c.add.ensures
+    taken-more old _ c.args.uses.now c.args.placed.now rest c.requires.here refl c.requires.uses c.add.ensures
     (subst (AreLandingsMore old.landings.cycles c.add_all.new.self.cycles) (c.as_slice.ensures.value ∙ c.writes.ensures) c.add_all.ensures)
