@@ -97,6 +97,11 @@ impl OpenBlock {
         Ok(())
     }
 
+    /// Adds an instruction, which has a unit: to the last packet where it stands beside that, and else as the first of the next.
+    ///
+    /// # Errors
+    ///
+    /// `AllocError` where memory ran out.
     pub fn add_insn(&mut self, beside: bool, insn: Insn, line: u32) -> Result<(), AllocError>
         requires unit { IsTrue (is_some (unit_of insn)) }
         requires short { self.old.cycles + (if beside then 0 else 1) ≤ MOST_CYCLES }
@@ -115,6 +120,7 @@ impl Blocks {
     ghost use Rattle.c62_listing_reader.specs.Faults.{is_given, is_taken};
     ghost use Rattle.c62_listing_reader.specs.Reading.{draft_open, drafts_of};
 
+    /// No block, and none that is open.
     pub fn new(alloc: Global) -> Blocks
         ensures { drafts_of result ≡ no_drafts }
     {
@@ -124,7 +130,11 @@ impl Blocks {
         }
     }
 
-    /// Ends the block that is open.
+    /// Ends the block that is open, if one is.
+    ///
+    /// # Errors
+    ///
+    /// `AllocError` where memory ran out.
     pub fn end_block(&mut self) -> Result<(), AllocError>
         ensures { OnOk result (drafts_of self.new ≡ ended (drafts_of self.old)) }
     {
