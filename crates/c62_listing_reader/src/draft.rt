@@ -44,6 +44,7 @@ impl OpenBlock {
         }
     }
 
+    /// Gives the block its label, where a line has one.
     pub fn add_label(&mut self, label: &Option<Label>)
         ensures { draft_open self.new ≡ with_label label.now (draft_open self.old) }
     {
@@ -52,6 +53,7 @@ impl OpenBlock {
         }
     }
 
+    /// Adds so many cycles without instructions.
     pub fn add_pause(&mut self, cycles: u8)
         requires { self.old.cycles + cycles ≤ MOST_CYCLES }
         ensures { draft_open self.new ≡ with_pause cycles (draft_open self.old) }

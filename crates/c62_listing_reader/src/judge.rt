@@ -35,12 +35,14 @@ fn is_filled(above: Above) -> bool
     !matches!(above, Above::Start)
 }
 
+/// Whether a line is empty, and so parts two blocks.
 pub fn is_gap(front: Front) -> bool
     ensures { result ≡ is_gap front }
 {
     matches!(front, Front::Empty)
 }
 
+/// Whether an instruction stands in the packet of the line above: its line begins with `|| `.
 pub fn is_beside(front: Front) -> bool
     ensures { result ≡ is_beside front }
 {
