@@ -25,8 +25,9 @@ use Rattle.c62_adopt_cut.specs.Blocks.{Issue, Draft, Drafts, add_issue, all_draf
 use Rattle.c62_adopt_cut.specs.Text.{text_cut}
 use Rattle.c62_adopt_cut.specs.Flight.{is_lost}
 use Rattle.c62_adopt_cut.specs.Laws.{AreOver}
-use Rattle.c62_adopt_cut.proofs.KeptLemmas.{IsFree, all_append, text_kept}
+use Rattle.c62_adopt_cut.proofs.KeptLemmas.{IsFree, text_kept}
 use Rattle.c62_adopt.specs.Blocks.{target_number, part_in, IsBlockOf}
+use Rattle.c62_read.proofs.CutLemmas.{all_more}
 
 -- ---- only branches to labels go to blocks
 
@@ -52,11 +53,11 @@ add_aimed : (issue : Issue) (done : List Draft) (current : Option Draft) → Are
 add_aimed issue done None aimed is = aimed
 add_aimed issue done (Some draft) aimed is =
     let last = all_behind done (draft ∷ []) aimed in
-    all_append IsAimedIn done (with_issue issue draft ∷ []) (all_front done (draft ∷ []) aimed)
-    (all_append IsAimed draft.issues (issue ∷ []) last.0 (is, tt), tt)
+    all_more IsAimedIn done (with_issue issue draft ∷ []) (all_front done (draft ∷ []) aimed)
+    (all_more IsAimed draft.issues (issue ∷ []) last.0 (is, tt), tt)
 
 new_aimed : (drafts : List Draft) (label : Option Name) (start : ℕ) → AreAimed drafts → AreAimed (drafts ++ new_draft label start ∷ [])
-new_aimed drafts label start aimed = all_append IsAimedIn drafts (new_draft label start ∷ []) aimed (tt, tt)
+new_aimed drafts label start aimed = all_more IsAimedIn drafts (new_draft label start ∷ []) aimed (tt, tt)
 
 opened_aimed : (issue : Issue) (start : ℕ) (drafts : Drafts) → AreAimed (all_drafts drafts) → IsAimed issue
     → AreAimed (all_drafts (add_issue issue (opened start drafts)))

@@ -1,5 +1,5 @@
 -- A text is adopted in one way, and what is adopted is not refused.
-use Rattle.std.proofs.Common.{arith, ◌≡◌, ℕ, Bool, List, [], ◌∷◌, ◌++◌, refl, sym, ap, subst, ◌∙◌, append_assoc, Option, Some, None}
+use Rattle.std.proofs.Common.{◌≡◌, ℕ, Bool, List, [], ◌∷◌, ◌++◌, refl, sym, ap, subst, ◌∙◌, append_assoc, Option, Some, None}
 use Rattle.std.specs.List.{AllZip}
 use Rattle.std.proofs.lemmas.Option.{none-some}
 use Rattle.std.proofs.lemmas.List.Sorted.{IsPermutation-sym}
@@ -25,11 +25,9 @@ use Rattle.c62_adopt.specs.Laws.{HasOneAdoption, DrainsNothing}
 use Rattle.c62_adopt.proofs.Orders.{rules_same}
 use Rattle.c62_adopt.proofs.Breaches.{same_placed}
 use Rattle.c62_adopt.proofs.SortedLemmas.{same_listed}
+use Rattle.c62_packet.proofs.Placings.{same_packed}
 
 -- ---- one adoption
-
-same_packed : (block other : Packed) → block.label ≡ other.label → block.cycles ≡ other.cycles → block.placed ≡ other.placed → block ≡ other
-same_packed block other label cycles placed = grind arith
 
 same_block : (drafts : List Draft) (draft : Draft) (block other : Packed) → IsBlockOf drafts draft block → IsBlockOf drafts draft other → block ≡ other
 same_block drafts draft block other is also =

@@ -7,14 +7,12 @@ use Rattle.std.proofs.lemmas.Bool.{cases_Bool}
 use Rattle.std.proofs.lemmas.List.Elements.{All-nil, All-cons, All-head, All-tail, All-weaker}
 use Rattle.std.proofs.lemmas.List.Sorted.{IsPermutation-map, All-permutation, sum_by-IsPermutation}
 use Rattle.std.proofs.lemmas.List.Sums.{sum_by-cons}
-use Rattle.c62_op.specs.declared.register.Reg.{Reg}
 use Rattle.c62_op.specs.declared.operands.Op.{Op}
 use Rattle.c62_op.specs.declared.operands.Operands.{Operands}
 use Rattle.c62_op.specs.declared.operands.Operands.TheVariants.{Three, ConstantFirst, ConstantSecond, Two, Field, Constant, Access, Block, Register}
-use Rattle.c62_op.specs.Shape.{is_branch, delay_of, writes_of}
-use Rattle.c62_insn.specs.declared.insn.Insn.{Insn}
-use Rattle.c62_insn.specs.Insn.{op_of, unit_of, aimed_operands, register_writes, greatest_delay}
-use Rattle.c62_insn.proofs.InsnLemmas.{timely_writes}
+use Rattle.c62_op.specs.Shape.{is_branch, writes_of}
+use Rattle.c62_insn.specs.Insn.{op_of, unit_of, aimed_operands}
+use Rattle.c62_insn.proofs.InsnLemmas.{delay_short}
 use Rattle.c62_line.specs.Line.{Parts, parts_of}
 use Rattle.c62_rules.specs.PacketRules.{Issue as RuleIssue, KeepsPacketRules}
 use Rattle.c62_rules.specs.Length.{landing_end, last_landing_end, length_of}
@@ -33,6 +31,7 @@ use Rattle.c62_adopt.specs.Packing.{IsSound}
 use Rattle.c62_adopt.proofs.Orders.{rules_same}
 use Rattle.c62_adopt.proofs.Placing.{as_many_listed}
 use Rattle.c62_adopt.proofs.Breaches.{same_placed}
+use Rattle.c62_packet.specs.declared.limits.TheConstants.{MOST_CYCLES}
 
 -- ---- when an instruction ends
 
@@ -79,18 +78,6 @@ ends_by drafts start limit most (issue ∷ issues) (p ∷ placed) is within ends
     (ends_by drafts start limit most issues placed others within ends.1)
 
 -- ---- what lands
-
-greatest_at_most : (writes : List (Reg × ℕ)) → All (λ w. w.1 ≤ 4) writes → greatest_delay writes ≤ 4
-greatest_at_most [] all = omega arith
-greatest_at_most (w ∷ writes) all =
-    let first : w.1 ≤ 4 = All-head (λ v. v.1 ≤ 4) w writes all in
-    let rest : greatest_delay writes ≤ 4 = greatest_at_most writes (All-tail (λ v. v.1 ≤ 4) w writes all) in
-    omega (arith, first, rest)
-
-delay_short : (insn : Insn) → greatest_delay (register_writes insn) ≤ 4
-delay_short insn =
-    greatest_at_most (register_writes insn)
-    (All-weaker (λ w. (w.1 ≤ 4) × (w.1 ≤ delay_of (op_of insn))) (λ w. w.1 ≤ 4) (λ w h. h.0) (register_writes insn) (timely_writes insn))
 
 -- no instruction lands behind its end
 lands_by : (p : Placed) → landing_end (issue_of p) ≤ end_at p
@@ -227,17 +214,17 @@ module _ (drafts : List Draft) (draft : Draft) (listed : List Placed) (are : Are
       any-order-length (issues_of are.placed) (issues_of listed) (IsPermutation-map issue_of are.placed listed are.same)
       (let few = issued_of are.placed in omega (arith, few, one_branch))
 
-  in_time : All (λ p. end_at p ≤ 2048) are.placed
+  in_time : All (λ p. end_at p ≤ MOST_CYCLES) are.placed
   in_time =
-      ends_by drafts draft.start (draft.start + 2048) 2048 draft.issues are.placed are.stand.parts (omega arith) (in_time_by draft.issues sound.fine.placed)
+      ends_by drafts draft.start (draft.start + MOST_CYCLES) MOST_CYCLES draft.issues are.placed are.stand.parts (omega arith) (in_time_by draft.issues sound.fine.placed)
     where
       in_time_by : (issues : List Issue) → AllByRecursion (IsPlaced draft.start) issues
-          → AllByRecursion (λ issue. end_of issue.parts (draft.start + issue.cycle) ≤ draft.start + 2048) issues
+          → AllByRecursion (λ issue. end_of issue.parts (draft.start + issue.cycle) ≤ draft.start + MOST_CYCLES) issues
       in_time_by [] fine = tt
       in_time_by (issue ∷ issues) fine = (fine.0.in_time, in_time_by issues fine.1)
 
-  pub is_short : length_of (issues_of listed) ≤ 2048
-  is_short = rw same_length (length_within 2048 are.placed in_time)
+  pub is_short : length_of (issues_of listed) ≤ MOST_CYCLES
+  is_short = rw same_length (length_within MOST_CYCLES are.placed in_time)
 
   is_drained : AreDrained (length_of (issues_of listed)) listed
   is_drained =
@@ -249,25 +236,25 @@ module _ (drafts : List Draft) (draft : Draft) (listed : List Placed) (are : Are
       let same : sound.kept.placed ≡ are.placed = same_placed drafts draft.issues sound.kept.placed are.placed sound.kept.stand are.stand in
       rules_same are.placed listed are.same (subst (λ (ps : List Placed). KeepsPacketRules (issued ps)) same sound.kept.kept)
 
-  pub is_packet_block : (label : Option Name) (cycles : ℕ) → cycles ≡ length_of (issues_of listed) → IsPacketBlock (packed_of label cycles listed)
-  is_packet_block label cycles own = record {
+  pub is_packet_block : (label : Option Name) → IsPacketBlock (packed_of label (length_of (issues_of listed)) listed)
+  is_packet_block label = record {
     in_order = are.in_order;
     as_written = All-permutation (λ (p : Placed). unit_of p.insn ≡ Some p.unit) are.placed listed are.same are.stand.units;
     rules = are_lawful;
     one_branch = one_listed;
     few = (let many = as_many_listed drafts draft.issues listed are in let few = sound.fine.few in omega (arith, many, few));
-    own_length = own;
-    short = (let short = is_short in omega (arith, own, short));
-    drained = subst (λ (n : ℕ). AreDrained n listed) (sym own) is_drained;
+    own_length = refl;
+    short = is_short;
+    drained = is_drained;
   }
 
-  pub is_block_of : (block : Packed) (label : Option Name) (cycles : ℕ) → label ≡ draft.label → cycles ≡ length_of (issues_of listed)
-      → block ≡ packed_of label cycles listed → IsBlockOf drafts draft block
-  is_block_of block label cycles labelled own is =
+  pub is_block_of : (block : Packed) (label : Option Name) → label ≡ draft.label → block ≡ packed_of label (length_of (issues_of listed)) listed
+      → IsBlockOf drafts draft block
+  is_block_of block label labelled is =
       subst (IsBlockOf drafts draft) (sym is) (record {
         label = labelled;
         placed = are.placed;
         stand = are.stand;
         listed = are.same;
-        is_block = is_packet_block label cycles own;
+        is_block = is_packet_block label;
       })

@@ -3,16 +3,13 @@ use Rattle.std.proofs.Common.{arith, ◌≡◌, ℕ, suc, ◌<◌, ◌+◌, List
 use Rattle.std.specs.Prelude.{All}
 use Rattle.std.proofs.Math.Seq.{split_at, take-append_seam, drop-append_seam}
 use Rattle.std.proofs.lemmas.List.{map-append, take_more}
-use Rattle.std.proofs.lemmas.List.Elements.{All-nil, All-head, All-tail, All-take, All-drop, All-push, All-map}
+use Rattle.std.proofs.lemmas.List.Elements.{All-nil, All-head, All-take, All-drop, All-push, All-map}
 use Rattle.std.proofs.lemmas.Option.{none-some}
-use Rattle.c62_insn.specs.declared.insn.Insn.{Insn}
 use Rattle.c62_insn.specs.Insn.{unit_of}
-use Rattle.c62_insn.proofs.SameLemmas.{same_parts}
-use Rattle.c62_line.specs.Line.{parts_of}
 use Rattle.c62_rules.specs.PacketRules.{KeepsPacketRules}
 use Rattle.c62_packet.specs.declared.placed.Placed.{Placed}
 use Rattle.c62_packet.specs.declared.fault.PacketRule.{PacketRule}
-use Rattle.c62_packet.specs.Packed.{issued, StandAsWritten}
+use Rattle.c62_packet.specs.Packed.{issued}
 use Rattle.c62_packet.specs.Fault.{IsFirstBroken}
 use Rattle.c62_packet.proofs.Broken.{kept-each}
 use Rattle.c62_listing_reader.specs.Said.{Part, part_of}
@@ -23,27 +20,13 @@ use Rattle.c62_adopt_cut.specs.Drafted.{issue_of, draft_of}
 use Rattle.c62_adopt.specs.Blocks.{part_in, AreOf}
 use Rattle.c62_adopt.specs.Breach.{KeepsRules, IsBreachIn, IsFirstBreach}
 use Rattle.c62_adopt.specs.Judged.{KeepRules, BreakFirst}
+use Rattle.c62_listing_reader.proofs.SameLemmas.{same_positions}
 
 -- ---- an instruction is placed in one way
 
-same_insn : (insn other : Insn) → parts_of insn ≡ parts_of other → insn ≡ other
-same_insn insn other e = grind (arith, same_parts insn other)
-
-same_one : (p q : Placed) → unit_of p.insn ≡ Some p.unit → unit_of q.insn ≡ Some q.unit → part_of p ≡ part_of q → p ≡ q
-same_one p q first other e = grind (arith, same_insn p.insn q.insn)
-
-same_parted : (placed others : List Placed) → StandAsWritten placed → StandAsWritten others → map part_of placed ≡ map part_of others → placed ≡ others
-same_parted [] [] first other e = refl
-same_parted [] (q ∷ others) first other e = absurd cc
-same_parted (p ∷ placed) [] first other e = absurd cc
-same_parted (p ∷ placed) (q ∷ others) first other e =
-    let rest = same_parted placed others (All-tail (λ (r : Placed). unit_of r.insn ≡ Some r.unit) p placed first)
-    (All-tail (λ (r : Placed). unit_of r.insn ≡ Some r.unit) q others other) in
-    grind (arith, same_one p q (first 0 p (omega arith)) (other 0 q (omega arith)), rest)
-
 pub same_placed : (drafts : List Draft) (issues : List Issue) (placed others : List Placed) → AreOf drafts issues placed → AreOf drafts issues others
     → placed ≡ others
-same_placed drafts issues placed others first other = same_parted placed others first.units other.units (first.parts ∙ sym other.parts)
+same_placed drafts issues placed others first other = same_positions placed others first.units other.units (first.parts ∙ sym other.parts)
 
 -- ---- no instructions keep the rules
 

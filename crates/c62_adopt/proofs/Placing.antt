@@ -23,6 +23,8 @@ use Rattle.c62_adopt_cut.specs.declared.draft.Issue.{Issue as IssueRead}
 use Rattle.std.specs.List.{AllByRecursion}
 use Rattle.c62_adopt_cut.specs.Laws.{IsPlaced, IsFine}
 use Rattle.c62_adopt_cut.specs.Drafted.{issue_of, draft_of}
+use Rattle.c62_packet.specs.declared.limits.TheConstants.{MOST_CYCLES}
+use Rattle.c62_read.specs.declared.limits.TheConstants.{MOST_INSTRUCTIONS}
 
 -- ---- the number of a label
 
@@ -39,20 +41,20 @@ as_many drafts issues placed are =
     sym (length-map placed part_of) ∙ ap length are.parts ∙ length-map issues (part_in drafts)
 
 short_by : (drafts : List Draft) (issues : List Issue) (placed : List Placed) → map part_of placed ≡ map (part_in drafts) issues → All MayStand issues
-    → All (λ p. p.cycle < 2048) placed
-short_by drafts issues [] same stand = All-nil (λ (p : Placed). p.cycle < 2048)
+    → All (λ p. p.cycle < MOST_CYCLES) placed
+short_by drafts issues [] same stand = All-nil (λ (p : Placed). p.cycle < MOST_CYCLES)
 short_by drafts [] (p ∷ placed) same stand = absurd cc
 short_by drafts (issue ∷ issues) (p ∷ placed) same stand =
     let part : part_of p ≡ part_in drafts issue = cc in
     let here : p.cycle ≡ issue.cycle = ap (λ (q : Part). q.cycle) part in
     let others : map part_of placed ≡ map (part_in drafts) issues = cc in
     let first = stand 0 issue (omega arith) in
-    All-cons (λ (q : Placed). q.cycle < 2048) p placed (omega (arith, here, first.short))
+    All-cons (λ (q : Placed). q.cycle < MOST_CYCLES) p placed (omega (arith, here, first.short))
     (short_by drafts issues placed others (All-tail MayStand issue issues stand))
 
 -- in a cycle that a block may have
 pub all_short : (drafts : List Draft) (issues : List Issue) (placed : List Placed) → AreOf drafts issues placed → All MayStand issues
-    → All (λ p. p.cycle < 2048) placed
+    → All (λ p. p.cycle < MOST_CYCLES) placed
 all_short drafts issues placed are stand = short_by drafts issues placed are.parts stand
 
 -- ---- and listed
@@ -62,9 +64,9 @@ as_many_listed drafts issues listed are =
     length_permutation are.placed listed are.same ∙ as_many drafts issues are.placed are.stand
 
 pub listed_short : (drafts : List Draft) (issues : List Issue) (listed : List Placed) → AreListed drafts issues listed → All MayStand issues
-    → All (λ p. p.cycle < 2048) listed
+    → All (λ p. p.cycle < MOST_CYCLES) listed
 listed_short drafts issues listed are stand =
-    All-permutation (λ (p : Placed). p.cycle < 2048) are.placed listed are.same (all_short drafts issues are.placed are.stand stand)
+    All-permutation (λ (p : Placed). p.cycle < MOST_CYCLES) are.placed listed are.same (all_short drafts issues are.placed are.stand stand)
 
 pub found_rule : (drafts : List Draft) (issues : List Issue) (listed : List Placed) → AreListed drafts issues listed → (cycle : ℕ) (rule : PacketRule)
     → IsFirstBroken cycle rule listed → BreakFirst drafts issues rule
@@ -97,5 +99,5 @@ stand_by start (issue ∷ issues) fine =
 pub fine_stand : (draft : DraftRead) → IsFine (draft_of draft) → All (λ issue. MayStand (issue_of issue)) draft.issues.items
 fine_stand draft fine = stand_by draft.start draft.issues.items fine.placed
 
-pub fine_few : (draft : DraftRead) → IsFine (draft_of draft) → length draft.issues.items ≤ 256
+pub fine_few : (draft : DraftRead) → IsFine (draft_of draft) → length draft.issues.items ≤ MOST_INSTRUCTIONS
 fine_few draft fine = let few = fine.few in omega (arith, few, length-map draft.issues.items issue_of)

@@ -1,5 +1,5 @@
 -- The blocks that are read of a text are sound where they keep the packet rules and nothing is in flight.
-use Rattle.std.proofs.Common.{arith, ◌≡◌, ℕ, ◌≤◌, Bool, List, [], ◌∷◌, length, map, refl, sym, subst, Option, Some, None}
+use Rattle.std.proofs.Common.{arith, ◌≡◌, ℕ, ◌≤◌, Bool, List, [], ◌∷◌, length, map, sym, subst, None}
 use Rattle.std.specs.Prelude.{All, IsTrue}
 use Rattle.std.specs.List.{AllByRecursion, AllZip}
 use Rattle.std.proofs.lemmas.List.{length-map}
@@ -9,9 +9,9 @@ use Rattle.c62_packet.specs.Packets.{is_closed}
 use Rattle.c62_adopt_cut.specs.declared.draft.Draft.{Draft as DraftRead}
 use Rattle.c62_adopt_cut.specs.declared.text.Cut.{Cut as CutRead}
 use Rattle.c62_adopt_cut.specs.Blocks.{Draft}
-use Rattle.c62_adopt_cut.specs.Text.{Cut, Refusal, text_cut}
+use Rattle.c62_adopt_cut.specs.Text.{Cut, text_cut}
 use Rattle.c62_adopt_cut.specs.Drafted.{draft_of, cut_of}
-use Rattle.c62_adopt_cut.specs.Flight.{first_in_flight, or_behind}
+use Rattle.c62_adopt_cut.specs.Flight.{first_in_flight}
 use Rattle.c62_adopt_cut.specs.Laws.{IsFine, AreFine, AreOver}
 use Rattle.c62_adopt_cut.proofs.FineLemmas.{blocks_are_fine}
 use Rattle.c62_adopt_cut.proofs.OverLemmas.{blocks_are_over}
@@ -19,10 +19,7 @@ use Rattle.c62_adopt.specs.Blocks.{IsBlockOf}
 use Rattle.c62_adopt.specs.Breach.{KeepsRules}
 use Rattle.c62_adopt.specs.Packing.{IsSound}
 use Rattle.c62_adopt.proofs.AimLemmas.{AreAimed, blocks_are_aimed, packets_closed}
-
-pub neither : (first behind : Option Refusal) → or_behind first behind ≡ None → (first ≡ None) × (behind ≡ None)
-neither None behind none = (refl, none)
-neither (Some refusal) behind none = absurd cc
+use Rattle.c62_read.specs.declared.limits.TheConstants.{MOST_BLOCKS}
 
 all_fine : (drafts : List DraftRead) → AllByRecursion IsFine (map draft_of drafts) → All (λ draft. IsFine (draft_of draft)) drafts
 all_fine [] fine = All-nil (λ (draft : DraftRead). IsFine (draft_of draft))
@@ -42,7 +39,7 @@ module _ (text : List ℕ) (cut : CutRead) (read : cut_of cut ≡ text_cut text)
   are_fine : AreFine (map draft_of cut.drafts.items)
   are_fine = subst (λ (c : Cut). AreFine c.drafts) (sym read) (blocks_are_fine text)
 
-  pub cut_few : length cut.drafts.items ≤ 64
+  pub cut_few : length cut.drafts.items ≤ MOST_BLOCKS
   cut_few = let few = are_fine.few in omega (arith, few, length-map cut.drafts.items draft_of)
 
   pub cut_fine : All (λ draft. IsFine (draft_of draft)) cut.drafts.items

@@ -15,7 +15,7 @@ use crate::fault::AdoptFault;
 use crate::listed::listed;
 use c62_adopt_cut::{Cut, Draft, TextFault, cycles_lacking, first_in_flight, read_cut};
 use c62_line::copied_label;
-use c62_packet::{PacketBlock, Packets, cycles_of};
+use c62_packet::{PacketBlock, Packets};
 use std::alloc::{AllocError, Global};
 
 /// What a text is adopted as.
@@ -33,9 +33,7 @@ fn packet_block(alloc: Global, drafts: &[Draft], draft: &Draft) -> Result<Packet
     ensures { IfOk result (IsBlockOf (map draft_of drafts.now) (draft_of draft.now)) }
 {
     let placed = listed(alloc, drafts, &draft.issues)?;
-    let cycles = cycles_of(&placed) as u16;
-    let label = copied_label(&draft.label);
-    Ok(PacketBlock::of_lawful(label, cycles, placed))
+    Ok(PacketBlock::of_lawful(copied_label(&draft.label), placed))
 }
 
 fn put(packets: &mut Packets, block: PacketBlock) -> Result<(), AllocError>

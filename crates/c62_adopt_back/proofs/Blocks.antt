@@ -1,5 +1,5 @@
 -- A block that is being read.
-use Rattle.c62_adopt_back.proofs.Common.{nat_tests, arith, ◌≡◌, ℕ, ◌+◌, ◌<◌, List, [], ◌∷◌, ◌++◌, length, Bool, true, false, Option, Some, None}
+use Rattle.c62_adopt_back.proofs.Common.{nat_tests, arith, ◌≡◌, ℕ, ◌+◌, ◌<◌, List, length, Bool, true, false, Option, Some, None}
 use Rattle.c62_adopt_back.proofs.Common.{AllZip, Name, Placed, Line, cuts_of, cycles_of, Draft, Drafts, Issue, all_drafts, begins_at, opened}
 use Rattle.c62_adopt_back.proofs.Cuts.{AreCuts, last_cut}
 use Rattle.c62_adopt_back.proofs.Said.{parts_written, target_written}
@@ -15,13 +15,6 @@ pub record IsDraftOf (name : ℕ → Name) (label : Option Name) (start : ℕ) (
   pub label_is : draft.label ≡ label
   pub starts : draft.start ≡ start
   pub issues : AllZip (IsIssueOf name) draft.issues placed
-
-pub zip_more : {X Y : Type 0} (R : X → Y → Type 0) (xs : List X) (ys : List Y) (x : X) (y : Y) → AllZip R xs ys → R x y
-    → AllZip R (xs ++ x ∷ []) (ys ++ y ∷ [])
-zip_more R [] [] x y all is = (is, tt)
-zip_more R [] (b ∷ ys) x y all is = absurd all
-zip_more R (a ∷ xs) [] x y all is = absurd all
-zip_more R (a ∷ xs) (b ∷ ys) x y all is = (all.0, zip_more R xs ys x y all.1 is)
 
 -- ---- where it is read
 

@@ -15,6 +15,8 @@ use Rattle.c62_adopt_back.proofs.Blocks.{IsAt, Site}
 use Rattle.c62_adopt_back.proofs.Issues.{Fits, Stands, is_below, nothing_against}
 use Rattle.c62_adopt_back.proofs.Leading.{Leads, one_line, then_lines}
 use Rattle.c62_adopt_back.proofs.Pauses.{idle_leads}
+use Rattle.c62_read.specs.declared.limits.TheConstants.{MOST_BLOCKS, MOST_INSTRUCTIONS}
+use Rattle.c62_packet.specs.declared.limits.TheConstants.{MOST_CYCLES}
 
 -- ---- the packet of the line above
 
@@ -51,11 +53,11 @@ unfolding front
 line_reads site p true is = (instruction_reads site.name p.insn p.unit is.taking is.names).1
 line_reads site p false is = (instruction_reads site.name p.insn p.unit is.taking is.names).0
 
-module _ (site : Site) (few : length site.done < 64) (short : site.cycles ≤ 2048) where
+module _ (site : Site) (few : length site.done < MOST_BLOCKS) (short : site.cycles ≤ MOST_CYCLES) where
   issue_leads : (next : ℕ) (branched : Bool) (placed : List Placed) (number : ℕ) (above : List Line) (drafts : Drafts) (p : Placed) (beside : Bool)
       → IsAt site next branched placed above drafts
       → Stands site next p above beside (line_said beside None (says_on site.name p.insn p.unit))
-      → IsListed site.name site.cycles p → (is_branching_placed p ≡ true → branched ≡ false) → length placed < 256
+      → IsListed site.name site.cycles p → (is_branching_placed p ≡ true → branched ≡ false) → length placed < MOST_INSTRUCTIONS
       → Leads above drafts number ((front beside ++ spelling site.name p.insn p.unit) ∷ [])
       (IsBehind site (branched || is_branching_placed p) placed p)
   issue_leads next branched placed number above drafts p beside is stands listed one room =
@@ -96,7 +98,7 @@ module _ (site : Site) (few : length site.done < 64) (short : site.cycles ≤ 20
   -- an instruction that begins a packet, with the cycles before it
   first_leads : (next : ℕ) (branched : Bool) (placed : List Placed) (number : ℕ) (above : List Line) (drafts : Drafts) (p : Placed)
       → IsAt site next branched placed above drafts → next ≤ p.cycle → IsListed site.name site.cycles p
-      → (is_branching_placed p ≡ true → branched ≡ false) → length placed < 256
+      → (is_branching_placed p ≡ true → branched ≡ false) → length placed < MOST_INSTRUCTIONS
       → Leads above drafts number (idle_lines (p.cycle - next) ++ (codes "   " ++ spelling site.name p.insn p.unit) ∷ [])
       (IsBehind site (branched || is_branching_placed p) placed p)
   unfolding front
@@ -112,7 +114,7 @@ module _ (site : Site) (few : length site.done < 64) (short : site.cycles ≤ 20
   -- an instruction behind another
   next_leads : (b : Bool) (branched : Bool) (placed : List Placed) (q p : Placed) (number : ℕ) (above : List Line) (drafts : Drafts)
       → nat_lt p.cycle (q.cycle + 1) ≡ b → listing_position q ≤ listing_position p → IsBehind site branched placed q above drafts
-      → IsListed site.name site.cycles p → (is_branching_placed p ≡ true → branched ≡ false) → length (placed ++ q ∷ []) < 256
+      → IsListed site.name site.cycles p → (is_branching_placed p ≡ true → branched ≡ false) → length (placed ++ q ∷ []) < MOST_INSTRUCTIONS
       → Leads above drafts number (if b then (codes "|| " ++ spelling site.name p.insn p.unit) ∷ []
       else idle_lines (p.cycle - (q.cycle + 1)) ++ (codes "   " ++ spelling site.name p.insn p.unit) ∷ [])
       (IsBehind site (branched || is_branching_placed p) (placed ++ q ∷ []) p)
@@ -136,10 +138,10 @@ unfoldable pub branched_behind : Bool → List Placed → Bool
 branched_behind branched [] = branched
 branched_behind branched (p ∷ placed) = branched_behind (branched || is_branching_placed p) placed
 
-module _ (site : Site) (few : length site.done < 64) (short : site.cycles ≤ 2048) where
+module _ (site : Site) (few : length site.done < MOST_BLOCKS) (short : site.cycles ≤ MOST_CYCLES) where
   rest_lead : (rest placed : List Placed) (branched : Bool) (q : Placed) (number : ℕ) (above : List Line) (drafts : Drafts)
       → IsBehind site branched placed q above drafts → AllByRecursion (IsListed site.name site.cycles) rest → AreBehind q rest
-      → BranchOnce branched rest → length placed + 1 + length rest ≤ 256 → q.cycle < site.cycles
+      → BranchOnce branched rest → length placed + 1 + length rest ≤ MOST_INSTRUCTIONS → q.cycle < site.cycles
       → Leads above drafts number (cycle_lines site.name (q.cycle + 1) site.cycles rest)
       (IsAt site site.cycles (branched_behind branched rest) (placed ++ q ∷ rest))
   unfolding AreBehind BranchOnce branched_behind
@@ -163,7 +165,7 @@ module _ (site : Site) (few : length site.done < 64) (short : site.cycles ≤ 20
   -- from the first cycle
   pub cycles_lead : (placed : List Placed) (number : ℕ) (above : List Line) (drafts : Drafts) → IsAt site 0 false [] above drafts
       → AllByRecursion (IsListed site.name site.cycles) placed → ((p : Placed) (rest : List Placed) → placed ≡ p ∷ rest → AreBehind p rest)
-      → BranchOnce false placed → length placed ≤ 256
+      → BranchOnce false placed → length placed ≤ MOST_INSTRUCTIONS
       → Leads above drafts number (cycle_lines site.name 0 site.cycles placed) (IsAt site site.cycles (branched_behind false placed) placed)
   unfolding BranchOnce branched_behind
   cycles_lead [] number above drafts is listed order once room =

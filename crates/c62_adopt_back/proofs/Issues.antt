@@ -11,12 +11,15 @@ use Rattle.c62_adopt_cut.specs.Blocks.{issue_at, with_issue}
 use Rattle.c62_adopt_cut.specs.Text.{begins_one_more, ends_behind, hindrance, is_one_more, is_too_late}
 use Rattle.c62_adopt_back.proofs.Cuts.{AreCuts, cut_by_branch, last_cut}
 use Rattle.c62_adopt_back.proofs.Said.{IsSaid, lands_at, parts_written, target_written}
-use Rattle.c62_adopt_back.proofs.Blocks.{IsAt, IsDraftOf, IsIssueOf, Site, as_opened, not_opened, zip_more}
+use Rattle.c62_adopt_back.proofs.Blocks.{IsAt, IsDraftOf, IsIssueOf, Site, as_opened, not_opened}
+use Rattle.c62_adopt.proofs.PacketsLemmas.{zip_push}
+use Rattle.c62_read.specs.declared.limits.TheConstants.{MOST_BLOCKS, MOST_INSTRUCTIONS}
+use Rattle.c62_packet.specs.declared.limits.TheConstants.{MOST_CYCLES}
 
 -- ---- nothing stands against it
 
 no_more : (says : Says) (stand : Stand) (drafts : Drafts) (done : List Draft) (draft : Draft) (beside : Bool)
-    → opened stand.start drafts ≡ record { done = done; current = Some draft } → length draft.issues < 256
+    → opened stand.start drafts ≡ record { done = done; current = Some draft } → length draft.issues < MOST_INSTRUCTIONS
     → is_one_more stand (line_said beside None says) drafts ≡ false
 no_more says stand drafts done draft beside opens few = elim (cases_Bool (begins_at stand.start drafts.current)) [
   | inl begun ↦ let same = as_opened stand.start drafts _ opens begun in grind (arith, nat_tests)
@@ -24,7 +27,7 @@ no_more says stand drafts done draft beside opens few = elim (cases_Bool (begins
 ]
 
 no_more_blocks : (says : Says) (stand : Stand) (drafts : Drafts) (done : List Draft) (draft : Draft) (beside : Bool)
-    → opened stand.start drafts ≡ record { done = done; current = Some draft } → length done < 64
+    → opened stand.start drafts ≡ record { done = done; current = Some draft } → length done < MOST_BLOCKS
     → begins_one_more stand (line_said beside None says) drafts ≡ false
 no_more_blocks says stand drafts done draft beside opens few = elim (cases_Bool (begins_at stand.start drafts.current)) [
   | inl begun ↦ grind (arith, nat_tests)
@@ -36,8 +39,8 @@ pub record Fits (cycles : ℕ) (p : Placed) : Type 0 where
   pub ends : landing_end (issue_of p) ≤ cycles
   pub last : is_branching_placed p ≡ true → cycles ≡ p.cycle + 6
 
-in_time : (p : Placed) (start cycles : ℕ) → Fits cycles p → cycles ≤ 2048
-    → ends_behind 2048 (record { cycle = start + p.cycle; start = start }) (parts_written p) ≡ false
+in_time : (p : Placed) (start cycles : ℕ) → Fits cycles p → cycles ≤ MOST_CYCLES
+    → ends_behind MOST_CYCLES (record { cycle = start + p.cycle; start = start }) (parts_written p) ≡ false
 in_time p start cycles fits short = grind (arith, nat_tests, lands_at p start, fits.ends, fits.last)
 
 module _ (above : List Line) (drafts : Drafts) (beside : Bool) (says : Says) where
@@ -90,7 +93,7 @@ module _ (site : Site) (next : ℕ) (branched : Bool) (placed : List Placed) (ab
   grown_draft number = record {
     label_is = is.is.label_is;
     starts = is.is.starts;
-    issues = zip_more (IsIssueOf site.name) is.draft.issues placed (new_issue number) p is.is.issues
+    issues = zip_push (IsIssueOf site.name) is.draft.issues placed (new_issue number) p is.is.issues
         (record { parts = refl; target = refl; cycle = omega arith });
   }
 
@@ -112,7 +115,7 @@ module _ (site : Site) (next : ℕ) (branched : Bool) (placed : List Placed) (ab
     begun = λ some. grind (arith, nat_tests, is.is.starts);
   })
 
-  pub nothing_against : length site.done < 64 → length placed < 256 → site.cycles ≤ 2048 → Fits site.cycles p → hindrance above drafts here ≡ None
+  pub nothing_against : length site.done < MOST_BLOCKS → length placed < MOST_INSTRUCTIONS → site.cycles ≤ MOST_CYCLES → Fits site.cycles p → hindrance above drafts here ≡ None
   nothing_against blocks few short fits =
       let count : length placed ≡ length is.draft.issues = AllZip-long (IsIssueOf site.name) is.draft.issues placed is.is.issues in
       free above drafts beside says stands.below

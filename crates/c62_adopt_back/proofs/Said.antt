@@ -10,6 +10,7 @@ use Rattle.c62_rules.specs.Length.{landing_end}
 use Rattle.c62_adopt_cut.specs.Cut.{cycles_said, is_branching, is_filled}
 use Rattle.c62_adopt_cut.specs.Blocks.{add_issue, issue_at, with_says}
 use Rattle.c62_adopt_cut.specs.Text.{ends_behind, is_too_late}
+use Rattle.c62_packet.specs.declared.limits.TheConstants.{MOST_CYCLES}
 
 -- ---- by its parts and its target
 
@@ -23,7 +24,7 @@ pub record IsSaid (parts : Parts) (target : Option Name) (says : Says) : Type 0 
   pub filled : is_filled says ≡ true
   pub instruction : is_instruction says ≡ true
   pub branching : is_branching says ≡ is_branch parts.op
-  pub late : (stand : Stand) → is_too_late stand says ≡ ends_behind 2048 stand parts
+  pub late : (stand : Stand) → is_too_late stand says ≡ ends_behind MOST_CYCLES stand parts
   pub adds : (number : ℕ) (stand : Stand) (drafts : Drafts)
       → with_says number stand says drafts ≡ add_issue (issue_at stand number parts target) (opened stand.start drafts)
 

@@ -9,6 +9,7 @@ use Rattle.c62_adopt_cut.specs.Text.{hindrance}
 use Rattle.c62_adopt_back.proofs.Cuts.{AreCuts, cut_by_label}
 use Rattle.c62_adopt_back.proofs.Blocks.{IsAt, Site}
 use Rattle.c62_adopt_back.proofs.Leading.{Leads, no_lines, one_line}
+use Rattle.c62_read.specs.declared.limits.TheConstants.{MOST_BLOCKS}
 
 -- The blocks above are over, and the next begins in this cycle, where it has a label or they cut the text there.
 pub record AreOver (start : ℕ) (cut : Bool) (above : List Line) (drafts : Drafts) : Type 0 where
@@ -26,7 +27,7 @@ labelling : Name → Line
 labelling label = line_said false (Some label) Nothing
 
 label_free : (above : List Line) (drafts : Drafts) (label : Name) → list_any (λ draft. label_is label draft.label) (all_drafts drafts) ≡ false
-    → length (all_drafts drafts) < 64
+    → length (all_drafts drafts) < MOST_BLOCKS
     → hindrance above drafts (labelling label) ≡ None
 unfolding hindrance labelling
 label_free above drafts label free few = grind (arith, nat_tests)
@@ -61,7 +62,7 @@ module _ (name : ℕ → List ℕ) (start cycles : ℕ) (cut : Bool) (above : Li
 
   pub label_leads : (label : Option Name) (number : ℕ) → ((l : Name) → label ≡ Some l → is_label l ≡ true)
       → ((l : Name) → label ≡ Some l → list_any (λ draft. label_is l draft.label) (all_drafts drafts) ≡ false)
-      → (label ≡ None → cut ≡ true) → length (all_drafts drafts) < 64
+      → (label ≡ None → cut ≡ true) → length (all_drafts drafts) < MOST_BLOCKS
       → Leads above drafts number (label_lines label) (IsAt (site label) 0 false [])
   unfolding labelling
   label_leads None number good free parted few = no_lines above drafts number (IsAt (site None) 0 false []) (unlabelled (parted refl))

@@ -12,6 +12,8 @@ use Rattle.c62_adopt_back.proofs.Cuts.{last_cut, no_cuts}
 use Rattle.c62_adopt_back.proofs.Cycles.{BranchOnce, IsListed, branched_behind, cycles_lead}
 use Rattle.c62_adopt_back.proofs.Leading.{Leads, no_lines, so_leads, then_lines}
 use Rattle.c62_adopt_back.proofs.Starts.{AreOver, gap_leads, label_leads}
+use Rattle.c62_read.specs.declared.limits.TheConstants.{MOST_BLOCKS, MOST_INSTRUCTIONS}
+use Rattle.c62_packet.specs.declared.limits.TheConstants.{MOST_CYCLES}
 
 -- ---- what is read of blocks
 
@@ -60,8 +62,8 @@ pub record IsGood (name : ℕ → Name) (passed : List Packed) (cut : Bool) (blo
   pub listed : AllByRecursion (IsListed name block.cycles) block.placed
   pub order : (p : Placed) (rest : List Placed) → block.placed ≡ p ∷ rest → AreBehind p rest
   pub once : BranchOnce false block.placed
-  pub few : length block.placed ≤ 256
-  pub short : block.cycles ≤ 2048
+  pub few : length block.placed ≤ MOST_INSTRUCTIONS
+  pub short : block.cycles ≤ MOST_CYCLES
 
 -- these are read, and over
 pub record ArePassed (name : ℕ → Name) (passed : List Packed) (cut : Bool) (above : List Line) (drafts : Drafts) : Type 0 where
@@ -102,13 +104,13 @@ block_passed site passed block branched above drafts read label cycles begun som
     }
 
 module _ (name : ℕ → Name) where
-  block_leads : (passed : List Packed) (block : Packed) (cut : Bool) (number : ℕ) (above : List Line) (drafts : Drafts) → length passed < 64
+  block_leads : (passed : List Packed) (block : Packed) (cut : Bool) (number : ℕ) (above : List Line) (drafts : Drafts) → length passed < MOST_BLOCKS
       → ArePassed name passed cut above drafts → IsGood name passed cut block
       → Leads above drafts number (block_lines name block) (ArePassed name (passed ++ block ∷ []) (branched_behind false block.placed))
   block_leads passed block cut number above drafts few are good =
       let site : Site = record { name = name; done = all_drafts drafts; label = block.label; start = are.end; cycles = block.cycles } in
       let branched : Bool = branched_behind false block.placed in
-      let some : length (all_drafts drafts) < 64 = omega (arith, few, read_length name 0 are.end (all_drafts drafts) passed are.read) in
+      let some : length (all_drafts drafts) < MOST_BLOCKS = omega (arith, few, read_length name 0 are.end (all_drafts drafts) passed are.read) in
       let free : (l : Name) → block.label ≡ Some l → list_any (λ draft. label_is l draft.label) (all_drafts drafts) ≡ false =
       λ l is. read_taken name 0 are.end l (all_drafts drafts) passed are.read ∙ good.free l is in
       then_lines above drafts number (label_lines block.label) (cycle_lines name 0 block.cycles block.placed) (IsAt site 0 false [])
@@ -138,7 +140,7 @@ module _ (name : ℕ → Name) where
   all_passed packets cut above drafts are = record { read = rw are.over.passed are.read }
 
   parted_lead : (passed blocks : List Packed) (cut : Bool) (number : ℕ) (above : List Line) (drafts : Drafts)
-      → length passed + length blocks ≤ 64 → ArePassed name passed cut above drafts → AllGood name passed cut blocks
+      → length passed + length blocks ≤ MOST_BLOCKS → ArePassed name passed cut above drafts → AllGood name passed cut blocks
       → Leads above drafts number (parted_lines name blocks) (AreAllPassed name (passed ++ blocks))
   unfolding AllGood
   parted_lead passed [] cut number above drafts few are good =
@@ -165,7 +167,7 @@ module _ (name : ℕ → Name) where
   }
 
   -- the lines of a listing are read as its blocks
-  pub all_lead : (packets : List Packed) → length packets ≤ 64 → AllGood name [] true packets
+  pub all_lead : (packets : List Packed) → length packets ≤ MOST_BLOCKS → AllGood name [] true packets
       → Leads [] no_drafts 1 (all_lines name packets) (AreAllPassed name packets)
   unfolding AllGood
   all_lead [] few good = no_lines [] no_drafts 1 (AreAllPassed name []) (all_passed [] true [] no_drafts start_passed)

@@ -16,22 +16,25 @@ use Rattle.c62_adopt_cut.specs.Cut.{stand_of}
 use Rattle.c62_adopt_cut.specs.Blocks.{Issue, Draft, Drafts, add_issue, all_drafts, begins_at, issue_at, new_draft, no_drafts, opened, with_block, with_issue, with_line, with_says}
 use Rattle.c62_adopt_cut.specs.Text.{begins_one_more, end_of, is_full, is_one_more, is_too_late}
 use Rattle.c62_adopt_cut.specs.Laws.{IsPlaced, IsFine, AreFine, BlocksAreFine}
-use Rattle.c62_adopt_cut.proofs.KeptLemmas.{IsFree, all_append, text_kept}
+use Rattle.c62_adopt_cut.proofs.KeptLemmas.{IsFree, text_kept}
 use Rattle.c62_adopt_cut.proofs.StandLemmas.{alone, labelled_stand, stand_low}
+use Rattle.c62_read.proofs.CutLemmas.{all_more}
+use Rattle.c62_read.specs.declared.limits.TheConstants.{MOST_BLOCKS, MOST_INSTRUCTIONS}
+use Rattle.c62_packet.specs.declared.limits.TheConstants.{MOST_CYCLES}
 
 -- ---- blocks
 
 pub record AreFineSoFar (drafts : Drafts) : Type 0 where
   pub done : AllByRecursion IsFine drafts.done
   pub current : IfSome drafts.current IsFine
-  pub few : length (all_drafts drafts) ≤ 64
+  pub few : length (all_drafts drafts) ≤ MOST_BLOCKS
 
 current_listed : (current : Option Draft) → IfSome current IsFine → AllByRecursion IsFine (option_to_list current)
 current_listed None fine = tt
 current_listed (Some draft) fine = (fine, tt)
 
 pub all_fine : (drafts : Drafts) → AreFineSoFar drafts → AllByRecursion IsFine (all_drafts drafts)
-all_fine drafts fine = all_append IsFine drafts.done (option_to_list drafts.current) fine.done (current_listed drafts.current fine.current)
+all_fine drafts fine = all_more IsFine drafts.done (option_to_list drafts.current) fine.done (current_listed drafts.current fine.current)
 
 pub none_fine : AreFineSoFar no_drafts
 none_fine = record { done = tt; current = tt; few = omega arith }
@@ -39,7 +42,7 @@ none_fine = record { done = tt; current = tt; few = omega arith }
 new_fine : (label : Option Name) (start : ℕ) → IsFine (new_draft label start)
 new_fine label start = record { few = omega arith; placed = tt }
 
-block_fine : (label : Option Name) (start : ℕ) (drafts : Drafts) → AreFineSoFar drafts → length (all_drafts drafts) < 64
+block_fine : (label : Option Name) (start : ℕ) (drafts : Drafts) → AreFineSoFar drafts → length (all_drafts drafts) < MOST_BLOCKS
     → AreFineSoFar (with_block label start drafts)
 block_fine label start drafts fine less =
     record {
@@ -49,11 +52,11 @@ block_fine label start drafts fine less =
     }
 
 -- an instruction goes into a block that has room
-issue_fine : (issue : Issue) (draft : Draft) → IsFine draft → length draft.issues < 256 → IsPlaced draft.start issue → IsFine (with_issue issue draft)
+issue_fine : (issue : Issue) (draft : Draft) → IsFine draft → length draft.issues < MOST_INSTRUCTIONS → IsPlaced draft.start issue → IsFine (with_issue issue draft)
 issue_fine issue draft fine less placed =
     record {
       few = omega (arith, length-append draft.issues (issue ∷ []));
-      placed = all_append (IsPlaced draft.start) draft.issues (issue ∷ []) fine.placed (placed, tt);
+      placed = all_more (IsPlaced draft.start) draft.issues (issue ∷ []) fine.placed (placed, tt);
     }
 
 add_fine : (issue : Issue) (start : ℕ) (done : List Draft) (current : Option Draft) → AreFineSoFar (record { done = done; current = current })
@@ -62,7 +65,7 @@ add_fine : (issue : Issue) (start : ℕ) (done : List Draft) (current : Option D
 add_fine issue start done None fine begins room placed = absurd cc
 add_fine issue start done (Some draft) fine begins room placed =
     let here : draft.start ≡ start = eqb-true draft.start start begins in
-    let less : length draft.issues < 256 = grind (arith, nat_tests) in
+    let less : length draft.issues < MOST_INSTRUCTIONS = grind (arith, nat_tests) in
     record {
       done = fine.done;
       current = issue_fine issue draft fine.current less (rw here placed);
@@ -72,7 +75,7 @@ add_fine issue start done (Some draft) fine begins room placed =
 -- ---- a line
 
 placed_at : (stand : Stand) (number : ℕ) (parts : Parts) (target : Option Name) → stand.start ≤ stand.cycle → is_some parts.unit ≡ true
-    → ltb (stand.start + 2048) (end_of parts stand.cycle) ≡ false → IsPlaced stand.start (issue_at stand number parts target)
+    → ltb (stand.start + MOST_CYCLES) (end_of parts stand.cycle) ≡ false → IsPlaced stand.start (issue_at stand number parts target)
 placed_at stand number parts target low unit late =
     let same : stand.start + (stand.cycle - stand.start) ≡ stand.cycle = omega arith in
     record { unit = unit; in_time = rw same (grind (arith, nat_tests)) }
@@ -80,7 +83,7 @@ placed_at stand number parts target low unit late =
 -- an instruction, where blocks may be begun or the open one has room
 opened_fine : (issue : Issue) (start : ℕ) (drafts : Drafts) → AreFineSoFar drafts → IsPlaced start issue
     → (begins_at start drafts.current ≡ true → is_full drafts.current ≡ false)
-    → (begins_at start drafts.current ≡ false → length (all_drafts drafts) < 64) → AreFineSoFar (add_issue issue (opened start drafts))
+    → (begins_at start drafts.current ≡ false → length (all_drafts drafts) < MOST_BLOCKS) → AreFineSoFar (add_issue issue (opened start drafts))
 opened_fine issue start drafts fine placed room less = elim (cases_Bool (begins_at start drafts.current)) [
   | inl begins ↦ rw begins (add_fine issue start drafts.done drafts.current fine begins (room begins) placed)
   | inr other ↦
@@ -91,7 +94,7 @@ opened_fine issue start drafts fine placed room less = elim (cases_Bool (begins_
 says_fine : (number : ℕ) (stand : Stand) (says : Says) (drafts : Drafts) → AreFineSoFar drafts → stand.start ≤ stand.cycle → HasUnit says
     → is_too_late stand says ≡ false
     → (is_instruction says ≡ true → begins_at stand.start drafts.current ≡ true → is_full drafts.current ≡ false)
-    → (is_instruction says ≡ true → begins_at stand.start drafts.current ≡ false → length (all_drafts drafts) < 64)
+    → (is_instruction says ≡ true → begins_at stand.start drafts.current ≡ false → length (all_drafts drafts) < MOST_BLOCKS)
     → AreFineSoFar (with_says number stand says drafts)
 says_fine number stand Nothing drafts fine low unit late room less = fine
 says_fine number stand (Pause n) drafts fine low unit late room less = fine
@@ -111,7 +114,7 @@ labelled_fine number stand beside None says drafts fine low unit late more block
     (λ instruction begins. grind (arith, nat_tests))
 labelled_fine number stand beside (Some label) says drafts fine low unit late more blocks labelled =
     let same = labelled refl in
-    let less : length (all_drafts drafts) < 64 = grind (arith, nat_tests) in
+    let less : length (all_drafts drafts) < MOST_BLOCKS = grind (arith, nat_tests) in
     says_fine number stand says (with_block (Some label) stand.cycle drafts) (block_fine (Some label) stand.cycle drafts fine less) low unit late
     (λ instruction begins. grind (arith, nat_tests)) (λ instruction begins. absurd (grind (arith, nat_tests)))
 

@@ -1,7 +1,6 @@
 -- What each line keeps of the blocks above it, the blocks have that are read of a text.
-use Rattle.std.proofs.Common.{◌≡◌, ◌+◌, ◌&&◌, refl, true, false, ltb, ℕ, Bool, List, ◌∷◌, ◌++◌, [], length, Option, Some, None, Ok, Err, cond, inl, inr}
+use Rattle.std.proofs.Common.{◌≡◌, ◌+◌, ◌&&◌, refl, true, false, ltb, ℕ, Bool, List, ◌∷◌, [], length, Option, Some, None, Ok, Err, cond, inl, inr}
 use Rattle.std.specs.Prelude.{Result, is_none}
-use Rattle.std.specs.List.{AllByRecursion}
 use Rattle.std.proofs.lemmas.Bool.{cases_Bool}
 use Rattle.c62_line.specs.declared.fault.Cause.TheVariants.{ParallelBar, DuplicateLabel, TooManyInstructions, TooManyBlocks}
 use Rattle.c62_read.specs.Text.{lines_of}
@@ -15,10 +14,6 @@ use Rattle.c62_adopt_cut.specs.Cut.{last_packet, stand_of}
 use Rattle.c62_adopt_cut.specs.Blocks.{Draft, Drafts, all_drafts, no_drafts, with_line}
 use Rattle.c62_adopt_cut.specs.Text.{Cut, and_line, begins_one_more, hindrance, is_one_more, is_taken, is_too_late, judged, read_below, read_cause, text_cut}
 use Rattle.c62_adopt_cut.specs.Text.{unless_hindered}
-
-pub all_append : {X : Type 0} (P : X → Type 0) (xs ys : List X) → AllByRecursion P xs → AllByRecursion P ys → AllByRecursion P (xs ++ ys)
-all_append P [] ys one other = other
-all_append P (x ∷ xs) ys one other = (one.0, all_append P xs ys one.1 other)
 
 -- ---- what stands against no line
 

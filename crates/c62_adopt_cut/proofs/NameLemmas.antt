@@ -22,7 +22,8 @@ use Rattle.c62_adopt_cut.specs.Cut.{stand_of}
 use Rattle.c62_adopt_cut.specs.Blocks.{Issue, Draft, Drafts, add_issue, all_drafts, begins_at, issue_at, new_draft, opened, with_issue, with_label, with_line, with_says}
 use Rattle.c62_adopt_cut.specs.Text.{is_taken}
 use Rattle.c62_adopt_cut.specs.Laws.{AreNamed, BlocksAreNamed, labels_given}
-use Rattle.c62_adopt_cut.proofs.KeptLemmas.{IsFree, all_append, text_kept}
+use Rattle.c62_adopt_cut.proofs.KeptLemmas.{IsFree, text_kept}
+use Rattle.c62_read.proofs.CutLemmas.{all_more}
 
 -- ---- labels
 
@@ -66,7 +67,7 @@ add_labelled : (issue : Issue) (done : List Draft) (draft : Draft) → AllByRecu
     → AreLabelled (labels_given (done ++ draft ∷ [])) (done ++ with_issue issue draft ∷ [])
 add_labelled issue done draft begun = record {
   same = last_given done (with_issue issue draft) ∙ sym (last_given done draft);
-  begun = all_append HasBegun done (with_issue issue draft ∷ []) begun (issue_begun issue draft, tt);
+  begun = all_more HasBegun done (with_issue issue draft ∷ []) begun (issue_begun issue draft, tt);
 }
 
 go_on_labelled : (issue : Issue) (start : ℕ) (done : List Draft) (current : Option Draft) → begins_at start current ≡ true
@@ -104,9 +105,9 @@ label_named (Some label) start drafts labelled free named =
     let last = last_given (all_drafts drafts) (new_draft (Some label) start) in
     record {
       labels =
-          rw last (all_append (λ (word : Name). IsTrue (is_label word)) (labels_given (all_drafts drafts)) (label ∷ []) named.labels (labelled, tt));
+          rw last (all_more (λ (word : Name). IsTrue (is_label word)) (labels_given (all_drafts drafts)) (label ∷ []) named.labels (labelled, tt));
       distinct = rw last (distinct_more (all_drafts drafts) label named.distinct free);
-      begun = all_append HasBegun (all_drafts drafts) (new_draft (Some label) start ∷ []) named.begun ((λ none. absurd cc), tt);
+      begun = all_more HasBegun (all_drafts drafts) (new_draft (Some label) start ∷ []) named.begun ((λ none. absurd cc), tt);
     }
 
 says_named : (number : ℕ) (stand : Stand) (says : Says) (drafts : Drafts) → AreNamed (all_drafts drafts)

@@ -16,8 +16,9 @@ use Rattle.c62_adopt_cut.specs.declared.clock.Stand.{Stand}
 use Rattle.c62_adopt_cut.specs.Cut.{is_filled, stand_of}
 use Rattle.c62_adopt_cut.specs.Blocks.{Issue, Draft, Drafts, add_issue, all_drafts, begins_at, issue_at, new_draft, opened, with_block, with_issue, with_label, with_line, with_says}
 use Rattle.c62_adopt_cut.specs.Laws.{BlocksAreInOrder, IsInOrder}
-use Rattle.c62_adopt_cut.proofs.KeptLemmas.{IsFree, all_append, text_kept}
+use Rattle.c62_adopt_cut.proofs.KeptLemmas.{IsFree, text_kept}
 use Rattle.c62_adopt_cut.proofs.StandLemmas.{latest, latest_rises, stand_late, stand_latest, stand_low}
+use Rattle.c62_read.proofs.CutLemmas.{all_more}
 
 -- ---- a block
 
@@ -62,9 +63,9 @@ issue_to line cycle issue draft is lower behind =
         cycles =
             one_further (λ other. other.cycle) issue.cycle draft.issues issue is.order.cycles (by_start draft.issues here.cycles) (omega arith);
       };
-      lines = all_append (λ other. other.line ≤ issue.line) draft.issues (issue ∷ []) here.lines (omega arith, tt);
+      lines = all_more (λ other. other.line ≤ issue.line) draft.issues (issue ∷ []) here.lines (omega arith, tt);
       cycles =
-          all_append (λ other. draft.start + other.cycle ≤ draft.start + issue.cycle) draft.issues (issue ∷ []) here.cycles (omega arith, tt);
+          all_more (λ other. draft.start + other.cycle ≤ draft.start + issue.cycle) draft.issues (issue ∷ []) here.cycles (omega arith, tt);
     }
   where
     by_start : (issues : List Issue) → AllByRecursion (λ other. draft.start + other.cycle ≤ draft.start + issue.cycle) issues
@@ -85,7 +86,7 @@ current_order line cycle (Some draft) is = (is.order, tt)
 
 all_order : (line cycle : ℕ) (drafts : Drafts) → AreInOrderTo line cycle drafts → AllByRecursion IsInOrder (all_drafts drafts)
 all_order line cycle drafts are =
-    all_append IsInOrder drafts.done (option_to_list drafts.current) are.done (current_order line cycle drafts.current are.current)
+    all_more IsInOrder drafts.done (option_to_list drafts.current) are.done (current_order line cycle drafts.current are.current)
 
 current_up_to : (line more cycle later : ℕ) (current : Option Draft) → line ≤ more → cycle ≤ later → IfSome current (IsInOrderTo line cycle)
     → IfSome current (IsInOrderTo more later)

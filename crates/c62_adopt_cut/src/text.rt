@@ -7,7 +7,6 @@ ghost use Rattle.c62_line.specs.Line.{said_of, parts_of};
 ghost use Rattle.c62_read.specs.Program.{label_is};
 ghost use Rattle.c62_read.specs.Walk.{is_instruction};
 ghost use Rattle.c62_read.specs.Text.{lines_of};
-ghost use Rattle.c62_read.specs.Reading.{IsFirstLine};
 ghost use Rattle.c62_adopt_line.specs.Line.{Line, line_written};
 ghost use Rattle.c62_adopt_cut.specs.Cut.{stand_of};
 ghost use Rattle.c62_adopt_cut.specs.Clock.{IsClockOf, HasClock};
@@ -20,8 +19,7 @@ use c62_adopt_line::{LineFault, Written, read_line};
 use c62_insn::Insn;
 use c62_line::{Cause, Label, What};
 use c62_packet::MOST_CYCLES;
-use c62_read::{MOST_BLOCKS, MOST_INSTRUCTIONS, without_return};
-use memchr::memchr;
+use c62_read::{MOST_BLOCKS, MOST_INSTRUCTIONS, first_line, label_is};
 use std::alloc::{AllocError, Global};
 
 /// The most bytes that a text of packets may have.
@@ -49,15 +47,6 @@ ghost use Rattle.c62_adopt_cut.specs.Text.{is_taken, end_of, ends_behind, is_too
 ghost use Rattle.c62_adopt_cut.specs.Added.{TellsCause, TellsOfWritten, TellsOfLine};
 ghost use Rattle.c62_adopt_cut.specs.Blocks.{no_drafts, all_drafts};
 ghost use Rattle.c62_adopt_cut.specs.Drafted.{refusal_of, cut_of};
-
-fn label_is(label: &[u8], other: &Option<Label>) -> bool
-    ensures { result ≡ label_is label.now other.now }
-{
-    match other {
-        Some(other) => other.as_bytes() == label,
-        None => false,
-    }
-}
 
 pub(crate) fn is_given(label: &[u8], drafts: &[Draft]) -> bool
     ensures { result ≡ list_any (λ draft. label_is label.now draft.label) drafts.now }
@@ -265,20 +254,6 @@ impl Reader {
             drafts: self.drafts.ended()?,
             fault,
         })
-    }
-}
-
-/// The first line of a text, without its end, and the text after it.
-fn first_line(text: &[u8]) -> Option<(&[u8], &[u8])>
-    ensures found { IsFirstLine result (lines_of text.now) }
-    ensures shorter { IfSome result (λ found. length found.1.now < length text.now) }
-{
-    if text.is_empty() {
-        return None;
-    }
-    match memchr(b'\n', text) {
-        Some(end) => Some((without_return(&text[..end]), &text[end + 1..])),
-        None => Some((text, &[])),
     }
 }
 

@@ -1,16 +1,14 @@
 -- The lines of a listing read as themselves.
 use Rattle.c62_adopt_line.proofs.Common.{◌≡◌, ℕ, ◌≤◌, ◌<◌, true, false, Bool, cond, not, eqb, ◌&&◌, ◌||◌, List, [], ◌∷◌, ◌++◌, Option, Some, None, refl, sym, ap, ◌∙◌, arith}
 use Rattle.c62_adopt_line.proofs.Common.{nat_tests, cases_Bool, inl, inr, Word, spells, tokens, begins, is_blank, is_word_byte, grow, length, codes, subst, append_assoc, ℤ, pos, negsuc}
-use Rattle.std.proofs.Common.{Ok, Err, ◌^◌, rules, suc, length-append, ltb, Result}
+use Rattle.std.proofs.Common.{Ok, Err, ◌^◌, suc, length-append, ltb, Result}
 use Rattle.std.specs.Prelude.{is_some, replicate}
 use Rattle.std.specs.Char.{is_ascii_digit}
 use Rattle.std.specs.Fmt.{decimal, digits, signed_decimal}
 use Rattle.std.specs.List.{list_all, list_any}
-use Rattle.std.specs.Str.Parse.{digits_value}
 use Rattle.std.proofs.lemmas.Bool.{agree_below_at, and_from, and_parts, both_ways, cond_both, eqb-true, not-true}
 use Rattle.std.proofs.lemmas.Fmt.{digits_decimal}
 use Rattle.std.proofs.lemmas.List.Folds.{list_all-append, list_any-append}
-use Rattle.std.proofs.lemmas.Str.Parse.{IsNumeralModel, numerals_by_value}
 use Rattle.c62_op.specs.declared.register.Side.{Side}
 use Rattle.c62_op.specs.declared.register.Side.TheVariants.{A, B}
 use Rattle.c62_op.specs.declared.register.Letter.{Letter}
@@ -50,6 +48,8 @@ use Rattle.c62_line.specs.Laws.{NamesTarget, parts_on, says_on, says_with}
 use Rattle.c62_line.proofs.SpelledLine.{spelled_back}
 use Rattle.c62_line.proofs.WrittenLines.{label_back, pause_back}
 use Rattle.c62_line.proofs.SpelledOperands.{label_parts}
+use Rattle.c62_token.proofs.SpelledNumbers.{own}
+use Rattle.c62_line.specs.declared.limits.TheConstants.{MOST_LINE}
 
 -- ---- bytes that are neither a dot nor a colon nor a round bracket
 
@@ -76,9 +76,6 @@ file_words B n small = agree_below_at (λ (k : ℕ). list_all is_word_byte (file
 
 register_plain : (reg : Reg) → ArePlain (register_name reg)
 register_plain reg = word_plain (register_name reg) (file_words reg.side reg.number reg.in_range)
-
-own : IsNumeralModel (λ ds. list_all is_ascii_digit ds ≡ true) (digits_value 10)
-own = numerals_by_value _ (search rules)
 
 digits_plain : (n : ℕ) → n < 2 ^ 64 → ArePlain (decimal n)
 digits_plain n small =
@@ -392,7 +389,7 @@ spelled_short name insn unit taking names =
     let plain = spelled_plain hundred name insn unit refl taking names in
     let read = spelled_back name insn unit hundred taking names refl (omega arith) in
     let short = (line_steps line (says_on name insn unit) plain.no_colon read).is_short in
-    let few : length line ≤ 255 = grind (arith, nat_tests) in
+    let few : length line ≤ MOST_LINE = grind (arith, nat_tests) in
     omega (arith, length-append hundred (spelling name insn unit))
 
 pub instruction_reads : (name : ℕ → Word) (insn : Insn) (unit : FunctionalUnit) → InstructionReads name insn unit
@@ -459,10 +456,10 @@ head_by true false false true rest label is = absurd cc
 head_by true false false false rest label is = record { all_allowed = refl; is_short = refl; no_comment = refl; no_bar = refl }
 
 label_head : (line : List ℕ) (label : Word) → line_of line ≡ Ok (Some label, Nothing)
-    → HasHead (list_all is_allowed line) (ltb 255 (length line)) (begins is_star line) (is_bars (tokens line))
+    → HasHead (list_all is_allowed line) (ltb MOST_LINE (length line)) (begins is_star line) (is_bars (tokens line))
 unfolding line_of head_of
 label_head line label is =
-    head_by (list_all is_allowed line) (ltb 255 (length line)) (begins is_star line) (is_bars (tokens line)) (without_colon (label_front (tokens line))) label is
+    head_by (list_all is_allowed line) (ltb MOST_LINE (length line)) (begins is_star line) (is_bars (tokens line)) (without_colon (label_front (tokens line))) label is
 
 nothing_behind : (text : List ℕ) → list_any (λ b. eqb b 58) text ≡ false → behind_colon (text ++ codes ":") ≡ []
 nothing_behind [] none = refl

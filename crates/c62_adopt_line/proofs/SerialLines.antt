@@ -18,6 +18,7 @@ use Rattle.c62_adopt_line.specs.Plain.{in_accesses, operands_behind, plain_words
 use Rattle.c62_adopt_line.specs.Line.{behind_bars, from_solid, has_colon, instruction_says, line_said, line_says, statement_says, with_unit, words_say}
 use Rattle.c62_adopt_line.specs.Laws.{HasUnit, IsPlain, ReadsAsSerial, has_one_dot, has_return}
 use Rattle.c62_adopt_line.proofs.Labels.{no_colon_no_label}
+use Rattle.c62_line.specs.declared.limits.TheConstants.{MOST_LINE}
 
 -- ---- dots
 
@@ -105,10 +106,10 @@ steps_of true false false false line says is =
     record { all_allowed = refl; is_short = refl; rest = λ other. (refl, with_rest_is (rest_says (tokens line)) says is); comment = λ here. absurd cc }
 
 pub line_steps : (line : List ℕ) (says : Says) → list_any (λ b. eqb b 58) line ≡ false → line_of line ≡ Ok (None, says)
-    → HasSteps (list_all is_allowed line) (ltb 255 (length line)) (begins is_star line) (is_bars (tokens line)) line says
+    → HasSteps (list_all is_allowed line) (ltb MOST_LINE (length line)) (begins is_star line) (is_bars (tokens line)) line says
 unfolding line_of head_of
 line_steps line says none is =
-    steps_of (list_all is_allowed line) (ltb 255 (length line)) (begins is_star line) (is_bars (tokens line)) line says (rw (head_is line none) at is)
+    steps_of (list_all is_allowed line) (ltb MOST_LINE (length line)) (begins is_star line) (is_bars (tokens line)) line says (rw (head_is line none) at is)
 
 -- ---- bars
 
@@ -203,7 +204,7 @@ beside_same line plain says is unit filled short =
     let steps = line_steps line says plain.no_colon is in
     let no_star : begins is_star line ≡ false = not_star (begins is_star line) (λ star. filled (steps.comment star)) in
     let rest = steps.rest no_star in
-    let few : ltb 255 (length (124 ∷ 124 ∷ line)) ≡ false = grind (arith, nat_tests) in
+    let few : ltb MOST_LINE (length (124 ∷ 124 ∷ line)) ≡ false = grind (arith, nat_tests) in
     rw (steps.all_allowed, few, statement_same line true says plain rest.1 unit (λ beside. filled)) refl
 
 pub reads_as_serial : (line : List ℕ) → IsPlain line → ReadsAsSerial line

@@ -21,6 +21,7 @@ use Rattle.c62_adopt_line.specs.Line.{Line, behind_bars, behind_colon, has_colon
 use Rattle.c62_adopt_line.specs.Line.{statement_says, with_bars, with_front, with_label, with_unit, words_say}
 use Rattle.c62_adopt_line.specs.Laws.{HasTarget, HasUnit, IsWhole, names_block}
 use Rattle.c62_adopt_line.proofs.Labels.{field_has_label}
+use Rattle.c62_line.specs.declared.limits.TheConstants.{MOST_LINE}
 
 some_unit : {X : Type 0} (unit : Option X) → is_none unit ≡ false → is_some unit ≡ true
 some_unit None none = absurd cc
@@ -153,5 +154,5 @@ steps_whole true false false rest line whole is = whole line is
 pub line_whole : (bytes : List ℕ) (line : Line) → line_says bytes ≡ Ok line → IsWhole line
 unfolding line_says
 line_whole bytes line is =
-    steps_whole (list_all is_allowed bytes) (ltb 255 (length bytes)) (begins is_star bytes) (with_bars bytes (behind_bars bytes)) line
+    steps_whole (list_all is_allowed bytes) (ltb MOST_LINE (length bytes)) (begins is_star bytes) (with_bars bytes (behind_bars bytes)) line
     (bars_whole bytes (behind_bars bytes)) is

@@ -13,6 +13,7 @@ use Rattle.c62_adopt_line.specs.declared.fault.LineFault.TheVariants.{Read, Unit
 use Rattle.c62_adopt_line.specs.declared.line.Written.{Written}
 use Rattle.c62_adopt_line.specs.Directive.{lays_nothing}
 use Rattle.c62_adopt_line.specs.Plain.{plain_words, undotted}
+use Rattle.c62_line.specs.declared.limits.TheConstants.{MOST_LINE}
 
 -- whether bars stand first, the label, and what stands behind these
 pub record Line : Type 0 where
@@ -91,7 +92,7 @@ with_bars line None = with_label line (label_field (undotted true line))
 unfoldable pub line_says : List ℕ → Result Line LineFault
 line_says line =
     if not (list_all is_allowed line) then Err (Read NotAscii)
-    else (if nat_lt 255 (length line) then Err (Read LineTooLong)
+    else (if nat_lt MOST_LINE (length line) then Err (Read LineTooLong)
     else (if begins is_star line then Ok (line_said false None Nothing)
     else with_bars line (behind_bars line)))
 

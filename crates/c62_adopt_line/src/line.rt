@@ -1,5 +1,6 @@
 //! What a line of packets says, and its first fault.
 
+ghost use Rattle.c62_line.specs.declared.limits.TheConstants.{MOST_LINE};
 ghost use Rattle.std.specs.Prelude.{◌≡◌, ◌≤◌, length, true, Ok, MatchResult, IfSome};
 ghost use Rattle.std.specs.Option.{option_copied};
 ghost use Rattle.c62_token.specs.Token.{words_left, tokens};
@@ -10,7 +11,7 @@ ghost use Rattle.c62_adopt_line.specs.Line.{line_written, lacks_unit, has_colon,
 use crate::directive::lays_nothing;
 use crate::fault::LineFault;
 use crate::plain::{push_plain, undotted};
-use c62_line::{Cause, Label, What, label_field, owned_label, read_rest};
+use c62_line::{Cause, Label, MOST_LINE, What, label_field, owned_label, read_rest};
 use c62_token::{Tokens, begins_with, scan_line};
 
 /// What a line says.
@@ -62,7 +63,7 @@ fn has_colon(bytes: &[u8]) -> bool
 
 #[tactic(auto, unfolding(crate::specs::Line::instruction_says))]
 fn read_instruction(text: &mut Vec<u8>, bytes: &[u8]) -> Result<What, LineFault>
-    requires { length bytes.now ≤ 255 }
+    requires { length bytes.now ≤ MOST_LINE }
     ensures { MatchResult result (λ what. instruction_says bytes.now ≡ Ok (said_of what))
         (λ fault. Fails fault (instruction_says bytes.now)) }
 {
@@ -86,7 +87,7 @@ fn read_directive(beside: bool, words: Tokens<'_>) -> Result<What, LineFault>
 /// What stands behind the bars, or behind the label where there is one.
 #[tactic(auto, unfolding(crate::specs::Line::statement_says))]
 fn read_statement(text: &mut Vec<u8>, beside: bool, bytes: &[u8]) -> Result<What, LineFault>
-    requires { length bytes.now ≤ 255 }
+    requires { length bytes.now ≤ MOST_LINE }
     ensures { MatchResult result (λ what. statement_says beside bytes.now ≡ Ok (said_of what))
         (λ fault. Fails fault (statement_says beside bytes.now)) }
 {
@@ -153,7 +154,7 @@ fn read_labelled(
     line: &[u8],
     label: Option<Label>,
 ) -> Result<Written, LineFault>
-    requires { length line.now ≤ 255 }
+    requires { length line.now ≤ MOST_LINE }
     ensures { MatchResult result (λ written. with_label line.now label ≡ Ok (line_written written))
         (λ fault. Fails fault (with_label line.now label)) }
 {
@@ -171,7 +172,7 @@ fn read_labelled(
 /// The label of a line, with `_` in place of dots.
 #[tactic(auto, using(crate::proofs::Labels::field_is_label, crate::proofs::Labels::no_colon_no_label))]
 fn label_of(line: &[u8]) -> Option<Label>
-    requires { length line.now ≤ 255 }
+    requires { length line.now ≤ MOST_LINE }
     ensures { result ≡ label_field (undotted true line.now) }
 {
     if !scan_line(line).colon {
@@ -182,7 +183,7 @@ fn label_of(line: &[u8]) -> Option<Label>
 
 /// What a line says that is no comment.
 fn read_fronted(text: &mut Vec<u8>, line: &[u8]) -> Result<Written, LineFault>
-    requires { length line.now ≤ 255 }
+    requires { length line.now ≤ MOST_LINE }
     ensures { MatchResult result (λ written. with_bars line.now (behind_bars line.now) ≡ Ok (line_written written))
         (λ fault. Fails fault (with_bars line.now (behind_bars line.now))) }
 {
@@ -213,7 +214,7 @@ pub fn read_line(text: &mut Vec<u8>, line: &[u8]) -> Result<Written, LineFault>
     if !scan_line(line).allowed {
         return Err(LineFault::Read(Cause::NotAscii));
     }
-    if line.len() > 255 {
+    if line.len() > MOST_LINE {
         return Err(LineFault::Read(Cause::LineTooLong));
     }
     if begins_with(b'*', line) {

@@ -1,5 +1,6 @@
 //! The line of serial text that stands for a line of packets.
 
+ghost use Rattle.c62_line.specs.declared.limits.TheConstants.{MOST_LINE};
 ghost use Rattle.std.specs.Prelude.{◌≡◌, ◌<◌, ◌≤◌, ◌++◌, [], ◌∷◌, length, Some, None, MatchOption, OnOk, IfOk};
 ghost use Rattle.std.specs.Fmt.{signed_decimal};
 ghost use Rattle.c62_token.specs.Token.{begins, words_left};
@@ -8,6 +9,7 @@ ghost use Rattle.c62_line.specs.Mnemonic.{operation_named};
 ghost use Rattle.c62_adopt_line.specs.Plain.{undotted, moved_by, bytes_named, accesses_in, between_brackets, square, counted, in_accesses, operands_behind, renamed, plain_words, spaced, FindsRound, PushesNext};
 
 use arrayvec::ArrayVec;
+use c62_line::MOST_LINE;
 use c62_op::Op;
 use c62_token::number::{number, spells};
 use c62_token::{Tokens, begins_with, is_mark};
@@ -15,8 +17,8 @@ use itoa::Buffer;
 use std::alloc::AllocError;
 
 /// The line with `_` in place of the dots of names: of all, or where a unit's is yet to come, of all but the first.
-pub(crate) fn undotted(behind: bool, line: &[u8]) -> ArrayVec<u8, 255>
-    requires { length line.now ≤ 255 }
+pub(crate) fn undotted(behind: bool, line: &[u8]) -> ArrayVec<u8, MOST_LINE>
+    requires { length line.now ≤ MOST_LINE }
     ensures { result.items ≡ undotted behind line.now }
 {
     let mut names = behind;

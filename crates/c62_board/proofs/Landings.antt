@@ -2,39 +2,16 @@
 use Rattle.std.proofs.Common.{arith, ◌≡◌, ℕ, suc, ◌+◌, ◌*◌, ◌<◌, ◌≤◌, List, [], ◌∷◌, length, Option, Some, None, refl, ap}
 use Rattle.std.specs.Prelude.{slice_get, find, All}
 use Rattle.std.specs.Option.{option_map_or}
-use Rattle.std.proofs.lemmas.List.Elements.{All-head, All-tail, All-weaker}
-use Rattle.c62_op.specs.declared.register.Reg.{Reg}
 use Rattle.c62_insn.specs.declared.insn.Insn.{Insn}
-use Rattle.c62_op.specs.Shape.{delay_of}
-use Rattle.c62_insn.specs.Insn.{op_of, register_writes, greatest_delay}
 use Rattle.c62_rules.specs.PacketRules.{Issue, Issues, IsIssued, issued}
 use Rattle.c62_rules.specs.Length.{landing_end, last_landing_end}
-use Rattle.c62_insn.proofs.InsnLemmas.{timely_writes}
+use Rattle.c62_insn.proofs.InsnLemmas.{delay_within, delay_short}
 use Rattle.c62_depend.specs.Plan.{IsPlan}
 use Rattle.c62_sheet.specs.declared.entry.Spot.{Spot}
 use Rattle.c62_sheet.specs.Lawful.{Spots, IsAt, issue_at, issues, IsLawful}
 use Rattle.c62_sheet.specs.Counts.{set_length}
 use Rattle.c62_sheet.proofs.IssuesOf.{issued-placement}
 use Rattle.c62_sheet.proofs.Landings.{branches, found_branch, delay_ends}
-
--- ---- what an instruction writes
-
-greatest_at_most : (writes : List (Reg × ℕ)) (n : ℕ) → All (λ w. w.1 ≤ n) writes → greatest_delay writes ≤ n
-greatest_at_most [] n all = omega arith
-greatest_at_most (w ∷ writes) n all =
-    let first : w.1 ≤ n = All-head (λ v. v.1 ≤ n) w writes all in
-    let rest : greatest_delay writes ≤ n = greatest_at_most writes n (All-tail (λ v. v.1 ≤ n) w writes all) in
-    omega (arith, first, rest)
-
-pub delay_within : (insn : Insn) → greatest_delay (register_writes insn) ≤ delay_of (op_of insn)
-delay_within insn =
-    greatest_at_most (register_writes insn) (delay_of (op_of insn))
-    (All-weaker (λ w. (w.1 ≤ 4) × (w.1 ≤ delay_of (op_of insn))) (λ w. w.1 ≤ delay_of (op_of insn)) (λ w h. h.1) (register_writes insn) (timely_writes insn))
-
-pub delay_short : (insn : Insn) → greatest_delay (register_writes insn) ≤ 4
-delay_short insn =
-    greatest_at_most (register_writes insn) 4
-    (All-weaker (λ w. (w.1 ≤ 4) × (w.1 ≤ delay_of (op_of insn))) (λ w. w.1 ≤ 4) (λ w h. h.0) (register_writes insn) (timely_writes insn))
 
 -- ---- what is issued
 

@@ -19,7 +19,8 @@ use Rattle.c62_sheet.proofs.Search.{least_unique}
 use Rattle.c62_sheet.proofs.Victims.{at_in, one_early}
 use Rattle.c62_board.proofs.Placements.{lawful_placed}
 use Rattle.c62_board.proofs.Parts.{IsPart, rules_part}
-use Rattle.c62_board.proofs.Withdrawals.{not_there, spot_at-withdrawn_other, kept_below, left_below, gone_below}
+use Rattle.c62_board.proofs.Withdrawals.{not_there, kept_below, left_below, gone_below}
+use Rattle.c62_sheet.proofs.Sets.{spot_at-withdrawn_other}
 
 -- nothing is ejected where the least spot is as early as it can be
 pub not_late : (block : List Insn) (set : Spots) (budget i early q : ℕ) (s : Spot) → IsLeast block set i s → IsEarly block set i early → s.cycle ≤ early

@@ -16,6 +16,7 @@ use Rattle.c62_sheet.proofs.Optional.{value_of_some, some_is}
 use Rattle.c62_board.proofs.Journals.{replayed_more, legal_more, lawful_after}
 use Rattle.c62_sheet.proofs.Chains.{before}
 use Rattle.c62_sheet.proofs.Victims.{at_in}
+use Rattle.c62_sheet.proofs.Sets.{spot_at-withdrawn_other}
 
 -- there is one list of withdrawals
 pub one_below : (block : List Insn) (set : Spots) (i : ℕ) (who : Who) (n : ℕ) (xs ys : List Entry)
@@ -40,9 +41,6 @@ pub record IsTakingOut (block : List Insn) (old : Spots) (i : ℕ) (who : Who) (
 pub not_there : {A : Type 0} (o : Option A) → ((x : A) → o ≡ Some x → ⊥) → o ≡ None
 not_there None h = refl
 not_there (Some x) h = absurd (h x refl)
-
-pub spot_at-withdrawn_other : (set : Spots) (i k : ℕ) → k ≢ i → spot_at (withdrawn set i) k ≡ spot_at set k
-spot_at-withdrawn_other set i k ne = get_or-set_other set i k None None ne
 
 pub spot_at-withdrawn_same : (set : Spots) (i : ℕ) → spot_at (withdrawn set i) i ≡ None
 spot_at-withdrawn_same set i = elim (cases_lt i (length set)) [

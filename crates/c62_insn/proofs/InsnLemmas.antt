@@ -1,8 +1,8 @@
 -- What holds of every instruction: the units that take it, its reads and its writes.
-use Rattle.std.proofs.Common.{◌≡◌, ◌≢◌, ℕ, zero, suc, ◌≤◌, arith, Bool, true, false, refl, [], ◌∷◌, ◌++◌, length, Option, Some, None, ◌⊎◌}
+use Rattle.std.proofs.Common.{◌≡◌, ◌≢◌, ℕ, zero, suc, ◌≤◌, arith, Bool, true, false, refl, List, [], ◌∷◌, ◌++◌, length, Option, Some, None, ◌⊎◌}
 use Rattle.std.specs.Prelude.{if◌then◌else◌, slice_get, Contains, All, IsTrue}
 use Rattle.std.proofs.lemmas.Bool.{and_parts, both_ways, cond_both, or_parts, or_from, not_from_true}
-use Rattle.std.proofs.lemmas.List.Elements.{All-nil, All-cons, All-append, All-contains}
+use Rattle.std.proofs.lemmas.List.Elements.{All-nil, All-cons, All-head, All-tail, All-weaker, All-append, All-contains}
 use Rattle.std.proofs.lemmas.List.Sums.{count_by-le-length}
 use Rattle.c62_op.specs.declared.register.Side.{Side}
 use Rattle.c62_op.specs.declared.register.Reg.{Reg}
@@ -19,7 +19,7 @@ use Rattle.c62_op.specs.Takes.{takes, same_reg, is_written}
 use Rattle.c62_insn.specs.Fault.{form_fault, bad_condition, constant_out_of_range, two_crossed, has_misplaced, is_other_side, bad_side, no_unit}
 use Rattle.c62_op.specs.Shape.{side_of, delay_of, is_load, is_store, reads_destination, changes_base, offset_reads, reads_of, writes_of}
 use Rattle.c62_insn.specs.Stands.{may_stand}
-use Rattle.c62_insn.specs.Insn.{op_of, operands_of, cond_of, unit_of, operand_reads, register_writes, reads_count}
+use Rattle.c62_insn.specs.Insn.{op_of, operands_of, cond_of, unit_of, operand_reads, register_writes, reads_count, greatest_delay}
 use Rattle.c62_insn.proofs.FaultLemmas.{faultless, some_unit}
 use Rattle.c62_op.proofs.Registers.{same_side-refl}
 use Rattle.c62_op.proofs.SideLemmas.{takes_on_side}
@@ -197,3 +197,23 @@ reads_at_most_three insn = few_reads (op_of insn) (operands_of insn)
 pub reads_count_at_most_three : (reg : Reg) (insn : Insn) → reads_count reg insn ≤ 3
 reads_count_at_most_three reg insn =
     omega (arith, count_by-le-length (λ read. same_reg read reg) (operand_reads insn), reads_at_most_three insn)
+
+-- ---- how long the writes of an instruction take
+
+greatest_at_most : (writes : List (Reg × ℕ)) (n : ℕ) → All (λ w. w.1 ≤ n) writes → greatest_delay writes ≤ n
+greatest_at_most [] n all = omega arith
+greatest_at_most (w ∷ writes) n all =
+    let first : w.1 ≤ n = All-head (λ v. v.1 ≤ n) w writes all in
+    let rest : greatest_delay writes ≤ n = greatest_at_most writes n (All-tail (λ v. v.1 ≤ n) w writes all) in
+    omega (arith, first, rest)
+
+pub delay_within : (insn : Insn) → greatest_delay (register_writes insn) ≤ delay_of (op_of insn)
+delay_within insn =
+    greatest_at_most (register_writes insn) (delay_of (op_of insn))
+    (All-weaker (λ w. (w.1 ≤ 4) × (w.1 ≤ delay_of (op_of insn))) (λ w. w.1 ≤ delay_of (op_of insn)) (λ w h. h.1) (register_writes insn)
+    (timely_writes insn))
+
+pub delay_short : (insn : Insn) → greatest_delay (register_writes insn) ≤ 4
+delay_short insn =
+    greatest_at_most (register_writes insn) 4
+    (All-weaker (λ w. (w.1 ≤ 4) × (w.1 ≤ delay_of (op_of insn))) (λ w. w.1 ≤ 4) (λ w h. h.0) (register_writes insn) (timely_writes insn))

@@ -53,7 +53,7 @@ fn is_written(written: Option<Unit>, unit: Unit) -> bool
 
 impl Insn {
     ghost use Rattle.std.specs.Prelude.{ℕ, true, false, ◌==◌, length, is_some, [], if◌then◌else◌};
-    ghost use Rattle.c62_insn.specs.Insn.{op_of, operands_of, cond_of, unit_of, register_writes, greatest_delay, aimed_operands, HasParts};
+    ghost use Rattle.c62_insn.specs.Insn.{op_of, operands_of, cond_of, unit_of, register_writes, greatest_delay, aimed_operands, HasParts, IsSameInsn};
     ghost use Rattle.c62_op.specs.Takes.{takes};
     ghost use Rattle.c62_insn.specs.Stands.{may_stand};
     ghost use Rattle.c62_insn.specs.UnitSet.{unit_in};
@@ -128,10 +128,16 @@ impl Insn {
     pub fn same(&self, other: &Insn) -> bool
         ensures { IsTrue result ↔ (self.now ≡ other.now) }
     {
+        self.same_but_for_the_unit(other) && is_same_unit(self.unit, other.unit)
+    }
+
+    /// Whether both are the same instruction, whichever unit is written.
+    pub fn same_but_for_the_unit(&self, other: &Insn) -> bool
+        ensures { IsTrue result ↔ IsSameInsn self.now other.now }
+    {
         self.op.is_same(other.op)
             && self.operands.is_same(&other.operands)
             && is_same_condition(self.cond, other.cond)
-            && is_same_unit(self.unit, other.unit)
     }
 
     /// Whether a source lies on the side other than `unit`'s, and so comes to it over the cross path

@@ -3,6 +3,7 @@ use Rattle.c62_line.proofs.Common.{◌≡◌, ℕ, true, false, eqb, List, [], �
 use Rattle.c62_line.proofs.Common.{tokens, has_colon, ◌≤◌, length, Option, None, Ok, list_all, le-ltb, begins, is_allowed, Word, Says}
 use Rattle.c62_line.proofs.Common.{is_bars, is_star}
 use Rattle.c62_token.proofs.TokenLemmas.{either, on_test}
+use Rattle.c62_line.specs.declared.limits.TheConstants.{MOST_LINE}
 use Rattle.c62_line.specs.Line.{head_of, label_front, line_of, rest_says, label_field}
 use Rattle.c62_token.proofs.SpelledTokens.{is_text}
 
@@ -34,11 +35,11 @@ unfolding label_front
 no_label words none = grind arith
 
 -- the head of a line without a label
-pub head_plain : (line : List ℕ) → list_all is_allowed line ≡ true → length line ≤ 255 → begins is_star line ≡ false → is_bars (tokens line) ≡ false
+pub head_plain : (line : List ℕ) → list_all is_allowed line ≡ true → length line ≤ MOST_LINE → begins is_star line ≡ false → is_bars (tokens line) ≡ false
     → has_colon (tokens line) ≡ false → head_of line ≡ Ok (None, tokens line)
 unfolding head_of
 head_plain line allowed short no_star no_bars none =
-    rw (allowed, le-ltb 255 (length line) short, no_star, no_bars, no_label (tokens line) none, none) refl
+    rw (allowed, le-ltb MOST_LINE (length line) short, no_star, no_bars, no_label (tokens line) none, none) refl
 
 pub line_by_head : (line : List ℕ) (label : Option Word) (words : List Word) (says : Says) → head_of line ≡ Ok (label, words)
     → rest_says words ≡ Ok says → line_of line ≡ Ok (label, says)

@@ -4,6 +4,7 @@ use Rattle.c62_line.proofs.Common.{false, length-append, pos, codes, decimal, li
 use Rattle.c62_line.proofs.Common.{is_allowed, Word, Nothing, Pause}
 use Rattle.c62_token.specs.declared.kind.Kind.TheVariants.{Name}
 use Rattle.c62_token.specs.Number.{is_label}
+use Rattle.c62_line.specs.declared.limits.TheConstants.{MOST_LINE}
 use Rattle.c62_line.specs.Mnemonic.{mnemonic_named, operation_named, pseudo_named}
 use Rattle.c62_line.specs.Unit.{unit_front}
 use Rattle.c62_line.specs.Line.{behind_unit, condition_front, condition_of, head_of, instruction_of, label_front, pause_of, rest_says, label_field}
@@ -39,8 +40,8 @@ label_head label is =
     let spelled = label_piece label is in
     let plain = word_plain label (label_some label is) (label_parts label is).1 in
     let allowed : list_all is_allowed (label ++ 58 ∷ []) ≡ true = rw (list_all-append, allowed_text label spelled.plain) refl in
-    let short : length (label ++ 58 ∷ []) ≤ 255 = omega (arith, spelled.short, length-append label (58 ∷ [])) in
-    let few = le-ltb 255 (length (label ++ 58 ∷ [])) short in
+    let short : length (label ++ 58 ∷ []) ≤ MOST_LINE = omega (arith, spelled.short, length-append label (58 ∷ [])) in
+    let few = le-ltb MOST_LINE (length (label ++ 58 ∷ [])) short in
     rw (allowed, few, plain.star (58 ∷ []), spelled.splits (58 ∷ []) refl, plain.bars (codes ":" ∷ []), is) refl
 
 pub label_back : (label : Word) → LabelReadsBack label

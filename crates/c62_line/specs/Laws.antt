@@ -16,6 +16,7 @@ use Rattle.c62_op.specs.Takes.{takes}
 use Rattle.c62_token.specs.Token.{is_allowed, is_blank}
 use Rattle.c62_token.specs.Number.{is_label}
 use Rattle.c62_token.specs.Kind.{Word}
+use Rattle.c62_line.specs.declared.limits.TheConstants.{MOST_LINE}
 use Rattle.c62_line.specs.Mnemonic.{exchanged}
 use Rattle.c62_line.specs.Line.{Parts, Says, Nothing, Pause, Does, Jumps, line_of, label_field}
 use Rattle.c62_line.specs.declared.fault.Cause.{Cause}
@@ -57,7 +58,7 @@ LabelReadsBack label =
 
 -- a line that may be read by itself: no byte that isn't allowed, and not too long
 abbrev pub IsReadable : List ℕ → Type 0
-IsReadable line = IsTrue (list_all is_allowed line) × (length line ≤ 255)
+IsReadable line = IsTrue (list_all is_allowed line) × (length line ≤ MOST_LINE)
 
 -- a line that begins with `*` says nothing, and has no label
 abbrev pub StarSaysNothing : List ℕ → Type 0

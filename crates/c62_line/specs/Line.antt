@@ -19,6 +19,7 @@ use Rattle.c62_insn.specs.Fault.{form_fault}
 use Rattle.c62_insn.specs.Insn.{op_of, operands_of as written_operands, cond_of, unit_of}
 use Rattle.c62_op.specs.Shape.{crosses_to, data_path_of, is_branch, is_store}
 use Rattle.c62_op.specs.Takes.{same_side}
+use Rattle.c62_line.specs.declared.limits.TheConstants.{MOST_LINE}
 use Rattle.c62_line.specs.declared.fault.Cause.{Cause}
 use Rattle.c62_line.specs.declared.fault.Cause.TheVariants.{NotAscii, LineTooLong, BadLabel, UnknownMnemonic, BadUnit, BadOperand, Form, ParallelBar}
 use Rattle.c62_line.specs.declared.fault.Cause.TheVariants.{Directive}
@@ -105,7 +106,7 @@ is_star b = b == 42
 unfoldable pub head_of : List ℕ → Result (Option Word × List Word) Cause
 head_of line =
     if not (list_all is_allowed line) then Err NotAscii
-    else (if nat_lt 255 (length line) then Err LineTooLong
+    else (if nat_lt MOST_LINE (length line) then Err LineTooLong
     else (if begins is_star line then Ok (None, [])
     else (if is_bars (tokens line) then Err ParallelBar
     else without_colon (label_front (tokens line)))))

@@ -14,7 +14,7 @@ use std::fmt;
 pub enum Cause {
     /// A byte that is neither printable ASCII nor a tab.
     NotAscii,
-    /// A line of more than 255 bytes.
+    /// A line of more than [`MOST_LINE`](crate::MOST_LINE) bytes.
     LineTooLong,
     /// What stands before a colon is no label.
     BadLabel,

@@ -5,6 +5,7 @@ mod fault;
 mod form;
 mod label;
 mod laws;
+mod limits;
 mod line;
 mod mnemonic;
 mod operand;
@@ -18,5 +19,6 @@ pub use laws::{
     labels_read_back, pauses_read_back, pseudo_operations_keep_the_effect, spelled_lines_read_back,
     star_lines_say_nothing,
 };
+pub use limits::MOST_LINE;
 pub use line::{label_field, owned_label, read_head, read_insn, read_rest};
 pub use reading::{Reading, Statement, What};

@@ -14,6 +14,7 @@ ghost use Rattle.c62_line.specs.Unit.{is_dot};
 use crate::fault::{Cause, ReadFault};
 use crate::form::make;
 use crate::label::Label;
+use crate::limits::MOST_LINE;
 use crate::mnemonic::{Mnemonic, mnemonic_named};
 use crate::operand::read_operands;
 use crate::reading::{Reading, Statement};
@@ -348,7 +349,7 @@ pub fn read_head<'a>(line: &'a [u8]) -> Result<(Option<&'a [u8]>, Tokens<'a>), C
     if !bytes.allowed {
         return Err(Cause::NotAscii);
     }
-    if line.len() > 255 {
+    if line.len() > MOST_LINE {
         return Err(Cause::LineTooLong);
     }
     if begins_with(b'*', line) {

@@ -15,6 +15,8 @@ use Rattle.c62_listing_reader.proofs.TextLemmas.{fed}
 use Rattle.c62_listing_reader.proofs.UntoldLemmas.{IsPlain, beside_plain, fed_content, fed_ended, first_plain, line_read, pause_plain, untold}
 use Rattle.c62_listing_reader.specs.Said.{front_spelling}
 use Rattle.c62_listing_reader.specs.Faults.{line_says}
+use Rattle.c62_read.specs.declared.limits.TheConstants.{MOST_BLOCKS, MOST_INSTRUCTIONS}
+use Rattle.c62_packet.specs.declared.limits.TheConstants.{MOST_CYCLES}
 
 -- ---- lines that lead on
 
@@ -60,12 +62,12 @@ one_line labels aim number drafts above bytes below said Is says is = record {
 pub record IsWelcome (labels : List Name) (drafts : Drafts) (above : Above) (front : Front) (says : Says) : Type 0 where
   pub placed : is_misplaced front above ≡ false
   pub known : is_unknown labels says ≡ false
-  pub few : (is_instruction says && nat_le 256 (length (opened drafts.current).placed)) ≡ false
-  pub blocks : length drafts.done < 64
+  pub few : (is_instruction says && nat_le MOST_INSTRUCTIONS (length (opened drafts.current).placed)) ≡ false
+  pub blocks : length drafts.done < MOST_BLOCKS
   pub order : (is_beside front && precedes (unit_said says) (unit_above above)) ≡ false
   pub pauses : goes_on says above ≡ false
   pub gap : is_gap front ≡ false
-  pub short : (opened drafts.current).cycles + cycles_added (is_beside front) says ≤ 2048
+  pub short : (opened drafts.current).cycles + cycles_added (is_beside front) says ≤ MOST_CYCLES
 
 plain_said : (labels : List Name) (drafts : Drafts) (above : Above) (bytes : List ℕ) (front : Front) (says : Says) (below : List Line)
     → IsPlain bytes front says → IsWelcome labels drafts above front says
@@ -82,7 +84,7 @@ plain_said labels drafts above bytes front says below plain welcome =
       read = rw (← same) read;
       known = welcome.known;
       few = welcome.few;
-      begins = and_right (not (is_gap front) && is_none drafts.current) _ (lt-leb 64 (length drafts.done) welcome.blocks);
+      begins = and_right (not (is_gap front) && is_none drafts.current) _ (lt-leb MOST_BLOCKS (length drafts.done) welcome.blocks);
       spelled = rw (← same) plain.spelled;
       ended = fed_ended bytes plain.allowed;
       order = welcome.order;
@@ -136,9 +138,9 @@ pub record IsCalm (done : List Draft) (label : Option Name) (cycles : ℕ) (plac
   pub is : IsIn done label cycles placed drafts above
   pub calm : is_calm above ≡ true
 
-module _ (labels : List Name) (aim : Name → ℕ) (done : List Draft) (few : length done < 64) (label : Option Name) (placed : List Placed) where
+module _ (labels : List Name) (aim : Name → ℕ) (done : List Draft) (few : length done < MOST_BLOCKS) (label : Option Name) (placed : List Placed) where
   pause_leads : (n cycles number : ℕ) (drafts : Drafts) (above : Above) (below : List Line) (Is : Drafts → Above → Type 0)
-      → IsCalm done label cycles placed drafts above → 1 ≤ n → n ≤ 9 → cycles + n ≤ 2048
+      → IsCalm done label cycles placed drafts above → 1 ≤ n → n ≤ 9 → cycles + n ≤ MOST_CYCLES
       → ((d : Drafts) → IsIn done label (cycles + n) placed d (PauseAbove n) → Is d (PauseAbove n))
       → Leads labels aim number drafts above (pause_line n ∷ []) below Is
   pause_leads n cycles number drafts above below Is is some small short then_is =
@@ -147,7 +149,7 @@ module _ (labels : List Name) (aim : Name → ℕ) (done : List Draft) (few : le
         placed = refl;
         known = refl;
         few = refl;
-        blocks = subst (λ (ds : List Draft). length ds < 64) (sym at.same) few;
+        blocks = subst (λ (ds : List Draft). length ds < MOST_BLOCKS) (sym at.same) few;
         order = refl;
         pauses = calm_pause n above is.calm;
         gap = refl;
@@ -158,7 +160,7 @@ module _ (labels : List Name) (aim : Name → ℕ) (done : List Draft) (few : le
       }))
 
   nines_lead : (nines cycles number : ℕ) (drafts : Drafts) (above : Above) (below : List Line) → IsCalm done label cycles placed drafts above
-      → cycles + 9 * nines ≤ 2048
+      → cycles + 9 * nines ≤ MOST_CYCLES
       → Leads labels aim number drafts above (replicate nines (pause_line 9)) below (IsCalm done label (cycles + 9 * nines) placed)
   nines_lead zero cycles number drafts above below is short =
       let same : cycles + 9 * 0 ≡ cycles = omega arith in
@@ -172,7 +174,7 @@ module _ (labels : List Name) (aim : Name → ℕ) (done : List Draft) (few : le
       (λ n d a at. rw same (nines_lead nines (cycles + 9) n d a below at (omega (arith, short))))
 
   rest_leads : (rest cycles number : ℕ) (drafts : Drafts) (above : Above) (below : List Line) → IsCalm done label cycles placed drafts above
-      → rest < 9 → cycles + rest ≤ 2048
+      → rest < 9 → cycles + rest ≤ MOST_CYCLES
       → Leads labels aim number drafts above (rest_line rest) below (IsIn done label (cycles + rest) placed)
   rest_leads zero cycles number drafts above below is small short =
       let same : cycles + 0 ≡ cycles = omega arith in
@@ -184,7 +186,7 @@ module _ (labels : List Name) (aim : Name → ℕ) (done : List Draft) (few : le
 
   -- cycles without instructions
   idle_leads : (idle cycles number : ℕ) (drafts : Drafts) (above : Above) (below : List Line) → IsCalm done label cycles placed drafts above
-      → cycles + idle ≤ 2048
+      → cycles + idle ≤ MOST_CYCLES
       → Leads labels aim number drafts above (idle_lines idle) below (IsIn done label (cycles + idle) placed)
   idle_leads idle cycles number drafts above below is short =
       let nines : ℕ = idle / 9 in
@@ -234,14 +236,14 @@ saying : (name : ℕ → List ℕ) (labels : List Name) (aim : Name → ℕ) (p 
     → IsSaying labels aim p (says_on name p.insn p.unit)
 saying name labels aim p is = saying_by name labels aim p (operands_of p.insn) is refl
 
-module _ (name : ℕ → List ℕ) (labels : List Name) (aim : Name → ℕ) (done : List Draft) (few : length done < 64) (label : Option Name) where
+module _ (name : ℕ → List ℕ) (labels : List Name) (aim : Name → ℕ) (done : List Draft) (few : length done < MOST_BLOCKS) (label : Option Name) where
   -- an instruction stands in the line above, behind others
   pub record IsOver (placed : List Placed) (p : Placed) (drafts : Drafts) (above : Above) : Type 0 where
     pub is : IsIn done label (p.cycle + 1) (placed ++ p ∷ []) drafts above
     pub last : above ≡ Issue (Some p.unit)
 
-  room_is : (placed : List Placed) (cycles : ℕ) (drafts : Drafts) (says : Says) → IsAt done label cycles placed drafts → length placed < 256
-      → (is_instruction says && nat_le 256 (length (opened drafts.current).placed)) ≡ false
+  room_is : (placed : List Placed) (cycles : ℕ) (drafts : Drafts) (says : Says) → IsAt done label cycles placed drafts → length placed < MOST_INSTRUCTIONS
+      → (is_instruction says && nat_le MOST_INSTRUCTIONS (length (opened drafts.current).placed)) ≡ false
   room_is placed cycles drafts says is room =
       let count : length (opened drafts.current).placed ≡ length placed =
       sym (length-map (opened drafts.current).placed unlined) ∙ ap length is.parts ∙ length-map placed key_of in
@@ -269,7 +271,7 @@ module _ (name : ℕ → List ℕ) (labels : List Name) (aim : Name → ℕ) (do
   issue_leads : (front : Front) (placed : List Placed) (p : Placed) (number : ℕ) (drafts : Drafts) (above : Above) (below : List Line)
       → is_gap front ≡ false → is_misplaced front above ≡ false → (is_beside front && precedes (Some p.unit) (unit_above above)) ≡ false
       → IsPlain (front_spelling front ++ spelling name p.insn p.unit) front (says_on name p.insn p.unit) → IsSayable name labels aim p
-      → IsIn done label (p.cycle + (if is_beside front then 1 else 0)) placed drafts above → length placed < 256 → p.cycle + 1 ≤ 2048
+      → IsIn done label (p.cycle + (if is_beside front then 1 else 0)) placed drafts above → length placed < MOST_INSTRUCTIONS → p.cycle + 1 ≤ MOST_CYCLES
       → Leads labels aim number drafts above ((front_spelling front ++ spelling name p.insn p.unit) ∷ []) below (IsOver placed p)
   issue_leads front placed p number drafts above below gap well order plain sayable is room short =
       let says : Says = says_on name p.insn p.unit in
@@ -279,7 +281,7 @@ module _ (name : ℕ → List ℕ) (labels : List Name) (aim : Name → ℕ) (do
         placed = well;
         known = of.known;
         few = room_is placed (p.cycle + (if is_beside front then 1 else 0)) drafts says is.at room;
-        blocks = subst (λ (ds : List Draft). length ds < 64) (sym is.at.same) few;
+        blocks = subst (λ (ds : List Draft). length ds < MOST_BLOCKS) (sym is.at.same) few;
         order = ap (λ (u : Option FunctionalUnit). is_beside front && precedes u (unit_above above)) of.unit ∙ order;
         pauses = of.pauses above;
         gap = gap;
@@ -293,7 +295,7 @@ unfoldable pub AreBehind : Placed → List Placed → Type 0
 AreBehind q [] = Unit {0}
 AreBehind q (p ∷ placed) = (listing_position q ≤ listing_position p) × AreBehind p placed
 
-module _ (name : ℕ → List ℕ) (labels : List Name) (aim : Name → ℕ) (done : List Draft) (few : length done < 64) (label : Option Name) where
+module _ (name : ℕ → List ℕ) (labels : List Name) (aim : Name → ℕ) (done : List Draft) (few : length done < MOST_BLOCKS) (label : Option Name) where
   abbrev In : ℕ → List Placed → Drafts → Above → Type 0
   In cycles placed = IsIn done label cycles placed
 
@@ -304,7 +306,7 @@ module _ (name : ℕ → List ℕ) (labels : List Name) (aim : Name → ℕ) (do
   placed_by : (b : Bool) (cycles : ℕ) (placed : List Placed) (p : Placed) (number : ℕ) (drafts : Drafts) (above : Above) (below : List Line)
       → nat_lt p.cycle cycles ≡ b → IsSayable name labels aim p → IsCalm done label cycles placed drafts above
       → (b ≡ true → (unit : FunctionalUnit) × (cycles ≡ p.cycle + 1) × (above ≡ Issue (Some unit)) × (index_of unit ≤ index_of p.unit))
-      → length placed < 256 → p.cycle + 1 ≤ 2048 → Leads labels aim number drafts above
+      → length placed < MOST_INSTRUCTIONS → p.cycle + 1 ≤ MOST_CYCLES → Leads labels aim number drafts above
       (if b then (codes "|| " ++ spelling name p.insn p.unit) ∷ [] else idle_lines (p.cycle - cycles) ++
       (codes "   " ++ spelling name p.insn p.unit) ∷ []) below (Over placed p)
   placed_by true cycles placed p number drafts above below less sayable is over room short =
@@ -335,8 +337,8 @@ module _ (name : ℕ → List ℕ) (labels : List Name) (aim : Name → ℕ) (do
 
   -- behind an instruction
   cycles_lead : (rest before : List Placed) (q : Placed) (cycles number : ℕ) (drafts : Drafts) (above : Above) (below : List Line)
-      → All (IsSayable name labels aim) rest → AreBehind q rest → All (λ p. p.cycle + 1 ≤ cycles) rest → length before + 1 + length rest ≤ 256
-      → cycles ≤ 2048 → q.cycle + 1 ≤ cycles → Over before q drafts above
+      → All (IsSayable name labels aim) rest → AreBehind q rest → All (λ p. p.cycle + 1 ≤ cycles) rest → length before + 1 + length rest ≤ MOST_INSTRUCTIONS
+      → cycles ≤ MOST_CYCLES → q.cycle + 1 ≤ cycles → Over before q drafts above
       → Leads labels aim number drafts above (cycle_lines name (q.cycle + 1) cycles rest) below (In cycles (before ++ q ∷ rest))
   unfolding AreBehind
   cycles_lead [] before q cycles number drafts above below sayable order within room short low over =
@@ -368,7 +370,7 @@ module _ (name : ℕ → List ℕ) (labels : List Name) (aim : Name → ℕ) (do
   -- from the first cycle
   pub start_leads : (placed : List Placed) (cycles number : ℕ) (drafts : Drafts) (above : Above) (below : List Line)
       → All (IsSayable name labels aim) placed → ((p : Placed) (rest : List Placed) → placed ≡ p ∷ rest → AreBehind p rest)
-      → All (λ p. p.cycle + 1 ≤ cycles) placed → length placed ≤ 256 → cycles ≤ 2048 → IsCalm done label 0 [] drafts above
+      → All (λ p. p.cycle + 1 ≤ cycles) placed → length placed ≤ MOST_INSTRUCTIONS → cycles ≤ MOST_CYCLES → IsCalm done label 0 [] drafts above
       → Leads labels aim number drafts above (cycle_lines name 0 cycles placed) below (In cycles placed)
   start_leads [] cycles number drafts above below sayable order within room short is =
       let at : 0 + (cycles - 0) ≡ cycles = omega arith in

@@ -16,6 +16,8 @@ use Rattle.c62_listing_reader.proofs.UntoldLemmas.{are_allowed, fed_content, fed
 use Rattle.c62_listing_reader.proofs.BackLemmas.{AreBehind, IsCalm, IsIn, IsSayable, Leads, key_of, no_lines, one_line, start_leads, then_lines}
 use Rattle.c62_listing_reader.proofs.BackLemmas.{unlined, IsWritable}
 use Rattle.c62_listing_reader.specs.Faults.{line_says}
+use Rattle.c62_read.specs.declared.limits.TheConstants.{MOST_BLOCKS, MOST_INSTRUCTIONS}
+use Rattle.c62_packet.specs.declared.limits.TheConstants.{MOST_CYCLES}
 
 -- ---- a label line
 
@@ -27,7 +29,7 @@ label_front_is : (label : Name) → 1 ≤ length label → list_all is_word_byte
 label_front_is [] some words = absurd (omega arith)
 label_front_is (b ∷ label) some words = grind (arith, nat_tests, colon_at_end (b ∷ label))
 
-label_said : (labels : List Name) (done : List Draft) (label : Name) (below : List Line) → is_label label ≡ true → length done < 64
+label_said : (labels : List Name) (done : List Draft) (label : Name) (below : List Line) → is_label label ≡ true → length done < MOST_BLOCKS
     → is_taken (Some label) (record { done = done; current = None }) ≡ false
     → line_says labels (record { done = done; current = None }) Start (fed (label ++ codes ":")) below ≡ Ok
     (record { front = Label; label = Some label; says = Nothing })
@@ -55,7 +57,7 @@ unfolding line_of head_of label_front words_say
 gap_line = refl
 
 gap_said : (labels : List Name) (drafts : Drafts) (above : Above) (below : List Line) → is_filled above ≡ true → begin_filled below ≡ true
-    → (opened drafts.current).cycles ≤ 2048
+    → (opened drafts.current).cycles ≤ MOST_CYCLES
     → line_says labels drafts above (fed []) below ≡ Ok (record { front = Empty; label = None; says = Nothing })
 unfolding line_says
 gap_said labels drafts above below filled begins short = grind (arith, nat_tests, gap_line, empty_field)
@@ -103,8 +105,8 @@ pub record IsSmall (name : ℕ → List ℕ) (block : Packed) : Type 0 where
   pub writable : All (IsWritable name) block.placed
   pub order : (p : Placed) (rest : List Placed) → block.placed ≡ p ∷ rest → AreBehind p rest
   pub within : All (λ p. p.cycle + 1 ≤ block.cycles) block.placed
-  pub few : length block.placed ≤ 256
-  pub short : block.cycles ≤ 2048
+  pub few : length block.placed ≤ MOST_INSTRUCTIONS
+  pub short : block.cycles ≤ MOST_CYCLES
 
 -- what is asked of a block behind these
 pub record IsGood (name : ℕ → List ℕ) (labels : List Name) (aim : Name → ℕ) (passed : List Packed) (block : Packed) : Type 0 where
@@ -118,10 +120,10 @@ pub record AreRead (passed : List Packed) (drafts : Drafts) (above : Above) : Ty
   pub like : AllLike (all_drafts drafts) passed
   pub filled : is_filled above ≡ true
   pub some : is_some drafts.current ≡ true
-  pub short : (opened drafts.current).cycles ≤ 2048
+  pub short : (opened drafts.current).cycles ≤ MOST_CYCLES
 
 open_by : (done : List Draft) (current : Option Draft) (passed : List Packed) (block : Packed) (above : Above) → AllLike done passed
-    → (block.label ≡ None → 0 < length block.placed) → block.cycles ≤ 2048
+    → (block.label ≡ None → 0 < length block.placed) → block.cycles ≤ MOST_CYCLES
     → IsIn done block.label block.cycles block.placed (record { done = done; current = current }) above
     → AreRead (passed ++ block ∷ []) (record { done = done; current = current }) above
 open_by done (Some draft) passed block above like begun short is = record {
@@ -136,7 +138,7 @@ open_by done None passed block above like begun short is =
     absurd (omega (arith, none, some))
 
 is_read : (done : List Draft) (drafts : Drafts) (passed : List Packed) (block : Packed) (above : Above) → AllLike done passed
-    → (block.label ≡ None → 0 < length block.placed) → block.cycles ≤ 2048
+    → (block.label ≡ None → 0 < length block.placed) → block.cycles ≤ MOST_CYCLES
     → IsIn done block.label block.cycles block.placed drafts above → AreRead (passed ++ block ∷ []) drafts above
 is_read done drafts passed block above like begun short is =
     open_by drafts.done drafts.current passed block above (rw is.at.same like) begun short (record {
@@ -148,7 +150,7 @@ calm_start : (done : List Draft) → IsCalm done None 0 [] (record { done = done
 calm_start done = record { is = record { at = record { same = refl; named = refl; written = refl; parts = refl }; filled = refl }; calm = refl }
 
 module _ (name : ℕ → List ℕ) (labels : List Name) (aim : Name → ℕ) where
-  label_leads : (done : List Draft) (label : Option Name) (number : ℕ) (below : List Line) → length done < 64
+  label_leads : (done : List Draft) (label : Option Name) (number : ℕ) (below : List Line) → length done < MOST_BLOCKS
       → ((l : Name) → label ≡ Some l → is_label l ≡ true)
       → ((l : Name) → label ≡ Some l → is_taken (Some l) (record { done = done; current = None }) ≡ false)
       → Leads labels aim number (record { done = done; current = None }) Start (label_lines label) below (IsCalm done label 0 [])
@@ -160,7 +162,7 @@ module _ (name : ℕ → List ℕ) (labels : List Name) (aim : Name → ℕ) whe
       (label_said labels done label below (is label refl) few (free label refl))
       (record { is = record { at = record { same = refl; named = refl; written = refl; parts = refl }; filled = refl }; calm = refl })
 
-  block_leads : (done : List Draft) (passed : List Packed) (block : Packed) (number : ℕ) (below : List Line) → length done < 64 → AllLike done passed
+  block_leads : (done : List Draft) (passed : List Packed) (block : Packed) (number : ℕ) (below : List Line) → length done < MOST_BLOCKS → AllLike done passed
       → IsGood name labels aim passed block
       → Leads labels aim number (record { done = done; current = None }) Start (block_lines name block) below (AreRead (passed ++ block ∷ []))
   block_leads done passed block number below few like good =
@@ -211,19 +213,19 @@ pub record HasLines (name : ℕ → List ℕ) (block : Packed) : Type 0 where
   pub lines : list_all is_line (block_lines name block) ≡ true
 
 module _ (name : ℕ → List ℕ) (labels : List Name) (aim : Name → ℕ) where
-  behind_leads : (passed : List Packed) (block : Packed) (number : ℕ) (drafts : Drafts) (above : Above) (below : List Line) → length passed < 64
+  behind_leads : (passed : List Packed) (block : Packed) (number : ℕ) (drafts : Drafts) (above : Above) (below : List Line) → length passed < MOST_BLOCKS
       → AreRead passed drafts above → IsGood name labels aim passed block → HasLines name block
       → Leads labels aim number drafts above ([] ∷ block_lines name block) below (AreRead (passed ++ block ∷ []))
   behind_leads passed block number drafts above below few is good has =
       let lines : List (List ℕ) = block_lines name block in
       let start : Drafts = record { done = all_drafts drafts; current = None } in
-      let done : length (all_drafts drafts) < 64 = omega (arith, few, like_length (all_drafts drafts) passed is.like) in
+      let done : length (all_drafts drafts) < MOST_BLOCKS = omega (arith, few, like_length (all_drafts drafts) passed is.like) in
       then_lines labels aim number drafts above ([] ∷ []) lines below (λ (d : Drafts) (a : Above). (d ≡ start) × (a ≡ Start))
       (AreRead (passed ++ block ∷ []))
       (gap_leads name labels aim passed number drafts above (map fed lines ++ below) is (filled_lines lines below has.some has.lines))
       (λ n d a at. rw (at.0, at.1) (block_leads name labels aim (all_drafts drafts) passed block n below done is.like good))
 
-  parted_leads : (passed blocks : List Packed) (number : ℕ) (drafts : Drafts) (above : Above) (below : List Line) → length passed + length blocks ≤ 64
+  parted_leads : (passed blocks : List Packed) (number : ℕ) (drafts : Drafts) (above : Above) (below : List Line) → length passed + length blocks ≤ MOST_BLOCKS
       → AreRead passed drafts above → AllGood name labels aim passed blocks → AllByRecursion (HasLines name) blocks
       → Leads labels aim number drafts above (parted_lines name blocks) below (AreRead (passed ++ blocks))
   unfolding AllGood
@@ -238,7 +240,7 @@ module _ (name : ℕ → List ℕ) (labels : List Name) (aim : Name → ℕ) whe
       (λ n d a read. parted_leads (passed ++ block ∷ []) blocks n d a below (omega (arith, few, count)) read good.1 has.1))
 
   -- the lines of packets are read as blocks like them
-  pub all_lead : (packets : List Packed) (number : ℕ) (below : List Line) → length packets ≤ 64 → AllGood name labels aim [] packets
+  pub all_lead : (packets : List Packed) (number : ℕ) (below : List Line) → length packets ≤ MOST_BLOCKS → AllGood name labels aim [] packets
       → AllByRecursion (HasLines name) packets
       → Leads labels aim number no_drafts Start (all_lines name packets) below (λ d a. AllLike (all_drafts d) packets)
   unfolding AllGood AllLike

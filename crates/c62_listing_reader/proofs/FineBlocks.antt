@@ -13,6 +13,8 @@ use Rattle.std.proofs.lemmas.List.Sorted.{IsNonDecreasingBy-push, IsNonDecreasin
 use Rattle.c62_listing_reader.specs.declared.line.Above.TheVariants.{Heading}
 use Rattle.c62_listing_reader.specs.Reading.{HasUnit}
 use Rattle.c62_listing_reader.proofs.ToldLemmas.{IsTold}
+use Rattle.c62_read.specs.declared.limits.TheConstants.{MOST_BLOCKS, MOST_INSTRUCTIONS}
+use Rattle.c62_packet.specs.declared.limits.TheConstants.{MOST_CYCLES}
 
 -- the last instruction is the one that the line above says, and stands in the last cycle written
 pub record EndsWith (unit : Option FunctionalUnit) (draft : Draft) : Type 0 where
@@ -44,7 +46,7 @@ label_fine None draft fine = fine
 label_fine (Some label) draft fine =
     record { few = fine.few; short = fine.short; below = fine.below; ordered = fine.ordered; units = fine.units }
 
-pause_fine : (n : ℕ) (draft : Draft) → draft.cycles + n ≤ 2048 → IsFine draft → IsFine (with_pause n draft)
+pause_fine : (n : ℕ) (draft : Draft) → draft.cycles + n ≤ MOST_CYCLES → IsFine draft → IsFine (with_pause n draft)
 pause_fine n draft le fine = record {
   few = fine.few;
   short = le;
@@ -59,7 +61,7 @@ not_before unit above u a h = grind (arith, nat_tests)
 
 -- beside another an instruction stands in the last cycle, behind the last one, and by itself in a new one
 part_fine : (beside : Bool) (parts : Parts) (line : ℕ) (above : Option FunctionalUnit) (draft : Draft) → IsFine draft
-    → (beside ≡ true → EndsWith above draft) → length draft.placed < 256 → draft.cycles + (if beside then 0 else 1) ≤ 2048
+    → (beside ≡ true → EndsWith above draft) → length draft.placed < MOST_INSTRUCTIONS → draft.cycles + (if beside then 0 else 1) ≤ MOST_CYCLES
     → is_some parts.unit ≡ true → (beside && precedes parts.unit above) ≡ false → IsFine (with_part beside parts line draft)
 part_fine true parts line above draft fine ends_so few short unit order =
     let ends = ends_so refl in
@@ -116,7 +118,7 @@ pub record IsGoing (drafts : Drafts) (above : Above) : Type 0 where
   pub done : All IsFine drafts.done
   pub current : (draft : Draft) → drafts.current ≡ Some draft → IsFine draft × Follows above draft
   pub closed : drafts.current ≡ None → is_issue above ≡ false
-  pub few : length (all_drafts drafts) ≤ 64
+  pub few : length (all_drafts drafts) ≤ MOST_BLOCKS
 
 pub opened_fine : (current : Option Draft) → ((draft : Draft) → current ≡ Some draft → IsFine draft) → IsFine (opened current)
 opened_fine None fine = empty_fine
@@ -129,8 +131,8 @@ all_fine done (Some draft) fine last = All-push IsFine done draft fine (last dra
 
 -- what is said goes on with a block
 says_fine : (aim : Name → ℕ) (beside : Bool) (line : ℕ) (says : Says) (above : Option FunctionalUnit) (draft : Draft) → IsFine draft
-    → (beside ≡ true → EndsWith above draft) → (is_instruction says && nat_le 256 (length draft.placed)) ≡ false
-    → draft.cycles + cycles_added beside says ≤ 2048 → HasUnit says → (beside && precedes (unit_said says) above) ≡ false
+    → (beside ≡ true → EndsWith above draft) → (is_instruction says && nat_le MOST_INSTRUCTIONS (length draft.placed)) ≡ false
+    → draft.cycles + cycles_added beside says ≤ MOST_CYCLES → HasUnit says → (beside && precedes (unit_said says) above) ≡ false
     → IsFine (with_says aim beside line says draft)
 says_fine aim beside line Nothing above draft fine ends few short unit order = fine
 says_fine aim beside line (Pause n) above draft fine ends few short unit order = pause_fine n draft short fine
@@ -189,8 +191,8 @@ go labels aim number said drafts above line below going is = by_gap (is_gap said
         let next : Draft = with_says aim beside number said.says block in
         let fine : IsFine block = label_fine said.label (opened drafts.current) (opened_fine drafts.current (λ draft e. (going.current draft e).0)) in
         let ends = beside_ends said.front said.label drafts.current above is.placed is.outside going.closed (λ draft e. (going.current draft e).1) in
-        let few : (is_instruction said.says && nat_le 256 (length block.placed)) ≡ false = grind (arith, nat_tests, is.few) in
-        let short : block.cycles + cycles_added beside said.says ≤ 2048 = grind (arith, nat_tests, is.short) in
+        let few : (is_instruction said.says && nat_le MOST_INSTRUCTIONS (length block.placed)) ≡ false = grind (arith, nat_tests, is.few) in
+        let short : block.cycles + cycles_added beside said.says ≤ MOST_CYCLES = grind (arith, nat_tests, is.short) in
         let unit = has_unit (content line) said.front said.label said.says is.spelled in
         record {
           done = going.done;

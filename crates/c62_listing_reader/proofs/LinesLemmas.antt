@@ -19,6 +19,7 @@ use Rattle.c62_listing_reader.proofs.BackLemmas.{AreBehind, IsWritable}
 use Rattle.c62_listing_reader.proofs.BlocksLemmas.{HasLines, is_line, IsSmall}
 use Rattle.c62_line.specs.Laws.{says_on}
 use Rattle.c62_listing_reader.proofs.NamedLemmas.{at_seam}
+use Rattle.c62_read.specs.declared.limits.TheConstants.{MOST_BLOCKS}
 
 -- ---- the lines of a block but its label
 
@@ -303,7 +304,7 @@ parted_length name (block ∷ blocks) are =
       parted_length name blocks are.1,
     )
 
-pub all_length : (name : ℕ → List ℕ) (packets : List Packed) → length packets ≤ 64 → AllByRecursion (IsSmall name) packets
+pub all_length : (name : ℕ → List ℕ) (packets : List Packed) → length packets ≤ MOST_BLOCKS → AllByRecursion (IsSmall name) packets
     → length (text_of (all_lines name packets)) ≤ 8388608
 all_length name [] few are = omega arith
 all_length name (block ∷ packets) few are =

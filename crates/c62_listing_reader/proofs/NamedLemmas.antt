@@ -7,6 +7,7 @@ use Rattle.c62_listing_reader.proofs.Common.{is_gap, Said, Draft, Drafts, no_dra
 use Rattle.c62_listing_reader.proofs.Common.{above_next, named, number_after, names_in, labels_of, number_of, aim_by, is_filled, is_alone, read_lines}
 use Rattle.c62_listing_reader.proofs.FineBlocks.{IsGoing, go, go-start}
 use Rattle.c62_listing_reader.proofs.ToldLemmas.{begun, over, gap_front, has_name}
+use Rattle.c62_read.specs.declared.limits.TheConstants.{MOST_BLOCKS}
 
 -- ---- blocks with labels
 
@@ -146,7 +147,7 @@ are_named labels aim line number drafts above (first ∷ below) final counted h 
 
 pub few_by : (labels : List Name) (aim : Name → ℕ) (number : ℕ) (drafts : Drafts) (above : Above) (lines : List Line) (final : Drafts)
     → IsGoing drafts above
-    → read_lines labels aim number drafts above lines ≡ Ok final → length (all_drafts final) ≤ 64
+    → read_lines labels aim number drafts above lines ≡ Ok final → length (all_drafts final) ≤ MOST_BLOCKS
 few_by labels aim number drafts above [] final going h = rw (← over labels aim number drafts above final h) going.few
 few_by labels aim number drafts above (line ∷ below) final going h =
     let start = begun labels aim number drafts above line below final h in
@@ -163,7 +164,7 @@ number_by final [] target all known = absurd (false≢true known)
 number_by final (entry ∷ names) target all known =
     grind (arith, nat_tests, bytes_eq-Decides entry.0 target, all.0, number_by final names target all.1)
 
-aimed_at : (names : List (Name × ℕ)) (final : Drafts) (target : Name) → length (all_drafts final) ≤ 64 → AllNamed final names
+aimed_at : (names : List (Name × ℕ)) (final : Drafts) (target : Name) → length (all_drafts final) ≤ MOST_BLOCKS → AllNamed final names
     → is_among target (labels_of names) ≡ true
     → IsNamed (all_drafts final) (aim_by names target) target
 aimed_at names final target few all known =

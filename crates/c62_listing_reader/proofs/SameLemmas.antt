@@ -4,23 +4,23 @@ use Rattle.c62_listing_reader.proofs.Common.{parts_of, Placed, Packed, StandAsWr
 use Rattle.c62_listing_reader.proofs.Common.{IsRead}
 use Rattle.c62_insn.proofs.SameLemmas.{same_parts}
 
-same_insn : (a b : Insn) → parts_of a ≡ parts_of b → a ≡ b
+pub same_insn : (a b : Insn) → parts_of a ≡ parts_of b → a ≡ b
 same_insn a b e = grind (arith, same_parts a b)
 
 same_position : (p q : Placed) → unit_of p.insn ≡ Some p.unit → unit_of q.insn ≡ Some q.unit → part_of p ≡ part_of q → p ≡ q
 same_position p q first other e = grind (arith, same_insn p.insn q.insn)
 
-same_positiond : (placed other : List Placed) → StandAsWritten placed → StandAsWritten other → map part_of placed ≡ map part_of other → placed ≡ other
-same_positiond [] [] first last e = refl
-same_positiond [] (q ∷ other) first last e = absurd cc
-same_positiond (p ∷ placed) [] first last e = absurd cc
-same_positiond (p ∷ placed) (q ∷ other) first last e =
-    let rest = same_positiond placed other (All-tail (λ (r : Placed). unit_of r.insn ≡ Some r.unit) p placed first)
+pub same_positions : (placed other : List Placed) → StandAsWritten placed → StandAsWritten other → map part_of placed ≡ map part_of other → placed ≡ other
+same_positions [] [] first last e = refl
+same_positions [] (q ∷ other) first last e = absurd cc
+same_positions (p ∷ placed) [] first last e = absurd cc
+same_positions (p ∷ placed) (q ∷ other) first last e =
+    let rest = same_positions placed other (All-tail (λ (r : Placed). unit_of r.insn ≡ Some r.unit) p placed first)
     (All-tail (λ (r : Placed). unit_of r.insn ≡ Some r.unit) q other last) in
     grind (arith, same_position p q (first 0 p (omega arith)) (last 0 q (omega arith)), rest)
 
 same_block : (block other : Packed) → IsPacketBlock block → IsPacketBlock other → draft_of block ≡ draft_of other → block ≡ other
-same_block block other first last e = grind (arith, same_positiond block.placed other.placed first.as_written last.as_written)
+same_block block other first last e = grind (arith, same_positions block.placed other.placed first.as_written last.as_written)
 
 same_blocks : (packets others : List Packed) → All IsPacketBlock packets → All IsPacketBlock others → map draft_of packets ≡ map draft_of others
     → packets ≡ others

@@ -23,6 +23,7 @@ use Rattle.c62_listing_reader.proofs.ListedLemmas.{listed}
 use Rattle.c62_listing_reader.proofs.NamedLemmas.{labels_in, says_label, few_by}
 use Rattle.c62_listing_reader.proofs.ReadBackLemmas.{read_back}
 use Rattle.c62_listing_reader.proofs.ToldLemmas.{IsTold, begun, over, if_err, is_short, line_parts, read_line, rest_read}
+use Rattle.c62_read.specs.declared.limits.TheConstants.{MOST_BLOCKS}
 
 -- ---- the label of a line
 
@@ -218,7 +219,7 @@ read_shown text packets is =
     let entries : List (Name × ℕ) = names_in 0 (contents text) in
     let read = (if_err (nat_lt most_bytes (length text)) _ _ final is.said).1 in
     let showing : IsShowing final = all_showing (labels_of entries) (aim_by entries) 1 no_drafts Start lines final (record { given = none_given; opened = tt }) read in
-    let few : length (all_drafts final) ≤ 64 = few_by (labels_of entries) (aim_by entries) 1 no_drafts Start lines final go-start read in
+    let few : length (all_drafts final) ≤ MOST_BLOCKS = few_by (labels_of entries) (aim_by entries) 1 no_drafts Start lines final go-start read in
     let count : length packets ≡ length (all_drafts final) = sym (length-map packets draft_of) ∙ ap (λ (drafts : List Draft). length drafts) is.blocks in
     let same : labels_given packets ≡ given_in (all_drafts final)
     = ap (flat_map option_to_list) (labels_same packets) ∙ ap (λ (drafts : List Draft). given_in drafts) is.blocks in

@@ -14,24 +14,28 @@ use Rattle.c62_line.specs.Line.{head_of, label_front, line_of, with_head, with_r
 use Rattle.c62_line.proofs.SaysLemmas.{proper}
 use Rattle.c62_listing_reader.specs.Faults.{hindrance, is_unfit, is_odd, unless_odd, unless_hindered, with_rest, line_says, read_lines}
 use Rattle.c62_listing_reader.proofs.PauseLemmas.{short}
+use Rattle.c62_line.proofs.LabelFields.{no_label_front}
+use Rattle.c62_line.specs.declared.limits.TheConstants.{MOST_LINE}
+use Rattle.c62_read.specs.declared.limits.TheConstants.{MOST_BLOCKS, MOST_INSTRUCTIONS}
+use Rattle.c62_packet.specs.declared.limits.TheConstants.{MOST_CYCLES}
 
 -- all that is asked of a line
 pub record IsTold (labels : List Name) (drafts : Drafts) (above : Above) (line : Line) (below : List Line) (said : Said) : Type 0 where
   pub front : said.front ≡ front_of (content line)
   pub allowed : list_all is_allowed (content line) ≡ true
-  pub fits : length (content line) ≤ 255
+  pub fits : length (content line) ≤ MOST_LINE
   pub placed : is_misplaced said.front above ≡ false
   pub read : rest_says drafts (rest_of said.front (content line)) ≡ Ok (said.label, said.says)
   pub known : is_unknown labels said.says ≡ false
-  pub few : (is_instruction said.says && nat_le 256 (length (opened drafts.current).placed)) ≡ false
-  pub begins : (not (is_gap said.front) && is_none drafts.current && nat_le 64 (length drafts.done)) ≡ false
+  pub few : (is_instruction said.says && nat_le MOST_INSTRUCTIONS (length (opened drafts.current).placed)) ≡ false
+  pub begins : (not (is_gap said.front) && is_none drafts.current && nat_le MOST_BLOCKS (length drafts.done)) ≡ false
   pub spelled : is_text (content line) (spelled_line said.front said.label said.says) ≡ true
   pub ended : is_ended line ≡ true
   pub order : (is_beside said.front && precedes (unit_said said.says) (unit_above above)) ≡ false
   pub pauses : goes_on said.says above ≡ false
   pub between : is_alone said.front above below ≡ false
   pub outside : (is_some said.label && is_some drafts.current) ≡ false
-  pub short : (opened drafts.current).cycles + cycles_added (is_beside said.front) said.says ≤ 2048
+  pub short : (opened drafts.current).cycles + cycles_added (is_beside said.front) said.says ≤ MOST_CYCLES
 
 pub if_err : {T E : Type 0} (b : Bool) (e : E) (y : Result T E) (s : T) → (if b then Err e else y) ≡ Ok s → (b ≡ false) × (y ≡ Ok s)
 if_err b e y s h = grind arith
@@ -53,7 +57,7 @@ not_false b h = grind arith
 
 rest_told : (labels : List Name) (drafts : Drafts) (above : Above) (line : Line) (below : List Line) (front : Front)
     (read : Result (Option Name × Says) Cause) (said : Said)
-    → front ≡ front_of (content line) → list_all is_allowed (content line) ≡ true → nat_lt 255 (length (content line)) ≡ false
+    → front ≡ front_of (content line) → list_all is_allowed (content line) ≡ true → nat_lt MOST_LINE (length (content line)) ≡ false
     → is_misplaced front above ≡ false
     → rest_says drafts (rest_of front (content line)) ≡ read → with_rest labels drafts above line below front read ≡ Ok said
     → IsTold labels drafts above line below said
@@ -62,8 +66,8 @@ rest_told labels drafts above line below front (Ok (label, says)) said is allowe
     let one = hindered (hindrance labels drafts front says)
     (unless_odd (is_odd drafts above line below front label says) (record { front = front; label = label; says = says })) said h in
     let known = if_some (is_unknown labels says) _ _ one.0 in
-    let few = if_some (is_instruction says && nat_le 256 (length (opened drafts.current).placed)) _ _ known.1 in
-    let begins = if_some (not (is_gap front) && is_none drafts.current && nat_le 64 (length drafts.done)) _ _ few.1 in
+    let few = if_some (is_instruction says && nat_le MOST_INSTRUCTIONS (length (opened drafts.current).placed)) _ _ known.1 in
+    let begins = if_some (not (is_gap front) && is_none drafts.current && nat_le MOST_BLOCKS (length drafts.done)) _ _ few.1 in
     let two = unodd (is_odd drafts above line below front label says) (record { front = front; label = label; says = says }) said one.1 in
     let spelled = if_true (not (is_text (content line) (spelled_line front label says))) (is_unfit drafts above line below front label says) two.0 in
     let ended = if_true (not (is_ended line)) _ spelled.1 in
@@ -71,7 +75,7 @@ rest_told labels drafts above line below front (Ok (label, says)) said is allowe
     let goes = if_true (goes_on says above) _ falls.1 in
     let alone = if_true (is_alone front above below) _ goes.1 in
     let inside = if_true (is_some label && is_some drafts.current) _ alone.1 in
-    let long : nat_lt 2048 ((opened drafts.current).cycles + cycles_added (is_beside front) says) ≡ false = inside.1 in
+    let long : nat_lt MOST_CYCLES ((opened drafts.current).cycles + cycles_added (is_beside front) says) ≡ false = inside.1 in
     subst (IsTold labels drafts above line below) two.1 (record {
       front = is;
       allowed = allowed;
@@ -95,7 +99,7 @@ pub told : (labels : List Name) (drafts : Drafts) (above : Above) (line : Line) 
 unfolding line_says
 told labels drafts above line below said h =
     let allowed = if_err (not (list_all is_allowed (content line))) _ _ said h in
-    let short = if_err (nat_lt 255 (length (content line))) _ _ said allowed.1 in
+    let short = if_err (nat_lt MOST_LINE (length (content line))) _ _ said allowed.1 in
     let placed = if_err (is_misplaced (front_of (content line)) above) _ _ said short.1 in
     rest_told labels drafts above line below (front_of (content line)) (rest_says drafts (rest_of (front_of (content line)) (content line))) said refl
     (not_false (list_all is_allowed (content line)) allowed.0) short.0 placed.0 refl placed.1
@@ -141,13 +145,9 @@ bars_are_no_label : is_label (124 ∷ 124 ∷ []) ≡ false
 unfolding is_label
 bars_are_no_label = refl
 
-no_front : (word : List ℕ) (words : List (List ℕ)) → is_label word ≡ false → (label_front (word ∷ words)).0 ≡ None
-unfolding label_front
-no_front word words none = grind (arith, nat_tests)
-
 pub bars_field : (rest : List ℕ) → label_field (124 ∷ 124 ∷ 32 ∷ rest) ≡ None
 unfolding label_field
-bars_field rest = no_front (124 ∷ 124 ∷ []) (tokens (32 ∷ rest)) bars_are_no_label
+bars_field rest = no_label_front (124 ∷ 124 ∷ []) (tokens (32 ∷ rest)) bars_are_no_label
 
 -- a line that begins with bars has nothing in its label field
 beside_field : (bytes : List ℕ) → starts_with nat_eq bytes (codes "|| ") ≡ true → label_field bytes ≡ None

@@ -12,6 +12,7 @@ use Rattle.c62_listing_reader.specs.Faults.{line_says}
 use Rattle.c62_listing_reader.proofs.ListedLemmas.{does_text, unreturned}
 use Rattle.c62_listing_reader.proofs.TextLemmas.{before_feed, fed}
 use Rattle.c62_listing_reader.proofs.ToldLemmas.{IsTold, bars_field, line_parts}
+use Rattle.c62_line.specs.declared.limits.TheConstants.{MOST_LINE}
 
 -- ---- the lines of a text that is made of lines
 
@@ -56,20 +57,20 @@ untold labels drafts above line below said is = grind (arith, nat_tests)
 -- a line that is read may be read, and its label field has its label
 pub record IsRead (line : List ℕ) (label : Option Name) : Type 0 where
   pub allowed : are_allowed line ≡ true
-  pub fits : length line ≤ 255
+  pub fits : length line ≤ MOST_LINE
   pub field : label_field line ≡ label
 
 pub line_read : (line : List ℕ) (label : Option Name) (says : Says) → line_of line ≡ Ok (label, says) → IsRead line label
 line_read line label says h =
     let parts = line_parts line label says h in
     let read = head_read line label parts.words parts.head in
-    record { allowed = read.allowed; fits = ltb-false 255 (length line) read.short; field = field_is line label parts.words parts.head }
+    record { allowed = read.allowed; fits = ltb-false MOST_LINE (length line) read.short; field = field_is line label parts.words parts.head }
 
 -- ---- the lines of a block but its label
 
 pub record IsPlain (bytes : List ℕ) (front : Front) (says : Says) : Type 0 where
   pub allowed : are_allowed bytes ≡ true
-  pub fits : length bytes ≤ 255
+  pub fits : length bytes ≤ MOST_LINE
   pub begins : front ≡ front_of bytes
   pub line : line_of (rest_of front bytes) ≡ Ok (None, says)
   pub field : label_field bytes ≡ None

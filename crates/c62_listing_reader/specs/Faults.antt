@@ -27,6 +27,7 @@ use Rattle.c62_listing_reader.specs.declared.fault.LineFault.TheVariants.{Read, 
 use Rattle.c62_listing_reader.specs.Text.{Line, lines_in, content, is_ended, begin_filled}
 use Rattle.c62_listing_reader.specs.Begin.{has_colon, front_of, rest_of, is_gap, is_beside}
 use Rattle.c62_listing_reader.specs.Said.{Said, part_of, Draft, Drafts, no_drafts, all_drafts, opened, with_said, above_next, names_in, labels_of, aim_by, spelled_line, is_text}
+use Rattle.c62_line.specs.declared.limits.TheConstants.{MOST_LINE}
 
 -- ---- what the line above says
 
@@ -148,7 +149,7 @@ rest_says drafts rest = rest_read_as drafts rest (line_of rest)
 unfoldable pub line_says : List Name → Drafts → Above → Line → List Line → Result Said LineFault
 line_says labels drafts above line below =
     if not (list_all is_allowed (content line)) then Err (Read NotAscii)
-    else (if nat_lt 255 (length (content line)) then Err (Read LineTooLong)
+    else (if nat_lt MOST_LINE (length (content line)) then Err (Read LineTooLong)
     else (if is_misplaced (front_of (content line)) above then Err Shape
     else with_rest labels drafts above line below (front_of (content line)) (rest_says drafts (rest_of (front_of (content line)) (content line)))))
 

@@ -11,7 +11,7 @@ ghost use Rattle.c62_read.specs.Program.{label_is};
 
 use c62_insn::Insn;
 use c62_packet::Placed;
-use c62_read::{Label, MOST_BLOCKS};
+use c62_read::{Label, MOST_BLOCKS, label_is};
 use std::alloc::{AllocError, Global};
 
 /// A block as it is read: its label, the cycles that are written, and its instructions.
@@ -205,15 +205,6 @@ impl Blocks {
             Some(block) => block.cycles,
             None => 0,
         }
-    }
-}
-
-fn label_is(label: &[u8], other: &Option<Label>) -> bool
-    ensures { result ≡ label_is label.now other.now }
-{
-    match other {
-        Some(other) => other.as_bytes() == label,
-        None => false,
     }
 }
 

@@ -15,13 +15,15 @@ ghost use Rattle.c62_listing_reader.specs.Reading.{drafts_of, said_by, entries_o
 
 use crate::draft::Blocks;
 use crate::fault::LineFault;
-use crate::line::{Above, Front, all_allowed, has_colon, rest};
+use crate::line::{Above, Front, has_colon, rest};
 use crate::names::Names;
 use crate::spelled::is_spelled;
 use crate::text::{Cut, begins_filled, content, is_ended};
 use c62_insn::Unit;
+use c62_line::MOST_LINE;
 use c62_packet::MOST_CYCLES;
 use c62_read::{Cause, Label, MOST_INSTRUCTIONS, ReadFault, Reading, What, label_field};
+use c62_token::scan_line;
 
 fn is_issue(above: Above) -> bool
     ensures { result ≡ is_issue above }
@@ -327,7 +329,7 @@ fn has_text(line: &[u8], front: Front, read: &Result<Reading, ReadFault>) -> boo
 {
     match read {
         Ok(_) => true,
-        Err(_) => all_allowed(line),
+        Err(_) => scan_line(line).allowed,
     }
 }
 
@@ -359,7 +361,7 @@ pub fn judge(
     if !has_text(line, front, read) {
         return Err(LineFault::Read(Cause::NotAscii));
     }
-    if line.len() > 255 {
+    if line.len() > MOST_LINE {
         return Err(LineFault::Read(Cause::LineTooLong));
     }
     if is_misplaced(front, above) {

@@ -81,21 +81,3 @@ pub fn rest(front: Front, bytes: &[u8]) -> &[u8]
         _ => bytes,
     }
 }
-
-/// Whether a byte is printable ASCII or the tab.
-fn is_allowed(b: u8) -> bool
-    ensures { result ≡ is_allowed b }
-{
-    b == 9 || 32 <= b && b < 127
-}
-
-/// Looks at every byte, whatever the others are: so the compiler compares many at once.
-pub fn all_allowed(line: &[u8]) -> bool
-    ensures { result ≡ list_all is_allowed line.now }
-{
-    let mut allowed = true;
-    for b in line {
-        allowed &= is_allowed(*b);
-    }
-    allowed
-}

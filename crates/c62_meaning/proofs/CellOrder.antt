@@ -1,26 +1,23 @@
 -- The dependences put what the instructions do in order, cell by cell.
 use Rattle.std.proofs.Common.{◌≡◌, ℕ, ◌+◌, ◌*◌, ◌<◌, ◌≤◌, List, Some, false, refl, sym, ◌∙◌, ap, subst, inl, inr, ℤ, pos, ◌+ℤ◌, ◌-ℤ◌, ◌≤ℤ◌, arith}
-use Rattle.std.specs.Prelude.{slice_get, Contains, ◌==◌, ◌&&◌, true}
+use Rattle.std.specs.Prelude.{slice_get, Contains, true}
 use Rattle.std.proofs.lemmas.Int.{ints}
-use Rattle.std.proofs.lemmas.Bool.{eq-eqb, false_from_ne_true, leb-true, and_parts, cond-true}
-use Rattle.c62_op.specs.declared.register.Side.{Side}
-use Rattle.c62_op.specs.declared.register.Side.TheVariants.{A, B}
+use Rattle.std.proofs.lemmas.Bool.{false_from_ne_true, cond-true}
 use Rattle.c62_op.specs.declared.register.Reg.{Reg}
 use Rattle.c62_insn.specs.declared.insn.Insn.{Insn}
-use Rattle.c62_op.specs.Takes.{same_side}
 use Rattle.c62_op.specs.Shape.{is_store}
 use Rattle.c62_op.specs.Units.{index_of as unit_index}
 use Rattle.c62_insn.specs.Insn.{op_of, register_writes}
 use Rattle.c62_op.proofs.UnitOrder.{index_of-below}
 use Rattle.c62_rules.specs.Dependence.{IsBound, are_exclusive, are_disjoint, ReadAfterWrite, WriteAfterRead, WriteAfterWrite, AfterStore, StoreAfterLoad}
-use Rattle.c62_op.proofs.Registers.{same_reg-is}
+use Rattle.c62_op.proofs.Registers.{same_register}
 use Rattle.c62_insn.specs.declared.effect.Access.{Access as MemoryAccess}
 use Rattle.c62_rules.proofs.Exclusive.{exclusive-is}
 use Rattle.c62_rules.proofs.Ranges.{disjoint-is, Covers, covers, apart_bytes}
 use Rattle.c62_serial.specs.Memory.{is_good}
 use Rattle.c62_serial.specs.Effect.{Act, no_act, runs}
 use Rattle.c62_meaning.proofs.NotBoth.{writes_runs, word_kept, not_both}
-use Rattle.c62_serial.specs.State.{first_of, index_of, word_in, byte_in}
+use Rattle.c62_serial.specs.State.{index_of, word_in, byte_in}
 use Rattle.c62_meaning.specs.Landing.{Landing}
 use Rattle.c62_meaning.specs.Packet.{access_time}
 use Rattle.c62_meaning.specs.Instances.{IsOfData, IsOfMemory}
@@ -28,6 +25,7 @@ use Rattle.c62_meaning.proofs.Lookup.{In, Contains_from_In}
 use Rattle.c62_meaning.proofs.Acting.{Reads, LoadsByte, access_at, is_loads}
 use Rattle.c62_meaning.proofs.Landings.{from_In-writes, from_In-access, act_writes, act_accesses, stores_byte}
 use Rattle.c62_meaning.proofs.SameRuns.{Numbered, machine_at, serial_act, reg_writes, byte_writes, IsOrdered}
+use Rattle.c62_serial.proofs.MemoryLemmas.{is_within}
 
 -- an instruction loads or stores a byte in the serial run
 pub record AccessesAt (b : Numbered) (i address : ℕ) : Type 0 where
@@ -73,15 +71,6 @@ store_of b j v h =
     let s = from_In-access (access_time (b.at j)) (serial_act b j).access v h in
     (stores_byte (b.entry j).insn (word_in (machine_at b j)) (byte_in (machine_at b j)) (access_time (b.at j)) v s, s.at)
 
-same_parts : (s t : Side) (m n : ℕ) → m < 16 → n < 16 → first_of s + m ≡ first_of t + n → (same_side s t && (m == n)) ≡ true
-same_parts A A m n l r e = eq-eqb m n (omega arith)
-same_parts A B m n l r e = absurd (omega arith)
-same_parts B A m n l r e = absurd (omega arith)
-same_parts B B m n l r e = eq-eqb m n (omega arith)
-
-pub same_index : (a b : Reg) → index_of a ≡ index_of b → a ≡ b
-same_index a b e = same_reg-is a b (same_parts a.side b.side a.number b.number a.in_range b.in_range e)
-
 -- exclusive ones do not both write
 exclusive_order : (b : Numbered) (h : KeepsData b) (j k : ℕ) (v w : Landing) → j < k → k < b.count → In v (reg_writes b j) → In w (reg_writes b k) → are_exclusive h.path j k ≡ true → ⊥
 exclusive_order b h j k v w l u c d both =
@@ -90,7 +79,7 @@ exclusive_order b h j k v w l u c d both =
     let x = exclusive-is h.path j k (b.entry j).insn (b.entry k).insn l (h.stands j (omega (arith, l, u))) (h.stands k u) both in
     not_both b h.path j k (omega (arith, l)) x
     (λ i m low high writes same.
-    let reg : m.0 ≡ x.one.reg = same_index m.0 x.one.reg same in
+    let reg : m.0 ≡ x.one.reg = same_register m.0 x.one.reg same in
     x.unwritten i m.1 (b.entry i).insn low high (h.stands i (omega (arith, high, u)))
     (subst (λ (r : Reg). Contains (register_writes (b.entry i).insn) (r, m.1)) reg writes))
     (writes_runs (b.entry j).insn (word_in (machine_at b j)) (byte_in (machine_at b j)) p.0 p.1)
@@ -100,7 +89,7 @@ reg_order : (b : Numbered) → KeepsData b → (j k : ℕ) (v w : Landing) → j
 reg_order b h j k v w l u c d e =
     let p = write_of b j v c in
     let q = write_of b k w d in
-    let same : q.reg ≡ p.reg = same_index q.reg p.reg (sym q.cell ∙ sym e ∙ p.cell) in
+    let same : q.reg ≡ p.reg = same_register q.reg p.reg (sym q.cell ∙ sym e ∙ p.cell) in
     let inside : Contains (register_writes (b.entry k).insn) (p.reg, q.delay) = subst (λ r. Contains (register_writes (b.entry k).insn) (r, q.delay)) same q.inside in
     let free : are_exclusive h.path j k ≡ false = false_from_ne_true (are_exclusive h.path j k) (exclusive_order b h j k v w l u c d) in
     let bound : (pos (b.at j).cycle +ℤ (pos (p.delay + 1) -ℤ pos q.delay)) ≤ℤ pos (b.at k).cycle
@@ -112,7 +101,7 @@ reg_order b h j k v w l u c d e =
 reg_read : (b : Numbered) → KeepsData b → (j k : ℕ) (v : Landing) (reg : Reg) → j < k → k < b.count → In v (reg_writes b j) → Reads (b.entry k).insn reg → v.cell ≡ index_of reg → v.time < (b.at k).cycle
 reg_read b h j k v reg l u c reads e =
     let p = write_of b j v c in
-    let same : reg ≡ p.reg = same_index reg p.reg (sym e ∙ p.cell) in
+    let same : reg ≡ p.reg = same_register reg p.reg (sym e ∙ p.cell) in
     let read : Reads (b.entry k).insn p.reg = subst (λ r. Reads (b.entry k).insn r) same reads in
     let bound : (pos (b.at j).cycle +ℤ pos (p.delay + 1)) ≤ℤ pos (b.at k).cycle
     = h.keeps j k (pos (p.delay + 1)) l u (ReadAfterWrite p.reg p.delay p.inside read refl) tt (λ m. absurd m) in
@@ -122,7 +111,7 @@ reg_read b h j k v reg l u c reads e =
 reg_kept : (b : Numbered) → KeepsData b → (j k : ℕ) (w : Landing) (reg : Reg) → j < k → k < b.count → Reads (b.entry j).insn reg → In w (reg_writes b k) → w.cell ≡ index_of reg → (b.at j).cycle ≤ w.time
 reg_kept b h j k w reg l u reads d e =
     let q = write_of b k w d in
-    let same : reg ≡ q.reg = same_index reg q.reg (sym e ∙ q.cell) in
+    let same : reg ≡ q.reg = same_register reg q.reg (sym e ∙ q.cell) in
     let read : Reads (b.entry j).insn q.reg = subst (λ r. Reads (b.entry j).insn r) same reads in
     let bound : (pos (b.at j).cycle +ℤ (pos 0 -ℤ pos q.delay)) ≤ℤ pos (b.at k).cycle
     = h.keeps j k (pos 0 -ℤ pos q.delay) l u (WriteAfterRead q.reg q.delay q.inside read refl) tt (λ m. absurd m) in
@@ -137,16 +126,13 @@ record Touches (insn : Insn) (word : Reg → ℕ) (address : ℕ) : Type 0 where
   low : access.address ≤ address
   high : address < access.address + access.size
 
-within_memory : (address size : ℕ) → is_good address size ≡ true → address + size ≤ 65536
-within_memory address size good = leb-true (address + size) 65536 (and_parts _ _ good).1
-
 stored_touches : (b : Numbered) (j : ℕ) (v : Landing) → In v (byte_writes b j) → Touches (b.entry j).insn (word_in (machine_at b j)) v.cell
 stored_touches b j v h =
     let s = from_In-access (access_time (b.at j)) (serial_act b j).access v h in
     record {
       access = s.access;
       accesses = (act_accesses (b.entry j).insn (word_in (machine_at b j)) (byte_in (machine_at b j)) s.access s.accesses).1;
-      within = within_memory s.access.address s.access.size s.good;
+      within = is_within s.access.address s.access.size s.good;
       low = s.low;
       high = s.high;
     }
@@ -155,7 +141,7 @@ loaded_touches : (b : Numbered) (k address : ℕ) → LoadsByte (b.entry k).insn
 loaded_touches b k address h = record {
   access = h.access;
   accesses = h.accesses;
-  within = within_memory h.access.address h.access.size h.good;
+  within = is_within h.access.address h.access.size h.good;
   low = h.low;
   high = h.high;
 }
@@ -184,7 +170,7 @@ not_the_same b h j k a l u p q both =
     let kept : word_in (machine_at b k) x.one.base ≡ word_in (machine_at b j) x.one.base
     = word_kept b j k x.one.base (omega (arith, l))
     (λ i m low high writes same.
-    let reg : m.0 ≡ x.one.base = same_index m.0 x.one.base same in
+    let reg : m.0 ≡ x.one.base = same_register m.0 x.one.base same in
     x.unwritten i m.1 (b.entry i).insn low high (h.stands i (omega (arith, high, u)))
     (subst (λ (r : Reg). Contains (register_writes (b.entry i).insn) (r, m.1)) reg writes)) in
     let base : word_in (machine_at b k) x.other.base ≡ word_in (machine_at b j) x.one.base = ap (λ (r : Reg). word_in (machine_at b k) r) (sym x.same) ∙ kept in

@@ -47,7 +47,8 @@ from_In-writes cycle [] l h = absurd h
 from_In-writes cycle (w ∷ ws) l (inl e) = (w, inl refl, ap (λ (u : Landing). u.cell) (sym e), ap (λ (u : Landing). u.time) (sym e))
 from_In-writes cycle (w ∷ ws) l (inr h) = let r = from_In-writes cycle ws l h in (r.0, inr r.1, r.2, r.3)
 
-In-zip : (ks : List (Reg × ℕ)) (vs : List ℕ) (w : (Reg × ℕ) × ℕ) → In w (zip ks vs) → In w.0 ks
+-- what is zipped has its keys from the first
+pub In-zip : (ks : List (Reg × ℕ)) (vs : List ℕ) (w : (Reg × ℕ) × ℕ) → In w (zip ks vs) → In w.0 ks
 In-zip [] vs w h = absurd h
 In-zip (k ∷ ks) [] w h = absurd h
 In-zip (k ∷ ks) (v ∷ vs) w (inl e) = inl (ap (λ (u : (Reg × ℕ) × ℕ). u.0) e)

@@ -18,8 +18,9 @@ use Rattle.c62_meaning.specs.Packet.{Did, register_landings, word_before, byte_b
 use Rattle.c62_meaning.specs.Landed.{HasLanded, LandOneByOne, RunsLandOneByOne}
 use Rattle.c62_meaning.proofs.Lookup.{In, In_from_Contains, Contains_from_In, from_In-flat_map}
 use Rattle.c62_meaning.proofs.Landings.{from_In-writes, act_writes}
-use Rattle.c62_meaning.proofs.CellOrder.{same_index}
+use Rattle.c62_op.proofs.Registers.{same_register}
 use Rattle.c62_meaning.proofs.NotBoth.{writes_runs, opposite_tests}
+use Rattle.c62_packet.proofs.Placings.{issued_at}
 
 -- a lookup is the same at two times between which nothing lands at the cell
 latest-stays : (cell t u : ℕ) (ls : List Landing) → ((v : Landing) → In v ls → v.cell ≡ cell → (t ≤ v.time) ↔ (u ≤ v.time)) → latest cell t ls ≡ latest cell u ls
@@ -49,11 +50,6 @@ pub inside_at : (block : List Placed) (i : ℕ) (p : Placed) → slice_get block
 inside_at [] i p e = absurd (none-some p e)
 inside_at (q ∷ block) zero p e = inl (same_Some q p e)
 inside_at (q ∷ block) (suc i) p e = inr (inside_at block i p e)
-
-issued_at : (block : List Placed) (i : ℕ) (p : Placed) → slice_get block i ≡ Some p → IsIssued (issued block) i (issue_of p)
-issued_at [] i p e = absurd (none-some p e)
-issued_at (q ∷ block) zero p e = ap (λ (o : Option Placed). option_map issue_of o) e
-issued_at (q ∷ block) (suc i) p e = issued_at block i p e
 
 number_of : (block : List Placed) (p : Placed) → In p block → (k : ℕ) × IsIssued (issued block) k (issue_of p)
 number_of [] p h = absurd h
@@ -90,7 +86,7 @@ module _ (block : List Placed) (opening : Machine) (did : Did) (run : IsRun bloc
       around v h cell =
           let s = from_In-flat_map (register_landings did) v block h in
           let w = from_In-writes s.0.cycle (did s.0).writes v s.2 in
-          let here : w.0.0.0 ≡ reg = same_index w.0.0.0 reg (sym w.2 ∙ cell) in
+          let here : w.0.0.0 ≡ reg = same_register w.0.0.0 reg (sym w.2 ∙ cell) in
           let number = number_of block s.0 s.1 in
           let writes : Contains (register_writes s.0.insn) (reg, w.0.0.1) = subst (λ (r : Reg). Contains (register_writes s.0.insn) (r, w.0.0.1)) here (made s.0 s.1 w.0 w.1).0 in
           stays number.0 (issue_of s.0) v.time number.1 (w.0.0.1, writes, sym w.3)

@@ -1,6 +1,6 @@
 -- The tests of registers and units tell equality.
-use Rattle.std.proofs.Common.{arith, ◌≡◌, ℕ, ◌<◌, true, refl, ap, ◌∙◌, subst}
-use Rattle.std.specs.Prelude.{◌==◌}
+use Rattle.std.proofs.Common.{arith, ◌≡◌, ℕ, ◌+◌, ◌<◌, true, refl, ap, ◌∙◌, subst}
+use Rattle.std.specs.Prelude.{◌==◌, ◌&&◌}
 use Rattle.std.proofs.Math.Bridge.{le_prop}
 use Rattle.std.proofs.lemmas.Bool.{and_parts}
 use Rattle.std.proofs.lemmas.Bool.Decides.{nat_tests}
@@ -10,6 +10,7 @@ use Rattle.c62_op.specs.declared.register.Side.TheVariants.{A, B}
 use Rattle.c62_op.specs.declared.register.Letter.{Letter}
 use Rattle.c62_op.specs.declared.register.Letter.TheVariants.{L, S, M, D}
 use Rattle.c62_op.specs.declared.register.Unit.{Unit as FunctionalUnit}
+use Rattle.c62_op.specs.Register.{first_of, register_index}
 use Rattle.c62_op.specs.Takes.{same_reg, same_side, same_letter, same_unit}
 
 pub same_side-is : (a b : Side) → same_side a b ≡ true → a ≡ b
@@ -66,3 +67,10 @@ same_unit-is a b h =
 
 pub same_unit-refl : (a : FunctionalUnit) → same_unit a a ≡ true
 same_unit-refl a = rw (same_letter-refl a.letter, same_side-refl a.side) refl
+
+-- each register has an index of its own
+pub same_parts : (s t : Side) (m n : ℕ) → m < 16 → n < 16 → first_of s + m ≡ first_of t + n → (same_side s t && (m == n)) ≡ true
+same_parts s t m n low below e = grind (arith, nat_tests)
+
+pub same_register : (a b : Reg) → register_index a ≡ register_index b → a ≡ b
+same_register a b e = same_reg-is a b (same_parts a.side b.side a.number b.number a.in_range b.in_range e)

@@ -177,7 +177,7 @@ told_first : (whole : List Placed) (rule : CycleRule) (p : Placed) (xs : List Pl
     → FirstOf (λ other c. Suits whole other c p xs) (Some (p.cycle, InCycle rule))
 unfolding FirstOf Suits
 told_first whole rule p xs first = (
-  λ suits. first.broken (suits refl),
+  λ suits. (let few = suits refl first.broken.resource first.broken.of_rule in omega (arith, few, first.broken.over)),
   λ c other is. elim is [
     | inl lower ↦ early whole other c p xs lower
     | inr same ↦ before other c same.1

@@ -1,19 +1,15 @@
 -- Sets of the registers in which something lands.
-use Rattle.std.proofs.Common.{arith, ◌≡◌, ◌≢◌, ℕ, ◌+◌, ◌*◌, ◌^◌, ◌%◌, ◌<◌, Bool, true, false, w32, bit_or, refl, sym, ap, ◌∙◌}
-use Rattle.std.specs.Prelude.{◌==◌, ◌&&◌, ◌||◌}
+use Rattle.std.proofs.Common.{arith, ◌≡◌, ◌≢◌, ℕ, ◌*◌, ◌^◌, ◌%◌, ◌<◌, Bool, true, false, w32, bit_or, refl, sym, ap, ◌∙◌}
+use Rattle.std.specs.Prelude.{◌||◌}
 use Rattle.std.specs.Int.{bit_at}
 use Rattle.std.proofs.lemmas.Bool.{both_ways}
 use Rattle.std.proofs.lemmas.Bool.Decides.{nat_tests}
 use Rattle.std.proofs.lemmas.Nat.Bits.{bit_at_set_same, bit_at_set_other}
-use Rattle.c62_op.specs.declared.register.Side.{Side}
 use Rattle.c62_op.specs.declared.register.Reg.{Reg}
-use Rattle.c62_op.specs.Register.{first_of, register_index}
-use Rattle.c62_op.specs.Takes.{same_reg, same_side}
-use Rattle.c62_op.proofs.Registers.{same_reg-is}
+use Rattle.c62_op.specs.Register.{register_index}
+use Rattle.c62_op.specs.Takes.{same_reg}
+use Rattle.c62_op.proofs.Registers.{same_reg-is, same_parts}
 use Rattle.c62_packet.specs.Landed.{has_register}
-
-one_index : (s t : Side) (m n : ℕ) → m < 16 → n < 16 → first_of s + m ≡ first_of t + n → (same_side s t && (m == n)) ≡ true
-one_index s t m n low below e = grind (arith, nat_tests)
 
 pub with_one : (n k : ℕ) (reg other : Reg) → k ≡ register_index reg
     → has_register (bit_or n (1 * 2 ^ k % 2 ^ 32)) other ≡ (has_register n other || same_reg reg other)
@@ -29,6 +25,6 @@ with_one n k reg other is = by_test (same_reg reg other) refl
         rw (same, set) (grind (arith, nat_tests))
     by_test false e =
         let apart : register_index other ≢ k = λ same.
-        (let one = one_index reg.side other.side reg.number other.number reg.in_range other.in_range (sym (same ∙ is)) in
+        (let one = same_parts reg.side other.side reg.number other.number reg.in_range other.in_range (sym (same ∙ is)) in
         both_ways (same_reg reg other) e one) in
         rw (bit_at_set_other w32 n k within (register_index other) apart) (grind (arith, nat_tests))

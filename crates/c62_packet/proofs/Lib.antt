@@ -3,6 +3,7 @@ pub mod PacketsLemmas
 pub mod RuleLemmas
 pub mod Broken
 pub mod ListingOrder
+pub mod Placings
 pub mod OneFault
 pub mod LandingSets
 pub mod TakenLemmas

@@ -4,7 +4,8 @@ ghost use Rattle.std.specs.Prelude.{◌≡◌, ◌≤◌, length, Some, MatchRes
 ghost use Rattle.std.specs.Option.{option_copied};
 ghost use Rattle.c62_read.specs.declared.limits.TheConstants.{MOST_INSTRUCTIONS};
 ghost use Rattle.c62_packet.specs.declared.limits.TheConstants.{MOST_CYCLES};
-ghost use Rattle.c62_packet.specs.Packed.{Packed, packed_of, IsPacketBlock, IsInListingOrder, StandAsWritten};
+ghost use Rattle.c62_rules.specs.Length.{length_of};
+ghost use Rattle.c62_packet.specs.Packed.{Packed, packed_of, issues_of, IsPacketBlock, IsInListingOrder, StandAsWritten};
 ghost use Rattle.c62_packet.specs.Fault.{IsPackedOrFaulty};
 
 use crate::fault::BlockFault;
@@ -69,11 +70,12 @@ impl PacketBlock {
         })
     }
 
-    /// The block of these instructions, which make one with so many cycles.
-    pub fn of_lawful(label: Option<Label>, cycles: u16, placed: Vec<Placed>) -> PacketBlock
-        requires { IsPacketBlock (packed_of label cycles placed.items) }
-        ensures { result ≡ packed_of label cycles placed.items }
+    /// The block of these instructions, which make one with their own length. They stand in listing order.
+    pub fn of_lawful(label: Option<Label>, placed: Vec<Placed>) -> PacketBlock
+        requires { IsPacketBlock (packed_of label (length_of (issues_of placed.items)) placed.items) }
+        ensures { result ≡ packed_of label (length_of (issues_of placed.items)) placed.items }
     {
+        let cycles = cycles_of(&placed) as u16;
         PacketBlock {
             label,
             cycles,

@@ -7,6 +7,7 @@ mod landings;
 pub mod laws;
 mod length;
 mod limits;
+mod order;
 mod packets;
 mod placed;
 mod rules;
@@ -14,8 +15,8 @@ mod taken;
 
 pub use block::PacketBlock;
 pub use fault::{BlockFault, PacketRule};
-pub use length::cycles_of;
 pub use limits::MOST_CYCLES;
+pub use order::in_listing_order;
 pub use packets::Packets;
 pub use placed::Placed;
 pub use rules::first_broken;

@@ -17,6 +17,7 @@ use Rattle.c62_packet.specs.Packed.{Packed}
 use Rattle.c62_meaning.specs.Meaning.{IsMeaning}
 use Rattle.c62_meaning.proofs.SerialPackets.{are_serial, one_meaning}
 use Rattle.c62_pipe.specs.Chain.{no_block, block_of, packet_blocks, cycles_taken, RunsPackets, LacksRoom, IsBlockPacked, ArePacked, RunsAsProgram}
+use Rattle.c62_packet.specs.declared.limits.TheConstants.{MOST_CYCLES}
 
 -- ---- the run of a chain
 
@@ -26,7 +27,7 @@ pub record Turn (packets : List Packed) (opening machine : Machine) (number bloc
   pub stands : Leads (length packets) (packet_blocks packets) opening (position_at (length packets) 0) numbers machine (position_at (length packets) number)
   pub counted : length numbers ≡ blocks
   pub taken : cycles ≡ cycles_taken packets numbers
-  pub few : cycles ≤ 2048 * blocks
+  pub few : cycles ≤ MOST_CYCLES * blocks
   pub within : blocks ≤ limit
 
 pub first_turn : (packets : List Packed) (machine : Machine) (limit : ℕ) → Turn packets machine machine 0 0 0 limit
@@ -45,11 +46,11 @@ pub record More (packets : List Packed) (opening next : Machine) (number blocks 
   pub stands : Leads (length packets) (packet_blocks packets) opening (position_at (length packets) 0) numbers next (position_after (length packets) number exit)
   pub counted : length numbers ≡ blocks
   pub taken : cycles ≡ cycles_taken packets numbers
-  pub few : cycles ≤ 2048 * blocks
+  pub few : cycles ≤ MOST_CYCLES * blocks
 
 pub block_more : (packets all : List Packed) (opening machine next : Machine) (blocks number cycles limit taken : ℕ) (block : Packed) (exit : Exit)
     → all ≡ packets → number < length all → block ≡ get_or all number block → Turn packets opening machine number blocks cycles limit
-    → IsMeaning block.placed block.cycles machine (record { machine = next; exit = exit }) → taken ≡ block.cycles → taken ≤ 2048
+    → IsMeaning block.placed block.cycles machine (record { machine = next; exit = exit }) → taken ≡ block.cycles → taken ≤ MOST_CYCLES
     → More packets opening next number (blocks + 1) (cycles + taken) exit
 block_more packets all opening machine next blocks number cycles limit taken block exit e h found turn did t small =
     let inside : number < length packets = rw (← e) h in
@@ -62,7 +63,7 @@ block_more packets all opening machine next blocks number cycles limit taken blo
     = sum_by-append (λ n. (block_of packets n).cycles) turn.numbers (number ∷ []) ∙ (let z : sum_by (λ n. (block_of packets n).cycles) (number ∷ []) ≡ (block_of packets number).cycles = omega arith in ap (λ n. cycles_taken packets turn.numbers + n) z) in
     let one : taken ≡ (block_of packets number).cycles = t ∙ ap (λ (b : Packed). b.cycles) same in
     let was : cycles ≡ cycles_taken packets turn.numbers = turn.taken in
-    let few : cycles ≤ 2048 * blocks = turn.few in
+    let few : cycles ≤ MOST_CYCLES * blocks = turn.few in
     record {
       numbers = turn.numbers ++ number ∷ [];
       stands = leads_on (length packets) (packet_blocks packets) opening machine (position_at (length packets) 0) turn.numbers number (record { machine = next; exit = exit }) here is;

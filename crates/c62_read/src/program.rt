@@ -349,7 +349,8 @@ fn any_labelled(blocks: &[BlockReader], label: &[u8]) -> bool
     blocks.iter().any(|block| label_is(label, &block.label))
 }
 
-fn label_is(label: &[u8], other: &Option<Label>) -> bool
+/// Whether a block has this label.
+pub fn label_is(label: &[u8], other: &Option<Label>) -> bool
     ensures { result ≡ label_is label.now other.now }
 {
     match other {
@@ -369,9 +370,9 @@ pub fn without_return(line: &[u8]) -> &[u8]
     }
 }
 
-/// The first line of a text, without its end, and the text after it.
+/// The first line of a text, without its end, and the text after it; none of a text that has no bytes.
 #[inline(always)]
-fn first_line(text: &[u8]) -> Option<(&[u8], &[u8])>
+pub fn first_line(text: &[u8]) -> Option<(&[u8], &[u8])>
     ensures found { IsFirstLine result (lines_of text.now) }
     ensures shorter { IfSome result (λ found. length found.1.now < length text.now) }
 {

@@ -115,8 +115,11 @@ module _ (row : Row) (own : Uses) (issues with_it : Issues) (p : Issue) (more : 
 
   first-broken : (place : ℕ) → IsFirstOver row own place → IsFirstBroken (rule_at place) p.cycle with_it
   first-broken place over = record {
-    broken = λ kept. (let few = kept r (sym (rule-here r) ∙ ap rule_at there) in
-        omega (arith, few, much, used-same r p.cycle with_it, capacity-here r, ap capacity_at there, ap (λ (k : ℕ). sum_by (taken_at p.cycle k) with_it) there));
+    broken = record {
+      resource = r;
+      of_rule = sym (rule-here r) ∙ ap rule_at there;
+      over = omega (arith, much, used-same r p.cycle with_it, capacity-here r, ap capacity_at there, ap (λ (k : ℕ). sum_by (taken_at p.cycle k) with_it) there);
+    };
     first = λ other less x under. of-resource x (over.first (place_of x) (before other less x under));
   }
     where

@@ -5,6 +5,7 @@ use Rattle.std.proofs.lemmas.Bool.{cases_lt, cases_eq, agree_below_at, eq-eqb, n
 use Rattle.std.proofs.lemmas.Bool.Decides.{nat_tests}
 use Rattle.c62_rules.specs.Resource.{rule_at}
 use Rattle.c62_row.specs.declared.row.Uses.{Uses}
+use Rattle.c62_row.specs.declared.row.TheConstants.{START}
 use Rattle.c62_row.specs.declared.row.Row.{Row}
 use Rattle.c62_row.specs.Fields.{count_at}
 use Rattle.c62_row.specs.Fields.{field_at, EachField, EachPlace, IsClear, IsFirstHigh, AreBelow}
@@ -106,9 +107,9 @@ abbrev one : Bool → ℕ
 one test = if test then 1 else 0
 
 -- where nothing is taken
-pub unused : (place : ℕ) → place < 48 → field_at (0x3333_6666_6666_6666 ∷ 0x3333_3333_3333_3333 ∷ 0x0000_3333_3333_3333 ∷ []) place ≡ start_at place
+pub unused : (place : ℕ) → place < 48 → field_at START place ≡ start_at place
 unused place low =
-    let is = agree_below_at (λ k. field_at (0x3333_6666_6666_6666 ∷ 0x3333_3333_3333_3333 ∷ 0x0000_3333_3333_3333 ∷ []) k == start_at k) (λ k. true) 48 place refl low in
+    let is = agree_below_at (λ k. field_at START k == start_at k) (λ k. true) 48 place refl low in
     grind (arith, nat_tests)
 
 pub zeros : (place : ℕ) → place < 48 → field_at (0 ∷ 0 ∷ 0 ∷ []) place ≡ 0

@@ -12,6 +12,13 @@ use c62_rules::{CycleRule, Resource, taken_by};
 /// The highest bit of each field of a word.
 const GUARDS: u64 = 0x8888_8888_8888_8888;
 
+/// Where nothing is taken: so far below 8 that more than there is makes 8.
+const START: [u64; 3] = [
+    0x3333_6666_6666_6666,
+    0x3333_3333_3333_3333,
+    0x0000_3333_3333_3333,
+];
+
 /// The sum of two words of which no field carries.
 fn sum(one: u64, other: u64) -> u64
     requires { EachField (λ j. count_at one j + count_at other j < 16) }
@@ -112,13 +119,7 @@ impl Row {
     pub fn new() -> Row
         ensures { IsUnused result }
     {
-        Row {
-            words: [
-                0x3333_6666_6666_6666,
-                0x3333_3333_3333_3333,
-                0x0000_3333_3333_3333,
-            ],
-        }
+        Row { words: START }
     }
 
     /// Whether there is enough for an instruction that takes so much too.

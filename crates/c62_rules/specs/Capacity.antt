@@ -33,6 +33,12 @@ AreEnough cycle issues = (r : Resource) → IsEnough r cycle issues
 abbrev pub IsKept : CycleRule → ℕ → Issues → Type 0
 IsKept rule cycle issues = (r : Resource) → rule_of r ≡ rule → IsEnough r cycle issues
 
+-- a rule is broken: of one of its resources more is taken than there is
+pub record IsBroken (rule : CycleRule) (cycle : ℕ) (issues : Issues) : Type 0 where
+  pub resource : Resource
+  pub of_rule : rule_of resource ≡ rule
+  pub over : capacity_of resource < used resource cycle issues
+
 -- the order in which the rules are told
 abbrev pub rank_of : CycleRule → ℕ
 rank_of P1 = 0
@@ -40,9 +46,9 @@ rank_of P2 = 1
 rank_of P3 = 2
 rank_of P4 = 3
 
--- the first rule that is not kept in this cycle
+-- the first rule that is broken in this cycle
 pub record IsFirstBroken (rule : CycleRule) (cycle : ℕ) (issues : Issues) : Type 0 where
-  pub broken : IsKept rule cycle issues → ⊥
+  pub broken : IsBroken rule cycle issues
   pub first : (other : CycleRule) → rank_of other < rank_of rule → IsKept other cycle issues
 
 -- ---- laws

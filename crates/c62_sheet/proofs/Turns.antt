@@ -31,7 +31,7 @@ module _ {block : List Insn} {set : Spots} {i : ℕ} {s : Spot} where
   clear_all clear keeps = record { kept = kept }
     where
       kept : (rule : Rule) → 0 ≤ turn_of rule → turn_of rule < 21 → Breaks block set i s rule → ⊥
-      kept (InCycle rule) low high b = b (λ r is. keeps r)
+      kept (InCycle rule) low high b = let few = keeps b.resource in omega (arith, few, b.over)
       kept rule low high b = clear.kept rule low (omega arith) b
 
 -- what the first three rules ask
@@ -70,12 +70,12 @@ module _ (block : List Insn) (set : Spots) (i : ℕ) (s : Spot) (lawful : IsLawf
   open_keeps may Limit b = omega (arith, within_from_lawful block set i s in_set may.lawful, b)
   open_keeps may Missing b = none_not_some _ b.2 (founded_from_lawful block set i s in_set may.lawful b.0 b.1)
   open_keeps may Delay b = b (after_from_lawful block set i s in_set may.lawful)
-  open_keeps may (InCycle rule) b = b (λ r is. may.lawful.rules.enough s.cycle r)
+  open_keeps may (InCycle rule) b = let few = may.lawful.rules.enough s.cycle b.resource in omega (arith, few, b.over)
 
   -- where no rule is broken, the triple may be added
   clear_enough : IsClear block set i s 0 21 → KeepsAll block set i s
   clear_enough clear r = elim (cases_lt (capacity_of r) (used r s.cycle (issues block (placed set i s)))) [
-    | inl over ↦ absurd (clear.kept (InCycle (rule_of r)) (omega arith) (omega (arith, rank-few (rule_of r))) (λ kept. (let few = kept r refl in omega (arith, few, over))))
+    | inl over ↦ absurd (clear.kept (InCycle (rule_of r)) (omega arith) (omega (arith, rank-few (rule_of r))) (record { resource = r; of_rule = refl; over = over }))
     | inr few ↦ few
   ]
 
@@ -108,5 +108,5 @@ module _ (block : List Insn) (set : Spots) (i : ℕ) (s : Spot) (lawful : IsLawf
   refused_packet rule clear first = refused_by (InCycle rule) s.cycle (record { kept = kept }) first.broken refl
     where
       kept : (earlier : Rule) → 0 ≤ turn_of earlier → turn_of earlier < turn_of (InCycle rule) → Breaks block set i s earlier → ⊥
-      kept (InCycle other) low high b = b (first.first other (omega (arith, high)))
+      kept (InCycle other) low high b = let few = first.first other (omega (arith, high)) b.resource b.of_rule in omega (arith, few, b.over)
       kept earlier low high b = clear.kept earlier low (omega arith) b

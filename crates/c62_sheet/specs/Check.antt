@@ -2,7 +2,7 @@
 -- refused").
 use Rattle.std.specs.Prelude.{◌≡◌, ℕ, ◌+◌, ◌*◌, ◌<◌, ◌≤◌, false, List, length, None, IsSome, Result, MatchResult}
 use Rattle.c62_insn.specs.declared.insn.Insn.{Insn}
-use Rattle.c62_rules.specs.Capacity.{IsKept, rank_of}
+use Rattle.c62_rules.specs.Capacity.{IsBroken, rank_of}
 use Rattle.c62_rules.specs.Dependence.{Depends}
 use Rattle.c62_depend.specs.Side.{stands_on}
 use Rattle.c62_sheet.specs.declared.entry.Spot.{Spot}
@@ -23,7 +23,7 @@ Breaks block set i s WrongUnit = stands_on block i s.unit ≡ false
 Breaks block set i s Limit = 5 * length block ≤ s.cycle
 Breaks block set i s Missing = LacksSome block set i
 Breaks block set i s Delay = IsAfter block set i s.cycle → ⊥
-Breaks block set i s (InCycle rule) = IsKept rule s.cycle (issues block (placed set i s)) → ⊥
+Breaks block set i s (InCycle rule) = IsBroken rule s.cycle (issues block (placed set i s))
 
 -- the position of a rule in the order in which they are asked
 abbrev pub turn_of : Rule → ℕ

@@ -18,7 +18,7 @@ use Rattle.c62_token.proofs.SpelledTokens.{all_weaker, IsPiece, IsToken, word_en
 
 -- ---- digits
 
-own : IsNumeralModel (λ ds. list_all is_ascii_digit ds ≡ true) (digits_value 10)
+pub own : IsNumeralModel (λ ds. list_all is_ascii_digit ds ≡ true) (digits_value 10)
 own = numerals_by_value _ (search rules)
 
 -- a number as it is written

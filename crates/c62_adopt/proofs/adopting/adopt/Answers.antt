@@ -8,8 +8,9 @@ use Rattle.c62_adopt_cut.specs.Laws.{IsFine}
 use Rattle.c62_adopt.specs.Blocks.{IsBlockOf}
 use Rattle.c62_adopt.specs.Breach.{KeepsRules}
 use Rattle.c62_adopt.specs.Packing.{IsSound}
-use Rattle.c62_adopt.proofs.SoundLemmas.{neither, cut_few, cut_fine, cut_sound, cut_closed}
+use Rattle.c62_adopt.proofs.SoundLemmas.{cut_few, cut_fine, cut_sound, cut_closed}
 use Rattle.c62_adopt.proofs.adopting.adopt.Goals as goal
+use Rattle.c62_adopt_cut.proofs.OverLemmas.{behind_of}
 
 pub first_breach-requires-clause-few : goal.first_breach-requires-clause-few
 first_breach-requires-clause-few c =
@@ -31,7 +32,7 @@ packets_of-requires-clause-sound c =
     let drafts : List DraftRead = c.in_ok-cut.cut.drafts.items in
     let kept : All (KeepsRules (map draft_of drafts)) (map draft_of drafts) =
     subst (λ (ds : List DraftRead). All (KeepsRules (map draft_of ds)) (map draft_of ds)) c.deref.ensures.value (rw c.in_default.is at c.in_ok-line.ensures) in
-    let none = (neither _ (first_in_flight c.args.drain (cut_of c.in_ok-cut.cut)) (sym c.in_default-fault_of.ensures)).1 in
+    let none = (behind_of _ (first_in_flight c.args.drain (cut_of c.in_ok-cut.cut)) (sym c.in_default-fault_of.ensures)).1 in
     subst (λ (ds : List DraftRead). All (λ draft. IsSound (map draft_of ds) (draft_of draft)) ds) (sym c.deref-2.ensures.value)
     (cut_sound c.args.text.now c.in_ok-cut.cut c.in_ok-cut.ensures c.args.drain kept none)
 
@@ -41,7 +42,7 @@ cycles_lacking-requires c = record { few = cut_few c.args.text.now c.in_ok-cut.c
 pub returns-clause-closed : goal.returns-clause-closed
 returns-clause-closed c =
     let drafts : List DraftRead = c.in_ok-cut.cut.drafts.items in
-    let none = (neither _ (first_in_flight c.args.drain (cut_of c.in_ok-cut.cut)) (sym c.in_default-fault_of.ensures)).1 in
+    let none = (behind_of _ (first_in_flight c.args.drain (cut_of c.in_ok-cut.cut)) (sym c.in_default-fault_of.ensures)).1 in
     let zip : AllZip (IsBlockOf (map draft_of drafts)) (map draft_of drafts) c.in_ok-packets.packets =
     subst (λ (ds : List DraftRead). AllZip (IsBlockOf (map draft_of ds)) (map draft_of ds) c.in_ok-packets.packets) c.deref-2.ensures.value
     c.in_ok-packets.ensures in

@@ -10,6 +10,7 @@ use Rattle.c62_adopt_cut.specs.Drafted.{issue_of, draft_of}
 use Rattle.c62_adopt.specs.Judged.{MayStand}
 use Rattle.c62_adopt.proofs.Placing.{as_many_listed, listed_short, found_rule, found_none}
 use Rattle.c62_adopt.proofs.breach.rule_broken.Goals as goal
+use Rattle.c62_packet.specs.declared.limits.TheConstants.{MOST_CYCLES}
 
 pub first_broken-requires-clause-few : goal.first_broken-requires-clause-few
 first_broken-requires-clause-few c =
@@ -18,7 +19,7 @@ first_broken-requires-clause-few c =
 
 pub first_broken-requires-clause-short : goal.first_broken-requires-clause-short
 first_broken-requires-clause-short c =
-    subst (All (λ (p : Placed). p.cycle < 2048)) (sym c.deref.ensures.value)
+    subst (All (λ (p : Placed). p.cycle < MOST_CYCLES)) (sym c.deref.ensures.value)
     (listed_short (map draft_of c.args.drafts.now) (map issue_of c.args.issues.now) c.in_ok-placed.placed.items c.in_ok-placed.ensures
     (All-map MayStand issue_of c.args.issues.now c.requires.stand))
 

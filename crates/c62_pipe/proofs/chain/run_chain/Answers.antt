@@ -4,6 +4,7 @@ use Rattle.c62_serial.specs.declared.chain.End.TheVariants.{Register as ToRegist
 use Rattle.c62_serial.specs.Chain.{Ended}
 use Rattle.c62_pipe.proofs.Chains.{More, first_turn, block_more, packets_end, packets_fall_through, packets_at_limit}
 use Rattle.c62_pipe.proofs.chain.run_chain.Goals as goal
+use Rattle.c62_packet.specs.declared.limits.TheConstants.{MOST_CYCLES}
 
 pub loop-number-init : goal.loop-number-init
 loop-number-init c = record { turn = first_turn c.args.packets.now c.args.state.now.machine c.args.limit; idle = c.new-pipe.ensures }
@@ -17,7 +18,7 @@ pub returns-in-Register-clause-ok : goal.returns-in-Register-clause-ok
 returns-in-Register-clause-ok c =
     let P : Exit → Type 0 = λ exit. More c.args.packets.now c.args.state.now.machine c.run_block.new.state.machine c.loop-number.number (c.loop-number.blocks + 1) (c.loop-number.cycles + c.from-cycles.result) exit in
     let taken : c.from-cycles.result ≡ c.in_ok-exit.taken = c.from-cycles.ensures in
-    let short : c.in_ok-exit.taken ≤ 2048 = c.in_ok-exit.ensures.short in
+    let short : c.in_ok-exit.taken ≤ MOST_CYCLES = c.in_ok-exit.ensures.short in
     let more = subst P c.in-Register.is (block_more c.args.packets.now c.blocks-all.result.now c.args.state.now.machine c.loop-number.state.machine c.run_block.new.state.machine
     c.loop-number.blocks c.loop-number.number c.loop-number.cycles c.args.limit c.from-cycles.result c.index-all-number.result c.in_ok-exit.exit
     c.blocks-all.ensures.same c.loop-number-test.true c.index-all-number.is c.loop-number.invariant.turn c.in_ok-exit.ensures.meaning (taken ∙ c.in_ok-exit.ensures.cycles) (omega arith)) in
@@ -28,7 +29,7 @@ pub loop-number-preserved-in-Next : goal.loop-number-preserved-in-Next
 loop-number-preserved-in-Next c =
     let P : Exit → Type 0 = λ exit. More c.args.packets.now c.args.state.now.machine c.run_block.new.state.machine c.loop-number.number (c.loop-number.blocks + 1) (c.loop-number.cycles + c.from-cycles.result) exit in
     let taken : c.from-cycles.result ≡ c.in_ok-exit.taken = c.from-cycles.ensures in
-    let short : c.in_ok-exit.taken ≤ 2048 = c.in_ok-exit.ensures.short in
+    let short : c.in_ok-exit.taken ≤ MOST_CYCLES = c.in_ok-exit.ensures.short in
     let more = subst P c.in-Next.is (block_more c.args.packets.now c.blocks-all.result.now c.args.state.now.machine c.loop-number.state.machine c.run_block.new.state.machine
     c.loop-number.blocks c.loop-number.number c.loop-number.cycles c.args.limit c.from-cycles.result c.index-all-number.result c.in_ok-exit.exit
     c.blocks-all.ensures.same c.loop-number-test.true c.index-all-number.is c.loop-number.invariant.turn c.in_ok-exit.ensures.meaning (taken ∙ c.in_ok-exit.ensures.cycles) (omega arith)) in
@@ -38,7 +39,7 @@ pub loop-number-preserved : goal.loop-number-preserved
 loop-number-preserved c =
     let P : Exit → Type 0 = λ exit. More c.args.packets.now c.args.state.now.machine c.run_block.new.state.machine c.loop-number.number (c.loop-number.blocks + 1) (c.loop-number.cycles + c.from-cycles.result) exit in
     let taken : c.from-cycles.result ≡ c.in_ok-exit.taken = c.from-cycles.ensures in
-    let short : c.in_ok-exit.taken ≤ 2048 = c.in_ok-exit.ensures.short in
+    let short : c.in_ok-exit.taken ≤ MOST_CYCLES = c.in_ok-exit.ensures.short in
     let more = subst P c.in-Block.is (block_more c.args.packets.now c.blocks-all.result.now c.args.state.now.machine c.loop-number.state.machine c.run_block.new.state.machine
     c.loop-number.blocks c.loop-number.number c.loop-number.cycles c.args.limit c.from-cycles.result c.index-all-number.result c.in_ok-exit.exit
     c.blocks-all.ensures.same c.loop-number-test.true c.index-all-number.is c.loop-number.invariant.turn c.in_ok-exit.ensures.meaning (taken ∙ c.in_ok-exit.ensures.cycles) (omega arith)) in
