@@ -20,6 +20,6 @@ pub record IsRow (row : Row) : Type 0 where
   pub few : length row.insns ≤ 8
 
 -- so it is of each row, and branches name 256 labels at most
-pub record AreRows (rows : RowsRead) : Type 0 where
-  pub rows : All (λ row. IsRow (row_read row)) rows.rows.items
-  pub aims : length rows.aims.items ≤ 256
+pub record AreRows (read : RowsRead) : Type 0 where
+  pub each : All (λ row. IsRow (row_read row)) read.rows.items
+  pub aims : length read.aims.items ≤ 256
