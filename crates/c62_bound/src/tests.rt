@@ -28,7 +28,7 @@ const SEVEN_ON_B: &str =
 
 /// Blocks: kind, side, count and tail of the greatest need, its cycles, the length of the critical path, and its numbers.
 /// The cycles are the count, over the width of the kind and rounded up, and the tail.
-const BOUNDS: [(&str, (Kind, Side, u16, u16), u32, u16, &[u16]); 29] = [
+const BOUNDS: [(&str, (Kind, Side, u16, u16), u32, u16, &[u16]); 31] = [
     // Of .S1, of .L1 and .S1, and of all three: the first of the kinds.
     ("MVK 1,A1", (Kind::S, A, 1, 0), 1, 1, &[0]),
     // A load's delay is 4. Its data path is needed as much as .D1, which comes first.
@@ -57,6 +57,23 @@ const BOUNDS: [(&str, (Kind, Side, u16, u16), u32, u16, &[u16]); 29] = [
     // On .D1 and .D2, but over one data path.
     ("LDW *A4,A5\nLDW *B4,A6", (Kind::Path, A, 2, 4), 6, 5, &[0]),
     ("LDW *A4,B5\nLDW *B4,B6", (Kind::Path, B, 2, 4), 6, 5, &[0]),
+    // As great on .D1 as on .L1 with .S1, four instructions in four cycles: .D comes first in the table of kinds.
+    (
+        "AND A1,A2,A3\nOR A1,A2,A4\nXOR A1,A2,A5\nAND A2,A1,A6\nMPY A3,A4,A9\nMPY A5,A6,A10\n\
+STW A0,*A8\nSTW A0,*+A8[1]\nSTW A0,*+A8[2]\nSTW A0,*+A8[3]",
+        (Kind::D, A, 4, 0),
+        4,
+        3,
+        &[0, 4],
+    ),
+    // Two follow a cycle behind the first, and the path goes on with the one that stands first.
+    (
+        "MVK 1,A1\nADD A1,A1,A2\nADD A1,A1,A3",
+        (Kind::S, A, 1, 1),
+        2,
+        2,
+        &[0, 1],
+    ),
     // Comparisons stand on .L alone.
     (
         "CMPEQ A1,A2,A3\nCMPEQ A1,A2,A4",

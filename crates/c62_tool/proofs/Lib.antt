@@ -11,3 +11,4 @@ pub mod ReadBack
 pub mod OneBoard
 pub mod OneText
 mod AdoptedBack
+pub mod Bounds

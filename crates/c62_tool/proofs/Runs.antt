@@ -12,8 +12,8 @@ use Rattle.c62_adopt_cut.specs.Text.{Cut, text_cut, too_long as too_long_cut}
 use Rattle.c62_adopt_cut.specs.Flight.{cycles_lacking}
 use Rattle.c62_adopt.specs.declared.fault.AdoptFault.{AdoptFault}
 use Rattle.c62_adopt.specs.Answer.{IsAdopted, IsAdoptedCut, Refuses as RefusesPackets, RefusesCut}
-use Rattle.c62_tool.specs.Message.{IsFront, IsToldOf, Tells, TellsOf, TellsOutcome, adopt_message, drained_message, fault_message, list_message, message_of, no_listing, of_listing, of_text, setting_message}
-use Rattle.c62_tool.specs.Run.{AsksInVain, AsksNothing, Blames, Does, Ends, EndsOnBytes, Fails, Gives, HasFailed, IsAdoptedText, IsAnswer, IsCommandFailure, IsDone, IsRefused, IsRefusedText, IsRun, IsRunOnBytes, Streams, TakesAtMost, limit_of, status_done, status_of}
+use Rattle.c62_tool.specs.Message.{IsFront, IsToldOf, Telling, Tells, TellsOf, TellsOutcome, adopt_message, drained_message, fault_message, list_message, message_of, no_listing, of_listing, of_text, setting_message, told_of}
+use Rattle.c62_tool.specs.Run.{AsksInVain, AsksNothing, BeginsAnswer, Blames, BreaksOff, Does, Ends, EndsOnBytes, Fails, Gives, HasFailed, IsAdoptedText, IsAnswer, IsCommandFailure, IsDone, IsRefused, IsRefusedText, IsRun, IsRunBy, IsRunOnBytes, Streams, TakesAtMost, limit_of, status_done, status_of}
 use Rattle.c62_command.specs.declared.command.CommandError.{CommandError}
 use Rattle.c62_command.specs.declared.command.CommandError.TheVariants as command
 use Rattle.c62_command.specs.CommandLine.{Adoption, Ask, HasBadSetting, IsRefusal, IsUnknown, Listing, ListingReport, PacketReport, Picture, SerialReport, Verdicts, asked}
@@ -25,6 +25,7 @@ use Rattle.c62_tool.specs.declared.outcome.Outcome.TheVariants.{Done, Drained, N
 use Rattle.c62_tool.specs.declared.outcome.Reply.{Reply}
 use Rattle.c62_tool.specs.Texts.{IsNoPackets, IsNoProgram}
 use Rattle.c62_tool.specs.Check.{IsCheck, IsNoCheck}
+use Rattle.c62_tool.proofs.Telling.{whole_told}
 use Rattle.c62_tool.proofs.Checks.{check_all, no_check_all, read_same, refuses_same, too_long, too_long_listing}
 
 -- ---- one byte past the limit tells enough
@@ -96,6 +97,7 @@ answered (Picture packing) Done all text answer read is = record {
   says = sym (program_all all text read) ∙ is.says;
   shown = is.shown;
   packed = is.packed;
+  bounded = is.bounded;
   drawn = is.drawn;
 }
 answered (SerialReport blocks settings) Done all text answer read is = record {
@@ -148,6 +150,26 @@ answers ask None old new text reply read gives written = record {
 answers ask (Some all) old new text reply read gives written = record {
   text = all;
   same = refl;
+  answer = reply.text.items;
+  is = answered ask reply.outcome all text reply.text.items read gives;
+  written = written;
+}
+
+-- a front of the answer to what was read, written
+pub breaks_off : (ask : Ask) (known old new : Option (List ℕ)) (text : List ℕ) (reply : Reply) → IfSome known (λ all. text ≡ take (limit_of ask + 1) all)
+    → Gives ask text (Ok reply) → Tells old new reply.text.items → BreaksOff ask known old new
+breaks_off ask None old new text reply read gives written = record {
+  text = text;
+  same = tt;
+  outcome = reply.outcome;
+  answer = reply.text.items;
+  is = gives;
+  written = written;
+}
+breaks_off ask (Some all) old new text reply read gives written = record {
+  text = all;
+  same = refl;
+  outcome = reply.outcome;
   answer = reply.text.items;
   is = answered ask reply.outcome all text reply.text.items read gives;
   written = written;
@@ -228,9 +250,9 @@ ends_with NotSame = inr refl
 ends_otherwise : (outcome : Outcome) (status : ℕ) → 0 < status → status < 5 → status_done outcome ≡ status → ⊥
 ends_otherwise outcome status more less ends = neither (ends_with outcome) (λ zero. omega (arith, zero, ends, more)) (λ five. omega (arith, five, ends, less))
 
-pub done : (words : List Text) (old new : Streams) (outcome : Outcome) → Reads words old.input new.input → TellsOutcome outcome old.errors new.errors
-    → IsDone words outcome old.input old.output new.output → IsRun words old new (status_done outcome)
-done words old new outcome reads told does = record {
+pub done : (Told : Telling) (words : List Text) (old new : Streams) (outcome : Outcome) → Reads words old.input new.input → TellsOutcome Told outcome old.errors new.errors
+    → IsDone words outcome old.input old.output new.output → IsRunBy Told words old new (status_done outcome)
+done Told words old new outcome reads told does = record {
   known = elim (ends_with outcome) [
     | inl zero ↦ omega (arith, zero)
     | inr five ↦ omega (arith, five)
@@ -242,12 +264,13 @@ done words old new outcome reads told does = record {
   unread = reads.unread;
   memory = λ e. absurd (ends_otherwise outcome 3 (omega arith) (omega arith) e);
   stream = λ e. absurd (ends_otherwise outcome 4 (omega arith) (omega arith) e);
+  broken = λ e. absurd (ends_otherwise outcome 4 (omega arith) (omega arith) e);
   quiet = λ more less. absurd (ends_otherwise outcome (status_done outcome) more (omega (arith, less)) refl);
   most = reads.most;
 }
 
-module _ (words : List Text) (old new : Streams) (reads : Reads words old.input new.input) where
-  is_refused : Keeps old.output new.output → TellsOf (AsksInVain (asked words) old.input) old.errors new.errors → (asked words ≡ None → ⊥) → IsRun words old new 1
+module _ (Told : Telling) (words : List Text) (old new : Streams) (reads : Reads words old.input new.input) where
+  is_refused : Keeps old.output new.output → TellsOf Told (AsksInVain (asked words) old.input) old.errors new.errors → (asked words ≡ None → ⊥) → IsRunBy Told words old new 1
   is_refused quiet told some = record {
     known = search rules;
     done = λ e. absurd (neither e (λ zero. omega (arith, zero)) (λ five. omega (arith, five)));
@@ -257,11 +280,12 @@ module _ (words : List Text) (old new : Streams) (reads : Reads words old.input 
     unread = reads.unread;
     memory = λ e. absurd (omega arith);
     stream = λ e. absurd (omega arith);
+    broken = λ e. absurd (omega arith);
     quiet = λ _ _. quiet;
     most = reads.most;
   }
 
-  is_blamed : Keeps old.output new.output → AsksNothing words old.errors new.errors → IsRun words old new 2
+  is_blamed : Keeps old.output new.output → AsksNothing Told words old.errors new.errors → IsRunBy Told words old new 2
   is_blamed quiet told = record {
     known = search rules;
     done = λ e. absurd (neither e (λ zero. omega (arith, zero)) (λ five. omega (arith, five)));
@@ -271,11 +295,12 @@ module _ (words : List Text) (old new : Streams) (reads : Reads words old.input 
     unread = reads.unread;
     memory = λ e. absurd (omega arith);
     stream = λ e. absurd (omega arith);
+    broken = λ e. absurd (omega arith);
     quiet = λ _ _. quiet;
     most = reads.most;
   }
 
-  is_out_of_memory : Keeps old.output new.output → Tells old.errors new.errors (codes "memory\n") → IsRun words old new 3
+  is_out_of_memory : Keeps old.output new.output → Told old.errors new.errors (codes "memory\n") → IsRunBy Told words old new 3
   is_out_of_memory quiet told = record {
     known = search rules;
     done = λ e. absurd (neither e (λ zero. omega (arith, zero)) (λ five. omega (arith, five)));
@@ -285,12 +310,15 @@ module _ (words : List Text) (old new : Streams) (reads : Reads words old.input 
     unread = reads.unread;
     memory = λ _. told;
     stream = λ e. absurd (omega arith);
+    broken = λ e. absurd (omega arith);
     quiet = λ _ _. quiet;
     most = reads.most;
   }
 
-  is_cut_off : Tells old.errors new.errors (codes "input\n") ⊎ Tells old.errors new.errors (codes "output\n") → (asked words ≡ None → ⊥) → IsRun words old new 4
-  is_cut_off told some = record {
+  is_cut_off : Told old.errors new.errors (codes "input\n") ⊎ Told old.errors new.errors (codes "output\n")
+      → Keeps old.output new.output ⊎ IsSomeAnd (asked words) (λ ask. BreaksOff ask old.input old.output new.output) → (asked words ≡ None → ⊥)
+      → IsRunBy Told words old new 4
+  is_cut_off told front some = record {
     known = search rules;
     done = λ e. absurd (neither e (λ zero. omega (arith, zero)) (λ five. omega (arith, five)));
     refused = λ e. absurd (omega arith);
@@ -299,20 +327,21 @@ module _ (words : List Text) (old new : Streams) (reads : Reads words old.input 
     unread = reads.unread;
     memory = λ e. absurd (omega arith);
     stream = λ _. told;
+    broken = λ _. front;
     quiet = λ less more. absurd (omega arith);
     most = reads.most;
   }
 
   -- the words ask for nothing
-  is_not_asked : (f : Failure) → Blames f words → Keeps old.output new.output → IfSome (message_of f) (Tells old.errors new.errors) → IsRun words old new (status_of f)
+  is_not_asked : (f : Failure) → Blames f words → Keeps old.output new.output → IfSome (message_of f) (Told old.errors new.errors) → IsRunBy Told words old new (status_of f)
   is_not_asked f (command.Words e, is, unknown) quiet told = rw is (is_blamed quiet (inl unknown))
   is_not_asked f (command.Setting k, is, bad) quiet told =
       rw is (is_blamed quiet (inr (record { text = setting_message k; is = (k, bad, refl); told = rw is at told })))
   is_not_asked f (command.Memory, is, any) quiet told = rw is (is_out_of_memory quiet (rw is at told))
 
   -- what they ask for was not done
-  is_not_done : (f : Failure) (ask : Ask) → asked words ≡ Some ask → Fails ask old.input old.output new.output f → IfSome (message_of f) (Tells old.errors new.errors)
-      → IsRun words old new (status_of f)
+  is_not_done : (f : Failure) (ask : Ask) → asked words ≡ Some ask → Fails ask old.input old.output new.output f → IfSome (message_of f) (Told old.errors new.errors)
+      → IsRunBy Told words old new (status_of f)
   is_not_done (failures.Unlisted fault) ask is fails told =
       is_refused fails.1 (record { text = list_message fault; is = for_asked words ask _ is fails.0; told = told }) (λ none. absurd cc)
   is_not_done (failures.Unadopted fault) ask is fails told =
@@ -326,18 +355,62 @@ module _ (words : List Text) (old new : Streams) (reads : Reads words old.input 
   is_not_done failures.NoListing ask is fails told =
       is_refused fails.1 (record { text = no_listing; is = for_asked words ask _ is fails.0; told = told }) (λ none. absurd cc)
   is_not_done failures.Memory ask is fails told = is_out_of_memory fails told
-  is_not_done failures.Input ask is fails told = is_cut_off (inl told) (λ none. absurd cc)
-  is_not_done failures.Output ask is fails told = is_cut_off (inr told) (λ none. absurd cc)
+  is_not_done failures.Input ask is fails told = is_cut_off (inl told) (inl fails) (λ none. absurd cc)
+  is_not_done failures.Output ask is fails told = is_cut_off (inr told) (inr (for_asked words ask _ is fails)) (λ none. absurd cc)
   is_not_done (failures.Words e) ask is fails told = absurd fails
   is_not_done (failures.Setting k) ask is fails told = absurd fails
 
-  pub failed : (f : Failure) → HasFailed words old.input old.output new.output f → IfSome (message_of f) (Tells old.errors new.errors) → IsRun words old new (status_of f)
+  pub failed : (f : Failure) → HasFailed words old.input old.output new.output f → IfSome (message_of f) (Told old.errors new.errors) → IsRunBy Told words old new (status_of f)
   failed f (inl blames) told = is_not_asked f blames.0 blames.1 told
   failed f (inr fails) told = go (asked words) refl fails
     where
-      go : (a : Option Ask) → asked words ≡ a → IsSomeAnd a (λ ask. Fails ask old.input old.output new.output f) → IsRun words old new (status_of f)
+      go : (a : Option Ask) → asked words ≡ a → IsSomeAnd a (λ ask. Fails ask old.input old.output new.output f) → IsRunBy Told words old new (status_of f)
       go None is none = absurd none
       go (Some ask) is some = is_not_done f ask is some told
+
+-- ---- what is told whole is told
+
+module _ (Told Other : Telling) (weaker : (old new : Option (List ℕ)) (text : List ℕ) → Told old new text → Other old new text) where
+  told_weaker : (IsText : List ℕ → Type 0) (old new : Option (List ℕ)) → TellsOf Told IsText old new → TellsOf Other IsText old new
+  told_weaker IsText old new told = record { text = told.text; is = told.is; told = weaker old new told.text told.told }
+
+  outcome_weaker : (outcome : Outcome) (old new : Option (List ℕ)) → TellsOutcome Told outcome old new → TellsOutcome Other outcome old new
+  outcome_weaker Done old new told = told
+  outcome_weaker (Drained added) old new told = weaker old new (drained_message added) told
+  outcome_weaker NotSame old new told = told
+
+  asked_weaker : (words : List Text) (old new : Option (List ℕ)) → AsksNothing Told words old new → AsksNothing Other words old new
+  asked_weaker words old new (inl unknown) = inl unknown
+  asked_weaker words old new (inr told) = inr (told_weaker _ old new told)
+
+  stream_weaker : (old new : Option (List ℕ)) (text other : List ℕ) → Told old new text ⊎ Told old new other → Other old new text ⊎ Other old new other
+  stream_weaker old new text other (inl told) = inl (weaker old new text told)
+  stream_weaker old new text other (inr told) = inr (weaker old new other told)
+
+  pub run_weaker : (words : List Text) (old new : Streams) (status : ℕ) → IsRunBy Told words old new status → IsRunBy Other words old new status
+  run_weaker words old new status run = record {
+    known = run.known;
+    done = λ e. let ended = run.done e in record {
+      outcome = ended.outcome;
+      ends = ended.ends;
+      done = ended.done;
+      told = outcome_weaker ended.outcome old.errors new.errors ended.told;
+    };
+    refused = λ e. told_weaker _ old.errors new.errors (run.refused e);
+    blamed = λ e. asked_weaker words old.errors new.errors (run.blamed e);
+    judged = run.judged;
+    unread = run.unread;
+    memory = λ e. weaker old.errors new.errors (codes "memory\n") (run.memory e);
+    stream = λ e. stream_weaker old.errors new.errors (codes "input\n") (codes "output\n") (run.stream e);
+    broken = run.broken;
+    quiet = run.quiet;
+    most = run.most;
+  }
+
+-- told whole, or a front of it, it is told
+pub told_tells : {E : Type 0} (told : Result (Unit {0}) E) (old new : Option (List ℕ)) (text : List ℕ) → told_of told old new text → Tells old new text
+told_tells (Ok done) old new text all = whole_told old new text all
+told_tells (Err refused) old new text front = front
 
 -- ---- a run on bytes
 
@@ -356,6 +429,7 @@ on_bytes words input rest output errors status run = record {
   judged = run.judged;
   memory = λ e. held errors (codes "memory\n") (run.memory e);
   stream = λ e. cut_off_in (run.stream e);
+  broken = λ e. broken_in (run.broken e);
   quiet = run.quiet;
 }
   where
@@ -364,12 +438,12 @@ on_bytes words input rest output errors status run = record {
     answered_in outcome (Some ask) does =
         subst (λ (text : List ℕ). IsAnswer ask outcome text output) (sym does.same) (subst (IsAnswer ask outcome does.text) (sym does.written) does.is)
 
-    told_in : (outcome : Outcome) → TellsOutcome outcome (Some []) (Some errors) → IsToldOf outcome errors
+    told_in : (outcome : Outcome) → TellsOutcome Tells outcome (Some []) (Some errors) → IsToldOf outcome errors
     told_in Done told = told
     told_in (Drained added) told = held errors (drained_message added) told
     told_in NotSame told = told
 
-    ended_in : Ends words (record { input = Some input; output = Some []; errors = Some [] }) (record { input = Some rest; output = Some output; errors = Some errors }) status → EndsOnBytes words input output errors status
+    ended_in : Ends Tells words (record { input = Some input; output = Some []; errors = Some [] }) (record { input = Some rest; output = Some output; errors = Some errors }) status → EndsOnBytes words input output errors status
     ended_in ended = record {
       outcome = ended.outcome;
       ends = ended.ends;
@@ -377,7 +451,7 @@ on_bytes words input rest output errors status run = record {
       told = told_in ended.outcome ended.told;
     }
 
-    blamed_in : AsksNothing words (Some []) (Some errors) → IsUnknown words ⊎ ((k : ℕ) × HasBadSetting words k × IsFront errors (setting_message k))
+    blamed_in : AsksNothing Tells words (Some []) (Some errors) → IsUnknown words ⊎ ((k : ℕ) × HasBadSetting words k × IsFront errors (setting_message k))
     blamed_in (inl unknown) = inl unknown
     blamed_in (inr told) = inr (told.is.0, told.is.1, subst (IsFront errors) told.is.2 (held errors told.text told.told))
 
@@ -385,3 +459,17 @@ on_bytes words input rest output errors status run = record {
         → IsFront errors (codes "input\n") ⊎ IsFront errors (codes "output\n")
     cut_off_in (inl told) = inl (held errors (codes "input\n") told)
     cut_off_in (inr told) = inr (held errors (codes "output\n") told)
+
+    front_in : (a : Option Ask) → IsSomeAnd a (λ ask. BreaksOff ask (Some input) (Some []) (Some output)) → IsSomeAnd a (λ ask. BeginsAnswer ask input output)
+    front_in None none = absurd none
+    front_in (Some ask) off = record {
+      outcome = off.outcome;
+      answer = off.answer;
+      is = subst (λ (text : List ℕ). IsAnswer ask off.outcome text off.answer) (sym off.same) off.is;
+      front = held output off.answer off.written;
+    }
+
+    broken_in : Keeps (Some []) (Some output) ⊎ IsSomeAnd (asked words) (λ ask. BreaksOff ask (Some input) (Some []) (Some output))
+        → (output ≡ []) ⊎ IsSomeAnd (asked words) (λ ask. BeginsAnswer ask input output)
+    broken_in (inl kept) = inl kept
+    broken_in (inr off) = inr (front_in (asked words) off)

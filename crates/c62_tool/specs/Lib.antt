@@ -7,3 +7,4 @@ pub mod Run
 pub mod ReadBack
 pub mod OneText
 pub mod AdoptedBack
+pub mod Bounds

@@ -1,6 +1,8 @@
 -- What is told on standard error (README.md, "Command line").
-use Rattle.std.specs.Prelude.{◌≡◌, ◌==◌, ℕ, List, [], ◌++◌, take, Option, Some, None, codes, decimal, if◌then◌else◌}
+use Rattle.std.specs.Prelude.{◌≡◌, ◌==◌, ℕ, List, [], ◌++◌, take, Option, Some, None, Result, Ok, Err, codes, decimal, if◌then◌else◌}
+use Rattle.std.specs.List.{flat_map}
 use Rattle.std.specs.Io.KnownBytes.{Appends, Keeps}
+use denote.Ref.{Bor}
 use Rattle.c62_line.specs.declared.fault.Cause.{Cause}
 use Rattle.c62_line.specs.Fault.{fault_text}
 use Rattle.c62_listing_reader.specs.declared.fault.ListFault.{ListFault}
@@ -59,26 +61,39 @@ drained_message added =
     else (if added == 1 then codes "1 cycle added\n"
     else decimal added ++ codes " cycles added\n")
 
+-- pieces one behind the other
+abbrev pub joined : List (Bor (List ℕ)) → List ℕ
+joined pieces = flat_map (λ piece. piece.now) pieces
+
 -- ---- what the error stream got
 
 -- the text, or a front of it
 abbrev pub IsFront : List ℕ → List ℕ → Type 0
 IsFront front text = (count : ℕ) × (front ≡ take count text)
 
--- The text was written, or the front of it that a stream took before it failed.
-abbrev pub Tells : Option (List ℕ) → Option (List ℕ) → List ℕ → Type 0
+-- what a text does to the bytes of a stream
+abbrev pub Telling : Type 1
+Telling = Option (List ℕ) → Option (List ℕ) → List ℕ → Type 0
+
+-- The text was written, or the front of it that a stream took before it took no more.
+abbrev pub Tells : Telling
 Tells old new text = (count : ℕ) × Appends old new (take count text)
 
+-- all of a text was written where the stream took all that it was offered, and else a front
+abbrev pub told_of : {E : Type 0} → Result (Unit {0}) E → Telling
+told_of (Ok _) = Appends
+told_of (Err _) = Tells
+
 -- one of these texts was told
-pub record TellsOf (IsText : List ℕ → Type 0) (old new : Option (List ℕ)) : Type 0 where
+pub record TellsOf (Told : Telling) (IsText : List ℕ → Type 0) (old new : Option (List ℕ)) : Type 0 where
   pub text : List ℕ
   pub is : IsText text
-  pub told : Tells old new text
+  pub told : Told old new text
 
 -- Of a text that was drained it was told how many cycles were added. Else nothing was.
-abbrev pub TellsOutcome : Outcome → Option (List ℕ) → Option (List ℕ) → Type 0
-TellsOutcome (Drained added) old new = Tells old new (drained_message added)
-TellsOutcome _ old new = Keeps old new
+abbrev pub TellsOutcome : Telling → Outcome → Option (List ℕ) → Option (List ℕ) → Type 0
+TellsOutcome Told (Drained added) old new = Told old new (drained_message added)
+TellsOutcome Told _ old new = Keeps old new
 
 -- so it was told on a stream that held nothing
 abbrev pub IsToldOf : Outcome → List ℕ → Type 0

@@ -33,10 +33,11 @@ use Rattle.c62_adopt.specs.declared.fault.AdoptFault.TheVariants.{Memory as NoRo
 use Rattle.c62_adopt.specs.Answer.{IsAdopted}
 use Rattle.c62_show.specs.declared.shown.Shown.{Shown}
 use Rattle.c62_show.specs.Picture.{picture}
+use Rattle.c62_tool.specs.Bounds.{AreBounded}
 use Rattle.c62_tool.specs.Schedule.{AreScheduled, AreShown}
 use Rattle.c62_report.specs.Report.{serial_report, packet_report}
 use Rattle.c62_command.specs.CommandLine.{Ask, Listing, Picture, SerialReport, PacketReport, ListingReport, Adoption, Verdicts, IsRefusal, IsUnknown, HasBadSetting, asked}
-use Rattle.c62_tool.specs.Message.{adopt_message, fault_message, list_message, no_listing, of_listing, of_text, setting_message, IsFront, IsToldOf, Tells, TellsOf, TellsOutcome}
+use Rattle.c62_tool.specs.Message.{adopt_message, fault_message, list_message, no_listing, of_listing, of_text, setting_message, IsFront, IsToldOf, Telling, Tells, TellsOf, TellsOutcome}
 use Rattle.c62_tool.specs.Texts.{SaysProgram, IsNoProgram, IsNoListing, IsNoPackets}
 use Rattle.c62_tool.specs.Check.{IsCheck, IsNoCheck}
 
@@ -114,12 +115,13 @@ pub record IsPackedText (packing : Packing) (text answer : List ℕ) : Type 0 wh
   pub packed : AreScheduled packing program packets
   pub listed : answer ≡ listing packets
 
--- the text says a program, and this is the picture of its blocks, packed so
+-- The text says a program, and this is the picture of its blocks, packed so. What its heads tell of shorter schedules is true.
 pub record IsShownText (packing : Packing) (text answer : List ℕ) : Type 0 where
   pub program : List Serial
   pub says : SaysProgram text program
   pub shown : List Shown
   pub packed : AreShown packing program shown
+  pub bounded : AreBounded program shown
   pub drawn : answer ≡ picture shown
 
 -- the machine after a setting
@@ -231,6 +233,15 @@ pub record Does (ask : Ask) (outcome : Outcome) (known old new : Option (List �
   pub is : IsAnswer ask outcome text answer
   pub written : Appends old new answer
 
+-- What was asked for was not done as the output took no more: what was written is a front of the answer.
+pub record BreaksOff (ask : Ask) (known old new : Option (List ℕ)) : Type 0 where
+  pub text : List ℕ
+  pub same : IfSome known (λ bytes. bytes ≡ text)
+  pub outcome : Outcome
+  pub answer : List ℕ
+  pub is : IsAnswer ask outcome text answer
+  pub written : Tells old new answer
+
 -- the words ask for something, and that was done
 abbrev pub IsDone : List Text → Outcome → Option (List ℕ) → Option (List ℕ) → Option (List ℕ) → Type 0
 IsDone words outcome text old new = IsSomeAnd (asked words) (λ ask. Does ask outcome text old new)
@@ -248,8 +259,8 @@ abbrev pub IsBadSetting : List Text → List ℕ → Type 0
 IsBadSetting words message = (k : ℕ) × HasBadSetting words k × (message ≡ setting_message k)
 
 -- The words ask for nothing: clap doesn't take them, or a setting is bad, and that is told.
-abbrev pub AsksNothing : List Text → Option (List ℕ) → Option (List ℕ) → Type 0
-AsksNothing words old new = IsUnknown words ⊎ TellsOf (IsBadSetting words) old new
+abbrev pub AsksNothing : Telling → List Text → Option (List ℕ) → Option (List ℕ) → Type 0
+AsksNothing Told words old new = IsUnknown words ⊎ TellsOf Told (IsBadSetting words) old new
 
 -- the failure is an error of the command line that says why the words ask for nothing
 abbrev pub Blames : Failure → List Text → Type 0
@@ -295,7 +306,7 @@ Gives ask text (Err NoListing) = IsRefusedText ask text no_listing
 Gives ask text (Err Memory) = Unit {0}
 Gives ask text (Err _) = ⊥
 
--- Why what is asked for was not done. A failure of the output leaves open what was written.
+-- Why what is asked for was not done. Where the output failed, a front of the answer was written.
 abbrev pub Fails : Ask → Option (List ℕ) → Option (List ℕ) → Option (List ℕ) → Failure → Type 0
 Fails ask text old new (Unread fault) = IsRefused ask text (fault_message fault.line fault.cause) × Keeps old new
 Fails ask text old new (Unlisted fault) = IsRefused ask text (list_message fault) × Keeps old new
@@ -305,7 +316,7 @@ Fails ask text old new (ListingPart fault) = IsRefused ask text (of_listing (lis
 Fails ask text old new NoListing = IsRefused ask text no_listing × Keeps old new
 Fails ask text old new Memory = Keeps old new
 Fails ask text old new Input = Keeps old new
-Fails ask text old new Output = Unit {0}
+Fails ask text old new Output = BreaksOff ask text old new
 Fails ask text old new _ = ⊥
 
 -- Why a run failed: the words ask for nothing, or what they ask for was not done.
@@ -326,29 +337,42 @@ streams input output errors = record { input = input; output = output; errors = 
 
 -- How a run ends that is done: what the words ask for was written, and told is only how many cycles were added where a text
 -- was drained.
-pub record Ends (words : List Text) (old new : Streams) (status : ℕ) : Type 0 where
+pub record Ends (Told : Telling) (words : List Text) (old new : Streams) (status : ℕ) : Type 0 where
   pub outcome : Outcome
   pub ends : status ≡ status_done outcome
   pub done : IsDone words outcome old.input old.output new.output
-  pub told : TellsOutcome outcome old.errors new.errors
+  pub told : TellsOutcome Told outcome old.errors new.errors
 
--- What a run on these words does to its streams, and the status that it ends with (README.md, "Command line").
-pub record IsRun (words : List Text) (old new : Streams) (status : ℕ) : Type 0 where
+-- What a run on these words does to its streams, and the status that it ends with, where what is told is told so (README.md,
+-- "Command line").
+pub record IsRunBy (Told : Telling) (words : List Text) (old new : Streams) (status : ℕ) : Type 0 where
   pub known : status ≤ 5
   -- What the words ask for was written. On 5 that is what a check tells, and some block isn't the same.
-  pub done : (status ≡ 0) ⊎ (status ≡ 5) → Ends words old new status
+  pub done : (status ≡ 0) ⊎ (status ≡ 5) → Ends Told words old new status
   -- The text is refused, and its fault is told.
-  pub refused : status ≡ 1 → TellsOf (AsksInVain (asked words) old.input) old.errors new.errors
+  pub refused : status ≡ 1 → TellsOf Told (AsksInVain (asked words) old.input) old.errors new.errors
   -- The words are refused. Words and settings are judged first: where they ask for nothing, nothing is read.
-  pub blamed : status ≡ 2 → AsksNothing words old.errors new.errors
+  pub blamed : status ≡ 2 → AsksNothing Told words old.errors new.errors
   pub judged : asked words ≡ None → (status ≡ 2) ⊎ (status ≡ 3)
   pub unread : asked words ≡ None → Keeps old.input new.input
-  -- Memory ran out, or a stream failed.
-  pub memory : status ≡ 3 → Tells old.errors new.errors (codes "memory\n")
-  pub stream : status ≡ 4 → Tells old.errors new.errors (codes "input\n") ⊎ Tells old.errors new.errors (codes "output\n")
+  -- Memory ran out, or a stream failed. Where that was the output, a front of the answer is written.
+  pub memory : status ≡ 3 → Told old.errors new.errors (codes "memory\n")
+  pub stream : status ≡ 4 → Told old.errors new.errors (codes "input\n") ⊎ Told old.errors new.errors (codes "output\n")
+  pub broken : status ≡ 4 → Keeps old.output new.output ⊎ IsSomeAnd (asked words) (λ ask. BreaksOff ask old.input old.output new.output)
   -- Nothing is written but an answer, and one byte past the limit of a text is the last that is read.
   pub quiet : 0 < status → status < 4 → Keeps old.output new.output
   pub most : TakesAsked words old.input new.input
+
+-- the same, where what is told is told whole, or the front of it that the stream took
+abbrev pub IsRun : List Text → Streams → Streams → ℕ → Type 0
+IsRun words old new status = IsRunBy Tells words old new status
+
+-- the output is a front of an answer to these bytes
+pub record BeginsAnswer (ask : Ask) (input output : List ℕ) : Type 0 where
+  pub outcome : Outcome
+  pub answer : List ℕ
+  pub is : IsAnswer ask outcome input answer
+  pub front : IsFront output answer
 
 -- how a run ends that is done, on these bytes
 pub record EndsOnBytes (words : List Text) (input output errors : List ℕ) (status : ℕ) : Type 0 where
@@ -366,4 +390,5 @@ pub record IsRunOnBytes (words : List Text) (input output errors : List ℕ) (st
   pub judged : asked words ≡ None → (status ≡ 2) ⊎ (status ≡ 3)
   pub memory : status ≡ 3 → IsFront errors (codes "memory\n")
   pub stream : status ≡ 4 → IsFront errors (codes "input\n") ⊎ IsFront errors (codes "output\n")
+  pub broken : status ≡ 4 → (output ≡ []) ⊎ IsSomeAnd (asked words) (λ ask. BeginsAnswer ask input output)
   pub quiet : 0 < status → status < 4 → output ≡ []

@@ -64,7 +64,7 @@ const ADOPTED: [(&[&str], &[u8], &str, &str); 10] = [
 ];
 
 /// A text, and what is told of it where it is refused, drained or not.
-const REFUSED: [(&[u8], &str); 11] = [
+const REFUSED: [(&[u8], &str); 12] = [
     (b"\nFOO .S1 A1", "line 2: UnknownMnemonic\n"),
     (b".data", "line 1: Directive\n"),
     (b"ADD A1,A2,A3", "line 1: UnitWanted\n"),
@@ -79,6 +79,18 @@ const REFUSED: [(&[u8], &str); 11] = [
     (b"B .S2 Q\nNOP 5", "line 1: UnknownTarget\n"),
     (b"L: B .S2 L\nB .S2 L\nNOP 9", "line 1: TwoBranches\n"),
     (b"L: B .S2 L\nNOP 4", "line 1: NotDrained\n"),
+    // the first branch has another in its delay slots, and is in flight at the end
+    (b"L: B .S2 L\nB .S2 L\nNOP 3", "line 1: TwoBranches\n"),
+];
+
+/// Directives of GNU's and TI's assemblers that lay bytes down, make room, or bring in another text.
+const LAYING: [&str; 50] = [
+    ".byte", ".short", ".half", ".hword", ".word", ".int", ".long", ".quad", ".octa", ".2byte",
+    ".4byte", ".8byte", ".ascii", ".asciz", ".string", ".string8", ".cstring", ".float", ".single",
+    ".double", ".space", ".skip", ".fill", ".zero", ".org", ".balign", ".p2align", ".dc", ".dcb",
+    ".ds", ".incbin", ".comm", ".lcomm", ".data", ".bss", ".uleb128", ".bits", ".ubyte", ".char",
+    ".uchar", ".field", ".uhalf", ".ushort", ".uint", ".ulong", ".uword", ".bes", ".usect",
+    ".copy", ".include",
 ];
 
 /// Texts that are refused as they stand, and drained lack this many cycles.
@@ -129,6 +141,17 @@ fn refused_packets(rt: HostRuntime) -> Result<(), Fail> {
     for (text, expected) in &REFUSED {
         refuses(&rt, &["adopt"], text, expected);
         refuses(&rt, &["adopt", "--drain"], text, expected);
+    }
+    Ok(())
+}
+
+#[test]
+fn laying_directives(rt: HostRuntime) -> Result<(), Fail> {
+    for name in &LAYING {
+        let text = format!(in rt.alloc(); "\t{name} 5\n")?;
+        refuses(&rt, &["adopt"], text.as_bytes(), "line 1: Directive\n");
+        let text = format!(in rt.alloc(); "L:\t{name}\t5\n")?;
+        refuses(&rt, &["adopt"], text.as_bytes(), "line 1: Directive\n");
     }
     Ok(())
 }

@@ -12,6 +12,7 @@ mod parting;
 mod run;
 mod schedule;
 mod tool;
+mod writing;
 
 use std::process::ExitCode;
 use std::{env, io};

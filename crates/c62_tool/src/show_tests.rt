@@ -164,6 +164,36 @@ cycle     .L1      .S1      .M1      .D1      .L2      .S2      .M2      .D2  la
     ),
 ];
 
+/// How many empty lines stand above 26 instructions of one path, and its line: of 98 columns, and told by its ends in place of 99.
+const PATHS: [(usize, &str); 2] = [
+    (
+        9,
+        "   path    26: lines 10 11 12 13 14 15 16 17 18 19 20 21 22 23 24 25 26 27 28 29 30 31 32 33 34 35\n",
+    ),
+    (74, "   path    26: 26 lines from 75 to 100, marked *\n"),
+];
+
+/// The head of such a block.
+const PATH_HEAD: &str = "block 0: 26 instructions in 26 cycles; no schedule is shorter\n";
+
+#[test]
+fn longest_path_lines(rt: HostRuntime) -> Result<(), Fail> {
+    for (empty, path) in &PATHS {
+        let mut text = Vec::new(rt.alloc());
+        for _ in 0..*empty {
+            text.push(b'\n')?;
+        }
+        for _ in 0..26 {
+            text.extend_from_slice(b"ADD A1,A1,A1\n")?;
+        }
+        let ran = run_on_bytes(&rt, &["show", "--turns"], &text);
+        let front = format!(in rt.alloc(); "{PATH_HEAD}{path}")?;
+        assert_eq!(rt; ran.status, 0);
+        assert!(rt; ran.output.starts_with(front.as_bytes()));
+    }
+    Ok(())
+}
+
 #[test]
 fn pictures(rt: HostRuntime) -> Result<(), Fail> {
     for (words, text, picture) in &SHOWN {

@@ -79,6 +79,33 @@ impl Write for Unflushed {
     }
 }
 
+/// Takes a byte in each second write, and is interrupted in each other.
+#[derive(Drop)]
+struct Slow {
+    taken: Vec<u8>,
+    interrupts: bool,
+}
+
+impl Write for Slow {
+    fn write(&mut self, buf: &[u8]) -> io::Result<usize> {
+        self.interrupts = !self.interrupts;
+        if self.interrupts {
+            return Err(io::Error::from(io::ErrorKind::Interrupted));
+        }
+        match buf.first() {
+            Some(byte) => {
+                self.taken.push(*byte)?;
+                Ok(1)
+            }
+            None => Ok(0),
+        }
+    }
+
+    fn flush(&mut self) -> io::Result<()> {
+        Ok(())
+    }
+}
+
 /// Words and a text, and the listing of the text.
 const LISTED: [(&[&str], &[u8], &str); 23] = [
     (&[], b"", ""),
@@ -743,6 +770,52 @@ fn writers_that_fail(rt: HostRuntime) -> Result<(), Fail> {
         };
         let status = run_tool(&rt, *words, &mut input, &mut output, &mut errors);
         assert_eq!(rt; status, *expected);
+    }
+    Ok(())
+}
+
+/// Words, a line, how often it stands, what follows it, and what is told, on a stream that takes a byte at a time.
+const TOLD_SLOWLY: [(&[&str], &[u8], usize, &[u8], &str); 4] = [
+    (
+        &["check"],
+        b"MVK 1,A1\n",
+        257,
+        b"---\n",
+        "text line 257: TooManyInstructions\n",
+    ),
+    (
+        &["check"],
+        b"",
+        0,
+        b"---\n   LDW .D1T1 *A4,A5\n|| LDW .D2T1 *B4,A6\n   NOP 4\n",
+        "listing block 0 cycle 0: P3\n",
+    ),
+    (&["serial", "A1=1", "A1"], b"", 0, b"", "setting 2: bad\n"),
+    (
+        &["adopt", "--drain"],
+        b"",
+        0,
+        b"LDW .D1 *A4,A5",
+        "4 cycles added\n",
+    ),
+];
+
+#[test]
+fn told_byte_by_byte(rt: HostRuntime) -> Result<(), Fail> {
+    for (words, line, count, rest, told) in &TOLD_SLOWLY {
+        let mut text = Vec::new(rt.alloc());
+        for _ in 0..*count {
+            text.extend_from_slice(line)?;
+        }
+        text.extend_from_slice(rest)?;
+        let mut input = text.as_slice();
+        let mut output = Vec::new(rt.alloc());
+        let mut errors = Slow {
+            taken: Vec::new(rt.alloc()),
+            interrupts: false,
+        };
+        run_tool(&rt, *words, &mut input, &mut output, &mut errors);
+        assert_eq!(rt; errors.taken.as_slice(), told.as_bytes());
     }
     Ok(())
 }
