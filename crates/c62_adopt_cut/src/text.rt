@@ -269,7 +269,7 @@ impl Reader {
 }
 
 /// The first line of a text, without its end, and the text after it.
-fn first_line(text: &[u8]) -> Option<(&[u8], &[u8])>
+pub fn first_line(text: &[u8]) -> Option<(&[u8], &[u8])>
     ensures found { IsFirstLine result (lines_of text.now) }
     ensures shorter { IfSome result (λ found. length found.1.now < length text.now) }
 {

@@ -1,0 +1,3 @@
+mod Packets
+mod SoundLemmas
+mod ReadLemmas
