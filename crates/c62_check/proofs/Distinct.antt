@@ -14,7 +14,7 @@ use Rattle.c62_check.specs.Schedule.{AreDistinct}
 abbrev AreOnce : List Placed → Type 0
 AreOnce xs = (i j : ℕ) (d : Placed) → i < length xs → j < length xs → get_or xs i d ≡ get_or xs j d → i ≡ j
 
-is_issued : (placed : List Placed) (i : ℕ) (d : Placed) → i < length placed → IsIssued (issued placed) i (issue_of (get_or placed i d))
+pub is_issued : (placed : List Placed) (i : ℕ) (d : Placed) → i < length placed → IsIssued (issued placed) i (issue_of (get_or placed i d))
 is_issued placed i d lt = get_or-map (λ (p : Placed). Some (issue_of p)) placed i d None lt
 
 once_by_rules : (placed : List Placed) → KeepsPacketRules (issued placed) → AreOnce placed

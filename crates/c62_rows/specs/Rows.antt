@@ -1,6 +1,7 @@
 -- Rows: what holds of each, and how they are made (docs/EXEC.md, "Rows"; SPRU189, "Parallel Operations").
 use Rattle.std.specs.Prelude.{◌≡◌, ℕ, ◌+◌, ◌≤◌, Bool, true, false, nat_lt, ◌&&◌, ◌||◌, is_none, List, ◌∷◌, length, map, All}
 use Rattle.std.specs.List.{insert, list_any, position_or_len}
+use Rattle.std.specs.List.Sorted.{IsStrictlyIncreasing}
 use Rattle.c62_op.specs.Units.{index_of}
 use Rattle.c62_op.specs.Shape.{is_branch}
 use Rattle.c62_op.specs.declared.operands.Operands.{Operands}
@@ -26,16 +27,18 @@ abbrev pub text_of : RowsRead → Text
 text_of rows = record { rows = map row_read rows.rows.items; aims = rows.aims.items }
 
 -- Each instruction of the row stands on its written unit, and in cycle 0, as a row is of any cycle. They keep the packet rules of
--- a cycle, so they are eight at most.
+-- a cycle, so there is one at most on each of the eight units, and stand in the order of these.
 pub record IsRow (row : Row) : Type 0 where
   pub units : StandAsWritten row.insns
   pub cycles : All (λ p. p.cycle ≡ 0) row.insns
   pub enough : AreEnough 0 (issued row.insns)
+  pub in_order : IsStrictlyIncreasing (map (λ p. index_of p.unit) row.insns)
   pub few : length row.insns ≤ 8
 
--- so it is of each row, and branches name 256 labels at most
+-- so it is of each row, of which there are no more than bytes; and branches name 256 labels at most
 pub record AreRows (rows : RowsRead) : Type 0 where
-  pub rows : All (λ row. IsRow (row_read row)) rows.rows.items
+  pub each : All IsRow (text_of rows).rows
+  pub few : length rows.rows.items ≤ 8388608
   pub aims : length rows.aims.items ≤ 256
 
 -- ---- an instruction more
