@@ -72,3 +72,6 @@ few_so_far reading number rest text short far = omega (arith, far.counted, far.s
 pub number_so_far : (reading : Reading) (number : ℕ) (rest text : List ℕ) → length text ≤ 8388608 → IsReadSoFar reading number rest text
     → number ≤ 8388609
 number_so_far reading number rest text short far = omega (arith, far.counted, far.numbered, short)
+
+pub sound_so_far : (reading : Reading) (number : ℕ) (rest text : List ℕ) → IsReadSoFar reading number rest text → IsSound reading
+sound_so_far reading number rest text far = far.sound

@@ -1,6 +1,7 @@
 -- What holds of all that is read stays with each line.
-use Rattle.std.proofs.Common.{arith, nat_tests, ◌≡◌, ◌⊎◌, inl, inr, ℕ, ◌+◌, ◌-◌, ◌*◌, ◌<◌, ◌≤◌, List, [], ◌∷◌, ◌++◌, length, map, Option, Some, None, Bool, true, false, refl, sym, ap, ◌∙◌, subst}
-use Rattle.std.specs.Prelude.{All, IfSome, sum_by, is_some, ◌^◌}
+use Rattle.std.proofs.Common.{arith, ◌≡◌, ◌⊎◌, inl, inr, ℕ, ◌+◌, ◌-◌, ◌*◌, ◌<◌, ◌≤◌, List, [], ◌∷◌, ◌++◌, length, map, Option, Some, None, Bool, true, false, refl, sym, ap, ◌∙◌, subst}
+use Rattle.std.proofs.lemmas.Bool.Decides.{nat_tests}
+use Rattle.std.specs.Prelude.{IsPermutation, All, IfSome, sum_by, is_some, ◌^◌}
 use Rattle.std.specs.List.{insert, position_or_len}
 use Rattle.std.specs.Option.{option_to_list, option_map_or}
 use Rattle.std.proofs.lemmas.List.{append-nil, length-append}
@@ -23,12 +24,12 @@ use Rattle.c62_rows.specs.Reading.{Reading, no_reading, all_rows, with_label, be
 use Rattle.c62_rows.specs.Reading.{IsPlaced, AddsInsn, AddsSays, AddsLine, is_one_more}
 use Rattle.c62_rows.specs.Sound.{IsSound, IsSmall}
 use Rattle.c62_rows.specs.Read.{IsReady, IsShort, AddsShortLine}
-use Rattle.c62_rows.proofs.Packets.{eight_at_most}
+use Rattle.c62_rows.proofs.Packets.{eight_at_most, none_on_unit, rises_strictly, rises_with, strictly_rises}
 
 -- ---- rows
 
 pub no_row-is : IsRow no_row
-no_row-is = record { units = All-nil _; cycles = All-nil _; enough = λ r. omega arith; few = omega arith }
+no_row-is = record { units = All-nil _; cycles = All-nil _; enough = λ r. omega arith; in_order = rises_strictly [] tt; few = omega arith }
 
 in-order : (insns : List Placed) (k : ℕ) (p : Placed) → AreEnough 0 (issued (p ∷ insns)) → AreEnough 0 (issued (insert insns k p))
 in-order insns k p enough r =
@@ -43,9 +44,11 @@ in-order insns k p enough r =
 pub with_insn-is : (p : Placed) (row : Row) → IsRow row → unit_of p.insn ≡ Some p.unit → p.cycle ≡ 0 → AreEnough 0 (issued (p ∷ row.insns)) → IsRow (with_insn p row)
 with_insn-is p row is unit cycle enough =
     record {
-      units = All-permutation (λ (q : Placed). unit_of q.insn ≡ Some q.unit) (p ∷ row.insns) list put (All-cons _ p row.insns unit is.units);
+      units = All-permutation (λ (q : Placed). unit_of q.insn ≡ Some q.unit) (p ∷ row.insns) list put (All-cons (λ (q : Placed). unit_of q.insn ≡ Some q.unit) p row.insns unit is.units);
       cycles = cycles;
       enough = more;
+      in_order = rises_strictly list
+          (rises_with p row.insns (strictly_rises row.insns is.in_order) (none_on_unit p row.insns cycle is.cycles enough));
       few = eight_at_most list cycles more;
     }
   where
@@ -54,16 +57,18 @@ with_insn-is p row is unit cycle enough =
 
     list : List Placed
     list = insert row.insns k p
+
+    put : IsPermutation (p ∷ row.insns) list
     put = IsPermutation-insert row.insns k p
 
     cycles : All (λ (q : Placed). q.cycle ≡ 0) list
-    cycles = All-permutation (λ (q : Placed). q.cycle ≡ 0) (p ∷ row.insns) list put (All-cons _ p row.insns cycle is.cycles)
+    cycles = All-permutation (λ (q : Placed). q.cycle ≡ 0) (p ∷ row.insns) list put (All-cons (λ (q : Placed). q.cycle ≡ 0) p row.insns cycle is.cycles)
 
     more : AreEnough 0 (issued list)
     more = in-order row.insns k p enough
 
 pub with_idle-is : (more : ℕ) (row : Row) → IsRow row → IsRow (with_idle more row)
-with_idle-is more row is = record { units = is.units; cycles = is.cycles; enough = is.enough; few = is.few }
+with_idle-is more row is = record { units = is.units; cycles = is.cycles; enough = is.enough; in_order = is.in_order; few = is.few }
 
 -- ---- all that is read
 
@@ -102,8 +107,10 @@ insn_sound : (entry : Numbered) (old new : Reading) → IsSound old → AddsInsn
 insn_sound entry old new is adds = subst IsSound (sym adds.adds) (change_sound (with_insn adds.placed) old.done old.current old.labels old.targets is joins)
   where
     joins : (row : Row) → old.current ≡ Some row → IsRow row → IsRow (with_insn adds.placed row)
-    joins row e one = with_insn-is adds.placed row one adds.is.unit adds.is.cycle
-        (subst (λ (above : List Placed). AreEnough 0 (issued (adds.placed ∷ above))) (rw e refl) adds.joins.enough)
+    joins row e one =
+        let same : insns_above old ≡ row.insns = ap (λ (o : Option Row). option_map_or (λ (r : Row). r.insns) o []) e in
+        with_insn-is adds.placed row one adds.is.unit adds.is.cycle
+        (subst (λ (above : List Placed). AreEnough 0 (issued (adds.placed ∷ above))) same adds.joins.enough)
 
 target_sound : (target : Name) (number : ℕ) (reading : Reading) → IsSound reading → (is_target target reading ≡ false → length reading.targets < 256)
     → IsSound (with_target target number reading)

@@ -5,7 +5,7 @@ use Rattle.c62_adopt_line.specs.FaultName.{line_fault_name}
 use Rattle.c62_rows.specs.declared.fault.RowsCause.{RowsCause}
 use Rattle.c62_rows.specs.declared.fault.RowsCause.TheVariants.{Line, TooManyTargets, Rule, TwoBranches}
 use Rattle.c62_rows.specs.declared.fault.RowsFault.{RowsFault}
-use Rattle.c62_rows.specs.declared.fault.RowsFault.TheVariants.{At, Memory}
+use Rattle.c62_rows.specs.declared.fault.RowsFault.TheVariants.{At, From, Memory}
 
 abbrev pub cause_name : RowsCause → List ℕ
 cause_name (Line fault) = line_fault_name fault
@@ -16,4 +16,5 @@ cause_name TwoBranches = codes "TwoBranches"
 -- `line L: NAME`
 abbrev pub fault_text : RowsFault → List ℕ
 fault_text (At line cause) = codes "line " ++ decimal line ++ codes ": " ++ cause_name cause
+fault_text From = codes "from: UnknownTarget"
 fault_text Memory = codes "memory"

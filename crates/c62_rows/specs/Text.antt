@@ -1,7 +1,8 @@
 -- The rows of a text of packets, or why it makes none (docs/EXEC.md, "Faults of a text").
-use Rattle.std.specs.Prelude.{◌≡◌, ◌⊎◌, ℕ, ◌+◌, ◌≤◌, ◌<◌, List, [], ◌∷◌, length, map, find, unwrap_or, Option, Some, None, is_none}
+use Rattle.std.specs.Prelude.{◌≡◌, ◌⊎◌, ℕ, ◌+◌, ◌≤◌, ◌<◌, ◌==◌, if◌then◌else◌, List, [], ◌∷◌, length, map, find, unwrap_or, Option, Some, None, is_none}
 use Rattle.std.specs.Map.{lookup}
 use Rattle.std.specs.Str.{bytes_eq}
+use Rattle.c62_token.specs.Number.{is_label}
 use Rattle.c62_line.specs.declared.fault.Cause.TheVariants.{TextTooLong, UnknownTarget}
 use Rattle.c62_read.specs.Program.{Name}
 use Rattle.c62_read.specs.Text.{lines_of}
@@ -11,7 +12,7 @@ use Rattle.c62_flight.specs.Text.{Text}
 use Rattle.c62_rows.specs.declared.fault.RowsCause.{RowsCause}
 use Rattle.c62_rows.specs.declared.fault.RowsCause.TheVariants.{Line as OfLine}
 use Rattle.c62_rows.specs.declared.fault.RowsFault.{RowsFault}
-use Rattle.c62_rows.specs.declared.fault.RowsFault.TheVariants.{At, Memory}
+use Rattle.c62_rows.specs.declared.fault.RowsFault.TheVariants.{At, From, Memory}
 use Rattle.c62_rows.specs.Reading.{Reading, no_reading, all_rows, AddsLine, RefusesLine}
 
 -- these lines, the first of which has this number, are read below what was read
@@ -29,6 +30,14 @@ RefusesAmong number old (bytes ∷ lines) line cause =
 -- the row of a label
 abbrev pub row_named : Name → List (Name × ℕ) → Option ℕ
 row_named name labels = lookup (bytes_eq name) labels
+
+-- a name with `_` in place of dots
+abbrev pub undotted : Name → Name
+undotted name = map (λ b. if b == 46 then 95 else b) name
+
+-- the row of the label of this name
+abbrev pub row_from : Name → List (Name × ℕ) → Option ℕ
+row_from name labels = if is_label (undotted name) then row_named (undotted name) labels else None
 
 -- of the labels that branches name, the first that no line has, with the first line of one
 abbrev pub lost_among : List (Name × ℕ) → List (Name × ℕ) → Option (Name × ℕ)
@@ -80,4 +89,30 @@ pub record IsLostIn (text : List ℕ) (line : ℕ) (cause : RowsCause) : Type 0 
 -- memory may run out before any answer
 abbrev pub Refuses : List ℕ → RowsFault → Type 0
 Refuses text (At line cause) = IsTooLong text line cause ⊎ (IsFirstFault text line cause ⊎ IsLostIn text line cause)
+Refuses text From = ⊥
 Refuses text Memory = Unit {0}
+
+-- ---- where a run begins
+
+-- with the first row, or with that of the label of this name
+abbrev pub first_row : Option Name → List (Name × ℕ) → Option ℕ
+first_row None labels = Some 0
+first_row (Some name) labels = row_from name labels
+
+-- this flies of the text, from this row on
+pub record IsTextFrom (text : List ℕ) (from : Option Name) (flying : Text) (first : ℕ) : Type 0 where
+  pub labels : List (Name × ℕ)
+  pub is_text : IsText text flying labels
+  pub begins : first_row from labels ≡ Some first
+
+-- it is a text, of which no line has the label
+pub record LacksStart (text : List ℕ) (from : Option Name) : Type 0 where
+  pub flying : Text
+  pub labels : List (Name × ℕ)
+  pub is_text : IsText text flying labels
+  pub lacks : first_row from labels ≡ None
+
+-- the faults of the text come first
+abbrev pub RefusesFrom : List ℕ → Option Name → RowsFault → Type 0
+RefusesFrom text from From = LacksStart text from
+RefusesFrom text from fault = Refuses text fault

@@ -42,6 +42,8 @@ impl RowsCause {
 pub enum RowsFault {
     /// The line that shows it, counted from 1, and what is wrong with it. A cause that is of no line has 0.
     At(u32, RowsCause),
+    /// No line has the label with whose row a run is to begin.
+    From,
     /// Memory ran out.
     Memory,
 }
@@ -71,6 +73,7 @@ impl fmt::Display for RowsFault {
                 let name = cause.name();
                 write!(f, "line {line}: {name}")
             }
+            RowsFault::From => f.write_str("from: UnknownTarget"),
             RowsFault::Memory => f.write_str("memory"),
         }
     }

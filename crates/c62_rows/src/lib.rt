@@ -9,7 +9,7 @@ mod text;
 
 pub use fault::{RowsCause, RowsFault};
 pub use rows::{Row, Rows};
-pub use text::{RowsText, read_rows};
+pub use text::{Begun, RowsText, read_from, read_rows};
 
 #[cfg(test)]
 mod tests;

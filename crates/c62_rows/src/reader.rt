@@ -1,6 +1,6 @@
 //! Reads the lines of a text of packets.
 
-ghost use Rattle.std.specs.Prelude.{◌≡◌, ◌+◌, ◌*◌, ◌≤◌, ◌<◌, ◌^◌, ◌++◌, ◌∷◌, [], All, length, map, is_some, None, IfOk, OnOk, IfSome, MatchOption};
+ghost use Rattle.std.specs.Prelude.{◌≡◌, ◌+◌, ◌*◌, ◌≤◌, ◌<◌, ◌^◌, ◌++◌, ◌∷◌, [], All, length, map, is_some, true, false, None, Some, IfOk, OnOk, IfSome, MatchOption};
 ghost use Rattle.std.specs.Map.{lookup};
 ghost use Rattle.std.specs.Str.{bytes_eq};
 ghost use Rattle.c62_line.specs.Line.{said_of, parts_of};
@@ -32,8 +32,9 @@ pub(crate) struct Reader {
     pub targets: IndexMap<Key, u32>,
 }
 
-ghost use Rattle.c62_rows.specs.Reading.{no_reading, all_rows, closed, with_label, begun, on_current, number_of, is_target, with_target, insns_above, numbered, is_given, is_one_more, hindrance, at_line};
-ghost use Rattle.c62_rows.specs.Rows.{with_insn, with_idle};
+ghost use Rattle.c62_rows.specs.Reading.{no_reading, all_rows, closed, with_label, begun, on_current, number_of, is_target, with_target, insns_above, numbered, IsPlaced, is_given, is_one_more, hindrance, at_line};
+ghost use Rattle.c62_rows.specs.Named.{named};
+ghost use Rattle.c62_rows.specs.Rows.{with_insn, with_idle, MayJoin, IsBreach};
 ghost use Rattle.c62_rows.specs.Read.{reading_of, IsReady, TellsOfInsn, TellsOfSays, TellsOfWritten, TellsOfLine, TellsCause};
 
 impl Reader {
@@ -59,7 +60,20 @@ impl Reader {
         Ok(())
     }
 
+    /// A label names the row behind those that are over.
+    #[tactic(auto, using(crate::proofs::Labelled::inserted_row))]
+    fn name_row(&mut self, label: Label) -> Result<(), AllocError>
+        requires new { is_given (Some label) (reading_of self.old) ≡ false }
+        requires few { length (reading_of self.old).done < 2 ^ 32 }
+        ensures { OnOk result (reading_of self.new ≡ named label (reading_of self.old)) }
+    {
+        let row = self.done.len() as u32;
+        self.labels.insert(Key::new(label), row)?;
+        Ok(())
+    }
+
     /// A label names the row that begins below it.
+    #[tactic(auto, using(crate::proofs::Labelled::given_there, crate::proofs::Labelled::few_there, crate::proofs::Labelled::labelled))]
     fn add_label(&mut self, label: Option<Label>) -> Result<(), AllocError>
         requires new { is_given label (reading_of self.old) ≡ false }
         requires few { length (all_rows (reading_of self.old)) < 2 ^ 32 }
@@ -67,8 +81,7 @@ impl Reader {
     {
         let Some(label) = label else { return Ok(()) };
         self.close()?;
-        self.labels.insert(Key::new(label), self.done.len() as u32)?;
-        Ok(())
+        self.name_row(label)
     }
 
     /// A line begins a row, or goes on with the one that is open.
@@ -109,6 +122,23 @@ impl Reader {
         if let Some(row) = &mut self.current {
             row.wait(cycles);
         }
+    }
+}
+
+/// An instruction of a line on its written unit, in the first cycle of its row.
+fn placed_at(insn: Insn, line: u32) -> Placed
+    requires { is_some (unit_of insn) ≡ true }
+    ensures placed { IsPlaced (numbered line (parts_of insn)) result }
+    ensures cycle { result.cycle ≡ 0 }
+{
+    let Some(unit) = insn.unit() else {
+        unreachable!()
+    };
+    Placed {
+        insn,
+        line,
+        cycle: 0,
+        unit,
     }
 }
 
@@ -165,6 +195,7 @@ impl Reader {
     }
 
     /// The number under which branches go to a label: its place among those that branches name, or the next.
+    #[tactic(auto, using(crate::proofs::Tables::inserted, crate::proofs::Tables::place_found, crate::proofs::Tables::is_there, crate::proofs::Tables::is_new, crate::proofs::Tables::place_next))]
     fn number_of(&mut self, target: Label, line: u32) -> Result<u8, AllocError>
         requires few { length self.old.targets.entries ≤ 256 }
         requires room { is_target target (reading_of self.old) ≡ false → length self.old.targets.entries < 256 }
@@ -190,22 +221,24 @@ impl Reader {
         }
     }
 
+    /// What stands against an instruction in the packet that is open.
+    fn against(&self, placed: &Placed) -> Option<RowsCause>
+        requires cycles { All (λ p. p.cycle ≡ 0) (insns_above (reading_of self.now)) }
+        requires cycle { placed.now.cycle ≡ 0 }
+        ensures { MatchOption result (MayJoin (insns_above (reading_of self.now)) placed.now) (IsBreach (insns_above (reading_of self.now)) placed.now) }
+    {
+        breach(self.insns_above(), placed)
+    }
+
     /// Adds an instruction to the packet that is open, where nothing there stands against it; what does is answered.
+    #[tactic(auto, using(crate::proofs::AddLemmas::breaks_told, crate::proofs::AddLemmas::adds_told))]
     fn add_insn(&mut self, insn: Insn, line: u32) -> Result<Option<RowsCause>, AllocError>
         requires unit { is_some (unit_of insn) ≡ true }
         requires cycles { All (λ p. p.cycle ≡ 0) (insns_above (reading_of self.old)) }
         ensures { IfOk result (TellsOfInsn (numbered line (parts_of insn)) self.old self.new) }
     {
-        let Some(unit) = insn.unit() else {
-            unreachable!()
-        };
-        let placed = Placed {
-            insn,
-            line,
-            cycle: 0,
-            unit,
-        };
-        if let Some(cause) = breach(self.insns_above(), &placed) {
+        let placed = placed_at(insn, line);
+        if let Some(cause) = self.against(&placed) {
             return Ok(Some(cause));
         }
         self.put(placed)?;
@@ -213,6 +246,7 @@ impl Reader {
     }
 
     /// Adds what stands behind a line's label and bars; what stands against it is answered.
+    #[tactic(auto, using(crate::proofs::AddLemmas::does_ok, crate::proofs::AddLemmas::jumps_ok, crate::proofs::AddLemmas::target_insns))]
     fn add_what(&mut self, line: u32, what: What) -> Result<Option<RowsCause>, AllocError>
         requires unit { HasUnit (said_of what) }
         requires ready { IsReady (reading_of self.old) }
@@ -234,6 +268,7 @@ impl Reader {
     }
 
     /// Adds a line that says something by itself; what stands against it is answered.
+    #[tactic(auto, using(crate::proofs::AddLemmas::written_ok, crate::proofs::AddLemmas::label_new, crate::proofs::AddLemmas::ready_there, crate::proofs::AddLemmas::room_new))]
     fn add_written(
         &mut self,
         alloc: Global,
@@ -253,6 +288,7 @@ impl Reader {
     }
 
     /// Adds a line; its fault is answered.
+    #[tactic(auto, using(crate::proofs::AddLemmas::line_ok, crate::proofs::AddLemmas::fault_refuses, crate::proofs::AddLemmas::unit_there))]
     pub(crate) fn add_line(
         &mut self,
         alloc: Global,

@@ -1,7 +1,7 @@
 //! A text of packets by rows.
 
-ghost use Rattle.std.specs.Prelude.{◌≡◌, ◌+◌, ◌<◌, ◌^◌, ◌∷◌, All, OnOk, MatchOption};
-ghost use Rattle.std.specs.List.{list_any};
+ghost use Rattle.std.specs.Prelude.{◌≡◌, ◌+◌, ◌<◌, ◌≤◌, ◌^◌, ◌∷◌, All, OnOk, IfSome, MatchOption, length};
+ghost use Rattle.std.specs.List.{list_any, position, position_or_len};
 ghost use Rattle.c62_insn.specs.Insn.{operands_of};
 ghost use Rattle.c62_rules.specs.Capacity.{AreEnough, IsFirstBroken};
 ghost use Rattle.c62_row.specs.Issued.{IsRowOf};
@@ -35,6 +35,28 @@ pub struct Rows {
 
 ghost use Rattle.c62_rows.specs.Rows.{row_read, stands_behind, with_insn, with_idle, goes_to_label, are_two_branches, MayJoin, IsBreach};
 
+/// The place of the first of these that stands on a later unit.
+fn place_behind(insns: &[Placed], placed: &Placed) -> Option<usize>
+    ensures place { result ≡ position (stands_behind placed.now) insns.now }
+    ensures within { IfSome result (λ place. place < length insns.now) }
+{
+    insns
+        .iter()
+        .position(|other| placed.unit.index() < other.unit.index())
+}
+
+/// Where an instruction goes among these, which stand in the order of units.
+#[tactic(auto, using(crate::proofs::Tables::place_is, crate::proofs::Tables::no_place_is))]
+fn place_among(insns: &[Placed], placed: &Placed) -> usize
+    ensures place { result ≡ position_or_len (stands_behind placed.now) insns.now }
+    ensures within { result ≤ length insns.now }
+{
+    match place_behind(insns, placed) {
+        Some(place) => place,
+        None => insns.len(),
+    }
+}
+
 impl Row {
     /// A row of one cycle without instructions.
     pub(crate) fn new(alloc: Global) -> Row
@@ -50,11 +72,7 @@ impl Row {
     pub(crate) fn put(&mut self, placed: Placed) -> Result<(), AllocError>
         ensures { OnOk result (row_read self.new ≡ with_insn placed (row_read self.old)) }
     {
-        let place = self
-            .insns
-            .iter()
-            .position(|other| placed.unit.index() < other.unit.index())
-            .unwrap_or(self.insns.len());
+        let place = place_among(&self.insns, &placed);
         self.insns.insert(place, placed)?;
         Ok(())
     }

@@ -1,6 +1,6 @@
 //! Texts of packets and their rows, worked out by hand.
 
-use crate::{Row, RowsText, read_rows};
+use crate::{Row, RowsText, read_from, read_rows};
 use c62_insn::Operands;
 use c62_packet::Placed;
 use std::alloc::{AllocError, Global};
@@ -140,5 +140,63 @@ fn branches_name_256_labels(rt: HostRuntime) -> Result<(), Fail> {
     let more = branches(rt.alloc(), 257)?;
     let told = told_again(rt.alloc(), more.as_str())?;
     assert!(rt; told.as_str() == "line 513: TooManyTargets", "{told}");
+    Ok(())
+}
+
+/// Labels, and the rows that they name in the text below.
+const FROM: [(&str, Option<u32>); 9] = [
+    ("K", Some(0)),
+    (".L2", Some(1)),
+    ("_L2", Some(1)),
+    ("END", Some(2)),
+    ("end", None),
+    ("Q", None),
+    ("A1", None),
+    ("", None),
+    ("K:", None),
+];
+
+#[test]
+fn labels_name_rows(rt: HostRuntime) -> Result<(), Fail> {
+    let read = read_rows(rt.alloc(), b"K: NOP\n.L2:\n NOP 3\nEND:\n");
+    let Ok(read) = read else {
+        assert!(rt; false, "refused");
+        return Ok(());
+    };
+    for (name, want) in &FROM {
+        let row = read.row_from(rt.alloc(), name.as_bytes())?;
+        assert!(rt; row == *want, "{name}");
+    }
+    Ok(())
+}
+
+/// The row with which a run of a text begins, or what it is refused for.
+fn begun(alloc: Global, text: &str, from: Option<&[u8]>) -> Result<String, AllocError> {
+    match read_from(alloc, text.as_bytes(), from) {
+        Ok(begun) => {
+            let first = begun.first;
+            format!(in alloc; "{first}")
+        }
+        Err(fault) => format!(in alloc; "{fault}"),
+    }
+}
+
+#[test]
+fn runs_begin(rt: HostRuntime) -> Result<(), Fail> {
+    let text = "NOP\nK: NOP\n";
+    for (from, want) in [
+        (None, "0"),
+        (Some("K"), "1"),
+        (Some("Q"), "from: UnknownTarget"),
+    ] {
+        let told = begun(
+            rt.alloc(),
+            text,
+            from.map(|name: &str| -> &[u8] { name.as_bytes() }),
+        )?;
+        assert!(rt; told.as_str() == want, "{told}");
+    }
+    let told = begun(rt.alloc(), "FOO\n", Some(b"Q"))?;
+    assert!(rt; told.as_str() == "line 1: UnknownMnemonic", "{told}");
     Ok(())
 }
