@@ -1,6 +1,15 @@
-//! Reads texts of execute packets as people and compilers write them into rows, with everything in flight.
+//! Reads texts of execute packets as people and compilers write them into rows, which run with everything in flight.
 #![tactic(auto)]
 
+mod fault;
+mod key;
+mod reader;
 mod rows;
+mod text;
 
+pub use fault::{RowsCause, RowsFault};
 pub use rows::{Row, Rows};
+pub use text::{Begun, RowsText, read_from, read_rows};
+
+#[cfg(test)]
+mod tests;

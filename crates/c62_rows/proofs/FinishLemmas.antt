@@ -1,0 +1,70 @@
+-- What is read of a text once all its lines are.
+use Rattle.std.proofs.Common.{arith, ◌≡◌, ◌⊎◌, inl, inr, ℕ, ◌≤◌, List, length, map, Option, Some, None, refl, sym, ap, ◌∙◌, subst}
+use Rattle.std.specs.Prelude.{All, unwrap_or}
+use Rattle.std.proofs.lemmas.List.{length-map}
+use Rattle.c62_read.specs.Program.{Name}
+use Rattle.c62_flight.specs.Text.{Row, Text}
+use Rattle.c62_rows.specs.declared.fault.RowsFault.{RowsFault}
+use Rattle.c62_rows.specs.declared.fault.RowsFault.TheVariants.{At, From, Memory}
+use Rattle.c62_rows.specs.declared.text.RowsText.{RowsText}
+use Rattle.c62_rows.specs.Rows.{row_read, text_of, IsRow, AreRows}
+use Rattle.c62_rows.specs.Reading.{Reading, all_rows, closed}
+use Rattle.c62_rows.specs.Text.{aims_among, lost_among, row_named, text_in, first_row, IsReading, LacksStart, Refuses, RefusesFrom}
+use Rattle.c62_rows.specs.Told.{names_of, LosesTarget, BeginsAs, ReadsAs}
+use Rattle.c62_rows.specs.Sound.{IsSound}
+use Rattle.c62_rows.proofs.SoundLemmas.{rows_are}
+
+abbrev flying : List Row → List ℕ → Text
+flying rows aims = record { rows = rows; aims = aims }
+
+pub finished_as : (text : List ℕ) (old new : Reading) (read : RowsText) → IsReading text old → IsSound old → length (all_rows old) ≤ 8388608
+    → new ≡ closed old → map row_read read.rows.rows.items ≡ new.done → read.rows.aims.items ≡ aims_among new.targets new.labels
+    → names_of read ≡ new.labels → lost_among new.targets new.labels ≡ None → ReadsAs text read
+finished_as text old new read reads sound few is rows aims names found =
+    record {
+      is_text = record {
+        reading = old;
+        reads = reads;
+        found = ap (λ (r : Reading). lost_among r.targets r.labels) (sym is) ∙ found;
+        flies = (λ i. flying (whole i) (goes i));
+        named = names ∙ ap (λ (r : Reading). r.labels) is;
+      };
+      rows = record {
+        each = subst (All IsRow) (sym whole) (rows_are old sound);
+        few = omega (arith, few, ap length whole, length-map read.rows.rows.items row_read);
+        aims = omega (arith, sound.targets, ap length goes, length-map old.targets (λ target. unwrap_or (row_named target.0 old.labels) 0));
+      };
+    }
+  where
+    whole : map row_read read.rows.rows.items ≡ all_rows old
+    whole = rows ∙ ap (λ (r : Reading). r.done) is
+
+    goes : read.rows.aims.items ≡ aims_among old.targets old.labels
+    goes = aims ∙ ap (λ (r : Reading). aims_among r.targets r.labels) is
+
+-- where a label isn't found, that is the fault
+pub loses : (text : List ℕ) (old new : Reading) (fault : RowsFault) → IsReading text old → new ≡ closed old → LosesTarget new.targets new.labels fault
+    → Refuses text fault
+loses text old new (At line cause) reads is lost =
+    inr (inr (record { reading = old; reads = reads; lost = subst (λ (r : Reading). LosesTarget r.targets r.labels (At line cause)) is lost }))
+loses text old new From reads is lost = absurd lost
+loses text old new Memory reads is lost = tt
+
+-- ---- where a run begins
+
+pub begins_as : (text : List ℕ) (from : Option Name) (read : RowsText) (row : Option ℕ) (first : ℕ) → ReadsAs text read → row ≡ first_row from (names_of read)
+    → row ≡ Some first → BeginsAs text from (record { rows = read.rows; first = first })
+begins_as text from read row first reads is some = record {
+  is_text = record { labels = names_of read; is_text = reads.is_text; begins = sym is ∙ some };
+  rows = reads.rows;
+}
+
+pub lacks_start : (text : List ℕ) (from : Option Name) (read : RowsText) (row : Option ℕ) → ReadsAs text read → row ≡ first_row from (names_of read)
+    → row ≡ None → LacksStart text from
+lacks_start text from read row reads is none =
+    record { flying = text_of read.rows; labels = names_of read; is_text = reads.is_text; lacks = sym is ∙ none }
+
+pub refuses_first : (text : List ℕ) (from : Option Name) (fault : RowsFault) → Refuses text fault → RefusesFrom text from fault
+refuses_first text from (At line cause) is = is
+refuses_first text from From is = absurd is
+refuses_first text from Memory is = tt

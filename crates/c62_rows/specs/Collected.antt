@@ -1,0 +1,14 @@
+-- What is collected once all lines of a text are read.
+use Rattle.std.specs.Prelude.{◌≡◌, map, None}
+use Rattle.c62_rows.specs.declared.text.RowsText.{RowsText}
+use Rattle.c62_rows.specs.Rows.{row_read}
+use Rattle.c62_rows.specs.Reading.{Reading}
+use Rattle.c62_rows.specs.Text.{lost_among, aims_among}
+use Rattle.c62_rows.specs.Told.{names_of}
+
+-- the rows that are over, and the rows of the labels that branches name, all of which are found
+pub record Collects (reading : Reading) (read : RowsText) : Type 0 where
+  pub rows : map row_read read.rows.rows.items ≡ reading.done
+  pub aims_are : read.rows.aims.items ≡ aims_among reading.targets reading.labels
+  pub names : names_of read ≡ reading.labels
+  pub found : lost_among reading.targets reading.labels ≡ None

@@ -1,0 +1,15 @@
+-- What holds of all that is read.
+use Rattle.std.specs.Prelude.{ℕ, ◌*◌, ◌≤◌, length, All, IfSome}
+use Rattle.c62_rows.specs.Rows.{IsRow}
+use Rattle.c62_rows.specs.Reading.{Reading, all_rows}
+
+-- each row is one, and branches name 256 labels at most
+pub record IsSound (reading : Reading) : Type 0 where
+  pub done : All IsRow reading.done
+  pub current : IfSome reading.current IsRow
+  pub targets : length reading.targets ≤ 256
+
+-- so many lines were read
+pub record IsSmall (lines : ℕ) (reading : Reading) : Type 0 where
+  pub rows : length (all_rows reading) ≤ lines
+  pub idle : IfSome reading.current (λ row. row.idle ≤ 255 * lines)
