@@ -12,7 +12,7 @@ pub use clock::Stand;
 pub use draft::{Draft, Issue};
 pub use fault::{TextCause, TextFault};
 pub use flight::{cycles_lacking, first_in_flight};
-pub use text::{Cut, MOST_BYTES, first_line, read_cut};
+pub use text::{Cut, MOST_BYTES, read_cut};
 
 #[cfg(test)]
 mod tests;
