@@ -64,7 +64,7 @@ placed_end drafts issue p is =
     ap (λ (part : Part). end_of part.parts part.cycle) is ∙ aimed_end issue.parts (target_number drafts issue.target) issue.cycle
 
 -- where all of a block's instructions end in these cycles of the text, so do they where they are placed
-ends_by : (drafts : List Draft) (start limit most : ℕ) (issues : List Issue) (placed : List Placed) → map part_of placed ≡ map (part_in drafts) issues
+pub ends_by : (drafts : List Draft) (start limit most : ℕ) (issues : List Issue) (placed : List Placed) → map part_of placed ≡ map (part_in drafts) issues
     → limit ≤ start + most → AllByRecursion (λ issue. end_of issue.parts (start + issue.cycle) ≤ limit) issues → All (λ p. end_at p ≤ most) placed
 ends_by drafts start limit most issues [] is within ends = All-nil (λ (p : Placed). end_at p ≤ most)
 ends_by drafts start limit most [] (p ∷ placed) is within ends = absurd cc

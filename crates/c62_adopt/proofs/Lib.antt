@@ -9,3 +9,4 @@ pub mod SortedLemmas
 pub mod ReadBackLemmas
 pub mod AnswerLemmas
 pub mod RefusalLemmas
+pub mod CycleLemmas

@@ -5,3 +5,4 @@ pub mod Packing
 pub mod Answer
 pub mod FaultText
 pub mod Laws
+pub mod Cycles

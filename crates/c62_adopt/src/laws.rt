@@ -2,6 +2,7 @@
 
 ghost use Rattle.std.specs.Prelude.{ℕ, Bool, List};
 ghost use Rattle.c62_packet.specs.Packed.{Packed};
+ghost use Rattle.c62_adopt.specs.Cycles.{AccountsForCycles};
 ghost use Rattle.c62_adopt.specs.Laws.{AdoptsListings, HasOneAnswer, DrainsNothing};
 
 /// The listing of what a text is adopted as is read as the same packets, but for the lines of their instructions.
@@ -17,4 +18,11 @@ pub fn texts_have_one_answer()
 /// What is adopted as it stands is adopted as the same packets where it is drained, and no cycle is added.
 pub fn texts_that_stand_lack_nothing()
     ensures { (text : List ℕ) (packets : List Packed) → DrainsNothing text packets }
+{}
+
+/// The cycles of a text, and those that were added to it, are those before its first block, those of its listing, and those that
+/// each block has in the text behind its packets, in which nothing is issued or in flight. So the listing moves nothing within a
+/// block, and is shorter by just these.
+pub fn cycles_are_accounted_for()
+    ensures { (drain : Bool) (text : List ℕ) → AccountsForCycles drain text }
 {}

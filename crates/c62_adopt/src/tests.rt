@@ -1,6 +1,6 @@
 //! Texts of packets and their listings, worked out by hand.
 
-use crate::adopt;
+use crate::{AdoptFault, adopt};
 use c62_listing::list;
 use std::alloc::{AllocError, Global};
 use std::test::Fail;
@@ -244,5 +244,13 @@ fn cycles_mend_no_other_fault(rt: HostRuntime) -> Result<(), Fail> {
         let told = told_again(rt.alloc(), text, true)?;
         assert!(rt; told.as_str() == *want, "{text} {told}");
     }
+    Ok(())
+}
+
+#[test]
+fn memory_has_a_text(rt: HostRuntime) -> Result<(), Fail> {
+    let fault = AdoptFault::Memory;
+    let told = format!(in rt.alloc(); "{fault}")?;
+    assert_eq!(rt; told.as_str(), "memory");
     Ok(())
 }

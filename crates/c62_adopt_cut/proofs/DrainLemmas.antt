@@ -16,7 +16,7 @@ landed_before : (start last : ℕ) (issues : List Issue) → AllByRecursion (λ 
 landed_before start last [] all = omega arith
 landed_before start last (issue ∷ issues) all = omega (arith, all.0, landed_before start last issues all.1)
 
-over_before : (next : ℕ) (draft : Draft) → over_in next draft ≤ next
+pub over_before : (next : ℕ) (draft : Draft) → over_in next draft ≤ next
 over_before next draft = go (find branches draft.issues) refl
   where
     go : (found : Option Issue) → find branches draft.issues ≡ found → over_in next draft ≤ next

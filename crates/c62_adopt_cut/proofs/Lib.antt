@@ -8,3 +8,7 @@ pub mod NameLemmas
 pub mod OverLemmas
 pub mod DrainLemmas
 pub mod OrderLemmas
+pub mod StartLemmas
+pub mod CutLemmas
+pub mod HomeLemmas
+pub mod TextHomes

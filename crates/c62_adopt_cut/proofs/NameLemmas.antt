@@ -32,7 +32,7 @@ append_given xs ys =
     ap (flat_map option_to_list) (map-append (λ (draft : Draft). draft.label) xs ys)
     ∙ flat_map-append option_to_list (map (λ (draft : Draft). draft.label) xs) (map (λ (draft : Draft). draft.label) ys)
 
-last_given : (drafts : List Draft) (last : Draft) → labels_given (drafts ++ last ∷ []) ≡ labels_given drafts ++ option_to_list last.label
+pub last_given : (drafts : List Draft) (last : Draft) → labels_given (drafts ++ last ∷ []) ≡ labels_given drafts ++ option_to_list last.label
 last_given drafts last =
     append_given drafts (last ∷ []) ∙ ap (λ (labels : List Name). labels_given drafts ++ labels) (append-nil (option_to_list last.label))
 

@@ -8,7 +8,7 @@ use Rattle.c62_read.specs.Program.{Name}
 use Rattle.c62_adopt_line.specs.Line.{Line}
 use Rattle.c62_adopt_cut.specs.Cut.{Place, begins_packet, cycle_at, cycles_of, cuts_of, first_of, is_filled, last_packet, place_of, stand_of, start_of, with_label_cut}
 
-start_low : (cycle : ℕ) (cuts : List ℕ) → start_of cycle cuts ≤ cycle
+pub start_low : (cycle : ℕ) (cuts : List ℕ) → start_of cycle cuts ≤ cycle
 start_low cycle [] = omega arith
 start_low cycle (cut ∷ cuts) = grind (arith, nat_tests, start_low cycle cuts)
 
@@ -22,6 +22,9 @@ start_here cycle cuts = grind (arith, nat_tests, start_low cycle cuts)
 pub labelled_stand : (above : List Line) (line : Line) → is_some line.label ≡ true → line.beside ≡ false
     → (stand_of above line).start ≡ (stand_of above line).cycle
 labelled_stand above line labelled alone = rw (alone, labelled) (start_here _ (cuts_of above))
+
+pub labelled_here : (above : List Line) (line : Line) → line.beside ≡ false → (stand_of above line).cycle ≡ cycles_of above
+labelled_here above line alone = rw alone refl
 
 -- a line with a label has no bars
 pub alone : (beside : Bool) (label : Option Name) → is_some label ≡ true → (beside ≡ true → label ≡ None) → beside ≡ false

@@ -7,3 +7,4 @@ pub mod Text
 pub mod Added
 pub mod Flight
 pub mod Laws
+pub mod Home

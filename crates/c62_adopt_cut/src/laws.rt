@@ -3,6 +3,7 @@
 ghost use Rattle.std.specs.Prelude.{ℕ, Bool, List};
 ghost use Rattle.c62_adopt_cut.specs.Text.{Cut};
 ghost use Rattle.c62_adopt_cut.specs.Blocks.{Draft};
+ghost use Rattle.c62_adopt_cut.specs.Home.{BlocksAreOfLines};
 ghost use Rattle.c62_adopt_cut.specs.Laws.{BlocksAreFine, BlocksAreNamed, BlocksAreInOrder, BlocksAreOver, LacksNoneWhereOver, IsJustDrained};
 
 /// Of every text at most 64 blocks are read, each of at most 256 instructions, which have their units written, and none in
@@ -37,4 +38,11 @@ pub fn drained_texts_lack_none()
 /// they haven't.
 pub fn lacking_cycles_are_just_enough()
     ensures { (next : ℕ) (draft : Draft) → IsJustDrained next draft }
+{}
+
+/// Each instruction of a line that is read stands in one block, in the order of lines: in that which begins at the last cut not
+/// behind its cycle, under the label that stands last at or above it, where that stands at this cut. Each label is a block's,
+/// and blocks begin where the text is cut, or at its beginning.
+pub fn blocks_are_of_lines()
+    ensures { (text : List ℕ) → BlocksAreOfLines text }
 {}

@@ -8,3 +8,6 @@ pub mod Others
 pub mod Telling
 pub mod Serially
 pub mod Least
+pub mod OneTaking
+pub mod OneVerdict
+pub mod OneText

@@ -25,7 +25,7 @@ use Rattle.c62_check.proofs.Exact.{is_exact}
 
 -- ---- lists
 
-there : {X : Type 0} (xs : List X) (k : ℕ) → k < length xs → (x : X) × (slice_get xs k ≡ Some x)
+pub there : {X : Type 0} (xs : List X) (k : ℕ) → k < length xs → (x : X) × (slice_get xs k ≡ Some x)
 there [] k lt = absurd (omega (arith, lt))
 there (x ∷ xs) zero lt = (x, refl)
 there (x ∷ xs) (suc k) lt = there xs k (omega (arith, lt))
@@ -40,7 +40,7 @@ all_by f [] each = refl
 all_by f (x ∷ xs) each =
     ap (λ (b : Bool). b && list_all f xs) (each 0 x refl) ∙ all_by f xs (λ k y at. each (suc k) y at)
 
-holds_at : {X : Type 0} (P : X → Type 0) (xs : List X) (k : ℕ) (x : X) → All P xs → slice_get xs k ≡ Some x → P x
+pub holds_at : {X : Type 0} (P : X → Type 0) (xs : List X) (k : ℕ) (x : X) → All P xs → slice_get xs k ≡ Some x → P x
 holds_at P xs k x all at = subst P (get_or_from_slice_get xs k x x at) (all k x (slice_get_within xs k x at))
 
 -- ---- every block is a schedule

@@ -44,3 +44,9 @@ abbrev pub SaysSame : List Serial → List Packed → List ℕ → Bool → Type
 SaysSame program packets text same =
     All (λ block. IsTrue (is_block block.insns)) program → All IsPacketBlock packets → IsChecked program packets text same
     → IsTrue same ↔ HaveNumberings program packets
+
+-- of a program and packets one text is told, and that all is the same or not
+abbrev pub HasOneText : List Serial → List Packed → Type 0
+HasOneText program packets =
+    All (λ block. IsTrue (is_block block.insns)) program → All IsPacketBlock packets → (text other : List ℕ) (same also : Bool)
+    → IsChecked program packets text same → IsChecked program packets other also → (text ≡ other) × (same ≡ also)

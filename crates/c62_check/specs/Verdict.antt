@@ -36,3 +36,16 @@ abbrev pub IsExact : Serial → Packed → Answer → Type 0
 IsExact block packed answer =
     IsTrue (is_block block.insns) → IsPacketBlock packed → IsVerdict block packed answer
     → (answer ≡ Same) ↔ ((numbered : List Placed) × IsNumbering block.insns packed.placed numbered)
+
+-- the same is told: a line, or one for one what comes too early
+abbrev pub IsSameVerdict : Answer → Answer → Type 0
+IsSameVerdict Same Same = Unit {0}
+IsSameVerdict (Missing line) (Missing other) = line ≡ other
+IsSameVerdict (Extra line) (Extra other) = line ≡ other
+IsSameVerdict (TooEarly early) (TooEarly other) = early.items ≡ other.items
+IsSameVerdict _ _ = ⊥
+
+-- so it is of any two verdicts on a block
+abbrev pub HasOneVerdict : Serial → Packed → Type 0
+HasOneVerdict block packed =
+    IsTrue (is_block block.insns) → IsPacketBlock packed → (one other : Answer) → IsVerdict block packed one → IsVerdict block packed other → IsSameVerdict one other

@@ -9,8 +9,8 @@ ghost use Rattle.c62_packet.specs.Packed.{Packed};
 ghost use Rattle.c62_check.specs.declared.verdict.Verdict.{Verdict as Answer};
 ghost use Rattle.c62_check.specs.Schedule.{SchedulesArePacked, HasOneNumbering};
 ghost use Rattle.c62_check.specs.Least.{PacketsAreSeated, NoPacketsAreShorter, NoCheckedAreShorter};
-ghost use Rattle.c62_check.specs.Verdict.{IsExact};
-ghost use Rattle.c62_check.specs.Checked.{SaysSame};
+ghost use Rattle.c62_check.specs.Verdict.{IsExact, HasOneVerdict};
+ghost use Rattle.c62_check.specs.Checked.{SaysSame, HasOneText};
 ghost use Rattle.c62_check.specs.Serial.{CheckedAreSerial};
 
 /// Packets that are checked to be the same as a program run as it does, from every sound machine and under every limit: the
@@ -56,4 +56,10 @@ pub fn no_packets_are_shorter()
 /// Where all is the same, each block's packets take no fewer cycles than what is told as its bound.
 pub fn no_checked_packets_are_shorter()
     ensures { (program : List Serial) (packets : List Packed) (text : List ℕ) → NoCheckedAreShorter program packets text }
+{}
+
+/// A block has one verdict, and a check tells one text.
+pub fn has_one_verdict()
+    ensures block { (block : Serial) (packed : Packed) → HasOneVerdict block packed }
+    ensures text { (program : List Serial) (packets : List Packed) → HasOneText program packets }
 {}

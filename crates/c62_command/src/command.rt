@@ -415,8 +415,10 @@ fn request_in(alloc: Global, matches: &ArgMatches<'_>) -> Result<Request, Settin
 
 /// What the words after the program's name ask for (README.md, "Command line"). No words ask for `pack --turns`.
 ///
-/// The error is `Words` only where clap doesn't take the words, `Setting` only where clap takes them and that setting is the
-/// first bad one, and `Memory` where memory ran out, which may come whatever the words are.
+/// # Errors
+///
+/// `Words` only where clap doesn't take the words, `Setting` only where clap takes them and that setting is the first bad one, and
+/// `Memory` where memory ran out, which may come whatever the words are.
 pub fn command_of<'a, S: AsStr>(alloc: Global, words: &'a [S]) -> Result<Request, CommandError>
     ensures asked { IfOk result (λ request. asked (map S.text words.entry.now) ≡ Some (ask_of request)) }
     ensures refused { IfErr result (λ error. IsRefusal error (map S.text words.entry.now)) }

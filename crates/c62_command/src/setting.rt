@@ -71,7 +71,11 @@ fn read_setting(text: &[u8]) -> Option<Setting>
     set_to(&text[..equals], word_of(number(&text[equals + 1..])?))
 }
 
-/// The settings that the words say, in their order.
+/// The settings that the words say, in their order (docs/REPORT.md, "Settings").
+///
+/// # Errors
+///
+/// `Bad` with the number of the first word that is no setting, and `Memory` where memory ran out.
 pub fn read_settings(alloc: Global, texts: &[&str]) -> Result<Vec<Setting>, SettingError>
     ensures ok { IfOk result (λ settings. AreSettings (map (λ text. text.now) texts.now) settings.items) }
     ensures err { IfErr result (IsBadAmong (map (λ text. text.now) texts.now)) }

@@ -17,3 +17,4 @@ pub mod WrittenLemmas
 pub mod ConditionNumbers
 pub mod GoneOver
 pub mod Reasons
+pub mod Relays

@@ -17,20 +17,20 @@ use Rattle.c62_depend.proofs.Common.{nat_tests}
 use Rattle.c62_depend.proofs.Bounds.{write_of, set_of, is_written}
 use Rattle.c62_depend.proofs.Latencies.{insn_at}
 
-some_write : (reg : Reg) (delay : ℕ) (writes : List (Reg × ℕ)) → Contains writes (reg, delay) → list_any (λ (write : Reg × ℕ). same_reg write.0 reg) writes ≡ true
+pub some_write : (reg : Reg) (delay : ℕ) (writes : List (Reg × ℕ)) → Contains writes (reg, delay) → list_any (λ (write : Reg × ℕ). same_reg write.0 reg) writes ≡ true
 some_write reg delay [] (k, l, e) = absurd (omega (arith, l))
 some_write reg delay (w ∷ writes) (zero, l, e) =
     or_left (same_reg w.0 reg) _ (ap (λ (x : Reg × ℕ). same_reg x.0 reg) e ∙ same_reg-refl reg)
 some_write reg delay (w ∷ writes) (suc k, l, e) = or_right (same_reg w.0 reg) _ (some_write reg delay writes (k, omega (arith, l), e))
 
-a_write : (reg : Reg) (writes : List (Reg × ℕ)) → list_any (λ (write : Reg × ℕ). same_reg write.0 reg) writes ≡ true → (delay : ℕ) × Contains writes (reg, delay)
+pub a_write : (reg : Reg) (writes : List (Reg × ℕ)) → list_any (λ (write : Reg × ℕ). same_reg write.0 reg) writes ≡ true → (delay : ℕ) × Contains writes (reg, delay)
 a_write reg [] h = cc
 a_write reg (w ∷ writes) h = elim (or_cases (same_reg w.0 reg) (list_any (λ (write : Reg × ℕ). same_reg write.0 reg) writes) h) [
   | inl first ↦ (let same : w.0 ≡ reg = same_reg-is w.0 reg first in (w.1, (0, omega arith, ap (λ (r : Reg). (r, w.1)) same)))
   | inr later ↦ (let found = a_write reg writes later in (found.0, (suc found.1.0, omega (arith, found.1.1), found.1.2)))
 ]
 
-same_tests : (a b : Bool) → (a ≡ true → b ≡ true) → (b ≡ true → a ≡ true) → a ≡ b
+pub same_tests : (a b : Bool) → (a ≡ true → b ≡ true) → (b ≡ true → a ≡ true) → a ≡ b
 same_tests true b to from = sym (to refl)
 same_tests false b to from = sym (false_from_ne_true b (λ h. both_ways false refl (from h)))
 

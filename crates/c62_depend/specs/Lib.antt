@@ -11,6 +11,7 @@ pub mod Links
 pub mod Lists
 pub mod Gathering
 pub mod Height
+pub mod Direct
 pub mod Side
 pub mod UnitChoices
 pub mod Plan

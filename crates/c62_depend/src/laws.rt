@@ -4,6 +4,7 @@
 ghost use Rattle.std.specs.Prelude.{ℕ, ℤ, List};
 ghost use Rattle.c62_insn.specs.declared.insn.Insn.{Insn};
 ghost use Rattle.c62_depend.specs.Laws.{HasLatencies, HasHeights, HasNeeds, HasFollowers};
+ghost use Rattle.c62_depend.specs.Direct.{DirectOnesBind};
 ghost use Rattle.c62_depend.specs.Reason.{HasOneReason};
 
 /// A latency is the greatest bound of the cases of dependence that apply, and none where none applies.
@@ -24,6 +25,12 @@ pub fn has_needs()
 /// The list of what depends on an instruction has each such dependence once, by rising numbers, and nothing else.
 pub fn has_followers()
     ensures { (block : List Insn) → HasFollowers block }
+{}
+
+/// Each dependence is implied by a chain of direct ones: from the earlier instruction to the later, with latencies that sum
+/// to at least its own.
+pub fn direct_ones_bind()
+    ensures { (block : List Insn) → DirectOnesBind block }
 {}
 
 /// There is one reason for which an instruction must come so many cycles behind another, by the first case of dependence

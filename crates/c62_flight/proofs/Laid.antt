@@ -1,7 +1,7 @@
 -- Blocks that are laid out fly as their chain.
 use Rattle.std.proofs.Common.{◌≡◌, ℕ, ◌+◌, ◌<◌, ◌≤◌, Bool, false, ◌||◌, cond, List, [], ◌∷◌, length, Some, None, refl, sym, ◌∙◌, ap, subst, ◌⊎◌, inl, inr, ⊎_elim, arith, ◌-◌}
 use Rattle.std.specs.Prelude.{All, nat_lt, nat_le, slice_get}
-use Rattle.std.proofs.lemmas.Bool.{cases_lt, cond_both, lt-ltb, le-ltb, ltb-true, ltb-false}
+use Rattle.std.proofs.lemmas.Bool.{cases_lt, cond-false, cond_both, lt-ltb, le-ltb, ltb-true, ltb-false}
 use Rattle.std.proofs.lemmas.Option.{slice_get-get_or}
 use Rattle.std.proofs.lemmas.List.Sums.{sum_by-cons}
 use Rattle.c62_insn.specs.declared.effect.Target.{Target}
@@ -23,7 +23,7 @@ use Rattle.c62_flight.specs.Text.{Text, At, aim_of}
 use Rattle.c62_flight.specs.Issued.{issued_on}
 use Rattle.c62_flight.specs.Flight.{ended, Flies}
 use Rattle.c62_flight.specs.Cut.{IsCut}
-use Rattle.c62_flight.specs.Laid.{straight, straight_end, IsLaid, AreLaid, no_block, block_of, packet_blocks, FliesAs, LaidFlies, cycles_taken}
+use Rattle.c62_flight.specs.Laid.{straight, straight_end, IsLaid, AreLaid, no_block, block_of, packet_blocks, FliesAs, IsOutside, LaidFlies, cycles_taken}
 use Rattle.c62_flight.proofs.Joined.{flies_on}
 use Rattle.c62_flight.proofs.LaidBlock.{takes, names, in_placed, exit_plain, cut_plain, exit_turned, cut_turned, flies_out, any_branch}
 
@@ -113,7 +113,7 @@ module _ (text : Text) (packets : List Packed) (laid : AreLaid text packets) (bl
 
   abbrev Behind : List ℕ → Type 0
   Behind numbers = (machine : Machine) (position : ChainPosition) (row : ℕ) (final : Machine) (last : ChainPosition) → StandsAt position row → IsSound machine
-      → ChainLeads (length packets) (packet_blocks packets) machine position numbers final last → FliesAs text row machine last final (cycles_taken packets numbers - lead_at position)
+      → ChainLeads (length packets) (packet_blocks packets) machine position numbers final last → IsOutside text last → FliesAs text row machine last final (cycles_taken packets numbers - lead_at position)
 
   -- a branch to a register is the last
   left : (numbers : List ℕ) (machine : Machine) (word : ℕ) (final : Machine) (last : ChainPosition) → ChainLeads (length packets) (packet_blocks packets) machine (Ended (LeftBy word)) numbers final last
@@ -125,8 +125,8 @@ module _ (text : Text) (packets : List Packed) (laid : AreLaid text packets) (bl
   one_block : (number row : ℕ) (numbers : List ℕ) (machine : Machine) (final : Machine) (last : ChainPosition) (ran : Ran) → number < length packets → row ≡ laid.row number → IsSound machine
       → IsMeaning (block_of packets number).placed (block_of packets number).cycles machine ran
       → ChainLeads (length packets) (packet_blocks packets) ran.machine (chain_after (length packets) number ran.exit) numbers final last
-      → Behind numbers → FliesAs text row machine last final (cycles_taken packets (number ∷ numbers) - laid.lead number)
-  one_block number row numbers machine final last ran inside is sound m leads behind =
+      → IsOutside text last → Behind numbers → FliesAs text row machine last final (cycles_taken packets (number ∷ numbers) - laid.lead number)
+  one_block number row numbers machine final last ran inside is sound m leads out behind =
       subst (λ r. FliesAs text r machine last final (cycles_taken packets (number ∷ numbers) - laid.lead number)) (sym is)
       (by_branch (any_branch text (block_of packets number) (laid.row number) (laid.count number) (laid.lead number) it packet machine ran sound m))
     where
@@ -159,7 +159,7 @@ module _ (text : Text) (packets : List Packed) (laid : AreLaid text packets) (bl
           (behind ran.machine (position_at (length packets) other) (aim_of text other) final last
           (stands_at other (aim_of text other) (laid.aims other) (laid.outside other)) m.leaves.state.sound
           (subst (λ exit. ChainLeads (length packets) (packet_blocks packets) ran.machine (chain_after (length packets) number exit) numbers final last)
-          (exit_turned text (block_of packets number) (laid.row number) (laid.count number) (laid.lead number) it packet machine ran sound m p (ToBlock other) h e) leads))
+          (exit_turned text (block_of packets number) (laid.row number) (laid.count number) (laid.lead number) it packet machine ran sound m p (ToBlock other) h e) leads) out)
       by_target p (ToRegister word) h e =
           let r : (final ≡ ran.machine) × (last ≡ Ended (LeftBy word)) × (numbers ≡ [])
           = left numbers ran.machine word final last
@@ -175,7 +175,7 @@ module _ (text : Text) (packets : List Packed) (laid : AreLaid text packets) (bl
             taken = p.cycle + 6;
             long = omega arith;
             told = refl;
-            flies = λ more _. flies_out text (block_of packets number) (laid.row number) (laid.count number) (laid.lead number) it packet machine ran sound m p (ToRegister word) h e word refl more;
+            flies = λ more _. flies_out text (block_of packets number) (laid.row number) (laid.count number) (laid.lead number) it packet machine ran sound m p (ToRegister word) h e word (cond-false _ _ _ (subst (IsOutside text) r.1 out)) more;
           }))
 
       by_branch : ((p : Placed) → In p (issued_on text (straight text (laid.row number) 0 (laid.count number))) → (since (laid.lead number) m.did p).target ≡ None)
@@ -196,23 +196,23 @@ module _ (text : Text) (packets : List Packed) (laid : AreLaid text packets) (bl
           (λ l. (let e : number + 1 ≡ length packets = omega arith in sym (laid.next number inside) ∙ ap (λ n. laid.row n) e ∙ laid.last)))
           m.leaves.state.sound
           (subst (λ exit. ChainLeads (length packets) (packet_blocks packets) ran.machine (chain_after (length packets) number exit) numbers final last)
-          (exit_plain text (block_of packets number) (laid.row number) (laid.count number) (laid.lead number) it packet machine ran sound m none) leads))
+          (exit_plain text (block_of packets number) (laid.row number) (laid.count number) (laid.lead number) it packet machine ran sound m none) leads) out)
 
   chain_flies : (numbers : List ℕ) → Behind numbers
   unfolding ChainLeads
-  chain_flies [] machine position row final last stands sound leads =
+  chain_flies [] machine position row final last stands sound leads out =
       subst (λ l. FliesAs text row machine l final (0 - lead_at position)) (sym leads.1)
       (subst (λ f. FliesAs text row machine position f (0 - lead_at position)) (sym leads.0) (at_end position row machine stands sound))
-  chain_flies (number ∷ numbers) machine position row final last stands sound leads =
+  chain_flies (number ∷ numbers) machine position row final last stands sound leads out =
       let there : (number < length packets) × (row ≡ laid.row number) = subst (λ p. StandsAt p row) leads.0 stands in
       subst (λ p. FliesAs text row machine last final (cycles_taken packets (number ∷ numbers) - lead_at p)) (sym leads.0)
-      (one_block number row numbers machine final last leads.1 there.0 there.1 sound leads.2 leads.3 (chain_flies numbers))
+      (one_block number row numbers machine final last leads.1 there.0 there.1 sound leads.2 leads.3 out (chain_flies numbers))
 
 pub laid_flies : (text : Text) (packets : List Packed) → LaidFlies text packets
-laid_flies text packets laid blocks opening limit standing sound chain =
+laid_flies text packets laid blocks opening limit standing sound chain out =
     let f : FliesAs text 0 opening standing.position standing.machine (cycles_taken packets standing.numbers - lead_at text packets laid blocks (position_at (length packets) 0))
     = chain_flies text packets laid blocks standing.numbers opening (position_at (length packets) 0) 0 standing.machine standing.position
-    (stands_at text packets laid blocks 0 0 (λ l. sym laid.first) (λ l. (let e : 0 ≡ length packets = omega arith in sym laid.first ∙ ap (λ n. laid.row n) e ∙ laid.last))) sound chain.stands in
+    (stands_at text packets laid blocks 0 0 (λ l. sym laid.first) (λ l. (let e : 0 ≡ length packets = omega arith in sym laid.first ∙ ap (λ n. laid.row n) e ∙ laid.last))) sound chain.stands out in
     let none : lead_at text packets laid blocks (position_at (length packets) 0) ≡ 0 = no_lead text packets laid blocks 0 (λ l. laid.begun) in
     let long : cycles_taken packets standing.numbers - lead_at text packets laid blocks (position_at (length packets) 0) ≤ f.taken = f.long in
     record { stop = f.stop; taken = f.taken; long = omega arith; told = f.told; flies = f.flies }

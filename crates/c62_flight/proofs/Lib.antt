@@ -3,6 +3,7 @@ pub mod Fronts
 pub mod OneFlight
 pub mod Flying
 pub mod Rows
+pub mod Hanging
 pub mod Told
 pub mod Joined
 pub mod Underway

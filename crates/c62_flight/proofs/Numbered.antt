@@ -1,6 +1,6 @@
 -- Texts that are the same but for the numbers of labels fly the same.
 use Rattle.std.proofs.Common.{◌≡◌, ℕ, zero, suc, ◌+◌, ◌*◌, Bool, true, false, ◌&&◌, ◌||◌, cond, eqb, ltb, List, [], ◌∷◌, ◌++◌, map, length, Option, Some, None, refl, sym, ◌∙◌, ap, subst, inl, inr, arith}
-use Rattle.std.specs.Prelude.{◌↔◌, is_some, option_map, filter, find, nat_le, if◌then◌else◌}
+use Rattle.std.specs.Prelude.{◌==◌, ◌↔◌, is_some, option_map, filter, find, nat_le, if◌then◌else◌}
 use Rattle.std.specs.List.{flat_map, list_any, zip}
 use Rattle.std.specs.Option.{option_or, option_to_list}
 use Rattle.std.proofs.lemmas.List.{append-nil}
@@ -29,7 +29,7 @@ use Rattle.c62_meaning.proofs.Runs.{acts_to, the_run, the_run_runs, one_run}
 use Rattle.c62_meaning.proofs.SerialPackets.{state_same}
 use Rattle.c62_flight.specs.declared.stop.Stop.{Stop}
 use Rattle.c62_flight.specs.declared.stop.Stop.TheVariants.{End, Clash, Limit}
-use Rattle.c62_flight.specs.Text.{Text, Position, At, Outside, row_of, aim_of, position_after}
+use Rattle.c62_flight.specs.Text.{Text, Position, At, Outside, row_of, aim_of, address_of, row_at, leads_to, position_after}
 use Rattle.c62_flight.specs.Issued.{Visit, Issued, issue_in, issued_in, issued_on, first_of, goes_in, turn, over, over_of, is_in_flight}
 use Rattle.c62_flight.specs.Broken.{has_branched, two_branches, lands_in, met_by, clash, broken}
 use Rattle.c62_flight.specs.Flight.{ended, Leads, Stops, Flies}
@@ -174,15 +174,17 @@ module _ (text other : Text) where
   some_alike (Some (ToRegister w)) None h = absurd h
   some_alike (Some t) (Some u) h = refl
 
-  stands_alike : (row : ℕ) (a b : Option Target) → TargetAlike a b → position_after text row a ≡ position_after other row b
-  stands_alike row None None h = refl
-  stands_alike row None (Some t) h = absurd h
-  stands_alike row (Some (ToBlock n)) None h = absurd h
-  stands_alike row (Some (ToRegister w)) None h = absurd h
-  stands_alike row (Some (ToBlock n)) (Some (ToBlock m)) h = ap At h
-  stands_alike row (Some (ToBlock n)) (Some (ToRegister v)) h = absurd h
-  stands_alike row (Some (ToRegister w)) (Some (ToBlock m)) h = absurd h
-  stands_alike row (Some (ToRegister w)) (Some (ToRegister v)) h = ap Outside h
+  stands_alike : length text.rows ≡ length other.rows → (row : ℕ) (a b : Option Target) → TargetAlike a b → position_after text row a ≡ position_after other row b
+  stands_alike count row None None h = refl
+  stands_alike count row None (Some t) h = absurd h
+  stands_alike count row (Some (ToBlock n)) None h = absurd h
+  stands_alike count row (Some (ToRegister w)) None h = absurd h
+  stands_alike count row (Some (ToBlock n)) (Some (ToBlock m)) h = ap At h
+  stands_alike count row (Some (ToBlock n)) (Some (ToRegister v)) h = absurd h
+  stands_alike count row (Some (ToRegister w)) (Some (ToBlock m)) h = absurd h
+  stands_alike count row (Some (ToRegister w)) (Some (ToRegister v)) h =
+      ap (λ u. leads_to text (ToRegister u)) h
+      ∙ ap (λ n. cond ((address_of (row_at v) == v) && nat_le (row_at v) n) (At (row_at v)) (Outside v)) count
 
   module _ (did did' : Did) (acts : DoAlike did did') where
     turn_alike : (c : ℕ) (ps qs : List Placed) → AllAlike ps qs → TargetAlike (first_of (goes_in did c) ps) (first_of (goes_in did' c) qs)
@@ -300,7 +302,7 @@ module _ (text other : Text) where
         let overs : over_of text one visit ≡ over_of other two visit
         = over_alike ps qs h visit.start (row_of text visit.row).idle ∙ ap (λ idle. over two visit.start idle) (same.idle visit.row) in
         let stands : position_after text visit.row (turn one (over_of text one visit)) ≡ position_after other visit.row (turn two (over_of other two visit))
-        = stands_alike visit.row (turn one (over_of text one visit)) (turn two (over_of text one visit)) (turn_alike (over_of text one visit) ps qs h)
+        = stands_alike same.count visit.row (turn one (over_of text one visit)) (turn two (over_of text one visit)) (turn_alike (over_of text one visit) ps qs h)
         ∙ ap (λ c. position_after other visit.row (turn two c)) overs in (
           record {
             there = leads.0.there;

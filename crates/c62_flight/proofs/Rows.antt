@@ -1,20 +1,21 @@
 -- Small texts and their flights, told by computation: the definitions say what they should.
-use Rattle.std.proofs.Common.{◌≡◌, ℕ, zero, suc, ◌+◌, ◌<◌, ◌≤◌, Bool, true, ◌&&◌, List, [], ◌∷◌, Option, Some, None, refl, ◌∙◌, ap, subst, ◌⊎◌, inl, inr, ⊎_elim, arith}
-use Rattle.std.specs.Prelude.{◌%◌, ◌^◌, is_some, is_none, nat_lt, nat_le, slice_index}
+use Rattle.std.proofs.Common.{◌≡◌, ℕ, zero, suc, ◌+◌, ◌<◌, ◌≤◌, Bool, true, ◌&&◌, List, [], ◌∷◌, Option, Some, None, refl, sym, ◌∙◌, ap, subst, ◌⊎◌, inl, inr, ⊎_elim, arith}
+use Rattle.std.specs.Prelude.{IsFalse, ◌%◌, ◌^◌, is_some, is_none, nat_lt, nat_le, slice_index}
 use Rattle.std.specs.List.{list_all}
-use Rattle.std.proofs.lemmas.Bool.{and_parts, ltb-true, leb-true, cases_order, cases_lt}
+use Rattle.std.proofs.lemmas.Bool.{cond-false, and_parts, ltb-true, leb-true, cases_order, cases_lt}
 use Rattle.c62_serial.specs.State.{Machine, IsSound, word_in}
 use Rattle.c62_serial.specs.Memory.{number_of, bytes_from}
+use Rattle.c62_insn.specs.declared.effect.Target.TheVariants.{Register as ToRegister}
 use Rattle.c62_packet.specs.declared.placed.Placed.{Placed}
 use Rattle.c62_meaning.specs.Meaning.{LeavesState}
 use Rattle.c62_meaning.proofs.Runs.{acts_to, the_run, the_run_runs}
 use Rattle.c62_flight.specs.declared.stop.Stop.{Stop}
 use Rattle.c62_flight.specs.declared.stop.Stop.TheVariants.{End, Register, Clash, Branches, Limit}
-use Rattle.c62_flight.specs.Text.{Text, Position, At, Outside, position_after}
+use Rattle.c62_flight.specs.Text.{Text, Position, At, Outside, is_address, leads_to, position_after}
 use Rattle.c62_flight.specs.Issued.{Visit, Issued, issued_on, turn, over_of}
 use Rattle.c62_flight.specs.Broken.{broken, IsWholeBefore}
 use Rattle.c62_flight.specs.Flight.{ended, Leads, Flies}
-use Rattle.c62_flight.specs.Samples.{a2, b3, three_a1, five_a2, square, branch, leave, packet, nop, text_of, Runs, over_mvk, if_over, maybe_clash, one_or_other, in_the_slots, end_and_back, six_in_flight, load, with_a1, RunsWithA1, LeavesInA2, SamplesFly, SamplesHang}
+use Rattle.c62_flight.specs.Samples.{a2, b3, three_a1, five_a2, square, branch, leave, packet, nop, text_of, Runs, over_mvk, in_the_slots, go_on, end_and_back, six_in_flight, load, SamplesFly}
 use Rattle.c62_flight.proofs.Fronts.{Early}
 use Rattle.c62_flight.proofs.Flying.{quiet, flies_from}
 use Rattle.c62_flight.proofs.OneFlight.{Goes}
@@ -66,14 +67,14 @@ leads_by text limit issued position cycle (visit ∷ path) last end most whole s
 )
 
 -- a path that ends
-record IsTold (text : Text) (limit : ℕ) (opening : Machine) (path : List Visit) (last : Position) (end : ℕ) (stop : Stop) : Type 0 where
+pub record IsTold (text : Text) (limit : ℕ) (opening : Machine) (path : List Visit) (last : Position) (end : ℕ) (stop : Stop) : Type 0 where
   pub steps : Steps text limit (on_path text opening path) (At 0) 0 path last end
   pub starts : list_all (λ (v : Visit). nat_le v.start (end + 4)) path ≡ true
   pub early : list_all (λ p. nat_lt p.cycle end) (issued_on text path) ≡ true
   pub whole : none_below (broken (on_path text opening path)) (end + 4) ≡ true
   pub ends : ended text limit (on_path text opening path) last end ≡ Some stop
 
-leaves_so : (text : Text) (limit : ℕ) (opening : Machine) (path : List Visit) (last : Position) (end : ℕ) (stop : Stop) → IsSound opening
+pub leaves_so : (text : Text) (limit : ℕ) (opening : Machine) (path : List Visit) (last : Position) (end : ℕ) (stop : Stop) → IsSound opening
     → IsTold text limit opening path last end stop
     → (final : Machine) × Flies text 0 limit opening stop end final × LeavesState (issued_on text path) (end + 4) opening (the_run (issued_on text path) opening) final
 leaves_so text limit opening path last end stop sound t =
@@ -92,19 +93,19 @@ leaves_so text limit opening path last end stop sound t =
       });
     })
 
-ends_so : (text : Text) (limit : ℕ) (opening : Machine) (path : List Visit) (last : Position) (end : ℕ) (stop : Stop) → IsSound opening
+pub ends_so : (text : Text) (limit : ℕ) (opening : Machine) (path : List Visit) (last : Position) (end : ℕ) (stop : Stop) → IsSound opening
     → IsTold text limit opening path last end stop → Runs text limit opening stop end
 ends_so text limit opening path last end stop sound t = let r = leaves_so text limit opening path last end stop sound t in (r.0, r.1)
 
 -- a path with a broken cycle
-record IsBroken (text : Text) (limit : ℕ) (opening : Machine) (path : List Visit) (last : Position) (end cycle : ℕ) (stop : Stop) : Type 0 where
+pub record IsBroken (text : Text) (limit : ℕ) (opening : Machine) (path : List Visit) (last : Position) (end cycle : ℕ) (stop : Stop) : Type 0 where
   pub steps : Steps text limit (on_path text opening path) (At 0) 0 path last end
   pub starts : list_all (λ (v : Visit). nat_le v.start cycle) path ≡ true
   pub whole : none_below (broken (on_path text opening path)) cycle ≡ true
   pub breaks : broken (on_path text opening path) cycle ≡ Some stop
   pub seen : (cycle < end) ⊎ (is_some (ended text limit (on_path text opening path) last end) ≡ true)
 
-breaks_so : (text : Text) (limit : ℕ) (opening : Machine) (path : List Visit) (last : Position) (end cycle : ℕ) (stop : Stop) → IsSound opening
+pub breaks_so : (text : Text) (limit : ℕ) (opening : Machine) (path : List Visit) (last : Position) (end cycle : ℕ) (stop : Stop) → IsSound opening
     → IsBroken text limit opening path last end cycle stop → Runs text limit opening stop (cycle + 1)
 breaks_so text limit opening path last end cycle stop sound t =
     let g : Goes text limit opening [] (At 0) 0 path stop (cycle + 1) = record {
@@ -124,7 +125,7 @@ breaks_so text limit opening path last end cycle stop sound t =
     } in
     let r = flies_from text 0 limit opening path stop (cycle + 1) sound g in (r.0, r.1)
 
-abbrev v : ℕ → ℕ → Visit
+abbrev pub v : ℕ → ℕ → Visit
 v row start = record { row = row; start = start }
 
 -- ---- texts
@@ -189,11 +190,54 @@ in_flight opening sound =
     ends_so six_in_flight 9 opening (v 0 0 ∷ v 1 1 ∷ v 2 2 ∷ v 3 3 ∷ v 4 4 ∷ v 5 5 ∷ v 5 6 ∷ v 5 7 ∷ v 5 8 ∷ []) (At 5) 9 Limit sound
     (record { steps = ((refl, refl, refl), ((refl, refl, refl), ((refl, refl, refl), ((refl, refl, refl), ((refl, refl, refl), ((refl, refl, refl), ((refl, refl, refl), ((refl, refl, refl), ((refl, refl, refl), (refl, refl)))))))))); starts = refl; early = refl; whole = refl; ends = refl })
 
-register : (opening : Machine) → IsSound opening → Runs (text_of (packet (leave 1 ∷ []) ∷ nop 8 ∷ []) []) 100 opening (Register (word_in opening b3)) 6
+register : (opening : Machine) → IsSound opening → IsFalse (is_address (text_of (packet (leave 1 ∷ []) ∷ nop 8 ∷ []) []) (word_in opening b3))
+    → Runs (text_of (packet (leave 1 ∷ []) ∷ nop 8 ∷ []) []) 100 opening (Register (word_in opening b3)) 6
 unfolding the_run acts_to
-register opening sound =
+register opening sound none =
     ends_so (text_of (packet (leave 1 ∷ []) ∷ nop 8 ∷ []) []) 100 opening (v 0 0 ∷ v 1 1 ∷ []) (Outside (word_in opening b3)) 6 (Register (word_in opening b3)) sound
-    (record { steps = ((refl, refl, refl), ((refl, refl, refl), (refl, refl))); starts = refl; early = refl; whole = refl; ends = refl })
+    (record { steps = ((refl, refl, refl), ((refl, refl, refl), (sym (cond-false _ _ _ none), refl))); starts = refl; early = refl; whole = refl; ends = refl })
+
+-- where a word leads that is known
+leads_by_word : (word found : ℕ) → found ≡ word → leads_to go_on (ToRegister word) ≡ leads_to go_on (ToRegister found)
+leads_by_word word found e = ap (λ w. leads_to go_on (ToRegister w)) (sym e)
+
+third_row : (opening : Machine) → IsSound opening → word_in opening b3 ≡ 2147483712 → Runs go_on 100 opening End 7
+unfolding the_run acts_to
+third_row opening sound e =
+    let issued = on_path go_on opening (v 0 0 ∷ v 1 1 ∷ v 2 6 ∷ []) in
+    let there : leads_to go_on (ToRegister (word_in opening b3)) ≡ At 2 = sym (leads_by_word 2147483712 (word_in opening b3) e) in
+    ends_so go_on 100 opening (v 0 0 ∷ v 1 1 ∷ v 2 6 ∷ []) (At 3) 7 End sound
+    (record {
+      steps = ((refl, refl, refl), ((refl, refl, refl), ((there, refl, ap (λ position. ended go_on 100 issued position 6) there), (refl, refl))));
+      starts = refl;
+      early = refl;
+      whole = refl;
+      ends = refl;
+    })
+
+row_behind : (opening : Machine) → IsSound opening → word_in opening b3 ≡ 2147483744 → Runs go_on 100 opening End 6
+unfolding the_run acts_to
+row_behind opening sound e =
+    ends_so go_on 100 opening (v 0 0 ∷ v 1 1 ∷ []) (At 3) 6 End sound
+    (record { steps = ((refl, refl, refl), ((refl, refl, refl), (leads_by_word 2147483744 (word_in opening b3) e, refl))); starts = refl; early = refl; whole = refl; ends = refl })
+
+no_row : (opening : Machine) → IsSound opening → word_in opening b3 ≡ 2147483776 → Runs go_on 100 opening (Register 2147483776) 6
+unfolding the_run acts_to
+no_row opening sound e =
+    ends_so go_on 100 opening (v 0 0 ∷ v 1 1 ∷ []) (Outside 2147483776) 6 (Register 2147483776) sound
+    (record { steps = ((refl, refl, refl), ((refl, refl, refl), (leads_by_word 2147483776 (word_in opening b3) e, refl))); starts = refl; early = refl; whole = refl; ends = refl })
+
+within_row : (opening : Machine) → IsSound opening → word_in opening b3 ≡ 2147483716 → Runs go_on 100 opening (Register 2147483716) 6
+unfolding the_run acts_to
+within_row opening sound e =
+    ends_so go_on 100 opening (v 0 0 ∷ v 1 1 ∷ []) (Outside 2147483716) 6 (Register 2147483716) sound
+    (record { steps = ((refl, refl, refl), ((refl, refl, refl), (leads_by_word 2147483716 (word_in opening b3) e, refl))); starts = refl; early = refl; whole = refl; ends = refl })
+
+small_word : (opening : Machine) → IsSound opening → word_in opening b3 ≡ 64 → Runs go_on 100 opening (Register 64) 6
+unfolding the_run acts_to
+small_word opening sound e =
+    ends_so go_on 100 opening (v 0 0 ∷ v 1 1 ∷ []) (Outside 64) 6 (Register 64) sound
+    (record { steps = ((refl, refl, refl), ((refl, refl, refl), (leads_by_word 64 (word_in opening b3) e, refl))); starts = refl; early = refl; whole = refl; ends = refl })
 
 clash : (opening : Machine) → IsSound opening → Runs (text_of (packet (square 1 ∷ []) ∷ packet (five_a2 2 ∷ []) ∷ nop 8 ∷ []) []) 100 opening (Clash a2 1 2) 2
 unfolding the_run acts_to
@@ -239,69 +283,14 @@ samples_fly opening sound = record {
   two_labels = two_labels opening sound;
   in_flight = in_flight opening sound;
   register = register opening sound;
+  third_row = third_row opening sound;
+  row_behind = row_behind opening sound;
+  no_row = no_row opening sound;
+  within_row = within_row opening sound;
+  small_word = small_word opening sound;
   clash = clash opening sound;
   clash_behind = clash_behind opening sound;
   branches = branches opening sound;
   branches_first = branches_first opening sound;
   end_and_back = end_and_back_flies opening sound;
-}
-
-hang_nop_whole : RunsWithA1 0 if_over End 10
-unfolding the_run acts_to
-hang_nop_whole a0 others memory faults sound =
-    ends_so if_over 100 (with_a1 0 a0 others memory faults) (v 0 0 ∷ v 1 1 ∷ []) (At 2) 10 End sound
-    (record { steps = ((refl, refl, refl), ((refl, refl, refl), (refl, refl))); starts = refl; early = refl; whole = refl; ends = refl })
-
-hang_nop_cut : RunsWithA1 1 if_over End 6
-unfolding the_run acts_to
-hang_nop_cut a0 others memory faults sound =
-    ends_so if_over 100 (with_a1 1 a0 others memory faults) (v 0 0 ∷ v 1 1 ∷ []) (At 2) 6 End sound
-    (record { steps = ((refl, refl, refl), ((refl, refl, refl), (refl, refl))); starts = refl; early = refl; whole = refl; ends = refl })
-
-hang_no_clash : RunsWithA1 0 maybe_clash End 2
-unfolding the_run acts_to
-hang_no_clash a0 others memory faults sound =
-    ends_so maybe_clash 100 (with_a1 0 a0 others memory faults) (v 0 0 ∷ v 1 1 ∷ []) (At 2) 2 End sound
-    (record { steps = ((refl, refl, refl), ((refl, refl, refl), (refl, refl))); starts = refl; early = refl; whole = refl; ends = refl })
-
-hang_clash : RunsWithA1 1 maybe_clash (Clash a2 1 2) 2
-unfolding the_run acts_to
-hang_clash a0 others memory faults sound =
-    breaks_so maybe_clash 100 (with_a1 1 a0 others memory faults) (v 0 0 ∷ v 1 1 ∷ []) (At 2) 2 1 (Clash a2 1 2) sound
-    (record { steps = ((refl, refl, refl), ((refl, refl, refl), (refl, refl))); starts = refl; whole = refl; breaks = refl; seen = inl (omega arith) })
-
-hang_other : RunsWithA1 0 one_or_other End 6
-unfolding the_run acts_to
-hang_other a0 others memory faults sound =
-    ends_so one_or_other 100 (with_a1 0 a0 others memory faults) (v 0 0 ∷ v 1 1 ∷ []) (At 3) 6 End sound
-    (record { steps = ((refl, refl, refl), ((refl, refl, refl), (refl, refl))); starts = refl; early = refl; whole = refl; ends = refl })
-
-hang_one : RunsWithA1 1 one_or_other End 7
-unfolding the_run acts_to
-hang_one a0 others memory faults sound =
-    ends_so one_or_other 100 (with_a1 1 a0 others memory faults) (v 0 0 ∷ v 1 1 ∷ v 2 6 ∷ []) (At 3) 7 End sound
-    (record { steps = ((refl, refl, refl), ((refl, refl, refl), ((refl, refl, refl), (refl, refl)))); starts = refl; early = refl; whole = refl; ends = refl })
-
-hang_product_lands : LeavesInA2 3 (text_of (packet (square 1 ∷ []) ∷ []) []) 1 (λ memory. 9)
-unfolding the_run acts_to
-hang_product_lands a0 others memory faults sound =
-    let r = leaves_so (text_of (packet (square 1 ∷ []) ∷ []) []) 100 (with_a1 3 a0 others memory faults) (v 0 0 ∷ []) (At 1) 1 End sound
-    (record { steps = ((refl, refl, refl), (refl, refl)); starts = refl; early = refl; whole = refl; ends = refl }) in (r.0, r.1, r.2.words a2)
-
-hang_load_lands : LeavesInA2 8 (text_of (packet (load 1 ∷ []) ∷ []) []) 1 (λ memory. number_of (bytes_from (slice_index memory) 8 4) % 2 ^ 32)
-unfolding the_run acts_to
-hang_load_lands a0 others memory faults sound =
-    let r = leaves_so (text_of (packet (load 1 ∷ []) ∷ []) []) 100 (with_a1 8 a0 others memory faults) (v 0 0 ∷ []) (At 1) 1 End sound
-    (record { steps = ((refl, refl, refl), (refl, refl)); starts = refl; early = refl; whole = refl; ends = refl }) in (r.0, r.1, r.2.words a2)
-
-pub samples_hang : SamplesHang
-samples_hang = record {
-  nop_whole = hang_nop_whole;
-  nop_cut = hang_nop_cut;
-  no_clash = hang_no_clash;
-  clash = hang_clash;
-  other = hang_other;
-  one = hang_one;
-  product_lands = hang_product_lands;
-  load_lands = hang_load_lands;
 }

@@ -1,23 +1,26 @@
--- What takes effect, when a row is over and what clashes.
-use Rattle.std.proofs.Common.{◌≡◌, ℕ, zero, suc, ◌+◌, ◌<◌, ◌≤◌, Bool, true, false, eqb, List, [], ◌∷◌, Option, Some, None, refl, sym, ◌∙◌, ap, subst, ◌⊎◌, inl, inr, ⊎_elim, arith}
-use Rattle.std.specs.Prelude.{Contains, slice_get, is_some, find, option_map}
+-- What takes effect, when a row is over, what clashes and where words lead.
+use Rattle.std.proofs.Common.{◌≡◌, ℕ, zero, suc, ◌+◌, ◌<◌, ◌≤◌, Bool, true, false, ◌&&◌, eqb, length, List, [], ◌∷◌, Option, Some, None, refl, sym, ◌∙◌, ap, subst, ◌⊎◌, inl, inr, ⊎_elim, arith}
+use Rattle.std.specs.Prelude.{◌==◌, nat_le, Contains, slice_get, is_some, find, option_map}
 use Rattle.std.specs.List.{list_any}
 use Rattle.std.specs.Option.{option_or}
-use Rattle.std.proofs.lemmas.Bool.{cases_Bool, cases_eq, cases_order, cond-true, cond-false, and_parts, and_from, or_left, or_right, or_cases, eq-eqb, eqb-true, false≢true}
+use Rattle.std.proofs.lemmas.Bool.Decides.{nat_tests}
+use Rattle.std.proofs.lemmas.Bool.{cases_Bool, cases_eq, cases_order, cond-true, cond-false, and_parts, and_from, or_left, or_right, or_cases, eq-eqb, eqb-true, leb-true, false≢true}
 use Rattle.std.proofs.lemmas.Option.{none-some, same_Some}
 use Rattle.c62_op.specs.declared.register.Reg.{Reg}
 use Rattle.c62_op.specs.Takes.{same_reg}
 use Rattle.c62_op.proofs.Registers.{same_reg-is, same_reg-refl}
 use Rattle.c62_insn.specs.declared.effect.Target.{Target}
+use Rattle.c62_insn.specs.declared.effect.Target.TheVariants.{Register as ToRegister}
 use Rattle.c62_packet.specs.declared.placed.Placed.{Placed}
 use Rattle.c62_packet.specs.Clash.{is_landing}
 use Rattle.c62_meaning.specs.Packet.{Did}
 use Rattle.c62_meaning.specs.Landed.{HasLanded, LandOneByOne}
 use Rattle.c62_meaning.proofs.Lookup.{In, In_from_Contains, Contains_from_In}
 use Rattle.c62_flight.specs.declared.stop.Stop.TheVariants.{Clash}
+use Rattle.c62_flight.specs.Text.{Text, At, Outside, address_of, row_at, is_address, leads_to}
 use Rattle.c62_flight.specs.Issued.{Issued, first_of, goes_in, turn, over}
 use Rattle.c62_flight.specs.Broken.{lands_in, met_by, clash}
-use Rattle.c62_flight.specs.Told.{Turns, TurnIsTold, IsOverIn, OverIsTold, ClashIsTold}
+use Rattle.c62_flight.specs.Told.{Turns, TurnIsTold, IsOverIn, OverIsTold, ClashIsTold, WordsAreTold}
 use Rattle.c62_flight.proofs.Lists.{first_of-none}
 
 -- ---- the first that there is
@@ -234,3 +237,23 @@ clash_told placed did = (
   ]),
   (λ alone cycle. unmet did placed alone cycle),
 )
+
+-- ---- where words lead
+
+row_of_address : (row : ℕ) → row_at (address_of row) ≡ row
+row_of_address row = omega arith
+
+pub words_told : (text : Text) → WordsAreTold text
+words_told text = record {
+  rows = λ row l.
+      let within : nat_le row (length text.rows) ≡ true = grind (arith, nat_tests) in
+      let is : is_address text (address_of row) ≡ true
+      = ap (λ n. (address_of n == address_of row) && nat_le n (length text.rows)) (row_of_address row) ∙ and_from _ _ (eq-eqb _ _ refl) within in
+      cond-true _ _ _ is ∙ ap At (row_of_address row);
+  others = λ word none.
+      ⊎_elim {C = leads_to text (ToRegister word) ≡ Outside word}
+      (λ t.
+      let parts = and_parts (address_of (row_at word) == word) (nat_le (row_at word) (length text.rows)) t in
+      absurd (none (row_at word) (leb-true _ _ parts.1) (eqb-true _ _ parts.0)))
+      (λ f. cond-false _ _ _ f) (cases_Bool (is_address text word));
+}

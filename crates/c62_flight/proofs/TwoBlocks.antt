@@ -1,12 +1,16 @@
 -- Two blocks, laid out as the rows of their text.
-use Rattle.std.proofs.Common.{◌≡◌, ℕ, zero, suc, ◌+◌, ◌<◌, ◌≤◌, true, [], ◌∷◌, Some, refl, subst, inl, inr, arith, ◌∙◌, sym, cond, eqb, Bool, false, None}
-use Rattle.std.specs.Prelude.{Contains, slice_get, slice_index_or, All, sum_by, codes}
+use Rattle.std.proofs.Common.{◌≡◌, ℕ, zero, suc, ◌+◌, ◌<◌, ◌≤◌, true, [], ◌∷◌, Some, refl, subst, inl, inr, arith, ◌∙◌, sym, eqb, None}
+use Rattle.std.specs.Prelude.{Contains, slice_get, slice_index_or, All, codes}
 use Rattle.std.proofs.lemmas.List.Elements.{All-cons, All-nil}
+use Rattle.std.proofs.lemmas.Bool.{cond_both}
 use Rattle.std.proofs.lemmas.Option.{none-some, same_Some}
 use Rattle.c62_packet.specs.declared.placed.Placed.{Placed}
-use Rattle.c62_op.specs.declared.register.Reg.{Reg}
 use Rattle.c62_insn.specs.Insn.{unit_of}
-use Rattle.c62_rules.specs.PacketRules.{Issue, IsIssued, reads_in, KeepsPacketRules}
+use Rattle.c62_rules.specs.Issues.{Issue, IsIssued}
+use Rattle.c62_rules.specs.Resource.{capacity_of}
+use Rattle.c62_rules.specs.Capacity.{uses}
+use Rattle.c62_rules.specs.PacketRules.{KeepsPacketRules}
+use Rattle.c62_rules.proofs.Capacities.{alone-fits}
 use Rattle.c62_rules.specs.Length.{landing_end}
 use Rattle.c62_packet.specs.Packed.{Packed, packed_of, issue_of, is_branching, listing_position, IsInListingOrder, IsPacketBlock}
 use Rattle.c62_meaning.proofs.Lookup.{In, In_from_Contains}
@@ -92,19 +96,12 @@ first_alone x (suc i) p e = absurd (none-some p e)
 both_first : (x : Issue) (i j : ℕ) (p q : Issue) → IsIssued (Some x ∷ []) i p → IsIssued (Some x ∷ []) j q → i ≡ j
 both_first x i j p q a b = first_alone x i p a ∙ sym (first_alone x j q b)
 
--- an instruction alone keeps the rules, where it reads no register
-alone_keeps : (x : Issue) → ((cycle : ℕ) (reg : Reg) → sum_by (reads_in cycle reg) (Some x ∷ []) ≤ 4) → KeepsPacketRules (Some x ∷ [])
-alone_keeps x few = record {
-  p1 = λ unit i j p q a b _ _ _. both_first x i j p q a b;
-  p2 = λ side i j p q a b _ _ _. both_first x i j p q a b;
-  p3 = λ side i j p q a b _ _ _. both_first x i j p q a b;
-  p4 = few;
-  p5 = λ i j p q reg cycle a b _ _. inl (both_first x i j p q a b);
+-- an instruction alone keeps the rules
+alone_keeps : (x : Issue) → KeepsPacketRules (Some x ∷ [])
+alone_keeps x = record {
+  enough = λ cycle r. cond_both (eqb x.cycle cycle) (uses r x.insn x.unit) 0 (λ n. 0 + n ≤ capacity_of r) (λ _. let fits : uses r x.insn x.unit ≤ capacity_of r = alone-fits r x.insn x.unit in omega arith) (λ _. omega arith);
+  landing = λ i j p q reg cycle a b _ _. inl (both_first x i j p q a b);
 }
-
-none_read : (b : Bool) → 0 + cond b 0 0 ≤ 4
-none_read true = omega arith
-none_read false = omega arith
 
 in_order : (p : Placed) → IsInListingOrder (p ∷ [])
 in_order p i j d a b = places i j a b
@@ -119,7 +116,7 @@ first_packet : IsPacketBlock (packed_of None 6 (branch 1 1 ∷ []))
 first_packet = record {
   in_order = in_order (branch 1 1);
   as_written = All-cons (λ p. unit_of p.insn ≡ Some p.unit) (branch 1 1) [] refl (All-nil (λ p. unit_of p.insn ≡ Some p.unit));
-  rules = alone_keeps (issue_of (branch 1 1)) (λ cycle reg. none_read (eqb 0 cycle));
+  rules = alone_keeps (issue_of (branch 1 1));
   one_branch = omega arith;
   few = omega arith;
   own_length = refl;
@@ -131,7 +128,7 @@ second_packet : IsPacketBlock (packed_of (Some (codes "L")) 1 (three_a1 3 ∷ []
 second_packet = record {
   in_order = in_order (three_a1 3);
   as_written = All-cons (λ p. unit_of p.insn ≡ Some p.unit) (three_a1 3) [] refl (All-nil (λ p. unit_of p.insn ≡ Some p.unit));
-  rules = alone_keeps (issue_of (three_a1 3)) (λ cycle reg. none_read (eqb 0 cycle));
+  rules = alone_keeps (issue_of (three_a1 3));
   one_branch = omega arith;
   few = omega arith;
   own_length = refl;

@@ -1,6 +1,6 @@
 -- Blocks of packets laid out as the rows of a text: it flies as their chain. So running packets in flight is no other thing than
 -- running drained blocks (docs/MACHINE.md, "Packets").
-use Rattle.std.specs.Prelude.{◌≡◌, ◌⊎◌, ℕ, zero, suc, ◌+◌, ◌<◌, ◌≤◌, List, [], ◌∷◌, length, map, All, Contains, slice_get, slice_index_or, sum_by, Some, None, IsTrue}
+use Rattle.std.specs.Prelude.{◌≡◌, ◌⊎◌, ℕ, zero, suc, ◌+◌, ◌<◌, ◌≤◌, List, [], ◌∷◌, length, map, All, Contains, slice_get, slice_index_or, sum_by, Some, None, IsTrue, IsFalse}
 use Rattle.c62_op.specs.declared.operands.Operands.TheVariants.{Block as ToBlock}
 use Rattle.c62_insn.specs.Insn.{operands_of}
 use Rattle.c62_serial.specs.declared.chain.End.TheVariants.{End as FellThrough, Register as ToRegister, Limit as Stopped}
@@ -12,7 +12,7 @@ use Rattle.c62_meaning.specs.Meaning.{IsMeaning}
 use Rattle.c62_meaning.specs.Cut.{moved}
 use Rattle.c62_flight.specs.declared.stop.Stop.{Stop}
 use Rattle.c62_flight.specs.declared.stop.Stop.TheVariants.{End, Register, Limit}
-use Rattle.c62_flight.specs.Text.{Text, row_of, aim_of}
+use Rattle.c62_flight.specs.Text.{Text, row_of, aim_of, is_address}
 use Rattle.c62_flight.specs.Issued.{Visit, issued_on}
 use Rattle.c62_flight.specs.Flight.{Flies}
 
@@ -84,8 +84,13 @@ pub record FliesAs (text : Text) (row : ℕ) (opening : Machine) (last : Positio
   pub told : StopsAs last stop
   pub flies : (more : ℕ) → (stop ≡ Limit → more ≡ 0) → Flies text row (taken + more) opening stop taken final
 
+-- a chain that ends there leaves the text: by a branch to a register, that held no row's address
+abbrev pub IsOutside : Text → Position → Type 0
+IsOutside text (Ended (ToRegister word)) = IsFalse (is_address text word)
+IsOutside text position = Unit {0}
+
 -- packets of blocks, laid out, fly as their chain
 abbrev pub LaidFlies : Text → List Packed → Type 0
 LaidFlies text packets = AreLaid text packets → All IsPacketBlock packets → (opening : Machine) (limit : ℕ) (standing : Standing) → IsSound opening
-    → IsChain (length packets) (packet_blocks packets) opening limit standing
+    → IsChain (length packets) (packet_blocks packets) opening limit standing → IsOutside text standing.position
     → FliesAs text 0 opening standing.position standing.machine (cycles_taken packets standing.numbers)

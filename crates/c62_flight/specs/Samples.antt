@@ -1,5 +1,5 @@
 -- Small texts and how their runs end.
-use Rattle.std.specs.Prelude.{◌≡◌, refl, ℕ, ◌%◌, ◌^◌, pos, true, false, List, [], ◌∷◌, slice_index, codes, Some, None}
+use Rattle.std.specs.Prelude.{◌≡◌, refl, ℕ, ◌%◌, ◌^◌, pos, true, false, List, [], ◌∷◌, slice_index, codes, Some, None, IsFalse}
 use Rattle.std.proofs.lemmas.Bool.{ltb-true}
 use Rattle.c62_op.specs.declared.register.Side.{Side}
 use Rattle.c62_op.specs.declared.register.Side.TheVariants.{A, B}
@@ -17,7 +17,7 @@ use Rattle.c62_packet.specs.declared.placed.Placed.{Placed}
 use Rattle.c62_packet.specs.Packed.{Packed, packed_of}
 use Rattle.c62_flight.specs.declared.stop.Stop.{Stop}
 use Rattle.c62_flight.specs.declared.stop.Stop.TheVariants.{End, Register, Clash, Branches, Limit}
-use Rattle.c62_flight.specs.Text.{Row, Text}
+use Rattle.c62_flight.specs.Text.{Row, Text, is_address}
 use Rattle.c62_flight.specs.Flight.{Flies}
 
 -- ---- instructions, of a line
@@ -137,6 +137,10 @@ one_cycle_loop = text_of (packet (if_less 1 ∷ if_branch 2 0 ∷ []) ∷ packet
 abbrev pub counting : ℕ → List ℕ → List ℕ → List ℕ → Machine
 counting a0 others memory faults = record { registers = a0 ∷ 7 ∷ 0 ∷ 1 ∷ 1 ∷ others; memory = memory; faults = faults }
 
+-- `B .S2 B3`, NOP 9 and MVK, which is row 2
+abbrev pub go_on : Text
+go_on = text_of (packet (leave 1 ∷ []) ∷ nop 8 ∷ packet (five_a2 3 ∷ []) ∷ []) []
+
 -- `B L`, NOP 9, `L: MVK`, and its blocks with the lines of the text
 abbrev pub two_rows : Text
 two_rows = text_of (packet (branch 1 1 ∷ []) ∷ nop 8 ∷ packet (three_a1 3 ∷ []) ∷ []) (0 ∷ 2 ∷ [])
@@ -166,7 +170,13 @@ pub record SamplesFly (opening : Machine) : Type 0 where
   pub two_labels : Runs in_the_slots 100 opening End 8
   pub end_and_back : Runs end_and_back 100 opening End 8
   pub in_flight : Runs six_in_flight 9 opening Limit 9
-  pub register : Runs (text_of (packet (leave 1 ∷ []) ∷ nop 8 ∷ []) []) 100 opening (Register (word_in opening b3)) 6
+  pub register : IsFalse (is_address (text_of (packet (leave 1 ∷ []) ∷ nop 8 ∷ []) []) (word_in opening b3))
+      → Runs (text_of (packet (leave 1 ∷ []) ∷ nop 8 ∷ []) []) 100 opening (Register (word_in opening b3)) 6
+  pub third_row : word_in opening b3 ≡ 2147483712 → Runs go_on 100 opening End 7
+  pub row_behind : word_in opening b3 ≡ 2147483744 → Runs go_on 100 opening End 6
+  pub no_row : word_in opening b3 ≡ 2147483776 → Runs go_on 100 opening (Register 2147483776) 6
+  pub within_row : word_in opening b3 ≡ 2147483716 → Runs go_on 100 opening (Register 2147483716) 6
+  pub small_word : word_in opening b3 ≡ 64 → Runs go_on 100 opening (Register 64) 6
   pub clash : Runs (text_of (packet (square 1 ∷ []) ∷ packet (five_a2 2 ∷ []) ∷ nop 8 ∷ []) []) 100 opening (Clash a2 1 2) 2
   pub clash_behind : Runs (text_of (packet (square 1 ∷ square 2 ∷ []) ∷ []) []) 100 opening (Clash a2 1 2) 2
   pub branches : Runs (text_of (packet (branch 1 0 ∷ branch 2 0 ∷ []) ∷ []) (0 ∷ [])) 100 opening (Branches 1 2) 1

@@ -1,5 +1,7 @@
 -- A text of packets by rows (docs/ADOPT.md, "Cycles"). A row is a packet; rows are numbered from 0 in the order of the text.
-use Rattle.std.specs.Prelude.{ℕ, ◌+◌, List, [], length, slice_index_or, Option, Some, None}
+use Rattle.std.specs.Prelude.{ℕ, ◌+◌, ◌-◌, ◌*◌, ◌/◌, ◌^◌, ◌<◌, ◌≤◌, nat_le, All, map, sum_by, Bool, ◌==◌, ◌&&◌, if◌then◌else◌, List, [], length, slice_index_or, Option, Some, None}
+use Rattle.std.specs.List.Sorted.{IsStrictlyIncreasing}
+use Rattle.c62_op.specs.Units.{index_of}
 use Rattle.c62_insn.specs.declared.effect.Target.{Target}
 use Rattle.c62_insn.specs.declared.effect.Target.TheVariants.{Block as ToBlock, Register as ToRegister}
 use Rattle.c62_packet.specs.declared.placed.Placed.{Placed}
@@ -25,15 +27,41 @@ row_of text number = slice_index_or text.rows number no_row
 abbrev pub aim_of : Text → ℕ → ℕ
 aim_of text number = slice_index_or text.aims number (length text.rows)
 
+-- how many instructions it has
+abbrev pub insns_in : Text → ℕ
+insns_in text = sum_by (λ row. length row.insns) text.rows
+
+-- The units can issue each row: its instructions stand in the order of the eight units, at most one on each (SPRU189, "Parallel
+-- Operations").
+pub record IsIssuable (text : Text) : Type 0 where
+  pub in_order : All (λ row. IsStrictlyIncreasing (map (λ p. index_of p.unit) row.insns)) text.rows
+  pub few_insns : All (λ row. length row.insns ≤ 8) text.rows
+  pub few_rows : length text.rows < 2 ^ 32
+
 -- where a run stands: before a row, or outside the text with the word of a branch's register
 pub data Position : Type 0 where
   At : ℕ → Position
   Outside : ℕ → Position
 
--- where a branch goes
+-- ---- addresses
+
+-- The address of a row: a multiple of 32, as if each packet had a fetch packet of its own, outside of data memory (docs/EXEC.md,
+-- "Labels as words").
+abbrev pub address_of : ℕ → ℕ
+address_of row = 2147483648 + 32 * row
+
+-- the row whose address a word is, if it is one
+abbrev pub row_at : ℕ → ℕ
+row_at word = (word - 2147483648) / 32
+
+-- it is that of a row of the text, or of the one behind the last, which a label at the end of the text names
+abbrev pub is_address : Text → ℕ → Bool
+is_address text word = (address_of (row_at word) == word) && nat_le (row_at word) (length text.rows)
+
+-- where a branch goes; one to a register goes to the row whose address that held, or else out of the text
 abbrev pub leads_to : Text → Target → Position
 leads_to text (ToBlock number) = At (aim_of text number)
-leads_to text (ToRegister word) = Outside word
+leads_to text (ToRegister word) = if is_address text word then At (row_at word) else Outside word
 
 -- where a run stands when a row is over: where the branch goes that takes effect then, if one does, else before the next row
 abbrev pub position_after : Text → ℕ → Option Target → Position

@@ -1,10 +1,12 @@
--- What takes effect, when a row is over and what clashes, said once more as relations: an instruction that branched, the least
--- cycle, two landings.
-use Rattle.std.specs.Prelude.{◌≡◌, ◌⊎◌, ◌↔◌, ℕ, ◌+◌, ◌<◌, ◌≤◌, List, Contains, Some, None}
+-- What takes effect, when a row is over, what clashes and where words lead, said once more as relations: an instruction that
+-- branched, the least cycle, two landings, addresses.
+use Rattle.std.specs.Prelude.{◌≡◌, ◌⊎◌, ◌↔◌, ℕ, ◌+◌, ◌<◌, ◌≤◌, List, length, Contains, Some, None}
 use Rattle.c62_insn.specs.declared.effect.Target.{Target}
+use Rattle.c62_insn.specs.declared.effect.Target.TheVariants.{Register as ToRegister}
 use Rattle.c62_packet.specs.declared.placed.Placed.{Placed}
 use Rattle.c62_meaning.specs.Packet.{Did}
 use Rattle.c62_meaning.specs.Landed.{LandOneByOne}
+use Rattle.c62_flight.specs.Text.{Text, At, Outside, address_of, leads_to}
 use Rattle.c62_flight.specs.Issued.{Issued, turn, over}
 use Rattle.c62_flight.specs.Broken.{clash}
 
@@ -33,3 +35,9 @@ OverIsTold issued start idle = (end : ℕ) → IsOverIn issued start idle end �
 -- nothing clashes where of each register and cycle the writes of at most one instruction land
 abbrev pub ClashIsTold : List Placed → Did → Type 0
 ClashIsTold placed did = ((cycle : ℕ) → clash did cycle placed ≡ None) ↔ LandOneByOne placed did
+
+-- A branch to a register goes to the row whose address it held, be it the one behind the last; with any other word it goes out of
+-- the text.
+pub record WordsAreTold (text : Text) : Type 0 where
+  pub rows : (row : ℕ) → row ≤ length text.rows → leads_to text (ToRegister (address_of row)) ≡ At row
+  pub others : (word : ℕ) → ((row : ℕ) → row ≤ length text.rows → address_of row ≡ word → ⊥) → leads_to text (ToRegister word) ≡ Outside word

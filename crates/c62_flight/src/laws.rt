@@ -8,7 +8,7 @@ ghost use Rattle.c62_flight.specs.Laws.{HasOneFlight, FliesUnderMore};
 ghost use Rattle.c62_meaning.specs.Packet.{Did};
 ghost use Rattle.c62_packet.specs.declared.placed.Placed.{Placed};
 ghost use Rattle.c62_flight.specs.Issued.{Issued};
-ghost use Rattle.c62_flight.specs.Told.{TurnIsTold, OverIsTold, ClashIsTold};
+ghost use Rattle.c62_flight.specs.Told.{TurnIsTold, OverIsTold, ClashIsTold, WordsAreTold};
 ghost use Rattle.c62_flight.specs.declared.stop.Stop.{Stop};
 ghost use Rattle.c62_flight.specs.Cut.{FliesOn, LandsInFour};
 ghost use Rattle.c62_packet.specs.Packed.{Packed, IsPacketBlock};
@@ -37,6 +37,12 @@ pub fn branches_end_rows()
     ensures over { (issued : Issued) (start idle : ℕ) → OverIsTold issued start idle }
 {}
 
+/// A branch to a register goes to the row whose address it held, and with any other word out of the
+/// text.
+pub fn words_name_rows()
+    ensures { (text : Text) → WordsAreTold text }
+{}
+
 /// Nothing clashes just where of each register and cycle the writes of at most one instruction land.
 pub fn clashes_are_landings()
     ensures { (placed : List Placed) (did : Did) → ClashIsTold placed did }
@@ -56,7 +62,7 @@ pub fn flies_on()
 {}
 
 /// Blocks of packets that are laid out as the rows of a text, drained and by the packet rules, fly as
-/// their chain runs.
+/// their chain runs, where a branch that ends it to the word of a register finds no row's address there.
 pub fn laid_blocks_fly()
     ensures { (text : Text) (packets : List Packed) → LaidFlies text packets }
 {}

@@ -2,4 +2,6 @@
 #![tactic(auto)]
 
 pub mod laws;
-pub mod stop;
+mod stop;
+
+pub use stop::Stop;

@@ -250,7 +250,9 @@ fn instruction<'a>(rest: Tokens<'a>) -> Result<Statement<'a>, Cause>
 
 /// What these tokens say, which stand behind a line's label. A branch's label still stands in the line.
 ///
-/// The first fault is told, in this order: Directive, BadOperand for a condition that is misspelt, UnknownMnemonic, BadUnit, and
+/// # Errors
+///
+/// The first fault, in this order: Directive, BadOperand for a condition that is misspelt, UnknownMnemonic, BadUnit, and
 /// what is wrong with the operands or the form (docs/SERIAL_TEXT.md, "Faults of a line").
 #[inline(always)]
 #[tactic(auto, unfolding(crate::specs::Line::rest_says))]
@@ -334,7 +336,9 @@ fn read_label<'a>(
 
 /// The label of a line, which is without its end, and the tokens that follow it.
 ///
-/// The first fault is told, in this order: NotAscii, LineTooLong, ParallelBar, and BadLabel where a colon stands elsewhere than
+/// # Errors
+///
+/// The first fault, in this order: NotAscii, LineTooLong, ParallelBar, and BadLabel where a colon stands elsewhere than
 /// behind a label at the front (docs/SERIAL_TEXT.md, "Faults of a line").
 #[tactic(auto, using(crate::proofs::HeadLemmas::no_colon_at_all), unfolding(crate::specs::Line::head_of))]
 pub fn read_head<'a>(line: &'a [u8]) -> Result<(Option<&'a [u8]>, Tokens<'a>), Cause>
@@ -358,9 +362,11 @@ pub fn read_head<'a>(line: &'a [u8]) -> Result<(Option<&'a [u8]>, Tokens<'a>), C
     read_label(tokens, bytes.colon)
 }
 
-/// The reading of one line, which takes no memory. The line is without its end; its fault carries the line 1.
+/// The reading of one line, which takes no memory. The line is without its end.
 ///
-/// All is judged but what needs other lines: whether an earlier line has the label, whether some line has the label that a
+/// # Errors
+///
+/// The first fault of the line, which carries the line 1. All is judged but what needs other lines: whether an earlier line has the label, whether some line has the label that a
 /// branch goes to, and how many instructions and blocks there are (docs/SERIAL_TEXT.md, "Faults of a line").
 #[tactic(auto, unfolding(crate::specs::Line::line_of))]
 pub fn read_insn(line: &[u8]) -> Result<Reading, ReadFault>

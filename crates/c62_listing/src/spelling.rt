@@ -262,8 +262,11 @@ fn push_operands(
     }
 }
 
-/// Appends `insn` as it is written on `unit`, where `label` is the name of the block that a branch goes to. `AllocError` where
-/// memory ran out.
+/// Appends `insn` as it is written on `unit`, where `label` is the name of the block that a branch goes to (docs/LISTING.md).
+///
+/// # Errors
+///
+/// `AllocError` where memory ran out.
 pub fn push_spelling(
     out: &mut String,
     insn: Insn,

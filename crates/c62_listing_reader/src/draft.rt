@@ -44,6 +44,7 @@ impl OpenBlock {
         }
     }
 
+    /// Gives the block its label, where a line has one.
     pub fn add_label(&mut self, label: &Option<Label>)
         ensures { draft_open self.new ≡ with_label label.now (draft_open self.old) }
     {
@@ -52,6 +53,7 @@ impl OpenBlock {
         }
     }
 
+    /// Adds so many cycles without instructions.
     pub fn add_pause(&mut self, cycles: u8)
         requires { self.old.cycles + cycles ≤ MOST_CYCLES }
         ensures { draft_open self.new ≡ with_pause cycles (draft_open self.old) }
@@ -97,6 +99,11 @@ impl OpenBlock {
         Ok(())
     }
 
+    /// Adds an instruction, which has a unit: to the last packet where it stands beside that, and else as the first of the next.
+    ///
+    /// # Errors
+    ///
+    /// `AllocError` where memory ran out.
     pub fn add_insn(&mut self, beside: bool, insn: Insn, line: u32) -> Result<(), AllocError>
         requires unit { IsTrue (is_some (unit_of insn)) }
         requires short { self.old.cycles + (if beside then 0 else 1) ≤ MOST_CYCLES }
@@ -115,6 +122,7 @@ impl Blocks {
     ghost use Rattle.c62_listing_reader.specs.Faults.{is_given, is_taken};
     ghost use Rattle.c62_listing_reader.specs.Reading.{draft_open, drafts_of};
 
+    /// No block, and none that is open.
     pub fn new(alloc: Global) -> Blocks
         ensures { drafts_of result ≡ no_drafts }
     {
@@ -124,7 +132,11 @@ impl Blocks {
         }
     }
 
-    /// Ends the block that is open.
+    /// Ends the block that is open, if one is.
+    ///
+    /// # Errors
+    ///
+    /// `AllocError` where memory ran out.
     pub fn end_block(&mut self) -> Result<(), AllocError>
         ensures { OnOk result (drafts_of self.new ≡ ended (drafts_of self.old)) }
     {

@@ -37,12 +37,14 @@ fn is_filled(above: Above) -> bool
     !matches!(above, Above::Start)
 }
 
+/// Whether a line is empty, and so parts two blocks.
 pub fn is_gap(front: Front) -> bool
     ensures { result ≡ is_gap front }
 {
     matches!(front, Front::Empty)
 }
 
+/// Whether an instruction stands in the packet of the line above: its line begins with `|| `.
 pub fn is_beside(front: Front) -> bool
     ensures { result ≡ is_beside front }
 {
@@ -331,7 +333,15 @@ fn has_text(line: &[u8], front: Front, read: &Result<Reading, ReadFault>) -> boo
     }
 }
 
-/// Whether nothing stands against a line whose rest reads so, or its first fault.
+/// Judges a line by what stands around it (docs/LISTING.md, "Faults of a line").
+///
+/// `cut` is the line and the text behind it, `front` what the line begins with, and `read` how the rest of it reads. `above` is the
+/// line above it, `blocks` are the blocks so far, and `names` the labels of the whole text. What the line should look like is
+/// written to `spelling`.
+///
+/// # Errors
+///
+/// The first fault of the line, or `Memory` where memory ran out.
 #[tactic(auto, unfolding(crate::specs::Faults::line_says))]
 pub fn judge(
     spelling: &mut String,

@@ -52,6 +52,7 @@ fn is_label_line(bytes: &[u8]) -> bool
     }
 }
 
+/// What a line begins with (docs/LISTING.md, "Faults of a line").
 pub fn beginning(bytes: &[u8]) -> Front
     ensures { result ≡ front_of bytes.now }
 {

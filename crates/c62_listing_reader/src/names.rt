@@ -52,6 +52,11 @@ impl<'a> Names<'a> {
     ghost use Rattle.c62_listing_reader.specs.Said.{labels_of, aim_by};
     ghost use Rattle.c62_listing_reader.specs.Reading.{entries_of};
 
+    /// The labels of a text.
+    ///
+    /// # Errors
+    ///
+    /// `AllocError` where memory ran out.
     pub fn new(alloc: Global, text: &'a [u8]) -> Result<Names<'a>, AllocError>
         ensures { IfOk result (λ names. names.text.now ≡ text.now) }
     {
@@ -67,6 +72,7 @@ impl<'a> Names<'a> {
         self.numbers.get(label).copied().unwrap_or(0)
     }
 
+    /// Whether the text has the label.
     pub fn has(&self, label: &[u8]) -> bool
         ensures { result ≡ is_among label.now (labels_of (entries_of self.now)) }
     {

@@ -61,6 +61,10 @@ fn is_heading(spelling: &mut String, line: &[u8], label: &Label) -> Result<bool,
 
 /// Whether a line is the one spelling of what it says behind a label, or without one. That is written to `spelling`, which
 /// takes memory only where a line is longer than those before it.
+///
+/// # Errors
+///
+/// `AllocError` where memory ran out.
 pub fn is_spelled(
     spelling: &mut String,
     line: &[u8],

@@ -15,7 +15,7 @@ use Rattle.c62_meaning.specs.Landing.{Landing, later, latest, value_or}
 use Rattle.c62_meaning.specs.Packet.{Did, write_landing, access_time, register_landings, memory_landings, word_before, byte_before}
 use Rattle.c62_meaning.proofs.Lookup.{In, In-flat_map, from_In-flat_map, latest_cases, LatestCases, last_value, InOrder, InOrder-append, latest_is_last}
 use Rattle.c62_meaning.proofs.Landings.{from_In-writes, from_In-access, InOrder-access}
-use Rattle.c62_pipe.specs.Flight.{Slot, landed}
+use Rattle.c62_pipe.specs.Flight.{Slot, made_by, landed}
 use Rattle.c62_pipe.proofs.Order.{Ascends, In-take, In-parts, parts_at}
 use Rattle.c62_pipe.proofs.Slots.{due_of, due_in}
 
@@ -132,47 +132,47 @@ none_at cell t (x ∷ xs) h =
 
 abbrev pub last_pair : ℕ → Slot → ℕ → ℕ
 last_pair cell [] old = old
-last_pair cell (x ∷ xs) old = last_pair cell xs (cond (eqb (index_of x.0) cell) x.1 old)
+last_pair cell (x ∷ xs) old = last_pair cell xs (cond (eqb (index_of x.reg) cell) x.word old)
 
 pub landed-last : (cell : ℕ) (slot : Slot) (registers : List ℕ) → cell < length registers → get_or (fold landed registers slot) cell 0 ≡ last_pair cell slot (get_or registers cell 0)
 landed-last cell [] registers l = refl
 landed-last cell (x ∷ xs) registers l =
-    let l' : cell < length (set registers (index_of x.0) x.1) = rw length-set l in
-    landed-last cell xs (set registers (index_of x.0) x.1) l' ∙ ap (λ v. last_pair cell xs v) one
+    let l' : cell < length (set registers (index_of x.reg) x.word) = rw length-set l in
+    landed-last cell xs (set registers (index_of x.reg) x.word) l' ∙ ap (λ v. last_pair cell xs v) one
   where
-    one : get_or (set registers (index_of x.0) x.1) cell 0 ≡ cond (eqb (index_of x.0) cell) x.1 (get_or registers cell 0)
+    one : get_or (set registers (index_of x.reg) x.word) cell 0 ≡ cond (eqb (index_of x.reg) cell) x.word (get_or registers cell 0)
     one =
-        ⊎_elim {C = get_or (set registers (index_of x.0) x.1) cell 0 ≡ cond (eqb (index_of x.0) cell) x.1 (get_or registers cell 0)}
-        (λ e. get_or-set_at registers (index_of x.0) cell x.1 0 (sym e) (subst (λ i. i < length registers) (sym e) l) ∙ sym (cond-true _ _ _ (eq-eqb _ _ e)))
-        (λ ne. get_or-set_other registers (index_of x.0) cell x.1 0 (λ e. ne (sym e)) ∙ sym (cond-false _ _ _ (ne_eqb _ _ ne)))
-        (cases_eq (index_of x.0) cell)
+        ⊎_elim {C = get_or (set registers (index_of x.reg) x.word) cell 0 ≡ cond (eqb (index_of x.reg) cell) x.word (get_or registers cell 0)}
+        (λ e. get_or-set_at registers (index_of x.reg) cell x.word 0 (sym e) (subst (λ i. i < length registers) (sym e) l) ∙ sym (cond-true _ _ _ (eq-eqb _ _ e)))
+        (λ ne. get_or-set_other registers (index_of x.reg) cell x.word 0 (λ e. ne (sym e)) ∙ sym (cond-false _ _ _ (ne_eqb _ _ ne)))
+        (cases_eq (index_of x.reg) cell)
 
 last_pair-append : (cell : ℕ) (xs ys : Slot) (old : ℕ) → last_pair cell (xs ++ ys) old ≡ last_pair cell ys (last_pair cell xs old)
 last_pair-append cell [] ys old = refl
-last_pair-append cell (x ∷ xs) ys old = last_pair-append cell xs ys (cond (eqb (index_of x.0) cell) x.1 old)
+last_pair-append cell (x ∷ xs) ys old = last_pair-append cell xs ys (cond (eqb (index_of x.reg) cell) x.word old)
 
-head_pair : (cell t c : ℕ) (w : (Reg × ℕ) × ℕ) (slot : Slot) (a : Option Landing) (old : ℕ) → ((u : ℕ) → last_pair cell slot u ≡ value_or a u)
+head_pair : (cell t c line : ℕ) (w : (Reg × ℕ) × ℕ) (slot : Slot) (a : Option Landing) (old : ℕ) → ((u : ℕ) → last_pair cell slot u ≡ value_or a u)
     → (x y : Bool) → eqb (index_of w.0.0) cell ≡ y
-    → last_pair cell (cond x ((w.0.0, w.1) ∷ slot) slot) old ≡ value_or (or_else a (cond (y && x) (Some (write_landing c w)) None)) old
-head_pair cell t c w slot a old rest true true e =
+    → last_pair cell (cond x (made_by line w ∷ slot) slot) old ≡ value_or (or_else a (cond (y && x) (Some (write_landing c w)) None)) old
+head_pair cell t c line w slot a old rest true true e =
     rest (cond (eqb (index_of w.0.0) cell) w.1 old) ∙ ap (λ v. value_or a v) (cond-true _ _ _ e) ∙ sym (value_or_else a (Some (write_landing c w)) old)
-head_pair cell t c w slot a old rest true false e =
+head_pair cell t c line w slot a old rest true false e =
     rest (cond (eqb (index_of w.0.0) cell) w.1 old) ∙ ap (λ v. value_or a v) (cond-false _ _ _ e) ∙ sym (value_or_else a None old)
-head_pair cell t c w slot a old rest false true e = rest old ∙ sym (value_or_else a None old)
-head_pair cell t c w slot a old rest false false e = rest old ∙ sym (value_or_else a None old)
+head_pair cell t c line w slot a old rest false true e = rest old ∙ sym (value_or_else a None old)
+head_pair cell t c line w slot a old rest false false e = rest old ∙ sym (value_or_else a None old)
 
-pairs_of : (cell t c : ℕ) (ws : List ((Reg × ℕ) × ℕ)) (old : ℕ) → last_pair cell (due_of t c ws) old ≡ value_or (last_at cell t (map (write_landing c) ws)) old
-pairs_of cell t c [] old = refl
-pairs_of cell t c (w ∷ ws) old =
-    head_pair cell t c w (due_of t c ws) (last_at cell t (map (write_landing c) ws)) old (λ u. pairs_of cell t c ws u)
+pairs_of : (cell t c line : ℕ) (ws : List ((Reg × ℕ) × ℕ)) (old : ℕ) → last_pair cell (due_of t c line ws) old ≡ value_or (last_at cell t (map (write_landing c) ws)) old
+pairs_of cell t c line [] old = refl
+pairs_of cell t c line (w ∷ ws) old =
+    head_pair cell t c line w (due_of t c line ws) (last_at cell t (map (write_landing c) ws)) old (λ u. pairs_of cell t c line ws u)
     (eqb (c + w.0.1) t) (eqb (index_of w.0.0) cell) refl
 
 pairs_in : (cell t : ℕ) (did : Did) (ps : List Placed) (old : ℕ) → last_pair cell (due_in did t ps) old ≡ value_or (last_at cell t (flat_map (register_landings did) ps)) old
 pairs_in cell t did [] old = refl
 pairs_in cell t did (p ∷ ps) old =
-    last_pair-append cell (due_of t p.cycle (did p).writes) (due_in did t ps) old
-    ∙ pairs_in cell t did ps (last_pair cell (due_of t p.cycle (did p).writes) old)
-    ∙ ap (λ v. value_or (last_at cell t (flat_map (register_landings did) ps)) v) (pairs_of cell t p.cycle (did p).writes old)
+    last_pair-append cell (due_of t p.cycle p.line (did p).writes) (due_in did t ps) old
+    ∙ pairs_in cell t did ps (last_pair cell (due_of t p.cycle p.line (did p).writes) old)
+    ∙ ap (λ v. value_or (last_at cell t (flat_map (register_landings did) ps)) v) (pairs_of cell t p.cycle p.line (did p).writes old)
     ∙ sym (value_or_else (last_at cell t (flat_map (register_landings did) ps)) (last_at cell t (register_landings did p)) old)
     ∙ sym (ap (λ o. value_or o old) (last_at-append cell t (register_landings did p) (flat_map (register_landings did) ps)))
 

@@ -1,6 +1,7 @@
 pub mod Order
 pub mod Slots
 pub mod Landed
+pub mod Flying
 pub mod Running
 pub mod Chains
 pub mod AlikeChains

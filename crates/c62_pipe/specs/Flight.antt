@@ -11,10 +11,11 @@ use Rattle.c62_serial.specs.Memory.{is_size, written}
 use Rattle.c62_serial.specs.Faults.{with_fault_if}
 use Rattle.c62_serial.specs.Effect.{Act, act_of, is_fault}
 use Rattle.c62_serial.specs.Serial.{act_by}
+use Rattle.c62_pipe.specs.declared.slot.Due.{Due}
 
--- the registers that get a value in one cycle, in the order of issue
+-- the writes that land in one cycle, in the order of issue
 abbrev pub Slot : Type 0
-Slot = List (Reg × ℕ)
+Slot = List Due
 
 -- a store that is to be made: address, size and value
 abbrev pub Store : Type 0
@@ -41,15 +42,19 @@ pub record IsIdle (flight : Flight) : Type 0 where
   pub stores : flight.stores ≡ []
 
 -- one write more that lands in this cycle
-abbrev pub with_due : ℕ → Reg → ℕ → List Slot → List Slot
-with_due cycle reg value slots = slice_set slots (cycle % 5) (due slots cycle ++ (reg, value) ∷ [])
+abbrev pub with_due : ℕ → Due → List Slot → List Slot
+with_due cycle write slots = slice_set slots (cycle % 5) (due slots cycle ++ write ∷ [])
 
--- a write of an instruction issued in this cycle
-abbrev pub with_write : ℕ → List Slot → (Reg × ℕ) × ℕ → List Slot
-with_write cycle slots write = with_due (cycle + write.0.1) write.0.0 write.1 slots
+-- a write that an instruction of this line made
+abbrev pub made_by : ℕ → (Reg × ℕ) × ℕ → Due
+made_by line write = record { reg = write.0.0; word = write.1; line = line }
 
-abbrev pub with_writes : ℕ → List ((Reg × ℕ) × ℕ) → List Slot → List Slot
-with_writes cycle writes slots = fold (with_write cycle) slots writes
+-- a write of an instruction of this line that is issued in this cycle
+abbrev pub with_write : ℕ → ℕ → List Slot → (Reg × ℕ) × ℕ → List Slot
+with_write cycle line slots write = with_due (cycle + write.0.1) (made_by line write) slots
+
+abbrev pub with_writes : ℕ → ℕ → List ((Reg × ℕ) × ℕ) → List Slot → List Slot
+with_writes cycle line writes slots = fold (with_write cycle line) slots writes
 
 -- each slot holds at most as many writes as eight units start in five cycles
 abbrev pub FitsSlots : List Slot → Type 0
@@ -71,17 +76,17 @@ act_at p machine = act_of p.insn (word_in machine) (byte_in machine)
 abbrev pub with_stores : List Store → Flight → Flight
 with_stores stores flight = record { slots = flight.slots; stores = stores }
 
--- what is in flight after an instruction did this in a cycle
-abbrev pub issued : ℕ → Act → Flight → Flight
-issued cycle act flight = record { slots = with_writes cycle act.writes flight.slots; stores = flight.stores ++ stores_of act.access }
+-- what is in flight after an instruction of this line did this in a cycle
+abbrev pub issued : ℕ → ℕ → Act → Flight → Flight
+issued cycle line act flight = record { slots = with_writes cycle line act.writes flight.slots; stores = flight.stores ++ stores_of act.access }
 
 -- what a load or a store does on this machine
 abbrev pub transfer_at : Placed → Transfer → Machine → Act
 transfer_at p transfer machine = act_by (op_of p.insn) (Transfers transfer) (byte_in machine)
 
--- there is room for the writes of what an instruction did
-abbrev pub FitsWrites : Placed → Act → Flight → Type 0
-FitsWrites p act flight = FitsSlots (with_writes p.cycle act.writes flight.slots)
+-- there is room for the writes of what an instruction did in a cycle
+abbrev pub FitsWrites : ℕ → Placed → Act → Flight → Type 0
+FitsWrites cycle p act flight = FitsSlots (with_writes cycle p.line act.writes flight.slots)
 
 -- the machine after the access of an instruction is noted, which may fault
 abbrev pub with_fault_of : Placed → Option MemoryAccess → Machine → Machine
@@ -91,13 +96,13 @@ with_fault_of p access machine = with_fault_if p.line (is_fault access) machine
 abbrev pub after_issue : Placed → Machine → Machine
 after_issue p machine = with_fault_of p (act_at p machine).access machine
 
--- what is in flight after an instruction's load or store
-abbrev pub with_transfer : Placed → Transfer → Machine → Flight → Flight
-with_transfer p transfer machine flight = issued p.cycle (transfer_at p transfer machine) flight
+-- what is in flight after an instruction's load or store in a cycle
+abbrev pub with_transfer : ℕ → Placed → Transfer → Machine → Flight → Flight
+with_transfer cycle p transfer machine flight = issued cycle p.line (transfer_at p transfer machine) flight
 
 -- registers after a landing
-abbrev pub landed : List ℕ → Reg × ℕ → List ℕ
-landed registers write = slice_set registers (index_of write.0) write.1
+abbrev pub landed : List ℕ → Due → List ℕ
+landed registers write = slice_set registers (index_of write.reg) write.word
 
 -- memory after a store
 abbrev pub stored : List ℕ → Store → List ℕ

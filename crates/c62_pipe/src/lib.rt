@@ -9,6 +9,7 @@ mod slot;
 
 pub use chain::run_chain;
 pub use pipe::Pipe;
+pub use slot::Due;
 
 #[cfg(test)]
 mod tests;

@@ -1,19 +1,20 @@
 //! The pipeline: packets issued cycle by cycle, their writes landing after their delays.
 
-ghost use Rattle.std.specs.Prelude.{◌≡◌, not, ◌+◌, ◌<◌, ◌≤◌, ◌++◌, [], length, IsTrue, IfOk, OnErr};
+ghost use Rattle.std.specs.Prelude.{◌≡◌, not, ◌+◌, ◌<◌, ◌≤◌, ◌++◌, ◌^◌, [], length, IsTrue, IfOk, OnErr};
 ghost use Rattle.c62_insn.specs.Insn.{op_of};
 ghost use Rattle.c62_packet.specs.declared.limits.TheConstants.{MOST_CYCLES};
-ghost use Rattle.c62_serial.specs.State.{byte_in};
-ghost use Rattle.c62_serial.specs.Memory.{is_size, is_good};
+ghost use Rattle.c62_serial.specs.State.{byte_in, line_capacity};
+ghost use Rattle.c62_serial.specs.Memory.{is_size, is_good, read};
 ghost use Rattle.c62_serial.specs.Faults.{with_fault_if};
 ghost use Rattle.c62_serial.specs.Effect.{loaded};
 ghost use Rattle.c62_serial.specs.Serial.{exit_after};
-ghost use Rattle.c62_pipe.specs.Flight.{IsIdle, stores_of, act_at, transfer_at, FitsWrites, with_fault_of, after_issue, with_transfer, issued, with_stores, after_stores, at_end, after_end};
+ghost use Rattle.c62_pipe.specs.Flight.{IsIdle, due, stores_of, act_at, transfer_at, FitsWrites, with_fault_of, after_issue, with_transfer, issued, with_stores, after_stores, at_end, after_end};
 ghost use Rattle.c62_pipe.specs.Chain.{Does};
 
 use crate::ring::Ring;
+use crate::slot::Due;
 use arrayvec::ArrayVec;
-use c62_insn::{Access, Action, Target, Transfer};
+use c62_insn::{Access, Action, Reg, Target, Transfer};
 use c62_packet::{PacketBlock, Placed};
 use c62_serial::{Exit, State};
 use std::alloc::AllocError;
@@ -36,23 +37,28 @@ impl Model for Pipe {
     ghost invariant = { λ pipe. IsFlight (record { slots = pipe.ring; stores = pipe.stores.items }) };
 }
 
-/// Puts the line of a store among the faulted ones, where the store is misaligned or reaches past the
-/// end of memory.
-fn note_fault(line: u32, address: u32, size: u8, state: &mut State)
+/// What an access finds at its address, as a number with the lowest byte first. Where the access is
+/// misaligned or reaches past the end of memory that is nothing, and its line joins the faulted ones.
+fn find(line: u32, address: u32, size: u8, state: &mut State) -> Option<u32>
     requires size { IsTrue (is_size size) }
     requires room { 0 < state.old.room }
+    ensures found { result ≡ read (byte_in state.old.machine) address size }
     ensures machine { state.new.machine ≡ with_fault_if line (not (is_good address size)) state.old.machine }
     ensures room { state.old.room ≤ state.new.room + 1 }
+    ensures capacity { line_capacity state.new ≡ line_capacity state.old }
 {
     match state.load(address, size) {
-        Some(_) => {}
-        None => state.fault(line),
+        Some(raw) => Some(raw),
+        None => {
+            state.fault(line);
+            None
+        }
     }
 }
 
 impl Pipe {
     /// Nothing in flight.
-    pub(crate) fn new() -> Pipe
+    pub fn new() -> Pipe
         ensures { IsIdle result }
     {
         Pipe {
@@ -70,6 +76,7 @@ impl Pipe {
         ensures loaded { result ≡ loaded (byte_in state.old.machine) (op_of placed.now.insn) (Some access) }
         ensures machine { state.new.machine ≡ with_fault_of placed.now (Some access) state.old.machine }
         ensures room { state.old.room ≤ state.new.room + 1 }
+        ensures capacity { line_capacity state.new ≡ line_capacity state.old }
         ensures flight { self.new ≡ with_stores (self.old.stores ++ stores_of (Some access)) self.old }
     {
         let Access {
@@ -77,59 +84,73 @@ impl Pipe {
             size,
             value,
         } = access;
-        match value {
-            Some(value) => {
-                note_fault(placed.line, address, size, state);
+        let found = find(placed.line, address, size, state);
+        match (value, found) {
+            (Some(value), _) => {
                 self.stores.push((address, size, value));
                 None
             }
-            None => Some(state.make_load(placed.insn, placed.line, address, size)),
+            (None, Some(raw)) => Some(placed.insn.loaded(raw)),
+            (None, None) => Some(0),
         }
     }
 
     /// Makes a load or a store, and puts its writes in flight: a base that is changed, and the
     /// destination of a load.
-    fn transfer(&mut self, placed: &Placed, transfer: Transfer, state: &mut State)
+    fn transfer(&mut self, cycle: u64, placed: &Placed, transfer: Transfer, state: &mut State)
+        requires soon { cycle < 2 ^ 63 }
         requires size { IsTrue (is_size transfer.access.size) }
         requires room { 0 < state.old.room }
         requires few { length self.old.stores < 8 }
-        requires fits { FitsWrites placed.now (transfer_at placed.now transfer state.old.machine) self.old }
+        requires fits { FitsWrites cycle placed.now (transfer_at placed.now transfer state.old.machine) self.old }
         ensures machine { state.new.machine ≡ with_fault_of placed.now (Some transfer.access) state.old.machine }
         ensures room { state.old.room ≤ state.new.room + 1 }
-        ensures flight { self.new ≡ with_transfer placed.now transfer state.old.machine self.old }
+        ensures capacity { line_capacity state.new ≡ line_capacity state.old }
+        ensures flight { self.new ≡ with_transfer cycle placed.now transfer state.old.machine self.old }
     {
         let loaded = self.access(placed, transfer.access, state);
         if let Some((base, word)) = transfer.base {
-            self.ring.schedule(placed.cycle, 0, base, word);
+            let line = placed.line;
+            let write = Due {
+                reg: base,
+                word,
+                line,
+            };
+            self.ring.schedule(cycle, 0, write);
         }
         if let Some(reg) = transfer.loads
             && let Some(word) = loaded
         {
-            self.ring
-                .schedule(placed.cycle, placed.insn.delay(), reg, word);
+            let line = placed.line;
+            let write = Due { reg, word, line };
+            self.ring.schedule(cycle, placed.insn.delay(), write);
         }
     }
 
-    /// Issues an instruction: it reads registers and memory as they are before this cycle's writes and
-    /// stores, and its own are put in flight. Answers where its branch goes, where it is a branch that
-    /// runs.
-    fn issue(&mut self, placed: &Placed, state: &mut State) -> Option<Target>
+    /// Issues an instruction in a cycle, whatever cycle stands in it: it reads registers and memory as
+    /// they are before this cycle's writes and stores, and its own are put in flight. Answers where its
+    /// branch goes, where it is a branch that runs. It asks room for the line of a fault, and takes no
+    /// memory.
+    pub fn issue(&mut self, cycle: u64, placed: &Placed, state: &mut State) -> Option<Target>
+        requires soon { cycle < 2 ^ 63 }
         requires room { 0 < state.old.room }
         requires few { length self.old.stores < 8 }
-        requires fits { FitsWrites placed.now (act_at placed.now state.old.machine) self.old }
+        requires fits { FitsWrites cycle placed.now (act_at placed.now state.old.machine) self.old }
         ensures target { result ≡ (act_at placed.now state.old.machine).target }
         ensures machine { state.new.machine ≡ after_issue placed.now state.old.machine }
         ensures room { state.old.room ≤ state.new.room + 1 }
-        ensures flight { self.new ≡ issued placed.now.cycle (act_at placed.now state.old.machine) self.old }
+        ensures capacity { line_capacity state.new ≡ line_capacity state.old }
+        ensures flight { self.new ≡ issued cycle placed.now.line (act_at placed.now state.old.machine) self.old }
     {
         match placed.insn.action(state.registers())? {
             Action::Write(reg, word) => {
-                self.ring
-                    .schedule(placed.cycle, placed.insn.delay(), reg, word);
+                let line = placed.line;
+                let write = Due { reg, word, line };
+                self.ring.schedule(cycle, placed.insn.delay(), write);
                 None
             }
             Action::Transfer(transfer) => {
-                self.transfer(placed, transfer, state);
+                self.transfer(cycle, placed, transfer, state);
                 None
             }
             Action::Branch(target) => Some(target),
@@ -147,8 +168,15 @@ impl Pipe {
         self.stores.clear();
     }
 
+    /// The writes that are due in this cycle, in the order of issue.
+    pub fn due(&self, cycle: u64) -> &[Due]
+        ensures { result.now ≡ due self.now.slots cycle }
+    {
+        self.ring.due(cycle)
+    }
+
     /// Ends a cycle: the stores of its packet are made, and what is due lands.
-    fn end_cycle(&mut self, cycle: u16, state: &mut State)
+    pub fn end_cycle(&mut self, cycle: u64, state: &mut State)
         ensures flight { self.new ≡ after_end cycle self.old }
         ensures state { state.new ≡ record state.old { machine = at_end cycle self.old state.old.machine } }
     {
@@ -175,24 +203,25 @@ impl Pipe {
         ensures err { OnErr result (state.new ≡ state.old) }
     {
         let all = block.placed();
-        let length = block.length();
+        let length = u64::from(block.length());
         state.room(all.len())?;
         // It tells what holds of every state.
         let _ = state.faults();
         let mut cycle = 0;
         let mut exit = Exit::Next;
         for placed in all {
-            while cycle < placed.cycle {
+            let start = u64::from(placed.cycle);
+            while cycle < start {
                 self.end_cycle(cycle, state);
                 cycle += 1;
             }
-            exit = exit_after(exit, self.issue(placed, state));
+            exit = exit_after(exit, self.issue(cycle, placed, state));
         }
         while cycle < length {
             self.end_cycle(cycle, state);
             cycle += 1;
         }
-        Ok((exit, u32::from(length)))
+        Ok((exit, u32::from(block.length())))
     }
 
     /// Runs a block of packets, cycle by cycle. Instructions read registers and memory in the cycle of

@@ -2,17 +2,34 @@
 
 ghost use Rattle.std.specs.Prelude.{◌≡◌, ◌<◌, ◌∷◌, [], ◌++◌, length};
 
-use c62_insn::Reg;
+use c62_insn::{Reg, Side};
 use std::marker::Model;
 
 /// As many writes as eight units start in the five cycles from which they may land together.
 const MOST: usize = 40;
 
-/// The registers that get a value in one cycle, in the order of issue.
+const NONE: Due = Due {
+    reg: Reg {
+        side: Side::A,
+        number: 0,
+    },
+    word: 0,
+    line: 0,
+};
+
+/// A write that is due: the word that a register gets, and the line of the instruction that made it.
+#[derive(Clone, Copy, PartialEq, Eq, Debug)]
+pub struct Due {
+    pub reg: Reg,
+    pub word: u32,
+    pub line: u32,
+}
+
+/// The writes that land in one cycle, in the order of issue.
 #[derive(Drop)]
 pub struct Slot {
     count: usize,
-    writes: [(Reg, u32); MOST],
+    writes: [Due; MOST],
 }
 
 impl Model for Slot {
@@ -33,23 +50,23 @@ impl Slot {
     {
         Slot {
             count: 0,
-            writes: [(Reg::default(), 0); MOST],
+            writes: [NONE; MOST],
         }
     }
 
     /// The writes in the order in which they came.
-    pub fn writes(&self) -> &[(Reg, u32)]
+    pub fn writes(&self) -> &[Due]
         ensures { result.now ≡ self.now }
     {
         &self.writes[..self.count]
     }
 
     /// One write more.
-    pub fn push(&mut self, reg: Reg, value: u32)
+    pub fn push(&mut self, due: Due)
         requires { length self.old < 40 }
-        ensures { self.new ≡ self.old ++ (reg, value) ∷ [] }
+        ensures { self.new ≡ self.old ++ due ∷ [] }
     {
-        self.writes[self.count] = (reg, value);
+        self.writes[self.count] = due;
         self.count += 1;
     }
 

@@ -66,7 +66,11 @@ impl Block {
         &self.insns
     }
 
-    /// An equal block. `AllocError` where memory ran out.
+    /// An equal block.
+    ///
+    /// # Errors
+    ///
+    /// `AllocError` where memory ran out.
     pub fn copy(&self, alloc: Global) -> Result<Block, AllocError>
         ensures { IfOk result (λ block. block ≡ self.now) }
     {

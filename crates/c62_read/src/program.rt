@@ -474,8 +474,12 @@ fn all_blocks(alloc: Global, blocks: Vec<BlockReader>) -> Result<Vec<Block>, All
     Ok(made)
 }
 
-/// The program of a text, or the fault of its first faulty line. Of a text that is too long it is `TextTooLong`, and where memory
-/// ran out `Memory`, both at line 0.
+/// The program of a text (docs/SERIAL_TEXT.md).
+///
+/// # Errors
+///
+/// The fault of the first faulty line. Of a text that is too long it is `TextTooLong`, and where memory ran out `Memory`, both at
+/// line 0.
 pub fn read_program(alloc: Global, text: &[u8]) -> Result<Program, ReadFault>
     ensures ok { IfOk result (λ program. program_in text.now ≡ Ok (map block_parts program)) }
     ensures err { IfErr result (λ fault. Fails fault (program_in text.now)) }

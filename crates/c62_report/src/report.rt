@@ -167,8 +167,12 @@ fn push_machine(out: &mut Vec<u8>, state: &State) -> Result<(), AllocError>
     push_faults(out, state.faults())
 }
 
-/// The report of a serial run: how many blocks were run, how it ended, and what the machine holds then. The registers and
-/// words of memory that are 0 have no line. `AllocError` where memory ran out.
+/// The report of a serial run (docs/REPORT.md, "The report"): how many blocks were run, how it ended, and what the machine holds
+/// then. The registers and words of memory that are 0 have no line.
+///
+/// # Errors
+///
+/// `AllocError` where memory ran out.
 #[tactic(auto, unfolding(crate::specs::Report::serial_report))]
 pub fn serial_report(alloc: Global, chain: Chain, state: &State) -> Result<Vec<u8>, AllocError>
     ensures { IfOk result (λ report. report.items ≡ serial_report chain state.now.machine) }
@@ -180,8 +184,11 @@ pub fn serial_report(alloc: Global, chain: Chain, state: &State) -> Result<Vec<u
     Ok(out)
 }
 
-/// The report of a run of packets: that of the serial run, with a line for its cycles behind the first. `AllocError` where
-/// memory ran out.
+/// The report of a run of packets: that of the serial run, with a line for its cycles behind the first.
+///
+/// # Errors
+///
+/// `AllocError` where memory ran out.
 #[tactic(auto, unfolding(crate::specs::Report::packet_report))]
 pub fn packet_report(
     alloc: Global,

@@ -2,3 +2,4 @@ pub mod Drawing
 pub mod Pauses
 pub mod Heads
 pub mod Cells
+pub mod Printed

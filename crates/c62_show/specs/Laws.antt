@@ -1,5 +1,5 @@
 -- Laws of pictures.
-use Rattle.std.specs.Prelude.{◌≡◌, ℕ, ◌<◌, ◌≤◌, false, List, find, Some, slice_get}
+use Rattle.std.specs.Prelude.{◌≡◌, ℕ, ◌<◌, ◌≤◌, false, List, ◌++◌, find, Some, slice_get}
 use Rattle.c62_read.specs.Block.{Serial}
 use Rattle.c62_depend.specs.Plan.{insns_of, IsPlan}
 use Rattle.c62_sheet.specs.Lawful.{Spots, IsLawful}
@@ -13,7 +13,9 @@ use Rattle.c62_show.specs.declared.limits.Limits.{Limits}
 use Rattle.c62_show.specs.declared.shown.Shown.{Shown}
 use Rattle.c62_show.specs.Limits.{AreLimits, least_of}
 use Rattle.c62_show.specs.Head.{verdict, none_is_shorter}
-use Rattle.c62_show.specs.Grid.{is_issued, is_on, next_issue, packet}
+use Rattle.c62_show.specs.Grid.{cells, cycle_row, insn_cell, is_issued, is_on, next_issue, packet}
+use Rattle.c62_show.specs.Picture.{picture, widths_of}
+use Rattle.c62_show.specs.Words.{line}
 
 -- So many cycles are at least the bound, and where the head of a block says that no schedule is shorter, at least as many as
 -- the block has.
@@ -47,3 +49,21 @@ IsIdleUntil placed cycles cycle =
 abbrev pub AreAllShown : Packed → Type 0
 AreAllShown block =
     (k : ℕ) (p : Placed) → IsPacketBlock block → slice_get block.placed k ≡ Some p → find (is_on p.unit) (packet block.placed p.cycle) ≡ Some p
+
+-- a text has a part
+pub record HasPart (text part : List ℕ) : Type 0 where
+  pub before : List ℕ
+  pub behind : List ℕ
+  pub split : text ≡ before ++ (part ++ behind)
+
+-- An instruction's row is printed, and in its cells that of the instruction: its line, the mark where that is on the path, and its
+-- mnemonic.
+pub record IsPrinted (shown : List Shown) (each : Shown) (p : Placed) : Type 0 where
+  pub row : HasPart (picture shown) (line (cycle_row (widths_of shown) each.limits.path.items each.packets.placed p.cycle))
+  pub cell : HasPart (cells (widths_of shown) each.limits.path.items (packet each.packets.placed p.cycle)) (insn_cell (widths_of shown) each.limits.path.items p)
+
+-- so is that of each instruction of the blocks
+abbrev pub AreAllPrinted : List Shown → Type 0
+AreAllPrinted shown =
+    (number k : ℕ) (each : Shown) (p : Placed) → slice_get shown number ≡ Some each → IsPacketBlock each.packets → slice_get each.packets.placed k ≡ Some p
+    → IsPrinted shown each p

@@ -5,7 +5,7 @@ ghost use Rattle.c62_packet.specs.declared.placed.Placed.{Placed};
 ghost use Rattle.c62_packet.specs.Packed.{Packed};
 ghost use Rattle.c62_read.specs.Block.{Serial};
 ghost use Rattle.c62_show.specs.declared.shown.Shown.{Shown};
-ghost use Rattle.c62_show.specs.Laws.{HeadIsTrue, HeadIsTrueOfSchedules, BoundIsLeastLength, IsIdleUntil, AreAllShown};
+ghost use Rattle.c62_show.specs.Laws.{HeadIsTrue, HeadIsTrueOfSchedules, BoundIsLeastLength, IsIdleUntil, AreAllShown, AreAllPrinted};
 ghost use Rattle.c62_show.specs.declared.limits.Limits.{Limits};
 
 /// Where the head of a block says that no schedule is shorter, none is in which each instruction has a cycle and a unit that
@@ -26,7 +26,9 @@ pub fn pauses_are_idle()
     ensures { (placed : List Placed) (cycles cycle : ℕ) → IsIdleUntil placed cycles cycle }
 {}
 
-/// Each instruction of a packet block stands in its cycle on its unit.
+/// Each instruction of a packet block stands in its cycle on its unit: it is what is found there, the row of the cycle is printed,
+/// and in it the instruction's cell.
 pub fn instructions_are_shown()
-    ensures { (block : Packed) → AreAllShown block }
+    ensures found { (block : Packed) → AreAllShown block }
+    ensures printed { (shown : List Shown) → AreAllPrinted shown }
 {}

@@ -1,7 +1,7 @@
 -- Beginnings of one list.
-use Rattle.std.proofs.Common.{◌≡◌, ℕ, ◌≤◌, Bool, true, false, List, [], ◌++◌, length, take, drop, sym, ap, ◌∙◌, arith}
-use Rattle.std.specs.Prelude.{MatchBool}
-use Rattle.std.proofs.lemmas.Bool.{leb-true, leb-false}
+use Rattle.std.proofs.Common.{◌≡◌, ◌↔◌, ℕ, ◌+◌, ◌≤◌, Bool, true, false, List, [], ◌++◌, length, take, drop, refl, length-append, sym, ap, ◌∙◌, arith}
+use Rattle.std.specs.Prelude.{IsTrue, MatchBool}
+use Rattle.std.proofs.lemmas.Bool.{false≢true, leb-true, leb-false}
 use Rattle.std.proofs.lemmas.List.{append-nil, append_assoc, take-append-le, take-append-drop, take_all}
 use lib.Dec.{leb}
 use mathlib.Core.List.{IsPrefix}
@@ -32,3 +32,16 @@ module _ {X : Type 0} where
   pub begun_by_count : (n m : ℕ) (xs ys zs : List X) → n ≡ length xs → m ≡ length ys → IsPrefix xs zs → IsPrefix ys zs → (b : Bool) → leb n m ≡ b → MatchBool b (IsPrefix xs ys) (IsPrefix ys xs)
   begun_by_count n m xs ys zs is his one other true e = let few = leb-true n m e in prefix_shorter xs ys zs one other (omega (arith, few, is, his))
   begun_by_count n m xs ys zs is his one other false e = let many = leb-false n m e in prefix_shorter ys xs zs other one (omega (arith, many, is, his))
+
+  -- and the one that is longer begins no beginning of it that is shorter
+  pub begins_by_count : (n m : ℕ) (xs ys zs : List X) → n ≡ length xs → m ≡ length ys → IsPrefix xs zs → IsPrefix ys zs → (b : Bool)
+      → leb n m ≡ b → IsTrue b ↔ IsPrefix xs ys
+  begins_by_count n m xs ys zs is his one other true e =
+      let few = leb-true n m e in (λ _. prefix_shorter xs ys zs one other (omega (arith, few, is, his)), λ _. refl)
+  begins_by_count n m xs ys zs is his one other false e = (
+    λ yes. absurd (false≢true yes),
+    λ begins.
+        let many = leb-false n m e in
+        let whole : length xs + length begins.0 ≡ length ys = sym (length-append xs begins.0) ∙ ap length begins.1 in
+        absurd (omega (arith, many, is, his, whole)),
+  )

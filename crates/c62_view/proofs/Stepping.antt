@@ -1,5 +1,5 @@
 -- A side's turn, learned before it is taken.
-use Rattle.std.proofs.Common.{◌≡◌, ℕ, ◌+◌, ◌<◌, List, [], ◌∷◌, ◌++◌, length, refl, sym, ap, ◌∙◌, subst, arith, length-append}
+use Rattle.std.proofs.Common.{◌≡◌, ℕ, ◌+◌, ◌<◌, ◌≤◌, List, [], ◌∷◌, ◌++◌, length, refl, sym, ap, ◌∙◌, subst, arith, length-append}
 use Rattle.std.proofs.lemmas.List.{append-nil}
 use Rattle.c62_op.specs.declared.register.Side.{Side}
 use Rattle.c62_depend.specs.Plan.{insns_of}
@@ -8,9 +8,9 @@ use Rattle.c62_sheet.specs.declared.entry.Entry.TheVariants.{Place}
 use Rattle.c62_board.specs.declared.turn.Turn.{Turn}
 use Rattle.c62_board.specs.declared.turn.Turn.TheVariants.{Placed, Ejected, Idle, Done, NoRoom, Memory}
 use Rattle.c62_board.specs.Who.{who_of}
-use Rattle.c62_board.specs.State.{BoardState, Adds, GainsRoom, TakesTurn, IsStep, IsAhead}
+use Rattle.c62_board.specs.State.{BoardState, Adds, GainsRoom, TakesTurn, IsStep, IsAhead, HasManyEntries}
 use Rattle.c62_board.proofs.Turns.{one_turn}
-use Rattle.c62_view.specs.Changing.{IsDeskStep}
+use Rattle.c62_view.specs.Changing.{HasEntriesToAdd, IsDeskStep}
 
 -- nothing was added
 adds_none : (old : BoardState) → Adds old [] old
@@ -53,3 +53,24 @@ stepped old mid new side turn Idle entries n ahead gains many step = took old mi
 stepped old mid new side turn (NoRoom i) entries n ahead gains many step = took old mid new side turn (NoRoom i) entries n ahead gains step.0
 stepped old mid new side turn (Placed i s) entries n ahead gains many step = took old mid new side turn (Placed i s) entries n ahead gains step
 stepped old mid new side turn (Ejected q i s) entries n ahead gains many step = took old mid new side turn (Ejected q i s) entries n ahead gains step
+
+-- ---- where memory runs out
+
+-- more than four entries are some
+pub adds_many : (board : BoardState) (side : Side) → HasManyEntries board side → IsDeskStep board side Memory board
+adds_many board side many = (λ turn entries left is. let more : 4 < length entries = many turn entries left is in omega (arith, more), (refl, omega arith))
+
+-- the turn that a side has ahead is the one that it has, whatever room was made for it
+pub adds_some : (old mid : BoardState) (side : Side) (turn : Turn) (entries : List Entry) → IsAhead old side turn entries → 0 < length entries
+    → mid ≡ record old { room = mid.room } → old.room ≤ mid.room → IsDeskStep old side Memory mid
+adds_some old mid side turn entries ahead some same more =
+    let adds : HasEntriesToAdd old side = λ taken others left is.
+    let one = one_turn (insns_of old.plan) old.spots old.budget side turn taken entries others ahead.0 left ahead.1 is in
+    let as_many = ap (length {A = Entry}) one.1 in
+    omega (arith, some, as_many) in
+    (adds, (same, more))
+
+pub adds_same : (old mid : BoardState) (side : Side) (turn : Turn) (entries : List Entry) → IsAhead old side turn entries → 0 < length entries
+    → mid ≡ old → IsDeskStep old side Memory mid
+adds_same old mid side turn entries ahead some same =
+    rw same (adds_some old old side turn entries ahead some refl (omega arith))

@@ -8,7 +8,7 @@ ghost use Rattle.c62_view.specs.Course.{course, held, gone_on, IsLegalCourse};
 ghost use Rattle.c62_view.specs.Batches.{played};
 ghost use Rattle.c62_view.specs.Past.{head_of};
 ghost use Rattle.c62_view.specs.Knows.{IsOf, plan_seen};
-ghost use Rattle.c62_view.specs.Changing.{Stays, IsDeskFault, IsDeskStep, IsTold};
+ghost use Rattle.c62_view.specs.Changing.{Stays, IsDeskFault, IsDeskStep, IsQuiet, IsTold};
 ghost use Rattle.c62_sheet.specs.declared.entry.Entry.TheVariants.{Place};
 
 use crate::history::{Front, Head, open};
@@ -207,6 +207,7 @@ fn step_by<R: Wait>(desk: Desk, rt: &R, side: Side) -> (Desk, (Turn, Option<Told
     ensures name { result.0.name ≡ desk.name }
     ensures step { IsDeskStep desk.board side result.1.0 result.0.board }
     ensures told { MatchOption result.1.1 (result.0.shown ≡ desk.shown) (IsTold result.0) }
+    ensures quiet { IsQuiet desk result.0 result.1.1 }
 {
     let Desk {
         mut board,
@@ -263,12 +264,13 @@ impl Desk {
     }
 
     /// Takes a side's turn on the board, and publishes its entries as one batch. It may wait for viewers. What is told is as
-    /// for [`Desk::commit`]; a turn that adds nothing tells nothing. On [`Turn::Memory`] the board is as before, but that it
-    /// may have more room.
+    /// for [`Desk::commit`]; a turn that adds nothing tells nothing, and publishes nothing. [`Turn::Memory`] comes only where
+    /// the side's turn has entries to add; the board is then as before, but that it may have more room.
     pub fn step<R: Wait>(&mut self, rt: &R, side: Side) -> (Turn, Option<Told>)
         ensures name { self.new.name ≡ self.old.name }
         ensures step { IsDeskStep self.old.board side result.0 self.new.board }
         ensures told { MatchOption result.1 (self.new.shown ≡ self.old.shown) (IsTold self.new) }
+        ensures quiet { IsQuiet self.old self.new result.1 }
     {
         replace_with(self, rt, |desk, rt| step_by(desk, rt, side))
     }
@@ -354,6 +356,7 @@ pub fn desk_of<R: Wait>(
     ensures first { IfOk result (λ t. t.1 ≡ record { desk = t.0.name; plan = board.plan; entries = board.journal }) }
     ensures second { IfOk result (λ t. t.2 ≡ record { desk = t.0.name; plan = board.plan; entries = board.journal }) }
     ensures board { IfOk result (λ t. t.0.board ≡ board) }
+    ensures shown { IfOk result (λ t. course t.0.shown ≡ (board.plan, board.journal)) }
     ensures back { IfErr result (λ e. e.0 ≡ board) }
 {
     let (head, front) = open();

@@ -1,5 +1,5 @@
 //! The one history of a desk. It exists in the proofs alone: what runs is a word with its length, and counts.
-ghost use Rattle.std.specs.Prelude.{◌≡◌, ◌+◌, ◌<◌, ◌^◌, ◌++◌, ◌∷◌, [], length, MatchBool};
+ghost use Rattle.std.specs.Prelude.{◌≡◌, ◌+◌, ◌<◌, ◌^◌, ◌++◌, ◌∷◌, ◌↔◌, [], length, IsTrue, MatchBool};
 ghost use Rattle.std.specs.Bool.{OnTrue};
 ghost use mathlib.Core.List.{IsPrefix};
 ghost use Rattle.c62_view.specs.Past.{head_of};
@@ -106,10 +106,12 @@ impl Front {
         self.count
     }
 
-    /// Of two beginnings of one history, whether the first begins the second. If not, the second begins the first.
+    /// Whether this beginning of a history begins another one of the same history, as it does where the two are equal. If not,
+    /// the other one begins it.
     pub fn begins(&self, other: &Front) -> bool
         requires { other.now.book ≡ self.now.book }
-        ensures { MatchBool result (IsPrefix self.now.log other.now.log) (IsPrefix other.now.log self.now.log) }
+        ensures begins { IsTrue result ↔ IsPrefix self.now.log other.now.log }
+        ensures begun { MatchBool result (IsPrefix self.now.log other.now.log) (IsPrefix other.now.log self.now.log) }
     {
         let mut both = self.seen.again();
         both.learn(&other.seen);

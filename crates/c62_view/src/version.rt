@@ -64,6 +64,7 @@ impl Version {
         }
     }
 
+    /// The placements that are published.
     pub fn sheet(&self) -> &Sheet
         ensures plan { result.now.plan ≡ self.now.plan }
         ensures spots { IsLegalCourse (course self.now) → result.now.spots ≡ left_by (course self.now) }

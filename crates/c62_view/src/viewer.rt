@@ -99,7 +99,7 @@ impl Viewer {
 
     /// The pick of a side and its least spot on what the desk published last, with the number of entries that led there. It
     /// takes no memory and waits for nobody. `None` where there is no pick or no least spot; and where the viewer is given
-    /// nothing, as after the desk was closed, and it then knows what it knew.
+    /// nothing, as after the desk was closed, or less than it knows, which no run does. It then knows what it knew.
     pub fn plan(&mut self, side: Side) -> Option<Proposal>
         ensures desk { self.new.desk ≡ self.old.desk }
         ensures plan { self.new.plan ≡ self.old.plan }

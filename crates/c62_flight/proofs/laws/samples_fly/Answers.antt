@@ -1,6 +1,7 @@
 use Rattle.c62_flight.proofs.TwoBlocks.{two_laid, two_packets}
 use Rattle.c62_flight.proofs.Loop.{loop_flies}
-use Rattle.c62_flight.proofs.Rows.{samples_fly, samples_hang}
+use Rattle.c62_flight.proofs.Rows.{samples_fly}
+use Rattle.c62_flight.proofs.Hanging.{samples_hang}
 use Rattle.c62_flight.proofs.laws.samples_fly.Goals as goal
 
 pub returns : goal.returns

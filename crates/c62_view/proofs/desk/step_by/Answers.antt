@@ -1,4 +1,4 @@
-use Rattle.std.proofs.Common.{◌≡◌, ◌≤◌, length, ap, sym, ◌∙◌, arith, subst, List}
+use Rattle.std.proofs.Common.{length, ap, sym, ◌∙◌, arith, subst, List}
 use mathlib.Core.List.{IsPrefix}
 use Rattle.c62_sheet.specs.declared.entry.Entry.{Entry}
 use Rattle.c62_view.proofs.Prefixes.{prefix_whole}

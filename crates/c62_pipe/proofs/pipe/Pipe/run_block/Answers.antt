@@ -1,4 +1,4 @@
-use Rattle.std.proofs.Common.{◌≡◌, ℕ, ◌<◌, ◌≤◌, List, [], length, get_or, sym, ap, subst, inl, inr, ⊎_elim, arith}
+use Rattle.std.proofs.Common.{◌≡◌, ℕ, ◌<◌, ◌≤◌, List, [], length, get_or, sym, ◌∙◌, ap, subst, inl, inr, ⊎_elim, arith}
 use Rattle.c62_serial.specs.State.{IsSound}
 use Rattle.c62_packet.specs.declared.placed.Placed.{Placed}
 use Rattle.c62_pipe.proofs.Running.{begins, ahead, waits, drains, goes_on, ready, in_time, idle, finish}
@@ -23,19 +23,22 @@ loop-placed-init c =
 pub loop-cycle-init : goal.loop-cycle-init
 loop-cycle-init c =
     let item = at_item c.args.block.now.placed c.placed-all.result.now c.loop-placed.placed-index c.placed-item.result c.placed-all.ensures.same c.loop-placed-test.true c.placed-item.is in
-    record {
-      running = c.loop-placed.invariant.running;
-      within = ahead c.args.block.now.placed c.args.state.now.machine c.loop-placed.cycle c.loop-placed.placed-index c.loop-placed.self c.loop-placed.state.machine c.loop-placed.exit c.loop-placed.state.room
-          c.placed-item.result c.loop-placed.invariant.running item.0 item.1;
-    }
+    let start : c.from-start.result ≡ c.placed-item.result.cycle = c.from-start.ensures in
+    let first : c.loop-placed.cycle ≤ c.placed-item.result.cycle
+    = ahead c.args.block.now.placed c.args.state.now.machine c.loop-placed.cycle c.loop-placed.placed-index c.loop-placed.self c.loop-placed.state.machine c.loop-placed.exit c.loop-placed.state.room
+    c.placed-item.result c.loop-placed.invariant.running item.0 item.1 in
+    record { running = c.loop-placed.invariant.running; within = omega arith; now = start }
 
 pub loop-cycle-preserved : goal.loop-cycle-preserved
 loop-cycle-preserved c =
     let item = at_item c.args.block.now.placed c.placed-all.result.now c.loop-placed.placed-index c.placed-item.result c.placed-all.ensures.same c.loop-placed-test.true c.placed-item.is in
+    let start : c.from-start.result ≡ c.placed-item.result.cycle = c.from-start.ensures in
+    let before : c.loop-cycle.cycle < c.placed-item.result.cycle = omega arith in
     record {
       running = waits c.args.block.now c.args.state.now.machine c.loop-cycle.cycle c.loop-placed.placed-index c.loop-cycle.self c.end_cycle.new.self c.loop-cycle.state c.end_cycle.new.state c.loop-placed.exit
-          c.placed-item.result c.placed-all.ensures.sound c.loop-cycle.invariant.running item.0 item.1 c.loop-cycle-test.true c.end_cycle.ensures.flight c.end_cycle.ensures.state;
+          c.placed-item.result c.placed-all.ensures.sound c.loop-cycle.invariant.running item.0 item.1 before c.end_cycle.ensures.flight c.end_cycle.ensures.state;
       within = omega arith;
+      now = c.from-start.ensures;
     }
 
 pub issue-requires-clause-few : goal.issue-requires-clause-few
@@ -54,7 +57,7 @@ pub loop-placed-preserved : goal.loop-placed-preserved
 loop-placed-preserved c =
     let item = at_item c.args.block.now.placed c.placed-all.result.now c.loop-placed.placed-index c.placed-item.result c.placed-all.ensures.same c.loop-placed-test.true c.placed-item.is in
     let before : c.placed-item.result.cycle < c.args.block.now.cycles = in_time c.args.block.now c.loop-placed.placed-index c.placed-item.result c.placed-all.ensures.sound item.0 item.1 in
-    let length : c.length-length.result ≡ c.args.block.now.cycles = c.length-length.ensures.same in
+    let length : c.from-length.result ≡ c.args.block.now.cycles = c.from-length.ensures ∙ c.length.ensures.same in
     record {
       running = goes_on c.args.block.now c.args.state.now.machine c.loop-cycle.cycle c.loop-placed.placed-index c.loop-cycle.self c.issue.new.self c.loop-cycle.state c.issue.new.state c.loop-placed.exit c.exit_after-exit.result
           c.issue.result c.placed-item.result c.placed-all.ensures.sound c.loop-cycle.invariant.running item.0 item.1 (omega arith) c.issue.ensures.flight c.issue.ensures.machine c.issue.ensures.room c.issue.ensures.target
@@ -73,12 +76,12 @@ loop-cycle-2-preserved c = record {
 
 pub returns-clause-idle : goal.returns-clause-idle
 returns-clause-idle c =
-    let length : c.length-length.result ≡ c.args.block.now.cycles = c.length-length.ensures.same in
+    let length : c.from-length.result ≡ c.args.block.now.cycles = c.from-length.ensures ∙ c.length.ensures.same in
     let none : c.loop-cycle-2.self.stores ≡ []
     = ⊎_elim {C = c.loop-cycle-2.self.stores ≡ []} (λ e. e) (λ l. absurd (let no : ⊥ = omega arith in no)) c.loop-cycle-2.invariant.stored in
     idle c.args.block.now c.args.state.now.machine c.loop-cycle-2.cycle c.loop-cycle-2.self c.loop-cycle-2.state.machine c.loop-placed.exit c.loop-cycle-2.state.room c.placed-all.ensures.sound c.loop-cycle-2.invariant.running (omega arith) none
 
 pub returns-clause-meaning : goal.returns-clause-meaning
 returns-clause-meaning c =
-    let length : c.length-length.result ≡ c.args.block.now.cycles = c.length-length.ensures.same in
+    let length : c.from-length.result ≡ c.args.block.now.cycles = c.from-length.ensures ∙ c.length.ensures.same in
     finish c.args.block.now c.args.state.now.machine c.loop-cycle-2.cycle c.loop-cycle-2.self c.loop-cycle-2.state.machine c.loop-placed.exit c.loop-cycle-2.state.room c.loop-cycle-2.invariant.running (omega arith)

@@ -13,11 +13,12 @@ invariant-loop-placed l = record {
 abbrev pub invariant-loop-cycle : goal.invariant-loop-cycle
 invariant-loop-cycle l = record {
   running : Running l.block.placed l.fn.state.machine l.cycle l.placed-index l.self l.state.machine l.exit l.state.room;
-  within : l.cycle ≤ l.placed.cycle;
+  within : l.cycle ≤ l.start;
+  now : l.start ≡ l.placed.cycle;
 }
 
 abbrev pub decreases-loop-cycle : goal.decreases-loop-cycle
-decreases-loop-cycle l = l.placed.cycle - l.cycle
+decreases-loop-cycle l = l.start - l.cycle
 
 -- up to the end of the block
 abbrev pub invariant-loop-cycle-2 : goal.invariant-loop-cycle-2

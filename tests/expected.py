@@ -1,11 +1,11 @@
-"""What the texts of this directory have to give, computed from the algorithms over Python's integers.
+"""What the texts of examples/ have to give, computed from the algorithms over Python's integers.
 
 No instruction is interpreted here, and c62 isn't asked. Each function below belongs to the text of its name. It
 answers the state that the text starts from, the state that it has to leave, and the number of blocks that are run.
 Where a text leaves more than its results in registers, these are values of the algorithm too, such as the last product
 or a pointer behind an array. Some registers that a text has to clear start with a value that isn't 0.
 
-    python3 expected.py
+    python3 tests/expected.py
 
 writes NAME.settings and NAME.report of each text anew, and with --check it writes nothing, and names those that differ.
 """
@@ -15,8 +15,8 @@ import math
 import pathlib
 import sys
 
-HERE = pathlib.Path(__file__).resolve().parent
-# how many blocks ./run lets a text run
+EXAMPLES = pathlib.Path(__file__).resolve().parent.parent / "examples"
+# how many blocks ./kernels lets a text run
 LIMIT = 100000
 NAMES = [f"{file}{number}" for file in "AB" for number in range(16)]
 
@@ -89,7 +89,7 @@ def is_half(value):
 
 def line_of(name, mnemonic):
     """The line of a text in which this mnemonic stands first."""
-    lines = (HERE / f"{name}.s").read_text().splitlines()
+    lines = (EXAMPLES / f"{name}.s").read_text().splitlines()
     return 1 + next(k for k, line in enumerate(lines) if mnemonic in line and not line.startswith(";"))
 
 
@@ -663,7 +663,7 @@ def files():
     for kernel in KERNELS:
         start, end, *ran = kernel()
         for suffix, lines in ("settings", start.settings()), ("report", end.report(*ran)):
-            yield HERE / f"{kernel.__name__}.{suffix}", "".join(line + "\n" for line in lines).encode()
+            yield EXAMPLES / f"{kernel.__name__}.{suffix}", "".join(line + "\n" for line in lines).encode()
 
 
 if sys.argv[1:] == ["--check"]:

@@ -1,0 +1,108 @@
+-- A check tells one text.
+use Rattle.std.proofs.Common.{arith, ◌≡◌, ℕ, zero, suc, ◌<◌, ◌≤◌, ◌+◌, ◌&&◌, Bool, true, false, List, [], ◌∷◌, ◌++◌, length, Some, refl, sym, ap, subst, ◌∙◌, inl, inr}
+use Rattle.std.specs.Prelude.{All, IsTrue, slice_get}
+use Rattle.std.specs.List.{flat_map, list_all}
+use Rattle.std.proofs.lemmas.Bool.{cases_lt}
+use Rattle.std.proofs.lemmas.Option.{slice_get_within}
+use Rattle.c62_read.specs.Block.{Serial, is_block, labels_in}
+use Rattle.c62_packet.specs.Packed.{Packed, IsPacketBlock}
+use Rattle.c62_packet.specs.Packets.{labels_of}
+use Rattle.c62_check.specs.declared.early.Early.{Early}
+use Rattle.c62_check.specs.declared.verdict.Verdict.{Verdict as Answer}
+use Rattle.c62_check.specs.declared.verdict.Verdict.TheVariants.{Same, Missing, Extra, TooEarly}
+use Rattle.c62_check.specs.Checked.{AreVerdicts, HasOneText, IsChecked, IsFirstOther, OtherBlocks, SameBlocks}
+use Rattle.c62_check.specs.Lines.{block_line, early_words, lines_from, other_words, verdict_lines}
+use Rattle.c62_check.specs.Verdict.{IsSameVerdict, is_same}
+use Rattle.c62_check.proofs.OneVerdict.{one_verdict}
+use Rattle.c62_check.proofs.Serially.{as_many, holds_at, there}
+
+same_lines : (number : ℕ) (one other : Answer) → IsSameVerdict one other → verdict_lines number one ≡ verdict_lines number other
+unfolding verdict_lines
+same_lines number Same Same same = refl
+same_lines number (Missing line) (Missing other) same = rw same refl
+same_lines number (Extra line) (Extra other) same = rw same refl
+same_lines number (TooEarly early) (TooEarly others) same = ap (flat_map (λ each. block_line number (early_words each))) same
+same_lines number Same (Missing other) same = absurd same
+same_lines number Same (Extra other) same = absurd same
+same_lines number Same (TooEarly others) same = absurd same
+same_lines number (Missing line) Same same = absurd same
+same_lines number (Missing line) (Extra other) same = absurd same
+same_lines number (Missing line) (TooEarly others) same = absurd same
+same_lines number (Extra line) Same same = absurd same
+same_lines number (Extra line) (Missing other) same = absurd same
+same_lines number (Extra line) (TooEarly others) same = absurd same
+same_lines number (TooEarly early) Same same = absurd same
+same_lines number (TooEarly early) (Missing other) same = absurd same
+same_lines number (TooEarly early) (Extra other) same = absurd same
+
+same_word : (one other : Answer) → IsSameVerdict one other → is_same one ≡ is_same other
+same_word Same Same same = refl
+same_word (Missing line) (Missing other) same = refl
+same_word (Extra line) (Extra other) same = refl
+same_word (TooEarly early) (TooEarly others) same = refl
+same_word Same (Missing other) same = absurd same
+same_word Same (Extra other) same = absurd same
+same_word Same (TooEarly others) same = absurd same
+same_word (Missing line) Same same = absurd same
+same_word (Missing line) (Extra other) same = absurd same
+same_word (Missing line) (TooEarly others) same = absurd same
+same_word (Extra line) Same same = absurd same
+same_word (Extra line) (Missing other) same = absurd same
+same_word (Extra line) (TooEarly others) same = absurd same
+same_word (TooEarly early) Same same = absurd same
+same_word (TooEarly early) (Missing other) same = absurd same
+same_word (TooEarly early) (Extra other) same = absurd same
+
+abbrev AreAlike : List Answer → List Answer → Type 0
+AreAlike ones others = (k : ℕ) (one other : Answer) → slice_get ones k ≡ Some one → slice_get others k ≡ Some other → IsSameVerdict one other
+
+alike : (number : ℕ) (ones others : List Answer) → length ones ≡ length others → AreAlike ones others
+    → (lines_from number ones ≡ lines_from number others) × (list_all is_same ones ≡ list_all is_same others)
+alike number [] [] long are = (refl, refl)
+alike number [] (other ∷ others) long are = absurd (omega (arith, long))
+alike number (one ∷ ones) [] long are = absurd (omega (arith, long))
+alike number (one ∷ ones) (other ∷ others) long are =
+    let first = are 0 one other refl refl in
+    let rest = alike (number + 1) ones others (omega (arith, long)) (λ k x y at also. are (suc k) x y at also) in
+    (rw (same_lines number one other first, rest.0) refl, rw (same_word one other first, rest.1) refl)
+
+-- the first block that differs is one
+not_before : (program : List Serial) (packets : List Packed) (one other : ℕ) → IsFirstOther program packets one → IsFirstOther program packets other → one < other → ⊥
+not_before program packets one other a b less = a.differs (b.before one less)
+
+one_first : (program : List Serial) (packets : List Packed) (one other : ℕ) → IsFirstOther program packets one → IsFirstOther program packets other → one ≡ other
+one_first program packets one other a b = elim (cases_lt one other) [
+  | inl lt ↦ absurd (not_before program packets one other a b lt)
+  | inr ge ↦ elim (cases_lt other one) [
+    | inl lt ↦ absurd (not_before program packets other one b a lt)
+    | inr le ↦ omega (arith, ge, le)
+  ]
+]
+
+module _ (program : List Serial) (packets : List Packed) (blocks : All (λ block. IsTrue (is_block block.insns)) program) (sound : All IsPacketBlock packets) where
+  verdicts_alike : (ones others : List Answer) → labels_of packets ≡ labels_in program → AreVerdicts program packets ones → AreVerdicts program packets others
+      → AreAlike ones others
+  verdicts_alike ones others labels a b k one other at also =
+      let inside = slice_get_within ones k one at in
+      let many = as_many program packets labels in
+      let block = there program k (omega (arith, inside, a.count)) in
+      let packed = there packets k (omega (arith, inside, a.count, many)) in
+      one_verdict block.0 packed.0 (holds_at (λ each. IsTrue (is_block each.insns)) program k block.0 blocks block.1)
+      (holds_at IsPacketBlock packets k packed.0 sound packed.1) one other (a.each k block.0 packed.0 one block.1 packed.1 at)
+      (b.each k block.0 packed.0 other block.1 packed.1 also)
+
+  one_text_of : (text other : List ℕ) (same also : Bool) → IsChecked program packets text same → IsChecked program packets other also
+      → (text ≡ other) × (same ≡ also)
+  one_text_of text other same also (OtherBlocks n first told no_same) (OtherBlocks m second words no_also) =
+      let number = one_first program packets n m first second in
+      (told ∙ (ap (λ (k : ℕ). block_line k (other_words (slice_get (labels_of packets) k) (slice_get (labels_in program) k))) number ∙ sym words), no_same ∙ sym no_also)
+  one_text_of text other same also (OtherBlocks n first told no_same) (SameBlocks labels verdicts are words is) =
+      absurd (first.differs (ap (λ ls. slice_get ls n) labels))
+  one_text_of text other same also (SameBlocks labels verdicts are words is) (OtherBlocks n first told no_same) =
+      absurd (first.differs (ap (λ ls. slice_get ls n) labels))
+  one_text_of text other same also (SameBlocks labels ones a told is) (SameBlocks equal others b words is_also) =
+      let both = alike 0 ones others (a.count ∙ sym b.count) (verdicts_alike ones others labels a b) in
+      (told ∙ (both.0 ∙ sym words), is ∙ (both.1 ∙ sym is_also))
+
+pub one_text : (program : List Serial) (packets : List Packed) → HasOneText program packets
+one_text program packets blocks sound text other same also a b = one_text_of program packets blocks sound text other same also a b

@@ -1,0 +1,14 @@
+pub mod Extended
+pub mod Issues
+pub mod Branching
+pub mod Clashes
+pub mod InRow
+pub mod RowBegins
+pub mod Down
+pub mod Paths
+pub mod Room
+pub mod InFlight
+pub mod Loop
+pub mod Steps
+pub mod Fine
+pub mod Fitting

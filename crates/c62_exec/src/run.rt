@@ -1,0 +1,139 @@
+//! Runs a text of packets.
+
+ghost use Rattle.std.specs.Prelude.{◌≡◌, ◌+◌, ◌*◌, ◌<◌, ◌≤◌, ◌^◌, length, max, Some, IfSome, IfOk, OnErr, MatchOption, MatchResult};
+ghost use Rattle.c62_insn.specs.declared.effect.Target.TheVariants.{Register as ToRegister};
+ghost use Rattle.c62_serial.specs.State.{line_capacity};
+ghost use Rattle.c62_flight.specs.Text.{At, Outside, row_of, leads_to, position_after, IsIssuable};
+ghost use Rattle.c62_flight.specs.Flight.{Flies};
+ghost use Rattle.c62_rows.specs.Rows.{text_of};
+ghost use Rattle.c62_exec.specs.Step.{Fit, on_way, gone, row_passes, end_of};
+
+use crate::underway::{Passed, Underway};
+use c62_flight::Stop;
+use c62_insn::Target;
+use c62_rows::Rows;
+use c62_serial::State;
+use std::alloc::AllocError;
+
+/// How a run stopped, and after how many cycles.
+#[derive(Clone, Copy, PartialEq, Eq, Debug)]
+pub struct Flown {
+    pub stop: Stop,
+    pub cycles: u64,
+}
+
+/// The address of row 0, behind data memory.
+const FIRST_ADDRESS: u32 = 0x8000_0000;
+
+/// How far the addresses of rows are apart.
+const ROW_BYTES: u32 = 32;
+
+/// The most instructions of a row, one on each unit.
+const UNITS: usize = 8;
+
+/// The row whose address a word is: one of the text, or the one behind the last.
+fn row_at(rows: &Rows, word: u32) -> Option<usize>
+    ensures position { MatchOption result (leads_to (text_of rows.now) (ToRegister word) ≡ Outside word)
+        (λ row. leads_to (text_of rows.now) (ToRegister word) ≡ At row) }
+    ensures small { IfSome result (λ row. row < 2 ^ 32) }
+{
+    let distance = word.checked_sub(FIRST_ADDRESS)?;
+    let row = (distance / ROW_BYTES) as usize;
+    if distance % ROW_BYTES == 0 && row <= rows.rows.len() {
+        Some(row)
+    } else {
+        None
+    }
+}
+
+/// The row where a run goes on when a row is over, or the word with which it leaves the text.
+fn row_after(rows: &Rows, row: usize, turn: Option<Target>) -> Result<usize, u32>
+    requires row { row < 2 ^ 63 }
+    requires rows { IsIssuable (text_of rows.now) }
+    ensures position { MatchResult result (λ next. position_after (text_of rows.now) row turn ≡ At next)
+        (λ word. position_after (text_of rows.now) row turn ≡ Outside word) }
+    ensures bound { IfOk result (λ next. next ≤ max (row + 1) (2 ^ 32)) }
+{
+    match turn {
+        None => Ok(row + 1),
+        Some(Target::Block(number)) => match rows.aims.get(usize::from(number)) {
+            Some(aim) => Ok(*aim as usize),
+            None => Ok(rows.rows.len()),
+        },
+        Some(Target::Register(word)) => row_at(rows, word).ok_or(word),
+    }
+}
+
+/// Runs a row of the text, or one behind its last, that begins in a cycle.
+fn run_row(
+    rows: &Rows,
+    row: usize,
+    start: u64,
+    underway: &mut Underway,
+    state: &mut State,
+) -> Passed
+    requires rows { IsIssuable (text_of rows.now) }
+    requires soon { start < 2 ^ 62 }
+    requires fit { Fit start (row_of (text_of rows.now) row).insns underway.old.pipe state.old.machine }
+    requires room { 8 ≤ state.old.room }
+    ensures passed { gone result (on_way underway.new.pipe underway.new.turns state.new.machine)
+        ≡ row_passes (row_of (text_of rows.now) row).insns (row_of (text_of rows.now) row).idle start
+        (on_way underway.old.pipe underway.old.turns state.old.machine) }
+    ensures end { end_of result ≤ start + 2 ^ 32 }
+    ensures capacity { line_capacity state.new ≡ line_capacity state.old }
+{
+    match rows.rows.get(row) {
+        Some(row) => underway.run_row(&row.insns, row.idle, start, state),
+        None => underway.run_row(&[], 0, start, state),
+    }
+}
+
+/// Runs a text of packets from a row on, cycle by cycle, with all that is in flight: writes land and
+/// branches take effect over labels, in the slots of other branches and behind the last packet. Before
+/// each row it looks at the limit of cycles. Answers how the run stopped, and after how many cycles;
+/// whatever stopped it, all that it issued lands.
+///
+/// Room for the faults of eight instructions a row, and of eight more, is made first, by the state's
+/// own allocator. Nothing else takes memory, however long the run.
+///
+/// # Errors
+///
+/// `AllocError` where that room was missing and memory runs out. The state is then as before.
+pub fn fly(rows: &Rows, first: u32, limit: u32, state: &mut State) -> Result<Flown, AllocError>
+    requires { IsIssuable (text_of rows.now) }
+    ensures ok { IfOk result (λ flown. Flies (text_of rows.now) first limit state.old.machine
+        flown.stop flown.cycles state.new.machine) }
+    ensures full { OnErr result (state.old.room < 8 * (length rows.now.rows.items + 1)) }
+    ensures err { OnErr result (state.new ≡ state.old) }
+{
+    state.room(UNITS * (rows.rows.len() + 1))?;
+    // It tells what holds of every state.
+    let _ = state.faults();
+    let most = u64::from(limit);
+    let mut underway = Underway::new();
+    let mut row = first as usize;
+    let mut cycle = 0;
+    while row < rows.rows.len() || underway.turns.any() {
+        if cycle >= most {
+            return Ok(underway.come_down(Stop::Limit, cycle, state));
+        }
+        let turn = match run_row(rows, row, cycle, &mut underway, state) {
+            Passed::Over(end, turn) => {
+                cycle = end;
+                turn
+            }
+            Passed::Broken(broken, stop) => {
+                underway.settle(broken + 1, 4, state);
+                return Ok(Flown {
+                    stop,
+                    cycles: broken + 1,
+                });
+            }
+        };
+        row = match row_after(rows, row, turn) {
+            Ok(next) => next,
+            Err(word) => return Ok(underway.come_down(Stop::Register(word), cycle, state)),
+        };
+    }
+    Ok(underway.come_down(Stop::End, cycle, state))
+}
