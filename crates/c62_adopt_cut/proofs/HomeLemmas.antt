@@ -13,6 +13,7 @@ use Rattle.std.proofs.lemmas.List.Elements.{All-from_recursion}
 use Rattle.std.proofs.lemmas.List.Sorted.{IsNonDecreasingBy-push}
 use Rattle.c62_line.specs.Line.{Parts, Says, Nothing, Pause, Does, Jumps}
 use Rattle.c62_read.specs.Program.{Name}
+use Rattle.c62_read.proofs.CutLemmas.{all_more}
 use Rattle.c62_adopt_line.specs.Line.{Line}
 use Rattle.c62_adopt_line.specs.Laws.{IsWhole}
 use Rattle.c62_adopt_cut.specs.declared.clock.Stand.{Stand}
@@ -21,7 +22,7 @@ use Rattle.c62_adopt_cut.specs.Blocks.{Issue, Draft, Drafts, add_issue, all_draf
 use Rattle.c62_adopt_cut.specs.Laws.{labels_given}
 use Rattle.c62_adopt_cut.specs.Home.{AreOfLines, Home, home, home_in, home_said, homes_in, homes_of, is_cut, label_in, label_at, labels_in, starts_of}
 use Rattle.c62_adopt_cut.proofs.CutLemmas.{cuts_stay, label_cut, stand_cut}
-use Rattle.c62_adopt_cut.proofs.KeptLemmas.{IsFree, all_append}
+use Rattle.c62_adopt_cut.proofs.KeptLemmas.{IsFree}
 use Rattle.c62_adopt_cut.proofs.NameLemmas.{last_given}
 use Rattle.c62_adopt_cut.proofs.StandLemmas.{alone, labelled_here, labelled_stand}
 use Rattle.c62_adopt_cut.proofs.StartLemmas.{lowest, labelled_lowest, lowest_early, lowest_rises, stand_begun, stand_lowest}
@@ -82,9 +83,9 @@ module _ (found : ℕ → Option Name) (low : ℕ) (homes : List Home) (labels :
       record {
         instructions = last_homes before new ∙ append-nil (flat_map homes_of before) ∙ have.instructions;
         labels_are = last_given before new ∙ ap (λ (given : List Name). given ++ option_to_list label) have.labels_are;
-        at_cuts = rw starts (all_append cuts (starts_of before) (start ∷ []) have.at_cuts (cut, tt));
+        at_cuts = rw starts (all_more cuts (starts_of before) (start ∷ []) have.at_cuts (cut, tt));
         rising = rw starts (starts_rise (starts_of before) low start have.rising have.low_enough more);
-        low_enough = rw starts (all_append (λ other. other ≤ start) (starts_of before) (start ∷ []) (all_low low start (starts_of before) more have.low_enough) (omega arith, tt));
+        low_enough = rw starts (all_more (λ other. other ≤ start) (starts_of before) (start ∷ []) (all_low low start (starts_of before) more have.low_enough) (omega arith, tt));
         named = names;
       }
 

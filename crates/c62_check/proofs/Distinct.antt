@@ -1,25 +1,23 @@
 -- No two instructions of a packet block are equal.
-use Rattle.std.proofs.Common.{arith, ◌≡◌, ℕ, zero, suc, ◌<◌, List, [], ◌∷◌, length, get_or, set, Some, None, refl, sym, ap, ◌∙◌, inl, inr, ◌⊎◌, get_or-set_same, get_or-set_other, length-set}
+use Rattle.std.proofs.Common.{arith, ◌≡◌, ℕ, ◌<◌, List, [], ◌∷◌, length, get_or, set, refl, sym, ap, ◌∙◌, inl, inr, ◌⊎◌, get_or-set_same, get_or-set_other, length-set}
 use Rattle.std.specs.List.{swap}
-use Rattle.std.proofs.lemmas.List.{get_or-map}
+use Rattle.std.proofs.lemmas.List.{get_or_default}
 use Rattle.std.proofs.lemmas.List.Edits.{length-swap}
 use Rattle.std.proofs.lemmas.List.Sorted.{IsPermutation-keeps}
 use Rattle.std.proofs.lemmas.Bool.{cases_eq}
 use Rattle.c62_rules.proofs.Capacities.{one-each-unit}
-use Rattle.c62_rules.specs.PacketRules.{IsIssued, KeepsPacketRules}
+use Rattle.c62_rules.specs.PacketRules.{KeepsPacketRules}
 use Rattle.c62_packet.specs.declared.placed.Placed.{Placed}
 use Rattle.c62_packet.specs.Packed.{issue_of, issued}
 use Rattle.c62_check.specs.Schedule.{AreDistinct}
+use Rattle.c62_packet.proofs.Placings.{issued_or}
 
 abbrev AreOnce : List Placed → Type 0
 AreOnce xs = (i j : ℕ) (d : Placed) → i < length xs → j < length xs → get_or xs i d ≡ get_or xs j d → i ≡ j
 
-pub is_issued : (placed : List Placed) (i : ℕ) (d : Placed) → i < length placed → IsIssued (issued placed) i (issue_of (get_or placed i d))
-is_issued placed i d lt = get_or-map (λ (p : Placed). Some (issue_of p)) placed i d None lt
-
 once_by_rules : (placed : List Placed) → KeepsPacketRules (issued placed) → AreOnce placed
 once_by_rules placed rules i j d one other same =
-    one-each-unit (issued placed) rules (get_or placed i d).unit i j (issue_of (get_or placed i d)) (issue_of (get_or placed j d)) (is_issued placed i d one) (is_issued placed j d other)
+    one-each-unit (issued placed) rules (get_or placed i d).unit i j (issue_of (get_or placed i d)) (issue_of (get_or placed j d)) (issued_or placed i d one) (issued_or placed j d other)
     (ap (λ (p : Placed). p.cycle) same) refl (ap (λ (p : Placed). p.unit) (sym same))
 
 -- which place came to place k
@@ -32,11 +30,6 @@ pub record CameFrom (xs : List Placed) (i j k : ℕ) (d : Placed) : Type 0 where
   pub same : get_or (swap xs i j) k d ≡ get_or xs place d
   pub mate : IsMate i j k place
 
-at_default : (xs : List Placed) (j : ℕ) (d e : Placed) → j < length xs → get_or xs j d ≡ get_or xs j e
-at_default [] j d e lt = absurd (omega (arith, lt))
-at_default (x ∷ xs) zero d e lt = refl
-at_default (x ∷ xs) (suc j) d e lt = at_default xs j d e (omega (arith, lt))
-
 came_from : (xs : List Placed) (i j k : ℕ) (d : Placed) → i < length xs → j < length xs → k < length xs → CameFrom xs i j k d
 came_from [] i j k d p q lt = absurd (omega (arith, lt))
 came_from (x ∷ xs) i j k d p q lt =
@@ -47,14 +40,14 @@ came_from (x ∷ xs) i j k d p q lt =
       | inl e ↦ record {
         place = i;
         within = p;
-        same = ap (λ (n : ℕ). get_or (set once j (get_or ys i x)) n d) e ∙ (get_or-set_same once j (get_or ys i x) d (omega (arith, q, long)) ∙ at_default ys i x d p);
+        same = ap (λ (n : ℕ). get_or (set once j (get_or ys i x)) n d) e ∙ (get_or-set_same once j (get_or ys i x) d (omega (arith, q, long)) ∙ get_or_default ys i x d p);
         mate = inl (e, refl);
       }
       | inr n ↦ elim (cases_eq k i) [
         | inl e ↦ record {
           place = j;
           within = q;
-          same = get_or-set_other once j k (get_or ys i x) d n ∙ (ap (λ (m : ℕ). get_or once m d) e ∙ (get_or-set_same ys i (get_or ys j x) d p ∙ at_default ys j x d q));
+          same = get_or-set_other once j k (get_or ys i x) d n ∙ (ap (λ (m : ℕ). get_or once m d) e ∙ (get_or-set_same ys i (get_or ys j x) d p ∙ get_or_default ys j x d q));
           mate = inr (inl (n, e, refl));
         }
         | inr o ↦ record {

@@ -6,7 +6,7 @@ use Rattle.std.proofs.Math.Seq.{get_or-append_right}
 use Rattle.std.proofs.lemmas.Int.{ints}
 use Rattle.std.proofs.lemmas.Bool.{cases_lt}
 use Rattle.std.proofs.lemmas.Option.{slice_get-get_or, same_Some, slice_get_within, get_or_from_slice_get}
-use Rattle.std.proofs.lemmas.List.{take_all, get_or_append_left, length-append, length-map}
+use Rattle.std.proofs.lemmas.List.{take_all, get_or_append_left, length-append, length-map, get_or_default}
 use Rattle.std.proofs.lemmas.List.Sorted.{length_permutation, IsPermutation-sym, IsPermutation-trans, Contains-permutation}
 use Rattle.c62_op.proofs.UnitOrder.{index_of-below}
 use Rattle.c62_op.specs.Shape.{is_branch}
@@ -30,11 +30,6 @@ use Rattle.c62_check.specs.Schedule.{IsNumbering, IsSchedule, AreDistinct, HasOn
 use Rattle.c62_check.proofs.Lined.{same_length}
 use Rattle.c62_rules.proofs.Twins.{are_in_order}
 use Rattle.c62_check.proofs.Distinct.{are_distinct}
-
-at_default : (xs : List Placed) (j : ℕ) (d e : Placed) → j < length xs → get_or xs j d ≡ get_or xs j e
-at_default [] j d e lt = absurd (omega (arith, lt))
-at_default (x ∷ xs) zero d e lt = refl
-at_default (x ∷ xs) (suc j) d e lt = at_default xs j d e (omega (arith, lt))
 
 opposite : (a b : Insn) → IsSameInsn a b → IsSameInsn b a
 opposite a b same = record { op = sym same.op; operands = sym same.operands; cond = sym same.cond }
@@ -156,12 +151,12 @@ module _ (insns : List SerialInsn) (listed numbered : List Placed) (plan : IsPla
 
       found_in : Contains numbered t
       found_in = Contains-permutation (taken ++ left) numbered t both_all
-          (i, omega (arith, inside, wide), get_or_append_left taken left t i inside ∙ at_default taken i t d inside)
+          (i, omega (arith, inside, wide), get_or_append_left taken left t i inside ∙ get_or_default taken i t d inside)
 
       found_out : Contains (taken ++ left) q
       found_out =
           let lt : i < length numbered = omega (arith, inside, within) in
-          Contains-permutation numbered (taken ++ left) q (IsPermutation-sym (taken ++ left) numbered both_all) (i, lt, at_default numbered i q d lt)
+          Contains-permutation numbered (taken ++ left) q (IsPermutation-sym (taken ++ left) numbered both_all) (i, lt, get_or_default numbered i q d lt)
 
       by_place : (j : ℕ) → j < length numbered → get_or numbered j d ≡ t → t ≡ q
       by_place j lt e = elim (cases_lt j i) [
@@ -170,7 +165,7 @@ module _ (insns : List SerialInsn) (listed numbered : List Placed) (plan : IsPla
           | inl gt ↦
               (let rises : listing_position q < listing_position t = subst (λ (p : Placed). listing_position q < listing_position p) e
               (later i j d gt lt (subst (λ (p : Placed). IsSameInsn q.insn p.insn) (sym e) (opposite t.insn q.insn twin))) in
-              elim (not_before found_out.0 found_out.1 (at_default (taken ++ left) found_out.0 d q found_out.1 ∙ found_out.2)) [
+              elim (not_before found_out.0 found_out.1 (get_or_default (taken ++ left) found_out.0 d q found_out.1 ∙ found_out.2)) [
                 | inl same ↦ same
                 | inr falls ↦ absurd (omega (arith, rises, falls))
               ])
@@ -182,7 +177,7 @@ module _ (insns : List SerialInsn) (listed numbered : List Placed) (plan : IsPla
           equal_places j ge le = omega (arith, ge, le)
 
       here_same : t ≡ q
-      here_same = by_place found_in.0 found_in.1 (at_default numbered found_in.0 d t found_in.1 ∙ found_in.2)
+      here_same = by_place found_in.0 found_in.1 (get_or_default numbered found_in.0 d t found_in.1 ∙ found_in.2)
 
     up_to : (bound i : ℕ) (d : Placed) → i < bound → i < length taken → get_or taken i d ≡ get_or numbered i d
     up_to zero i d lt inside = absurd (omega (arith, lt))
@@ -222,8 +217,8 @@ missing_by insns listed numbered d line plan distinct is missing =
     let own : stands.insn ≡ missing.entry.insn = same_Some stands.insn missing.entry.insn (sym stands.at ∙ at) in
     let same : IsSameInsn missing.entry.insn q.insn = subst (λ (x : Insn). IsSameInsn x q.insn) own stands.same in
     let found = Contains-permutation numbered (missing.taken ++ missing.left) q
-    (IsPermutation-trans numbered listed (missing.taken ++ missing.left) (IsPermutation-sym listed numbered is.all) taken.all) (n, inside, at_default numbered n q d inside) in
-    let e : get_or (missing.taken ++ missing.left) found.0 d ≡ q = at_default (missing.taken ++ missing.left) found.0 d q found.1 ∙ found.2 in
+    (IsPermutation-trans numbered listed (missing.taken ++ missing.left) (IsPermutation-sym listed numbered is.all) taken.all) (n, inside, get_or_default numbered n q d inside) in
+    let e : get_or (missing.taken ++ missing.left) found.0 d ≡ q = get_or_default (missing.taken ++ missing.left) found.0 d q found.1 ∙ found.2 in
     let wide = length-append missing.taken missing.left in
     elim (cases_lt found.0 (length missing.taken)) [
       | inl there ↦

@@ -17,7 +17,7 @@ use Rattle.c62_op.specs.Takes.{takes}
 use Rattle.c62_insn.specs.declared.insn.Insn.{Insn}
 use Rattle.c62_insn.specs.Insn.{IsSameInsn, op_of, operands_of, unit_of}
 use Rattle.c62_insn.proofs.InsnLemmas.{has_written_unit}
-use Rattle.c62_rules.specs.PacketRules.{Issue, IsIssued}
+use Rattle.c62_rules.specs.PacketRules.{Issue}
 use Rattle.c62_rules.proofs.Capacities.{one-each-unit, one-each-data-path}
 use Rattle.c62_rules.specs.Length.{landing_end, last_landing_end, length_of}
 use Rattle.c62_read.specs.declared.block.SerialInsn.{SerialInsn}
@@ -39,6 +39,7 @@ use Rattle.c62_check.proofs.Lined.{same_length}
 use Rattle.c62_check.proofs.Distinct.{are_distinct}
 use Rattle.c62_check.proofs.Exact.{StandsIn, is_plan}
 use Rattle.c62_check.proofs.Serially.{says_same}
+use Rattle.c62_packet.proofs.Placings.{issued_at}
 
 -- ---- a numbering's spots
 
@@ -90,11 +91,6 @@ taken_by block i insn other u v at same unit h =
     subst (λ (o : Option Insn). taken_in o u ≡ true) (sym at)
     (ap (λ (op : Op). takes op (operands_of insn) u) same.op
     ∙ (ap (λ (operands : Operands). takes (op_of other) operands u) same.operands ∙ (ap (takes (op_of other) (operands_of other)) (sym unit) ∙ h)))
-
-issued_at : (placed : List Placed) (k : ℕ) (p : Placed) → slice_get placed k ≡ Some p → IsIssued (issued placed) k (issue_of p)
-issued_at [] k p at = absurd (none-some p at)
-issued_at (q ∷ placed) zero p at = ap (λ (r : Placed). Some (issue_of r)) (same_Some q p at)
-issued_at (q ∷ placed) (suc k) p at = issued_at placed k p at
 
 abbrev branches : Issue → Bool
 branches p = is_branch (op_of p.insn)

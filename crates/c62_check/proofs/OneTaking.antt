@@ -16,7 +16,8 @@ use Rattle.c62_packet.specs.declared.placed.Placed.{Placed}
 use Rattle.c62_packet.specs.Packed.{issue_of, issued, listing_position}
 use Rattle.c62_check.specs.Matched.{AreSame, AreTaken, HaveNone}
 use Rattle.c62_check.specs.Schedule.{AreDistinct}
-use Rattle.c62_check.proofs.Distinct.{are_distinct, is_issued}
+use Rattle.c62_packet.proofs.Placings.{issued_or}
+use Rattle.c62_check.proofs.Distinct.{are_distinct}
 
 at_default : (xs : List Placed) (j : ℕ) (d e : Placed) → j < length xs → get_or xs j d ≡ get_or xs j e
 at_default [] j d e lt = absurd (omega (arith, lt))
@@ -60,8 +61,8 @@ module _ (listed : List Placed) (rules : KeepsPacketRules (issued listed)) where
       let cycles : q.cycle ≡ p.cycle = omega (arith, same, index_of-below p.unit, index_of-below q.unit) in
       let indexes : index_of q.unit ≡ index_of p.unit = omega (arith, same, index_of-below p.unit, index_of-below q.unit) in
       let unit = same_index q.unit p.unit indexes in
-      let at_p = is_issued listed one.0 p one.1 in
-      let at_q = is_issued listed other.0 q other.1 in
+      let at_p = issued_or listed one.0 p one.1 in
+      let at_q = issued_or listed other.0 q other.1 in
       let number : one.0 ≡ other.0 =
       one-each-unit (issued listed) rules p.unit one.0 other.0 (issue_of (get_or listed one.0 p)) (issue_of (get_or listed other.0 q)) at_p at_q
       (ap (λ (x : Placed). x.cycle) one.2 ∙ sym cycles ∙ sym (ap (λ (x : Placed). x.cycle) other.2)) (ap (λ (x : Placed). x.unit) one.2)

@@ -110,7 +110,3 @@ has_packets program done rest block packets number whole labels at =
     let count : length done + suc (length rest) ≡ length program = sym (length-append done (block ∷ rest)) ∙ ap (λ (blocks : List Serial). length blocks) whole in
     let many = as_many program packets labels in
     omega (arith, count, many, at)
-
-pub nothing_left : {X : Type 0} (xs : List X) → length xs ≡ 0 → xs ≡ []
-nothing_left [] none = refl
-nothing_left (x ∷ xs) none = absurd (omega (arith, none))

@@ -6,11 +6,11 @@ use Rattle.std.proofs.lemmas.Bool.Decides.{nat_tests}
 use Rattle.c62_op.specs.Units.{index_of}
 use Rattle.c62_op.proofs.UnitOrder.{same_index}
 use Rattle.c62_rules.proofs.Capacities.{one-each-unit}
-use Rattle.c62_rules.specs.PacketRules.{IsIssued}
 use Rattle.c62_packet.specs.declared.placed.Placed.{Placed}
 use Rattle.c62_packet.specs.Packed.{Packed, issue_of, issued}
 use Rattle.c62_show.specs.Grid.{is_on, packet}
 use Rattle.c62_show.specs.Laws.{AreAllShown}
+use Rattle.c62_packet.proofs.Placings.{issued_at}
 
 -- what stands where p does is p
 abbrev IsAlone : List Placed → Placed → Type 0
@@ -36,15 +36,10 @@ shown (q ∷ rest) p (suc j) alone e =
     shown_first q rest p (q.cycle == p.cycle) (index_of q.unit == index_of p.unit) refl same
     (λ _. shown rest p j (λ i r f. alone (suc i) r f) e)
 
-is_issued_at : (placed : List Placed) (k : ℕ) (p : Placed) → slice_get placed k ≡ Some p → IsIssued (issued placed) k (issue_of p)
-is_issued_at [] k p e = absurd cc
-is_issued_at (q ∷ rest) zero p e = ap (λ (r : Placed). Some (issue_of r)) (same_Some q p e)
-is_issued_at (q ∷ rest) (suc k) p e = is_issued_at rest k p e
-
 pub all_shown : (block : Packed) → AreAllShown block
 all_shown block k p sound e =
     let alone : IsAlone block.placed p =
-    λ j q f cycle unit. let number : j ≡ k = one-each-unit (issued block.placed) sound.rules p.unit j k (issue_of q) (issue_of p) (is_issued_at block.placed j q f) (is_issued_at block.placed k p e)
+    λ j q f cycle unit. let number : j ≡ k = one-each-unit (issued block.placed) sound.rules p.unit j k (issue_of q) (issue_of p) (issued_at block.placed j q f) (issued_at block.placed k p e)
     cycle (same_index q.unit p.unit unit) refl in
     same_Some q p (sym f ∙ (ap (slice_get block.placed) number ∙ e)) in
     shown block.placed p k alone e

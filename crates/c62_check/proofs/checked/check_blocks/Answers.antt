@@ -1,11 +1,11 @@
 use Rattle.std.proofs.Common.{◌≡◌, ◌∙◌, ◌∷◌, ◌++◌, [], ◌<◌, List, length, refl, sym, ap, subst, append_assoc, append-nil, arith}
 use Rattle.std.specs.Vec.Iter.{into_iter_items}
-use Rattle.std.proofs.lemmas.List.{length-append}
+use Rattle.std.proofs.lemmas.List.{length-append, nil_from_length}
 use Rattle.std.proofs.lemmas.Option.{slice_get_read}
 use Rattle.c62_read.specs.Block.{Serial, labels_in}
 use Rattle.c62_packet.specs.Packed.{Packed}
 use Rattle.c62_packet.specs.Packets.{labels_of}
-use Rattle.c62_check.proofs.Telling.{AreTold, told_next, all_told, has_packets, nothing_left}
+use Rattle.c62_check.proofs.Telling.{AreTold, told_next, all_told, has_packets}
 use Rattle.c62_check.proofs.checked.check_blocks.Goals as goal
 
 pub loop-block-preserved : goal.loop-block-preserved
@@ -58,7 +58,7 @@ pub returns : goal.returns
 returns c =
     let at = c.loop-block in
     let none = c.in-None.ensures.steps in
-    let empty : into_iter_items at.block-iterator ≡ [] = nothing_left _ (sym at.invariant.2 ∙ none.0) in
+    let empty : into_iter_items at.block-iterator ≡ [] = nil_from_length _ (sym at.invariant.2 ∙ none.0) in
     let all = sym (append-nil at.yielded) ∙ (rw empty at at.invariant.0 ∙ (c.into_iter-block-iterator.ensures.into_iter_gives.0 ∙ c.into_blocks-block-items.ensures.same)) in
     let told = subst (λ (blocks : List Serial). AreTold blocks c.blocks-packets.result.now at.checked.text.items at.checked.same) all at.invariant.1 in
     all_told c.args.program c.args.packets.now at.checked.text.items at.checked.same c.requires
