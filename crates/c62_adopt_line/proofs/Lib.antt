@@ -4,3 +4,5 @@ pub mod SpacedWords
 pub mod WholeLines
 pub mod SerialLines
 pub mod ListedLines
+pub mod Comments
+pub mod Offsets

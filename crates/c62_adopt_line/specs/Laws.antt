@@ -1,5 +1,5 @@
 -- Laws of lines of packets (docs/ADOPT.md).
-use Rattle.std.specs.Prelude.{◌≡◌, ℕ, ◌≤◌, Bool, true, false, not, ◌==◌, ◌&&◌, ◌||◌, if◌then◌else◌, List, [], ◌∷◌, ◌++◌, length, codes, decimal, Some, None, is_some, IfSome, Ok, IsTrue}
+use Rattle.std.specs.Prelude.{◌≡◌, ◌⊎◌, ◌↔◌, ℕ, ◌*◌, ◌≤◌, ℤ, pos, Bool, true, false, not, ◌==◌, ◌&&◌, ◌||◌, if◌then◌else◌, List, [], ◌∷◌, ◌++◌, length, codes, decimal, Some, None, is_some, IfSome, Ok, IsTrue}
 use Rattle.std.specs.List.{list_any}
 use Rattle.c62_op.specs.declared.register.Unit.{Unit as FunctionalUnit}
 use Rattle.c62_op.specs.declared.operands.Operands.{Operands}
@@ -13,8 +13,9 @@ use Rattle.c62_token.specs.Token.{begins, tokens}
 use Rattle.c62_token.specs.Kind.{Word}
 use Rattle.c62_line.specs.Unit.{is_dot}
 use Rattle.c62_line.specs.Line.{Says, Nothing, Pause, Does, Jumps, line_of}
-use Rattle.c62_line.specs.Laws.{NamesTarget, says_on}
+use Rattle.c62_line.specs.Laws.{IsReadable, NamesTarget, says_on}
 use Rattle.c62_adopt_line.specs.Line.{Line, line_said, line_says}
+use Rattle.c62_adopt_line.specs.Plain.{accesses_in, bytes_named}
 
 -- an instruction has its unit written
 abbrev pub HasUnit : Says → Type 0
@@ -88,3 +89,24 @@ LabelReads label = IsTrue (is_label label) → line_says (label ++ codes ":") �
 -- an empty line
 abbrev pub EmptyReads : Type 0
 EmptyReads = line_says [] ≡ Ok (line_said false None Nothing)
+
+-- ---- comments
+
+-- a comment behind a line changes nothing of what the line says, nor its fault
+abbrev pub CommentSaysNothing : List ℕ → List ℕ → Type 0
+CommentSaysNothing line rest = IsReadable (line ++ 59 ∷ rest) → line_says (line ++ 59 ∷ rest) ≡ line_says line
+
+-- ---- offsets in bytes
+
+-- the bytes that an access of each name moves
+pub record AccessesMove : Type 0 where
+  pub words : (bytes_named (codes "LDW") ≡ Some 4) × (bytes_named (codes "STW") ≡ Some 4)
+  pub halves : (bytes_named (codes "LDH") ≡ Some 2) × (bytes_named (codes "LDHU") ≡ Some 2) × (bytes_named (codes "STH") ≡ Some 2)
+  pub bytes : (bytes_named (codes "LDB") ≡ Some 1) × (bytes_named (codes "LDBU") ≡ Some 1) × (bytes_named (codes "STB") ≡ Some 1)
+
+abbrev pub IsSize : ℕ → Type 0
+IsSize size = (size ≡ 1) ⊎ ((size ≡ 2) ⊎ (size ≡ 4))
+
+-- an offset is so many accesses exactly where it is that many times their size
+abbrev pub CountsBytes : ℕ → ℕ → ℤ → Type 0
+CountsBytes size count offset = IsSize size → (accesses_in size offset ≡ pos count) ↔ (offset ≡ pos (size * count))

@@ -1,9 +1,9 @@
 //! Laws of lines of packets.
 
-ghost use Rattle.std.specs.Prelude.{ℕ, List};
+ghost use Rattle.std.specs.Prelude.{ℕ, ℤ, List};
 ghost use Rattle.c62_op.specs.declared.register.Unit.{Unit as FunctionalUnit};
 ghost use Rattle.c62_insn.specs.declared.insn.Insn.{Insn};
-ghost use Rattle.c62_adopt_line.specs.Laws.{SaysWhole, IsPlain, ReadsAsSerial, InstructionReads, PauseReads, LabelReads, EmptyReads};
+ghost use Rattle.c62_adopt_line.specs.Laws.{AccessesMove, CommentSaysNothing, CountsBytes, SaysWhole, IsPlain, ReadsAsSerial, InstructionReads, PauseReads, LabelReads, EmptyReads};
 
 /// An instruction that is read has its unit written, a line's label and that to which a branch goes are labels, no other
 /// instruction goes to a block, and a line with bars has no label.
@@ -28,4 +28,16 @@ pub fn other_listed_lines_read_as_they_are()
     ensures pauses { (n : ℕ) → PauseReads n }
     ensures labels { (label : List ℕ) → LabelReads label }
     ensures empty { EmptyReads }
+{}
+
+/// A comment behind a line, of allowed bytes and in a line of at most 255, changes neither what the line says nor its fault.
+pub fn comments_say_nothing()
+    ensures { (line rest : List ℕ) → CommentSaysNothing line rest }
+{}
+
+/// An offset in round brackets counts bytes: it is so many accesses exactly where it is that many times their size, which is 4 for
+/// words, 2 for halves and 1 for bytes.
+pub fn offsets_count_bytes()
+    ensures sizes { AccessesMove }
+    ensures counts { (size count : ℕ) (offset : ℤ) → CountsBytes size count offset }
 {}
