@@ -1,3 +1,4 @@
 pub mod Ranks
 pub mod Steps
 pub mod Filling
+pub mod Placings

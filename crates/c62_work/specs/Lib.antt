@@ -1,3 +1,4 @@
 pub mod Turns
 pub mod Finish
 pub mod Schedule
+pub mod Worker

@@ -7,87 +7,73 @@ use std::sync::Wait;
 use std::sync::atomic::{AtomicU64, Ordering};
 use std::time::Duration;
 
-/// The other worker has not begun yet.
-const NEW: u64 = 0;
-
 /// Nothing has come since this worker was idle.
-const QUIET: u64 = 1;
+const QUIET: u64 = 0;
 
-/// The other worker called: it has begun, or there may be something to place.
-const RUNG: u64 = 2;
+/// The other worker called: there may be something to place.
+const RUNG: u64 = 1;
 
 /// Nothing has come, and this worker sleeps.
-const ASLEEP: u64 = 3;
+const ASLEEP: u64 = 2;
 
-/// The other worker has ended, or did not begin in time: nobody is waited for.
-const ALONE: u64 = 4;
+/// The other worker has ended, or there is none: nobody is waited for.
+const ALONE: u64 = 3;
 
 /// How often a worker looks before it sleeps. It never leaves its processor without sleeping: where all processors are busy
 /// it would get that back late, and one that sleeps is put on when it is called.
 const LOOKS: u32 = 100;
 
-/// How many milliseconds it sleeps at most.
+/// How many milliseconds it sleeps at most. A call wakes it before.
 const NAP_MILLIS: u64 = 2;
-
-/// How many milliseconds it waits at most for the other worker to begin, which does so last where no thread can be made.
-const BEGIN_MILLIS: u64 = 20;
 
 /// What wakes the worker of one side.
 #[derive(Drop)]
-pub(crate) struct Bell {
+struct Bell {
     word: AtomicU64,
 }
 
 impl Bell {
     fn new() -> Bell {
         Bell {
-            word: AtomicU64::new(NEW),
+            word: AtomicU64::new(RUNG),
         }
     }
 
+    /// Writes what the worker is to find, and wakes it.
     fn tell(&self, what: u64) {
         if self.word.swap(what, Ordering::SeqCst) == ASLEEP {
             self.word.wake_one();
         }
     }
 
-    /// Calls the worker.
+    /// Calls the worker, where it is not called already and has somebody to wait for.
     fn ring(&self) {
-        if self.word.load(Ordering::SeqCst) != RUNG {
+        let seen = self.word.load(Ordering::SeqCst);
+        if seen == QUIET || seen == ASLEEP {
             self.tell(RUNG);
         }
     }
 
+    /// Writes `to` where the word is `from`.
     fn turns_to(&self, from: u64, to: u64) -> bool {
         self.word
             .compare_exchange(from, to, Ordering::SeqCst, Ordering::SeqCst)
             .is_ok()
     }
 
-    fn is_silent(&self) -> bool {
-        let seen = self.word.load(Ordering::SeqCst);
-        seen == QUIET || seen == NEW
-    }
-
-    /// Sleeps for so many milliseconds at most, where the word is `from`. It is `to` where nothing came.
-    fn sleep<R: Wait>(&self, rt: &R, from: u64, millis: u64, to: u64) {
-        if self.turns_to(from, ASLEEP) {
-            let most = Duration::from_millis(millis);
-            self.word.park_timeout(rt, ASLEEP as u32, most);
-            self.turns_to(ASLEEP, to);
-        }
-    }
-
     /// Waits a while until the worker is called, where there is another one that may call it.
     fn wait<R: Wait>(&self, rt: &R) {
         for _ in 0..LOOKS {
-            if !self.is_silent() {
+            if self.word.load(Ordering::SeqCst) != QUIET {
                 return;
             }
             spin_loop();
         }
-        self.sleep(rt, QUIET, NAP_MILLIS, QUIET);
-        self.sleep(rt, NEW, BEGIN_MILLIS, ALONE);
+        if self.turns_to(QUIET, ASLEEP) {
+            let nap = Duration::from_millis(NAP_MILLIS);
+            self.word.park_timeout(rt, ASLEEP as u32, nap);
+            self.turns_to(ASLEEP, QUIET);
+        }
     }
 }
 
@@ -106,6 +92,7 @@ fn other(side: Side) -> Side {
 }
 
 impl Bells {
+    /// For two workers that are both called.
     pub(crate) fn new() -> Bells {
         Bells {
             first: Bell::new(),
@@ -121,7 +108,8 @@ impl Bells {
     }
 
     /// What a side's turn came to, and the board behind it, while the lock is held. Answers whether the other side's worker is
-    /// to be called: there is something to place for it, or all is placed.
+    /// to be called: there is something to place for it, or all is placed. An idle turn has seen all that was placed up to
+    /// then, so that the calls of before are taken back.
     pub(crate) fn turned(&self, side: Side, came: Turn, board: &Board) -> bool {
         match came {
             Turn::Idle => {
@@ -141,18 +129,13 @@ impl Bells {
         self.of(other(side)).ring();
     }
 
-    /// A side's worker begins.
-    pub(crate) fn began(&self, side: Side) {
-        self.of(other(side)).tell(RUNG);
-    }
-
-    /// A side's worker has ended.
-    pub(crate) fn ended(&self, side: Side) {
-        self.of(other(side)).tell(ALONE);
-    }
-
     /// A side's worker that was idle waits a while.
     pub(crate) fn rest<R: Wait>(&self, rt: &R, side: Side) {
         self.of(side).wait(rt);
+    }
+
+    /// A side's worker has ended, or there is none.
+    pub(crate) fn ended(&self, side: Side) {
+        self.of(other(side)).tell(ALONE);
     }
 }

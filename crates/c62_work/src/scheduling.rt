@@ -13,7 +13,7 @@ use c62_insn::Side;
 use c62_view::{Desk, DeskFault, Viewer, desk_of};
 use std::alloc::{AllocError, Global};
 use std::sync::{Mutex, Wait};
-use std::thread::{Threads, join};
+use std::thread::{self, Threads};
 
 /// How many turns each worker makes at most, and how many ejections there may be.
 #[derive(Clone, Copy, PartialEq, Eq, Debug)]
@@ -24,20 +24,45 @@ pub struct Options {
     pub budget: u16,
 }
 
-/// A worker beside another one, which learns when this one begins and when it has ended.
+/// A worker beside another one, which learns when this one has ended.
 fn beside<R: Wait, G: Gate>(
     rt: &R,
     desk: &Mutex<Desk>,
-    viewer: &mut Viewer,
+    mut viewer: Viewer,
     side: Side,
     turns: u32,
     gate: &G,
     bells: &Bells,
-) -> u32 {
-    bells.began(side);
-    let made = work(rt, desk, viewer, side, turns, gate, Some(bells));
+) {
+    work(rt, desk, &mut viewer, side, turns, gate, Some(bells));
     bells.ended(side);
-    made
+}
+
+/// A worker for each side, side A's on a thread of its own. Where no thread can be made, it comes first on this one, and
+/// neither waits for the other.
+fn both<R: Threads + Wait + Sync, G: Gate + Sync>(
+    rt: &R,
+    desk: &Mutex<Desk>,
+    first: Viewer,
+    second: Viewer,
+    turns: u32,
+    gate: &G,
+) {
+    let bells = Bells::new();
+    let bells = &bells;
+    thread::scope(thread::scope_env(), rt, move |scope| {
+        match scope.spawn(move || beside(rt, desk, first, Side::A, turns, gate, bells)) {
+            Ok(thread) => {
+                beside(rt, desk, second, Side::B, turns, gate, bells);
+                thread.join(rt);
+            }
+            Err(refused) => {
+                bells.ended(Side::B);
+                (refused.value)();
+                beside(rt, desk, second, Side::B, turns, gate, bells);
+            }
+        }
+    });
 }
 
 /// The board once two workers had their turns on it, or as it was where viewers had no place.
@@ -48,18 +73,13 @@ fn worked<R: Threads + Wait + Sync, G: Gate + Sync>(
     turns: u32,
     gate: &G,
 ) -> Result<Board, AllocError> {
-    let (desk, mut first, mut second) = match desk_of(rt, alloc, board) {
+    let (desk, first, second) = match desk_of(rt, alloc, board) {
         Ok(made) => made,
         Err((board, DeskFault::NoSeat)) => return Ok(board),
         Err((_, DeskFault::Memory)) => return Err(AllocError),
     };
     let shared = Mutex::new(desk);
-    let bells = Bells::new();
-    join(
-        rt,
-        || beside(rt, &shared, &mut first, Side::A, turns, gate, &bells),
-        || beside(rt, &shared, &mut second, Side::B, turns, gate, &bells),
-    );
+    both(rt, &shared, first, second, turns, gate);
     Ok(shared.into_inner().close(rt))
 }
 

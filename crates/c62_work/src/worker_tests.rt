@@ -2,7 +2,7 @@
 
 ghost use Rattle.std.specs.Prelude.{◌≡◌, IfOk};
 
-use crate::rounds::serve;
+use crate::rounds::{serve, serve_two};
 use crate::{FreeGate, Gate, Options, schedule, worker};
 use c62_board::{Board, Entry, Proposal, Spot, Turn, Who};
 use c62_depend::Plan;
@@ -13,11 +13,11 @@ use std::alloc::Global;
 use std::hint::spin_loop;
 use std::process::Abort;
 use std::sync::atomic::{AtomicU64, Ordering};
-use std::sync::{Mutex, MutexGuard, Wait};
+use std::sync::{Mutex, Wait};
 use std::test::Fail;
 
 /// Three instructions of side A, of which the last needs the other two.
-const SUM: &str = "MVK 5,A1\nMVK 7,A2\nADD A1,A2,A3";
+pub(crate) const SUM: &str = "MVK 5,A1\nMVK 7,A2\nADD A1,A2,A3";
 
 /// A block in which an ejection pays.
 const EJECTING: &str =
@@ -27,7 +27,7 @@ const EJECTING: &str =
 const IN_ORDER: &str = "+0@0.D2T +1@0.L2T +2@0.L1T +3@1.L1T +4@1.M1T +5@3.M1T ";
 
 /// The plan of the only block of a text.
-fn plan_of(rt: &impl Abort, alloc: Global, text: &str) -> Result<Plan, Fail> {
+pub(crate) fn plan_of(rt: &impl Abort, alloc: Global, text: &str) -> Result<Plan, Fail> {
     let mut blocks = read_program(alloc, text.as_bytes())?.into_blocks();
     assert_eq!(rt; blocks.len(), 1, "{text}");
     match Plan::new(alloc, blocks.pop().expect(rt, "a block")) {
@@ -44,7 +44,11 @@ fn board_of(rt: &impl Abort, alloc: Global, text: &str, budget: u16) -> Result<B
 }
 
 /// A desk of an empty board of a text, and a viewer of it.
-fn desk_on<R: Abort + Wait>(rt: &R, alloc: Global, text: &str) -> Result<(Desk, Viewer), Fail>
+pub(crate) fn desk_on<R: Abort + Wait>(
+    rt: &R,
+    alloc: Global,
+    text: &str,
+) -> Result<(Desk, Viewer), Fail>
     ensures { IfOk result (λ t. t.1.desk ≡ t.0.name) }
 {
     match desk_of(rt, alloc, board_of(rt, alloc, text, 0)?) {
@@ -85,7 +89,7 @@ fn entry_text(alloc: Global, entry: &Entry) -> Result<String, Fail> {
     })
 }
 
-fn journal_text(alloc: Global, board: &Board) -> Result<String, Fail> {
+pub(crate) fn journal_text(alloc: Global, board: &Board) -> Result<String, Fail> {
     let mut all = String::new(alloc);
     for entry in board.journal() {
         all.push_str(&entry_text(alloc, entry)?)?;
@@ -191,6 +195,24 @@ fn a_gate_holds_a_worker_back(rt: HostRuntime) -> Result<(), Fail> {
     Ok(())
 }
 
+/// The multiply of side A is more urgent than its MVK, but only once side B has placed what it reads. A side that planned
+/// before its gate lets it on would place the MVK.
+#[test]
+fn a_worker_plans_behind_its_gate(rt: HostRuntime) -> Result<(), Fail> {
+    let gate = Behind {
+        over: AtomicU64::new(0),
+    };
+    let options = Options {
+        turns: 100,
+        budget: 0,
+    };
+    let plan = plan_of(&rt, rt.alloc(), "MVK 1,B1\nMPY A2,B1,A3\nMVK 5,A9")?;
+    let board = schedule(&rt, rt.alloc(), plan, options, &gate)?;
+    let found = journal_text(rt.alloc(), &board)?;
+    assert_eq!(rt; found.as_str(), "+0@0.S2B +1@1.M1A +2@0.S1A ");
+    Ok(())
+}
+
 #[test]
 fn workers_make_their_turns(rt: HostRuntime) -> Result<(), Fail> {
     for (side, made) in [(Side::A, 4), (Side::B, 100)] {
@@ -199,105 +221,6 @@ fn workers_make_their_turns(rt: HostRuntime) -> Result<(), Fail> {
         let turns = worker(&rt, &desk, &mut viewer, side, 100, &FreeGate);
         desk.into_inner().close(&rt);
         assert_eq!(rt; turns, made);
-    }
-    let options = Options {
-        turns: 2,
-        budget: 0,
-    };
-    let board = schedule(
-        &rt,
-        rt.alloc(),
-        plan_of(&rt, rt.alloc(), SUM)?,
-        options,
-        &FreeGate,
-    )?;
-    let found = journal_text(rt.alloc(), &board)?;
-    assert_eq!(rt; found.as_str(), "+0@0.S1A +1@1.S1A +2@2.L1T ");
-    Ok(())
-}
-
-/// Keeps what it is told of the turns of a worker, and whether the lock was free when it was told.
-#[derive(Drop)]
-struct Watch<'a> {
-    desk: &'a Mutex<Desk>,
-    told: [AtomicU64; 8],
-    count: AtomicU64,
-}
-
-impl Watch<'_> {
-    /// Whether nobody holds the lock.
-    fn is_free(&self) -> bool {
-        let Some(guard) = self.desk.try_lock() else {
-            return false;
-        };
-        MutexGuard::unlock(guard);
-        true
-    }
-
-    /// Keeps a number, or 0 where the lock is held.
-    fn keep(&self, number: u64) {
-        let place = self.count.fetch_add(1, Ordering::SeqCst);
-        if let Some(slot) = self.told.get(place as usize) {
-            slot.store(if self.is_free() { number } else { 0 }, Ordering::SeqCst);
-        }
-    }
-}
-
-/// A number for what is told of a turn of a side: thousands for the side, and hundreds for the turn.
-fn turn_number(side: Side, turn: u32, what: u32) -> u64 {
-    let thousands = match side {
-        Side::A => 1000,
-        Side::B => 2000,
-    };
-    thousands + 100 * u64::from(turn) + u64::from(what)
-}
-
-impl Gate for Watch<'_> {
-    fn before(&self, side: Side, turn: u32) {
-        self.keep(turn_number(side, turn, 1));
-    }
-
-    fn after(&self, side: Side, turn: u32, came: &Turn) {
-        let what = match came {
-            Turn::Placed(i, _) => 20 + u32::from(*i),
-            Turn::Idle => 2,
-            Turn::Done => 3,
-            Turn::Ejected(_, _, _) | Turn::NoRoom(_) | Turn::Memory => 4,
-        };
-        self.keep(turn_number(side, turn, what));
-    }
-}
-
-/// How many turns a worker makes, how often it told its gate of them, and what.
-fn watched<R: Wait>(
-    rt: &R,
-    desk: &Mutex<Desk>,
-    viewer: &mut Viewer,
-    side: Side,
-) -> (u32, u64, [u64; 8]) {
-    let gate = Watch {
-        desk,
-        told: [0; 8].map(AtomicU64::new),
-        count: AtomicU64::new(0),
-    };
-    let turns = worker(rt, desk, viewer, side, 4, &gate);
-    let count = gate.count.load(Ordering::SeqCst);
-    let told = gate.told.map(|slot| slot.load(Ordering::SeqCst));
-    (turns, count, told)
-}
-
-#[test]
-fn a_gate_is_told_each_turn(rt: HostRuntime) -> Result<(), Fail> {
-    let cases = [
-        (Side::A, [1001, 1020, 1101, 1121, 1201, 1222, 1301, 1303]),
-        (Side::B, [2001, 2002, 2101, 2102, 2201, 2202, 2301, 2302]),
-    ];
-    for (side, want) in &cases {
-        let (desk, mut viewer) = desk_on(&rt, rt.alloc(), SUM)?;
-        let desk = Mutex::new(desk);
-        let seen = watched(&rt, &desk, &mut viewer, *side);
-        desk.into_inner().close(&rt);
-        assert_eq!(rt; seen, (4, 8, *want));
     }
     Ok(())
 }
@@ -317,6 +240,46 @@ fn rounds_of_a_side(rt: HostRuntime) -> Result<(), Fail> {
         seen: 2,
     };
     assert_eq!(rt; last, Some(third));
+    Ok(())
+}
+
+/// Each of two desks commits a proposal that both take, and each one's viewer learns of it.
+#[test]
+fn a_proposal_for_two_desks(rt: HostRuntime) -> Result<(), Fail> {
+    let (mut desk, mut own) = desk_on(&rt, rt.alloc(), SUM)?;
+    let (mut other, mut stranger) = match desk_on(&rt, rt.alloc(), "MVK 5,A1\nMVK 9,A2") {
+        Ok(made) => made,
+        Err(error) => {
+            desk.close(&rt);
+            return Err(error);
+        }
+    };
+    let on_s1 = |number: u16| Proposal {
+        number,
+        spot: Spot {
+            cycle: number,
+            unit: Unit {
+                letter: Letter::S,
+                side: Side::A,
+            },
+        },
+        seen: usize::from(number),
+    };
+    serve_two(
+        &rt,
+        &mut desk,
+        &mut own,
+        &mut other,
+        &mut stranger,
+        &on_s1(0),
+    );
+    let plans = (own.plan(Side::A), stranger.plan(Side::A));
+    let boards = (desk.close(&rt), other.close(&rt));
+    assert_eq!(rt; plans, (Some(on_s1(1)), Some(on_s1(1))));
+    for board in [&boards.0, &boards.1] {
+        let found = journal_text(rt.alloc(), board)?;
+        assert_eq!(rt; found.as_str(), "+0@0.S1T ");
+    }
     Ok(())
 }
 

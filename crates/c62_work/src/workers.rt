@@ -1,6 +1,7 @@
 //! A worker on a shared board.
 
 ghost use Rattle.std.specs.Prelude.{◌≤◌};
+ghost use Rattle.c62_work.specs.Worker.{IsWorkersTurn};
 
 use crate::alternating::goes_on;
 use crate::bells::Bells;
@@ -52,8 +53,11 @@ fn take<'a, R: Wait>(rt: &R, desk: &'a Mutex<Desk>) -> MutexGuard<'a, Desk> {
     desk.lock(rt)
 }
 
-/// What a side's turn comes to on a desk.
-fn turn_on<R: Wait>(rt: &R, desk: &mut Desk, planned: Option<Proposal>, side: Side) -> Turn {
+/// What a side's turn comes to on a desk: what was planned is placed where no ejections are left and it may be committed, and
+/// else the side's step is made.
+fn turn_on<R: Wait>(rt: &R, desk: &mut Desk, planned: Option<Proposal>, side: Side) -> Turn
+    ensures { IsWorkersTurn desk.old.board planned side result desk.new.board }
+{
     let Some(proposal) = planned else {
         return desk.step(rt, side).0;
     };
@@ -61,9 +65,10 @@ fn turn_on<R: Wait>(rt: &R, desk: &mut Desk, planned: Option<Proposal>, side: Si
         return desk.step(rt, side).0;
     }
     match desk.commit(rt, &proposal, who_of(side)) {
-        Ok((spot, _)) => Turn::Placed(proposal.number, spot),
-        Err(CommitFault::Memory) => Turn::Memory,
-        Err(CommitFault::NotReady | CommitFault::Stale(_)) => desk.step(rt, side).0,
+        Ok((spot, _)) => return Turn::Placed(proposal.number, spot),
+        Err(CommitFault::Memory) => return Turn::Memory,
+        Err(CommitFault::NotReady) => return desk.step(rt, side).0,
+        Err(CommitFault::Stale(_)) => return desk.step(rt, side).0,
     }
 }
 
