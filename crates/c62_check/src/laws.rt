@@ -1,7 +1,8 @@
 //! Laws of what is found. The functions do nothing: what each ensures is a law, proved of the definitions that other
 //! contracts cite.
 
-ghost use Rattle.std.specs.Prelude.{ℕ, Bool, List};
+ghost use Rattle.std.specs.Prelude.{ℕ, ℤ, Bool, List};
+ghost use Rattle.c62_insn.specs.declared.insn.Insn.{Insn};
 ghost use Rattle.c62_read.specs.declared.block.SerialInsn.{SerialInsn};
 ghost use Rattle.c62_read.specs.Block.{Serial};
 ghost use Rattle.c62_packet.specs.declared.placed.Placed.{Placed};
@@ -12,6 +13,7 @@ ghost use Rattle.c62_check.specs.Least.{PacketsAreSeated, NoPacketsAreShorter, N
 ghost use Rattle.c62_check.specs.Verdict.{IsExact};
 ghost use Rattle.c62_check.specs.Checked.{SaysSame};
 ghost use Rattle.c62_check.specs.Serial.{CheckedAreSerial};
+ghost use Rattle.c62_check.specs.Reason.{HasOneReason};
 
 /// Packets that are checked to be the same as a program run as it does, from every sound machine and under every limit: the
 /// same blocks, registers, memory and end, and the lines that faulted are those of the same instructions.
@@ -56,4 +58,10 @@ pub fn no_packets_are_shorter()
 /// Where all is the same, each block's packets take no fewer cycles than what is told as its bound.
 pub fn no_checked_packets_are_shorter()
     ensures { (program : List Serial) (packets : List Packed) (text : List ℕ) → NoCheckedAreShorter program packets text }
+{}
+
+/// There is one reason for which an instruction must come so many cycles behind another, by the first case of dependence
+/// that asks for as many.
+pub fn reasons_are_one()
+    ensures { (block : List Insn) (i j : ℕ) (cycles : ℤ) → HasOneReason block i j cycles }
 {}
