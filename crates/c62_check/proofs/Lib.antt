@@ -1,3 +1,5 @@
+pub mod GoneOver
+pub mod Reasons
 pub mod Taking
 pub mod Needs
 pub mod Rising

@@ -13,8 +13,8 @@ use Rattle.c62_depend.specs.declared.links.Link.{Link}
 use Rattle.c62_depend.specs.Latency.{latency}
 use Rattle.c62_depend.specs.Links.{needs}
 use Rattle.c62_depend.proofs.Rules.{needs_are}
-use Rattle.c62_depend.specs.declared.reason.Reason.{Reason}
-use Rattle.c62_depend.specs.Reason.{IsReason}
+use Rattle.c62_check.specs.declared.reason.Reason.{Reason}
+use Rattle.c62_check.specs.Reason.{IsReason}
 use Rattle.c62_check.specs.Early.{gap_of, Keeps, KeepsAll, IsEarlyBehind, IsEarly}
 use Rattle.c62_check.specs.declared.early.Early.{Early}
 use Rattle.std.proofs.lemmas.Grind.{common_steps}

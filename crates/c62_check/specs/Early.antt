@@ -5,7 +5,7 @@ use Rattle.c62_insn.specs.declared.insn.Insn.{Insn}
 use Rattle.c62_packet.specs.declared.placed.Placed.{Placed}
 use Rattle.c62_depend.specs.Latency.{latency}
 use Rattle.c62_check.specs.declared.early.Early.{Early}
-use Rattle.c62_depend.specs.Reason.{IsReason}
+use Rattle.c62_check.specs.Reason.{IsReason}
 
 -- by how many cycles q comes behind p
 abbrev pub gap_of : Placed → Placed → ℤ

@@ -1,4 +1,5 @@
 pub mod Matched
+pub mod Reason
 pub mod Early
 pub mod Schedule
 pub mod Verdict

@@ -4,8 +4,8 @@ use Rattle.std.specs.Fmt.{signed_decimal}
 use Rattle.std.specs.List.{flat_map}
 use Rattle.c62_op.specs.Name.{register_name}
 use Rattle.c62_check.specs.declared.early.Early.{Early}
-use Rattle.c62_depend.specs.declared.reason.Reason.{Reason}
-use Rattle.c62_depend.specs.declared.reason.Reason.TheVariants.{Reads, Overwrites, Writes, AccessesMemory, StoresMemory, Branches}
+use Rattle.c62_check.specs.declared.reason.Reason.{Reason}
+use Rattle.c62_check.specs.declared.reason.Reason.TheVariants.{Reads, Overwrites, Writes, AccessesMemory, StoresMemory, Branches}
 use Rattle.c62_check.specs.declared.verdict.Verdict.{Verdict as Answer}
 use Rattle.c62_check.specs.declared.verdict.Verdict.TheVariants.{Same, Missing, Extra, TooEarly}
 

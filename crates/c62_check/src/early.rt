@@ -5,7 +5,8 @@ ghost use Rattle.c62_depend.specs.Latency.{latency};
 ghost use Rattle.c62_depend.specs.Plan.{insns_of};
 ghost use Rattle.c62_check.specs.Early.{gap_of, Keeps, IsEarlyBehind, IsEarlyAt, AreEarly};
 
-use c62_depend::{Link, Plan, Reason};
+use crate::reason::{Reason, reason_for};
+use c62_depend::{Link, Plan};
 use c62_packet::Placed;
 use std::alloc::{AllocError, Global};
 
@@ -55,7 +56,7 @@ fn early_behind(plan: &Plan, placed: &[Placed], number: u16, link: Link) -> Opti
         after: first.line,
         needs,
         has,
-        reason: plan.reason(u16::from(link.number), number, needs),
+        reason: reason_for(plan, u16::from(link.number), number, needs),
     })
 }
 

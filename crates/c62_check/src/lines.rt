@@ -8,8 +8,8 @@ ghost use Rattle.c62_op.specs.Name.{file_letter, register_name};
 ghost use Rattle.c62_check.specs.Lines.{block_line, reason_words, early_lines, early_cycles, early_words, verdict_lines, label_name, label_words};
 
 use crate::early::Early;
+use crate::reason::Reason;
 use crate::verdict::Verdict;
-use c62_depend::Reason;
 use c62_insn::{Reg, Side};
 use c62_read::Label;
 use itoa::Buffer;

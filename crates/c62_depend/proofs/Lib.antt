@@ -15,6 +15,4 @@ pub mod Numbers
 pub mod Lists
 pub mod WrittenLemmas
 pub mod ConditionNumbers
-pub mod GoneOver
-pub mod Reasons
 pub mod Relays

@@ -16,4 +16,3 @@ pub mod Side
 pub mod UnitChoices
 pub mod Plan
 pub mod Laws
-pub mod Reason

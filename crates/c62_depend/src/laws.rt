@@ -1,11 +1,10 @@
 //! Laws of a plan's definitions, in the words of the rules. The functions do nothing: what each ensures is a law, proved
 //! of the definitions that the contracts of a plan cite.
 
-ghost use Rattle.std.specs.Prelude.{ℕ, ℤ, List};
+ghost use Rattle.std.specs.Prelude.{List};
 ghost use Rattle.c62_insn.specs.declared.insn.Insn.{Insn};
 ghost use Rattle.c62_depend.specs.Laws.{HasLatencies, HasHeights, HasNeeds, HasFollowers};
 ghost use Rattle.c62_depend.specs.Direct.{DirectOnesBind};
-ghost use Rattle.c62_depend.specs.Reason.{HasOneReason};
 
 /// A latency is the greatest bound of the cases of dependence that apply, and none where none applies.
 pub fn has_latencies()
@@ -31,10 +30,4 @@ pub fn has_followers()
 /// to at least its own.
 pub fn direct_ones_bind()
     ensures { (block : List Insn) → DirectOnesBind block }
-{}
-
-/// There is one reason for which an instruction must come so many cycles behind another, by the first case of dependence
-/// that asks for as many.
-pub fn reasons_are_one()
-    ensures { (block : List Insn) (i j : ℕ) (cycles : ℤ) → HasOneReason block i j cycles }
 {}

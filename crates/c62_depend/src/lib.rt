@@ -11,7 +11,6 @@ pub mod laws;
 mod limits;
 mod links;
 mod plan;
-mod reason;
 mod reg_set;
 mod same;
 mod side;
@@ -21,7 +20,6 @@ mod uses;
 pub use limits::ISSUE_CYCLES;
 pub use links::Link;
 pub use plan::Plan;
-pub use reason::Reason;
 
 #[cfg(test)]
 mod tests;

@@ -1,7 +1,7 @@
 use Rattle.std.proofs.Common.{rules, arith, ◌≤ℤ◌, ◌<ℤ◌, ◌∙◌, ℕ, w8, w32, FitsSigned, to_z, of_z, refl, subst}
 use Rattle.std.proofs.lemmas.Int.{to_z-of_z, ints}
 use Rattle.c62_depend.specs.Plan.{insns_of}
-use Rattle.c62_depend.specs.Reason.{IsReason}
+use Rattle.c62_check.specs.Reason.{IsReason}
 use Rattle.c62_check.proofs.Needs.{read_at, keeps_one, early_one}
 use Rattle.c62_check.proofs.early.early_behind.Goals as goal
 
@@ -36,7 +36,7 @@ returns c =
     let has_fits : FitsSigned w32 c.gap-has.result = search rules in
     let small : FitsSigned w8 c.args.link.latency = search rules in
     let early : to_z w32 (of_z w32 c.gap-has.result) <ℤ to_z w32 (of_z w32 c.from-needs.result) = omega (arith, ints, c.if-needs-has.false) in
-    let because : IsReason (insns_of c.args.plan.now) c.from-3.result c.args.number (to_z w32 (of_z w32 c.from-needs.result)) c.reason.result = c.reason.ensures in (
+    let because : IsReason (insns_of c.args.plan.now) c.from-3.result c.args.number (to_z w32 (of_z w32 c.from-needs.result)) c.reason_for.result = c.reason_for.ensures in (
       refl,
       early_one (insns_of c.args.plan.now) c.args.placed.now c.args.link.number c.args.number c.index-placed-from.result c.index-placed-from-2.result
           (to_z w32 (of_z w32 c.from-needs.result)) (to_z w32 (of_z w32 c.gap-has.result)) c.args.link.latency
@@ -45,6 +45,6 @@ returns c =
           (read_at c.args.placed.now c.from-2.result c.args.number c.index-placed-from-2.result c.from-2.ensures
           (omega (arith, c.requires.within, c.requires.placed, c.from-2.ensures)) c.index-placed-from-2.is)
           c.requires.link (to_z-of_z w32 c.from-needs.result needs_fits ∙ (c.from-needs.ensures ∙ to_z-of_z w8 c.args.link.latency small))
-          (to_z-of_z w32 c.gap-has.result has_fits ∙ c.gap-has.ensures) c.reason.result early
-          (subst (λ (n : ℕ). IsReason (insns_of c.args.plan.now) n c.args.number (to_z w32 (of_z w32 c.from-needs.result)) c.reason.result) c.from-3.ensures because),
+          (to_z-of_z w32 c.gap-has.result has_fits ∙ c.gap-has.ensures) c.reason_for.result early
+          (subst (λ (n : ℕ). IsReason (insns_of c.args.plan.now) n c.args.number (to_z w32 (of_z w32 c.from-needs.result)) c.reason_for.result) c.from-3.ensures because),
     )

@@ -3,9 +3,9 @@ use Rattle.std.specs.Prelude.{Contains}
 use Rattle.std.proofs.lemmas.Int.{to_z-of_z}
 use Rattle.c62_op.specs.declared.register.Reg.{Reg}
 use Rattle.c62_insn.specs.Insn.{register_writes}
-use Rattle.c62_depend.specs.Reason.{IsBehind}
-use Rattle.c62_depend.proofs.GoneOver.{is_there}
-use Rattle.c62_depend.proofs.reason.is_overwritten.Goals as goal
+use Rattle.c62_check.specs.Reason.{IsBehind}
+use Rattle.c62_check.proofs.GoneOver.{is_there}
+use Rattle.c62_check.proofs.reason.is_overwritten.Goals as goal
 
 pub returns-then-is_behind : goal.returns-then-is_behind
 returns-then-is_behind c =

@@ -4,9 +4,9 @@ use Rattle.std.specs.Prelude.{All}
 use Rattle.c62_op.specs.declared.register.Reg.{Reg}
 use Rattle.c62_insn.specs.Insn.{register_writes}
 use Rattle.c62_depend.specs.Plan.{insns_of}
-use Rattle.c62_depend.specs.Reason.{IsRead, IsSpared, IsOverwritten}
-use Rattle.c62_depend.proofs.Reasons.{HasWrite, none_read, none_spared, none_both, asks_read, asks_spared, both_write, read_reason, overwritten_reason, written_reason, order_reason}
-use Rattle.c62_depend.proofs.plan.Plan.reason.Goals as goal
+use Rattle.c62_check.specs.Reason.{IsRead, IsSpared, IsOverwritten}
+use Rattle.c62_check.proofs.Reasons.{HasWrite, none_read, none_spared, none_both, asks_read, asks_spared, both_write, read_reason, overwritten_reason, written_reason, order_reason}
+use Rattle.c62_check.proofs.reason.reason_for.Goals as goal
 
 pub insn-first-requires : goal.insn-first-requires
 insn-first-requires c =
@@ -17,7 +17,7 @@ insn-first-requires c =
 
 pub returns-in-Some : goal.returns-in-Some
 returns-in-Some c =
-    let block = insns_of c.args.self.now in
+    let block = insns_of c.args.plan.now in
     let p = c.insn-first.result in
     let q = c.insn-second.result in
     let fits : FitsSigned w32 c.args.cycles = search rules in
@@ -30,7 +30,7 @@ returns-in-Some c =
 
 pub returns-in-Some-first_spared : goal.returns-in-Some-first_spared
 returns-in-Some-first_spared c =
-    let block = insns_of c.args.self.now in
+    let block = insns_of c.args.plan.now in
     let p = c.insn-first.result in
     let q = c.insn-second.result in
     let fits : FitsSigned w32 c.args.cycles = search rules in
@@ -47,7 +47,7 @@ returns-in-Some-first_spared c =
 
 pub returns-in-Some-first_overwritten : goal.returns-in-Some-first_overwritten
 returns-in-Some-first_overwritten c =
-    let block = insns_of c.args.self.now in
+    let block = insns_of c.args.plan.now in
     let p = c.insn-first.result in
     let q = c.insn-second.result in
     let fits : FitsSigned w32 c.args.cycles = search rules in
@@ -69,7 +69,7 @@ returns-in-Some-first_overwritten c =
 
 pub returns : goal.returns
 returns c =
-    let block = insns_of c.args.self.now in
+    let block = insns_of c.args.plan.now in
     let p = c.insn-first.result in
     let q = c.insn-second.result in
     let fits : FitsSigned w32 c.args.cycles = search rules in

@@ -1,9 +1,9 @@
 use Rattle.std.proofs.Common.{rules, ◌≤◌, ℤ, w32, FitsSigned, to_z, of_z, length, subst}
 use Rattle.std.specs.Prelude.{All}
 use Rattle.std.proofs.lemmas.Int.{to_z-of_z}
-use Rattle.c62_depend.specs.Reason.{IsRead}
-use Rattle.c62_depend.proofs.GoneOver.{not_next, none_is, is_there}
-use Rattle.c62_depend.proofs.reason.first_read.Goals as goal
+use Rattle.c62_check.specs.Reason.{IsRead}
+use Rattle.c62_check.proofs.GoneOver.{not_next, none_is, is_there}
+use Rattle.c62_check.proofs.reason.first_read.Goals as goal
 
 pub returns-then-is_read : goal.returns-then-is_read
 returns-then-is_read c =

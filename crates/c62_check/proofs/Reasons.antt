@@ -23,9 +23,9 @@ use Rattle.c62_rules.specs.Dependence.{IsBound}
 use Rattle.c62_rules.specs.Dependence.IsBound.{ReadAfterWrite, WriteAfterRead, WriteAfterWrite, AfterStore, StoreAfterLoad, BeforeBranch}
 use Rattle.c62_depend.specs.Latency.{latency}
 use Rattle.c62_depend.proofs.Latencies.{greatest_from}
-use Rattle.c62_depend.specs.declared.reason.Reason.{Reason}
-use Rattle.c62_depend.specs.declared.reason.Reason.TheVariants.{Reads, Overwrites, Writes, AccessesMemory, StoresMemory, Branches}
-use Rattle.c62_depend.specs.Reason.{reason_of, place_of, AsksFor, IsRead, IsSpared, IsOverwritten, IsReason, HasOneReason}
+use Rattle.c62_check.specs.declared.reason.Reason.{Reason}
+use Rattle.c62_check.specs.declared.reason.Reason.TheVariants.{Reads, Overwrites, Writes, AccessesMemory, StoresMemory, Branches}
+use Rattle.c62_check.specs.Reason.{reason_of, place_of, AsksFor, IsRead, IsSpared, IsOverwritten, IsReason, HasOneReason}
 
 -- ---- what instructions write
 

@@ -5,8 +5,8 @@ use Rattle.c62_insn.specs.declared.insn.Insn.{Insn}
 use Rattle.c62_insn.specs.Insn.{register_writes, reads_register}
 use Rattle.c62_rules.specs.Dependence.{IsBound}
 use Rattle.c62_rules.specs.Dependence.IsBound.{ReadAfterWrite, WriteAfterRead, WriteAfterWrite, AfterStore, StoreAfterLoad, BeforeBranch}
-use Rattle.c62_depend.specs.declared.reason.Reason.{Reason}
-use Rattle.c62_depend.specs.declared.reason.Reason.TheVariants.{Reads, Overwrites, Writes, AccessesMemory, StoresMemory, Branches}
+use Rattle.c62_check.specs.declared.reason.Reason.{Reason}
+use Rattle.c62_check.specs.declared.reason.Reason.TheVariants.{Reads, Overwrites, Writes, AccessesMemory, StoresMemory, Branches}
 
 -- a case of dependence as it is told
 abbrev pub reason_of : {block : List Insn} {i j : ℕ} {p q : Insn} {bound : ℤ} → IsBound block i j p q bound → Reason

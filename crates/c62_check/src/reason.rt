@@ -1,14 +1,14 @@
 //! Why an instruction must come so many cycles behind another.
 
-ghost use Rattle.std.specs.Prelude.{◌≡◌, ◌↔◌, ◌<◌, ℕ, ℤ, List, IsTrue};
+ghost use Rattle.std.specs.Prelude.{◌≡◌, ◌↔◌, ◌<◌, ℕ, ℤ, List, IsTrue, length, Some};
 ghost use Rattle.std.specs.List.{list_any};
 ghost use Rattle.c62_insn.specs.declared.insn.Insn.{Insn as Instruction};
 ghost use Rattle.c62_insn.specs.Insn.{operand_reads, is_condition_on, reads_register};
 ghost use Rattle.c62_op.specs.Takes.{same_reg};
 ghost use Rattle.c62_rules.specs.Dependence.{IsBound};
-ghost use Rattle.c62_depend.specs.Reason.{reason_of, place_of, IsRead, IsSpared, IsBehind, IsOverwritten, FindsWrite};
+ghost use Rattle.c62_check.specs.Reason.{reason_of, place_of, IsRead, IsSpared, IsBehind, IsOverwritten, FindsWrite};
 
-use crate::plan::Plan;
+use c62_depend::Plan;
 use c62_insn::{Cond, Insn, Reg};
 
 /// What an instruction must wait for another by, with the register that both use.
@@ -137,33 +137,30 @@ fn reason_of_order(first: Insn, second: Insn) -> Reason
     }
 }
 
-impl Plan {
-    ghost use Rattle.std.specs.Prelude.{◌≡◌, ◌<◌, length, Some};
-    ghost use Rattle.c62_depend.specs.Latency.{latency};
-    ghost use Rattle.c62_depend.specs.Plan.{insns_of};
-    ghost use Rattle.c62_depend.specs.Reason.{IsReason};
+ghost use Rattle.c62_depend.specs.Latency.{latency};
+ghost use Rattle.c62_depend.specs.Plan.{insns_of};
+ghost use Rattle.c62_check.specs.Reason.{IsReason};
 
-    /// Why instruction `second` must come so many cycles behind instruction `first`, which is the latency between the two:
-    /// the first case of dependence that asks for as many (`docs/CHECK.md`, "Why an instruction comes too early").
-    pub fn reason(&self, first: u16, second: u16, cycles: i32) -> Reason
-        requires within { second < length self.now.insns }
-        requires latency { latency (insns_of self.now) first second ≡ Some cycles }
-        ensures { IsReason (insns_of self.now) first second cycles result }
-    {
-        let _all = self.len();
-        let first = self.insn(first);
-        let second = self.insn(second);
-        let writes = first.writes();
-        let others = second.writes();
-        if let Some(reg) = first_read(second, cycles, writes.as_slice()) {
-            return Reason::Reads(reg);
-        }
-        if let Some(reg) = first_spared(first, cycles, others.as_slice()) {
-            return Reason::Overwrites(reg);
-        }
-        if let Some(reg) = first_overwritten(second, cycles, writes.as_slice()) {
-            return Reason::Writes(reg);
-        }
-        reason_of_order(first, second)
+/// Why instruction `second` must come so many cycles behind instruction `first`, which is the latency between the two:
+/// the first case of dependence that asks for as many (`docs/CHECK.md`, "Why an instruction comes too early").
+pub(crate) fn reason_for(plan: &Plan, first: u16, second: u16, cycles: i32) -> Reason
+    requires within { second < length plan.now.insns }
+    requires latency { latency (insns_of plan.now) first second ≡ Some cycles }
+    ensures { IsReason (insns_of plan.now) first second cycles result }
+{
+    let _all = plan.len();
+    let first = plan.insn(first);
+    let second = plan.insn(second);
+    let writes = first.writes();
+    let others = second.writes();
+    if let Some(reg) = first_read(second, cycles, writes.as_slice()) {
+        return Reason::Reads(reg);
     }
+    if let Some(reg) = first_spared(first, cycles, others.as_slice()) {
+        return Reason::Overwrites(reg);
+    }
+    if let Some(reg) = first_overwritten(second, cycles, writes.as_slice()) {
+        return Reason::Writes(reg);
+    }
+    reason_of_order(first, second)
 }
