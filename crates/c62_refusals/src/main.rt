@@ -1,6 +1,7 @@
 //! The program c62_refusals: makes a call of c62's crates on a text, and again where memory was refused.
 //!
-//! Its words are the call, the name of the text, and for `schedule` the most turns of a worker and the most ejections. It prints
+//! Its words are the call, the name of the text, and for `worker` and `schedule` the most turns of a worker, for `schedule` also
+//! the most ejections. It prints
 //! a number that stands for the answer; `again` on standard error where that is the answer to the second call; and `changed`,
 //! with status 1, where a refused call left something else than before. Status 3 means that memory was refused to what the call
 //! is made on, or to both calls, and that all stayed as it was.
@@ -18,6 +19,7 @@ mod telling;
 mod texts;
 mod turning;
 mod twice;
+mod working;
 
 use c62_work::Options;
 use std::alloc::Global;
@@ -73,7 +75,8 @@ fn made<R: AllocGlobal + Threads + Wait + Sync>(
         "desk_of" => sharing::opens(rt, rt.alloc(), text),
         "Desk::step" => sharing::steps(rt, rt.alloc(), text),
         "Desk::commit" => sharing::commits(rt, rt.alloc(), text),
-        "schedule" => sharing::schedules(rt, rt.alloc(), text, options),
+        "worker" => working::works(rt, rt.alloc(), text, options.turns),
+        "schedule" => working::schedules(rt, rt.alloc(), text, options),
         _ => alone(rt.alloc(), call, text),
     }
 }

@@ -1,20 +1,18 @@
-//! Calls on desks, and schedules by two workers.
+//! Calls on desks.
 
 ghost use Rattle.std.specs.Prelude.{◌≡◌, None};
 ghost use Rattle.c62_refusals.specs.Twice.{if_published};
 
 use crate::answer::{answered, taken};
-use crate::given::{begun_board, plan_of};
+use crate::given::begun_board;
 use crate::placing::{proposed, side_of};
 use crate::twice::{Came, twice, twice_on};
 use c62_board::{Board, Who};
 use c62_insn::Side;
 use c62_seen::look_at;
 use c62_view::{Desk, DeskFault, desk_of};
-use c62_work::{FreeGate, Options, schedule};
 use std::alloc::Global;
 use std::sync::Wait;
-use std::thread::Threads;
 
 /// Opens a desk of the board, or puts it back.
 fn open_desk<R: Wait>(rt: &R, alloc: Global, board: &mut Option<Board>) -> Option<u64>
@@ -80,20 +78,5 @@ pub(crate) fn commits<R: Wait>(rt: &R, alloc: Global, text: &str) -> Option<Came
             Ok((spot, _)) => Some(look_at(&(spot, desk.board()))),
             Err(fault) => answered(&Result::<(), c62_board::CommitFault>::Err(fault), &()),
         }
-    })
-}
-
-/// Schedules by two workers. The board is complete, and of the plan. How it comes about depends on how the turns of its workers
-/// fall.
-pub(crate) fn schedules<R: Threads + Wait + Sync>(
-    rt: &R,
-    alloc: Global,
-    text: &str,
-    options: Options,
-) -> Option<Came> {
-    twice(plan_of(alloc, text)?, |plan| {
-        let given = plan.copy(alloc).ok()?;
-        let board = schedule(rt, alloc, given, options, &FreeGate).ok()?;
-        Some(look_at(&(board.complete(), board.plan().same(plan))))
     })
 }

@@ -16,6 +16,16 @@ const BRANCHING: &str =
 const STORING: &str =
     "SHL .S1 A6,16,A7\nOR .L1 A6,A7,A6\nWORD: LDW .D1T1 *A4++,A5\nMPYU .M1 A5,A6,A7\nMPYHU .M1 A5,A6,A8\nSHRU .S1 A7,16,A7\nADD .L1 A7,A8,A8\nSTW .D2T1 A8,*B4++\nSUB .D1 A1,1,A1\n[A1] B .S2 WORD\n";
 
+/// The first example: three instructions, of which the last needs the other two.
+const SUM: &str = "MVK 5,A1\nMVK 7,A2\nADD A1,A2,A3\n";
+
+/// A block of six in which an ejection withdraws two instructions.
+const SIX: &str =
+    "LDW *B4,B5\nADD B2,A2,B3\nADD A1,B1,A3\nADD A3,A3,A4\nMPY A5,B1,A2\nMPY A2,A2,A6\n";
+
+/// A loop that counts A1 down.
+const LOOPING: &str = "L1: SUB A1,1,A1\n[A1] B L1\n";
+
 /// The text of this name.
 pub(crate) fn text_of(name: &str) -> Option<&'static str>
     ensures { option_copied result ≡ text_named name.now }
@@ -24,6 +34,9 @@ pub(crate) fn text_of(name: &str) -> Option<&'static str>
         "ejecting" => Some(EJECTING),
         "branching" => Some(BRANCHING),
         "storing" => Some(STORING),
+        "sum" => Some(SUM),
+        "six" => Some(SIX),
+        "looping" => Some(LOOPING),
         _ => None,
     }
 }

@@ -1,4 +1,5 @@
 pub mod Schedules
+pub mod SideBySide
 pub mod Answering
 pub mod Known
 pub mod FirstLine

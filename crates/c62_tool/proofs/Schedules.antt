@@ -1,5 +1,5 @@
 -- The packets of a program's blocks.
-use Rattle.std.proofs.Common.{◌≡◌, ◌∙◌, ℕ, zero, suc, ◌+◌, ◌<◌, ◌≤◌, true, List, [], ◌∷◌, ◌++◌, length, take, drop, take-append-drop, Option, Some, refl, sym, ap, subst, arith}
+use Rattle.std.proofs.Common.{◌≡◌, ◌∙◌, ℕ, zero, suc, ◌+◌, ◌<◌, ◌≤◌, true, List, [], ◌∷◌, ◌++◌, length, Option, Some, refl, sym, ap, subst, arith}
 use Rattle.std.specs.Prelude.{slice_get, All}
 use Rattle.std.specs.List.{list_all}
 use Rattle.std.proofs.lemmas.List.{length-append}
@@ -25,7 +25,7 @@ use Rattle.c62_pack.specs.Packets.{AreNumbered, ArePackets}
 use Rattle.c62_command.specs.declared.command.Packing.{Packing}
 use Rattle.c62_show.specs.declared.shown.Shown.{Shown}
 use Rattle.c62_show.specs.Limits.{AreLimits}
-use Rattle.c62_tool.specs.Schedule.{AddsPackets, AddsShown, AreScheduled, AreShown, IsMade, IsScheduled, IsShown}
+use Rattle.c62_tool.specs.Schedule.{AddsPackets, AreScheduled, AreShown, IsMade, IsScheduled, IsShown, IsShownOf}
 
 -- one block more
 pub scheduled_more : (packing : Packing) (blocks : List Serial) (packets : List Packed) (block : Serial) (packed : Packed) → AreScheduled packing blocks packets
@@ -53,22 +53,6 @@ scheduled_next packing blocks packets new block board all made pushed =
     let one = scheduled_one packing block board pushed.0 made pushed.1 pushed.2 pushed.3 in
     subst (λ (whole : List Packed). AreScheduled packing (blocks ++ block ∷ []) whole) (sym pushed.4) (scheduled_more packing blocks packets block pushed.0 all one)
 
--- the blocks of one list, and then those of another
-pub scheduled_both : (packing : Packing) (blocks others : List Serial) (packets rest : List Packed) → AreScheduled packing blocks packets → AreScheduled packing others rest
-    → AreScheduled packing (blocks ++ others) (packets ++ rest)
-scheduled_both packing [] others [] rest all more = more
-scheduled_both packing [] others (q ∷ packets) rest all more = absurd all
-scheduled_both packing (b ∷ blocks) others [] rest all more = absurd all
-scheduled_both packing (b ∷ blocks) others (q ∷ packets) rest all more = (all.0, scheduled_both packing blocks others packets rest all.1 more)
-
--- the blocks of a list, cut in two
-pub scheduled_halves : (packing : Packing) (all low high : List Serial) (at : ℕ) (front back packets : List Packed) → low ≡ take at all → high ≡ drop at all
-    → packets ≡ front ++ back → AreScheduled packing low front → AreScheduled packing high back → AreScheduled packing all packets
-scheduled_halves packing all low high at front back packets begin end whole first second =
-    let blocks : low ++ high ≡ all = ap (λ (l : List Serial). l ++ high) begin ∙ ap (λ (l : List Serial). take at all ++ l) end ∙ take-append-drop at all in
-    subst (λ (l : List Serial). AreScheduled packing l packets) blocks
-    (subst (λ (l : List Packed). AreScheduled packing (low ++ high) l) (sym whole) (scheduled_both packing low high front back first second))
-
 -- what is shown of one block more
 pub shown_more : (packing : Packing) (blocks : List Serial) (shown : List Shown) (block : Serial) (one : Shown) → AreShown packing blocks shown
     → IsShown packing block one → AreShown packing (blocks ++ block ∷ []) (shown ++ one ∷ [])
@@ -77,16 +61,13 @@ shown_more packing [] (q ∷ shown) block one all is = absurd all
 shown_more packing (b ∷ blocks) [] block one all is = absurd all
 shown_more packing (b ∷ blocks) (q ∷ shown) block one all is = (all.0, shown_more packing blocks shown block one all.1 is)
 
--- what is shown of one block more was appended
-pub shown_next : (packing : Packing) (blocks : List Serial) (shown new : List Shown) (block : Serial) (board : BoardState) → AreShown packing blocks shown
-    → IsMade packing block board → AddsShown board.plan board.spots shown new → AreShown packing (blocks ++ block ∷ []) new
-shown_next packing blocks shown new block board all made pushed =
-    let one : Shown = pushed.0 in
-    let is : IsShown packing block one = record {
-      scheduled = scheduled_one packing block board one.packets made pushed.1 pushed.2 pushed.3;
-      limits = subst (λ (plan : Serial). AreLimits plan one.limits) made.plan_is pushed.4;
-    } in
-    subst (λ (whole : List Shown). AreShown packing (blocks ++ block ∷ []) whole) (sym pushed.5) (shown_more packing blocks shown block one all is)
+-- what is shown of a board that was made for a block
+pub shown_one : (packing : Packing) (block : Serial) (board : BoardState) (shown : Shown) → IsMade packing block board → IsShownOf board.plan board.spots shown
+    → IsShown packing block shown
+shown_one packing block board shown made is = record {
+  scheduled = scheduled_one packing block board shown.packets made is.packets is.serial is.keeps;
+  limits = subst (λ (plan : Serial). AreLimits plan shown.limits) made.plan_is is.limits;
+}
 
 -- as many blocks as before
 pub as_many : (packing : Packing) (blocks : List Serial) (packets : List Packed) → AreScheduled packing blocks packets → length packets ≡ length blocks

@@ -60,11 +60,12 @@ pub record IsShown (packing : Packing) (block : Serial) (shown : Shown) : Type 0
   pub scheduled : IsScheduled packing block shown.packets
   pub limits : AreLimits block shown.limits
 
--- what is shown of the packets of these spots stands behind the others
-abbrev pub AddsShown : Serial → Spots → List Shown → List Shown → Type 0
-AddsShown block spots old new =
-    (shown : Shown) × ArePackets block spots shown.packets × AreSerial block.insns shown.packets.placed × IsBlockPacked block shown.packets
-    × AreLimits block shown.limits × (new ≡ old ++ shown ∷ [])
+-- what is shown of the packets of these spots
+pub record IsShownOf (block : Serial) (spots : Spots) (shown : Shown) : Type 0 where
+  pub packets : ArePackets block spots shown.packets
+  pub serial : AreSerial block.insns shown.packets.placed
+  pub keeps : IsBlockPacked block shown.packets
+  pub limits : AreLimits block shown.limits
 
 -- block by block
 abbrev pub AreShown : Packing → List Serial → List Shown → Type 0

@@ -50,3 +50,5 @@ mod adopt_tests;
 mod show_tests;
 #[cfg(test)]
 mod tests;
+#[cfg(test)]
+mod worker_tests;

@@ -7,7 +7,7 @@ ghost use Rattle.c62_depend.specs.Plan.{insns_of};
 ghost use Rattle.c62_board.specs.State.{IsSound};
 ghost use Rattle.c62_read.specs.declared.limits.TheConstants.{MOST_BLOCKS};
 ghost use Rattle.c62_packet.specs.Packets.{is_closed};
-ghost use Rattle.c62_tool.specs.Schedule.{AreScheduled, AddsPackets, AddsShown, AreShown, IsMade, IsScheduled, IsTurned};
+ghost use Rattle.c62_tool.specs.Schedule.{AreScheduled, AddsPackets, AreShown, IsMade, IsScheduled, IsShown, IsShownOf, IsTurned};
 
 use c62_board::{Board, Turn};
 use c62_command::Packing;
@@ -17,16 +17,20 @@ use c62_packet::{PacketBlock, Packets};
 use c62_read::{Block, Program};
 use c62_show::{Shown, limits_of};
 use c62_work::{FreeGate, Options, finish, schedule, turns};
+use rayon::current_num_threads;
+use rayon::prelude::*;
 use std::alloc::{AllocError, Global};
 use std::sync::Wait;
-use std::thread::{Threads, join};
+use std::thread::Threads;
 
 /// The most turns of a worker.
 const WORKER_TURNS: u32 = 100_000;
 
-/// How many blocks are packed at once, at most, each by two workers. A worker that waits for the other one leaves its
-/// processor to those of other blocks.
-const RUNS: u32 = 8;
+/// How much there is to place in a run of blocks at least, which is what another thread is worth.
+const LEAST_WORK: usize = 256;
+
+/// As how many instructions each block counts, for the thread that its workers want.
+const WORK_OF_A_BLOCK: usize = 16;
 
 fn plan_of(alloc: Global, block: Block) -> Result<Plan, AllocError>
     ensures { IfOk result (λ plan. plan ≡ block) }
@@ -113,6 +117,24 @@ pub fn packets_by_turns(
     Ok(packets)
 }
 
+/// How much there is to place in these blocks.
+fn work_of(blocks: &[Block]) -> usize {
+    let mut work = 0usize;
+    for block in blocks {
+        work = work.saturating_add(block.insns().len().saturating_add(WORK_OF_A_BLOCK));
+    }
+    work
+}
+
+/// How many blocks a run has at least, so that there is enough to place in it: all of them where there is one processor.
+fn least_run<R: Threads>(rt: &R, blocks: &[Block]) -> usize {
+    if current_num_threads(rt) < 2 {
+        return blocks.len();
+    }
+    let runs = (work_of(blocks) / LEAST_WORK).max(1);
+    blocks.len().div_ceil(runs)
+}
+
 /// The packets of a block, packed by workers.
 fn packets_of_block<R: Threads + Wait + Sync>(
     rt: &R,
@@ -127,55 +149,26 @@ fn packets_of_block<R: Threads + Wait + Sync>(
     Ok(packets_of(alloc, &board)?)
 }
 
-/// The packets of blocks, one block after the other.
-fn packed_in_order<R: Threads + Wait + Sync>(
-    rt: &R,
-    alloc: Global,
-    blocks: Vec<Block>,
-    packing: Packing,
-) -> Result<Vec<PacketBlock>, AllocError>
-    requires { packing.turns ≡ false }
-    ensures { IfOk result (λ made. AreScheduled packing blocks.items made.items) }
-{
-    let mut made = Vec::new(alloc);
-    for block in blocks {
-        let packed = packets_of_block(rt, alloc, block, packing)?;
-        made.push(packed)?;
-    }
-    Ok(made)
-}
-
-/// The packets of blocks, in their order. They are parted into so many runs at most, which are packed side by side.
-#[cycle(runs)]
+/// The packets of blocks, in their order. The blocks are parted into runs, which are packed side by side.
 fn packed_side_by_side<R: Threads + Wait + Sync>(
     rt: &R,
     alloc: Global,
     blocks: Vec<Block>,
-    runs: u32,
     packing: Packing,
 ) -> Result<Vec<PacketBlock>, AllocError>
     requires { packing.turns ≡ false }
     ensures { IfOk result (λ made. AreScheduled packing blocks.items made.items) }
 {
-    if runs < 2 || blocks.len() < 2 {
-        return packed_in_order(rt, alloc, blocks, packing);
-    }
-    let mut low = blocks;
-    let high = low.split_off(low.len() / 2)?;
-    let half = runs / 2;
-    let front = move || -> Result<Vec<PacketBlock>, AllocError>
+    let least = least_run(rt, &blocks);
+    let pack = move |block: Block| -> Result<PacketBlock, AllocError>
         requires { IsSync R.row × (packing.turns ≡ false) }
-        ensures { IfOk result (λ made. AreScheduled packing low.items made.items) }
-    { packed_side_by_side(rt, alloc, low, half, packing) };
-    let back = move || -> Result<Vec<PacketBlock>, AllocError>
-        requires { IsSync R.row × (packing.turns ≡ false) }
-        ensures { IfOk result (λ made. AreScheduled packing high.items made.items) }
-    { packed_side_by_side(rt, alloc, high, half, packing) };
-    let (first, second) = join(rt, front, back);
-    let mut all = first?;
-    let mut rest = second?;
-    all.append(&mut rest)?;
-    Ok(all)
+        ensures { IfOk result (IsScheduled packing block) }
+    { packets_of_block(rt, alloc, block, packing) };
+    blocks
+        .into_par_iter()
+        .with_min_len(least)
+        .map(pack)
+        .collect::<Result<Vec<PacketBlock>, AllocError>>(rt, alloc)?
 }
 
 /// These packets, as those of a program.
@@ -204,20 +197,19 @@ pub fn packets_by_workers<H: AllocGlobal + Threads + Wait + Sync>(
     ensures closed { IfOk result (λ packets. IsTrue (is_closed packets)) }
 {
     let blocks = program.into_blocks();
-    let made = packed_side_by_side(rt, rt.alloc(), blocks, RUNS, packing)?;
+    let made = packed_side_by_side(rt, rt.alloc(), blocks, packing)?;
     Ok(gathered(rt.alloc(), made)?)
 }
 
-/// Appends what is shown of a complete board.
-fn push_shown(alloc: Global, shown: &mut Vec<Shown>, board: &Board) -> Result<(), AllocError>
+/// What is shown of a complete board.
+fn shown_of(alloc: Global, board: &Board) -> Result<Shown, AllocError>
     requires { IsComplete (insns_of board.now.plan) board.now.spots }
-    ensures { OnOk result (AddsShown board.now.plan board.now.spots shown.old.items shown.new.items) }
+    ensures { IfOk result (IsShownOf board.now.plan board.now.spots) }
 {
-    shown.push(Shown {
+    Ok(Shown {
         limits: limits_of(alloc, board.plan())?,
         packets: packets_of(alloc, board)?,
-    })?;
-    Ok(())
+    })
 }
 
 /// What is shown of a program's blocks, packed by turns. `AllocError` where memory ran out.
@@ -232,9 +224,47 @@ pub fn shown_by_turns(
     let mut shown = Vec::new(alloc);
     for block in program.into_blocks() {
         let board = board_by_turns(alloc, block, packing)?;
-        push_shown(alloc, &mut shown, &board)?;
+        let one = shown_of(alloc, &board)?;
+        shown.push(one)?;
     }
     Ok(shown)
+}
+
+/// What is shown of a block, packed by workers.
+fn shown_of_block<R: Threads + Wait + Sync>(
+    rt: &R,
+    alloc: Global,
+    block: Block,
+    packing: Packing,
+) -> Result<Shown, AllocError>
+    requires { packing.turns ≡ false }
+    ensures { IfOk result (IsShown packing block) }
+{
+    let board = board_by_workers(rt, alloc, block, packing)?;
+    let shown = shown_of(alloc, &board)?;
+    Ok(shown)
+}
+
+/// What is shown of blocks, in their order. They are packed as [`packed_side_by_side`] does.
+fn shown_side_by_side<R: Threads + Wait + Sync>(
+    rt: &R,
+    alloc: Global,
+    blocks: Vec<Block>,
+    packing: Packing,
+) -> Result<Vec<Shown>, AllocError>
+    requires { packing.turns ≡ false }
+    ensures { IfOk result (λ shown. AreShown packing blocks.items shown.items) }
+{
+    let least = least_run(rt, &blocks);
+    let show = move |block: Block| -> Result<Shown, AllocError>
+        requires { IsSync R.row × (packing.turns ≡ false) }
+        ensures { IfOk result (IsShown packing block) }
+    { shown_of_block(rt, alloc, block, packing) };
+    blocks
+        .into_par_iter()
+        .with_min_len(least)
+        .map(show)
+        .collect::<Result<Vec<Shown>, AllocError>>(rt, alloc)?
 }
 
 /// What is shown of a program's blocks, packed by workers. `AllocError` where memory ran out.
@@ -246,10 +276,5 @@ pub fn shown_by_workers<H: AllocGlobal + Threads + Wait + Sync>(
     requires { packing.turns ≡ false }
     ensures { IfOk result (λ shown. AreShown packing program shown.items) }
 {
-    let mut shown = Vec::new(rt.alloc());
-    for block in program.into_blocks() {
-        let board = board_by_workers(rt, rt.alloc(), block, packing)?;
-        push_shown(rt.alloc(), &mut shown, &board)?;
-    }
-    Ok(shown)
+    shown_side_by_side(rt, rt.alloc(), program.into_blocks(), packing)
 }
