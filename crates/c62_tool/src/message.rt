@@ -22,6 +22,7 @@ impl fmt::Display for Failure {
             Failure::Unread(fault) => writeln!(f, "{fault}"),
             Failure::Unlisted(fault) => writeln!(f, "{fault}"),
             Failure::Unadopted(fault) => writeln!(f, "{fault}"),
+            Failure::Unflown(fault) => writeln!(f, "{fault}"),
             Failure::TextPart(fault) => writeln!(f, "text {fault}"),
             Failure::ListingPart(fault) => writeln!(f, "listing {fault}"),
             Failure::NoListing => writeln!(f, "text line 0: NoListing"),
