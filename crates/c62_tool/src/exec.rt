@@ -1,6 +1,6 @@
 //! Runs of packets with everything in flight, and their reports.
 
-ghost use Rattle.std.specs.Prelude.{IfOk, option_map};
+ghost use Rattle.std.specs.Prelude.{◌≡◌, IfOk, option_map};
 ghost use Rattle.std.specs.Option.{option_copied};
 ghost use Rattle.c62_flight.specs.Text.{IsIssuable};
 ghost use Rattle.c62_rows.specs.Rows.{text_of};
