@@ -1,3 +1,4 @@
+use Rattle.std.proofs.Common.{◌≡◌}
 use Rattle.std.proofs.lemmas.Result.{err_from_is_err_and}
 use Rattle.std.specs.Prelude.{option_map}
 use Rattle.std.specs.Option.{option_copied}
@@ -18,5 +19,6 @@ returns-in_err-begun c =
 pub returns : goal.returns
 returns c =
     let start = c.args.start.now in
+    let same : c.deref.result.now ≡ start.settings.items = c.deref.ensures.value in
     flight_text start.cycles (option_copied c.name_of.result) (option_map (λ name. name.items) start.from) start.settings.items c.args.text.now
-    c.in_ok-flown.field-0.items c.in_ok-begun.begun c.name_of.ensures c.in_ok-begun.ensures c.in_ok-flown.ensures
+    c.in_ok-flown.field-0.items c.in_ok-begun.begun c.name_of.ensures c.in_ok-begun.ensures (rw same at c.in_ok-flown.ensures)
