@@ -57,7 +57,10 @@ fn workers_do_the_work(rt: HostRuntime) -> Result<(), Fail> {
         are_alike(&rt, &["run"], &["run", "--turns"], text);
     }
     let ran = run_on_bytes(&rt, &["run"], MULTIPLIES.as_bytes());
-    assert_eq!(rt; ran.output.as_slice(), b"blocks 1\ncycles 7\nexit end\n");
+    assert_eq!(rt;
+        ran.output.as_slice(),
+        "blocks 1\ncycles 7\nexit end\n".as_bytes()
+    );
     Ok(())
 }
 
