@@ -32,7 +32,7 @@ with_one n k reg other is = by_test (same_reg reg other) refl
         both_ways (same_reg reg other) e one) in
         rw (bit_at_set_other w32 n k within (register_index other) apart) (grind (arith, nat_tests))
 
-reg_at : (k : ℕ) → k < 32 → (reg : Reg) × (register_index reg ≡ k)
+pub reg_at : (k : ℕ) → k < 32 → (reg : Reg) × (register_index reg ≡ k)
 reg_at k low = elim (cases_lt k 16) [
   | inl few ↦ (record { side = A; number = k; in_range = few }, omega arith)
   | inr many ↦ (record { side = B; number = k - 16; in_range = omega arith }, omega arith)

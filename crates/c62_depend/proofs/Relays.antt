@@ -245,7 +245,7 @@ orders_of block i j h =
     both_at (Some p) (Some q) at_i at_j h free = order_of block i j p q at_i at_j h free
 
 -- a number of a range that a test finds
-found_in : (test : ℕ → Bool) (low count : ℕ) → list_any test (range_with_len low count) ≡ true
+pub found_in : (test : ℕ → Bool) (low count : ℕ) → list_any test (range_with_len low count) ≡ true
     → (k : ℕ) × (low ≤ k) × (k < low + count) × (test k ≡ true)
 found_in test low zero h = cc
 found_in test low (suc count) h = elim (or_cases (test low) (list_any test (range_with_len (low + 1) count)) h) [

@@ -58,11 +58,11 @@ increasing_from low (x ∷ y ∷ links) r (suc k) within =
     rw next (increasing_from (x.number + 1) (y ∷ links) r.1 k (omega arith))
 
 -- a dependence that these latencies tell
-abbrev Tells : (ℕ → Option ℤ) → Link → Type 0
+abbrev pub Tells : (ℕ → Option ℤ) → Link → Type 0
 Tells o link = o link.number ≡ Some link.latency
 
 -- all dependences with the numbers of a range
-pieces_are : (o : ℕ → Option ℤ) (a n : ℕ) → ((k : ℕ) (l : ℤ) → o k ≡ Some l → (a ≤ k) × (k < a + n))
+pub pieces_are : (o : ℕ → Option ℤ) (a n : ℕ) → ((k : ℕ) (l : ℤ) → o k ≡ Some l → (a ≤ k) × (k < a + n))
     → AreLinks (Tells o) (flat_map (λ k. linked k (o k)) (range_with_len a n))
 pieces_are o a n within = record {
   all = pieces-all (Tells o) (λ k. linked k (o k)) a n (λ k low high. linked-all (Tells o) k (o k) (λ l e. e));

@@ -8,7 +8,7 @@ use c62_insn::{AddressForm, Insn, Offset, Operands, Reg};
 /// The bytes that an access with a constant offset covers, counted from 124 bytes before its base: no offset reaches
 /// farther.
 #[derive(Clone, Copy)]
-pub(crate) struct Covered {
+pub struct Covered {
     pub base: Reg,
     begin: u8,
     size: u8,

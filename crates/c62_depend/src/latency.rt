@@ -17,7 +17,7 @@ use crate::uses::Uses;
 
 /// The bound that a number stands for, if any.
 #[inline(always)]
-pub(crate) fn as_bound(number: u8) -> Option<i32>
+pub fn as_bound(number: u8) -> Option<i32>
     ensures { result ≡ as_bound number }
 {
     if number == 0 {
@@ -121,7 +121,7 @@ fn before_branch(first: &Uses, second: &Uses) -> u8
 }
 
 /// The greatest bound of the cases of registers.
-fn by_registers(exclusive: bool, first: &Uses, second: &Uses) -> u8
+pub fn by_registers(exclusive: bool, first: &Uses, second: &Uses) -> u8
     ensures { result ≡ number_of_registers exclusive first.now second.now }
 {
     greater(
@@ -134,7 +134,7 @@ fn by_registers(exclusive: bool, first: &Uses, second: &Uses) -> u8
 }
 
 /// The greatest bound of the other cases.
-fn by_cases_of_order(disjoint: bool, first: &Uses, second: &Uses) -> u8
+pub fn by_cases_of_order(disjoint: bool, first: &Uses, second: &Uses) -> u8
     ensures { result ≡ number_of_order disjoint first.now.insn second.now.insn }
 {
     greater(

@@ -17,9 +17,14 @@ mod side;
 mod tables;
 mod uses;
 
+pub use covered::Covered;
+pub use latency::{as_bound, by_cases_of_order, by_registers};
 pub use limits::ISSUE_CYCLES;
-pub use links::Link;
+pub use links::{Link, Links};
 pub use plan::Plan;
+pub use reg_set::RegSet;
+pub use tables::all_uses;
+pub use uses::Uses;
 
 #[cfg(test)]
 mod tests;

@@ -26,7 +26,7 @@ pub struct Link {
 }
 
 /// The dependences of one instruction. Most have few.
-pub(crate) type Links = SmallVec<Link, 8>;
+pub type Links = SmallVec<Link, 8>;
 
 /// Room to gather the dependences of one instruction: at most one for each instruction of a block.
 type Gathered = [Link; MOST_INSTRUCTIONS];

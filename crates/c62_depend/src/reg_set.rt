@@ -8,8 +8,8 @@ use c62_insn::Reg;
 
 /// A set of registers.
 #[derive(Clone, Copy)]
-pub(crate) struct RegSet {
-    bits: u32,
+pub struct RegSet {
+    pub bits: u32,
     pub ghost within: { bits < 2 ^ 32 },
 }
 

@@ -22,7 +22,8 @@ pub(crate) struct Tables {
     pub choices: Vec<UnitChoice>,
 }
 
-fn all_uses(alloc: Global, insns: &[SerialInsn]) -> Result<Vec<Uses>, AllocError>
+/// What each of these instructions uses, in their order.
+pub fn all_uses(alloc: Global, insns: &[SerialInsn]) -> Result<Vec<Uses>, AllocError>
     ensures { IfOk result (λ uses. insns_in uses.items ≡ unnumbered insns.now) }
 {
     let mut uses = Vec::with_capacity(alloc, insns.len())?;

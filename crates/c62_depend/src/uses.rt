@@ -18,7 +18,7 @@ use c62_insn::{Cond, Insn, Reg};
 
 /// An instruction, with what its dependences ask of it at hand.
 #[derive(Clone, Copy)]
-pub(crate) struct Uses {
+pub struct Uses {
     pub insn: Insn,
     /// The registers that are read, as operands or as the condition.
     pub reads: RegSet,
