@@ -67,6 +67,13 @@ class State:
 
     def report(self, blocks, ending="end"):
         yield f"blocks {blocks}"
+        yield from self.ended(ending)
+
+    def flight(self, cycles, ending="end"):
+        yield f"cycles {cycles}"
+        yield from self.ended(ending)
+
+    def ended(self, ending):
         yield f"exit {ending}"
         for name in NAMES:
             value = self.registers.get(name, 0) % 2**32
@@ -630,6 +637,53 @@ def noise():
     return start, start.then(A1=bit, A4=word), LIMIT, "limit"
 
 
+def exec_dot():
+    x = [3, -1, 32767, -32768, -12345, 20000, -7, 30001, 5, -6, 255, 16384, -28672, 77, 1, -1, -20001, 9, 0, 12, 4, -32768]
+    y = [-5, -32768, 32767, -32768, 23456, -20001, 9, -30002, 7, -256, 3, 32767, 11, -13, 17, 19, 2, -2, 3000, 1, -8, -32768]
+    pairs = len(x) // 2
+    start = State(A1=pairs, A4=0x100, A7=1, B3=0x2000, B4=0x200, B7=1).halves(0x100, x).halves(0x200, y)
+    products = [a * b for a, b in zip(x, y)]
+    end = start.then(
+        A1=0,
+        A2=pack(x[-1], x[-2]),
+        A4=sum(products),
+        A6=products[-2],
+        A7=sum(products[0::2]),
+        B2=pack(y[-1], y[-2]),
+        B4=0x200 + 4 * pairs,
+        B6=products[-1],
+        B7=sum(products[1::2]),
+    )
+    return start, end, 1 + pairs + 7 + 1, f"register {0x2000:08x}"
+
+
+def exec_scale():
+    x = [5, -6, 32767, -32768, -12345, 20000, -7, 30001, -1]
+    behind = [11, -12, 13, -14, 15, -16, 17, -18]
+    factor = -23456
+    n = len(x)
+    start = State(A1=n + 2, A4=0x300, B0=1, B5=0x400, B6=factor).halves(0x300, x + behind)
+    end = start.then(
+        A1=0,
+        A4=0x300 + 2 * (n + 8),
+        A5=behind[7],
+        B0=0,
+        B5=0x400 + 2 * n,
+        B7=behind[2] * factor,
+        B8=behind[0] * factor >> 15,
+    ).halves(0x400, [value * factor >> 15 for value in x])
+    return start, end, 5 + n + 8
+
+
+def exec_calls():
+    a, b = -30001, 255
+    start = State(A4=a, A5=b, B5=0x2000)
+    return start, start.then(A4=a * a + b * b, A6=a * a, B3=0x80000100), 31, f"register {0x2000:08x}"
+
+
+# the kernels that run with everything in flight: the text NAME.asm of examples/exec for each function exec_NAME
+FLIGHTS = [exec_dot, exec_scale, exec_calls]
+
 KERNELS = [
     first,
     dot,
@@ -664,6 +718,11 @@ def files():
         start, end, *ran = kernel()
         for suffix, lines in ("settings", start.settings()), ("report", end.report(*ran)):
             yield EXAMPLES / f"{kernel.__name__}.{suffix}", "".join(line + "\n" for line in lines).encode()
+    for kernel in FLIGHTS:
+        start, end, *ran = kernel()
+        name = kernel.__name__.removeprefix("exec_")
+        for suffix, lines in ("settings", start.settings()), ("report", end.flight(*ran)):
+            yield EXAMPLES / "exec" / f"{name}.{suffix}", "".join(line + "\n" for line in lines).encode()
 
 
 if sys.argv[1:] == ["--check"]:

@@ -19,7 +19,7 @@ use Rattle.c62_command.specs.declared.command.Packing.{Packing}
 use Rattle.c62_command.specs.declared.command.CommandError.{CommandError}
 use Rattle.c62_command.specs.declared.command.CommandError.TheVariants as refused
 use Rattle.c62_command.specs.declared.command.Request.{Request}
-use Rattle.c62_command.specs.declared.command.Request.TheVariants.{Pack, Show, Run, Serial, Sim, Adopt, Check}
+use Rattle.c62_command.specs.declared.command.Request.TheVariants.{Pack, Show, Run, Serial, Sim, Exec, Adopt, Check}
 use Rattle.c62_command.specs.Settings.{settings_of, IsFirstBad}
 
 -- ---- what clap takes
@@ -39,6 +39,14 @@ eject_rule = record (new_rule (codes "eject")) { long = Some (codes "eject"); va
 -- `--blocks N`, from 1 to 1,000,000
 abbrev pub blocks_rule : Rule
 blocks_rule = record (new_rule (codes "blocks")) { long = Some (codes "blocks"); value_names = 1; parser = Some (Signed (pos 1) (pos 1000000)) }
+
+-- `--cycles N`, from 1 to 1,000,000,000
+abbrev pub cycles_rule : Rule
+cycles_rule = record (new_rule (codes "cycles")) { long = Some (codes "cycles"); value_names = 1; parser = Some (Signed (pos 1) (pos 1000000000)) }
+
+-- `--from NAME`
+abbrev pub from_rule : Rule
+from_rule = record (new_rule (codes "from")) { long = Some (codes "from"); value_names = 1 }
 
 -- `--drain`
 abbrev pub drain_rule : Rule
@@ -74,6 +82,10 @@ serial_app = with_start (new_app (codes "serial"))
 abbrev pub sim_app : App
 sim_app = with_start (new_app (codes "sim"))
 
+-- `exec [--cycles N] [--from NAME] [SETTING]..`
+abbrev pub exec_app : App
+exec_app = with_rule (with_rule (with_rule (new_app (codes "exec")) cycles_rule) from_rule) settings_rule
+
 -- `adopt [--drain]`
 abbrev pub adopt_app : App
 adopt_app = with_rule (new_app (codes "adopt")) drain_rule
@@ -95,7 +107,7 @@ packing_app = with_subcommand listing_app run_app.top
 
 -- the subcommands that pack or run
 abbrev pub running_app : App
-running_app = with_subcommand (with_subcommand packing_app serial_app.top) sim_app.top
+running_app = with_subcommand (with_subcommand (with_subcommand packing_app serial_app.top) sim_app.top) exec_app.top
 
 -- the whole command line: exactly one subcommand
 abbrev pub tool_app : App
@@ -114,6 +126,9 @@ pub data Ask : Type 0 where
   PacketReport : Packing → (blocks : ℕ) → List Setting → Ask
   -- the report of such a run of the packets that a listing says
   ListingReport : (blocks : ℕ) → List Setting → Ask
+  -- the report of a run of at most so many cycles of a text of packets, from the row of this label on or the first, from a state
+  -- with these settings
+  FlightReport : (cycles : ℕ) → (from : Option Text) → List Setting → Ask
   -- the listing of a text of packets, with the cycles added that lack in it or without them
   Adoption : (drain : Bool) → Ask
   -- what each block of a listing is, held against a text
@@ -125,6 +140,7 @@ ask_of (Show packing) = Picture packing
 ask_of (Run packing start) = PacketReport packing start.blocks start.settings.items
 ask_of (Serial start) = SerialReport start.blocks start.settings.items
 ask_of (Sim start) = ListingReport start.blocks start.settings.items
+ask_of (Exec start) = FlightReport start.cycles (option_map (λ name. name.items) start.from) start.settings.items
 ask_of (Adopt drain) = Adoption drain
 ask_of Check = Verdicts
 
@@ -146,6 +162,10 @@ number_of bits option default rows = unwrap_or (option_and_then (number_written 
 -- the limit of blocks: 1,000 where none is given
 abbrev pub blocks_of : List Row → ℕ
 blocks_of rows = number_of 32 (codes "blocks") 1000 rows
+
+-- the limit of cycles: 1,000,000 where none is given
+abbrev pub cycles_of : List Row → ℕ
+cycles_of rows = number_of 32 (codes "cycles") 1000000 rows
 
 -- how many ejections a block may have: none where nothing is given
 abbrev pub budget_of : List Row → ℕ
@@ -179,7 +199,8 @@ abbrev pub report_asked : Text → List Row → List Setting → Ask
 report_asked name rows settings =
     if bytes_eq name (codes "run") then PacketReport (packing_of rows) (blocks_of rows) settings
     else (if bytes_eq name (codes "sim") then ListingReport (blocks_of rows) settings
-    else SerialReport (blocks_of rows) settings)
+    else (if bytes_eq name (codes "exec") then FlightReport (cycles_of rows) (first_of (codes "from") rows) settings
+    else SerialReport (blocks_of rows) settings))
 
 -- what the subcommand's name and what was found for its arguments ask for, where the settings are good
 abbrev pub ask_in : Option (Text × List Row) → Option Ask
@@ -254,6 +275,8 @@ IsNumberOf least most default (Some text) number = (signed_digits_value 10 text 
 pub record AreLimits (rows : List Row) : Type 0 where
   -- behind `--blocks` 1 to 1,000,000, and 1,000 without it
   pub blocks : IsNumberOf 1 1000000 1000 (first_of (codes "blocks") rows) (blocks_of rows)
+  -- behind `--cycles` 1 to 1,000,000,000, and 1,000,000 without it
+  pub cycles : IsNumberOf 1 1000000000 1000000 (first_of (codes "cycles") rows) (cycles_of rows)
   -- behind `--eject` 0 to 1,000, and 0 without it
   pub eject : IsNumberOf 0 1000 0 (first_of (codes "eject") rows) (budget_of rows)
 

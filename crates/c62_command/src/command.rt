@@ -1,8 +1,8 @@
 //! What the words of the command line ask for.
 
-ghost use Rattle.std.specs.Prelude.{◌≡◌, IfOk, IfErr, Some, false, map, []};
-ghost use Rattle.clap.specs.Words.{app_of, rule_of, subcommand_of, subcommand_rows_of, fault_of};
-ghost use Rattle.c62_command.specs.CommandLine.{turns_rule, eject_rule, blocks_rule, settings_rule, drain_rule, pack_app, show_app, run_app, serial_app, sim_app, adopt_app, check_app, bare_app, listing_app, packing_app, running_app, tool_app, with_packing, with_start, is_set, blocks_of, budget_of, packing_of, plain_packing, IsLocal, found_rows, words_of, named_rows, ask_in, ask_of, asked, IsBadIn, IsBlame, IsRefusal, IsWordsError, IsSettingError};
+ghost use Rattle.std.specs.Prelude.{◌≡◌, IfOk, IfErr, Some, false, map, [], codes, option_map};
+ghost use Rattle.clap.specs.Words.{app_of, rule_of, first_of, subcommand_of, subcommand_rows_of, fault_of};
+ghost use Rattle.c62_command.specs.CommandLine.{turns_rule, eject_rule, blocks_rule, settings_rule, cycles_rule, from_rule, drain_rule, pack_app, show_app, run_app, serial_app, sim_app, exec_app, adopt_app, check_app, bare_app, listing_app, packing_app, running_app, tool_app, with_packing, with_start, is_set, blocks_of, cycles_of, budget_of, packing_of, plain_packing, IsLocal, found_rows, words_of, named_rows, ask_in, ask_of, asked, IsBadIn, IsBlame, IsRefusal, IsWordsError, IsSettingError};
 ghost use Rattle.c62_command.specs.Settings.{AreSettings, IsBadAmong};
 
 use crate::setting::{Setting, SettingError, read_settings};
@@ -14,6 +14,9 @@ use std::convert::AsStr;
 /// How many blocks a run has at most, where nothing is said.
 const DEFAULT_BLOCKS: u32 = 1000;
 
+/// How many cycles a run of packets in flight has at most, where nothing is said.
+const DEFAULT_CYCLES: u32 = 1_000_000;
+
 /// What each help ends with: where texts come from and go to, and what the statuses are (README.md, "Command line").
 const STREAMS_AND_STATUS: &str = "\
 The text is read from standard input, and the answer is written to standard output,
@@ -24,12 +27,13 @@ Status, and what standard error says:
   1  the text is refused: `line 7: BadUnit` names its first faulty line and the fault;
      of a listing also `block 0: NotDrained`, or `block 0 cycle 3: P5` and the packet rule;
      of packets to be adopted also `line 7: NotDrained`, or `line 7: P5` and the packet rule;
+     of packets in flight also `line 7: TwoBranches`, and `from: UnknownTarget`;
      of a check it is `text line 7: BadUnit` or `listing line 7: Shape`, each part counted from 1
   2  the words are refused, by a text like this one, or `setting 2: bad`
   3  no memory: `memory`
   4  a stream failed: `input` or `output`
   5  checked, and not each block is the same: the output tells, and nothing is said
-docs/SERIAL_TEXT.md, docs/LISTING.md, docs/ADOPT.md and docs/CHECK.md tell what each fault is.";
+docs/SERIAL_TEXT.md, docs/LISTING.md, docs/ADOPT.md, docs/EXEC.md and docs/CHECK.md tell what each fault is.";
 
 /// How blocks are packed.
 #[derive(Clone, Copy, PartialEq, Eq, Debug)]
@@ -47,6 +51,15 @@ pub struct Start {
     pub settings: Vec<Setting>,
 }
 
+/// Where a run of packets in flight begins, and how many cycles it has at most.
+#[derive(Debug, Drop)]
+pub struct FlightStart {
+    pub cycles: u32,
+    /// The label of the row that it begins with, where that isn't the first one.
+    pub from: Option<Vec<u8>>,
+    pub settings: Vec<Setting>,
+}
+
 /// What was asked for.
 #[derive(Debug, Drop)]
 pub enum Request {
@@ -60,6 +73,8 @@ pub enum Request {
     Serial(Start),
     /// The report of a run of the packets of a listing.
     Sim(Start),
+    /// The report of a run of a text of packets, with everything in flight.
+    Exec(FlightStart),
     /// The listing of a text of packets as people and compilers write them. Where it is drained, the cycles are added that lack.
     Adopt(bool),
     /// What each block of a listing is, held against a serial text.
@@ -136,6 +151,26 @@ fn blocks_option<'a>(alloc: Global) -> Arg<'a>
         .value_name("N")
         .value_parser(value_parser!(u32).range(1..=1_000_000))
         .help("Runs at most N blocks, 1 to 1000000; 1000 where none is given")
+}
+
+fn cycles_option<'a>(alloc: Global) -> Arg<'a>
+    ensures rule { rule_of result ≡ cycles_rule }
+    ensures local { result.global ≡ false }
+{
+    Arg::new(alloc, "cycles")
+        .long("cycles")
+        .value_name("N")
+        .value_parser(value_parser!(u32).range(1..=1_000_000_000))
+        .help("Runs at most N cycles, 1 to 1000000000; 1000000 where none is given")
+}
+
+fn from_option<'a>(alloc: Global) -> Arg<'a>
+    ensures rule { rule_of result ≡ from_rule }
+    ensures local { result.global ≡ false }
+{
+    Arg::new(alloc, "from").long("from").value_name("NAME").help(
+        "Begins with the packet below this label; with the first where none is given",
+    )
 }
 
 fn drain_flag<'a>(alloc: Global) -> Arg<'a>
@@ -231,6 +266,21 @@ fn sim_command<'a>(alloc: Global) -> Result<Command<'a>, AllocError>
     with_start(alloc, command)
 }
 
+fn exec_command<'a>(alloc: Global) -> Result<Command<'a>, AllocError>
+    ensures app { IfOk result (λ c. app_of c ≡ exec_app) }
+    ensures local { IfOk result IsLocal }
+{
+    Command::new(alloc, "exec")
+        .about(
+            "Runs packets as they are written, with branches and loads in flight, and reports the end",
+        )
+        .override_usage("c62 exec [--cycles <N>] [--from <NAME>] [SETTING]...")
+        .after_help(STREAMS_AND_STATUS)
+        .arg(cycles_option(alloc))?
+        .arg(from_option(alloc))?
+        .arg(settings_words(alloc))
+}
+
 fn adopt_command<'a>(alloc: Global) -> Result<Command<'a>, AllocError>
     ensures app { IfOk result (λ c. app_of c ≡ adopt_app) }
     ensures local { IfOk result IsLocal }
@@ -292,7 +342,8 @@ fn running_command<'a>(alloc: Global) -> Result<Command<'a>, AllocError>
 {
     packing_command(alloc)?
         .subcommand(serial_command(alloc)?)?
-        .subcommand(sim_command(alloc)?)
+        .subcommand(sim_command(alloc)?)?
+        .subcommand(exec_command(alloc)?)
 }
 
 fn tool_command<'a>(alloc: Global) -> Result<Command<'a>, AllocError>
@@ -330,6 +381,35 @@ fn blocks_in(matches: &ArgMatches<'_>) -> u32
     match matches.get_str("blocks") {
         Some(text) => text.parse().unwrap_or(DEFAULT_BLOCKS),
         None => DEFAULT_BLOCKS,
+    }
+}
+
+/// The limit of cycles.
+fn cycles_in(matches: &ArgMatches<'_>) -> u32
+    ensures { result ≡ cycles_of (found_rows matches.now) }
+{
+    match matches.get_str("cycles") {
+        Some(text) => text.parse().unwrap_or(DEFAULT_CYCLES),
+        None => DEFAULT_CYCLES,
+    }
+}
+
+/// The bytes of a text.
+fn bytes_of(alloc: Global, text: &str) -> Result<Vec<u8>, AllocError>
+    ensures { IfOk result (λ bytes. bytes.items ≡ text.now) }
+{
+    let mut bytes = Vec::new(alloc);
+    bytes.extend_from_slice(text.as_bytes())?;
+    Ok(bytes)
+}
+
+/// The label with whose row a run begins, where one is named.
+fn from_in(alloc: Global, matches: &ArgMatches<'_>) -> Result<Option<Vec<u8>>, AllocError>
+    ensures { IfOk result (λ from. option_map (λ name. name.items) from ≡ first_of (codes "from") (found_rows matches.now)) }
+{
+    match matches.get_str("from") {
+        Some(text) => Ok(Some(bytes_of(alloc, text)?)),
+        None => Ok(None),
     }
 }
 
@@ -375,6 +455,20 @@ fn start_in(alloc: Global, matches: &ArgMatches<'_>) -> Result<Start, SettingErr
     })
 }
 
+/// Where a run of packets in flight begins, by the options of its subcommand.
+fn flight_in(alloc: Global, matches: &ArgMatches<'_>) -> Result<FlightStart, SettingError>
+    ensures cycles { IfOk result (λ start. start.cycles ≡ cycles_of (found_rows matches.now)) }
+    ensures from { IfOk result (λ start. option_map (λ name. name.items) start.from ≡ first_of (codes "from") (found_rows matches.now)) }
+    ensures settings { IfOk result (λ start. AreSettings (words_of matches.now) start.settings.items) }
+    ensures err { IfErr result (IsBadAmong (words_of matches.now)) }
+{
+    Ok(FlightStart {
+        cycles: cycles_in(matches),
+        from: from_in(alloc, matches)?,
+        settings: settings_in(alloc, matches)?,
+    })
+}
+
 /// What the subcommand of this name asks for.
 fn request_named(alloc: Global, name: &str, found: &ArgMatches<'_>) -> Result<Request, SettingError>
     ensures ok { IfOk result (λ request. ask_in (named_rows name.now found.now) ≡ Some (ask_of request)) }
@@ -391,6 +485,9 @@ fn request_named(alloc: Global, name: &str, found: &ArgMatches<'_>) -> Result<Re
     }
     if name == "check" {
         return Ok(Request::Check);
+    }
+    if name == "exec" {
+        return Ok(Request::Exec(flight_in(alloc, found)?));
     }
     let start = start_in(alloc, found)?;
     Ok(if name == "run" {

@@ -7,7 +7,7 @@ ghost use Rattle.c62_command.specs.Settings.{word_address, set_to, setting_of, A
 
 use c62_op::{Reg, word_of};
 use c62_token::number::{number, register};
-use std::alloc::{AllocFailed, Global};
+use std::alloc::{AllocError, AllocFailed, Global};
 
 /// What is set before a run: a register, or the word of memory at an address.
 #[derive(Clone, Copy, Debug, PartialEq, Eq)]
@@ -23,6 +23,14 @@ pub enum SettingError {
     Memory,
     /// The word with this number, from 1, is no setting, and those before it are.
     Bad(usize),
+}
+
+impl From<AllocError> for SettingError {
+    ghost from_gives = { λ _ error. error ≡ Memory };
+
+    fn from(_error: AllocError) -> SettingError {
+        SettingError::Memory
+    }
 }
 
 impl<T: Drop> From<AllocFailed<T>> for SettingError {

@@ -1,12 +1,12 @@
 //! What words ask for, as the README and docs/REPORT.md say.
 
-use crate::{CommandError, Packing, Request, Setting, Start, command_of};
+use crate::{CommandError, FlightStart, Packing, Request, Setting, Start, command_of};
 use c62_op::Side;
 use std::alloc::Global;
 use std::test::Fail;
 
 /// Words, and what they ask for or why they are refused.
-const ASKED: [(&[&str], &str); 20] = [
+const ASKED: [(&[&str], &str); 26] = [
     (&[], "pack by turns, 0 ejections"),
     (&["pack"], "pack by workers, 0 ejections"),
     (&["pack", "--turns"], "pack by turns, 0 ejections"),
@@ -36,6 +36,23 @@ const ASKED: [(&[&str], &str); 20] = [
         &["sim", "--blocks", "1", "@65532=1"],
         "sim; 1 blocks, @65532 = 1",
     ),
+    (&["exec"], "exec; 1000000 cycles"),
+    (
+        &[
+            "exec",
+            "A4=1",
+            "--from",
+            ".L5",
+            "--cycles",
+            "1000000000",
+            "@8=2",
+        ],
+        "exec; 1000000000 cycles from .L5, A4 = 1, @8 = 2",
+    ),
+    (&["exec", "--cycles", "1000000001"], "words"),
+    (&["exec", "--blocks", "1"], "words"),
+    (&["exec", "A1=5", "x"], "setting 2"),
+    (&["sim", "--from", "L"], "words"),
     (&["adopt"], "adopt"),
     (&["adopt", "--drain"], "adopt, drained"),
     (&["adopt", "--turns"], "words"),
@@ -64,11 +81,27 @@ fn setting_text(alloc: Global, setting: Setting) -> Result<String, Fail> {
     })
 }
 
-fn start_text(alloc: Global, start: &Start) -> Result<String, Fail> {
-    let mut text = format!(in alloc; "{} blocks", start.blocks)?;
-    for setting in &start.settings {
+fn settings_text(alloc: Global, settings: &[Setting]) -> Result<String, Fail> {
+    let mut text = String::new(alloc);
+    for setting in settings {
         text.push_str(&format!(in alloc; ", {}", setting_text(alloc, *setting)?)?)?;
     }
+    Ok(text)
+}
+
+fn flight_text(alloc: Global, start: &FlightStart) -> Result<String, Fail> {
+    let mut text = format!(in alloc; "{} cycles", start.cycles)?;
+    if let Some(name) = &start.from {
+        text.push_str(" from ")?;
+        text.push_str(str::from_utf8(name).unwrap_or("?"))?;
+    }
+    text.push_str(&settings_text(alloc, &start.settings)?)?;
+    Ok(text)
+}
+
+fn start_text(alloc: Global, start: &Start) -> Result<String, Fail> {
+    let mut text = format!(in alloc; "{} blocks", start.blocks)?;
+    text.push_str(&settings_text(alloc, &start.settings)?)?;
     Ok(text)
 }
 
@@ -83,6 +116,7 @@ fn request_text(alloc: Global, request: &Request) -> Result<String, Fail> {
         )?,
         Request::Serial(start) => format!(in alloc; "serial; {}", start_text(alloc, start)?)?,
         Request::Sim(start) => format!(in alloc; "sim; {}", start_text(alloc, start)?)?,
+        Request::Exec(start) => format!(in alloc; "exec; {}", flight_text(alloc, start)?)?,
         Request::Adopt(drain) => {
             let way = if *drain { ", drained" } else { "" };
             format!(in alloc; "adopt{way}")?

@@ -55,7 +55,7 @@ fn file_letter(side: Side) -> &'static [u8]
     }
 }
 
-fn push_register(out: &mut Vec<u8>, reg: Reg) -> Result<(), AllocError>
+pub(crate) fn push_register(out: &mut Vec<u8>, reg: Reg) -> Result<(), AllocError>
     ensures { OnOk result (out.new.items ≡ out.old.items ++ register_name reg) }
 {
     let mut buffer = Buffer::new();
@@ -121,7 +121,7 @@ fn push_words(out: &mut Vec<u8>, state: &State, count: u32) -> Result<(), AllocE
 }
 
 /// A line with a word and a number.
-fn push_count(out: &mut Vec<u8>, word: &[u8], count: u64) -> Result<(), AllocError>
+pub(crate) fn push_count(out: &mut Vec<u8>, word: &[u8], count: u64) -> Result<(), AllocError>
     ensures { OnOk result (out.new.items ≡ out.old.items ++ line (word.now ++ decimal count)) }
 {
     let mut buffer = Buffer::new();
@@ -142,7 +142,7 @@ fn push_faults(out: &mut Vec<u8>, faults: &[u32]) -> Result<(), AllocError>
 
 /// How the run ended.
 #[tactic(auto, unfolding(crate::specs::Report::exit_line))]
-fn push_exit(out: &mut Vec<u8>, stop: End) -> Result<(), AllocError>
+pub(crate) fn push_exit(out: &mut Vec<u8>, stop: End) -> Result<(), AllocError>
     ensures { OnOk result (out.new.items ≡ out.old.items ++ exit_line stop) }
 {
     match stop {
@@ -158,7 +158,7 @@ fn push_exit(out: &mut Vec<u8>, stop: End) -> Result<(), AllocError>
 
 /// What the machine holds at the end.
 #[tactic(auto, unfolding(crate::specs::Report::machine_lines))]
-fn push_machine(out: &mut Vec<u8>, state: &State) -> Result<(), AllocError>
+pub(crate) fn push_machine(out: &mut Vec<u8>, state: &State) -> Result<(), AllocError>
     ensures { OnOk result (out.new.items ≡ out.old.items ++ machine_lines state.now.machine) }
 {
     push_file(out, state, Side::A)?;

@@ -1,6 +1,7 @@
 //! Worked reports, by the rules of docs/REPORT.md.
 
-use crate::{packet_report, serial_report};
+use crate::{flight_report, packet_report, serial_report};
+use c62_flight::Stop;
 use c62_insn::{Reg, Side};
 use c62_serial::{Chain, End, State};
 use std::alloc::Global;
@@ -11,6 +12,25 @@ const EXITS: [(End, &str); 3] = [
     (End::End, "exit end"),
     (End::Limit, "exit limit"),
     (End::Register(0x0010_0abc), "exit register 00100abc"),
+];
+
+/// How a run in flight stopped, and the line that says so.
+const STOPS: [(Stop, &str); 5] = [
+    (Stop::End, "exit end"),
+    (Stop::Limit, "exit limit"),
+    (Stop::Register(0x0010_0abc), "exit register 00100abc"),
+    (
+        Stop::Clash(
+            Reg {
+                side: Side::B,
+                number: 15,
+            },
+            7,
+            12,
+        ),
+        "exit clash B15 7 12",
+    ),
+    (Stop::Branches(3, 4), "exit branches 3 4"),
 ];
 
 /// The lines of what [`held`] holds.
@@ -51,6 +71,18 @@ fn reports(rt: HostRuntime) -> Result<(), Fail> {
         assert_eq!(rt; report.as_slice(), want.as_bytes());
         let report = packet_report(alloc, chain, 131_072_000, &state)?;
         let want = format!(in alloc; "blocks 12\ncycles 131072000\n{exit}\n{HELD}")?;
+        assert_eq!(rt; report.as_slice(), want.as_bytes());
+    }
+    Ok(())
+}
+
+#[test]
+fn reports_of_flights(rt: HostRuntime) -> Result<(), Fail> {
+    let alloc = rt.alloc();
+    let state = held(alloc)?;
+    for (stop, exit) in STOPS {
+        let report = flight_report(alloc, stop, 57, &state)?;
+        let want = format!(in alloc; "cycles 57\n{exit}\n{HELD}")?;
         assert_eq!(rt; report.as_slice(), want.as_bytes());
     }
     Ok(())

@@ -1,20 +1,26 @@
 -- What answers a text, from what each step gave.
-use Rattle.std.proofs.Common.{◌≡◌, ℕ, Bool, true, false, List, Err, refl, subst, inl, inr}
+use Rattle.std.proofs.Common.{◌≡◌, ℕ, Bool, true, false, List, Option, Err, refl, subst, inl, inr}
 use Rattle.c62_read.specs.Block.{Serial}
 use Rattle.c62_packet.specs.Packed.{Packed}
 use Rattle.c62_listing.specs.Listing.{listing}
 use Rattle.c62_adopt.specs.declared.fault.AdoptFault.{AdoptFault}
 use Rattle.c62_adopt.specs.Answer.{IsAdopted, Refuses}
 use Rattle.c62_adopt.specs.Laws.{DrainsNothing}
+use Rattle.clap.specs.Words.{Text}
+use Rattle.c62_rows.specs.declared.fault.RowsFault.{RowsFault}
+use Rattle.c62_rows.specs.declared.text.Begun.{Begun}
+use Rattle.c62_rows.specs.Rows.{text_of}
+use Rattle.c62_rows.specs.Text.{IsTextFrom, RefusesFrom}
+use Rattle.c62_rows.specs.Told.{BeginsAs}
 use Rattle.c62_command.specs.declared.setting.Setting.{Setting}
 use Rattle.c62_command.specs.declared.command.Packing.{Packing}
 use Rattle.c62_tool.specs.declared.failure.Failure.{Failure}
 use Rattle.c62_tool.specs.declared.failure.Failure.TheVariants as failures
 use Rattle.c62_tool.specs.Message.{fault_message}
-use Rattle.c62_command.specs.CommandLine.{Adoption, Ask, ListingReport}
+use Rattle.c62_command.specs.CommandLine.{Adoption, Ask, FlightReport, ListingReport}
 use Rattle.c62_tool.specs.Schedule.{AreScheduled}
 use Rattle.c62_tool.specs.Texts.{IsNoProgram}
-use Rattle.c62_tool.specs.Run.{Gives, GivesProgram, GivesPackets, IsAdoptFailure, IsAnswer, IsPacketReport, IsRefusedText, IsSameReport, outcome_adopted}
+use Rattle.c62_tool.specs.Run.{Gives, GivesProgram, GivesPackets, IsAdoptFailure, IsRowsFailure, IsAnswer, IsFlightReport, IsFlown, IsPacketReport, IsRefusedText, IsSameReport, outcome_adopted}
 use Rattle.c62_tool.proofs.Schedules.{runs_serially}
 
 module _ (ask : Ask) (text : List ℕ) where
@@ -23,6 +29,7 @@ module _ (ask : Ask) (text : List ℕ) where
   no_program same (failures.Unread fault) gives = same (fault_message fault.line fault.cause) gives
   no_program same (failures.Unlisted fault) gives = absurd gives
   no_program same (failures.Unadopted fault) gives = absurd gives
+  no_program same (failures.Unflown fault) gives = absurd gives
   no_program same (failures.TextPart fault) gives = absurd gives
   no_program same (failures.ListingPart fault) gives = absurd gives
   no_program same failures.NoListing gives = absurd gives
@@ -36,6 +43,7 @@ pub no_packets : (blocks : ℕ) (settings : List Setting) (text : List ℕ) (f :
 no_packets blocks settings text (failures.Unread fault) gives = absurd gives
 no_packets blocks settings text (failures.Unlisted fault) gives = gives
 no_packets blocks settings text (failures.Unadopted fault) gives = absurd gives
+no_packets blocks settings text (failures.Unflown fault) gives = absurd gives
 no_packets blocks settings text (failures.TextPart fault) gives = absurd gives
 no_packets blocks settings text (failures.ListingPart fault) gives = absurd gives
 no_packets blocks settings text failures.NoListing gives = absurd gives
@@ -67,3 +75,28 @@ pub adopted_text : (drain : Bool) (text answer : List ℕ) (packets : List Packe
 adopted_text true text answer packets added lacks is listed = record { packets = packets; adopted = is; listed = listed }
 adopted_text false text answer packets added lacks is listed =
     record { packets = packets; adopted = subst (IsAdopted false text packets) (lacks added is).0 is; listed = listed }
+
+-- ---- packets in flight
+
+-- where a text makes no rows, or none has the label with which a run is to begin, that is the answer
+pub no_flight : (most : ℕ) (from : Option Text) (settings : List Setting) (text : List ℕ) (fault : RowsFault) (f : Failure) → IsRowsFailure fault f
+    → RefusesFrom text from fault → Gives (FlightReport most from settings) text (Err f)
+no_flight most from settings text fault f (inl memory) refused = rw (memory.1) tt
+no_flight most from settings text fault f (inr known) refused =
+    rw (known.1) (record { fault = fault; known = known.0; refused = refused; told = refl })
+
+-- where it does, this is
+pub flight_text : (most : ℕ) (named from : Option Text) (settings : List Setting) (text answer : List ℕ) (begun : Begun) → named ≡ from
+    → BeginsAs text named begun → IsFlown (text_of begun.rows) begun.first settings most answer → IsFlightReport most from settings text answer
+flight_text most named from settings text answer begun same begins flown = record {
+  flying = text_of begun.rows;
+  first = begun.first;
+  begins = subst (λ (o : Option Text). IsTextFrom text o (text_of begun.rows) begun.first) same begins.is_text;
+  flown = flown;
+}
+
+-- the name stands in the words
+pub no_flight_named : (most : ℕ) (named from : Option Text) (settings : List Setting) (text : List ℕ) (fault : RowsFault) (f : Failure) → named ≡ from
+    → IsRowsFailure fault f → RefusesFrom text named fault → Gives (FlightReport most from settings) text (Err f)
+no_flight_named most named from settings text fault f same is refused =
+    no_flight most from settings text fault f is (subst (λ (o : Option Text). RefusesFrom text o fault) same refused)

@@ -6,6 +6,7 @@ pub mod FirstLine
 pub mod OneParting
 pub mod Checks
 pub mod Verdicts
+pub mod Flights
 pub mod Runs
 pub mod Telling
 pub mod ReadBack

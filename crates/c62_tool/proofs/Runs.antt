@@ -12,11 +12,12 @@ use Rattle.c62_adopt_cut.specs.Text.{Cut, text_cut, too_long as too_long_cut}
 use Rattle.c62_adopt_cut.specs.Flight.{cycles_lacking}
 use Rattle.c62_adopt.specs.declared.fault.AdoptFault.{AdoptFault}
 use Rattle.c62_adopt.specs.Answer.{IsAdopted, IsAdoptedCut, Refuses as RefusesPackets, RefusesCut}
-use Rattle.c62_tool.specs.Message.{IsFront, IsToldOf, Telling, Tells, TellsOf, TellsOutcome, adopt_message, drained_message, fault_message, list_message, message_of, no_listing, of_listing, of_text, setting_message, told_of}
+use Rattle.c62_tool.specs.Message.{IsFront, IsToldOf, Telling, Tells, TellsOf, TellsOutcome, adopt_message, drained_message, fault_message, list_message, rows_message, message_of, no_listing, of_listing, of_text, setting_message, told_of}
 use Rattle.c62_tool.specs.Run.{AsksInVain, AsksNothing, BeginsAnswer, Blames, BreaksOff, Does, Ends, EndsOnBytes, Fails, Gives, HasFailed, IsAdoptedText, IsAnswer, IsCommandFailure, IsDone, IsRefused, IsRefusedText, IsRun, IsRunBy, IsRunOnBytes, Streams, TakesAtMost, limit_of, status_done, status_of}
 use Rattle.c62_command.specs.declared.command.CommandError.{CommandError}
 use Rattle.c62_command.specs.declared.command.CommandError.TheVariants as command
-use Rattle.c62_command.specs.CommandLine.{Adoption, Ask, HasBadSetting, IsRefusal, IsUnknown, Listing, ListingReport, PacketReport, Picture, SerialReport, Verdicts, asked}
+use Rattle.c62_tool.proofs.Flights.{flight_all, no_flight_all}
+use Rattle.c62_command.specs.CommandLine.{Adoption, Ask, FlightReport, HasBadSetting, IsRefusal, IsUnknown, Listing, ListingReport, PacketReport, Picture, SerialReport, Verdicts, asked}
 use Rattle.clap.specs.Words.{Text}
 use Rattle.c62_tool.specs.declared.failure.Failure.{Failure}
 use Rattle.c62_tool.specs.declared.failure.Failure.TheVariants as failures
@@ -117,6 +118,7 @@ answered (ListingReport blocks settings) Done all text answer read is = record {
   read = read_same text all is.packets (listed_all all text read) is.read;
   reported = is.reported;
 }
+answered (FlightReport most from settings) Done all text answer read is = flight_all most from settings all text answer read is
 answered (Adoption false) Done all text answer read is = adopted_all false 0 all text answer read is
 answered (Adoption true) (Drained added) all text answer read is = adopted_all true added all text answer read is
 answered Verdicts Done all text answer read is = check_all all 9437190 (omega arith) true answer (subst (λ (xs : List ℕ). IsCheck xs true answer) read is)
@@ -131,6 +133,8 @@ answered (PacketReport packing blocks settings) (Drained added) all text answer 
 answered (PacketReport packing blocks settings) NotSame all text answer read is = absurd is
 answered (ListingReport blocks settings) (Drained added) all text answer read is = absurd is
 answered (ListingReport blocks settings) NotSame all text answer read is = absurd is
+answered (FlightReport most from settings) (Drained added) all text answer read is = absurd is
+answered (FlightReport most from settings) NotSame all text answer read is = absurd is
 answered (Adoption false) (Drained added) all text answer read is = absurd is
 answered (Adoption false) NotSame all text answer read is = absurd is
 answered (Adoption true) Done all text answer read is = absurd is
@@ -194,6 +198,7 @@ refused_all (ListingReport blocks settings) all text message read is = record {
   refused = refuses_same text all is.fault (listed_all all text read) is.refused;
   told = is.told;
 }
+refused_all (FlightReport most from settings) all text message read is = no_flight_all from all text message read is
 refused_all (Adoption drain) all text message read is = no_packets_all drain all text message read is
 refused_all Verdicts all text message read is = no_check_all all 9437190 (omega arith) message (subst (λ (xs : List ℕ). IsNoCheck xs message) read is)
 
@@ -208,6 +213,7 @@ pub refuses : (ask : Ask) (known old : Option (List ℕ)) (text : List ℕ) (f :
 refuses ask known old text (failures.Unread fault) read gives = (refused ask known text (fault_message fault.line fault.cause) read gives, Keeps-same old)
 refuses ask known old text (failures.Unlisted fault) read gives = (refused ask known text (list_message fault) read gives, Keeps-same old)
 refuses ask known old text (failures.Unadopted fault) read gives = (refused ask known text (adopt_message fault) read gives, Keeps-same old)
+refuses ask known old text (failures.Unflown fault) read gives = (refused ask known text (rows_message fault) read gives, Keeps-same old)
 refuses ask known old text (failures.TextPart fault) read gives = (refused ask known text (of_text (fault_message fault.line fault.cause)) read gives, Keeps-same old)
 refuses ask known old text (failures.ListingPart fault) read gives = (refused ask known text (of_listing (list_message fault)) read gives, Keeps-same old)
 refuses ask known old text failures.NoListing read gives = (refused ask known text no_listing read gives, Keeps-same old)
@@ -346,6 +352,8 @@ module _ (Told : Telling) (words : List Text) (old new : Streams) (reads : Reads
       is_refused fails.1 (record { text = list_message fault; is = for_asked words ask _ is fails.0; told = told }) (λ none. absurd cc)
   is_not_done (failures.Unadopted fault) ask is fails told =
       is_refused fails.1 (record { text = adopt_message fault; is = for_asked words ask _ is fails.0; told = told }) (λ none. absurd cc)
+  is_not_done (failures.Unflown fault) ask is fails told =
+      is_refused fails.1 (record { text = rows_message fault; is = for_asked words ask _ is fails.0; told = told }) (λ none. absurd cc)
   is_not_done (failures.Unread fault) ask is fails told =
       is_refused fails.1 (record { text = fault_message fault.line fault.cause; is = for_asked words ask _ is fails.0; told = told }) (λ none. absurd cc)
   is_not_done (failures.TextPart fault) ask is fails told =

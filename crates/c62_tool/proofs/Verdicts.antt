@@ -25,6 +25,7 @@ module _ (input text listing : List ℕ) (parted : IsParted input text listing) 
   no_text (failures.Unread fault) gives = absurd gives
   no_text (failures.Unlisted fault) gives = absurd gives
   no_text (failures.Unadopted fault) gives = absurd gives
+  no_text (failures.Unflown fault) gives = absurd gives
   no_text (failures.TextPart fault) gives =
       FaultyText (record {
         text = text;
@@ -47,6 +48,7 @@ module _ (input text listing : List ℕ) (parted : IsParted input text listing) 
   no_listing_part program says (failures.Unread fault) gives = absurd gives
   no_listing_part program says (failures.Unlisted fault) gives = absurd gives
   no_listing_part program says (failures.Unadopted fault) gives = absurd gives
+  no_listing_part program says (failures.Unflown fault) gives = absurd gives
   no_listing_part program says (failures.TextPart fault) gives = absurd gives
   no_listing_part program says (failures.ListingPart fault) gives =
       FaultyListing (record {

@@ -9,6 +9,8 @@ use Rattle.c62_listing_reader.specs.declared.fault.ListFault.{ListFault}
 use Rattle.c62_listing_reader.specs.FaultText.{list_fault_text}
 use Rattle.c62_adopt.specs.declared.fault.AdoptFault.{AdoptFault}
 use Rattle.c62_adopt.specs.FaultText.{adopt_fault_text}
+use Rattle.c62_rows.specs.declared.fault.RowsFault.{RowsFault}
+use Rattle.c62_rows.specs.FaultText.{fault_text as rows_fault_text}
 use Rattle.c62_tool.specs.declared.failure.Failure.{Failure}
 use Rattle.c62_tool.specs.declared.failure.Failure.TheVariants as failure
 use Rattle.c62_tool.specs.declared.outcome.Outcome.{Outcome}
@@ -24,6 +26,9 @@ list_message fault = list_fault_text fault ++ codes "\n"
 
 abbrev pub adopt_message : AdoptFault → List ℕ
 adopt_message fault = adopt_fault_text fault ++ codes "\n"
+
+abbrev pub rows_message : RowsFault → List ℕ
+rows_message fault = rows_fault_text fault ++ codes "\n"
 
 -- what is told of the text of a check, and of its listing
 abbrev pub of_text : List ℕ → List ℕ
@@ -45,6 +50,7 @@ abbrev pub message_of : Failure → Option (List ℕ)
 message_of (failure.Unread fault) = Some (fault_message fault.line fault.cause)
 message_of (failure.Unlisted fault) = Some (list_message fault)
 message_of (failure.Unadopted fault) = Some (adopt_message fault)
+message_of (failure.Unflown fault) = Some (rows_message fault)
 message_of (failure.TextPart fault) = Some (of_text (fault_message fault.line fault.cause))
 message_of (failure.ListingPart fault) = Some (of_listing (list_message fault))
 message_of failure.NoListing = Some no_listing

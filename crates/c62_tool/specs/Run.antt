@@ -4,7 +4,7 @@ use Rattle.std.specs.Io.KnownBytes.{Appends, Consumes, Keeps}
 use Rattle.std.specs.Option.{IsSomeAnd}
 use Rattle.clap.specs.Words.{Text}
 use Rattle.c62_tool.specs.declared.failure.Failure.{Failure}
-use Rattle.c62_tool.specs.declared.failure.Failure.TheVariants.{Unread, Unlisted, Unadopted, TextPart, ListingPart, NoListing, Words, Setting, Memory, Input, Output}
+use Rattle.c62_tool.specs.declared.failure.Failure.TheVariants.{Unread, Unlisted, Unadopted, Unflown, TextPart, ListingPart, NoListing, Words, Setting, Memory, Input, Output}
 use Rattle.c62_tool.specs.declared.outcome.Outcome.{Outcome}
 use Rattle.c62_tool.specs.declared.outcome.Outcome.TheVariants.{Done, Drained, NotSame}
 use Rattle.c62_tool.specs.declared.outcome.Reply.{Reply}
@@ -31,20 +31,28 @@ use Rattle.c62_adopt_cut.specs.Text.{most_bytes as most_packets_bytes}
 use Rattle.c62_adopt.specs.declared.fault.AdoptFault.{AdoptFault}
 use Rattle.c62_adopt.specs.declared.fault.AdoptFault.TheVariants.{Memory as NoRoom}
 use Rattle.c62_adopt.specs.Answer.{IsAdopted}
+use Rattle.c62_flight.specs.Text.{Text as FlightText}
+use Rattle.c62_flight.specs.Flight.{Flies}
+use Rattle.c62_flight.specs.declared.stop.Stop.{Stop}
+use Rattle.c62_rows.specs.declared.fault.RowsFault.{RowsFault}
+use Rattle.c62_rows.specs.declared.fault.RowsFault.TheVariants.{Memory as NoPlace}
+use Rattle.c62_rows.specs.Text.{IsTextFrom}
 use Rattle.c62_show.specs.declared.shown.Shown.{Shown}
 use Rattle.c62_show.specs.Picture.{picture}
 use Rattle.c62_tool.specs.Bounds.{AreBounded}
 use Rattle.c62_tool.specs.Schedule.{AreScheduled, AreShown}
 use Rattle.c62_report.specs.Report.{serial_report, packet_report}
-use Rattle.c62_command.specs.CommandLine.{Ask, Listing, Picture, SerialReport, PacketReport, ListingReport, Adoption, Verdicts, IsRefusal, IsUnknown, HasBadSetting, asked}
-use Rattle.c62_tool.specs.Message.{adopt_message, fault_message, list_message, no_listing, of_listing, of_text, setting_message, IsFront, IsToldOf, Telling, Tells, TellsOf, TellsOutcome}
-use Rattle.c62_tool.specs.Texts.{SaysProgram, IsNoProgram, IsNoListing, IsNoPackets}
+use Rattle.c62_report.specs.Flight.{flight_report}
+use Rattle.c62_command.specs.CommandLine.{Ask, Listing, Picture, SerialReport, PacketReport, ListingReport, FlightReport, Adoption, Verdicts, IsRefusal, IsUnknown, HasBadSetting, asked}
+use Rattle.c62_tool.specs.Message.{adopt_message, fault_message, list_message, rows_message, no_listing, of_listing, of_text, setting_message, IsFront, IsToldOf, Telling, Tells, TellsOf, TellsOutcome}
+use Rattle.c62_tool.specs.Texts.{SaysProgram, IsNoProgram, IsNoListing, IsNoPackets, IsNoFlight}
 use Rattle.c62_tool.specs.Check.{IsCheck, IsNoCheck}
 
 abbrev pub status_of : Failure → ℕ
 status_of (Unread _) = 1
 status_of (Unlisted _) = 1
 status_of (Unadopted _) = 1
+status_of (Unflown _) = 1
 status_of (TextPart _) = 1
 status_of (ListingPart _) = 1
 status_of NoListing = 1
@@ -72,6 +80,10 @@ IsListFailure fault f = ((fault ≡ NoStore) × (f ≡ Memory)) ⊎ ((fault ≢ 
 abbrev pub IsAdoptFailure : AdoptFault → Failure → Type 0
 IsAdoptFailure fault f = ((fault ≡ NoRoom) × (f ≡ Memory)) ⊎ ((fault ≢ NoRoom) × (f ≡ Unadopted fault))
 
+-- what a fault of a text that is to run with everything in flight is
+abbrev pub IsRowsFailure : RowsFault → Failure → Type 0
+IsRowsFailure fault f = ((fault ≡ NoPlace) × (f ≡ Memory)) ⊎ ((fault ≢ NoPlace) × (f ≡ Unflown fault))
+
 -- what a fault of the text of a check is, and one of its listing
 abbrev pub IsTextFailure : ReadFault → Failure → Type 0
 IsTextFailure fault f = ((fault.cause ≡ OutOfStore) × (f ≡ Memory)) ⊎ ((fault.cause ≢ OutOfStore) × (f ≡ TextPart fault))
@@ -97,6 +109,7 @@ BeginsAll limit all text = IfSome all (λ bytes. text ≡ take (limit + 1) bytes
 -- `---` between them, or of serial text
 abbrev pub limit_of : Ask → ℕ
 limit_of (ListingReport blocks settings) = most_listing_bytes
+limit_of (FlightReport cycles from settings) = most_packets_bytes
 limit_of (Adoption drain) = most_packets_bytes
 limit_of Verdicts = most_bytes + 5 + most_listing_bytes
 limit_of _ = most_bytes
@@ -184,6 +197,23 @@ pub record IsListingReport (settings : List Given) (blocks : ℕ) (text answer :
   pub read : IsRead text packets
   pub reported : IsPacketReport packets settings blocks answer
 
+-- The report of a run of a text of packets from this row on, of at most so many cycles, from zeros with these settings.
+pub record IsFlown (flying : FlightText) (first : ℕ) (settings : List Given) (most : ℕ) (answer : List ℕ) : Type 0 where
+  pub opening : Machine
+  pub begin : IsOpening settings opening
+  pub stop : Stop
+  pub cycles : ℕ
+  pub final : Machine
+  pub flies : Flies flying first most opening stop cycles final
+  pub report : answer ≡ flight_report stop cycles final
+
+-- the text is one of packets, and this is the report of its run with everything in flight
+pub record IsFlightReport (most : ℕ) (from : Option Text) (settings : List Given) (text answer : List ℕ) : Type 0 where
+  pub flying : FlightText
+  pub first : ℕ
+  pub begins : IsTextFrom text from flying first
+  pub flown : IsFlown flying first settings most answer
+
 -- the text is adopted as packets, with so many cycles added to drain it, and this is their listing
 pub record IsAdoptedText (drain : Bool) (added : ℕ) (text answer : List ℕ) : Type 0 where
   pub packets : List Packed
@@ -208,6 +238,7 @@ IsAnswer (Picture packing) Done text answer = IsShownText packing text answer
 IsAnswer (SerialReport blocks settings) Done text answer = IsSerialReport settings blocks text answer
 IsAnswer (PacketReport packing blocks settings) Done text answer = IsRunReport packing settings blocks text answer
 IsAnswer (ListingReport blocks settings) Done text answer = IsListingReport settings blocks text answer
+IsAnswer (FlightReport most from settings) Done text answer = IsFlightReport most from settings text answer
 IsAnswer (Adoption false) Done text answer = IsAdoptedText false 0 text answer
 IsAnswer (Adoption true) (Drained added) text answer = IsAdoptedText true added text answer
 IsAnswer Verdicts Done text answer = IsCheck text true answer
@@ -219,6 +250,7 @@ IsAnswer _ _ text answer = ⊥
 -- the text says nothing that could be answered, and the message tells its fault
 abbrev pub IsRefusedText : Ask → List ℕ → List ℕ → Type 0
 IsRefusedText (ListingReport blocks settings) text message = IsNoListing text message
+IsRefusedText (FlightReport most from settings) text message = IsNoFlight from text message
 IsRefusedText (Adoption drain) text message = IsNoPackets drain text message
 IsRefusedText Verdicts text message = IsNoCheck text message
 IsRefusedText _ text message = IsNoProgram text message
@@ -300,6 +332,7 @@ Gives ask text (Ok reply) = IsAnswer ask reply.outcome text reply.text.items
 Gives ask text (Err (Unread fault)) = IsRefusedText ask text (fault_message fault.line fault.cause)
 Gives ask text (Err (Unlisted fault)) = IsRefusedText ask text (list_message fault)
 Gives ask text (Err (Unadopted fault)) = IsRefusedText ask text (adopt_message fault)
+Gives ask text (Err (Unflown fault)) = IsRefusedText ask text (rows_message fault)
 Gives ask text (Err (TextPart fault)) = IsRefusedText ask text (of_text (fault_message fault.line fault.cause))
 Gives ask text (Err (ListingPart fault)) = IsRefusedText ask text (of_listing (list_message fault))
 Gives ask text (Err NoListing) = IsRefusedText ask text no_listing
@@ -311,6 +344,7 @@ abbrev pub Fails : Ask → Option (List ℕ) → Option (List ℕ) → Option (L
 Fails ask text old new (Unread fault) = IsRefused ask text (fault_message fault.line fault.cause) × Keeps old new
 Fails ask text old new (Unlisted fault) = IsRefused ask text (list_message fault) × Keeps old new
 Fails ask text old new (Unadopted fault) = IsRefused ask text (adopt_message fault) × Keeps old new
+Fails ask text old new (Unflown fault) = IsRefused ask text (rows_message fault) × Keeps old new
 Fails ask text old new (TextPart fault) = IsRefused ask text (of_text (fault_message fault.line fault.cause)) × Keeps old new
 Fails ask text old new (ListingPart fault) = IsRefused ask text (of_listing (list_message fault)) × Keeps old new
 Fails ask text old new NoListing = IsRefused ask text no_listing × Keeps old new

@@ -1,5 +1,5 @@
 -- What texts say, and what is told of those that say nothing.
-use Rattle.std.specs.Prelude.{◌≡◌, ◌≢◌, ℕ, Bool, List, map, Ok, IsErrAnd}
+use Rattle.std.specs.Prelude.{◌≡◌, ◌≢◌, ℕ, Bool, List, Option, map, Ok, IsErrAnd}
 use Rattle.c62_read.specs.Block.{Serial}
 use Rattle.c62_read.specs.Program.{program_in, block_parts}
 use Rattle.c62_listing_reader.specs.declared.fault.ListFault.{ListFault}
@@ -8,7 +8,10 @@ use Rattle.c62_listing_reader.specs.Reading.{Refuses}
 use Rattle.c62_adopt.specs.declared.fault.AdoptFault.{AdoptFault}
 use Rattle.c62_adopt.specs.declared.fault.AdoptFault.TheVariants.{Memory as NoRoom}
 use Rattle.c62_adopt.specs.Answer.{Refuses as RefusesPackets}
-use Rattle.c62_tool.specs.Message.{adopt_message, fault_message, list_message}
+use Rattle.c62_rows.specs.declared.fault.RowsFault.{RowsFault}
+use Rattle.c62_rows.specs.declared.fault.RowsFault.TheVariants.{Memory as NoPlace}
+use Rattle.c62_rows.specs.Text.{RefusesFrom}
+use Rattle.c62_tool.specs.Message.{adopt_message, fault_message, list_message, rows_message}
 
 -- the text says a program
 abbrev pub SaysProgram : List ℕ → List Serial → Type 0
@@ -31,3 +34,10 @@ pub record IsNoPackets (drain : Bool) (text message : List ℕ) : Type 0 where
   pub known : fault ≢ NoRoom
   pub refused : RefusesPackets drain text fault
   pub told : message ≡ adopt_message fault
+
+-- the text makes no rows, or none has the label with which a run is to begin, and the message tells the first fault
+pub record IsNoFlight (from : Option (List ℕ)) (text message : List ℕ) : Type 0 where
+  pub fault : RowsFault
+  pub known : fault ≢ NoPlace
+  pub refused : RefusesFrom text from fault
+  pub told : message ≡ rows_message fault

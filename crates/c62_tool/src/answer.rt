@@ -9,6 +9,7 @@ ghost use Rattle.c62_tool.specs.Run.{Gives, GivesProgram, GivesPackets, limit_of
 ghost use Rattle.c62_tool.specs.declared.parting.TheConstants.{MOST_BYTES};
 
 use crate::checking::verdicts;
+use crate::exec::exec;
 use crate::failure::Failure;
 use crate::outcome::{Outcome, Reply};
 use crate::parting;
@@ -223,6 +224,7 @@ pub fn answer<H: AllocGlobal + Threads + Wait + Sync>(
         }
         Request::Serial(start) => serial(rt.alloc(), text, start),
         Request::Sim(start) => sim(rt.alloc(), text, start),
+        Request::Exec(start) => exec(rt.alloc(), text, start),
         Request::Adopt(drain) => adopted(rt.alloc(), text, *drain),
         Request::Check => verdicts(rt.alloc(), text),
     }
@@ -236,7 +238,7 @@ pub fn limit_of(request: &Request) -> usize
     match request {
         Request::Check => parting::MOST_BYTES,
         Request::Sim(_) => c62_listing_reader::MOST_BYTES,
-        Request::Adopt(_) => c62_adopt_cut::MOST_BYTES,
+        Request::Exec(_) | Request::Adopt(_) => c62_adopt_cut::MOST_BYTES,
         Request::Pack(_) | Request::Show(_) | Request::Run(_, _) | Request::Serial(_) => {
             c62_read::MOST_BYTES
         }

@@ -2,13 +2,14 @@
 
 ghost use Rattle.std.specs.Prelude.{◌≡◌, ◌⊎◌};
 ghost use Rattle.c62_tool.specs.declared.failure.Failure.TheVariants.{Memory, Input};
-ghost use Rattle.c62_tool.specs.Run.{status_of, IsCommandFailure, IsReadFailure, IsListFailure, IsAdoptFailure, IsTextFailure, IsListingFailure};
+ghost use Rattle.c62_tool.specs.Run.{status_of, IsCommandFailure, IsReadFailure, IsListFailure, IsAdoptFailure, IsRowsFailure, IsTextFailure, IsListingFailure};
 
 use crate::input::InputError;
 use c62_adopt::AdoptFault;
 use c62_command::CommandError;
 use c62_listing_reader::ListFault;
 use c62_read::{Cause, ReadFault};
+use c62_rows::RowsFault;
 use std::alloc::AllocError;
 
 /// Why a run fails.
@@ -20,6 +21,8 @@ pub enum Failure {
     Unlisted(ListFault),
     /// The text of packets has a fault.
     Unadopted(AdoptFault),
+    /// The text of packets that is to run in flight has a fault, or no line has the label that it is to begin with.
+    Unflown(RowsFault),
     /// The serial text of what is to be checked has a fault.
     TextPart(ReadFault),
     /// The listing of what is to be checked has a fault.
@@ -44,7 +47,8 @@ impl Failure {
         ensures { result ≡ status_of self.now }
     {
         match self {
-            Failure::Unread(_) | Failure::Unlisted(_) | Failure::Unadopted(_) => 1,
+            Failure::Unread(_) | Failure::Unlisted(_) => 1,
+            Failure::Unadopted(_) | Failure::Unflown(_) => 1,
             Failure::TextPart(_) | Failure::ListingPart(_) | Failure::NoListing => 1,
             Failure::Words(_) | Failure::Setting(_) => 2,
             Failure::Memory => 3,
@@ -121,6 +125,17 @@ impl From<AdoptFault> for Failure {
         match fault {
             AdoptFault::Memory => Failure::Memory,
             _ => Failure::Unadopted(fault),
+        }
+    }
+}
+
+impl From<RowsFault> for Failure {
+    ghost from_gives = { λ fault f. IsRowsFailure fault f };
+
+    fn from(fault: RowsFault) -> Failure {
+        match fault {
+            RowsFault::Memory => Failure::Memory,
+            _ => Failure::Unflown(fault),
         }
     }
 }

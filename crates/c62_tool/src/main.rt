@@ -1,8 +1,10 @@
-//! The program c62: packs serial text into execute packets, adopts packets as others write them, and runs text and packets.
+//! The program c62: packs serial text into execute packets, adopts packets as others write them, and runs text and packets,
+//! with everything in flight.
 #![tactic(auto)]
 
 mod answer;
 mod checking;
+mod exec;
 mod failure;
 mod input;
 mod laws;
@@ -46,6 +48,8 @@ fn main(rt: HostRuntime) -> ExitCode {
 
 #[cfg(test)]
 mod adopt_tests;
+#[cfg(test)]
+mod exec_tests;
 #[cfg(test)]
 mod show_tests;
 #[cfg(test)]

@@ -1,7 +1,7 @@
 //! Tells what failed, and how many cycles were added to drain a text (README.md, "Command line").
 
 ghost use Rattle.std.specs.Prelude.{◌++◌, IfSome, codes, decimal};
-ghost use Rattle.c62_tool.specs.Message.{adopt_message, drained_message, fault_message, list_message, message_of, setting_message, told_of, TellsOutcome};
+ghost use Rattle.c62_tool.specs.Message.{adopt_message, drained_message, fault_message, list_message, message_of, rows_message, setting_message, told_of, TellsOutcome};
 
 use crate::failure::Failure;
 use crate::outcome::Outcome;
@@ -9,6 +9,7 @@ use crate::writing::{Refused, show, write_pieces, write_whole};
 use c62_adopt::AdoptFault;
 use c62_listing_reader::ListFault;
 use c62_read::ReadFault;
+use c62_rows::RowsFault;
 use itoa::Buffer;
 use std::io::Write;
 
@@ -95,6 +96,17 @@ fn tell_adopt_fault<E: Write>(errors: &mut E, fault: AdoptFault) -> Result<(), R
     }
 }
 
+/// Tells the fault of a text of packets that is to run in flight.
+fn tell_rows_fault<E: Write>(errors: &mut E, fault: RowsFault) -> Result<(), Refused>
+    ensures { told_of result (E.contents errors.old) (E.contents errors.new) (rows_message fault) }
+{
+    match fault {
+        RowsFault::At(line, cause) => tell_line(errors, "", line, cause.name()),
+        RowsFault::From => write_whole(errors, b"from: UnknownTarget\n"),
+        RowsFault::Memory => write_whole(errors, b"memory\n"),
+    }
+}
+
 /// Tells that the setting with this number is bad.
 fn tell_setting<E: Write>(errors: &mut E, number: usize) -> Result<(), Refused>
     ensures { told_of result (E.contents errors.old) (E.contents errors.new) (setting_message number) }
@@ -115,6 +127,7 @@ pub fn report<E: Write>(errors: &mut E, failure: &Failure) -> Result<(), Refused
         Failure::Unread(fault) => tell_read_fault(errors, "", *fault),
         Failure::Unlisted(fault) => tell_list_fault(errors, "", *fault),
         Failure::Unadopted(fault) => tell_adopt_fault(errors, *fault),
+        Failure::Unflown(fault) => tell_rows_fault(errors, *fault),
         Failure::TextPart(fault) => tell_read_fault(errors, "text ", *fault),
         Failure::ListingPart(fault) => tell_list_fault(errors, "listing ", *fault),
         Failure::NoListing => write_whole(errors, b"text line 0: NoListing\n"),

@@ -34,7 +34,7 @@ fn set_all(state: &mut State, settings: &[Setting])
 }
 
 /// Zeros, and then these settings.
-fn opening(alloc: Global, settings: &[Setting]) -> Result<State, AllocError>
+pub(crate) fn opening(alloc: Global, settings: &[Setting]) -> Result<State, AllocError>
     ensures { IfOk result (λ state. IsOpening settings.now state.machine) }
 {
     let mut state = State::new(alloc)?;

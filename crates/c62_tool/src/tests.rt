@@ -362,12 +362,13 @@ Status, and what standard error says:
   1  the text is refused: `line 7: BadUnit` names its first faulty line and the fault;
      of a listing also `block 0: NotDrained`, or `block 0 cycle 3: P5` and the packet rule;
      of packets to be adopted also `line 7: NotDrained`, or `line 7: P5` and the packet rule;
+     of packets in flight also `line 7: TwoBranches`, and `from: UnknownTarget`;
      of a check it is `text line 7: BadUnit` or `listing line 7: Shape`, each part counted from 1
   2  the words are refused, by a text like this one, or `setting 2: bad`
   3  no memory: `memory`
   4  a stream failed: `input` or `output`
   5  checked, and not each block is the same: the output tells, and nothing is said
-docs/SERIAL_TEXT.md, docs/LISTING.md, docs/ADOPT.md and docs/CHECK.md tell what each fault is.
+docs/SERIAL_TEXT.md, docs/LISTING.md, docs/ADOPT.md, docs/EXEC.md and docs/CHECK.md tell what each fault is.
 ";
 
 /// Words, and the whole text that refuses them, but for the ending of a help.
@@ -385,6 +386,7 @@ Commands:
   run     Packs serial text, runs the packets and reports the end
   serial  Runs serial text, one instruction after the other, and reports the end
   sim     Reads a listing, runs its packets and reports the end
+  exec    Runs packets as they are written, with branches and loads in flight, and reports the end
   adopt   Reads packets as they are written for an assembler and writes their listing
   check   Reads serial text, a line `---` and a listing, and compares their blocks
   help    Print this message or the help of the given subcommand(s)

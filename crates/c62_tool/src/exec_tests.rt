@@ -1,0 +1,96 @@
+//! Runs of `exec`, worked out by docs/EXEC.md.
+
+use crate::tool::run_on_bytes;
+use std::test::Fail;
+
+/// Words, a text of packets, and the report of its flight.
+const FLOWN: [(&[&str], &[u8], &str); 9] = [
+    (&["exec"], b"", "cycles 0\nexit end\n"),
+    // A branch ends a NOP, and what was loaded lands behind the end.
+    (
+        &["exec", "A4=8", "@8=7"],
+        b"B .S2 L\n NOP 4\n|| LDW .D1 *A4,A5\n NOP 9\nL:\n",
+        "cycles 6\nexit end\nA4 00000008\nA5 00000007\n@0008 00000007\n",
+    ),
+    // A branch in the delay slots of another.
+    (
+        &["exec"],
+        b"B .S2 L1\n B .S2 L2\n NOP 4\nL1: ADD .L1 A1,1,A1\n ADD .L1 A2,1,A2\nL2: ADD .L1 A3,1,A3\n",
+        "cycles 8\nexit end\nA1 00000001\nA3 00000001\n",
+    ),
+    // ADD reads A5 before the load lands, over the label.
+    (
+        &["exec", "A4=8", "A6=2", "@8=7"],
+        b"MVK .S1 1,A5\n LDW .D1 *A4,A5\nL: ADD .L1 A5,A6,A7\n",
+        "cycles 3\nexit end\nA4 00000008\nA5 00000007\nA6 00000002\nA7 00000003\n@0008 00000007\n",
+    ),
+    (
+        &["exec", "A1=3"],
+        b"MPY .M1 A1,A1,A2\n MVK .S1 5,A2\n NOP 9\n",
+        "cycles 2\nexit clash A2 1 2\nA1 00000003\nA2 00000005\n",
+    ),
+    (
+        &["exec", "A1=1"],
+        b"L: [A1] B .S1 L\n||[A1] B .S2 B3\n",
+        "cycles 1\nexit branches 1 2\nA1 00000001\n",
+    ),
+    (
+        &["exec", "--from", ".F", "B3=0x2000"],
+        b"MVK .S1 1,A1\n.F: RET .S2 B3\n NOP 9\n",
+        "cycles 6\nexit register 00002000\nB3 00002000\n",
+    ),
+    // A branch as the last line: a round takes six cycles.
+    (
+        &["exec", "--cycles", "19"],
+        b"L: B .S2 L\n",
+        "cycles 19\nexit limit\n",
+    ),
+    // A store that faults, by its line.
+    (
+        &["exec"],
+        b"\n STW .D1 A5,*+A4(4)\n ADDK .S1 1,A4\n STW .D1 A5,*A4\n",
+        "cycles 3\nexit end\nA4 00000001\nfault 4\n",
+    ),
+];
+
+#[test]
+fn flights(rt: HostRuntime) -> Result<(), Fail> {
+    for (words, text, report) in &FLOWN {
+        let ran = run_on_bytes(&rt, words, text);
+        assert_eq!(rt; ran.output.as_slice(), report.as_bytes());
+        assert!(rt; ran.errors.is_empty());
+        assert_eq!(rt; ran.status, 0);
+    }
+    Ok(())
+}
+
+/// Words, a text, and what it is refused for.
+const REFUSED: [(&[&str], &[u8], &str); 4] = [
+    (
+        &["exec"],
+        b"L: B .S1 L\n|| B .S2 B3\n",
+        "line 2: TwoBranches\n",
+    ),
+    (
+        &["exec"],
+        b"ADD .L1 A1,A1,A5\n|| MPY .M1 A1,A1,A4\n|| SUB .S1 A1,A2,A3\n",
+        "line 3: P4\n",
+    ),
+    (&["exec", "--from", "Q"], b"NOP\n", "from: UnknownTarget\n"),
+    (
+        &["exec", "--from", "Q"],
+        b"B .S2 R\n",
+        "line 1: UnknownTarget\n",
+    ),
+];
+
+#[test]
+fn refused_flights(rt: HostRuntime) -> Result<(), Fail> {
+    for (words, text, told) in &REFUSED {
+        let ran = run_on_bytes(&rt, words, text);
+        assert!(rt; ran.output.is_empty());
+        assert_eq!(rt; ran.errors.as_slice(), told.as_bytes());
+        assert_eq!(rt; ran.status, 1);
+    }
+    Ok(())
+}
