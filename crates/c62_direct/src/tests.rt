@@ -1,7 +1,7 @@
 //! Worked blocks and their direct dependences.
 
 use crate::dependences::{DirectDependences, direct_dependences};
-use c62_depend::Plan;
+use c62_depend::{Link, Plan};
 use c62_read::{Block, read_program};
 use std::alloc::Global;
 use std::process::Abort;
@@ -87,6 +87,45 @@ fn by_needs(alloc: Global, found: &DirectDependences) -> Result<String, Fail> {
     Ok(all)
 }
 
+/// The greater sum of latencies of two chains.
+fn greater(one: Option<i32>, sum: i32) -> Option<i32> {
+    match one {
+        Some(other) if other > sum => Some(other),
+        _ => Some(sum),
+    }
+}
+
+/// Whether it is a dependence of the plan, with this latency.
+fn is_dependence(plan: &Plan, i: u16, j: u16, latency: i32) -> bool {
+    i < plan.len() && j < plan.len() && plan.latency(i, j) == Some(latency)
+}
+
+/// The greatest sums of latencies of chains of direct dependences from instruction `i` to each one.
+fn reached_from(
+    rt: &impl Abort,
+    plan: &Plan,
+    found: &DirectDependences,
+    i: u16,
+) -> [Option<i32>; 256] {
+    let mut reached = [None; 256];
+    assert!(rt; i < 256);
+    reached[usize::from(i)] = Some(0);
+    for (k, links) in found.followers.iter().enumerate() {
+        assert!(rt; k < 256);
+        let Some(before) = reached[k] else {
+            continue;
+        };
+        for link in links.as_slice() {
+            let Link { number, latency } = *link;
+            let cycles = i32::from(latency);
+            assert!(rt; is_dependence(plan, k as u16, u16::from(number), cycles));
+            let at = usize::from(number);
+            reached[at] = greater(reached[at], before.saturating_add(cycles));
+        }
+    }
+    reached
+}
+
 /// Each direct dependence is one of the plan, with its latency, and each of the plan is implied by a chain of direct ones.
 fn are_implied(
     rt: &impl Abort,
@@ -95,29 +134,10 @@ fn are_implied(
     text: &str,
 ) -> Result<(), Fail> {
     for i in 0..plan.len() {
-        let mut reached = [None; 256];
-        reached[usize::from(i)] = Some(0);
-        for k in i..plan.len() {
-            let Some(before) = reached[usize::from(k)] else {
-                continue;
-            };
-            for link in found.followers[usize::from(k)].as_slice() {
-                let latency = i32::from(link.latency);
-                assert_eq!(rt;
-                    plan.latency(k, u16::from(link.number)),
-                    Some(latency),
-                    "{text}"
-                );
-                let at = usize::from(link.number);
-                let sum = before + latency;
-                reached[at] = match reached[at] {
-                    Some(other) if other > sum => Some(other),
-                    _ => Some(sum),
-                };
-            }
-        }
-        for j in i + 1..plan.len() {
+        let reached = reached_from(rt, plan, found, i);
+        for j in i..plan.len() {
             if let Some(latency) = plan.latency(i, j) {
+                assert!(rt; j < 256);
                 let Some(sum) = reached[usize::from(j)] else {
                     panic!(rt; "{text}: {i} to {j}");
                 };
@@ -168,6 +188,8 @@ fn a_full_block(rt: HostRuntime) -> Result<(), Fail> {
     }
     let block = block_of(&rt, rt.alloc(), &text)?;
     let found = direct_dependences(rt.alloc(), &block)?;
+    assert_eq!(rt; found.needs.len(), 256);
+    assert_eq!(rt; found.followers.len(), 256);
     assert_eq!(rt; found.needs[0].len(), 0);
     assert_eq!(rt; found.needs[255].len(), 1);
     assert_eq!(rt; found.needs[255].as_slice()[0].number, 254);
