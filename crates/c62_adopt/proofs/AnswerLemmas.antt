@@ -1,5 +1,5 @@
 -- A text is adopted in one way, and what is adopted is not refused.
-use Rattle.std.proofs.Common.{◌≡◌, ℕ, Bool, List, [], ◌∷◌, ◌++◌, refl, sym, ap, subst, ◌∙◌, append_assoc, Option, Some, None}
+use Rattle.std.proofs.Common.{◌≡◌, ℕ, Bool, List, [], ◌∷◌, ◌++◌, refl, sym, ap, subst, ◌∙◌, append_assoc, Option, Some, None, Result, Ok, Err}
 use Rattle.std.specs.List.{AllZip}
 use Rattle.std.proofs.lemmas.Option.{none-some}
 use Rattle.std.proofs.lemmas.List.Sorted.{IsPermutation-sym}
@@ -12,15 +12,16 @@ use Rattle.c62_packet.specs.declared.fault.PacketRule.{PacketRule}
 use Rattle.c62_packet.specs.Packed.{Packed, issue_of, issues_of, issued}
 use Rattle.c62_packet.proofs.Broken.{kept-each}
 use Rattle.c62_adopt_cut.specs.Blocks.{Draft}
-use Rattle.c62_adopt_cut.specs.Text.{Refusal, text_cut}
+use Rattle.c62_adopt_cut.specs.Text.{Refusal}
 use Rattle.c62_adopt_cut.specs.Drafted.{refusal_of}
 use Rattle.c62_adopt_cut.specs.Flight.{first_in_flight, or_behind}
 use Rattle.c62_adopt_cut.proofs.DrainLemmas.{lacks_none_where_over}
+use Rattle.c62_adopt_code.specs.Code.{Refusal as CodeRefusal}
 use Rattle.c62_adopt.specs.declared.fault.AdoptFault.{AdoptFault}
-use Rattle.c62_adopt.specs.declared.fault.AdoptFault.TheVariants.{Text, Rule, Memory}
+use Rattle.c62_adopt.specs.declared.fault.AdoptFault.TheVariants.{Text, Rule, Memory, Code}
 use Rattle.c62_adopt.specs.Blocks.{IsBlockOf}
 use Rattle.c62_adopt.specs.Breach.{KeepsRules, IsBreachIn, IsFirstBreach}
-use Rattle.c62_adopt.specs.Answer.{IsAdopted, Refuses}
+use Rattle.c62_adopt.specs.Answer.{IsAdopted, Refuses, code_cut, code_in, code_read}
 use Rattle.c62_adopt.specs.Laws.{HasOneAdoption, DrainsNothing}
 use Rattle.c62_adopt.proofs.Orders.{rules_same}
 use Rattle.c62_adopt.proofs.Breaches.{same_placed}
@@ -54,8 +55,8 @@ same_blocks whole (draft ∷ drafts) (p ∷ packets) (q ∷ others) one other =
 
 pub one_adoption : (drain : Bool) (text : List ℕ) → HasOneAdoption drain text
 one_adoption drain text packets others added more is also = (
-  same_blocks (text_cut text).drafts (text_cut text).drafts packets others is.cut.blocks also.cut.blocks,
-  is.lacking ∙ sym also.lacking,
+  same_blocks (code_cut text).drafts (code_cut text).drafts packets others is.read.cut.blocks also.read.cut.blocks,
+  is.read.lacking ∙ sym also.read.lacking,
 )
 
 -- ---- what is adopted is not refused
@@ -104,18 +105,23 @@ no_fault : (first behind : Option Refusal) (refusal : Refusal) → first ≡ Non
 no_fault None behind refusal none also is = none-some refusal (sym also ∙ is)
 no_fault (Some other) behind refusal none also is = none-some other (sym none)
 
+pub both_read : (read : Result (List ℕ) CodeRefusal) (code : List ℕ) (refusal : CodeRefusal) → read ≡ Ok code → read ≡ Err refusal → ⊥
+both_read (Ok other) code refusal one two = absurd cc
+both_read (Err other) code refusal one two = absurd cc
+
 pub not_refused : (drain : Bool) (text : List ℕ) (packets : List Packed) (added : ℕ) (fault : AdoptFault) → IsAdopted drain text packets added
     → Refuses drain text fault → fault ≡ Memory
 not_refused drain text packets added (Text fault) is refused =
-    absurd (no_fault (text_cut text).fault (first_in_flight drain (text_cut text)) (refusal_of fault) is.cut.whole is.cut.over refused.1)
-not_refused drain text packets added (Rule line rule) is refused = absurd (no_first_breach (text_cut text).drafts packets line rule is.cut.blocks refused)
+    absurd (no_fault (code_cut text).fault (first_in_flight drain (code_cut text)) (refusal_of fault) is.read.cut.whole is.read.cut.over refused.1.1)
+not_refused drain text packets added (Rule line rule) is refused = absurd (no_first_breach (code_cut text).drafts packets line rule is.read.cut.blocks refused.1)
+not_refused drain text packets added (Code line cause) is refused = absurd (both_read (code_read text) (code_in (code_read text)) (line, cause) is.coded refused)
 not_refused drain text packets added Memory is refused = refl
 
 -- ---- where nothing lacks
 
 pub drains_nothing : (text : List ℕ) (packets : List Packed) → DrainsNothing text packets
 drains_nothing text packets added is =
-    let none = (lacks_none_where_over (text_cut text)).0 is.cut.over in (
-      is.lacking ∙ none.1,
-      record { cut = record { whole = is.cut.whole; over = none.0; blocks = is.cut.blocks }; lacking = sym none.1 },
+    let none = (lacks_none_where_over (code_cut text)).0 is.read.cut.over in (
+      is.read.lacking ∙ none.1,
+      record { coded = is.coded; read = record { cut = record { whole = is.read.cut.whole; over = none.0; blocks = is.read.cut.blocks }; lacking = sym none.1 } },
     )

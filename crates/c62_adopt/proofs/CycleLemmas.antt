@@ -7,14 +7,14 @@ use Rattle.std.proofs.lemmas.List.Sorted.{All-permutation}
 use Rattle.c62_packet.specs.declared.placed.Placed.{Placed}
 use Rattle.c62_packet.specs.Packed.{Packed, issues_of}
 use Rattle.c62_adopt_cut.specs.Blocks.{Draft}
-use Rattle.c62_adopt_cut.specs.Text.{Cut, text_cut}
+use Rattle.c62_adopt_cut.specs.Text.{Cut}
 use Rattle.c62_adopt_cut.specs.Flight.{all_lacking, cycles_lacking, first_in_flight, next_drained, next_start, over_in}
 use Rattle.c62_adopt_cut.specs.Home.{starts_of}
 use Rattle.c62_adopt_cut.specs.Laws.{AreOver, IsOver}
 use Rattle.c62_adopt_cut.proofs.DrainLemmas.{lacks_none_where_over, over_before}
 use Rattle.c62_adopt_cut.proofs.OverLemmas.{blocks_are_over}
 use Rattle.c62_adopt_cut.proofs.TextHomes.{blocks_are_of_lines}
-use Rattle.c62_adopt.specs.Answer.{IsAdopted}
+use Rattle.c62_adopt.specs.Answer.{IsAdopted, code_cut, code_in, code_read}
 use Rattle.c62_adopt.specs.Blocks.{IsBlockOf}
 use Rattle.c62_adopt.specs.Cycles.{AccountsForCycles, HaveRoom, cycles_listed, left_out}
 use Rattle.c62_adopt.proofs.BlockLemmas.{end_at, ends_by, length_within}
@@ -87,8 +87,8 @@ added_is false cut added over is = sym (is ∙ ((lacks_none_where_over cut).0 ov
 
 pub accounts_for_cycles : (drain : Bool) (text : List ℕ) → AccountsForCycles drain text
 accounts_for_cycles drain text packets added is =
-    let cut = text_cut text in
-    let lines = blocks_are_of_lines text in
+    let cut = code_cut text in
+    let lines = blocks_are_of_lines (code_in (code_read text)) in
     let early = rw (← lines.read.cycles) at lines.blocks.early in
-    let all = accounts drain cut.drafts cut.cycles cut.drafts packets is.cut.blocks (blocks_are_over drain cut is.cut.over) lines.blocks.rising early in
-    record { room = all.0; sum = ap (λ (more : ℕ). cut.cycles + more) (sym (added_is drain cut added is.cut.over is.lacking)) ∙ all.1 }
+    let all = accounts drain cut.drafts cut.cycles cut.drafts packets is.read.cut.blocks (blocks_are_over drain cut is.read.cut.over) lines.blocks.rising early in
+    record { room = all.0; sum = ap (λ (more : ℕ). cut.cycles + more) (sym (added_is drain cut added is.read.cut.over is.read.lacking)) ∙ all.1 }

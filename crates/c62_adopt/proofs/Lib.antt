@@ -1,3 +1,4 @@
+pub mod CodeLemmas
 pub mod Orders
 pub mod Placing
 pub mod Breaches

@@ -13,13 +13,12 @@ use Rattle.c62_listing.specs.Listing.{listing}
 use Rattle.c62_listing_reader.specs.Laws.{AreShown, labels_given as labels_listed}
 use Rattle.c62_listing_reader.proofs.ShownLemmas.{read_exactly}
 use Rattle.c62_adopt_cut.specs.Blocks.{Draft}
-use Rattle.c62_adopt_cut.specs.Text.{text_cut}
 use Rattle.c62_adopt_cut.specs.Laws.{labels_given}
 use Rattle.c62_adopt_cut.proofs.FineLemmas.{blocks_are_fine}
 use Rattle.c62_adopt_cut.proofs.NameLemmas.{blocks_are_named}
 use Rattle.c62_adopt_cut.proofs.OverLemmas.{blocks_are_over}
 use Rattle.c62_adopt.specs.Blocks.{IsBlockOf}
-use Rattle.c62_adopt.specs.Answer.{IsAdopted}
+use Rattle.c62_adopt.specs.Answer.{IsAdopted, code_cut, code_in, code_read}
 use Rattle.c62_adopt.specs.Laws.{AdoptsListings}
 use Rattle.c62_adopt.proofs.Placing.{as_many}
 use Rattle.c62_adopt.proofs.PacketsLemmas.{zip_long}
@@ -52,15 +51,15 @@ all_begun whole (draft ∷ drafts) (block ∷ packets) zip begun =
 
 pub adopted_shown : (drain : Bool) (text : List ℕ) (packets : List Packed) (added : ℕ) → IsAdopted drain text packets added → AreShown packets
 adopted_shown drain text packets added is =
-    let drafts : List Draft = (text_cut text).drafts in
-    let zip = is.cut.blocks in
-    let few = (blocks_are_fine text).few in
-    let named = blocks_are_named text in
+    let drafts : List Draft = (code_cut text).drafts in
+    let zip = is.read.cut.blocks in
+    let few = (blocks_are_fine (code_in (code_read text))).few in
+    let named = blocks_are_named (code_in (code_read text)) in
     let same : labels_listed packets ≡ labels_given drafts = ap (flat_map option_to_list) (same_labels drafts drafts packets zip) in
     record {
       few = omega (arith, few, zip_long (IsBlockOf drafts) drafts packets zip);
       are_blocks = all_blocks drafts drafts packets zip;
-      closed = packets_closed drain drafts (text_cut text).cycles packets zip (blocks_are_aimed text) (blocks_are_over drain (text_cut text) is.cut.over);
+      closed = packets_closed drain drafts (code_cut text).cycles packets zip (blocks_are_aimed (code_in (code_read text))) (blocks_are_over drain (code_cut text) is.read.cut.over);
       labels = subst (AllByRecursion (λ (label : Name). IsTrue (is_label label))) (sym same) named.labels;
       distinct = subst (IsDistinct bytes_eq) (sym same) named.distinct;
       begun = all_begun drafts drafts packets zip named.begun;

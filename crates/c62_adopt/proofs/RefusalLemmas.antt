@@ -1,5 +1,5 @@
 -- A text is refused in one way.
-use Rattle.std.proofs.Common.{arith, ◌≡◌, ◌⊎◌, ℕ, zero, suc, Bool, List, [], ◌∷◌, ◌++◌, refl, sym, ap, subst, ◌∙◌, inl, inr}
+use Rattle.std.proofs.Common.{arith, ◌≡◌, ◌⊎◌, ℕ, zero, suc, Bool, List, [], ◌∷◌, ◌++◌, refl, sym, ap, subst, ◌∙◌, inl, inr, Result, Ok, Err}
 use Rattle.std.specs.Prelude.{All, Contains}
 use Rattle.std.proofs.lemmas.Bool.{cases_lt}
 use Rattle.std.proofs.lemmas.Option.{same_Some}
@@ -14,13 +14,15 @@ use Rattle.c62_packet.proofs.Broken.{kept-each}
 use Rattle.c62_packet.proofs.OneFault.{same_break}
 use Rattle.c62_adopt_cut.specs.declared.fault.TextFault.{TextFault}
 use Rattle.c62_adopt_cut.specs.Blocks.{Draft}
-use Rattle.c62_adopt_cut.specs.Text.{text_cut}
+use Rattle.c62_adopt_code.specs.declared.fault.CodeCause.{CodeCause}
+use Rattle.c62_adopt_code.specs.Code.{Refusal as CodeRefusal}
+use Rattle.c62_adopt.specs.Answer.{code_cut, code_in, code_read}
 use Rattle.c62_adopt_cut.specs.Drafted.{refusal_of}
-use Rattle.c62_adopt.specs.declared.fault.AdoptFault.TheVariants.{Text, Rule, Memory}
+use Rattle.c62_adopt.specs.declared.fault.AdoptFault.TheVariants.{Text, Rule, Memory, Code}
 use Rattle.c62_adopt.specs.Breach.{KeepsRules, IsBreachIn, IsFirstBreach}
 use Rattle.c62_adopt.specs.Laws.{HasOneAnswer, HasOneRefusal}
 use Rattle.c62_adopt.proofs.Breaches.{same_placed}
-use Rattle.c62_adopt.proofs.AnswerLemmas.{one_adoption, not_refused, no_breach, front_part}
+use Rattle.c62_adopt.proofs.AnswerLemmas.{both_read, one_adoption, not_refused, no_breach, front_part}
 
 -- ---- the first broken rule is one
 
@@ -114,16 +116,26 @@ none_broken drafts line rule kept breach =
 same_fault : (fault other : TextFault) → refusal_of fault ≡ refusal_of other → fault ≡ other
 same_fault fault other same = grind arith
 
+same_refusal : (line other : ℕ) (cause next : CodeCause) (read : Result (List ℕ) CodeRefusal) → read ≡ Err (line, cause) → read ≡ Err (other, next)
+    → Code line cause ≡ Code other next
+same_refusal line other cause next read one two = grind arith
+
 pub one_refusal : (drain : Bool) (text : List ℕ) → HasOneRefusal drain text
 one_refusal drain text Memory other one two = inr (inl refl)
 one_refusal drain text (Text fault) Memory one two = inr (inr refl)
 one_refusal drain text (Rule line rule) Memory one two = inr (inr refl)
+one_refusal drain text (Code line cause) Memory one two = inr (inr refl)
+one_refusal drain text (Code line cause) (Code other next) one two = inl (same_refusal line other cause next (code_read text) one two)
+one_refusal drain text (Code line cause) (Text fault) one two = absurd (both_read (code_read text) (code_in (code_read text)) (line, cause) two.0 one)
+one_refusal drain text (Code line cause) (Rule other rule) one two = absurd (both_read (code_read text) (code_in (code_read text)) (line, cause) two.0 one)
+one_refusal drain text (Text fault) (Code line cause) one two = absurd (both_read (code_read text) (code_in (code_read text)) (line, cause) one.0 two)
+one_refusal drain text (Rule other rule) (Code line cause) one two = absurd (both_read (code_read text) (code_in (code_read text)) (line, cause) one.0 two)
 one_refusal drain text (Text fault) (Text other) one two =
-    inl (ap Text (same_fault fault other (same_Some (refusal_of fault) (refusal_of other) (sym one.1 ∙ two.1))))
-one_refusal drain text (Text fault) (Rule line rule) one two = absurd (none_broken (text_cut text).drafts line rule one.0 two)
-one_refusal drain text (Rule line rule) (Text fault) one two = absurd (none_broken (text_cut text).drafts line rule two.0 one)
+    inl (ap Text (same_fault fault other (same_Some (refusal_of fault) (refusal_of other) (sym one.1.1 ∙ two.1.1))))
+one_refusal drain text (Text fault) (Rule line rule) one two = absurd (none_broken (code_cut text).drafts line rule one.1.0 two.1)
+one_refusal drain text (Rule line rule) (Text fault) one two = absurd (none_broken (code_cut text).drafts line rule two.1.0 one.1)
 one_refusal drain text (Rule line rule) (Rule other next) one two =
-    let same = first_breach_once (text_cut text).drafts line other rule next one two in
+    let same = first_breach_once (code_cut text).drafts line other rule next one.1 two.1 in
     let lines = same.0 in
     let rules = same.1 in
     inl cc

@@ -2,9 +2,8 @@
 use Rattle.std.specs.Prelude.{◌≡◌, ℕ, ◌+◌, ◌-◌, ◌≤◌, Bool, List, [], ◌∷◌}
 use Rattle.c62_packet.specs.Packed.{Packed}
 use Rattle.c62_adopt_cut.specs.Blocks.{Draft}
-use Rattle.c62_adopt_cut.specs.Text.{text_cut}
 use Rattle.c62_adopt_cut.specs.Flight.{next_drained, next_start}
-use Rattle.c62_adopt.specs.Answer.{IsAdopted}
+use Rattle.c62_adopt.specs.Answer.{IsAdopted, code_cut}
 
 -- the cycles of all these packets, which are those of their listing
 abbrev pub cycles_listed : List Packed → ℕ
@@ -31,9 +30,9 @@ HaveRoom drain end _ _ = Unit {0}
 -- block, those of the listing, and those that were left out. In the last nothing is issued or in flight, as the packets' cycles are
 -- all until they have landed or their branch has taken effect.
 pub record AreAccounted (drain : Bool) (text : List ℕ) (packets : List Packed) (added : ℕ) : Type 0 where
-  pub room : HaveRoom drain (text_cut text).cycles (text_cut text).drafts packets
-  pub sum : (text_cut text).cycles + added ≡ next_start (text_cut text).cycles (text_cut text).drafts
-      + (cycles_listed packets + left_out drain (text_cut text).cycles (text_cut text).drafts packets)
+  pub room : HaveRoom drain (code_cut text).cycles (code_cut text).drafts packets
+  pub sum : (code_cut text).cycles + added ≡ next_start (code_cut text).cycles (code_cut text).drafts
+      + (cycles_listed packets + left_out drain (code_cut text).cycles (code_cut text).drafts packets)
 
 -- so it is of all that is adopted
 abbrev pub AccountsForCycles : Bool → List ℕ → Type 0

@@ -1,19 +1,21 @@
 //! The packets of a text of packets.
 
-ghost use Rattle.std.specs.Prelude.{◌≡◌, ◌<◌, ◌≤◌, ◌++◌, ◌∷◌, [], All, length, map, option_map, MatchResult, IfOk, OnOk, IsTrue};
+ghost use Rattle.std.specs.Prelude.{◌≡◌, ◌<◌, ◌≤◌, ◌++◌, ◌∷◌, [], All, length, map, option_map, Ok, MatchResult, IfOk, OnOk, IsTrue};
 ghost use Rattle.std.specs.List.{AllZip};
 ghost use Rattle.c62_read.specs.declared.limits.TheConstants.{MOST_BLOCKS};
 ghost use Rattle.c62_packet.specs.Packets.{is_closed};
+ghost use Rattle.c62_adopt_cut.specs.Text.{text_cut};
 ghost use Rattle.c62_adopt_cut.specs.Drafted.{draft_of, refusal_of, cut_of};
 ghost use Rattle.c62_adopt_cut.specs.Flight.{first_in_flight, or_behind};
-ghost use Rattle.c62_adopt.specs.Answer.{IsAdopted, Refuses};
+ghost use Rattle.c62_adopt.specs.Answer.{IsAdopted, IsAdoptedFrom, LacksCode, Refuses, RefusesCut, code_read};
 ghost use Rattle.c62_adopt.specs.Blocks.{IsBlockOf};
 ghost use Rattle.c62_adopt.specs.Packing.{IsSound};
 
 use crate::breach::first_breach;
 use crate::fault::AdoptFault;
 use crate::listed::listed;
-use c62_adopt_cut::{Cut, Draft, TextFault, cycles_lacking, first_in_flight, read_cut};
+use c62_adopt_code::code_of;
+use c62_adopt_cut::{Cut, Draft, MOST_BYTES, TextFault, cycles_lacking, first_in_flight, read_cut};
 use c62_line::copied_label;
 use c62_packet::{PacketBlock, Packets};
 use std::alloc::{AllocError, Global};
@@ -69,20 +71,12 @@ fn fault_of(cut: &Cut, drain: bool) -> Option<TextFault>
     }
 }
 
-/// The packets of a text of packets, as people and compilers write them (docs/ADOPT.md). Each instruction stands in the cycle and
-/// on the unit in which the text has it, and each branch to a label goes to a block that has it. Where the text is drained, the
-/// cycles that lack are added before the ends of its blocks; otherwise none are.
-///
-/// # Errors
-///
-/// `Rule` for the first line whose instruction breaks a packet rule together with those above it in its block, as far as the
-/// text is read. `Text` for the first line that has another fault by itself or because of the lines above it, and else for the
-/// first that has one because of the lines below it. `Memory` where memory ran out, which may come in place of any answer.
-pub fn adopt(alloc: Global, text: &[u8], drain: bool) -> Result<Adopted, AdoptFault>
-    ensures adopted { MatchResult result (λ adopted. IsAdopted drain text.now adopted.packets adopted.added) (λ fault. Refuses drain text.now fault) }
+/// The packets of a text's code. Where this is drained, the cycles that lack are added before the ends of its blocks; otherwise none are.
+fn adopt_code(alloc: Global, code: &[u8], drain: bool) -> Result<Adopted, AdoptFault>
+    ensures adopted { MatchResult result (λ adopted. IsAdoptedFrom drain (text_cut code.now) adopted.packets adopted.added) (λ fault. RefusesCut drain (text_cut code.now) fault) }
     ensures closed { IfOk result (λ adopted. IsTrue (is_closed adopted.packets)) }
 {
-    let cut = read_cut(alloc, text)?;
+    let cut = read_cut(alloc, code)?;
     if let Some((line, rule)) = first_breach(alloc, &cut.drafts)? {
         return Err(AdoptFault::Rule(line, rule));
     }
@@ -94,4 +88,46 @@ pub fn adopt(alloc: Global, text: &[u8], drain: bool) -> Result<Adopted, AdoptFa
         packets,
         added: cycles_lacking(&cut),
     })
+}
+
+/// The code of a text of packets, which is what `adopt` and `exec` read of it (docs/ADOPT.md, "Sections"). A text that is too long isn't looked
+/// at: the bytes that show it are its code.
+///
+/// # Errors
+///
+/// `Code` for the first line that keeps the text from having code. `Memory` where memory ran out, which may come in place of any answer.
+#[tactic(auto, using(crate::proofs::CodeLemmas::long_read, crate::proofs::CodeLemmas::short_read, crate::proofs::CodeLemmas::lacks_code))]
+pub fn read_code(alloc: Global, text: &[u8]) -> Result<Vec<u8>, AdoptFault>
+    ensures { MatchResult result (λ code. code_read text.now ≡ Ok code.items) (λ fault. LacksCode text.now fault) }
+{
+    if MOST_BYTES < text.len() {
+        let mut code = Vec::new(alloc);
+        code.extend_from_slice(&text[..MOST_BYTES + 1])?;
+        return Ok(code);
+    }
+    match code_of(alloc, text) {
+        Ok(code) => Ok(code),
+        Err(fault) => Err(AdoptFault::from(fault)),
+    }
+}
+
+/// The packets of a text of packets, as people and compilers write them (docs/ADOPT.md). Each instruction stands in the cycle and
+/// on the unit in which the text has it, and each branch to a label goes to a block that has it. Where the text is drained, the
+/// cycles that lack are added before the ends of its blocks; otherwise none are.
+///
+/// # Errors
+///
+/// `Code` for the first line that keeps the text from having code. Where it has some, `Rule` for the first line whose instruction breaks a
+/// packet rule together with those above it in its block, as far as the text is read. `Text` for the first line that has another fault by itself
+/// or because of the lines above it, and else for the first that has one because of the lines below it. `Memory` where memory ran out, which may
+/// come in place of any answer.
+#[tactic(auto, using(crate::proofs::CodeLemmas::adopted_by, crate::proofs::CodeLemmas::refused_by, crate::proofs::CodeLemmas::refused_uncoded))]
+pub fn adopt(alloc: Global, text: &[u8], drain: bool) -> Result<Adopted, AdoptFault>
+    ensures adopted { MatchResult result (λ adopted. IsAdopted drain text.now adopted.packets adopted.added) (λ fault. Refuses drain text.now fault) }
+    ensures closed { IfOk result (λ adopted. IsTrue (is_closed adopted.packets)) }
+{
+    match read_code(alloc, text) {
+        Ok(code) => adopt_code(alloc, &code, drain),
+        Err(fault) => Err(fault),
+    }
 }

@@ -1,9 +1,10 @@
 //! Why a text of packets is refused.
 
 ghost use Rattle.std.specs.Prelude.{◌≡◌, Some};
-ghost use Rattle.c62_adopt.specs.FaultText.{adopt_fault_text};
+ghost use Rattle.c62_adopt.specs.FaultText.{adopt_fault_text, fault_from};
 ghost use Rattle.c62_adopt.specs.declared.fault.AdoptFault.TheVariants.{Memory};
 
+use c62_adopt_code::{CodeCause, CodeFault};
 use c62_adopt_cut::TextFault;
 use c62_packet::PacketRule;
 use std::alloc::{AllocError, AllocFailed};
@@ -17,8 +18,21 @@ pub enum AdoptFault {
     Text(TextFault),
     /// The instruction of this line, counted from 1, breaks this rule together with those above it in its block.
     Rule(u32, PacketRule),
+    /// The line keeps the text from having code.
+    Code(u32, CodeCause),
     /// Memory ran out.
     Memory,
+}
+
+impl From<CodeFault> for AdoptFault {
+    ghost from_gives = { λ code fault. fault ≡ fault_from code };
+
+    fn from(fault: CodeFault) -> AdoptFault {
+        match fault {
+            CodeFault::At(line, cause) => AdoptFault::Code(line, cause),
+            CodeFault::Memory => AdoptFault::Memory,
+        }
+    }
 }
 
 impl From<AllocError> for AdoptFault {
@@ -44,6 +58,10 @@ impl fmt::Display for AdoptFault {
         match self {
             AdoptFault::Text(fault) => write!(f, "{fault}"),
             AdoptFault::Rule(line, rule) => write!(f, "line {line}: {rule}"),
+            AdoptFault::Code(line, cause) => {
+                let name = cause.name();
+                write!(f, "line {line}: {name}")
+            }
             AdoptFault::Memory => f.write_str("memory"),
         }
     }

@@ -7,7 +7,7 @@ mod fault;
 pub mod laws;
 mod listed;
 
-pub use adopting::{Adopted, adopt};
+pub use adopting::{Adopted, adopt, read_code};
 pub use fault::AdoptFault;
 
 #[cfg(test)]

@@ -1,3 +1,4 @@
+pub mod Own
 pub mod Common
 pub mod Leading
 pub mod Cuts

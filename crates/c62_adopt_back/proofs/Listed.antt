@@ -3,6 +3,8 @@ use Rattle.c62_adopt_back.proofs.Common.{nat_tests, arith, ◌≡◌, ℕ, ◌�
 use Rattle.c62_adopt_back.proofs.Common.{subst, append_assoc, append-nil, codes, nat_lt, All, All-tail, AllByRecursion, list_all, Name, operands_of}
 use Rattle.c62_adopt_back.proofs.Common.{Packed, all_lines, listing, name_in, Line, cycles_of, Draft, Drafts, all_drafts, no_drafts, cut_at}
 use Rattle.std.proofs.lemmas.Bool.{and_parts, le-ltb}
+use Rattle.std.proofs.lemmas.List.{take_all}
+use Rattle.std.proofs.Common.{Ok}
 use Rattle.c62_read.specs.Text.{lines_of}
 use Rattle.c62_packet.specs.Packets.{labels_of}
 use Rattle.c62_listing.specs.Listing.{text_of}
@@ -13,13 +15,18 @@ use Rattle.c62_listing_reader.proofs.ReadBackLemmas.{IsFit, all_placed, all_writ
 use Rattle.c62_listing_reader.proofs.UntoldLemmas.{are_allowed}
 use Rattle.c62_adopt_cut.specs.Flight.{cycles_lacking}
 use Rattle.c62_adopt_cut.specs.Text.{Cut, most_bytes, read_below, text_cut}
-use Rattle.c62_adopt.specs.Answer.{IsAdopted, IsAdoptedCut}
+use Rattle.c62_adopt_code.specs.Code.{code_of}
+use Rattle.c62_adopt_code.specs.Laws.{is_plain}
+use Rattle.c62_adopt_code.proofs.OwnLemmas.{own_code}
+use Rattle.c62_adopt.specs.Answer.{IsAdopted, IsAdoptedCut, code_read}
+use Rattle.c62_adopt.proofs.CodeLemmas.{adopted_by as adopted_as, short_read}
 use Rattle.c62_adopt_back.specs.Laws.{AreParted, IsAdoptedAsItself, ListingsStay}
 use Rattle.c62_adopt_back.proofs.Adopted.{ArePlacedIn, IsPlacedIn, taken}
 use Rattle.c62_adopt_back.proofs.Alike.{listing_alike}
 use Rattle.c62_adopt_back.proofs.Cycles.{IsListed}
 use Rattle.c62_adopt_back.proofs.Good.{all_good, all_listed, branch_once}
 use Rattle.c62_adopt_back.proofs.Leading.{Leads}
+use Rattle.c62_adopt_back.proofs.Own.{all_plain}
 use Rattle.c62_adopt_back.proofs.Over.{IsFound, IsSettled, none_in_flight, none_lacking}
 use Rattle.c62_adopt_back.proofs.Targets.{all_aimed, labels_so}
 use Rattle.c62_adopt_back.proofs.Walk.{AreAllPassed, all_lead}
@@ -76,12 +83,20 @@ module _ (packets : List Packed) (shown : AreShown packets) (drafts : List Draft
 
 -- ---- the text
 
-adopted_by : (drain : Bool) (text : List ℕ) (cut : Cut) (packets : List Packed) → text_cut text ≡ cut → IsAdoptedCut drain cut packets
-    → cycles_lacking cut ≡ 0 → IsAdopted drain text packets 0
-adopted_by drain text cut packets is adopted none = record {
+adopted_by : (drain : Bool) (text : List ℕ) (cut : Cut) (packets : List Packed) → code_read text ≡ Ok text → text_cut text ≡ cut
+    → IsAdoptedCut drain cut packets → cycles_lacking cut ≡ 0 → IsAdopted drain text packets 0
+adopted_by drain text cut packets own is adopted none = adopted_as drain text text packets 0 own (record {
   cut = subst (λ (c : Cut). IsAdoptedCut drain c packets) (sym is) adopted;
   lacking = sym (ap cycles_lacking is ∙ none);
-}
+})
+
+-- lines without directives and comments are the code of their text
+coded_by : (lines : List (List ℕ)) → list_all are_allowed lines ≡ true → list_all is_plain lines ≡ true → length (text_of lines) ≤ 8388608
+    → code_read (text_of lines) ≡ Ok (text_of lines)
+unfolding code_of
+coded_by lines allowed plain short =
+    short_read (text_of lines) short
+    ∙ rw (lines_back lines allowed, own_code lines plain) (ap Ok (take_all 8388608 (text_of lines) short))
 
 module _ (drain : Bool) (packets : List Packed) (shown : AreShown packets) (parted : AreParted packets) where
   adopted : IsAdoptedAsItself drain packets
@@ -95,13 +110,15 @@ module _ (drain : Bool) (packets : List Packed) (shown : AreShown packets) (part
       let drafts : List Draft = all_drafts lead.final in
       let end : ℕ = cycles_of lead.passed in
       let cut : text_cut (listing packets) ≡ cut_at lead.passed lead.final None = cut_by lines (AreAllPassed name packets) lead allowed short in
+      let plain = all_plain name packets (each packets shown (IsSmall name) (small packets shown) packets fits) in
+      let own : code_read (listing packets) ≡ Ok (listing packets) = coded_by lines allowed plain short in
       let same = labels_so name 0 end drafts packets lead.is.read in
       let settle = each packets shown (IsSettled name drafts) (settled packets shown drafts same) packets fits in
       let of = taken name drafts 0 end drafts packets lead.is.read
       (each packets shown (ArePlacedIn name drafts) (placed_in packets shown drafts same) packets fits) shown.are_blocks in
       record {
         others = of.others;
-        adopted = adopted_by drain (listing packets) (cut_at lead.passed lead.final None) of.others cut (record {
+        adopted = adopted_by drain (listing packets) (cut_at lead.passed lead.final None) of.others own cut (record {
           whole = refl;
           over = none_in_flight name drafts drain 0 end drafts packets lead.is.read settle;
           blocks = of.blocks;

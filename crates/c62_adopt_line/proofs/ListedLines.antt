@@ -38,7 +38,7 @@ use Rattle.c62_token.proofs.TokenLemmas.{tokens_blank}
 use Rattle.c62_line.specs.Unit.{is_dot}
 use Rattle.c62_adopt_line.specs.Laws.{EmptyReads, HasUnit, InstructionReads, IsPlain, LabelReads, PauseReads, has_one_dot, has_return}
 use Rattle.c62_adopt_line.proofs.SerialLines.{line_steps, no_bars, reads_as_serial, undotted_none}
-use Rattle.c62_adopt_line.specs.Plain.{undotted}
+use Rattle.c62_adopt_line.specs.Plain.{names_branch, undotted}
 use Rattle.c62_adopt_line.specs.Line.{behind_colon, line_says, statement_says}
 use Rattle.c62_token.specs.Token.{is_allowed}
 use Rattle.c62_line.specs.declared.fault.Cause.{Cause}
@@ -239,12 +239,12 @@ lacks_between c odd other front back first second =
 -- ---- words up to the unit
 
 abbrev stops : Word → Bool
-stops word = spells (codes "RET") word || begins is_dot word
+stops word = names_branch word || begins is_dot word
 
 return_behind : (words rest : List Word) → list_any stops words ≡ false → has_return (words ++ rest) ≡ has_return rest
 return_behind [] rest none = refl
 return_behind (word ∷ words) rest none =
-    let ret : spells (codes "RET") word ≡ false = grind (arith, nat_tests) in
+    let ret : names_branch word ≡ false = grind (arith, nat_tests) in
     let dot : begins is_dot word ≡ false = grind (arith, nat_tests) in
     rw (ret, dot) (return_behind words rest (grind (arith, nat_tests)))
 

@@ -14,7 +14,7 @@ use Rattle.c62_line.specs.declared.fault.Cause.TheVariants.{NotAscii, LineTooLon
 use Rattle.c62_line.specs.Line.{Says, Nothing, Pause, Does, Jumps, head_of, is_bars, is_star, label_front, line_of, rest_says, with_head, with_rest, without_colon}
 use Rattle.c62_line.specs.Unit.{is_dot}
 use Rattle.c62_line.proofs.HeadLemmas.{no_colon_at_all, no_label}
-use Rattle.c62_adopt_line.specs.Plain.{in_accesses, operands_behind, plain_words, bytes_named, undotted}
+use Rattle.c62_adopt_line.specs.Plain.{in_accesses, names_branch, operands_behind, plain_words, bytes_named, undotted}
 use Rattle.c62_adopt_line.specs.Line.{behind_bars, from_solid, has_colon, instruction_says, line_said, line_says, statement_says, with_unit, words_say}
 use Rattle.c62_adopt_line.specs.Laws.{HasUnit, IsPlain, ReadsAsSerial, has_one_dot, has_return}
 use Rattle.c62_adopt_line.proofs.Labels.{no_colon_no_label}
@@ -68,7 +68,7 @@ plain_same : (last : Word) (words : List Word) → has_return words ≡ false �
     → plain_words last words ≡ words
 plain_same last [] ret round = refl
 plain_same last (word ∷ words) ret round =
-    let name : spells (codes "RET") word ≡ false = grind (arith, nat_tests) in
+    let name : names_branch word ≡ false = grind (arith, nat_tests) in
     let operands = operands_same (bytes_named last) words (grind (arith, nat_tests)) in
     elim (cases_Bool (begins is_dot word)) [
       | inl dot ↦ rw (name, dot, operands) refl

@@ -6,7 +6,7 @@ use Rattle.std.specs.Fmt.{signed_decimal}
 use Rattle.c62_token.specs.Number.{number_of}
 use Rattle.c62_token.proofs.TokenLemmas.{tokens_alone, tokens_blank, tokens_joined, joined_word, word_solid, solid_parts}
 use Rattle.c62_token.proofs.SpelledNumbers.{fits, number_piece}
-use Rattle.c62_adopt_line.specs.Plain.{spaced, plain_words, renamed, operands_behind, in_accesses, accesses_in, between_brackets, counted, bytes_named}
+use Rattle.c62_adopt_line.specs.Plain.{names_branch, spaced, plain_words, renamed, operands_behind, in_accesses, accesses_in, between_brackets, counted, bytes_named}
 
 -- a word is a token where a blank follows
 abbrev pub Stands : Word → Type 0
@@ -120,7 +120,7 @@ operands_stand None words stand = stand
 operands_stand (Some size) words stand = accesses_stand size words stand
 
 renamed_stands : (word : Word) → Stands word → Stands (renamed word)
-renamed_stands word stands = elim (cases_Bool (spells (codes "RET") word)) [
+renamed_stands word stands = elim (cases_Bool (names_branch word)) [
   | inl ret ↦ rw ret (byte_stands 66 refl)
   | inr other ↦ rw other stands
 ]

@@ -7,8 +7,16 @@ use Rattle.c62_token.specs.Number.{spells}
 -- what is told of a program for its debugger, its linker or its reader
 abbrev pub quiet_names : List Word
 quiet_names =
-    codes ".text" ∷ codes ".align" ∷ codes ".global" ∷ codes ".globl" ∷ codes ".def" ∷ codes ".ref" ∷ codes ".type" ∷ codes ".size"
-    ∷ codes ".file" ∷ codes ".ident" ∷ codes ".loc" ∷ codes ".c6xabi_attribute" ∷ []
+    codes ".text" ∷ codes ".align" ∷ codes ".global" ∷ codes ".globl" ∷ codes ".def" ∷ codes ".ref" ∷ codes ".type"
+    ∷ codes ".size" ∷ codes ".file" ∷ codes ".ident" ∷ codes ".loc" ∷ codes ".c6xabi_attribute" ∷ codes ".p2align"
+    ∷ codes ".balign" ∷ codes ".weak" ∷ codes ".hidden" ∷ codes ".internal" ∷ codes ".protected" ∷ codes ".local"
+    ∷ codes ".extern" ∷ codes ".comm" ∷ codes ".lcomm" ∷ codes ".scomm" ∷ codes ".nocmp" ∷ codes ".arch"
+    ∷ codes ".endp" ∷ codes ".cantunwind" ∷ codes ".personality" ∷ codes ".personalityindex" ∷ codes ".title"
+    ∷ codes ".version" ∷ codes ".asmfunc" ∷ codes ".endasmfunc" ∷ codes ".clink" ∷ codes ".retain"
+    ∷ codes ".compiler_opts" ∷ codes ".stack" ∷ codes ".newblock" ∷ codes ".page" ∷ codes ".list" ∷ codes ".nolist"
+    ∷ codes ".mlist" ∷ codes ".mnolist" ∷ codes ".length" ∷ codes ".width" ∷ codes ".tab" ∷ codes ".option"
+    ∷ codes ".dwtag" ∷ codes ".dwattr" ∷ codes ".dwendtag" ∷ codes ".dwpsn" ∷ codes ".dwcfi" ∷ codes ".dwfde"
+    ∷ codes ".dwcie" ∷ codes ".dwendentry" ∷ []
 
 abbrev pub is_quiet : Word → Bool
 is_quiet word = list_any (λ name. spells name word) quiet_names || spells (codes ".cfi_") (take 5 word)

@@ -15,7 +15,7 @@ use Rattle.c62_line.specs.Unit.{is_dot}
 use Rattle.c62_line.specs.Line.{Says, Nothing, Pause, Does, Jumps, line_of}
 use Rattle.c62_line.specs.Laws.{IsReadable, NamesTarget, says_on}
 use Rattle.c62_adopt_line.specs.Line.{Line, line_said, line_says}
-use Rattle.c62_adopt_line.specs.Plain.{accesses_in, bytes_named}
+use Rattle.c62_adopt_line.specs.Plain.{accesses_in, bytes_named, names_branch}
 
 -- an instruction has its unit written
 abbrev pub HasUnit : Says → Type 0
@@ -51,12 +51,12 @@ abbrev pub has_one_dot : List ℕ → Bool
 has_one_dot [] = true
 has_one_dot (b ∷ line) = if b == 46 then not (list_any (λ c. c == 46) line) else has_one_dot line
 
--- the name RET stands before the unit, which is the first word with a dot
+-- another name of B stands before the unit, which is the first word with a dot
 abbrev pub has_return : List Word → Bool
 has_return [] = false
-has_return (word ∷ words) = spells (codes "RET") word || not (begins is_dot word) && has_return words
+has_return (word ∷ words) = names_branch word || not (begins is_dot word) && has_return words
 
--- a line with neither a label, nor a dot but its unit's, nor round brackets, nor the name RET for B
+-- a line with neither a label, nor a dot but its unit's, nor round brackets, nor another name of B
 pub record IsPlain (line : List ℕ) : Type 0 where
   pub no_colon : list_any (λ b. b == 58) line ≡ false
   pub one_dot : has_one_dot line ≡ true

@@ -59,9 +59,12 @@ operands_behind (Some size) words = in_accesses size words
 
 -- ---- an instruction
 
--- RET is another name of B
+-- RET, CALL and CALLRET are other names of B
+abbrev pub names_branch : Word → Bool
+names_branch word = spells (codes "RET") word || spells (codes "CALL") word || spells (codes "CALLRET") word
+
 abbrev pub renamed : Word → Word
-renamed word = if spells (codes "RET") word then codes "B" else word
+renamed word = if names_branch word then codes "B" else word
 
 -- The words of an instruction, of which this one was the last: those up to its unit, which the mnemonic stands before, and
 -- its operands.

@@ -10,7 +10,7 @@ use c62_token::Tokens;
 use c62_token::number::spells;
 
 /// What is told of a program for its debugger, its linker or its reader.
-const QUIET: [&[u8]; 12] = [
+const QUIET: [&[u8]; 55] = [
     b".text",
     b".align",
     b".global",
@@ -23,6 +23,49 @@ const QUIET: [&[u8]; 12] = [
     b".ident",
     b".loc",
     b".c6xabi_attribute",
+    b".p2align",
+    b".balign",
+    b".weak",
+    b".hidden",
+    b".internal",
+    b".protected",
+    b".local",
+    b".extern",
+    b".comm",
+    b".lcomm",
+    b".scomm",
+    b".nocmp",
+    b".arch",
+    b".endp",
+    b".cantunwind",
+    b".personality",
+    b".personalityindex",
+    b".title",
+    b".version",
+    b".asmfunc",
+    b".endasmfunc",
+    b".clink",
+    b".retain",
+    b".compiler_opts",
+    b".stack",
+    b".newblock",
+    b".page",
+    b".list",
+    b".nolist",
+    b".mlist",
+    b".mnolist",
+    b".length",
+    b".width",
+    b".tab",
+    b".option",
+    b".dwtag",
+    b".dwattr",
+    b".dwendtag",
+    b".dwpsn",
+    b".dwcfi",
+    b".dwfde",
+    b".dwcie",
+    b".dwendentry",
 ];
 
 fn is_among(names: &[&[u8]], word: &[u8]) -> bool
@@ -51,7 +94,7 @@ fn is_quiet(word: &[u8]) -> bool
     is_listed(word) || tells_frames(word)
 }
 
-fn names_section(word: &[u8]) -> bool
+pub fn names_section(word: &[u8]) -> bool
     ensures { result ≡ names_section word.now }
 {
     spells(b".sect", word) || spells(b".section", word)
@@ -79,7 +122,7 @@ fn is_of_text(words: Tokens<'_>) -> bool
 }
 
 /// Whether a directive, its name before what stands behind that, lays nothing down.
-pub(crate) fn lays_nothing(words: Tokens<'_>) -> bool
+pub fn lays_nothing(words: Tokens<'_>) -> bool
     ensures { result ≡ lays_nothing (words_left words.entry) }
 {
     match words.split() {

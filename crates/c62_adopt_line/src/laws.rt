@@ -12,7 +12,7 @@ pub fn lines_are_whole()
 {}
 
 /// A line of serial text that has its unit says the same as a line of packets, alone and behind bars: where it has neither a
-/// label, nor a dot but its unit's, nor round brackets, nor the name RET before its unit.
+/// label, nor a dot but its unit's, nor round brackets, nor another name of B before its unit.
 pub fn serial_lines_read_as_they_are()
     ensures { (line : List ℕ) → IsPlain line → ReadsAsSerial line }
 {}

@@ -7,8 +7,9 @@ pub mod laws;
 mod line;
 mod plain;
 
+pub use directive::{lays_nothing, names_section};
 pub use fault::LineFault;
-pub use line::{Written, read_line};
+pub use line::{Written, behind_bars, behind_colon, from_solid, label_of, read_line};
 
 #[cfg(test)]
 mod tests;

@@ -111,7 +111,7 @@ fn read_statement(text: &mut Vec<u8>, beside: bool, bytes: &[u8]) -> Result<What
 }
 
 /// The line from its first byte on that is no blank.
-fn from_solid(line: &[u8]) -> &[u8]
+pub fn from_solid(line: &[u8]) -> &[u8]
     ensures solid { result.now ≡ from_solid line.now }
     ensures shorter { length result.now ≤ length line.now }
 {
@@ -126,7 +126,7 @@ fn from_solid(line: &[u8]) -> &[u8]
 }
 
 /// What stands behind the bars, where these stand first.
-fn behind_bars(line: &[u8]) -> Option<&[u8]>
+pub fn behind_bars(line: &[u8]) -> Option<&[u8]>
     ensures bars { option_copied result ≡ behind_bars line.now }
     ensures shorter { IfSome result (λ rest. length rest.now ≤ length line.now) }
 {
@@ -134,7 +134,7 @@ fn behind_bars(line: &[u8]) -> Option<&[u8]>
 }
 
 /// What stands behind the first colon.
-fn behind_colon(line: &[u8]) -> &[u8]
+pub fn behind_colon(line: &[u8]) -> &[u8]
     ensures behind { result.now ≡ behind_colon line.now }
     ensures shorter { length result.now ≤ length line.now }
 {
@@ -171,7 +171,7 @@ fn read_labelled(
 
 /// The label of a line, with `_` in place of dots.
 #[tactic(auto, using(crate::proofs::Labels::field_is_label, crate::proofs::Labels::no_colon_no_label))]
-fn label_of(line: &[u8]) -> Option<Label>
+pub fn label_of(line: &[u8]) -> Option<Label>
     requires { length line.now ≤ MOST_LINE }
     ensures { result ≡ label_field (undotted true line.now) }
 {

@@ -6,7 +6,7 @@ ghost use Rattle.std.specs.Fmt.{signed_decimal};
 ghost use Rattle.c62_token.specs.Token.{begins, words_left};
 ghost use Rattle.c62_op.specs.Shape.{is_load, is_store};
 ghost use Rattle.c62_line.specs.Mnemonic.{operation_named};
-ghost use Rattle.c62_adopt_line.specs.Plain.{undotted, moved_by, bytes_named, accesses_in, between_brackets, square, counted, in_accesses, operands_behind, renamed, plain_words, spaced, FindsRound, PushesNext};
+ghost use Rattle.c62_adopt_line.specs.Plain.{undotted, moved_by, bytes_named, accesses_in, between_brackets, square, counted, in_accesses, operands_behind, names_branch, renamed, plain_words, spaced, FindsRound, PushesNext};
 
 use arrayvec::ArrayVec;
 use c62_line::MOST_LINE;
@@ -161,11 +161,17 @@ fn push_operands(text: &mut Vec<u8>, name: &[u8], operands: Tokens<'_>) -> Resul
     }
 }
 
-/// RET is another name of B.
+/// Whether it is another name of B.
+fn names_branch(word: &[u8]) -> bool
+    ensures { result ≡ names_branch word.now }
+{
+    spells(b"RET", word) || spells(b"CALL", word) || spells(b"CALLRET", word)
+}
+
 fn renamed(word: &[u8]) -> &[u8]
     ensures { result.now ≡ renamed word.now }
 {
-    if spells(b"RET", word) { b"B" } else { word }
+    if names_branch(word) { b"B" } else { word }
 }
 
 /// Appends the words of an instruction of serial text that stands for this one, each with a blank behind.

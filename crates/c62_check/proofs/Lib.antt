@@ -1,7 +1,6 @@
-pub mod GoneOver
-pub mod Reasons
 pub mod Taking
 pub mod Needs
+pub mod Kept
 pub mod Rising
 pub mod Lined
 pub mod Distinct

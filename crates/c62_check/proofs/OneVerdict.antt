@@ -15,7 +15,7 @@ use Rattle.c62_read.specs.Block.{Serial, is_block}
 use Rattle.c62_packet.specs.declared.placed.Placed.{Placed}
 use Rattle.c62_packet.specs.Packed.{Packed, IsPacketBlock, issued, listing_position}
 use Rattle.c62_depend.specs.Plan.{insns_of}
-use Rattle.c62_check.proofs.Reasons.{one_reason}
+use Rattle.c62_reason.proofs.Reasons.{one_reason}
 use Rattle.c62_check.specs.declared.early.Early.{Early}
 use Rattle.c62_check.specs.declared.verdict.Verdict.{Verdict as Answer}
 use Rattle.c62_check.specs.declared.verdict.Verdict.TheVariants.{Same, Missing, Extra, TooEarly}

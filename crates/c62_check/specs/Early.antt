@@ -4,8 +4,9 @@ use Rattle.std.specs.List.Sorted.{IsStrictlyIncreasing}
 use Rattle.c62_insn.specs.declared.insn.Insn.{Insn}
 use Rattle.c62_packet.specs.declared.placed.Placed.{Placed}
 use Rattle.c62_depend.specs.Latency.{latency}
+use Rattle.c62_depend.specs.Direct.{IsDirect}
 use Rattle.c62_check.specs.declared.early.Early.{Early}
-use Rattle.c62_check.specs.Reason.{IsReason}
+use Rattle.c62_reason.specs.Reason.{IsReason}
 
 -- by how many cycles q comes behind p
 abbrev pub gap_of : Placed → Placed → ℤ
@@ -19,6 +20,14 @@ Keeps block placed i j = (p q : Placed) (needs : ℤ) → slice_get placed i ≡
 -- number j comes as many cycles behind every other as it must
 abbrev pub KeepsAll : List Insn → List Placed → ℕ → Type 0
 KeepsAll block placed j = (i : ℕ) → Keeps block placed i j
+
+-- number j comes so many cycles behind number i
+abbrev pub IsKept : List Placed → ℕ → ℕ → ℤ → Type 0
+IsKept placed i j needs = (p q : Placed) → slice_get placed i ≡ Some p → slice_get placed j ≡ Some q → needs ≤ℤ gap_of p q
+
+-- number j comes as many cycles behind all that it depends on directly as it must
+abbrev pub KeepsNeeds : List Insn → List Placed → ℕ → Type 0
+KeepsNeeds block placed j = (i : ℕ) (needs : ℤ) → IsDirect block i j needs → IsKept placed i j needs
 
 -- an instruction comes too early behind number i, by the latency between the two and for its reason
 pub record IsEarlyBehind (block : List Insn) (placed : List Placed) (i : ℕ) (early : Early) : Type 0 where

@@ -1,5 +1,4 @@
 pub mod Matched
-pub mod Reason
 pub mod Early
 pub mod Schedule
 pub mod Verdict

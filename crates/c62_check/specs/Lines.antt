@@ -2,24 +2,14 @@
 use Rattle.std.specs.Prelude.{ℕ, ◌+◌, List, [], ◌∷◌, ◌++◌, Option, Some, None, decimal, codes}
 use Rattle.std.specs.Fmt.{signed_decimal}
 use Rattle.std.specs.List.{flat_map}
-use Rattle.c62_op.specs.Name.{register_name}
 use Rattle.c62_check.specs.declared.early.Early.{Early}
-use Rattle.c62_check.specs.declared.reason.Reason.{Reason}
-use Rattle.c62_check.specs.declared.reason.Reason.TheVariants.{Reads, Overwrites, Writes, AccessesMemory, StoresMemory, Branches}
+use Rattle.c62_reason.specs.Words.{reason_words}
 use Rattle.c62_check.specs.declared.verdict.Verdict.{Verdict as Answer}
 use Rattle.c62_check.specs.declared.verdict.Verdict.TheVariants.{Same, Missing, Extra, TooEarly}
 
 -- `block K`, and what is told of that block
 abbrev pub block_line : ℕ → List ℕ → List ℕ
 block_line number what = codes "block " ++ decimal number ++ codes " " ++ what ++ codes "\n"
-
-unfoldable pub reason_words : Reason → List ℕ
-reason_words (Reads reg) = codes "reads " ++ register_name reg
-reason_words (Overwrites reg) = codes "overwrites " ++ register_name reg
-reason_words (Writes reg) = codes "writes " ++ register_name reg
-reason_words AccessesMemory = codes "accesses memory"
-reason_words StoresMemory = codes "stores memory"
-reason_words Branches = codes "branches -"
 
 -- `early M after L`
 unfoldable pub early_lines : Early → List ℕ

@@ -1,13 +1,13 @@
 //! The instructions of a block that its packets issue too early.
 
-ghost use Rattle.std.specs.Prelude.{◌≡◌, ◌<◌, length, Some, IfOk, MatchOption};
-ghost use Rattle.c62_depend.specs.Latency.{latency};
+ghost use Rattle.std.specs.Prelude.{◌≡◌, ℕ, ◌<◌, length, IfOk, MatchOption};
 ghost use Rattle.c62_depend.specs.Plan.{insns_of};
-ghost use Rattle.c62_check.specs.Early.{gap_of, Keeps, IsEarlyBehind, IsEarlyAt, AreEarly};
+ghost use Rattle.std.specs.Bool.{OnTrue};
+ghost use Rattle.c62_check.specs.Early.{gap_of, Keeps, KeepsAll, IsKept, KeepsNeeds, IsEarlyBehind, IsEarlyAt, AreEarly};
 
-use crate::reason::{Reason, reason_for};
 use c62_depend::{Link, Plan};
 use c62_packet::Placed;
+use c62_reason::{Reason, reason_for};
 use std::alloc::{AllocError, Global};
 
 /// An instruction that comes too early behind another of its block.
@@ -34,18 +34,20 @@ fn gap(first: &Placed, second: &Placed) -> i32
     i32::from(second.cycle) - i32::from(first.cycle)
 }
 
-/// What is told of instruction `number`, where it comes too early behind another on which it depends.
-fn early_behind(plan: &Plan, placed: &[Placed], number: u16, link: Link) -> Option<Early>
+/// What is told of instruction `number`, where it comes too early behind instruction `other`, which stands before it.
+fn early_behind(plan: &Plan, placed: &[Placed], other: u16, number: u16) -> Option<Early>
+    requires before { other < number }
     requires within { number < length plan.now.insns }
     requires placed { length placed.now ≡ length plan.now.insns }
-    requires link { latency (insns_of plan.now) link.number number ≡ Some link.latency }
-    ensures { MatchOption result (Keeps (insns_of plan.now) placed.now link.number number)
-        (λ early. (early.number ≡ number) × IsEarlyBehind (insns_of plan.now) placed.now link.number early) }
+    ensures { MatchOption result (Keeps (insns_of plan.now) placed.now other number)
+        (λ early. (early.number ≡ number) × IsEarlyBehind (insns_of plan.now) placed.now other early) }
 {
     let _all = plan.len();
-    let first = &placed[usize::from(link.number)];
+    let Some(needs) = plan.latency(other, number) else {
+        return None;
+    };
+    let first = &placed[usize::from(other)];
     let second = &placed[usize::from(number)];
-    let needs = i32::from(link.latency);
     let has = gap(first, second);
     if needs <= has {
         return None;
@@ -56,7 +58,7 @@ fn early_behind(plan: &Plan, placed: &[Placed], number: u16, link: Link) -> Opti
         after: first.line,
         needs,
         has,
-        reason: reason_for(plan, u16::from(link.number), number, needs),
+        reason: reason_for(plan, other, number, needs),
     })
 }
 
@@ -66,13 +68,51 @@ fn early_at(plan: &Plan, placed: &[Placed], number: u16) -> Option<Early>
     requires placed { length placed.now ≡ length plan.now.insns }
     ensures { IsEarlyAt (insns_of plan.now) placed.now number result }
 {
-    let needs = plan.needs(number);
-    for k in 0..needs.len() {
-        if let Some(early) = early_behind(plan, placed, number, needs[k]) {
+    for other in 0..number {
+        if let Some(early) = early_behind(plan, placed, other, number) {
             return Some(early);
         }
     }
     None
+}
+
+/// Whether instruction `number` comes late enough behind the other end of a dependence.
+fn is_kept(placed: &[Placed], number: u16, link: Link) -> bool
+    requires first { link.number < length placed.now }
+    requires second { number < length placed.now }
+    ensures { OnTrue result (IsKept placed.now link.number number link.latency) }
+{
+    let first = &placed[usize::from(link.number)];
+    let second = &placed[usize::from(number)];
+    i32::from(link.latency) <= gap(first, second)
+}
+
+/// Whether instruction `number` comes late enough behind all that it depends on directly.
+fn keeps_needs(plan: &Plan, placed: &[Placed], number: u16) -> bool
+    requires within { number < length plan.now.insns }
+    requires placed { length placed.now ≡ length plan.now.insns }
+    ensures { OnTrue result (KeepsNeeds (insns_of plan.now) placed.now number) }
+{
+    let needs = plan.needs(number);
+    for link in needs {
+        if !is_kept(placed, number, *link) {
+            return false;
+        }
+    }
+    true
+}
+
+/// Whether each instruction comes late enough behind all that it depends on directly, and so behind all that it depends on.
+fn keep_all(plan: &Plan, placed: &[Placed]) -> bool
+    requires { length placed.now ≡ length plan.now.insns }
+    ensures { OnTrue result ((j : ℕ) → KeepsAll (insns_of plan.now) placed.now j) }
+{
+    for number in 0..plan.len() {
+        if !keeps_needs(plan, placed, number) {
+            return false;
+        }
+    }
+    true
 }
 
 /// All instructions of a block that come too early, where they are placed so, given in the order of the block.
@@ -85,6 +125,9 @@ pub fn all_early(alloc: Global, plan: &Plan, placed: &[Placed]) -> Result<Vec<Ea
     ensures { IfOk result (λ early. AreEarly (insns_of plan.now) placed.now early.items) }
 {
     let mut all = Vec::new(alloc);
+    if keep_all(plan, placed) {
+        return Ok(all);
+    }
     for number in 0..plan.len() {
         if let Some(early) = early_at(plan, placed, number) {
             all.push(early)?;

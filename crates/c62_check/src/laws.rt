@@ -13,7 +13,6 @@ ghost use Rattle.c62_check.specs.Least.{PacketsAreSeated, NoPacketsAreShorter, N
 ghost use Rattle.c62_check.specs.Verdict.{IsExact, HasOneVerdict};
 ghost use Rattle.c62_check.specs.Checked.{SaysSame, HasOneText};
 ghost use Rattle.c62_check.specs.Serial.{CheckedAreSerial};
-ghost use Rattle.c62_check.specs.Reason.{HasOneReason};
 
 /// Packets that are checked to be the same as a program run as it does, from every sound machine and under every limit: the
 /// same blocks, registers, memory and end, and the lines that faulted are those of the same instructions.
@@ -64,10 +63,4 @@ pub fn no_checked_packets_are_shorter()
 pub fn has_one_verdict()
     ensures block { (block : Serial) (packed : Packed) → HasOneVerdict block packed }
     ensures text { (program : List Serial) (packets : List Packed) → HasOneText program packets }
-{}
-
-/// There is one reason for which an instruction must come so many cycles behind another, by the first case of dependence
-/// that asks for as many.
-pub fn reasons_are_one()
-    ensures { (block : List Insn) (i j : ℕ) (cycles : ℤ) → HasOneReason block i j cycles }
 {}

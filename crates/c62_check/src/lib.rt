@@ -6,12 +6,10 @@ mod early;
 pub mod laws;
 mod lines;
 mod matched;
-mod reason;
 mod verdict;
 
 pub use checked::{Checked, check};
 pub use early::Early;
-pub use reason::Reason;
 pub use verdict::{Verdict, check_block};
 
 #[cfg(test)]

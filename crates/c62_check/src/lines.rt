@@ -5,13 +5,14 @@ ghost use Rattle.std.specs.Fmt.{signed_decimal};
 ghost use Rattle.std.specs.List.{flat_map};
 ghost use Rattle.std.specs.Option.{option_copied};
 ghost use Rattle.c62_op.specs.Name.{file_letter, register_name};
-ghost use Rattle.c62_check.specs.Lines.{block_line, reason_words, early_lines, early_cycles, early_words, verdict_lines, label_name, label_words};
+ghost use Rattle.c62_reason.specs.Words.{reason_words};
+ghost use Rattle.c62_check.specs.Lines.{block_line, early_lines, early_cycles, early_words, verdict_lines, label_name, label_words};
 
 use crate::early::Early;
-use crate::reason::Reason;
 use crate::verdict::Verdict;
 use c62_insn::{Reg, Side};
 use c62_read::Label;
+use c62_reason::Reason;
 use itoa::Buffer;
 use std::alloc::AllocError;
 
@@ -50,7 +51,7 @@ fn push_register(out: &mut Vec<u8>, word: &[u8], reg: Reg) -> Result<(), AllocEr
     push_count(out, file_letter(reg.side), u64::from(reg.number))
 }
 
-#[tactic(auto, unfolding(crate::specs::Lines::reason_words))]
+#[tactic(auto, unfolding(c62_reason::specs::Words::reason_words))]
 fn push_reason(out: &mut Vec<u8>, reason: Reason) -> Result<(), AllocError>
     ensures { OnOk result (out.new.items ≡ out.old.items ++ reason_words reason) }
 {

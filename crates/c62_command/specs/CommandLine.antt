@@ -16,6 +16,7 @@ use Rattle.c62_command.specs.declared.setting.Setting.{Setting}
 use Rattle.c62_command.specs.declared.setting.SettingError.{SettingError}
 use Rattle.c62_command.specs.declared.setting.SettingError.TheVariants.{Bad, Memory}
 use Rattle.c62_command.specs.declared.command.Packing.{Packing}
+use Rattle.c62_command.specs.declared.command.Showing.{Showing}
 use Rattle.c62_command.specs.declared.command.CommandError.{CommandError}
 use Rattle.c62_command.specs.declared.command.CommandError.TheVariants as refused
 use Rattle.c62_command.specs.declared.command.Request.{Request}
@@ -48,6 +49,10 @@ cycles_rule = record (new_rule (codes "cycles")) { long = Some (codes "cycles");
 abbrev pub from_rule : Rule
 from_rule = record (new_rule (codes "from")) { long = Some (codes "from"); value_names = 1 }
 
+-- `--why`
+abbrev pub why_rule : Rule
+why_rule = record (new_rule (codes "why")) { long = Some (codes "why"); action = Some SetTrue }
+
 -- `--drain`
 abbrev pub drain_rule : Rule
 drain_rule = record (new_rule (codes "drain")) { long = Some (codes "drain"); action = Some SetTrue }
@@ -66,9 +71,9 @@ with_start app = with_rule (with_rule app blocks_rule) settings_rule
 abbrev pub pack_app : App
 pack_app = with_packing (new_app (codes "pack"))
 
--- `show [--turns] [--eject N]`
+-- `show [--turns] [--eject N] [--why]`
 abbrev pub show_app : App
-show_app = with_packing (new_app (codes "show"))
+show_app = with_rule (with_packing (new_app (codes "show"))) why_rule
 
 -- `run [--turns] [--eject N] [--blocks N] [SETTING]..`
 abbrev pub run_app : App
@@ -119,7 +124,7 @@ pub data Ask : Type 0 where
   -- the listing of a text, packed so
   Listing : Packing → Ask
   -- the picture of a text's blocks, packed so
-  Picture : Packing → Ask
+  Picture : Showing → Ask
   -- the report of a serial run of at most so many blocks, from a state with these settings
   SerialReport : (blocks : ℕ) → List Setting → Ask
   -- the report of the same run of the packets of a text, packed so
@@ -136,7 +141,7 @@ pub data Ask : Type 0 where
 
 abbrev pub ask_of : Request → Ask
 ask_of (Pack packing) = Listing packing
-ask_of (Show packing) = Picture packing
+ask_of (Show showing) = Picture showing
 ask_of (Run packing start) = PacketReport packing start.blocks start.settings.items
 ask_of (Serial start) = SerialReport start.blocks start.settings.items
 ask_of (Sim start) = ListingReport start.blocks start.settings.items
@@ -174,6 +179,9 @@ budget_of rows = number_of 16 (codes "eject") 0 rows
 abbrev pub packing_of : List Row → Packing
 packing_of rows = record { turns = is_set (codes "turns") rows; budget = budget_of rows }
 
+abbrev pub showing_of : List Row → Showing
+showing_of rows = record { packing = packing_of rows; why = is_set (codes "why") rows }
+
 -- by turns and without ejections
 abbrev pub plain_packing : Packing
 plain_packing = record { turns = true; budget = 0 }
@@ -207,7 +215,7 @@ abbrev pub ask_in : Option (Text × List Row) → Option Ask
 ask_in None = Some (Listing plain_packing)
 ask_in (Some (name, rows)) =
     if bytes_eq name (codes "pack") then Some (Listing (packing_of rows))
-    else (if bytes_eq name (codes "show") then Some (Picture (packing_of rows))
+    else (if bytes_eq name (codes "show") then Some (Picture (showing_of rows))
     else (if bytes_eq name (codes "adopt") then Some (Adoption (is_set (codes "drain") rows))
     else (if bytes_eq name (codes "check") then Some Verdicts
     else option_map (report_asked name rows) (settings_of (setting_words rows)))))

@@ -2,7 +2,7 @@
 
 ghost use Rattle.std.specs.Prelude.{◌≡◌, IfOk, IfErr, Some, false, map, [], codes, option_map};
 ghost use Rattle.clap.specs.Words.{app_of, rule_of, first_of, subcommand_of, subcommand_rows_of, fault_of};
-ghost use Rattle.c62_command.specs.CommandLine.{turns_rule, eject_rule, blocks_rule, settings_rule, cycles_rule, from_rule, drain_rule, pack_app, show_app, run_app, serial_app, sim_app, exec_app, adopt_app, check_app, bare_app, listing_app, packing_app, running_app, tool_app, with_packing, with_start, is_set, blocks_of, cycles_of, budget_of, packing_of, plain_packing, IsLocal, found_rows, words_of, named_rows, ask_in, ask_of, asked, IsBadIn, IsBlame, IsRefusal, IsWordsError, IsSettingError};
+ghost use Rattle.c62_command.specs.CommandLine.{turns_rule, eject_rule, blocks_rule, settings_rule, cycles_rule, from_rule, drain_rule, why_rule, pack_app, show_app, run_app, serial_app, sim_app, exec_app, adopt_app, check_app, bare_app, listing_app, packing_app, running_app, tool_app, with_packing, with_start, is_set, blocks_of, cycles_of, budget_of, packing_of, showing_of, plain_packing, IsLocal, found_rows, words_of, named_rows, ask_in, ask_of, asked, IsBadIn, IsBlame, IsRefusal, IsWordsError, IsSettingError};
 ghost use Rattle.c62_command.specs.Settings.{AreSettings, IsBadAmong};
 
 use crate::setting::{Setting, SettingError, read_settings};
@@ -17,23 +17,16 @@ const DEFAULT_BLOCKS: u32 = 1000;
 /// How many cycles a run of packets in flight has at most, where nothing is said.
 const DEFAULT_CYCLES: u32 = 1_000_000;
 
-/// What each help ends with: where texts come from and go to, and what the statuses are (README.md, "Command line").
-const STREAMS_AND_STATUS: &str = "\
-The text is read from standard input, and the answer is written to standard output,
-as in: c62 pack < kernel.s
-
-Status, and what standard error says:
-  0  done, and nothing is said but how many cycles were added to drain packets
-  1  the text is refused: `line 7: BadUnit` names its first faulty line and the fault;
-     of a listing also `block 0: NotDrained`, or `block 0 cycle 3: P5` and the packet rule;
-     of packets to be adopted also `line 7: NotDrained`, or `line 7: P5` and the packet rule;
-     of packets in flight also `line 7: TwoBranches`, and `from: UnknownTarget`;
-     of a check it is `text line 7: BadUnit` or `listing line 7: Shape`, each part counted from 1
-  2  the words are refused, by a text like this one, or `setting 2: bad`
-  3  no memory: `memory`
-  4  a stream failed: `input` or `output`
-  5  checked, and not each block is the same: the output tells, and nothing is said
-docs/SERIAL_TEXT.md, docs/LISTING.md, docs/ADOPT.md, docs/EXEC.md and docs/CHECK.md tell what each fault is.";
+/// What the help of each command ends with: an example, and where more is told.
+macro_rules! ending {
+    ($example:literal) => {
+        concat!(
+            "Example:\n  ",
+            $example,
+            "\n\n`c62 help status` tells where texts come from, and what each status means."
+        )
+    };
+}
 
 /// How blocks are packed.
 #[derive(Clone, Copy, PartialEq, Eq, Debug)]
@@ -42,6 +35,14 @@ pub struct Packing {
     pub turns: bool,
     /// How many ejections there may be in a block.
     pub budget: u16,
+}
+
+/// How blocks are shown.
+#[derive(Clone, Copy, PartialEq, Eq, Debug)]
+pub struct Showing {
+    pub packing: Packing,
+    /// Whether it is told why each instruction isn't issued a cycle earlier.
+    pub why: bool,
 }
 
 /// Where a run begins, and how many blocks it has at most.
@@ -66,7 +67,7 @@ pub enum Request {
     /// The listing of a serial text.
     Pack(Packing),
     /// The picture of a serial text's blocks.
-    Show(Packing),
+    Show(Showing),
     /// The report of a run of the packets of a serial text.
     Run(Packing, Start),
     /// The report of the serial run of a serial text.
@@ -183,6 +184,16 @@ fn drain_flag<'a>(alloc: Global) -> Arg<'a>
         .help("Adds the NOPs that lack before labels and at the end, and says how many cycles")
 }
 
+fn why_flag<'a>(alloc: Global) -> Arg<'a>
+    ensures rule { rule_of result ≡ why_rule }
+    ensures local { result.global ≡ false }
+{
+    Arg::new(alloc, "why")
+        .long("why")
+        .action(ArgAction::SetTrue)
+        .help("Tells why each instruction isn't issued a cycle earlier, and its slack")
+}
+
 fn settings_words<'a>(alloc: Global) -> Arg<'a>
     ensures rule { rule_of result ≡ settings_rule }
     ensures local { result.global ≡ false }
@@ -190,7 +201,7 @@ fn settings_words<'a>(alloc: Global) -> Arg<'a>
     Arg::new(alloc, "settings")
         .value_name("SETTING")
         .action(ArgAction::Append)
-        .help("REG=NUMBER sets a register, @ADDRESS=NUMBER a word of memory; no file is named here")
+        .help("REG=NUMBER sets a register, @ADDRESS=NUMBER a word of memory")
 }
 
 /// The command with the options of packing.
@@ -217,8 +228,8 @@ fn pack_command<'a>(alloc: Global) -> Result<Command<'a>, AllocError>
 {
     let command = Command::new(alloc, "pack")
         .about("Reads serial text and writes its listing")
-        .override_usage("c62 pack [--turns] [--eject <N>]")
-        .after_help(STREAMS_AND_STATUS);
+        .override_usage("c62 pack [--turns] [--eject <N>] [-o <FILE>] [FILE]")
+        .after_help(ending!("c62 pack kernel.s"));
     with_packing(alloc, command)
 }
 
@@ -228,9 +239,9 @@ fn show_command<'a>(alloc: Global) -> Result<Command<'a>, AllocError>
 {
     let command = Command::new(alloc, "show")
         .about("Packs serial text and shows each block's schedule, and how short one can be")
-        .override_usage("c62 show [--turns] [--eject <N>]")
-        .after_help(STREAMS_AND_STATUS);
-    with_packing(alloc, command)
+        .override_usage("c62 show [--why] [--turns] [--eject <N>] [-o <FILE>] [FILE]")
+        .after_help(ending!("c62 show --why kernel.s"));
+    with_packing(alloc, command)?.arg(why_flag(alloc))
 }
 
 fn run_command<'a>(alloc: Global) -> Result<Command<'a>, AllocError>
@@ -239,8 +250,10 @@ fn run_command<'a>(alloc: Global) -> Result<Command<'a>, AllocError>
 {
     let command = Command::new(alloc, "run")
         .about("Packs serial text, runs the packets and reports the end")
-        .override_usage("c62 run [--turns] [--eject <N>] [--blocks <N>] [SETTING]...")
-        .after_help(STREAMS_AND_STATUS);
+        .override_usage(
+            "c62 run [--turns] [--eject <N>] [--blocks <N>] [-o <FILE>] [FILE] [SETTING]...",
+        )
+        .after_help(ending!("c62 run kernel.s A4=8 @8=99"));
     with_start(alloc, with_packing(alloc, command)?)
 }
 
@@ -250,8 +263,8 @@ fn serial_command<'a>(alloc: Global) -> Result<Command<'a>, AllocError>
 {
     let command = Command::new(alloc, "serial")
         .about("Runs serial text, one instruction after the other, and reports the end")
-        .override_usage("c62 serial [--blocks <N>] [SETTING]...")
-        .after_help(STREAMS_AND_STATUS);
+        .override_usage("c62 serial [--blocks <N>] [-o <FILE>] [FILE] [SETTING]...")
+        .after_help(ending!("c62 serial kernel.s A4=8 @8=99"));
     with_start(alloc, command)
 }
 
@@ -261,8 +274,8 @@ fn sim_command<'a>(alloc: Global) -> Result<Command<'a>, AllocError>
 {
     let command = Command::new(alloc, "sim")
         .about("Reads a listing, runs its packets and reports the end")
-        .override_usage("c62 sim [--blocks <N>] [SETTING]...")
-        .after_help(STREAMS_AND_STATUS);
+        .override_usage("c62 sim [--blocks <N>] [-o <FILE>] [FILE] [SETTING]...")
+        .after_help(ending!("c62 sim kernel.lst A4=8 @8=99"));
     with_start(alloc, command)
 }
 
@@ -274,8 +287,8 @@ fn exec_command<'a>(alloc: Global) -> Result<Command<'a>, AllocError>
         .about(
             "Runs packets as they are written, with branches and loads in flight, and reports the end",
         )
-        .override_usage("c62 exec [--cycles <N>] [--from <NAME>] [SETTING]...")
-        .after_help(STREAMS_AND_STATUS)
+        .override_usage("c62 exec [--cycles <N>] [--from <NAME>] [-o <FILE>] [FILE] [SETTING]...")
+        .after_help(ending!("c62 exec hand.asm --from loop A4=8"))
         .arg(cycles_option(alloc))?
         .arg(from_option(alloc))?
         .arg(settings_words(alloc))
@@ -287,8 +300,8 @@ fn adopt_command<'a>(alloc: Global) -> Result<Command<'a>, AllocError>
 {
     Command::new(alloc, "adopt")
         .about("Reads packets as they are written for an assembler and writes their listing")
-        .override_usage("c62 adopt [--drain]")
-        .after_help(STREAMS_AND_STATUS)
+        .override_usage("c62 adopt [--drain] [-o <FILE>] [FILE]")
+        .after_help(ending!("c62 adopt hand.asm --drain"))
         .arg(drain_flag(alloc))
 }
 
@@ -299,9 +312,9 @@ fn check_command<'a>(alloc: Global) -> Command<'a>
     Command::new(alloc, "check")
         .about("Reads serial text, a line `---` and a listing, and compares their blocks")
         .override_usage(
-            "c62 check\n       ./c62 check <TEXT> <LISTING>  (the launcher joins two files)",
+            "c62 check [-o <FILE>] <TEXT> <LISTING>\n       c62 check [-o <FILE>] [FILE]  (both in one, with a line `---` between them)",
         )
-        .after_help(STREAMS_AND_STATUS)
+        .after_help(ending!("c62 check kernel.s hand.lst"))
 }
 
 /// The program with no subcommand yet.
@@ -312,7 +325,7 @@ fn bare_command<'a>(alloc: Global) -> Command<'a>
     Command::new(alloc, "c62")
         .about("Packs and runs TMS320C62x instructions")
         .override_usage("c62 <COMMAND>\n       c62              (this is c62 pack --turns)")
-        .after_help(STREAMS_AND_STATUS)
+        .after_help(ending!("c62 run kernel.s A4=8"))
         .no_binary_name(true)
         .subcommand_required(true)
 }
@@ -469,6 +482,16 @@ fn flight_in(alloc: Global, matches: &ArgMatches<'_>) -> Result<FlightStart, Set
     })
 }
 
+/// How blocks are shown, by the options of the subcommand.
+fn showing_in(matches: &ArgMatches<'_>) -> Showing
+    ensures { result ≡ showing_of (found_rows matches.now) }
+{
+    Showing {
+        packing: packing_in(matches),
+        why: is_set(matches, "why"),
+    }
+}
+
 /// What the subcommand of this name asks for.
 fn request_named(alloc: Global, name: &str, found: &ArgMatches<'_>) -> Result<Request, SettingError>
     ensures ok { IfOk result (λ request. ask_in (named_rows name.now found.now) ≡ Some (ask_of request)) }
@@ -478,7 +501,7 @@ fn request_named(alloc: Global, name: &str, found: &ArgMatches<'_>) -> Result<Re
         return Ok(Request::Pack(packing_in(found)));
     }
     if name == "show" {
-        return Ok(Request::Show(packing_in(found)));
+        return Ok(Request::Show(showing_in(found)));
     }
     if name == "adopt" {
         return Ok(Request::Adopt(is_set(found, "drain")));

@@ -5,7 +5,7 @@ mod command;
 mod laws;
 mod setting;
 
-pub use command::{CommandError, FlightStart, Packing, Request, Start, command_of};
+pub use command::{CommandError, FlightStart, Packing, Request, Showing, Start, command_of};
 pub use laws::takes_limits;
 pub use setting::Setting;
 

@@ -6,7 +6,7 @@ use std::alloc::Global;
 use std::test::Fail;
 
 /// Words, and what they ask for or why they are refused.
-const ASKED: [(&[&str], &str); 26] = [
+const ASKED: [(&[&str], &str); 28] = [
     (&[], "pack by turns, 0 ejections"),
     (&["pack"], "pack by workers, 0 ejections"),
     (&["pack", "--turns"], "pack by turns, 0 ejections"),
@@ -18,7 +18,9 @@ const ASKED: [(&[&str], &str); 26] = [
         &["show", "--eject=9", "--turns"],
         "show by turns, 9 ejections",
     ),
+    (&["show", "--why"], "show by workers, 0 ejections, why"),
     (&["show", "--blocks", "2"], "words"),
+    (&["pack", "--why"], "words"),
     (&["show", "A1=5"], "words"),
     (&["run"], "run by workers, 0 ejections; 1000 blocks"),
     (
@@ -108,7 +110,10 @@ fn start_text(alloc: Global, start: &Start) -> Result<String, Fail> {
 fn request_text(alloc: Global, request: &Request) -> Result<String, Fail> {
     Ok(match request {
         Request::Pack(packing) => format!(in alloc; "pack {}", packing_text(alloc, *packing)?)?,
-        Request::Show(packing) => format!(in alloc; "show {}", packing_text(alloc, *packing)?)?,
+        Request::Show(showing) => {
+            let why = if showing.why { ", why" } else { "" };
+            format!(in alloc; "show {}{why}", packing_text(alloc, showing.packing)?)?
+        }
         Request::Run(packing, start) => format!(in alloc;
             "run {}; {}",
             packing_text(alloc, *packing)?,

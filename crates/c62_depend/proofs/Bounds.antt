@@ -8,7 +8,7 @@ use Rattle.c62_depend.proofs.Common.{RegSet, reg_in, shares, is_write_with, grea
 use Rattle.c62_depend.proofs.Common.{by_registers, latency_of, eqb-true, ◌&&◌, not}
 use Rattle.std.proofs.lemmas.List.Folds.{list_any_at}
 use Rattle.c62_insn.proofs.InsnLemmas.{writes_delay_of}
-use Rattle.c62_depend.proofs.RegSets.{shared, shares_one}
+use Rattle.c62_pair.proofs.RegSets.{shared, shares_one}
 use Rattle.c62_depend.proofs.Greatest.{IsGreatest, OfEither, IsGreatest-tests, IsGreatest-same, IsGreatest-either, IsGreatest-one}
 use Rattle.c62_depend.proofs.Latencies.{some_under, under, at_most, ByRead, BySpared, ByWrites, ByRegisters, By, read-greatest, spared-greatest}
 use Rattle.c62_depend.proofs.Latencies.{writes-greatest, all-greatest}
@@ -197,81 +197,3 @@ module _ (p q : Uses) where
   pub told_is : (exclusive : Bool) → told exclusive p q ≡ by_registers exclusive p.insn q.insn
   unfolding by_registers
   told_is exclusive = rw (awaited_is, spared_is, overwritten_is exclusive) refl
-
-  -- ---- nothing shared
-
-  -- parts of two sets that share nothing share nothing
-  apart : (a b c d : RegSet) → ((reg : Reg) → reg_in a reg ≡ true → reg_in c reg ≡ true) → ((reg : Reg) → reg_in b reg ≡ true → reg_in d reg ≡ true)
-      → shares c d ≡ false → shares a b ≡ false
-  apart a b c d in_c in_d none = false_from_ne_true (shares a b)
-      (λ some. let reg = shared a b some in both_ways (shares c d) none (shares_one c d reg.0 (in_c reg.0 reg.1) (in_d reg.0 reg.2)))
-
-  not_read : shares p.written q.used ≡ false → (late : Bool) → shares (landing p late) q.reads ≡ false
-  not_read none late =
-      apart (landing p late) q.reads p.written q.used (is_written p late)
-      (λ reg h. q.used_are reg ∙ or_left (reg_in q.reads reg) (reg_in q.written reg) h) none
-
-  not_landed : shares p.written q.used ≡ false → (first late : Bool) → shares (landing p first) (landing q late) ≡ false
-  not_landed none first late =
-      apart (landing p first) (landing q late) p.written q.used (is_written p first)
-      (λ reg h. q.used_are reg ∙ or_right (reg_in q.reads reg) (reg_in q.written reg) (is_written q late reg h)) none
-
-  -- where the second one uses nothing that the first one writes, the second case alone can apply
-  pub unused_is : (exclusive : Bool) → shares p.written q.used ≡ false → by_registers exclusive p.insn q.insn ≡ told_spared p q
-  unused_is exclusive none = sym (told_is exclusive) ∙ spared_alone exclusive
-    where
-      alone : (o : Option ℤ) → greater o None ≡ o
-      alone None = refl
-      alone (Some b) = refl
-
-      spared_alone : (exclusive : Bool) → told exclusive p q ≡ told_spared p q
-      spared_alone true = rw (not_read none true, not_read none false) (alone (told_spared p q))
-      spared_alone false =
-          let apart = not_landed none in
-          rw (not_read none true, not_read none false, apart true false, apart true true, apart false false, apart false true)
-          (alone (told_spared p q))
-
-  -- two instructions that are apart have no bound of registers
-  pub apart_is : (exclusive : Bool) → shares p.written q.used ≡ false → shares q.written p.reads ≡ false → by_registers exclusive p.insn q.insn ≡ None
-  apart_is exclusive unused kept = unused_is exclusive unused ∙ rw (not_spared false, not_spared true) refl
-    where
-      not_spared : (late : Bool) → shares p.reads (landing q late) ≡ false
-      not_spared late = false_from_ne_true (shares p.reads (landing q late)) (λ some.
-          let reg = shared p.reads (landing q late) some in
-          both_ways (shares q.written p.reads) kept (shares_one q.written p.reads reg.0 (is_written q late reg.0 reg.2) reg.1))
-
-  -- ---- no bound exceeds that of a result which the second one awaits
-
-  bound_below : (exclusive disjoint : Bool) (b : ℤ) → By exclusive disjoint p.insn q.insn b → b ≤ℤ pos (delay_of (op_of p.insn) + 1)
-  unfolding ByRegisters
-  bound_below exclusive disjoint b (inl (inl ((reg, d), w, e))) =
-      let few : d ≤ delay_of (op_of p.insn) = writes_delay_of p.insn reg d w in at_most _ _ b _ e (omega (arith, ints))
-  bound_below exclusive disjoint b (inl (inr (inl ((reg, d), w, e)))) = at_most _ _ b _ e (omega (arith, ints))
-  bound_below exclusive disjoint b (inl (inr (inr (free, ((reg, d), w, ((other, f), v, e)))))) =
-      let few : d ≤ delay_of (op_of p.insn) = writes_delay_of p.insn reg d w in at_most _ _ b _ e (omega (arith, ints))
-  bound_below exclusive disjoint b (inr (inl e)) = at_most _ _ b _ e (omega (arith, ints))
-  bound_below exclusive disjoint b (inr (inr (inl e))) = at_most _ _ b _ e (omega (arith, ints))
-  bound_below exclusive disjoint b (inr (inr (inr e))) = at_most _ _ b _ e (omega (arith, ints))
-
-  attained : (exclusive disjoint : Bool) → By exclusive disjoint p.insn q.insn (pos (p.delay + 1))
-      → Some (pos (p.delay + 1)) ≡ latency_of exclusive disjoint p.insn q.insn
-  attained exclusive disjoint is_one =
-      IsGreatest-one (By exclusive disjoint p.insn q.insn) (Some (pos (p.delay + 1))) (latency_of exclusive disjoint p.insn q.insn)
-      (is_one, λ b is. rw p.delay_is (bound_below exclusive disjoint b is)) (all-greatest p.insn q.insn exclusive disjoint)
-
-  -- that of a result which the second one reads or, where the two are not exclusive, writes over at once
-  pub landed_is : (exclusive disjoint : Bool) → (shares p.results q.read_or_at_once && not exclusive) ≡ true
-      → Some (pos (p.delay + 1)) ≡ latency_of exclusive disjoint p.insn q.insn
-  unfolding ByRegisters
-  landed_is true disjoint h = let clash : false ≡ true = (and_parts (shares p.results q.read_or_at_once) false h).1 in cc
-  landed_is false disjoint h =
-      let found = shared p.results q.read_or_at_once (and_parts (shares p.results q.read_or_at_once) true h).0 in
-      elim (or_cases (reg_in q.reads found.0) (reg_in q.at_once found.0) (sym (q.read_or_at_once_are found.0) ∙ found.2)) [
-        | inl read ↦
-            let met = shares_one p.results q.reads found.0 found.1 read in
-            attained false disjoint (inl (inl (from_awaited (pos (p.delay + 1)) (true, (met, refl)))))
-        | inr written ↦
-            let is : pos (p.delay + 1) ≡ pos (p.delay + 1) -ℤ pos 0 = omega (arith, ints) in
-            let met = shares_one p.results q.at_once found.0 found.1 written in
-            attained false disjoint (inl (inr (inr (refl, from_overwritten (pos (p.delay + 1)) (true, (false, (met, is)))))))
-      ]

@@ -5,20 +5,20 @@ pub use Rattle.c62_depend.specs.Latency.{greater, read_after_write, write_after_
 pub use Rattle.c62_depend.specs.Latency.{overwrites, access_after_store, store_after_load, before_branch, by_order, between}
 unfoldable pub use Rattle.c62_depend.specs.Latency.{by_registers, latency}
 pub use Rattle.c62_depend.specs.Links.{linked}
-unfoldable pub use Rattle.c62_depend.specs.Links.{followers, needs}
-pub use Rattle.c62_depend.specs.Lists.{links_of, AreLists, IsRow, pair_at, ArePairs}
-pub use Rattle.c62_depend.specs.Numbers.{as_bound, number_if, number_awaited, number_spared, number_after_result, number_after_at_once}
-pub use Rattle.c62_depend.specs.Numbers.{number_overwritten, number_of_registers, number_of_order}
+unfoldable pub use Rattle.c62_depend.specs.Links.{followers}
+pub use Rattle.c62_depend.specs.Lists.{links_of, AreLists}
+pub use Rattle.c62_pair.specs.Numbers.{as_bound, number_if, number_awaited, number_spared, number_after_result, number_after_at_once}
+pub use Rattle.c62_pair.specs.Numbers.{number_overwritten, number_of_registers, number_of_order}
 pub use Rattle.c62_depend.specs.Plan.{IsShort, IsPlan, unnumbered, insns_of}
-pub use Rattle.c62_depend.specs.RegSet.{reg_in, shares}
+pub use Rattle.c62_pair.specs.RegSet.{reg_in, shares}
 pub use Rattle.c62_depend.specs.Side.{branch_side, side_or, side_in, suits, side_at, suits_at}
 unfoldable pub use Rattle.c62_depend.specs.Side.{side, stands_on}
 pub use Rattle.c62_depend.specs.UnitChoices.{IsUnitChoice, AreUnitChoices}
-pub use Rattle.c62_depend.specs.Uses.{insns_in}
-pub use Rattle.c62_depend.specs.Writes.{is_write_with}
+pub use Rattle.c62_pair.specs.Uses.{insns_in}
+pub use Rattle.c62_pair.specs.Writes.{is_write_with}
 pub use Rattle.c62_depend.specs.declared.links.Link.{Link}
-pub use Rattle.c62_depend.specs.declared.reg_set.RegSet.{RegSet}
-pub use Rattle.c62_depend.specs.declared.uses.Uses.{Uses}
+pub use Rattle.c62_pair.specs.declared.reg_set.RegSet.{RegSet}
+pub use Rattle.c62_pair.specs.declared.uses.Uses.{Uses}
 pub use Rattle.c62_op.proofs.Registers.{same_reg-is, same_reg-refl, same_side-is, same_side-refl, same_unit-refl}
 pub use Rattle.c62_rules.specs.Dependence.{IsBound, ReadAfterWrite, WriteAfterRead, WriteAfterWrite, AfterStore, StoreAfterLoad, BeforeBranch, Bounds}
 pub use Rattle.c62_rules.specs.Dependence.{Depends, IsLatency, are_exclusive, are_disjoint, IsGreatestBound}

@@ -38,7 +38,7 @@ followers-are block i =
 
 -- ---- the greatest over a list
 
-longest_same : (f g : ℕ → ℕ) (least : ℕ) (links : List Link) → All (λ link. f link.number ≡ g link.number) links
+pub longest_same : (f g : ℕ → ℕ) (least : ℕ) (links : List Link) → All (λ link. f link.number ≡ g link.number) links
     → longest f least links ≡ longest g least links
 longest_same f g least [] same = refl
 longest_same f g least (link ∷ links) same =
@@ -46,7 +46,7 @@ longest_same f g least (link ∷ links) same =
     rw here
     (longest_same f g (max least (raised link.latency (g link.number))) links (All-tail (λ link. f link.number ≡ g link.number) link links same))
 
-longest_below : (f : ℕ → ℕ) (least most : ℕ) (links : List Link) → least ≤ most → All (λ link. raised link.latency (f link.number) ≤ most) links
+pub longest_below : (f : ℕ → ℕ) (least most : ℕ) (links : List Link) → least ≤ most → All (λ link. raised link.latency (f link.number) ≤ most) links
     → longest f least links ≤ most
 longest_below f least most [] low each = low
 longest_below f least most (link ∷ links) low each =
@@ -99,48 +99,11 @@ height-small block i within = within-more block (length block) i within
 
 -- ---- the heights found from the last number up
 
--- a dependence more, where there is one
-longest-more : (f : ℕ → ℕ) (least number : ℕ) (o : Option ℤ) (links : List Link)
-    → longest f least (links ++ linked number o) ≡ max (longest f least links) (raised_by o (f number))
-longest-more f least number o [] = grind arith
-longest-more f least number o (link ∷ links) = longest-more f (max least (raised link.latency (f link.number))) number o links
-
--- the dependences of i with the instructions before j
-abbrev pub followers_before : List Insn → ℕ → ℕ → List Link
-followers_before block i j = flat_map (λ j. linked j (latency block i j)) (range_with_len (i + 1) (j - (i + 1)))
-
-pub first_height : (block : List Insn) (i most : ℕ) (heights : List ℕ) → most ≡ delay_at block i
-    → most ≡ longest (slice_index heights) (delay_at block i) (followers_before block i (i + 1))
-first_height block i most heights e =
-    let none : i + 1 - (i + 1) ≡ 0 = omega arith in rw none e
-
--- an instruction more
-pub next_height : (block : List Insn) (i j number most : ℕ) (heights : List ℕ) → i < j → as_bound number ≡ latency block i j
-    → most ≡ longest (slice_index heights) (delay_at block i) (followers_before block i j)
-    → max most (raised_by (as_bound number) (slice_index heights j))
-    ≡ longest (slice_index heights) (delay_at block i) (followers_before block i (j + 1))
-next_height block i j number most heights after is before =
-    let old = followers_before block i j in
-    let more = pieces_more (λ j. linked j (latency block i j)) (i + 1) (j - (i + 1)) (j + 1 - (i + 1)) j old (old ++ linked j (latency block i j))
-    (omega arith) (omega arith) refl refl in
-    rw (before, is, ← more) (sym (longest-more (slice_index heights) (delay_at block i) j (latency block i j) old))
-
 -- a height behind i is small
 pub low_behind : (block : List Insn) (i j : ℕ) (heights : List ℕ) → AreHeightsFrom block (i + 1) heights → length block ≤ MOST_INSTRUCTIONS → i < j
     → j < length block → slice_index heights j ≤ ISSUE_CYCLES
 low_behind block i j heights from few after within =
     omega (arith, height-small block j within, from.are j (omega arith) within)
-
--- the greatest over all that depend on i
-pub height_found : (block : List Insn) (i n : ℕ) (heights : List ℕ) → AreHeightsFrom block (i + 1) heights → i < length block → n ≡ length block
-    → longest (slice_index heights) (delay_at block i) (followers_before block i n) ≡ height block i
-unfolding followers
-height_found block i n heights from within all =
-    rw (all, height-step block i within)
-    (longest_same (slice_index heights) (height block) (delay_at block i) (followers block i)
-    (All-weaker (IsFollower block i) (λ link. slice_index heights link.number ≡ height block link.number)
-    (λ link follows. let after : i < link.number = follows.after in from.are link.number (omega arith) follows.within)
-    (followers block i) (followers-are block i)))
 
 -- one number further up
 pub height_more : (block : List Insn) (i h : ℕ) (heights : List ℕ) → AreHeightsFrom block (i + 1) heights → i < length block

@@ -1,8 +1,5 @@
 pub mod Common
-pub mod RegSets
 pub mod Words
-pub mod Meets
-pub mod Gatherings
 pub mod Ranges
 pub mod Greatest
 pub mod Latencies
@@ -16,3 +13,12 @@ pub mod Lists
 pub mod WrittenLemmas
 pub mod ConditionNumbers
 pub mod Relays
+pub mod NumberSets
+pub mod SetLoops
+pub mod OpenSets
+pub mod SinceLemmas
+pub mod Walks
+pub mod Orders
+pub mod Linked
+pub mod DirectHeights
+pub mod DirectLists

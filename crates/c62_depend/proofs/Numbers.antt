@@ -4,7 +4,6 @@ use Rattle.c62_depend.proofs.Common.{not, ints, clamps, delay_of, is_load, is_st
 use Rattle.c62_depend.proofs.Common.{number_awaited, number_spared, number_after_result, number_after_at_once, number_overwritten}
 use Rattle.c62_depend.proofs.Common.{number_of_registers, number_of_order, greater, by_order, latency_of, nat_tests}
 use Rattle.c62_depend.proofs.Bounds.{bound_if, told_awaited, told_spared, told_after_result, told_after_at_once, told_overwritten, told, told_is}
-use Rattle.c62_depend.proofs.Bounds.{unused_is}
 
 -- the bound of a number above 0
 pub some_number : (n : ℕ) → 0 < n → as_bound n ≡ Some (pos n -ℤ pos 6)
@@ -51,12 +50,3 @@ module _ (p q : Uses) where
   pub all_is : (exclusive disjoint : Bool)
       → as_bound (max (number_of_registers exclusive p q) (number_of_order disjoint p.insn q.insn)) ≡ latency_of exclusive disjoint p.insn q.insn
   all_is exclusive disjoint = rw (← told_is p q exclusive) (both _ _ _ _ (registers exclusive) (order_is disjoint))
-
-  -- the number of a result that is awaited
-  pub result_number : as_bound (p.delay + 7) ≡ Some (pos (p.delay + 1))
-  result_number = grind (arith, nat_tests, ints)
-
-  -- where the second one uses nothing that the first one writes
-  pub unused_number : (n : ℕ) (exclusive disjoint : Bool) → shares p.written q.used ≡ false
-      → n ≡ max (number_spared p q) (number_of_order disjoint p.insn q.insn) → as_bound n ≡ latency_of exclusive disjoint p.insn q.insn
-  unused_number n exclusive disjoint unused e = rw (e, unused_is p q exclusive unused) (both _ _ _ _ spared (order_is disjoint))

@@ -1,7 +1,7 @@
 -- The lists of dependences and the heights are what their rules say.
 use Rattle.c62_depend.proofs.Common.{◌≡◌, ℕ, zero, suc, ◌+◌, ◌-◌, ◌<◌, ◌≤◌, max, ℤ, pos, ◌+ℤ◌, ◌≤ℤ◌, List, [], ◌∷◌, ◌++◌, length, map, Option, Some}
 use Rattle.c62_depend.proofs.Common.{None, refl, sym, subst, arith, inl, inr, ◌⊎◌, All, Contains, flat_map, range_with_len, ints, cases_lt, All-nil}
-use Rattle.c62_depend.proofs.Common.{All-cons, All-contains, Contains-append_left, Contains-append_right, Insn, Link, latency, linked, needs}
+use Rattle.c62_depend.proofs.Common.{All-cons, All-contains, Contains-append_left, Contains-append_right, Insn, Link, latency, linked}
 use Rattle.c62_depend.proofs.Common.{followers, raised, delay_at, longest, height, IsHeight, ◌∙◌}
 use Rattle.std.specs.List.Sorted.{IsStrictlyIncreasing}
 use Rattle.c62_depend.specs.Laws.{AreLinks}
@@ -10,7 +10,7 @@ use Rattle.c62_depend.proofs.Plans.{short_is}
 
 -- ---- the lists of dependences
 
-first_in : {A : Type 0} (x : A) (xs : List A) → Contains (x ∷ xs) x
+pub first_in : {A : Type 0} (x : A) (xs : List A) → Contains (x ∷ xs) x
 first_in x xs = (0, omega arith, refl)
 
 later_in : {A : Type 0} (y x : A) (xs : List A) → Contains xs x → Contains (y ∷ xs) x
@@ -72,10 +72,6 @@ pieces_are o a n within = record {
   rising = increasing_from a (flat_map (λ k. linked k (o k)) (range_with_len a n)) (pieces_rise o a n);
 }
 
-pub needs_are : (block : List Insn) (j : ℕ) → AreLinks (λ link. latency block link.number j ≡ Some link.latency) (needs block j)
-unfolding needs
-needs_are block j = pieces_are (λ i. latency block i j) 0 j (λ i l e. (omega arith, omega (arith, (short_is block i j l e).before)))
-
 pub followers_are : (block : List Insn) (i : ℕ) → AreLinks (λ link. latency block i link.number ≡ Some link.latency) (followers block i)
 unfolding followers
 followers_are block i = pieces_are (latency block i) (i + 1) (length block - (i + 1))
@@ -83,22 +79,21 @@ followers_are block i = pieces_are (latency block i) (i + 1) (length block - (i 
 
 -- ---- heights
 
-longest-least : (f : ℕ → ℕ) (least : ℕ) (links : List Link) → least ≤ longest f least links
+pub longest-least : (f : ℕ → ℕ) (least : ℕ) (links : List Link) → least ≤ longest f least links
 longest-least f least [] = omega arith
 longest-least f least (link ∷ links) = grind (arith, longest-least f (max least (raised link.latency (f link.number))) links)
 
-longest-each : (f : ℕ → ℕ) (least : ℕ) (links : List Link) → All (λ link. raised link.latency (f link.number) ≤ longest f least links) links
+pub longest-each : (f : ℕ → ℕ) (least : ℕ) (links : List Link) → All (λ link. raised link.latency (f link.number) ≤ longest f least links) links
 longest-each f least [] = All-nil (λ (link : Link). raised link.latency (f link.number) ≤ longest f least [])
 longest-each f least (link ∷ links) =
     All-cons (λ (one : Link). raised one.latency (f one.number) ≤ longest f least (link ∷ links)) link links
     (grind (arith, longest-least f (max least (raised link.latency (f link.number))) links))
     (longest-each f (max least (raised link.latency (f link.number))) links)
 
-Reaches : (f : ℕ → ℕ) (least most : ℕ) (links : List Link) → Type 0
+abbrev pub Reaches : (ℕ → ℕ) → ℕ → ℕ → List Link → Type 0
 Reaches f least most links = (most ≡ least) ⊎ ((link : Link) × Contains links link × (most ≡ raised link.latency (f link.number)))
 
-longest-reached : (f : ℕ → ℕ) (least : ℕ) (links : List Link) → Reaches f least (longest f least links) links
-unfolding Reaches
+pub longest-reached : (f : ℕ → ℕ) (least : ℕ) (links : List Link) → Reaches f least (longest f least links) links
 longest-reached f least [] = inl refl
 longest-reached f least (link ∷ links) =
     let r = raised link.latency (f link.number) in
@@ -114,11 +109,10 @@ raised-above : (l : ℤ) (h : ℕ) → (l +ℤ pos h) ≤ℤ pos (raised l h)
 raised-above l h = grind (arith, ints)
 
 -- what is reached is the sum, where it isn't below 0
-raised-exact : (l : ℤ) (h most : ℕ) → most ≡ raised l h → (most ≡ 0) ⊎ (l +ℤ pos h ≡ pos most)
+pub raised-exact : (l : ℤ) (h most : ℕ) → most ≡ raised l h → (most ≡ 0) ⊎ (l +ℤ pos h ≡ pos most)
 raised-exact l h most e = grind (arith, ints)
 
 pub height_is : (block : List Insn) (i : ℕ) → i < length block → IsHeight block i (height block i)
-unfolding Reaches
 height_is block i within = subst (IsHeight block i) (sym (height-step block i within)) (record {
   delay = longest-least (height block) (delay_at block i) (followers block i);
   above = λ j cycles e.

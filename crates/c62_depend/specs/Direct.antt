@@ -100,6 +100,10 @@ pub record IsDirect (block : List Insn) (i j : ℕ) (cycles : ℤ) : Type 0 wher
   pub direct : is_direct block i j ≡ true
   pub is : latency block i j ≡ Some cycles
 
+-- number j depends directly on number i
+abbrev pub DependsDirectly : List Insn → ℕ → ℕ → Type 0
+DependsDirectly block i j = (cycles : ℤ) × IsDirect block i j cycles
+
 -- a chain of direct dependences leads from number i to number j, with this sum of latencies
 pub data Chain (block : List Insn) (i : ℕ) : ℕ → ℤ → Type 0 where
   single : (j : ℕ) (cycles : ℤ) → IsDirect block i j cycles → Chain block i j cycles

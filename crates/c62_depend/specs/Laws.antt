@@ -5,7 +5,7 @@ use Rattle.c62_insn.specs.declared.insn.Insn.{Insn}
 use Rattle.c62_rules.specs.Dependence.{IsLatency}
 use Rattle.c62_depend.specs.declared.links.Link.{Link}
 use Rattle.c62_depend.specs.Latency.{latency}
-use Rattle.c62_depend.specs.Links.{needs, followers}
+use Rattle.c62_depend.specs.Direct.{IsDirect, direct_needs, direct_followers}
 use Rattle.c62_depend.specs.Height.{height, IsHeight}
 
 -- a latency is the greatest bound of the cases that apply, and none where none does
@@ -22,10 +22,10 @@ pub record AreLinks (is_link : Link → Type 0) (links : List Link) : Type 0 whe
   pub each : (link : Link) → is_link link → Contains links link
   pub rising : IsStrictlyIncreasing (map (λ link. link.number) links)
 
--- what j depends on
+-- what j depends on directly
 abbrev pub HasNeeds : List Insn → Type 0
-HasNeeds block = (j : ℕ) → AreLinks (λ link. latency block link.number j ≡ Some link.latency) (needs block j)
+HasNeeds block = (j : ℕ) → AreLinks (λ link. IsDirect block link.number j link.latency) (direct_needs block j)
 
--- what depends on i
+-- what depends directly on i
 abbrev pub HasFollowers : List Insn → Type 0
-HasFollowers block = (i : ℕ) → AreLinks (λ link. latency block i link.number ≡ Some link.latency) (followers block i)
+HasFollowers block = (i : ℕ) → AreLinks (λ link. IsDirect block i link.number link.latency) (direct_followers block i)

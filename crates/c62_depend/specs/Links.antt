@@ -10,10 +10,6 @@ abbrev pub linked : ℕ → Option ℤ → List Link
 linked number None = []
 linked number (Some latency) = record { number = number; latency = latency } ∷ []
 
--- the numbers that j depends on, rising, each with the latency from it
-unfoldable pub needs : List Insn → ℕ → List Link
-needs block j = flat_map (λ i. linked i (latency block i j)) (range_with_len 0 j)
-
 -- the numbers that depend on i, rising, each with the latency to it
 unfoldable pub followers : List Insn → ℕ → List Link
 followers block i = flat_map (λ j. linked j (latency block i j)) (range_with_len (i + 1) (length block - (i + 1)))

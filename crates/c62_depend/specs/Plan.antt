@@ -8,9 +8,10 @@ use Rattle.c62_read.specs.declared.block.SerialInsn.{SerialInsn}
 use Rattle.c62_read.specs.Block.{Serial}
 use Rattle.c62_read.specs.declared.limits.TheConstants.{MOST_INSTRUCTIONS}
 use Rattle.c62_depend.specs.declared.tables.Tables.{Tables}
-use Rattle.c62_depend.specs.Uses.{insns_in}
+use Rattle.c62_pair.specs.Uses.{insns_in}
 use Rattle.c62_depend.specs.Latency.{latency}
-use Rattle.c62_depend.specs.Links.{needs, followers}
+use Rattle.c62_depend.specs.Direct.{direct_needs, direct_followers}
+use Rattle.c62_depend.specs.Since.{AreSince}
 use Rattle.c62_depend.specs.Lists.{AreLists}
 use Rattle.c62_depend.specs.Height.{height, first_heights}
 use Rattle.c62_depend.specs.Side.{side, stands_on}
@@ -46,7 +47,8 @@ pub record IsPlan (block : List Insn) : Type 0 where
 -- the tables of a plan are those of its block
 pub record AreTables (block : List Insn) (tables : Tables) : Type 0 where
   pub insns : insns_in tables.uses.items ≡ block
-  pub needs : AreLists (needs block) (length block) tables.needs.items
-  pub followers : AreLists (followers block) (length block) tables.followers.items
+  pub since : AreSince tables.uses.items tables.since.items
+  pub needs : AreLists (direct_needs block) (length block) tables.needs.items
+  pub followers : AreLists (direct_followers block) (length block) tables.followers.items
   pub heights : tables.heights.items ≡ first_heights block (length block)
   pub choices : AreUnitChoices block (length block) tables.choices.items

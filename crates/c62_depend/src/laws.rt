@@ -16,12 +16,12 @@ pub fn has_heights()
     ensures { (block : List Insn) → HasHeights block }
 {}
 
-/// The list of what an instruction depends on has each of its dependences once, by rising numbers, and nothing else.
+/// The list of what an instruction depends on directly has each of these dependences once, by rising numbers, and nothing else.
 pub fn has_needs()
     ensures { (block : List Insn) → HasNeeds block }
 {}
 
-/// The list of what depends on an instruction has each such dependence once, by rising numbers, and nothing else.
+/// The list of what depends directly on an instruction has each such dependence once, by rising numbers, and nothing else.
 pub fn has_followers()
     ensures { (block : List Insn) → HasFollowers block }
 {}

@@ -37,7 +37,7 @@ impl Plan {
     ghost use Rattle.c62_insn.specs.UnitSet.{unit_in};
     ghost use Rattle.c62_rules.specs.Dependence.{Depends, IsLatency};
     ghost use Rattle.c62_depend.specs.Latency.{latency};
-    ghost use Rattle.c62_depend.specs.Links.{needs, followers};
+    ghost use Rattle.c62_depend.specs.Direct.{direct_needs, direct_followers};
     ghost use Rattle.c62_depend.specs.Height.{height};
     ghost use Rattle.c62_depend.specs.Side.{side, stands_on};
 
@@ -113,19 +113,20 @@ impl Plan {
         tables.heights[i as usize]
     }
 
-    /// What instruction `j` depends on, by rising numbers, each with the latency from it.
+    /// What instruction `j` depends on directly, by rising numbers, each with the latency from it. All other dependences
+    /// are implied by chains of direct ones ([`direct_ones_bind`](crate::laws::direct_ones_bind)).
     pub fn needs(&self, j: u16) -> &[Link]
         requires { j < length self.now.insns }
-        ensures { result.now ≡ needs (insns_of self.now) j }
+        ensures { result.now ≡ direct_needs (insns_of self.now) j }
     {
         let tables = &self.tables;
         tables.needs[j as usize].as_slice()
     }
 
-    /// What depends on instruction `i`, by rising numbers, each with the latency to it.
+    /// What depends directly on instruction `i`, by rising numbers, each with the latency to it.
     pub fn followers(&self, i: u16) -> &[Link]
         requires { i < length self.now.insns }
-        ensures { result.now ≡ followers (insns_of self.now) i }
+        ensures { result.now ≡ direct_followers (insns_of self.now) i }
     {
         let tables = &self.tables;
         tables.followers[i as usize].as_slice()
@@ -141,7 +142,8 @@ impl Plan {
         ensures latency { result ≡ latency (insns_of self.now) i j }
     {
         if i < j {
-            latency(&self.tables.uses, i as usize, j as usize)
+            let tables = &self.tables;
+            latency(&tables.uses, &tables.since, i as usize, j as usize)
         } else {
             None
         }

@@ -7,13 +7,13 @@ ghost use Rattle.c62_op.specs.Takes.{same_side};
 ghost use Rattle.c62_insn.specs.Insn.{operands_of};
 ghost use Rattle.c62_insn.specs.UnitSet.{unit_in};
 ghost use Rattle.c62_insn.specs.Stands.{may_stand};
-ghost use Rattle.c62_depend.specs.Uses.{insns_in};
+ghost use Rattle.c62_pair.specs.Uses.{insns_in};
 ghost use Rattle.c62_depend.specs.Side.{is_side, count_on, branch_side, side_in};
 ghost use Rattle.c62_depend.specs.UnitChoices.{IsUnitChoice, AreUnitChoices};
 
-use crate::uses::Uses;
 use bitflags::Flags;
 use c62_insn::{Insn, Side, Unit, UnitSet};
+use c62_pair::Uses;
 use std::alloc::{AllocError, Global};
 
 fn is_on(uses: &Uses, side: Side) -> bool

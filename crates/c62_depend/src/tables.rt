@@ -3,12 +3,14 @@
 ghost use Rattle.std.specs.Prelude.{◌≡◌, ◌≤◌, List, length, IfOk};
 ghost use Rattle.c62_insn.specs.declared.insn.Insn.{Insn};
 ghost use Rattle.c62_read.specs.declared.limits.TheConstants.{MOST_INSTRUCTIONS};
-ghost use Rattle.c62_depend.specs.Uses.{insns_in};
+ghost use Rattle.c62_pair.specs.Uses.{insns_in};
 
+use crate::direct::all_links;
 use crate::height::heights;
-use crate::links::{Links, all_followers, all_needs, copy_lists};
+use crate::links::{Links, copy_lists};
 use crate::side::{UnitChoice, unit_choices};
-use crate::uses::Uses;
+use crate::since::{Since, all_since};
+use c62_pair::Uses;
 use c62_read::SerialInsn;
 use std::alloc::{AllocError, Global};
 
@@ -16,6 +18,7 @@ use std::alloc::{AllocError, Global};
 #[derive(Drop)]
 pub(crate) struct Tables {
     pub uses: Vec<Uses>,
+    pub since: Vec<Since>,
     pub needs: Vec<Links>,
     pub followers: Vec<Links>,
     pub heights: Vec<u16>,
@@ -42,12 +45,13 @@ impl Tables {
         ensures { IfOk result (λ tables. AreTables (unnumbered insns.now) tables) }
     {
         let uses = all_uses(alloc, insns)?;
-        let (followers, pairs) = all_followers(alloc, &uses)?;
-        let needs = all_needs(alloc, &pairs, &uses)?;
-        let heights = heights(alloc, &uses, &pairs)?;
+        let since = all_since(alloc, &uses)?;
+        let (needs, followers) = all_links(alloc, &uses, &since)?;
+        let heights = heights(alloc, &uses, &followers)?;
         let choices = unit_choices(alloc, &uses)?;
         Ok(Tables {
             uses,
+            since,
             needs,
             followers,
             heights,
@@ -61,6 +65,7 @@ impl Tables {
     {
         Ok(Tables {
             uses: Vec::from_slice(alloc, &self.uses)?,
+            since: Vec::from_slice(alloc, &self.since)?,
             needs: copy_lists(alloc, &self.needs)?,
             followers: copy_lists(alloc, &self.followers)?,
             heights: Vec::from_slice(alloc, &self.heights)?,

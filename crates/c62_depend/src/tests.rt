@@ -88,6 +88,37 @@ const ACCESSES: [(&str, &str, &str); 11] = [
     ("STW A1,*A4\nSTW A2,*+A4[1]", "", "0 0 "),
 ];
 
+/// A text, and its direct dependences as `earlier>later:latency`.
+const DIRECT: [(&str, &str); 9] = [
+    // a read is bound by the last write
+    ("MVK 1,A1\nMVK 2,A1\nADD A1,A2,A3", "0>1:1 1>2:1 "),
+    // a write before it is bound by the last write, and by what reads that
+    (
+        "MVK 1,A1\nADD A1,A2,A3\nMVK 2,A1\nADD A1,A2,A4\nMVK 3,A1",
+        "0>1:1 0>2:1 1>2:0 2>3:1 2>4:1 3>4:0 ",
+    ),
+    // a write under a condition settles nothing: the one before it binds too
+    (
+        "MVK 1,A5\n[A1] MVK 2,A5\nADD A5,A3,A4",
+        "0>1:1 0>2:1 1>2:1 ",
+    ),
+    // nor does one that is exclusive to the later write
+    ("MVK 1,A5\n[A1] MVK 2,A5\n[!A1] MVK 3,A5", "0>1:1 0>2:1 "),
+    // a store at another base passes the stores before it
+    ("STW A1,*A4\nSTW A1,*B4\nLDW *A4,A5", "0>1:1 1>2:1 "),
+    // one that is disjoint doesn't
+    ("STW A1,*A4\nSTW A1,*+A4[1]\nLDW *A4,A5", "0>2:1 "),
+    // the branch waits for what nothing before it lands behind
+    (
+        "L: LDW *A4,A5\nADD A5,A6,A7\nMVK 1,B1\nB L",
+        "0>1:5 1>3:-5 2>3:-5 ",
+    ),
+    // what lands sooner leaves the load to be awaited
+    ("L: LDW *A4++,A5\nADDK 1,A4\nB L", "0>1:1 0>2:-1 1>2:-5 "),
+    // one register of two is enough
+    ("LDW *A4++,A5\nMVK 1,A4\nADD A4,A5,A6", "0>1:1 0>2:5 1>2:1 "),
+];
+
 /// A text, and the sides of its instructions.
 const SIDES: [(&str, &str); 5] = [
     (
@@ -179,7 +210,7 @@ fn latencies(alloc: Global, plan: &Plan) -> Result<String, Fail> {
     Ok(all)
 }
 
-/// The dependences again, from the lists of what depends on each instruction.
+/// The direct dependences, from the lists of what depends directly on each instruction.
 fn followers(alloc: Global, plan: &Plan) -> Result<String, Fail> {
     let mut all = String::new(alloc);
     for i in 0..plan.len() {
@@ -188,6 +219,51 @@ fn followers(alloc: Global, plan: &Plan) -> Result<String, Fail> {
         }
     }
     Ok(all)
+}
+
+/// The direct dependences again, from the lists of what each instruction depends on directly.
+fn count_needs(plan: &Plan) -> usize {
+    let mut count = 0;
+    for j in 0..plan.len() {
+        count += plan.needs(j).len();
+    }
+    count
+}
+
+/// Each direct dependence is one, with its latency, and each dependence is implied by a chain of direct ones.
+fn are_implied(rt: &impl Abort, plan: &Plan, text: &str) -> Result<(), Fail> {
+    for i in 0..plan.len() {
+        let mut reached = [None; 256];
+        reached[usize::from(i)] = Some(0);
+        for k in i..plan.len() {
+            let Some(before) = reached[usize::from(k)] else {
+                continue;
+            };
+            for link in plan.followers(k) {
+                let latency = i32::from(link.latency);
+                assert_eq!(rt;
+                    plan.latency(k, u16::from(link.number)),
+                    Some(latency),
+                    "{text}"
+                );
+                let at = usize::from(link.number);
+                let sum = before + latency;
+                reached[at] = match reached[at] {
+                    Some(other) if other > sum => Some(other),
+                    _ => Some(sum),
+                };
+            }
+        }
+        for j in i + 1..plan.len() {
+            if let Some(latency) = plan.latency(i, j) {
+                let Some(sum) = reached[usize::from(j)] else {
+                    panic!(rt; "{text}: {i} to {j}");
+                };
+                assert!(rt; sum >= latency, "{text}: {i} to {j}");
+            }
+        }
+    }
+    Ok(())
 }
 
 fn heights(alloc: Global, plan: &Plan) -> Result<String, Fail> {
@@ -235,8 +311,7 @@ fn is_planned(
     let plan = plan_of(rt, alloc, text)?;
     let found = latencies(alloc, &plan)?;
     assert_eq!(rt; found.as_str(), want, "{text}");
-    let listed = followers(alloc, &plan)?;
-    assert_eq!(rt; listed.as_str(), want, "{text}");
+    are_implied(rt, &plan, text)?;
     let found = heights(alloc, &plan)?;
     assert_eq!(rt; found.as_str(), high, "{text}");
     Ok(())
@@ -246,6 +321,18 @@ fn is_planned(
 fn dependences_and_heights(rt: HostRuntime) -> Result<(), Fail> {
     for (text, want, high) in &LATENCIES {
         is_planned(&rt, rt.alloc(), text, want, high)?;
+    }
+    Ok(())
+}
+
+#[test]
+fn direct_dependences(rt: HostRuntime) -> Result<(), Fail> {
+    for (text, want) in &DIRECT {
+        let plan = plan_of(&rt, rt.alloc(), text)?;
+        let found = followers(rt.alloc(), &plan)?;
+        assert_eq!(rt; found.as_str(), *want, "{text}");
+        assert_eq!(rt; count_needs(&plan), want.split(' ').count() - 1, "{text}");
+        are_implied(&rt, &plan, text)?;
     }
     Ok(())
 }
@@ -315,18 +402,18 @@ fn a_full_block(rt: HostRuntime) -> Result<(), Fail> {
     assert_eq!(rt; plan.height(255), 0);
     assert_eq!(rt; plan.latency(0, 255), Some(1));
     assert!(rt; plan.depends(0, 255) && !plan.depends(255, 0));
-    assert_eq!(rt; plan.needs(255).len(), 255);
-    assert_eq!(rt; plan.needs(255)[7].number, 7);
-    assert_eq!(rt; plan.followers(0).len(), 255);
+    assert_eq!(rt; plan.needs(255).len(), 1);
+    assert_eq!(rt; plan.needs(255)[0].number, 254);
+    assert_eq!(rt; plan.followers(0).len(), 1);
     assert!(rt; plan.side(9) == Side::A);
     assert_eq!(rt; plan.block().insns()[9].line, 10);
     let copy = plan.copy(rt.alloc())?;
     assert!(rt; copy.same(&plan));
-    assert_eq!(rt; copy.needs(255).len(), 255);
+    assert_eq!(rt; copy.needs(255).len(), 1);
     Ok(())
 }
 
-/// In long blocks the lists have what the instructions asked one by one tell.
+/// In long blocks the lists have direct dependences, that imply what the instructions asked one by one tell.
 #[test]
 fn long_blocks(rt: HostRuntime) -> Result<(), Fail> {
     for lines in &REPEATED {
@@ -336,9 +423,7 @@ fn long_blocks(rt: HostRuntime) -> Result<(), Fail> {
         }
         let plan = plan_of(&rt, rt.alloc(), &text)?;
         assert_eq!(rt; plan.len(), 80);
-        let listed = followers(rt.alloc(), &plan)?;
-        let found = latencies(rt.alloc(), &plan)?;
-        assert_eq!(rt; listed.as_str(), found.as_str(), "{lines}");
+        are_implied(&rt, &plan, lines)?;
     }
     Ok(())
 }

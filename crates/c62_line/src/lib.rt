@@ -20,5 +20,10 @@ pub use laws::{
     star_lines_say_nothing,
 };
 pub use limits::MOST_LINE;
-pub use line::{label_field, owned_label, read_head, read_insn, read_rest};
+pub use line::{
+    first_condition, first_label, first_mnemonic, is_storing, label_field, owned_label, read_head,
+    read_insn, read_rest, unit_behind,
+};
+pub use mnemonic::Mnemonic;
 pub use reading::{Reading, Statement, What};
+pub use unit::{Mark, WrittenUnit};

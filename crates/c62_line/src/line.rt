@@ -67,7 +67,7 @@ fn target<'a>(mnemonic: Mnemonic, rest: Tokens<'a>) -> Option<&'a [u8]>
     }
 }
 
-fn is_storing(mnemonic: Mnemonic) -> bool
+pub fn is_storing(mnemonic: Mnemonic) -> bool
     ensures { result ≡ is_storing mnemonic }
 {
     match mnemonic {
@@ -176,7 +176,7 @@ fn opens_bracket(rest: Tokens<'_>) -> bool
 /// The condition, where a bracket stands first, and what follows it. There is none where the bracket begins no condition.
 #[inline(always)]
 #[tactic(auto, using(crate::proofs::KindLemmas::no_bracket), unfolding(crate::specs::Line::condition_of, crate::specs::Line::condition_front))]
-fn first_condition<'a>(rest: Tokens<'a>) -> Option<(Option<Cond>, Tokens<'a>)>
+pub fn first_condition<'a>(rest: Tokens<'a>) -> Option<(Option<Cond>, Tokens<'a>)>
     ensures { Finds result (condition_front (words_left rest.entry)) }
 {
     if !opens_bracket(rest) {
@@ -201,7 +201,7 @@ fn first_condition<'a>(rest: Tokens<'a>) -> Option<(Option<Cond>, Tokens<'a>)>
 
 /// The mnemonic that stands first, and what follows it.
 #[inline(always)]
-fn first_mnemonic<'a>(rest: Tokens<'a>) -> Option<(Mnemonic, Tokens<'a>)>
+pub fn first_mnemonic<'a>(rest: Tokens<'a>) -> Option<(Mnemonic, Tokens<'a>)>
     ensures { Finds result (mnemonic_front (words_left rest.entry)) }
 {
     let (name, rest) = rest.split()?;
@@ -221,7 +221,7 @@ fn fits(written: Option<WrittenUnit>, mnemonic: Mnemonic) -> bool
 
 /// The unit that is written behind the mnemonic, where one is, and what follows it.
 #[inline(always)]
-fn unit_behind<'a>(
+pub fn unit_behind<'a>(
     mnemonic: Mnemonic,
     rest: Tokens<'a>,
 ) -> Option<(Option<WrittenUnit>, Tokens<'a>)>
@@ -272,7 +272,7 @@ pub fn read_rest<'a>(rest: Tokens<'a>) -> Result<Statement<'a>, Cause>
 
 /// The label that stands first, and what follows its colon.
 #[tactic(auto, unfolding(crate::specs::Line::label_front))]
-fn first_label<'a>(line: Tokens<'a>) -> (Option<&'a [u8]>, Tokens<'a>)
+pub fn first_label<'a>(line: Tokens<'a>) -> (Option<&'a [u8]>, Tokens<'a>)
     ensures value { label_front (words_left line.entry) ≡ (option_copied result.0, words_left result.1) }
     ensures label { IfSome result.0 (λ word. IsTrue (is_label word.now)) }
 {

@@ -17,7 +17,7 @@ use c62_token::number::spells;
 
 /// What may stand first in an instruction.
 #[derive(Clone, Copy)]
-pub(crate) enum Mnemonic {
+pub enum Mnemonic {
     Operation(Op),
     Mv,
     Neg,
@@ -213,7 +213,7 @@ fn zero_in(letter: Option<Letter>, d: Reg) -> (Op, Operands)
 impl Mnemonic {
     /// Whether a unit of this letter may be written behind the mnemonic.
     #[tactic(auto, unfolding(crate::specs::Mnemonic::stands_on))]
-    pub(crate) fn stands_on(self, letter: Letter) -> bool
+    pub fn stands_on(self, letter: Letter) -> bool
         ensures { result ≡ stands_on self letter }
     {
         match self {
@@ -231,11 +231,7 @@ impl Mnemonic {
     /// The operation and operands that the mnemonic with these operands stands for. `letter` is that of the written unit.
     #[inline(always)]
     #[tactic(auto, unfolding(crate::specs::Mnemonic::stands_for))]
-    pub(crate) fn stands_for(
-        self,
-        letter: Option<Letter>,
-        operands: Operands,
-    ) -> Option<(Op, Operands)>
+    pub fn stands_for(self, letter: Option<Letter>, operands: Operands) -> Option<(Op, Operands)>
         ensures { result ≡ stands_for self letter operands }
     {
         match (self, operands) {

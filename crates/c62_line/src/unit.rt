@@ -9,7 +9,7 @@ use c62_token::{Tokens, begins_with};
 
 /// What is written behind a unit's number.
 #[derive(Clone, Copy)]
-pub(crate) enum Mark {
+pub enum Mark {
     Plain,
     /// `X`: an operand crosses.
     Cross,
@@ -19,7 +19,7 @@ pub(crate) enum Mark {
 
 /// A unit with its mark.
 #[derive(Clone, Copy)]
-pub(crate) struct WrittenUnit {
+pub struct WrittenUnit {
     pub unit: Unit,
     pub mark: Mark,
 }

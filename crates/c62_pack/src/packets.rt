@@ -1,18 +1,19 @@
 //! The packets of a board, and of any lawful spots.
 
-ghost use Rattle.std.specs.Prelude.{◌≡◌, map, Some, IfOk, MatchResult};
+ghost use Rattle.std.specs.Prelude.{◌≡◌, ◌≤◌, length, map, Some, IfOk, MatchResult};
+ghost use Rattle.c62_read.specs.declared.limits.TheConstants.{MOST_INSTRUCTIONS};
 ghost use Rattle.c62_depend.specs.Plan.{insns_of};
 ghost use Rattle.c62_sheet.specs.Lawful.{IsLawful};
 ghost use Rattle.c62_sheet.specs.Least.{IsComplete};
 ghost use Rattle.c62_meaning.specs.Laws.{AreSerial};
 ghost use Rattle.c62_pipe.specs.Chain.{IsBlockPacked};
-ghost use Rattle.c62_pack.specs.Packets.{ArePackets, IsAtFault};
+ghost use Rattle.c62_pack.specs.Packets.{ArePackets, ArePlaced, IsAtFault};
 
-use crate::arrange::arrange;
+use crate::arrange::{all_placed, arrange};
 use crate::fault::AtFault;
 use c62_board::Board;
 use c62_depend::Plan;
-use c62_packet::PacketBlock;
+use c62_packet::{PacketBlock, Placed};
 use c62_sheet::{Spot, are_lawful};
 use std::alloc::{AllocError, Global};
 
@@ -47,6 +48,25 @@ pub fn packets_of(alloc: Global, board: &Board) -> Result<PacketBlock, AllocErro
 {
     let spots = spots_of(alloc, board)?;
     arrange(alloc, board.plan(), &spots)
+}
+
+/// The instructions of a complete board on their spots, in the order of its block, each with its line, and with the unit
+/// written on which it stands.
+///
+/// # Errors
+///
+/// Where memory ran out.
+pub fn placed_of(alloc: Global, board: &Board) -> Result<Vec<Placed>, AllocError>
+    requires { IsComplete (insns_of board.now.plan) board.now.spots }
+    ensures placed { IfOk result (λ placed. ArePlaced board.now.plan board.now.spots placed.items) }
+    ensures count { IfOk result (λ placed. length placed.items ≡ length board.now.plan.insns) }
+    ensures few { IfOk result (λ placed. length placed.items ≤ MOST_INSTRUCTIONS) }
+{
+    let spots = spots_of(alloc, board)?;
+    let plan = board.plan();
+    let _all = plan.len();
+    let placed = all_placed(alloc, plan, &spots)?;
+    Ok(placed)
 }
 
 /// The packets of a plan whose instruction `i` stands at spot `i`, as [`packets_of`] has them of a board, for any lawful

@@ -82,7 +82,7 @@ line_count number label says old = grind (arith, nat_tests, length-append {A = D
 
 -- ---- one line more
 
-abbrev more : List (List ℕ) → List ℕ → List (List ℕ)
+abbrev pub more : List (List ℕ) → List ℕ → List (List ℕ)
 more before line = before ++ line ∷ []
 
 items_more : (number n : ℕ) (before : List (List ℕ)) (line : List ℕ) → n ≡ length before + number
@@ -131,11 +131,11 @@ Walked labels before lines read =
     (result_err read ≡ first_fault labels before lines) × ((new : Drafts) → read ≡ Ok new → Stands labels (before ++ lines) new)
 
 module _ (labels : List Name) (before : List (List ℕ)) (line : List ℕ) (old : Drafts) (stands : Stands labels before old) where
-  abbrev here : ℕ
+  abbrev pub here : ℕ
   here = length before + 1
 
   -- what the step tells of the line: its fault, and where it has none the blocks with it
-  abbrev Goes : Step → Type 0
+  abbrev pub Goes : Step → Type 0
   Goes step =
       (fault_of labels before line ≡ first_of (fault_if (is_unknown labels step.says) UnknownTarget ∷ fault_in step.drafts ∷ []))
       × (is_unknown labels step.says ≡ false → (new : Drafts) → step.drafts ≡ Ok new → Stands labels (more before line) new)
@@ -173,7 +173,7 @@ module _ (labels : List Name) (before : List (List ℕ)) (line : List ℕ) (old 
             },
       )
 
-  goes : (front : Result (Option Name × List (List ℕ)) Cause) → head_of line ≡ front → Goes (add_head here old front)
+  pub goes : (front : Result (Option Name × List (List ℕ)) Cause) → head_of line ≡ front → Goes (add_head here old front)
   unfolding fault_of line_of
   goes (Err cause) head = (rw head refl, λ known new made. absurd cc)
   goes (Ok (label, words)) head = by_rest (is_taken label old) refl (rest_says words) refl
@@ -209,11 +209,14 @@ walk labels (line ∷ lines) before old stands =
     walk_line labels before line old stands lines (λ new there. walk labels lines (more before line) new there) _
     (goes labels before line old stands (head_of line) refl) _ refl _ refl
 
+-- the reader has no blocks before any line
+pub none_stand : (labels : List Name) → Stands labels [] no_drafts
+unfolding IsDistinct
+none_stand labels = record { cuts = λ items. refl; few = omega arith; small = refl; own = refl; fits = tt; distinct = tt }
+
 -- the walk over all lines of a text
 pub walk_text : (lines : List (List ℕ)) → Walked (labels_of lines) [] lines (add_lines (labels_of lines) 1 lines no_drafts)
-unfolding IsDistinct
-walk_text lines =
-    walk _ lines [] no_drafts (record { cuts = λ items. refl; few = omega arith; small = refl; own = refl; fits = tt; distinct = tt })
+walk_text lines = walk _ lines [] no_drafts (none_stand (labels_of lines))
 
 module _ (number : ℕ) (line : List ℕ) (lines all : List (List ℕ)) (old : Drafts) (first : all ≡ line ∷ lines) where
   -- the answer behind this line, but for the branches that are kept

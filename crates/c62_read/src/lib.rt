@@ -24,7 +24,7 @@ pub use laws::{
     labels_are_distinct, limits_are, lines_rise,
 };
 pub use limits::{MOST_BLOCKS, MOST_BYTES, MOST_INSTRUCTIONS};
-pub use program::{first_line, label_is, read_program, without_return};
+pub use program::{BlockReader, TextReader, first_line, label_is, read_program, without_return};
 
 #[cfg(test)]
 mod tests;

@@ -21,7 +21,7 @@ use std::alloc::{AllocError, Global};
 
 /// A block as it is read, and the label that its last instruction branches to.
 #[derive(Drop)]
-pub(crate) struct BlockReader {
+pub struct BlockReader {
     pub label: Option<Label>,
     pub insns: Vec<SerialInsn>,
     pub target: Option<Label>,
@@ -29,7 +29,7 @@ pub(crate) struct BlockReader {
 
 /// The blocks that are whole, and the one that the next instruction goes into.
 #[derive(Drop)]
-pub(crate) struct TextReader {
+pub struct TextReader {
     pub done: Vec<BlockReader>,
     pub current: Option<BlockReader>,
 }
@@ -84,7 +84,8 @@ impl BlockReader {
 }
 
 impl TextReader {
-    fn new(alloc: Global) -> TextReader
+    /// No blocks yet.
+    pub fn new(alloc: Global) -> TextReader
         ensures { drafts_of result ≡ record { done = []; current = None } }
     {
         TextReader {
@@ -237,7 +238,7 @@ impl TextReader {
     /// What a line of the text says by itself, where no earlier line has its label.
     #[inline(always)]
     #[tactic(auto, unfolding(crate::specs::Walk::add_line))]
-    fn judge<'a>(&self, line: &'a [u8]) -> Result<(Option<&'a [u8]>, Statement<'a>), Cause>
+    pub fn judge<'a>(&self, line: &'a [u8]) -> Result<(Option<&'a [u8]>, Statement<'a>), Cause>
         ensures said { (number : ℕ) → SaysAtLine number line.now self.now result }
         ensures label { IfOk result (λ found. IfSome found.0 (λ word. IsTrue (is_label word.now))) }
         ensures target { IfOk result (λ found. IsTrue (names_label found.1)) }
@@ -250,7 +251,7 @@ impl TextReader {
     }
 
     /// Adds what a line says, or answers what stands against it.
-    fn add_said(
+    pub fn add_said(
         &mut self,
         alloc: Global,
         number: u32,

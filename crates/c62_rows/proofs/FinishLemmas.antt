@@ -1,46 +1,46 @@
 -- What is read of a text once all its lines are.
-use Rattle.std.proofs.Common.{arith, ◌≡◌, ◌⊎◌, inl, inr, ℕ, ◌≤◌, List, length, map, Option, Some, None, refl, sym, ap, ◌∙◌, subst}
-use Rattle.std.specs.Prelude.{All, unwrap_or}
+use Rattle.std.proofs.Common.{arith, ◌≡◌, inr, ℕ, ◌≤◌, List, length, map, Option, Some, None, sym, ap, ◌∙◌, subst}
+use Rattle.std.specs.Prelude.{unwrap_or}
 use Rattle.std.proofs.lemmas.List.{length-map}
 use Rattle.c62_read.specs.Program.{Name}
-use Rattle.c62_flight.specs.Text.{Row, Text}
 use Rattle.c62_rows.specs.declared.fault.RowsFault.{RowsFault}
 use Rattle.c62_rows.specs.declared.fault.RowsFault.TheVariants.{At, From, Memory}
 use Rattle.c62_rows.specs.declared.text.RowsText.{RowsText}
-use Rattle.c62_rows.specs.Rows.{row_read, text_of, IsRow, AreRows}
+use Rattle.c62_rows.specs.Rows.{row_read, text_of}
+use Rattle.c62_rows.specs.Word.{row_named}
+use Rattle.c62_rows.specs.Collected.{Collects}
 use Rattle.c62_rows.specs.Reading.{Reading, all_rows, closed}
-use Rattle.c62_rows.specs.Text.{aims_among, lost_among, row_named, text_in, first_row, IsReading, LacksStart, Refuses, RefusesFrom}
+use Rattle.c62_rows.specs.Text.{first_row, IsReading, LacksStart, Refuses, RefusesFrom}
 use Rattle.c62_rows.specs.Told.{names_of, LosesTarget, BeginsAs, ReadsAs}
 use Rattle.c62_rows.specs.Sound.{IsSound}
 use Rattle.c62_rows.proofs.SoundLemmas.{rows_are}
-
-abbrev flying : List Row → List ℕ → Text
-flying rows aims = record { rows = rows; aims = aims }
+use Rattle.c62_rows.proofs.Worded.{rows_worded, same_count}
 
 pub finished_as : (text : List ℕ) (old new : Reading) (read : RowsText) → IsReading text old → IsSound old → length (all_rows old) ≤ 8388608
-    → new ≡ closed old → map row_read read.rows.rows.items ≡ new.done → read.rows.aims.items ≡ aims_among new.targets new.labels
-    → names_of read ≡ new.labels → lost_among new.targets new.labels ≡ None → ReadsAs text read
-finished_as text old new read reads sound few is rows aims names found =
+    → new ≡ closed old → Collects new read → ReadsAs text read
+finished_as text old new read reads sound few is collects =
     record {
       is_text = record {
         reading = old;
         reads = reads;
-        found = ap (λ (r : Reading). lost_among r.targets r.labels) (sym is) ∙ found;
-        flies = (λ i. flying (whole i) (goes i));
-        named = names ∙ ap (λ (r : Reading). r.labels) is;
+        found = there.found;
+        flies = record { rows = there.rows; aims = there.aims_are };
+        named = there.names;
       };
       rows = record {
-        each = subst (All IsRow) (sym whole) (rows_are old sound);
-        few = omega (arith, few, ap length whole, length-map read.rows.rows.items row_read);
-        aims = omega (arith, sound.targets, ap length goes, length-map old.targets (λ target. unwrap_or (row_named target.0 old.labels) 0));
+        each = rows_worded old.words old.labels (all_rows old) (map row_read read.rows.rows.items) there.rows (rows_are old sound);
+        few = omega (
+          arith,
+          few,
+          same_count old.words old.labels (all_rows old) (map row_read read.rows.rows.items) there.rows,
+          length-map read.rows.rows.items row_read,
+        );
+        aims = omega (arith, sound.targets, ap length there.aims_are, length-map old.targets (λ target. unwrap_or (row_named target.0 old.labels) 0));
       };
     }
   where
-    whole : map row_read read.rows.rows.items ≡ all_rows old
-    whole = rows ∙ ap (λ (r : Reading). r.done) is
-
-    goes : read.rows.aims.items ≡ aims_among old.targets old.labels
-    goes = aims ∙ ap (λ (r : Reading). aims_among r.targets r.labels) is
+    there : Collects (closed old) read
+    there = subst (λ (r : Reading). Collects r read) is collects
 
 -- where a label isn't found, that is the fault
 pub loses : (text : List ℕ) (old new : Reading) (fault : RowsFault) → IsReading text old → new ≡ closed old → LosesTarget new.targets new.labels fault

@@ -1,10 +1,9 @@
 -- The units can issue the rows of every text.
-use Rattle.std.proofs.Common.{arith, ◌≡◌, ℕ, List, length, map, sym, subst}
-use Rattle.std.specs.Prelude.{All}
+use Rattle.std.proofs.Common.{arith}
 use Rattle.std.proofs.lemmas.List.{length-map}
-use Rattle.c62_flight.specs.Text.{Row, IsIssuable}
+use Rattle.c62_flight.specs.Text.{IsIssuable}
 use Rattle.c62_rows.specs.declared.rows.Rows.{Rows as RowsRead}
-use Rattle.c62_rows.specs.Rows.{row_read, text_of, IsRow, AreRows}
+use Rattle.c62_rows.specs.Rows.{row_read, text_of, AreRows}
 
 pub rows_are_issuable : (rows : RowsRead) → AreRows rows → IsIssuable (text_of rows)
 rows_are_issuable rows are = record {

@@ -1,5 +1,7 @@
 mod Packets
 mod Tables
+mod Halves
+mod Worded
 mod SoundLemmas
 mod ReadLemmas
 mod FinishLemmas
@@ -8,3 +10,5 @@ pub mod Issuable
 mod Ruled
 mod Labelled
 mod Finished
+mod OneLine
+mod OneAnswer

@@ -1,6 +1,6 @@
 -- What the instructions of a packet take of their cycle.
-use Rattle.std.proofs.Common.{arith, ◌≡◌, ℕ, zero, suc, ◌+◌, ◌<◌, ◌≤◌, List, [], ◌∷◌, ◌++◌, length, map, Some, None, true, false, refl, sym, ap, ◌∙◌, subst, inl, inr}
-use Rattle.std.specs.Prelude.{◌==◌, if◌then◌else◌, nat_lt, slice_index, sum_by, count_by, All}
+use Rattle.std.proofs.Common.{arith, ◌≡◌, ℕ, zero, suc, ◌+◌, ◌<◌, ◌≤◌, List, [], ◌∷◌, ◌++◌, length, map, Some, true, false, refl, sym, ap, ◌∙◌, subst, inl, inr}
+use Rattle.std.specs.Prelude.{nat_lt, slice_index, sum_by, All}
 use Rattle.std.proofs.lemmas.Bool.{cases_eq, cases_lt, lt-ltb}
 use Rattle.std.proofs.lemmas.Bool.Decides.{nat_tests}
 use Rattle.std.specs.List.{insert, position_or_len}
@@ -12,10 +12,7 @@ use Rattle.c62_op.specs.declared.register.Unit.{Unit as FunctionalUnit}
 use Rattle.c62_op.specs.Units.{index_of}
 use Rattle.c62_op.proofs.UnitOrder.{index_of-below}
 use Rattle.c62_insn.specs.declared.insn.Insn.{Insn}
-use Rattle.c62_rules.specs.declared.resource.Resource.{Resource}
-use Rattle.c62_rules.specs.declared.resource.Resource.TheVariants.{OnUnit}
-use Rattle.c62_rules.specs.PacketRules.{Issue, Issues}
-use Rattle.c62_rules.specs.Resource.{taken_by, place_of, paths_taken, capacity_at}
+use Rattle.c62_rules.specs.Resource.{taken_by, capacity_at}
 use Rattle.c62_rules.specs.Capacity.{AreEnough}
 use Rattle.c62_row.specs.declared.row.Uses.{Uses}
 use Rattle.c62_row.specs.declared.row.Row.{Row as Taken}

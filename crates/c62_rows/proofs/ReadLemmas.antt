@@ -1,9 +1,9 @@
 -- A text is read line by line.
-use Rattle.std.proofs.Common.{arith, ◌≡◌, ◌⊎◌, inl, inr, ℕ, ◌+◌, ◌<◌, ◌≤◌, List, [], ◌∷◌, length, None, refl, sym, ap, ◌∙◌, subst}
+use Rattle.std.proofs.Common.{arith, ◌≡◌, inl, inr, ℕ, ◌+◌, ◌<◌, ◌≤◌, List, [], ◌∷◌, length, refl, sym, subst}
 use Rattle.c62_read.specs.Text.{lines_of}
 use Rattle.c62_rows.specs.declared.fault.RowsCause.{RowsCause}
 use Rattle.c62_rows.specs.declared.fault.RowsFault.TheVariants.{At}
-use Rattle.c62_rows.specs.Reading.{Reading, no_reading, all_rows, AddsLine, RefusesLine}
+use Rattle.c62_rows.specs.Reading.{Reading, no_reading, all_rows, RefusesLine}
 use Rattle.c62_rows.specs.Text.{LeadsTo, RefusesAmong, IsReading, Refuses}
 use Rattle.c62_rows.specs.Sound.{IsSound, IsSmall}
 use Rattle.c62_rows.specs.Read.{IsReady, AddsShortLine}

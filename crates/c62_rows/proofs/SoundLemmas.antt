@@ -1,7 +1,7 @@
 -- What holds of all that is read stays with each line.
-use Rattle.std.proofs.Common.{arith, ◌≡◌, ◌⊎◌, inl, inr, ℕ, ◌+◌, ◌-◌, ◌*◌, ◌<◌, ◌≤◌, List, [], ◌∷◌, ◌++◌, length, map, Option, Some, None, Bool, true, false, refl, sym, ap, ◌∙◌, subst}
+use Rattle.std.proofs.Common.{arith, ◌≡◌, ℕ, ◌+◌, ◌-◌, ◌*◌, ◌<◌, ◌≤◌, List, [], ◌∷◌, ◌++◌, length, Option, Some, None, Bool, true, false, refl, sym, ap, ◌∙◌, subst}
 use Rattle.std.proofs.lemmas.Bool.Decides.{nat_tests}
-use Rattle.std.specs.Prelude.{IsPermutation, All, IfSome, sum_by, is_some, ◌^◌}
+use Rattle.std.specs.Prelude.{IsPermutation, All, IfSome, sum_by, ◌^◌}
 use Rattle.std.specs.List.{insert, position_or_len}
 use Rattle.std.specs.Option.{option_to_list, option_map_or}
 use Rattle.std.proofs.lemmas.List.{append-nil, length-append}
@@ -10,18 +10,18 @@ use Rattle.std.proofs.lemmas.List.Sorted.{All-permutation, IsPermutation-insert}
 use Rattle.std.proofs.lemmas.List.Sums.{sum_by-cons, sum_by-insert}
 use Rattle.indexmap.proofs.SetLemmas.{map-insert}
 use Rattle.c62_insn.specs.Insn.{unit_of}
-use Rattle.c62_rules.specs.declared.resource.Resource.{Resource}
-use Rattle.c62_rules.specs.Capacity.{AreEnough, uses_in, used}
+use Rattle.c62_rules.specs.Capacity.{AreEnough, uses_in}
 use Rattle.c62_read.specs.Program.{Name, Numbered}
 use Rattle.c62_line.specs.Line.{Says, Nothing, Pause, Does, Jumps}
 use Rattle.c62_packet.specs.declared.placed.Placed.{Placed}
-use Rattle.c62_packet.specs.Packed.{issue_of, issued, StandAsWritten}
+use Rattle.c62_packet.specs.Packed.{issue_of, issued}
 use Rattle.c62_adopt_line.specs.Line.{Line}
 use Rattle.c62_adopt_cut.specs.Cut.{begins_packet}
 use Rattle.c62_flight.specs.Text.{Row, no_row}
-use Rattle.c62_rows.specs.Rows.{IsRow, stands_behind, with_insn, with_idle, MayJoin}
-use Rattle.c62_rows.specs.Reading.{Reading, no_reading, all_rows, with_label, begun, on_current, is_target, with_target, insns_above, at_line, hindrance}
-use Rattle.c62_rows.specs.Reading.{IsPlaced, AddsInsn, AddsSays, AddsLine, is_one_more}
+use Rattle.c62_rows.specs.Word.{Said}
+use Rattle.c62_rows.specs.Rows.{IsRow, stands_behind, with_insn, with_idle}
+use Rattle.c62_rows.specs.Reading.{Reading, no_reading, all_rows, with_label, begun, on_current, is_target, with_target, with_named, insns_above, at_line, hindrance}
+use Rattle.c62_rows.specs.Reading.{AddsInsn, AddsSays, AddsLine, is_beyond, is_word_more, is_one_more}
 use Rattle.c62_rows.specs.Sound.{IsSound, IsSmall}
 use Rattle.c62_rows.specs.Read.{IsReady, IsShort, AddsShortLine}
 use Rattle.c62_rows.proofs.Packets.{eight_at_most, none_on_unit, rises_strictly, rises_with, strictly_rises}
@@ -96,15 +96,15 @@ begun_sound line reading is = by (begins_packet line) refl
 pub at_line_sound : (line : Line) (reading : Reading) → IsSound reading → IsSound (at_line line reading)
 at_line_sound line reading is = begun_sound line (with_label line.label reading) (label_sound line.label reading is)
 
-change_sound : (change : Row → Row) (done : List Row) (current : Option Row) (labels targets : List (Name × ℕ))
-    → IsSound (record { done = done; current = current; labels = labels; targets = targets })
+change_sound : (change : Row → Row) (done : List Row) (current : Option Row) (labels targets : List (Name × ℕ)) (words : List (ℕ × Name))
+    → IsSound (record { done = done; current = current; labels = labels; targets = targets; words = words })
     → ((row : Row) → current ≡ Some row → IsRow row → IsRow (change row))
-    → IsSound (on_current change (record { done = done; current = current; labels = labels; targets = targets }))
-change_sound change done None labels targets is kept = record { done = is.done; current = tt; targets = is.targets }
-change_sound change done (Some row) labels targets is kept = record { done = is.done; current = kept row refl is.current; targets = is.targets }
+    → IsSound (on_current change (record { done = done; current = current; labels = labels; targets = targets; words = words }))
+change_sound change done None labels targets words is kept = record { done = is.done; current = tt; targets = is.targets }
+change_sound change done (Some row) labels targets words is kept = record { done = is.done; current = kept row refl is.current; targets = is.targets }
 
 insn_sound : (entry : Numbered) (old new : Reading) → IsSound old → AddsInsn entry old new → IsSound new
-insn_sound entry old new is adds = subst IsSound (sym adds.adds) (change_sound (with_insn adds.placed) old.done old.current old.labels old.targets is joins)
+insn_sound entry old new is adds = subst IsSound (sym adds.adds) (change_sound (with_insn adds.placed) old.done old.current old.labels old.targets old.words is joins)
   where
     joins : (row : Row) → old.current ≡ Some row → IsRow row → IsRow (with_insn adds.placed row)
     joins row e one =
@@ -124,12 +124,20 @@ target_sound target number reading is room = by (is_target target reading) refl
       targets = omega (arith, room e, length-append reading.targets ((target, number) ∷ []));
     })
 
-pub says_sound : (number : ℕ) (says : Says) (old new : Reading) → IsSound old → is_one_more says old ≡ false → AddsSays number says old new → IsSound new
-says_sound number Nothing old new is room same = subst IsSound (sym same) is
-says_sound number (Pause n) old new is room same =
-    subst IsSound (sym same) (change_sound (with_idle (n - 1)) old.done old.current old.labels old.targets is (λ row e one. with_idle-is (n - 1) row one))
-says_sound number (Does parts) old new is room adds = insn_sound _ old new is adds
-says_sound number (Jumps parts target) old new is room adds =
+named_sound : (word : Option Name) (number : ℕ) (reading : Reading) → IsSound reading → is_word_more word reading ≡ false
+    → IsSound (with_named word number reading)
+named_sound None number reading is room = is
+named_sound (Some name) number reading is room =
+    let with = target_sound name number reading is (λ none. grind (arith, nat_tests, none, room)) in
+    record { done = with.done; current = with.current; targets = with.targets }
+
+pub says_sound : (number : ℕ) (word : Option Name) (says : Says) (old new : Reading) → IsSound old → is_one_more word says old ≡ false
+    → AddsSays number word says old new → IsSound new
+says_sound number word Nothing old new is room same = subst IsSound (sym same) is
+says_sound number word (Pause n) old new is room same =
+    subst IsSound (sym same) (change_sound (with_idle (n - 1)) old.done old.current old.labels old.targets old.words is (λ row e one. with_idle-is (n - 1) row one))
+says_sound number word (Does parts) old new is room adds = insn_sound _ (with_named word number old) new (named_sound word number old is room) adds
+says_sound number word (Jumps parts target) old new is room adds =
     insn_sound _ (with_target target number old) new (target_sound target number old is (λ none. grind (arith, nat_tests, none, room))) adds
 
 -- ---- lines
@@ -145,23 +153,32 @@ targets_at line reading = by_row (begins_packet line) refl ∙ by_label line.lab
     by_row true e = rw e refl
     by_row false e = rw e refl
 
-one_more-same : (says : Says) (one other : Reading) → one.targets ≡ other.targets → is_one_more says one ≡ is_one_more says other
-one_more-same Nothing one other same = refl
-one_more-same (Pause n) one other same = refl
-one_more-same (Does parts) one other same = refl
-one_more-same (Jumps parts target) one other same = rw same refl
+beyond-same : (name : Name) (one other : Reading) → one.targets ≡ other.targets → is_beyond name one ≡ is_beyond name other
+beyond-same name one other same = rw same refl
 
-pub free_room : (line : Line) (reading : Reading) → hindrance line reading ≡ None → is_one_more line.says reading ≡ false
+word_more-same : (word : Option Name) (one other : Reading) → one.targets ≡ other.targets → is_word_more word one ≡ is_word_more word other
+word_more-same None one other same = refl
+word_more-same (Some name) one other same = beyond-same name one other same
+
+one_more-same : (word : Option Name) (says : Says) (one other : Reading) → one.targets ≡ other.targets
+    → is_one_more word says one ≡ is_one_more word says other
+one_more-same word Nothing one other same = refl
+one_more-same word (Pause n) one other same = refl
+one_more-same word (Does parts) one other same = word_more-same word one other same
+one_more-same word (Jumps parts target) one other same = beyond-same target one other same
+
+pub free_room : (said : Said) (reading : Reading) → hindrance said reading ≡ None → is_one_more said.word said.line.says reading ≡ false
 unfolding hindrance
-free_room line reading free = grind (arith, nat_tests, free)
+free_room said reading free = grind (arith, nat_tests, free)
 
-pub room_at : (line : Line) (reading : Reading) → is_one_more line.says reading ≡ false → is_one_more line.says (at_line line reading) ≡ false
-room_at line reading room = one_more-same line.says (at_line line reading) reading (targets_at line reading) ∙ room
+pub room_at : (said : Said) (reading : Reading) → is_one_more said.word said.line.says reading ≡ false
+    → is_one_more said.word said.line.says (at_line said.line reading) ≡ false
+room_at said reading room = one_more-same said.word said.line.says (at_line said.line reading) reading (targets_at said.line reading) ∙ room
 
 pub line_sound : (number : ℕ) (bytes : List ℕ) (old new : Reading) → IsSound old → AddsLine number bytes old new → IsSound new
 line_sound number bytes old new is adds =
-    says_sound number adds.line.says (at_line adds.line old) new (at_line_sound adds.line old is)
-    (room_at adds.line old (free_room adds.line old adds.free)) adds.adds
+    says_sound number adds.said.word adds.said.line.says (at_line adds.said.line old) new (at_line_sound adds.said.line old is)
+    (room_at adds.said old (free_room adds.said old adds.free)) adds.adds
 
 -- ---- so many lines
 
@@ -190,12 +207,12 @@ at_small lines line reading is = by (begins_packet line) refl
     by true e = rw e (record { rows = omega (arith, small.rows, length-append (all_rows below) (no_row ∷ [])); idle = omega arith })
     by false e = rw e (record { rows = omega (arith, small.rows); idle = small.idle })
 
-changed_small : (lines more : ℕ) (change : Row → Row) (done : List Row) (current : Option Row) (labels targets : List (Name × ℕ))
-    → IsSmallAt lines (record { done = done; current = current; labels = labels; targets = targets })
+changed_small : (lines more : ℕ) (change : Row → Row) (done : List Row) (current : Option Row) (labels targets : List (Name × ℕ)) (words : List (ℕ × Name))
+    → IsSmallAt lines (record { done = done; current = current; labels = labels; targets = targets; words = words })
     → more ≤ 255 → ((row : Row) → (change row).idle ≡ row.idle + more)
-    → IsSmall (lines + 1) (on_current change (record { done = done; current = current; labels = labels; targets = targets }))
-changed_small lines more change done None labels targets is less adds = record { rows = is.rows; idle = tt }
-changed_small lines more change done (Some row) labels targets is less adds =
+    → IsSmall (lines + 1) (on_current change (record { done = done; current = current; labels = labels; targets = targets; words = words }))
+changed_small lines more change done None labels targets words is less adds = record { rows = is.rows; idle = tt }
+changed_small lines more change done (Some row) labels targets words is less adds =
     record {
       rows = omega (arith, is.rows, length-append done (row ∷ []), length-append done (change row ∷ []));
       idle = omega (arith, is.idle, less, adds row);
@@ -204,7 +221,7 @@ changed_small lines more change done (Some row) labels targets is less adds =
 insn_small : (lines : ℕ) (entry : Numbered) (old new : Reading) → IsSmallAt lines old → AddsInsn entry old new → IsSmall (lines + 1) new
 insn_small lines entry old new is adds =
     subst (IsSmall (lines + 1)) (sym adds.adds)
-    (changed_small lines 0 (with_insn adds.placed) old.done old.current old.labels old.targets is (omega arith) (λ row. omega arith))
+    (changed_small lines 0 (with_insn adds.placed) old.done old.current old.labels old.targets old.words is (omega arith) (λ row. omega arith))
 
 target_small : (lines : ℕ) (target : Name) (number : ℕ) (reading : Reading) → IsSmallAt lines reading → IsSmallAt lines (with_target target number reading)
 target_small lines target number reading is = by (is_target target reading) refl
@@ -217,19 +234,27 @@ weaker : (lines : ℕ) (current : Option Row) → IfSome current (λ row. row.id
 weaker lines None is = tt
 weaker lines (Some row) is = omega (arith, is)
 
-says_small : (lines number : ℕ) (says : Says) (old new : Reading) → IsSmallAt lines old → IsShort says → AddsSays number says old new → IsSmall (lines + 1) new
-says_small lines number Nothing old new is short same =
+named_small : (lines : ℕ) (word : Option Name) (number : ℕ) (reading : Reading) → IsSmallAt lines reading → IsSmallAt lines (with_named word number reading)
+named_small lines None number reading is = is
+named_small lines (Some name) number reading is =
+    let with = target_small lines name number reading is in
+    record { rows = with.rows; idle = with.idle }
+
+says_small : (lines number : ℕ) (word : Option Name) (says : Says) (old new : Reading) → IsSmallAt lines old → IsShort says
+    → AddsSays number word says old new → IsSmall (lines + 1) new
+says_small lines number word Nothing old new is short same =
     subst (IsSmall (lines + 1)) (sym same) (record { rows = is.rows; idle = weaker lines old.current is.idle })
-says_small lines number (Pause n) old new is short same =
+says_small lines number word (Pause n) old new is short same =
     subst (IsSmall (lines + 1)) (sym same)
-    (changed_small lines (n - 1) (with_idle (n - 1)) old.done old.current old.labels old.targets is (omega (arith, short)) (λ row. refl))
-says_small lines number (Does parts) old new is short adds = insn_small lines _ old new is adds
-says_small lines number (Jumps parts target) old new is short adds =
+    (changed_small lines (n - 1) (with_idle (n - 1)) old.done old.current old.labels old.targets old.words is (omega (arith, short)) (λ row. refl))
+says_small lines number word (Does parts) old new is short adds = insn_small lines _ (with_named word number old) new (named_small lines word number old is) adds
+says_small lines number word (Jumps parts target) old new is short adds =
     insn_small lines _ (with_target target number old) new (target_small lines target number old is) adds
 
 pub line_small : (lines number : ℕ) (bytes : List ℕ) (old new : Reading) → IsSmall lines old → AddsShortLine number bytes old new → IsSmall (lines + 1) new
 line_small lines number bytes old new is adds =
-    says_small lines number adds.adds.line.says (at_line adds.adds.line old) new (at_small lines adds.adds.line old is) adds.short adds.adds.adds
+    says_small lines number adds.adds.said.word adds.adds.said.line.says (at_line adds.adds.said.line old) new (at_small lines adds.adds.said.line old is)
+    adds.short adds.adds.adds
 
 -- ---- what the reader asks before a line, and before what it says
 

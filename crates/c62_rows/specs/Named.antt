@@ -1,5 +1,5 @@
 -- What a label does where no packet is open.
-use Rattle.std.specs.Prelude.{List, [], ◌∷◌, ◌++◌, length}
+use Rattle.std.specs.Prelude.{[], ◌∷◌, ◌++◌, length}
 use Rattle.c62_read.specs.Program.{Name}
 use Rattle.c62_rows.specs.Reading.{Reading}
 
@@ -10,4 +10,5 @@ named label reading = record {
   current = reading.current;
   labels = reading.labels ++ (label, length reading.done) ∷ [];
   targets = reading.targets;
+  words = reading.words;
 }

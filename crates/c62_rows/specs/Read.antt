@@ -1,15 +1,17 @@
 -- What is read of a text, as the code has it, and what its steps do.
-use Rattle.std.specs.Prelude.{◌≡◌, ◌⊎◌, ℕ, ◌<◌, ◌≤◌, ◌^◌, List, [], length, map, All, option_map, Option, Some, None, MatchOption, IfSome, Result, MatchResult}
+use Rattle.std.specs.Prelude.{◌≡◌, ◌⊎◌, ℕ, ◌<◌, ◌≤◌, ◌^◌, List, length, map, All, option_map, Option, Some, None, MatchOption, IfSome, Result, MatchResult}
 use Rattle.std.specs.declared.alloc.AllocError.{AllocError}
 use Rattle.c62_line.specs.Line.{Says, Pause}
-use Rattle.c62_read.specs.Program.{Numbered}
-use Rattle.c62_adopt_line.specs.Line.{Line}
+use Rattle.c62_read.specs.Program.{Name, Numbered}
 use Rattle.c62_adopt_line.specs.declared.fault.LineFault.{LineFault}
 use Rattle.c62_adopt_line.specs.declared.fault.LineFault.TheVariants.{Memory}
+use Rattle.c62_adopt_line.specs.Line.{line_written}
 use Rattle.c62_rows.specs.declared.reader.Reader.{Reader}
+use Rattle.c62_rows.specs.declared.word.Said.{Said as SaidRead}
 use Rattle.c62_rows.specs.declared.fault.RowsCause.{RowsCause}
 use Rattle.c62_rows.specs.declared.fault.RowsCause.TheVariants.{Line as OfLine}
 use Rattle.c62_rows.specs.Rows.{row_read}
+use Rattle.c62_rows.specs.Word.{Said}
 use Rattle.c62_rows.specs.Reading.{Reading, insns_above, hindrance, at_line, AddsInsn, Breaks, AddsSays, SaysBreach, AddsLine, RefusesLine}
 
 abbrev pub reading_of : Reader → Reading
@@ -18,9 +20,14 @@ reading_of reader = record {
   current = option_map row_read reader.current;
   labels = reader.labels.entries;
   targets = reader.targets.entries;
+  words = reader.words.entries;
 }
 
--- the open packet's cycles can be counted further, its instructions stand in cycle 0, and the labels that branches name in a byte
+-- what a line says, as the code has it
+abbrev pub said_read : SaidRead → Said
+said_read said = record { line = line_written said.line; word = said.word }
+
+-- the open packet's cycles can be counted further, its instructions stand in cycle 0, and the labels that branches and words name in a byte
 pub record IsReady (reading : Reading) : Type 0 where
   pub idle : IfSome reading.current (λ row. row.idle < 2 ^ 31)
   pub cycles : All (λ p. p.cycle ≡ 0) (insns_above reading)
@@ -36,31 +43,31 @@ IsShort (Pause n) = n ≤ 255
 IsShort _ = Unit {0}
 
 -- what is said is added
-pub record AddsShort (number : ℕ) (says : Says) (old new : Reading) : Type 0 where
+pub record AddsShort (number : ℕ) (word : Option Name) (says : Says) (old new : Reading) : Type 0 where
   pub short : IsShort says
-  pub adds : AddsSays number says old new
+  pub adds : AddsSays number word says old new
 
-abbrev pub TellsOfSays : ℕ → Says → Reader → Reader → Option RowsCause → Type 0
-TellsOfSays number says old new told =
-    MatchOption told (AddsShort number says (reading_of old) (reading_of new)) (SaysBreach number says (reading_of old))
+abbrev pub TellsOfSays : ℕ → Option Name → Says → Reader → Reader → Option RowsCause → Type 0
+TellsOfSays number word says old new told =
+    MatchOption told (AddsShort number word says (reading_of old) (reading_of new)) (SaysBreach number word says (reading_of old))
 
 -- so it is of a line that says something by itself
-pub record AddsWritten (number : ℕ) (line : Line) (old new : Reading) : Type 0 where
-  pub free : hindrance line old ≡ None
-  pub adds : AddsShort number line.says (at_line line old) new
+pub record AddsSaid (number : ℕ) (said : Said) (old new : Reading) : Type 0 where
+  pub free : hindrance said old ≡ None
+  pub adds : AddsShort number said.word said.line.says (at_line said.line old) new
 
-abbrev pub RefusesWritten : ℕ → Line → Reading → RowsCause → Type 0
-RefusesWritten number line old cause =
-    (hindrance line old ≡ Some cause) ⊎ ((hindrance line old ≡ None) × SaysBreach number line.says (at_line line old) cause)
+abbrev pub RefusesSaid : ℕ → Said → Reading → RowsCause → Type 0
+RefusesSaid number said old cause =
+    (hindrance said old ≡ Some cause) ⊎ ((hindrance said old ≡ None) × SaysBreach number said.word said.line.says (at_line said.line old) cause)
 
-abbrev pub TellsOfWritten : ℕ → Line → Reader → Reader → Option RowsCause → Type 0
-TellsOfWritten number line old new told =
-    MatchOption told (AddsWritten number line (reading_of old) (reading_of new)) (RefusesWritten number line (reading_of old))
+abbrev pub TellsOfSaid : ℕ → Said → Reader → Reader → Option RowsCause → Type 0
+TellsOfSaid number said old new told =
+    MatchOption told (AddsSaid number said (reading_of old) (reading_of new)) (RefusesSaid number said (reading_of old))
 
 -- and of any line
 pub record AddsShortLine (number : ℕ) (bytes : List ℕ) (old new : Reading) : Type 0 where
   pub adds : AddsLine number bytes old new
-  pub short : IsShort adds.line.says
+  pub short : IsShort adds.said.line.says
 
 abbrev pub TellsOfLine : ℕ → List ℕ → Reader → Reader → Option RowsCause → Type 0
 TellsOfLine number bytes old new told =

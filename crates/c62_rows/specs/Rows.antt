@@ -3,11 +3,9 @@ use Rattle.std.specs.Prelude.{◌≡◌, ℕ, ◌+◌, ◌≤◌, Bool, true, fa
 use Rattle.std.specs.List.{insert, list_any, position_or_len}
 use Rattle.std.specs.List.Sorted.{IsStrictlyIncreasing}
 use Rattle.c62_op.specs.Units.{index_of}
-use Rattle.c62_op.specs.Shape.{is_branch}
 use Rattle.c62_op.specs.declared.operands.Operands.{Operands}
 use Rattle.c62_op.specs.declared.operands.Operands.TheVariants.{Block}
-use Rattle.c62_insn.specs.Insn.{op_of, operands_of, cond_of}
-use Rattle.c62_rules.specs.declared.resource.CycleRule.{CycleRule}
+use Rattle.c62_insn.specs.Insn.{operands_of, cond_of}
 use Rattle.c62_rules.specs.Capacity.{AreEnough, IsFirstBroken}
 use Rattle.c62_packet.specs.declared.placed.Placed.{Placed}
 use Rattle.c62_packet.specs.Packed.{StandAsWritten, issued, is_branching}

@@ -1,7 +1,5 @@
 -- The rows of a text of packets, or why it makes none (docs/EXEC.md, "Faults of a text").
-use Rattle.std.specs.Prelude.{◌≡◌, ◌⊎◌, ℕ, ◌+◌, ◌≤◌, ◌<◌, ◌==◌, if◌then◌else◌, List, [], ◌∷◌, length, map, find, unwrap_or, Option, Some, None, is_none}
-use Rattle.std.specs.Map.{lookup}
-use Rattle.std.specs.Str.{bytes_eq}
+use Rattle.std.specs.Prelude.{◌≡◌, ◌⊎◌, ℕ, ◌+◌, ◌≤◌, ◌<◌, if◌then◌else◌, List, [], ◌∷◌, length, map, find, unwrap_or, Option, Some, None, is_none}
 use Rattle.c62_token.specs.Number.{is_label}
 use Rattle.c62_line.specs.declared.fault.Cause.TheVariants.{TextTooLong, UnknownTarget}
 use Rattle.c62_read.specs.Program.{Name}
@@ -13,6 +11,8 @@ use Rattle.c62_rows.specs.declared.fault.RowsCause.{RowsCause}
 use Rattle.c62_rows.specs.declared.fault.RowsCause.TheVariants.{Line as OfLine}
 use Rattle.c62_rows.specs.declared.fault.RowsFault.{RowsFault}
 use Rattle.c62_rows.specs.declared.fault.RowsFault.TheVariants.{At, From, Memory}
+use Rattle.c62_rows.specs.Word.{undotted, row_named}
+use Rattle.c62_rows.specs.Worded.{AreWorded}
 use Rattle.c62_rows.specs.Reading.{Reading, no_reading, all_rows, AddsLine, RefusesLine}
 
 -- these lines, the first of which has this number, are read below what was read
@@ -27,27 +27,21 @@ RefusesAmong number old (bytes ∷ lines) line cause =
     ((line ≡ number) × RefusesLine number bytes old cause)
     ⊎ ((next : Reading) × AddsLine number bytes old next × RefusesAmong (number + 1) next lines line cause)
 
--- the row of a label
-abbrev pub row_named : Name → List (Name × ℕ) → Option ℕ
-row_named name labels = lookup (bytes_eq name) labels
-
--- a name with `_` in place of dots
-abbrev pub undotted : Name → Name
-undotted name = map (λ b. if b == 46 then 95 else b) name
-
 -- the row of the label of this name
 abbrev pub row_from : Name → List (Name × ℕ) → Option ℕ
 row_from name labels = if is_label (undotted name) then row_named (undotted name) labels else None
 
--- of the labels that branches name, the first that no line has, with the first line of one
+-- of the labels that branches and words name, the first that no line has, with the first line of one
 abbrev pub lost_among : List (Name × ℕ) → List (Name × ℕ) → Option (Name × ℕ)
 lost_among targets labels = find (λ target. is_none (row_named target.0 labels)) targets
 
 abbrev pub aims_among : List (Name × ℕ) → List (Name × ℕ) → List ℕ
 aims_among targets labels = map (λ target. unwrap_or (row_named target.0 labels) 0) targets
 
-abbrev pub text_in : Reading → Text
-text_in reading = record { rows = all_rows reading; aims = aims_among reading.targets reading.labels }
+-- what flies of what was read: its rows, with the words of labels, and the rows of the labels that branches and words name
+pub record FliesOf (reading : Reading) (flying : Text) : Type 0 where
+  pub rows : AreWorded reading.words reading.labels (all_rows reading) flying.rows
+  pub aims : flying.aims ≡ aims_among reading.targets reading.labels
 
 -- all lines of a text lead to this
 pub record IsReading (text : List ℕ) (reading : Reading) : Type 0 where
@@ -59,7 +53,7 @@ pub record IsText (text : List ℕ) (flying : Text) (labels : List (Name × ℕ)
   pub reading : Reading
   pub reads : IsReading text reading
   pub found : lost_among reading.targets reading.labels ≡ None
-  pub flies : flying ≡ text_in reading
+  pub flies : FliesOf reading flying
   pub named : labels ≡ reading.labels
 
 -- ---- why it makes none
@@ -74,7 +68,7 @@ pub record IsFirstFault (text : List ℕ) (line : ℕ) (cause : RowsCause) : Typ
   pub short : length text ≤ most_bytes
   pub among : RefusesAmong 1 no_reading (lines_of text) line cause
 
--- the line is the first whose branch goes to a label that no line has
+-- the line is the first that names a label, by a branch or for its word, that no line has
 pub record IsLost (targets labels : List (Name × ℕ)) (line : ℕ) (cause : RowsCause) : Type 0 where
   pub name : Name
   pub lost : lost_among targets labels ≡ Some (name, line)

@@ -15,7 +15,7 @@ use std::fmt;
 pub enum RowsCause {
     /// What a line may have by itself, or a line of serial text with the others.
     Line(LineFault),
-    /// The line's branch names the 257th label that branches name.
+    /// The line names the 257th label that branches and words name.
     TooManyTargets,
     /// The instruction breaks this rule together with those above it in its packet.
     Rule(CycleRule),

@@ -2,10 +2,13 @@
 #![tactic(auto)]
 
 mod fault;
+mod half;
 mod key;
+pub mod laws;
 mod reader;
 mod rows;
 mod text;
+mod word;
 
 pub use fault::{RowsCause, RowsFault};
 pub use rows::{Row, Rows};

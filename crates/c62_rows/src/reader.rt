@@ -3,7 +3,7 @@
 ghost use Rattle.std.specs.Prelude.{◌≡◌, ◌+◌, ◌*◌, ◌≤◌, ◌<◌, ◌^◌, ◌++◌, ◌∷◌, [], All, length, map, is_some, true, false, None, Some, IfOk, OnOk, IfSome, MatchOption};
 ghost use Rattle.std.specs.Map.{lookup};
 ghost use Rattle.std.specs.Str.{bytes_eq};
-ghost use Rattle.c62_line.specs.Line.{said_of, parts_of};
+ghost use Rattle.c62_line.specs.Line.{Does, said_of, parts_of};
 ghost use Rattle.c62_insn.specs.Insn.{unit_of};
 ghost use Rattle.c62_adopt_line.specs.Laws.{HasUnit};
 ghost use Rattle.c62_adopt_line.specs.Line.{line_written};
@@ -12,30 +12,32 @@ ghost use Rattle.c62_adopt_cut.specs.Cut.{begins_packet};
 use crate::fault::RowsCause;
 use crate::key::Key;
 use crate::rows::{Row, breach};
-use c62_adopt_line::{LineFault, Written, read_line};
+use crate::word::{Said, read_said};
+use c62_adopt_line::{LineFault, Written};
 use c62_insn::Insn;
 use c62_line::{Cause, Label, What, copied_label};
 use c62_packet::Placed;
 use indexmap::IndexMap;
 use std::alloc::{AllocError, Global};
 
-/// The most labels that branches may name.
+/// The most labels that branches and words may name.
 pub const MOST_TARGETS: usize = 256;
 
-/// What was read of a text: the rows that are over and the one that a line with bars goes on with, each label with its row, and
-/// each label that branches name with the first line of one.
+/// What was read of a text: the rows that are over and the one that a line with bars goes on with, each label with its row, each
+/// label that branches or words name with the first line of one, and the label of each line that takes the word of one.
 #[derive(Drop)]
 pub(crate) struct Reader {
     pub done: Vec<Row>,
     pub current: Option<Row>,
     pub labels: IndexMap<Key, u32>,
     pub targets: IndexMap<Key, u32>,
+    pub words: IndexMap<u32, Label>,
 }
 
-ghost use Rattle.c62_rows.specs.Reading.{no_reading, all_rows, closed, with_label, begun, on_current, number_of, is_target, with_target, insns_above, numbered, IsPlaced, is_given, is_one_more, hindrance, at_line};
+ghost use Rattle.c62_rows.specs.Reading.{no_reading, all_rows, closed, with_label, begun, on_current, number_of, is_target, with_target, insns_above, numbered, IsPlaced, is_given, is_beyond, is_one_more, is_word_more, hindrance, at_line, with_named};
 ghost use Rattle.c62_rows.specs.Named.{named};
 ghost use Rattle.c62_rows.specs.Rows.{with_insn, with_idle, MayJoin, IsBreach};
-ghost use Rattle.c62_rows.specs.Read.{reading_of, IsReady, TellsOfInsn, TellsOfSays, TellsOfWritten, TellsOfLine, TellsCause};
+ghost use Rattle.c62_rows.specs.Read.{reading_of, said_read, IsReady, TellsOfInsn, TellsOfSays, TellsOfSaid, TellsOfLine, TellsCause};
 
 impl Reader {
     /// Above all lines.
@@ -47,6 +49,7 @@ impl Reader {
             current: None,
             labels: IndexMap::new(alloc),
             targets: IndexMap::new(alloc),
+            words: IndexMap::new(alloc),
         }
     }
 
@@ -168,33 +171,50 @@ impl Reader {
         self.targets.contains_key(&Key::new(label.copy()))
     }
 
-    /// Whether the branch names one label more than branches may name.
-    fn is_one_more(&self, what: &What) -> bool
-        ensures { result ≡ is_one_more (said_of what.now) (reading_of self.now) }
+    /// Whether this is one label more than may be named.
+    fn is_beyond(&self, label: &Label) -> bool
+        ensures { result ≡ is_beyond label.now (reading_of self.now) }
+    {
+        !self.is_target(label) && MOST_TARGETS <= self.targets.len()
+    }
+
+    fn is_word_more(&self, word: &Option<Label>) -> bool
+        ensures { result ≡ is_word_more word.now (reading_of self.now) }
+    {
+        match word {
+            Some(label) => self.is_beyond(label),
+            None => false,
+        }
+    }
+
+    /// Whether the word of an instruction, or a branch, names one label more.
+    fn is_one_more(&self, word: &Option<Label>, what: &What) -> bool
+        ensures { result ≡ is_one_more word.now (said_of what.now) (reading_of self.now) }
     {
         match what {
-            What::Jump(_, target) => !self.is_target(target) && MOST_TARGETS <= self.targets.len(),
-            What::Empty | What::Nop(_) | What::Insn(_) => false,
+            What::Insn(_) => self.is_word_more(word),
+            What::Jump(_, target) => self.is_beyond(target),
+            What::Empty | What::Nop(_) => false,
         }
     }
 
     /// What stands against a line that says something by itself, whatever its instruction is.
     #[tactic(auto, unfolding(crate::specs::Reading::hindrance))]
-    fn hindrance(&self, line: &Written) -> Option<RowsCause>
-        ensures { result ≡ hindrance (line_written line.now) (reading_of self.now) }
+    fn hindrance(&self, said: &Said) -> Option<RowsCause>
+        ensures { result ≡ hindrance (said_read said.now) (reading_of self.now) }
     {
-        if line.beside && self.current.is_none() {
+        if said.line.beside && self.current.is_none() {
             Some(RowsCause::Line(LineFault::Read(Cause::ParallelBar)))
-        } else if self.is_given(&line.label) {
+        } else if self.is_given(&said.line.label) {
             Some(RowsCause::Line(LineFault::Read(Cause::DuplicateLabel)))
-        } else if self.is_one_more(&line.what) {
+        } else if self.is_one_more(&said.word, &said.line.what) {
             Some(RowsCause::TooManyTargets)
         } else {
             None
         }
     }
 
-    /// The number under which branches go to a label: its place among those that branches name, or the next.
+    /// The number under which branches go to a label: its place among those that are named, or the next.
     #[tactic(auto, using(crate::proofs::Tables::inserted, crate::proofs::Tables::place_found, crate::proofs::Tables::is_there, crate::proofs::Tables::is_new, crate::proofs::Tables::place_next))]
     fn number_of(&mut self, target: Label, line: u32) -> Result<u8, AllocError>
         requires few { length self.old.targets.entries ≤ 256 }
@@ -245,13 +265,48 @@ impl Reader {
         Ok(None)
     }
 
+    /// The line of this number takes the word of a label, where one is named.
+    #[tactic(auto, using(crate::proofs::AddLemmas::room_for))]
+    fn add_word(&mut self, word: Option<Label>, line: u32) -> Result<(), AllocError>
+        requires few { length self.old.targets.entries ≤ 256 }
+        requires room { is_word_more word (reading_of self.old) ≡ false }
+        ensures { OnOk result (reading_of self.new ≡ with_named word line (reading_of self.old)) }
+    {
+        let Some(label) = word else { return Ok(()) };
+        self.number_of(label.copy(), line)?;
+        self.words.insert(line, label)?;
+        Ok(())
+    }
+
+    /// Adds an instruction, which may take the word of a label; what stands against it is answered.
+    #[tactic(auto, using(crate::proofs::AddLemmas::worded_ok, crate::proofs::AddLemmas::named_insns))]
+    fn add_worded(
+        &mut self,
+        line: u32,
+        word: Option<Label>,
+        insn: Insn,
+    ) -> Result<Option<RowsCause>, AllocError>
+        requires unit { is_some (unit_of insn) ≡ true }
+        requires ready { IsReady (reading_of self.old) }
+        requires room { is_word_more word (reading_of self.old) ≡ false }
+        ensures { IfOk result (TellsOfSays line word (Does (parts_of insn)) self.old self.new) }
+    {
+        self.add_word(word, line)?;
+        self.add_insn(insn, line)
+    }
+
     /// Adds what stands behind a line's label and bars; what stands against it is answered.
-    #[tactic(auto, using(crate::proofs::AddLemmas::does_ok, crate::proofs::AddLemmas::jumps_ok, crate::proofs::AddLemmas::target_insns))]
-    fn add_what(&mut self, line: u32, what: What) -> Result<Option<RowsCause>, AllocError>
+    #[tactic(auto, using(crate::proofs::AddLemmas::jumps_ok, crate::proofs::AddLemmas::target_insns))]
+    fn add_what(
+        &mut self,
+        line: u32,
+        word: Option<Label>,
+        what: What,
+    ) -> Result<Option<RowsCause>, AllocError>
         requires unit { HasUnit (said_of what) }
         requires ready { IsReady (reading_of self.old) }
-        requires room { is_one_more (said_of what) (reading_of self.old) ≡ false }
-        ensures { IfOk result (TellsOfSays line (said_of what) self.old self.new) }
+        requires room { is_one_more word (said_of what) (reading_of self.old) ≡ false }
+        ensures { IfOk result (TellsOfSays line word (said_of what) self.old self.new) }
     {
         match what {
             What::Empty => Ok(None),
@@ -259,7 +314,7 @@ impl Reader {
                 self.wait(u32::from(cycles).saturating_sub(1));
                 Ok(None)
             }
-            What::Insn(insn) => self.add_insn(insn, line),
+            What::Insn(insn) => self.add_worded(line, word, insn),
             What::Jump(insn, target) => {
                 let number = self.number_of(target, line)?;
                 self.add_insn(insn.aimed(number), line)
@@ -268,23 +323,23 @@ impl Reader {
     }
 
     /// Adds a line that says something by itself; what stands against it is answered.
-    #[tactic(auto, using(crate::proofs::AddLemmas::written_ok, crate::proofs::AddLemmas::label_new, crate::proofs::AddLemmas::ready_there, crate::proofs::AddLemmas::room_new))]
-    fn add_written(
+    #[tactic(auto, using(crate::proofs::AddLemmas::said_ok, crate::proofs::AddLemmas::label_new, crate::proofs::AddLemmas::ready_there, crate::proofs::AddLemmas::room_new))]
+    fn add_said(
         &mut self,
         alloc: Global,
         number: u32,
-        line: Written,
+        said: Said,
     ) -> Result<Option<RowsCause>, AllocError>
-        requires unit { HasUnit (said_of line.what) }
+        requires unit { HasUnit (said_of said.line.what) }
         requires few { length (all_rows (reading_of self.old)) < 2 ^ 31 }
         requires ready { IsReady (reading_of self.old) }
-        ensures { IfOk result (TellsOfWritten number (line_written line) self.old self.new) }
+        ensures { IfOk result (TellsOfSaid number (said_read said) self.old self.new) }
     {
-        if let Some(cause) = self.hindrance(&line) {
+        if let Some(cause) = self.hindrance(&said) {
             return Ok(Some(cause));
         }
-        self.begin_at(alloc, &line)?;
-        self.add_what(number, line.what)
+        self.begin_at(alloc, &said.line)?;
+        self.add_what(number, said.word, said.line.what)
     }
 
     /// Adds a line; its fault is answered.
@@ -300,8 +355,8 @@ impl Reader {
         requires ready { IsReady (reading_of self.old) }
         ensures { IfOk result (TellsOfLine number bytes.now self.old self.new) }
     {
-        match read_line(text, bytes) {
-            Ok(line) => self.add_written(alloc, number, line),
+        match read_said(alloc, text, bytes) {
+            Ok(said) => self.add_said(alloc, number, said),
             Err(fault) => cause_of(fault).map(Some),
         }
     }

@@ -28,8 +28,8 @@ pub struct Row {
 #[derive(Drop)]
 pub struct Rows {
     pub rows: Vec<Row>,
-    /// Of each label that branches name, in the order in which they do, the row that begins below it, or the number of rows where
-    /// none does. A branch has the label's place here.
+    /// Of each label that branches and words name, in the order in which they do, the row that begins below it, or the number of
+    /// rows where none does. A branch has the label's place here.
     pub aims: Vec<u32>,
 }
 

@@ -54,7 +54,7 @@ fn told_again(alloc: Global, text: &str) -> Result<String, AllocError> {
     }
 }
 
-const TEXTS: [(&str, &str); 26] = [
+const TEXTS: [(&str, &str); 27] = [
     ("", "to"),
     ("; c\n\t.text\nL:\n", "to"),
     // Cycles: of a NOP alone, of a packet, and of a NOP beside others; `|| NOP` is nothing.
@@ -101,6 +101,8 @@ const TEXTS: [(&str, &str); 26] = [
     ("L: [A1] B .S1 L\n|| B .S2 B3\n", "[ 1>0 2 ]+0 to 0"),
     ("L: B .S1 L\n||[A1] B .S2 B3\n", "[ 1>0 2 ]+0 to 0"),
     ("L: B .S1 L\n B .S2 B3\n", "[ 1>0 ]+0 [ 2 ]+0 to 0"),
+    // Other names of B.
+    ("L: CALL .S1 L\n||[A1] RET .S2 B3\n", "[ 1>0 2 ]+0 to 0"),
     // The order of faults.
     ("|| NOP\n", "line 1: ParallelBar"),
     ("MVK .S1 1,A1\nL:\n|| NOP\n", "line 3: ParallelBar"),
@@ -113,6 +115,84 @@ const TEXTS: [(&str, &str); 26] = [
 fn texts_have_rows(rt: HostRuntime) -> Result<(), Fail> {
     for (text, want) in TEXTS.iter() {
         let told = told_again(rt.alloc(), text)?;
+        assert!(rt; told.as_str() == *want, "{text} {told}");
+    }
+    Ok(())
+}
+
+/// The constants of the instructions of a text in the order of its rows, or what it is refused for.
+fn constants(alloc: Global, text: &str) -> Result<String, AllocError> {
+    let read = match read_rows(alloc, text.as_bytes()) {
+        Ok(read) => read,
+        Err(fault) => return format!(in alloc; "{fault}"),
+    };
+    let mut shown_text = String::new(alloc);
+    for row in &read.rows.rows {
+        for placed in &row.insns {
+            if let Operands::Constant(k, _) = placed.insn.operands() {
+                shown_text.push_str(&format!(in alloc; " {k}")?)?;
+            }
+        }
+    }
+    Ok(shown_text)
+}
+
+/// The same, asked for again where memory is refused.
+fn constants_again(alloc: Global, text: &str) -> Result<String, AllocError> {
+    match constants(alloc, text) {
+        Ok(first) if first.as_str() != "memory" => Ok(first),
+        Ok(_) | Err(_) => constants(alloc, text),
+    }
+}
+
+/// Texts with labels as words, and their constants: the halves of 0x80000000 + 32 * row.
+const WORDS: [(&str, &str); 25] = [
+    (
+        "MVKL .S2 END,B3\n MVKH .S2 END,B3\n NOP\nEND:\n",
+        " 96 32768",
+    ),
+    ("L: MVKL .S1 L,A3\n", " 0"),
+    (
+        " NOP\nL: [!B0] mvkh .S1  .L.2 , A3 ; L, M\n||[A1]MVKL .S2 _L_2,B4\n.L.2: NOP\n",
+        " 32768 64",
+    ),
+    (".A.B: MVKL .S1 .A.B, A3\n", " 0"),
+    // Beside an instruction, in the order of units; a branch to the same label, and what is written as a number.
+    (
+        "MVKL .S2 F,B3\n||MVK .S1 5,A1\n B .S2 F\nF: MVKL .S1 0x12345678,A1\n MVKH .S1 -1,A1\n MVKLH .S1 7,A1\n",
+        " 5 64 22136 65535 7",
+    ),
+    // No other instruction takes a label, and no label stands elsewhere.
+    ("L: MVK .S1 L,A1\n", "line 1: BadOperand"),
+    ("L: MVKLH .S1 L,A1\n", "line 1: BadOperand"),
+    ("L: ADDK .S1 L,A1\n", "line 1: BadOperand"),
+    ("L: ADD .L1 L,A1,A1\n", "line 1: BadOperand"),
+    ("MVKL: MVK .S1 L,A1\n", "line 1: BadOperand"),
+    ("L: MVKL .S1 A1,L\n", "line 1: BadOperand"),
+    ("L: MVKL .S1 ; L,A1\n", "line 1: BadOperand"),
+    ("L: MVKL .S1 L ; ,A1\n", "line 1: BadOperand"),
+    ("L: MVKL .S1 L L,A1\n", "line 1: BadOperand"),
+    ("L: MVKL .S1 L,A1,A1\n", "line 1: BadOperand"),
+    ("L: MVKL .S1 L\n", "line 1: BadOperand"),
+    ("L: MVKL .S1 1L,A1\n", "line 1: BadOperand"),
+    ("L: MVKL .S1 A1,A1\n", "line 1: BadOperand"),
+    ("L: MVKL L,A1\n", "line 1: BadOperand"),
+    ("L: MVKL .S2 L,A1\n", "line 1: BadSide"),
+    ("L: MVKL .S1X L,A1\n", "line 1: BadSide"),
+    ("L: MVKL .L1 L,A1\n", "line 1: BadUnit"),
+    // Its label is looked for, as that of a branch is.
+    ("MVKL .S1 Q,A1\n B .S2 R\n", "line 1: UnknownTarget"),
+    (
+        "L: B .S2 L\n MVKH .S1 q,A1\nQ: MVKH .S1 q,A1\n",
+        "line 2: UnknownTarget",
+    ),
+    ("L: MVKL .S1 L,A1\n|| MVKL .S1 L,A1\n", "line 2: P1"),
+];
+
+#[test]
+fn labels_are_words(rt: HostRuntime) -> Result<(), Fail> {
+    for (text, want) in WORDS.iter() {
+        let told = constants_again(rt.alloc(), text)?;
         assert!(rt; told.as_str() == *want, "{text} {told}");
     }
     Ok(())
@@ -140,6 +220,16 @@ fn branches_name_256_labels(rt: HostRuntime) -> Result<(), Fail> {
     let more = branches(rt.alloc(), 257)?;
     let told = told_again(rt.alloc(), more.as_str())?;
     assert!(rt; told.as_str() == "line 513: TooManyTargets", "{told}");
+    for (line, want) in [
+        ("Q: MVKL .S1 Q,A1\n", "line 513: TooManyTargets"),
+        ("L1: MVKL .S1 Q,A1\n", "line 513: DuplicateLabel"),
+        ("|| MVKL .S1 L0,A1\n B .S2 Q\n", "line 514: TooManyTargets"),
+    ] {
+        let mut text = branches(rt.alloc(), 256)?;
+        text.push_str(line)?;
+        let told = told_again(rt.alloc(), text.as_str())?;
+        assert!(rt; told.as_str() == want, "{line} {told}");
+    }
     Ok(())
 }
 

@@ -1,14 +1,16 @@
 //! The rows of a text of packets.
 
-ghost use Rattle.std.specs.Prelude.{◌≡◌, ◌≤◌, ◌+◌, ◌<◌, ℕ, List, length, MatchResult, IfOk};
+ghost use Rattle.std.specs.Prelude.{◌≡◌, ◌≤◌, ◌+◌, ◌<◌, ℕ, List, length, map, MatchResult, IfOk};
 ghost use Rattle.std.specs.Option.{option_copied};
 ghost use Rattle.c62_rows.specs.Read.{reading_of};
 ghost use Rattle.c62_rows.specs.Reading.{all_rows};
 
 use crate::fault::{RowsCause, RowsFault};
+use crate::half::set_words;
 use crate::key::Key;
 use crate::reader::Reader;
-use crate::rows::Rows;
+use crate::rows::{Row, Rows};
+use crate::word::undotted;
 use c62_adopt_cut::MOST_BYTES;
 use c62_adopt_line::LineFault;
 use c62_line::{Cause, Label};
@@ -25,20 +27,12 @@ pub struct RowsText {
 }
 
 ghost use Rattle.c62_rows.specs.Sound.{IsSound};
-ghost use Rattle.c62_rows.specs.Text.{row_named, undotted, row_from, first_row, IsReading, Refuses, RefusesFrom};
+ghost use Rattle.c62_rows.specs.Text.{row_from, first_row, IsReading, Refuses, RefusesFrom};
+ghost use Rattle.c62_rows.specs.Word.{row_named};
+ghost use Rattle.c62_rows.specs.Worded.{AreWorded};
+ghost use Rattle.c62_rows.specs.Rows.{row_read};
 ghost use Rattle.c62_rows.specs.Collected.{Collects};
 ghost use Rattle.c62_rows.specs.Told.{names_of, LosesTarget, FindsAims, ReadsAs, BeginsAs};
-
-/// The name with `_` in place of dots.
-fn undotted(alloc: Global, name: &[u8]) -> Result<Vec<u8>, AllocError>
-    ensures { IfOk result (λ plain. plain.items ≡ undotted name.now) }
-{
-    let mut plain = Vec::with_capacity(alloc, name.len())?;
-    for b in name {
-        plain.push(if *b == b'.' { b'_' } else { *b })?;
-    }
-    Ok(plain)
-}
 
 impl RowsText {
     fn row_named(&self, label: Label) -> Option<u32>
@@ -61,7 +55,7 @@ impl RowsText {
     }
 }
 
-/// The row of each label that branches name. The first of them that no line has is told by the first line whose branch names it.
+/// The row of each label that branches and words name. The first of them that no line has is told by the first line that names it.
 fn aims_of(
     alloc: Global,
     targets: &IndexMap<Key, u32>,
@@ -82,17 +76,29 @@ fn aims_of(
     Ok(aims)
 }
 
-/// The rows that are over, the rows of the labels that branches name, and those of all labels.
+/// The rows that are over with the words of labels.
+#[tactic(auto, using(crate::proofs::Worded::rows_unworded))]
+fn rows_of(done: Vec<Row>, words: &IndexMap<u32, Label>, labels: &IndexMap<Key, u32>) -> Vec<Row>
+    ensures { AreWorded words.now.entries labels.now.entries (map row_read done.items) (map row_read result.items) }
+{
+    let mut rows = done;
+    if !words.is_empty() {
+        set_words(words, labels, &mut rows);
+    }
+    rows
+}
+
+/// The rows that are over, the rows of the labels that branches and words name, and those of all labels.
 fn collected(alloc: Global, reader: Reader) -> Result<RowsText, RowsFault>
     ensures { MatchResult result (Collects (reading_of reader)) (LosesTarget (reading_of reader).targets (reading_of reader).labels) }
 {
     let aims = aims_of(alloc, &reader.targets, &reader.labels)?;
+    let labels = reader.labels;
+    let words = reader.words;
+    let rows = rows_of(reader.done, &words, &labels);
     Ok(RowsText {
-        rows: Rows {
-            rows: reader.done,
-            aims,
-        },
-        labels: reader.labels,
+        rows: Rows { rows, aims },
+        labels,
     })
 }
 
@@ -129,12 +135,13 @@ fn read_lines(alloc: Global, text: &[u8]) -> Result<RowsText, RowsFault>
 }
 
 /// The rows of a text of packets, as people and compilers write them (docs/EXEC.md): each packet with its cycles, each label that
-/// branches name with its row, and the rows of all labels. Nothing is asked of what is in flight from one row to another.
+/// branches and words name with its row, and the rows of all labels. MVKL and MVKH of a label have the halves of its address.
+/// Nothing is asked of what is in flight from one row to another.
 ///
 /// # Errors
 ///
-/// `At` with the first line that has a fault by itself or because of the lines above it, and else with the first whose branch
-/// goes to a label that no line has. A text of more than [`MOST_BYTES`] bytes is `TextTooLong` with line 0. `Memory` where memory
+/// `At` with the first line that has a fault by itself or because of the lines above it, and else with the first that names a
+/// label, by a branch or for its word, that no line has. A text of more than [`MOST_BYTES`] bytes is `TextTooLong` with line 0. `Memory` where memory
 /// ran out, which may come in place of any answer.
 pub fn read_rows(alloc: Global, text: &[u8]) -> Result<RowsText, RowsFault>
     ensures { MatchResult result (ReadsAs text.now) (Refuses text.now) }

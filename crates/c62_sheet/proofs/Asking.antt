@@ -1,5 +1,5 @@
 -- What a row says against a number is what the packet rules P1 to P4 say.
-use Rattle.c62_sheet.proofs.Common.{arith, ◌≡◌, ℕ, ◌<◌, List, length, Some, None, Option, slice_get, Insn, Spot, Spots, spot_at, issue_at, issues, BreaksFirst, KeepsAll}
+use Rattle.c62_sheet.proofs.Common.{arith, ◌≡◌, ℕ, List, length, Some, None, Option, slice_get, Insn, Spot, Spots, spot_at, issue_at, issues, BreaksFirst, KeepsAll}
 use Rattle.c62_sheet.proofs.Common.{slice_get_within, MatchOption, Row, IsRowOf, CycleRule, Uses, AreUses, Tells}
 use Rattle.c62_row.specs.Issued.{IsFree}
 use Rattle.c62_row.proofs.Deciding.{row_decides}

@@ -1,6 +1,7 @@
 -- What the proofs of this crate use of the standard library and of the definitions.
 pub use Rattle.c62_depend.proofs.Plans.{many_insns, short_is}
-pub use Rattle.c62_depend.proofs.Rules.{followers_are, needs_are}
+pub use Rattle.c62_depend.proofs.DirectLists.{direct_followers_are, direct_latency, direct_latency_is, direct_latency_of, direct_needs_are, followers_pieces, needs_pieces}
+pub use Rattle.c62_depend.specs.Direct.{DependsDirectly, IsDirect, direct_followers, direct_needs}
 pub use Rattle.c62_depend.specs.Latency.{latency}
 pub use Rattle.c62_depend.specs.Links.{linked}
 pub use Rattle.c62_depend.specs.Plan.{IsPlan, IsShort, insns_of}
@@ -22,6 +23,7 @@ pub use Rattle.c62_op.specs.declared.register.Side.TheVariants.{A, B}
 pub use Rattle.c62_op.specs.declared.register.Unit.{Unit as FunctionalUnit}
 pub use Rattle.c62_sheet.specs.Check.{Breaks, IsFirst, IsOpen, IsRefused, IsTold, LacksSome, turn_of}
 pub use Rattle.c62_sheet.specs.Counts.{HasCount, IsPlacedOn, set_length}
+pub use Rattle.c62_sheet.specs.Early.{IsAfterDirect, IsDirectEarly}
 pub use Rattle.c62_sheet.specs.Index.{AreHigher, AreLower, IsIndex, is_missing, lacking, times}
 pub use Rattle.c62_sheet.specs.Lawful.{IsAt, IsLawful, Spots, issue_at, issues, nothing_placed, placed, spot_at, withdrawn}
 pub use Rattle.c62_sheet.specs.Least.{FitsWithout, HasNoPick, HasNoSpot, IsAfter, IsBefore, IsComplete, IsEarly, IsLast, IsLeast, IsPick, IsReady}

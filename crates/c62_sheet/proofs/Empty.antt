@@ -1,5 +1,5 @@
 -- While nothing is placed.
-use Rattle.c62_sheet.proofs.Common.{arith, ◌≡◌, ℕ, ◌≤◌, List, length, get_or, Option, Some, None, refl, sym, ◌∙◌, length-replicate}
+use Rattle.c62_sheet.proofs.Common.{arith, ◌≡◌, ℕ, List, length, get_or, Option, Some, None, sym, ◌∙◌, length-replicate}
 use Rattle.c62_sheet.proofs.Common.{none-some, Insn, Issue, Spot, IsAt, nothing_placed, issues, IsLawful}
 use Rattle.c62_rules.proofs.Capacities.{none-used-in}
 use Rattle.c62_sheet.proofs.Sets.{nothing_at}

@@ -2,26 +2,25 @@
 use Rattle.std.specs.Prelude.{◌≤ℤ◌, replicate}
 use Rattle.c62_sheet.proofs.Common.{arith, ints, nat_tests, ◌≡◌, ◌≢◌, ℕ, ◌+◌, ◌<◌, ◌≤◌, max, ℤ, pos, ◌+ℤ◌, List, length, take, get_or, None, Some}
 use Rattle.c62_sheet.proofs.Common.{[], refl, sym, ap, ◌∙◌, inl, inr, ◌⊎◌, Option, Insn, Link, Spot, Spots, spot_at, placed, withdrawn, nothing_placed}
-use Rattle.c62_sheet.proofs.Common.{Depends, IsEarly, latency, times, slice_index, slice_set, get_or-set_same, get_or-set_other, length-set, none-some}
-use Rattle.c62_sheet.proofs.Common.{cases_eq, cases_lt, IsGreatestBound, take_all, get_or-replicate, length-replicate}
-use Rattle.c62_depend.specs.Links.{followers}
+use Rattle.c62_sheet.proofs.Common.{DependsDirectly, IsDirect, IsDirectEarly, direct_followers, direct_latency, direct_latency_is, direct_latency_of, times, slice_index}
+use Rattle.c62_sheet.proofs.Common.{slice_set, get_or-set_same, get_or-set_other, length-set, none-some, same_Some}
+use Rattle.c62_sheet.proofs.Common.{cases_eq, cases_lt, take_all, get_or-replicate, length-replicate}
 use Rattle.c62_sheet.specs.Early.{AreEarly, AreEarlyBut}
 use Rattle.c62_sheet.proofs.Sets.{IsAt-placed, spot_at-placed_same, spot_at-placed_other, spot_at-withdrawn_other, nothing_at}
-use Rattle.c62_sheet.proofs.Missing.{share, times-followers, times-more, latency_from, greatest_at}
+use Rattle.c62_sheet.proofs.Missing.{share, times-followers, times-more}
 
 -- ---- followers, by how often they stand among dependences
 
-depends_at : (block : List Insn) (i j : ℕ) (o : Option ℤ) → latency block i j ≡ o → 0 < share o → Depends block i j
+depends_at : (block : List Insn) (i j : ℕ) (o : Option ℤ) → direct_latency block i j ≡ o → 0 < share o → DependsDirectly block i j
 depends_at block i j None e some = absurd (omega (arith, some))
-depends_at block i j (Some l) e some = (l, (greatest_at block i j l e).applies)
+depends_at block i j (Some l) e some = (l, direct_latency_is block i j l e)
 
-pub follower_depends : (block : List Insn) (i j : ℕ) → 0 < times j (followers block i) → Depends block i j
-follower_depends block i j some = depends_at block i j (latency block i j) refl (omega (arith, some, times-followers block i j))
+pub follower_depends : (block : List Insn) (i j : ℕ) → 0 < times j (direct_followers block i) → DependsDirectly block i j
+follower_depends block i j some = depends_at block i j (direct_latency block i j) refl (omega (arith, some, times-followers block i j))
 
-pub other_not : (block : List Insn) (i j : ℕ) → times j (followers block i) ≡ 0 → Depends block i j → ⊥
+pub other_not : (block : List Insn) (i j : ℕ) → times j (direct_followers block i) ≡ 0 → DependsDirectly block i j → ⊥
 other_not block i j none dep =
-    let l = latency_from block i j (latency block i j) refl dep in
-    let one : share (latency block i j) ≡ 1 = ap share l.1 in
+    let one : share (direct_latency block i j) ≡ 1 = ap share (direct_latency_of block i j dep.0 dep.1) in
     omega (arith, none, times-followers block i j, one)
 
 -- ---- a walk along followers that writes a number for each
@@ -74,68 +73,68 @@ module _ (block : List Insn) (Before After : ℕ → ℕ → Type 0) (links : Li
 over_later : (z : ℤ) (a b : ℕ) → z ≤ℤ pos a → a ≤ b → z ≤ℤ pos b
 over_later z a b over le = omega (arith, ints, over, le)
 
-over_by : (c a b : ℕ) (bound l : ℤ) → bound ≤ℤ l → (pos c +ℤ l) ≤ℤ pos a → a ≤ b → (pos c +ℤ bound) ≤ℤ pos b
-over_by c a b bound l low over le = omega (arith, ints, low, over, le)
+over_by : (c a b : ℕ) (bound l : ℤ) → l ≡ bound → (pos c +ℤ l) ≤ℤ pos a → a ≤ b → (pos c +ℤ bound) ≤ℤ pos b
+over_by c a b bound l same over le = omega (arith, ints, same, over, le)
 
--- only what j does not depend on changed
-early-same : (block : List Insn) (set other : Spots) (j cycle : ℕ) → ((h : ℕ) → Depends block h j → spot_at other h ≡ spot_at set h)
-    → IsEarly block set j cycle → IsEarly block other j cycle
+-- only what j does not depend on directly changed
+early-same : (block : List Insn) (set other : Spots) (j cycle : ℕ) → ((h : ℕ) → DependsDirectly block h j → spot_at other h ≡ spot_at set h)
+    → IsDirectEarly block set j cycle → IsDirectEarly block other j cycle
 early-same block set other j cycle same early = record {
   after = λ h bound s w at. early.after h bound s w (sym (same h (bound, w)) ∙ at);
   least = λ c all. early.least c (λ h bound s w at. all h bound s w (same h (bound, w) ∙ at));
 }
 
 module _ (block : List Insn) (set : Spots) (i : ℕ) (s : Spot) (lt : i < length set) (free : spot_at set i ≡ None) where
-  early-other : (j cycle : ℕ) → (Depends block i j → ⊥) → IsEarly block set j cycle → IsEarly block (placed set i s) j cycle
+  early-other : (j cycle : ℕ) → (DependsDirectly block i j → ⊥) → IsDirectEarly block set j cycle → IsDirectEarly block (placed set i s) j cycle
   early-other j cycle out early =
       early-same block set (placed set i s) j cycle (λ h dep. spot_at-placed_other set i h s (λ e. out (rw e at dep))) early
 
-  module _ (j cycle first : ℕ) (l : ℤ) (is : latency block i j ≡ Some l) (after : (pos s.cycle +ℤ l) ≤ℤ pos first)
+  module _ (j cycle first : ℕ) (l : ℤ) (is : IsDirect block i j l) (after : (pos s.cycle +ℤ l) ≤ℤ pos first)
       (least : (other : ℕ) → (pos s.cycle +ℤ l) ≤ℤ pos other → first ≤ other) where
-    greatest : IsGreatestBound block i j l
-    greatest = greatest_at block i j l is
-
-    early-raised : IsEarly block set j cycle → IsEarly block (placed set i s) j (max cycle first)
+    early-raised : IsDirectEarly block set j cycle → IsDirectEarly block (placed set i s) j (max cycle first)
     early-raised early = record {
       after = λ h bound t w at. elim (IsAt-placed set i h s t lt at) [
-        | inl here ↦ rw here.1 (over_by s.cycle first (max cycle first) bound l (greatest.greatest bound (rw here.0 at w)) after (omega arith))
+        | inl here ↦
+            let direct : IsDirect block i j bound = rw here.0 at w in
+            let same : l ≡ bound = same_Some l bound (sym is.is ∙ direct.is) in
+            rw here.1 (over_by s.cycle first (max cycle first) bound l same after (omega arith))
         | inr there ↦ over_later (pos t.cycle +ℤ bound) cycle (max cycle first) (early.after h bound t w there.1) (omega arith)
       ];
       least = λ other all.
           let low = early.least other (λ h bound t w at. all h bound t w (spot_at-placed_other set i h s
           (λ e. none-some t (sym free ∙ rw e at at)) ∙ at)) in
-          let high = least other (all i l s greatest.applies (spot_at-placed_same set i s lt)) in
+          let high = least other (all i l s is (spot_at-placed_same set i s lt)) in
           omega arith;
     }
 
-    early-again : IsEarly block (placed set i s) j cycle → IsEarly block (placed set i s) j (max cycle first)
+    early-again : IsDirectEarly block (placed set i s) j cycle → IsDirectEarly block (placed set i s) j (max cycle first)
     early-again early =
-        let high = least cycle (early.after i l s greatest.applies (spot_at-placed_same set i s lt)) in
+        let high = least cycle (early.after i l s is (spot_at-placed_same set i s lt)) in
         let same : max cycle first ≡ cycle = omega (arith, high) in
         rw same early
 
-    pub early-either : IsEarly block set j cycle ⊎ IsEarly block (placed set i s) j cycle → IsEarly block (placed set i s) j (max cycle first)
+    pub early-either : IsDirectEarly block set j cycle ⊎ IsDirectEarly block (placed set i s) j cycle → IsDirectEarly block (placed set i s) j (max cycle first)
     early-either (inl early) = early-raised early
     early-either (inr early) = early-again early
 
   -- all followers were met
-  pub early-placed : (links : List Link) (n : ℕ) (earliest : List ℕ) → links ≡ followers block i → length links ≤ n
-      → AreWalked block (IsEarly block set) (IsEarly block (placed set i s)) (take n links) earliest → AreEarly block (placed set i s) earliest
+  pub early-placed : (links : List Link) (n : ℕ) (earliest : List ℕ) → links ≡ direct_followers block i → length links ≤ n
+      → AreWalked block (IsDirectEarly block set) (IsDirectEarly block (placed set i s)) (take n links) earliest → AreEarly block (placed set i s) earliest
   early-placed links n earliest is all some-walked =
-      let walked : AreWalked block (IsEarly block set) (IsEarly block (placed set i s)) (followers block i) earliest = rw (take_all n links all, is) at some-walked in
+      let walked : AreWalked block (IsDirectEarly block set) (IsDirectEarly block (placed set i s)) (direct_followers block i) earliest = rw (take_all n links all, is) at some-walked in
       record {
         sized = walked.sized;
-        each = λ j low. elim (cases_lt 0 (times j (followers block i))) [
+        each = λ j low. elim (cases_lt 0 (times j (direct_followers block i))) [
           | inl some ↦ walked.new j low some
           | inr none ↦
-              let zero : times j (followers block i) ≡ 0 = omega (arith, none) in
+              let zero : times j (direct_followers block i) ≡ 0 = omega (arith, none) in
               early-other j (slice_index earliest j) (other_not block i j zero) (walked.left j low zero)
         ];
       }
 
 -- ---- one is taken out
 
--- what does not depend on i is as early without it
+-- what does not depend directly on i is as early without it
 pub early-without : (block : List Insn) (set : Spots) (i : ℕ) (earliest : List ℕ) → AreEarly block set earliest
     → AreEarlyBut block i (withdrawn set i) earliest
 early-without block set i earliest early = record {
@@ -144,25 +143,25 @@ early-without block set i earliest early = record {
       (λ h dep. spot_at-withdrawn_other set i h (λ e. out (rw e at dep))) (early.each j low);
 }
 
--- the number is early where it does not depend on i
+-- the number is early where it does not depend directly on i
 abbrev pub IsEarlyBut : List Insn → ℕ → Spots → ℕ → ℕ → Type 0
-IsEarlyBut block i set j cycle = (Depends block i j → ⊥) → IsEarly block set j cycle
+IsEarlyBut block i set j cycle = (DependsDirectly block i j → ⊥) → IsDirectEarly block set j cycle
 
-pub early-found : (block : List Insn) (set : Spots) (i : ℕ) (links : List Link) (n : ℕ) (earliest : List ℕ) → links ≡ followers block i
-    → length links ≤ n → AreWalked block (IsEarlyBut block i set) (IsEarly block set) (take n links) earliest → AreEarly block set earliest
+pub early-found : (block : List Insn) (set : Spots) (i : ℕ) (links : List Link) (n : ℕ) (earliest : List ℕ) → links ≡ direct_followers block i
+    → length links ≤ n → AreWalked block (IsEarlyBut block i set) (IsDirectEarly block set) (take n links) earliest → AreEarly block set earliest
 early-found block set i links n earliest is all some-walked =
-    let walked : AreWalked block (IsEarlyBut block i set) (IsEarly block set) (followers block i) earliest = rw (take_all n links all, is) at some-walked in
+    let walked : AreWalked block (IsEarlyBut block i set) (IsDirectEarly block set) (direct_followers block i) earliest = rw (take_all n links all, is) at some-walked in
     record {
       sized = walked.sized;
-      each = λ j low. elim (cases_lt 0 (times j (followers block i))) [
+      each = λ j low. elim (cases_lt 0 (times j (direct_followers block i))) [
         | inl some ↦ walked.new j low some
-        | inr none ↦ (let zero : times j (followers block i) ≡ 0 = omega (arith, none) in walked.left j low zero (other_not block i j zero))
+        | inr none ↦ (let zero : times j (direct_followers block i) ≡ 0 = omega (arith, none) in walked.left j low zero (other_not block i j zero))
       ];
     }
 
 -- ---- nothing is placed
 
-pub early-nothing : (block : List Insn) (j cycle : ℕ) → cycle ≡ 0 → IsEarly block (nothing_placed (length block)) j cycle
+pub early-nothing : (block : List Insn) (j cycle : ℕ) → cycle ≡ 0 → IsDirectEarly block (nothing_placed (length block)) j cycle
 early-nothing block j cycle zero = record {
   after = λ h bound s w at. absurd (none-some s (sym (nothing_at (length block) h) ∙ at));
   least = λ other all. omega (arith, zero);

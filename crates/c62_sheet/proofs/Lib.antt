@@ -4,6 +4,7 @@ pub mod Sets
 pub mod IssuesOf
 pub mod Used
 pub mod Placing
+pub mod Founding
 pub mod Missing
 pub mod EarlyCycles
 pub mod Followers

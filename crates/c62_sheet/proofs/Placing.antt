@@ -1,10 +1,10 @@
 -- What adding one triple to a lawful set asks, and what taking one out leaves.
-use Rattle.c62_sheet.proofs.Common.{stands_on, true, arith, ◌≡◌, ℕ, ◌*◌, ◌<◌, ◌≤◌, pos, List, length, Some, None, refl, sym, ap, ◌∙◌, inl, inr}
-use Rattle.c62_sheet.proofs.Common.{length-set, IsSome, slice_get, slice_set, slice_index_or, option_map, sum_by, cases_eq, cases_lt}
-use Rattle.c62_sheet.proofs.Common.{none-some, Insn, Issue, IsIssued, KeepsPacketRules}
+use Rattle.c62_sheet.proofs.Common.{stands_on, true, arith, ◌≡◌, ℕ, ◌*◌, ◌<◌, pos, List, length, Some, None, refl, sym, ap, ◌∙◌, inl, inr}
+use Rattle.c62_sheet.proofs.Common.{length-set, IsSome, slice_get, slice_set, slice_index_or, option_map, cases_eq}
+use Rattle.c62_sheet.proofs.Common.{none-some, Insn, KeepsPacketRules}
 use Rattle.c62_sheet.proofs.Common.{Depends, Spot, Spots, IsAt, spot_at, placed, withdrawn}
-use Rattle.c62_sheet.proofs.Common.{issue_at, issues, IsLawful, IsAfter, IsLast, KeepsAll, Fits, part-without, part-keeps, get_or-set_same}
-use Rattle.c62_sheet.proofs.Common.{get_or-set_other, Bounds}
+use Rattle.c62_sheet.proofs.Common.{issue_at, issues, IsLawful, IsAfter, IsLast, KeepsAll, Fits, part-without, part-keeps}
+use Rattle.c62_sheet.proofs.Common.{Bounds}
 use Rattle.c62_rules.specs.Dependence.{KeepsBounds}
 use Rattle.c62_rules.proofs.Exclusive.{one_landing}
 use Rattle.std.proofs.Common.{◌≤ℤ◌, ◌+ℤ◌, ℤ}

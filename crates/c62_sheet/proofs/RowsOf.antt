@@ -1,6 +1,6 @@
 -- The rows of a set of placements, after one was placed or taken out.
 use Rattle.c62_sheet.proofs.Common.{arith, ◌≡◌, ℕ, ◌*◌, ◌<◌, ◌≤◌, List, length, Some, None, refl, sym, ap, ◌∙◌, inl, inr, slice_get, slice_set, slice_index_or, get_or, get_or-set_same, get_or-set_other}
-use Rattle.c62_sheet.proofs.Common.{length-set, cases_eq, Insn, Issue, IsIssued, KeepsPacketRules, Spot, Spots, IsAt, spot_at, placed, withdrawn, nothing_placed, issue_at, issues, IsLawful}
+use Rattle.c62_sheet.proofs.Common.{length-set, cases_eq, Insn, Issue, IsIssued, Spot, Spots, IsAt, spot_at, placed, withdrawn, nothing_placed, issue_at, issues, IsLawful}
 use Rattle.c62_sheet.proofs.Common.{AreRows, Row, CycleRule, IsRowOf, Uses, AreUses, Tells, IsWith, IsWithout, IsWithin, IsUnused, slice_get_within, MatchOption, KeepsAll, BreaksFirst, ◌+◌, ◌↔◌}
 use Rattle.c62_sheet.proofs.Common.{length-replicate, get_or-replicate, set-get_or, FunctionalUnit, FitsRow, subst, stands_on, Fits, true, Option}
 use Rattle.std.specs.Prelude.{replicate}

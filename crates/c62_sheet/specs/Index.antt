@@ -1,18 +1,18 @@
--- The index of a set of placements: of each number, how many that it depends on are missing.
+-- The index of a set of placements: of each number, how many that it depends on directly are missing.
 use Rattle.std.specs.Prelude.{◌≡◌, ◌==◌, ℕ, ◌+◌, ◌<◌, Bool, List, length, slice_index, count_by, is_none}
 use Rattle.c62_insn.specs.declared.insn.Insn.{Insn}
 use Rattle.c62_depend.specs.declared.links.Link.{Link}
-use Rattle.c62_depend.specs.Links.{needs}
+use Rattle.c62_depend.specs.Direct.{direct_needs}
 use Rattle.c62_sheet.specs.Lawful.{Spots, spot_at, nothing_placed}
 
 abbrev pub is_missing : Spots → Link → Bool
 is_missing set link = is_none (spot_at set link.number)
 
--- how many of those that j depends on are not placed
+-- how many of those that j depends on directly are not placed
 abbrev pub lacking : List Insn → Spots → ℕ → ℕ
-lacking block set j = count_by (is_missing set) (needs block j)
+lacking block set j = count_by (is_missing set) (direct_needs block j)
 
--- each number's count tells how many of those that it depends on are missing
+-- each number's count tells how many of those that it depends on directly are missing
 pub record IsIndex (block : List Insn) (set : Spots) (missing : List ℕ) : Type 0 where
   pub sized : length missing ≡ length block
   pub each : (j : ℕ) → j < length block → slice_index missing j ≡ lacking block set j

@@ -1,12 +1,14 @@
 -- Laws of sets of placements, in the words of the rules.
-use Rattle.std.specs.Prelude.{◌≡◌, ℕ, ◌+◌, ◌*◌, ◌<◌, ◌≤◌, List, length}
+use Rattle.std.specs.Prelude.{◌≡◌, ◌↔◌, ℕ, ◌+◌, ◌*◌, ◌<◌, ◌≤◌, List, length, None}
 use Rattle.c62_op.specs.declared.register.Side.{Side}
 use Rattle.c62_op.specs.declared.register.Unit.{Unit as FunctionalUnit}
 use Rattle.c62_insn.specs.declared.insn.Insn.{Insn}
 use Rattle.c62_depend.specs.Plan.{IsPlan}
 use Rattle.c62_sheet.specs.declared.entry.Spot.{Spot}
-use Rattle.c62_sheet.specs.Lawful.{Spots, IsAt, placed, withdrawn, nothing_placed, IsLawful}
-use Rattle.c62_sheet.specs.Least.{IsReady, IsReadyOn, IsLeast, IsPick, IsLast, IsComplete}
+use Rattle.c62_sheet.specs.Lawful.{Spots, IsAt, spot_at, placed, withdrawn, nothing_placed, IsLawful}
+use Rattle.c62_sheet.specs.Least.{IsReady, IsReadyOn, IsEarly, IsLeast, IsPick, IsLast, IsComplete}
+use Rattle.c62_sheet.specs.Index.{lacking}
+use Rattle.c62_sheet.specs.Early.{IsDirectEarly}
 
 -- a number has one least spot at most
 abbrev pub HasOneLeast : List Insn → Spots → ℕ → Type 0
@@ -38,3 +40,11 @@ CanTakeOut block set = (i : ℕ) → IsLawful block set → i < length block →
 -- nothing placed is lawful
 abbrev pub IsLawfulEmpty : List Insn → Type 0
 IsLawfulEmpty block = IsLawful block (nothing_placed (length block))
+
+-- on a lawful set a number that isn't placed is ready exactly where none of those that it depends on directly is missing
+abbrev pub DirectOnesTellReady : List Insn → Spots → Type 0
+DirectOnesTellReady block set = (i : ℕ) → IsLawful block set → spot_at set i ≡ None → (lacking block set i ≡ 0) ↔ IsReady block set i
+
+-- on a lawful set the early cycle of a ready number is the first that its direct dependences allow
+abbrev pub DirectOnesTellEarly : List Insn → Spots → Type 0
+DirectOnesTellEarly block set = (i cycle : ℕ) → IsLawful block set → IsReady block set i → IsDirectEarly block set i cycle ↔ IsEarly block set i cycle

@@ -77,7 +77,7 @@ pub(crate) fn check(
 
 /// Whether an instruction is not placed, and all that it depends on is.
 pub(crate) fn is_ready(plan: &Plan, spots: &[Option<Spot>], missing: &[u16], i: u16) -> bool
-    requires sized { length spots.now ≡ length (insns_of plan.now) }
+    requires lawful { IsLawful (insns_of plan.now) spots.now }
     requires index { IsIndex (insns_of plan.now) spots.now missing.now }
     requires in_plan { i < length plan.now.insns }
     ensures { IsTrue result ↔ IsReady (insns_of plan.now) spots.now i }
@@ -151,7 +151,7 @@ pub(crate) fn fits_without(
 
 /// Whether no placed instruction depends on instruction `i`.
 pub(crate) fn is_last(plan: &Plan, spots: &[Option<Spot>], i: u16) -> bool
-    requires sized { length spots.now ≡ length (insns_of plan.now) }
+    requires lawful { IsLawful (insns_of plan.now) spots.now }
     requires in_plan { i < length plan.now.insns }
     ensures { IsTrue result ↔ IsLast (insns_of plan.now) spots.now i }
 {

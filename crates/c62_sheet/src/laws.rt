@@ -6,7 +6,7 @@ ghost use Rattle.c62_op.specs.declared.register.Side.{Side};
 ghost use Rattle.c62_insn.specs.declared.insn.Insn.{Insn};
 ghost use Rattle.std.specs.Prelude.{ℕ};
 ghost use Rattle.c62_sheet.specs.Lawful.{Spots};
-ghost use Rattle.c62_sheet.specs.Laws.{HasOneLeast, HasOnePick, HasSomeReady, FindsRoom, CanTakeOut, IsLawfulEmpty};
+ghost use Rattle.c62_sheet.specs.Laws.{HasOneLeast, HasOnePick, HasSomeReady, FindsRoom, CanTakeOut, IsLawfulEmpty, DirectOnesTellReady, DirectOnesTellEarly};
 
 /// An instruction has one least spot at most.
 #[tactic(auto, using(crate::proofs::Search::least_unique))]
@@ -42,4 +42,16 @@ pub fn can_take_out()
 /// Nothing placed is lawful.
 pub fn is_lawful_empty()
     ensures { (block : List Insn) → IsLawfulEmpty block }
+{}
+
+/// On a lawful set an instruction that is not placed is ready exactly where none of those that it depends on directly is
+/// missing.
+#[tactic(auto, using(crate::proofs::Missing::direct_ones_tell_ready))]
+pub fn direct_ones_tell_ready()
+    ensures { (block : List Insn) (set : Spots) → DirectOnesTellReady block set }
+{}
+
+/// On a lawful set the early cycle of a ready instruction is the first that its direct dependences allow.
+pub fn direct_ones_tell_early()
+    ensures { (block : List Insn) (set : Spots) → DirectOnesTellEarly block set }
 {}

@@ -12,7 +12,7 @@ ghost use Rattle.c62_sheet.specs.Journal.{after, PermitsPlace, PermitsWithdraw, 
 
 use crate::entry::{Counts, Entry, Spot, Unlawful};
 use crate::ready::ReadyLists;
-use crate::{counts, earliest, index, judge, ready, rows, standing, victim};
+use crate::{counts, earliest, early, index, judge, ready, rows, standing, victim};
 use c62_depend::Plan;
 use c62_insn::Side;
 use c62_row::Row;
@@ -166,7 +166,11 @@ impl Sheet {
         ensures { IsEarly (insns_of self.now.plan) self.now.spots i result }
     {
         let number = usize::from(i);
-        self.earliest[number]
+        if self.missing[number] == 0 {
+            self.earliest[number]
+        } else {
+            early::early(&self.plan, &self.spots, i)
+        }
     }
 
     /// The least spot of a ready instruction: the first cycle, and there the first unit in the order L, S, M, D, at which

@@ -6,7 +6,7 @@ ghost use Rattle.c62_sheet.specs.Lawful.{IsLawful, placed};
 ghost use Rattle.c62_sheet.specs.Least.{IsReady, FindsLeast};
 ghost use Rattle.c62_sheet.specs.Rows.{AreRows};
 
-use crate::early::early;
+use crate::early::ready_early;
 use crate::entry::Spot;
 use crate::judge;
 use crate::rows::{take, take_all};
@@ -28,7 +28,7 @@ fn is_lawful_with(plan: &Plan, spots: &[Option<Spot>], rows: &[Row], i: u16, spo
     if spot.cycle >= 5 * plan.len() {
         return false;
     }
-    if spot.cycle < early(plan, spots, i) {
+    if spot.cycle < ready_early(plan, spots, i) {
         return false;
     }
     let row = rows[usize::from(spot.cycle)];
@@ -69,5 +69,5 @@ pub fn least_in(plan: &Plan, spots: &[Option<Spot>], i: u16) -> Option<Spot>
     prove!(count <= MOST_INSTRUCTIONS);
     let mut rows = [Row::new(); 5 * MOST_INSTRUCTIONS];
     take_all(plan, spots, &mut rows);
-    judge::least(plan, spots, &rows, early(plan, spots, i), i)
+    judge::least(plan, spots, &rows, ready_early(plan, spots, i), i)
 }

@@ -8,7 +8,7 @@ use Rattle.c62_op.proofs.UnitOrder.{same_index}
 use Rattle.c62_rules.proofs.Capacities.{one-each-unit}
 use Rattle.c62_packet.specs.declared.placed.Placed.{Placed}
 use Rattle.c62_packet.specs.Packed.{Packed, issue_of, issued}
-use Rattle.c62_show.specs.Grid.{is_on, packet}
+use Rattle.c62_grid.specs.Grid.{is_on, packet}
 use Rattle.c62_show.specs.Laws.{AreAllShown}
 use Rattle.c62_packet.proofs.Placings.{issued_at}
 

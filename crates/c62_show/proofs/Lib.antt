@@ -1,5 +1,5 @@
-pub mod Drawing
-pub mod Pauses
 pub mod Heads
 pub mod Cells
 pub mod Printed
+pub mod Stepping
+pub mod Tabled

@@ -15,13 +15,14 @@ use Rattle.c62_rules.specs.Length.{landing_end}
 use Rattle.c62_packet.specs.declared.placed.Placed.{Placed}
 use Rattle.c62_packet.specs.Packed.{IsPacketBlock, issue_of}
 use Rattle.c62_show.specs.declared.shown.Shown.{Shown}
-use Rattle.c62_show.specs.declared.widths.Widths.{Widths}
-use Rattle.c62_show.specs.Grid.{cell, cells, cycle_row, grid, heads, insn_cell, is_issued, is_on, packet, row_at, rows, use_row}
+use Rattle.c62_grid.specs.declared.widths.Widths.{Widths}
+use Rattle.c62_grid.specs.Grid.{cell, cells, cycle_row, grid, heads, insn_cell, is_issued, is_on, packet, row_at, rows, use_row}
 use Rattle.c62_show.specs.Head.{name, path_line, size, units_line}
 use Rattle.c62_show.specs.Limits.{least_of}
 use Rattle.c62_show.specs.Laws.{AreAllPrinted, HasPart}
 use Rattle.c62_show.specs.Picture.{block_rows, block_text, blocks_from, gap, picture, rows_of, widths_of}
-use Rattle.c62_show.specs.Words.{line}
+use Rattle.c62_show.specs.Whys.{whys_table}
+use Rattle.c62_grid.specs.Words.{line}
 use Rattle.c62_show.proofs.Cells.{all_shown}
 
 -- ---- parts of parts
@@ -112,9 +113,9 @@ rows_part : (widths : Widths) (shown : Shown) (part : List ℕ) → HasPart (gri
     → HasPart (block_rows widths shown) part
 unfolding block_rows
 rows_part widths shown part has =
-    behind_text
-    (size (length shown.packets.placed) shown.packets.cycles (least_of shown.limits) ++ path_line shown.limits ++ units_line shown.limits.need)
-    (grid widths shown.limits.path.items shown.packets.cycles shown.packets.placed) part has
+    let above = size (length shown.packets.placed) shown.packets.cycles (least_of shown.limits) ++ path_line shown.limits ++ units_line shown.limits.need in
+    let drawn = grid widths shown.limits.path.items shown.packets.cycles shown.packets.placed in
+    before_text (above ++ drawn) (whys_table shown.whys.items) part (behind_text above drawn part has)
 
 told_part : (widths : Widths) (shown : Shown) (placed : List Placed) (k : ℕ) (p : Placed) (part : List ℕ) → slice_get placed k ≡ Some p
     → HasPart (block_rows widths shown) part → HasPart (rows_of widths shown placed) part

@@ -1,6 +1,8 @@
 -- What stands above the rows of a block (docs/SHOW.md, "The head" and "The path and the units").
 use Rattle.std.specs.Prelude.{ℕ, ◌-◌, ◌==◌, nat_le, nat_lt, Bool, List, [], ◌++◌, length, slice_get, unwrap_or, codes, decimal, Option, Some, None, if◌then◌else◌}
 use Rattle.std.specs.List.{flat_map}
+use Rattle.std.specs.Fmt.{signed_decimal}
+use Rattle.c62_op.specs.Name.{register_name}
 use Rattle.c62_op.specs.declared.register.Side.{Side}
 use Rattle.c62_op.specs.declared.register.Letter.{Letter}
 use Rattle.c62_op.specs.declared.register.Letter.TheVariants.{L, S, M, D}
@@ -9,8 +11,11 @@ use Rattle.c62_bound.specs.declared.need.Kind.{Kind}
 use Rattle.c62_bound.specs.declared.need.Kind.TheVariants.{L as OnL, S as OnS, M as OnM, D as OnD, Ls, Lsd, Path}
 use Rattle.c62_bound.specs.declared.need.Need.{Need}
 use Rattle.c62_bound.specs.Bound.{width, cycles_of}
+use Rattle.c62_reason.specs.declared.reason.Reason.{Reason}
+use Rattle.c62_reason.specs.declared.reason.Reason.TheVariants.{Reads, Overwrites, Writes, AccessesMemory, StoresMemory, Branches}
 use Rattle.c62_show.specs.declared.limits.Limits.{Limits}
-use Rattle.c62_show.specs.Words.{left, right, counted, unit_name}
+use Rattle.c62_show.specs.declared.limits.Step.{Step}
+use Rattle.c62_grid.specs.Words.{left, right, counted, unit_name}
 
 -- ---- the head
 
@@ -41,9 +46,25 @@ size count cycles least =
 unfoldable pub fact : List ℕ → ℕ → List ℕ → List ℕ
 fact word cycles why = codes "   " ++ left 5 word ++ right 5 (decimal cycles) ++ codes ": " ++ why
 
+abbrev pub lines_word : List ℕ → List ℕ
+lines_word path = if length path == 1 then codes "line" else codes "lines"
+
 -- `lines 12 13 14`
 unfoldable pub path_words : List ℕ → List ℕ
-path_words path = (if length path == 1 then codes "line" else codes "lines") ++ flat_map (λ number. codes " " ++ decimal number) path
+path_words path = lines_word path ++ flat_map (λ number. codes " " ++ decimal number) path
+
+-- what two instructions share, for which the second waits: a register, memory, or that it is the branch
+abbrev pub shared_words : Reason → List ℕ
+shared_words (Reads reg) = register_name reg
+shared_words (Overwrites reg) = register_name reg
+shared_words (Writes reg) = register_name reg
+shared_words AccessesMemory = codes "mem"
+shared_words StoresMemory = codes "mem"
+shared_words Branches = codes "branch"
+
+-- ` -A5:5- 13`: for A5 the next line comes five cycles behind
+unfoldable pub step_words : Step → List ℕ
+step_words step = codes " -" ++ shared_words step.reason ++ codes ":" ++ signed_decimal step.cycles ++ codes "- " ++ decimal step.line
 
 -- a line of a path by its place, or 0 where there is none
 abbrev pub line_at : List ℕ → ℕ → ℕ
@@ -55,15 +76,24 @@ path_ends path =
     decimal (length path) ++ codes " lines from " ++ decimal (line_at path 0) ++ codes " to " ++ decimal (line_at path (length path - 1))
     ++ codes ", marked *"
 
--- each line of the path, where they find room in 98 columns
-unfoldable pub path_fact : ℕ → List ℕ → List ℕ
-path_fact cycles path =
-    let whole = fact (codes "path") cycles (path_words path) in
-    if nat_le (length whole) 98 then whole
-    else fact (codes "path") cycles (path_ends path)
+-- `lines 12 -A5:5- 13 -A6:1- 14`
+unfoldable pub bound_words : List ℕ → List Step → List ℕ
+bound_words path steps = lines_word path ++ codes " " ++ decimal (line_at path 0) ++ flat_map step_words steps
+
+-- a text, where it finds room in 98 columns, and else another
+abbrev pub narrow_or : List ℕ → List ℕ → List ℕ
+narrow_or text other = if nat_le (length text) 98 then text else other
+
+-- each line of the path, where they find room
+unfoldable pub listed_fact : ℕ → List ℕ → List ℕ
+listed_fact cycles path = narrow_or (fact (codes "path") cycles (path_words path)) (fact (codes "path") cycles (path_ends path))
+
+-- the same with what binds each line to the one before it, where that finds room
+unfoldable pub path_fact : ℕ → List ℕ → List Step → List ℕ
+path_fact cycles path steps = narrow_or (fact (codes "path") cycles (bound_words path steps)) (listed_fact cycles path)
 
 abbrev pub path_line : Limits → List ℕ
-path_line limits = path_fact limits.path_length limits.path.items ++ codes "\n"
+path_line limits = path_fact limits.path_length limits.path.items limits.steps.items ++ codes "\n"
 
 -- the unit of this letter on a side
 abbrev pub unit_on : Letter → Side → List ℕ

@@ -13,9 +13,9 @@ use Rattle.c62_show.specs.declared.limits.Limits.{Limits}
 use Rattle.c62_show.specs.declared.shown.Shown.{Shown}
 use Rattle.c62_show.specs.Limits.{AreLimits, least_of}
 use Rattle.c62_show.specs.Head.{verdict, none_is_shorter}
-use Rattle.c62_show.specs.Grid.{cells, cycle_row, insn_cell, is_issued, is_on, next_issue, packet}
+use Rattle.c62_grid.specs.Grid.{cells, cycle_row, insn_cell, is_issued, is_on, next_issue, packet}
 use Rattle.c62_show.specs.Picture.{picture, widths_of}
-use Rattle.c62_show.specs.Words.{line}
+use Rattle.c62_grid.specs.Words.{line}
 
 -- So many cycles are at least the bound, and where the head of a block says that no schedule is shorter, at least as many as
 -- the block has.

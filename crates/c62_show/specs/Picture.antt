@@ -2,11 +2,12 @@
 use Rattle.std.specs.Prelude.{ℕ, ◌+◌, ◌==◌, List, [], ◌∷◌, ◌++◌, length, fold, codes, if◌then◌else◌}
 use Rattle.c62_packet.specs.declared.placed.Placed.{Placed}
 use Rattle.c62_show.specs.declared.shown.Shown.{Shown}
-use Rattle.c62_show.specs.declared.widths.Widths.{Widths}
+use Rattle.c62_grid.specs.declared.widths.Widths.{Widths}
 use Rattle.c62_show.specs.Limits.{least_of}
-use Rattle.c62_show.specs.Widths.{least_widths, widths_with}
+use Rattle.c62_grid.specs.Widths.{least_widths, widths_with}
 use Rattle.c62_show.specs.Head.{name, size, path_line, units_line}
-use Rattle.c62_show.specs.Grid.{grid}
+use Rattle.c62_grid.specs.Grid.{grid}
+use Rattle.c62_show.specs.Whys.{whys_table}
 
 -- what is told of a block that has instructions, behind its name
 unfoldable pub block_rows : Widths → Shown → List ℕ
@@ -15,6 +16,7 @@ block_rows widths shown =
     ++ path_line shown.limits
     ++ units_line shown.limits.need
     ++ grid widths shown.limits.path.items shown.packets.cycles shown.packets.placed
+    ++ whys_table shown.whys.items
 
 abbrev pub rows_of : Widths → Shown → List Placed → List ℕ
 rows_of widths shown [] = codes ": no instruction\n"

@@ -4,14 +4,17 @@ ghost use Rattle.std.specs.Prelude.{◌≡◌, ◌++◌, OnOk, IfOk, codes, deci
 ghost use Rattle.std.specs.List.{flat_map};
 ghost use Rattle.std.specs.Option.{option_copied};
 ghost use Rattle.c62_listing.specs.Written.{AddsText};
-ghost use Rattle.c62_show.specs.Head.{name, over_bound, verdict, size, fact, path_words, line_at, path_ends, path_fact, path_line, room_name, need_words, is_told, units_line};
+ghost use Rattle.c62_show.specs.Head.{name, over_bound, verdict, size, fact, lines_word, path_words, shared_words, step_words, bound_words, line_at, path_ends, listed_fact, path_fact, path_line, room_name, need_words, is_told, units_line};
 
-use crate::limits::Limits;
-use crate::words::{push_counted, push_left, push_number, push_right_number};
+use crate::limits::{Limits, Step};
 use c62_bound::{Kind, Need};
+use c62_grid::words::{
+    push_counted, push_left, push_number, push_register, push_right_number, push_signed,
+};
 use c62_insn::Side;
 use c62_listing::label_text;
 use c62_read::Label;
+use c62_reason::Reason;
 use std::alloc::{AllocError, Global};
 
 /// The most columns of a line that names all lines of a path.
@@ -101,8 +104,62 @@ fn path_words(alloc: Global, path: &[u32]) -> Result<String, AllocError>
     ensures { IfOk result (λ text. string_bytes text ≡ path_words path.now) }
 {
     let mut text = String::new(alloc);
-    text.push_str(if path.len() == 1 { "line" } else { "lines" })?;
+    text.push_str(lines_word(path))?;
     push_path_lines(&mut text, path)?;
+    Ok(text)
+}
+
+fn lines_word(path: &[u32]) -> &'static str
+    ensures { result.now ≡ lines_word path.now }
+{
+    if path.len() == 1 { "line" } else { "lines" }
+}
+
+/// What two instructions share, for which the second waits.
+fn push_shared(out: &mut String, reason: Reason) -> Result<(), AllocError>
+    ensures { OnOk result (AddsText out.old (shared_words reason) out.new) }
+{
+    match reason {
+        Reason::Reads(reg) => push_register(out, reg),
+        Reason::Overwrites(reg) => push_register(out, reg),
+        Reason::Writes(reg) => push_register(out, reg),
+        Reason::AccessesMemory | Reason::StoresMemory => out.push_str("mem"),
+        Reason::Branches => out.push_str("branch"),
+    }
+}
+
+/// A step of a path: what it waits for, for how many cycles, and its line.
+#[tactic(auto, unfolding(crate::specs::Head::step_words))]
+fn push_step(out: &mut String, step: &Step) -> Result<(), AllocError>
+    ensures { OnOk result (AddsText out.old (step_words step.now) out.new) }
+{
+    out.push_str(" -")?;
+    push_shared(out, step.reason)?;
+    out.push_str(":")?;
+    push_signed(out, step.cycles)?;
+    out.push_str("- ")?;
+    push_number(out, u64::from(step.line))
+}
+
+fn push_steps(out: &mut String, steps: &[Step]) -> Result<(), AllocError>
+    ensures { OnOk result (AddsText out.old (flat_map step_words steps.now) out.new) }
+{
+    for step in steps {
+        push_step(out, step)?;
+    }
+    Ok(())
+}
+
+/// The lines of a path, and what binds each to the one before it.
+#[tactic(auto, unfolding(crate::specs::Head::bound_words))]
+fn bound_words(alloc: Global, path: &[u32], steps: &[Step]) -> Result<String, AllocError>
+    ensures { IfOk result (λ text. string_bytes text ≡ bound_words path.now steps.now) }
+{
+    let mut text = String::new(alloc);
+    text.push_str(lines_word(path))?;
+    text.push_str(" ")?;
+    push_number(&mut text, line_at(path, 0))?;
+    push_steps(&mut text, steps)?;
     Ok(text)
 }
 
@@ -141,9 +198,9 @@ fn fact(alloc: Global, word: &str, cycles: u64, why: &str) -> Result<String, All
 }
 
 /// Of the critical path each of its lines, or where these are too many its ends.
-#[tactic(auto, unfolding(crate::specs::Head::path_fact))]
-fn path_fact(alloc: Global, cycles: u64, path: &[u32]) -> Result<String, AllocError>
-    ensures { IfOk result (λ text. string_bytes text ≡ path_fact cycles path.now) }
+#[tactic(auto, unfolding(crate::specs::Head::listed_fact))]
+fn listed_fact(alloc: Global, cycles: u64, path: &[u32]) -> Result<String, AllocError>
+    ensures { IfOk result (λ text. string_bytes text ≡ listed_fact cycles path.now) }
 {
     let words = path_words(alloc, path)?;
     let whole = fact(alloc, "path", cycles, words.as_str())?;
@@ -154,11 +211,25 @@ fn path_fact(alloc: Global, cycles: u64, path: &[u32]) -> Result<String, AllocEr
     fact(alloc, "path", cycles, ends.as_str())
 }
 
+/// Of the critical path each of its lines with what binds it, or where that is too wide less.
+#[tactic(auto, unfolding(crate::specs::Head::path_fact))]
+fn path_fact(alloc: Global, cycles: u64, path: &[u32], steps: &[Step]) -> Result<String, AllocError>
+    ensures { IfOk result (λ text. string_bytes text ≡ path_fact cycles path.now steps.now) }
+{
+    let words = bound_words(alloc, path, steps)?;
+    let whole = fact(alloc, "path", cycles, words.as_str())?;
+    if whole.len() <= MOST_COLUMNS {
+        return Ok(whole);
+    }
+    listed_fact(alloc, cycles, path)
+}
+
 /// The line of the critical path.
 pub(crate) fn push_path(alloc: Global, out: &mut String, limits: &Limits) -> Result<(), AllocError>
     ensures { OnOk result (AddsText out.old (path_line limits.now) out.new) }
 {
-    let text = path_fact(alloc, u64::from(limits.path_length), &limits.path)?;
+    let cycles = u64::from(limits.path_length);
+    let text = path_fact(alloc, cycles, &limits.path, &limits.steps)?;
     out.push_str(text.as_str())?;
     out.push_str("\n")
 }

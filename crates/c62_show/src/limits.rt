@@ -1,11 +1,25 @@
 //! How short a schedule of a block can be at best, and why.
 
 ghost use Rattle.std.specs.Prelude.{◌≡◌, IfOk, map};
-ghost use Rattle.c62_show.specs.Limits.{line_of, AreLimits};
+ghost use Rattle.c62_depend.specs.Plan.{insns_of};
+ghost use Rattle.c62_bound.specs.Path.{IsTight, IsCriticalPath};
+ghost use Rattle.c62_show.specs.Limits.{line_of, IsStep, AreSteps, AreLimits};
 
 use c62_bound::{Need, bound, critical_path, path_length};
 use c62_depend::Plan;
+use c62_reason::{Reason, reason_for};
 use std::alloc::{AllocError, Global};
+
+/// A step of a critical path, from one instruction to the next.
+#[derive(Clone, Copy, PartialEq, Eq, Debug)]
+pub struct Step {
+    /// The line of the next instruction.
+    pub line: u32,
+    /// How many cycles it must come behind the one before it at least: fewer than 0 where it may come before.
+    pub cycles: i32,
+    /// Why it must.
+    pub reason: Reason,
+}
 
 /// How short a schedule of a block can be at best, and why.
 #[derive(Debug, Drop)]
@@ -14,6 +28,8 @@ pub struct Limits {
     pub path_length: u16,
     /// The lines of the instructions on it, in their order.
     pub path: Vec<u32>,
+    /// The steps between them.
+    pub steps: Vec<Step>,
     /// The greatest need. `None` where there is no instruction.
     pub need: Option<Need>,
 }
@@ -54,6 +70,34 @@ fn path_lines(alloc: Global, plan: &Plan, path: &[u16]) -> Result<Vec<u32>, Allo
     Ok(lines)
 }
 
+/// The step between two instructions, of which the second sets the height of the first.
+fn step_between(plan: &Plan, i: u16, j: u16) -> Step
+    requires { IsTight (insns_of plan.now) i j }
+    ensures { IsStep plan.now i j result }
+{
+    let _all = plan.len();
+    match plan.latency(i, j) {
+        Some(cycles) => Step {
+            line: line_of(plan, j),
+            cycles,
+            reason: reason_for(plan, i, j, cycles),
+        },
+        None => unreachable!(),
+    }
+}
+
+/// The steps of a critical path.
+fn steps_of(alloc: Global, plan: &Plan, path: &[u16]) -> Result<Vec<Step>, AllocError>
+    requires { IsCriticalPath (insns_of plan.now) path.now }
+    ensures { IfOk result (λ steps. AreSteps plan.now path.now steps.items) }
+{
+    let mut steps = Vec::new(alloc);
+    for k in 1..path.len() {
+        steps.push(step_between(plan, path[k - 1], path[k]))?;
+    }
+    Ok(steps)
+}
+
 /// How short a schedule of the plan's block can be at best, and why.
 ///
 /// # Errors
@@ -66,6 +110,7 @@ pub fn limits_of(alloc: Global, plan: &Plan) -> Result<Limits, AllocError>
     Ok(Limits {
         path_length: path_length(plan),
         path: path_lines(alloc, plan, &path)?,
+        steps: steps_of(alloc, plan, &path)?,
         need: bound(plan),
     })
 }

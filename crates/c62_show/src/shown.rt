@@ -3,21 +3,24 @@
 ghost use Rattle.std.specs.Prelude.{◌≡◌, ◌<◌, length, OnOk, IfOk, string_bytes};
 ghost use Rattle.c62_listing.specs.Written.{AddsText};
 ghost use Rattle.c62_show.specs.Picture.{block_rows, block_text, gap, picture, widths_of};
-ghost use Rattle.c62_show.specs.Widths.{widths_with};
+ghost use Rattle.c62_grid.specs.Widths.{widths_with};
 
-use crate::grid::Grid;
 use crate::head::{push_name, push_path, push_size, push_units};
-use crate::landing::landings_of;
 use crate::limits::Limits;
-use crate::widths::Widths;
+use crate::whys::push_whys;
+use c62_grid::{Grid, Widths, landings_of};
 use c62_packet::{PacketBlock, Placed};
+use c62_why::Why;
 use std::alloc::{AllocError, Global};
 
-/// A block that is shown: its packets, and how short they could be at best.
+/// A block that is shown.
 #[derive(Drop)]
 pub struct Shown {
+    /// How short its packets could be at best.
     pub limits: Limits,
     pub packets: PacketBlock,
+    /// Why each of its instructions isn't issued a cycle earlier; empty where that isn't asked for.
+    pub whys: Vec<Why>,
 }
 
 /// Room for these instructions too.
@@ -71,7 +74,8 @@ fn push_rows(
         placed,
         landings: &landings,
     };
-    grid.push(alloc, out)
+    grid.push(alloc, out)?;
+    push_whys(out, &shown.whys)
 }
 
 /// A block.

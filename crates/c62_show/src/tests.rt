@@ -24,9 +24,11 @@ fn blocks_without_instructions(rt: HostRuntime) -> Result<(), Fail> {
                 limits: Limits {
                     path_length: 0,
                     path: Vec::new(rt.alloc()),
+                    steps: Vec::new(rt.alloc()),
                     need: None,
                 },
                 packets: PacketBlock::new(read_insn(line)?.label, 0, Vec::new(rt.alloc()))?,
+                whys: Vec::new(rt.alloc()),
             })?;
         }
         let text = picture(rt.alloc(), &shown)?;

@@ -1,6 +1,6 @@
 //! Runs of `adopt`, worked out by docs/ADOPT.md.
 
-use crate::tool::run_on_bytes;
+use c62_answer::run_on_bytes;
 use std::process::Abort;
 use std::sync::Wait;
 use std::test::Fail;
@@ -66,7 +66,7 @@ const ADOPTED: [(&[&str], &[u8], &str, &str); 10] = [
 /// A text, and what is told of it where it is refused, drained or not.
 const REFUSED: [(&[u8], &str); 12] = [
     (b"\nFOO .S1 A1", "line 2: UnknownMnemonic\n"),
-    (b".data", "line 1: Directive\n"),
+    (b".word 5", "line 1: Directive\n"),
     (b"ADD A1,A2,A3", "line 1: UnitWanted\n"),
     (b"ADD .L1X A1,A2,A3", "line 1: BadSide\n"),
     (b"L:\n|| MVK .S1 1,A1", "line 2: ParallelBar\n"),
@@ -84,13 +84,12 @@ const REFUSED: [(&[u8], &str); 12] = [
 ];
 
 /// Directives of GNU's and TI's assemblers that lay bytes down, make room, or bring in another text.
-const LAYING: [&str; 50] = [
+const LAYING: [&str; 45] = [
     ".byte", ".short", ".half", ".hword", ".word", ".int", ".long", ".quad", ".octa", ".2byte",
     ".4byte", ".8byte", ".ascii", ".asciz", ".string", ".string8", ".cstring", ".float", ".single",
-    ".double", ".space", ".skip", ".fill", ".zero", ".org", ".balign", ".p2align", ".dc", ".dcb",
-    ".ds", ".incbin", ".comm", ".lcomm", ".data", ".bss", ".uleb128", ".bits", ".ubyte", ".char",
-    ".uchar", ".field", ".uhalf", ".ushort", ".uint", ".ulong", ".uword", ".bes", ".usect",
-    ".copy", ".include",
+    ".double", ".space", ".skip", ".fill", ".zero", ".org", ".dc", ".dcb", ".ds", ".incbin",
+    ".bss", ".uleb128", ".bits", ".ubyte", ".char", ".uchar", ".field", ".uhalf", ".ushort",
+    ".uint", ".ulong", ".uword", ".bes", ".usect", ".copy", ".include",
 ];
 
 /// Texts that are refused as they stand, and drained lack this many cycles.

@@ -1,10 +1,10 @@
 //! Runs of `exec`, worked out by docs/EXEC.md.
 
-use crate::tool::run_on_bytes;
+use c62_answer::run_on_bytes;
 use std::test::Fail;
 
 /// Words, a text of packets, and the report of its flight.
-const FLOWN: [(&[&str], &[u8], &str); 9] = [
+const FLOWN: [(&[&str], &[u8], &str); 10] = [
     (&["exec"], b"", "cycles 0\nexit end\n"),
     // A branch ends a NOP, and what was loaded lands behind the end.
     (
@@ -45,6 +45,12 @@ const FLOWN: [(&[&str], &[u8], &str); 9] = [
         b"L: B .S2 L\n",
         "cycles 19\nexit limit\n",
     ),
+    // A function that calls another, which returns to the row after the call, number 4.
+    (
+        &["exec", "A4=3", "B5=0x2000"],
+        b"M: B .S1 F\n MVKL .S2 R,B3\n MVKH .S2 R,B3\n NOP 3\nR: MV .L1 A4,A5\n RET .S2 B5\n NOP 5\nF: RET .S2 B3\n||MPY .M1 A4,A4,A4\n NOP 5\n",
+        "cycles 19\nexit register 00002000\nA4 00000009\nA5 00000009\nB3 80000080\nB5 00002000\n",
+    ),
     // A store that faults, by its line.
     (
         &["exec"],
@@ -65,7 +71,7 @@ fn flights(rt: HostRuntime) -> Result<(), Fail> {
 }
 
 /// Words, a text, and what it is refused for.
-const REFUSED: [(&[&str], &[u8], &str); 4] = [
+const REFUSED: [(&[&str], &[u8], &str); 6] = [
     (
         &["exec"],
         b"L: B .S1 L\n|| B .S2 B3\n",
@@ -75,6 +81,12 @@ const REFUSED: [(&[&str], &[u8], &str); 4] = [
         &["exec"],
         b"ADD .L1 A1,A1,A5\n|| MPY .M1 A1,A1,A4\n|| SUB .S1 A1,A2,A3\n",
         "line 3: P4\n",
+    ),
+    (&["exec"], b"L: MVK .S1 L,A1\n", "line 1: BadOperand\n"),
+    (
+        &["exec"],
+        b"NOP\n MVKL .S1 Q,A1\n B .S2 R\n",
+        "line 2: UnknownTarget\n",
     ),
     (&["exec", "--from", "Q"], b"NOP\n", "from: UnknownTarget\n"),
     (

@@ -2,23 +2,15 @@
 //! with everything in flight.
 #![tactic(auto)]
 
-mod answer;
-mod checking;
-mod exec;
-mod failure;
-mod input;
-mod laws;
-mod message;
-mod outcome;
-mod parting;
-mod run;
-mod schedule;
-mod tool;
-mod writing;
+mod joined;
+mod page;
+mod program;
+mod trouble;
 
+use c62_files::Disk;
+use program::run_program;
 use std::process::ExitCode;
 use std::{env, io};
-use tool::run_tool;
 
 /// The words after the program's name.
 fn words_of(rt: &(impl std::rt::Env + AllocGlobal)) -> io::Result<Vec<String>> {
@@ -37,8 +29,9 @@ fn main(rt: HostRuntime) -> ExitCode {
             return ExitCode::from(2);
         }
     };
-    ExitCode::from(run_tool(
+    ExitCode::from(run_program(
         &rt,
+        &mut Disk::new(&rt),
         words.as_slice(),
         &mut rt.stdin(),
         &mut rt.stdout(),
@@ -50,6 +43,8 @@ fn main(rt: HostRuntime) -> ExitCode {
 mod adopt_tests;
 #[cfg(test)]
 mod exec_tests;
+#[cfg(test)]
+mod file_tests;
 #[cfg(test)]
 mod show_tests;
 #[cfg(test)]

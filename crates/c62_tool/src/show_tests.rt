@@ -1,10 +1,10 @@
 //! Pictures of texts, by the rules of docs/SHOW.md.
 
-use crate::tool::run_on_bytes;
+use c62_answer::run_on_bytes;
 use std::test::Fail;
 
 /// Words and a text, and the picture of its blocks.
-const SHOWN: [(&[&str], &[u8], &str); 9] = [
+const SHOWN: [(&[&str], &[u8], &str); 11] = [
     (&["show"], b"\r\n* \n", ""),
     (&["show", "--turns"], b"L:", "L: no instruction\n"),
     (
@@ -13,9 +13,9 @@ const SHOWN: [(&[&str], &[u8], &str); 9] = [
         "\
 block 0: 1 instruction in 1 cycle; no schedule is shorter
    path     1: line 1
-cycle   .L1    .S1    .M1    .D1    .L2    .S2    .M2    .D2  lands
-    0   .    1*MVK    .      .      .      .      .      .
-  use   -      100%   -      -      -      -      -      -
+cycle   .L1    .S1    .M1    .D1    .L2    .S2    .M2    .D2    1X   2X   T1   T2 lands
+    0   .    1*MVK    .      .      .      .      .      .       .    .    .    .
+  use   -      100%   -      -      -      -      -      -       -    -    -    -
 ",
     ),
     // a load, and the cycles in which it is waited for
@@ -24,12 +24,12 @@ cycle   .L1    .S1    .M1    .D1    .L2    .S2    .M2    .D2  lands
         b"LDW *A4,A5\nADD A5,A5,A6",
         "\
 block 0: 2 instructions in 6 cycles; no schedule is shorter
-   path     6: lines 1 2
-cycle   .L1    .S1    .M1    .D1    .L2    .S2    .M2    .D2  lands
-    0   .      .      .    1*LDW    .      .      .      .
+   path     6: lines 1 -A5:5- 2
+cycle   .L1    .S1    .M1    .D1    .L2    .S2    .M2    .D2    1X   2X   T1   T2 lands
+    0   .      .      .    1*LDW    .      .      .      .       .    .    1    .
   1-4   idle, landing: A5 in 4
-    5 2*ADD    .      .      .      .      .      .      .
-  use   16%    -      -      16%    -      -      -      -
+    5 2*ADD    .      .      .      .      .      .      .       .    .    .    .
+  use   16%    -      -      16%    -      -      -      -       -    -  16%    -
 ",
     ),
     // two loads from bases of both sides, which go over one data path
@@ -40,11 +40,11 @@ cycle   .L1    .S1    .M1    .D1    .L2    .S2    .M2    .D2  lands
 block 0: 2 instructions in 6 cycles; no schedule is shorter
    path     5: line 1
    units    6: 2 on T1, and 4 behind the last
-cycle   .L1    .S1    .M1    .D1    .L2    .S2    .M2    .D2  lands
-    0   .      .      .    1*LDW    .      .      .      .
-    1   .      .      .      .      .      .      .    2 LDW
+cycle   .L1    .S1    .M1    .D1    .L2    .S2    .M2    .D2    1X   2X   T1   T2 lands
+    0   .      .      .    1*LDW    .      .      .      .       .    .    1    .
+    1   .      .      .      .      .      .      .    2 LDW     .    .    2    .
   2-5   idle, landing: A5 in 4, A6 in 5
-  use   -      -      -      16%    -      -      -      16%
+  use   -      -      -      16%    -      -      -      16%     -    -  33%    -
 ",
     ),
     // a branch, and a block with its label alone
@@ -53,12 +53,12 @@ cycle   .L1    .S1    .M1    .D1    .L2    .S2    .M2    .D2  lands
         b"L1: SUB A1,1,A1\n[A1] B L1\nEnd_1:",
         "\
 L1: 2 instructions in 7 cycles; no schedule is shorter
-   path     7: lines 1 2
-cycle   .L1    .S1    .M1    .D1    .L2    .S2    .M2    .D2  lands
-    0 1*SUB    .      .      .      .      .      .      .
-    1   .      .      .      .      .    2*B      .      .
+   path     7: lines 1 -A1:1- 2
+cycle   .L1    .S1    .M1    .D1    .L2    .S2    .M2    .D2    1X   2X   T1   T2 lands
+    0 1*SUB    .      .      .      .      .      .      .       .    .    .    .
+    1   .      .      .      .      .    2*B      .      .       .    .    .    .
   2-6   idle, landing: branch in 6
-  use   14%    -      -      -      -      14%    -      -
+  use   14%    -      -      -      -      14%    -      -       -    -    -    -
 
 End_1: no instruction
 ",
@@ -70,10 +70,10 @@ End_1: no instruction
         "\
 block 0: 2 instructions in 2 cycles; 1 over the bound of 1
    path     1: line 1
-cycle   .L1    .S1    .M1    .D1    .L2    .S2    .M2    .D2  lands
-    0 1*ADD    .      .      .      .      .      .      .
-    1 2 SUB    .      .      .      .      .      .      .
-  use   100%   -      -      -      -      -      -      -
+cycle   .L1    .S1    .M1    .D1    .L2    .S2    .M2    .D2    1X   2X   T1   T2 lands
+    0 1*ADD    .      .      .      .      .      .      .       1    .    .    .
+    1 2 SUB    .      .      .      .      .      .      .       2    .    .    .
+  use   100%   -      -      -      -      -      -      -    100%    -    -    -
 ",
     ),
     // an ejection, and none without a budget
@@ -83,12 +83,12 @@ cycle   .L1    .S1    .M1    .D1    .L2    .S2    .M2    .D2  lands
         "\
 block 0: 6 instructions in 5 cycles; no schedule is shorter
    path     5: line 1
-cycle   .L1    .S1    .M1    .D1    .L2    .S2    .M2    .D2  lands
-    0   .      .    5 MPY    .    2 ADD    .      .    1*LDW
-    1 3 ADD    .      .      .      .      .      .      .    A2
-    2 4 ADD    .    6 MPY    .      .      .      .      .
+cycle   .L1    .S1    .M1    .D1    .L2    .S2    .M2    .D2    1X   2X   T1   T2 lands
+    0   .      .    5 MPY    .    2 ADD    .      .    1*LDW     5    2    .    1
+    1 3 ADD    .      .      .      .      .      .      .       3    .    .    . A2
+    2 4 ADD    .    6 MPY    .      .      .      .      .       .    .    .    .
   3-4   idle, landing: A6 in 3, B5 in 4
-  use   40%    -      40%    -      20%    -      -      20%
+  use   40%    -      40%    -      20%    -      -      20%   40%  20%    -  20%
 ",
     ),
     (
@@ -97,13 +97,58 @@ cycle   .L1    .S1    .M1    .D1    .L2    .S2    .M2    .D2  lands
         "\
 block 0: 6 instructions in 5 cycles; no schedule is shorter
    path     5: line 1
-cycle   .L1    .S1    .M1    .D1    .L2    .S2    .M2    .D2  lands
-    0 3 ADD    .      .      .    2 ADD    .      .    1*LDW
-    1 4 ADD    .    5 MPY    .      .      .      .      .
+cycle   .L1    .S1    .M1    .D1    .L2    .S2    .M2    .D2    1X   2X   T1   T2 lands
+    0 3 ADD    .      .      .    2 ADD    .      .    1*LDW     3    2    .    1
+    1 4 ADD    .    5 MPY    .      .      .      .      .       5    .    .    .
     2   idle, landing: A2 in 2
-    3   .      .    6 MPY    .      .      .      .      .
+    3   .      .    6 MPY    .      .      .      .      .       .    .    .    .
     4   idle, landing: B5 in 4, A6 in 4
-  use   40%    -      40%    -      20%    -      -      20%
+  use   40%    -      40%    -      20%    -      -      20%   40%  20%    -  20%
+",
+    ),
+    // why an instruction is not earlier: a load that is waited for, and units that others have
+    (
+        &["show", "--turns", "--why"],
+        b"LDW *A4,A5\nADD A5,A5,A6\nMVK 1,A7\nMVK 2,A8\nADD A1,B1,A2\nXOR A3,B2,A9",
+        "\
+block 0: 6 instructions in 6 cycles; no schedule is shorter
+   path     6: lines 1 -A5:5- 2
+cycle   .L1    .S1    .M1    .D1    .L2    .S2    .M2    .D2    1X   2X   T1   T2 lands
+    0 5 ADD  3 MVK    .    1*LDW    .      .      .      .       5    .    1    .
+    1 6 XOR  4 MVK    .      .      .      .      .      .       6    .    .    .
+  2-4   idle, landing: A5 in 4
+    5 2*ADD    .      .      .      .      .      .      .       .    .    .    .
+  use   50%    33%    -      16%    -      -      -      -     33%    -  16%    -
+  line cycle slack  not a cycle earlier
+     1     0     0  -
+     2     5     0  after 1 needs 5 reads A5
+     3     0     5  -
+     4     1     4  .S1 taken by 3
+     5     0     5  -
+     6     1     4  .L1 taken by 5
+",
+    ),
+    // a fifth read, a data path that another load has, and a store behind loads
+    (
+        &["show", "--turns", "--why"],
+        b"ADD A1,A1,A2\nADD A1,A1,A3\nMPY A1,A5,A4\nLDW *A6,A7\nLDW *B6,A8\nSTW A4,*A6",
+        "\
+block 0: 6 instructions in 6 cycles; no schedule is shorter
+   path     5: line 4
+   units    6: 2 on T1, and 4 behind the last
+cycle   .L1    .S1    .M1    .D1    .L2    .S2    .M2    .D2    1X   2X   T1   T2 lands
+    0 1 ADD    .    3 MPY  4*LDW    .      .      .      .       .    .    4    .
+    1 2 ADD    .      .      .      .      .      .    5 LDW     .    .    5    . A4
+    2   .      .      .    6 STW    .      .      .      .       .    .    6    .
+  3-5   idle, landing: A7 in 4, A8 in 5
+  use   33%    -      16%    33%    -      -      -      16%     -    -  50%    -
+  line cycle slack  not a cycle earlier
+     1     0     5  -
+     2     1     4  .L1 taken by 1
+     3     0     3  -
+     4     0     1  -
+     5     1     0  T1 taken by 4
+     6     2     3  after 3 needs 2 reads A4
 ",
     ),
 ];
@@ -121,7 +166,7 @@ const SHOWN_TEXTS: [(&[u8], usize, &[u8], &str); 4] = [
         b"L: MVK 100,B4\nLDW *B4,B5\nADD A1,A1,A1\nADD A2,A2,A2\nB L",
         "\
 L: 5 instructions in 7 cycles; 1 over the bound of 6
-   path     6: lines 1 2 5
+   path     6: lines 1 -B4:1- 2 -branch:-1- 5
 cycle",
     ),
     // What keeps the written units takes a cycle more than the bound, which asks for none.
@@ -132,7 +177,7 @@ cycle",
 [A2] MV A5,A6\n[A2] MV A8,A7\n[B0] MV B5,B6\n[B0] MV B8,B7\nADDK .S1 2,A8\nADDK .S2 2,B8\nSUB .D1 A1,1,A1\n[A1] B .S1 PAIR",
         "\
 PAIR: 12 instructions in 8 cycles; 1 over the bound of 7
-   path     7: lines 1 3 5 12
+   path     7: lines 1 -A5:5- 3 -A2:1- 5 -branch:-5- 12
 cycle",
     ),
     // four digits
@@ -143,9 +188,9 @@ cycle",
         "\
 block 0: 1 instruction in 1 cycle; no schedule is shorter
    path     1: line 1000
-cycle      .L1       .S1       .M1       .D1       .L2       .S2       .M2       .D2  lands
-    0      .    1000*MVK       .         .         .         .         .         .
-  use      -         100%      -         -         -         -         -         -
+cycle      .L1       .S1       .M1       .D1       .L2       .S2       .M2       .D2    1X   2X   T1   T2 lands
+    0      .    1000*MVK       .         .         .         .         .         .       .    .    .    .
+  use      -         100%      -         -         -         -         -         -       -    -    -    -
 ",
     ),
     // as many instructions as a block may have
@@ -157,10 +202,10 @@ cycle      .L1       .S1       .M1       .D1       .L2       .S2       .M2      
 block 0: 256 instructions in 256 cycles; no schedule is shorter
    path   256: 256 lines from 1 to 256, marked *
    units  256: 256 on .S1, and 0 behind the last
-cycle     .L1      .S1      .M1      .D1      .L2      .S2      .M2      .D2  lands
-    0     .      1*MVK      .        .        .        .        .        .
-    1     .      2*MVK      .        .        .        .        .        .
-",
+cycle     .L1      .S1      .M1      .D1      .L2      .S2      .M2      .D2    1X   2X   T1   T2 lands
+    0     .      1*MVK      .        .        .        .        .        .       .    .    .    .
+    1     .      2*MVK      .        .        .        .        .        .       .    .    .    .
+    2     .      3*MVK      .        .        .        .        .        .       .    .    .    .",
     ),
 ];
 

@@ -1,6 +1,6 @@
 //! Runs over streams in memory, and over streams that fail.
 
-use crate::tool::{run_on_bytes, run_tool};
+use c62_answer::{run_on_bytes, run_tool};
 use std::io;
 use std::io::{Read, Write};
 use std::process::Abort;
@@ -352,26 +352,11 @@ const UNCHECKED_LONG: [(&[u8], &str); 5] = [
     (b"FOO\n---\nFOO", "text line 0: TextTooLong\n"),
 ];
 
-/// Where texts come from and go to, and what the statuses are.
-const ENDING: &str = "
-The text is read from standard input, and the answer is written to standard output,
-as in: c62 pack < kernel.s
+/// How a help ends.
+const STATUS_HELP: &str =
+    "`c62 help status` tells where texts come from, and what each status means.\n";
 
-Status, and what standard error says:
-  0  done, and nothing is said but how many cycles were added to drain packets
-  1  the text is refused: `line 7: BadUnit` names its first faulty line and the fault;
-     of a listing also `block 0: NotDrained`, or `block 0 cycle 3: P5` and the packet rule;
-     of packets to be adopted also `line 7: NotDrained`, or `line 7: P5` and the packet rule;
-     of packets in flight also `line 7: TwoBranches`, and `from: UnknownTarget`;
-     of a check it is `text line 7: BadUnit` or `listing line 7: Shape`, each part counted from 1
-  2  the words are refused, by a text like this one, or `setting 2: bad`
-  3  no memory: `memory`
-  4  a stream failed: `input` or `output`
-  5  checked, and not each block is the same: the output tells, and nothing is said
-docs/SERIAL_TEXT.md, docs/LISTING.md, docs/ADOPT.md, docs/EXEC.md and docs/CHECK.md tell what each fault is.
-";
-
-/// Words, and the whole text that refuses them, but for the ending of a help.
+/// Words, what is told of them, and the example that ends a help.
 const TOLD: [(&[&str], &str, &str); 11] = [
     (
         &["--help"],
@@ -394,42 +379,43 @@ Commands:
 Options:
   -h, --help  Print help
 ",
-        ENDING,
+        "c62 run kernel.s A4=8",
     ),
     (
         &["pack", "--help"],
         "Reads serial text and writes its listing
 
-Usage: c62 pack [--turns] [--eject <N>]
+Usage: c62 pack [--turns] [--eject <N>] [-o <FILE>] [FILE]
 
 Options:
       --turns      Packs on one thread, one side after the other
       --eject <N>  Ejects at most N placed instructions of a block, 0 to 1000; 0 where none is given
   -h, --help       Print help
 ",
-        ENDING,
+        "c62 pack kernel.s",
     ),
     (
         &["show", "--help"],
         "Packs serial text and shows each block's schedule, and how short one can be
 
-Usage: c62 show [--turns] [--eject <N>]
+Usage: c62 show [--why] [--turns] [--eject <N>] [-o <FILE>] [FILE]
 
 Options:
       --turns      Packs on one thread, one side after the other
       --eject <N>  Ejects at most N placed instructions of a block, 0 to 1000; 0 where none is given
+      --why        Tells why each instruction isn't issued a cycle earlier, and its slack
   -h, --help       Print help
 ",
-        ENDING,
+        "c62 show --why kernel.s",
     ),
     (
         &["run", "--help"],
         "Packs serial text, runs the packets and reports the end
 
-Usage: c62 run [--turns] [--eject <N>] [--blocks <N>] [SETTING]...
+Usage: c62 run [--turns] [--eject <N>] [--blocks <N>] [-o <FILE>] [FILE] [SETTING]...
 
 Arguments:
-  [SETTING]...  REG=NUMBER sets a register, @ADDRESS=NUMBER a word of memory; no file is named here
+  [SETTING]...  REG=NUMBER sets a register, @ADDRESS=NUMBER a word of memory
 
 Options:
       --turns       Packs on one thread, one side after the other
@@ -437,61 +423,61 @@ Options:
       --blocks <N>  Runs at most N blocks, 1 to 1000000; 1000 where none is given
   -h, --help        Print help
 ",
-        ENDING,
+        "c62 run kernel.s A4=8 @8=99",
     ),
     (
         &["serial", "-h"],
         "Runs serial text, one instruction after the other, and reports the end
 
-Usage: c62 serial [--blocks <N>] [SETTING]...
+Usage: c62 serial [--blocks <N>] [-o <FILE>] [FILE] [SETTING]...
 
 Arguments:
-  [SETTING]...  REG=NUMBER sets a register, @ADDRESS=NUMBER a word of memory; no file is named here
+  [SETTING]...  REG=NUMBER sets a register, @ADDRESS=NUMBER a word of memory
 
 Options:
       --blocks <N>  Runs at most N blocks, 1 to 1000000; 1000 where none is given
   -h, --help        Print help
 ",
-        ENDING,
+        "c62 serial kernel.s A4=8 @8=99",
     ),
     (
         &["sim", "-h"],
         "Reads a listing, runs its packets and reports the end
 
-Usage: c62 sim [--blocks <N>] [SETTING]...
+Usage: c62 sim [--blocks <N>] [-o <FILE>] [FILE] [SETTING]...
 
 Arguments:
-  [SETTING]...  REG=NUMBER sets a register, @ADDRESS=NUMBER a word of memory; no file is named here
+  [SETTING]...  REG=NUMBER sets a register, @ADDRESS=NUMBER a word of memory
 
 Options:
       --blocks <N>  Runs at most N blocks, 1 to 1000000; 1000 where none is given
   -h, --help        Print help
 ",
-        ENDING,
+        "c62 sim kernel.lst A4=8 @8=99",
     ),
     (
         &["adopt", "-h"],
         "Reads packets as they are written for an assembler and writes their listing
 
-Usage: c62 adopt [--drain]
+Usage: c62 adopt [--drain] [-o <FILE>] [FILE]
 
 Options:
       --drain  Adds the NOPs that lack before labels and at the end, and says how many cycles
   -h, --help   Print help
 ",
-        ENDING,
+        "c62 adopt hand.asm --drain",
     ),
     (
         &["check", "-h"],
         "Reads serial text, a line `---` and a listing, and compares their blocks
 
-Usage: c62 check
-       ./c62 check <TEXT> <LISTING>  (the launcher joins two files)
+Usage: c62 check [-o <FILE>] <TEXT> <LISTING>
+       c62 check [-o <FILE>] [FILE]  (both in one, with a line `---` between them)
 
 Options:
   -h, --help  Print help
 ",
-        ENDING,
+        "c62 check kernel.s hand.lst",
     ),
     (
         &["frob"],
@@ -689,9 +675,13 @@ fn longest_checks(rt: HostRuntime) -> Result<(), Fail> {
 
 #[test]
 fn told_words(rt: HostRuntime) -> Result<(), Fail> {
-    for (words, text, ending) in &TOLD {
+    for (words, text, example) in &TOLD {
         let ran = run_on_bytes(&rt, *words, b"");
-        let expected = format!(in rt.alloc(); "{text}{ending}")?;
+        let expected = if example.is_empty() {
+            format!(in rt.alloc(); "{text}")?
+        } else {
+            format!(in rt.alloc(); "{text}\nExample:\n  {example}\n\n{STATUS_HELP}")?
+        };
         assert_eq!(rt; ran.errors.as_slice(), expected.as_bytes());
         assert_eq!(rt; ran.status, 2);
         assert!(rt; ran.output.is_empty());

@@ -1,6 +1,6 @@
 //! What two workers make of blocks whose instructions are all of one side: whichever worker comes first, it is what turns make.
 
-use crate::tool::run_on_bytes;
+use c62_answer::run_on_bytes;
 use std::process::Abort;
 use std::sync::Wait;
 use std::test::Fail;

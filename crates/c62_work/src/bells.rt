@@ -1,10 +1,15 @@
 //! How a worker learns that there may be something for it to do.
 
+ghost use Rattle.std.specs.Prelude.{◌≡◌, ◌↔◌, IsTrue, MatchOption};
+ghost use Rattle.c62_work.specs.Turns.{other_side};
+ghost use Rattle.c62_work.specs.Bells.{HasNews, IsCalled};
+
 use c62_board::{Board, Turn};
 use c62_insn::Side;
+use c62_view::Desk;
 use std::hint::spin_loop;
-use std::sync::Wait;
 use std::sync::atomic::{AtomicU64, Ordering};
+use std::sync::{MutexGuard, Wait};
 use std::time::Duration;
 
 /// Nothing has come since this worker was idle.
@@ -61,8 +66,9 @@ impl Bell {
             .is_ok()
     }
 
-    /// Waits a while until the worker is called, where there is another one that may call it.
-    fn wait<R: Wait>(&self, rt: &R) {
+    /// Waits until the worker is called, where there is another one that may call it, and not for longer than it looks
+    /// and naps.
+    fn wait<R: Wait>(&self, rt: &R, nap: Duration) {
         for _ in 0..LOOKS {
             if self.word.load(Ordering::SeqCst) != QUIET {
                 return;
@@ -70,9 +76,26 @@ impl Bell {
             spin_loop();
         }
         if self.turns_to(QUIET, ASLEEP) {
-            let nap = Duration::from_millis(NAP_MILLIS);
             self.word.park_timeout(rt, ASLEEP as u32, nap);
             self.turns_to(ASLEEP, QUIET);
+        }
+    }
+}
+
+/// What a worker owes behind its turn: a call of the other one, or nothing. It has no `Drop`, so it ends in
+/// [`Owed::pay`]; and only [`Bells::leave`] gives one away, once the lock is free and what the turn placed is published.
+pub(crate) struct Owed<'a> {
+    bells: &'a Bells,
+    /// Whose worker is to be called.
+    called: Option<Side>,
+}
+
+impl Owed<'_> {
+    /// Makes the call, where one is owed.
+    pub(crate) fn pay(self) {
+        let Owed { bells, called } = self;
+        if let Some(side) = called {
+            bells.of(side).ring();
         }
     }
 }
@@ -84,10 +107,30 @@ pub(crate) struct Bells {
     second: Bell,
 }
 
-fn other(side: Side) -> Side {
+fn other(side: Side) -> Side
+    ensures { result ≡ other_side side }
+{
     match side {
         Side::A => Side::B,
         Side::B => Side::A,
+    }
+}
+
+/// Whether the other side's worker may wait for what is on the board: there is something to place for it, or all is
+/// placed.
+fn has_news(side: Side, board: &Board) -> bool
+    ensures { IsTrue result ↔ HasNews side board.now }
+{
+    board.pick(other(side)).is_some() || board.complete()
+}
+
+/// Whether the other side's worker is to be called behind a side's turn that came to this, and left this board.
+fn is_called(side: Side, came: Turn, board: &Board) -> bool
+    ensures { IsTrue result ↔ IsCalled side came board.now }
+{
+    match came {
+        Turn::Placed(_, _) | Turn::Ejected(_, _, _) => has_news(side, board),
+        Turn::Idle | Turn::Done | Turn::NoRoom(_) | Turn::Memory => false,
     }
 }
 
@@ -107,31 +150,38 @@ impl Bells {
         }
     }
 
-    /// What a side's turn came to, and the board behind it, while the lock is held. Answers whether the other side's worker is
-    /// to be called: there is something to place for it, or all is placed. An idle turn has seen all that was placed up to
-    /// then, so that the calls of before are taken back.
-    pub(crate) fn turned(&self, side: Side, came: Turn, board: &Board) -> bool {
-        match came {
-            Turn::Idle => {
-                self.of(side).turns_to(RUNG, QUIET);
-                false
-            }
-            Turn::Placed(_, _) | Turn::Ejected(_, _, _) => {
-                let sheet = board.sheet();
-                sheet.pick(other(side)).is_some() || sheet.complete()
-            }
-            Turn::Done | Turn::NoRoom(_) | Turn::Memory => false,
+    /// What a side owes behind a turn that came to this and left this board, while the lock is held: a call of the
+    /// other side's worker, exactly where that is to be called. An idle turn has seen all that was placed up to then, so
+    /// that the calls of before are taken back.
+    fn owed(&self, side: Side, came: Turn, board: &Board) -> Owed<'_>
+        ensures { MatchOption result.called (IsCalled side came board.now → ⊥)
+            (λ called. IsCalled side came board.now × (called ≡ other_side side)) }
+    {
+        if came == Turn::Idle {
+            self.of(side).turns_to(RUNG, QUIET);
+        }
+        let called = if is_called(side, came, board) {
+            Some(other(side))
+        } else {
+            None
+        };
+        Owed {
+            bells: self,
+            called,
         }
     }
 
-    /// Calls the other side's worker, once the lock is free: else it could come too early, and sleep for the lock.
-    pub(crate) fn call_other(&self, side: Side) {
-        self.of(other(side)).ring();
+    /// Lets the lock go behind a side's turn, which came to this on the desk behind it, and answers what the side owes
+    /// then. A call made before would come too early: the other worker would sleep for the lock.
+    pub(crate) fn leave(&self, side: Side, came: Turn, guard: MutexGuard<'_, Desk>) -> Owed<'_> {
+        let owed = self.owed(side, came, guard.board());
+        MutexGuard::unlock(guard);
+        owed
     }
 
     /// A side's worker that was idle waits a while.
     pub(crate) fn rest<R: Wait>(&self, rt: &R, side: Side) {
-        self.of(side).wait(rt);
+        self.of(side).wait(rt, Duration::from_millis(NAP_MILLIS));
     }
 
     /// A side's worker has ended, or there is none.
@@ -139,3 +189,6 @@ impl Bells {
         self.of(other(side)).tell(ALONE);
     }
 }
+
+#[cfg(test)]
+mod tests;

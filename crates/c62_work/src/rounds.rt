@@ -38,9 +38,9 @@ pub fn follow_up<R: Wait>(
     viewer.plan(side)
 }
 
-/// So many rounds of plan, commit and learn for a side, and one more, each of which places something for that side. The last proposal is the side's pick and its least
-/// spot on the replay of a list that begins with all that the viewer knew at first, and with the whole journal as it is now.
-/// `None` where a round came to nothing, as [`follow_up`] says.
+/// So many rounds of plan, commit and learn for a side, and one more, each of which places something for that side. The
+/// last proposal is the side's pick and its least spot on the replay of a list. That begins with all that the viewer knew
+/// at first, and with the whole journal as it is now. `None` where a round came to nothing, as [`follow_up`] says.
 pub fn serve<R: Wait>(
     rt: &R,
     desk: &mut Desk,

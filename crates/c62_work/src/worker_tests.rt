@@ -159,16 +159,35 @@ fn both_workers_are_at_work(rt: HostRuntime) -> Result<(), Fail> {
     Ok(())
 }
 
-/// Holds side A's first turn until side B's first turn is over.
+/// Holds side A's first turn until side B's first turn is over, and that until side A has come to its gate.
 #[derive(Drop)]
 struct Behind {
+    came: AtomicU64,
     over: AtomicU64,
+}
+
+impl Behind {
+    fn new() -> Behind {
+        Behind {
+            came: AtomicU64::new(0),
+            over: AtomicU64::new(0),
+        }
+    }
 }
 
 impl Gate for Behind {
     fn before(&self, side: Side, turn: u32) {
-        if side == Side::A && turn == 0 {
-            wait_for(&self.over);
+        if turn > 0 {
+            return;
+        }
+        match side {
+            Side::A => {
+                self.came.store(1, Ordering::SeqCst);
+                wait_for(&self.over);
+            }
+            Side::B => {
+                wait_for(&self.came);
+            }
         }
     }
 
@@ -181,9 +200,7 @@ impl Gate for Behind {
 
 #[test]
 fn a_gate_holds_a_worker_back(rt: HostRuntime) -> Result<(), Fail> {
-    let gate = Behind {
-        over: AtomicU64::new(0),
-    };
+    let gate = Behind::new();
     let options = Options {
         turns: 100,
         budget: 0,
@@ -199,9 +216,7 @@ fn a_gate_holds_a_worker_back(rt: HostRuntime) -> Result<(), Fail> {
 /// before its gate lets it on would place the MVK.
 #[test]
 fn a_worker_plans_behind_its_gate(rt: HostRuntime) -> Result<(), Fail> {
-    let gate = Behind {
-        over: AtomicU64::new(0),
-    };
+    let gate = Behind::new();
     let options = Options {
         turns: 100,
         budget: 0,

@@ -72,9 +72,8 @@ fn turn_on<R: Wait>(rt: &R, desk: &mut Desk, planned: Option<Proposal>, side: Si
     }
 }
 
-/// Commits what was planned, where something was, no ejections are left and it is not refused. The turn of the side is
-/// taken where it is not.
-fn take_turn<R: Wait>(
+/// Makes a side's turn on the desk behind a lock, as [`turn_on`] does, and pays what it owes once the lock is free.
+pub(crate) fn take_turn<R: Wait>(
     rt: &R,
     desk: &Mutex<Desk>,
     planned: Option<Proposal>,
@@ -83,14 +82,11 @@ fn take_turn<R: Wait>(
 ) -> Turn {
     let mut guard = take(rt, desk);
     let came = turn_on(rt, &mut guard, planned, side);
-    let Some(bells) = bells else {
-        MutexGuard::unlock(guard);
-        return came;
-    };
-    let is_awaited = bells.turned(side, came, guard.board());
-    MutexGuard::unlock(guard);
-    if is_awaited {
-        bells.call_other(side);
+    match bells {
+        Some(bells) => bells.leave(side, came, guard).pay(),
+        None => {
+            MutexGuard::unlock(guard);
+        }
     }
     came
 }

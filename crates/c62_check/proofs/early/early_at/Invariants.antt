@@ -1,7 +1,7 @@
 use Rattle.c62_depend.specs.Plan.{insns_of}
-use Rattle.c62_check.proofs.Needs.{AreKept}
+use Rattle.c62_check.proofs.Needs.{KeepsBelow}
 use Rattle.c62_check.proofs.early.early_at.Given as goal
 
--- what was gone over is far enough
-abbrev pub invariant-loop-k : goal.invariant-loop-k
-invariant-loop-k l = AreKept (insns_of l.plan) l.needs l.placed l.number l.k
+-- it comes late enough behind those that were gone over
+abbrev pub invariant-loop-other : goal.invariant-loop-other
+invariant-loop-other l = KeepsBelow (insns_of l.plan) l.placed l.number l.other

@@ -2,7 +2,7 @@ use Rattle.std.proofs.Common.{◌∙◌, append_assoc}
 use Rattle.std.specs.Prelude.{codes}
 use Rattle.std.proofs.lemmas.Result.{on_ok_weaker}
 use Rattle.c62_op.specs.Name.{register_name}
-use Rattle.c62_check.specs.Lines.{reason_words}
+use Rattle.c62_reason.specs.Words.{reason_words}
 use Rattle.c62_check.proofs.lines.push_reason.Goals as goal
 
 pub returns-in-Overwrites : goal.returns-in-Overwrites

@@ -1,38 +1,43 @@
-use Rattle.c62_depend.proofs.Common.{refl, ◌≡◌, ℕ, ◌<◌, List, length, get_or, ◌∙◌, arith, Uses, insns_in, delay_at}
-use Rattle.c62_depend.proofs.Latencies.{insn_at, many_uses}
-use Rattle.c62_depend.proofs.Heights.{first_height, next_height, low_behind, height_found}
+use Rattle.c62_depend.proofs.Common.{◌≡◌, arith, ap, sym, ◌∙◌, max, pos, ℕ, take, slice_index, get_or, insns_in, delay_at, longest, raised, length}
+use Rattle.std.proofs.Common.{rules}
+use Rattle.c62_depend.proofs.Latencies.{many_uses}
+use Rattle.c62_depend.proofs.Plans.{short_is}
+use Rattle.c62_depend.proofs.Heights.{low_behind}
+use Rattle.c62_depend.proofs.DirectHeights.{follower_at, longest_take, height_found}
 use Rattle.c62_depend.proofs.height.height.Goals as goal
 
-delay_is : (uses : List Uses) (i delay : ℕ) (u : Uses) → i < length uses → u ≡ get_or uses i u → delay ≡ (get_or uses i u).delay
-    → delay ≡ delay_at (insns_in uses) i
-delay_is uses i delay u within at e = rw (e, ← at, u.delay_is, insn_at uses i u within at) refl
+pub bounds-heights-link : goal.bounds-heights-link
+bounds-heights-link c =
+    let known = follower_at c.args.uses.now c.args.i c.loop-link.link-index c.args.followers.now (record { number = 0; latency = pos 0 }) c.requires.followers c.loop-link-test.true in
+    omega (arith, known.before, c.requires.behind.long, many_uses c.args.uses.now)
 
-pub loop-j-init : goal.loop-j-init
-loop-j-init c =
-    first_height (insns_in c.args.uses.now) c.args.i c.from-most.result c.args.heights.now
-    (delay_is c.args.uses.now c.args.i c.from-most.result c.index-uses-i.result c.requires.within c.index-uses-i.is c.from-most.ensures)
+pub raised-requires-clause-height : goal.raised-requires-clause-height
+raised-requires-clause-height c =
+    let known = follower_at c.args.uses.now c.args.i c.loop-link.link-index c.args.followers.now (record { number = 0; latency = pos 0 }) c.requires.followers c.loop-link-test.true in
+    low_behind (insns_in c.args.uses.now) c.args.i _ c.args.heights.now c.requires.behind (omega (arith, c.requires.few, many_uses c.args.uses.now)) known.after
+    (omega (arith, known.before, many_uses c.args.uses.now))
 
-pub loop-j-preserved : goal.loop-j-preserved
-loop-j-preserved c =
-    let all = many_uses c.args.uses.now in
-    let long = c.requires.behind.long in
-    let known = c.requires.row c.loop-j.j (omega arith) (omega arith) in
-    rw (c.max-most.ensures, c.raised.ensures)
-    (next_height (insns_in c.args.uses.now) c.args.i c.loop-j.j _ c.loop-j.most c.args.heights.now (omega arith) known c.loop-j.invariant)
+pub raised-requires-clause-above : goal.raised-requires-clause-above
+raised-requires-clause-above c =
+    let known = follower_at c.args.uses.now c.args.i c.loop-link.link-index c.args.followers.now (record { number = 0; latency = pos 0 }) c.requires.followers c.loop-link-test.true in
+    (short_is (insns_in c.args.uses.now) c.args.i _ _ known.is).least
 
-pub raised-requires : goal.raised-requires
-raised-requires c =
-    let all = many_uses c.args.uses.now in
-    let long = c.requires.behind.long in
-    let few = c.requires.few in
-    low_behind (insns_in c.args.uses.now) c.args.i c.loop-j.j c.args.heights.now c.requires.behind (omega arith) (omega arith) (omega arith)
+pub raised-requires-clause-below : goal.raised-requires-clause-below
+raised-requires-clause-below c =
+    let known = follower_at c.args.uses.now c.args.i c.loop-link.link-index c.args.followers.now (record { number = 0; latency = pos 0 }) c.requires.followers c.loop-link-test.true in
+    (short_is (insns_in c.args.uses.now) c.args.i _ _ known.is).most
 
-pub bounds-row-j : goal.bounds-row-j
-bounds-row-j c = omega (arith, many_uses c.args.uses.now, c.requires.behind.long, c.requires.few, c.requires.wide)
+pub loop-link-preserved : goal.loop-link-preserved
+loop-link-preserved c =
+    let links = c.args.followers.now in
+    let k = c.loop-link.link-index in
+    let most : c.max-most.result ≡ max c.loop-link.most c.raised.result = search rules in
+    most ∙ ap (λ (m : ℕ). max m c.raised.result) c.loop-link.invariant
+    ∙ ap (λ (r : ℕ). max (longest (slice_index c.args.heights.now) (delay_at (insns_in c.args.uses.now) c.args.i) (take k links)) r) c.raised.ensures
+    ∙ sym (longest_take (slice_index c.args.heights.now) (delay_at (insns_in c.args.uses.now) c.args.i) k links (record { number = 0; latency = pos 0 })
+    c.loop-link-test.true)
 
 pub returns : goal.returns
 returns c =
-    let all = many_uses c.args.uses.now in
-    let long = c.requires.behind.long in
-    let within = c.requires.within in
-    c.loop-j.invariant ∙ height_found (insns_in c.args.uses.now) c.args.i c.loop-j.j c.args.heights.now c.requires.behind (omega arith) (omega arith)
+    height_found c.args.uses.now c.args.i c.args.heights.now c.args.followers.now c.loop-link.link-index c.loop-link.most c.requires.within
+    c.requires.followers c.requires.behind (omega (arith, c.loop-link-test.false)) c.loop-link.invariant

@@ -1,4 +1,4 @@
-use Rattle.std.proofs.Common.{◌≡◌, ◌+◌, ◌++◌, ◌∷◌, [], List, take, take_all, get_or, subst, sym}
+use Rattle.std.proofs.Common.{◌≡◌, ◌++◌, ◌∷◌, [], List, take, take_all, get_or, subst, sym}
 use Rattle.std.proofs.lemmas.List.{take_more}
 use Rattle.c62_row.specs.Issued.{IsRowOf}
 use Rattle.c62_packet.specs.declared.placed.Placed.{Placed}

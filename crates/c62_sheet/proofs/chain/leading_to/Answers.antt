@@ -1,7 +1,7 @@
 use Rattle.std.proofs.Common.{◌≡◌, ◌-◌, length, arith, ap, ◌∙◌, List}
 use Rattle.std.specs.List.{list_any}
 use Rattle.c62_depend.specs.declared.links.Link.{Link}
-use Rattle.c62_depend.specs.Links.{followers}
+use Rattle.c62_depend.specs.Direct.{direct_followers}
 use Rattle.c62_depend.specs.Plan.{insns_of}
 use Rattle.c62_depend.proofs.Plans.{many_insns}
 use Rattle.c62_sheet.proofs.Chains.{is_linked, leading_start, leading_more, followers_within, marks_to}
@@ -22,7 +22,7 @@ pub loop-k-preserved : goal.loop-k-preserved
 loop-k-preserved c =
     let few = c.len-n.ensures.sound.few in
     let many = many_insns c.args.plan.now.insns in
-    let is : c.is_any_marked.result ≡ list_any (is_linked c.loop-k.marks) (followers (insns_of c.args.plan.now) (c.loop-k.k - 1)) =
+    let is : c.is_any_marked.result ≡ list_any (is_linked c.loop-k.marks) (direct_followers (insns_of c.args.plan.now) (c.loop-k.k - 1)) =
     c.is_any_marked.ensures ∙ ap (λ (links : List Link). list_any (is_linked c.loop-k.marks) links) c.followers.ensures in
     rw is (leading_more (insns_of c.args.plan.now) c.args.i (c.loop-k.k - 1) c.loop-k.k c.loop-k.marks (omega (arith, c.loop-k-test.true))
     (omega (arith, c.loop-k.auto.k)) (omega (arith, c.requires)) c.loop-k.invariant)

@@ -1,7 +1,7 @@
 use Rattle.std.proofs.Common.{◌≡◌, length, arith, ap, ◌∙◌, List}
 use Rattle.std.specs.List.{list_any}
 use Rattle.c62_depend.specs.declared.links.Link.{Link}
-use Rattle.c62_depend.specs.Links.{needs}
+use Rattle.c62_depend.specs.Direct.{direct_needs}
 use Rattle.c62_depend.specs.Plan.{insns_of}
 use Rattle.c62_depend.proofs.Plans.{many_insns}
 use Rattle.c62_sheet.specs.Chain.{Leads}
@@ -21,7 +21,7 @@ pub loop-j-preserved : goal.loop-j-preserved
 loop-j-preserved c =
     let few = c.len-n.ensures.sound.few in
     let many = many_insns c.args.plan.now.insns in
-    let is : c.is_any_marked.result ≡ list_any (is_linked c.loop-j.marks) (needs (insns_of c.args.plan.now) c.loop-j.j) =
+    let is : c.is_any_marked.result ≡ list_any (is_linked c.loop-j.marks) (direct_needs (insns_of c.args.plan.now) c.loop-j.j) =
     c.is_any_marked.ensures ∙ ap (λ (links : List Link). list_any (is_linked c.loop-j.marks) links) c.needs.ensures in
     rw is (led_more (insns_of c.args.plan.now) c.args.i c.loop-j.j c.loop-j.marks (omega (arith, c.loop-j.auto.j))
     (omega (arith, c.len-n.ensures.len, c.loop-j-test.true)) c.loop-j.invariant)

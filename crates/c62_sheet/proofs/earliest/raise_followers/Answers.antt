@@ -1,4 +1,4 @@
-use Rattle.c62_sheet.proofs.Common.{arith, rules, ◌≡◌, max, insns_of, many_insns, slice_index, placed, IsEarly}
+use Rattle.c62_sheet.proofs.Common.{arith, rules, ◌≡◌, max, insns_of, many_insns, slice_index, placed, IsDirectEarly}
 use Rattle.c62_sheet.proofs.Missing.{any_link, follower_at, follower_is, follower_short}
 use Rattle.c62_sheet.proofs.Followers.{walked-none, walked-more, early-either, early-placed}
 use Rattle.c62_sheet.proofs.earliest.raise_followers.Goals as goal
@@ -21,15 +21,15 @@ bounds-earliest-number-in-loop-link c =
 
 pub loop-link-init : goal.loop-link-init
 loop-link-init c =
-    walked-none (insns_of c.args.plan.now) (IsEarly (insns_of c.args.plan.now) c.args.spots.now)
-    (IsEarly (insns_of c.args.plan.now) (placed c.args.spots.now c.args.i c.args.spot)) c.args.earliest.now c.requires.kept.sized c.requires.kept.each
+    walked-none (insns_of c.args.plan.now) (IsDirectEarly (insns_of c.args.plan.now) c.args.spots.now)
+    (IsDirectEarly (insns_of c.args.plan.now) (placed c.args.spots.now c.args.i c.args.spot)) c.args.earliest.now c.requires.kept.sized c.requires.kept.each
 
 pub loop-link-preserved : goal.loop-link-preserved
 loop-link-preserved c =
     let block = insns_of c.args.plan.now in
     let most : c.max.result ≡ max (slice_index c.loop-link.earliest c.from-number.result) c.first_after-first.result = search rules in
     let within = follower_at _ _ _ c.followers-followers.ensures c.loop-link.link-index any_link (omega arith) in
-    rw most (walked-more block (IsEarly block c.args.spots.now) (IsEarly block (placed c.args.spots.now c.args.i c.args.spot))
+    rw most (walked-more block (IsDirectEarly block c.args.spots.now) (IsDirectEarly block (placed c.args.spots.now c.args.i c.args.spot))
     c.followers-followers.result.now c.loop-link.link-index any_link c.loop-link.earliest c.from-number.result (omega arith) c.from-number.ensures
     (max (slice_index c.loop-link.earliest c.from-number.result) c.first_after-first.result) (omega (arith, within, c.from-number.ensures)) c.loop-link.invariant
     (early-either block c.args.spots.now c.args.i c.args.spot (omega (arith, many_insns, c.requires.sized)) c.requires.free

@@ -1,5 +1,6 @@
-use Rattle.c62_sheet.proofs.EarlyCycles.{IsEarlyBelow}
+use Rattle.c62_sheet.proofs.Common.{insns_of}
+use Rattle.c62_sheet.proofs.EarlyCycles.{IsEarlyFrom}
 use Rattle.c62_sheet.proofs.early.early.Given as goal
 
-abbrev pub invariant-loop-link : goal.invariant-loop-link
-invariant-loop-link l = IsEarlyBelow l.spots l.needs l.link-index l.cycle
+abbrev pub invariant-loop-h : goal.invariant-loop-h
+invariant-loop-h l = IsEarlyFrom (insns_of l.plan) l.spots l.i l.h l.first

@@ -4,7 +4,7 @@ use Rattle.c62_row.specs.Fields.{EachPlace, times_at}
 use Rattle.c62_row.specs.Row.{row_at}
 use Rattle.c62_sheet.proofs.Common.{arith, refl, sym, ◌∙◌, get_or, length-set, None, false≢true, all_units, many_insns, index_of-below, index_of-listed, same_index, index_of, insns_of, withdrawn, cases_eq, inl, inr, ◌≡◌}
 use Rattle.c62_sheet.proofs.Search.{first_unit}
-use Rattle.c62_sheet.proofs.Without.{rules_without, free_without, fits_without_from, fits_from_without}
+use Rattle.c62_sheet.proofs.Without.{free_without, fits_without_from, fits_from_without}
 use Rattle.c62_sheet.proofs.RowsOf.{fits_from_row, row_from_fits}
 use Rattle.c62_sheet.proofs.judge.fits_without.Goals as goal
 

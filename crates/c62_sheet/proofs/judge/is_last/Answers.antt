@@ -8,9 +8,9 @@ bounds-spots-from c = grind (arith, follower_at _ _ _ c.followers-followers.ensu
 pub returns-then-is_some : goal.returns-then-is_some
 returns-then-is_some c = (
   λ e. absurd (false≢true e),
-  λ last. absurd (not_last _ _ _ c.followers-followers.ensures _ c.loop-link.link-index _ any_link _ c.loop-link-test.true c.requires.sized
+  λ last. absurd (not_last _ _ _ c.followers-followers.ensures _ c.loop-link.link-index _ any_link _ c.loop-link-test.true c.requires.lawful.sized
       c.from.ensures c.if-is_some.ensures last),
 )
 
 pub returns : goal.returns
-returns c = (λ _. last_from _ _ _ c.followers-followers.ensures _ c.loop-link.link-index c.loop-link-test.false c.loop-link.invariant, λ _. refl)
+returns c = (λ _. last_from _ _ _ c.followers-followers.ensures _ c.loop-link.link-index c.requires.lawful c.loop-link-test.false c.loop-link.invariant, λ _. refl)

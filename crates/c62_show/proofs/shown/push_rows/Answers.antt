@@ -1,5 +1,5 @@
 use Rattle.std.proofs.Common.{◌<◌, arith}
-use Rattle.c62_show.proofs.Pauses.{has_cycle}
+use Rattle.c62_grid.proofs.Pauses.{has_cycle}
 use Rattle.c62_show.proofs.shown.push_rows.Goals as goal
 
 pub push-requires-clause-some : goal.push-requires-clause-some

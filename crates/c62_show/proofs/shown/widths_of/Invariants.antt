@@ -1,6 +1,6 @@
 use Rattle.std.proofs.Common.{◌≡◌, drop}
 use Rattle.std.specs.Prelude.{fold}
-use Rattle.c62_show.specs.Widths.{widths_with}
+use Rattle.c62_grid.specs.Widths.{widths_with}
 use Rattle.c62_show.specs.Picture.{widths_of}
 use Rattle.c62_show.proofs.shown.widths_of.Given as goal
 

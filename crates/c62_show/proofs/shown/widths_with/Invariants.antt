@@ -1,5 +1,5 @@
 use Rattle.std.proofs.Common.{◌≡◌, drop}
-use Rattle.c62_show.specs.Widths.{widths_with}
+use Rattle.c62_grid.specs.Widths.{widths_with}
 use Rattle.c62_show.proofs.shown.widths_with.Given as goal
 
 abbrev pub invariant-loop-each : goal.invariant-loop-each

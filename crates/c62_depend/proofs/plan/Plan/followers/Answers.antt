@@ -1,4 +1,5 @@
-use Rattle.c62_depend.proofs.Common.{◌<◌, ap, ◌∙◌, length, arith, Serial, insns_of, followers}
+use Rattle.c62_depend.proofs.Common.{◌<◌, ap, ◌∙◌, length, arith, Serial, insns_of}
+unfoldable use Rattle.c62_depend.specs.Direct.{direct_followers}
 use Rattle.c62_depend.proofs.Plans.{many_insns}
 use Rattle.c62_depend.proofs.Lists.{lists_long, list_is}
 use Rattle.c62_depend.proofs.plan.Plan.followers.Goals as goal
@@ -15,4 +16,4 @@ returns c =
     let many = many_insns c.self.inside.block.insns in
     c.as_slice.ensures
     ∙ list_is _ _ c.args.i c.self.inside.tables.followers.items c.index.result.now c.self.invariant.followers (omega arith) c.index.ensures
-    ∙ ap (λ (b : Serial). followers (insns_of b) c.args.i) c.self.view_is
+    ∙ ap (λ (b : Serial). direct_followers (insns_of b) c.args.i) c.self.view_is

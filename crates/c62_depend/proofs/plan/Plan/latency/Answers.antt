@@ -5,7 +5,7 @@ use Rattle.c62_depend.proofs.plan.Plan.latency.Goals as goal
 pub returns-then-i-j : goal.returns-then-i-j
 returns-then-i-j c =
     let is : c.latency.result ≡ latency (insns_of c.args.self.now) c.args.i c.args.j =
-    rw (c.latency.ensures.latency, c.deref.ensures.value, c.self.invariant.insns, c.self.view_is) refl in
+    rw (c.latency.ensures, c.deref.ensures.value, c.self.invariant.insns, c.self.view_is) refl in
     record { greatest = greatest_from (insns_of c.args.self.now) c.args.i c.args.j c.latency.result is; latency = is }
 
 pub returns-else-i-j : goal.returns-else-i-j

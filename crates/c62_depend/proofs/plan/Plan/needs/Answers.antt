@@ -1,4 +1,5 @@
-use Rattle.c62_depend.proofs.Common.{◌<◌, ap, ◌∙◌, length, arith, Serial, insns_of, needs}
+use Rattle.c62_depend.proofs.Common.{◌<◌, ap, ◌∙◌, length, arith, Serial, insns_of}
+unfoldable use Rattle.c62_depend.specs.Direct.{direct_needs}
 use Rattle.c62_depend.proofs.Plans.{many_insns}
 use Rattle.c62_depend.proofs.Lists.{lists_long, list_is}
 use Rattle.c62_depend.proofs.plan.Plan.needs.Goals as goal
@@ -15,4 +16,4 @@ returns c =
     let many = many_insns c.self.inside.block.insns in
     c.as_slice.ensures
     ∙ list_is _ _ c.args.j c.self.inside.tables.needs.items c.index.result.now c.self.invariant.needs (omega arith) c.index.ensures
-    ∙ ap (λ (b : Serial). needs (insns_of b) c.args.j) c.self.view_is
+    ∙ ap (λ (b : Serial). direct_needs (insns_of b) c.args.j) c.self.view_is

@@ -3,6 +3,15 @@ use Rattle.c62_sheet.proofs.Empty.{lawful_empty}
 use Rattle.c62_sheet.proofs.StandingSpots.{standing_nothing}
 use Rattle.c62_sheet.proofs.sheet.Sheet.clear.Goals as goal
 
+pub add_all-requires-clause-lawful : goal.add_all-requires-clause-lawful
+add_all-requires-clause-lawful c =
+    let b = c.self.inside in
+    let count : length c.deref_mut-4.result.now ≡ length (insns_of b.plan) =
+    ap (length {A = Option Spot}) c.deref_mut-4.ensures.value ∙ c.self.invariant.lawful.sized in
+    let nothing : c.take_out_all.new.spots ≡ nothing_placed (length (insns_of b.plan)) = c.take_out_all.ensures ∙ ap nothing_placed count in
+    let sized : length c.take_out_all.new.spots ≡ b.spots.len = omega (arith, c.take_out_all.auto.spots, c.deref_mut-4.ensures.len) in
+    rw (c.deref.ensures.value, with_items_is b.spots c.take_out_all.new.spots sized, nothing) (lawful_empty (insns_of b.plan))
+
 pub invariant_of-self : goal.invariant_of-self
 invariant_of-self c =
     let b = c.self.inside in

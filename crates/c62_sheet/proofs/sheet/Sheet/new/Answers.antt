@@ -4,6 +4,13 @@ use Rattle.c62_sheet.proofs.Followers.{early-nothings}
 use Rattle.std.specs.Prelude.{replicate}
 use Rattle.c62_sheet.proofs.sheet.Sheet.new.Goals as goal
 
+pub add_all-requires-clause-lawful : goal.add_all-requires-clause-lawful
+add_all-requires-clause-lawful c =
+    let made : c.in-Ok.spots.items ≡ nothing_placed c.from.result = search rules in
+    let is : c.in-Ok.spots.items ≡ nothing_placed (length (insns_of c.args.plan)) =
+    made ∙ ap nothing_placed (c.from.ensures ∙ c.len.ensures.len ∙ sym (many_insns c.args.plan.insns)) in
+    rw (c.deref.ensures.value, is) (lawful_empty (insns_of c.args.plan))
+
 pub invariant_of-result : goal.invariant_of-result
 invariant_of-result c =
     let made : c.in-Ok.spots.items ≡ nothing_placed c.from.result = search rules in

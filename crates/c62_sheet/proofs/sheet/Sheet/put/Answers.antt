@@ -54,7 +54,7 @@ add_followers-requires-clause-others c =
     let may : IsOpen (insns_of b.plan) b.spots.items c.args.i c.args.spot = rw (← c.self.view_is) at c.requires.may in
     let in_plan : c.args.i < length b.plan.insns = rw (← c.self.view_is) at c.requires.in_plan in
     rw (c.deref-3.ensures.value, c.from.ensures) (ready_placed (insns_of b.plan) b.spots.items c.args.i b.ready c.take_off.new.lists
-    (omega (arith, in_plan, many_insns, c.self.invariant.lawful.sized)) c.take_off.ensures.urgent c.args.spot may.free c.self.invariant.ready c.take_off.ensures.listed)
+    (omega (arith, in_plan, many_insns, c.self.invariant.lawful.sized)) c.take_off.ensures.urgent c.args.spot c.self.invariant.lawful may.free c.self.invariant.ready c.take_off.ensures.listed)
 
 pub index_mut-requires : goal.index_mut-requires
 index_mut-requires c =

@@ -47,7 +47,7 @@ invariant_of-self c =
       early = rw (with_items_is b.earliest c.find_followers.new.earliest (omega (arith, c.find_followers.auto.earliest, c.deref_mut-3.ensures.len)))
           (rw c.deref-4.ensures.value at c.find_followers.ensures);
       ready = rw c.from.ensures (ready_withdrawn (insns_of b.plan) b.spots.items c.args.i c.drop_followers.new.lists c.add.new.lists
-          (omega (arith, in_plan, many_insns, c.self.invariant.lawful.sized)) c.add.ensures.urgent taken c.self.invariant.lawful
+          (omega (arith, in_plan, many_insns, c.self.invariant.lawful.sized)) c.add.ensures.urgent taken c.self.invariant.lawful last
           (rw c.deref.ensures.value at c.drop_followers.ensures) c.add.ensures.listed);
       standing = rw c.from.ensures (standing_withdrawn (insns_of b.plan) b.spots.items b.standing.items c.args.i (omega (arith, in_plan, many_insns))
           c.self.invariant.lawful.sized c.self.invariant.standing);

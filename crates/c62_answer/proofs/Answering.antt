@@ -1,0 +1,121 @@
+-- What answers a text, from what each step gave.
+use Rattle.std.proofs.Common.{◌≡◌, ◌∙◌, ℕ, Bool, true, false, List, Option, Ok, Err, ap, sym, refl, subst, inl, inr}
+use Rattle.c62_read.specs.Block.{Serial}
+use Rattle.c62_packet.specs.Packed.{Packed}
+use Rattle.c62_listing.specs.Listing.{listing}
+use Rattle.c62_adopt.specs.declared.fault.AdoptFault.{AdoptFault}
+use Rattle.c62_adopt.specs.Answer.{IsAdopted, LacksCode, Refuses, code_read}
+use Rattle.c62_adopt.proofs.CodeLemmas.{coded_by}
+use Rattle.c62_adopt.specs.Laws.{DrainsNothing}
+use Rattle.clap.specs.Words.{Text}
+use Rattle.c62_rows.specs.declared.fault.RowsFault.{RowsFault}
+use Rattle.c62_rows.specs.declared.text.Begun.{Begun}
+use Rattle.c62_rows.specs.Rows.{text_of}
+use Rattle.c62_rows.specs.Text.{IsTextFrom, RefusesFrom}
+use Rattle.c62_rows.specs.Told.{BeginsAs}
+use Rattle.c62_command.specs.declared.setting.Setting.{Setting}
+use Rattle.c62_command.specs.declared.command.Packing.{Packing}
+use Rattle.c62_answer.specs.declared.failure.Failure.{Failure}
+use Rattle.c62_answer.specs.declared.failure.Failure.TheVariants as failures
+use Rattle.c62_answer.specs.Message.{fault_message}
+use Rattle.c62_command.specs.CommandLine.{Adoption, Ask, FlightReport, ListingReport}
+use Rattle.c62_answer.specs.Schedule.{AreScheduled}
+use Rattle.c62_answer.specs.Texts.{IsNoProgram}
+use Rattle.c62_answer.specs.Run.{Gives, GivesProgram, GivesPackets, IsAdoptFailure, IsRowsFailure, IsAnswer, IsFlightReport, IsFlown, IsPacketReport, IsRefusedText, IsSameReport, outcome_adopted}
+use Rattle.c62_answer.proofs.Schedules.{runs_serially}
+
+module _ (ask : Ask) (text : List ℕ) where
+  -- where no program was read, that is the answer
+  pub no_program : ((message : List ℕ) → IsNoProgram text message → IsRefusedText ask text message) → (f : Failure) → GivesProgram text (Err f) → Gives ask text (Err f)
+  no_program same (failures.Unread fault) gives = same (fault_message fault.line fault.cause) gives
+  no_program same (failures.Unlisted fault) gives = absurd gives
+  no_program same (failures.Unadopted fault) gives = absurd gives
+  no_program same (failures.Unflown fault) gives = absurd gives
+  no_program same (failures.TextPart fault) gives = absurd gives
+  no_program same (failures.ListingPart fault) gives = absurd gives
+  no_program same failures.NoListing gives = absurd gives
+  no_program same (failures.Words e) gives = absurd gives
+  no_program same (failures.Setting k) gives = absurd gives
+  no_program same failures.Memory gives = tt
+  no_program same failures.Input gives = absurd gives
+  no_program same failures.Output gives = absurd gives
+
+pub no_packets : (blocks : ℕ) (settings : List Setting) (text : List ℕ) (f : Failure) → GivesPackets text (Err f) → Gives (ListingReport blocks settings) text (Err f)
+no_packets blocks settings text (failures.Unread fault) gives = absurd gives
+no_packets blocks settings text (failures.Unlisted fault) gives = gives
+no_packets blocks settings text (failures.Unadopted fault) gives = absurd gives
+no_packets blocks settings text (failures.Unflown fault) gives = absurd gives
+no_packets blocks settings text (failures.TextPart fault) gives = absurd gives
+no_packets blocks settings text (failures.ListingPart fault) gives = absurd gives
+no_packets blocks settings text failures.NoListing gives = absurd gives
+no_packets blocks settings text (failures.Words e) gives = absurd gives
+no_packets blocks settings text (failures.Setting k) gives = absurd gives
+no_packets blocks settings text failures.Memory gives = tt
+no_packets blocks settings text failures.Input gives = absurd gives
+no_packets blocks settings text failures.Output gives = absurd gives
+
+-- the packets of a program run as it does
+pub same_report : (packing : Packing) (program : List Serial) (packets : List Packed) (settings : List Setting) (blocks : ℕ) (answer : List ℕ)
+    → AreScheduled packing program packets → IsPacketReport packets settings blocks answer → IsSameReport program packets settings blocks answer
+same_report packing program packets settings blocks answer all reported = record {
+  reported = reported;
+  serial = runs_serially packing program packets reported.opening reported.final blocks reported.cycles reported.chain all reported.begin.sound reported.run;
+}
+
+-- ---- packets that are adopted
+
+-- where a text makes no packets, that is the answer
+pub no_adoption : (drain : Bool) (text : List ℕ) (fault : AdoptFault) (f : Failure) → IsAdoptFailure fault f → Refuses drain text fault
+    → Gives (Adoption drain) text (Err f)
+no_adoption drain text fault f (inl memory) refused = rw (memory.1) tt
+no_adoption drain text fault f (inr known) refused = rw (known.1) (record { fault = fault; known = known.0; refused = refused; told = refl })
+
+-- where it does, this is
+pub adopted_text : (drain : Bool) (text answer : List ℕ) (packets : List Packed) (added : ℕ) → DrainsNothing text packets
+    → IsAdopted drain text packets added → answer ≡ listing packets → IsAnswer (Adoption drain) (outcome_adopted drain added) text answer
+adopted_text true text answer packets added lacks is listed = record { packets = packets; adopted = is; listed = listed }
+adopted_text false text answer packets added lacks is listed =
+    record { packets = packets; adopted = subst (IsAdopted false text packets) (lacks added is).0 is; listed = listed }
+
+-- ---- packets in flight
+
+-- where a text makes no rows, or none has the label with which a run is to begin, that is the answer
+pub no_flight : (most : ℕ) (from : Option Text) (settings : List Setting) (text code : List ℕ) (fault : RowsFault) (f : Failure)
+    → code_read text ≡ Ok code → IsRowsFailure fault f → RefusesFrom code from fault → Gives (FlightReport most from settings) text (Err f)
+no_flight most from settings text code fault f is (inl memory) refused = rw (memory.1) tt
+no_flight most from settings text code fault f is (inr known) refused =
+    let same = coded_by text code is in
+    rw (known.1) (inr (record {
+      coded = is ∙ ap Ok (sym same);
+      fault = fault;
+      known = known.0;
+      refused = subst (λ (c : List ℕ). RefusesFrom c from fault) (sym same) refused;
+      told = refl;
+    }))
+
+-- where it has no code
+pub uncoded_flight : (most : ℕ) (from : Option Text) (settings : List Setting) (text : List ℕ) (fault : AdoptFault) (f : Failure)
+    → IsAdoptFailure fault f → LacksCode text fault → Gives (FlightReport most from settings) text (Err f)
+uncoded_flight most from settings text fault f (inl memory) lacks = rw (memory.1) tt
+uncoded_flight most from settings text fault f (inr known) lacks =
+    rw (known.1) (inl (record { fault = fault; known = known.0; lacks = lacks; told = refl }))
+
+-- where it does, this is
+pub flight_text : (most : ℕ) (named from : Option Text) (settings : List Setting) (text code answer : List ℕ) (begun : Begun) → named ≡ from
+    → code_read text ≡ Ok code → BeginsAs code named begun → IsFlown (text_of begun.rows) begun.first settings most answer → IsFlightReport most from settings text answer
+flight_text most named from settings text code answer begun same is begins flown =
+    let own = coded_by text code is in
+    let start = subst (λ (o : Option Text). IsTextFrom code o (text_of begun.rows) begun.first) same begins.is_text in
+    record {
+      flying = text_of begun.rows;
+      first = begun.first;
+      coded = is ∙ ap Ok (sym own);
+      begins = subst (λ (c : List ℕ). IsTextFrom c from (text_of begun.rows) begun.first) (sym own) start;
+      flown = flown;
+    }
+
+-- the name stands in the words
+pub no_flight_named : (most : ℕ) (named from : Option Text) (settings : List Setting) (text code : List ℕ) (fault : RowsFault) (f : Failure) → named ≡ from
+    → code_read text ≡ Ok code → IsRowsFailure fault f → RefusesFrom code named fault → Gives (FlightReport most from settings) text (Err f)
+no_flight_named most named from settings text code fault f same own is refused =
+    no_flight most from settings text code fault f own is (subst (λ (o : Option Text). RefusesFrom code o fault) same refused)

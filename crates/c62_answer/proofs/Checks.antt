@@ -1,0 +1,237 @@
+-- A check of the front of an input is one of the whole.
+use Rattle.std.proofs.Common.{◌≡◌, ◌∙◌, ℕ, ◌+◌, ◌-◌, ◌<◌, ◌≤◌, Bool, List, [], ◌∷◌, ◌++◌, length, take, drop, map, Result, Ok, Err, refl, sym, ap, subst, arith, append_assoc, append-nil, inl, inr}
+use Rattle.std.specs.Prelude.{codes, IsErrAnd}
+use Rattle.std.proofs.Math.Seq.{take-append-add}
+use Rattle.std.proofs.Math.ListN.{drop_of_length-le}
+use Rattle.std.proofs.lemmas.Bool.{cases_lt, lt-ltb}
+use Rattle.std.proofs.lemmas.List.{length-append, length-take, take-append-drop, take_all}
+use Rattle.c62_line.specs.declared.fault.Cause.TheVariants.{TextTooLong}
+use Rattle.c62_read.specs.Block.{Serial}
+use Rattle.c62_read.specs.Program.{BlockParts, Refusal, block_parts, drafts_in, program_in}
+use Rattle.c62_listing_reader.specs.Faults.{IsRead, drafts_in as listed_in}
+use Rattle.c62_listing_reader.specs.declared.fault.ListFault.{ListFault}
+use Rattle.c62_listing_reader.specs.declared.fault.ListFault.TheVariants as listed
+use Rattle.c62_listing_reader.specs.declared.fault.LineFault.TheVariants.{Read}
+use Rattle.c62_listing_reader.specs.Reading.{Refuses}
+use Rattle.c62_packet.specs.Packed.{Packed}
+use Rattle.c62_answer.specs.Message.{fault_message, of_text}
+use Rattle.c62_answer.specs.Parting.{IsCut, IsEnded, IsParted}
+use Rattle.c62_answer.specs.Texts.{IsNoProgram, SaysProgram}
+use Rattle.c62_answer.specs.Check.{HasFaultyListing, HasFaultyText, IsCheck, IsEndless, IsNoCheck}
+use Rattle.c62_answer.specs.Check.IsNoCheck.{Endless, FaultyListing, FaultyText, Unparted}
+
+-- ---- texts that are too long
+
+pub too_long : (text : List ℕ) → 1048576 < length text → program_in text ≡ Err (0, TextTooLong)
+unfolding program_in drafts_in
+too_long text long = rw (lt-ltb 1048576 (length text) long) refl
+
+pub too_long_listing : (text : List ℕ) → 8388608 < length text → listed_in text ≡ Err (0, Read TextTooLong)
+too_long_listing text long = rw (lt-ltb 8388608 (length text) long) refl
+
+-- a text that says a program is none of these
+short_said : (text : List ℕ) (program : List Serial) → SaysProgram text program → length text ≤ 1048576
+short_said text program says =
+    elim (cases_lt 1048576 (length text)) [
+      | inl long ↦
+          let both : ◌≡◌ {A = Result (List BlockParts) Refusal} (Ok (map block_parts program)) (Err (0, TextTooLong)) = sym says ∙ too_long text long in
+          absurd cc
+      | inr short ↦ short
+    ]
+
+-- what is told of a text is told of one that says the same
+pub refuses_same : (text other : List ℕ) (fault : ListFault) → listed_in text ≡ listed_in other → Refuses text fault → Refuses other fault
+refuses_same text other (listed.Read fault) same is = sym same ∙ is
+refuses_same text other (listed.Shape line) same is = sym same ∙ is
+refuses_same text other (listed.TwoBranches number) same is = record { drafts = is.drafts; said = sym same ∙ is.said; block = is.block }
+refuses_same text other (listed.NotDrained number) same is = record { drafts = is.drafts; said = sym same ∙ is.said; block = is.block }
+refuses_same text other (listed.Unlawful number cycle rule) same is = record { drafts = is.drafts; said = sym same ∙ is.said; block = is.block }
+refuses_same text other listed.Memory same is = tt
+
+pub read_same : (text other : List ℕ) (packets : List Packed) → listed_in text ≡ listed_in other → IsRead text packets → IsRead other packets
+read_same text other packets same is = record { drafts = is.drafts; said = sym same ∙ is.said; blocks = is.blocks; are_blocks = is.are_blocks }
+
+-- ---- cuts of the front
+
+-- a line that ends in front of more bytes, unless it ends with the input
+ended_more : (end rest more : List ℕ) → IsEnded end rest → ((end ≡ []) → more ≡ []) → IsEnded (end ++ more) (rest ++ more)
+ended_more end rest more (inl feed) only = inl (ap (λ (xs : List ℕ). xs ++ more) feed)
+ended_more end rest more (inr (inl feed)) only = inr (inl (ap (λ (xs : List ℕ). xs ++ more) feed))
+ended_more end rest more (inr (inr none)) only = rw (none.0, none.1, only none.0) (inr (inr (refl, refl)))
+
+-- where there is room for its end, a line ends in the front too
+ended_front : (end rest : List ℕ) (room : ℕ) → 2 ≤ room → IsEnded end rest → (other : List ℕ) × IsEnded (take room end) other
+ended_front end rest room enough (inl feed) =
+    let size : room ≡ 1 + (room - 1) = omega (arith, enough) in
+    (take (room - 1) rest, inl (ap (λ (xs : List ℕ). take room xs) feed ∙ ap (λ (n : ℕ). take n (10 ∷ rest)) size ∙ take-append-add (10 ∷ []) rest (room - 1)))
+ended_front end rest room enough (inr (inl feed)) =
+    let size : room ≡ 2 + (room - 2) = omega (arith, enough) in (
+      take (room - 2) rest,
+      inr (inl (ap (λ (xs : List ℕ). take room xs) feed ∙ ap (λ (n : ℕ). take n (13 ∷ 10 ∷ rest)) size ∙ take-append-add (13 ∷ 10 ∷ []) rest (room - 2))),
+    )
+ended_front end rest room enough (inr (inr none)) = ([], inr (inr (ap (λ (xs : List ℕ). take room xs) none.0 ∙ take_all room [] (omega arith), refl)))
+
+-- how long a cut is
+module _ {input text listing : List ℕ} (cut : IsCut input text listing) where
+  cut_length : length input ≡ length text + 3 + length cut.begun.end
+  cut_length =
+      let all : length input ≡ length text + length cut.behind = ap length cut.whole ∙ length-append text cut.behind in
+      let line : length cut.behind ≡ 3 + length cut.begun.end = ap length cut.begun.whole ∙ length-append (codes "---") cut.begun.end in
+      omega (arith, all, line)
+
+  end_length : length cut.begun.end ≤ 2 + length listing
+  end_length = go cut.begun.ended
+    where
+      go : IsEnded cut.begun.end listing → length cut.begun.end ≤ 2 + length listing
+      go (inl feed) = let size : length cut.begun.end ≡ 1 + length listing = ap length feed ∙ length-append (10 ∷ []) listing in omega (arith, size)
+      go (inr (inl feed)) = let size : length cut.begun.end ≡ 2 + length listing = ap length feed ∙ length-append (13 ∷ 10 ∷ []) listing in omega (arith, size)
+      go (inr (inr none)) = let size : length cut.begun.end ≡ 0 = ap length none.0 in omega (arith, size)
+
+module _ (all : List ℕ) (n : ℕ) (enough : 9437190 ≤ n) where
+  -- what is left out, if anything is
+  left_out : length (take n all) < n → drop n all ≡ []
+  left_out less = let size = length-take n all in drop_of_length-le all (omega (arith, less, size))
+
+  -- a text that isn't too long is parted off the whole as off the front
+  cut_of_front : (text listing : List ℕ) → IsCut (take n all) text listing → length text ≤ 1048576 → IsCut all text (listing ++ drop n all)
+  cut_of_front text listing cut short =
+      let more : List ℕ = drop n all in
+      let end : List ℕ = cut.begun.end in
+      let size = cut_length cut in
+      let only : (end ≡ []) → more ≡ [] = λ none. (let nothing : length end ≡ 0 = ap length none in left_out (omega (arith, size, nothing, short, enough))) in
+      record {
+        lines = cut.lines;
+        behind = cut.behind ++ more;
+        begun = record {
+          end = end ++ more;
+          ended = ended_more end listing more cut.begun.ended only;
+          whole = ap (λ (xs : List ℕ). xs ++ more) cut.begun.whole ∙ append_assoc (codes "---") end more;
+        };
+        whole = sym (take-append-drop n all) ∙ ap (λ (xs : List ℕ). xs ++ more) cut.whole ∙ append_assoc text cut.behind more;
+      }
+
+  cut_in_front : (text listing : List ℕ) → IsCut all text listing → length text ≤ 1048576 → (other : List ℕ) × IsCut (take n all) text other
+  cut_in_front text listing cut short =
+      let end : List ℕ = cut.begun.end in
+      let room : ℕ = n - length text - 3 in
+      let size : n ≡ length text + (3 + room) = omega (arith, short, enough) in
+      let fed = ended_front end listing room (omega (arith, short, enough)) cut.begun.ended in (
+        fed.0,
+        record {
+          lines = cut.lines;
+          behind = codes "---" ++ take room end;
+          begun = record { end = take room end; ended = fed.1; whole = refl };
+          whole =
+              ap (λ (xs : List ℕ). take n xs) cut.whole
+              ∙ ap (λ (k : ℕ). take k (text ++ cut.behind)) size
+              ∙ take-append-add text cut.behind (3 + room)
+              ∙ ap (λ (xs : List ℕ). text ++ take (3 + room) xs) cut.begun.whole
+              ∙ ap (λ (xs : List ℕ). text ++ xs) (take-append-add (codes "---") end room);
+        },
+      )
+
+  parted_of_front : (text listing : List ℕ) → IsParted (take n all) text listing → length text ≤ 1048576 → IsParted all text (listing ++ drop n all)
+  parted_of_front text listing parted short = record {
+    cut = cut_of_front text listing parted.cut short;
+    first = λ other rest cut. elim (cases_lt (length other) (length text)) [
+      | inl less ↦
+          let front = cut_in_front other rest cut (omega (arith, less, short)) in
+          let least = parted.first other front.0 front.1 in
+          absurd (omega (arith, less, least))
+      | inr more ↦ more
+    ];
+  }
+
+  -- the listing says as much in the front
+  same_listing : (text listing : List ℕ) → IsCut (take n all) text listing → length text ≤ 1048576 → listed_in listing ≡ listed_in (listing ++ drop n all)
+  same_listing text listing cut short =
+      let size = cut_length cut in
+      let ends = end_length cut in
+      elim (cases_lt (length (take n all)) n) [
+        | inl whole ↦ ap listed_in (sym (append-nil listing) ∙ ap (λ (xs : List ℕ). listing ++ xs) (sym (left_out whole)))
+        | inr full ↦
+            let long : 8388608 < length listing = omega (arith, size, ends, full, short, enough) in
+            let more = length-append listing (drop n all) in
+            too_long_listing listing long ∙ sym (too_long_listing (listing ++ drop n all) (omega (arith, long, more)))
+      ]
+
+  -- ---- checks
+
+  pub check_all : (same : Bool) (answer : List ℕ) → IsCheck (take n all) same answer → IsCheck all same answer
+  check_all same answer is =
+      let short = short_said is.text is.program is.says in
+      record {
+        text = is.text;
+        listing = is.listing ++ drop n all;
+        parted = parted_of_front is.text is.listing is.parted short;
+        program = is.program;
+        says = is.says;
+        packets = is.packets;
+        read = read_same is.listing (is.listing ++ drop n all) is.packets (same_listing is.text is.listing is.parted.cut short) is.read;
+        checked = is.checked;
+        serial = is.serial;
+      }
+
+  taken_short : length (take n all) ≤ 1048576 → take n all ≡ all
+  taken_short short = let size = length-take n all in take_all n all (omega (arith, short, size, enough))
+
+  -- where no text that isn't too long is parted off the front, none is off the whole
+  endless_all : (least : ℕ) → 1048576 < least → least ≤ length (take n all) → ((text listing : List ℕ) → IsCut (take n all) text listing → 1048576 < length text) → IsEndless all
+  endless_all least long within none =
+      let size = length-take n all in
+      record {
+        long = omega (arith, long, within, size);
+        none = λ text listing cut. elim (cases_lt 1048576 (length text)) [
+          | inl more ↦ more
+          | inr short ↦ let front = cut_in_front text listing cut short in absurd (omega (arith, short, none text front.0 front.1))
+        ];
+      }
+
+  -- a text that is too long in the front is so in the whole
+  long_all : (text listing message : List ℕ) → IsParted (take n all) text listing → 1048576 < length text → IsNoProgram text message → IsEndless all × (message ≡ fault_message 0 TextTooLong)
+  long_all text listing message parted long is =
+      let size = cut_length parted.cut in (
+        endless_all (length text) long (omega (arith, size))
+            (λ other rest cut. let least = parted.first other rest cut in omega (arith, long, least)),
+        subst (λ (p : Result (List BlockParts) Refusal). IsErrAnd p (λ fault. message ≡ fault_message fault.0 fault.1)) (too_long text long) is,
+      )
+
+  faulty_text_all : (message : List ℕ) → HasFaultyText (take n all) message → IsNoCheck all message
+  faulty_text_all message is =
+      elim (cases_lt 1048576 (length is.text)) [
+        | inl long ↦ let endless = long_all is.text is.listing is.fault is.parted long is.refused in Endless endless.0 (is.told ∙ ap of_text endless.1)
+        | inr short ↦ FaultyText (record {
+          text = is.text;
+          listing = is.listing ++ drop n all;
+          parted = parted_of_front is.text is.listing is.parted short;
+          fault = is.fault;
+          refused = is.refused;
+          told = is.told;
+        })
+      ]
+
+  faulty_listing_all : (message : List ℕ) → HasFaultyListing (take n all) message → IsNoCheck all message
+  faulty_listing_all message is =
+      let short = short_said is.text is.program is.says in
+      let refused = is.refused in
+      FaultyListing (record {
+        text = is.text;
+        listing = is.listing ++ drop n all;
+        parted = parted_of_front is.text is.listing is.parted short;
+        program = is.program;
+        says = is.says;
+        fault = is.fault;
+        refused = record {
+          fault = refused.fault;
+          known = refused.known;
+          refused = refuses_same is.listing (is.listing ++ drop n all) refused.fault (same_listing is.text is.listing is.parted.cut short) refused.refused;
+          told = refused.told;
+        };
+        told = is.told;
+      })
+
+  pub no_check_all : (message : List ℕ) → IsNoCheck (take n all) message → IsNoCheck all message
+  no_check_all message (Endless endless told) = Endless (endless_all (length (take n all)) endless.long (omega arith) endless.none) told
+  no_check_all message (Unparted unparted told) = subst (λ (xs : List ℕ). IsNoCheck xs message) (taken_short unparted.short) (Unparted unparted told)
+  no_check_all message (FaultyText is) = faulty_text_all message is
+  no_check_all message (FaultyListing is) = faulty_listing_all message is

@@ -1,0 +1,37 @@
+-- What is read of an input, as far as a byte past the limit, flies as all of it does.
+use Rattle.std.proofs.Common.{◌≡◌, inl, inr, ℕ, List, take, Ok, Option, sym, ap, subst, ◌∙◌}
+use Rattle.clap.specs.Words.{Text}
+use Rattle.c62_command.specs.declared.setting.Setting.{Setting as Given}
+use Rattle.c62_rows.specs.Text.{IsTextFrom, RefusesFrom}
+use Rattle.c62_adopt.specs.Answer.{code_in, code_read}
+use Rattle.c62_adopt.proofs.CodeLemmas.{code_read-take, lacks_same}
+use Rattle.c62_answer.specs.Run.{IsFlightReport}
+use Rattle.c62_answer.specs.Texts.{IsNoFlight}
+
+code_all : (all text : List ℕ) → text ≡ take 8388609 all → code_read text ≡ code_read all
+code_all all text read = ap code_read read ∙ code_read-take all
+
+pub flight_all : (most : ℕ) (from : Option Text) (settings : List Given) (all text answer : List ℕ) → text ≡ take 8388609 all
+    → IsFlightReport most from settings text answer → IsFlightReport most from settings all answer
+flight_all most from settings all text answer read is =
+    let same = code_all all text read in
+    record {
+      flying = is.flying;
+      first = is.first;
+      coded = sym same ∙ is.coded ∙ ap (λ r. Ok (code_in r)) same;
+      begins = subst (λ (t : List ℕ). IsTextFrom t from is.flying is.first) (ap code_in same) is.begins;
+      flown = is.flown;
+    }
+
+pub no_flight_all : (from : Option Text) (all text message : List ℕ) → text ≡ take 8388609 all → IsNoFlight from text message → IsNoFlight from all message
+no_flight_all from all text message read (inl is) =
+    inl (record { fault = is.fault; known = is.known; lacks = lacks_same text all is.fault (code_all all text read) is.lacks; told = is.told })
+no_flight_all from all text message read (inr is) =
+    let same = code_all all text read in
+    inr (record {
+      coded = sym same ∙ is.coded ∙ ap (λ r. Ok (code_in r)) same;
+      fault = is.fault;
+      known = is.known;
+      refused = subst (λ (t : List ℕ). RefusesFrom t from is.fault) (ap code_in same) is.refused;
+      told = is.told;
+    })

@@ -1,0 +1,16 @@
+pub mod Schedules
+pub mod SideBySide
+pub mod Answering
+pub mod Known
+pub mod FirstLine
+pub mod OneParting
+pub mod Checks
+pub mod Verdicts
+pub mod Flights
+pub mod Runs
+pub mod Telling
+pub mod ReadBack
+pub mod OneBoard
+pub mod OneText
+mod AdoptedBack
+pub mod Bounds

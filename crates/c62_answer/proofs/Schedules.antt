@@ -1,0 +1,158 @@
+-- The packets of a program's blocks.
+use Rattle.std.proofs.Common.{◌≡◌, ◌∙◌, ℕ, zero, suc, ◌+◌, ◌<◌, ◌≤◌, true, List, [], ◌∷◌, ◌++◌, length, Option, Some, refl, sym, ap, subst, arith}
+use Rattle.std.specs.Prelude.{slice_get, All}
+use Rattle.std.specs.List.{list_all}
+use Rattle.std.proofs.lemmas.List.{length-append}
+use Rattle.std.proofs.lemmas.List.Sums.{list_all-from_AllPass}
+use Rattle.std.proofs.lemmas.List.Sorted.{All-permutation}
+use Rattle.clap.proofs.WalkLemmas.{both}
+use Rattle.c62_op.specs.declared.operands.Operands.{Operands}
+use Rattle.c62_insn.specs.Insn.{operands_of}
+use Rattle.c62_read.specs.declared.block.SerialInsn.{SerialInsn}
+use Rattle.c62_read.specs.Block.{Serial, labels_in, target_stands, targets_stand}
+use Rattle.c62_serial.specs.State.{Machine, IsSound}
+use Rattle.c62_serial.specs.Chain.{RunsProgram}
+use Rattle.c62_serial.specs.declared.chain.Chain.{Chain}
+use Rattle.c62_sheet.specs.declared.entry.Spot.{Spot}
+use Rattle.c62_packet.specs.declared.placed.Placed.{Placed}
+use Rattle.c62_packet.specs.Packed.{Packed}
+use Rattle.c62_packet.specs.Packets.{is_closed, labels_of}
+use Rattle.c62_pipe.specs.Chain.{IsBlockPacked, RunsPackets}
+use Rattle.c62_pipe.proofs.Chains.{run_alike}
+use Rattle.c62_board.specs.State.{BoardState}
+use Rattle.c62_meaning.specs.Laws.{AreSerial}
+use Rattle.c62_pack.specs.Packets.{AreNumbered, ArePackets}
+use Rattle.c62_command.specs.declared.command.Packing.{Packing}
+use Rattle.c62_command.specs.declared.command.Showing.{Showing}
+use Rattle.c62_show.specs.declared.shown.Shown.{Shown}
+use Rattle.c62_show.specs.Limits.{AreLimits}
+use Rattle.c62_answer.specs.Schedule.{AddsPackets, AreScheduled, AreShown, IsMade, IsScheduled, IsShown, IsShownOf, TellsWhys}
+
+-- one block more
+pub scheduled_more : (packing : Packing) (blocks : List Serial) (packets : List Packed) (block : Serial) (packed : Packed) → AreScheduled packing blocks packets
+    → IsScheduled packing block packed → AreScheduled packing (blocks ++ block ∷ []) (packets ++ packed ∷ [])
+scheduled_more packing [] [] block packed all one = (one, tt)
+scheduled_more packing [] (q ∷ packets) block packed all one = absurd all
+scheduled_more packing (b ∷ blocks) [] block packed all one = absurd all
+scheduled_more packing (b ∷ blocks) (q ∷ packets) block packed all one = (all.0, scheduled_more packing blocks packets block packed all.1 one)
+
+-- the packets of a board that was made for a block
+pub scheduled_one : (packing : Packing) (block : Serial) (board : BoardState) (packed : Packed) → IsMade packing block board → ArePackets board.plan board.spots packed
+    → AreSerial board.plan.insns packed.placed → IsBlockPacked board.plan packed → IsScheduled packing block packed
+scheduled_one packing block board packed made packets serial keeps = record {
+  board = board;
+  made = made;
+  packets = subst (λ (plan : Serial). ArePackets plan board.spots packed) made.plan_is packets;
+  serial = subst (λ (plan : Serial). AreSerial plan.insns packed.placed) made.plan_is serial;
+  keeps = subst (λ (plan : Serial). IsBlockPacked plan packed) made.plan_is keeps;
+}
+
+-- the packets of one block more were appended
+pub scheduled_next : (packing : Packing) (blocks : List Serial) (packets new : List Packed) (block : Serial) (board : BoardState) → AreScheduled packing blocks packets
+    → IsMade packing block board → AddsPackets board.plan board.spots packets new → AreScheduled packing (blocks ++ block ∷ []) new
+scheduled_next packing blocks packets new block board all made pushed =
+    let one = scheduled_one packing block board pushed.0 made pushed.1 pushed.2 pushed.3 in
+    subst (λ (whole : List Packed). AreScheduled packing (blocks ++ block ∷ []) whole) (sym pushed.4) (scheduled_more packing blocks packets block pushed.0 all one)
+
+-- what is shown of one block more
+pub shown_more : (showing : Showing) (blocks : List Serial) (shown : List Shown) (block : Serial) (one : Shown) → AreShown showing blocks shown
+    → IsShown showing block one → AreShown showing (blocks ++ block ∷ []) (shown ++ one ∷ [])
+shown_more showing [] [] block one all is = (is, tt)
+shown_more showing [] (q ∷ shown) block one all is = absurd all
+shown_more showing (b ∷ blocks) [] block one all is = absurd all
+shown_more showing (b ∷ blocks) (q ∷ shown) block one all is = (all.0, shown_more showing blocks shown block one all.1 is)
+
+-- what is shown of a board that was made for a block
+pub shown_one : (showing : Showing) (block : Serial) (board : BoardState) (shown : Shown) → IsMade showing.packing block board
+    → IsShownOf showing.why board.plan board.spots shown → IsShown showing block shown
+unfolding scheduled_one
+shown_one showing block board shown made is = record {
+  scheduled = scheduled_one showing.packing block board shown.packets made is.packets is.serial is.keeps;
+  limits = subst (λ (plan : Serial). AreLimits plan shown.limits) made.plan_is is.limits;
+  whys = subst (λ (plan : Serial). TellsWhys showing.why plan board.spots shown.packets.cycles shown.whys.items) made.plan_is is.whys;
+}
+
+-- as many blocks as before
+pub as_many : (packing : Packing) (blocks : List Serial) (packets : List Packed) → AreScheduled packing blocks packets → length packets ≡ length blocks
+as_many packing [] [] all = refl
+as_many packing [] (q ∷ packets) all = absurd all
+as_many packing (b ∷ blocks) [] all = absurd all
+as_many packing (b ∷ blocks) (q ∷ packets) all = ap (λ (n : ℕ). suc n) (as_many packing blocks packets all.1)
+
+-- a block is left of at most 64
+pub few_left : (packing : Packing) (all blocks rest : List Serial) (block : Serial) (packets : List Packed) → blocks ++ block ∷ rest ≡ all → length all ≤ 64
+    → AreScheduled packing blocks packets → length packets < 64
+few_left packing all blocks rest block packets whole few scheduled =
+    let count : length blocks + length (block ∷ rest) ≡ length all = sym (length-append blocks (block ∷ rest)) ∙ ap length whole in
+    omega (arith, count, few, as_many packing blocks packets scheduled)
+
+pub nothing_left : {X : Type 0} (xs : List X) → length xs ≡ 0 → xs ≡ []
+nothing_left [] none = refl
+nothing_left (x ∷ xs) none = absurd (omega arith)
+
+-- ---- branches go to blocks that are there
+
+stands_more : {X : Type 0} (P : X → Type 0) (x : X) (xs : List X) → P x → All P xs → All P (x ∷ xs)
+stands_more P x xs one all zero d less = one
+stands_more P x xs one all (suc k) d less = all k d (omega arith)
+
+each_stands : (labels : List (Option (List ℕ))) (insns : List SerialInsn) (spots : List Spot) (serial : List Placed) → AreNumbered insns spots serial
+    → list_all (λ entry. target_stands labels (operands_of entry.insn)) insns ≡ true → All (λ p. target_stands labels (operands_of p.insn) ≡ true) serial
+each_stands labels [] [] [] all stand = λ k d less. absurd (omega arith)
+each_stands labels [] [] (p ∷ serial) all stand = absurd all
+each_stands labels [] (s ∷ spots) serial all stand = absurd all
+each_stands labels (e ∷ insns) [] serial all stand = absurd all
+each_stands labels (e ∷ insns) (s ∷ spots) [] all stand = absurd all
+each_stands labels (e ∷ insns) (s ∷ spots) (p ∷ serial) all stand =
+    let parts = both _ _ stand in
+    let same : operands_of e.insn ≡ operands_of p.insn = all.0.insn.operands in
+    stands_more (λ q. target_stands labels (operands_of q.insn) ≡ true) p serial (subst (λ (o : Operands). target_stands labels o ≡ true) same parts.0)
+    (each_stands labels insns spots serial all.1 parts.1)
+
+block_stands : (packing : Packing) (labels : List (Option (List ℕ))) (block : Serial) (packed : Packed) → IsScheduled packing block packed
+    → list_all (λ entry. target_stands labels (operands_of entry.insn)) block.insns ≡ true → list_all (λ p. target_stands labels (operands_of p.insn)) packed.placed ≡ true
+block_stands packing labels block packed is stand =
+    let packets = is.packets in
+    list_all-from_AllPass (λ p. target_stands labels (operands_of p.insn)) packed.placed
+    (All-permutation (λ p. target_stands labels (operands_of p.insn) ≡ true) packets.serial packed.placed packets.listed
+    (each_stands labels block.insns packets.spots packets.serial packets.numbered stand))
+
+all_stand : (packing : Packing) (labels : List (Option (List ℕ))) (blocks : List Serial) (packets : List Packed) → AreScheduled packing blocks packets
+    → list_all (λ block. list_all (λ entry. target_stands labels (operands_of entry.insn)) block.insns) blocks ≡ true
+    → list_all (λ packed. list_all (λ p. target_stands labels (operands_of p.insn)) packed.placed) packets ≡ true
+all_stand packing labels [] [] all stand = refl
+all_stand packing labels [] (q ∷ packets) all stand = absurd all
+all_stand packing labels (b ∷ blocks) [] all stand = absurd all
+all_stand packing labels (b ∷ blocks) (q ∷ packets) all stand =
+    let parts = both _ _ stand in
+    rw (block_stands packing labels b q all.0 parts.0) (all_stand packing labels blocks packets all.1 parts.1)
+
+pub same_labels : (packing : Packing) (blocks : List Serial) (packets : List Packed) → AreScheduled packing blocks packets → labels_of packets ≡ labels_in blocks
+same_labels packing [] [] all = refl
+same_labels packing [] (q ∷ packets) all = absurd all
+same_labels packing (b ∷ blocks) [] all = absurd all
+same_labels packing (b ∷ blocks) (q ∷ packets) all = rw (all.0.packets.label, same_labels packing blocks packets all.1) refl
+
+pub closed : (packing : Packing) (blocks : List Serial) (packets : List Packed) → AreScheduled packing blocks packets → targets_stand blocks ≡ true → is_closed packets ≡ true
+unfolding targets_stand
+closed packing blocks packets all stand =
+    subst (λ (labels : List (Option (List ℕ))). list_all (λ packed. list_all (λ p. target_stands labels (operands_of p.insn)) packed.placed) packets ≡ true)
+    (sym (same_labels packing blocks packets all)) (all_stand packing (labels_in blocks) blocks packets all stand)
+
+-- ---- the packets run as the program does
+
+each_packed : (packing : Packing) (blocks : List Serial) (packets : List Packed) → AreScheduled packing blocks packets → (number : ℕ) (block : Serial) (packed : Packed)
+    → slice_get blocks number ≡ Some block → slice_get packets number ≡ Some packed → IsBlockPacked block packed
+each_packed packing [] [] all number block packed e f = absurd cc
+each_packed packing [] (q ∷ packets) all number block packed e f = absurd all
+each_packed packing (b ∷ blocks) [] all number block packed e f = absurd all
+each_packed packing (b ∷ blocks) (q ∷ packets) all zero block packed e f =
+    let block_is : b ≡ block = cc in
+    let packed_is : q ≡ packed = cc in
+    rw (← block_is, ← packed_is) all.0.keeps
+each_packed packing (b ∷ blocks) (q ∷ packets) all (suc number) block packed e f = each_packed packing blocks packets all.1 number block packed e f
+
+pub runs_serially : (packing : Packing) (program : List Serial) (packets : List Packed) (opening final : Machine) (limit cycles : ℕ) (chain : Chain)
+    → AreScheduled packing program packets → IsSound opening → RunsPackets packets opening limit chain cycles final → RunsProgram program opening limit chain final
+runs_serially packing program packets opening final limit cycles chain all sound run =
+    (run_alike program packets opening final limit chain (record { count = as_many packing program packets all; each = each_packed packing program packets all }) sound).serial cycles run

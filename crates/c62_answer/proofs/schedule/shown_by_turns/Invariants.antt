@@ -1,0 +1,9 @@
+use Rattle.std.proofs.Common.{◌≡◌, ◌++◌, length}
+use Rattle.std.specs.Vec.Iter.{into_iter_items, into_iter_len}
+use Rattle.c62_answer.specs.Schedule.{AreShown}
+use Rattle.c62_answer.proofs.schedule.shown_by_turns.Given as goal
+
+abbrev pub invariant-loop-block : goal.invariant-loop-block
+invariant-loop-block l = (l.yielded ++ into_iter_items l.block-iterator ≡ into_iter_items l.initial.block-iterator)
+    × AreShown l.showing l.yielded l.shown.items
+    × (into_iter_len l.block-iterator ≡ length (into_iter_items l.block-iterator))

@@ -1,0 +1,430 @@
+-- What the program does to its streams.
+use Rattle.std.specs.Prelude.{◌≡◌, ◌≢◌, ◌⊎◌, ℕ, ◌+◌, ◌<◌, ◌≤◌, Bool, true, false, List, [], length, take, fold, codes, Option, Some, None, Result, IfSome, Ok, Err}
+use Rattle.std.specs.Io.KnownBytes.{Appends, Consumes, Keeps}
+use Rattle.std.specs.Option.{IsSomeAnd}
+use Rattle.clap.specs.Words.{Text}
+use Rattle.c62_answer.specs.declared.failure.Failure.{Failure}
+use Rattle.c62_answer.specs.declared.failure.Failure.TheVariants.{Unread, Unlisted, Unadopted, Unflown, TextPart, ListingPart, NoListing, Words, Setting, Memory, Input, Output}
+use Rattle.c62_answer.specs.declared.outcome.Outcome.{Outcome}
+use Rattle.c62_answer.specs.declared.outcome.Outcome.TheVariants.{Done, Drained, NotSame}
+use Rattle.c62_answer.specs.declared.outcome.Reply.{Reply}
+use Rattle.c62_command.specs.declared.command.CommandError.{CommandError}
+use Rattle.c62_command.specs.declared.command.CommandError.TheVariants as command
+use Rattle.c62_command.specs.declared.setting.Setting.{Setting as Given}
+use Rattle.c62_command.specs.declared.setting.Setting.TheVariants as given
+use Rattle.c62_command.specs.declared.command.Packing.{Packing}
+use Rattle.c62_command.specs.declared.command.Showing.{Showing}
+use Rattle.c62_line.specs.declared.fault.Cause.TheVariants.{Memory as OutOfStore}
+use Rattle.c62_line.specs.declared.fault.ReadFault.{ReadFault}
+use Rattle.c62_read.specs.Block.{Serial}
+use Rattle.c62_read.specs.Program.{most_bytes}
+use Rattle.c62_serial.specs.State.{Machine, IsSound, IsZero, with_word}
+use Rattle.c62_serial.specs.Memory.{with_bytes}
+use Rattle.c62_serial.specs.declared.chain.Chain.{Chain}
+use Rattle.c62_serial.specs.Chain.{RunsProgram}
+use Rattle.c62_packet.specs.Packed.{Packed}
+use Rattle.c62_pipe.specs.Chain.{RunsPackets}
+use Rattle.c62_listing.specs.Listing.{listing}
+use Rattle.c62_listing_reader.specs.declared.fault.ListFault.{ListFault}
+use Rattle.c62_listing_reader.specs.declared.fault.ListFault.TheVariants.{Memory as NoStore}
+use Rattle.c62_listing_reader.specs.Faults.{IsRead, most_bytes as most_listing_bytes}
+use Rattle.c62_adopt_cut.specs.Text.{most_bytes as most_packets_bytes}
+use Rattle.c62_adopt.specs.declared.fault.AdoptFault.{AdoptFault}
+use Rattle.c62_adopt.specs.declared.fault.AdoptFault.TheVariants.{Memory as NoRoom}
+use Rattle.c62_adopt.specs.Answer.{IsAdopted, IsCoded, code_in, code_read}
+use Rattle.c62_flight.specs.Text.{Text as FlightText}
+use Rattle.c62_flight.specs.Flight.{Flies}
+use Rattle.c62_flight.specs.declared.stop.Stop.{Stop}
+use Rattle.c62_rows.specs.declared.fault.RowsFault.{RowsFault}
+use Rattle.c62_rows.specs.declared.fault.RowsFault.TheVariants.{Memory as NoPlace}
+use Rattle.c62_rows.specs.Text.{IsTextFrom}
+use Rattle.c62_show.specs.declared.shown.Shown.{Shown}
+use Rattle.c62_show.specs.Picture.{picture}
+use Rattle.c62_answer.specs.Bounds.{AreBounded}
+use Rattle.c62_answer.specs.Schedule.{AreScheduled, AreShown}
+use Rattle.c62_report.specs.Report.{serial_report, packet_report}
+use Rattle.c62_report.specs.Flight.{flight_report}
+use Rattle.c62_command.specs.CommandLine.{Ask, Listing, Picture, SerialReport, PacketReport, ListingReport, FlightReport, Adoption, Verdicts, IsRefusal, IsUnknown, HasBadSetting, asked}
+use Rattle.c62_answer.specs.Message.{adopt_message, fault_message, list_message, rows_message, no_listing, of_listing, of_text, setting_message, IsFront, IsToldOf, Telling, Tells, TellsOf, TellsOutcome}
+use Rattle.c62_answer.specs.Texts.{SaysProgram, IsNoProgram, IsNoListing, IsNoPackets, IsNoFlight}
+use Rattle.c62_answer.specs.Check.{IsCheck, IsNoCheck}
+
+abbrev pub status_of : Failure → ℕ
+status_of (Unread _) = 1
+status_of (Unlisted _) = 1
+status_of (Unadopted _) = 1
+status_of (Unflown _) = 1
+status_of (TextPart _) = 1
+status_of (ListingPart _) = 1
+status_of NoListing = 1
+status_of (Words _) = 2
+status_of (Setting _) = 2
+status_of Memory = 3
+status_of Input = 4
+status_of Output = 4
+
+-- the status where it is done
+abbrev pub status_done : Outcome → ℕ
+status_done Done = 0
+status_done (Drained _) = 0
+status_done NotSame = 5
+
+-- what a fault of reading is
+abbrev pub IsReadFailure : ReadFault → Failure → Type 0
+IsReadFailure fault f = ((fault.cause ≡ OutOfStore) × (f ≡ Memory)) ⊎ ((fault.cause ≢ OutOfStore) × (f ≡ Unread fault))
+
+-- what a fault of reading a listing is
+abbrev pub IsListFailure : ListFault → Failure → Type 0
+IsListFailure fault f = ((fault ≡ NoStore) × (f ≡ Memory)) ⊎ ((fault ≢ NoStore) × (f ≡ Unlisted fault))
+
+-- what a fault of a text of packets is
+abbrev pub IsAdoptFailure : AdoptFault → Failure → Type 0
+IsAdoptFailure fault f = ((fault ≡ NoRoom) × (f ≡ Memory)) ⊎ ((fault ≢ NoRoom) × (f ≡ Unadopted fault))
+
+-- what a fault of a text that is to run with everything in flight is
+abbrev pub IsRowsFailure : RowsFault → Failure → Type 0
+IsRowsFailure fault f = ((fault ≡ NoPlace) × (f ≡ Memory)) ⊎ ((fault ≢ NoPlace) × (f ≡ Unflown fault))
+
+-- what a fault of the text of a check is, and one of its listing
+abbrev pub IsTextFailure : ReadFault → Failure → Type 0
+IsTextFailure fault f = ((fault.cause ≡ OutOfStore) × (f ≡ Memory)) ⊎ ((fault.cause ≢ OutOfStore) × (f ≡ TextPart fault))
+
+abbrev pub IsListingFailure : ListFault → Failure → Type 0
+IsListingFailure fault f = ((fault ≡ NoStore) × (f ≡ Memory)) ⊎ ((fault ≢ NoStore) × (f ≡ ListingPart fault))
+
+-- what an error of the command line is
+abbrev pub IsCommandFailure : CommandError → Failure → Type 0
+IsCommandFailure (command.Words error) f = f ≡ Words error
+IsCommandFailure (command.Setting k) f = f ≡ Setting k
+IsCommandFailure command.Memory f = f ≡ Memory
+
+-- at most n known bytes were taken
+abbrev pub TakesAtMost : ℕ → Option (List ℕ) → Option (List ℕ) → Type 0
+TakesAtMost n old new = (bytes : List ℕ) × Consumes old new bytes × (length bytes ≤ n)
+
+-- the text is what known bytes begin with, as far as one byte past a limit
+abbrev pub BeginsAll : ℕ → Option (List ℕ) → List ℕ → Type 0
+BeginsAll limit all text = IfSome all (λ bytes. text ≡ take (limit + 1) bytes)
+
+-- the most bytes that may be given: of a listing, of packets as they are written, of a text and a listing with the longest line
+-- `---` between them, or of serial text
+abbrev pub limit_of : Ask → ℕ
+limit_of (ListingReport blocks settings) = most_listing_bytes
+limit_of (FlightReport cycles from settings) = most_packets_bytes
+limit_of (Adoption drain) = most_packets_bytes
+limit_of Verdicts = most_bytes + 5 + most_listing_bytes
+limit_of _ = most_bytes
+
+-- where the words ask for something, no more is taken than one byte past the limit of that
+abbrev pub TakesAsked : List Text → Option (List ℕ) → Option (List ℕ) → Type 0
+TakesAsked words old new = (ask : Ask) → asked words ≡ Some ask → TakesAtMost (limit_of ask + 1) old new
+
+-- ---- answers
+
+-- the text says a program, and this is the listing of its blocks, packed so
+pub record IsPackedText (packing : Packing) (text answer : List ℕ) : Type 0 where
+  pub program : List Serial
+  pub says : SaysProgram text program
+  pub packets : List Packed
+  pub packed : AreScheduled packing program packets
+  pub listed : answer ≡ listing packets
+
+-- The text says a program, and this is the picture of its blocks, packed so. What its heads tell of shorter schedules is true.
+pub record IsShownText (showing : Showing) (text answer : List ℕ) : Type 0 where
+  pub program : List Serial
+  pub says : SaysProgram text program
+  pub shown : List Shown
+  pub packed : AreShown showing program shown
+  pub bounded : AreBounded program shown
+  pub drawn : answer ≡ picture shown
+
+-- the machine after a setting
+abbrev pub with_setting : Machine → Given → Machine
+with_setting machine (given.Register reg value) = with_word reg value machine
+with_setting machine (given.Word address value) = with_bytes address 4 value machine
+
+-- the machine after these settings, in their order
+abbrev pub with_settings : List Given → Machine → Machine
+with_settings settings machine = fold with_setting machine settings
+
+-- all zeros, and then these settings
+pub record IsOpening (settings : List Given) (opening : Machine) : Type 0 where
+  pub zeros : Machine
+  pub zero : IsZero zeros
+  pub set : opening ≡ with_settings settings zeros
+  pub sound : IsSound opening
+
+-- The report of a program's serial run: of at most so many blocks, from zeros with these settings.
+pub record IsReport (program : List Serial) (settings : List Given) (blocks : ℕ) (answer : List ℕ) : Type 0 where
+  pub opening : Machine
+  pub begin : IsOpening settings opening
+  pub chain : Chain
+  pub final : Machine
+  pub run : RunsProgram program opening blocks chain final
+  pub report : answer ≡ serial_report chain final
+
+-- The report of such a run of packets.
+pub record IsPacketReport (packets : List Packed) (settings : List Given) (blocks : ℕ) (answer : List ℕ) : Type 0 where
+  pub opening : Machine
+  pub begin : IsOpening settings opening
+  pub chain : Chain
+  pub cycles : ℕ
+  pub final : Machine
+  pub run : RunsPackets packets opening blocks chain cycles final
+  pub report : answer ≡ packet_report chain cycles final
+
+-- The same, where the packets run as this program does: without its line of cycles it is the report of the serial run.
+pub record IsSameReport (program : List Serial) (packets : List Packed) (settings : List Given) (blocks : ℕ) (answer : List ℕ) : Type 0 where
+  pub reported : IsPacketReport packets settings blocks answer
+  pub serial : RunsProgram program reported.opening blocks reported.chain reported.final
+
+-- the text says a program, of whose serial run this is the report
+pub record IsSerialReport (settings : List Given) (blocks : ℕ) (text answer : List ℕ) : Type 0 where
+  pub program : List Serial
+  pub says : SaysProgram text program
+  pub reported : IsReport program settings blocks answer
+
+-- the text says a program, and this is the report of a run of its blocks, packed so
+pub record IsRunReport (packing : Packing) (settings : List Given) (blocks : ℕ) (text answer : List ℕ) : Type 0 where
+  pub program : List Serial
+  pub says : SaysProgram text program
+  pub packets : List Packed
+  pub packed : AreScheduled packing program packets
+  pub reported : IsSameReport program packets settings blocks answer
+
+-- the text is a listing, of the run of whose packets this is the report
+pub record IsListingReport (settings : List Given) (blocks : ℕ) (text answer : List ℕ) : Type 0 where
+  pub packets : List Packed
+  pub read : IsRead text packets
+  pub reported : IsPacketReport packets settings blocks answer
+
+-- The report of a run of a text of packets from this row on, of at most so many cycles, from zeros with these settings.
+pub record IsFlown (flying : FlightText) (first : ℕ) (settings : List Given) (most : ℕ) (answer : List ℕ) : Type 0 where
+  pub opening : Machine
+  pub begin : IsOpening settings opening
+  pub stop : Stop
+  pub cycles : ℕ
+  pub final : Machine
+  pub flies : Flies flying first most opening stop cycles final
+  pub report : answer ≡ flight_report stop cycles final
+
+-- the text's code is one of packets, and this is the report of its run with everything in flight
+pub record IsFlightReport (most : ℕ) (from : Option Text) (settings : List Given) (text answer : List ℕ) : Type 0 where
+  pub flying : FlightText
+  pub first : ℕ
+  pub coded : IsCoded text
+  pub begins : IsTextFrom (code_in (code_read text)) from flying first
+  pub flown : IsFlown flying first settings most answer
+
+-- the text is adopted as packets, with so many cycles added to drain it, and this is their listing
+pub record IsAdoptedText (drain : Bool) (added : ℕ) (text answer : List ℕ) : Type 0 where
+  pub packets : List Packed
+  pub adopted : IsAdopted drain text packets added
+  pub listed : answer ≡ listing packets
+
+-- how an adoption ends, where so many cycles were added
+abbrev pub outcome_adopted : Bool → ℕ → Outcome
+outcome_adopted true added = Drained added
+outcome_adopted false added = Done
+
+-- how a check ends where every block is the same, or not
+abbrev pub outcome_of : Bool → Outcome
+outcome_of true = Done
+outcome_of false = NotSame
+
+-- What answers a text: its listing or its picture, the report of a run, or what a check tells. A text is drained only where that
+-- is asked for, and only of a check some block may not be the same.
+abbrev pub IsAnswer : Ask → Outcome → List ℕ → List ℕ → Type 0
+IsAnswer (Listing packing) Done text answer = IsPackedText packing text answer
+IsAnswer (Picture showing) Done text answer = IsShownText showing text answer
+IsAnswer (SerialReport blocks settings) Done text answer = IsSerialReport settings blocks text answer
+IsAnswer (PacketReport packing blocks settings) Done text answer = IsRunReport packing settings blocks text answer
+IsAnswer (ListingReport blocks settings) Done text answer = IsListingReport settings blocks text answer
+IsAnswer (FlightReport most from settings) Done text answer = IsFlightReport most from settings text answer
+IsAnswer (Adoption false) Done text answer = IsAdoptedText false 0 text answer
+IsAnswer (Adoption true) (Drained added) text answer = IsAdoptedText true added text answer
+IsAnswer Verdicts Done text answer = IsCheck text true answer
+IsAnswer Verdicts NotSame text answer = IsCheck text false answer
+IsAnswer _ _ text answer = ⊥
+
+-- ---- refusals
+
+-- the text says nothing that could be answered, and the message tells its fault
+abbrev pub IsRefusedText : Ask → List ℕ → List ℕ → Type 0
+IsRefusedText (ListingReport blocks settings) text message = IsNoListing text message
+IsRefusedText (FlightReport most from settings) text message = IsNoFlight from text message
+IsRefusedText (Adoption drain) text message = IsNoPackets drain text message
+IsRefusedText Verdicts text message = IsNoCheck text message
+IsRefusedText _ text message = IsNoProgram text message
+
+-- ---- streams
+
+-- What was asked for was done: the answer to a text was written, which is the known one, where one is known.
+pub record Does (ask : Ask) (outcome : Outcome) (known old new : Option (List ℕ)) : Type 0 where
+  pub text : List ℕ
+  pub same : IfSome known (λ bytes. bytes ≡ text)
+  pub answer : List ℕ
+  pub is : IsAnswer ask outcome text answer
+  pub written : Appends old new answer
+
+-- What was asked for was not done as the output took no more: what was written is a front of the answer.
+pub record BreaksOff (ask : Ask) (known old new : Option (List ℕ)) : Type 0 where
+  pub text : List ℕ
+  pub same : IfSome known (λ bytes. bytes ≡ text)
+  pub outcome : Outcome
+  pub answer : List ℕ
+  pub is : IsAnswer ask outcome text answer
+  pub written : Tells old new answer
+
+-- the words ask for something, and that was done
+abbrev pub IsDone : List Text → Outcome → Option (List ℕ) → Option (List ℕ) → Option (List ℕ) → Type 0
+IsDone words outcome text old new = IsSomeAnd (asked words) (λ ask. Does ask outcome text old new)
+
+-- the text is refused, where it is known, and the message tells its fault
+abbrev pub IsRefused : Ask → Option (List ℕ) → List ℕ → Type 0
+IsRefused ask text message = IfSome text (λ bytes. IsRefusedText ask bytes message)
+
+-- what is asked for is asked of a text that is refused, and the message tells its fault
+abbrev pub AsksInVain : Option Ask → Option (List ℕ) → List ℕ → Type 0
+AsksInVain asked text message = IsSomeAnd asked (λ ask. IsRefused ask text message)
+
+-- a setting is bad, and the message tells its number
+abbrev pub IsBadSetting : List Text → List ℕ → Type 0
+IsBadSetting words message = (k : ℕ) × HasBadSetting words k × (message ≡ setting_message k)
+
+-- The words ask for nothing: clap doesn't take them, or a setting is bad, and that is told.
+abbrev pub AsksNothing : Telling → List Text → Option (List ℕ) → Option (List ℕ) → Type 0
+AsksNothing Told words old new = IsUnknown words ⊎ TellsOf Told (IsBadSetting words) old new
+
+-- the failure is an error of the command line that says why the words ask for nothing
+abbrev pub Blames : Failure → List Text → Type 0
+Blames failure words = (error : CommandError) × IsCommandFailure error failure × IsRefusal error words
+
+-- the program that a text says, or its fault, unless memory ran out
+abbrev pub GivesProgram : List ℕ → Result (List Serial) Failure → Type 0
+GivesProgram text (Ok program) = SaysProgram text program
+GivesProgram text (Err (Unread fault)) = IsNoProgram text (fault_message fault.line fault.cause)
+GivesProgram text (Err Memory) = Unit {0}
+GivesProgram text (Err _) = ⊥
+
+-- the packets that a listing says, or its fault, unless memory ran out
+abbrev pub GivesPackets : List ℕ → Result (List Packed) Failure → Type 0
+GivesPackets text (Ok packets) = IsRead text packets
+GivesPackets text (Err (Unlisted fault)) = IsNoListing text (list_message fault)
+GivesPackets text (Err Memory) = Unit {0}
+GivesPackets text (Err _) = ⊥
+
+-- the program that the text of a check says, or its fault, unless memory ran out
+abbrev pub GivesTextPart : List ℕ → Result (List Serial) Failure → Type 0
+GivesTextPart text (Ok program) = SaysProgram text program
+GivesTextPart text (Err (TextPart fault)) = IsNoProgram text (fault_message fault.line fault.cause)
+GivesTextPart text (Err Memory) = Unit {0}
+GivesTextPart text (Err _) = ⊥
+
+-- the packets that the listing of a check says, or its fault, unless memory ran out
+abbrev pub GivesListingPart : List ℕ → Result (List Packed) Failure → Type 0
+GivesListingPart text (Ok packets) = IsRead text packets
+GivesListingPart text (Err (ListingPart fault)) = IsNoListing text (list_message fault)
+GivesListingPart text (Err Memory) = Unit {0}
+GivesListingPart text (Err _) = ⊥
+
+-- the answer to a text, or its fault, unless memory ran out
+abbrev pub Gives : Ask → List ℕ → Result Reply Failure → Type 0
+Gives ask text (Ok reply) = IsAnswer ask reply.outcome text reply.text.items
+Gives ask text (Err (Unread fault)) = IsRefusedText ask text (fault_message fault.line fault.cause)
+Gives ask text (Err (Unlisted fault)) = IsRefusedText ask text (list_message fault)
+Gives ask text (Err (Unadopted fault)) = IsRefusedText ask text (adopt_message fault)
+Gives ask text (Err (Unflown fault)) = IsRefusedText ask text (rows_message fault)
+Gives ask text (Err (TextPart fault)) = IsRefusedText ask text (of_text (fault_message fault.line fault.cause))
+Gives ask text (Err (ListingPart fault)) = IsRefusedText ask text (of_listing (list_message fault))
+Gives ask text (Err NoListing) = IsRefusedText ask text no_listing
+Gives ask text (Err Memory) = Unit {0}
+Gives ask text (Err _) = ⊥
+
+-- Why what is asked for was not done. Where the output failed, a front of the answer was written.
+abbrev pub Fails : Ask → Option (List ℕ) → Option (List ℕ) → Option (List ℕ) → Failure → Type 0
+Fails ask text old new (Unread fault) = IsRefused ask text (fault_message fault.line fault.cause) × Keeps old new
+Fails ask text old new (Unlisted fault) = IsRefused ask text (list_message fault) × Keeps old new
+Fails ask text old new (Unadopted fault) = IsRefused ask text (adopt_message fault) × Keeps old new
+Fails ask text old new (Unflown fault) = IsRefused ask text (rows_message fault) × Keeps old new
+Fails ask text old new (TextPart fault) = IsRefused ask text (of_text (fault_message fault.line fault.cause)) × Keeps old new
+Fails ask text old new (ListingPart fault) = IsRefused ask text (of_listing (list_message fault)) × Keeps old new
+Fails ask text old new NoListing = IsRefused ask text no_listing × Keeps old new
+Fails ask text old new Memory = Keeps old new
+Fails ask text old new Input = Keeps old new
+Fails ask text old new Output = BreaksOff ask text old new
+Fails ask text old new _ = ⊥
+
+-- Why a run failed: the words ask for nothing, or what they ask for was not done.
+abbrev pub HasFailed : List Text → Option (List ℕ) → Option (List ℕ) → Option (List ℕ) → Failure → Type 0
+HasFailed words text old new f = (Blames f words × Keeps old new) ⊎ IsSomeAnd (asked words) (λ ask. Fails ask text old new f)
+
+-- ---- a whole run
+
+-- What a run has to do with: the bytes that its reader still gives, and those that its output and its error stream hold,
+-- where they tell them.
+pub record Streams : Type 0 where
+  pub input : Option (List ℕ)
+  pub output : Option (List ℕ)
+  pub errors : Option (List ℕ)
+
+abbrev pub streams : Option (List ℕ) → Option (List ℕ) → Option (List ℕ) → Streams
+streams input output errors = record { input = input; output = output; errors = errors }
+
+-- How a run ends that is done: what the words ask for was written, and told is only how many cycles were added where a text
+-- was drained.
+pub record Ends (Told : Telling) (words : List Text) (old new : Streams) (status : ℕ) : Type 0 where
+  pub outcome : Outcome
+  pub ends : status ≡ status_done outcome
+  pub done : IsDone words outcome old.input old.output new.output
+  pub told : TellsOutcome Told outcome old.errors new.errors
+
+-- What a run on these words does to its streams, and the status that it ends with, where what is told is told so (README.md,
+-- "Command line").
+pub record IsRunBy (Told : Telling) (words : List Text) (old new : Streams) (status : ℕ) : Type 0 where
+  pub known : status ≤ 5
+  -- What the words ask for was written. On 5 that is what a check tells, and some block isn't the same.
+  pub done : (status ≡ 0) ⊎ (status ≡ 5) → Ends Told words old new status
+  -- The text is refused, and its fault is told.
+  pub refused : status ≡ 1 → TellsOf Told (AsksInVain (asked words) old.input) old.errors new.errors
+  -- The words are refused. Words and settings are judged first: where they ask for nothing, nothing is read.
+  pub blamed : status ≡ 2 → AsksNothing Told words old.errors new.errors
+  pub judged : asked words ≡ None → (status ≡ 2) ⊎ (status ≡ 3)
+  pub unread : asked words ≡ None → Keeps old.input new.input
+  -- Memory ran out, or a stream failed. Where that was the output, a front of the answer is written.
+  pub memory : status ≡ 3 → Told old.errors new.errors (codes "memory\n")
+  pub stream : status ≡ 4 → Told old.errors new.errors (codes "input\n") ⊎ Told old.errors new.errors (codes "output\n")
+  pub broken : status ≡ 4 → Keeps old.output new.output ⊎ IsSomeAnd (asked words) (λ ask. BreaksOff ask old.input old.output new.output)
+  -- Nothing is written but an answer, and one byte past the limit of a text is the last that is read.
+  pub quiet : 0 < status → status < 4 → Keeps old.output new.output
+  pub most : TakesAsked words old.input new.input
+
+-- the same, where what is told is told whole, or the front of it that the stream took
+abbrev pub IsRun : List Text → Streams → Streams → ℕ → Type 0
+IsRun words old new status = IsRunBy Tells words old new status
+
+-- the output is a front of an answer to these bytes
+pub record BeginsAnswer (ask : Ask) (input output : List ℕ) : Type 0 where
+  pub outcome : Outcome
+  pub answer : List ℕ
+  pub is : IsAnswer ask outcome input answer
+  pub front : IsFront output answer
+
+-- how a run ends that is done, on these bytes
+pub record EndsOnBytes (words : List Text) (input output errors : List ℕ) (status : ℕ) : Type 0 where
+  pub outcome : Outcome
+  pub ends : status ≡ status_done outcome
+  pub done : IsSomeAnd (asked words) (λ ask. IsAnswer ask outcome input output)
+  pub told : IsToldOf outcome errors
+
+-- what a run does to these bytes, which wrote these to its output and its error stream
+pub record IsRunOnBytes (words : List Text) (input output errors : List ℕ) (status : ℕ) : Type 0 where
+  pub known : status ≤ 5
+  pub done : (status ≡ 0) ⊎ (status ≡ 5) → EndsOnBytes words input output errors status
+  pub refused : status ≡ 1 → (message : List ℕ) × IsSomeAnd (asked words) (λ ask. IsRefusedText ask input message) × IsFront errors message
+  pub blamed : status ≡ 2 → IsUnknown words ⊎ ((k : ℕ) × HasBadSetting words k × IsFront errors (setting_message k))
+  pub judged : asked words ≡ None → (status ≡ 2) ⊎ (status ≡ 3)
+  pub memory : status ≡ 3 → IsFront errors (codes "memory\n")
+  pub stream : status ≡ 4 → IsFront errors (codes "input\n") ⊎ IsFront errors (codes "output\n")
+  pub broken : status ≡ 4 → (output ≡ []) ⊎ IsSomeAnd (asked words) (λ ask. BeginsAnswer ask input output)
+  pub quiet : 0 < status → status < 4 → output ≡ []

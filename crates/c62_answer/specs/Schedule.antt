@@ -1,0 +1,85 @@
+-- How the blocks of a program become packets (docs/SCHEDULING.md, "Turns", "Finishing" and "Two workers").
+use Rattle.std.specs.Prelude.{◌≡◌, ◌≢◌, ℕ, Bool, true, false, List, [], ◌∷◌, ◌++◌}
+use Rattle.c62_read.specs.Block.{Serial}
+use Rattle.c62_depend.specs.Plan.{insns_of}
+use Rattle.c62_sheet.specs.Lawful.{Spots}
+use Rattle.c62_sheet.specs.Least.{IsComplete}
+use Rattle.c62_board.specs.declared.turn.Turn.{Turn}
+use Rattle.c62_board.specs.declared.turn.Turn.TheVariants.{Memory}
+use Rattle.c62_board.specs.State.{BoardState, Has, IsSound}
+use Rattle.c62_work.specs.Turns.{TakesTurns}
+use Rattle.c62_work.specs.Finish.{IsFinished}
+use Rattle.c62_packet.specs.declared.placed.Placed.{Placed}
+use Rattle.c62_packet.specs.Packed.{Packed}
+use Rattle.c62_meaning.specs.Laws.{AreSerial}
+use Rattle.c62_pipe.specs.Chain.{IsBlockPacked}
+use Rattle.c62_pack.specs.Packets.{ArePackets, ArePlaced}
+use Rattle.c62_show.specs.declared.shown.Shown.{Shown}
+use Rattle.c62_show.specs.Limits.{AreLimits}
+use Rattle.c62_why.specs.declared.why.Why.{Why}
+use Rattle.c62_why.specs.Why.{AreWhys}
+use Rattle.c62_command.specs.declared.command.Packing.{Packing}
+use Rattle.c62_command.specs.declared.command.Showing.{Showing}
+
+-- Both sides took steps by turns on an empty board of the block with this budget, and what was missing then was placed.
+pub record IsTurned (block : Serial) (budget : ℕ) (board : BoardState) : Type 0 where
+  pub empty : BoardState
+  pub begin : Has block [] budget empty
+  pub last : Turn
+  pub enough : last ≢ Memory
+  pub turned : BoardState
+  pub turns : TakesTurns empty last turned
+  pub finished : IsFinished turned block board
+
+-- A complete lawful board of the block. By turns it is the one that they lead to, and otherwise it may be any.
+pub record IsMade (packing : Packing) (block : Serial) (board : BoardState) : Type 0 where
+  pub plan_is : board.plan ≡ block
+  pub complete : IsComplete (insns_of block) board.spots
+  pub sound : IsSound board
+  pub turned : packing.turns ≡ true → IsTurned block packing.budget board
+
+-- The packets of such a board. Run as packets, they do what the block does serially.
+pub record IsScheduled (packing : Packing) (block : Serial) (packed : Packed) : Type 0 where
+  pub board : BoardState
+  pub made : IsMade packing block board
+  pub packets : ArePackets block board.spots packed
+  pub serial : AreSerial block.insns packed.placed
+  pub keeps : IsBlockPacked block packed
+
+-- the packets of these spots stand behind the others
+abbrev pub AddsPackets : Serial → Spots → List Packed → List Packed → Type 0
+AddsPackets block spots old new =
+    (packed : Packed) × ArePackets block spots packed × AreSerial block.insns packed.placed × IsBlockPacked block packed × (new ≡ old ++ packed ∷ [])
+
+-- block by block
+abbrev pub AreScheduled : Packing → List Serial → List Packed → Type 0
+AreScheduled packing [] [] = Unit {0}
+AreScheduled packing (block ∷ blocks) (packed ∷ packets) = IsScheduled packing block packed × AreScheduled packing blocks packets
+AreScheduled packing _ _ = ⊥
+
+-- ---- what is shown
+
+-- Where it is asked for, why each instruction that stands on these spots isn't issued a cycle earlier.
+abbrev pub TellsWhys : Bool → Serial → Spots → ℕ → List Why → Type 0
+TellsWhys false block spots cycles whys = whys ≡ []
+TellsWhys true block spots cycles whys = (placed : List Placed) × ArePlaced block spots placed × AreWhys (insns_of block) cycles placed whys
+
+-- The packets of such a board, how short they could be at best, and why their instructions stand where they do.
+pub record IsShown (showing : Showing) (block : Serial) (shown : Shown) : Type 0 where
+  pub scheduled : IsScheduled showing.packing block shown.packets
+  pub limits : AreLimits block shown.limits
+  pub whys : TellsWhys showing.why block scheduled.board.spots shown.packets.cycles shown.whys.items
+
+-- what is shown of the packets of these spots
+pub record IsShownOf (why : Bool) (block : Serial) (spots : Spots) (shown : Shown) : Type 0 where
+  pub packets : ArePackets block spots shown.packets
+  pub serial : AreSerial block.insns shown.packets.placed
+  pub keeps : IsBlockPacked block shown.packets
+  pub limits : AreLimits block shown.limits
+  pub whys : TellsWhys why block spots shown.packets.cycles shown.whys.items
+
+-- block by block
+abbrev pub AreShown : Showing → List Serial → List Shown → Type 0
+AreShown showing [] [] = Unit {0}
+AreShown showing (block ∷ blocks) (shown ∷ rest) = IsShown showing block shown × AreShown showing blocks rest
+AreShown showing _ _ = ⊥

@@ -1,0 +1,54 @@
+-- What texts say, and what is told of those that say nothing.
+use Rattle.std.specs.Prelude.{◌≡◌, ◌≢◌, ◌⊎◌, ℕ, Bool, List, Option, map, Ok, IsErrAnd}
+use Rattle.c62_read.specs.Block.{Serial}
+use Rattle.c62_read.specs.Program.{program_in, block_parts}
+use Rattle.c62_listing_reader.specs.declared.fault.ListFault.{ListFault}
+use Rattle.c62_listing_reader.specs.declared.fault.ListFault.TheVariants.{Memory as NoStore}
+use Rattle.c62_listing_reader.specs.Reading.{Refuses}
+use Rattle.c62_adopt.specs.declared.fault.AdoptFault.{AdoptFault}
+use Rattle.c62_adopt.specs.declared.fault.AdoptFault.TheVariants.{Memory as NoRoom}
+use Rattle.c62_adopt.specs.Answer.{IsCoded, LacksCode, Refuses as RefusesPackets, code_in, code_read}
+use Rattle.c62_rows.specs.declared.fault.RowsFault.{RowsFault}
+use Rattle.c62_rows.specs.declared.fault.RowsFault.TheVariants.{Memory as NoPlace}
+use Rattle.c62_rows.specs.Text.{RefusesFrom}
+use Rattle.c62_answer.specs.Message.{adopt_message, fault_message, list_message, rows_message}
+
+-- the text says a program
+abbrev pub SaysProgram : List ℕ → List Serial → Type 0
+SaysProgram text program = program_in text ≡ Ok (map block_parts program)
+
+-- the text says no program, and the message tells its fault
+abbrev pub IsNoProgram : List ℕ → List ℕ → Type 0
+IsNoProgram text message = IsErrAnd (program_in text) (λ fault. message ≡ fault_message fault.0 fault.1)
+
+-- the text is no listing, and the message tells its first fault
+pub record IsNoListing (text message : List ℕ) : Type 0 where
+  pub fault : ListFault
+  pub known : fault ≢ NoStore
+  pub refused : Refuses text fault
+  pub told : message ≡ list_message fault
+
+-- the text makes no packets, drained or as it stands, and the message tells its first fault
+pub record IsNoPackets (drain : Bool) (text message : List ℕ) : Type 0 where
+  pub fault : AdoptFault
+  pub known : fault ≢ NoRoom
+  pub refused : RefusesPackets drain text fault
+  pub told : message ≡ adopt_message fault
+
+-- the text has no code, and the message tells the line that keeps it from having some
+pub record IsUncoded (text message : List ℕ) : Type 0 where
+  pub fault : AdoptFault
+  pub known : fault ≢ NoRoom
+  pub lacks : LacksCode text fault
+  pub told : message ≡ adopt_message fault
+
+-- the text's code makes no rows, or none has the label with which a run is to begin, and the message tells the first fault
+pub record IsNoRows (from : Option (List ℕ)) (text message : List ℕ) : Type 0 where
+  pub coded : IsCoded text
+  pub fault : RowsFault
+  pub known : fault ≢ NoPlace
+  pub refused : RefusesFrom (code_in (code_read text)) from fault
+  pub told : message ≡ rows_message fault
+
+abbrev pub IsNoFlight : Option (List ℕ) → List ℕ → List ℕ → Type 0
+IsNoFlight from text message = IsUncoded text message ⊎ IsNoRows from text message

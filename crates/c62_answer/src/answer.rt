@@ -1,0 +1,246 @@
+//! What answers a text.
+
+ghost use Rattle.std.specs.Prelude.{◌≡◌, ◌≤◌, true, false, IfOk, IsTrue};
+ghost use Rattle.c62_listing.specs.Listing.{listing};
+ghost use Rattle.c62_packet.specs.Packets.{is_closed};
+ghost use Rattle.c62_show.specs.Picture.{picture};
+ghost use Rattle.c62_command.specs.CommandLine.{Listing, Picture, SerialReport, PacketReport, ListingReport, Adoption, ask_of};
+ghost use Rattle.c62_answer.specs.Run.{Gives, GivesProgram, GivesPackets, limit_of};
+ghost use Rattle.c62_answer.specs.declared.parting.TheConstants.{MOST_BYTES};
+
+use crate::checking::verdicts;
+use crate::exec::exec;
+use crate::failure::Failure;
+use crate::outcome::{Outcome, Reply};
+use crate::parting;
+use crate::run::{packet_run, serial_run};
+use crate::schedule::{packets_by_turns, packets_by_workers, shown_by_turns, shown_by_workers};
+use c62_adopt::adopt;
+use c62_adopt::laws::texts_that_stand_lack_nothing;
+use c62_command::{Packing, Request, Showing, Start};
+use c62_listing::list;
+use c62_listing_reader::read_listing;
+use c62_packet::Packets;
+use c62_read::{Program, read_program};
+use c62_show::{Shown, picture};
+use std::alloc::{AllocError, Global};
+use std::sync::Wait;
+use std::thread::Threads;
+
+/// The program that a text says.
+fn program_of(alloc: Global, text: &[u8]) -> Result<Program, Failure>
+    ensures { GivesProgram text.now result }
+{
+    match read_program(alloc, text) {
+        Ok(program) => Ok(program),
+        Err(fault) => Err(Failure::from(fault)),
+    }
+}
+
+/// The packets that a listing says.
+fn packets_in(alloc: Global, text: &[u8]) -> Result<Packets, Failure>
+    ensures packets { GivesPackets text.now result }
+    ensures closed { IfOk result (λ packets. IsTrue (is_closed packets)) }
+{
+    match read_listing(alloc, text) {
+        Ok(packets) => Ok(packets),
+        Err(fault) => Err(Failure::from(fault)),
+    }
+}
+
+fn listing_of(alloc: Global, packets: &Packets) -> Result<Vec<u8>, AllocError>
+    requires { IsTrue (is_closed packets.now) }
+    ensures { IfOk result (λ text. text.items ≡ listing packets.now) }
+{
+    Ok(list(alloc, packets)?.into_bytes())
+}
+
+fn picture_of(alloc: Global, shown: &[Shown]) -> Result<Vec<u8>, AllocError>
+    ensures { IfOk result (λ text. text.items ≡ picture shown.now) }
+{
+    Ok(picture(alloc, shown)?.into_bytes())
+}
+
+/// The listing of what a text says, packed by turns.
+fn pack_by_turns(alloc: Global, text: &[u8], packing: Packing) -> Result<Reply, Failure>
+    requires { packing.turns ≡ true }
+    ensures { Gives (Listing packing) text.now result }
+{
+    let program = program_of(alloc, text)?;
+    let packets = packets_by_turns(alloc, program, packing)?;
+    Ok(Reply {
+        text: listing_of(alloc, &packets)?,
+        outcome: Outcome::Done,
+    })
+}
+
+/// The picture of what a text says, packed by turns.
+fn show_by_turns(alloc: Global, text: &[u8], showing: Showing) -> Result<Reply, Failure>
+    requires { showing.packing.turns ≡ true }
+    ensures { Gives (Picture showing) text.now result }
+{
+    let program = program_of(alloc, text)?;
+    let shown = shown_by_turns(alloc, program, showing)?;
+    Ok(Reply {
+        text: picture_of(alloc, &shown)?,
+        outcome: Outcome::Done,
+    })
+}
+
+/// The report of a run of what a text says, packed by turns.
+fn run_by_turns(
+    alloc: Global,
+    text: &[u8],
+    packing: Packing,
+    start: &Start,
+) -> Result<Reply, Failure>
+    requires { packing.turns ≡ true }
+    ensures { Gives (PacketReport packing start.now.blocks start.now.settings.items) text.now result }
+{
+    let program = program_of(alloc, text)?;
+    let packets = packets_by_turns(alloc, program, packing)?;
+    Ok(Reply {
+        text: packet_run(alloc, &packets, start)?,
+        outcome: Outcome::Done,
+    })
+}
+
+/// The listing of what a text says, packed by workers.
+fn pack_by_workers<H: AllocGlobal + Threads + Wait + Sync>(
+    rt: &H,
+    text: &[u8],
+    packing: Packing,
+) -> Result<Reply, Failure>
+    requires { packing.turns ≡ false }
+    ensures { Gives (Listing packing) text.now result }
+{
+    let program = program_of(rt.alloc(), text)?;
+    let packets = packets_by_workers(rt, program, packing)?;
+    Ok(Reply {
+        text: listing_of(rt.alloc(), &packets)?,
+        outcome: Outcome::Done,
+    })
+}
+
+/// The picture of what a text says, packed by workers.
+fn show_by_workers<H: AllocGlobal + Threads + Wait + Sync>(
+    rt: &H,
+    text: &[u8],
+    showing: Showing,
+) -> Result<Reply, Failure>
+    requires { showing.packing.turns ≡ false }
+    ensures { Gives (Picture showing) text.now result }
+{
+    let program = program_of(rt.alloc(), text)?;
+    let shown = shown_by_workers(rt, program, showing)?;
+    Ok(Reply {
+        text: picture_of(rt.alloc(), &shown)?,
+        outcome: Outcome::Done,
+    })
+}
+
+/// The report of a run of what a text says, packed by workers.
+fn run_by_workers<H: AllocGlobal + Threads + Wait + Sync>(
+    rt: &H,
+    text: &[u8],
+    packing: Packing,
+    start: &Start,
+) -> Result<Reply, Failure>
+    requires { packing.turns ≡ false }
+    ensures { Gives (PacketReport packing start.now.blocks start.now.settings.items) text.now result }
+{
+    let program = program_of(rt.alloc(), text)?;
+    let packets = packets_by_workers(rt, program, packing)?;
+    Ok(Reply {
+        text: packet_run(rt.alloc(), &packets, start)?,
+        outcome: Outcome::Done,
+    })
+}
+
+/// The report of the serial run of what a text says.
+fn serial(alloc: Global, text: &[u8], start: &Start) -> Result<Reply, Failure>
+    ensures { Gives (SerialReport start.now.blocks start.now.settings.items) text.now result }
+{
+    let program = program_of(alloc, text)?;
+    Ok(Reply {
+        text: serial_run(alloc, &program, start)?,
+        outcome: Outcome::Done,
+    })
+}
+
+/// The report of a run of the packets of a listing.
+fn sim(alloc: Global, text: &[u8], start: &Start) -> Result<Reply, Failure>
+    ensures { Gives (ListingReport start.now.blocks start.now.settings.items) text.now result }
+{
+    let packets = packets_in(alloc, text)?;
+    Ok(Reply {
+        text: packet_run(alloc, &packets, start)?,
+        outcome: Outcome::Done,
+    })
+}
+
+/// The listing of a text of packets as people and compilers write them. Where it is drained, the cycles are added that lack.
+fn adopted(alloc: Global, text: &[u8], drain: bool) -> Result<Reply, Failure>
+    ensures { Gives (Adoption drain) text.now result }
+{
+    let adopted = adopt(alloc, text, drain)?;
+    // It tells that no cycle is added where the text isn't drained.
+    texts_that_stand_lack_nothing();
+    Ok(Reply {
+        text: listing_of(alloc, &adopted.packets)?,
+        outcome: Outcome::of_adoption(drain, adopted.added),
+    })
+}
+
+/// The answer to a text.
+pub fn answer<H: AllocGlobal + Threads + Wait + Sync>(
+    rt: &H,
+    request: &Request,
+    text: &[u8],
+) -> Result<Reply, Failure>
+    ensures { Gives (ask_of request.now) text.now result }
+{
+    match request {
+        Request::Pack(packing) => {
+            if packing.turns {
+                pack_by_turns(rt.alloc(), text, *packing)
+            } else {
+                pack_by_workers(rt, text, *packing)
+            }
+        }
+        Request::Show(showing) => {
+            if showing.packing.turns {
+                show_by_turns(rt.alloc(), text, *showing)
+            } else {
+                show_by_workers(rt, text, *showing)
+            }
+        }
+        Request::Run(packing, start) => {
+            if packing.turns {
+                run_by_turns(rt.alloc(), text, *packing, start)
+            } else {
+                run_by_workers(rt, text, *packing, start)
+            }
+        }
+        Request::Serial(start) => serial(rt.alloc(), text, start),
+        Request::Sim(start) => sim(rt.alloc(), text, start),
+        Request::Exec(start) => exec(rt.alloc(), text, start),
+        Request::Adopt(drain) => adopted(rt.alloc(), text, *drain),
+        Request::Check => verdicts(rt.alloc(), text),
+    }
+}
+
+/// The most bytes of a text that is answered.
+pub fn limit_of(request: &Request) -> usize
+    ensures limit { result ≡ limit_of (ask_of request.now) }
+    ensures most { result ≤ MOST_BYTES }
+{
+    match request {
+        Request::Check => parting::MOST_BYTES,
+        Request::Sim(_) => c62_listing_reader::MOST_BYTES,
+        Request::Exec(_) | Request::Adopt(_) => c62_adopt_cut::MOST_BYTES,
+        Request::Pack(_) | Request::Show(_) | Request::Run(_, _) | Request::Serial(_) => {
+            c62_read::MOST_BYTES
+        }
+    }
+}

@@ -1,0 +1,55 @@
+//! Runs of packets with everything in flight, and their reports.
+
+ghost use Rattle.std.specs.Prelude.{◌≡◌, IfOk, option_map};
+ghost use Rattle.std.specs.Option.{option_copied};
+ghost use Rattle.c62_flight.specs.Text.{IsIssuable};
+ghost use Rattle.c62_rows.specs.Rows.{text_of};
+ghost use Rattle.c62_command.specs.CommandLine.{FlightReport};
+ghost use Rattle.c62_answer.specs.Run.{Gives, IsFlown};
+
+use crate::failure::Failure;
+use crate::outcome::{Outcome, Reply};
+use crate::run::opening;
+use c62_adopt::read_code;
+use c62_command::{FlightStart, Setting};
+use c62_exec::fly;
+use c62_report::flight_report;
+use c62_rows::{Begun, read_from};
+use std::alloc::{AllocError, Global};
+
+/// The report of a run of so many cycles at most, from zeros with these settings.
+fn flown(
+    alloc: Global,
+    begun: &Begun,
+    settings: &[Setting],
+    most: u32,
+) -> Result<Vec<u8>, AllocError>
+    requires { IsIssuable (text_of begun.now.rows) }
+    ensures { IfOk result (λ text. IsFlown (text_of begun.now.rows) begun.now.first settings.now most text.items) }
+{
+    let mut state = opening(alloc, settings)?;
+    let flown = fly(&begun.rows, begun.first, most, &mut state)?;
+    flight_report(alloc, flown.stop, flown.cycles, &state)
+}
+
+/// The name of the label with whose row a run begins.
+fn name_of(start: &FlightStart) -> Option<&[u8]>
+    ensures { option_copied result ≡ option_map (λ name. name.items) start.now.from }
+{
+    match &start.from {
+        Some(name) => Some(name),
+        None => None,
+    }
+}
+
+/// The report of a run of a text of packets as people and compilers write them, with everything in flight.
+pub fn exec(alloc: Global, text: &[u8], start: &FlightStart) -> Result<Reply, Failure>
+    ensures { Gives (FlightReport start.now.cycles (option_map (λ name. name.items) start.now.from) start.now.settings.items) text.now result }
+{
+    let code = read_code(alloc, text)?;
+    let begun = read_from(alloc, &code, name_of(start))?;
+    Ok(Reply {
+        text: flown(alloc, &begun, &start.settings, start.cycles)?,
+        outcome: Outcome::Done,
+    })
+}

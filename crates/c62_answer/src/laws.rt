@@ -1,0 +1,35 @@
+//! Laws of the program. The functions do nothing: what each ensures is a law.
+
+ghost use Rattle.std.specs.Prelude.{ℕ, Bool, List};
+ghost use Rattle.c62_read.specs.Block.{Serial};
+ghost use Rattle.c62_command.specs.declared.command.Packing.{Packing};
+ghost use Rattle.c62_answer.specs.ReadBack.{IsReadBack};
+ghost use Rattle.c62_answer.specs.AdoptedBack.{IsAdoptedBack};
+ghost use Rattle.c62_answer.specs.OneText.{HasOneBoard, HaveOnePacking, HasOneText};
+ghost use Rattle.c62_answer.specs.Parting.{IsPartedOnce};
+
+/// What `pack` writes, by turns or by two workers, is a listing that is read back: as the packets that
+/// were packed, but for the lines of their instructions. So each report that `sim` gives of it is one of
+/// the program that the text says: the same chain, registers and memory, and faults of the same places.
+pub fn what_is_packed_is_read_back()
+    ensures { (packing : Packing) (text answer : List ℕ) → IsReadBack packing text answer }
+{}
+
+/// What `pack` writes, by turns or by two workers, is adopted as itself, drained or not: to the byte, and without a cycle
+/// more.
+pub fn what_is_packed_is_adopted_as_itself()
+    ensures { (packing : Packing) (drain : Bool) (text answer : List ℕ) → IsAdoptedBack packing drain text answer }
+{}
+
+/// `pack --turns` can write one listing only of a text, with one budget of ejections: the board that
+/// turns and finishing lead to is one, and so are the packets and what is written.
+pub fn turns_pack_once()
+    ensures board { (packing : Packing) (block : Serial) → HasOneBoard packing block }
+    ensures packets { (packing : Packing) (program : List Serial) → HaveOnePacking packing program }
+    ensures text { (packing : Packing) (text : List ℕ) → HasOneText packing text }
+{}
+
+/// What is to be checked is parted in one way: it has one first line `---`.
+pub fn an_input_is_parted_once()
+    ensures { (input : List ℕ) → IsPartedOnce input }
+{}

@@ -1,0 +1,22 @@
+//! What answers the bytes of a text, as the words of the command line ask: packs serial text into execute packets, adopts packets
+//! as others write them, and runs text and packets, with everything in flight.
+#![tactic(auto)]
+
+mod answer;
+mod checking;
+mod exec;
+mod failure;
+mod input;
+pub mod laws;
+mod message;
+mod outcome;
+mod parting;
+mod run;
+mod schedule;
+mod tool;
+mod writing;
+
+pub use input::{InputError, read_text};
+pub use parting::{MOST_BYTES, Parts, parts_of};
+pub use tool::{Ran, run_on_bytes, run_tool};
+pub use writing::{Refused, show, write_pieces, write_whole};

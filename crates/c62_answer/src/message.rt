@@ -1,0 +1,167 @@
+//! Tells what failed, and how many cycles were added to drain a text (README.md, "Command line").
+
+ghost use Rattle.std.specs.Prelude.{◌++◌, IfSome, codes, decimal};
+ghost use Rattle.c62_answer.specs.Message.{adopt_message, drained_message, fault_message, list_message, message_of, rows_message, setting_message, told_of, TellsOutcome};
+
+use crate::failure::Failure;
+use crate::outcome::Outcome;
+use crate::writing::{Refused, show, write_pieces, write_whole};
+use c62_adopt::AdoptFault;
+use c62_listing_reader::ListFault;
+use c62_read::ReadFault;
+use c62_rows::RowsFault;
+use itoa::Buffer;
+use std::io::Write;
+
+/// Tells `line L: NAME` behind the name of a part.
+fn tell_line<E: Write>(errors: &mut E, part: &str, line: u32, name: &str) -> Result<(), Refused>
+    ensures { told_of result (E.contents errors.old) (E.contents errors.new)
+        (part.now ++ (codes "line " ++ decimal line ++ codes ": " ++ name.now) ++ codes "\n") }
+{
+    let mut buffer = Buffer::new();
+    write_pieces(
+        errors,
+        &[part, "line ", buffer.format(line), ": ", name, "\n"],
+    )
+}
+
+/// Tells `block K: NAME` behind the name of a part.
+fn tell_block<E: Write>(errors: &mut E, part: &str, block: u8, name: &str) -> Result<(), Refused>
+    ensures { told_of result (E.contents errors.old) (E.contents errors.new)
+        (part.now ++ (codes "block " ++ decimal block ++ codes ": " ++ name.now) ++ codes "\n") }
+{
+    let mut buffer = Buffer::new();
+    write_pieces(
+        errors,
+        &[part, "block ", buffer.format(block), ": ", name, "\n"],
+    )
+}
+
+/// Tells `block K cycle C: RULE` behind the name of a part.
+fn tell_rule<E: Write>(
+    errors: &mut E,
+    part: &str,
+    block: u8,
+    cycle: u16,
+    rule: &str,
+) -> Result<(), Refused>
+    ensures { told_of result (E.contents errors.old) (E.contents errors.new)
+        (part.now ++ (codes "block " ++ decimal block ++ codes " " ++ (codes "cycle " ++ decimal cycle ++ codes ": " ++ rule.now)) ++ codes "\n") }
+{
+    let mut first = Buffer::new();
+    let mut second = Buffer::new();
+    let block = first.format(block);
+    let cycle = second.format(cycle);
+    write_pieces(
+        errors,
+        &[part, "block ", block, " cycle ", cycle, ": ", rule, "\n"],
+    )
+}
+
+/// Tells the fault of a serial text behind the name of a part.
+fn tell_read_fault<E: Write>(errors: &mut E, part: &str, fault: ReadFault) -> Result<(), Refused>
+    ensures { told_of result (E.contents errors.old) (E.contents errors.new) (part.now ++ fault_message fault.line fault.cause) }
+{
+    tell_line(errors, part, fault.line, fault.cause.name())
+}
+
+/// Tells the fault of a listing behind the name of a part.
+fn tell_list_fault<E: Write>(errors: &mut E, part: &str, fault: ListFault) -> Result<(), Refused>
+    ensures { told_of result (E.contents errors.old) (E.contents errors.new) (part.now ++ list_message fault) }
+{
+    match fault {
+        ListFault::Read(fault) => tell_read_fault(errors, part, fault),
+        ListFault::Shape(line) => tell_line(errors, part, line, "Shape"),
+        ListFault::TwoBranches(block) => tell_block(errors, part, block, "TwoBranches"),
+        ListFault::NotDrained(block) => tell_block(errors, part, block, "NotDrained"),
+        ListFault::Unlawful(block, cycle, rule) => tell_rule(
+            errors,
+            part,
+            block,
+            cycle,
+            rule.name(),
+        ),
+        ListFault::Memory => write_pieces(errors, &[part, "memory\n"]),
+    }
+}
+
+/// Tells the fault of a text of packets.
+fn tell_adopt_fault<E: Write>(errors: &mut E, fault: AdoptFault) -> Result<(), Refused>
+    ensures { told_of result (E.contents errors.old) (E.contents errors.new) (adopt_message fault) }
+{
+    match fault {
+        AdoptFault::Text(fault) => tell_line(errors, "", fault.line, fault.cause.name()),
+        AdoptFault::Rule(line, rule) => tell_line(errors, "", line, rule.name()),
+        AdoptFault::Code(line, cause) => tell_line(errors, "", line, cause.name()),
+        AdoptFault::Memory => write_whole(errors, b"memory\n"),
+    }
+}
+
+/// Tells the fault of a text of packets that is to run in flight.
+fn tell_rows_fault<E: Write>(errors: &mut E, fault: RowsFault) -> Result<(), Refused>
+    ensures { told_of result (E.contents errors.old) (E.contents errors.new) (rows_message fault) }
+{
+    match fault {
+        RowsFault::At(line, cause) => tell_line(errors, "", line, cause.name()),
+        RowsFault::From => write_whole(errors, b"from: UnknownTarget\n"),
+        RowsFault::Memory => write_whole(errors, b"memory\n"),
+    }
+}
+
+/// Tells that the setting with this number is bad.
+fn tell_setting<E: Write>(errors: &mut E, number: usize) -> Result<(), Refused>
+    ensures { told_of result (E.contents errors.old) (E.contents errors.new) (setting_message number) }
+{
+    let mut buffer = Buffer::new();
+    write_pieces(errors, &["setting ", buffer.format(number), ": bad\n"])
+}
+
+/// Tells what failed, in one line but for clap's text.
+///
+/// # Errors
+///
+/// Where the stream takes no more. It has a front of the line then.
+pub fn report<E: Write>(errors: &mut E, failure: &Failure) -> Result<(), Refused>
+    ensures { IfSome (message_of failure.now) (told_of result (E.contents errors.old) (E.contents errors.new)) }
+{
+    match failure {
+        Failure::Unread(fault) => tell_read_fault(errors, "", *fault),
+        Failure::Unlisted(fault) => tell_list_fault(errors, "", *fault),
+        Failure::Unadopted(fault) => tell_adopt_fault(errors, *fault),
+        Failure::Unflown(fault) => tell_rows_fault(errors, *fault),
+        Failure::TextPart(fault) => tell_read_fault(errors, "text ", *fault),
+        Failure::ListingPart(fault) => tell_list_fault(errors, "listing ", *fault),
+        Failure::NoListing => write_whole(errors, b"text line 0: NoListing\n"),
+        Failure::Words(error) => show(errors, error),
+        Failure::Setting(number) => tell_setting(errors, *number),
+        Failure::Memory => write_whole(errors, b"memory\n"),
+        Failure::Input => write_whole(errors, b"input\n"),
+        Failure::Output => write_whole(errors, b"output\n"),
+    }
+}
+
+/// Tells how many cycles were added to drain a text; nothing where there were none.
+fn tell_added<E: Write>(errors: &mut E, added: u64) -> Result<(), Refused>
+    ensures { told_of result (E.contents errors.old) (E.contents errors.new) (drained_message added) }
+{
+    let mut buffer = Buffer::new();
+    match added {
+        0 => Ok(()),
+        1 => write_whole(errors, b"1 cycle added\n"),
+        _ => write_pieces(errors, &[buffer.format(added), " cycles added\n"]),
+    }
+}
+
+/// Tells of a text that was drained how many cycles were added, and else nothing.
+///
+/// # Errors
+///
+/// Where the stream takes no more. It has a front of the line then.
+pub fn tell_outcome<E: Write>(errors: &mut E, outcome: Outcome) -> Result<(), Refused>
+    ensures { TellsOutcome (told_of result) outcome (E.contents errors.old) (E.contents errors.new) }
+{
+    match outcome {
+        Outcome::Done | Outcome::NotSame => Ok(()),
+        Outcome::Drained(added) => tell_added(errors, added),
+    }
+}

@@ -1,0 +1,56 @@
+//! What is written, and how a run ends that is done.
+
+ghost use Rattle.std.specs.Prelude.{◌≡◌};
+ghost use Rattle.c62_answer.specs.Run.{status_done, outcome_adopted, outcome_of};
+
+/// How a run ends that is done.
+#[derive(Clone, Copy, PartialEq, Eq, Debug)]
+pub enum Outcome {
+    /// The answer is written; where that is what a check tells, every block is the same.
+    Done,
+    /// The listing of a text that was drained is written: so many cycles were added.
+    Drained(u64),
+    /// What a check tells is written, and some block isn't the same.
+    NotSame,
+}
+
+/// What is to be written, and how the run ends then.
+#[derive(Debug, Drop)]
+pub struct Reply {
+    pub text: Vec<u8>,
+    pub outcome: Outcome,
+}
+
+impl Outcome {
+    /// How an adoption ends, where so many cycles were added.
+    pub fn of_adoption(drain: bool, added: u64) -> Outcome
+        ensures { result ≡ outcome_adopted drain added }
+    {
+        if drain {
+            Outcome::Drained(added)
+        } else {
+            Outcome::Done
+        }
+    }
+
+    /// How a check ends where every block is the same, or not.
+    pub fn of_check(same: bool) -> Outcome
+        ensures { result ≡ outcome_of same }
+    {
+        if same {
+            Outcome::Done
+        } else {
+            Outcome::NotSame
+        }
+    }
+
+    /// The status that the program ends with.
+    pub fn status(self) -> u8
+        ensures { result ≡ status_done self }
+    {
+        match self {
+            Outcome::Done | Outcome::Drained(_) => 0,
+            Outcome::NotSame => 5,
+        }
+    }
+}

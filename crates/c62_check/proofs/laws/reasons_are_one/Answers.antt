@@ -1,5 +1,0 @@
-use Rattle.c62_check.proofs.Reasons.{one_reason}
-use Rattle.c62_check.proofs.laws.reasons_are_one.Goals as goal
-
-pub returns : goal.returns
-returns c = one_reason

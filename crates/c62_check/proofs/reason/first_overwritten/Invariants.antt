@@ -1,6 +1,0 @@
-use Rattle.c62_check.specs.Reason.{IsOverwritten}
-use Rattle.c62_check.proofs.GoneOver.{AreNot}
-use Rattle.c62_check.proofs.reason.first_overwritten.Given as goal
-
-abbrev pub invariant-loop-write : goal.invariant-loop-write
-invariant-loop-write l = AreNot (IsOverwritten l.fn.second l.fn.cycles) l.writes l.write-index

@@ -1,6 +1,0 @@
-use Rattle.c62_check.specs.Reason.{IsBehind}
-use Rattle.c62_check.proofs.GoneOver.{AreNot}
-use Rattle.c62_check.proofs.reason.is_overwritten.Given as goal
-
-abbrev pub invariant-loop-write : goal.invariant-loop-write
-invariant-loop-write l = AreNot (IsBehind l.fn.cycles l.fn.earlier) l.write-items l.write-index

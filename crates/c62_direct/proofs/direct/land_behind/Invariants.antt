@@ -1,6 +1,0 @@
-use Rattle.c62_depend.proofs.Common.{insns_in}
-use Rattle.c62_direct.proofs.Linked.{AreShort}
-use Rattle.c62_direct.proofs.direct.land_behind.Given as goal
-
-abbrev pub invariant-loop-link : goal.invariant-loop-link
-invariant-loop-link l = AreShort (insns_in l.uses) l.i l.followers l.link-index

@@ -1,5 +1,0 @@
-use Rattle.c62_depend.proofs.Common.{[], AreLists}
-use Rattle.c62_direct.proofs.direct.no_links.Given as goal
-
-abbrev pub invariant-loop : goal.invariant-loop
-invariant-loop l = AreLists (λ i. []) l.counter l.all.items

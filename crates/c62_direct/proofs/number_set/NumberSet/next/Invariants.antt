@@ -1,9 +1,0 @@
-use Rattle.c62_depend.proofs.Common.{◌-◌}
-use Rattle.c62_direct.proofs.NumberSets.{IsSearched}
-use Rattle.c62_direct.proofs.number_set.NumberSet.next.Given as goal
-
-abbrev pub invariant-loop-at : goal.invariant-loop-at
-invariant-loop-at l = IsSearched l.fn.self.words l.fn.from l.at
-
-abbrev pub decreases-loop-at : goal.decreases-loop-at
-decreases-loop-at l = 256 - l.at

@@ -1,5 +1,0 @@
-pub mod NumberSet
-pub mod Since
-pub mod Open
-pub mod Walk
-pub mod Laws

@@ -1,0 +1,3 @@
+pub mod Sentence
+pub mod Near
+pub mod Picture

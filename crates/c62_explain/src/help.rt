@@ -1,0 +1,340 @@
+//! What may help where a line has a fault.
+
+use crate::names::{is_left_out, is_of_others, nearest_mnemonic};
+use crate::near::is_near;
+use crate::operands::{push_forms, push_letters, push_range, push_sides};
+use crate::picture::{push_margin, push_number};
+use c62_insn::FormFault;
+use c62_line::{
+    Cause, Mnemonic, ReadFault, first_condition, first_label, first_mnemonic, label_field,
+    unit_behind,
+};
+use c62_place::{Place, Sort, operands_end};
+use c62_read::first_line;
+use c62_token::number::{is_label, spells};
+use c62_token::{Tokens, begins_with};
+use std::alloc::{AllocError, Global};
+
+/// A faulty line of a text.
+#[derive(Clone, Copy)]
+pub(crate) struct Faulty<'a> {
+    pub text: &'a [u8],
+    pub line: &'a [u8],
+    pub fault: ReadFault,
+    pub place: Place,
+}
+
+/// A line of help, of these words one behind the other.
+fn push_hint(out: &mut Vec<u8>, number: u32, words: &[&[u8]]) -> Result<(), AllocError> {
+    push_margin(out, number)?;
+    out.extend_from_slice(b" = help: ")?;
+    for word in words {
+        out.extend_from_slice(word)?;
+    }
+    out.extend_from_slice(b"\n")
+}
+
+impl<'a> Faulty<'a> {
+    /// The token at which the fault is found.
+    fn word(self) -> &'a [u8] {
+        let start = self.place.start.min(self.line.len());
+        let behind = &self.line[start..];
+        &behind[..self.place.len.min(behind.len())]
+    }
+
+    /// The tokens behind the one at which the fault is found.
+    fn behind(self) -> Tokens<'a> {
+        let start = self.place.start.min(self.line.len());
+        let behind = &self.line[start..];
+        Tokens::new(&behind[self.place.len.min(behind.len())..])
+    }
+
+    fn push(self, out: &mut Vec<u8>, words: &[&[u8]]) -> Result<(), AllocError> {
+        push_hint(out, self.fault.line, words)
+    }
+
+    /// The mnemonic of the line, and the tokens behind it.
+    fn mnemonic(self) -> Option<(Mnemonic, Tokens<'a>)> {
+        let (_label, rest) = first_label(Tokens::new(self.line));
+        let (_cond, rest) = first_condition(rest)?;
+        first_mnemonic(rest)
+    }
+}
+
+/// Whether the first token is a mnemonic.
+fn begins_with_mnemonic(rest: Tokens<'_>) -> bool {
+    first_mnemonic(rest).is_some()
+}
+
+/// Help for a word that is no mnemonic.
+fn push_mnemonic_help(out: &mut Vec<u8>, at: Faulty<'_>) -> Result<(), AllocError> {
+    let word = at.word();
+    if word.is_empty() {
+        return Ok(());
+    }
+    if is_left_out(word) {
+        return at.push(
+            out,
+            &[
+                word,
+                b" is an instruction of the C62x that c62 leaves out (docs/MACHINE.md)",
+            ],
+        );
+    }
+    if is_of_others(word) {
+        return at.push(out, &[word, b" is an instruction of the C64x or the C67x"]);
+    }
+    if begins_with(b'#', word) || begins_with(b'/', word) || begins_with(b'*', word) {
+        return at.push(
+            out,
+            &[b"a comment begins with `;`, or with `*` as the first byte of its line"],
+        );
+    }
+    if let Some(name) = nearest_mnemonic(word) {
+        return at.push(out, &[b"the nearest mnemonic is ", name.as_bytes()]);
+    }
+    if begins_with_mnemonic(at.behind()) {
+        return at.push(out, &[b"a label ends in a colon: ", word, b":"]);
+    }
+    Ok(())
+}
+
+/// The nearest label of the text: the same in another case, or one letter off.
+fn nearest_label<'a>(text: &'a [u8], word: &[u8]) -> Option<&'a [u8]> {
+    let mut rest = text;
+    while let Some((line, after)) = first_line(rest) {
+        if let Some(label) = label_field(line) {
+            if spells(label, word) || is_near(label, word) {
+                return Some(label);
+            }
+        }
+        rest = after;
+    }
+    None
+}
+
+/// The number of the first line with this label.
+fn line_with_label(text: &[u8], word: &[u8]) -> u32 {
+    let mut rest = text;
+    let mut number: u32 = 1;
+    while let Some((line, after)) = first_line(rest) {
+        if label_field(line) == Some(word) {
+            return number;
+        }
+        number = number.saturating_add(1);
+        rest = after;
+    }
+    0
+}
+
+fn push_target_help(out: &mut Vec<u8>, at: Faulty<'_>) -> Result<(), AllocError> {
+    match nearest_label(at.text, at.word()) {
+        Some(label) => at.push(out, &[b"the nearest label is ", label]),
+        None => Ok(()),
+    }
+}
+
+fn push_label_help(out: &mut Vec<u8>, at: Faulty<'_>, alloc: Global) -> Result<(), AllocError> {
+    let mut number = Vec::new(alloc);
+    push_number(&mut number, u64::from(line_with_label(at.text, at.word())))?;
+    at.push(out, &[b"line ", &number, b" has it"])
+}
+
+/// Whether the word is a letter of a register file and a number.
+fn looks_like_register(word: &[u8]) -> bool {
+    match word {
+        [b'A' | b'B' | b'a' | b'b', first, ..] => first.is_ascii_digit(),
+        _ => false,
+    }
+}
+
+fn begins_with_digit(word: &[u8]) -> bool {
+    match word {
+        [] => false,
+        [first, ..] => first.is_ascii_digit(),
+    }
+}
+
+/// The operands of a line as far as they are right, and what may come next.
+#[derive(Drop)]
+struct Operands {
+    mnemonic: Mnemonic,
+    /// The tokens that begin the operands of a form, and one more for the token that is asked for.
+    sorts: Vec<Sort>,
+}
+
+impl Operands {
+    /// The operands of a line whose label, condition, mnemonic and unit are right.
+    fn of(alloc: Global, at: Faulty<'_>) -> Result<Option<Operands>, AllocError> {
+        let Some((mnemonic, rest)) = at.mnemonic() else {
+            return Ok(None);
+        };
+        let Some((_unit, rest)) = unit_behind(mnemonic, rest) else {
+            return Ok(None);
+        };
+        let mut sorts = sorts_of(alloc, rest)?;
+        sorts.truncate(operands_end(mnemonic, &sorts));
+        sorts.push(Sort::Other)?;
+        Ok(Some(Operands { mnemonic, sorts }))
+    }
+
+    /// Whether some form goes on with a token of this sort.
+    fn wants(&mut self, sort: Sort) -> bool {
+        if let Some(last) = self.sorts.last_mut() {
+            *last = sort;
+        }
+        operands_end(self.mnemonic, &self.sorts) == self.sorts.len()
+    }
+}
+
+/// What sorts of tokens are left.
+fn sorts_of(alloc: Global, rest: Tokens<'_>) -> Result<Vec<Sort>, AllocError> {
+    let mut sorts = Vec::new(alloc);
+    let mut left = rest;
+    while let Some((word, behind)) = left.split() {
+        sorts.push(Sort::of(word))?;
+        left = behind;
+    }
+    Ok(sorts)
+}
+
+/// What is told of a name where a register is wanted.
+fn register_help(word: &[u8]) -> Option<&'static [u8]> {
+    if looks_like_register(word) {
+        Some(b"the registers are A0 to A15 and B0 to B15")
+    } else if spells(b"SP", word) {
+        Some(b"the stack pointer is written as B15")
+    } else if spells(b"DP", word) {
+        Some(b"the data pointer is written as B14")
+    } else if spells(b"FP", word) {
+        Some(b"the frame pointer is written as A15")
+    } else {
+        None
+    }
+}
+
+/// What is told of a word that is no number where a number is wanted.
+fn number_help(word: &[u8]) -> Option<&'static [u8]> {
+    if begins_with_digit(word) {
+        Some(b"a number is decimal without a 0 in front, or 0x and hexadecimal digits")
+    } else if is_label(word) {
+        Some(b"symbols aren't known: write the number")
+    } else {
+        None
+    }
+}
+
+/// What is told of a word with which no operands go on, where something is known of it.
+fn word_help(mut operands: Operands, word: &[u8]) -> Option<&'static [u8]> {
+    if word.is_empty() {
+        return Some(b"the line ends here, and operands are missing");
+    }
+    if begins_with(b'(', word) || begins_with(b'[', word) {
+        return Some(b"an offset is written with a sign and in brackets, as *+A4[2]");
+    }
+    if operands.wants(Sort::Comma) {
+        return Some(b"a comma is wanted here");
+    }
+    if operands.wants(Sort::Register) {
+        if let Some(help) = register_help(word) {
+            return Some(help);
+        }
+    }
+    if operands.wants(Sort::Number) {
+        return number_help(word);
+    }
+    None
+}
+
+fn push_operand_help(out: &mut Vec<u8>, at: Faulty<'_>, alloc: Global) -> Result<(), AllocError> {
+    let Some(operands) = Operands::of(alloc, at)? else {
+        return at.push(
+            out,
+            &[b"a condition is [R] or [!R] with R one of A1, A2, B0, B1 and B2"],
+        );
+    };
+    let mnemonic = operands.mnemonic;
+    if !matches!(mnemonic, Mnemonic::Nop) {
+        if let Some(help) = word_help(operands, at.word()) {
+            at.push(out, &[help])?;
+        }
+    }
+    let mut forms = Vec::new(alloc);
+    push_forms(&mut forms, mnemonic)?;
+    at.push(out, &[&forms])
+}
+
+fn push_unit_help(out: &mut Vec<u8>, at: Faulty<'_>, alloc: Global) -> Result<(), AllocError> {
+    let Some((mnemonic, _)) = at.mnemonic() else {
+        return Ok(());
+    };
+    let mut letters = Vec::new(alloc);
+    push_letters(&mut letters, mnemonic)?;
+    at.push(out, &[&letters])
+}
+
+fn push_range_help(out: &mut Vec<u8>, at: Faulty<'_>, alloc: Global) -> Result<(), AllocError> {
+    let Some((mnemonic, rest)) = at.mnemonic() else {
+        return Ok(());
+    };
+    let mut range = Vec::new(alloc);
+    push_range(&mut range, alloc, mnemonic, rest)?;
+    at.push(out, &[&range])
+}
+
+fn push_side_help(out: &mut Vec<u8>, at: Faulty<'_>, alloc: Global) -> Result<(), AllocError> {
+    let Some((_, rest)) = at.mnemonic() else {
+        return Ok(());
+    };
+    let mut sides = Vec::new(alloc);
+    push_sides(&mut sides, rest)?;
+    at.push(out, &[&sides])
+}
+
+fn push_form_help(
+    out: &mut Vec<u8>,
+    at: Faulty<'_>,
+    fault: FormFault,
+    alloc: Global,
+) -> Result<(), AllocError> {
+    match fault {
+        FormFault::BadCondition => Ok(()),
+        FormFault::ConstantRange => push_range_help(out, at, alloc),
+        FormFault::TwoCrossed => {
+            push_side_help(out, at, alloc)?;
+            at.push(
+                out,
+                &[b"one source comes over the cross path: bring the other one over by MV first"],
+            )
+        }
+        FormFault::BadSide => push_side_help(out, at, alloc),
+        FormFault::NoUnit => {
+            push_side_help(out, at, alloc)?;
+            push_unit_help(out, at, alloc)
+        }
+    }
+}
+
+/// Lines of help for a fault, none where nothing is known that helps.
+pub(crate) fn help_of(alloc: Global, at: Faulty<'_>) -> Result<Vec<u8>, AllocError> {
+    let mut out = Vec::new(alloc);
+    match at.fault.cause {
+        Cause::UnknownMnemonic => push_mnemonic_help(&mut out, at)?,
+        Cause::BadUnit => push_unit_help(&mut out, at, alloc)?,
+        Cause::BadOperand => push_operand_help(&mut out, at, alloc)?,
+        Cause::Form(fault) => push_form_help(&mut out, at, fault, alloc)?,
+        Cause::UnknownTarget => push_target_help(&mut out, at)?,
+        Cause::DuplicateLabel => push_label_help(&mut out, at, alloc)?,
+        Cause::BadLabel => at.push(
+            &mut out,
+            &[b"register pairs are left out, as results of 40 bits are"],
+        )?,
+        Cause::Directive => at.push(
+            &mut out,
+            &[b"`adopt` reads texts with directives, and docs/ADOPT.md says which"],
+        )?,
+        Cause::ParallelBar => at.push(&mut out, &[b"`adopt` reads packets, and `sim` a listing"])?,
+        _ => (),
+    }
+    Ok(out)
+}

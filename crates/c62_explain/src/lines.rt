@@ -1,0 +1,124 @@
+//! What is answered of the faults of a text.
+
+ghost use Rattle.std.specs.Prelude.{◌≡◌, ◌≤◌, ◌<◌, ◌^◌, IfOk, OnOk};
+ghost use Rattle.c62_explain.specs.Picture.{Adds, Explains, IsPlaceIn, Lints, LintsOne, LintsText, line_at};
+
+use crate::help::{Faulty, help_of};
+use crate::picture::{push_lint_line, push_picture};
+use c62_line::ReadFault;
+use c62_lint::faults_of;
+use c62_place::{Place, place_of};
+use c62_read::first_line;
+use std::alloc::{AllocError, Global};
+
+/// How many faults can be asked for.
+pub const MOST_FAULTS: usize = 1000;
+
+/// The line of this number in a text, from 1, without its end; an empty one where there is none.
+fn line_at(text: &[u8], number: u32) -> &[u8]
+    ensures { result.now ≡ line_at text.now number }
+{
+    let mut left = number;
+    let mut rest = text;
+    while let Some((line, after)) = first_line(rest) {
+        if left <= 1 {
+            return line;
+        }
+        left -= 1;
+        rest = after;
+    }
+    &[]
+}
+
+/// Where a fault of this text is found in its line.
+fn place_in(alloc: Global, text: &[u8], fault: ReadFault) -> Result<Place, AllocError>
+    ensures place { IfOk result (λ place. IsPlaceIn text.now fault place) }
+    ensures bound { IfOk result (λ place. place.start < 2 ^ 63) }
+{
+    place_of(alloc, fault.cause, line_at(text, fault.line))
+}
+
+/// A line for this fault.
+fn push_lint(
+    out: &mut Vec<u8>,
+    alloc: Global,
+    name: &[u8],
+    text: &[u8],
+    fault: ReadFault,
+) -> Result<(), AllocError>
+    ensures { OnOk result (Adds (LintsOne name.now text.now fault) out.old.items out.new.items) }
+{
+    let place = place_in(alloc, text, fault)?;
+    push_lint_line(out, name, fault, place)
+}
+
+/// A line for each of these faults.
+fn push_lints(
+    out: &mut Vec<u8>,
+    alloc: Global,
+    name: &[u8],
+    text: &[u8],
+    faults: &[ReadFault],
+) -> Result<(), AllocError>
+    ensures { OnOk result (Adds (Lints name.now text.now faults.now) out.old.items out.new.items) }
+{
+    match faults {
+        [] => Ok(()),
+        [fault, others @ ..] => {
+            push_lint(out, alloc, name, text, *fault)?;
+            push_lints(out, alloc, name, text, others)?;
+            Ok(())
+        }
+    }
+}
+
+/// A line `FILE:LINE:COLUMN: error: NAME: SENTENCE` for each faulty line of a serial text, at most so many, with the line's
+/// first fault. The first is what `read_program` refuses the text for, and there is none where it doesn't (docs/FAULTS.md,
+/// "All faults at once").
+///
+/// # Errors
+///
+/// `AllocError` where memory ran out.
+pub fn lint(alloc: Global, name: &[u8], text: &[u8], most: usize) -> Result<Vec<u8>, AllocError>
+    requires { 1 ≤ most }
+    ensures { IfOk result (λ out. LintsText name.now text.now most out.items) }
+{
+    let faults = faults_of(alloc, text, most.min(MOST_FAULTS))?;
+    let mut out = Vec::new(alloc);
+    push_lints(&mut out, alloc, name, text, &faults)?;
+    Ok(out)
+}
+
+/// Where a fault of this text is found, its line with carets under it, what is wrong, and a way out where one is known
+/// (docs/FAULTS.md, "What `--explain` prints"). Of a fault of no line there is nothing more to say.
+///
+/// # Errors
+///
+/// `AllocError` where memory ran out.
+pub fn explain(
+    alloc: Global,
+    name: &[u8],
+    text: &[u8],
+    fault: ReadFault,
+) -> Result<Vec<u8>, AllocError>
+    ensures { IfOk result (λ out. Explains name.now text.now fault out.items) }
+{
+    if fault.line == 0 {
+        return Ok(Vec::new(alloc));
+    }
+    let place = place_in(alloc, text, fault)?;
+    let line = line_at(text, fault.line);
+    let mut out = Vec::new(alloc);
+    push_picture(&mut out, name, line, fault, place)?;
+    let help = help_of(
+        alloc,
+        Faulty {
+            text,
+            line,
+            fault,
+            place,
+        },
+    )?;
+    out.extend_from_slice(&help)?;
+    Ok(out)
+}

@@ -1,0 +1,9 @@
+use Rattle.std.proofs.Common.{drop, map}
+use Rattle.std.specs.Prelude.{string_bytes}
+use Rattle.c62_files.specs.Words.{text_piece}
+use Rattle.c62_files.specs.Expand.{IsGrown}
+use Rattle.c62_files.proofs.expand.expanded.Given as goal
+
+abbrev pub invariant-loop-piece : goal.invariant-loop-piece
+invariant-loop-piece g l =
+    IsGrown (g.F.Folder.holds l.folder) (map text_piece l.pieces) (map string_bytes l.words.items) (map text_piece (drop l.piece-index l.pieces))

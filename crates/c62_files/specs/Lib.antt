@@ -1,0 +1,4 @@
+pub mod Words
+pub mod Call
+pub mod Settings
+pub mod Expand

@@ -1,0 +1,106 @@
+//! Puts the words of files of settings into their places among the words of a call.
+
+ghost use Rattle.std.specs.Prelude.{◌≡◌, ◌++◌, ◌∷◌, ◌≤◌, List, [], IfOk, IfSome, OnOk, length, map, string_bytes};
+ghost use Rattle.std.specs.Str.Lossy.{utf8_lossy};
+ghost use Rattle.c62_files.specs.Words.{Text, text_piece};
+ghost use Rattle.c62_files.specs.Settings.{settings_words};
+ghost use Rattle.c62_files.specs.Expand.{Expands, Gives};
+
+use crate::folder::{FileError, Folder};
+use crate::piece::Piece;
+use crate::settings::settings_words;
+use std::alloc::{AllocError, Global};
+use std::io;
+
+/// The most bytes of a file of settings.
+pub const MOST_SETTINGS: usize = 1_048_576;
+
+/// The file of this name isn't read.
+#[derive(Debug, Drop)]
+pub struct Unread<'a> {
+    pub name: &'a str,
+    pub error: FileError,
+}
+
+/// Adds the words of a file of settings.
+fn push_settings(alloc: Global, words: &mut Vec<String>, bytes: &[u8]) -> Result<(), AllocError>
+    ensures { OnOk result (map string_bytes words.new.items ≡ map string_bytes words.old.items ++ map utf8_lossy (settings_words bytes.now)) }
+{
+    let read = settings_words(alloc, bytes)?;
+    for word in &read {
+        words.push(String::from_utf8_lossy(alloc, word)?)?;
+    }
+    Ok(())
+}
+
+/// What a file of settings holds.
+fn settings_in<F: Folder>(alloc: Global, folder: &F, name: &str) -> Result<Vec<u8>, FileError>
+    ensures held { IfOk result (λ bytes. IfSome (F.holds folder.now name.now) (λ all. bytes.items ≡ all)) }
+    ensures short { IfOk result (λ bytes. length bytes.items ≤ MOST_SETTINGS) }
+{
+    let bytes = folder.read(alloc, name, MOST_SETTINGS)?;
+    if bytes.len() > MOST_SETTINGS {
+        return Err(FileError::Failed(io::Error::from(io::ErrorKind::FileTooLarge)));
+    }
+    Ok(bytes)
+}
+
+/// Adds a word.
+fn push_word(alloc: Global, words: &mut Vec<String>, word: &str) -> Result<(), AllocError>
+    ensures { OnOk result (map string_bytes words.new.items ≡ map string_bytes words.old.items ++ word.now ∷ []) }
+{
+    words.push(String::from_str(alloc, word)?)?;
+    Ok(())
+}
+
+/// Adds what stands in the place of a word.
+fn push_words<F: Folder>(
+    alloc: Global,
+    folder: &F,
+    words: &mut Vec<String>,
+    piece: &Piece<'_>,
+) -> Result<(), FileError>
+    ensures { OnOk result ((mine : List Text) × Gives (F.holds folder.now) (text_piece piece.now) mine
+        × (map string_bytes words.new.items ≡ map string_bytes words.old.items ++ mine)) }
+{
+    match piece {
+        Piece::Plain(word) => Ok(push_word(alloc, words, *word)?),
+        Piece::Settings(name) => {
+            let bytes = settings_in(alloc, folder, *name)?;
+            Ok(push_settings(alloc, words, &bytes)?)
+        }
+        Piece::Input(_) | Piece::Output(_) => Ok(()),
+    }
+}
+
+/// The name of the file whose words stand in the place of a word; that of another word is empty.
+fn name_of<'a>(piece: &Piece<'a>) -> &'a str {
+    match piece {
+        Piece::Settings(name) => *name,
+        Piece::Plain(_) | Piece::Input(_) | Piece::Output(_) => "",
+    }
+}
+
+/// The words of a call, with those of its files of settings in their places.
+///
+/// # Errors
+///
+/// Where such a file can't be read or is longer than [`MOST_SETTINGS`], or memory ran out.
+pub fn expanded<'a, F: Folder>(
+    alloc: Global,
+    folder: &F,
+    pieces: &[Piece<'a>],
+) -> Result<Vec<String>, Unread<'a>>
+    ensures { IfOk result (λ words. Expands (F.holds folder.now) (map text_piece pieces.now) (map string_bytes words.items)) }
+{
+    let mut words = Vec::new(alloc);
+    for piece in pieces {
+        if let Err(error) = push_words(alloc, folder, &mut words, piece) {
+            return Err(Unread {
+                name: name_of(piece),
+                error,
+            });
+        }
+    }
+    Ok(words)
+}

@@ -1,0 +1,15 @@
+//! The files that the words of the command line name: which words do, and how files are read and written (docs/COMMANDS.md,
+//! "Files").
+#![tactic(auto)]
+
+mod call;
+mod expand;
+mod folder;
+mod piece;
+mod settings;
+mod wanted;
+
+pub use call::{Call, CallError, Source, call_of};
+pub use expand::{MOST_SETTINGS, Unread, expanded};
+pub use folder::{Disk, FileError, Folder};
+pub use piece::Piece;

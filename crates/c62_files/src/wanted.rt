@@ -1,0 +1,64 @@
+//! What an option wants of the word behind it.
+
+ghost use Rattle.std.specs.Prelude.{◌≡◌, option_map};
+ghost use Rattle.c62_files.specs.Words.{wanted_by, wanted_by_command, option_of};
+
+/// What a word is, by the one before it.
+#[derive(Clone, Copy, PartialEq, Eq, Debug)]
+pub enum Wanted {
+    /// The command: the first word.
+    Command,
+    /// What it is by itself.
+    Nothing,
+    /// The value of an option of the command.
+    Value,
+    /// The name of the file that the answer goes to: behind `-o`.
+    Output,
+    /// The name of a file of settings: behind `--settings`.
+    Settings,
+    /// A word for the command, and so are all behind it: behind `help`.
+    Help,
+}
+
+impl Wanted {
+    /// What the word behind a command is.
+    pub fn by_command(command: &str) -> Wanted
+        ensures { result ≡ wanted_by_command command.now }
+    {
+        if command == "help" {
+            Wanted::Help
+        } else {
+            Wanted::Nothing
+        }
+    }
+
+    /// What the word behind this one is, which is no command and no value.
+    pub fn by(word: &str) -> Wanted
+        ensures { result ≡ wanted_by word.now }
+    {
+        if word == "-o" {
+            Wanted::Output
+        } else if word == "--settings" {
+            Wanted::Settings
+        } else if word == "--eject"
+            || word == "--blocks"
+            || word == "--cycles"
+            || word == "--from"
+        {
+            Wanted::Value
+        } else {
+            Wanted::Nothing
+        }
+    }
+
+    /// The option that wants the name of a file.
+    pub fn option(self) -> Option<&'static str>
+        ensures { option_map (λ option. option.now) result ≡ option_of self }
+    {
+        match self {
+            Wanted::Output => Some("-o"),
+            Wanted::Settings => Some("--settings"),
+            Wanted::Command | Wanted::Nothing | Wanted::Value | Wanted::Help => None,
+        }
+    }
+}

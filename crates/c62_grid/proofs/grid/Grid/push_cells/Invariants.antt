@@ -1,0 +1,11 @@
+use Rattle.std.proofs.Common.{◌≡◌, ◌++◌, drop}
+use Rattle.std.specs.Prelude.{find, string_bytes}
+use Rattle.std.specs.List.{flat_map}
+use Rattle.c62_op.specs.Units.{all_units}
+use Rattle.c62_grid.specs.Grid.{cell, cells, is_on}
+use Rattle.c62_grid.proofs.grid.Grid.push_cells.Given as goal
+
+abbrev pub invariant-loop-unit : goal.invariant-loop-unit
+invariant-loop-unit l =
+    string_bytes l.row ++ flat_map (λ unit. cell l.self.widths l.self.path.now (find (is_on unit) l.issued)) (drop l.unit-index all_units)
+    ≡ string_bytes l.fn.row ++ cells l.self.widths l.self.path.now l.issued

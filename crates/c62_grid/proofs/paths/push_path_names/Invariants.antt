@@ -1,0 +1,9 @@
+use Rattle.std.proofs.Common.{◌≡◌, ◌++◌, drop}
+use Rattle.std.specs.Prelude.{string_bytes}
+use Rattle.std.specs.List.{flat_map}
+use Rattle.c62_grid.specs.Paths.{all_paths, path_name, path_names, path_word}
+use Rattle.c62_grid.proofs.paths.push_path_names.Given as goal
+
+abbrev pub invariant-loop-path : goal.invariant-loop-path
+invariant-loop-path l =
+    string_bytes l.row ++ flat_map (λ path. path_word l.widths (path_name path)) (drop l.path-index all_paths) ≡ string_bytes l.fn.row ++ path_names l.widths

@@ -1,0 +1,16 @@
+pub mod Apart
+pub mod Along
+pub mod Counting
+pub mod Passes
+pub mod Pipelined
+pub mod Between
+pub mod Kept
+pub mod Standing
+pub mod Turning
+pub mod LaterRows
+pub mod Members
+pub mod Whole
+pub mod Checks
+pub mod Sums
+pub mod Rounds
+pub mod Past

@@ -1,0 +1,2 @@
+pub mod GoneOver
+pub mod Reasons

@@ -1,0 +1,6 @@
+use Rattle.c62_reason.specs.Reason.{IsOverwritten}
+use Rattle.c62_reason.proofs.GoneOver.{AreNot}
+use Rattle.c62_reason.proofs.reason.first_overwritten.Given as goal
+
+abbrev pub invariant-loop-write : goal.invariant-loop-write
+invariant-loop-write l = AreNot (IsOverwritten l.fn.second l.fn.cycles) l.writes l.write-index

@@ -1,0 +1,29 @@
+-- Texts of packets and their rows (docs/EXEC.md, "What holds").
+use Rattle.std.specs.Prelude.{◌≡◌, ◌⊎◌, ℕ, List, Option}
+use Rattle.c62_read.specs.Program.{Name}
+use Rattle.c62_flight.specs.Text.{Text}
+use Rattle.c62_rows.specs.declared.fault.RowsFault.{RowsFault}
+use Rattle.c62_rows.specs.declared.fault.RowsFault.TheVariants.{Memory}
+use Rattle.c62_rows.specs.Text.{IsText, IsTextFrom, RefusesFrom}
+
+-- a text has one list of rows, and one row for each label
+abbrev pub HasOneText : List ℕ → Type 0
+HasOneText text =
+    (flying other : Text) (labels names : List (Name × ℕ)) → IsText text flying labels → IsText text other names → (flying ≡ other) × (labels ≡ names)
+
+-- and a run that begins with a label, or with none, has one first row
+abbrev pub HasOneStart : List ℕ → Option Name → Type 0
+HasOneStart text from =
+    (flying other : Text) (first next : ℕ) → IsTextFrom text from flying first → IsTextFrom text from other next → (flying ≡ other) × (first ≡ next)
+
+-- it is refused in one way, where memory does not run out
+abbrev pub HasOneRefusal : List ℕ → Option Name → Type 0
+HasOneRefusal text from =
+    (fault other : RowsFault) → RefusesFrom text from fault → RefusesFrom text from other → (fault ≡ other) ⊎ ((fault ≡ Memory) ⊎ (other ≡ Memory))
+
+-- what makes rows is not refused but for memory, and nothing makes two lists of rows or is refused in two ways
+pub record HasOneAnswer (text : List ℕ) (from : Option Name) : Type 0 where
+  pub rows : HasOneText text
+  pub start : HasOneStart text from
+  pub refusal : (flying : Text) (first : ℕ) (fault : RowsFault) → IsTextFrom text from flying first → RefusesFrom text from fault → fault ≡ Memory
+  pub one_refusal : HasOneRefusal text from

@@ -1,0 +1,11 @@
+//! Laws of texts of packets and their rows.
+
+ghost use Rattle.std.specs.Prelude.{ℕ, List, Option};
+ghost use Rattle.c62_read.specs.Program.{Name};
+ghost use Rattle.c62_rows.specs.Laws.{HasOneAnswer};
+
+/// A text has one answer: it makes one list of rows, with one row for each label and one to begin with, or it is refused in one
+/// way. Only memory that ran out may come in its place.
+pub fn texts_have_one_answer()
+    ensures { (text : List ℕ) (from : Option Name) → HasOneAnswer text from }
+{}

@@ -1,0 +1,136 @@
+//! The table of why each instruction isn't issued a cycle earlier.
+
+ghost use Rattle.std.specs.Prelude.{◌++◌, OnOk};
+ghost use Rattle.std.specs.List.{flat_map};
+ghost use Rattle.c62_op.specs.Name.{register_name};
+ghost use Rattle.c62_listing.specs.Written.{AddsText};
+ghost use Rattle.c62_reason.specs.Words.{reason_words};
+ghost use Rattle.c62_show.specs.Whys.{resource_words, held_words, taken_words, cause_words, why_columns, why_row, whole_table, whys_table};
+
+use c62_grid::path_name;
+use c62_grid::words::{push_number, push_register, push_right_number, push_signed, unit_name};
+use c62_insn::Reg;
+use c62_reason::Reason;
+use c62_rules::Resource;
+use c62_why::{Cause, Held, Taken, Why};
+use std::alloc::AllocError;
+
+/// How wide each of the columns of numbers is.
+const NUMBER_WIDTH: usize = 6;
+
+/// A word, and the name of a register behind it.
+fn push_about(out: &mut String, word: &str, reg: Reg) -> Result<(), AllocError>
+    ensures { OnOk result (AddsText out.old (word.now ++ register_name reg) out.new) }
+{
+    out.push_str(word)?;
+    push_register(out, reg)
+}
+
+#[tactic(auto, unfolding(c62_reason::specs::Words::reason_words))]
+fn push_reason(out: &mut String, reason: Reason) -> Result<(), AllocError>
+    ensures { OnOk result (AddsText out.old (reason_words reason) out.new) }
+{
+    match reason {
+        Reason::Reads(reg) => push_about(out, "reads ", reg),
+        Reason::Overwrites(reg) => push_about(out, "overwrites ", reg),
+        Reason::Writes(reg) => push_about(out, "writes ", reg),
+        Reason::AccessesMemory => out.push_str("accesses memory"),
+        Reason::StoresMemory => out.push_str("stores memory"),
+        Reason::Branches => out.push_str("branches -"),
+    }
+}
+
+/// The dependence that an instruction would break.
+#[tactic(auto, unfolding(crate::specs::Whys::held_words))]
+fn push_held(out: &mut String, held: &Held) -> Result<(), AllocError>
+    ensures { OnOk result (AddsText out.old (held_words held.now) out.new) }
+{
+    out.push_str("after ")?;
+    push_number(out, u64::from(held.after))?;
+    out.push_str(" needs ")?;
+    push_signed(out, held.needs)?;
+    out.push_str(" ")?;
+    push_reason(out, held.reason)
+}
+
+/// What there is too little of.
+fn push_resource(out: &mut String, resource: Resource) -> Result<(), AllocError>
+    ensures { OnOk result (AddsText out.old (resource_words resource) out.new) }
+{
+    match resource {
+        Resource::OnUnit(unit) => out.push_str(unit_name(unit)),
+        Resource::CrossPath(_) | Resource::DataPath(_) => out.push_str(path_name(resource)),
+        Resource::ReadsOf(reg) => push_about(out, "reads of ", reg),
+    }
+}
+
+/// What others have taken.
+#[tactic(auto, unfolding(crate::specs::Whys::taken_words))]
+fn push_taken(out: &mut String, taken: &Taken) -> Result<(), AllocError>
+    ensures { OnOk result (AddsText out.old (taken_words taken.now) out.new) }
+{
+    push_resource(out, taken.resource)?;
+    out.push_str(" taken by ")?;
+    push_number(out, u64::from(taken.by))
+}
+
+fn push_cause(out: &mut String, cause: &Cause) -> Result<(), AllocError>
+    ensures { OnOk result (AddsText out.old (cause_words cause.now) out.new) }
+{
+    match cause {
+        Cause::First => out.push_str("-"),
+        Cause::Held(held) => push_held(out, held),
+        Cause::Taken(taken) => push_taken(out, taken),
+        Cause::Nothing => out.push_str("nothing"),
+    }
+}
+
+/// The line of an instruction, its cycle and its slack.
+#[tactic(auto, unfolding(crate::specs::Whys::why_columns))]
+fn push_columns(out: &mut String, why: &Why) -> Result<(), AllocError>
+    ensures { OnOk result (AddsText out.old (why_columns why.now) out.new) }
+{
+    push_right_number(out, NUMBER_WIDTH, u64::from(why.line))?;
+    push_right_number(out, NUMBER_WIDTH, u64::from(why.cycle))?;
+    push_right_number(out, NUMBER_WIDTH, u64::from(why.slack))
+}
+
+/// The row of an instruction.
+#[tactic(auto, unfolding(crate::specs::Whys::why_row))]
+fn push_row(out: &mut String, why: &Why) -> Result<(), AllocError>
+    ensures { OnOk result (AddsText out.old (why_row why.now) out.new) }
+{
+    push_columns(out, why)?;
+    out.push_str("  ")?;
+    push_cause(out, &why.cause)?;
+    out.push_str("\n")
+}
+
+fn push_all(out: &mut String, whys: &[Why]) -> Result<(), AllocError>
+    ensures { OnOk result (AddsText out.old (flat_map why_row whys.now) out.new) }
+{
+    for why in whys {
+        push_row(out, why)?;
+    }
+    Ok(())
+}
+
+/// The table with its heading.
+#[tactic(auto, unfolding(crate::specs::Whys::whole_table))]
+fn push_table(out: &mut String, whys: &[Why]) -> Result<(), AllocError>
+    ensures { OnOk result (AddsText out.old (whole_table whys.now) out.new) }
+{
+    out.push_str("  line cycle slack  not a cycle earlier\n")?;
+    push_all(out, whys)
+}
+
+/// The table, where there is an instruction to tell of.
+pub(crate) fn push_whys(out: &mut String, whys: &[Why]) -> Result<(), AllocError>
+    ensures { OnOk result (AddsText out.old (whys_table whys.now) out.new) }
+{
+    if whys.is_empty() {
+        Ok(())
+    } else {
+        push_table(out, whys)
+    }
+}

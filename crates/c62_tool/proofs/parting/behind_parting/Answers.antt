@@ -1,7 +1,0 @@
-use Rattle.c62_tool.proofs.FirstLine.{begun_or_none, behind}
-use Rattle.c62_tool.proofs.parting.behind_parting.Goals as goal
-
-pub returns-in-Some : goal.returns-in-Some
-returns-in-Some c =
-    let is = behind c.args.bytes.now c.strip_prefix.result c.in-Some.end c.strip_prefix.ensures.cases c.in-Some.is in
-    begun_or_none c.args.bytes.now c.in-Some.end.now c.behind_end.result is c.behind_end.ensures

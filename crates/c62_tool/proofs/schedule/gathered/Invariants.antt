@@ -1,7 +1,0 @@
-use Rattle.std.proofs.Common.{◌≡◌, ◌++◌, length}
-use Rattle.std.specs.Vec.Iter.{into_iter_items, into_iter_len}
-use Rattle.c62_tool.proofs.schedule.gathered.Given as goal
-
-abbrev pub invariant-loop-block : goal.invariant-loop-block
-invariant-loop-block l = (l.packets ++ into_iter_items l.block-iterator ≡ into_iter_items l.initial.block-iterator)
-    × (into_iter_len l.block-iterator ≡ length (into_iter_items l.block-iterator))

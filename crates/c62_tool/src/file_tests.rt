@@ -1,0 +1,351 @@
+//! Runs on files, which stand on a shelf in memory.
+
+ghost use Rattle.std.specs.Prelude.{None};
+
+use crate::program::run_program;
+use c62_files::{FileError, Folder};
+use std::alloc::{AllocError, Global};
+use std::io;
+use std::process::Abort;
+use std::sync::Wait;
+use std::test::Fail;
+use std::thread::Threads;
+
+/// A file of the shelf.
+#[derive(Drop)]
+struct Shelved {
+    name: &'static str,
+    bytes: Vec<u8>,
+}
+
+/// Files in memory. Where it is full, none is written.
+#[derive(Drop)]
+struct Shelf {
+    files: Vec<Shelved>,
+    is_full: bool,
+}
+
+fn copy(alloc: Global, bytes: &[u8]) -> Result<Vec<u8>, AllocError> {
+    let mut copied = Vec::new(alloc);
+    copied.extend_from_slice(bytes)?;
+    Ok(copied)
+}
+
+impl Folder for Shelf {
+    ghost holds = { λ _ _. None };
+
+    fn read(&self, alloc: Global, name: &str, limit: usize) -> Result<Vec<u8>, FileError> {
+        for file in &self.files {
+            if file.name == name {
+                let most = file.bytes.len().min(limit.saturating_add(1));
+                return Ok(copy(alloc, &file.bytes[..most])?);
+            }
+        }
+        Err(FileError::Failed(io::Error::from(io::ErrorKind::NotFound)))
+    }
+
+    fn replace(&mut self, alloc: Global, name: &str, bytes: &[u8]) -> Result<(), FileError> {
+        if self.is_full {
+            return Err(FileError::Failed(io::Error::from(io::ErrorKind::StorageFull)));
+        }
+        for file in &mut self.files {
+            if file.name == name {
+                file.bytes = copy(alloc, bytes)?;
+            }
+        }
+        Ok(())
+    }
+}
+
+/// What stands on the shelf.
+const FILES: [(&str, &[u8]); 9] = [
+    ("first.s", b"MVK 5,A1\n"),
+    ("first.lst", b"   MVK .S1 5,A1\n"),
+    ("both", b"MVK 5,A1\n---\n   MVK .S1 5,A1\n"),
+    ("parted.s", b"MVK 5,A1\n---\nMVK 6,A1\n"),
+    ("return.s", b"MVK 5,A1\r"),
+    ("bad.s", b"\nFOO\n"),
+    ("old", b"what it was"),
+    (
+        "set",
+        b"* A1=9\n A2=3 ; A2=4\nA1=1\t@8=2\r\n; A3=5\n*A3=5\n --blocks\n7",
+    ),
+    ("bad.set", b"A1=1 *A2=3\n"),
+];
+
+/// What of the shelf is wanted of the words that write.
+const LISTING: &str = "   MVK .S1 5,A1\n";
+
+const REPORT: &str = "blocks 1\nexit end\nA1 00000005\nA2 00000003\n";
+
+/// Words, standard input, and the output, what is told and the status.
+const RUNS: [(&[&str], &[u8], &str, &str, u8); 34] = [
+    (&["pack", "--turns", "first.s"], b"FOO", LISTING, "", 0),
+    (&["pack", "first.s", "--eject", "3"], b"FOO", LISTING, "", 0),
+    (&["pack", "-"], b"MVK 5,A1", LISTING, "", 0),
+    (&["pack", "-", "-o", "-"], b"MVK 5,A1", LISTING, "", 0),
+    (&["serial", "first.s", "A2=3"], b"", REPORT, "", 0),
+    (&["serial", "A2=3", "first.s"], b"", REPORT, "", 0),
+    (&["serial", "-", "A2=3"], b"MVK 5,A1", REPORT, "", 0),
+    (&["adopt", "first.lst", "--drain"], b"", LISTING, "", 0),
+    (
+        &["exec", "--from", "L", "first.lst"],
+        b"",
+        "",
+        "from: UnknownTarget\n",
+        1,
+    ),
+    (
+        &["check", "first.s", "first.lst"],
+        b"",
+        "block 0 same\n",
+        "",
+        0,
+    ),
+    (
+        &["check", "-", "first.lst"],
+        b"MVK 5,A1",
+        "block 0 same\n",
+        "",
+        0,
+    ),
+    (
+        &["check", "first.s", "-"],
+        b"MVK .S1 5,A1",
+        "",
+        "listing line 1: Shape\n",
+        1,
+    ),
+    (&["check", "both"], b"", "block 0 same\n", "", 0),
+    (
+        &["check", "parted.s", "first.lst"],
+        b"",
+        "",
+        "text line 2: UnknownMnemonic\n",
+        1,
+    ),
+    (
+        &["check", "return.s", "first.lst"],
+        b"",
+        "",
+        "text line 1: NotAscii\n",
+        1,
+    ),
+    (&["pack", "bad.s"], b"", "", "line 2: UnknownMnemonic\n", 1),
+    (
+        &["pack", "none.s"],
+        b"",
+        "",
+        "cannot read none.s: entity not found\n",
+        4,
+    ),
+    (
+        &["check", "first.s", "none"],
+        b"",
+        "",
+        "cannot read none: entity not found\n",
+        4,
+    ),
+    (
+        &["serial", "A1=zz", "none.s"],
+        b"",
+        "",
+        "setting 1: bad\n",
+        2,
+    ),
+    (
+        &["pack", "first.s", "both"],
+        b"",
+        "",
+        "error: both is one file more than the command reads\n",
+        2,
+    ),
+    (
+        &["check", "first.s", "both", "-"],
+        b"",
+        "",
+        "error: - is one file more than the command reads\n",
+        2,
+    ),
+    (
+        &["check", "-", "-"],
+        b"",
+        "",
+        "error: standard input can't be both the text and the listing\n",
+        2,
+    ),
+    (
+        &["pack", "first.s", "-o"],
+        b"",
+        "",
+        "error: -o wants the name of a file behind it\n",
+        2,
+    ),
+    (
+        &["pack", "-o", "old", "-o", "first.s", "-"],
+        b"",
+        "",
+        "error: first.s is a second file for the answer\n",
+        2,
+    ),
+    (
+        &["pack", "--eject", "first.s"],
+        b"",
+        "",
+        "error: invalid value 'first.s' for '--eject <N>': invalid digit found in string\n\nFor more information, try '--help'.\n",
+        2,
+    ),
+    // The words of a file of settings stand where it is named.
+    (
+        &["serial", "A1=7", "--settings", "set", "first.s"],
+        b"",
+        "blocks 1\nexit end\nA1 00000005\nA2 00000003\n@0008 00000002\n",
+        "",
+        0,
+    ),
+    (
+        &["serial", "-", "A2=7", "--settings", "set", "@8=5"],
+        b"",
+        "blocks 0\nexit end\nA1 00000001\nA2 00000003\n@0008 00000005\n",
+        "",
+        0,
+    ),
+    (
+        &["serial", "A2=7", "--settings", "bad.set", "first.s"],
+        b"",
+        "",
+        "setting 3: bad\n",
+        2,
+    ),
+    (
+        &["serial", "first.s", "--settings", "none"],
+        b"",
+        "",
+        "cannot read none: entity not found\n",
+        4,
+    ),
+    (
+        &["serial", "first.s", "--settings"],
+        b"",
+        "",
+        "error: --settings wants the name of a file behind it\n",
+        2,
+    ),
+    (
+        &[
+            "serial",
+            "--settings",
+            "set",
+            "--settings",
+            "set",
+            "first.s",
+        ],
+        b"",
+        "",
+        "error: the argument '--blocks <N>' cannot be used multiple times\n\nUsage: c62 serial [--blocks <N>] [-o <FILE>] [FILE] [SETTING]...\n\nFor more information, try '--help'.\n",
+        2,
+    ),
+    (&["--version"], b"", "c62 0.10.0 (rattle-kit-13f)\n", "", 0),
+    (&[], b"MVK 5,A1", LISTING, "", 0),
+    (
+        &["serial", "first.s", "", "A2=3"],
+        b"",
+        "",
+        "setting 1: bad\n",
+        2,
+    ),
+];
+
+/// Words, whether the shelf is full, the file that is looked at, what it holds then, what is told, and the status.
+const WRITES: [(&[&str], bool, &str, &str, &str, u8); 5] = [
+    (
+        &["pack", "first.s", "-o", "old"],
+        false,
+        "old",
+        LISTING,
+        "",
+        0,
+    ),
+    (
+        &["pack", "-o", "first.s", "first.s"],
+        false,
+        "first.s",
+        LISTING,
+        "",
+        0,
+    ),
+    (
+        &["pack", "-o", "old", "bad.s"],
+        false,
+        "old",
+        "what it was",
+        "line 2: UnknownMnemonic\n",
+        1,
+    ),
+    (
+        &["pack", "first.s", "-o", "old"],
+        true,
+        "old",
+        "what it was",
+        "cannot write old: no storage space\n",
+        4,
+    ),
+    (
+        &["check", "first.lst", "-o", "old"],
+        false,
+        "old",
+        "what it was",
+        "text line 0: NoListing\n",
+        1,
+    ),
+];
+
+fn filled_shelf(alloc: Global, is_full: bool) -> Result<Shelf, AllocError> {
+    let mut files = Vec::new(alloc);
+    for (name, bytes) in &FILES {
+        files.push(Shelved {
+            name: *name,
+            bytes: copy(alloc, bytes)?,
+        })?;
+    }
+    Ok(Shelf { files, is_full })
+}
+
+/// Runs the words on a shelf. What they answer is wanted.
+fn runs<H: AllocGlobal + Threads + Wait + Abort + Sync>(
+    rt: &H,
+    shelf: &mut Shelf,
+    words: &[&str],
+    input: &[u8],
+    wanted: (&str, &str, u8),
+) {
+    let mut reader = input;
+    let mut output = Vec::new(rt.alloc());
+    let mut errors = Vec::new(rt.alloc());
+    let status = run_program(rt, shelf, words, &mut reader, &mut output, &mut errors);
+    assert_eq!(rt; errors.as_slice(), wanted.1.as_bytes());
+    assert_eq!(rt; output.as_slice(), wanted.0.as_bytes());
+    assert_eq!(rt; status, wanted.2);
+}
+
+#[test]
+fn files_that_are_read(rt: HostRuntime) -> Result<(), Fail> {
+    let mut shelf = filled_shelf(rt.alloc(), false)?;
+    for (words, input, output, errors, status) in &RUNS {
+        runs(&rt, &mut shelf, words, input, (*output, *errors, *status));
+    }
+    Ok(())
+}
+
+#[test]
+fn files_that_are_written(rt: HostRuntime) -> Result<(), Fail> {
+    for (words, is_full, name, bytes, errors, status) in &WRITES {
+        let mut shelf = filled_shelf(rt.alloc(), *is_full)?;
+        runs(&rt, &mut shelf, words, b"", ("", *errors, *status));
+        match shelf.read(rt.alloc(), name, 100) {
+            Ok(found) => assert_eq!(rt; found.as_slice(), bytes.as_bytes()),
+            Err(_) => assert!(rt; false),
+        }
+    }
+    Ok(())
+}

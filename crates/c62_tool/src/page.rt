@@ -1,0 +1,66 @@
+//! The pages that the program tells of itself.
+
+ghost use Rattle.std.specs.Prelude.{◌≡◌, map};
+ghost use Rattle.c62_answer.specs.Message.{told_of};
+ghost use Rattle.c62_tool.specs.Page.{page_asked, page_text};
+
+use c62_answer::{Refused, write_pieces, write_whole};
+use std::convert::AsStr;
+use std::io::Write;
+
+/// The version. It stands here alone: CHANGELOG.md begins with it, and the launcher reads it here.
+const VERSION: &str = "0.10.0";
+
+/// The toolchain that proves this version and builds it.
+const TOOLCHAIN: &str = "rattle-kit-13f";
+
+/// Where texts come from and go to, and what the statuses are (docs/COMMANDS.md).
+const STATUS: &str = "\
+The text is read from the file that is named, or from standard input where none is or it
+is `-`. The answer goes to standard output, or to the file behind -o, which is made whole
+or not at all, as in: c62 pack kernel.s -o kernel.lst
+Settings can stand in a file, as in: c62 run kernel.s --settings kernel.settings
+
+Status, and what standard error says:
+  0  done, and nothing is said but how many cycles were added to drain packets
+  1  the text is refused: `line 7: BadUnit` names its first faulty line and the fault;
+     of a listing also `block 0: NotDrained`, or `block 0 cycle 3: P5` and the packet rule;
+     of packets to be adopted also `line 7: NotDrained`, or `line 7: P5` and the packet rule;
+     of packets in flight also `line 7: TwoBranches`, and `from: UnknownTarget`;
+     of a check it is `text line 7: BadUnit` or `listing line 7: Shape`, each part counted from 1
+  2  the words are refused, by a text that says why, or `setting 2: bad`
+  3  no memory: `memory`
+  4  a stream failed: `input` or `output`; or a file: `cannot read NAME: REASON`, `cannot write NAME: REASON`
+  5  checked, and not each block is the same: the output tells, and nothing is said
+docs/SERIAL_TEXT.md, docs/LISTING.md, docs/ADOPT.md, docs/EXEC.md and docs/CHECK.md tell what each fault is.
+";
+
+/// A page that the program tells of itself.
+#[derive(Clone, Copy, PartialEq, Eq, Debug)]
+pub enum Page {
+    /// Name, version and toolchain: `--version`.
+    Version,
+    /// The streams and the statuses: `help status`.
+    Status,
+}
+
+/// The page that the words ask for.
+pub fn page_asked<S: AsStr>(words: &[S]) -> Option<Page>
+    ensures { result ≡ page_asked (map S.text words.now) }
+{
+    match words {
+        [word] if word.as_str() == "--version" => Some(Page::Version),
+        [word, page] if word.as_str() == "help" && page.as_str() == "status" => Some(Page::Status),
+        _ => None,
+    }
+}
+
+/// Writes a page.
+pub fn write_page<W: Write>(output: &mut W, page: Page) -> Result<(), Refused>
+    ensures { told_of result (W.contents output.old) (W.contents output.new) (page_text page) }
+{
+    match page {
+        Page::Version => write_pieces(output, &["c62 ", VERSION, " (", TOOLCHAIN, ")\n"]),
+        Page::Status => write_whole(output, STATUS.as_bytes()),
+    }
+}

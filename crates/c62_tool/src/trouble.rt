@@ -1,0 +1,117 @@
+//! Why words and files make no run, its status, and what is said of it.
+
+ghost use Rattle.std.specs.Prelude.{◌≡◌};
+ghost use Rattle.c62_answer.specs.Message.{told_of};
+ghost use Rattle.c62_tool.specs.Trouble.{call_message, status_of};
+
+use c62_answer::{Refused, show, write_pieces, write_whole};
+use c62_files::{CallError, FileError};
+use std::alloc::AllocError;
+use std::io;
+use std::io::Write;
+
+/// Why words and files make no run.
+#[derive(Debug, Drop)]
+pub enum Trouble<'a> {
+    /// The words make no call.
+    NoCall(CallError<'a>),
+    /// The file of this name can't be read.
+    Unread(&'a str, io::Error),
+    /// The file of this name can't be written.
+    Unwritten(&'a str, io::Error),
+    /// Standard input can't be read.
+    Input,
+    /// Memory ran out.
+    Memory,
+}
+
+impl From<AllocError> for Trouble<'_> {
+    fn from(_error: AllocError) -> Self {
+        Trouble::Memory
+    }
+}
+
+impl<'a> Trouble<'a> {
+    /// Why the file of this name isn't read.
+    pub fn of_reading(name: &'a str, error: FileError) -> Trouble<'a> {
+        match error {
+            FileError::Memory => Trouble::Memory,
+            FileError::Failed(error) => Trouble::Unread(name, error),
+        }
+    }
+
+    /// Why the file of this name isn't written.
+    pub fn of_writing(name: &'a str, error: FileError) -> Trouble<'a> {
+        match error {
+            FileError::Memory => Trouble::Memory,
+            FileError::Failed(error) => Trouble::Unwritten(name, error),
+        }
+    }
+
+    /// The status that the program ends with.
+    pub fn status(&self) -> u8
+        ensures { result ≡ status_of self.now }
+    {
+        match self {
+            Trouble::NoCall(CallError::Memory) | Trouble::Memory => 3,
+            Trouble::NoCall(_) => 2,
+            Trouble::Unread(_, _) | Trouble::Unwritten(_, _) | Trouble::Input => 4,
+        }
+    }
+}
+
+/// Tells what is wrong with the words.
+fn tell_call<E: Write>(errors: &mut E, error: &CallError<'_>) -> Result<(), Refused>
+    ensures { told_of result (E.contents errors.old) (E.contents errors.new) (call_message error.now) }
+{
+    match error {
+        CallError::NoName(option) => write_pieces(
+            errors,
+            &["error: ", *option, " wants the name of a file behind it\n"],
+        ),
+        CallError::TooManyInputs(name) => write_pieces(
+            errors,
+            &[
+                "error: ",
+                *name,
+                " is one file more than the command reads\n",
+            ],
+        ),
+        CallError::StandardTwice => write_whole(
+            errors,
+            b"error: standard input can't be both the text and the listing\n",
+        ),
+        CallError::TwoOutputs(name) => write_pieces(
+            errors,
+            &["error: ", *name, " is a second file for the answer\n"],
+        ),
+        CallError::Memory => write_whole(errors, b"memory\n"),
+    }
+}
+
+/// Tells `cannot read NAME: REASON`, or what else can't be done with the file.
+fn tell_file<E: Write>(
+    errors: &mut E,
+    what: &str,
+    name: &str,
+    error: &io::Error,
+) -> Result<(), Refused> {
+    write_pieces(errors, &[what, name, ": "])?;
+    show(errors, error)?;
+    write_whole(errors, b"\n")
+}
+
+/// Tells why there is no run.
+///
+/// # Errors
+///
+/// Where the stream takes no more.
+pub fn report<E: Write>(errors: &mut E, trouble: &Trouble<'_>) -> Result<(), Refused> {
+    match trouble {
+        Trouble::NoCall(error) => tell_call(errors, error),
+        Trouble::Unread(name, error) => tell_file(errors, "cannot read ", *name, error),
+        Trouble::Unwritten(name, error) => tell_file(errors, "cannot write ", *name, error),
+        Trouble::Input => write_whole(errors, b"input\n"),
+        Trouble::Memory => write_whole(errors, b"memory\n"),
+    }
+}

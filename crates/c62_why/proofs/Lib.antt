@@ -1,0 +1,5 @@
+pub mod Earlier
+pub mod Latest
+pub mod Uses
+pub mod Holding
+pub mod Whys

@@ -1,0 +1,4 @@
+pub mod Held
+pub mod Taken
+pub mod Why
+pub mod Laws
