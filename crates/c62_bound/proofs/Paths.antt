@@ -22,7 +22,7 @@ pub spot_of : (o : Option Spot) → IsSome o → (s : Spot) × (o ≡ Some s)
 spot_of None is = cc
 spot_of (Some s) is = (s, refl)
 
-bound_of : (block : List Insn) (i j : ℕ) (o : Option ℤ) (cycles : ℤ) → IsLatency block i j o → o ≡ Some cycles → Bounds block i j cycles
+pub bound_of : (block : List Insn) (i j : ℕ) (o : Option ℤ) (cycles : ℤ) → IsLatency block i j o → o ≡ Some cycles → Bounds block i j cycles
 bound_of block i j None cycles is e = absurd (none-some cycles e)
 bound_of block i j (Some l) cycles is e = subst (λ x. Bounds block i j x) (same_Some l cycles e) is.applies
 

@@ -7,9 +7,9 @@ mod length;
 mod need;
 mod path;
 
-pub use greatest::bound;
+pub use greatest::{bound, waits_for};
 pub use length::least_length;
-pub use need::{Kind, Need};
+pub use need::{KINDS, Kind, Need};
 pub use path::{critical_path, path_length};
 
 #[cfg(test)]

@@ -23,6 +23,17 @@ pub enum Kind {
     Path,
 }
 
+/// All kinds, in their order.
+pub const KINDS: [Kind; 7] = [
+    Kind::L,
+    Kind::S,
+    Kind::M,
+    Kind::D,
+    Kind::Ls,
+    Kind::Lsd,
+    Kind::Path,
+];
+
 impl Kind {
     ghost use Rattle.c62_bound.specs.Bound.{has_letter, width};
 

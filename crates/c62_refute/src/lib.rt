@@ -1,0 +1,15 @@
+//! Whether a schedule of at most so many cycles can be: a search over the cycles that are left to each instruction.
+#![tactic(auto)]
+
+mod crowd;
+mod edge;
+mod room;
+mod search;
+mod shrink;
+mod window;
+
+pub use search::{Search, search_for};
+pub use window::Window;
+
+#[cfg(test)]
+mod tests;
