@@ -248,7 +248,8 @@ fn are_implied(rt: &impl Abort, plan: &Plan, text: &str) -> Result<(), Fail> {
                 );
                 let at = usize::from(link.number);
                 let sum = before + latency;
-                reached[at] = match reached[at] {
+                let known = reached[at];
+                reached[at] = match known {
                     Some(other) if other > sum => Some(other),
                     _ => Some(sum),
                 };
