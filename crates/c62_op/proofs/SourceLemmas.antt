@@ -16,7 +16,7 @@ use Rattle.c62_op.specs.declared.operands.Operands.TheVariants.{Three, ConstantF
 use Rattle.c62_op.specs.declared.form.Reach.{Reach}
 use Rattle.c62_op.specs.declared.form.Reach.TheVariants.{Own, Crossing}
 use Rattle.c62_op.specs.declared.form.Pattern.{Pattern}
-use Rattle.c62_op.specs.declared.form.Pattern.TheVariants.{TwoSources, ConstantSource, SourceConstant, OneSource, SourceField, ConstantAlone, Address, ToBlock, ToRegister}
+use Rattle.c62_op.specs.declared.form.Pattern.TheVariants.{TwoSources, ConstantSource, SourceConstant, OneSource, SourceField, Address, ToRegister}
 use Rattle.c62_op.specs.Table.{forms_of}
 use Rattle.c62_op.specs.Takes.{same_side, may_lie, offset_on, holds_constants, registers_fit, takes}
 use Rattle.c62_op.specs.Shape.{side_of}

@@ -1,4 +1,3 @@
-use Rattle.std.proofs.Common.{rules}
 use Rattle.c62_op.proofs.TakerLemmas.{takers_more}
 use Rattle.c62_op.proofs.form.units_taking.Goals as goal
 
