@@ -12,7 +12,7 @@ use Rattle.c62_adopt_cut.specs.Blocks.{Issue, Draft}
 use Rattle.c62_adopt_cut.specs.Text.{Cut}
 use Rattle.c62_adopt_cut.specs.Flight.{branches, next_start}
 use Rattle.c62_adopt_late.specs.declared.late.Late.{Late}
-use Rattle.c62_adopt_late.specs.Late.{cycle_at, first_late, is_read_old, late, late_among, late_in, late_issue, late_write}
+use Rattle.c62_adopt_late.specs.Late.{cycle_at, is_read_old, late, late_among, late_in, late_issue, late_write}
 use Rattle.c62_adopt_late.specs.Laws.{IsLate, LateIsTold}
 
 -- ---- lists and options
