@@ -1,17 +1,12 @@
 //! The side of an instruction, and the units that it may stand on.
 
-ghost use Rattle.std.specs.Prelude.{◌≡◌, ◌&&◌, ◌<◌, length, IfOk};
-ghost use Rattle.c62_op.specs.declared.register.Unit.{Unit as FunctionalUnit};
+ghost use Rattle.std.specs.Prelude.{◌≡◌, ◌<◌, length, IfOk};
 ghost use Rattle.c62_op.specs.Shape.{side_of};
-ghost use Rattle.c62_op.specs.Takes.{same_side};
 ghost use Rattle.c62_insn.specs.Insn.{operands_of};
-ghost use Rattle.c62_insn.specs.UnitSet.{unit_in};
-ghost use Rattle.c62_insn.specs.Stands.{may_stand};
 ghost use Rattle.c62_pair.specs.Uses.{insns_in};
 ghost use Rattle.c62_depend.specs.Side.{is_side, count_on, branch_side, side_in};
 ghost use Rattle.c62_depend.specs.UnitChoices.{IsUnitChoice, AreUnitChoices};
 
-use bitflags::Flags;
 use c62_insn::{Insn, Side, Unit, UnitSet};
 use c62_pair::Uses;
 use std::alloc::{AllocError, Global};
@@ -58,25 +53,6 @@ fn side(uses: &[Uses], insn: Insn) -> Side
     }
 }
 
-/// Whether an instruction of this side may stand on a unit.
-fn suits(insn: Insn, side: Side, unit: Unit) -> bool
-    ensures { result ≡ (same_side unit.side side && may_stand insn unit) }
-{
-    unit.side == side && insn.may_stand(unit)
-}
-
-fn units_on(insn: Insn, side: Side) -> UnitSet
-    ensures { (unit : FunctionalUnit) → unit_in result unit ≡ (same_side unit.side side && may_stand insn unit) }
-{
-    let mut units = UnitSet::empty();
-    for unit in Unit::ALL {
-        if suits(insn, side, unit) {
-            units = units.with(unit);
-        }
-    }
-    units
-}
-
 /// The side of an instruction, and the units of it on which the instruction may stand.
 #[derive(Clone, Copy)]
 pub(crate) struct UnitChoice {
@@ -94,7 +70,7 @@ impl UnitChoice {
         let side = side(uses, insn);
         UnitChoice {
             side,
-            units: units_on(insn, side),
+            units: insn.units_on(side),
         }
     }
 }

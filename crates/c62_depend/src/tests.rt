@@ -225,7 +225,7 @@ fn followers(alloc: Global, plan: &Plan) -> Result<String, Fail> {
 fn count_needs(plan: &Plan) -> usize {
     let mut count = 0;
     for j in 0..plan.len() {
-        count += plan.needs(j).len();
+        count = plan.needs(j).len().saturating_add(count);
     }
     count
 }
@@ -241,13 +241,11 @@ fn are_implied(rt: &impl Abort, plan: &Plan, text: &str) -> Result<(), Fail> {
             };
             for link in plan.followers(k) {
                 let latency = i32::from(link.latency);
-                assert_eq!(rt;
-                    plan.latency(k, u16::from(link.number)),
-                    Some(latency),
-                    "{text}"
-                );
-                let at = usize::from(link.number);
-                let sum = before + latency;
+                let number = u16::from(link.number);
+                assert!(rt; number < plan.len(), "{text}");
+                assert_eq!(rt; plan.latency(k, number), Some(latency), "{text}");
+                let at = usize::from(number);
+                let sum: i32 = latency.saturating_add(before);
                 let known = reached[at];
                 reached[at] = match known {
                     Some(other) if other > sum => Some(other),

@@ -51,16 +51,16 @@ abbrev pub margin : ℕ → List ℕ
 margin number = replicate (length (decimal number)) 32
 
 -- where the fault is found, and the line
-abbrev pub quoted : List ℕ → List ℕ → ReadFault → Place → List ℕ
-quoted name line fault place =
-    margin fault.line ++ codes "--> " ++ position name fault.line place ++ codes "\n"
-    ++ decimal fault.line ++ codes " | " ++ shown line ++ codes "\n"
+abbrev pub quoted : List ℕ → List ℕ → ℕ → Place → List ℕ
+quoted name line number place =
+    margin number ++ codes "--> " ++ position name number place ++ codes "\n" ++ decimal number ++ codes " | " ++ shown line ++ codes "\n"
 
 -- and under it the carets with what is wrong
-unfoldable pub picture : List ℕ → List ℕ → ReadFault → Place → List ℕ
-picture name line fault place =
-    quoted name line fault place
-    ++ margin fault.line ++ codes " | " ++ lead line place ++ carets place ++ codes " " ++ sentence fault.cause ++ codes "\n"
+abbrev pub marked : List ℕ → ℕ → Place → List ℕ → List ℕ
+marked line number place says = margin number ++ codes " | " ++ lead line place ++ carets place ++ codes " " ++ says ++ codes "\n"
+
+unfoldable pub picture : List ℕ → List ℕ → ℕ → Place → List ℕ → List ℕ
+picture name line number place says = quoted name line number place ++ marked line number place says
 
 -- ---- what is answered
 
@@ -73,7 +73,7 @@ pub record IsPictured (name text : List ℕ) (fault : ReadFault) (out : List ℕ
   pub place : Place
   pub there : IsPlaceIn text fault place
   pub help : List ℕ
-  pub says : out ≡ picture name (line_at text fault.line) fault place ++ help
+  pub says : out ≡ picture name (line_at text fault.line) fault.line place (sentence fault.cause) ++ help
 
 -- a fault of no line has no picture
 abbrev pub Explains : List ℕ → List ℕ → ReadFault → List ℕ → Type 0

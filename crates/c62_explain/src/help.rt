@@ -24,8 +24,12 @@ pub(crate) struct Faulty<'a> {
     pub place: Place,
 }
 
-/// A line of help, of these words one behind the other.
-fn push_hint(out: &mut Vec<u8>, number: u32, words: &[&[u8]]) -> Result<(), AllocError> {
+/// Adds a line of help for the line of this number: these words, one behind the other.
+///
+/// # Errors
+///
+/// `AllocError` where memory ran out.
+pub fn push_hint(out: &mut Vec<u8>, number: u32, words: &[&[u8]]) -> Result<(), AllocError> {
     push_margin(out, number)?;
     out.extend_from_slice(b" = help: ")?;
     for word in words {
@@ -337,4 +341,25 @@ pub(crate) fn help_of(alloc: Global, at: Faulty<'_>) -> Result<Vec<u8>, AllocErr
         _ => (),
     }
     Ok(out)
+}
+
+/// Lines of help for a fault of this line, which stands in a text; none where nothing is known that helps.
+///
+/// # Errors
+///
+/// `AllocError` where memory ran out.
+pub fn line_help(
+    alloc: Global,
+    text: &[u8],
+    line: &[u8],
+    fault: ReadFault,
+    place: Place,
+) -> Result<Vec<u8>, AllocError> {
+    let at = Faulty {
+        text,
+        line,
+        fault,
+        place,
+    };
+    help_of(alloc, at)
 }

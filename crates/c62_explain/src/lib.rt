@@ -10,7 +10,10 @@ mod picture;
 mod sentence;
 mod topic;
 
-pub use lines::{MOST_FAULTS, explain, lint};
+pub use help::{line_help, push_hint};
+pub use lines::{MOST_FAULTS, explain, line_at, lint};
+pub use picture::push_picture;
+pub use sentence::sentence as sentence_of;
 pub use topic::page;
 
 #[cfg(test)]

@@ -5,6 +5,7 @@ ghost use Rattle.c62_explain.specs.Picture.{Adds, Explains, IsPlaceIn, Lints, Li
 
 use crate::help::{Faulty, help_of};
 use crate::picture::{push_lint_line, push_picture};
+use crate::sentence::sentence;
 use c62_line::ReadFault;
 use c62_lint::faults_of;
 use c62_place::{Place, place_of};
@@ -15,7 +16,7 @@ use std::alloc::{AllocError, Global};
 pub const MOST_FAULTS: usize = 1000;
 
 /// The line of this number in a text, from 1, without its end; an empty one where there is none.
-fn line_at(text: &[u8], number: u32) -> &[u8]
+pub fn line_at(text: &[u8], number: u32) -> &[u8]
     ensures { result.now ≡ line_at text.now number }
 {
     let mut left = number;
@@ -109,7 +110,14 @@ pub fn explain(
     let place = place_in(alloc, text, fault)?;
     let line = line_at(text, fault.line);
     let mut out = Vec::new(alloc);
-    push_picture(&mut out, name, line, fault, place)?;
+    push_picture(
+        &mut out,
+        name,
+        line,
+        fault.line,
+        place,
+        sentence(fault.cause),
+    )?;
     let help = help_of(
         alloc,
         Faulty {

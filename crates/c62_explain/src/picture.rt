@@ -2,7 +2,7 @@
 
 ghost use Rattle.std.specs.Prelude.{◌≡◌, ◌<◌, ◌++◌, ◌^◌, OnOk, decimal, map, replicate};
 ghost use Rattle.c62_token.specs.Token.{is_allowed};
-ghost use Rattle.c62_explain.specs.Picture.{blank_byte, carets, lead, lint_line, margin, picture, position, quoted, shown, shown_byte};
+ghost use Rattle.c62_explain.specs.Picture.{blank_byte, carets, lead, lint_line, margin, marked, picture, position, quoted, shown, shown_byte};
 
 use crate::sentence::sentence;
 use c62_line::ReadFault;
@@ -132,45 +132,63 @@ pub(crate) fn push_lint_line(
     out.extend_from_slice(b"\n")
 }
 
-/// Where the fault is found, and the line.
+/// Where a fault is found, and the line.
 fn push_quoted(
     out: &mut Vec<u8>,
     name: &[u8],
     line: &[u8],
-    fault: ReadFault,
+    number: u32,
     place: Place,
 ) -> Result<(), AllocError>
     requires { place.start < 2 ^ 63 }
-    ensures { OnOk result (out.new.items ≡ out.old.items ++ quoted name.now line.now fault place) }
+    ensures { OnOk result (out.new.items ≡ out.old.items ++ quoted name.now line.now number place) }
 {
-    push_margin(out, fault.line)?;
+    push_margin(out, number)?;
     out.extend_from_slice(b"--> ")?;
-    push_position(out, name, fault.line, place)?;
+    push_position(out, name, number, place)?;
     out.extend_from_slice(b"\n")?;
-    push_number(out, u64::from(fault.line))?;
+    push_number(out, u64::from(number))?;
     out.extend_from_slice(b" | ")?;
     push_shown(out, line)?;
     out.extend_from_slice(b"\n")
 }
 
-/// Where the fault is found, the line, and under it the carets with what is wrong.
-#[tactic(auto, unfolding(crate::specs::Picture::picture))]
-pub(crate) fn push_picture(
+/// The carets under a line, with what is said.
+fn push_marked(
     out: &mut Vec<u8>,
-    name: &[u8],
     line: &[u8],
-    fault: ReadFault,
+    number: u32,
     place: Place,
+    says: &[u8],
 ) -> Result<(), AllocError>
-    requires { place.start < 2 ^ 63 }
-    ensures { OnOk result (out.new.items ≡ out.old.items ++ picture name.now line.now fault place) }
+    ensures { OnOk result (out.new.items ≡ out.old.items ++ marked line.now number place says.now) }
 {
-    push_quoted(out, name, line, fault, place)?;
-    push_margin(out, fault.line)?;
+    push_margin(out, number)?;
     out.extend_from_slice(b" | ")?;
     push_lead(out, line, place)?;
     push_carets(out, place)?;
     out.extend_from_slice(b" ")?;
-    out.extend_from_slice(sentence(fault.cause))?;
+    out.extend_from_slice(says)?;
     out.extend_from_slice(b"\n")
+}
+
+/// Where a fault is found, the line of this number, and under it the carets with what is said of it.
+///
+/// # Errors
+///
+/// `AllocError` where memory ran out.
+#[tactic(auto, unfolding(crate::specs::Picture::picture))]
+pub fn push_picture(
+    out: &mut Vec<u8>,
+    name: &[u8],
+    line: &[u8],
+    number: u32,
+    place: Place,
+    says: &[u8],
+) -> Result<(), AllocError>
+    requires { place.start < 2 ^ 63 }
+    ensures { OnOk result (out.new.items ≡ out.old.items ++ picture name.now line.now number place says.now) }
+{
+    push_quoted(out, name, line, number, place)?;
+    push_marked(out, line, number, place, says)
 }

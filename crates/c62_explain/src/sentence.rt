@@ -19,7 +19,7 @@ fn form_sentence(fault: FormFault) -> &'static [u8]
 }
 
 /// What is wrong with a line that has this fault.
-pub(crate) fn sentence(cause: Cause) -> &'static [u8]
+pub fn sentence(cause: Cause) -> &'static [u8]
     ensures { result.now ≡ sentence cause }
 {
     match cause {

@@ -32,11 +32,11 @@ has_written_unit insn = some_unit insn.op insn.operands insn.unit (faultless ins
 pub has_unit : (insn : Insn) → (u : FunctionalUnit) × (takes (op_of insn) (operands_of insn) u ≡ true)
 has_unit insn = let found = has_written_unit insn in (found.0, found.1)
 
-no_fault : (a b c d e : Bool) → a ≡ false → b ≡ false → c ≡ false → d ≡ false → e ≡ false
+pub no_fault : (a b c d e : Bool) → a ≡ false → b ≡ false → c ≡ false → d ≡ false → e ≡ false
     → (if a then Some BadCondition else if b then Some ConstantRange else if c then Some TwoCrossed else if d then Some BadSide else if e then Some NoUnit else None) ≡ None
 no_fault a b c d e p q r s t = rw (p, q, r, s, t) refl
 
-own_side : (op : Op) (operands : Operands) (u : FunctionalUnit) (side : Option Side) → takes op operands u ≡ true → side_of operands ≡ side
+pub own_side : (op : Op) (operands : Operands) (u : FunctionalUnit) (side : Option Side) → takes op operands u ≡ true → side_of operands ≡ side
     → is_other_side side (Some u) ≡ false
 own_side op operands u None h e = refl
 own_side op operands u (Some side) h e = rw (takes_on_side op operands u side e h, same_side-refl side) refl

@@ -1,6 +1,6 @@
 //! Why operands make no instruction.
 
-ghost use Rattle.std.specs.Prelude.{◌≡◌, Some};
+ghost use Rattle.std.specs.Prelude.{◌≡◌, IsTrue, Some, None};
 ghost use Rattle.c62_op.specs.Takes.{in_some_range, takes, takes_somewhere};
 ghost use Rattle.c62_op.specs.Shape.{accesses_or_branches, side_of};
 ghost use Rattle.c62_op.specs.Source.{first_source, second_source, lies_across, is_first_fixed, is_second_fixed};
@@ -109,8 +109,8 @@ fn has_no_unit(op: Op, operands: Operands, unit: Option<Unit>) -> bool
     }
 }
 
-/// The first fault of these parts of an instruction, if they have one.
-pub(crate) fn find_fault(
+/// The first fault of parts that have one.
+fn first_fault(
     op: Op,
     operands: Operands,
     cond: Option<Cond>,
@@ -130,5 +130,29 @@ pub(crate) fn find_fault(
         Some(FormFault::NoUnit)
     } else {
         None
+    }
+}
+
+/// Whether parts have no fault. A unit takes operands only where they have none of the faults of constants and sides, so the
+/// forms of the operation are looked through once.
+fn is_faultless(op: Op, operands: Operands, cond: Option<Cond>, unit: Option<Unit>) -> bool
+    ensures { IsTrue result → form_fault op operands cond unit ≡ None }
+{
+    !is_bad_condition(cond) && !has_no_unit(op, operands, unit)
+}
+
+/// The first fault of these parts of an instruction, if they have one.
+pub(crate) fn find_fault(
+    op: Op,
+    operands: Operands,
+    cond: Option<Cond>,
+    unit: Option<Unit>,
+) -> Option<FormFault>
+    ensures { result ≡ form_fault op operands cond unit }
+{
+    if is_faultless(op, operands, cond, unit) {
+        None
+    } else {
+        first_fault(op, operands, cond, unit)
     }
 }

@@ -52,9 +52,9 @@ fn is_written(written: Option<Unit>, unit: Unit) -> bool
 }
 
 impl Insn {
-    ghost use Rattle.std.specs.Prelude.{ℕ, true, false, ◌==◌, length, is_some, [], if◌then◌else◌};
+    ghost use Rattle.std.specs.Prelude.{ℕ, true, false, ◌==◌, ◌&&◌, length, is_some, [], if◌then◌else◌};
     ghost use Rattle.c62_insn.specs.Insn.{op_of, operands_of, cond_of, unit_of, register_writes, greatest_delay, aimed_operands, HasParts, IsSameInsn};
-    ghost use Rattle.c62_op.specs.Takes.{takes};
+    ghost use Rattle.c62_op.specs.Takes.{takes, same_side};
     ghost use Rattle.c62_insn.specs.Stands.{may_stand};
     ghost use Rattle.c62_insn.specs.UnitSet.{unit_in};
     ghost use Rattle.c62_op.specs.declared.register.Unit.{Unit as FunctionalUnit};
@@ -276,6 +276,18 @@ impl Insn {
         ensures { (unit : FunctionalUnit) → unit_in result unit ≡ takes (op_of self) (operands_of self) unit }
     {
         units_of(self.op, self.operands)
+    }
+
+    /// The units of `side` that the instruction may stand on: those that take it, and only the written one where one was
+    /// written.
+    pub fn units_on(self, side: Side) -> UnitSet
+        ensures { (unit : FunctionalUnit) → unit_in result unit ≡ (same_side unit.side side && may_stand self unit) }
+    {
+        let taking = units_of(self.op, self.operands).on_side(side);
+        match self.unit {
+            None => taking,
+            Some(unit) => taking.only(unit),
+        }
     }
 
     /// Whether the instruction may stand on `unit`: the unit takes it, and is the written one where

@@ -51,6 +51,31 @@ fn beginning_with(letter: u8) -> &'static [Op]
     }
 }
 
+/// Operations whose names in capitals begin with this letter and have this length. What is missing here is found among all
+/// whose names begin so, which takes longer.
+fn of_length(letter: u8, length: usize) -> &'static [Op] {
+    match (letter, length) {
+        (b'A', 3) => &[Add, And, Abs],
+        (b'A', 4) => &[Addk, Add2],
+        (b'A', 5) => &[Addaw, Addah, Addab],
+        (b'B', 1) => &[B],
+        (b'C', 5) => &[Cmpgt, Cmplt, Cmpeq],
+        (b'C', 6) => &[Cmpgtu, Cmpltu],
+        (b'E', 3) => &[Ext],
+        (b'E', 4) => &[Extu],
+        (b'L', 3) => &[Ldw, Ldh, Ldb],
+        (b'L', 4) => &[Ldhu, Ldbu],
+        (b'M', 3) => &[Mpy, Mvk],
+        (b'M', 4) => &[Mpyh, Mpyu],
+        (b'M', 5) => &[Mvklh, Mpyhl, Mpylh, Mpyhu, Mpyus, Mpysu],
+        (b'O', 2) => &[Or],
+        (b'S', 3) => &[Sub, Shl, Shr, Stw, Sth, Stb],
+        (b'S', 4) => &[Shru, Sub2],
+        (b'X', 3) => &[Xor],
+        _ => &[],
+    }
+}
+
 fn named_among(ops: &[Op], name: &[u8]) -> Option<Op>
     ensures { result ≡ find (λ op. spells (mnemonic_of op) name.now) ops.now }
 {
@@ -75,10 +100,9 @@ fn operation_named(name: &[u8]) -> Option<Op>
     match name {
         [] => None,
         [first, ..] => {
-            let ops = beginning_with(first.to_ascii_lowercase());
-            match in_capitals_among(ops, name) {
+            match in_capitals_among(of_length(*first, name.len()), name) {
                 Some(op) => Some(op),
-                None => named_among(ops, name),
+                None => named_among(beginning_with(first.to_ascii_lowercase()), name),
             }
         }
     }

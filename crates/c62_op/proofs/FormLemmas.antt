@@ -23,13 +23,13 @@ use Rattle.c62_op.specs.declared.form.Pattern.{Pattern}
 use Rattle.c62_op.specs.declared.form.Pattern.TheVariants.{TwoSources, ConstantSource, SourceConstant, OneSource, SourceField, ConstantAlone, Address, ToBlock, ToRegister}
 use Rattle.c62_op.specs.declared.form.Form.{Form}
 use Rattle.c62_op.specs.Table.{forms_of}
-use Rattle.c62_op.specs.Takes.{same_side, same_letter, may_lie, in_range, same_kind, holds_constants, registers_fit, takes, has_letter, has_kind}
+use Rattle.c62_op.specs.Takes.{same_side, same_letter, may_lie, in_range, in_some_range, same_kind, holds_constants, registers_fit, takes, has_letter, has_kind}
 use Rattle.c62_op.specs.Shape.{crosses_to}
 use Rattle.c62_op.proofs.Registers.{same_letter-is}
 
 -- ---- tests of forms
 
-abbrev is_own : Reach → Bool
+abbrev pub is_own : Reach → Bool
 is_own Own = true
 is_own Crossing = false
 
@@ -70,18 +70,19 @@ all_keep _ = refl
 
 -- ---- the form that takes the operands
 
-record IsTaken (op : Op) (operands : Operands) (unit : FunctionalUnit) : Type 0 where
+-- the form's pattern, and what all forms of the operation keep
+pub record IsTaken (keep : Letter → Pattern → Bool) (operands : Operands) (unit : FunctionalUnit) : Type 0 where
   pub pattern : Pattern
   pub holds : holds_constants pattern operands ≡ true
   pub lies : registers_fit pattern unit.side operands ≡ true
-  pub kept : keeps op unit.letter pattern ≡ true
+  pub kept : keep unit.letter pattern ≡ true
 
-one_form : (op : Op) (operands : Operands) (unit : FunctionalUnit) (forms : List Form)
+pub one_form : (keep : Letter → Pattern → Bool) (operands : Operands) (unit : FunctionalUnit) (forms : List Form)
     → list_any (λ form. holds_constants form.pattern operands && same_letter form.letter unit.letter && registers_fit form.pattern unit.side operands) forms ≡ true
-    → list_all (λ form. keeps op form.letter form.pattern) forms ≡ true → IsTaken op operands unit
-one_form op operands unit [] any all = absurd cc
-one_form op operands unit (form ∷ forms) any all =
-    let kept = and_parts (keeps op form.letter form.pattern) (list_all (λ (f : Form). keeps op f.letter f.pattern) forms) all in
+    → list_all (λ form. keep form.letter form.pattern) forms ≡ true → IsTaken keep operands unit
+one_form keep operands unit [] any all = absurd cc
+one_form keep operands unit (form ∷ forms) any all =
+    let kept = and_parts (keep form.letter form.pattern) (list_all (λ (f : Form). keep f.letter f.pattern) forms) all in
     elim (or_cases (holds_constants form.pattern operands && same_letter form.letter unit.letter && registers_fit form.pattern unit.side operands) _ any) [
       | inl here ↦
           let first = and_parts (holds_constants form.pattern operands && same_letter form.letter unit.letter) (registers_fit form.pattern unit.side operands) here in
@@ -90,13 +91,13 @@ one_form op operands unit (form ∷ forms) any all =
             pattern = form.pattern;
             holds = both.0;
             lies = first.1;
-            kept = subst (λ (letter : Letter). keeps op letter form.pattern ≡ true) (same_letter-is form.letter unit.letter both.1) kept.0;
+            kept = subst (λ (letter : Letter). keep letter form.pattern ≡ true) (same_letter-is form.letter unit.letter both.1) kept.0;
           }
-      | inr later ↦ one_form op operands unit forms later kept.1
+      | inr later ↦ one_form keep operands unit forms later kept.1
     ]
 
-taken : (op : Op) (operands : Operands) (unit : FunctionalUnit) → takes op operands unit ≡ true → IsTaken op operands unit
-taken op operands unit any = one_form op operands unit (forms_of op) any (all_keep op)
+taken : (op : Op) (operands : Operands) (unit : FunctionalUnit) → takes op operands unit ≡ true → IsTaken (keeps op) operands unit
+taken op operands unit any = one_form (keeps op) operands unit (forms_of op) any (all_keep op)
 
 -- ---- where registers lie
 
@@ -261,4 +262,11 @@ taken_kind op operands unit taking =
     any_weaker (λ form. holds_constants form.pattern operands && same_letter form.letter unit.letter && registers_fit form.pattern unit.side operands)
     (λ form. same_kind form.pattern operands) (forms_of op)
     (λ form here. kind_held form.pattern operands (and_parts (holds_constants form.pattern operands) (same_letter form.letter unit.letter)
+    (and_parts (holds_constants form.pattern operands && same_letter form.letter unit.letter) (registers_fit form.pattern unit.side operands) here).0).0) taking
+
+pub taken_in_range : (op : Op) (operands : Operands) (unit : FunctionalUnit) → takes op operands unit ≡ true → in_some_range op operands ≡ true
+taken_in_range op operands unit taking =
+    any_weaker (λ form. holds_constants form.pattern operands && same_letter form.letter unit.letter && registers_fit form.pattern unit.side operands)
+    (λ form. holds_constants form.pattern operands) (forms_of op)
+    (λ form here. (and_parts (holds_constants form.pattern operands) (same_letter form.letter unit.letter)
     (and_parts (holds_constants form.pattern operands && same_letter form.letter unit.letter) (registers_fit form.pattern unit.side operands) here).0).0) taking

@@ -4,4 +4,6 @@ pub mod SideLemmas
 pub mod UnitOrder
 pub mod FormLemmas
 pub mod SomewhereLemmas
+pub mod TakerLemmas
+pub mod SourceLemmas
 pub mod KindLemmas

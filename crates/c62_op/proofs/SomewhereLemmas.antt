@@ -12,7 +12,7 @@ use Rattle.c62_op.specs.Table.{forms_of}
 use Rattle.c62_op.specs.Takes.{holds_constants, registers_fit, same_letter, takes, takes_by, takes_somewhere}
 use Rattle.c62_op.specs.Units.{all_units}
 
-abbrev on_side : Bool → Bool → Side → Bool
+abbrev pub on_side : Bool → Bool → Side → Bool
 on_side a b A = a
 on_side a b B = b
 

@@ -43,6 +43,13 @@ pub(crate) enum Pattern {
     ToRegister,
 }
 
+/// The sides whose units take operands by a form.
+#[derive(Clone, Copy)]
+pub(crate) struct Sides {
+    pub a: bool,
+    pub b: bool,
+}
+
 /// One form of an operation.
 #[derive(Clone, Copy, PartialEq, Eq, Debug)]
 pub(crate) struct Form {
@@ -67,7 +74,8 @@ impl Reach {
 }
 
 impl Range {
-    ghost use Rattle.c62_op.specs.Takes.{in_range};
+    ghost use Rattle.std.specs.Prelude.{◌&&◌};
+    ghost use Rattle.c62_op.specs.Takes.{in_range, same_side};
 
     /// Whether `constant` is in the range.
     pub(crate) fn contains(self, constant: i64) -> bool
@@ -75,10 +83,18 @@ impl Range {
     {
         self.low <= constant && constant <= self.high
     }
+
+    /// Whether both constants are in the range, and the source lies in the destination's file.
+    fn holds_field(self, left: i64, right: i64, source: Reg, destination: Reg) -> bool
+        ensures { result ≡ (in_range self left && in_range self right && same_side source.side destination.side) }
+    {
+        self.contains(left) && self.contains(right) && source.side == destination.side
+    }
 }
 
 impl Offset {
-    ghost use Rattle.c62_op.specs.Takes.{offset_on};
+    ghost use Rattle.std.specs.Prelude.{◌&&◌};
+    ghost use Rattle.c62_op.specs.Takes.{offset_in_range, offset_on};
 
     /// Whether the offset is a constant, or a register of `side`.
     pub fn lies_on(self, side: Side) -> bool
@@ -89,9 +105,51 @@ impl Offset {
             Offset::Register(reg) => reg.side == side,
         }
     }
+
+    /// Whether the offset is a constant of `range`, or a register of `side`.
+    fn fits(self, range: Range, side: Side) -> bool
+        ensures { result ≡ (offset_in_range range self && offset_on side self) }
+    {
+        match self {
+            Offset::Constant(k) => range.contains(k),
+            Offset::Register(reg) => reg.side == side,
+        }
+    }
+}
+
+impl Sides {
+    ghost use Rattle.std.specs.Prelude.{◌&&◌, ◌+◌, ◌*◌, ◌<◌, if◌then◌else◌};
+    ghost use Rattle.c62_op.specs.declared.register.Side.TheVariants.{A as OnA, B as OnB};
+    ghost use Rattle.c62_op.specs.Takes.{same_side};
+
+    /// This side alone where operands fit there, and else none.
+    fn only(side: Side, fits: bool) -> Sides
+        ensures a { result.a ≡ (same_side side OnA && fits) }
+        ensures b { result.b ≡ (same_side side OnB && fits) }
+    {
+        match side {
+            Side::A => Sides { a: fits, b: false },
+            Side::B => Sides { a: false, b: fits },
+        }
+    }
+
+    /// The bits of .L1 and .L2 where they are among these sides.
+    fn bits(self) -> u8
+        ensures bits { result ≡ (if self.a then 1 else 0) + 16 * (if self.b then 1 else 0) }
+        ensures few { result < 18 }
+    {
+        match (self.a, self.b) {
+            (false, false) => 0,
+            (true, false) => 1,
+            (false, true) => 16,
+            (true, true) => 17,
+        }
+    }
 }
 
 impl Pattern {
+    ghost use Rattle.std.specs.Prelude.{◌&&◌};
+    ghost use Rattle.c62_op.specs.declared.register.Side.TheVariants.{A as OnA, B as OnB};
     ghost use Rattle.c62_op.specs.Takes.{same_kind, holds_constants, registers_fit};
 
     /// Whether `operands` are of this kind and number.
@@ -142,43 +200,55 @@ impl Pattern {
         }
     }
 
-    /// Whether the registers lie where a unit of `side` takes them.
-    pub(crate) fn registers_fit(self, side: Side, operands: Operands) -> bool
-        ensures { result ≡ registers_fit self side operands }
+    /// The sides on which constants and registers are as the pattern wants them.
+    #[inline(always)]
+    #[tactic(auto, using(crate::proofs::TakerLemmas::field_on))]
+    pub(crate) fn sides(self, operands: Operands) -> Sides
+        ensures a { result.a ≡ (holds_constants self operands && registers_fit self OnA operands) }
+        ensures b { result.b ≡ (holds_constants self operands && registers_fit self OnB operands) }
     {
         match (self, operands) {
             (Pattern::TwoSources(first, second), Operands::Three(a, b, d)) => {
-                first.admits(side, a) && second.admits(side, b) && d.side == side
+                Sides::only(d.side, first.admits(d.side, a) && second.admits(d.side, b))
             }
-            (Pattern::ConstantSource(_, reach), Operands::ConstantFirst(_, a, d)) => {
-                reach.admits(side, a) && d.side == side
+            (Pattern::ConstantSource(range, reach), Operands::ConstantFirst(k, a, d)) => {
+                Sides::only(d.side, range.contains(k) && reach.admits(d.side, a))
             }
-            (Pattern::SourceConstant(reach, _), Operands::ConstantSecond(a, _, d)) => {
-                reach.admits(side, a) && d.side == side
+            (Pattern::SourceConstant(reach, range), Operands::ConstantSecond(a, k, d)) => {
+                Sides::only(d.side, range.contains(k) && reach.admits(d.side, a))
             }
-            (Pattern::OneSource(reach), Operands::Two(a, d)) => reach.admits(side, a)
-                && d.side == side,
+            (Pattern::OneSource(reach), Operands::Two(a, d)) => {
+                Sides::only(d.side, reach.admits(d.side, a))
+            }
             (
-                Pattern::SourceField(_),
+                Pattern::SourceField(range),
                 Operands::Field {
                     source: a,
+                    left: k,
+                    right: m,
                     destination: d,
-                    ..
                 },
-            ) => a.side == side && d.side == side,
-            (Pattern::ConstantAlone(_), Operands::Constant(_, d)) => d.side == side,
-            (Pattern::Address(_), Operands::Access { base, offset, .. }) => {
-                base.side == side && offset.lies_on(side)
+            ) => { Sides::only(d.side, range.holds_field(k, m, a, d)) }
+            (Pattern::ConstantAlone(range), Operands::Constant(k, d)) => {
+                Sides::only(d.side, range.contains(k))
             }
-            (Pattern::ToBlock, Operands::Block(_)) => true,
-            (Pattern::ToRegister, Operands::Register(target)) => side == Side::B
-                && target.side == Side::B,
-            _ => false,
+            (Pattern::Address(range), Operands::Access { base, offset, .. }) => {
+                Sides::only(base.side, offset.fits(range, base.side))
+            }
+            (Pattern::ToBlock, Operands::Block(_)) => Sides { a: true, b: true },
+            (Pattern::ToRegister, Operands::Register(target)) => {
+                Sides::only(Side::B, target.side == Side::B)
+            }
+            _ => Sides { a: false, b: false },
         }
     }
 }
 
 impl Form {
+    ghost use Rattle.std.specs.Prelude.{◌==◌};
+    ghost use Rattle.std.specs.Int.{bit_at};
+    ghost use Rattle.c62_op.specs.declared.register.Unit.{Unit as FunctionalUnit};
+    ghost use Rattle.c62_op.specs.Units.{index_of};
     ghost use Rattle.c62_op.specs.Takes.{takes_by, takes_somewhere};
 
     /// Whether some unit takes these operands by the form.
@@ -186,10 +256,8 @@ impl Form {
     pub(crate) fn is_taken_somewhere(&self, operands: Operands) -> bool
         ensures { result ≡ takes_somewhere self.now operands }
     {
-        let pattern = self.pattern;
-        pattern.holds_constants(operands)
-            && (pattern.registers_fit(Side::A, operands)
-                || pattern.registers_fit(Side::B, operands))
+        let sides = self.pattern.sides(operands);
+        sides.a || sides.b
     }
 
     /// Whether `unit` takes these operands by the form. The letter is asked first, which tells most units apart.
@@ -200,10 +268,27 @@ impl Form {
         if self.letter != unit.letter {
             return false;
         }
-        self.pattern.holds_constants(operands) && self.pattern.registers_fit(unit.side, operands)
+        let sides = self.pattern.sides(operands);
+        match unit.side {
+            Side::A => sides.a,
+            Side::B => sides.b,
+        }
+    }
+
+    /// The units that take these operands by the form: of each the bit of its index.
+    #[inline(always)]
+    fn takers(&self, operands: Operands) -> u8
+        ensures { (unit : FunctionalUnit) → (bit_at result (index_of unit) == 1) ≡ takes_by self.now operands unit }
+    {
+        let sides = self.pattern.sides(operands);
+        sides.bits() << self.letter.number()
     }
 }
 
+ghost use Rattle.std.specs.Prelude.{◌==◌};
+ghost use Rattle.std.specs.Int.{bit_at};
+ghost use Rattle.c62_op.specs.declared.register.Unit.{Unit as FunctionalUnit};
+ghost use Rattle.c62_op.specs.Units.{index_of};
 ghost use Rattle.c62_op.specs.Takes.{takes};
 
 /// Whether `unit` takes these operands of `op` (SPRU189, "Mapping Between Instructions and Functional
@@ -212,4 +297,16 @@ pub fn unit_takes(op: Op, operands: Operands, unit: Unit) -> bool
     ensures { result ≡ takes op operands unit }
 {
     forms(op).iter().any(|form| form.is_taken(operands, unit))
+}
+
+/// All units that take these operands of `op`, found by one look at each of its forms: of each unit the bit of
+/// [`Unit::index`].
+pub fn units_taking(op: Op, operands: Operands) -> u8
+    ensures { (unit : FunctionalUnit) → (bit_at result (index_of unit) == 1) ≡ takes op operands unit }
+{
+    let mut units = 0;
+    for form in forms(op) {
+        units |= form.takers(operands);
+    }
+    units
 }

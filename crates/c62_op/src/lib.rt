@@ -11,7 +11,7 @@ mod source;
 mod table;
 mod word;
 
-pub use form::unit_takes;
+pub use form::{unit_takes, units_taking};
 pub use operands::{AddressForm, Offset, Op, Operands};
 pub use register::{Cond, Letter, Reg, Side, Unit};
 pub use word::word_of;

@@ -130,6 +130,24 @@ impl Unit {
     ];
 }
 
+impl Letter {
+    ghost use Rattle.c62_op.specs.declared.register.Side.TheVariants.{A as OnA};
+    ghost use Rattle.c62_op.specs.Units.{index_on};
+
+    /// The index of its unit of side A in [`Unit::ALL`].
+    pub(crate) fn number(self) -> u8
+        ensures number { result ≡ index_on self OnA }
+        ensures small { result < 4 }
+    {
+        match self {
+            Letter::L => 0,
+            Letter::S => 1,
+            Letter::M => 2,
+            Letter::D => 3,
+        }
+    }
+}
+
 impl Unit {
     ghost use Rattle.std.specs.Prelude.{◌≡◌};
     ghost use Rattle.c62_op.specs.Units.{index_of};

@@ -6,7 +6,7 @@ mod shape;
 mod sort;
 mod token;
 
-pub use place::{Place, place_of};
+pub use place::{Place, place_of, token_at};
 pub use shape::{Form, operands_end, takes_form};
 pub use sort::Sort;
 

@@ -56,8 +56,8 @@ fn first_token(line: &[u8]) -> Option<Place>
     })
 }
 
-/// Where the token behind so many others stands.
-fn token_at(line: &[u8], before: usize) -> Place
+/// Where the token behind so many others stands; where the line has no more, the end of its last one.
+pub fn token_at(line: &[u8], before: usize) -> Place
     ensures { IsToken line.now before result }
 {
     let mut start = 0;

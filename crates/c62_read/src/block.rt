@@ -44,7 +44,8 @@ impl Model for Block {
 }
 
 impl Block {
-    pub(crate) fn new(label: Option<Label>, insns: Vec<SerialInsn>) -> Block
+    /// The block of these instructions, in their order.
+    pub fn new(label: Option<Label>, insns: Vec<SerialInsn>) -> Block
         requires { IsTrue (is_block insns.items) }
         ensures { result ≡ record { label = label; insns = insns.items } }
     {

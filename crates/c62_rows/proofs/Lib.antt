@@ -2,7 +2,7 @@ mod Packets
 mod Tables
 mod Halves
 mod Worded
-mod SoundLemmas
+pub mod SoundLemmas
 mod ReadLemmas
 mod FinishLemmas
 mod AddLemmas

@@ -16,6 +16,7 @@ pub mod Asking
 pub mod RowsOf
 pub mod Fronts
 pub mod Search
+pub mod LeastSpots
 pub mod Picks
 pub mod Tallies
 pub mod Without

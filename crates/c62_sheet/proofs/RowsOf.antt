@@ -2,10 +2,8 @@
 use Rattle.c62_sheet.proofs.Common.{arith, ◌≡◌, ℕ, ◌*◌, ◌<◌, ◌≤◌, List, length, Some, None, refl, sym, ap, ◌∙◌, inl, inr, slice_get, slice_set, slice_index_or, get_or, get_or-set_same, get_or-set_other}
 use Rattle.c62_sheet.proofs.Common.{length-set, cases_eq, Insn, Issue, IsIssued, Spot, Spots, IsAt, spot_at, placed, withdrawn, nothing_placed, issue_at, issues, IsLawful}
 use Rattle.c62_sheet.proofs.Common.{AreRows, Row, CycleRule, IsRowOf, Uses, AreUses, Tells, IsWith, IsWithout, IsWithin, IsUnused, slice_get_within, MatchOption, KeepsAll, BreaksFirst, ◌+◌, ◌↔◌}
-use Rattle.c62_sheet.proofs.Common.{length-replicate, get_or-replicate, set-get_or, FunctionalUnit, FitsRow, subst, stands_on, Fits, true, Option}
+use Rattle.c62_sheet.proofs.Common.{length-replicate, get_or-replicate, set-get_or, subst, stands_on, Fits, true, Option}
 use Rattle.std.specs.Prelude.{replicate}
-use Rattle.c62_insn.specs.declared.unit_set.UnitSet.{UnitSet}
-use Rattle.c62_insn.specs.UnitSet.{unit_in}
 use Rattle.c62_row.specs.Issued.{IsFree}
 use Rattle.c62_rules.specs.Resource.{taken_by}
 use Rattle.c62_row.specs.Fields.{EachPlace, times_at}
@@ -154,18 +152,3 @@ module _ (block : List Insn) (set : Spots) (i : ℕ) (insn : Insn) (rows : List 
       → MatchOption found (KeepsAll block set i s) (λ rule. BreaksFirst block set i s rule)
   told_by s own found same lt are_own tells =
       row_tells block set i s insn row own lawful.sized at free (of_row s.cycle same lt) are_own found tells
-
-  pub fits_by_row : (cycle : ℕ) (unit : FunctionalUnit) (units : UnitSet) → n ≡ cycle → cycle < 5 * length block
-      → ((u : FunctionalUnit) → unit_in units u ≡ stands_on block i u) → FitsRow row units insn unit
-      → Fits block set i (record { cycle = cycle; unit = unit })
-  fits_by_row cycle unit units same lt stands fits =
-      fits_from_row block set i (record { cycle = cycle; unit = unit }) insn row lawful.sized at free (of_row cycle same lt)
-      (sym (stands unit) ∙ fits.stands) fits.free
-
-  pub row_by_fits : (cycle : ℕ) (unit : FunctionalUnit) (units : UnitSet) → n ≡ cycle → cycle < 5 * length block
-      → ((u : FunctionalUnit) → unit_in units u ≡ stands_on block i u) → Fits block set i (record { cycle = cycle; unit = unit })
-      → FitsRow row units insn unit
-  row_by_fits cycle unit units same lt stands fits = record {
-    stands = stands unit ∙ fits.stands;
-    free = row_from_fits block set i (record { cycle = cycle; unit = unit }) insn row lawful.sized at free (of_row cycle same lt) fits;
-  }

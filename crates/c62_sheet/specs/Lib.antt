@@ -1,5 +1,6 @@
 pub mod Lawful
 pub mod Least
+pub mod LeastOn
 pub mod Check
 pub mod Counts
 pub mod Journal

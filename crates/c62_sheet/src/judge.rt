@@ -1,6 +1,8 @@
 //! Which placements are lawful, what is ready, and where it goes.
 
-ghost use Rattle.std.specs.Prelude.{◌≡◌, ◌↔◌, ℕ, ◌<◌, ◌≤◌, ◌∷◌, length, None, IsTrue, take};
+ghost use Rattle.std.specs.Prelude.{◌≡◌, ◌↔◌, ℕ, ◌<◌, ◌≤◌, ◌+◌, ◌*◌, ◌∷◌, length, None, IsTrue, MatchOption, take};
+ghost use Rattle.c62_op.specs.Units.{index_of};
+ghost use Rattle.c62_sheet.specs.LeastOn.{IsFirstRoom, IsFirstOn, FindsLeastAmong};
 ghost use Rattle.c62_rules.specs.PacketRules.{KeepsPacketRules};
 ghost use Rattle.c62_depend.specs.Plan.{insns_of};
 ghost use Rattle.c62_op.specs.declared.register.Unit.{Unit as FunctionalUnit};
@@ -92,6 +94,82 @@ fn fits(row: &Row, units: UnitSet, insn: Insn, unit: Unit) -> bool
     units.has(unit) && row.fits(&Uses::of(insn, unit))
 }
 
+/// The first of some cycles in which there is room for an instruction that takes so much, and their end where there is none.
+fn first_room(rows: &[Row], uses: &Uses, first: u16, end: u16) -> u16
+    requires { end ≤ length rows.now }
+    ensures { IsFirstRoom rows.now uses.now first end result }
+{
+    for cycle in first..end {
+        if rows[usize::from(cycle)].fits(uses) {
+            return cycle;
+        }
+    }
+    end
+}
+
+/// The first cycle in which a ready instruction may be placed on a unit, and the end where there is none before it. What the
+/// instruction takes there is made once for all cycles. Its early cycle is given.
+fn first_on(
+    plan: &Plan,
+    spots: &[Option<Spot>],
+    rows: &[Row],
+    first: u16,
+    i: u16,
+    unit: Unit,
+    end: u16,
+) -> u16
+    requires lawful { IsLawful (insns_of plan.now) spots.now }
+    requires rows { AreRows (insns_of plan.now) spots.now rows.now }
+    requires in_plan { i < length plan.now.insns }
+    requires ready { IsReady (insns_of plan.now) spots.now i }
+    requires early { IsEarly (insns_of plan.now) spots.now i first }
+    requires within { end ≤ 5 * length (insns_of plan.now) }
+    ensures { IsFirstOn (insns_of plan.now) spots.now i unit end result }
+{
+    if end <= first || !plan.units(i).has(unit) {
+        return end;
+    }
+    first_room(rows, &Uses::of(plan.insn(i), unit), first, end)
+}
+
+/// The cycle before which a spot is looked for: that of the one that was found, and else the limit.
+fn end_of(plan: &Plan, found: Option<Spot>) -> u16
+    ensures { MatchOption found (result ≡ 5 * length (insns_of plan.now)) (λ spot. result ≡ spot.cycle) }
+{
+    match found {
+        Some(spot) => spot.cycle,
+        None => 5 * plan.len(),
+    }
+}
+
+/// The least spot of a ready instruction among those on the units up to this one, where that among the units before it is
+/// given.
+fn least_with(
+    plan: &Plan,
+    spots: &[Option<Spot>],
+    rows: &[Row],
+    first: u16,
+    i: u16,
+    found: Option<Spot>,
+    unit: Unit,
+) -> Option<Spot>
+    requires lawful { IsLawful (insns_of plan.now) spots.now }
+    requires rows { AreRows (insns_of plan.now) spots.now rows.now }
+    requires in_plan { i < length plan.now.insns }
+    requires ready { IsReady (insns_of plan.now) spots.now i }
+    requires early { IsEarly (insns_of plan.now) spots.now i first }
+    requires found { FindsLeastAmong (insns_of plan.now) spots.now i (index_of unit) found }
+    ensures { FindsLeastAmong (insns_of plan.now) spots.now i (index_of unit + 1) result }
+{
+    let end = end_of(plan, found);
+    let cycle = first_on(plan, spots, rows, first, i, unit, end);
+    if cycle < end {
+        Some(Spot { cycle, unit })
+    } else {
+        found
+    }
+}
+
 /// The least spot of a ready instruction: the first cycle, and there the first unit, at which it may be placed. Its early
 /// cycle is given.
 pub(crate) fn least(
@@ -108,17 +186,11 @@ pub(crate) fn least(
     requires early { IsEarly (insns_of plan.now) spots.now i first }
     ensures { FindsLeast (insns_of plan.now) spots.now i result }
 {
-    let units = plan.units(i);
-    let insn = plan.insn(i);
-    for cycle in first..5 * plan.len() {
-        let row = rows[usize::from(cycle)];
-        for unit in Unit::ALL {
-            if fits(&row, units, insn, unit) {
-                return Some(Spot { cycle, unit });
-            }
-        }
+    let mut found = None;
+    for unit in Unit::ALL {
+        found = least_with(plan, spots, rows, first, i, found, unit);
     }
-    None
+    found
 }
 
 /// Whether a ready instruction keeps the packet rules in a cycle, on some unit, once instruction `q` is taken out alone.

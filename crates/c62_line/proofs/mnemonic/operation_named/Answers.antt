@@ -8,10 +8,10 @@ unfolding operation_named
 returns-in-empty c = rw (nil_from_length c.args.name.now (omega (arith, c.in-empty.len_below))) refl
 
 pub returns-in-Some : goal.returns-in-Some
-returns-in-Some c = sym (named_in_capitals c.beginning_with-ops.result.now c.args.name.now c.in-Some.op (sym c.in-Some.ensures))
+returns-in-Some c = sym (named_in_capitals c.of_length.result.now c.args.name.now c.in-Some.op (sym c.in-Some.ensures))
 
 pub returns-in-None : goal.returns-in-None
 returns-in-None c =
     c.named_among.ensures
-    ∙ named_by c.beginning_with-ops.result.now c.args.name.now c.to_ascii_lowercase.result (omega (arith, c.in-len1-up.len_at_least))
-    c.to_ascii_lowercase.ensures.value c.beginning_with-ops.ensures
+    ∙ named_by c.beginning_with.result.now c.args.name.now c.to_ascii_lowercase.result (omega (arith, c.in-len1-up.len_at_least))
+    c.to_ascii_lowercase.ensures.value c.beginning_with.ensures

@@ -1,4 +1,3 @@
-use Rattle.std.proofs.Common.{sym, ◌∙◌}
 use Rattle.std.proofs.lemmas.Bool.{false≢true}
 use Rattle.c62_insn.proofs.AimLemmas.{aimed}
 use Rattle.c62_insn.proofs.insn.Insn.aimed.Goals as goal

@@ -1,0 +1,13 @@
+pub mod Beginnings
+pub mod Spaced
+pub mod Pauses
+pub mod Stood
+pub mod RowLines
+pub mod Together
+pub mod Pairs
+pub mod Rising
+pub mod Laying
+pub mod Joining
+pub mod Existing
+pub mod LinesRead
+pub mod Flying

@@ -1,0 +1,20 @@
+-- Which texts of packets have a fault (docs/FAULTS.md, "Packets").
+use Rattle.std.specs.Prelude.{◌≡◌, ◌≢◌, ℕ, Bool, true, false, List}
+use Rattle.c62_packet.specs.Packed.{Packed}
+use Rattle.c62_listing_reader.specs.declared.fault.ListFault.{ListFault}
+use Rattle.c62_listing_reader.specs.declared.fault.ListFault.TheVariants.{Memory as NoStore}
+use Rattle.c62_listing_reader.specs.Faults.{IsRead}
+use Rattle.c62_listing_reader.specs.Reading.{Refuses as RefusesListing}
+use Rattle.c62_adopt.specs.declared.fault.AdoptFault.{AdoptFault}
+use Rattle.c62_adopt.specs.declared.fault.AdoptFault.TheVariants.{Memory as NoRoom}
+use Rattle.c62_adopt.specs.Answer.{IsAdopted, Refuses}
+
+-- a text of packets has a fault where it isn't adopted as it stands
+pub data IsLintedPackets (text : List ℕ) (faulty : Bool) : Type 0 where
+  Adopted : faulty ≡ false → (packets : List Packed) (added : ℕ) → IsAdopted false text packets added → IsLintedPackets text faulty
+  Refused : faulty ≡ true → (fault : AdoptFault) → fault ≢ NoRoom → Refuses false text fault → IsLintedPackets text faulty
+
+-- and a listing where it isn't read
+pub data IsLintedListing (text : List ℕ) (faulty : Bool) : Type 0 where
+  Read : faulty ≡ false → (packets : List Packed) → IsRead text packets → IsLintedListing text faulty
+  Unread : faulty ≡ true → (fault : ListFault) → fault ≢ NoStore → RefusesListing text fault → IsLintedListing text faulty

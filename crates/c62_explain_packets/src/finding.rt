@@ -1,0 +1,218 @@
+//! What is wrong with which line of packets.
+
+ghost use Rattle.std.specs.Prelude.{◌<◌, ◌^◌, IfOk};
+
+use c62_adopt::{AdoptFault, adopt};
+use c62_adopt_code::CodeCause;
+use c62_adopt_cut::TextCause;
+use c62_adopt_line::{LineFault, behind_bars};
+use c62_explain::sentence_of;
+use c62_insn::FormFault;
+use c62_line::Cause;
+use c62_listing_reader::ListFault;
+use c62_packet::PacketRule;
+use c62_place::{Place, place_of};
+use c62_rows::{RowsCause, RowsFault};
+use c62_rules::CycleRule;
+use std::alloc::{AllocError, Global};
+
+/// What is wrong with a line of packets.
+#[derive(Clone, Copy, PartialEq, Eq, Debug)]
+pub enum What {
+    /// What a line of serial text may have, too.
+    Read(Cause),
+    UnitWanted,
+    TooManyCycles,
+    /// A branch stands in the delay slots of this one.
+    TwoBranches,
+    /// A branch stands in the packet of this one.
+    BranchBeside,
+    TooManyTargets,
+    NotDrained,
+    /// The instruction breaks this rule with others.
+    Rule(PacketRule),
+    /// The line keeps the text from having code.
+    Code(CodeCause),
+    /// The line isn't spelled as one of a listing.
+    Shape,
+}
+
+/// A line of packets, counted from 1, and what is wrong with it.
+#[derive(Clone, Copy, PartialEq, Eq, Debug)]
+pub struct Finding {
+    pub line: u32,
+    pub what: What,
+}
+
+fn rule_sentence(rule: PacketRule) -> &'static [u8] {
+    match rule {
+        PacketRule::InCycle(CycleRule::P1) => b"another instruction of the cycle is on this unit",
+        PacketRule::InCycle(CycleRule::P2) =>
+            b"another instruction of the cycle uses this cross path",
+        PacketRule::InCycle(CycleRule::P3) => b"another access of the cycle uses this data path",
+        PacketRule::InCycle(CycleRule::P4) => b"the cycle reads a register more than four times",
+        PacketRule::P5 => b"another write of the register lands in the same cycle",
+    }
+}
+
+fn code_sentence(cause: CodeCause) -> &'static [u8] {
+    match cause {
+        CodeCause::Directive => b"this directive may lay something down",
+        CodeCause::OtherSection => b"this stands in another section than the code",
+        CodeCause::Padding => b"this alignment may be padded with cycles that code runs through",
+    }
+}
+
+/// What is said of a fault that serial texts have, too.
+fn read_sentence(cause: Cause) -> &'static [u8] {
+    match cause {
+        Cause::ParallelBar => b"no packet is above these bars",
+        Cause::Directive => b"this directive isn't known",
+        Cause::TextTooLong => b"the text is too long",
+        _ => sentence_of(cause),
+    }
+}
+
+impl What {
+    fn of_line(fault: LineFault) -> Option<What> {
+        match fault {
+            LineFault::Read(cause) => Some(What::Read(cause)),
+            LineFault::UnitWanted => Some(What::UnitWanted),
+            LineFault::Memory => None,
+        }
+    }
+
+    fn of_text(cause: TextCause) -> Option<What> {
+        match cause {
+            TextCause::Line(fault) => What::of_line(fault),
+            TextCause::TooManyCycles => Some(What::TooManyCycles),
+            TextCause::TwoBranches => Some(What::TwoBranches),
+            TextCause::NotDrained => Some(What::NotDrained),
+        }
+    }
+
+    fn of_rows(cause: RowsCause) -> Option<What> {
+        match cause {
+            RowsCause::Line(fault) => What::of_line(fault),
+            RowsCause::TooManyTargets => Some(What::TooManyTargets),
+            RowsCause::Rule(rule) => Some(What::Rule(PacketRule::InCycle(rule))),
+            RowsCause::TwoBranches => Some(What::BranchBeside),
+        }
+    }
+
+    /// Its name, as it is told.
+    pub fn name(self) -> &'static str {
+        match self {
+            What::Read(cause) => cause.name(),
+            What::UnitWanted => "UnitWanted",
+            What::TooManyCycles => "TooManyCycles",
+            What::TwoBranches | What::BranchBeside => "TwoBranches",
+            What::TooManyTargets => "TooManyTargets",
+            What::NotDrained => "NotDrained",
+            What::Rule(rule) => rule.name(),
+            What::Code(cause) => cause.name(),
+            What::Shape => "Shape",
+        }
+    }
+
+    /// What is wrong, in one sentence.
+    pub fn sentence(self) -> &'static [u8] {
+        match self {
+            What::Read(cause) => read_sentence(cause),
+            What::UnitWanted => b"in a packet each instruction names its unit",
+            What::TooManyCycles => b"the block has more cycles than it may have",
+            What::TwoBranches => b"another branch is in the delay slots of this one",
+            What::BranchBeside => b"another branch stands in this packet",
+            What::TooManyTargets => b"a text has at most 256 labels that are named",
+            What::NotDrained => b"this is still in flight where its block is over",
+            What::Rule(rule) => rule_sentence(rule),
+            What::Code(cause) => code_sentence(cause),
+            What::Shape => b"a listing spells this line in another way, or has none such here",
+        }
+    }
+
+    /// As the cause of a line of serial text: what is found at the same token there.
+    fn cause(self) -> Cause {
+        match self {
+            What::Read(cause) => cause,
+            What::UnitWanted | What::Rule(_) => Cause::Form(FormFault::NoUnit),
+            What::TooManyCycles | What::TwoBranches | What::BranchBeside =>
+                Cause::TooManyInstructions,
+            What::TooManyTargets => Cause::UnknownTarget,
+            What::NotDrained | What::Code(_) | What::Shape => Cause::TooManyInstructions,
+        }
+    }
+}
+
+impl Finding {
+    fn at(line: u32, what: Option<What>) -> Option<Finding> {
+        Some(Finding { line, what: what? })
+    }
+}
+
+/// What is wrong with a text of packets that isn't adopted; none where memory ran out.
+pub fn of_adopt(fault: AdoptFault) -> Option<Finding> {
+    match fault {
+        AdoptFault::Text(fault) => Finding::at(fault.line, What::of_text(fault.cause)),
+        AdoptFault::Rule(line, rule) => Finding::at(line, Some(What::Rule(rule))),
+        AdoptFault::Code(line, cause) => Finding::at(line, Some(What::Code(cause))),
+        AdoptFault::Memory => None,
+    }
+}
+
+/// What is wrong with a text of packets that makes no rows; none where that is no line's.
+pub fn of_rows(fault: RowsFault) -> Option<Finding> {
+    match fault {
+        RowsFault::At(line, cause) => Finding::at(line, What::of_rows(cause)),
+        RowsFault::From | RowsFault::Memory => None,
+    }
+}
+
+/// What is wrong with a text that is no listing. Of a block it is what would keep the block from being adopted.
+///
+/// # Errors
+///
+/// `AllocError` where memory ran out.
+pub fn of_listing(
+    alloc: Global,
+    text: &[u8],
+    fault: ListFault,
+) -> Result<Option<Finding>, AllocError> {
+    match fault {
+        ListFault::Read(fault) => Ok(Finding::at(fault.line, Some(What::Read(fault.cause)))),
+        ListFault::Shape(line) => Ok(Finding::at(line, Some(What::Shape))),
+        ListFault::Memory => Err(AllocError),
+        ListFault::Unlawful(_, _, _) | ListFault::NotDrained(_) | ListFault::TwoBranches(_) => {
+            match adopt(alloc, text, false) {
+                Ok(_) => Ok(None),
+                Err(AdoptFault::Memory) => Err(AllocError),
+                Err(fault) => Ok(of_adopt(fault)),
+            }
+        }
+    }
+}
+
+/// The line with blanks in the place of its bars, as serial text has it.
+pub(crate) fn without_bars(alloc: Global, line: &[u8]) -> Result<Vec<u8>, AllocError> {
+    let mut serial = Vec::new(alloc);
+    if let Some(rest) = behind_bars(line) {
+        for b in &line[..line.len() - rest.len().min(line.len())] {
+            serial.push(if *b == b'\t' { b'\t' } else { b' ' })?;
+        }
+        serial.extend_from_slice(rest)?;
+    } else {
+        serial.extend_from_slice(line)?;
+    }
+    Ok(serial)
+}
+
+/// Where in its line the fault is found.
+pub(crate) fn place_in(alloc: Global, what: What, line: &[u8]) -> Result<Place, AllocError>
+    ensures bound { IfOk result (λ place. place.start < 2 ^ 63) }
+{
+    if let What::Read(Cause::ParallelBar) = what {
+        return place_of(alloc, Cause::ParallelBar, line);
+    }
+    let serial = without_bars(alloc, line)?;
+    place_of(alloc, what.cause(), &serial)
+}

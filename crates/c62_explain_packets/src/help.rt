@@ -1,0 +1,263 @@
+//! Which lines have part in a fault of packets, and what helps.
+
+use crate::finding::{Finding, What};
+use crate::sharing::{lacking, landing_together, lines_sharing};
+use c62_adopt_code::CodeCause;
+use c62_adopt_cut::{Cut, Draft, Issue};
+use c62_explain::{line_at, line_help, push_hint};
+use c62_insn::{Letter, Reg, Side, Unit};
+use c62_line::{Cause, ReadFault};
+use c62_packet::PacketRule;
+use c62_place::{Place, token_at};
+use c62_rules::Resource;
+use itoa::Buffer;
+use std::alloc::{AllocError, Global};
+
+fn unit_name(unit: Unit) -> &'static [u8] {
+    match (unit.letter, unit.side) {
+        (Letter::L, Side::A) => b".L1",
+        (Letter::L, Side::B) => b".L2",
+        (Letter::S, Side::A) => b".S1",
+        (Letter::S, Side::B) => b".S2",
+        (Letter::M, Side::A) => b".M1",
+        (Letter::M, Side::B) => b".M2",
+        (Letter::D, Side::A) => b".D1",
+        (Letter::D, Side::B) => b".D2",
+    }
+}
+
+pub(crate) fn push_register(out: &mut Vec<u8>, reg: Reg) -> Result<(), AllocError> {
+    let mut buffer = Buffer::new();
+    out.extend_from_slice(match reg.side {
+        Side::A => b"A",
+        Side::B => b"B",
+    })?;
+    out.extend_from_slice(buffer.format(reg.number).as_bytes())
+}
+
+fn push_resource(out: &mut Vec<u8>, resource: Resource) -> Result<(), AllocError> {
+    match resource {
+        Resource::OnUnit(unit) => out.extend_from_slice(unit_name(unit)),
+        Resource::CrossPath(Side::A) => out.extend_from_slice(b"1X"),
+        Resource::CrossPath(Side::B) => out.extend_from_slice(b"2X"),
+        Resource::DataPath(Side::A) => out.extend_from_slice(b"T1"),
+        Resource::DataPath(Side::B) => out.extend_from_slice(b"T2"),
+        Resource::ReadsOf(reg) => push_register(out, reg),
+    }
+}
+
+/// The instruction of this line, and its block.
+fn issue_at(drafts: &[Draft], line: u32) -> Option<(&Draft, &Issue)> {
+    for draft in drafts {
+        for issue in draft.issues.as_slice() {
+            if issue.line == line {
+                return Some((draft, issue));
+            }
+        }
+    }
+    None
+}
+
+/// A line without the blanks that stand first.
+fn from_token(line: &[u8]) -> &[u8] {
+    &line[token_at(line, 0).start.min(line.len())..]
+}
+
+/// A line of help about another line: what it takes too, and the line itself.
+fn push_other(
+    out: &mut Vec<u8>,
+    text: &[u8],
+    number: u32,
+    other: u32,
+    takes: &[u8],
+) -> Result<(), AllocError> {
+    let mut buffer = Buffer::new();
+    let line = from_token(line_at(text, other));
+    push_hint(
+        out,
+        number,
+        &[
+            b"line ",
+            buffer.format(other).as_bytes(),
+            takes,
+            b": ",
+            line,
+        ],
+    )
+}
+
+/// The lines that share a resource with an instruction.
+fn push_sharing(
+    out: &mut Vec<u8>,
+    alloc: Global,
+    text: &[u8],
+    resource: Resource,
+    issue: &Issue,
+    issues: &[Issue],
+) -> Result<(), AllocError> {
+    let mut takes = Vec::new(alloc);
+    takes.extend_from_slice(match resource {
+        Resource::ReadsOf(_) => b" reads ",
+        _ => b" takes ",
+    })?;
+    push_resource(&mut takes, resource)?;
+    for other in lines_sharing(alloc, resource, issue, issues)?.iter() {
+        push_other(out, text, issue.line, *other, &takes)?;
+    }
+    Ok(())
+}
+
+/// The line whose write lands together with one of an instruction.
+fn push_landing(
+    out: &mut Vec<u8>,
+    alloc: Global,
+    text: &[u8],
+    issue: &Issue,
+    issues: &[Issue],
+) -> Result<(), AllocError> {
+    let Some((other, reg)) = landing_together(issue, issues) else {
+        return Ok(());
+    };
+    let mut takes = Vec::new(alloc);
+    takes.extend_from_slice(b" writes ")?;
+    push_register(&mut takes, reg)?;
+    push_other(out, text, issue.line, other, &takes)
+}
+
+/// The lines that break a rule with the one of this number.
+fn push_breach(
+    out: &mut Vec<u8>,
+    alloc: Global,
+    text: &[u8],
+    number: u32,
+    rule: PacketRule,
+    cut: &Cut,
+) -> Result<(), AllocError> {
+    let Some((draft, issue)) = issue_at(&cut.drafts, number) else {
+        return Ok(());
+    };
+    match rule {
+        PacketRule::InCycle(rule) => match lacking(rule, issue, &draft.issues) {
+            Some(resource) => push_sharing(out, alloc, text, resource, issue, &draft.issues),
+            None => Ok(()),
+        },
+        PacketRule::P5 => push_landing(out, alloc, text, issue, &draft.issues),
+    }
+}
+
+/// The cycle in which the block that begins in this one is over, both counted from the beginning of the text.
+fn block_end(cut: &Cut, start: u32) -> u32 {
+    for draft in cut.drafts.as_slice() {
+        if draft.start > start {
+            return draft.start;
+        }
+    }
+    cut.cycles
+}
+
+/// How many cycles an instruction lacks until all that it does has landed.
+fn cycles_missing(cut: &Cut, draft: &Draft, issue: &Issue) -> u32 {
+    let landed = issue
+        .cycle
+        .saturating_add(u32::from(issue.insn.delay()))
+        .saturating_add(1);
+    let over = block_end(cut, draft.start).saturating_sub(draft.start);
+    landed.saturating_sub(over)
+}
+
+fn push_missing(out: &mut Vec<u8>, number: u32, cut: &Cut) -> Result<(), AllocError> {
+    let Some((draft, issue)) = issue_at(&cut.drafts, number) else {
+        return Ok(());
+    };
+    let mut buffer = Buffer::new();
+    let missing = cycles_missing(cut, draft, issue);
+    let words: &[&[u8]] = &[
+        b"cycles that are missing before the block is over: ",
+        buffer.format(missing).as_bytes(),
+        b"; `adopt --drain` adds them",
+    ];
+    push_hint(out, number, words)
+}
+
+/// The next branch of the block.
+fn next_branch(draft: &Draft, number: u32) -> Option<u32> {
+    for issue in draft.issues.as_slice() {
+        if issue.line > number && issue.insn.op().is_branch() {
+            return Some(issue.line);
+        }
+    }
+    None
+}
+
+fn push_branch(out: &mut Vec<u8>, text: &[u8], number: u32, cut: &Cut) -> Result<(), AllocError> {
+    let Some((draft, _)) = issue_at(&cut.drafts, number) else {
+        return Ok(());
+    };
+    match next_branch(draft, number) {
+        Some(other) => push_other(out, text, number, other, b" is another branch"),
+        None => Ok(()),
+    }
+}
+
+/// What helps where a line has a fault that serial texts have, too; `serial` is the line without its bars.
+fn push_read_help(
+    out: &mut Vec<u8>,
+    alloc: Global,
+    text: &[u8],
+    serial: &[u8],
+    fault: ReadFault,
+    place: Place,
+) -> Result<(), AllocError> {
+    match fault.cause {
+        Cause::Directive => push_hint(
+            out,
+            fault.line,
+            &[b"docs/ADOPT.md has the directives that are read"],
+        ),
+        Cause::ParallelBar | Cause::DuplicateLabel => Ok(()),
+        _ => out.extend_from_slice(&line_help(alloc, text, serial, fault, place)?),
+    }
+}
+
+/// Lines of help for a fault of packets; `cut` has the blocks of the text's code.
+pub(crate) fn push_help(
+    out: &mut Vec<u8>,
+    alloc: Global,
+    text: &[u8],
+    serial: &[u8],
+    finding: Finding,
+    place: Place,
+    cut: &Cut,
+) -> Result<(), AllocError> {
+    let number = finding.line;
+    match finding.what {
+        What::Read(cause) => push_read_help(
+            out,
+            alloc,
+            text,
+            serial,
+            ReadFault::at(number, cause),
+            place,
+        ),
+        What::Rule(rule) => push_breach(out, alloc, text, number, rule, cut),
+        What::NotDrained => push_missing(out, number, cut),
+        What::TwoBranches => push_branch(out, text, number, cut),
+        What::Code(CodeCause::Directive) => {
+            push_hint(
+                out,
+                number,
+                &[b"docs/ADOPT.md has the directives that are read"],
+            )
+        }
+        What::Shape => push_hint(
+            out,
+            number,
+            &[b"`adopt` reads other spellings, and writes the listing"],
+        ),
+        What::Code(_)
+        | What::UnitWanted
+        | What::TooManyCycles
+        | What::BranchBeside
+        | What::TooManyTargets => Ok(()),
+    }
+}

@@ -1,0 +1,18 @@
+//! Says of a fault of packets, in a listing or as people and compilers write them, what is wrong and which lines have part in it.
+#![tactic(auto)]
+
+mod early;
+mod finding;
+mod help;
+mod linted;
+mod sharing;
+mod told;
+
+pub use early::{EarlyRead, early_reads};
+pub use finding::{Finding, What, of_adopt, of_listing, of_rows};
+pub use linted::{Linted, lint_listing, lint_packets};
+pub use sharing::lines_sharing;
+pub use told::explain;
+
+#[cfg(test)]
+mod tests;

@@ -1,0 +1,9 @@
+pub mod Forms
+pub mod Standing
+pub mod Steps
+pub mod Rows
+pub mod Paths
+pub mod Numbers
+pub mod Pairs
+pub mod Counting
+pub mod Decides

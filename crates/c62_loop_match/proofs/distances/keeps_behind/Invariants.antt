@@ -1,0 +1,12 @@
+use Rattle.std.proofs.Common.{ℕ, ◌<◌, ◌≤◌}
+use Rattle.c62_pair.specs.Uses.{insns_in}
+use Rattle.c62_loop_match.specs.Promise.{promises}
+use Rattle.c62_loop_match.specs.Distances.{KeepsPair}
+use Rattle.c62_loop_match.proofs.Pairs.{AreWritten}
+use Rattle.c62_loop_match.proofs.distances.keeps_behind.Given as goal
+
+abbrev pub invariant-loop-i : goal.invariant-loop-i
+invariant-loop-i l = (l.i ≤ l.j) × (AreWritten l.path l.written l.i l.j × ((k : ℕ) → l.i ≤ k → k < l.j → KeepsPair (promises l.promise) (insns_in l.path) l.cycles l.start k l.j))
+
+abbrev pub decreases-loop-i : goal.decreases-loop-i
+decreases-loop-i l = l.i

@@ -1,0 +1,10 @@
+pub mod Parts
+pub mod Form
+pub mod Members
+pub mod Promise
+pub mod Layout
+pub mod Path
+pub mod Distances
+pub mod Turns
+pub mod Steering
+pub mod Decide

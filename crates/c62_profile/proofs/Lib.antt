@@ -1,0 +1,5 @@
+pub mod Turns
+pub mod Counting
+pub mod Sums
+pub mod Runs
+pub mod Rows

@@ -1,0 +1,11 @@
+use Rattle.std.proofs.Common.{append_assoc, rules}
+use Rattle.c62_profile.specs.Table.{packet_table}
+use Rattle.c62_profile.proofs.Rows.{row_behind}
+use Rattle.c62_profile.proofs.packets.packet_table.Goals as goal
+
+pub loop-number-preserved : goal.loop-number-preserved
+loop-number-preserved c = search (rules, row_behind)
+
+pub returns : goal.returns
+unfolding packet_table
+returns c = search (rules, append_assoc)

@@ -1,0 +1,15 @@
+//! Tells of a run of blocks how often each was run, and what it took of the whole.
+#![tactic(auto)]
+
+pub mod laws;
+mod packets;
+mod serial;
+mod table;
+mod tally;
+
+pub use packets::{packet_table, run_packets};
+pub use serial::{run_serial, serial_table};
+pub use tally::Tally;
+
+#[cfg(test)]
+mod tests;
