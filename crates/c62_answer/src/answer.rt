@@ -193,6 +193,10 @@ fn adopted(alloc: Global, text: &[u8], drain: bool) -> Result<Reply, Failure>
 }
 
 /// The answer to a text.
+///
+/// # Errors
+///
+/// The first fault of the text, as the page of the command says, or that memory ran out.
 pub fn answer<H: AllocGlobal + Threads + Wait + Sync>(
     rt: &H,
     request: &Request,

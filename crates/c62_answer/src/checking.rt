@@ -49,6 +49,10 @@ fn listing_part(alloc: Global, listing: &[u8]) -> Result<Packets, Failure>
 }
 
 /// What each block of a listing is, held against the text that stands before it.
+///
+/// # Errors
+///
+/// The first fault of the text, then that of the listing, or that memory ran out.
 pub fn verdicts(alloc: Global, input: &[u8]) -> Result<Reply, Failure>
     ensures { Gives Verdicts input.now result }
 {

@@ -43,6 +43,10 @@ fn name_of(start: &FlightStart) -> Option<&[u8]>
 }
 
 /// The report of a run of a text of packets as people and compilers write them, with everything in flight.
+///
+/// # Errors
+///
+/// The first fault of the text, that no line has the label of `--from`, or that memory ran out.
 pub fn exec(alloc: Global, text: &[u8], start: &FlightStart) -> Result<Reply, Failure>
     ensures { Gives (FlightReport start.now.cycles (option_map (λ name. name.items) start.now.from) start.now.settings.items) text.now result }
 {

@@ -14,6 +14,7 @@ use std::io::{ErrorKind, Read};
 /// Why a text was not read.
 #[derive(Debug, Drop)]
 pub enum InputError {
+    /// Memory ran out.
     Memory,
     /// The reader failed.
     Input,
@@ -47,6 +48,10 @@ fn read_some<R: Read>(reader: &mut R, buf: &mut [u8]) -> io::Result<usize>
 }
 
 /// All that the reader gives, but no more than one byte past this limit.
+///
+/// # Errors
+///
+/// `InputError::Input` where a read failed, `InputError::Memory` where memory ran out.
 pub fn read_text<R: Read>(
     alloc: Global,
     reader: &mut R,

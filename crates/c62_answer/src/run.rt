@@ -45,6 +45,10 @@ pub(crate) fn opening(alloc: Global, settings: &[Setting]) -> Result<State, Allo
 }
 
 /// The report of the serial run of a program.
+///
+/// # Errors
+///
+/// Where memory ran out.
 pub fn serial_run(alloc: Global, program: &Program, start: &Start) -> Result<Vec<u8>, AllocError>
     ensures { IfOk result (λ text. IsReport program.now start.now.settings.items start.now.blocks text.items) }
 {
@@ -54,6 +58,10 @@ pub fn serial_run(alloc: Global, program: &Program, start: &Start) -> Result<Vec
 }
 
 /// The report of a run of packets.
+///
+/// # Errors
+///
+/// Where memory ran out.
 pub fn packet_run(alloc: Global, packets: &Packets, start: &Start) -> Result<Vec<u8>, AllocError>
     requires { IsTrue (is_closed packets.now) }
     ensures { IfOk result (λ text. IsPacketReport packets.now start.now.settings.items start.now.blocks text.items) }

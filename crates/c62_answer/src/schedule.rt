@@ -100,7 +100,11 @@ fn push_packets(alloc: Global, packets: &mut Packets, board: &Board) -> Result<(
     }
 }
 
-/// The packets of a program's blocks, packed by turns. `AllocError` where memory ran out.
+/// The packets of a program's blocks, packed by turns.
+///
+/// # Errors
+///
+/// Where memory ran out.
 pub fn packets_by_turns(
     alloc: Global,
     program: Program,
@@ -187,7 +191,11 @@ fn gathered(alloc: Global, made: Vec<PacketBlock>) -> Result<Packets, AllocError
     Ok(packets)
 }
 
-/// The packets of a program's blocks, packed by workers. `AllocError` where memory ran out.
+/// The packets of a program's blocks, packed by workers.
+///
+/// # Errors
+///
+/// Where memory ran out.
 pub fn packets_by_workers<H: AllocGlobal + Threads + Wait + Sync>(
     rt: &H,
     program: Program,
@@ -229,7 +237,11 @@ fn shown_of(alloc: Global, board: &Board, why: bool) -> Result<Shown, AllocError
     })
 }
 
-/// What is shown of a program's blocks, packed by turns. `AllocError` where memory ran out.
+/// What is shown of a program's blocks, packed by turns.
+///
+/// # Errors
+///
+/// Where memory ran out.
 pub fn shown_by_turns(
     alloc: Global,
     program: Program,
@@ -284,7 +296,11 @@ fn shown_side_by_side<R: Threads + Wait + Sync>(
         .collect::<Result<Vec<Shown>, AllocError>>(rt, alloc)?
 }
 
-/// What is shown of a program's blocks, packed by workers. `AllocError` where memory ran out.
+/// What is shown of a program's blocks, packed by workers.
+///
+/// # Errors
+///
+/// Where memory ran out.
 pub fn shown_by_workers<H: AllocGlobal + Threads + Wait + Sync>(
     rt: &H,
     program: Program,

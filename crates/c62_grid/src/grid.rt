@@ -330,6 +330,10 @@ impl Grid<'_> {
     }
 
     /// Appends all rows of the block.
+    ///
+    /// # Errors
+    ///
+    /// Where memory ran out.
     #[tactic(auto, unfolding(crate::specs::Grid::grid))]
     pub fn push(&self, alloc: Global, out: &mut String) -> Result<(), AllocError>
         requires landings { self.now.landings.now ≡ landings_of self.now.placed.now }

@@ -75,6 +75,10 @@ fn push_landings(landings: &mut Vec<Landing>, placed: &Placed) -> Result<(), All
 }
 
 /// What lands of these instructions with a delay, by issue.
+///
+/// # Errors
+///
+/// Where memory ran out.
 pub fn landings_of(alloc: Global, placed: &[Placed]) -> Result<Vec<Landing>, AllocError>
     ensures { IfOk result (λ landings. landings.items ≡ landings_of placed.now) }
 {

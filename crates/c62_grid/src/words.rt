@@ -10,6 +10,11 @@ use c62_insn::{Letter, Reg, Side, Unit};
 use itoa::Buffer;
 use std::alloc::AllocError;
 
+/// A number in decimal.
+///
+/// # Errors
+///
+/// Where memory ran out.
 pub fn push_number(out: &mut String, number: u64) -> Result<(), AllocError>
     ensures { OnOk result (AddsText out.old (decimal number) out.new) }
 {
@@ -17,6 +22,11 @@ pub fn push_number(out: &mut String, number: u64) -> Result<(), AllocError>
     out.push_str(buffer.format(number))
 }
 
+/// A number in decimal, with its sign where it is negative.
+///
+/// # Errors
+///
+/// Where memory ran out.
 pub fn push_signed(out: &mut String, number: i32) -> Result<(), AllocError>
     ensures { OnOk result (AddsText out.old (signed_decimal number) out.new) }
 {
@@ -24,6 +34,11 @@ pub fn push_signed(out: &mut String, number: i32) -> Result<(), AllocError>
     out.push_str(buffer.format(number))
 }
 
+/// So many spaces.
+///
+/// # Errors
+///
+/// Where memory ran out.
 pub fn push_spaces(out: &mut String, count: usize) -> Result<(), AllocError>
     ensures { OnOk result (AddsText out.old (spaces count) out.new) }
 {
@@ -34,6 +49,10 @@ pub fn push_spaces(out: &mut String, count: usize) -> Result<(), AllocError>
 }
 
 /// A word, and spaces behind it up to this width.
+///
+/// # Errors
+///
+/// Where memory ran out.
 #[tactic(auto, unfolding(crate::specs::Words::left))]
 pub fn push_left(out: &mut String, width: usize, word: &str) -> Result<(), AllocError>
     ensures { OnOk result (AddsText out.old (left width word.now) out.new) }
@@ -43,6 +62,10 @@ pub fn push_left(out: &mut String, width: usize, word: &str) -> Result<(), Alloc
 }
 
 /// A word, and spaces before it up to this width.
+///
+/// # Errors
+///
+/// Where memory ran out.
 #[tactic(auto, unfolding(crate::specs::Words::right))]
 pub fn push_right(out: &mut String, width: usize, word: &str) -> Result<(), AllocError>
     ensures { OnOk result (AddsText out.old (right width word.now) out.new) }
@@ -52,6 +75,10 @@ pub fn push_right(out: &mut String, width: usize, word: &str) -> Result<(), Allo
 }
 
 /// A number, and spaces before it up to this width.
+///
+/// # Errors
+///
+/// Where memory ran out.
 pub fn push_right_number(out: &mut String, width: usize, number: u64) -> Result<(), AllocError>
     ensures { OnOk result (AddsText out.old (right width (decimal number)) out.new) }
 {
@@ -60,6 +87,10 @@ pub fn push_right_number(out: &mut String, width: usize, number: u64) -> Result<
 }
 
 /// How many there are of something, as `1 cycle` or `2 cycles`.
+///
+/// # Errors
+///
+/// Where memory ran out.
 #[tactic(auto, unfolding(crate::specs::Words::counted))]
 pub fn push_counted(out: &mut String, count: u64, one: &str) -> Result<(), AllocError>
     ensures { OnOk result (AddsText out.old (counted count one.now) out.new) }
@@ -75,6 +106,10 @@ pub fn push_counted(out: &mut String, count: u64, one: &str) -> Result<(), Alloc
 }
 
 /// A line, without the spaces at its end.
+///
+/// # Errors
+///
+/// Where memory ran out.
 #[tactic(auto, unfolding(crate::specs::Words::line))]
 pub fn push_line(out: &mut String, text: &str) -> Result<(), AllocError>
     ensures { OnOk result (AddsText out.old (line text.now) out.new) }
@@ -92,6 +127,11 @@ fn file_letter(side: Side) -> &'static str
     }
 }
 
+/// The name of a register.
+///
+/// # Errors
+///
+/// Where memory ran out.
 pub fn push_register(out: &mut String, reg: Reg) -> Result<(), AllocError>
     ensures { OnOk result (AddsText out.old (register_name reg) out.new) }
 {

@@ -50,7 +50,11 @@ fn push_stop(out: &mut Vec<u8>, stop: Stop) -> Result<(), AllocError>
 }
 
 /// The report of a run of packets in flight: how many cycles it took, how it stopped, and what the machine holds when all has
-/// landed. The registers and words of memory that are 0 have no line. `AllocError` where memory ran out.
+/// landed. The registers and words of memory that are 0 have no line.
+///
+/// # Errors
+///
+/// Where memory ran out.
 #[tactic(auto, unfolding(crate::specs::Flight::flight_report))]
 pub fn flight_report(
     alloc: Global,

@@ -42,7 +42,11 @@ impl RowsText {
     }
 
     /// The row that begins below the label of this name, whose dots are read as `_`, or the number of rows where none does. There
-    /// is none where no line has the label. `AllocError` where memory ran out.
+    /// is none where no line has the label.
+    ///
+    /// # Errors
+    ///
+    /// Where memory ran out.
     pub fn row_from(&self, alloc: Global, name: &[u8]) -> Result<Option<u32>, AllocError>
         ensures { IfOk result (λ row. row ≡ row_from name.now (names_of self.now)) }
     {
