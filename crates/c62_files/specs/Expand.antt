@@ -1,7 +1,8 @@
 -- The words of a call with the words of its files of settings in their places (docs/COMMANDS.md, "Files").
 use Rattle.std.specs.Prelude.{◌≡◌, ℕ, ◌+◌, ◌≤◌, List, [], ◌∷◌, ◌++◌, length, map, take, Option, IfSome}
 use Rattle.std.specs.Str.Lossy.{utf8_lossy}
-use Rattle.c62_files.specs.Words.{Text, Word, Plain, InputName, OutputName, SettingsName}
+use Rattle.c62_files.specs.Words.{Text, Word, Plain, InputName, OutputName, SettingsName, Loads}
+use Rattle.c62_files.specs.Load.{AreLoaded}
 use Rattle.c62_files.specs.Settings.{settings_words}
 use Rattle.c62_files.specs.declared.expand.TheConstants.{MOST_SETTINGS}
 
@@ -20,6 +21,7 @@ pub record AreOfFile (holds : Holding) (name : Text) (words : List Text) : Type 
 abbrev pub Gives : Holding → Word → List Text → Type 0
 Gives holds (Plain word) words = words ≡ word ∷ []
 Gives holds (SettingsName name) words = AreOfFile holds name words
+Gives holds (Loads word) words = AreLoaded holds word words
 Gives holds (InputName name) words = words ≡ []
 Gives holds (OutputName name) words = words ≡ []
 

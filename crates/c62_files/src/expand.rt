@@ -7,6 +7,7 @@ ghost use Rattle.c62_files.specs.Settings.{settings_words};
 ghost use Rattle.c62_files.specs.Expand.{Expands, Gives};
 
 use crate::folder::{FileError, Folder};
+use crate::load::{file_of, push_load};
 use crate::piece::Piece;
 use crate::settings::settings_words;
 use std::alloc::{AllocError, Global};
@@ -69,23 +70,25 @@ fn push_words<F: Folder>(
             let bytes = settings_in(alloc, folder, *name)?;
             Ok(push_settings(alloc, words, &bytes)?)
         }
+        Piece::Load(word) => push_load(alloc, folder, words, *word),
         Piece::Input(_) | Piece::Output(_) => Ok(()),
     }
 }
 
-/// The name of the file whose words stand in the place of a word; that of another word is empty.
+/// The name of the file that is read for what stands in the place of a word; that of another word is empty.
 fn name_of<'a>(piece: &Piece<'a>) -> &'a str {
     match piece {
         Piece::Settings(name) => *name,
+        Piece::Load(word) => file_of(*word),
         Piece::Plain(_) | Piece::Input(_) | Piece::Output(_) => "",
     }
 }
 
-/// The words of a call, with those of its files of settings in their places.
+/// The words of a call, with those of its files of settings in their places, and with settings for the files that it loads.
 ///
 /// # Errors
 ///
-/// Where such a file can't be read or is longer than [`MOST_SETTINGS`], or memory ran out.
+/// Where such a file can't be read, one of settings is longer than [`MOST_SETTINGS`], or memory ran out.
 pub fn expanded<'a, F: Folder>(
     alloc: Global,
     folder: &F,

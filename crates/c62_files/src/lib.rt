@@ -5,6 +5,7 @@
 mod call;
 mod expand;
 mod folder;
+mod load;
 mod piece;
 mod settings;
 mod wanted;

@@ -115,7 +115,7 @@ fn run_from<'a, H: AllocGlobal + Threads + Wait + Sync, F: Folder, R: Read, W: W
 fn is_made(status: u8) -> bool
     ensures { result ≡ is_made status }
 {
-    status == 0 || status == 5
+    status == 0 || status >= 5
 }
 
 /// Runs a command whose answer goes to the file of this name.
