@@ -1,9 +1,11 @@
--- The words of a call, grown by what stands in the place of one word more.
-use Rattle.std.proofs.Common.{◌≡◌, ◌∙◌, ℕ, ◌+◌, ◌<◌, List, [], ◌∷◌, ◌++◌, length, drop, map, get_or, refl, sym, ap, append_assoc, subst}
+-- The words of a call, grown by what stands in the place of one word more, and why that isn't known.
+use Rattle.std.proofs.Common.{◌≡◌, ◌∙◌, ℕ, ◌+◌, ◌<◌, List, [], ◌∷◌, ◌++◌, length, drop, map, get_or, Some, option_map, refl, sym, ap, append_assoc, subst}
 use Rattle.std.proofs.lemmas.List.{append-nil, drop_more}
+use Rattle.std.proofs.lemmas.Option.{slice_get-get_or, slice_get-map}
 use Rattle.c62_files.specs.declared.piece.Piece.{Piece}
 use Rattle.c62_files.specs.Words.{Text, Word, text_piece}
-use Rattle.c62_files.specs.Expand.{Expands, Gives, Holding, IsGrown}
+use Rattle.c62_files.specs.declared.expand.Unread.{Unread}
+use Rattle.c62_files.specs.Expand.{Expands, Gives, Holding, IsGrown, IsUnread, IsUnreadAt}
 
 grow : (holds : Holding) (all : List Word) (done mine : List Text) (piece : Word) (rest : List Word) → Gives holds piece mine
     → IsGrown holds all done (piece ∷ rest) → IsGrown holds all (done ++ mine) rest
@@ -27,3 +29,12 @@ pub all_grown : (holds : Holding) (all : List Word) (done : List Text) (rest : L
 unfolding Expands
 all_grown holds all done rest none so_far =
     subst (Expands holds all) (append-nil done) (so_far [] (rw none refl))
+
+pub unread_at : (pieces : List Piece) (i : ℕ) (d piece : Piece) (unread : Unread) → i < length pieces → piece ≡ get_or pieces i d
+    → IsUnreadAt (text_piece piece) unread → IsUnread (map text_piece pieces) unread
+unread_at pieces i d piece unread within is why = record {
+  at = i;
+  word = text_piece piece;
+  stands = slice_get-map text_piece pieces i ∙ ap (option_map text_piece) (slice_get-get_or pieces i d within ∙ ap Some (sym is));
+  why = why;
+}

@@ -1,13 +1,14 @@
 //! Puts the words of files of settings into their places among the words of a call.
 
-ghost use Rattle.std.specs.Prelude.{◌≡◌, ◌++◌, ◌∷◌, ◌≤◌, List, [], IfOk, IfSome, OnOk, length, map, string_bytes};
+ghost use Rattle.std.specs.Prelude.{◌≡◌, ◌++◌, ◌∷◌, ◌≤◌, List, [], IfOk, IfErr, IfSome, OnOk, OnErr, length, map, string_bytes};
 ghost use Rattle.std.specs.Str.Lossy.{utf8_lossy};
 ghost use Rattle.c62_files.specs.Words.{Text, text_piece};
 ghost use Rattle.c62_files.specs.Settings.{settings_words};
-ghost use Rattle.c62_files.specs.Expand.{Expands, Gives};
+ghost use Rattle.c62_files.specs.Expand.{Expands, Gives, IsUnread, IsUnreadAt};
+ghost use Rattle.c62_files.specs.declared.folder.FileError.TheVariants.{Memory};
 
 use crate::folder::{FileError, Folder};
-use crate::load::{file_of, push_load};
+use crate::load::push_load;
 use crate::piece::Piece;
 use crate::settings::settings_words;
 use std::alloc::{AllocError, Global};
@@ -21,6 +22,17 @@ pub const MOST_SETTINGS: usize = 1_048_576;
 pub struct Unread<'a> {
     pub name: &'a str,
     pub error: FileError,
+}
+
+impl From<AllocError> for Unread<'_> {
+    ghost from_gives = { λ _ unread. unread.error ≡ Memory };
+
+    fn from(_error: AllocError) -> Self {
+        Unread {
+            name: "",
+            error: FileError::Memory,
+        }
+    }
 }
 
 /// Adds the words of a file of settings.
@@ -55,32 +67,24 @@ fn push_word(alloc: Global, words: &mut Vec<String>, word: &str) -> Result<(), A
 }
 
 /// Adds what stands in the place of a word.
-fn push_words<F: Folder>(
+fn push_words<'a, F: Folder>(
     alloc: Global,
     folder: &F,
     words: &mut Vec<String>,
-    piece: &Piece<'_>,
-) -> Result<(), FileError>
-    ensures { OnOk result ((mine : List Text) × Gives (F.holds folder.now) (text_piece piece.now) mine
+    piece: &Piece<'a>,
+) -> Result<(), Unread<'a>>
+    ensures ok { OnOk result ((mine : List Text) × Gives (F.holds folder.now) (text_piece piece.now) mine
         × (map string_bytes words.new.items ≡ map string_bytes words.old.items ++ mine)) }
+    ensures unread { IfErr result (IsUnreadAt (text_piece piece.now)) }
 {
     match piece {
         Piece::Plain(word) => Ok(push_word(alloc, words, *word)?),
-        Piece::Settings(name) => {
-            let bytes = settings_in(alloc, folder, *name)?;
-            Ok(push_settings(alloc, words, &bytes)?)
-        }
+        Piece::Settings(name) => match settings_in(alloc, folder, *name) {
+            Ok(bytes) => Ok(push_settings(alloc, words, &bytes)?),
+            Err(error) => Err(Unread { name: *name, error }),
+        },
         Piece::Load(word) => push_load(alloc, folder, words, *word),
         Piece::Input(_) | Piece::Output(_) => Ok(()),
-    }
-}
-
-/// The name of the file that is read for what stands in the place of a word; that of another word is empty.
-fn name_of<'a>(piece: &Piece<'a>) -> &'a str {
-    match piece {
-        Piece::Settings(name) => *name,
-        Piece::Load(word) => file_of(*word),
-        Piece::Plain(_) | Piece::Input(_) | Piece::Output(_) => "",
     }
 }
 
@@ -94,16 +98,12 @@ pub fn expanded<'a, F: Folder>(
     folder: &F,
     pieces: &[Piece<'a>],
 ) -> Result<Vec<String>, Unread<'a>>
-    ensures { IfOk result (λ words. Expands (F.holds folder.now) (map text_piece pieces.now) (map string_bytes words.items)) }
+    ensures ok { IfOk result (λ words. Expands (F.holds folder.now) (map text_piece pieces.now) (map string_bytes words.items)) }
+    ensures unread { IfErr result (IsUnread (map text_piece pieces.now)) }
 {
     let mut words = Vec::new(alloc);
     for piece in pieces {
-        if let Err(error) = push_words(alloc, folder, &mut words, piece) {
-            return Err(Unread {
-                name: name_of(piece),
-                error,
-            });
-        }
+        push_words(alloc, folder, &mut words, piece)?;
     }
     Ok(words)
 }

@@ -1,11 +1,13 @@
 //! Files whose bytes are put into memory (docs/COMMANDS.md, "Files").
 
-ghost use Rattle.std.specs.Prelude.{◌≡◌, ◌++◌, ◌∷◌, List, [], IfOk, MatchOption, OnOk, codes, decimal, map, string_bytes};
+ghost use Rattle.std.specs.Prelude.{◌≡◌, ◌++◌, ◌∷◌, List, [], IfOk, IfErr, MatchOption, OnOk, codes, decimal, map, string_bytes};
 ghost use Rattle.std.specs.List.{flat_map};
-ghost use Rattle.c62_files.specs.Words.{Text};
+ghost use Rattle.c62_files.specs.Words.{Text, Loads};
+ghost use Rattle.c62_files.specs.Expand.{IsUnreadAt};
 ghost use Rattle.c62_files.specs.Load.{AreLoaded, IsNowhere, IsPlaced, load_word, load_words, numbers_behind};
 
-use crate::folder::{FileError, Folder};
+use crate::expand::Unread;
+use crate::folder::Folder;
 use itoa::Buffer;
 use std::alloc::{AllocError, Global};
 
@@ -17,14 +19,6 @@ fn parts_of(word: &str) -> Option<(&str, &str)>
     ensures { MatchOption result (IsNowhere word.now) (λ parts. IsPlaced word.now parts.0.now parts.1.now) }
 {
     word.split_once('=')
-}
-
-/// The name of the file that is loaded; an empty one where there is none.
-pub(crate) fn file_of(word: &str) -> &str {
-    match parts_of(word) {
-        Some((_, name)) => name,
-        None => "",
-    }
 }
 
 /// Adds a number.
@@ -89,20 +83,21 @@ fn push_nowhere(alloc: Global, words: &mut Vec<String>, word: &str) -> Result<()
 /// # Errors
 ///
 /// Where the file can't be read, or memory ran out.
-pub(crate) fn push_load<F: Folder>(
+pub(crate) fn push_load<'a, F: Folder>(
     alloc: Global,
     folder: &F,
     words: &mut Vec<String>,
-    word: &str,
-) -> Result<(), FileError>
-    ensures { OnOk result ((mine : List Text) × AreLoaded (F.holds folder.now) word.now mine
+    word: &'a str,
+) -> Result<(), Unread<'a>>
+    ensures ok { OnOk result ((mine : List Text) × AreLoaded (F.holds folder.now) word.entry.now mine
         × (map string_bytes words.new.items ≡ map string_bytes words.old.items ++ mine)) }
+    ensures unread { IfErr result (IsUnreadAt (Loads word.entry.now)) }
 {
     match parts_of(word) {
-        Some((address, name)) => {
-            let bytes = folder.read(alloc, name, MEMORY_BYTES)?;
-            Ok(push_bytes(alloc, words, address, &bytes)?)
-        }
+        Some((address, name)) => match folder.read(alloc, name, MEMORY_BYTES) {
+            Ok(bytes) => Ok(push_bytes(alloc, words, address, &bytes)?),
+            Err(error) => Err(Unread { name, error }),
+        },
         None => Ok(push_nowhere(alloc, words, word)?),
     }
 }

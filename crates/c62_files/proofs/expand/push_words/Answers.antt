@@ -1,4 +1,7 @@
 use Rattle.c62_files.proofs.expand.push_words.Goals as goal
 
-pub returns-in-Load : goal.returns-in-Load
-returns-in-Load g c = rw c.in-Load.is c.push_load.ensures
+pub returns-in-Load-clause-ok : goal.returns-in-Load-clause-ok
+returns-in-Load-clause-ok g c = rw c.in-Load.is c.push_load.ensures.ok
+
+pub returns-in-Load-clause-unread : goal.returns-in-Load-clause-unread
+returns-in-Load-clause-unread g c = rw c.in-Load.is c.push_load.ensures.unread
