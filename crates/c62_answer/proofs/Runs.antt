@@ -1,6 +1,6 @@
 -- What a run did, from what each of its steps did.
 use Rattle.std.proofs.Common.{◌≡◌, ℕ, ◌+◌, true, false, List, length, take, Option, Some, None, Result, Ok, Err, refl, sym, ap, subst, ◌∙◌, arith, rules, inl, inr}
-use Rattle.std.specs.Prelude.{◌⊎◌, ◌<◌, Bool, [], IfSome, IsErrAnd, codes}
+use Rattle.std.specs.Prelude.{◌⊎◌, ◌<◌, ◌≤◌, Bool, [], IfSome, IsErrAnd, codes}
 use Rattle.std.specs.Option.{IsSomeAnd}
 use Rattle.std.specs.Io.KnownBytes.{Appends, Keeps}
 use Rattle.std.proofs.lemmas.Bool.{cases_lt, lt-ltb}

@@ -29,7 +29,7 @@ Status, and what standard error says:
      of packets to be adopted also `line 7: NotDrained`, or `line 7: P5` and the packet rule;
      of packets in flight also `line 7: TwoBranches`, and `from: UnknownTarget`;
      of a check it is `text line 7: BadUnit` or `listing line 7: Shape`, each part counted from 1
-  2  the words are refused, by a text that says why, or `setting 2: bad`
+  2  the words are refused, by a text that says why, or `setting 2: bad`, or `load 2: past the end`
   3  no memory: `memory`
   4  a stream failed: `input` or `output`; or a file: `cannot read NAME: REASON`, `cannot write NAME: REASON`
   5  checked, and not each block is the same: the output tells, and nothing is said

@@ -159,7 +159,7 @@ fn run_call<'a, H: AllocGlobal + Threads + Wait + Sync, F: Folder, R: Read, W: W
 {
     let words = match expanded(rt.alloc(), folder, &call.words) {
         Ok(words) => words,
-        Err(unread) => return Err(Trouble::of_reading(unread.name, unread.error)),
+        Err(error) => return Err(Trouble::of_words(error)),
     };
     match call.target {
         None => run_from(rt, folder, &words, call.source, input, output, errors),
