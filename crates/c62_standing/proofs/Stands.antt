@@ -1,5 +1,5 @@
 -- What is told of packets as they stand.
-use Rattle.std.proofs.Common.{arith, ◌≡◌, ◌∙◌, ℕ, ◌+◌, ◌<◌, ◌≤◌, List, [], ◌∷◌, ◌++◌, length, map, take, get_or, Some, refl, sym, ap, subst}
+use Rattle.std.proofs.Common.{arith, ◌≡◌, ◌∙◌, ℕ, ◌+◌, ◌<◌, List, [], ◌∷◌, ◌++◌, length, take, get_or, Some, sym, ap, subst}
 use Rattle.std.specs.Prelude.{IsTrue}
 use Rattle.std.specs.List.{AllZip}
 use Rattle.std.proofs.lemmas.Bool.Decides.{nat_tests}
@@ -17,7 +17,7 @@ use Rattle.c62_show.specs.declared.shown.Shown.{Shown}
 use Rattle.c62_show.specs.Limits.{AreLimits}
 use Rattle.c62_show.proofs.Heads.{head_is_true}
 use Rattle.c62_unpack.specs.Unpacked.{IsUnpacked, entry_of}
-use Rattle.c62_standing.specs.Standing.{IsStanding, IsToldOf, NoneIsShorter}
+use Rattle.c62_standing.specs.Standing.{NoneIsShorter}
 
 is_sound_block : (block : Serial) → IsPlan (insns_of block) → IsTrue (branch_last (operations block.insns)) → IsTrue (is_block block.insns)
 is_sound_block block plan last =

@@ -1,5 +1,5 @@
 -- What is shown of packets as they stand (docs/SHOW.md, "Packets as they stand").
-use Rattle.std.specs.Prelude.{◌≡◌, ◌-◌, ℕ, Bool, true, false, List, [], Option, Some, None}
+use Rattle.std.specs.Prelude.{◌≡◌, ℕ, Bool, true, false, List, [], Option, Some, None}
 use Rattle.c62_read.specs.Block.{Serial}
 use Rattle.c62_packet.specs.declared.placed.Placed.{Placed}
 use Rattle.c62_packet.specs.Packed.{Packed, IsPacketBlock}
@@ -30,7 +30,7 @@ pub record IsToldOf (details : Details) (packed : Packed) (shown : Shown) (limit
   pub block : Serial
   pub placed : List Placed
   pub unpacked : IsUnpacked packed block placed
-  pub limits : AreLimits block limits
+  pub known : AreLimits block limits
   pub whys : TellsWhys details.why block packed.cycles placed shown.whys.items
   pub bounded : NoneIsShorter block shown
 

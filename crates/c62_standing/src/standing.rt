@@ -6,9 +6,9 @@ ghost use Rattle.c62_read.specs.declared.limits.TheConstants.{MOST_INSTRUCTIONS}
 ghost use Rattle.c62_unpack.specs.Unpacked.{IsUnpacked};
 ghost use Rattle.c62_standing.specs.Standing.{IsStanding, TellsWhys};
 
-use c62_unpack::{Unpacked, copied, unpack};
 use c62_packet::{PacketBlock, Packets};
 use c62_show::{Shown, limits_of, lives_told};
+use c62_unpack::{Unpacked, copied, unpack};
 use c62_why::{Why, whys_of};
 use std::alloc::{AllocError, Global};
 
@@ -65,11 +65,7 @@ fn shown_of(
 }
 
 /// What is shown of packets of which no serial block is known.
-fn shown_alone(
-    alloc: Global,
-    packets: PacketBlock,
-    details: Details,
-) -> Result<Shown, AllocError>
+fn shown_alone(alloc: Global, packets: PacketBlock, details: Details) -> Result<Shown, AllocError>
     ensures { IfOk result (IsStanding details packets) }
 {
     Ok(Shown {
@@ -81,11 +77,7 @@ fn shown_alone(
 }
 
 /// What is shown of a block of packets.
-fn shown_block(
-    alloc: Global,
-    packets: &PacketBlock,
-    details: Details,
-) -> Result<Shown, AllocError>
+fn shown_block(alloc: Global, packets: &PacketBlock, details: Details) -> Result<Shown, AllocError>
     ensures { IfOk result (IsStanding details packets.now) }
 {
     let copy = copy_of(alloc, packets)?;

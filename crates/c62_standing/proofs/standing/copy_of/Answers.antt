@@ -1,4 +1,4 @@
-use Rattle.std.proofs.Common.{◌≡◌, ◌∙◌}
+use Rattle.std.proofs.Common.{◌∙◌}
 use Rattle.c62_standing.proofs.Stands.{same_block, sound_again}
 use Rattle.c62_standing.proofs.standing.copy_of.Goals as goal
 
