@@ -14,8 +14,10 @@ use Rattle.c62_rows.specs.Rows.{text_of}
 use Rattle.c62_rows.specs.Text.{IsTextFrom, RefusesFrom}
 use Rattle.c62_rows.specs.Told.{BeginsAs}
 use Rattle.c62_command.specs.declared.setting.Setting.{Setting}
+use Rattle.c62_command.specs.declared.command.Course.{Course}
 use Rattle.c62_command.specs.declared.command.Packing.{Packing}
 use Rattle.c62_command.specs.declared.command.Showing.{Showing}
+use Rattle.c62_answer.specs.declared.outcome.Outcome.{Outcome}
 use Rattle.c62_answer.specs.declared.failure.Failure.{Failure}
 use Rattle.c62_answer.specs.declared.failure.Failure.TheVariants as failures
 use Rattle.c62_answer.specs.Message.{fault_message}
@@ -56,26 +58,26 @@ no_picture showing text failures.Memory gives = tt
 no_picture showing text failures.Input gives = absurd gives
 no_picture showing text failures.Output gives = absurd gives
 
-pub no_packets : (blocks : ℕ) (settings : List Setting) (text : List ℕ) (f : Failure) → GivesPackets text (Err f) → Gives (ListingReport blocks settings) text (Err f)
-no_packets blocks settings text (failures.Unread fault) gives = absurd gives
-no_packets blocks settings text (failures.Unlisted fault) gives = gives
-no_packets blocks settings text (failures.Unadopted fault) gives = absurd gives
-no_packets blocks settings text (failures.Unflown fault) gives = absurd gives
-no_packets blocks settings text (failures.TextPart fault) gives = absurd gives
-no_packets blocks settings text (failures.ListingPart fault) gives = absurd gives
-no_packets blocks settings text failures.NoListing gives = absurd gives
-no_packets blocks settings text (failures.Words e) gives = absurd gives
-no_packets blocks settings text (failures.Setting k) gives = absurd gives
-no_packets blocks settings text failures.Memory gives = tt
-no_packets blocks settings text failures.Input gives = absurd gives
-no_packets blocks settings text failures.Output gives = absurd gives
+pub no_packets : (course : Course) (settings : List Setting) (text : List ℕ) (f : Failure) → GivesPackets text (Err f) → Gives (ListingReport course settings) text (Err f)
+no_packets course settings text (failures.Unread fault) gives = absurd gives
+no_packets course settings text (failures.Unlisted fault) gives = gives
+no_packets course settings text (failures.Unadopted fault) gives = absurd gives
+no_packets course settings text (failures.Unflown fault) gives = absurd gives
+no_packets course settings text (failures.TextPart fault) gives = absurd gives
+no_packets course settings text (failures.ListingPart fault) gives = absurd gives
+no_packets course settings text failures.NoListing gives = absurd gives
+no_packets course settings text (failures.Words e) gives = absurd gives
+no_packets course settings text (failures.Setting k) gives = absurd gives
+no_packets course settings text failures.Memory gives = tt
+no_packets course settings text failures.Input gives = absurd gives
+no_packets course settings text failures.Output gives = absurd gives
 
 -- the packets of a program run as it does
-pub same_report : (packing : Packing) (program : List Serial) (packets : List Packed) (settings : List Setting) (blocks : ℕ) (answer : List ℕ)
-    → AreScheduled packing program packets → IsPacketReport packets settings blocks answer → IsSameReport program packets settings blocks answer
-same_report packing program packets settings blocks answer all reported = record {
+pub same_report : (packing : Packing) (program : List Serial) (packets : List Packed) (settings : List Setting) (course : Course) (outcome : Outcome) (answer : List ℕ)
+    → AreScheduled packing program packets → IsPacketReport packets settings course outcome answer → IsSameReport program packets settings course outcome answer
+same_report packing program packets settings course outcome answer all reported = record {
   reported = reported;
-  serial = runs_serially packing program packets reported.opening reported.final blocks reported.cycles reported.chain all reported.begin.sound reported.run;
+  serial = runs_serially packing program packets reported.opening reported.final course.blocks reported.cycles reported.chain all reported.begin.sound reported.run;
 }
 
 -- ---- packets that are adopted
@@ -102,10 +104,10 @@ adopted_text false text answer packets added lacks is listed =
 -- ---- packets in flight
 
 -- where a text makes no rows, or none has the label with which a run is to begin, that is the answer
-pub no_flight : (most : ℕ) (from : Option Text) (settings : List Setting) (text code : List ℕ) (fault : RowsFault) (f : Failure)
-    → code_read text ≡ Ok code → IsRowsFailure fault f → RefusesFrom code from fault → Gives (FlightReport most from settings) text (Err f)
-no_flight most from settings text code fault f is (inl memory) refused = rw (memory.1) tt
-no_flight most from settings text code fault f is (inr known) refused =
+pub no_flight : (most : ℕ) (strict : Bool) (from : Option Text) (settings : List Setting) (text code : List ℕ) (fault : RowsFault) (f : Failure)
+    → code_read text ≡ Ok code → IsRowsFailure fault f → RefusesFrom code from fault → Gives (FlightReport most strict from settings) text (Err f)
+no_flight most strict from settings text code fault f is (inl memory) refused = rw (memory.1) tt
+no_flight most strict from settings text code fault f is (inr known) refused =
     let same = coded_by text code is in
     rw (known.1) (inr (record {
       coded = is ∙ ap Ok (sym same);
@@ -116,16 +118,16 @@ no_flight most from settings text code fault f is (inr known) refused =
     }))
 
 -- where it has no code
-pub uncoded_flight : (most : ℕ) (from : Option Text) (settings : List Setting) (text : List ℕ) (fault : AdoptFault) (f : Failure)
-    → IsAdoptFailure fault f → LacksCode text fault → Gives (FlightReport most from settings) text (Err f)
-uncoded_flight most from settings text fault f (inl memory) lacks = rw (memory.1) tt
-uncoded_flight most from settings text fault f (inr known) lacks =
+pub uncoded_flight : (most : ℕ) (strict : Bool) (from : Option Text) (settings : List Setting) (text : List ℕ) (fault : AdoptFault) (f : Failure)
+    → IsAdoptFailure fault f → LacksCode text fault → Gives (FlightReport most strict from settings) text (Err f)
+uncoded_flight most strict from settings text fault f (inl memory) lacks = rw (memory.1) tt
+uncoded_flight most strict from settings text fault f (inr known) lacks =
     rw (known.1) (inl (record { fault = fault; known = known.0; lacks = lacks; told = refl }))
 
 -- where it does, this is
-pub flight_text : (most : ℕ) (named from : Option Text) (settings : List Setting) (text code answer : List ℕ) (begun : Begun) → named ≡ from
-    → code_read text ≡ Ok code → BeginsAs code named begun → IsFlown (text_of begun.rows) begun.first settings most answer → IsFlightReport most from settings text answer
-flight_text most named from settings text code answer begun same is begins flown =
+pub flight_text : (most : ℕ) (strict : Bool) (named from : Option Text) (settings : List Setting) (outcome : Outcome) (text code answer : List ℕ) (begun : Begun) → named ≡ from
+    → code_read text ≡ Ok code → BeginsAs code named begun → IsFlown (text_of begun.rows) begun.first settings most strict outcome answer → IsFlightReport most strict from settings outcome text answer
+flight_text most strict named from settings outcome text code answer begun same is begins flown =
     let own = coded_by text code is in
     let start = subst (λ (o : Option Text). IsTextFrom code o (text_of begun.rows) begun.first) same begins.is_text in
     record {
@@ -137,7 +139,7 @@ flight_text most named from settings text code answer begun same is begins flown
     }
 
 -- the name stands in the words
-pub no_flight_named : (most : ℕ) (named from : Option Text) (settings : List Setting) (text code : List ℕ) (fault : RowsFault) (f : Failure) → named ≡ from
-    → code_read text ≡ Ok code → IsRowsFailure fault f → RefusesFrom code named fault → Gives (FlightReport most from settings) text (Err f)
-no_flight_named most named from settings text code fault f same own is refused =
-    no_flight most from settings text code fault f own is (subst (λ (o : Option Text). RefusesFrom code o fault) same refused)
+pub no_flight_named : (most : ℕ) (strict : Bool) (named from : Option Text) (settings : List Setting) (text code : List ℕ) (fault : RowsFault) (f : Failure) → named ≡ from
+    → code_read text ≡ Ok code → IsRowsFailure fault f → RefusesFrom code named fault → Gives (FlightReport most strict from settings) text (Err f)
+no_flight_named most strict named from settings text code fault f same own is refused =
+    no_flight most strict from settings text code fault f own is (subst (λ (o : Option Text). RefusesFrom code o fault) same refused)

@@ -1,19 +1,20 @@
 -- What is read of an input, as far as a byte past the limit, flies as all of it does.
-use Rattle.std.proofs.Common.{◌≡◌, inl, inr, ℕ, List, take, Ok, Option, sym, ap, subst, ◌∙◌}
+use Rattle.std.proofs.Common.{◌≡◌, inl, inr, ℕ, Bool, List, take, Ok, Option, sym, ap, subst, ◌∙◌}
 use Rattle.clap.specs.Words.{Text}
 use Rattle.c62_command.specs.declared.setting.Setting.{Setting as Given}
 use Rattle.c62_rows.specs.Text.{IsTextFrom, RefusesFrom}
 use Rattle.c62_adopt.specs.Answer.{code_in, code_read}
 use Rattle.c62_adopt.proofs.CodeLemmas.{code_read-take, lacks_same}
+use Rattle.c62_answer.specs.declared.outcome.Outcome.{Outcome}
 use Rattle.c62_answer.specs.Run.{IsFlightReport}
 use Rattle.c62_answer.specs.Texts.{IsNoFlight}
 
 code_all : (all text : List ℕ) → text ≡ take 8388609 all → code_read text ≡ code_read all
 code_all all text read = ap code_read read ∙ code_read-take all
 
-pub flight_all : (most : ℕ) (from : Option Text) (settings : List Given) (all text answer : List ℕ) → text ≡ take 8388609 all
-    → IsFlightReport most from settings text answer → IsFlightReport most from settings all answer
-flight_all most from settings all text answer read is =
+pub flight_all : (most : ℕ) (strict : Bool) (from : Option Text) (settings : List Given) (outcome : Outcome) (all text answer : List ℕ) → text ≡ take 8388609 all
+    → IsFlightReport most strict from settings outcome text answer → IsFlightReport most strict from settings outcome all answer
+flight_all most strict from settings outcome all text answer read is =
     let same = code_all all text read in
     record {
       flying = is.flying;

@@ -28,7 +28,9 @@ use Rattle.c62_listing_reader.proofs.ReadBackLemmas.{read_back}
 use Rattle.c62_listing_reader.proofs.SameLemmas.{one_reading}
 use Rattle.c62_listing_reader.proofs.ShownLemmas.{field_good}
 use Rattle.c62_command.specs.declared.setting.Setting.{Setting}
+use Rattle.c62_command.specs.declared.command.Course.{Course}
 use Rattle.c62_command.specs.declared.command.Packing.{Packing}
+use Rattle.c62_answer.specs.declared.outcome.Outcome.{Outcome}
 use Rattle.c62_answer.specs.Schedule.{AreScheduled, IsScheduled}
 use Rattle.c62_answer.specs.Run.{IsListingReport}
 use Rattle.c62_answer.specs.Texts.{SaysProgram}
@@ -111,17 +113,17 @@ module _ (packing : Packing) (text : List ℕ) (program : List Serial) (packets 
 
 module _ (packing : Packing) (program : List Serial) (packets others : List Packed) (answer : List ℕ) (all : AreScheduled packing program packets)
     (read : IsRead answer others) (alike : AreAlike packets others) where
-  report_of : (settings : List Setting) (blocks : ℕ) (report : List ℕ) (sim : IsListingReport settings blocks answer report)
-      → IsReportOf program packets settings blocks answer report sim
-  report_of settings blocks report sim =
+  report_of : (settings : List Setting) (course : Course) (outcome : Outcome) (report : List ℕ) (sim : IsListingReport settings course outcome answer report)
+      → IsReportOf program packets settings course outcome answer report sim
+  report_of settings course outcome report sim =
       let same : sim.packets ≡ others = one_reading answer sim.packets others sim.read read in
       let back : AreAlike sim.packets packets = ap (map unlined) same ∙ sym alike in
       let run = sim.reported in
       let sound = run.begin.sound in
-      let runs = chain_alike sim.packets packets run.opening run.opening blocks back refl sound run.chain run.cycles run.final run.run in
+      let runs = chain_alike sim.packets packets run.opening run.opening course.blocks back refl sound run.chain run.cycles run.final run.run in
       record {
         same = runs;
-        serial = runs_serially packing program packets run.opening runs.left blocks run.cycles run.chain all sound runs.runs;
+        serial = runs_serially packing program packets run.opening runs.left course.blocks run.cycles run.chain all sound runs.runs;
       }
 
 abbrev IsReadAs : List Packed → List ℕ → Type 0

@@ -1,6 +1,6 @@
 -- What a run did, from what each of its steps did.
 use Rattle.std.proofs.Common.{◌≡◌, ℕ, ◌+◌, true, false, List, length, take, Option, Some, None, Result, Ok, Err, refl, sym, ap, subst, ◌∙◌, arith, rules, inl, inr}
-use Rattle.std.specs.Prelude.{◌⊎◌, ◌<◌, Bool, [], IfSome, IsErrAnd, codes}
+use Rattle.std.specs.Prelude.{◌⊎◌, ◌<◌, ◌≤◌, Bool, [], IfSome, IsErrAnd, codes}
 use Rattle.std.specs.Option.{IsSomeAnd}
 use Rattle.std.specs.Io.KnownBytes.{Appends, Keeps}
 use Rattle.std.proofs.lemmas.Bool.{cases_lt, lt-ltb}
@@ -21,7 +21,8 @@ use Rattle.clap.specs.Words.{Text}
 use Rattle.c62_answer.specs.declared.failure.Failure.{Failure}
 use Rattle.c62_answer.specs.declared.failure.Failure.TheVariants as failures
 use Rattle.c62_answer.specs.declared.outcome.Outcome.{Outcome}
-use Rattle.c62_answer.specs.declared.outcome.Outcome.TheVariants.{Done, Drained, NotSame}
+use Rattle.c62_answer.specs.declared.outcome.Outcome.TheVariants.{Done, Drained, NotSame, Breached}
+use Rattle.c62_answer.specs.declared.outcome.Breach.TheVariants as breach
 use Rattle.c62_answer.specs.declared.outcome.Reply.{Reply}
 use Rattle.c62_answer.specs.Texts.{IsNoPackets, IsNoProgram}
 use Rattle.c62_answer.specs.Check.{IsCheck, IsNoCheck}
@@ -96,24 +97,24 @@ answered (PacketsPicture showing) Done all text answer read is = record {
   adopted = adopted_same false text all is.packets 0 (code_all all text read) is.adopted;
   drawn = is.drawn;
 }
-answered (SerialReport blocks settings) Done all text answer read is = record {
+answered (SerialReport course settings) outcome all text answer read is = record {
   program = is.program;
   says = sym (program_all all text read) ∙ is.says;
   reported = is.reported;
 }
-answered (PacketReport packing blocks settings) Done all text answer read is = record {
+answered (PacketReport packing course settings) outcome all text answer read is = record {
   program = is.program;
   says = sym (program_all all text read) ∙ is.says;
   packets = is.packets;
   packed = is.packed;
   reported = is.reported;
 }
-answered (ListingReport blocks settings) Done all text answer read is = record {
+answered (ListingReport course settings) outcome all text answer read is = record {
   packets = is.packets;
   read = read_same text all is.packets (listed_all all text read) is.read;
   reported = is.reported;
 }
-answered (FlightReport most from settings) Done all text answer read is = flight_all most from settings all text answer read is
+answered (FlightReport most strict from settings) outcome all text answer read is = flight_all most strict from settings outcome all text answer read is
 answered (Adoption false) Done all text answer read is = adopted_all false 0 all text answer read is
 answered (Adoption true) (Drained added) all text answer read is = adopted_all true added all text answer read is
 answered Verdicts Done all text answer read is = check_all all 9437190 (omega arith) true answer (subst (λ (xs : List ℕ). IsCheck xs true answer) read is)
@@ -126,19 +127,16 @@ answered (ListingPicture showing) (Drained added) all text answer read is = absu
 answered (ListingPicture showing) NotSame all text answer read is = absurd is
 answered (PacketsPicture showing) (Drained added) all text answer read is = absurd is
 answered (PacketsPicture showing) NotSame all text answer read is = absurd is
-answered (SerialReport blocks settings) (Drained added) all text answer read is = absurd is
-answered (SerialReport blocks settings) NotSame all text answer read is = absurd is
-answered (PacketReport packing blocks settings) (Drained added) all text answer read is = absurd is
-answered (PacketReport packing blocks settings) NotSame all text answer read is = absurd is
-answered (ListingReport blocks settings) (Drained added) all text answer read is = absurd is
-answered (ListingReport blocks settings) NotSame all text answer read is = absurd is
-answered (FlightReport most from settings) (Drained added) all text answer read is = absurd is
-answered (FlightReport most from settings) NotSame all text answer read is = absurd is
 answered (Adoption false) (Drained added) all text answer read is = absurd is
 answered (Adoption false) NotSame all text answer read is = absurd is
 answered (Adoption true) Done all text answer read is = absurd is
 answered (Adoption true) NotSame all text answer read is = absurd is
 answered Verdicts (Drained added) all text answer read is = absurd is
+answered (Listing packing) (Breached breach) all text answer read is = absurd is
+answered (Picture showing) (Breached breach) all text answer read is = absurd is
+answered (Adoption false) (Breached breach) all text answer read is = absurd is
+answered (Adoption true) (Breached breach) all text answer read is = absurd is
+answered Verdicts (Breached breach) all text answer read is = absurd is
 
 -- the answer to what was read, written
 pub answers : (ask : Ask) (known old new : Option (List ℕ)) (text : List ℕ) (reply : Reply) → IfSome known (λ all. text ≡ take (limit_of ask + 1) all)
@@ -197,12 +195,12 @@ no_listing_all all text message read is = record {
 refused_all : (ask : Ask) (all text message : List ℕ) → text ≡ take (limit_of ask + 1) all → IsRefusedText ask text message → IsRefusedText ask all message
 refused_all (Listing packing) all text message read is = no_program_all all text message read is
 refused_all (Picture showing) all text message read is = no_program_all all text message read is
-refused_all (SerialReport blocks settings) all text message read is = no_program_all all text message read is
-refused_all (PacketReport packing blocks settings) all text message read is = no_program_all all text message read is
-refused_all (ListingReport blocks settings) all text message read is = no_listing_all all text message read is
+refused_all (SerialReport course settings) all text message read is = no_program_all all text message read is
+refused_all (PacketReport packing course settings) all text message read is = no_program_all all text message read is
+refused_all (ListingReport course settings) all text message read is = no_listing_all all text message read is
 refused_all (ListingPicture showing) all text message read is = no_listing_all all text message read is
 refused_all (PacketsPicture showing) all text message read is = no_packets_all false all text message read is
-refused_all (FlightReport most from settings) all text message read is = no_flight_all from all text message read is
+refused_all (FlightReport most strict from settings) all text message read is = no_flight_all from all text message read is
 refused_all (Adoption drain) all text message read is = no_packets_all drain all text message read is
 refused_all Verdicts all text message read is = no_check_all all 9437190 (omega arith) message (subst (λ (xs : List ℕ). IsNoCheck xs message) read is)
 
@@ -252,10 +250,19 @@ some_none None P some none = some
 some_none (Some x) P some none = absurd cc
 
 -- the statuses of a run that is done
-ends_with : (outcome : Outcome) → (status_done outcome ≡ 0) ⊎ (status_done outcome ≡ 5)
+ends_with : (outcome : Outcome) → (status_done outcome ≡ 0) ⊎ (5 ≤ status_done outcome)
 ends_with Done = inl refl
 ends_with (Drained added) = inl refl
-ends_with NotSame = inr refl
+ends_with NotSame = inr (omega arith)
+ends_with (Breached breach.Limit) = inr (omega arith)
+ends_with (Breached breach.Fault) = inr (omega arith)
+
+most_status : (outcome : Outcome) → status_done outcome ≤ 7
+most_status Done = omega arith
+most_status (Drained added) = omega arith
+most_status NotSame = omega arith
+most_status (Breached breach.Limit) = omega arith
+most_status (Breached breach.Fault) = omega arith
 
 ends_otherwise : (outcome : Outcome) (status : ℕ) → 0 < status → status < 5 → status_done outcome ≡ status → ⊥
 ends_otherwise outcome status more less ends = neither (ends_with outcome) (λ zero. omega (arith, zero, ends, more)) (λ five. omega (arith, five, ends, less))
@@ -263,10 +270,7 @@ ends_otherwise outcome status more less ends = neither (ends_with outcome) (λ z
 pub done : (Told : Telling) (words : List Text) (old new : Streams) (outcome : Outcome) → Reads words old.input new.input → TellsOutcome Told outcome old.errors new.errors
     → IsDone words outcome old.input old.output new.output → IsRunBy Told words old new (status_done outcome)
 done Told words old new outcome reads told does = record {
-  known = elim (ends_with outcome) [
-    | inl zero ↦ omega (arith, zero)
-    | inr five ↦ omega (arith, five)
-  ];
+  known = most_status outcome;
   done = λ _. record { outcome = outcome; ends = refl; done = does; told = told };
   refused = λ e. absurd (ends_otherwise outcome 1 (omega arith) (omega arith) e);
   blamed = λ e. absurd (ends_otherwise outcome 2 (omega arith) (omega arith) e);
@@ -390,6 +394,7 @@ module _ (Told Other : Telling) (weaker : (old new : Option (List ℕ)) (text : 
   outcome_weaker Done old new told = told
   outcome_weaker (Drained added) old new told = weaker old new (drained_message added) told
   outcome_weaker NotSame old new told = told
+  outcome_weaker (Breached breach) old new told = told
 
   asked_weaker : (words : List Text) (old new : Option (List ℕ)) → AsksNothing Told words old new → AsksNothing Other words old new
   asked_weaker words old new (inl unknown) = inl unknown
@@ -454,6 +459,7 @@ on_bytes words input rest output errors status run = record {
     told_in Done told = told
     told_in (Drained added) told = held errors (drained_message added) told
     told_in NotSame told = told
+    told_in (Breached breach) told = told
 
     ended_in : Ends Tells words (record { input = Some input; output = Some []; errors = Some [] }) (record { input = Some rest; output = Some output; errors = Some errors }) status → EndsOnBytes words input output errors status
     ended_in ended = record {

@@ -8,15 +8,17 @@ use Rattle.c62_pipe.specs.Alike.{HaveTheSameChain}
 use Rattle.c62_listing_reader.specs.Faults.{IsRead}
 use Rattle.c62_listing_reader.specs.Laws.{AreShown}
 use Rattle.c62_command.specs.declared.setting.Setting.{Setting}
+use Rattle.c62_command.specs.declared.command.Course.{Course}
 use Rattle.c62_command.specs.declared.command.Packing.{Packing}
+use Rattle.c62_answer.specs.declared.outcome.Outcome.{Outcome}
 use Rattle.c62_answer.specs.Run.{IsPackedText, IsListingReport}
 
 -- The report of a listing is one of a program, of which these packets were packed: they run as those that are read do, but
 -- for the lines that faulted, which are those of the same places, and leave what the program leaves.
-pub record IsReportOf (program : List Serial) (packets : List Packed) (settings : List Setting) (blocks : ℕ) (answer report : List ℕ)
-    (sim : IsListingReport settings blocks answer report) : Type 0 where
-  pub same : HaveTheSameChain sim.packets packets sim.reported.opening sim.reported.opening blocks sim.reported.chain sim.reported.cycles sim.reported.final
-  pub serial : RunsProgram program sim.reported.opening blocks sim.reported.chain same.left
+pub record IsReportOf (program : List Serial) (packets : List Packed) (settings : List Setting) (course : Course) (outcome : Outcome) (answer report : List ℕ)
+    (sim : IsListingReport settings course outcome answer report) : Type 0 where
+  pub same : HaveTheSameChain sim.packets packets sim.reported.opening sim.reported.opening course.blocks sim.reported.chain sim.reported.cycles sim.reported.final
+  pub serial : RunsProgram program sim.reported.opening course.blocks sim.reported.chain same.left
 
 -- Packets of a program are read back of their listing: a listing shows them whole, what is read of it are packets that are
 -- alike but for lines, and whatever is reported of it, from some settings and under some limit, is a report of the program.
@@ -25,8 +27,8 @@ pub record AreReadBack (program : List Serial) (packets : List Packed) (answer :
   pub others : List Packed
   pub read : IsRead answer others
   pub alike : AreAlike packets others
-  pub reports : (settings : List Setting) (blocks : ℕ) (report : List ℕ) (sim : IsListingReport settings blocks answer report)
-      → IsReportOf program packets settings blocks answer report sim
+  pub reports : (settings : List Setting) (course : Course) (outcome : Outcome) (report : List ℕ) (sim : IsListingReport settings course outcome answer report)
+      → IsReportOf program packets settings course outcome answer report sim
 
 -- so it is of what is packed of a text
 abbrev pub IsReadBack : Packing → List ℕ → List ℕ → Type 0

@@ -1,17 +1,19 @@
 -- What the program does to its streams.
-use Rattle.std.specs.Prelude.{◌≡◌, ◌≢◌, ◌⊎◌, ℕ, ◌+◌, ◌<◌, ◌≤◌, Bool, true, false, List, [], length, take, fold, codes, Option, Some, None, Result, IfSome, Ok, Err}
+use Rattle.std.specs.Prelude.{◌≡◌, ◌≢◌, ◌⊎◌, ℕ, ◌+◌, ◌<◌, ◌≤◌, Bool, true, false, List, [], ◌∷◌, ◌++◌, length, take, fold, codes, Option, Some, None, Result, IfSome, Ok, Err}
 use Rattle.std.specs.Io.KnownBytes.{Appends, Consumes, Keeps}
 use Rattle.std.specs.Option.{IsSomeAnd}
 use Rattle.clap.specs.Words.{Text}
 use Rattle.c62_answer.specs.declared.failure.Failure.{Failure}
 use Rattle.c62_answer.specs.declared.failure.Failure.TheVariants.{Unread, Unlisted, Unadopted, Unflown, TextPart, ListingPart, NoListing, Words, Setting, Memory, Input, Output}
 use Rattle.c62_answer.specs.declared.outcome.Outcome.{Outcome}
-use Rattle.c62_answer.specs.declared.outcome.Outcome.TheVariants.{Done, Drained, NotSame}
+use Rattle.c62_answer.specs.declared.outcome.Outcome.TheVariants.{Done, Drained, NotSame, Breached}
+use Rattle.c62_answer.specs.declared.outcome.Breach.TheVariants as breach
 use Rattle.c62_answer.specs.declared.outcome.Reply.{Reply}
 use Rattle.c62_command.specs.declared.command.CommandError.{CommandError}
 use Rattle.c62_command.specs.declared.command.CommandError.TheVariants as command
 use Rattle.c62_command.specs.declared.setting.Setting.{Setting as Given}
 use Rattle.c62_command.specs.declared.setting.Setting.TheVariants as given
+use Rattle.c62_command.specs.declared.command.Course.{Course}
 use Rattle.c62_command.specs.declared.command.Packing.{Packing}
 use Rattle.c62_command.specs.declared.command.Showing.{Showing}
 use Rattle.c62_line.specs.declared.fault.Cause.TheVariants.{Memory as OutOfStore}
@@ -21,6 +23,8 @@ use Rattle.c62_read.specs.Program.{most_bytes}
 use Rattle.c62_serial.specs.State.{Machine, IsSound, IsZero, with_word}
 use Rattle.c62_serial.specs.Memory.{with_bytes}
 use Rattle.c62_serial.specs.declared.chain.Chain.{Chain}
+use Rattle.c62_serial.specs.declared.chain.End.{End}
+use Rattle.c62_serial.specs.declared.chain.End.TheVariants.{Limit}
 use Rattle.c62_serial.specs.Chain.{RunsProgram}
 use Rattle.c62_packet.specs.Packed.{Packed}
 use Rattle.c62_pipe.specs.Chain.{RunsPackets}
@@ -35,6 +39,7 @@ use Rattle.c62_adopt.specs.Answer.{IsAdopted, IsCoded, code_in, code_read}
 use Rattle.c62_flight.specs.Text.{Text as FlightText}
 use Rattle.c62_flight.specs.Flight.{Flies}
 use Rattle.c62_flight.specs.declared.stop.Stop.{Stop}
+use Rattle.c62_flight.specs.declared.stop.Stop.TheVariants as flight
 use Rattle.c62_rows.specs.declared.fault.RowsFault.{RowsFault}
 use Rattle.c62_rows.specs.declared.fault.RowsFault.TheVariants.{Memory as NoPlace}
 use Rattle.c62_rows.specs.Text.{IsTextFrom}
@@ -45,6 +50,9 @@ use Rattle.c62_answer.specs.Schedule.{AreScheduled, AreShown}
 use Rattle.c62_answer.specs.Standing.{IsShownListing, IsShownPackets}
 use Rattle.c62_report.specs.Report.{serial_report, packet_report}
 use Rattle.c62_report.specs.Flight.{flight_report}
+use Rattle.c62_profile.specs.declared.tally.Tally.{Tally}
+use Rattle.c62_profile.specs.Visits.{CountsPackets, CountsProgram}
+use Rattle.c62_profile.specs.Table.{packet_table, serial_table}
 use Rattle.c62_command.specs.CommandLine.{Ask, Listing, Picture, ListingPicture, PacketsPicture, SerialReport, PacketReport, ListingReport, FlightReport, Adoption, Verdicts, IsRefusal, IsUnknown, HasBadSetting, asked}
 use Rattle.c62_answer.specs.Message.{adopt_message, fault_message, list_message, rows_message, no_listing, of_listing, of_text, setting_message, IsFront, IsToldOf, Telling, Tells, TellsOf, TellsOutcome}
 use Rattle.c62_answer.specs.Texts.{SaysProgram, IsNoProgram, IsNoListing, IsNoPackets, IsNoFlight}
@@ -69,6 +77,28 @@ abbrev pub status_done : Outcome → ℕ
 status_done Done = 0
 status_done (Drained _) = 0
 status_done NotSame = 5
+status_done (Breached breach.Limit) = 6
+status_done (Breached breach.Fault) = 7
+
+-- how a strict run ends that ended by its limit or not, and in which these lines faulted
+abbrev pub outcome_strict : (limited : Bool) → (faults : List ℕ) → Outcome
+outcome_strict limited (line ∷ faults) = Breached breach.Fault
+outcome_strict true [] = Breached breach.Limit
+outcome_strict false [] = Done
+
+abbrev pub outcome_run : (strict limited : Bool) → (faults : List ℕ) → Outcome
+outcome_run false limited faults = Done
+outcome_run true limited faults = outcome_strict limited faults
+
+-- a chain ended by its limit
+abbrev pub is_limit : End → Bool
+is_limit Limit = true
+is_limit _ = false
+
+-- and so did a run of packets in flight
+abbrev pub is_flight_limit : Stop → Bool
+is_flight_limit flight.Limit = true
+is_flight_limit _ = false
 
 -- what a fault of reading is
 abbrev pub IsReadFailure : ReadFault → Failure → Type 0
@@ -110,10 +140,10 @@ BeginsAll limit all text = IfSome all (λ bytes. text ≡ take (limit + 1) bytes
 -- the most bytes that may be given: of a listing, of packets as they are written, of a text and a listing with the longest line
 -- `---` between them, or of serial text
 abbrev pub limit_of : Ask → ℕ
-limit_of (ListingReport blocks settings) = most_listing_bytes
 limit_of (ListingPicture showing) = most_listing_bytes
 limit_of (PacketsPicture showing) = most_packets_bytes
-limit_of (FlightReport cycles from settings) = most_packets_bytes
+limit_of (ListingReport course settings) = most_listing_bytes
+limit_of (FlightReport cycles strict from settings) = most_packets_bytes
 limit_of (Adoption drain) = most_packets_bytes
 limit_of Verdicts = most_bytes + 5 + most_listing_bytes
 limit_of _ = most_bytes
@@ -144,6 +174,8 @@ pub record IsShownText (showing : Showing) (text answer : List ℕ) : Type 0 whe
 -- the machine after a setting
 abbrev pub with_setting : Machine → Given → Machine
 with_setting machine (given.Register reg value) = with_word reg value machine
+with_setting machine (given.Byte address value) = with_bytes address 1 value machine
+with_setting machine (given.Half address value) = with_bytes address 2 value machine
 with_setting machine (given.Word address value) = with_bytes address 4 value machine
 
 -- the machine after these settings, in their order
@@ -157,52 +189,70 @@ pub record IsOpening (settings : List Given) (opening : Machine) : Type 0 where
   pub set : opening ≡ with_settings settings zeros
   pub sound : IsSound opening
 
--- The report of a program's serial run: of at most so many blocks, from zeros with these settings.
-pub record IsReport (program : List Serial) (settings : List Given) (blocks : ℕ) (answer : List ℕ) : Type 0 where
+-- where it is asked for, the table of a program's serial run
+abbrev pub TellsSerial : (profile : Bool) → List Serial → Machine → ℕ → Chain → Machine → List ℕ → Type 0
+TellsSerial false program opening limit chain final table = table ≡ []
+TellsSerial true program opening limit chain final table =
+    (tally : Tally) × CountsProgram program opening limit chain final tally × (table ≡ serial_table program tally)
+
+-- and that of a run of packets
+abbrev pub TellsPackets : (profile : Bool) → List Packed → Machine → ℕ → Chain → Machine → List ℕ → Type 0
+TellsPackets false packets opening limit chain final table = table ≡ []
+TellsPackets true packets opening limit chain final table =
+    (tally : Tally) × CountsPackets packets opening limit chain final tally × (table ≡ packet_table packets tally)
+
+-- The report of a program's serial run, from zeros with these settings, with the table of its blocks below it where that is asked for.
+pub record IsReport (program : List Serial) (settings : List Given) (course : Course) (outcome : Outcome) (answer : List ℕ) : Type 0 where
   pub opening : Machine
   pub begin : IsOpening settings opening
   pub chain : Chain
   pub final : Machine
-  pub run : RunsProgram program opening blocks chain final
-  pub report : answer ≡ serial_report chain final
+  pub run : RunsProgram program opening course.blocks chain final
+  pub table : List ℕ
+  pub told : TellsSerial course.profile program opening course.blocks chain final table
+  pub report : answer ≡ serial_report chain final ++ table
+  pub ends : outcome ≡ outcome_run course.strict (is_limit chain.stop) final.faults
 
 -- The report of such a run of packets.
-pub record IsPacketReport (packets : List Packed) (settings : List Given) (blocks : ℕ) (answer : List ℕ) : Type 0 where
+pub record IsPacketReport (packets : List Packed) (settings : List Given) (course : Course) (outcome : Outcome) (answer : List ℕ) : Type 0 where
   pub opening : Machine
   pub begin : IsOpening settings opening
   pub chain : Chain
   pub cycles : ℕ
   pub final : Machine
-  pub run : RunsPackets packets opening blocks chain cycles final
-  pub report : answer ≡ packet_report chain cycles final
+  pub run : RunsPackets packets opening course.blocks chain cycles final
+  pub table : List ℕ
+  pub told : TellsPackets course.profile packets opening course.blocks chain final table
+  pub report : answer ≡ packet_report chain cycles final ++ table
+  pub ends : outcome ≡ outcome_run course.strict (is_limit chain.stop) final.faults
 
 -- The same, where the packets run as this program does: without its line of cycles it is the report of the serial run.
-pub record IsSameReport (program : List Serial) (packets : List Packed) (settings : List Given) (blocks : ℕ) (answer : List ℕ) : Type 0 where
-  pub reported : IsPacketReport packets settings blocks answer
-  pub serial : RunsProgram program reported.opening blocks reported.chain reported.final
+pub record IsSameReport (program : List Serial) (packets : List Packed) (settings : List Given) (course : Course) (outcome : Outcome) (answer : List ℕ) : Type 0 where
+  pub reported : IsPacketReport packets settings course outcome answer
+  pub serial : RunsProgram program reported.opening course.blocks reported.chain reported.final
 
 -- the text says a program, of whose serial run this is the report
-pub record IsSerialReport (settings : List Given) (blocks : ℕ) (text answer : List ℕ) : Type 0 where
+pub record IsSerialReport (settings : List Given) (course : Course) (outcome : Outcome) (text answer : List ℕ) : Type 0 where
   pub program : List Serial
   pub says : SaysProgram text program
-  pub reported : IsReport program settings blocks answer
+  pub reported : IsReport program settings course outcome answer
 
 -- the text says a program, and this is the report of a run of its blocks, packed so
-pub record IsRunReport (packing : Packing) (settings : List Given) (blocks : ℕ) (text answer : List ℕ) : Type 0 where
+pub record IsRunReport (packing : Packing) (settings : List Given) (course : Course) (outcome : Outcome) (text answer : List ℕ) : Type 0 where
   pub program : List Serial
   pub says : SaysProgram text program
   pub packets : List Packed
   pub packed : AreScheduled packing program packets
-  pub reported : IsSameReport program packets settings blocks answer
+  pub reported : IsSameReport program packets settings course outcome answer
 
 -- the text is a listing, of the run of whose packets this is the report
-pub record IsListingReport (settings : List Given) (blocks : ℕ) (text answer : List ℕ) : Type 0 where
+pub record IsListingReport (settings : List Given) (course : Course) (outcome : Outcome) (text answer : List ℕ) : Type 0 where
   pub packets : List Packed
   pub read : IsRead text packets
-  pub reported : IsPacketReport packets settings blocks answer
+  pub reported : IsPacketReport packets settings course outcome answer
 
 -- The report of a run of a text of packets from this row on, of at most so many cycles, from zeros with these settings.
-pub record IsFlown (flying : FlightText) (first : ℕ) (settings : List Given) (most : ℕ) (answer : List ℕ) : Type 0 where
+pub record IsFlown (flying : FlightText) (first : ℕ) (settings : List Given) (most : ℕ) (strict : Bool) (outcome : Outcome) (answer : List ℕ) : Type 0 where
   pub opening : Machine
   pub begin : IsOpening settings opening
   pub stop : Stop
@@ -210,14 +260,15 @@ pub record IsFlown (flying : FlightText) (first : ℕ) (settings : List Given) (
   pub final : Machine
   pub flies : Flies flying first most opening stop cycles final
   pub report : answer ≡ flight_report stop cycles final
+  pub ends : outcome ≡ outcome_run strict (is_flight_limit stop) final.faults
 
 -- the text's code is one of packets, and this is the report of its run with everything in flight
-pub record IsFlightReport (most : ℕ) (from : Option Text) (settings : List Given) (text answer : List ℕ) : Type 0 where
+pub record IsFlightReport (most : ℕ) (strict : Bool) (from : Option Text) (settings : List Given) (outcome : Outcome) (text answer : List ℕ) : Type 0 where
   pub flying : FlightText
   pub first : ℕ
   pub coded : IsCoded text
   pub begins : IsTextFrom (code_in (code_read text)) from flying first
-  pub flown : IsFlown flying first settings most answer
+  pub flown : IsFlown flying first settings most strict outcome answer
 
 -- the text is adopted as packets, with so many cycles added to drain it, and this is their listing
 pub record IsAdoptedText (drain : Bool) (added : ℕ) (text answer : List ℕ) : Type 0 where
@@ -236,16 +287,16 @@ outcome_of true = Done
 outcome_of false = NotSame
 
 -- What answers a text: its listing or its picture, the report of a run, or what a check tells. A text is drained only where that
--- is asked for, and only of a check some block may not be the same.
+-- is asked for, only of a check some block may not be the same, and only a strict run may end otherwise than done.
 abbrev pub IsAnswer : Ask → Outcome → List ℕ → List ℕ → Type 0
 IsAnswer (Listing packing) Done text answer = IsPackedText packing text answer
 IsAnswer (Picture showing) Done text answer = IsShownText showing text answer
 IsAnswer (ListingPicture showing) Done text answer = IsShownListing showing text answer
 IsAnswer (PacketsPicture showing) Done text answer = IsShownPackets showing text answer
-IsAnswer (SerialReport blocks settings) Done text answer = IsSerialReport settings blocks text answer
-IsAnswer (PacketReport packing blocks settings) Done text answer = IsRunReport packing settings blocks text answer
-IsAnswer (ListingReport blocks settings) Done text answer = IsListingReport settings blocks text answer
-IsAnswer (FlightReport most from settings) Done text answer = IsFlightReport most from settings text answer
+IsAnswer (SerialReport course settings) outcome text answer = IsSerialReport settings course outcome text answer
+IsAnswer (PacketReport packing course settings) outcome text answer = IsRunReport packing settings course outcome text answer
+IsAnswer (ListingReport course settings) outcome text answer = IsListingReport settings course outcome text answer
+IsAnswer (FlightReport most strict from settings) outcome text answer = IsFlightReport most strict from settings outcome text answer
 IsAnswer (Adoption false) Done text answer = IsAdoptedText false 0 text answer
 IsAnswer (Adoption true) (Drained added) text answer = IsAdoptedText true added text answer
 IsAnswer Verdicts Done text answer = IsCheck text true answer
@@ -256,10 +307,10 @@ IsAnswer _ _ text answer = ⊥
 
 -- the text says nothing that could be answered, and the message tells its fault
 abbrev pub IsRefusedText : Ask → List ℕ → List ℕ → Type 0
-IsRefusedText (ListingReport blocks settings) text message = IsNoListing text message
 IsRefusedText (ListingPicture showing) text message = IsNoListing text message
 IsRefusedText (PacketsPicture showing) text message = IsNoPackets false text message
-IsRefusedText (FlightReport most from settings) text message = IsNoFlight from text message
+IsRefusedText (ListingReport course settings) text message = IsNoListing text message
+IsRefusedText (FlightReport most strict from settings) text message = IsNoFlight from text message
 IsRefusedText (Adoption drain) text message = IsNoPackets drain text message
 IsRefusedText Verdicts text message = IsNoCheck text message
 IsRefusedText _ text message = IsNoProgram text message
@@ -389,9 +440,10 @@ pub record Ends (Told : Telling) (words : List Text) (old new : Streams) (status
 -- What a run on these words does to its streams, and the status that it ends with, where what is told is told so (README.md,
 -- "Command line").
 pub record IsRunBy (Told : Telling) (words : List Text) (old new : Streams) (status : ℕ) : Type 0 where
-  pub known : status ≤ 5
-  -- What the words ask for was written. On 5 that is what a check tells, and some block isn't the same.
-  pub done : (status ≡ 0) ⊎ (status ≡ 5) → Ends Told words old new status
+  pub known : status ≤ 7
+  -- What the words ask for was written. On 5 that is what a check tells, and some block isn't the same. On 6 and 7 it is the report
+  -- of a strict run, which ended by its limit or in which an access faulted.
+  pub done : (status ≡ 0) ⊎ (5 ≤ status) → Ends Told words old new status
   -- The text is refused, and its fault is told.
   pub refused : status ≡ 1 → TellsOf Told (AsksInVain (asked words) old.input) old.errors new.errors
   -- The words are refused. Words and settings are judged first: where they ask for nothing, nothing is read.
@@ -426,8 +478,8 @@ pub record EndsOnBytes (words : List Text) (input output errors : List ℕ) (sta
 
 -- what a run does to these bytes, which wrote these to its output and its error stream
 pub record IsRunOnBytes (words : List Text) (input output errors : List ℕ) (status : ℕ) : Type 0 where
-  pub known : status ≤ 5
-  pub done : (status ≡ 0) ⊎ (status ≡ 5) → EndsOnBytes words input output errors status
+  pub known : status ≤ 7
+  pub done : (status ≡ 0) ⊎ (5 ≤ status) → EndsOnBytes words input output errors status
   pub refused : status ≡ 1 → (message : List ℕ) × IsSomeAnd (asked words) (λ ask. IsRefusedText ask input message) × IsFront errors message
   pub blamed : status ≡ 2 → IsUnknown words ⊎ ((k : ℕ) × HasBadSetting words k × IsFront errors (setting_message k))
   pub judged : asked words ≡ None → (status ≡ 2) ⊎ (status ≡ 3)

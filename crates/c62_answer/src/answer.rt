@@ -97,14 +97,11 @@ fn run_by_turns(
     start: &Start,
 ) -> Result<Reply, Failure>
     requires { packing.turns ≡ true }
-    ensures { Gives (PacketReport packing start.now.blocks start.now.settings.items) text.now result }
+    ensures { Gives (PacketReport packing start.now.course start.now.settings.items) text.now result }
 {
     let program = program_of(alloc, text)?;
     let packets = packets_by_turns(alloc, program, packing)?;
-    Ok(Reply {
-        text: packet_run(alloc, &packets, start)?,
-        outcome: Outcome::Done,
-    })
+    Ok(packet_run(alloc, &packets, start)?)
 }
 
 /// The listing of what a text says, packed by workers.
@@ -149,36 +146,27 @@ fn run_by_workers<H: AllocGlobal + Threads + Wait + Sync>(
     start: &Start,
 ) -> Result<Reply, Failure>
     requires { packing.turns ≡ false }
-    ensures { Gives (PacketReport packing start.now.blocks start.now.settings.items) text.now result }
+    ensures { Gives (PacketReport packing start.now.course start.now.settings.items) text.now result }
 {
     let program = program_of(rt.alloc(), text)?;
     let packets = packets_by_workers(rt, program, packing)?;
-    Ok(Reply {
-        text: packet_run(rt.alloc(), &packets, start)?,
-        outcome: Outcome::Done,
-    })
+    Ok(packet_run(rt.alloc(), &packets, start)?)
 }
 
 /// The report of the serial run of what a text says.
 fn serial(alloc: Global, text: &[u8], start: &Start) -> Result<Reply, Failure>
-    ensures { Gives (SerialReport start.now.blocks start.now.settings.items) text.now result }
+    ensures { Gives (SerialReport start.now.course start.now.settings.items) text.now result }
 {
     let program = program_of(alloc, text)?;
-    Ok(Reply {
-        text: serial_run(alloc, &program, start)?,
-        outcome: Outcome::Done,
-    })
+    Ok(serial_run(alloc, &program, start)?)
 }
 
 /// The report of a run of the packets of a listing.
 fn sim(alloc: Global, text: &[u8], start: &Start) -> Result<Reply, Failure>
-    ensures { Gives (ListingReport start.now.blocks start.now.settings.items) text.now result }
+    ensures { Gives (ListingReport start.now.course start.now.settings.items) text.now result }
 {
     let packets = packets_in(alloc, text)?;
-    Ok(Reply {
-        text: packet_run(alloc, &packets, start)?,
-        outcome: Outcome::Done,
-    })
+    Ok(packet_run(alloc, &packets, start)?)
 }
 
 /// The listing of a text of packets as people and compilers write them. Where it is drained, the cycles are added that lack.

@@ -5,7 +5,7 @@ ghost use Rattle.std.specs.Option.{option_copied};
 ghost use Rattle.c62_flight.specs.Text.{IsIssuable};
 ghost use Rattle.c62_rows.specs.Rows.{text_of};
 ghost use Rattle.c62_command.specs.CommandLine.{FlightReport};
-ghost use Rattle.c62_answer.specs.Run.{Gives, IsFlown};
+ghost use Rattle.c62_answer.specs.Run.{Gives, IsFlown, is_flight_limit};
 
 use crate::failure::Failure;
 use crate::outcome::{Outcome, Reply};
@@ -13,9 +13,20 @@ use crate::run::opening;
 use c62_adopt::read_code;
 use c62_command::{FlightStart, Setting};
 use c62_exec::fly;
+use c62_flight::Stop;
 use c62_report::flight_report;
 use c62_rows::{Begun, read_from};
 use std::alloc::{AllocError, Global};
+
+/// Whether a run ended by its limit.
+fn is_flight_limit(stop: Stop) -> bool
+    ensures { result ≡ is_flight_limit stop }
+{
+    match stop {
+        Stop::Limit => true,
+        Stop::End | Stop::Register(_) | Stop::Clash(_, _, _) | Stop::Branches(_, _) => false,
+    }
+}
 
 /// The report of a run of so many cycles at most, from zeros with these settings.
 fn flown(
@@ -23,13 +34,17 @@ fn flown(
     begun: &Begun,
     settings: &[Setting],
     most: u32,
-) -> Result<Vec<u8>, AllocError>
+    strict: bool,
+) -> Result<Reply, AllocError>
     requires { IsIssuable (text_of begun.now.rows) }
-    ensures { IfOk result (λ text. IsFlown (text_of begun.now.rows) begun.now.first settings.now most text.items) }
+    ensures { IfOk result (λ reply. IsFlown (text_of begun.now.rows) begun.now.first settings.now most strict reply.outcome reply.text.items) }
 {
     let mut state = opening(alloc, settings)?;
     let flown = fly(&begun.rows, begun.first, most, &mut state)?;
-    flight_report(alloc, flown.stop, flown.cycles, &state)
+    Ok(Reply {
+        text: flight_report(alloc, flown.stop, flown.cycles, &state)?,
+        outcome: Outcome::of_run(strict, is_flight_limit(flown.stop), state.faults()),
+    })
 }
 
 /// The name of the label with whose row a run begins.
@@ -48,12 +63,9 @@ fn name_of(start: &FlightStart) -> Option<&[u8]>
 ///
 /// The first fault of the text, that no line has the label of `--from`, or that memory ran out.
 pub fn exec(alloc: Global, text: &[u8], start: &FlightStart) -> Result<Reply, Failure>
-    ensures { Gives (FlightReport start.now.cycles (option_map (λ name. name.items) start.now.from) start.now.settings.items) text.now result }
+    ensures { Gives (FlightReport start.now.cycles start.now.strict (option_map (λ name. name.items) start.now.from) start.now.settings.items) text.now result }
 {
     let code = read_code(alloc, text)?;
     let begun = read_from(alloc, &code, name_of(start))?;
-    Ok(Reply {
-        text: flown(alloc, &begun, &start.settings, start.cycles)?,
-        outcome: Outcome::Done,
-    })
+    Ok(flown(alloc, &begun, &start.settings, start.cycles, start.strict)?)
 }

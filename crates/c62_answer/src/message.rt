@@ -161,7 +161,7 @@ pub fn tell_outcome<E: Write>(errors: &mut E, outcome: Outcome) -> Result<(), Re
     ensures { TellsOutcome (told_of result) outcome (E.contents errors.old) (E.contents errors.new) }
 {
     match outcome {
-        Outcome::Done | Outcome::NotSame => Ok(()),
+        Outcome::Done | Outcome::NotSame | Outcome::Breached(_) => Ok(()),
         Outcome::Drained(added) => tell_added(errors, added),
     }
 }

@@ -1,7 +1,16 @@
 //! What is written, and how a run ends that is done.
 
 ghost use Rattle.std.specs.Prelude.{◌≡◌};
-ghost use Rattle.c62_answer.specs.Run.{status_done, outcome_adopted, outcome_of};
+ghost use Rattle.c62_answer.specs.Run.{status_done, outcome_adopted, outcome_of, outcome_run};
+
+/// What a strict run doesn't take.
+#[derive(Clone, Copy, PartialEq, Eq, Debug)]
+pub enum Breach {
+    /// An access faulted.
+    Fault,
+    /// The run ended by its limit, and no access faulted.
+    Limit,
+}
 
 /// How a run ends that is done.
 #[derive(Clone, Copy, PartialEq, Eq, Debug)]
@@ -12,6 +21,8 @@ pub enum Outcome {
     Drained(u64),
     /// What a check tells is written, and some block isn't the same.
     NotSame,
+    /// The report of a strict run is written, and it has this.
+    Breached(Breach),
 }
 
 /// What is to be written, and how the run ends then.
@@ -44,6 +55,23 @@ impl Outcome {
         }
     }
 
+    /// How a run ends that is strict or not, ended by its limit or not, and in which these lines faulted.
+    pub fn of_run(strict: bool, limited: bool, faults: &[u32]) -> Outcome
+        ensures { result ≡ outcome_run strict limited faults.now }
+    {
+        match (strict, faults) {
+            (false, _) => Outcome::Done,
+            (true, [_, ..]) => Outcome::Breached(Breach::Fault),
+            (true, []) => {
+                if limited {
+                    Outcome::Breached(Breach::Limit)
+                } else {
+                    Outcome::Done
+                }
+            }
+        }
+    }
+
     /// The status that the program ends with.
     pub fn status(self) -> u8
         ensures { result ≡ status_done self }
@@ -51,6 +79,8 @@ impl Outcome {
         match self {
             Outcome::Done | Outcome::Drained(_) => 0,
             Outcome::NotSame => 5,
+            Outcome::Breached(Breach::Limit) => 6,
+            Outcome::Breached(Breach::Fault) => 7,
         }
     }
 }

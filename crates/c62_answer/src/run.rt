@@ -1,15 +1,19 @@
 //! Runs of programs and of packets, and their reports.
 
-ghost use Rattle.std.specs.Prelude.{◌≡◌, IfOk, IsTrue};
+ghost use Rattle.std.specs.Prelude.{◌≡◌, true, false, IfOk, IsTrue};
 ghost use Rattle.c62_packet.specs.Packets.{is_closed};
-ghost use Rattle.c62_answer.specs.Run.{IsOpening, IsReport, IsPacketReport, with_setting, with_settings};
+ghost use Rattle.c62_answer.specs.Run.{IsOpening, IsReport, IsPacketReport, TellsPackets, TellsSerial, is_limit, with_setting, with_settings};
+ghost use Rattle.c62_pipe.specs.Chain.{RunsPackets};
+ghost use Rattle.c62_serial.specs.Chain.{RunsProgram};
 
-use c62_command::{Setting, Start};
+use crate::outcome::{Outcome, Reply};
+use c62_command::{Course, Setting, Start};
 use c62_packet::Packets;
 use c62_pipe::run_chain;
+use c62_profile::{packet_table, run_packets, run_serial, serial_table};
 use c62_read::Program;
 use c62_report::{packet_report, serial_report};
-use c62_serial::{State, run_program};
+use c62_serial::{Chain, End, State, run_program};
 use std::alloc::{AllocError, Global};
 
 /// Sets what a setting says.
@@ -18,6 +22,12 @@ fn set(state: &mut State, setting: Setting)
 {
     match setting {
         Setting::Register(reg, value) => state.set(reg, value),
+        Setting::Byte(address, value) => {
+            let _ = state.store(address, 1, value);
+        }
+        Setting::Half(address, value) => {
+            let _ = state.store(address, 2, value);
+        }
         Setting::Word(address, value) => {
             let _ = state.poke(address, value);
         }
@@ -44,31 +54,148 @@ pub(crate) fn opening(alloc: Global, settings: &[Setting]) -> Result<State, Allo
     Ok(state)
 }
 
-/// The report of the serial run of a program.
-///
-/// # Errors
-///
-/// Where memory ran out.
-pub fn serial_run(alloc: Global, program: &Program, start: &Start) -> Result<Vec<u8>, AllocError>
-    ensures { IfOk result (λ text. IsReport program.now start.now.settings.items start.now.blocks text.items) }
+/// Whether a chain ended by its limit.
+fn is_limit(stop: End) -> bool
+    ensures { result ≡ is_limit stop }
 {
-    let mut state = opening(alloc, &start.settings)?;
-    let chain = run_program(program, &mut state, start.blocks)?;
-    serial_report(alloc, chain, &state)
+    match stop {
+        End::Limit => true,
+        End::End | End::Register(_) => false,
+    }
 }
 
-/// The report of a run of packets.
+/// Runs a program serially, without a table.
+fn run_plain(
+    alloc: Global,
+    program: &Program,
+    limit: u32,
+    state: &mut State,
+) -> Result<(Chain, Vec<u8>), AllocError>
+    ensures run { IfOk result (λ ran. RunsProgram program.now state.old.machine limit ran.0 state.new.machine) }
+    ensures told { IfOk result (λ ran. TellsSerial false program.now state.old.machine limit ran.0 state.new.machine ran.1.items) }
+{
+    let chain = run_program(program, state, limit)?;
+    Ok((chain, Vec::new(alloc)))
+}
+
+/// Runs a program serially, and writes the table of its blocks.
+fn run_counted(
+    alloc: Global,
+    program: &Program,
+    limit: u32,
+    state: &mut State,
+) -> Result<(Chain, Vec<u8>), AllocError>
+    ensures run { IfOk result (λ ran. RunsProgram program.now state.old.machine limit ran.0 state.new.machine) }
+    ensures told { IfOk result (λ ran. TellsSerial true program.now state.old.machine limit ran.0 state.new.machine ran.1.items) }
+{
+    let (chain, tally) = run_serial(alloc, program, state, limit)?;
+    let mut table = Vec::new(alloc);
+    serial_table(&mut table, program, &tally)?;
+    Ok((chain, table))
+}
+
+/// Runs a program serially. Answers its chain, and the table of its blocks where one is asked for.
+fn run_told(
+    alloc: Global,
+    program: &Program,
+    course: Course,
+    state: &mut State,
+) -> Result<(Chain, Vec<u8>), AllocError>
+    ensures run { IfOk result (λ ran. RunsProgram program.now state.old.machine course.blocks ran.0 state.new.machine) }
+    ensures told { IfOk result (λ ran. TellsSerial course.profile program.now state.old.machine course.blocks ran.0 state.new.machine ran.1.items) }
+{
+    if course.profile {
+        run_counted(alloc, program, course.blocks, state)
+    } else {
+        run_plain(alloc, program, course.blocks, state)
+    }
+}
+
+/// The report of the serial run of a program, with the table of its blocks below it where one is asked for.
 ///
 /// # Errors
 ///
 /// Where memory ran out.
-pub fn packet_run(alloc: Global, packets: &Packets, start: &Start) -> Result<Vec<u8>, AllocError>
-    requires { IsTrue (is_closed packets.now) }
-    ensures { IfOk result (λ text. IsPacketReport packets.now start.now.settings.items start.now.blocks text.items) }
+pub fn serial_run(alloc: Global, program: &Program, start: &Start) -> Result<Reply, AllocError>
+    ensures { IfOk result (λ reply. IsReport program.now start.now.settings.items start.now.course reply.outcome reply.text.items) }
 {
     let mut state = opening(alloc, &start.settings)?;
-    let (chain, cycles) = run_chain(packets, &mut state, start.blocks)?;
-    packet_report(alloc, chain, cycles, &state)
+    let (chain, table) = run_told(alloc, program, start.course, &mut state)?;
+    let mut text = serial_report(alloc, chain, &state)?;
+    text.extend_from_slice(&table)?;
+    Ok(Reply {
+        text,
+        outcome: Outcome::of_run(start.course.strict, is_limit(chain.stop), state.faults()),
+    })
+}
+
+/// Runs packets, without a table.
+fn packets_plain(
+    alloc: Global,
+    packets: &Packets,
+    limit: u32,
+    state: &mut State,
+) -> Result<(Chain, u64, Vec<u8>), AllocError>
+    requires { IsTrue (is_closed packets.now) }
+    ensures run { IfOk result (λ ran. RunsPackets packets.now state.old.machine limit ran.0 ran.1 state.new.machine) }
+    ensures told { IfOk result (λ ran. TellsPackets false packets.now state.old.machine limit ran.0 state.new.machine ran.2.items) }
+{
+    let (chain, cycles) = run_chain(packets, state, limit)?;
+    Ok((chain, cycles, Vec::new(alloc)))
+}
+
+/// Runs packets, and writes the table of their blocks.
+fn packets_counted(
+    alloc: Global,
+    packets: &Packets,
+    limit: u32,
+    state: &mut State,
+) -> Result<(Chain, u64, Vec<u8>), AllocError>
+    requires { IsTrue (is_closed packets.now) }
+    ensures run { IfOk result (λ ran. RunsPackets packets.now state.old.machine limit ran.0 ran.1 state.new.machine) }
+    ensures told { IfOk result (λ ran. TellsPackets true packets.now state.old.machine limit ran.0 state.new.machine ran.2.items) }
+{
+    let (chain, tally) = run_packets(alloc, packets, state, limit)?;
+    let mut table = Vec::new(alloc);
+    packet_table(&mut table, packets, &tally)?;
+    Ok((chain, tally.taken, table))
+}
+
+/// Runs packets. Answers their chain and its cycles, and the table of their blocks where one is asked for.
+fn packets_told(
+    alloc: Global,
+    packets: &Packets,
+    course: Course,
+    state: &mut State,
+) -> Result<(Chain, u64, Vec<u8>), AllocError>
+    requires { IsTrue (is_closed packets.now) }
+    ensures run { IfOk result (λ ran. RunsPackets packets.now state.old.machine course.blocks ran.0 ran.1 state.new.machine) }
+    ensures told { IfOk result (λ ran. TellsPackets course.profile packets.now state.old.machine course.blocks ran.0 state.new.machine ran.2.items) }
+{
+    if course.profile {
+        packets_counted(alloc, packets, course.blocks, state)
+    } else {
+        packets_plain(alloc, packets, course.blocks, state)
+    }
+}
+
+/// The report of a run of packets, with the table of their blocks below it where one is asked for.
+///
+/// # Errors
+///
+/// Where memory ran out.
+pub fn packet_run(alloc: Global, packets: &Packets, start: &Start) -> Result<Reply, AllocError>
+    requires { IsTrue (is_closed packets.now) }
+    ensures { IfOk result (λ reply. IsPacketReport packets.now start.now.settings.items start.now.course reply.outcome reply.text.items) }
+{
+    let mut state = opening(alloc, &start.settings)?;
+    let (chain, cycles, table) = packets_told(alloc, packets, start.course, &mut state)?;
+    let mut text = packet_report(alloc, chain, cycles, &state)?;
+    text.extend_from_slice(&table)?;
+    Ok(Reply {
+        text,
+        outcome: Outcome::of_run(start.course.strict, is_limit(chain.stop), state.faults()),
+    })
 }
 
 #[cfg(test)]

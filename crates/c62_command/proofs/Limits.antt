@@ -127,12 +127,24 @@ blocks_checked = (
   (
     ((λ e. absurd cc), ((λ e. absurd cc), ((λ e. absurd cc), ((λ e. absurd cc), ((λ e. absurd cc), ((λ e. absurd cc), ((λ e. absurd cc), tt))))))),
     (
-      ((λ e. absurd cc), ((λ e. absurd cc), ((λ e. ((λ count. absurd cc), λ values none. values_pass false (parser.Signed (pos 1) (pos 1000000)) values none)), ((λ e. absurd cc), ((λ e. absurd cc), tt))))),
+      ((λ e. absurd cc), ((λ e. absurd cc), ((λ e. ((λ count. absurd cc), λ values none. values_pass false (parser.Signed (pos 1) (pos 1000000)) values none)), ((λ e. absurd cc), ((λ e. absurd cc), ((λ e. absurd cc), ((λ e. absurd cc), tt))))))),
       (
-        ((λ e. ((λ count. absurd cc), λ values none. values_pass false (parser.Signed (pos 1) (pos 1000000)) values none)), ((λ e. absurd cc), ((λ e. absurd cc), tt))),
+        ((λ e. ((λ count. absurd cc), λ values none. values_pass false (parser.Signed (pos 1) (pos 1000000)) values none)), ((λ e. absurd cc), ((λ e. absurd cc), ((λ e. absurd cc), ((λ e. absurd cc), tt))))),
         (
-          ((λ e. ((λ count. absurd cc), λ values none. values_pass false (parser.Signed (pos 1) (pos 1000000)) values none)), ((λ e. absurd cc), ((λ e. absurd cc), tt))),
-          (((λ e. absurd cc), ((λ e. absurd cc), ((λ e. absurd cc), ((λ e. absurd cc), tt)))), (((λ e. absurd cc), ((λ e. absurd cc), tt)), (((λ e. absurd cc), tt), (((λ e. absurd cc), tt), tt)))),
+          ((λ e. ((λ count. absurd cc), λ values none. values_pass false (parser.Signed (pos 1) (pos 1000000)) values none)), ((λ e. absurd cc), ((λ e. absurd cc), ((λ e. absurd cc), ((λ e. absurd cc), tt))))),
+          (
+            ((λ e. absurd cc), ((λ e. absurd cc), ((λ e. absurd cc), ((λ e. absurd cc), ((λ e. absurd cc), tt))))),
+            (
+              ((λ e. absurd cc), ((λ e. absurd cc), tt)),
+              (
+                ((λ e. absurd cc), tt),
+                (
+                  ((λ e. absurd cc), tt),
+                  tt,
+                ),
+              ),
+            ),
+          ),
         ),
       ),
     ),
@@ -145,10 +157,25 @@ eject_checked = (
   (
     ((λ e. absurd cc), ((λ e. ((λ count. absurd cc), λ values none. values_pass false (parser.Signed (pos 0) (pos 1000)) values none)), ((λ e. absurd cc), ((λ e. absurd cc), ((λ e. absurd cc), ((λ e. absurd cc), ((λ e. absurd cc), tt))))))),
     (
-      ((λ e. absurd cc), ((λ e. ((λ count. absurd cc), λ values none. values_pass false (parser.Signed (pos 0) (pos 1000)) values none)), ((λ e. absurd cc), ((λ e. absurd cc), ((λ e. absurd cc), tt))))),
+      ((λ e. absurd cc), ((λ e. ((λ count. absurd cc), λ values none. values_pass false (parser.Signed (pos 0) (pos 1000)) values none)), ((λ e. absurd cc), ((λ e. absurd cc), ((λ e. absurd cc), ((λ e. absurd cc), ((λ e. absurd cc), tt))))))),
       (
-        ((λ e. absurd cc), ((λ e. absurd cc), ((λ e. absurd cc), tt))),
-        (((λ e. absurd cc), ((λ e. absurd cc), ((λ e. absurd cc), tt))), (((λ e. absurd cc), ((λ e. absurd cc), ((λ e. absurd cc), ((λ e. absurd cc), tt)))), (((λ e. absurd cc), ((λ e. absurd cc), tt)), (((λ e. absurd cc), tt), (((λ e. absurd cc), tt), tt))))),
+        ((λ e. absurd cc), ((λ e. absurd cc), ((λ e. absurd cc), ((λ e. absurd cc), ((λ e. absurd cc), tt))))),
+        (
+          ((λ e. absurd cc), ((λ e. absurd cc), ((λ e. absurd cc), ((λ e. absurd cc), ((λ e. absurd cc), tt))))),
+          (
+            ((λ e. absurd cc), ((λ e. absurd cc), ((λ e. absurd cc), ((λ e. absurd cc), ((λ e. absurd cc), tt))))),
+            (
+              ((λ e. absurd cc), ((λ e. absurd cc), tt)),
+              (
+                ((λ e. absurd cc), tt),
+                (
+                  ((λ e. absurd cc), tt),
+                  tt,
+                ),
+              ),
+            ),
+          ),
+        ),
       ),
     ),
   ),
@@ -160,12 +187,24 @@ cycles_checked = (
   (
     ((λ e. absurd cc), ((λ e. absurd cc), ((λ e. absurd cc), ((λ e. absurd cc), ((λ e. absurd cc), ((λ e. absurd cc), ((λ e. absurd cc), tt))))))),
     (
-      ((λ e. absurd cc), ((λ e. absurd cc), ((λ e. absurd cc), ((λ e. absurd cc), ((λ e. absurd cc), tt))))),
+      ((λ e. absurd cc), ((λ e. absurd cc), ((λ e. absurd cc), ((λ e. absurd cc), ((λ e. absurd cc), ((λ e. absurd cc), ((λ e. absurd cc), tt))))))),
       (
-        ((λ e. absurd cc), ((λ e. absurd cc), ((λ e. absurd cc), tt))),
+        ((λ e. absurd cc), ((λ e. absurd cc), ((λ e. absurd cc), ((λ e. absurd cc), ((λ e. absurd cc), tt))))),
         (
-          ((λ e. absurd cc), ((λ e. absurd cc), ((λ e. absurd cc), tt))),
-          (((λ e. ((λ count. absurd cc), λ values none. values_pass false (parser.Signed (pos 1) (pos 1000000000)) values none)), ((λ e. absurd cc), ((λ e. absurd cc), ((λ e. absurd cc), tt)))), (((λ e. absurd cc), ((λ e. absurd cc), tt)), (((λ e. absurd cc), tt), (((λ e. absurd cc), tt), tt)))),
+          ((λ e. absurd cc), ((λ e. absurd cc), ((λ e. absurd cc), ((λ e. absurd cc), ((λ e. absurd cc), tt))))),
+          (
+            ((λ e. ((λ count. absurd cc), λ values none. values_pass false (parser.Signed (pos 1) (pos 1000000000)) values none)), ((λ e. absurd cc), ((λ e. absurd cc), ((λ e. absurd cc), ((λ e. absurd cc), tt))))),
+            (
+              ((λ e. absurd cc), ((λ e. absurd cc), tt)),
+              (
+                ((λ e. absurd cc), tt),
+                (
+                  ((λ e. absurd cc), tt),
+                  tt,
+                ),
+              ),
+            ),
+          ),
         ),
       ),
     ),

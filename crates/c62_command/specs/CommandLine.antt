@@ -17,6 +17,7 @@ use Rattle.c62_command.specs.declared.setting.SettingError.{SettingError}
 use Rattle.c62_command.specs.declared.setting.SettingError.TheVariants.{Bad, Memory}
 use Rattle.c62_command.specs.declared.command.Packing.{Packing}
 use Rattle.c62_command.specs.declared.command.Showing.{Showing}
+use Rattle.c62_command.specs.declared.command.Course.{Course}
 use Rattle.c62_command.specs.declared.command.CommandError.{CommandError}
 use Rattle.c62_command.specs.declared.command.CommandError.TheVariants as refused
 use Rattle.c62_command.specs.declared.command.Request.{Request}
@@ -69,6 +70,14 @@ packets_rule = record (new_rule (codes "packets")) { long = Some (codes "packets
 abbrev pub drain_rule : Rule
 drain_rule = record (new_rule (codes "drain")) { long = Some (codes "drain"); action = Some SetTrue }
 
+-- `--profile`
+abbrev pub profile_rule : Rule
+profile_rule = record (new_rule (codes "profile")) { long = Some (codes "profile"); action = Some SetTrue }
+
+-- `--strict`
+abbrev pub strict_rule : Rule
+strict_rule = record (new_rule (codes "strict")) { long = Some (codes "strict"); action = Some SetTrue }
+
 -- `[SETTING]..`
 abbrev pub settings_rule : Rule
 settings_rule = record (new_rule (codes "settings")) { value_names = 1; action = Some Append }
@@ -77,7 +86,10 @@ abbrev pub with_packing : App → App
 with_packing app = with_rule (with_rule app turns_rule) eject_rule
 
 abbrev pub with_start : App → App
-with_start app = with_rule (with_rule app blocks_rule) settings_rule
+with_start app = with_rule (with_rule (with_rule (with_rule app blocks_rule) profile_rule) strict_rule) settings_rule
+
+abbrev pub with_flight : App → App
+with_flight app = with_rule (with_rule (with_rule (with_rule app cycles_rule) from_rule) strict_rule) settings_rule
 
 -- `pack [--turns] [--eject N]`
 abbrev pub pack_app : App
@@ -90,21 +102,21 @@ with_forms app = with_rule (with_rule app listing_rule) packets_rule
 abbrev pub show_app : App
 show_app = with_rule (with_rule (with_forms (with_packing (new_app (codes "show")))) why_rule) registers_rule
 
--- `run [--turns] [--eject N] [--blocks N] [SETTING]..`
+-- `run [--turns] [--eject N] [--blocks N] [--profile] [--strict] [SETTING]..`
 abbrev pub run_app : App
 run_app = with_start (with_packing (new_app (codes "run")))
 
--- `serial [--blocks N] [SETTING]..`
+-- `serial [--blocks N] [--profile] [--strict] [SETTING]..`
 abbrev pub serial_app : App
 serial_app = with_start (new_app (codes "serial"))
 
--- `sim [--blocks N] [SETTING]..`
+-- `sim [--blocks N] [--profile] [--strict] [SETTING]..`
 abbrev pub sim_app : App
 sim_app = with_start (new_app (codes "sim"))
 
--- `exec [--cycles N] [--from NAME] [SETTING]..`
+-- `exec [--cycles N] [--from NAME] [--strict] [SETTING]..`
 abbrev pub exec_app : App
-exec_app = with_rule (with_rule (with_rule (new_app (codes "exec")) cycles_rule) from_rule) settings_rule
+exec_app = with_flight (new_app (codes "exec"))
 
 -- `adopt [--drain]`
 abbrev pub adopt_app : App
@@ -144,15 +156,15 @@ pub data Ask : Type 0 where
   ListingPicture : Showing → Ask
   -- the picture of the blocks of a text of packets, as they stand
   PacketsPicture : Showing → Ask
-  -- the report of a serial run of at most so many blocks, from a state with these settings
-  SerialReport : (blocks : ℕ) → List Setting → Ask
+  -- the report of a serial run on this course, from a state with these settings
+  SerialReport : Course → List Setting → Ask
   -- the report of the same run of the packets of a text, packed so
-  PacketReport : Packing → (blocks : ℕ) → List Setting → Ask
+  PacketReport : Packing → Course → List Setting → Ask
   -- the report of such a run of the packets that a listing says
-  ListingReport : (blocks : ℕ) → List Setting → Ask
+  ListingReport : Course → List Setting → Ask
   -- the report of a run of at most so many cycles of a text of packets, from the row of this label on or the first, from a state
   -- with these settings
-  FlightReport : (cycles : ℕ) → (from : Option Text) → List Setting → Ask
+  FlightReport : (cycles : ℕ) → (strict : Bool) → (from : Option Text) → List Setting → Ask
   -- the listing of a text of packets, with the cycles added that lack in it or without them
   Adoption : (drain : Bool) → Ask
   -- what each block of a listing is, held against a text
@@ -163,10 +175,10 @@ ask_of (Pack packing) = Listing packing
 ask_of (Show showing) = Picture showing
 ask_of (ShowListing showing) = ListingPicture showing
 ask_of (ShowPackets showing) = PacketsPicture showing
-ask_of (Run packing start) = PacketReport packing start.blocks start.settings.items
-ask_of (Serial start) = SerialReport start.blocks start.settings.items
-ask_of (Sim start) = ListingReport start.blocks start.settings.items
-ask_of (Exec start) = FlightReport start.cycles (option_map (λ name. name.items) start.from) start.settings.items
+ask_of (Run packing start) = PacketReport packing start.course start.settings.items
+ask_of (Serial start) = SerialReport start.course start.settings.items
+ask_of (Sim start) = ListingReport start.course start.settings.items
+ask_of (Exec start) = FlightReport start.cycles start.strict (option_map (λ name. name.items) start.from) start.settings.items
 ask_of (Adopt drain) = Adoption drain
 ask_of Check = Verdicts
 
@@ -209,6 +221,9 @@ show_asked rows =
     if is_set (codes "listing") rows then ListingPicture (showing_of rows)
     else (if is_set (codes "packets") rows then PacketsPicture (showing_of rows) else Picture (showing_of rows))
 
+abbrev pub course_of : List Row → Course
+course_of rows = record { blocks = blocks_of rows; profile = is_set (codes "profile") rows; strict = is_set (codes "strict") rows }
+
 -- by turns and without ejections
 abbrev pub plain_packing : Packing
 plain_packing = record { turns = true; budget = 0 }
@@ -232,10 +247,10 @@ named_rows name matches = Some (name, found_rows matches)
 -- which report a subcommand asks for, with these settings
 abbrev pub report_asked : Text → List Row → List Setting → Ask
 report_asked name rows settings =
-    if bytes_eq name (codes "run") then PacketReport (packing_of rows) (blocks_of rows) settings
-    else (if bytes_eq name (codes "sim") then ListingReport (blocks_of rows) settings
-    else (if bytes_eq name (codes "exec") then FlightReport (cycles_of rows) (first_of (codes "from") rows) settings
-    else SerialReport (blocks_of rows) settings))
+    if bytes_eq name (codes "run") then PacketReport (packing_of rows) (course_of rows) settings
+    else (if bytes_eq name (codes "sim") then ListingReport (course_of rows) settings
+    else (if bytes_eq name (codes "exec") then FlightReport (cycles_of rows) (is_set (codes "strict") rows) (first_of (codes "from") rows) settings
+    else SerialReport (course_of rows) settings))
 
 -- what the subcommand's name and what was found for its arguments ask for, where the settings are good
 abbrev pub ask_in : Option (Text × List Row) → Option Ask

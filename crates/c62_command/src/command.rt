@@ -2,7 +2,7 @@
 
 ghost use Rattle.std.specs.Prelude.{◌≡◌, IfOk, IfErr, Some, false, map, [], codes, option_map};
 ghost use Rattle.clap.specs.Words.{app_of, rule_of, first_of, subcommand_of, subcommand_rows_of, fault_of};
-ghost use Rattle.c62_command.specs.CommandLine.{turns_rule, eject_rule, blocks_rule, settings_rule, cycles_rule, from_rule, drain_rule, why_rule, registers_rule, listing_rule, packets_rule, with_forms, pack_app, show_app, run_app, serial_app, sim_app, exec_app, adopt_app, check_app, bare_app, listing_app, packing_app, running_app, tool_app, with_packing, with_start, is_set, blocks_of, cycles_of, budget_of, packing_of, showing_of, show_asked, plain_packing, IsLocal, found_rows, words_of, named_rows, ask_in, ask_of, asked, IsBadIn, IsBlame, IsRefusal, IsWordsError, IsSettingError};
+ghost use Rattle.c62_command.specs.CommandLine.{turns_rule, eject_rule, blocks_rule, settings_rule, cycles_rule, from_rule, drain_rule, why_rule, registers_rule, listing_rule, packets_rule, with_forms, pack_app, show_app, run_app, serial_app, sim_app, exec_app, adopt_app, check_app, bare_app, listing_app, packing_app, running_app, tool_app, with_packing, with_start, is_set, blocks_of, cycles_of, budget_of, packing_of, showing_of, show_asked, plain_packing, IsLocal, found_rows, words_of, named_rows, ask_in, ask_of, asked, IsBadIn, IsBlame, IsRefusal, IsWordsError, IsSettingError, profile_rule, strict_rule, with_flight, course_of};
 ghost use Rattle.c62_command.specs.Settings.{AreSettings, IsBadAmong};
 
 use crate::setting::{Setting, SettingError, read_settings};
@@ -47,10 +47,21 @@ pub struct Showing {
     pub registers: bool,
 }
 
-/// Where a run begins, and how many blocks it has at most.
+/// How far a run goes, and what is told of it beside its report.
+#[derive(Clone, Copy, PartialEq, Eq, Debug)]
+pub struct Course {
+    /// How many blocks it has at most.
+    pub blocks: u32,
+    /// Whether a table tells how often each block was run, and what it took.
+    pub profile: bool,
+    /// Whether a run that ends by its limit, or in which an access faults, has a status of its own.
+    pub strict: bool,
+}
+
+/// Where a run begins, and how it goes.
 #[derive(Debug, Drop)]
 pub struct Start {
-    pub blocks: u32,
+    pub course: Course,
     pub settings: Vec<Setting>,
 }
 
@@ -58,6 +69,8 @@ pub struct Start {
 #[derive(Debug, Drop)]
 pub struct FlightStart {
     pub cycles: u32,
+    /// Whether a run that ends by its limit, or in which an access faults, has a status of its own.
+    pub strict: bool,
     /// The label of the row that it begins with, where that isn't the first one.
     pub from: Option<Vec<u8>>,
     pub settings: Vec<Setting>,
@@ -230,6 +243,26 @@ fn packets_flag<'a>(alloc: Global) -> Arg<'a>
         .help("Reads packets as they are written, and shows the schedule that stands there")
 }
 
+fn profile_flag<'a>(alloc: Global) -> Arg<'a>
+    ensures rule { rule_of result ≡ profile_rule }
+    ensures local { result.global ≡ false }
+{
+    Arg::new(alloc, "profile")
+        .long("profile")
+        .action(ArgAction::SetTrue)
+        .help("Adds a table of how often each block was run, and what it took")
+}
+
+fn strict_flag<'a>(alloc: Global) -> Arg<'a>
+    ensures rule { rule_of result ≡ strict_rule }
+    ensures local { result.global ≡ false }
+{
+    Arg::new(alloc, "strict")
+        .long("strict")
+        .action(ArgAction::SetTrue)
+        .help("Ends with status 7 where an access faults, and else with 6 at the limit")
+}
+
 fn settings_words<'a>(alloc: Global) -> Arg<'a>
     ensures rule { rule_of result ≡ settings_rule }
     ensures local { result.global ≡ false }
@@ -237,7 +270,9 @@ fn settings_words<'a>(alloc: Global) -> Arg<'a>
     Arg::new(alloc, "settings")
         .value_name("SETTING")
         .action(ArgAction::Append)
-        .help("REG=NUMBER sets a register, @ADDRESS=NUMBER a word of memory")
+        .help(
+            "REG=NUMBER sets a register, @ADDRESS=NUMBER,.. words of memory; with :h or :b halves or bytes",
+        )
 }
 
 /// The command with the options of packing.
@@ -248,13 +283,27 @@ fn with_packing<'a>(alloc: Global, command: Command<'a>) -> Result<Command<'a>, 
     command.arg(turns_flag(alloc))?.arg(eject_option(alloc))
 }
 
-/// The command with the limit of blocks and the settings.
+/// The command with the limit of blocks, what is told beside the report, and the settings.
 fn with_start<'a>(alloc: Global, command: Command<'a>) -> Result<Command<'a>, AllocError>
     ensures app { IfOk result (λ c. app_of c ≡ with_start (app_of command.entry)) }
     ensures local { IsLocal command.entry → IfOk result IsLocal }
 {
     command
         .arg(blocks_option(alloc))?
+        .arg(profile_flag(alloc))?
+        .arg(strict_flag(alloc))?
+        .arg(settings_words(alloc))
+}
+
+/// The command with the limit of cycles, the label to begin with, what is told beside the report, and the settings.
+fn with_flight<'a>(alloc: Global, command: Command<'a>) -> Result<Command<'a>, AllocError>
+    ensures app { IfOk result (λ c. app_of c ≡ with_flight (app_of command.entry)) }
+    ensures local { IsLocal command.entry → IfOk result IsLocal }
+{
+    command
+        .arg(cycles_option(alloc))?
+        .arg(from_option(alloc))?
+        .arg(strict_flag(alloc))?
         .arg(settings_words(alloc))
 }
 
@@ -297,7 +346,7 @@ fn run_command<'a>(alloc: Global) -> Result<Command<'a>, AllocError>
     let command = Command::new(alloc, "run")
         .about("Packs serial text, runs the packets and reports the end")
         .override_usage(
-            "c62 run [--turns] [--eject <N>] [--blocks <N>] [-o <FILE>] [FILE] [SETTING]...",
+            "c62 run [--turns] [--eject <N>] [--blocks <N>] [--profile] [--strict] [-o <FILE>] [FILE] [SETTING]...",
         )
         .after_help(ending!("c62 run kernel.s A4=8 @8=99"));
     with_start(alloc, with_packing(alloc, command)?)
@@ -309,7 +358,9 @@ fn serial_command<'a>(alloc: Global) -> Result<Command<'a>, AllocError>
 {
     let command = Command::new(alloc, "serial")
         .about("Runs serial text, one instruction after the other, and reports the end")
-        .override_usage("c62 serial [--blocks <N>] [-o <FILE>] [FILE] [SETTING]...")
+        .override_usage(
+            "c62 serial [--blocks <N>] [--profile] [--strict] [-o <FILE>] [FILE] [SETTING]...",
+        )
         .after_help(ending!("c62 serial kernel.s A4=8 @8=99"));
     with_start(alloc, command)
 }
@@ -320,7 +371,9 @@ fn sim_command<'a>(alloc: Global) -> Result<Command<'a>, AllocError>
 {
     let command = Command::new(alloc, "sim")
         .about("Reads a listing, runs its packets and reports the end")
-        .override_usage("c62 sim [--blocks <N>] [-o <FILE>] [FILE] [SETTING]...")
+        .override_usage(
+            "c62 sim [--blocks <N>] [--profile] [--strict] [-o <FILE>] [FILE] [SETTING]...",
+        )
         .after_help(ending!("c62 sim kernel.lst A4=8 @8=99"));
     with_start(alloc, command)
 }
@@ -329,15 +382,15 @@ fn exec_command<'a>(alloc: Global) -> Result<Command<'a>, AllocError>
     ensures app { IfOk result (λ c. app_of c ≡ exec_app) }
     ensures local { IfOk result IsLocal }
 {
-    Command::new(alloc, "exec")
+    let command = Command::new(alloc, "exec")
         .about(
             "Runs packets as they are written, with branches and loads in flight, and reports the end",
         )
-        .override_usage("c62 exec [--cycles <N>] [--from <NAME>] [-o <FILE>] [FILE] [SETTING]...")
-        .after_help(ending!("c62 exec hand.asm --from loop A4=8"))
-        .arg(cycles_option(alloc))?
-        .arg(from_option(alloc))?
-        .arg(settings_words(alloc))
+        .override_usage(
+            "c62 exec [--cycles <N>] [--from <NAME>] [--strict] [-o <FILE>] [FILE] [SETTING]...",
+        )
+        .after_help(ending!("c62 exec hand.asm --from loop A4=8"));
+    with_flight(alloc, command)
 }
 
 fn adopt_command<'a>(alloc: Global) -> Result<Command<'a>, AllocError>
@@ -502,14 +555,25 @@ fn settings_in(alloc: Global, matches: &ArgMatches<'_>) -> Result<Vec<Setting>, 
     }
 }
 
+/// How a run goes, by the options of its subcommand.
+fn course_in(matches: &ArgMatches<'_>) -> Course
+    ensures { result ≡ course_of (found_rows matches.now) }
+{
+    Course {
+        blocks: blocks_in(matches),
+        profile: is_set(matches, "profile"),
+        strict: is_set(matches, "strict"),
+    }
+}
+
 /// Where a run begins, by the options of its subcommand.
 fn start_in(alloc: Global, matches: &ArgMatches<'_>) -> Result<Start, SettingError>
-    ensures blocks { IfOk result (λ start. start.blocks ≡ blocks_of (found_rows matches.now)) }
+    ensures course { IfOk result (λ start. start.course ≡ course_of (found_rows matches.now)) }
     ensures settings { IfOk result (λ start. AreSettings (words_of matches.now) start.settings.items) }
     ensures err { IfErr result (IsBadAmong (words_of matches.now)) }
 {
     Ok(Start {
-        blocks: blocks_in(matches),
+        course: course_in(matches),
         settings: settings_in(alloc, matches)?,
     })
 }
@@ -517,12 +581,14 @@ fn start_in(alloc: Global, matches: &ArgMatches<'_>) -> Result<Start, SettingErr
 /// Where a run of packets in flight begins, by the options of its subcommand.
 fn flight_in(alloc: Global, matches: &ArgMatches<'_>) -> Result<FlightStart, SettingError>
     ensures cycles { IfOk result (λ start. start.cycles ≡ cycles_of (found_rows matches.now)) }
+    ensures strict { IfOk result (λ start. start.strict ≡ is_set (codes "strict") (found_rows matches.now)) }
     ensures from { IfOk result (λ start. option_map (λ name. name.items) start.from ≡ first_of (codes "from") (found_rows matches.now)) }
     ensures settings { IfOk result (λ start. AreSettings (words_of matches.now) start.settings.items) }
     ensures err { IfErr result (IsBadAmong (words_of matches.now)) }
 {
     Ok(FlightStart {
         cycles: cycles_in(matches),
+        strict: is_set(matches, "strict"),
         from: from_in(alloc, matches)?,
         settings: settings_in(alloc, matches)?,
     })

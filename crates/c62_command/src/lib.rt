@@ -5,9 +5,11 @@ mod command;
 mod laws;
 mod setting;
 
-pub use command::{CommandError, FlightStart, Packing, Request, Showing, Start, command_of};
+pub use command::{
+    CommandError, Course, FlightStart, Packing, Request, Showing, Start, command_of,
+};
 pub use laws::takes_limits;
-pub use setting::Setting;
+pub use setting::{Setting, Size};
 
 #[cfg(test)]
 mod tests;

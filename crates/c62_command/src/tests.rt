@@ -66,6 +66,17 @@ const ASKED: [(&[&str], &str); 33] = [
     (&["exec", "--blocks", "1"], "words"),
     (&["exec", "A1=5", "x"], "setting 2"),
     (&["sim", "--from", "L"], "words"),
+    (
+        &["run", "--profile", "--strict"],
+        "run by workers, 0 ejections; 1000 blocks, profile, strict",
+    ),
+    (
+        &["sim", "--strict", "A1=1"],
+        "sim; 1000 blocks, strict, A1 = 1",
+    ),
+    (&["serial", "--profile"], "serial; 1000 blocks, profile"),
+    (&["exec", "--strict"], "exec; 1000000 cycles, strict"),
+    (&["exec", "--profile"], "words"),
     (&["adopt"], "adopt"),
     (&["adopt", "--drain"], "adopt, drained"),
     (&["adopt", "--turns"], "words"),
@@ -96,6 +107,8 @@ fn setting_text(alloc: Global, setting: Setting) -> Result<String, Fail> {
             };
             format!(in alloc; "{file}{} = {value}", reg.number)?
         }
+        Setting::Byte(address, value) => format!(in alloc; "@{address}:b = {value}")?,
+        Setting::Half(address, value) => format!(in alloc; "@{address}:h = {value}")?,
         Setting::Word(address, value) => format!(in alloc; "@{address} = {value}")?,
     })
 }
@@ -110,6 +123,7 @@ fn settings_text(alloc: Global, settings: &[Setting]) -> Result<String, Fail> {
 
 fn flight_text(alloc: Global, start: &FlightStart) -> Result<String, Fail> {
     let mut text = format!(in alloc; "{} cycles", start.cycles)?;
+    text.push_str(if start.strict { ", strict" } else { "" })?;
     if let Some(name) = &start.from {
         text.push_str(" from ")?;
         text.push_str(str::from_utf8(name).unwrap_or("?"))?;
@@ -119,7 +133,13 @@ fn flight_text(alloc: Global, start: &FlightStart) -> Result<String, Fail> {
 }
 
 fn start_text(alloc: Global, start: &Start) -> Result<String, Fail> {
-    let mut text = format!(in alloc; "{} blocks", start.blocks)?;
+    let mut text = format!(in alloc; "{} blocks", start.course.blocks)?;
+    text.push_str(if start.course.profile {
+        ", profile"
+    } else {
+        ""
+    })?;
+    text.push_str(if start.course.strict { ", strict" } else { "" })?;
     text.push_str(&settings_text(alloc, &start.settings)?)?;
     Ok(text)
 }

@@ -1,9 +1,18 @@
 -- The words of a call with the words of its files of settings in their places (docs/COMMANDS.md, "Files").
-use Rattle.std.specs.Prelude.{◌≡◌, ℕ, ◌+◌, ◌≤◌, List, [], ◌∷◌, ◌++◌, length, map, take, Option, IfSome}
+use Rattle.std.specs.Prelude.{◌≡◌, ℕ, ◌+◌, ◌≤◌, Bool, true, false, List, [], ◌∷◌, ◌++◌, ◌⊎◌, length, map, take, slice_get, Option, Some, IfSome}
+use Rattle.std.specs.List.{count_by}
 use Rattle.std.specs.Str.Lossy.{utf8_lossy}
-use Rattle.c62_files.specs.Words.{Text, Word, Plain, InputName, OutputName, SettingsName}
+use Rattle.c62_files.specs.Words.{Text, Word, Plain, InputName, OutputName, SettingsName, Loads}
+use Rattle.c62_files.specs.Load.{AreLoaded, IsMisfit, IsPlaced}
 use Rattle.c62_files.specs.Settings.{settings_words}
 use Rattle.c62_files.specs.declared.expand.TheConstants.{MOST_SETTINGS}
+use Rattle.c62_files.specs.declared.expand.Unread.{Unread}
+use Rattle.c62_files.specs.declared.expand.Unexpanded.{Unexpanded}
+use Rattle.c62_files.specs.declared.expand.Unexpanded.TheVariants.{Unread as Missing, Load}
+use Rattle.c62_files.specs.declared.load.Misfit.{Misfit}
+use Rattle.c62_files.specs.declared.load.Stopped.{Stopped}
+use Rattle.c62_files.specs.declared.load.Stopped.TheVariants.{Unread as NotRead, Misfit as NotFit}
+use Rattle.c62_files.specs.declared.folder.FileError.TheVariants.{Memory}
 
 -- what files hold by their names, where that is known
 abbrev pub Holding : Type 0
@@ -20,6 +29,7 @@ pub record AreOfFile (holds : Holding) (name : Text) (words : List Text) : Type 
 abbrev pub Gives : Holding → Word → List Text → Type 0
 Gives holds (Plain word) words = words ≡ word ∷ []
 Gives holds (SettingsName name) words = AreOfFile holds name words
+Gives holds (Loads word) words = AreLoaded holds word words
 Gives holds (InputName name) words = words ≡ []
 Gives holds (OutputName name) words = words ≡ []
 
@@ -31,3 +41,48 @@ Expands holds (piece ∷ pieces) words = (mine : List Text) × (others : List Te
 -- these words, and then what stands in the places of the rest, stand in the places of all
 abbrev pub IsGrown : Holding → (all : List Word) → (done : List Text) → (rest : List Word) → Type 0
 IsGrown holds all done rest = (words : List Text) → Expands holds rest words → Expands holds all (done ++ words)
+
+-- the file that is read for what stands in the place of a word
+abbrev pub IsFileOf : Word → Text → Type 0
+IsFileOf (SettingsName file) name = name ≡ file
+IsFileOf (Loads word) name = (address : Text) × IsPlaced word address name
+IsFileOf _ name = ⊥
+
+-- why it isn't known what stands in the place of a word: its file isn't read, or memory ran out
+abbrev pub IsUnreadAt : Word → Unread → Type 0
+IsUnreadAt word unread = (unread.error ≡ Memory) ⊎ IsFileOf word unread.name.now
+
+-- or the file that it loads doesn't fit
+abbrev pub IsStoppedAt : Holding → Word → Stopped → Type 0
+IsStoppedAt holds word (NotRead unread) = IsUnreadAt word unread
+IsStoppedAt holds (Loads word) (NotFit misfit) = IsMisfit holds word misfit
+IsStoppedAt holds _ (NotFit misfit) = ⊥
+
+-- the file of one of these words isn't read
+pub record IsUnread (words : List Word) (unread : Unread) : Type 0 where
+  pub at : ℕ
+  pub word : Word
+  pub stands : slice_get words at ≡ Some word
+  pub why : IsUnreadAt word unread
+
+abbrev pub is_load : Word → Bool
+is_load (Loads word) = true
+is_load _ = false
+
+-- the file that the load of this number, from 1, among these words puts into memory doesn't fit
+pub record IsMisfitAmong (holds : Holding) (words : List Word) (number : ℕ) (misfit : Misfit) : Type 0 where
+  pub at : ℕ
+  pub word : Text
+  pub stands : slice_get words at ≡ Some (Loads word)
+  pub counted : number ≡ count_by is_load (take at words) + 1
+  pub why : IsMisfit holds word misfit
+
+-- why it isn't known what stands in the places of words
+abbrev pub IsUnexpanded : Holding → List Word → Unexpanded → Type 0
+IsUnexpanded holds words (Missing unread) = IsUnread words unread
+IsUnexpanded holds words (Load number misfit) = IsMisfitAmong holds words number misfit
+
+-- what stopped at a word, where that is the load of this number if it is one
+abbrev pub numbered : ℕ → Stopped → Unexpanded
+numbered number (NotRead unread) = Missing unread
+numbered number (NotFit misfit) = Load number misfit

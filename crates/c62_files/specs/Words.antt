@@ -1,11 +1,11 @@
 -- Which words of the command line name files (docs/COMMANDS.md, "Files").
-use Rattle.std.specs.Prelude.{◌≡◌, ℕ, Bool, true, false, not, ◌==◌, ◌||◌, List, [], ◌∷◌, ◌++◌, map, length, codes, Option, Some, None, if◌then◌else◌}
+use Rattle.std.specs.Prelude.{ℕ, Bool, false, not, ◌==◌, ◌||◌, List, [], ◌∷◌, ◌++◌, map, length, codes, Option, Some, None, if◌then◌else◌}
 use Rattle.std.specs.List.{list_any, flat_map}
 use Rattle.std.specs.Option.{option_to_list}
 use Rattle.std.specs.Str.{bytes_eq}
 use Rattle.std.specs.Borrow.{Bor}
 use Rattle.c62_files.specs.declared.wanted.Wanted.{Wanted}
-use Rattle.c62_files.specs.declared.wanted.Wanted.TheVariants.{Command, Nothing, Value, Output, Settings, Help}
+use Rattle.c62_files.specs.declared.wanted.Wanted.TheVariants.{Command, Nothing, Value, Output, Settings, Load, Help}
 use Rattle.c62_files.specs.declared.piece.Piece.{Piece}
 use Rattle.c62_files.specs.declared.piece.Piece.TheVariants as given
 
@@ -26,8 +26,9 @@ abbrev pub wanted_by : Text → Wanted
 wanted_by word =
     if bytes_eq word (codes "-o") then Output
     else (if bytes_eq word (codes "--settings") then Settings
+    else (if bytes_eq word (codes "--load") then Load
     else (if takes_value word then Value
-    else Nothing))
+    else Nothing)))
 
 -- what the command wants: behind `help` no word names a file
 abbrev pub wanted_by_command : Text → Wanted
@@ -37,6 +38,7 @@ wanted_by_command command = if bytes_eq command (codes "help") then Help else No
 abbrev pub option_of : Wanted → Option Text
 option_of Output = Some (codes "-o")
 option_of Settings = Some (codes "--settings")
+option_of Load = Some (codes "--load")
 option_of _ = None
 
 -- A file's name is no option, which begins with `-`, and no setting, which has a `=`. A lone `-` is standard input.
@@ -54,12 +56,15 @@ pub data Word : Type 0 where
   OutputName : Text → Word
   -- the name of a file whose words stand here
   SettingsName : Text → Word
+  -- an address and the name of a file whose bytes are put there
+  Loads : Text → Word
 
 abbrev pub text_piece : Piece → Word
 text_piece (given.Plain word) = Plain word.now
 text_piece (given.Input name) = InputName name.now
 text_piece (given.Output name) = OutputName name.now
 text_piece (given.Settings name) = SettingsName name.now
+text_piece (given.Load word) = Loads word.now
 
 -- what a word is by itself
 abbrev pub lone : Text → Word
@@ -69,6 +74,7 @@ lone word = if is_name word then InputName word else Plain word
 abbrev pub wanting : Wanted → Text → Option Word
 wanting Output word = None
 wanting Settings word = None
+wanting Load word = None
 wanting Value word = Some (Plain word)
 wanting _ word = Some (lone word)
 
@@ -76,6 +82,7 @@ wanting _ word = Some (lone word)
 abbrev pub piece_at : Wanted → Text → Option Word
 piece_at Output word = Some (OutputName word)
 piece_at Settings word = Some (SettingsName word)
+piece_at Load word = Some (Loads word)
 piece_at Nothing word = wanting (wanted_by word) word
 piece_at _ word = Some (Plain word)
 

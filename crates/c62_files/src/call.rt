@@ -59,7 +59,7 @@ fn push_input<'a>(names: &mut Vec<&'a str>, piece: &Piece<'a>) -> Result<(), All
 {
     match piece {
         Piece::Input(name) => Ok(names.push(*name)?),
-        Piece::Plain(_) | Piece::Output(_) | Piece::Settings(_) => Ok(()),
+        Piece::Plain(_) | Piece::Output(_) | Piece::Settings(_) | Piece::Load(_) => Ok(()),
     }
 }
 
@@ -80,7 +80,7 @@ fn push_output<'a>(names: &mut Vec<&'a str>, piece: &Piece<'a>) -> Result<(), Al
 {
     match piece {
         Piece::Output(name) => Ok(names.push(*name)?),
-        Piece::Plain(_) | Piece::Input(_) | Piece::Settings(_) => Ok(()),
+        Piece::Plain(_) | Piece::Input(_) | Piece::Settings(_) | Piece::Load(_) => Ok(()),
     }
 }
 

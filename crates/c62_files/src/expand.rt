@@ -1,12 +1,14 @@
 //! Puts the words of files of settings into their places among the words of a call.
 
-ghost use Rattle.std.specs.Prelude.{◌≡◌, ◌++◌, ◌∷◌, ◌≤◌, List, [], IfOk, IfSome, OnOk, length, map, string_bytes};
+ghost use Rattle.std.specs.Prelude.{◌≡◌, ◌++◌, ◌∷◌, ◌≤◌, ◌<◌, ◌-◌, ◌+◌, ◌^◌, if◌then◌else◌, List, [], IfOk, IfErr, IfSome, OnOk, OnErr, length, map, string_bytes};
 ghost use Rattle.std.specs.Str.Lossy.{utf8_lossy};
 ghost use Rattle.c62_files.specs.Words.{Text, text_piece};
 ghost use Rattle.c62_files.specs.Settings.{settings_words};
-ghost use Rattle.c62_files.specs.Expand.{Expands, Gives};
+ghost use Rattle.c62_files.specs.Expand.{Expands, Gives, IsStoppedAt, IsUnexpanded, is_load, numbered};
+ghost use Rattle.c62_files.specs.declared.folder.FileError.TheVariants.{Memory};
 
 use crate::folder::{FileError, Folder};
+use crate::load::{Misfit, Stopped, push_load};
 use crate::piece::Piece;
 use crate::settings::settings_words;
 use std::alloc::{AllocError, Global};
@@ -20,6 +22,25 @@ pub const MOST_SETTINGS: usize = 1_048_576;
 pub struct Unread<'a> {
     pub name: &'a str,
     pub error: FileError,
+}
+
+impl From<AllocError> for Unread<'_> {
+    ghost from_gives = { λ _ unread. unread.error ≡ Memory };
+
+    fn from(_error: AllocError) -> Self {
+        Unread {
+            name: "",
+            error: FileError::Memory,
+        }
+    }
+}
+
+/// Why it isn't known what stands in the places of words.
+#[derive(Debug, Drop)]
+pub enum Unexpanded<'a> {
+    Unread(Unread<'a>),
+    /// The file that the load of this number, from 1, puts into memory doesn't fit there.
+    Load(usize, Misfit),
 }
 
 /// Adds the words of a file of settings.
@@ -54,53 +75,69 @@ fn push_word(alloc: Global, words: &mut Vec<String>, word: &str) -> Result<(), A
 }
 
 /// Adds what stands in the place of a word.
-fn push_words<F: Folder>(
+fn push_words<'a, F: Folder>(
     alloc: Global,
     folder: &F,
     words: &mut Vec<String>,
-    piece: &Piece<'_>,
-) -> Result<(), FileError>
-    ensures { OnOk result ((mine : List Text) × Gives (F.holds folder.now) (text_piece piece.now) mine
+    piece: &Piece<'a>,
+) -> Result<(), Stopped<'a>>
+    ensures ok { OnOk result ((mine : List Text) × Gives (F.holds folder.now) (text_piece piece.now) mine
         × (map string_bytes words.new.items ≡ map string_bytes words.old.items ++ mine)) }
+    ensures stopped { IfErr result (IsStoppedAt (F.holds folder.now) (text_piece piece.now)) }
 {
     match piece {
         Piece::Plain(word) => Ok(push_word(alloc, words, *word)?),
-        Piece::Settings(name) => {
-            let bytes = settings_in(alloc, folder, *name)?;
-            Ok(push_settings(alloc, words, &bytes)?)
-        }
+        Piece::Settings(name) => match settings_in(alloc, folder, *name) {
+            Ok(bytes) => Ok(push_settings(alloc, words, &bytes)?),
+            Err(error) => Err(Stopped::Unread(Unread { name: *name, error })),
+        },
+        Piece::Load(word) => push_load(alloc, folder, words, *word),
         Piece::Input(_) | Piece::Output(_) => Ok(()),
     }
 }
 
-/// The name of the file whose words stand in the place of a word; that of another word is empty.
-fn name_of<'a>(piece: &Piece<'a>) -> &'a str {
-    match piece {
-        Piece::Settings(name) => *name,
-        Piece::Plain(_) | Piece::Input(_) | Piece::Output(_) => "",
+/// What stopped at a word, where that is the load of this number if it is one.
+fn numbered<'a>(number: usize, stopped: Stopped<'a>) -> Unexpanded<'a>
+    ensures { result ≡ numbered number stopped.entry }
+{
+    match stopped {
+        Stopped::Unread(unread) => Unexpanded::Unread(unread),
+        Stopped::Misfit(misfit) => Unexpanded::Load(number, misfit),
     }
 }
 
-/// The words of a call, with those of its files of settings in their places.
+/// How many loads there are with this word, where so many are before it.
+fn loads_with(loads: usize, piece: &Piece<'_>) -> usize
+    requires { loads < 2 ^ 64 - 1 }
+    ensures { result ≡ (if is_load (text_piece piece.now) then loads + 1 else loads) }
+{
+    match piece {
+        Piece::Load(_) => loads + 1,
+        Piece::Plain(_) | Piece::Settings(_) | Piece::Input(_) | Piece::Output(_) => loads,
+    }
+}
+
+/// The words of a call, with those of its files of settings in their places, and with settings for the files that it loads.
 ///
 /// # Errors
 ///
-/// Where such a file can't be read or is longer than [`MOST_SETTINGS`], or memory ran out.
+/// Where such a file can't be read, one of settings is longer than [`MOST_SETTINGS`], one that is loaded doesn't fit, or memory
+/// ran out.
 pub fn expanded<'a, F: Folder>(
     alloc: Global,
     folder: &F,
     pieces: &[Piece<'a>],
-) -> Result<Vec<String>, Unread<'a>>
-    ensures { IfOk result (λ words. Expands (F.holds folder.now) (map text_piece pieces.now) (map string_bytes words.items)) }
+) -> Result<Vec<String>, Unexpanded<'a>>
+    ensures ok { IfOk result (λ words. Expands (F.holds folder.now) (map text_piece pieces.now) (map string_bytes words.items)) }
+    ensures err { IfErr result (IsUnexpanded (F.holds folder.now) (map text_piece pieces.now)) }
 {
     let mut words = Vec::new(alloc);
+    let mut loads = 0;
     for piece in pieces {
-        if let Err(error) = push_words(alloc, folder, &mut words, piece) {
-            return Err(Unread {
-                name: name_of(piece),
-                error,
-            });
+        if let Err(stopped) = push_words(alloc, folder, &mut words, piece) {
+            return Err(numbered(loads + 1, stopped));
         }
+        loads = loads_with(loads, piece);
     }
     Ok(words)
 }

@@ -5,11 +5,13 @@
 mod call;
 mod expand;
 mod folder;
+mod load;
 mod piece;
 mod settings;
 mod wanted;
 
 pub use call::{Call, CallError, Source, call_of};
-pub use expand::{MOST_SETTINGS, Unread, expanded};
+pub use expand::{MOST_SETTINGS, Unexpanded, Unread, expanded};
 pub use folder::{Disk, FileError, Folder};
+pub use load::Misfit;
 pub use piece::Piece;

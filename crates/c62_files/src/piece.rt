@@ -20,6 +20,8 @@ pub enum Piece<'a> {
     Output(&'a str),
     /// Behind `--settings`: the name of a file whose words stand here.
     Settings(&'a str),
+    /// Behind `--load`: `ADDRESS=NAME`, where the bytes of the file of this name are put into memory from this address on.
+    Load(&'a str),
 }
 
 /// What words are, and what the last of them wants of a word that isn't there.
@@ -67,8 +69,9 @@ fn piece_at<'a>(wanted: Wanted, word: &'a str) -> Option<Piece<'a>>
         Wanted::Command | Wanted::Value | Wanted::Help => Some(Piece::Plain(word)),
         Wanted::Output => Some(Piece::Output(word)),
         Wanted::Settings => Some(Piece::Settings(word)),
+        Wanted::Load => Some(Piece::Load(word)),
         Wanted::Nothing => match Wanted::by(word) {
-            Wanted::Output | Wanted::Settings => None,
+            Wanted::Output | Wanted::Settings | Wanted::Load => None,
             Wanted::Value => Some(Piece::Plain(word)),
             Wanted::Command | Wanted::Nothing | Wanted::Help => Some(lone(word)),
         },
@@ -82,7 +85,7 @@ fn wanted_after(wanted: Wanted, word: &str) -> Wanted
     match wanted {
         Wanted::Command => Wanted::by_command(word),
         Wanted::Help => Wanted::Help,
-        Wanted::Value | Wanted::Output | Wanted::Settings => Wanted::Nothing,
+        Wanted::Value | Wanted::Output | Wanted::Settings | Wanted::Load => Wanted::Nothing,
         Wanted::Nothing => Wanted::by(word),
     }
 }

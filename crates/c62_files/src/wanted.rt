@@ -16,6 +16,8 @@ pub enum Wanted {
     Output,
     /// The name of a file of settings: behind `--settings`.
     Settings,
+    /// An address and the name of a file whose bytes are put there: behind `--load`.
+    Load,
     /// A word for the command, and so are all behind it: behind `help`.
     Help,
 }
@@ -40,6 +42,8 @@ impl Wanted {
             Wanted::Output
         } else if word == "--settings" {
             Wanted::Settings
+        } else if word == "--load" {
+            Wanted::Load
         } else if word == "--eject"
             || word == "--blocks"
             || word == "--cycles"
@@ -58,6 +62,7 @@ impl Wanted {
         match self {
             Wanted::Output => Some("-o"),
             Wanted::Settings => Some("--settings"),
+            Wanted::Load => Some("--load"),
             Wanted::Command | Wanted::Nothing | Wanted::Value | Wanted::Help => None,
         }
     }

@@ -1,5 +1,5 @@
 -- What the program does to files and streams (docs/COMMANDS.md, "Files").
-use Rattle.std.specs.Prelude.{◌≡◌, ◌≢◌, ℕ, ◌+◌, ◌==◌, ◌||◌, Bool, true, false, List, [], map, take, codes, Option, Some, None, IfSome, if◌then◌else◌}
+use Rattle.std.specs.Prelude.{◌≡◌, ◌≢◌, ℕ, ◌+◌, ◌==◌, ◌||◌, nat_le, Bool, true, false, List, [], map, take, codes, Option, Some, None, IfSome, if◌then◌else◌}
 use Rattle.std.specs.Io.KnownBytes.{Appends, Keeps}
 use Rattle.std.specs.Borrow.{Bor}
 use Rattle.clap.specs.Words.{Text}
@@ -62,7 +62,7 @@ pub data RunsFrom (holds : Holding) (words : List Text) (source : From) (old new
 
 -- an answer was made: all of it was written
 abbrev pub is_made : ℕ → Bool
-is_made status = status == 0 || status == 5
+is_made status = status == 0 || nat_le 5 status
 
 -- A run whose answer goes to a file. That holds the answer then, where one was made, and else what it held.
 pub record RunsTo (before after : Holding) (words : List Text) (source : From) (target : Text) (old new : Streams) (status : ℕ) : Type 0 where

@@ -58,7 +58,7 @@ impl Folder for Shelf {
 }
 
 /// What stands on the shelf.
-const FILES: [(&str, &[u8]); 9] = [
+const FILES: [(&str, &[u8]); 12] = [
     ("first.s", b"MVK 5,A1\n"),
     ("first.lst", b"   MVK .S1 5,A1\n"),
     ("both", b"MVK 5,A1\n---\n   MVK .S1 5,A1\n"),
@@ -71,6 +71,9 @@ const FILES: [(&str, &[u8]); 9] = [
         b"* A1=9\n A2=3 ; A2=4\nA1=1\t@8=2\r\n; A3=5\n*A3=5\n --blocks\n7",
     ),
     ("bad.set", b"A1=1 *A2=3\n"),
+    ("three", b"\x01\x02\xff"),
+    ("empty", b""),
+    ("fault.lst", b"   LDH .D1T1 *A4,A5\n   NOP 4\n"),
 ];
 
 /// What of the shelf is wanted of the words that write.
@@ -79,7 +82,7 @@ const LISTING: &str = "   MVK .S1 5,A1\n";
 const REPORT: &str = "blocks 1\nexit end\nA1 00000005\nA2 00000003\n";
 
 /// Words, standard input, and the output, what is told and the status.
-const RUNS: [(&[&str], &[u8], &str, &str, u8); 34] = [
+const RUNS: [(&[&str], &[u8], &str, &str, u8); 46] = [
     (&["pack", "--turns", "first.s"], b"FOO", LISTING, "", 0),
     (&["pack", "first.s", "--eject", "3"], b"FOO", LISTING, "", 0),
     (&["pack", "-"], b"MVK 5,A1", LISTING, "", 0),
@@ -242,8 +245,96 @@ const RUNS: [(&[&str], &[u8], &str, &str, u8); 34] = [
         ],
         b"",
         "",
-        "error: the argument '--blocks <N>' cannot be used multiple times\n\nUsage: c62 serial [--blocks <N>] [-o <FILE>] [FILE] [SETTING]...\n\nFor more information, try '--help'.\n",
+        "error: the argument '--blocks <N>' cannot be used multiple times\n\nUsage: c62 serial [--blocks <N>] [--profile] [--strict] [-o <FILE>] [FILE] [SETTING]...\n\nFor more information, try '--help'.\n",
         2,
+    ),
+    // the bytes of a file in memory: they apply in the order of the words, and a later byte stands
+    (
+        &["serial", "-", "@8=-1", "--load", "8=three"],
+        b"",
+        "blocks 0\nexit end\n@0008 ffff0201\n",
+        "",
+        0,
+    ),
+    (
+        &["serial", "-", "--load", "8=three", "@8:h=0"],
+        b"",
+        "blocks 0\nexit end\n@0008 00ff0000\n",
+        "",
+        0,
+    ),
+    (
+        &["serial", "--load", "8=three", "-", "--load", "0x9=three"],
+        b"",
+        "blocks 0\nexit end\n@0008 ff020101\n",
+        "",
+        0,
+    ),
+    (
+        &["serial", "-", "--load", "65533=three"],
+        b"",
+        "blocks 0\nexit end\n@fffc ff020100\n",
+        "",
+        0,
+    ),
+    (
+        &["serial", "-", "--load", "8=empty"],
+        b"",
+        "blocks 0\nexit end\n",
+        "",
+        0,
+    ),
+    (
+        &[
+            "serial",
+            "A1=1",
+            "--load",
+            "65533=three",
+            "--load",
+            "65534=three",
+            "none.s",
+        ],
+        b"",
+        "",
+        "load 2: past the end\n",
+        2,
+    ),
+    (
+        &["serial", "--load", "zz=three", "x"],
+        b"",
+        "",
+        "load 1: bad\n",
+        2,
+    ),
+    (&["serial", "--load", "three"], b"", "", "load 1: bad\n", 2),
+    (
+        &["serial", "--load", "8=none"],
+        b"",
+        "",
+        "cannot read none: entity not found\n",
+        4,
+    ),
+    (
+        &["serial", "--load"],
+        b"",
+        "",
+        "error: --load wants the name of a file behind it\n",
+        2,
+    ),
+    // a report of a strict run, with its status
+    (
+        &["serial", "first.s", "--strict"],
+        b"",
+        "blocks 1\nexit end\nA1 00000005\n",
+        "",
+        0,
+    ),
+    (
+        &["serial", "-", "--strict", "--blocks", "2"],
+        b"L: B L",
+        "blocks 2\nexit limit\n",
+        "",
+        6,
     ),
     (&["--version"], b"", "c62 0.10.0 (rattle-kit-13f)\n", "", 0),
     (&[], b"MVK 5,A1", LISTING, "", 0),
@@ -257,7 +348,7 @@ const RUNS: [(&[&str], &[u8], &str, &str, u8); 34] = [
 ];
 
 /// Words, whether the shelf is full, the file that is looked at, what it holds then, what is told, and the status.
-const WRITES: [(&[&str], bool, &str, &str, &str, u8); 5] = [
+const WRITES: [(&[&str], bool, &str, &str, &str, u8); 6] = [
     (
         &["pack", "first.s", "-o", "old"],
         false,
@@ -289,6 +380,14 @@ const WRITES: [(&[&str], bool, &str, &str, &str, u8); 5] = [
         "what it was",
         "cannot write old: no storage space\n",
         4,
+    ),
+    (
+        &["sim", "A4=1", "fault.lst", "--strict", "-o", "old"],
+        false,
+        "old",
+        "blocks 1\ncycles 5\nexit end\nA4 00000001\nfault 1\n",
+        "",
+        7,
     ),
     (
         &["check", "first.lst", "-o", "old"],

@@ -20,6 +20,7 @@ The text is read from the file that is named, or from standard input where none 
 is `-`. The answer goes to standard output, or to the file behind -o, which is made whole
 or not at all, as in: c62 pack kernel.s -o kernel.lst
 Settings can stand in a file, as in: c62 run kernel.s --settings kernel.settings
+and the bytes of a file in memory, as in: c62 run kernel.s --load 0x100=table.bin
 
 Status, and what standard error says:
   0  done, and nothing is said but how many cycles were added to drain packets
@@ -28,10 +29,11 @@ Status, and what standard error says:
      of packets to be adopted also `line 7: NotDrained`, or `line 7: P5` and the packet rule;
      of packets in flight also `line 7: TwoBranches`, and `from: UnknownTarget`;
      of a check it is `text line 7: BadUnit` or `listing line 7: Shape`, each part counted from 1
-  2  the words are refused, by a text that says why, or `setting 2: bad`
+  2  the words are refused, by a text that says why, or `setting 2: bad`, or `load 2: past the end`
   3  no memory: `memory`
   4  a stream failed: `input` or `output`; or a file: `cannot read NAME: REASON`, `cannot write NAME: REASON`
   5  checked, and not each block is the same: the output tells, and nothing is said
+  6  with --strict, a run ended by its limit; 7, an access faulted: the report tells
 docs/SERIAL_TEXT.md, docs/LISTING.md, docs/ADOPT.md, docs/EXEC.md and docs/CHECK.md tell what each fault is.
 ";
 

@@ -115,7 +115,7 @@ fn run_from<'a, H: AllocGlobal + Threads + Wait + Sync, F: Folder, R: Read, W: W
 fn is_made(status: u8) -> bool
     ensures { result ≡ is_made status }
 {
-    status == 0 || status == 5
+    status == 0 || status >= 5
 }
 
 /// Runs a command whose answer goes to the file of this name.
@@ -159,7 +159,7 @@ fn run_call<'a, H: AllocGlobal + Threads + Wait + Sync, F: Folder, R: Read, W: W
 {
     let words = match expanded(rt.alloc(), folder, &call.words) {
         Ok(words) => words,
-        Err(unread) => return Err(Trouble::of_reading(unread.name, unread.error)),
+        Err(error) => return Err(Trouble::of_words(error)),
     };
     match call.target {
         None => run_from(rt, folder, &words, call.source, input, output, errors),

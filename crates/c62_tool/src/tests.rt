@@ -412,15 +412,17 @@ Options:
         &["run", "--help"],
         "Packs serial text, runs the packets and reports the end
 
-Usage: c62 run [--turns] [--eject <N>] [--blocks <N>] [-o <FILE>] [FILE] [SETTING]...
+Usage: c62 run [--turns] [--eject <N>] [--blocks <N>] [--profile] [--strict] [-o <FILE>] [FILE] [SETTING]...
 
 Arguments:
-  [SETTING]...  REG=NUMBER sets a register, @ADDRESS=NUMBER a word of memory
+  [SETTING]...  REG=NUMBER sets a register, @ADDRESS=NUMBER,.. words of memory; with :h or :b halves or bytes
 
 Options:
       --turns       Packs on one thread, one side after the other
       --eject <N>   Ejects at most N placed instructions of a block, 0 to 1000; 0 where none is given
       --blocks <N>  Runs at most N blocks, 1 to 1000000; 1000 where none is given
+      --profile     Adds a table of how often each block was run, and what it took
+      --strict      Ends with status 7 where an access faults, and else with 6 at the limit
   -h, --help        Print help
 ",
         "c62 run kernel.s A4=8 @8=99",
@@ -429,13 +431,15 @@ Options:
         &["serial", "-h"],
         "Runs serial text, one instruction after the other, and reports the end
 
-Usage: c62 serial [--blocks <N>] [-o <FILE>] [FILE] [SETTING]...
+Usage: c62 serial [--blocks <N>] [--profile] [--strict] [-o <FILE>] [FILE] [SETTING]...
 
 Arguments:
-  [SETTING]...  REG=NUMBER sets a register, @ADDRESS=NUMBER a word of memory
+  [SETTING]...  REG=NUMBER sets a register, @ADDRESS=NUMBER,.. words of memory; with :h or :b halves or bytes
 
 Options:
       --blocks <N>  Runs at most N blocks, 1 to 1000000; 1000 where none is given
+      --profile     Adds a table of how often each block was run, and what it took
+      --strict      Ends with status 7 where an access faults, and else with 6 at the limit
   -h, --help        Print help
 ",
         "c62 serial kernel.s A4=8 @8=99",
@@ -444,13 +448,15 @@ Options:
         &["sim", "-h"],
         "Reads a listing, runs its packets and reports the end
 
-Usage: c62 sim [--blocks <N>] [-o <FILE>] [FILE] [SETTING]...
+Usage: c62 sim [--blocks <N>] [--profile] [--strict] [-o <FILE>] [FILE] [SETTING]...
 
 Arguments:
-  [SETTING]...  REG=NUMBER sets a register, @ADDRESS=NUMBER a word of memory
+  [SETTING]...  REG=NUMBER sets a register, @ADDRESS=NUMBER,.. words of memory; with :h or :b halves or bytes
 
 Options:
       --blocks <N>  Runs at most N blocks, 1 to 1000000; 1000 where none is given
+      --profile     Adds a table of how often each block was run, and what it took
+      --strict      Ends with status 7 where an access faults, and else with 6 at the limit
   -h, --help        Print help
 ",
         "c62 sim kernel.lst A4=8 @8=99",

@@ -2,10 +2,11 @@
 
 ghost use Rattle.std.specs.Prelude.{◌≡◌};
 ghost use Rattle.c62_answer.specs.Message.{told_of};
-ghost use Rattle.c62_tool.specs.Trouble.{call_message, status_of};
+ghost use Rattle.c62_tool.specs.Trouble.{IsTroubleOf, call_message, load_message, reason_of, status_of};
 
 use c62_answer::{Refused, show, write_pieces, write_whole};
-use c62_files::{CallError, FileError};
+use c62_files::{CallError, FileError, Misfit, Unexpanded};
+use itoa::Buffer;
 use std::alloc::AllocError;
 use std::io;
 use std::io::Write;
@@ -19,6 +20,8 @@ pub enum Trouble<'a> {
     Unread(&'a str, io::Error),
     /// The file of this name can't be written.
     Unwritten(&'a str, io::Error),
+    /// The file that the load of this number, from 1, puts into memory doesn't fit there.
+    NoLoad(usize, Misfit),
     /// Standard input can't be read.
     Input,
     /// Memory ran out.
@@ -48,13 +51,23 @@ impl<'a> Trouble<'a> {
         }
     }
 
+    /// Why it isn't known what stands in the places of words.
+    pub fn of_words(error: Unexpanded<'a>) -> Trouble<'a>
+        ensures { IsTroubleOf error.entry result }
+    {
+        match error {
+            Unexpanded::Unread(unread) => Trouble::of_reading(unread.name, unread.error),
+            Unexpanded::Load(number, misfit) => Trouble::NoLoad(number, misfit),
+        }
+    }
+
     /// The status that the program ends with.
     pub fn status(&self) -> u8
         ensures { result ≡ status_of self.now }
     {
         match self {
             Trouble::NoCall(CallError::Memory) | Trouble::Memory => 3,
-            Trouble::NoCall(_) => 2,
+            Trouble::NoCall(_) | Trouble::NoLoad(_, _) => 2,
             Trouble::Unread(_, _) | Trouble::Unwritten(_, _) | Trouble::Input => 4,
         }
     }
@@ -89,6 +102,33 @@ fn tell_call<E: Write>(errors: &mut E, error: &CallError<'_>) -> Result<(), Refu
     }
 }
 
+/// Why a file isn't put into memory.
+fn reason_of(misfit: Misfit) -> &'static str
+    ensures { result.now ≡ reason_of misfit }
+{
+    match misfit {
+        Misfit::Bad => "bad",
+        Misfit::PastEnd => "past the end",
+    }
+}
+
+/// Prints that the file of a load doesn't fit.
+fn print_load<E: Write>(errors: &mut E, number: usize, misfit: Misfit) -> Result<(), Refused>
+    ensures { told_of result (E.contents errors.old) (E.contents errors.new) (load_message number misfit) }
+{
+    let mut buffer = Buffer::new();
+    write_pieces(
+        errors,
+        &[
+            "load ",
+            buffer.format(number),
+            ": ",
+            reason_of(misfit),
+            "\n",
+        ],
+    )
+}
+
 /// Tells `cannot read NAME: REASON`, or what else can't be done with the file.
 fn tell_file<E: Write>(
     errors: &mut E,
@@ -111,6 +151,7 @@ pub fn report<E: Write>(errors: &mut E, trouble: &Trouble<'_>) -> Result<(), Ref
         Trouble::NoCall(error) => tell_call(errors, error),
         Trouble::Unread(name, error) => tell_file(errors, "cannot read ", *name, error),
         Trouble::Unwritten(name, error) => tell_file(errors, "cannot write ", *name, error),
+        Trouble::NoLoad(number, misfit) => print_load(errors, *number, *misfit),
         Trouble::Input => write_whole(errors, b"input\n"),
         Trouble::Memory => write_whole(errors, b"memory\n"),
     }

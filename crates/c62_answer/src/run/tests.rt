@@ -4,7 +4,7 @@ use crate::tool::run_on_bytes;
 use std::test::Fail;
 
 /// Words, a text, and the report.
-const REPORTED: [(&[&str], &[u8], &str); 15] = [
+const REPORTED: [(&[&str], &[u8], &str); 23] = [
     (&["serial"], b"", "blocks 0\nexit end\n"),
     (
         &["serial", "A4=1"],
@@ -82,6 +82,48 @@ const REPORTED: [(&[&str], &[u8], &str); 15] = [
         &["serial", "B4=16", "@16=0x8899aabb"],
         b"LDBU *B4,B5\nLDH *+B4[1],A5\nSTB B5,*+B4[6]\nSTH A5,*+B4[4]",
         "blocks 1\nexit end\nA5 ffff8899\nB4 00000010\nB5 000000bb\n@0010 8899aabb\n@0014 00bb0000\n@0018 00008899\n",
+    ),
+    // halves and bytes, one behind the other
+    (
+        &["serial", "@8:h=1,-1", "@65535:b=0x1ff"],
+        b"",
+        "blocks 0\nexit end\n@0008 ffff0001\n@fffc ff000000\n",
+    ),
+    (
+        &["serial", "@0x8=1,2", "@9:b=7"],
+        b"",
+        "blocks 0\nexit end\n@0008 00000701\n@000c 00000002\n",
+    ),
+    // tables
+    (
+        &["serial", "--profile", "A1=3"],
+        b"MVK 7,A2\nL1: SUB A1,1,A1\n[A1] B L1\n",
+        "blocks 4\nexit end\nA2 00000007\nblock runs instructions sum share\n0 1 1 1 14.2%\nL1 3 2 6 85.7%\n",
+    ),
+    (
+        &["run", "--turns", "--profile", "A1=3"],
+        b"L1: SUB A1,1,A1\n[A1] B L1\nMVK 7,A2\n",
+        "blocks 4\ncycles 22\nexit end\nA2 00000007\nblock runs cycles sum share\nL1 3 7 21 95.4%\n1 1 1 1 4.5%\n",
+    ),
+    (
+        &["run", "--turns", "--profile", "--blocks", "1", "A1=3"],
+        b"L1: SUB A1,1,A1\n[A1] B L1\nMVK 7,A2\n",
+        "blocks 1\ncycles 7\nexit limit\nA1 00000002\nblock runs cycles sum share\nL1 1 7 7 100.0%\n1 0 1 0 0.0%\n",
+    ),
+    (
+        &["sim", "--profile"],
+        b"   MVK .S1 5,A1\n   NOP 2\n\nL:\n   B .S2 B3\n   NOP 5\n",
+        "blocks 2\ncycles 9\nexit register 00000000\nA1 00000005\nblock runs cycles sum share\n0 1 3 3 33.3%\nL 1 6 6 66.6%\n",
+    ),
+    (
+        &["sim", "--profile"],
+        b"",
+        "blocks 0\ncycles 0\nexit end\nblock runs cycles sum share\n",
+    ),
+    (
+        &["run", "--strict", "B3=8"],
+        b"B B3",
+        "blocks 1\ncycles 6\nexit register 00000008\nB3 00000008\n",
     ),
 ];
 
@@ -204,7 +246,7 @@ const NO_LISTING: [(&[u8], &str); 7] = [
 ];
 
 /// Words with a bad setting, and its number.
-const BAD_SETTINGS: [(&[&str], usize); 14] = [
+const BAD_SETTINGS: [(&[&str], usize); 23] = [
     (&["serial", "@6=1"], 1),
     (&["serial", "A16=1"], 1),
     (&["serial", "A1=5", "x"], 2),
@@ -219,6 +261,16 @@ const BAD_SETTINGS: [(&[&str], usize); 14] = [
     (&["serial", "--blocks", "5", "B1=0", "A1=010", "x"], 2),
     (&["serial", "@08=1"], 1),
     (&["run", "--turns", "A1=0X5"], 1),
+    // lists that reach past the end, and what is no list
+    (&["serial", "A1=1", "@65532=1,2"], 2),
+    (&["serial", "@65535:h=1"], 1),
+    (&["serial", "@65535:b=1,2"], 1),
+    (&["serial", "@7:h=1"], 1),
+    (&["serial", "@8=1,"], 1),
+    (&["serial", "@8=,1"], 1),
+    (&["serial", "@8:w=1"], 1),
+    (&["serial", "@8:=1"], 1),
+    (&["serial", "A1=1,2"], 1),
 ];
 
 #[test]
@@ -228,6 +280,46 @@ fn reports(rt: HostRuntime) -> Result<(), Fail> {
         assert_eq!(rt; ran.errors.as_slice(), b"".as_slice());
         assert_eq!(rt; ran.output.as_slice(), report.as_bytes());
         assert_eq!(rt; ran.status, 0);
+    }
+    Ok(())
+}
+
+/// Words of strict runs, a text, and the status.
+const STRICT: [(&[&str], &[u8], u8); 9] = [
+    (&["serial", "--strict"], b"L: B L", 6),
+    (&["serial"], b"L: B L", 0),
+    (&["serial", "--strict", "A4=1"], b"LDH *A4,A5", 7),
+    (&["serial", "A4=1"], b"LDH *A4,A5", 0),
+    (
+        &["run", "--turns", "--strict", "--blocks", "3", "A4=0x10000"],
+        b"L: STB A1,*A4\nB L",
+        7,
+    ),
+    (
+        &["sim", "--strict", "--profile", "--blocks", "1"],
+        b"L:\n   B .S1 L\n   NOP 5\n",
+        6,
+    ),
+    (
+        &["exec", "--strict", "--cycles", "7"],
+        b"L: B .S1 L\n NOP 5\n",
+        6,
+    ),
+    (&["exec", "--strict", "A4=2"], b"LDW .D1 *A4,A5\n", 7),
+    (
+        &["exec", "--strict", "A1=3"],
+        b"MPY .M1 A1,A1,A2\n MVK .S1 5,A2\n NOP 9\n",
+        0,
+    ),
+];
+
+#[test]
+fn strict_runs(rt: HostRuntime) -> Result<(), Fail> {
+    for (words, text, status) in &STRICT {
+        let ran = run_on_bytes(&rt, *words, text);
+        assert_eq!(rt; ran.status, *status);
+        assert!(rt; ran.errors.is_empty());
+        assert!(rt; ran.output.starts_with(b"blocks ") || ran.output.starts_with(b"cycles "));
     }
     Ok(())
 }

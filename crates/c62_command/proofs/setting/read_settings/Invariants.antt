@@ -1,7 +1,7 @@
-use Rattle.std.proofs.Common.{◌≡◌, length, take, map, Some}
+use Rattle.std.proofs.Common.{◌≡◌, take, map, Some}
 use Rattle.c62_command.specs.Settings.{settings_of}
 use Rattle.c62_command.proofs.setting.read_settings.Given as goal
 
 abbrev pub invariant-loop-text : goal.invariant-loop-text
 invariant-loop-text l =
-    (settings_of (take l.text-index (map (λ text. text.now) l.texts)) ≡ Some l.settings.items) × (length l.settings.items ≡ l.text-index)
+    (settings_of (take l.text-index (map (λ text. text.now) l.texts)) ≡ Some l.settings.items) × (l.number ≡ l.text-index)
