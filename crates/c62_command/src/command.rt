@@ -332,7 +332,9 @@ fn show_command<'a>(alloc: Global) -> Result<Command<'a>, AllocError>
 {
     let command = Command::new(alloc, "show")
         .about("Packs serial text and shows each block's schedule, and how short one can be")
-        .override_usage("c62 show [--why] [--registers] [--turns] [--eject <N>] [-o <FILE>] [FILE]\n       c62 show --listing|--packets [--why] [--registers] [-o <FILE>] [FILE]")
+        .override_usage(
+            "c62 show [--why] [--registers] [--turns] [--eject <N>] [-o <FILE>] [FILE]\n       c62 show --listing|--packets [--why] [--registers] [-o <FILE>] [FILE]",
+        )
         .after_help(ending!("c62 show --why kernel.s"));
     with_forms(alloc, with_packing(alloc, command)?)?
         .arg(why_flag(alloc))?

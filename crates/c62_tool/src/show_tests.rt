@@ -334,7 +334,11 @@ const REFUSED: [(&[&str], &[u8], &str); 4] = [
         b"   LDW .D1T1 *A4,A5\n",
         "block 0: NotDrained\n",
     ),
-    (&["show", "--packets"], b" FOO\n", "line 1: UnknownMnemonic\n"),
+    (
+        &["show", "--packets"],
+        b" FOO\n",
+        "line 1: UnknownMnemonic\n",
+    ),
     (
         &["show", "--packets"],
         b" MVK .S1 1,A1\n || MVK .S1 2,A2\n",
