@@ -42,9 +42,10 @@ use Rattle.c62_show.specs.declared.shown.Shown.{Shown}
 use Rattle.c62_show.specs.Picture.{picture}
 use Rattle.c62_answer.specs.Bounds.{AreBounded}
 use Rattle.c62_answer.specs.Schedule.{AreScheduled, AreShown}
+use Rattle.c62_answer.specs.Standing.{IsShownListing, IsShownPackets}
 use Rattle.c62_report.specs.Report.{serial_report, packet_report}
 use Rattle.c62_report.specs.Flight.{flight_report}
-use Rattle.c62_command.specs.CommandLine.{Ask, Listing, Picture, SerialReport, PacketReport, ListingReport, FlightReport, Adoption, Verdicts, IsRefusal, IsUnknown, HasBadSetting, asked}
+use Rattle.c62_command.specs.CommandLine.{Ask, Listing, Picture, ListingPicture, PacketsPicture, SerialReport, PacketReport, ListingReport, FlightReport, Adoption, Verdicts, IsRefusal, IsUnknown, HasBadSetting, asked}
 use Rattle.c62_answer.specs.Message.{adopt_message, fault_message, list_message, rows_message, no_listing, of_listing, of_text, setting_message, IsFront, IsToldOf, Telling, Tells, TellsOf, TellsOutcome}
 use Rattle.c62_answer.specs.Texts.{SaysProgram, IsNoProgram, IsNoListing, IsNoPackets, IsNoFlight}
 use Rattle.c62_answer.specs.Check.{IsCheck, IsNoCheck}
@@ -110,6 +111,8 @@ BeginsAll limit all text = IfSome all (λ bytes. text ≡ take (limit + 1) bytes
 -- `---` between them, or of serial text
 abbrev pub limit_of : Ask → ℕ
 limit_of (ListingReport blocks settings) = most_listing_bytes
+limit_of (ListingPicture showing) = most_listing_bytes
+limit_of (PacketsPicture showing) = most_packets_bytes
 limit_of (FlightReport cycles from settings) = most_packets_bytes
 limit_of (Adoption drain) = most_packets_bytes
 limit_of Verdicts = most_bytes + 5 + most_listing_bytes
@@ -237,6 +240,8 @@ outcome_of false = NotSame
 abbrev pub IsAnswer : Ask → Outcome → List ℕ → List ℕ → Type 0
 IsAnswer (Listing packing) Done text answer = IsPackedText packing text answer
 IsAnswer (Picture showing) Done text answer = IsShownText showing text answer
+IsAnswer (ListingPicture showing) Done text answer = IsShownListing showing text answer
+IsAnswer (PacketsPicture showing) Done text answer = IsShownPackets showing text answer
 IsAnswer (SerialReport blocks settings) Done text answer = IsSerialReport settings blocks text answer
 IsAnswer (PacketReport packing blocks settings) Done text answer = IsRunReport packing settings blocks text answer
 IsAnswer (ListingReport blocks settings) Done text answer = IsListingReport settings blocks text answer
@@ -252,6 +257,8 @@ IsAnswer _ _ text answer = ⊥
 -- the text says nothing that could be answered, and the message tells its fault
 abbrev pub IsRefusedText : Ask → List ℕ → List ℕ → Type 0
 IsRefusedText (ListingReport blocks settings) text message = IsNoListing text message
+IsRefusedText (ListingPicture showing) text message = IsNoListing text message
+IsRefusedText (PacketsPicture showing) text message = IsNoPackets false text message
 IsRefusedText (FlightReport most from settings) text message = IsNoFlight from text message
 IsRefusedText (Adoption drain) text message = IsNoPackets drain text message
 IsRefusedText Verdicts text message = IsNoCheck text message

@@ -1,25 +1,27 @@
 -- What the head of a block says.
 use Rattle.std.proofs.Common.{◌≡◌, ◌∙◌, ℕ, zero, suc, ◌+◌, ◌-◌, ◌^◌, ◌<◌, ◌≤◌, ◌==◌, Bool, true, false, List, [], ◌∷◌, ◌++◌, map, Option, Some, None, refl, sym, ap, subst, max, arith, cond, get_or}
-use Rattle.std.specs.Prelude.{decimal}
+use Rattle.std.specs.Prelude.{decimal, IfSome, option_map}
 use Rattle.std.specs.Int.Digits.{AllBelowBase, digits_of}
 use Rattle.std.proofs.lemmas.Int.Digits.{all_below_base_digits_of}
 use Rattle.std.proofs.lemmas.Fmt.{decimal_digit, decimal-digits_of}
 use Rattle.std.proofs.lemmas.Bool.Decides.{nat_tests}
 use Rattle.c62_insn.specs.declared.insn.Insn.{Insn}
 use Rattle.c62_read.specs.Block.{Serial}
-use Rattle.c62_depend.specs.Plan.{insns_of}
+use Rattle.c62_depend.specs.Plan.{insns_of, IsPlan}
+use Rattle.c62_sheet.specs.Lawful.{Spots}
 use Rattle.c62_sheet.specs.Counts.{set_length}
 use Rattle.c62_bound.specs.declared.need.Need.{Need}
 use Rattle.c62_bound.specs.Bound.{FindsNeed}
 use Rattle.c62_bound.specs.Path.{IsPathLength}
 use Rattle.c62_bound.specs.Length.{IsLeastLength}
+use Rattle.c62_bound.specs.Laws.{IsSeated}
 use Rattle.c62_bound.proofs.Lengths.{least_with, least_without}
 use Rattle.c62_bound.proofs.Needs.{no_seating_shorter}
 use Rattle.c62_bound.proofs.Seated.{schedules_seated}
 use Rattle.c62_show.specs.declared.limits.Limits.{Limits}
 use Rattle.c62_show.specs.declared.shown.Shown.{Shown}
-use Rattle.c62_show.specs.Limits.{least_of, needed}
-use Rattle.c62_show.specs.Head.{none_is_shorter, over_bound, verdict}
+use Rattle.c62_show.specs.Limits.{AreLimits, least_of, needed}
+use Rattle.c62_show.specs.Head.{none_is_shorter, over_bound, verdict, verdict_by}
 use Rattle.c62_show.specs.Laws.{HeadIsTrue, HeadIsTrueOfSchedules, BoundIsLeastLength}
 
 -- ---- the bound
@@ -63,17 +65,24 @@ unfolding over_bound
 space_first least = refl
 
 -- a head that tells by how much a block is longer doesn't say that none is shorter
-tells_none : (cycles least : ℕ) → cycles ≤ 2048 → verdict cycles least ≡ none_is_shorter → cycles ≡ least
+tells_none : (cycles least : ℕ) → cycles ≤ 2048 → verdict_by cycles least ≡ none_is_shorter → cycles ≡ least
 tells_none cycles least small e = told (cycles == least) cycles least (over_bound least) refl small (space_first least) e
+
+least_bounds : (block : Serial) (limits : Option Limits) (set : Spots) (cycles : ℕ) → IfSome limits (AreLimits block) → IsPlan (insns_of block)
+    → IsSeated (insns_of block) set cycles → IfSome limits (λ known. least_of known ≤ cycles)
+least_bounds block None set cycles are plan seated = tt
+least_bounds block (Some limits) set cycles are plan seated =
+    (no_seating_shorter (insns_of block) set cycles plan seated).least (least_of limits) (bound_is_least block limits are)
+
+none_by : (limits : Option Limits) (own cycles : ℕ) → own ≤ 2048 → IfSome limits (λ known. least_of known ≤ cycles)
+    → verdict own (option_map least_of limits) ≡ none_is_shorter → own ≤ cycles
+none_by None own cycles short bound e = let first : 116 ≡ 110 = ap (λ (word : List ℕ). get_or word 0 0) e in absurd (omega (arith, first))
+none_by (Some limits) own cycles short bound e = let same = tells_none own (least_of limits) short e in omega (arith, same, bound)
 
 pub head_is_true : (block : Serial) (shown : Shown) → HeadIsTrue block shown
 head_is_true block shown set cycles sound are plan seated =
-    let holds = no_seating_shorter (insns_of block) set cycles plan seated in
-    let bound : least_of shown.limits ≤ cycles = holds.least (least_of shown.limits) (bound_is_least block shown.limits are) in
-    record {
-      bound = bound;
-      none = λ e. let same = tells_none shown.packets.cycles (least_of shown.limits) sound.short e in omega (arith, same, bound);
-    }
+    let bound = least_bounds block shown.limits set cycles are plan seated in
+    record { bound = bound; none = none_by shown.limits shown.packets.cycles cycles sound.short bound }
 
 pub head_is_true_of_schedules : (block : Serial) (shown : Shown) → HeadIsTrueOfSchedules block shown
 head_is_true_of_schedules block shown set sound are plan lawful complete =
