@@ -8,7 +8,8 @@ use Rattle.c62_sheet.specs.Counts.{set_length}
 use Rattle.c62_packet.specs.declared.placed.Placed.{Placed}
 use Rattle.c62_packet.specs.Packed.{Packed, IsInListingOrder, IsPacketBlock}
 use Rattle.c62_bound.specs.Length.{IsLeastLength}
-use Rattle.c62_bound.specs.Laws.{IsSeated}
+use Rattle.c62_raised.specs.Raised.{IsRaisedLength}
+use Rattle.c62_raised.specs.Laws.{IsSeatedAcross}
 use Rattle.c62_show.specs.declared.limits.Limits.{Limits}
 use Rattle.c62_show.specs.declared.shown.Shown.{Shown}
 use Rattle.c62_show.specs.Limits.{AreLimits, least_of}
@@ -23,11 +24,11 @@ pub record IsNoShorter (shown : Shown) (cycles : ℕ) : Type 0 where
   pub bound : IfSome shown.limits (λ limits. least_of limits ≤ cycles)
   pub none : verdict shown.packets.cycles (option_map least_of shown.limits) ≡ none_is_shorter → shown.packets.cycles ≤ cycles
 
--- this holds of all in which each instruction has a cycle and a unit that takes it, on whichever side: so of all packets that
--- `check` calls the same as the block
+-- this holds of all in which each instruction has a cycle and a unit that takes it, on whichever side, and no two go over one
+-- cross path in a cycle: so of all packets that `check` calls the same as the block
 abbrev pub HeadIsTrue : Serial → Shown → Type 0
 HeadIsTrue block shown =
-    (set : Spots) (cycles : ℕ) → IsPacketBlock shown.packets → IfSome shown.limits (AreLimits block) → IsPlan (insns_of block) → IsSeated (insns_of block) set cycles
+    (set : Spots) (cycles : ℕ) → IsPacketBlock shown.packets → IfSome shown.limits (AreLimits block) → IsPlan (insns_of block) → IsSeatedAcross (insns_of block) set cycles
     → IsNoShorter shown cycles
 
 -- and of every lawful schedule that places all
@@ -36,9 +37,11 @@ HeadIsTrueOfSchedules block shown =
     (set : Spots) → IsPacketBlock shown.packets → IfSome shown.limits (AreLimits block) → IsPlan (insns_of block) → IsLawful (insns_of block) set
     → IsComplete (insns_of block) set → IsNoShorter shown (set_length (insns_of block) set)
 
--- the bound that is told of a block is its least length
-abbrev pub BoundIsLeastLength : Serial → Limits → Type 0
-BoundIsLeastLength block limits = AreLimits block limits → IsLeastLength (insns_of block) (least_of limits)
+-- the bound that is told of a block is its raised bound, and at least its least length
+abbrev pub BoundIsRaised : Serial → Limits → Type 0
+BoundIsRaised block limits =
+    AreLimits block limits
+    → IsRaisedLength (insns_of block) (least_of limits) × ((least : ℕ) → IsLeastLength (insns_of block) least → least ≤ least_of limits)
 
 -- from a cycle in which nothing is issued, nothing is issued before the next cycle of which the row tells
 abbrev pub IsIdleUntil : List Placed → ℕ → ℕ → Type 0

@@ -63,12 +63,12 @@ cycle   .L1    .S1    .M1    .D1    .L2    .S2    .M2    .D2    1X   2X   T1   T
 End_1: no instruction
 ",
     ),
-    // one cross path, which no need counts
+    // One cross path, for which both wait: so the bound is above the path, which no need reaches.
     (
         &["show", "--turns"],
         b"ADD A1,B1,A2\nSUB A3,B3,A4",
         "\
-block 0: 2 instructions in 2 cycles; 1 over the bound of 1
+block 0: 2 instructions in 2 cycles; no schedule is shorter
    path     1: line 1
 cycle   .L1    .S1    .M1    .D1    .L2    .S2    .M2    .D2    1X   2X   T1   T2 lands
     0 1*ADD    .      .      .      .      .      .      .       1    .    .    .
