@@ -24,7 +24,7 @@ use Rattle.c62_answer.specs.declared.outcome.Outcome.{Outcome}
 use Rattle.c62_answer.specs.declared.outcome.Outcome.TheVariants.{Done, Drained, NotSame, Breached}
 use Rattle.c62_answer.specs.declared.outcome.Breach.TheVariants as breach
 use Rattle.c62_answer.specs.declared.outcome.Reply.{Reply}
-use Rattle.c62_answer.specs.Texts.{IsNoPackets, IsNoProgram}
+use Rattle.c62_answer.specs.Texts.{IsNoListing, IsNoPackets, IsNoProgram}
 use Rattle.c62_answer.specs.Check.{IsCheck, IsNoCheck}
 use Rattle.c62_answer.proofs.Telling.{whole_told}
 use Rattle.c62_answer.proofs.Checks.{check_all, no_check_all, read_same, refuses_same, too_long, too_long_listing}
