@@ -112,8 +112,8 @@ const REPORTED: [(&[&str], &[u8], &str); 23] = [
     ),
     (
         &["sim", "--profile"],
-        b"   MVK .S1 5,A1\n   NOP 2\n\nL:\n   B .S2 B3\n   NOP 5\n",
-        "blocks 2\ncycles 9\nexit register 00000000\nA1 00000005\nblock runs cycles sum share\n0 1 3 3 33.3%\nL 1 6 6 66.6%\n",
+        b"   MVK .S1 5,A1\n\nL:\n   B .S2 B3\n   NOP 5\n",
+        "blocks 2\ncycles 7\nexit register 00000000\nA1 00000005\nblock runs cycles sum share\n0 1 1 1 14.2%\nL 1 6 6 85.7%\n",
     ),
     (
         &["sim", "--profile"],
