@@ -16,11 +16,12 @@ use Rattle.c62_rows.specs.Told.{BeginsAs}
 use Rattle.c62_command.specs.declared.setting.Setting.{Setting}
 use Rattle.c62_command.specs.declared.command.Course.{Course}
 use Rattle.c62_command.specs.declared.command.Packing.{Packing}
+use Rattle.c62_command.specs.declared.command.Showing.{Showing}
 use Rattle.c62_answer.specs.declared.outcome.Outcome.{Outcome}
 use Rattle.c62_answer.specs.declared.failure.Failure.{Failure}
 use Rattle.c62_answer.specs.declared.failure.Failure.TheVariants as failures
 use Rattle.c62_answer.specs.Message.{fault_message}
-use Rattle.c62_command.specs.CommandLine.{Adoption, Ask, FlightReport, ListingReport}
+use Rattle.c62_command.specs.CommandLine.{Adoption, Ask, FlightReport, ListingPicture, ListingReport, PacketsPicture}
 use Rattle.c62_answer.specs.Schedule.{AreScheduled}
 use Rattle.c62_answer.specs.Texts.{IsNoProgram}
 use Rattle.c62_answer.specs.Run.{Gives, GivesProgram, GivesPackets, IsAdoptFailure, IsRowsFailure, IsAnswer, IsFlightReport, IsFlown, IsPacketReport, IsRefusedText, IsSameReport, outcome_adopted}
@@ -41,6 +42,21 @@ module _ (ask : Ask) (text : List ℕ) where
   no_program same failures.Memory gives = tt
   no_program same failures.Input gives = absurd gives
   no_program same failures.Output gives = absurd gives
+
+-- where a listing was not read, that is the answer
+pub no_picture : (showing : Showing) (text : List ℕ) (f : Failure) → GivesPackets text (Err f) → Gives (ListingPicture showing) text (Err f)
+no_picture showing text (failures.Unread fault) gives = absurd gives
+no_picture showing text (failures.Unlisted fault) gives = gives
+no_picture showing text (failures.Unadopted fault) gives = absurd gives
+no_picture showing text (failures.Unflown fault) gives = absurd gives
+no_picture showing text (failures.TextPart fault) gives = absurd gives
+no_picture showing text (failures.ListingPart fault) gives = absurd gives
+no_picture showing text failures.NoListing gives = absurd gives
+no_picture showing text (failures.Words e) gives = absurd gives
+no_picture showing text (failures.Setting k) gives = absurd gives
+no_picture showing text failures.Memory gives = tt
+no_picture showing text failures.Input gives = absurd gives
+no_picture showing text failures.Output gives = absurd gives
 
 pub no_packets : (course : Course) (settings : List Setting) (text : List ℕ) (f : Failure) → GivesPackets text (Err f) → Gives (ListingReport course settings) text (Err f)
 no_packets course settings text (failures.Unread fault) gives = absurd gives
@@ -71,6 +87,12 @@ pub no_adoption : (drain : Bool) (text : List ℕ) (fault : AdoptFault) (f : Fai
     → Gives (Adoption drain) text (Err f)
 no_adoption drain text fault f (inl memory) refused = rw (memory.1) tt
 no_adoption drain text fault f (inr known) refused = rw (known.1) (record { fault = fault; known = known.0; refused = refused; told = refl })
+
+-- where it makes none, there is no picture of them
+pub no_packets_picture : (showing : Showing) (text : List ℕ) (fault : AdoptFault) (f : Failure) → IsAdoptFailure fault f → Refuses false text fault
+    → Gives (PacketsPicture showing) text (Err f)
+no_packets_picture showing text fault f (inl memory) refused = rw (memory.1) tt
+no_packets_picture showing text fault f (inr known) refused = rw (known.1) (record { fault = fault; known = known.0; refused = refused; told = refl })
 
 -- where it does, this is
 pub adopted_text : (drain : Bool) (text answer : List ℕ) (packets : List Packed) (added : ℕ) → DrainsNothing text packets

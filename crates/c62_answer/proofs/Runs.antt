@@ -16,7 +16,7 @@ use Rattle.c62_answer.specs.Run.{AsksInVain, AsksNothing, BeginsAnswer, Blames, 
 use Rattle.c62_command.specs.declared.command.CommandError.{CommandError}
 use Rattle.c62_command.specs.declared.command.CommandError.TheVariants as command
 use Rattle.c62_answer.proofs.Flights.{flight_all, no_flight_all}
-use Rattle.c62_command.specs.CommandLine.{Adoption, Ask, FlightReport, HasBadSetting, IsRefusal, IsUnknown, Listing, ListingReport, PacketReport, Picture, SerialReport, Verdicts, asked}
+use Rattle.c62_command.specs.CommandLine.{Adoption, Ask, FlightReport, HasBadSetting, IsRefusal, IsUnknown, Listing, ListingPicture, ListingReport, PacketReport, PacketsPicture, Picture, SerialReport, Verdicts, asked}
 use Rattle.clap.specs.Words.{Text}
 use Rattle.c62_answer.specs.declared.failure.Failure.{Failure}
 use Rattle.c62_answer.specs.declared.failure.Failure.TheVariants as failures
@@ -24,7 +24,7 @@ use Rattle.c62_answer.specs.declared.outcome.Outcome.{Outcome}
 use Rattle.c62_answer.specs.declared.outcome.Outcome.TheVariants.{Done, Drained, NotSame, Breached}
 use Rattle.c62_answer.specs.declared.outcome.Breach.TheVariants as breach
 use Rattle.c62_answer.specs.declared.outcome.Reply.{Reply}
-use Rattle.c62_answer.specs.Texts.{IsNoPackets, IsNoProgram}
+use Rattle.c62_answer.specs.Texts.{IsNoListing, IsNoPackets, IsNoProgram}
 use Rattle.c62_answer.specs.Check.{IsCheck, IsNoCheck}
 use Rattle.c62_answer.proofs.Telling.{whole_told}
 use Rattle.c62_answer.proofs.Checks.{check_all, no_check_all, read_same, refuses_same, too_long, too_long_listing}
@@ -87,6 +87,16 @@ answered (Picture showing) Done all text answer read is = record {
   bounded = is.bounded;
   drawn = is.drawn;
 }
+answered (ListingPicture showing) Done all text answer read is = record {
+  packets = is.packets;
+  read = read_same text all is.packets (listed_all all text read) is.read;
+  drawn = is.drawn;
+}
+answered (PacketsPicture showing) Done all text answer read is = record {
+  packets = is.packets;
+  adopted = adopted_same false text all is.packets 0 (code_all all text read) is.adopted;
+  drawn = is.drawn;
+}
 answered (SerialReport course settings) outcome all text answer read is = record {
   program = is.program;
   says = sym (program_all all text read) ∙ is.says;
@@ -113,6 +123,10 @@ answered (Listing packing) (Drained added) all text answer read is = absurd is
 answered (Listing packing) NotSame all text answer read is = absurd is
 answered (Picture showing) (Drained added) all text answer read is = absurd is
 answered (Picture showing) NotSame all text answer read is = absurd is
+answered (ListingPicture showing) (Drained added) all text answer read is = absurd is
+answered (ListingPicture showing) NotSame all text answer read is = absurd is
+answered (PacketsPicture showing) (Drained added) all text answer read is = absurd is
+answered (PacketsPicture showing) NotSame all text answer read is = absurd is
 answered (Adoption false) (Drained added) all text answer read is = absurd is
 answered (Adoption false) NotSame all text answer read is = absurd is
 answered (Adoption true) Done all text answer read is = absurd is
@@ -120,6 +134,8 @@ answered (Adoption true) NotSame all text answer read is = absurd is
 answered Verdicts (Drained added) all text answer read is = absurd is
 answered (Listing packing) (Breached breach) all text answer read is = absurd is
 answered (Picture showing) (Breached breach) all text answer read is = absurd is
+answered (ListingPicture showing) (Breached breach) all text answer read is = absurd is
+answered (PacketsPicture showing) (Breached breach) all text answer read is = absurd is
 answered (Adoption false) (Breached breach) all text answer read is = absurd is
 answered (Adoption true) (Breached breach) all text answer read is = absurd is
 answered Verdicts (Breached breach) all text answer read is = absurd is
@@ -170,17 +186,22 @@ no_program_all : (all text message : List ℕ) → text ≡ take 1048577 all →
 no_program_all all text message read is =
     subst (λ (p : Result (List BlockParts) Refusal). IsErrAnd p (λ fault. message ≡ fault_message fault.0 fault.1)) (program_all all text read) is
 
-refused_all : (ask : Ask) (all text message : List ℕ) → text ≡ take (limit_of ask + 1) all → IsRefusedText ask text message → IsRefusedText ask all message
-refused_all (Listing packing) all text message read is = no_program_all all text message read is
-refused_all (Picture showing) all text message read is = no_program_all all text message read is
-refused_all (SerialReport course settings) all text message read is = no_program_all all text message read is
-refused_all (PacketReport packing course settings) all text message read is = no_program_all all text message read is
-refused_all (ListingReport course settings) all text message read is = record {
+no_listing_all : (all text message : List ℕ) → text ≡ take 8388609 all → IsNoListing text message → IsNoListing all message
+no_listing_all all text message read is = record {
   fault = is.fault;
   known = is.known;
   refused = refuses_same text all is.fault (listed_all all text read) is.refused;
   told = is.told;
 }
+
+refused_all : (ask : Ask) (all text message : List ℕ) → text ≡ take (limit_of ask + 1) all → IsRefusedText ask text message → IsRefusedText ask all message
+refused_all (Listing packing) all text message read is = no_program_all all text message read is
+refused_all (Picture showing) all text message read is = no_program_all all text message read is
+refused_all (SerialReport course settings) all text message read is = no_program_all all text message read is
+refused_all (PacketReport packing course settings) all text message read is = no_program_all all text message read is
+refused_all (ListingReport course settings) all text message read is = no_listing_all all text message read is
+refused_all (ListingPicture showing) all text message read is = no_listing_all all text message read is
+refused_all (PacketsPicture showing) all text message read is = no_packets_all false all text message read is
 refused_all (FlightReport most strict from settings) all text message read is = no_flight_all from all text message read is
 refused_all (Adoption drain) all text message read is = no_packets_all drain all text message read is
 refused_all Verdicts all text message read is = no_check_all all 9437190 (omega arith) message (subst (λ (xs : List ℕ). IsNoCheck xs message) read is)

@@ -2,6 +2,7 @@
 use Rattle.std.proofs.Common.{◌≡◌, ◌∙◌, ℕ, zero, suc, ◌+◌, ◌<◌, ◌≤◌, true, List, [], ◌∷◌, ◌++◌, length, Option, Some, refl, sym, ap, subst, arith}
 use Rattle.std.specs.Prelude.{slice_get, All}
 use Rattle.std.specs.List.{list_all}
+use Rattle.std.specs.Option.{IsSomeAnd}
 use Rattle.std.proofs.lemmas.List.{length-append}
 use Rattle.std.proofs.lemmas.List.Sums.{list_all-from_AllPass}
 use Rattle.std.proofs.lemmas.List.Sorted.{All-permutation}
@@ -64,12 +65,13 @@ shown_more showing (b ∷ blocks) (q ∷ shown) block one all is = (all.0, shown
 
 -- what is shown of a board that was made for a block
 pub shown_one : (showing : Showing) (block : Serial) (board : BoardState) (shown : Shown) → IsMade showing.packing block board
-    → IsShownOf showing.why board.plan board.spots shown → IsShown showing block shown
+    → IsShownOf showing board.plan board.spots shown → IsShown showing block shown
 unfolding scheduled_one
 shown_one showing block board shown made is = record {
   scheduled = scheduled_one showing.packing block board shown.packets made is.packets is.serial is.keeps;
-  limits = subst (λ (plan : Serial). AreLimits plan shown.limits) made.plan_is is.limits;
+  limits = subst (λ (plan : Serial). IsSomeAnd shown.limits (AreLimits plan)) made.plan_is is.limits;
   whys = subst (λ (plan : Serial). TellsWhys showing.why plan board.spots shown.packets.cycles shown.whys.items) made.plan_is is.whys;
+  lives = is.lives;
 }
 
 -- as many blocks as before

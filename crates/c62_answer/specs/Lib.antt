@@ -1,4 +1,5 @@
 pub mod Schedule
+pub mod Standing
 pub mod Message
 pub mod Texts
 pub mod Parting

@@ -47,12 +47,13 @@ use Rattle.c62_show.specs.declared.shown.Shown.{Shown}
 use Rattle.c62_show.specs.Picture.{picture}
 use Rattle.c62_answer.specs.Bounds.{AreBounded}
 use Rattle.c62_answer.specs.Schedule.{AreScheduled, AreShown}
+use Rattle.c62_answer.specs.Standing.{IsShownListing, IsShownPackets}
 use Rattle.c62_report.specs.Report.{serial_report, packet_report}
 use Rattle.c62_report.specs.Flight.{flight_report}
 use Rattle.c62_profile.specs.declared.tally.Tally.{Tally}
 use Rattle.c62_profile.specs.Visits.{CountsPackets, CountsProgram}
 use Rattle.c62_profile.specs.Table.{packet_table, serial_table}
-use Rattle.c62_command.specs.CommandLine.{Ask, Listing, Picture, SerialReport, PacketReport, ListingReport, FlightReport, Adoption, Verdicts, IsRefusal, IsUnknown, HasBadSetting, asked}
+use Rattle.c62_command.specs.CommandLine.{Ask, Listing, Picture, ListingPicture, PacketsPicture, SerialReport, PacketReport, ListingReport, FlightReport, Adoption, Verdicts, IsRefusal, IsUnknown, HasBadSetting, asked}
 use Rattle.c62_answer.specs.Message.{adopt_message, fault_message, list_message, rows_message, no_listing, of_listing, of_text, setting_message, IsFront, IsToldOf, Telling, Tells, TellsOf, TellsOutcome}
 use Rattle.c62_answer.specs.Texts.{SaysProgram, IsNoProgram, IsNoListing, IsNoPackets, IsNoFlight}
 use Rattle.c62_answer.specs.Check.{IsCheck, IsNoCheck}
@@ -139,6 +140,8 @@ BeginsAll limit all text = IfSome all (λ bytes. text ≡ take (limit + 1) bytes
 -- the most bytes that may be given: of a listing, of packets as they are written, of a text and a listing with the longest line
 -- `---` between them, or of serial text
 abbrev pub limit_of : Ask → ℕ
+limit_of (ListingPicture showing) = most_listing_bytes
+limit_of (PacketsPicture showing) = most_packets_bytes
 limit_of (ListingReport course settings) = most_listing_bytes
 limit_of (FlightReport cycles strict from settings) = most_packets_bytes
 limit_of (Adoption drain) = most_packets_bytes
@@ -288,6 +291,8 @@ outcome_of false = NotSame
 abbrev pub IsAnswer : Ask → Outcome → List ℕ → List ℕ → Type 0
 IsAnswer (Listing packing) Done text answer = IsPackedText packing text answer
 IsAnswer (Picture showing) Done text answer = IsShownText showing text answer
+IsAnswer (ListingPicture showing) Done text answer = IsShownListing showing text answer
+IsAnswer (PacketsPicture showing) Done text answer = IsShownPackets showing text answer
 IsAnswer (SerialReport course settings) outcome text answer = IsSerialReport settings course outcome text answer
 IsAnswer (PacketReport packing course settings) outcome text answer = IsRunReport packing settings course outcome text answer
 IsAnswer (ListingReport course settings) outcome text answer = IsListingReport settings course outcome text answer
@@ -302,6 +307,8 @@ IsAnswer _ _ text answer = ⊥
 
 -- the text says nothing that could be answered, and the message tells its fault
 abbrev pub IsRefusedText : Ask → List ℕ → List ℕ → Type 0
+IsRefusedText (ListingPicture showing) text message = IsNoListing text message
+IsRefusedText (PacketsPicture showing) text message = IsNoPackets false text message
 IsRefusedText (ListingReport course settings) text message = IsNoListing text message
 IsRefusedText (FlightReport most strict from settings) text message = IsNoFlight from text message
 IsRefusedText (Adoption drain) text message = IsNoPackets drain text message

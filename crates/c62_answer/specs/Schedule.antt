@@ -1,5 +1,6 @@
 -- How the blocks of a program become packets (docs/SCHEDULING.md, "Turns", "Finishing" and "Two workers").
 use Rattle.std.specs.Prelude.{◌≡◌, ◌≢◌, ℕ, Bool, true, false, List, [], ◌∷◌, ◌++◌}
+use Rattle.std.specs.Option.{IsSomeAnd}
 use Rattle.c62_read.specs.Block.{Serial}
 use Rattle.c62_depend.specs.Plan.{insns_of}
 use Rattle.c62_sheet.specs.Lawful.{Spots}
@@ -16,6 +17,7 @@ use Rattle.c62_pipe.specs.Chain.{IsBlockPacked}
 use Rattle.c62_pack.specs.Packets.{ArePackets, ArePlaced}
 use Rattle.c62_show.specs.declared.shown.Shown.{Shown}
 use Rattle.c62_show.specs.Limits.{AreLimits}
+use Rattle.c62_show.specs.Registers.{TellsLives}
 use Rattle.c62_why.specs.declared.why.Why.{Why}
 use Rattle.c62_why.specs.Why.{AreWhys}
 use Rattle.c62_command.specs.declared.command.Packing.{Packing}
@@ -64,19 +66,21 @@ abbrev pub TellsWhys : Bool → Serial → Spots → ℕ → List Why → Type 0
 TellsWhys false block spots cycles whys = whys ≡ []
 TellsWhys true block spots cycles whys = (placed : List Placed) × ArePlaced block spots placed × AreWhys (insns_of block) cycles placed whys
 
--- The packets of such a board, how short they could be at best, and why their instructions stand where they do.
+-- The packets of such a board, how short they could be at best, why their instructions stand where they do, and their registers.
 pub record IsShown (showing : Showing) (block : Serial) (shown : Shown) : Type 0 where
   pub scheduled : IsScheduled showing.packing block shown.packets
-  pub limits : AreLimits block shown.limits
+  pub limits : IsSomeAnd shown.limits (AreLimits block)
   pub whys : TellsWhys showing.why block scheduled.board.spots shown.packets.cycles shown.whys.items
+  pub lives : TellsLives showing.registers shown.packets shown.lives
 
 -- what is shown of the packets of these spots
-pub record IsShownOf (why : Bool) (block : Serial) (spots : Spots) (shown : Shown) : Type 0 where
+pub record IsShownOf (showing : Showing) (block : Serial) (spots : Spots) (shown : Shown) : Type 0 where
   pub packets : ArePackets block spots shown.packets
   pub serial : AreSerial block.insns shown.packets.placed
   pub keeps : IsBlockPacked block shown.packets
-  pub limits : AreLimits block shown.limits
-  pub whys : TellsWhys why block spots shown.packets.cycles shown.whys.items
+  pub limits : IsSomeAnd shown.limits (AreLimits block)
+  pub whys : TellsWhys showing.why block spots shown.packets.cycles shown.whys.items
+  pub lives : TellsLives showing.registers shown.packets shown.lives
 
 -- block by block
 abbrev pub AreShown : Showing → List Serial → List Shown → Type 0

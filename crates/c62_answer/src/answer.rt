@@ -15,6 +15,7 @@ use crate::outcome::{Outcome, Reply};
 use crate::parting;
 use crate::run::{packet_run, serial_run};
 use crate::schedule::{packets_by_turns, packets_by_workers, shown_by_turns, shown_by_workers};
+use crate::standing::{show_listing, show_packets};
 use c62_adopt::adopt;
 use c62_adopt::laws::texts_that_stand_lack_nothing;
 use c62_command::{Packing, Request, Showing, Start};
@@ -38,7 +39,7 @@ fn program_of(alloc: Global, text: &[u8]) -> Result<Program, Failure>
 }
 
 /// The packets that a listing says.
-fn packets_in(alloc: Global, text: &[u8]) -> Result<Packets, Failure>
+pub(crate) fn packets_in(alloc: Global, text: &[u8]) -> Result<Packets, Failure>
     ensures packets { GivesPackets text.now result }
     ensures closed { IfOk result (λ packets. IsTrue (is_closed packets)) }
 {
@@ -55,7 +56,8 @@ fn listing_of(alloc: Global, packets: &Packets) -> Result<Vec<u8>, AllocError>
     Ok(list(alloc, packets)?.into_bytes())
 }
 
-fn picture_of(alloc: Global, shown: &[Shown]) -> Result<Vec<u8>, AllocError>
+/// The picture of these blocks.
+pub(crate) fn picture_of(alloc: Global, shown: &[Shown]) -> Result<Vec<u8>, AllocError>
     ensures { IfOk result (λ text. text.items ≡ picture shown.now) }
 {
     Ok(picture(alloc, shown)?.into_bytes())
@@ -207,6 +209,8 @@ pub fn answer<H: AllocGlobal + Threads + Wait + Sync>(
                 show_by_workers(rt, text, *showing)
             }
         }
+        Request::ShowListing(showing) => show_listing(rt.alloc(), text, *showing),
+        Request::ShowPackets(showing) => show_packets(rt.alloc(), text, *showing),
         Request::Run(packing, start) => {
             if packing.turns {
                 run_by_turns(rt.alloc(), text, *packing, start)
@@ -229,8 +233,8 @@ pub fn limit_of(request: &Request) -> usize
 {
     match request {
         Request::Check => parting::MOST_BYTES,
-        Request::Sim(_) => c62_listing_reader::MOST_BYTES,
-        Request::Exec(_) | Request::Adopt(_) => c62_adopt_cut::MOST_BYTES,
+        Request::Sim(_) | Request::ShowListing(_) => c62_listing_reader::MOST_BYTES,
+        Request::Exec(_) | Request::Adopt(_) | Request::ShowPackets(_) => c62_adopt_cut::MOST_BYTES,
         Request::Pack(_) | Request::Show(_) | Request::Run(_, _) | Request::Serial(_) => {
             c62_read::MOST_BYTES
         }

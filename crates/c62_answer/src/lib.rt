@@ -13,6 +13,7 @@ mod outcome;
 mod parting;
 mod run;
 mod schedule;
+mod standing;
 mod tool;
 mod writing;
 

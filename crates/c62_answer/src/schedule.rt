@@ -15,7 +15,7 @@ use c62_depend::Plan;
 use c62_pack::{packets_of, placed_of};
 use c62_packet::{PacketBlock, Packets};
 use c62_read::{Block, Program};
-use c62_show::{Shown, limits_of};
+use c62_show::{Shown, limits_of, lives_told};
 use c62_why::{Why, whys_of};
 use c62_work::{FreeGate, Options, finish, schedule, turns};
 use rayon::current_num_threads;
@@ -224,16 +224,18 @@ fn whys_told(alloc: Global, board: &Board, cycles: u16, why: bool) -> Result<Vec
 }
 
 /// What is shown of a complete board.
-fn shown_of(alloc: Global, board: &Board, why: bool) -> Result<Shown, AllocError>
+fn shown_of(alloc: Global, board: &Board, showing: Showing) -> Result<Shown, AllocError>
     requires { IsComplete (insns_of board.now.plan) board.now.spots }
-    ensures { IfOk result (IsShownOf why board.now.plan board.now.spots) }
+    ensures { IfOk result (IsShownOf showing board.now.plan board.now.spots) }
 {
     let packets = packets_of(alloc, board)?;
-    let whys = whys_told(alloc, board, packets.length(), why)?;
+    let whys = whys_told(alloc, board, packets.length(), showing.why)?;
+    let lives = lives_told(alloc, &packets, showing.registers)?;
     Ok(Shown {
-        limits: limits_of(alloc, board.plan())?,
+        limits: Some(limits_of(alloc, board.plan())?),
         packets,
         whys,
+        lives,
     })
 }
 
@@ -253,7 +255,7 @@ pub fn shown_by_turns(
     let mut shown = Vec::new(alloc);
     for block in program.into_blocks() {
         let board = board_by_turns(alloc, block, showing.packing)?;
-        let one = shown_of(alloc, &board, showing.why)?;
+        let one = shown_of(alloc, &board, showing)?;
         shown.push(one)?;
     }
     Ok(shown)
@@ -270,7 +272,7 @@ fn shown_of_block<R: Threads + Wait + Sync>(
     ensures { IfOk result (IsShown showing block) }
 {
     let board = board_by_workers(rt, alloc, block, showing.packing)?;
-    let shown = shown_of(alloc, &board, showing.why)?;
+    let shown = shown_of(alloc, &board, showing)?;
     Ok(shown)
 }
 

@@ -40,10 +40,10 @@ taken_there block i insn unit at is = subst (λ (o : Option Insn). taken_in o un
 
 -- ---- what can be told can be counted
 
-abbrev CanTell : Type 0 → Type 0
+abbrev pub CanTell : Type 0 → Type 0
 CanTell P = P ⊎ (P → ⊥)
 
-both : (P Q : Type 0) → CanTell P → CanTell Q → CanTell (P × Q)
+pub both : (P Q : Type 0) → CanTell P → CanTell Q → CanTell (P × Q)
 both P Q (inl p) (inl q) = inl (p, q)
 both P Q (inr none) q = inr (λ w. none w.0)
 both P Q p (inr none) = inr (λ w. none w.1)
@@ -76,11 +76,11 @@ tell_units P tell = elim (tell_letters (λ l. (s : Side) → P (record { letter 
   | inr none ↦ inr (λ all. none (λ l s. all (record { letter = l; side = s })))
 ]
 
-tell_true : (t : Bool) → CanTell (IsTrue t)
+pub tell_true : (t : Bool) → CanTell (IsTrue t)
 tell_true true = inl refl
 tell_true false = inr (λ e. cc e)
 
-tell_side : (r s : Side) → CanTell (r ≡ s)
+pub tell_side : (r s : Side) → CanTell (r ≡ s)
 tell_side A A = inl refl
 tell_side B B = inl refl
 tell_side A B = inr (λ e. cc e)
@@ -91,7 +91,7 @@ tell_if P Q p (inl q) = inl (λ w. q)
 tell_if P Q (inr none) q = inl (λ w. absurd (none w))
 tell_if P Q (inl p) (inr none) = inr (λ f. none (f p))
 
-tell_only : (block : List Insn) (kind : Kind) (s : Side) (j : ℕ) → CanTell (StandsOnlyOn block kind s j)
+pub tell_only : (block : List Insn) (kind : Kind) (s : Side) (j : ℕ) → CanTell (StandsOnlyOn block kind s j)
 tell_only block kind s j =
     tell_units (λ u. IsTrue (is_taken block j u) → (u.side ≡ s) × IsTrue (has_letter kind u.letter))
     (λ u. tell_if (IsTrue (is_taken block j u)) ((u.side ≡ s) × IsTrue (has_letter kind u.letter)) (tell_true (is_taken block j u))
@@ -132,7 +132,7 @@ tell_confined block kind s tail j tell = elim (cases_lt (height block j) tail) [
   ]
 ]
 
-count_of : (Is : ℕ → Type 0) → ((k : ℕ) → CanTell (Is k)) → (n : ℕ) → (count : ℕ) × HasCount Is n count
+pub count_of : (Is : ℕ → Type 0) → ((k : ℕ) → CanTell (Is k)) → (n : ℕ) → (count : ℕ) × HasCount Is n count
 count_of Is tell zero = (0, refl)
 count_of Is tell (suc n) =
     let rest = count_of Is tell n in
@@ -141,7 +141,7 @@ count_of Is tell (suc n) =
       | inr none ↦ (rest.0, inr (none, rest.1))
     ]
 
-some_counted : (Is : ℕ → Type 0) (n count k : ℕ) → HasCount Is n count → k < n → Is k → 0 < count
+pub some_counted : (Is : ℕ → Type 0) (n count k : ℕ) → HasCount Is n count → k < n → Is k → 0 < count
 some_counted Is zero count k has low is = absurd (omega (arith, low))
 some_counted Is (suc n) count k has low is = elim has [
   | inl w ↦ omega (arith, w.1.1)
@@ -151,7 +151,7 @@ some_counted Is (suc n) count k has low is = elim has [
   ]
 ]
 
-one_round : (count by : ℕ) → 0 < count → 0 < by → 1 ≤ div_ceil count by
+pub one_round : (count by : ℕ) → 0 < count → 0 < by → 1 ≤ div_ceil count by
 one_round count by some wide =
     let up : count ≤ div_ceil count by * by = (div_ceil_times count by wide).0 in
     elim (cases_lt 0 (div_ceil count by)) [

@@ -12,10 +12,10 @@ use Rattle.c62_bound.proofs.Counting.{same_parts}
 use Rattle.c62_bound.specs.Length.{IsNeeded, IsLeastLength}
 use Rattle.c62_bound.specs.Laws.{HasOneGreatest, HasOneLeastLength, NothingTakesNoCycle}
 
-index_small : (kind : Kind) → kind_index kind < 7
+pub index_small : (kind : Kind) → kind_index kind < 7
 index_small kind = grind arith
 
-same_kind : (k l : Kind) → kind_index k ≡ kind_index l → k ≡ l
+pub same_kind : (k l : Kind) → kind_index k ≡ kind_index l → k ≡ l
 same_kind k l e = grind (arith, e)
 
 same_room : (k l : Kind) (r s : Side) → place k r ≡ place l s → (k ≡ l) × (r ≡ s)

@@ -9,6 +9,7 @@ use Rattle.std.proofs.lemmas.Option.{slice_get-get_or, same_Some, none-some, sli
 use Rattle.std.proofs.lemmas.List.Elements.{All-contains}
 use Rattle.std.proofs.lemmas.List.Sums.{sum_by-cons}
 use Rattle.std.proofs.lemmas.List.Sorted.{IsPermutation-sym, Contains-permutation}
+use Rattle.c62_op.specs.declared.register.Side.{Side}
 use Rattle.c62_op.specs.declared.register.Unit.{Unit as FunctionalUnit}
 use Rattle.c62_op.specs.declared.operands.Op.{Op}
 use Rattle.c62_op.specs.declared.operands.Operands.{Operands}
@@ -18,7 +19,7 @@ use Rattle.c62_insn.specs.declared.insn.Insn.{Insn}
 use Rattle.c62_insn.specs.Insn.{IsSameInsn, op_of, operands_of, unit_of}
 use Rattle.c62_insn.proofs.InsnLemmas.{has_written_unit}
 use Rattle.c62_rules.specs.PacketRules.{Issue}
-use Rattle.c62_rules.proofs.Capacities.{one-each-unit, one-each-data-path}
+use Rattle.c62_rules.proofs.Capacities.{the-rules, one-each-unit, one-each-data-path}
 use Rattle.c62_rules.specs.Length.{landing_end, last_landing_end, length_of}
 use Rattle.c62_read.specs.declared.block.SerialInsn.{SerialInsn}
 use Rattle.c62_read.specs.Block.{Serial, is_block, branch_last, operations}
@@ -31,7 +32,10 @@ use Rattle.c62_sheet.specs.declared.entry.Spot.{Spot}
 use Rattle.c62_sheet.specs.Lawful.{IsAt, spot_at}
 use Rattle.c62_sheet.proofs.Landings.{lands_with_delay}
 use Rattle.c62_bound.specs.Bound.{taken_in, is_taken}
-use Rattle.c62_bound.proofs.Needs.{no_seating_shorter}
+use Rattle.c62_bound.specs.Laws.{IsSeated}
+use Rattle.c62_raised.specs.Room.{CrossTo}
+use Rattle.c62_raised.proofs.Bound.{raised_bound_holds}
+use Rattle.c62_raised.proofs.Seated.{uses_cross}
 use Rattle.c62_check.specs.Matched.{AreSame}
 use Rattle.c62_check.specs.Schedule.{IsSchedule}
 use Rattle.c62_check.specs.Least.{spot_of, spots_of, PacketsAreSeated, NoPacketsAreShorter, NoCheckedAreShorter}
@@ -175,17 +179,22 @@ module _ (block : Serial) (packed : Packed) (is : IsSchedule block packed) (soun
       are_distinct packed.placed lawful.rules is.numbered is.numbering.all i j p (slice_get_within is.numbered i p at_i) (slice_get_within is.numbered j q at_j)
       (get_or_from_slice_get is.numbered i p p at_i ∙ (same ∙ sym (get_or_from_slice_get is.numbered j q p at_j)))
 
+  -- its unit, which is written, takes it
+  takes_written : (i : ℕ) (p : Placed) → slice_get is.numbered i ≡ Some p → takes (op_of p.insn) (operands_of p.insn) p.unit ≡ true
+  takes_written i p at =
+      let found = listed i p at in
+      written_takes p.insn p.unit (All-contains (λ (q : Placed). unit_of q.insn ≡ Some q.unit) packed.placed p lawful.as_written (
+        found.place,
+        slice_get_within packed.placed found.place p found.at,
+        get_or_from_slice_get packed.placed found.place p p found.at,
+      ))
+
   taken : (i : ℕ) (s : Spot) → IsAt (spots_of is.numbered) i s → IsTrue (is_taken (insns_of block) i s.unit)
   taken i s at =
       let place = place_of is.numbered i s at in
       let there = stands i place.own place.at in
-      let written : unit_of place.own.insn ≡ Some place.own.unit = All-contains (λ (q : Placed). unit_of q.insn ≡ Some q.unit) packed.placed place.own lawful.as_written (
-        (listed i place.own place.at).place,
-        slice_get_within packed.placed (listed i place.own place.at).place place.own (listed i place.own place.at).at,
-        get_or_from_slice_get packed.placed (listed i place.own place.at).place place.own place.own (listed i place.own place.at).at,
-      ) in
       taken_by (insns_of block) i there.insn place.own.insn s.unit place.own.unit there.at there.same place.unit
-      (written_takes place.own.insn place.own.unit written)
+      (takes_written i place.own place.at)
 
   each_unit : (i j : ℕ) (s t : Spot) → IsAt (spots_of is.numbered) i s → IsAt (spots_of is.numbered) j t → s.cycle ≡ t.cycle → s.unit ≡ t.unit → i ≡ j
   each_unit i j s t at_i at_j cycles units =
@@ -198,8 +207,9 @@ module _ (block : Serial) (packed : Packed) (is : IsSchedule block packed) (soun
       (issued_at packed.placed first.place one.own first.at) (issued_at packed.placed second.place other.own second.at)
       (one.cycle ∙ (cycles ∙ sym other.cycle)) (one.unit ∙ (units ∙ sym other.unit)) refl)
 
-pub packets_seated : (block : Serial) (packed : Packed) → PacketsAreSeated block packed
-packets_seated block packed is sound lawful = record {
+seated : (block : Serial) (packed : Packed) (is : IsSchedule block packed) → IsTrue (is_block block.insns) → IsPacketBlock packed
+    → IsSeated (insns_of block) (spots_of is.numbered) packed.cycles
+seated block packed is sound lawful = record {
   complete = λ i lt. has_spot is.numbered i (let long = same_length block.insns is.numbered is.numbering.same in let many = many_insns block.insns in omega (arith, lt, long, many));
   units = taken block packed is sound lawful;
   each_unit = λ i j s t low small at_i at_j cycles units. each_unit block packed is sound lawful i j s t at_i at_j cycles units;
@@ -230,9 +240,29 @@ packets_seated block packed is sound lawful = record {
       omega (arith, end, delay, place.cycle));
 }
 
+pub packets_seated : (block : Serial) (packed : Packed) → PacketsAreSeated block packed
+packets_seated block packed is sound lawful = record {
+  seated = seated block packed is sound lawful;
+  each_cross = λ side i j s t low small at_i at_j cycles over_i over_j. (
+      let one = place_of is.numbered i s at_i in
+      let other = place_of is.numbered j t at_j in
+      let first = listed block packed is sound lawful i one.own one.at in
+      let second = listed block packed is sound lawful j other.own other.at in
+      let here = stands block packed is sound lawful i one.own one.at in
+      let there = stands block packed is sound lawful j other.own other.at in
+      same_number block packed is sound lawful i j one.own other.own one.at other.at
+      ((the-rules (issued packed.placed)).cross_paths.0 (λ cycle r is. lawful.rules.enough cycle r) side first.place second.place (issue_of one.own)
+      (issue_of other.own) (issued_at packed.placed first.place one.own first.at) (issued_at packed.placed second.place other.own second.at)
+      (one.cycle ∙ (cycles ∙ sym other.cycle))
+      (uses_cross one.own.insn one.own.unit side (takes_written block packed is sound lawful i one.own one.at)
+      (subst (CrossTo side) here.same.operands (over_i here.insn here.at)))
+      (uses_cross other.own.insn other.own.unit side (takes_written block packed is sound lawful j other.own other.at)
+      (subst (CrossTo side) there.same.operands (over_j there.insn there.at)))));
+}
+
 pub no_packets_shorter : (block : Serial) (packed : Packed) → NoPacketsAreShorter block packed
 no_packets_shorter block packed is sound lawful =
-    no_seating_shorter (insns_of block) (spots_of is.numbered) packed.cycles (is_plan block.insns sound) (packets_seated block packed is sound lawful)
+    raised_bound_holds (insns_of block) (spots_of is.numbered) packed.cycles (is_plan block.insns sound) (packets_seated block packed is sound lawful)
 
 pub no_checked_shorter : (program : List Serial) (packets : List Packed) (text : List ℕ) → NoCheckedAreShorter program packets text
 no_checked_shorter program packets text blocks lawful checked number block packed at at_packed =

@@ -1,4 +1,4 @@
--- How long packets that are a schedule of a block are at least (docs/SCHEDULING.md, "Needs").
+-- How long packets that are a schedule of a block are at least (docs/SCHEDULING.md, "Needs" and "Raised heights").
 use Rattle.std.specs.Prelude.{◌≡◌, ℕ, List, map, All, Some, true, slice_get, IsTrue}
 use Rattle.c62_read.specs.Block.{Serial, is_block}
 use Rattle.c62_packet.specs.declared.placed.Placed.{Placed}
@@ -6,7 +6,7 @@ use Rattle.c62_packet.specs.Packed.{Packed, IsPacketBlock}
 use Rattle.c62_depend.specs.Plan.{insns_of}
 use Rattle.c62_sheet.specs.declared.entry.Spot.{Spot}
 use Rattle.c62_sheet.specs.Lawful.{Spots}
-use Rattle.c62_bound.specs.Laws.{IsSeated, IsNoShorter}
+use Rattle.c62_raised.specs.Laws.{IsSeatedAcross, IsLongEnough}
 use Rattle.c62_check.specs.Schedule.{IsSchedule}
 use Rattle.c62_check.specs.Checked.{IsChecked}
 
@@ -17,18 +17,19 @@ spot_of p = record { cycle = p.cycle; unit = p.unit }
 abbrev pub spots_of : List Placed → Spots
 spots_of numbered = map (λ p. Some (spot_of p)) numbered
 
--- in packets that are a schedule of a block each of its instructions has a cycle and a unit that takes it
+-- In packets that are a schedule of a block each of its instructions has a cycle and a unit that takes it, and no two go over one
+-- cross path in a cycle.
 abbrev pub PacketsAreSeated : Serial → Packed → Type 0
 PacketsAreSeated block packed =
-    (is : IsSchedule block packed) → IsTrue (is_block block.insns) → IsPacketBlock packed → IsSeated (insns_of block) (spots_of is.numbered) packed.cycles
+    (is : IsSchedule block packed) → IsTrue (is_block block.insns) → IsPacketBlock packed → IsSeatedAcross (insns_of block) (spots_of is.numbered) packed.cycles
 
--- so they take no fewer cycles than the block's critical path, than each need has, and than its least length
+-- so they take no fewer cycles than the block's critical path, than each need has, and than its raised bound
 abbrev pub NoPacketsAreShorter : Serial → Packed → Type 0
-NoPacketsAreShorter block packed = IsSchedule block packed → IsTrue (is_block block.insns) → IsPacketBlock packed → IsNoShorter (insns_of block) packed.cycles
+NoPacketsAreShorter block packed = IsSchedule block packed → IsTrue (is_block block.insns) → IsPacketBlock packed → IsLongEnough (insns_of block) packed.cycles
 
 -- so does each block of packets that are checked to be the same as a program
 abbrev pub NoCheckedAreShorter : List Serial → List Packed → List ℕ → Type 0
 NoCheckedAreShorter program packets text =
     All (λ block. IsTrue (is_block block.insns)) program → All IsPacketBlock packets → IsChecked program packets text true
     → (number : ℕ) (block : Serial) (packed : Packed) → slice_get program number ≡ Some block → slice_get packets number ≡ Some packed
-    → IsNoShorter (insns_of block) packed.cycles
+    → IsLongEnough (insns_of block) packed.cycles

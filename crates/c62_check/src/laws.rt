@@ -42,13 +42,13 @@ pub fn schedules_are_packed()
 {}
 
 /// In packets that are a schedule of a block each of its instructions has a cycle and a unit that takes it, so that all bounds
-/// are kept and no two are on one unit or data path in a cycle.
+/// are kept and no two are on one unit, data path or cross path in a cycle.
 pub fn packets_are_seated()
     ensures { (block : Serial) (packed : Packed) → PacketsAreSeated block packed }
 {}
 
 /// Packets that are a schedule of a block take no fewer cycles than its critical path, than any of its needs, and than its
-/// least length, which [`c62_bound::least_length`] answers: what is told as the bound of a block holds of all packets of which
+/// raised bound, which [`c62_raised::raised_length`] answers: what is told as the bound of a block holds of all packets of which
 /// the verdict is `Same`.
 pub fn no_packets_are_shorter()
     ensures { (block : Serial) (packed : Packed) → NoPacketsAreShorter block packed }

@@ -125,7 +125,7 @@ blocks_checked : Each (AreChecked (codes "blocks") IsBlocks) (built tool_app).su
 blocks_checked = (
   ((λ e. absurd cc), ((λ e. absurd cc), ((λ e. absurd cc), tt))),
   (
-    ((λ e. absurd cc), ((λ e. absurd cc), ((λ e. absurd cc), ((λ e. absurd cc), tt)))),
+    ((λ e. absurd cc), ((λ e. absurd cc), ((λ e. absurd cc), ((λ e. absurd cc), ((λ e. absurd cc), ((λ e. absurd cc), ((λ e. absurd cc), tt))))))),
     (
       ((λ e. absurd cc), ((λ e. absurd cc), ((λ e. ((λ count. absurd cc), λ values none. values_pass false (parser.Signed (pos 1) (pos 1000000)) values none)), ((λ e. absurd cc), ((λ e. absurd cc), ((λ e. absurd cc), ((λ e. absurd cc), tt))))))),
       (
@@ -155,7 +155,7 @@ eject_checked : Each (AreChecked (codes "eject") IsBudget) (built tool_app).subs
 eject_checked = (
   ((λ e. absurd cc), ((λ e. ((λ count. absurd cc), λ values none. values_pass false (parser.Signed (pos 0) (pos 1000)) values none)), ((λ e. absurd cc), tt))),
   (
-    ((λ e. absurd cc), ((λ e. ((λ count. absurd cc), λ values none. values_pass false (parser.Signed (pos 0) (pos 1000)) values none)), ((λ e. absurd cc), ((λ e. absurd cc), tt)))),
+    ((λ e. absurd cc), ((λ e. ((λ count. absurd cc), λ values none. values_pass false (parser.Signed (pos 0) (pos 1000)) values none)), ((λ e. absurd cc), ((λ e. absurd cc), ((λ e. absurd cc), ((λ e. absurd cc), ((λ e. absurd cc), tt))))))),
     (
       ((λ e. absurd cc), ((λ e. ((λ count. absurd cc), λ values none. values_pass false (parser.Signed (pos 0) (pos 1000)) values none)), ((λ e. absurd cc), ((λ e. absurd cc), ((λ e. absurd cc), ((λ e. absurd cc), ((λ e. absurd cc), tt))))))),
       (
@@ -185,7 +185,7 @@ cycles_checked : Each (AreChecked (codes "cycles") IsCycles) (built tool_app).su
 cycles_checked = (
   ((λ e. absurd cc), ((λ e. absurd cc), ((λ e. absurd cc), tt))),
   (
-    ((λ e. absurd cc), ((λ e. absurd cc), ((λ e. absurd cc), ((λ e. absurd cc), tt)))),
+    ((λ e. absurd cc), ((λ e. absurd cc), ((λ e. absurd cc), ((λ e. absurd cc), ((λ e. absurd cc), ((λ e. absurd cc), ((λ e. absurd cc), tt))))))),
     (
       ((λ e. absurd cc), ((λ e. absurd cc), ((λ e. absurd cc), ((λ e. absurd cc), ((λ e. absurd cc), ((λ e. absurd cc), ((λ e. absurd cc), tt))))))),
       (

@@ -21,7 +21,7 @@ use Rattle.c62_command.specs.declared.command.Course.{Course}
 use Rattle.c62_command.specs.declared.command.CommandError.{CommandError}
 use Rattle.c62_command.specs.declared.command.CommandError.TheVariants as refused
 use Rattle.c62_command.specs.declared.command.Request.{Request}
-use Rattle.c62_command.specs.declared.command.Request.TheVariants.{Pack, Show, Run, Serial, Sim, Exec, Adopt, Check}
+use Rattle.c62_command.specs.declared.command.Request.TheVariants.{Pack, Show, ShowListing, ShowPackets, Run, Serial, Sim, Exec, Adopt, Check}
 use Rattle.c62_command.specs.Settings.{settings_of, IsFirstBad}
 
 -- ---- what clap takes
@@ -54,6 +54,18 @@ from_rule = record (new_rule (codes "from")) { long = Some (codes "from"); value
 abbrev pub why_rule : Rule
 why_rule = record (new_rule (codes "why")) { long = Some (codes "why"); action = Some SetTrue }
 
+-- `--registers`
+abbrev pub registers_rule : Rule
+registers_rule = record (new_rule (codes "registers")) { long = Some (codes "registers"); action = Some SetTrue }
+
+-- `--listing`
+abbrev pub listing_rule : Rule
+listing_rule = record (new_rule (codes "listing")) { long = Some (codes "listing"); action = Some SetTrue }
+
+-- `--packets`
+abbrev pub packets_rule : Rule
+packets_rule = record (new_rule (codes "packets")) { long = Some (codes "packets"); action = Some SetTrue }
+
 -- `--drain`
 abbrev pub drain_rule : Rule
 drain_rule = record (new_rule (codes "drain")) { long = Some (codes "drain"); action = Some SetTrue }
@@ -83,9 +95,12 @@ with_flight app = with_rule (with_rule (with_rule (with_rule app cycles_rule) fr
 abbrev pub pack_app : App
 pack_app = with_packing (new_app (codes "pack"))
 
--- `show [--turns] [--eject N] [--why]`
+abbrev pub with_forms : App → App
+with_forms app = with_rule (with_rule app listing_rule) packets_rule
+
+-- `show [--turns] [--eject N] [--listing] [--packets] [--why] [--registers]`
 abbrev pub show_app : App
-show_app = with_rule (with_packing (new_app (codes "show"))) why_rule
+show_app = with_rule (with_rule (with_forms (with_packing (new_app (codes "show")))) why_rule) registers_rule
 
 -- `run [--turns] [--eject N] [--blocks N] [--profile] [--strict] [SETTING]..`
 abbrev pub run_app : App
@@ -137,6 +152,10 @@ pub data Ask : Type 0 where
   Listing : Packing → Ask
   -- the picture of a text's blocks, packed so
   Picture : Showing → Ask
+  -- the picture of a listing's blocks, as they stand
+  ListingPicture : Showing → Ask
+  -- the picture of the blocks of a text of packets, as they stand
+  PacketsPicture : Showing → Ask
   -- the report of a serial run on this course, from a state with these settings
   SerialReport : Course → List Setting → Ask
   -- the report of the same run of the packets of a text, packed so
@@ -154,6 +173,8 @@ pub data Ask : Type 0 where
 abbrev pub ask_of : Request → Ask
 ask_of (Pack packing) = Listing packing
 ask_of (Show showing) = Picture showing
+ask_of (ShowListing showing) = ListingPicture showing
+ask_of (ShowPackets showing) = PacketsPicture showing
 ask_of (Run packing start) = PacketReport packing start.course start.settings.items
 ask_of (Serial start) = SerialReport start.course start.settings.items
 ask_of (Sim start) = ListingReport start.course start.settings.items
@@ -192,7 +213,13 @@ abbrev pub packing_of : List Row → Packing
 packing_of rows = record { turns = is_set (codes "turns") rows; budget = budget_of rows }
 
 abbrev pub showing_of : List Row → Showing
-showing_of rows = record { packing = packing_of rows; why = is_set (codes "why") rows }
+showing_of rows = record { packing = packing_of rows; why = is_set (codes "why") rows; registers = is_set (codes "registers") rows }
+
+-- which picture is asked for: of serial text the packets are shown, and of other texts the schedule that stands there
+abbrev pub show_asked : List Row → Ask
+show_asked rows =
+    if is_set (codes "listing") rows then ListingPicture (showing_of rows)
+    else (if is_set (codes "packets") rows then PacketsPicture (showing_of rows) else Picture (showing_of rows))
 
 abbrev pub course_of : List Row → Course
 course_of rows = record { blocks = blocks_of rows; profile = is_set (codes "profile") rows; strict = is_set (codes "strict") rows }
@@ -230,7 +257,7 @@ abbrev pub ask_in : Option (Text × List Row) → Option Ask
 ask_in None = Some (Listing plain_packing)
 ask_in (Some (name, rows)) =
     if bytes_eq name (codes "pack") then Some (Listing (packing_of rows))
-    else (if bytes_eq name (codes "show") then Some (Picture (showing_of rows))
+    else (if bytes_eq name (codes "show") then Some (show_asked rows)
     else (if bytes_eq name (codes "adopt") then Some (Adoption (is_set (codes "drain") rows))
     else (if bytes_eq name (codes "check") then Some Verdicts
     else option_map (report_asked name rows) (settings_of (setting_words rows)))))

@@ -2,7 +2,7 @@
 
 ghost use Rattle.std.specs.Prelude.{◌≡◌, IfOk, IfErr, Some, false, map, [], codes, option_map};
 ghost use Rattle.clap.specs.Words.{app_of, rule_of, first_of, subcommand_of, subcommand_rows_of, fault_of};
-ghost use Rattle.c62_command.specs.CommandLine.{turns_rule, eject_rule, blocks_rule, settings_rule, cycles_rule, from_rule, drain_rule, why_rule, profile_rule, strict_rule, pack_app, show_app, run_app, serial_app, sim_app, exec_app, adopt_app, check_app, bare_app, listing_app, packing_app, running_app, tool_app, with_packing, with_start, with_flight, is_set, blocks_of, course_of, cycles_of, budget_of, packing_of, showing_of, plain_packing, IsLocal, found_rows, words_of, named_rows, ask_in, ask_of, asked, IsBadIn, IsBlame, IsRefusal, IsWordsError, IsSettingError};
+ghost use Rattle.c62_command.specs.CommandLine.{turns_rule, eject_rule, blocks_rule, settings_rule, cycles_rule, from_rule, drain_rule, why_rule, registers_rule, listing_rule, packets_rule, with_forms, pack_app, show_app, run_app, serial_app, sim_app, exec_app, adopt_app, check_app, bare_app, listing_app, packing_app, running_app, tool_app, with_packing, with_start, is_set, blocks_of, cycles_of, budget_of, packing_of, showing_of, show_asked, plain_packing, IsLocal, found_rows, words_of, named_rows, ask_in, ask_of, asked, IsBadIn, IsBlame, IsRefusal, IsWordsError, IsSettingError, profile_rule, strict_rule, with_flight, course_of};
 ghost use Rattle.c62_command.specs.Settings.{AreSettings, IsBadAmong};
 
 use crate::setting::{Setting, SettingError, read_settings};
@@ -43,6 +43,8 @@ pub struct Showing {
     pub packing: Packing,
     /// Whether it is told why each instruction isn't issued a cycle earlier.
     pub why: bool,
+    /// Whether it is told which registers are live, and which are free.
+    pub registers: bool,
 }
 
 /// How far a run goes, and what is told of it beside its report.
@@ -81,6 +83,10 @@ pub enum Request {
     Pack(Packing),
     /// The picture of a serial text's blocks.
     Show(Showing),
+    /// The picture of a listing's blocks, as they stand.
+    ShowListing(Showing),
+    /// The picture of the blocks of a text of packets as people and compilers write them, as they stand.
+    ShowPackets(Showing),
     /// The report of a run of the packets of a serial text.
     Run(Packing, Start),
     /// The report of the serial run of a serial text.
@@ -207,6 +213,36 @@ fn why_flag<'a>(alloc: Global) -> Arg<'a>
         .help("Tells why each instruction isn't issued a cycle earlier, and its slack")
 }
 
+fn registers_flag<'a>(alloc: Global) -> Arg<'a>
+    ensures rule { rule_of result ≡ registers_rule }
+    ensures local { result.global ≡ false }
+{
+    Arg::new(alloc, "registers")
+        .long("registers")
+        .action(ArgAction::SetTrue)
+        .help("Tells how many registers of each side are live at most, and which are free")
+}
+
+fn listing_flag<'a>(alloc: Global) -> Arg<'a>
+    ensures rule { rule_of result ≡ listing_rule }
+    ensures local { result.global ≡ false }
+{
+    Arg::new(alloc, "listing")
+        .long("listing")
+        .action(ArgAction::SetTrue)
+        .help("Reads a listing, and shows the schedule that stands there")
+}
+
+fn packets_flag<'a>(alloc: Global) -> Arg<'a>
+    ensures rule { rule_of result ≡ packets_rule }
+    ensures local { result.global ≡ false }
+{
+    Arg::new(alloc, "packets")
+        .long("packets")
+        .action(ArgAction::SetTrue)
+        .help("Reads packets as they are written, and shows the schedule that stands there")
+}
+
 fn profile_flag<'a>(alloc: Global) -> Arg<'a>
     ensures rule { rule_of result ≡ profile_rule }
     ensures local { result.global ≡ false }
@@ -271,6 +307,14 @@ fn with_flight<'a>(alloc: Global, command: Command<'a>) -> Result<Command<'a>, A
         .arg(settings_words(alloc))
 }
 
+/// The command with the forms of text that are shown as they stand.
+fn with_forms<'a>(alloc: Global, command: Command<'a>) -> Result<Command<'a>, AllocError>
+    ensures app { IfOk result (λ c. app_of c ≡ with_forms (app_of command.entry)) }
+    ensures local { IsLocal command.entry → IfOk result IsLocal }
+{
+    command.arg(listing_flag(alloc))?.arg(packets_flag(alloc))
+}
+
 fn pack_command<'a>(alloc: Global) -> Result<Command<'a>, AllocError>
     ensures app { IfOk result (λ c. app_of c ≡ pack_app) }
     ensures local { IfOk result IsLocal }
@@ -288,9 +332,13 @@ fn show_command<'a>(alloc: Global) -> Result<Command<'a>, AllocError>
 {
     let command = Command::new(alloc, "show")
         .about("Packs serial text and shows each block's schedule, and how short one can be")
-        .override_usage("c62 show [--why] [--turns] [--eject <N>] [-o <FILE>] [FILE]")
+        .override_usage(
+            "c62 show [--why] [--registers] [--turns] [--eject <N>] [-o <FILE>] [FILE]\n       c62 show --listing|--packets [--why] [--registers] [-o <FILE>] [FILE]",
+        )
         .after_help(ending!("c62 show --why kernel.s"));
-    with_packing(alloc, command)?.arg(why_flag(alloc))
+    with_forms(alloc, with_packing(alloc, command)?)?
+        .arg(why_flag(alloc))?
+        .arg(registers_flag(alloc))
 }
 
 fn run_command<'a>(alloc: Global) -> Result<Command<'a>, AllocError>
@@ -555,6 +603,21 @@ fn showing_in(matches: &ArgMatches<'_>) -> Showing
     Showing {
         packing: packing_in(matches),
         why: is_set(matches, "why"),
+        registers: is_set(matches, "registers"),
+    }
+}
+
+/// What `show` asks for.
+fn show_in(matches: &ArgMatches<'_>) -> Request
+    ensures { ask_of result ≡ show_asked (found_rows matches.now) }
+{
+    let showing = showing_in(matches);
+    if is_set(matches, "listing") {
+        Request::ShowListing(showing)
+    } else if is_set(matches, "packets") {
+        Request::ShowPackets(showing)
+    } else {
+        Request::Show(showing)
     }
 }
 
@@ -567,7 +630,7 @@ fn request_named(alloc: Global, name: &str, found: &ArgMatches<'_>) -> Result<Re
         return Ok(Request::Pack(packing_in(found)));
     }
     if name == "show" {
-        return Ok(Request::Show(showing_in(found)));
+        return Ok(show_in(found));
     }
     if name == "adopt" {
         return Ok(Request::Adopt(is_set(found, "drain")));

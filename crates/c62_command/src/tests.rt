@@ -1,12 +1,12 @@
 //! What words ask for, as the README and docs/REPORT.md say.
 
-use crate::{CommandError, FlightStart, Packing, Request, Setting, Start, command_of};
+use crate::{CommandError, FlightStart, Packing, Request, Setting, Showing, Start, command_of};
 use c62_op::Side;
 use std::alloc::Global;
 use std::test::Fail;
 
 /// Words, and what they ask for or why they are refused.
-const ASKED: [(&[&str], &str); 33] = [
+const ASKED: [(&[&str], &str); 38] = [
     (&[], "pack by turns, 0 ejections"),
     (&["pack"], "pack by workers, 0 ejections"),
     (&["pack", "--turns"], "pack by turns, 0 ejections"),
@@ -19,6 +19,17 @@ const ASKED: [(&[&str], &str); 33] = [
         "show by turns, 9 ejections",
     ),
     (&["show", "--why"], "show by workers, 0 ejections, why"),
+    (
+        &["show", "--registers"],
+        "show by workers, 0 ejections, registers",
+    ),
+    (
+        &["show", "--listing", "--why", "--registers"],
+        "show listing, why, registers",
+    ),
+    (&["show", "--packets"], "show packets"),
+    (&["show", "--packets", "--packets"], "words"),
+    (&["pack", "--listing"], "words"),
     (&["show", "--blocks", "2"], "words"),
     (&["pack", "--why"], "words"),
     (&["show", "A1=5"], "words"),
@@ -81,6 +92,12 @@ fn packing_text(alloc: Global, packing: Packing) -> Result<String, Fail> {
     Ok(format!(in alloc; "by {way}, {} ejections", packing.budget)?)
 }
 
+fn showing_text(alloc: Global, showing: Showing) -> Result<String, Fail> {
+    let why = if showing.why { ", why" } else { "" };
+    let registers = if showing.registers { ", registers" } else { "" };
+    Ok(format!(in alloc; "{why}{registers}")?)
+}
+
 fn setting_text(alloc: Global, setting: Setting) -> Result<String, Fail> {
     Ok(match setting {
         Setting::Register(reg, value) => {
@@ -131,8 +148,14 @@ fn request_text(alloc: Global, request: &Request) -> Result<String, Fail> {
     Ok(match request {
         Request::Pack(packing) => format!(in alloc; "pack {}", packing_text(alloc, *packing)?)?,
         Request::Show(showing) => {
-            let why = if showing.why { ", why" } else { "" };
-            format!(in alloc; "show {}{why}", packing_text(alloc, showing.packing)?)?
+            let packing = packing_text(alloc, showing.packing)?;
+            format!(in alloc; "show {packing}{}", showing_text(alloc, *showing)?)?
+        }
+        Request::ShowListing(showing) => {
+            format!(in alloc; "show listing{}", showing_text(alloc, *showing)?)?
+        }
+        Request::ShowPackets(showing) => {
+            format!(in alloc; "show packets{}", showing_text(alloc, *showing)?)?
         }
         Request::Run(packing, start) => format!(in alloc;
             "run {}; {}",

@@ -1,6 +1,6 @@
 -- Where as many instructions are issued in some cycles alone as find room there, all others leave these.
-use Rattle.std.proofs.Common.{arith, ◌≡◌, ◌≢◌, ℕ, zero, suc, ◌+◌, ◌-◌, ◌*◌, ◌<◌, ◌≤◌, List, length, get_or, refl, sym, ap, ◌∙◌, subst, inl, inr, ◌⊎◌}
-use Rattle.std.specs.Prelude.{slice_get, slice_set, Some, None}
+use Rattle.std.proofs.Common.{arith, ◌≡◌, ◌≢◌, ℕ, zero, suc, ◌+◌, ◌-◌, ◌<◌, ◌≤◌, List, length, get_or, refl, sym, ap, ◌∙◌, subst, inl, inr, ◌⊎◌}
+use Rattle.std.specs.Prelude.{slice_get, slice_set, Some}
 use Rattle.std.proofs.lemmas.Bool.{cases_eq, cases_lt}
 use Rattle.std.proofs.lemmas.List.{get_or-set_other, length-set}
 use Rattle.std.proofs.lemmas.Option.{slice_get-get_or, slice_get_past, same_Some}
@@ -8,13 +8,13 @@ use Rattle.c62_insn.specs.declared.insn.Insn.{Insn}
 use Rattle.c62_sheet.specs.declared.entry.Spot.{Spot}
 use Rattle.c62_sheet.specs.Lawful.{Spots, IsAt}
 use Rattle.c62_sheet.specs.Counts.{HasCount}
-use Rattle.c62_bound.specs.Bound.{width, WaitsFor}
+use Rattle.c62_bound.specs.Bound.{WaitsFor}
 use Rattle.c62_bound.specs.Laws.{IsSeated}
 use Rattle.c62_refute.specs.declared.window.Window.{Window as Cycles}
 use Rattle.c62_refute.specs.declared.crowd.Stretch.{Stretch as Part}
 use Rattle.c62_refute.specs.Window.{IsIn, AreIn, KeepAll}
 use Rattle.c62_refute.specs.Crowd.{IsInside, room_in}
-use Rattle.c62_refute.proofs.Rooms.{AreIssuedWithin, find_room}
+use Rattle.c62_bound.proofs.Finding.{AreIssuedWithin, few_wait}
 use Rattle.c62_refute.proofs.Holding.{any_window, window_at, at_set}
 
 -- ---- one more is counted
@@ -69,7 +69,7 @@ module _ (block : List Insn) (set : Spots) (cycles : ℕ) (seated : IsSeated blo
 
   pub few_inside : (count : ℕ) → HasCount (IsInside block windows part) (length block) count → count ≤ room_in part
   few_inside count has =
-      find_room block set cycles seated part.kind part.side (IsInside block windows part) part.first (part.last - part.first + 1)
+      few_wait block set cycles seated part.kind part.side (IsInside block windows part) part.first (part.last - part.first + 1)
       (λ j s low inside is. inside_within j s inside is) count has
 
   pub leaves : (count j : ℕ) (s : Spot) → HasCount (IsInside block windows part) (length block) count → room_in part ≤ count → j < length block
@@ -92,7 +92,7 @@ module _ (block : List Insn) (set : Spots) (cycles : ℕ) (seated : IsSeated blo
 
       too_many : part.first ≤ s.cycle → s.cycle ≤ part.last → ⊥
       too_many from to =
-          let fits = find_room block set cycles seated part.kind part.side (WithOne (IsInside block windows part) j) part.first (part.last - part.first + 1)
+          let fits = few_wait block set cycles seated part.kind part.side (WithOne (IsInside block windows part) j) part.first (part.last - part.first + 1)
           (within from to) (count + 1) (one_more (IsInside block windows part) j (length block) count low out has) in
           omega (arith, fits, full)
 

@@ -1,5 +1,5 @@
 -- What windows hold when one of them changes.
-use Rattle.std.proofs.Common.{arith, ◌≡◌, ◌≢◌, ℕ, ℤ, pos, ◌+ℤ◌, ◌≤ℤ◌, ◌+◌, ◌<◌, ◌≤◌, List, [], ◌∷◌, ◌++◌, length, Option, Some, None, refl, sym, ap, ◌∙◌, subst, inl, inr, ◌⊎◌, get_or, All}
+use Rattle.std.proofs.Common.{arith, ◌≡◌, ◌≢◌, ℕ, pos, ◌+ℤ◌, ◌≤ℤ◌, ◌+◌, ◌<◌, ◌≤◌, List, [], ◌∷◌, ◌++◌, length, Some, refl, sym, ap, ◌∙◌, subst, inl, inr, ◌⊎◌, get_or}
 use Rattle.std.specs.Prelude.{slice_get, slice_set}
 use Rattle.std.proofs.lemmas.Bool.{cases_eq, cases_lt}
 use Rattle.std.proofs.lemmas.List.{get_or-set_same, get_or-set_other, length-set, length-append, get_or_append_left, get_or_push}
@@ -7,7 +7,6 @@ use Rattle.std.proofs.lemmas.Option.{slice_get_within, slice_get-get_or, get_or_
 use Rattle.c62_insn.specs.declared.insn.Insn.{Insn}
 use Rattle.c62_op.specs.Shape.{delay_of}
 use Rattle.c62_insn.specs.Insn.{op_of}
-use Rattle.c62_rules.specs.Dependence.{Bounds, IsLatency}
 use Rattle.c62_depend.specs.Latency.{latency}
 use Rattle.c62_depend.proofs.Latencies.{latency-is}
 use Rattle.c62_depend.proofs.Plans.{short_is}

@@ -1,3 +1,2 @@
-mod Rooms
 mod Holding
 mod Crowds

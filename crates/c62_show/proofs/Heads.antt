@@ -1,37 +1,29 @@
 -- What the head of a block says.
 use Rattle.std.proofs.Common.{◌≡◌, ◌∙◌, ℕ, zero, suc, ◌+◌, ◌-◌, ◌^◌, ◌<◌, ◌≤◌, ◌==◌, Bool, true, false, List, [], ◌∷◌, ◌++◌, map, Option, Some, None, refl, sym, ap, subst, max, arith, cond, get_or}
-use Rattle.std.specs.Prelude.{decimal}
+use Rattle.std.specs.Prelude.{decimal, IfSome, option_map}
 use Rattle.std.specs.Int.Digits.{AllBelowBase, digits_of}
 use Rattle.std.proofs.lemmas.Int.Digits.{all_below_base_digits_of}
 use Rattle.std.proofs.lemmas.Fmt.{decimal_digit, decimal-digits_of}
 use Rattle.std.proofs.lemmas.Bool.Decides.{nat_tests}
 use Rattle.c62_insn.specs.declared.insn.Insn.{Insn}
 use Rattle.c62_read.specs.Block.{Serial}
-use Rattle.c62_depend.specs.Plan.{insns_of}
+use Rattle.c62_depend.specs.Plan.{insns_of, IsPlan}
+use Rattle.c62_sheet.specs.Lawful.{Spots}
 use Rattle.c62_sheet.specs.Counts.{set_length}
-use Rattle.c62_bound.specs.declared.need.Need.{Need}
-use Rattle.c62_bound.specs.Bound.{FindsNeed}
-use Rattle.c62_bound.specs.Path.{IsPathLength}
-use Rattle.c62_bound.specs.Length.{IsLeastLength}
-use Rattle.c62_bound.proofs.Lengths.{least_with, least_without}
-use Rattle.c62_bound.proofs.Needs.{no_seating_shorter}
-use Rattle.c62_bound.proofs.Seated.{schedules_seated}
+use Rattle.c62_raised.specs.Laws.{IsSeatedAcross}
+use Rattle.c62_raised.proofs.Bound.{raised_bound_holds}
+use Rattle.c62_raised.proofs.Seated.{schedules_across}
+use Rattle.c62_raised.proofs.Sharper.{is_sharper}
 use Rattle.c62_show.specs.declared.limits.Limits.{Limits}
 use Rattle.c62_show.specs.declared.shown.Shown.{Shown}
-use Rattle.c62_show.specs.Limits.{least_of, needed}
-use Rattle.c62_show.specs.Head.{none_is_shorter, over_bound, verdict}
-use Rattle.c62_show.specs.Laws.{HeadIsTrue, HeadIsTrueOfSchedules, BoundIsLeastLength}
+use Rattle.c62_show.specs.Limits.{AreLimits, least_of}
+use Rattle.c62_show.specs.Head.{none_is_shorter, over_bound, verdict, verdict_by}
+use Rattle.c62_show.specs.Laws.{HeadIsTrue, HeadIsTrueOfSchedules, BoundIsRaised}
 
 -- ---- the bound
 
-least_of_both : (block : List Insn) (path : ℕ) (need : Option Need) → IsPathLength block path → FindsNeed block need → IsLeastLength block (max path (needed need))
-least_of_both block path None is_path empty =
-    let same : path ≡ max path 0 = omega arith in
-    subst (IsLeastLength block) same (least_without block path empty is_path)
-least_of_both block path (Some need) is_path is_need = least_with block path need is_path is_need
-
-pub bound_is_least : (block : Serial) (limits : Limits) → BoundIsLeastLength block limits
-bound_is_least block limits are = least_of_both (insns_of block) limits.path_length limits.need are.path_length are.need
+pub bound_is_raised : (block : Serial) (limits : Limits) → BoundIsRaised block limits
+bound_is_raised block limits are = (are.raised, λ least is. is_sharper (insns_of block) least limits.raised is are.raised)
 
 -- ---- the words
 
@@ -63,18 +55,25 @@ unfolding over_bound
 space_first least = refl
 
 -- a head that tells by how much a block is longer doesn't say that none is shorter
-tells_none : (cycles least : ℕ) → cycles ≤ 2048 → verdict cycles least ≡ none_is_shorter → cycles ≡ least
+tells_none : (cycles least : ℕ) → cycles ≤ 2048 → verdict_by cycles least ≡ none_is_shorter → cycles ≡ least
 tells_none cycles least small e = told (cycles == least) cycles least (over_bound least) refl small (space_first least) e
+
+least_bounds : (block : Serial) (limits : Option Limits) (set : Spots) (cycles : ℕ) → IfSome limits (AreLimits block) → IsPlan (insns_of block)
+    → IsSeatedAcross (insns_of block) set cycles → IfSome limits (λ known. least_of known ≤ cycles)
+least_bounds block None set cycles are plan seated = tt
+least_bounds block (Some limits) set cycles are plan seated =
+    (raised_bound_holds (insns_of block) set cycles plan seated).raised (least_of limits) are.raised
+
+none_by : (limits : Option Limits) (own cycles : ℕ) → own ≤ 2048 → IfSome limits (λ known. least_of known ≤ cycles)
+    → verdict own (option_map least_of limits) ≡ none_is_shorter → own ≤ cycles
+none_by None own cycles short bound e = let first : 116 ≡ 110 = ap (λ (word : List ℕ). get_or word 0 0) e in absurd (omega (arith, first))
+none_by (Some limits) own cycles short bound e = let same = tells_none own (least_of limits) short e in omega (arith, same, bound)
 
 pub head_is_true : (block : Serial) (shown : Shown) → HeadIsTrue block shown
 head_is_true block shown set cycles sound are plan seated =
-    let holds = no_seating_shorter (insns_of block) set cycles plan seated in
-    let bound : least_of shown.limits ≤ cycles = holds.least (least_of shown.limits) (bound_is_least block shown.limits are) in
-    record {
-      bound = bound;
-      none = λ e. let same = tells_none shown.packets.cycles (least_of shown.limits) sound.short e in omega (arith, same, bound);
-    }
+    let bound = least_bounds block shown.limits set cycles are plan seated in
+    record { bound = bound; none = none_by shown.limits shown.packets.cycles cycles sound.short bound }
 
 pub head_is_true_of_schedules : (block : Serial) (shown : Shown) → HeadIsTrueOfSchedules block shown
 head_is_true_of_schedules block shown set sound are plan lawful complete =
-    head_is_true block shown set (set_length (insns_of block) set) sound are plan (schedules_seated (insns_of block) set plan lawful complete)
+    head_is_true block shown set (set_length (insns_of block) set) sound are plan (schedules_across (insns_of block) set plan lawful complete)

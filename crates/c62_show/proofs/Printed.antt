@@ -1,7 +1,7 @@
 -- The row of each instruction is printed, with its cell.
-use Rattle.std.proofs.Common.{arith, ◌≡◌, ◌∙◌, ℕ, zero, suc, ◌+◌, ◌-◌, ◌<◌, ◌≤◌, Bool, true, false, ◌==◌, List, [], ◌∷◌, ◌++◌, length, get_or, Option, Some, None, refl, sym, ap, subst, cond, append_assoc, append-nil}
-use Rattle.std.specs.Prelude.{find, slice_get}
-use Rattle.std.specs.List.{flat_map, list_any, range_with_len}
+use Rattle.std.proofs.Common.{arith, ◌≡◌, ◌∙◌, ℕ, zero, suc, ◌+◌, ◌<◌, ◌≤◌, true, List, [], ◌∷◌, ◌++◌, length, get_or, Some, refl, sym, ap, subst, append_assoc, append-nil}
+use Rattle.std.specs.Prelude.{find, option_map, slice_get}
+use Rattle.std.specs.List.{flat_map, range_with_len}
 use Rattle.std.proofs.lemmas.Bool.Decides.{nat_tests}
 use Rattle.std.proofs.lemmas.List.FromFn.{get_or-range_with_len, length-range_with_len}
 use Rattle.std.proofs.lemmas.Option.{get_or_from_slice_get, same_Some, slice_get-get_or, slice_get_within}
@@ -17,11 +17,12 @@ use Rattle.c62_packet.specs.Packed.{IsPacketBlock, issue_of}
 use Rattle.c62_show.specs.declared.shown.Shown.{Shown}
 use Rattle.c62_grid.specs.declared.widths.Widths.{Widths}
 use Rattle.c62_grid.specs.Grid.{cell, cells, cycle_row, grid, heads, insn_cell, is_issued, is_on, packet, row_at, rows, use_row}
-use Rattle.c62_show.specs.Head.{name, path_line, size, units_line}
+use Rattle.c62_show.specs.Head.{name, size}
 use Rattle.c62_show.specs.Limits.{least_of}
 use Rattle.c62_show.specs.Laws.{AreAllPrinted, HasPart}
-use Rattle.c62_show.specs.Picture.{block_rows, block_text, blocks_from, gap, picture, rows_of, widths_of}
+use Rattle.c62_show.specs.Picture.{block_rows, block_text, blocks_from, gap, limit_lines, marked, rows_of, widths_of}
 use Rattle.c62_show.specs.Whys.{whys_table}
+use Rattle.c62_show.specs.Registers.{register_lines}
 use Rattle.c62_grid.specs.Words.{line}
 use Rattle.c62_show.proofs.Cells.{all_shown}
 
@@ -109,13 +110,14 @@ grid_part widths path cycles placed part has =
 
 -- ---- the block
 
-rows_part : (widths : Widths) (shown : Shown) (part : List ℕ) → HasPart (grid widths shown.limits.path.items shown.packets.cycles shown.packets.placed) part
+rows_part : (widths : Widths) (shown : Shown) (part : List ℕ) → HasPart (grid widths (marked shown.limits) shown.packets.cycles shown.packets.placed) part
     → HasPart (block_rows widths shown) part
 unfolding block_rows
 rows_part widths shown part has =
-    let above = size (length shown.packets.placed) shown.packets.cycles (least_of shown.limits) ++ path_line shown.limits ++ units_line shown.limits.need in
-    let drawn = grid widths shown.limits.path.items shown.packets.cycles shown.packets.placed in
-    before_text (above ++ drawn) (whys_table shown.whys.items) part (behind_text above drawn part has)
+    let above = size (length shown.packets.placed) shown.packets.cycles (option_map least_of shown.limits) ++ limit_lines shown.limits in
+    let drawn = grid widths (marked shown.limits) shown.packets.cycles shown.packets.placed in
+    before_text ((above ++ drawn) ++ whys_table shown.whys.items) (register_lines shown.lives) part
+    (before_text (above ++ drawn) (whys_table shown.whys.items) part (behind_text above drawn part has))
 
 told_part : (widths : Widths) (shown : Shown) (placed : List Placed) (k : ℕ) (p : Placed) (part : List ℕ) → slice_get placed k ≡ Some p
     → HasPart (block_rows widths shown) part → HasPart (rows_of widths shown placed) part
@@ -151,7 +153,7 @@ before_end each k p sound at =
 pub all_printed : (shown : List Shown) → AreAllPrinted shown
 all_printed shown number k each p at sound placed =
     let widths = widths_of shown in
-    let path = each.limits.path.items in
+    let path = marked each.limits in
     let row = line (cycle_row widths path each.packets.placed p.cycle) in
     let printed = row_part widths path each.packets.cycles each.packets.placed p.cycle (before_end each k p sound placed) (issued_in each.packets.placed k p placed) in
     let told = rows_part widths each row (grid_part widths path each.packets.cycles each.packets.placed row printed) in

@@ -1,6 +1,5 @@
 -- A table of whys that has a row.
 use Rattle.std.proofs.Common.{◌≡◌, List, [], ◌∷◌, length, refl}
-use Rattle.std.specs.Prelude.{ℕ}
 use Rattle.c62_why.specs.declared.why.Why.{Why}
 use Rattle.c62_show.specs.Whys.{whole_table, whys_table}
 

@@ -31,13 +31,18 @@ unfoldable pub over_bound : ℕ → List ℕ
 over_bound least = codes " over the bound of " ++ decimal least
 
 -- whether a block of so many cycles could be shorter, by how many cycles each schedule takes at least: `15 over the bound of 80`
-abbrev pub verdict : ℕ → ℕ → List ℕ
-verdict cycles least =
+abbrev pub verdict_by : ℕ → ℕ → List ℕ
+verdict_by cycles least =
     if cycles == least then none_is_shorter
     else decimal (cycles - least) ++ over_bound least
 
+-- the same, where that is known
+abbrev pub verdict : ℕ → Option ℕ → List ℕ
+verdict cycles None = codes "the bound isn't known"
+verdict cycles (Some least) = verdict_by cycles least
+
 -- `: 5 instructions in 7 cycles; no schedule is shorter`
-unfoldable pub size : ℕ → ℕ → ℕ → List ℕ
+unfoldable pub size : ℕ → ℕ → Option ℕ → List ℕ
 size count cycles least =
     codes ": " ++ counted count (codes "instruction") ++ codes " in " ++ counted cycles (codes "cycle") ++ codes "; " ++ verdict cycles least ++ codes "\n"
 

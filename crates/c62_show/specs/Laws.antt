@@ -1,5 +1,5 @@
 -- Laws of pictures.
-use Rattle.std.specs.Prelude.{◌≡◌, ℕ, ◌<◌, ◌≤◌, false, List, ◌++◌, find, Some, slice_get}
+use Rattle.std.specs.Prelude.{◌≡◌, ℕ, ◌<◌, ◌≤◌, false, List, ◌++◌, find, Some, IfSome, option_map, slice_get}
 use Rattle.c62_read.specs.Block.{Serial}
 use Rattle.c62_depend.specs.Plan.{insns_of, IsPlan}
 use Rattle.c62_sheet.specs.Lawful.{Spots, IsLawful}
@@ -8,37 +8,40 @@ use Rattle.c62_sheet.specs.Counts.{set_length}
 use Rattle.c62_packet.specs.declared.placed.Placed.{Placed}
 use Rattle.c62_packet.specs.Packed.{Packed, IsInListingOrder, IsPacketBlock}
 use Rattle.c62_bound.specs.Length.{IsLeastLength}
-use Rattle.c62_bound.specs.Laws.{IsSeated}
+use Rattle.c62_raised.specs.Raised.{IsRaisedLength}
+use Rattle.c62_raised.specs.Laws.{IsSeatedAcross}
 use Rattle.c62_show.specs.declared.limits.Limits.{Limits}
 use Rattle.c62_show.specs.declared.shown.Shown.{Shown}
 use Rattle.c62_show.specs.Limits.{AreLimits, least_of}
 use Rattle.c62_show.specs.Head.{verdict, none_is_shorter}
 use Rattle.c62_grid.specs.Grid.{cells, cycle_row, insn_cell, is_issued, is_on, next_issue, packet}
-use Rattle.c62_show.specs.Picture.{picture, widths_of}
+use Rattle.c62_show.specs.Picture.{marked, picture, widths_of}
 use Rattle.c62_grid.specs.Words.{line}
 
--- So many cycles are at least the bound, and where the head of a block says that no schedule is shorter, at least as many as
--- the block has.
+-- So many cycles are at least the bound that is told of a block, and where its head says that no schedule is shorter, at least as
+-- many as the block has.
 pub record IsNoShorter (shown : Shown) (cycles : ℕ) : Type 0 where
-  pub bound : least_of shown.limits ≤ cycles
-  pub none : verdict shown.packets.cycles (least_of shown.limits) ≡ none_is_shorter → shown.packets.cycles ≤ cycles
+  pub bound : IfSome shown.limits (λ limits. least_of limits ≤ cycles)
+  pub none : verdict shown.packets.cycles (option_map least_of shown.limits) ≡ none_is_shorter → shown.packets.cycles ≤ cycles
 
--- this holds of all in which each instruction has a cycle and a unit that takes it, on whichever side: so of all packets that
--- `check` calls the same as the block
+-- this holds of all in which each instruction has a cycle and a unit that takes it, on whichever side, and no two go over one
+-- cross path in a cycle: so of all packets that `check` calls the same as the block
 abbrev pub HeadIsTrue : Serial → Shown → Type 0
 HeadIsTrue block shown =
-    (set : Spots) (cycles : ℕ) → IsPacketBlock shown.packets → AreLimits block shown.limits → IsPlan (insns_of block) → IsSeated (insns_of block) set cycles
+    (set : Spots) (cycles : ℕ) → IsPacketBlock shown.packets → IfSome shown.limits (AreLimits block) → IsPlan (insns_of block) → IsSeatedAcross (insns_of block) set cycles
     → IsNoShorter shown cycles
 
 -- and of every lawful schedule that places all
 abbrev pub HeadIsTrueOfSchedules : Serial → Shown → Type 0
 HeadIsTrueOfSchedules block shown =
-    (set : Spots) → IsPacketBlock shown.packets → AreLimits block shown.limits → IsPlan (insns_of block) → IsLawful (insns_of block) set
+    (set : Spots) → IsPacketBlock shown.packets → IfSome shown.limits (AreLimits block) → IsPlan (insns_of block) → IsLawful (insns_of block) set
     → IsComplete (insns_of block) set → IsNoShorter shown (set_length (insns_of block) set)
 
--- the bound that is told of a block is its least length
-abbrev pub BoundIsLeastLength : Serial → Limits → Type 0
-BoundIsLeastLength block limits = AreLimits block limits → IsLeastLength (insns_of block) (least_of limits)
+-- the bound that is told of a block is its raised bound, and at least its least length
+abbrev pub BoundIsRaised : Serial → Limits → Type 0
+BoundIsRaised block limits =
+    AreLimits block limits
+    → IsRaisedLength (insns_of block) (least_of limits) × ((least : ℕ) → IsLeastLength (insns_of block) least → least ≤ least_of limits)
 
 -- from a cycle in which nothing is issued, nothing is issued before the next cycle of which the row tells
 abbrev pub IsIdleUntil : List Placed → ℕ → ℕ → Type 0
@@ -59,8 +62,8 @@ pub record HasPart (text part : List ℕ) : Type 0 where
 -- An instruction's row is printed, and in its cells that of the instruction: its line, the mark where that is on the path, and its
 -- mnemonic.
 pub record IsPrinted (shown : List Shown) (each : Shown) (p : Placed) : Type 0 where
-  pub row : HasPart (picture shown) (line (cycle_row (widths_of shown) each.limits.path.items each.packets.placed p.cycle))
-  pub cell : HasPart (cells (widths_of shown) each.limits.path.items (packet each.packets.placed p.cycle)) (insn_cell (widths_of shown) each.limits.path.items p)
+  pub row : HasPart (picture shown) (line (cycle_row (widths_of shown) (marked each.limits) each.packets.placed p.cycle))
+  pub cell : HasPart (cells (widths_of shown) (marked each.limits) (packet each.packets.placed p.cycle)) (insn_cell (widths_of shown) (marked each.limits) p)
 
 -- so is that of each instruction of the blocks
 abbrev pub AreAllPrinted : List Shown → Type 0

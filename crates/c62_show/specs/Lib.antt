@@ -1,5 +1,6 @@
 pub mod Limits
 pub mod Head
 pub mod Whys
+pub mod Registers
 pub mod Picture
 pub mod Laws

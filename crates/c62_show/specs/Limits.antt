@@ -1,13 +1,13 @@
--- How short a schedule of a block can be at best, and why (docs/SCHEDULING.md, "Needs").
-use Rattle.std.specs.Prelude.{◌≡◌, ℕ, ◌+◌, ◌-◌, max, List, length, map, Option, Some, None, slice_get}
+-- How short a schedule of a block can be at best, and why (docs/SCHEDULING.md, "Needs" and "Raised heights").
+use Rattle.std.specs.Prelude.{◌≡◌, ℕ, ◌+◌, ◌-◌, List, length, map, Option, Some, None, slice_get}
 use Rattle.c62_read.specs.declared.block.SerialInsn.{SerialInsn}
 use Rattle.c62_read.specs.Block.{Serial}
 use Rattle.c62_depend.specs.Plan.{insns_of}
 use Rattle.c62_depend.specs.Latency.{latency}
 use Rattle.c62_reason.specs.Reason.{IsReason}
-use Rattle.c62_bound.specs.declared.need.Need.{Need}
-use Rattle.c62_bound.specs.Bound.{FindsNeed, cycles_of}
+use Rattle.c62_bound.specs.Bound.{FindsNeed}
 use Rattle.c62_bound.specs.Path.{IsPathLength, IsCriticalPath}
+use Rattle.c62_raised.specs.Raised.{IsRaisedLength}
 use Rattle.c62_show.specs.declared.limits.Limits.{Limits}
 use Rattle.c62_show.specs.declared.limits.Step.{Step}
 
@@ -31,7 +31,7 @@ pub record AreSteps (block : Serial) (path : List ℕ) (steps : List Step) : Typ
   pub each : (k i j : ℕ) (step : Step) → slice_get path k ≡ Some i → slice_get path (k + 1) ≡ Some j → slice_get steps k ≡ Some step
       → IsStep block i j step
 
--- the length of the block's critical path, the lines of one and the steps between them, and the greatest need
+-- the length of the block's critical path, the lines of one and the steps between them, the greatest need, and the raised bound
 pub record AreLimits (block : Serial) (limits : Limits) : Type 0 where
   pub path_length : IsPathLength (insns_of block) limits.path_length
   pub path : List ℕ
@@ -39,12 +39,8 @@ pub record AreLimits (block : Serial) (limits : Limits) : Type 0 where
   pub lines : limits.path.items ≡ map (line_of block.insns) path
   pub steps : AreSteps block path limits.steps.items
   pub need : FindsNeed (insns_of block) limits.need
+  pub raised : IsRaisedLength (insns_of block) limits.raised
 
--- the cycles of a need, where there is one
-abbrev pub needed : Option Need → ℕ
-needed None = 0
-needed (Some need) = cycles_of need
-
--- how many cycles each schedule takes at least: those of the path, or of the need where that has more
+-- how many cycles each schedule takes at least
 abbrev pub least_of : Limits → ℕ
-least_of limits = max limits.path_length (needed limits.need)
+least_of limits = limits.raised

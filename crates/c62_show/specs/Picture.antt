@@ -1,6 +1,7 @@
 -- The picture of a text's blocks (docs/SHOW.md).
-use Rattle.std.specs.Prelude.{ℕ, ◌+◌, ◌==◌, List, [], ◌∷◌, ◌++◌, length, fold, codes, if◌then◌else◌}
+use Rattle.std.specs.Prelude.{ℕ, ◌+◌, ◌==◌, List, [], ◌∷◌, ◌++◌, length, fold, codes, if◌then◌else◌, Option, Some, None, option_map}
 use Rattle.c62_packet.specs.declared.placed.Placed.{Placed}
+use Rattle.c62_show.specs.declared.limits.Limits.{Limits}
 use Rattle.c62_show.specs.declared.shown.Shown.{Shown}
 use Rattle.c62_grid.specs.declared.widths.Widths.{Widths}
 use Rattle.c62_show.specs.Limits.{least_of}
@@ -8,15 +9,26 @@ use Rattle.c62_grid.specs.Widths.{least_widths, widths_with}
 use Rattle.c62_show.specs.Head.{name, size, path_line, units_line}
 use Rattle.c62_grid.specs.Grid.{grid}
 use Rattle.c62_show.specs.Whys.{whys_table}
+use Rattle.c62_show.specs.Registers.{register_lines}
+
+-- the lines of the critical path and of the greatest need, where they are known
+abbrev pub limit_lines : Option Limits → List ℕ
+limit_lines None = []
+limit_lines (Some limits) = path_line limits ++ units_line limits.need
+
+-- the lines that are marked: those of the critical path, where it is known
+abbrev pub marked : Option Limits → List ℕ
+marked None = []
+marked (Some limits) = limits.path.items
 
 -- what is told of a block that has instructions, behind its name
 unfoldable pub block_rows : Widths → Shown → List ℕ
 block_rows widths shown =
-    size (length shown.packets.placed) shown.packets.cycles (least_of shown.limits)
-    ++ path_line shown.limits
-    ++ units_line shown.limits.need
-    ++ grid widths shown.limits.path.items shown.packets.cycles shown.packets.placed
+    size (length shown.packets.placed) shown.packets.cycles (option_map least_of shown.limits)
+    ++ limit_lines shown.limits
+    ++ grid widths (marked shown.limits) shown.packets.cycles shown.packets.placed
     ++ whys_table shown.whys.items
+    ++ register_lines shown.lives
 
 abbrev pub rows_of : Widths → Shown → List Placed → List ℕ
 rows_of widths shown [] = codes ": no instruction\n"

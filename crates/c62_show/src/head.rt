@@ -4,7 +4,7 @@ ghost use Rattle.std.specs.Prelude.{◌≡◌, ◌++◌, OnOk, IfOk, codes, deci
 ghost use Rattle.std.specs.List.{flat_map};
 ghost use Rattle.std.specs.Option.{option_copied};
 ghost use Rattle.c62_listing.specs.Written.{AddsText};
-ghost use Rattle.c62_show.specs.Head.{name, over_bound, verdict, size, fact, lines_word, path_words, shared_words, step_words, bound_words, line_at, path_ends, listed_fact, path_fact, path_line, room_name, need_words, is_told, units_line};
+ghost use Rattle.c62_show.specs.Head.{name, over_bound, verdict_by, verdict, size, fact, lines_word, path_words, shared_words, step_words, bound_words, line_at, path_ends, listed_fact, path_fact, path_line, room_name, need_words, is_told, units_line};
 
 use crate::limits::{Limits, Step};
 use c62_bound::{Kind, Need};
@@ -47,8 +47,8 @@ fn push_over_bound(out: &mut String, least: u64) -> Result<(), AllocError>
 }
 
 /// By how much a block is longer than the bound.
-fn push_verdict(out: &mut String, cycles: u64, least: u64) -> Result<(), AllocError>
-    ensures { OnOk result (AddsText out.old (verdict cycles least) out.new) }
+fn push_verdict_by(out: &mut String, cycles: u64, least: u64) -> Result<(), AllocError>
+    ensures { OnOk result (AddsText out.old (verdict_by cycles least) out.new) }
 {
     if cycles == least {
         return out.push_str("no schedule is shorter");
@@ -57,13 +57,23 @@ fn push_verdict(out: &mut String, cycles: u64, least: u64) -> Result<(), AllocEr
     push_over_bound(out, least)
 }
 
+/// By how much a block is longer than the bound, where that is known.
+fn push_verdict(out: &mut String, cycles: u64, least: Option<u64>) -> Result<(), AllocError>
+    ensures { OnOk result (AddsText out.old (verdict cycles least) out.new) }
+{
+    match least {
+        Some(least) => push_verdict_by(out, cycles, least),
+        None => out.push_str("the bound isn't known"),
+    }
+}
+
 /// How many instructions and cycles a block has, and whether it could be shorter.
 #[tactic(auto, unfolding(crate::specs::Head::size))]
 pub(crate) fn push_size(
     out: &mut String,
     count: u64,
     cycles: u64,
-    least: u64,
+    least: Option<u64>,
 ) -> Result<(), AllocError>
     ensures { OnOk result (AddsText out.old (size count cycles least) out.new) }
 {

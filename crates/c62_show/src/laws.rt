@@ -5,20 +5,21 @@ ghost use Rattle.c62_packet.specs.declared.placed.Placed.{Placed};
 ghost use Rattle.c62_packet.specs.Packed.{Packed};
 ghost use Rattle.c62_read.specs.Block.{Serial};
 ghost use Rattle.c62_show.specs.declared.shown.Shown.{Shown};
-ghost use Rattle.c62_show.specs.Laws.{HeadIsTrue, HeadIsTrueOfSchedules, BoundIsLeastLength, IsIdleUntil, AreAllShown, AreAllPrinted};
+ghost use Rattle.c62_show.specs.Laws.{HeadIsTrue, HeadIsTrueOfSchedules, BoundIsRaised, IsIdleUntil, AreAllShown, AreAllPrinted};
 ghost use Rattle.c62_show.specs.declared.limits.Limits.{Limits};
 
 /// Where the head of a block says that no schedule is shorter, none is in which each instruction has a cycle and a unit that
-/// takes it, whichever is written, so that all bounds are kept; and none is shorter than the bound that it tells otherwise. So
+/// takes it, whichever is written, so that all bounds are kept and no two go over one cross path in a cycle; and none is shorter
+/// than the bound that it tells otherwise. So
 /// none of the packets that `check` calls the same as the block is, and no lawful set that places all instructions.
 pub fn heads_are_true()
     ensures seated { (block : Serial) (shown : Shown) → HeadIsTrue block shown }
     ensures lawful { (block : Serial) (shown : Shown) → HeadIsTrueOfSchedules block shown }
 {}
 
-/// The bound that is told of a block is its least length.
-pub fn bounds_are_least_lengths()
-    ensures { (block : Serial) (limits : Limits) → BoundIsLeastLength block limits }
+/// The bound that is told of a block is its raised bound, and at least its least length.
+pub fn bounds_are_raised()
+    ensures { (block : Serial) (limits : Limits) → BoundIsRaised block limits }
 {}
 
 /// In the cycles that stand in one row nothing is issued.

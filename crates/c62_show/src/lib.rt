@@ -4,10 +4,12 @@
 mod head;
 pub mod laws;
 mod limits;
+mod registers;
 mod shown;
 mod whys;
 
 pub use limits::{Limits, Step, limits_of};
+pub use registers::lives_told;
 pub use shown::{Shown, picture};
 
 #[cfg(test)]

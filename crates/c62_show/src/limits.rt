@@ -7,6 +7,7 @@ ghost use Rattle.c62_show.specs.Limits.{line_of, IsStep, AreSteps, AreLimits};
 
 use c62_bound::{Need, bound, critical_path, path_length};
 use c62_depend::Plan;
+use c62_raised::raised_length;
 use c62_reason::{Reason, reason_for};
 use std::alloc::{AllocError, Global};
 
@@ -32,6 +33,8 @@ pub struct Limits {
     pub steps: Vec<Step>,
     /// The greatest need. `None` where there is no instruction.
     pub need: Option<Need>,
+    /// How many cycles each schedule takes at least: the raised bound.
+    pub raised: u32,
 }
 
 impl Limits {
@@ -41,11 +44,7 @@ impl Limits {
     pub fn least(&self) -> u32
         ensures { result ≡ least_of self.now }
     {
-        let path = u32::from(self.path_length);
-        match self.need {
-            Some(need) => path.max(need.cycles()),
-            None => path,
-        }
+        self.raised
     }
 }
 
@@ -112,5 +111,6 @@ pub fn limits_of(alloc: Global, plan: &Plan) -> Result<Limits, AllocError>
         path: path_lines(alloc, plan, &path)?,
         steps: steps_of(alloc, plan, &path)?,
         need: bound(plan),
+        raised: raised_length(plan),
     })
 }

@@ -1,14 +1,17 @@
 //! The picture of a text's blocks.
 
-ghost use Rattle.std.specs.Prelude.{◌≡◌, ◌<◌, length, OnOk, IfOk, string_bytes};
+ghost use Rattle.std.specs.Prelude.{◌≡◌, ◌<◌, length, OnOk, IfOk, option_map, string_bytes};
+ghost use Rattle.c62_show.specs.Limits.{least_of};
 ghost use Rattle.c62_listing.specs.Written.{AddsText};
-ghost use Rattle.c62_show.specs.Picture.{block_rows, block_text, gap, picture, widths_of};
+ghost use Rattle.c62_show.specs.Picture.{block_rows, block_text, gap, limit_lines, marked, picture, widths_of};
 ghost use Rattle.c62_grid.specs.Widths.{widths_with};
 
 use crate::head::{push_name, push_path, push_size, push_units};
 use crate::limits::Limits;
+use crate::registers::push_registers;
 use crate::whys::push_whys;
 use c62_grid::{Grid, Widths, landings_of};
+use c62_live::Lives;
 use c62_packet::{PacketBlock, Placed};
 use c62_why::Why;
 use std::alloc::{AllocError, Global};
@@ -16,11 +19,13 @@ use std::alloc::{AllocError, Global};
 /// A block that is shown.
 #[derive(Drop)]
 pub struct Shown {
-    /// How short its packets could be at best.
-    pub limits: Limits,
+    /// How short its packets could be at best, where that is known.
+    pub limits: Option<Limits>,
     pub packets: PacketBlock,
     /// Why each of its instructions isn't issued a cycle earlier; empty where that isn't asked for.
     pub whys: Vec<Why>,
+    /// Its registers, where they are asked for.
+    pub lives: Option<Lives>,
 }
 
 /// Room for these instructions too.
@@ -45,6 +50,39 @@ fn widths_of(shown: &[Shown]) -> Widths
     widths
 }
 
+/// How many cycles each schedule of a block takes at least, where that is known.
+fn least_told(limits: &Option<Limits>) -> Option<u64>
+    ensures { result ≡ option_map least_of limits.now }
+{
+    match limits {
+        Some(limits) => Some(u64::from(limits.least())),
+        None => None,
+    }
+}
+
+/// The lines of the critical path, where it is known.
+fn marked(limits: &Option<Limits>) -> &[u32]
+    ensures { result.now ≡ marked limits.now }
+{
+    match limits {
+        Some(limits) => &limits.path,
+        None => &[],
+    }
+}
+
+/// Why each schedule of a block takes so many cycles, where that is known.
+fn push_limits(alloc: Global, out: &mut String, limits: &Option<Limits>) -> Result<(), AllocError>
+    ensures { OnOk result (AddsText out.old (limit_lines limits.now) out.new) }
+{
+    match limits {
+        Some(limits) => {
+            push_path(alloc, out, limits)?;
+            push_units(alloc, out, limits.need)
+        }
+        None => Ok(()),
+    }
+}
+
 /// What is told of a block that has instructions, behind its name.
 #[tactic(auto, unfolding(crate::specs::Picture::block_rows))]
 fn push_rows(
@@ -62,20 +100,20 @@ fn push_rows(
         out,
         placed.len() as u64,
         u64::from(cycles),
-        u64::from(shown.limits.least()),
+        least_told(&shown.limits),
     )?;
-    push_path(alloc, out, &shown.limits)?;
-    push_units(alloc, out, shown.limits.need)?;
+    push_limits(alloc, out, &shown.limits)?;
     let landings = landings_of(alloc, placed)?;
     let grid = Grid {
         widths,
-        path: &shown.limits.path,
+        path: marked(&shown.limits),
         cycles,
         placed,
         landings: &landings,
     };
     grid.push(alloc, out)?;
-    push_whys(out, &shown.whys)
+    push_whys(out, &shown.whys)?;
+    push_registers(out, &shown.lives)
 }
 
 /// A block.

@@ -1,6 +1,6 @@
 //! Pictures of blocks without instructions; those with instructions are shown from texts in a crate above.
 
-use crate::{Limits, Shown, picture};
+use crate::{Shown, picture};
 use c62_packet::PacketBlock;
 use c62_read::read_insn;
 use std::test::Fail;
@@ -21,14 +21,10 @@ fn blocks_without_instructions(rt: HostRuntime) -> Result<(), Fail> {
         let mut shown = Vec::new(rt.alloc());
         for line in *lines {
             shown.push(Shown {
-                limits: Limits {
-                    path_length: 0,
-                    path: Vec::new(rt.alloc()),
-                    steps: Vec::new(rt.alloc()),
-                    need: None,
-                },
+                limits: None,
                 packets: PacketBlock::new(read_insn(line)?.label, 0, Vec::new(rt.alloc()))?,
                 whys: Vec::new(rt.alloc()),
+                lives: None,
             })?;
         }
         let text = picture(rt.alloc(), &shown)?;

@@ -4,7 +4,7 @@ use c62_answer::run_on_bytes;
 use std::test::Fail;
 
 /// Words and a text, and the picture of its blocks.
-const SHOWN: [(&[&str], &[u8], &str); 11] = [
+const SHOWN: [(&[&str], &[u8], &str); 15] = [
     (&["show"], b"\r\n* \n", ""),
     (&["show", "--turns"], b"L:", "L: no instruction\n"),
     (
@@ -63,12 +63,12 @@ cycle   .L1    .S1    .M1    .D1    .L2    .S2    .M2    .D2    1X   2X   T1   T
 End_1: no instruction
 ",
     ),
-    // one cross path, which no need counts
+    // One cross path, for which both wait: so the bound is above the path, which no need reaches.
     (
         &["show", "--turns"],
         b"ADD A1,B1,A2\nSUB A3,B3,A4",
         "\
-block 0: 2 instructions in 2 cycles; 1 over the bound of 1
+block 0: 2 instructions in 2 cycles; no schedule is shorter
    path     1: line 1
 cycle   .L1    .S1    .M1    .D1    .L2    .S2    .M2    .D2    1X   2X   T1   T2 lands
     0 1*ADD    .      .      .      .      .      .      .       1    .    .    .
@@ -149,6 +149,66 @@ cycle   .L1    .S1    .M1    .D1    .L2    .S2    .M2    .D2    1X   2X   T1   T
      4     0     1  -
      5     1     0  T1 taken by 4
      6     2     3  after 3 needs 2 reads A4
+",
+    ),
+    // the registers of a load that is waited for
+    (
+        &["show", "--turns", "--registers"],
+        b"LDW *A4,A5\nADD A5,A5,A6",
+        "\
+block 0: 2 instructions in 6 cycles; no schedule is shorter
+   path     6: lines 1 -A5:5- 2
+cycle   .L1    .S1    .M1    .D1    .L2    .S2    .M2    .D2    1X   2X   T1   T2 lands
+    0   .      .      .    1*LDW    .      .      .      .       .    .    1    .
+  1-4   idle, landing: A5 in 4
+    5 2*ADD    .      .      .      .      .      .      .       .    .    .    .
+  use   16%    -      -      16%    -      -      -      -       -    -  16%    -
+  live A: 1 at most, in cycle 0; unused A0 A1 A2 A3 A7 A8 A9 A10 A11 A12 A13 A14 A15
+  live B: 0 at most, in cycle 0; unused B0 B1 B2 B3 B4 B5 B6 B7 B8 B9 B10 B11 B12 B13 B14 B15
+  live behind the block: not known
+",
+    ),
+    // a listing as it stands: the sum reads what A5 held before
+    (
+        &["show", "--listing"],
+        b"   LDW .D1T1 *A4,A5\n   ADD .L1 A5,A5,A6\n   NOP 3\n",
+        "\
+block 0: 2 instructions in 5 cycles; no schedule is shorter
+   path     5: line 1
+cycle   .L1    .S1    .M1    .D1    .L2    .S2    .M2    .D2    1X   2X   T1   T2 lands
+    0   .      .      .    1*LDW    .      .      .      .       .    .    1    .
+    1 2 ADD    .      .      .      .      .      .      .       .    .    .    .
+  2-4   idle, landing: A5 in 4
+  use   20%    -      -      20%    -      -      -      -       -    -  20%    -
+",
+    ),
+    // packets as they are written, with the lines of their text
+    (
+        &["show", "--packets", "--why"],
+        b"loop:  LDW .D1 *A4,A5 ; a word\n    || MVK .S1 1,A1\n       NOP 5\n       ADD .L1 A5,A1,A6\n",
+        "\
+loop: 3 instructions in 7 cycles; 1 over the bound of 6
+   path     6: lines 1 -A5:5- 4
+cycle   .L1    .S1    .M1    .D1    .L2    .S2    .M2    .D2    1X   2X   T1   T2 lands
+    0   .    2 MVK    .    1*LDW    .      .      .      .       .    .    1    .
+  1-5   idle, landing: A5 in 4
+    6 4*ADD    .      .      .      .      .      .      .       .    .    .    .
+  use   14%    14%    -      14%    -      -      -      -       -    -  14%    -
+  line cycle slack  not a cycle earlier
+     2     0     5  -
+     1     0     1  -
+     4     6     0  nothing
+",
+    ),
+    // no serial text has each of two instructions read what the other writes
+    (
+        &["show", "--listing", "--why"],
+        b"   ADD .L1 A1,A3,A2\n|| ADD .S1 A2,A3,A1\n",
+        "\
+block 0: 2 instructions in 1 cycle; the bound isn't known
+cycle   .L1    .S1    .M1    .D1    .L2    .S2    .M2    .D2    1X   2X   T1   T2 lands
+    0 1 ADD  2 ADD    .      .      .      .      .      .       .    .    .    .
+  use   100%   100%   -      -      -      -      -      -       -    -    -    -
 ",
     ),
 ];
@@ -262,6 +322,37 @@ fn pictures_of_long_texts(rt: HostRuntime) -> Result<(), Fail> {
         assert_eq!(rt; ran.status, 0);
         assert!(rt; ran.output.starts_with(front.as_bytes()));
         assert!(rt; ran.errors.is_empty());
+    }
+    Ok(())
+}
+
+/// Words, a text that isn't what they ask for, and what is told.
+const REFUSED: [(&[&str], &[u8], &str); 4] = [
+    (&["show", "--listing"], b"MVK 1,A1\n", "line 1: Shape\n"),
+    (
+        &["show", "--listing"],
+        b"   LDW .D1T1 *A4,A5\n",
+        "block 0: NotDrained\n",
+    ),
+    (
+        &["show", "--packets"],
+        b" FOO\n",
+        "line 1: UnknownMnemonic\n",
+    ),
+    (
+        &["show", "--packets"],
+        b" MVK .S1 1,A1\n || MVK .S1 2,A2\n",
+        "line 2: P1\n",
+    ),
+];
+
+#[test]
+fn packets_that_are_none(rt: HostRuntime) -> Result<(), Fail> {
+    for (words, text, told) in &REFUSED {
+        let ran = run_on_bytes(&rt, *words, text);
+        assert_eq!(rt; ran.status, 1);
+        assert!(rt; ran.output.is_empty());
+        assert_eq!(rt; ran.errors.as_slice(), told.as_bytes());
     }
     Ok(())
 }

@@ -398,12 +398,16 @@ Options:
         &["show", "--help"],
         "Packs serial text and shows each block's schedule, and how short one can be
 
-Usage: c62 show [--why] [--turns] [--eject <N>] [-o <FILE>] [FILE]
+Usage: c62 show [--why] [--registers] [--turns] [--eject <N>] [-o <FILE>] [FILE]
+       c62 show --listing|--packets [--why] [--registers] [-o <FILE>] [FILE]
 
 Options:
       --turns      Packs on one thread, one side after the other
       --eject <N>  Ejects at most N placed instructions of a block, 0 to 1000; 0 where none is given
+      --listing    Reads a listing, and shows the schedule that stands there
+      --packets    Reads packets as they are written, and shows the schedule that stands there
       --why        Tells why each instruction isn't issued a cycle earlier, and its slack
+      --registers  Tells how many registers of each side are live at most, and which are free
   -h, --help       Print help
 ",
         "c62 show --why kernel.s",

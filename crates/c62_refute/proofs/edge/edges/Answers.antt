@@ -1,4 +1,4 @@
-use Rattle.std.proofs.Common.{arith, sym, subst, List, All, pos, ◌∙◌}
+use Rattle.std.proofs.Common.{sym, subst, List, All, pos}
 use Rattle.std.proofs.lemmas.List.Elements.{All-push}
 use Rattle.c62_depend.specs.Plan.{insns_of}
 use Rattle.c62_depend.specs.declared.links.Link.{Link}

@@ -1,10 +1,10 @@
-use Rattle.std.proofs.Common.{arith, ◌≡◌, ◌<◌, length, sym, ap, ◌∙◌, get_or, subst, Some}
+use Rattle.std.proofs.Common.{arith, ◌≡◌, ◌<◌, length, sym, ap, ◌∙◌, subst, Some}
 use Rattle.std.specs.Prelude.{slice_set}
 use Rattle.std.proofs.lemmas.List.{length-set}
 use Rattle.std.proofs.lemmas.Option.{slice_get-get_or}
 use Rattle.c62_depend.specs.Plan.{insns_of}
 use Rattle.c62_refute.specs.declared.window.Window.{Window as Cycles}
-use Rattle.c62_refute.specs.Window.{HoldNone, KeepAll, IsKept, IsShrunk}
+use Rattle.c62_refute.specs.Window.{HoldNone, KeepAll, IsKept}
 use Rattle.c62_refute.proofs.Holding.{keep_without, none_before}
 use Rattle.c62_refute.proofs.search.+search_in.Goals as goal
 

@@ -1,7 +1,6 @@
 use Rattle.std.proofs.Common.{◌≡◌}
 use Rattle.std.proofs.lemmas.Result.{IfOk-weaker}
 use Rattle.c62_depend.specs.Plan.{insns_of}
-use Rattle.c62_refute.specs.declared.search.Search.{Search as Found}
 use Rattle.c62_refute.specs.declared.search.Search.TheVariants.{Refuted}
 use Rattle.c62_refute.specs.Window.{HoldNone, IsRefuted}
 use Rattle.c62_refute.proofs.Holding.{none_refuted}

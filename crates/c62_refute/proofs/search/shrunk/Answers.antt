@@ -1,6 +1,5 @@
-use Rattle.std.proofs.Common.{arith, ◌≡◌, length, ap, ◌∙◌}
+use Rattle.std.proofs.Common.{arith, ◌≡◌, length, ap}
 use Rattle.std.proofs.lemmas.List.{with_items_is}
-use Rattle.c62_depend.specs.Plan.{insns_of}
 use Rattle.c62_refute.specs.declared.window.Window.{Window as Cycles}
 use Rattle.c62_refute.proofs.search.shrunk.Goals as goal
 

@@ -1,9 +1,8 @@
-use Rattle.std.proofs.Common.{arith, ◌≡◌, ◌<◌, length, refl, ap, ◌∙◌}
+use Rattle.std.proofs.Common.{arith, ◌≡◌, length}
 use Rattle.std.specs.Prelude.{slice_set}
 use Rattle.std.proofs.lemmas.List.{length-set}
 use Rattle.c62_depend.specs.Plan.{insns_of}
 use Rattle.c62_depend.proofs.Plans.{many_insns}
-use Rattle.c62_refute.specs.declared.window.Window.{Window as Cycles}
 use Rattle.c62_refute.proofs.Holding.{edge_before, edge_within, window_at, keep_edge_by}
 use Rattle.c62_refute.proofs.shrink.keep_edge.Goals as goal
 

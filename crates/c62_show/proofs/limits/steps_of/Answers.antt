@@ -1,4 +1,4 @@
-use Rattle.std.proofs.Common.{rules, arith, ◌≡◌, ◌<◌, ◌-◌, length, get_or, List, sym, subst}
+use Rattle.std.proofs.Common.{arith, ◌-◌, get_or, List, sym, subst}
 use Rattle.std.proofs.lemmas.Option.{slice_get-get_or}
 use Rattle.c62_depend.specs.Plan.{insns_of}
 use Rattle.c62_show.specs.declared.limits.Step.{Step}

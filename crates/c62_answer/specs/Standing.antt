@@ -1,0 +1,34 @@
+-- Pictures of packets as they stand (docs/SHOW.md, "Packets as they stand").
+use Rattle.std.specs.Prelude.{◌≡◌, ℕ, false, List}
+use Rattle.std.specs.List.{AllZip}
+use Rattle.c62_packet.specs.Packed.{Packed}
+use Rattle.c62_listing_reader.specs.Faults.{IsRead}
+use Rattle.c62_adopt.specs.Answer.{IsAdopted}
+use Rattle.c62_show.specs.declared.shown.Shown.{Shown}
+use Rattle.c62_show.specs.Picture.{picture}
+use Rattle.c62_standing.specs.declared.standing.Details.{Details}
+use Rattle.c62_standing.specs.Standing.{IsStanding}
+use Rattle.c62_command.specs.declared.command.Showing.{Showing}
+
+-- what is told of packets beside their picture
+abbrev pub details_of : Showing → Details
+details_of showing = record { why = showing.why; registers = showing.registers }
+
+-- This is the picture of these packets as they stand. What is told of each block is told of a serial block of which it is a schedule;
+-- so what its head tells of shorter schedules is true.
+pub record IsDrawn (showing : Showing) (packets : List Packed) (answer : List ℕ) : Type 0 where
+  pub shown : List Shown
+  pub standing : AllZip (IsStanding (details_of showing)) packets shown
+  pub drawn : answer ≡ picture shown
+
+-- the text is a listing, and this the picture of its packets
+pub record IsShownListing (showing : Showing) (text answer : List ℕ) : Type 0 where
+  pub packets : List Packed
+  pub read : IsRead text packets
+  pub drawn : IsDrawn showing packets answer
+
+-- the text is adopted as packets as it stands, and this is their picture
+pub record IsShownPackets (showing : Showing) (text answer : List ℕ) : Type 0 where
+  pub packets : List Packed
+  pub adopted : IsAdopted false text packets 0
+  pub drawn : IsDrawn showing packets answer

@@ -1,0 +1,59 @@
+//! Pictures of packets as they stand.
+
+ghost use Rattle.std.specs.Prelude.{◌≡◌, IfOk};
+ghost use Rattle.c62_command.specs.CommandLine.{ListingPicture, PacketsPicture};
+ghost use Rattle.c62_answer.specs.Run.{Gives};
+ghost use Rattle.c62_answer.specs.Standing.{IsDrawn, details_of};
+
+use crate::answer::{packets_in, picture_of};
+use crate::failure::Failure;
+use crate::outcome::{Outcome, Reply};
+use c62_adopt::adopt;
+use c62_adopt::laws::texts_that_stand_lack_nothing;
+use c62_command::Showing;
+use c62_packet::Packets;
+use c62_standing::{Details, shown_as_they_stand};
+use std::alloc::{AllocError, Global};
+
+/// What is told of packets beside their picture.
+fn details_of(showing: Showing) -> Details
+    ensures { result ≡ details_of showing }
+{
+    Details {
+        why: showing.why,
+        registers: showing.registers,
+    }
+}
+
+/// The picture of packets as they stand.
+fn drawn(alloc: Global, packets: &Packets, showing: Showing) -> Result<Vec<u8>, AllocError>
+    ensures { IfOk result (λ text. IsDrawn showing packets.now text.items) }
+{
+    let shown = shown_as_they_stand(alloc, packets, details_of(showing))?;
+    let text = picture_of(alloc, &shown)?;
+    Ok(text)
+}
+
+/// The picture of the packets of a listing, as they stand.
+pub(crate) fn show_listing(alloc: Global, text: &[u8], showing: Showing) -> Result<Reply, Failure>
+    ensures { Gives (ListingPicture showing) text.now result }
+{
+    let packets = packets_in(alloc, text)?;
+    Ok(Reply {
+        text: drawn(alloc, &packets, showing)?,
+        outcome: Outcome::Done,
+    })
+}
+
+/// The picture of the packets of a text as people and compilers write them, as they stand.
+pub(crate) fn show_packets(alloc: Global, text: &[u8], showing: Showing) -> Result<Reply, Failure>
+    ensures { Gives (PacketsPicture showing) text.now result }
+{
+    let adopted = adopt(alloc, text, false)?;
+    // It tells that no cycle is added where the text isn't drained.
+    texts_that_stand_lack_nothing();
+    Ok(Reply {
+        text: drawn(alloc, &adopted.packets, showing)?,
+        outcome: Outcome::Done,
+    })
+}

@@ -1,0 +1,11 @@
+pub mod Chains
+pub mod Loops
+pub mod Leads
+pub mod Seated
+pub mod Bound
+pub mod Crowds
+pub mod Heights
+pub mod Places
+pub mod Lengths
+pub mod Sharper
+pub mod Unique

@@ -1,0 +1,55 @@
+use Rattle.std.proofs.Common.{arith, ◌≡◌, ◌-◌, ◌*◌, ◌≤◌, ◌<◌, length, refl, sym, ap, ◌∙◌}
+use Rattle.std.specs.Prelude.{slice_index}
+use Rattle.std.proofs.lemmas.List.{length-set}
+use Rattle.c62_depend.specs.Plan.{insns_of}
+use Rattle.c62_depend.specs.Height.{delay_at, delay_in}
+use Rattle.c62_op.specs.Shape.{delay_of}
+use Rattle.c62_insn.specs.Insn.{op_of}
+use Rattle.c62_depend.proofs.Plans.{many_insns}
+use Rattle.c62_depend.proofs.Latencies.{delay_of-small}
+use Rattle.c62_raised.specs.Chain.{lead_in}
+use Rattle.c62_raised.specs.Raised.{IsRaised}
+use Rattle.c62_raised.specs.Steps.{AreSmall}
+use Rattle.c62_raised.proofs.Heights.{no_height, raised_low, one_more_raised, one_more_low}
+use Rattle.c62_raised.proofs.Loops.{small_longest}
+use Rattle.c62_raised.proofs.height.heights.Goals as goal
+
+pub loop-i-init : goal.loop-i-init
+loop-i-init c = record {
+  long = refl;
+  raised = λ k high within. absurd (omega (arith, high, within, c.len-i.ensures.len, many_insns c.args.plan.now.insns));
+  low = λ j. omega (arith, no_height 256 j);
+}
+
+pub raised-requires-clause-small : goal.raised-requires-clause-small
+raised-requires-clause-small c =
+    rw c.as_slice.ensures.value
+    (small_longest (insns_of c.args.plan.now) (c.loop-i.i - 1) c.leads-leads.result.items c.len-i.ensures.sound.few c.leads-leads.ensures.are)
+
+pub loop-i-preserved : goal.loop-i-preserved
+loop-i-preserved c =
+    let block = insns_of c.args.plan.now in
+    let known = c.loop-i.invariant in
+    let old = c.loop-i.heights in
+    let i = c.loop-i.i - 1 in
+    let h = c.raised.result in
+    let leads = c.leads-leads.result.items in
+    let few = c.len-i.ensures.sound.few in
+    let many = many_insns c.args.plan.now.insns in
+    let some = c.loop-i-test.true in
+    let top : c.loop-i.i ≤ length block = omega (arith, c.loop-i.auto.i, c.len-i.ensures.len, many) in
+    let inside : i < length old = omega (arith, some, top, few, known.long) in
+    let small : AreSmall leads = small_longest block i leads few c.leads-leads.ensures.are in
+    let delays : c.delay-delay.result ≡ delay_at block i = c.delay-delay.ensures ∙ sym (ap delay_in c.insn.ensures) in
+    let is : IsRaised block (slice_index old) (lead_in leads) (delay_at block i) h =
+    rw delays at (rw c.as_slice.ensures.value at c.raised.ensures.is) in
+    let short : delay_at block i ≤ 255 = (let own : delay_at block i ≡ delay_of (op_of c.insn.result) = ap delay_in c.insn.ensures in
+    omega (arith, own, delay_of-small (op_of c.insn.result))) in
+    let up = raised_low block (slice_index old) (lead_in leads) (delay_at block i) h (1536 * (length block - c.loop-i.i)) few
+    short small known.low is.attained in
+    rw c.from.ensures (record {
+      long = omega (arith, length-set old i h, known.long);
+      raised = one_more_raised block i old h inside (lead_in leads) c.leads-leads.ensures.are is (λ k low within. known.raised k (omega (arith, low, some)) within);
+      low = one_more_low block i old h inside (1536 * (length block - c.loop-i.i)) (1536 * (length block - i)) known.low (omega (arith, up, some, top))
+          (omega (arith, some, top));
+    })

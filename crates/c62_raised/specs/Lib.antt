@@ -1,0 +1,6 @@
+pub mod Room
+pub mod Chain
+pub mod Crowd
+pub mod Raised
+pub mod Steps
+pub mod Laws

@@ -1,0 +1,75 @@
+//! How many cycles follow behind an instruction at least.
+
+ghost use Rattle.std.specs.Prelude.{◌≡◌, ◌<◌, ◌≤◌, length, slice_index};
+ghost use Rattle.c62_depend.specs.Height.{raised};
+ghost use Rattle.c62_depend.specs.Plan.{insns_of};
+ghost use Rattle.c62_raised.specs.Chain.{lead_in};
+ghost use Rattle.c62_raised.specs.Raised.{IsRaised, AreRaised};
+ghost use Rattle.c62_raised.specs.Steps.{AreSmall, AreLow, IsWithOne, IsWithOnes};
+
+use crate::crowd::{Heights, with_room};
+use crate::lead::leads;
+use crate::room::ROOMS;
+use c62_depend::Plan;
+use c62_read::MOST_INSTRUCTIONS;
+
+/// So many cycles before a height: 0 where that is below 0.
+fn raised_by(before: i32, height: u32) -> u64
+    ensures { result ≡ raised before height }
+{
+    let sum = i64::from(before) + i64::from(height);
+    if sum < 0 { 0 } else { sum as u64 }
+}
+
+/// The greater of so many cycles, and those of an instruction that comes behind.
+fn with_one(before: Option<i32>, height: u32, least: u64) -> u64
+    ensures { IsWithOne before height least result }
+{
+    match before {
+        Some(cycles) => least.max(raised_by(cycles, height)),
+        None => least,
+    }
+}
+
+/// The greatest of a delay, and the cycles of each instruction that comes behind.
+fn with_ones(leads: &[Option<i32>], heights: &Heights, delay: u8) -> u64
+    requires { length leads.now ≤ MOST_INSTRUCTIONS }
+    ensures { IsWithOnes (slice_index heights.now) (lead_in leads.now) delay result }
+{
+    let mut most = u64::from(delay);
+    for j in 0..leads.len() {
+        most = with_one(leads[j], heights[j], most);
+    }
+    most
+}
+
+/// How many cycles follow behind an instruction with this delay: the greatest of this, the cycles of each instruction that
+/// comes behind, and those of each crowd.
+pub(crate) fn raised(plan: &Plan, leads: &[Option<i32>], heights: &Heights, delay: u8) -> u32
+    requires few { length leads.now ≤ MOST_INSTRUCTIONS }
+    requires long { length leads.now ≡ length (insns_of plan.now) }
+    requires small { AreSmall leads.now }
+    requires low { AreLow 1000000 heights.now }
+    ensures is { IsRaised (insns_of plan.now) (slice_index heights.now) (lead_in leads.now) delay result }
+    ensures low { result ≤ 1001536 }
+{
+    let mut most = with_ones(leads, heights, delay);
+    for room in ROOMS {
+        most = with_room(plan, room, leads, heights, most);
+    }
+    most as u32
+}
+
+/// The raised height of each instruction, found from the last one up.
+pub(crate) fn heights(plan: &Plan) -> Heights
+    ensures raised { AreRaised (insns_of plan.now) (slice_index result) }
+    ensures low { AreLow 1000000 result }
+{
+    let mut heights = [0; MOST_INSTRUCTIONS];
+    for i in (0..plan.len()).rev() {
+        let leads = leads(plan, i);
+        let delay = plan.insn(i).delay();
+        heights[usize::from(i)] = raised(plan, leads.as_slice(), &heights, delay);
+    }
+    heights
+}

@@ -1,0 +1,21 @@
+//! How long each schedule of a block is at least, by raised heights.
+
+ghost use Rattle.c62_depend.specs.Plan.{insns_of};
+ghost use Rattle.c62_raised.specs.Raised.{IsRaisedLength};
+
+use crate::height::{heights, raised};
+use crate::lead::at_once;
+use c62_depend::Plan;
+
+/// How many cycles each schedule of a block takes at least: its first one, and what follows behind it by raised heights;
+/// and 0 where it has no instruction.
+pub fn raised_length(plan: &Plan) -> u32
+    ensures { IsRaisedLength (insns_of plan.now) result }
+{
+    if plan.len() == 0 {
+        return 0;
+    }
+    let heights = heights(plan);
+    let leads = at_once(plan);
+    raised(plan, leads.as_slice(), &heights, 0) + 1
+}
