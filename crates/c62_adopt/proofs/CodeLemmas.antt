@@ -1,17 +1,19 @@
 -- A text is adopted as its code is, and refused where it has none.
-use Rattle.std.proofs.Common.{◌≡◌, ◌<◌, ◌≤◌, ◌+◌, ◌∙◌, ap, sym, refl, subst, ℕ, Bool, List, length, Ok, Err, take, arith, inl, inr}
+use Rattle.std.proofs.Common.{◌≡◌, ◌<◌, ◌≤◌, ◌+◌, ◌∙◌, ap, sym, refl, subst, ℕ, Bool, List, Option, length, Ok, Err, take, arith, inl, inr}
 use Rattle.std.specs.Prelude.{Result, nat_lt}
 use Rattle.std.proofs.lemmas.Bool.{cases_lt, le-ltb, lt-ltb}
 use Rattle.std.proofs.lemmas.List.{take_all, length-take}
 use Rattle.c62_packet.specs.Packed.{Packed}
 use Rattle.c62_adopt_cut.specs.Text.{Cut, most_bytes, text_cut}
+use Rattle.c62_adopt_late.specs.declared.late.Late.{Late}
+use Rattle.c62_adopt_late.specs.Late.{first_late}
 use Rattle.c62_adopt_code.specs.declared.fault.CodeFault.{CodeFault}
 use Rattle.c62_adopt_code.specs.declared.fault.CodeFault.TheVariants.{At, Memory as NoMemory}
 use Rattle.c62_adopt_code.specs.Code.{Refusal as CodeRefusal, code_of}
 use Rattle.c62_adopt_code.specs.Told.{FailsWith}
 use Rattle.c62_adopt.specs.declared.fault.AdoptFault.{AdoptFault}
 use Rattle.c62_adopt.specs.declared.fault.AdoptFault.TheVariants.{Text, Rule, Memory, Code}
-use Rattle.c62_adopt.specs.Answer.{IsAdopted, IsAdoptedFrom, IsCoded, LacksCode, Refuses, RefusesCut, code_in, code_read}
+use Rattle.c62_adopt.specs.Answer.{IsAdopted, IsAdoptedFrom, IsCoded, LacksCode, Refuses, RefusesCut, code_cut, code_in, code_read}
 use Rattle.c62_adopt.specs.FaultText.{fault_from}
 
 -- a text that is too long is read as far as that shows
@@ -30,6 +32,11 @@ pub adopted_by : (drain : Bool) (text code : List ℕ) (packets : List Packed) (
 adopted_by drain text code packets added is from =
     let same = coded_by text code is in
     record { coded = is ∙ ap Ok (sym same); read = subst (λ (c : List ℕ). IsAdoptedFrom drain (text_cut c) packets added) (sym same) from }
+
+-- the first late register of the code is the text's
+pub late_by : (text code : List ℕ) (late : Option Late) → code_read text ≡ Ok code → late ≡ first_late (text_cut code)
+    → late ≡ first_late (code_cut text)
+late_by text code late is found = found ∙ ap (λ (c : List ℕ). first_late (text_cut c)) (sym (coded_by text code is))
 
 pub refused_by : (drain : Bool) (text code : List ℕ) (fault : AdoptFault) → code_read text ≡ Ok code → RefusesCut drain (text_cut code) fault
     → Refuses drain text fault

@@ -7,7 +7,8 @@ ghost use Rattle.c62_packet.specs.Packets.{is_closed};
 ghost use Rattle.c62_adopt_cut.specs.Text.{text_cut};
 ghost use Rattle.c62_adopt_cut.specs.Drafted.{draft_of, refusal_of, cut_of};
 ghost use Rattle.c62_adopt_cut.specs.Flight.{first_in_flight, or_behind};
-ghost use Rattle.c62_adopt.specs.Answer.{IsAdopted, IsAdoptedFrom, LacksCode, Refuses, RefusesCut, code_read};
+ghost use Rattle.c62_adopt.specs.Answer.{IsAdopted, IsAdoptedFrom, LacksCode, Refuses, RefusesCut, code_cut, code_read};
+ghost use Rattle.c62_adopt_late.specs.Late.{first_late};
 ghost use Rattle.c62_adopt.specs.Blocks.{IsBlockOf};
 ghost use Rattle.c62_adopt.specs.Packing.{IsSound};
 
@@ -16,6 +17,7 @@ use crate::fault::AdoptFault;
 use crate::listed::listed;
 use c62_adopt_code::code_of;
 use c62_adopt_cut::{Cut, Draft, MOST_BYTES, TextFault, cycles_lacking, first_in_flight, read_cut};
+use c62_adopt_late::{Late, first_late};
 use c62_line::copied_label;
 use c62_packet::{PacketBlock, Packets};
 use std::alloc::{AllocError, Global};
@@ -26,6 +28,8 @@ pub struct Adopted {
     pub packets: Packets,
     /// How many cycles were added to drain the text.
     pub added: u64,
+    /// The first register that is read below a block of the text before what lands in it there.
+    pub late: Option<Late>,
 }
 
 /// The packet block of a block of a text.
@@ -74,6 +78,7 @@ fn fault_of(cut: &Cut, drain: bool) -> Option<TextFault>
 /// The packets of a text's code. Where this is drained, the cycles that lack are added before the ends of its blocks; otherwise none are.
 fn adopt_code(alloc: Global, code: &[u8], drain: bool) -> Result<Adopted, AdoptFault>
     ensures adopted { MatchResult result (λ adopted. IsAdoptedFrom drain (text_cut code.now) adopted.packets adopted.added) (λ fault. RefusesCut drain (text_cut code.now) fault) }
+    ensures late { IfOk result (λ adopted. adopted.late ≡ first_late (text_cut code.now)) }
     ensures closed { IfOk result (λ adopted. IsTrue (is_closed adopted.packets)) }
 {
     let cut = read_cut(alloc, code)?;
@@ -87,6 +92,7 @@ fn adopt_code(alloc: Global, code: &[u8], drain: bool) -> Result<Adopted, AdoptF
     Ok(Adopted {
         packets,
         added: cycles_lacking(&cut),
+        late: first_late(&cut),
     })
 }
 
@@ -113,7 +119,8 @@ pub fn read_code(alloc: Global, text: &[u8]) -> Result<Vec<u8>, AdoptFault>
 
 /// The packets of a text of packets, as people and compilers write them (docs/ADOPT.md). Each instruction stands in the cycle and
 /// on the unit in which the text has it, and each branch to a label goes to a block that has it. Where the text is drained, the
-/// cycles that lack are added before the ends of its blocks; otherwise none are.
+/// cycles that lack are added before the ends of its blocks; otherwise none are. Of a text that lacks cycles the first register is told that is read
+/// below a block before what lands in it there.
 ///
 /// # Errors
 ///
@@ -121,9 +128,10 @@ pub fn read_code(alloc: Global, text: &[u8]) -> Result<Vec<u8>, AdoptFault>
 /// packet rule together with those above it in its block, as far as the text is read. `Text` for the first line that has another fault by itself
 /// or because of the lines above it, and else for the first that has one because of the lines below it. `Memory` where memory ran out, which may
 /// come in place of any answer.
-#[tactic(auto, using(crate::proofs::CodeLemmas::adopted_by, crate::proofs::CodeLemmas::refused_by, crate::proofs::CodeLemmas::refused_uncoded))]
+#[tactic(auto, using(crate::proofs::CodeLemmas::adopted_by, crate::proofs::CodeLemmas::late_by, crate::proofs::CodeLemmas::refused_by, crate::proofs::CodeLemmas::refused_uncoded))]
 pub fn adopt(alloc: Global, text: &[u8], drain: bool) -> Result<Adopted, AdoptFault>
     ensures adopted { MatchResult result (λ adopted. IsAdopted drain text.now adopted.packets adopted.added) (λ fault. Refuses drain text.now fault) }
+    ensures late { IfOk result (λ adopted. adopted.late ≡ first_late (code_cut text.now)) }
     ensures closed { IfOk result (λ adopted. IsTrue (is_closed adopted.packets)) }
 {
     match read_code(alloc, text) {

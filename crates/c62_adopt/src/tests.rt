@@ -192,7 +192,7 @@ const REFUSED: [(&str, &str); 26] = [
     // The first line decides, and those above it come before those below.
     ("MVK .S1 1,A1\n|| MVK .S1 2,A2\n FOO\n", "line 2: P1"),
     (
-        "FOO\n MVK .S1 1,A1\n|| MVK .S1 2,A2\n",
+        " FOO\n MVK .S1 1,A1\n|| MVK .S1 2,A2\n",
         "line 1: UnknownMnemonic",
     ),
     ("MVK .S1 1,A1\n|| MVK .S1 2,A2,A3\n", "line 2: BadOperand"),

@@ -1,5 +1,5 @@
 -- A listing is adopted as itself.
-use Rattle.c62_adopt_back.proofs.Common.{nat_tests, arith, ◌≡◌, ℕ, ◌≤◌, List, [], ◌∷◌, ◌++◌, length, map, Bool, true, false, None, refl, sym, ap, ◌∙◌}
+use Rattle.c62_adopt_back.proofs.Common.{nat_tests, arith, ◌≡◌, ℕ, ◌+◌, ◌≤◌, List, [], ◌∷◌, ◌++◌, length, map, Bool, true, false, None, refl, sym, ap, ◌∙◌}
 use Rattle.c62_adopt_back.proofs.Common.{subst, append_assoc, append-nil, codes, nat_lt, All, All-tail, AllByRecursion, list_all, Name, operands_of}
 use Rattle.c62_adopt_back.proofs.Common.{Packed, all_lines, listing, name_in, Line, cycles_of, Draft, Drafts, all_drafts, no_drafts, cut_at}
 use Rattle.std.proofs.lemmas.Bool.{and_parts, le-ltb}
@@ -15,7 +15,10 @@ use Rattle.c62_listing_reader.proofs.ReadBackLemmas.{IsFit, all_placed, all_writ
 use Rattle.c62_listing_reader.proofs.UntoldLemmas.{are_allowed}
 use Rattle.c62_adopt_cut.specs.Flight.{cycles_lacking}
 use Rattle.c62_adopt_cut.specs.Text.{Cut, most_bytes, read_below, text_cut}
-use Rattle.c62_adopt_code.specs.Code.{code_of}
+use Rattle.c62_adopt_spell.specs.Laws.{stays}
+use Rattle.c62_adopt_spell.specs.Text.{spelled_text}
+use Rattle.c62_adopt_spell.proofs.SpellLemmas.{stay as stay_so}
+use Rattle.c62_adopt_code.specs.Code.{code_of, plain_code}
 use Rattle.c62_adopt_code.specs.Laws.{is_plain}
 use Rattle.c62_adopt_code.proofs.OwnLemmas.{own_code}
 use Rattle.c62_adopt.specs.Answer.{IsAdopted, IsAdoptedCut, code_read}
@@ -26,7 +29,7 @@ use Rattle.c62_adopt_back.proofs.Alike.{listing_alike}
 use Rattle.c62_adopt_back.proofs.Cycles.{IsListed}
 use Rattle.c62_adopt_back.proofs.Good.{all_good, all_listed, branch_once}
 use Rattle.c62_adopt_back.proofs.Leading.{Leads}
-use Rattle.c62_adopt_back.proofs.Own.{all_plain}
+use Rattle.c62_adopt_back.proofs.Own.{all_plain, all_stay}
 use Rattle.c62_adopt_back.proofs.Over.{IsFound, IsSettled, none_in_flight, none_lacking}
 use Rattle.c62_adopt_back.proofs.Targets.{all_aimed, labels_so}
 use Rattle.c62_adopt_back.proofs.Walk.{AreAllPassed, all_lead}
@@ -90,13 +93,22 @@ adopted_by drain text cut packets own is adopted none = adopted_as drain text te
   lacking = sym (ap cycles_lacking is ∙ none);
 })
 
--- lines without directives and comments are the code of their text
-coded_by : (lines : List (List ℕ)) → list_all are_allowed lines ≡ true → list_all is_plain lines ≡ true → length (text_of lines) ≤ 8388608
-    → code_read (text_of lines) ≡ Ok (text_of lines)
+spelled_by : (lines : List (List ℕ)) → list_all are_allowed lines ≡ true → list_all stays lines ≡ true → spelled_text (text_of lines) ≡ text_of lines
+unfolding spelled_text
+spelled_by lines allowed stay = rw (lines_back lines allowed, stay_so lines stay) refl
+
+plain_by : (lines : List (List ℕ)) → list_all are_allowed lines ≡ true → list_all is_plain lines ≡ true → length (text_of lines) ≤ 8388608
+    → plain_code (text_of lines) ≡ Ok (text_of lines)
+unfolding plain_code
+plain_by lines allowed plain short = rw (lines_back lines allowed, own_code lines plain) (ap Ok (take_all 8388608 (text_of lines) short))
+
+-- lines that say something without directives and comments are the code of their text
+coded_by : (lines : List (List ℕ)) → list_all are_allowed lines ≡ true → list_all is_plain lines ≡ true → list_all stays lines ≡ true
+    → length (text_of lines) ≤ 8388608 → code_read (text_of lines) ≡ Ok (text_of lines)
 unfolding code_of
-coded_by lines allowed plain short =
-    short_read (text_of lines) short
-    ∙ rw (lines_back lines allowed, own_code lines plain) (ap Ok (take_all 8388608 (text_of lines) short))
+coded_by lines allowed plain stay short =
+    let fits : nat_lt (most_bytes + 1) (length (text_of lines)) ≡ false = le-ltb (most_bytes + 1) (length (text_of lines)) (omega (arith, short)) in
+    short_read (text_of lines) short ∙ rw (spelled_by lines allowed stay, fits) (plain_by lines allowed plain short)
 
 module _ (drain : Bool) (packets : List Packed) (shown : AreShown packets) (parted : AreParted packets) where
   adopted : IsAdoptedAsItself drain packets
@@ -111,7 +123,8 @@ module _ (drain : Bool) (packets : List Packed) (shown : AreShown packets) (part
       let end : ℕ = cycles_of lead.passed in
       let cut : text_cut (listing packets) ≡ cut_at lead.passed lead.final None = cut_by lines (AreAllPassed name packets) lead allowed short in
       let plain = all_plain name packets (each packets shown (IsSmall name) (small packets shown) packets fits) in
-      let own : code_read (listing packets) ≡ Ok (listing packets) = coded_by lines allowed plain short in
+      let stay = all_stay name packets (each packets shown (IsSmall name) (small packets shown) packets fits) in
+      let own : code_read (listing packets) ≡ Ok (listing packets) = coded_by lines allowed plain stay short in
       let same = labels_so name 0 end drafts packets lead.is.read in
       let settle = each packets shown (IsSettled name drafts) (settled packets shown drafts same) packets fits in
       let of = taken name drafts 0 end drafts packets lead.is.read

@@ -4,7 +4,8 @@ use Rattle.c62_adopt_back.proofs.Common.{codes, nat_lt, replicate, if◌then◌e
 use Rattle.c62_adopt_back.proofs.Common.{op_of, operands_of, spelling, all_lines, block_lines, cycle_lines, idle_lines, label_lines, parted_lines, pause_line, Nothing, Operands, Parts, Pause}
 use Rattle.std.specs.Prelude.{decimal}
 use Rattle.std.specs.Fmt.{digits}
-use Rattle.std.proofs.lemmas.Bool.{agree_below_at}
+use Rattle.std.proofs.Common.{Ok, ◌&&◌}
+use Rattle.std.proofs.lemmas.Bool.{agree_below_at, and_parts}
 use Rattle.std.proofs.lemmas.List.Folds.{list_all-append}
 use Rattle.c62_op.specs.declared.operands.Operands.TheVariants.{Block, Three}
 use Rattle.c62_op.specs.declared.operands.Op.{Op}
@@ -17,13 +18,15 @@ use Rattle.c62_op.specs.declared.register.Cond.{Cond as Condition}
 use Rattle.c62_op.specs.declared.register.Unit.{Unit as FunctionalUnit}
 use Rattle.c62_token.specs.Number.{is_label}
 use Rattle.c62_token.specs.Token.{begins, is_word_byte}
-use Rattle.c62_line.specs.Line.{is_star, label_field, label_front}
+use Rattle.c62_line.specs.Line.{Says, is_star, label_field, label_front}
 use Rattle.c62_line.specs.Laws.{parts_on, says_on, says_with}
 use Rattle.c62_line.proofs.SpelledOperands.{label_parts}
 use Rattle.c62_listing.specs.Listing.{placed_lines}
 use Rattle.c62_listing_reader.proofs.ListedLemmas.{rest_line}
-use Rattle.c62_adopt_line.specs.Line.{behind_colon}
+use Rattle.c62_adopt_line.specs.Line.{behind_colon, line_said, line_says}
 use Rattle.c62_adopt_line.proofs.ListedLines.{instruction_reads, label_reads, pause_reads}
+use Rattle.c62_adopt_spell.specs.Laws.{stays}
+use Rattle.c62_adopt_spell.specs.Line.{is_nothing}
 use Rattle.c62_adopt_code.specs.Statement.{is_remark}
 use Rattle.c62_adopt_code.specs.Role.{role_of, Acts, Silent, statement_role}
 use Rattle.c62_adopt_code.specs.Laws.{is_plain, is_plain_role}
@@ -32,11 +35,28 @@ use Rattle.c62_listing_reader.proofs.BlocksLemmas.{IsSmall}
 
 -- ---- a line
 
-acts_plain : (bytes : List ℕ) → role_of bytes ≡ Acts → is_plain bytes ≡ true
-acts_plain bytes is = ap is_plain_role is
+-- a line is its own code, and stands for itself
+abbrev is_own : List ℕ → Bool
+is_own bytes = is_plain bytes && stays bytes
 
-silent_plain : (bytes : List ℕ) → role_of bytes ≡ Silent → is_plain bytes ≡ true
-silent_plain bytes is = ap is_plain_role is
+acts_own : (bytes : List ℕ) → role_of bytes ≡ Acts → stays bytes ≡ true → is_own bytes ≡ true
+acts_own bytes is stay = rw (ap is_plain_role is, stay) refl
+
+silent_own : (bytes : List ℕ) → role_of bytes ≡ Silent → stays bytes ≡ true → is_own bytes ≡ true
+silent_own bytes is stay = rw (ap is_plain_role is, stay) refl
+
+said_stays : (b : ℕ) (bytes : List ℕ) (beside : Bool) (says : Says) → line_says (b ∷ bytes) ≡ Ok (line_said beside None says) → is_nothing says ≡ false
+    → stays (b ∷ bytes) ≡ true
+said_stays b bytes beside says is some = rw (is, some) refl
+
+label_stays : (bytes : List ℕ) (label : Name) → line_says bytes ≡ Ok (line_said false (Some label) Nothing) → stays bytes ≡ true
+label_stays [] label is = refl
+label_stays (b ∷ bytes) label is = rw is refl
+
+is_something : (name : ℕ → Name) (parts : Parts) (operands : Operands) → is_nothing (says_with name parts operands) ≡ false
+is_something name parts (Block number) = refl
+is_something name parts (Three a b d) = refl
+is_something name parts _ = refl
 
 says_something : (name : ℕ → Name) (parts : Parts) (operands : Operands) → says_with name parts operands ≡ Nothing → ⊥
 says_something name parts (Block number) is = absurd cc
@@ -53,28 +73,40 @@ spelled_first : (condition : Option Condition) (op : Op) (unit operands : List �
 spelled_first None op unit operands = named_first op unit operands
 spelled_first (Some c) op unit operands = refl
 
-first_plain : (name : ℕ → Name) (p : Placed) → IsWritable name p → is_plain (codes "   " ++ spelling name p.insn p.unit) ≡ true
-first_plain name p is =
-    acts_plain (codes "   " ++ spelling name p.insn p.unit)
+first_own : (name : ℕ → Name) (p : Placed) → IsWritable name p → is_own (codes "   " ++ spelling name p.insn p.unit) ≡ true
+first_own name p is =
+    acts_own (codes "   " ++ spelling name p.insn p.unit)
     (acts_by (codes "   " ++ spelling name p.insn p.unit) (says_on name p.insn p.unit)
     (spelled_first (cond_of p.insn) (op_of p.insn)
     (unit_spelling (operands_of p.insn) p.unit) (operands_spelling name (op_of p.insn) p.unit.letter (operands_of p.insn))) refl (instruction_reads name p.insn p.unit is.taking is.names).0
     (says_something name (parts_on p.insn p.unit) (operands_of p.insn)))
+    (said_stays 32 (codes "  " ++ spelling name p.insn p.unit) false (says_on name p.insn p.unit)
+    (instruction_reads name p.insn p.unit is.taking is.names).0 (is_something name (parts_on p.insn p.unit) (operands_of p.insn)))
 
 beside_plain : (text : List ℕ) → is_plain (codes "|| " ++ text) ≡ true
 unfolding role_of
 beside_plain text = refl
 
+beside_own : (name : ℕ → Name) (p : Placed) → IsWritable name p → is_own (codes "|| " ++ spelling name p.insn p.unit) ≡ true
+beside_own name p is =
+    let stay = said_stays 124 (codes "| " ++ spelling name p.insn p.unit) true (says_on name p.insn p.unit)
+    (instruction_reads name p.insn p.unit is.taking is.names).1 (is_something name (parts_on p.insn p.unit) (operands_of p.insn)) in
+    rw (beside_plain (spelling name p.insn p.unit), stay) refl
+
 pause_first : (n : ℕ) → is_remark (codes "   NOP " ++ decimal n) ≡ false
 pause_first n = refl
 
-pause_plain : (n : ℕ) → 1 ≤ n → n ≤ 9 → is_plain (pause_line n) ≡ true
-pause_plain n some few =
-    acts_plain (pause_line n) (acts_by (pause_line n) (Pause n) (pause_first n) refl (pause_reads n some few) (λ none. absurd cc))
+pause_own : (n : ℕ) → 1 ≤ n → n ≤ 9 → is_own (pause_line n) ≡ true
+pause_own n some few =
+    acts_own (pause_line n) (acts_by (pause_line n) (Pause n) (pause_first n) refl (pause_reads n some few) (λ none. absurd cc))
+    (said_stays 32 (codes "  NOP " ++ decimal n) false (Pause n) (pause_reads n some few) refl)
 
 empty_plain : is_plain [] ≡ true
 unfolding role_of statement_role label_field label_front
 empty_plain = refl
+
+empty_own : is_own [] ≡ true
+empty_own = rw empty_plain refl
 
 behind_word : (text : List ℕ) → list_all is_word_byte text ≡ true → behind_colon (text ++ codes ":") ≡ []
 behind_word [] all = refl
@@ -88,58 +120,75 @@ no_star : (text : List ℕ) → list_all is_word_byte text ≡ true → begins i
 no_star [] all = refl
 no_star (b ∷ text) all = grind (arith, nat_tests)
 
-label_plain : (label : Name) → is_label label ≡ true → is_plain (label ++ codes ":") ≡ true
-label_plain label is =
+label_own : (label : Name) → is_label label ≡ true → is_own (label ++ codes ":") ≡ true
+label_own label is =
     let words = (label_parts label is).1 in
-    silent_plain (label ++ codes ":")
+    silent_own (label ++ codes ":")
     (silent_by (label ++ codes ":") label (no_remark label words) (no_star label words) (label_reads label is) (behind_word label words))
+    (label_stays (label ++ codes ":") label (label_reads label is))
 
 -- ---- the lines of a block
 
-nines_plain : (nines : ℕ) → list_all is_plain (replicate nines (pause_line 9)) ≡ true
-nines_plain zero = refl
-nines_plain (suc nines) = rw (pause_plain 9 (omega arith) (omega arith)) (nines_plain nines)
+nines_own : (nines : ℕ) → list_all is_own (replicate nines (pause_line 9)) ≡ true
+nines_own zero = refl
+nines_own (suc nines) = rw (pause_own 9 (omega arith) (omega arith)) (nines_own nines)
 
-rest_plain : (rest : ℕ) → rest < 9 → list_all is_plain (rest_line rest) ≡ true
-rest_plain rest small = grind (arith, nat_tests, λ (some : 1 ≤ rest). pause_plain rest some (omega (arith, small)))
+rest_own : (rest : ℕ) → rest < 9 → list_all is_own (rest_line rest) ≡ true
+rest_own rest small = grind (arith, nat_tests, λ (some : 1 ≤ rest). pause_own rest some (omega (arith, small)))
 
-idle_plain : (idle : ℕ) → list_all is_plain (idle_lines idle) ≡ true
-idle_plain idle =
-    list_all-append is_plain (replicate (idle / 9) (pause_line 9)) (rest_line (idle % 9)) ∙ rw (nines_plain (idle / 9), rest_plain (idle % 9) (omega arith)) refl
+idle_own : (idle : ℕ) → list_all is_own (idle_lines idle) ≡ true
+idle_own idle =
+    list_all-append is_own (replicate (idle / 9) (pause_line 9)) (rest_line (idle % 9)) ∙ rw (nines_own (idle / 9), rest_own (idle % 9) (omega arith)) refl
 
-placed_plain : (name : ℕ → Name) (b : Bool) (idle : ℕ) (p : Placed) → IsWritable name p → list_all is_plain
+placed_own : (name : ℕ → Name) (b : Bool) (idle : ℕ) (p : Placed) → IsWritable name p → list_all is_own
     (if b then (codes "|| " ++ spelling name p.insn p.unit) ∷ [] else idle_lines idle ++ (codes "   " ++ spelling name p.insn p.unit) ∷ []) ≡ true
-placed_plain name true idle p is = rw (beside_plain (spelling name p.insn p.unit)) refl
-placed_plain name false idle p is =
-    list_all-append is_plain (idle_lines idle) ((codes "   " ++ spelling name p.insn p.unit) ∷ []) ∙ rw (idle_plain idle, first_plain name p is) refl
+placed_own name true idle p is = rw (beside_own name p is) refl
+placed_own name false idle p is =
+    list_all-append is_own (idle_lines idle) ((codes "   " ++ spelling name p.insn p.unit) ∷ []) ∙ rw (idle_own idle, first_own name p is) refl
 
-cycles_plain : (name : ℕ → Name) (next cycles : ℕ) (placed : List Placed) → All (IsWritable name) placed
-    → list_all is_plain (cycle_lines name next cycles placed) ≡ true
-cycles_plain name next cycles [] are = idle_plain (cycles - next)
-cycles_plain name next cycles (p ∷ placed) are =
-    let here = placed_plain name (nat_lt p.cycle next) (p.cycle - next) p (are 0 p (omega arith)) in
-    let rest = cycles_plain name (p.cycle + 1) cycles placed (All-tail (IsWritable name) p placed are) in
-    rw (list_all-append is_plain (placed_lines name next p) (cycle_lines name (p.cycle + 1) cycles placed), here) rest
+cycles_own : (name : ℕ → Name) (next cycles : ℕ) (placed : List Placed) → All (IsWritable name) placed
+    → list_all is_own (cycle_lines name next cycles placed) ≡ true
+cycles_own name next cycles [] are = idle_own (cycles - next)
+cycles_own name next cycles (p ∷ placed) are =
+    let here = placed_own name (nat_lt p.cycle next) (p.cycle - next) p (are 0 p (omega arith)) in
+    let rest = cycles_own name (p.cycle + 1) cycles placed (All-tail (IsWritable name) p placed are) in
+    rw (list_all-append is_own (placed_lines name next p) (cycle_lines name (p.cycle + 1) cycles placed), here) rest
 
-labels_plain : (label : Option Name) → ((l : Name) → label ≡ Some l → is_label l ≡ true) → list_all is_plain (label_lines label) ≡ true
-labels_plain None is = refl
-labels_plain (Some label) is = rw (label_plain label (is label refl)) refl
+labels_own : (label : Option Name) → ((l : Name) → label ≡ Some l → is_label l ≡ true) → list_all is_own (label_lines label) ≡ true
+labels_own None is = refl
+labels_own (Some label) is = rw (label_own label (is label refl)) refl
 
 -- ---- all lines
 
-block_plain : (name : ℕ → Name) (block : Packed) → IsSmall name block → list_all is_plain (block_lines name block) ≡ true
-block_plain name block is =
-    list_all-append is_plain (label_lines block.label) (cycle_lines name 0 block.cycles block.placed)
-    ∙ rw (labels_plain block.label is.label, cycles_plain name 0 block.cycles block.placed is.writable) refl
+block_own : (name : ℕ → Name) (block : Packed) → IsSmall name block → list_all is_own (block_lines name block) ≡ true
+block_own name block is =
+    list_all-append is_own (label_lines block.label) (cycle_lines name 0 block.cycles block.placed)
+    ∙ rw (labels_own block.label is.label, cycles_own name 0 block.cycles block.placed is.writable) refl
 
-parted_plain : (name : ℕ → Name) (blocks : List Packed) → AllByRecursion (IsSmall name) blocks → list_all is_plain (parted_lines name blocks) ≡ true
-parted_plain name [] are = refl
-parted_plain name (block ∷ blocks) are =
-    rw (empty_plain) (list_all-append is_plain (block_lines name block) (parted_lines name blocks)
-    ∙ rw (block_plain name block are.0, parted_plain name blocks are.1) refl)
+parted_own : (name : ℕ → Name) (blocks : List Packed) → AllByRecursion (IsSmall name) blocks → list_all is_own (parted_lines name blocks) ≡ true
+parted_own name [] are = refl
+parted_own name (block ∷ blocks) are =
+    rw (empty_own) (list_all-append is_own (block_lines name block) (parted_lines name blocks)
+    ∙ rw (block_own name block are.0, parted_own name blocks are.1) refl)
+
+all_own : (name : ℕ → Name) (packets : List Packed) → AllByRecursion (IsSmall name) packets → list_all is_own (all_lines name packets) ≡ true
+all_own name [] are = refl
+all_own name (block ∷ packets) are =
+    list_all-append is_own (block_lines name block) (parted_lines name packets)
+    ∙ rw (block_own name block are.0, parted_own name packets are.1) refl
+
+-- ---- both parts
+
+both_own : (lines : List (List ℕ)) → list_all is_own lines ≡ true → (list_all is_plain lines ≡ true) × (list_all stays lines ≡ true)
+both_own [] all = (refl, refl)
+both_own (line ∷ lines) all =
+    let parts = and_parts (is_own line) (list_all is_own lines) all in
+    let here = and_parts (is_plain line) (stays line) parts.0 in
+    let rest = both_own lines parts.1 in
+    (rw (here.0, rest.0) refl, rw (here.1, rest.1) refl)
 
 pub all_plain : (name : ℕ → Name) (packets : List Packed) → AllByRecursion (IsSmall name) packets → list_all is_plain (all_lines name packets) ≡ true
-all_plain name [] are = refl
-all_plain name (block ∷ packets) are =
-    list_all-append is_plain (block_lines name block) (parted_lines name packets)
-    ∙ rw (block_plain name block are.0, parted_plain name packets are.1) refl
+all_plain name packets are = (both_own (all_lines name packets) (all_own name packets are)).0
+
+pub all_stay : (name : ℕ → Name) (packets : List Packed) → AllByRecursion (IsSmall name) packets → list_all stays (all_lines name packets) ≡ true
+all_stay name packets are = (both_own (all_lines name packets) (all_own name packets are)).1

@@ -9,7 +9,7 @@ use Rattle.c62_adopt_code.specs.declared.fault.CodeFault.{CodeFault}
 use Rattle.c62_adopt_code.specs.declared.fault.CodeFault.TheVariants.{At, Memory}
 use Rattle.c62_adopt_code.specs.declared.fault.CodeCause.{CodeCause}
 use Rattle.c62_adopt_code.specs.Role.{role_of}
-use Rattle.c62_adopt_code.specs.Code.{Refusal, below, code_below, code_line, code_of, lines_coded, line_taken, section_behind, shortened, text_of, way_behind, with_first}
+use Rattle.c62_adopt_code.specs.Code.{Refusal, below, code_below, code_line, lines_coded, line_taken, plain_code, section_behind, shortened, text_of, way_behind, with_first}
 use Rattle.c62_adopt_code.specs.Told.{FailsWith, RefusesLine, TakesLine, comes_to}
 
 below_more : (front line : List ℕ) (read : Result (List (List ℕ)) Refusal)
@@ -50,8 +50,8 @@ one_more old new number line rest after front more text far first shorter takes 
 }
 
 pub all_taken : (site : Site) (number : ℕ) (rest code text : List ℕ) → IsCodedSoFar site number rest code text → lines_of rest ≡ []
-    → code_of text ≡ Ok (take most_bytes code)
-unfolding code_of code_below
+    → plain_code text ≡ Ok (take most_bytes code)
+unfolding plain_code code_below
 all_taken site number rest code text far none =
     ap shortened (sym far.so_far ∙ ap (comes_to site code number) none ∙ ap Ok (append-nil code))
 
@@ -60,8 +60,8 @@ refused_below : (front : List ℕ) (read : Result (List (List ℕ)) Refusal) (re
 refused_below front read refusal whole same is = ap shortened (sym same) ∙ ap (λ (r : Result (List (List ℕ)) Refusal). shortened (below front r)) is
 
 pub refused_there : (site : Site) (number : ℕ) (line rest after code text : List ℕ) (fault : CodeFault) → IsCodedSoFar site number rest code text
-    → lines_of rest ≡ line ∷ lines_of after → RefusesLine number line site fault → FailsWith fault (code_of text)
-unfolding code_of
+    → lines_of rest ≡ line ∷ lines_of after → RefusesLine number line site fault → FailsWith fault (plain_code text)
+unfolding plain_code
 refused_there site number line rest after code text (At n cause) far first refuses =
     refused_below code (code_below site.home.now site.section.now site.way number (line ∷ lines_of after)) (n, cause) (below [] (lines_coded (lines_of text)))
     (ap (comes_to site code number) (sym first) ∙ far.so_far) (refuses (lines_of after))

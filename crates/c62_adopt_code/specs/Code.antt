@@ -1,5 +1,5 @@
 -- The lines of a text that are its code (docs/ADOPT.md, "Sections" and "Alignment").
-use Rattle.std.specs.Prelude.{ℕ, ◌+◌, Bool, true, false, not, ◌&&◌, if◌then◌else◌, List, [], ◌∷◌, ◌++◌, take, codes, Result, Ok, Err}
+use Rattle.std.specs.Prelude.{ℕ, ◌+◌, Bool, true, false, not, ◌&&◌, if◌then◌else◌, List, [], ◌∷◌, ◌++◌, length, nat_lt, take, codes, Result, Ok, Err}
 use Rattle.std.specs.List.{flat_map}
 use Rattle.std.specs.Str.{bytes_eq}
 use Rattle.c62_read.specs.Text.{lines_of}
@@ -8,6 +8,7 @@ use Rattle.c62_adopt_line.specs.Line.{Line, line_says}
 use Rattle.c62_adopt_code.specs.declared.fault.CodeCause.{CodeCause}
 use Rattle.c62_adopt_code.specs.declared.fault.CodeCause.TheVariants.{Directive, OtherSection, Padding}
 use Rattle.c62_adopt_cut.specs.Text.{most_bytes}
+use Rattle.c62_adopt_spell.specs.Text.{spelled_text}
 use Rattle.c62_adopt_code.specs.declared.way.Way.{Way}
 use Rattle.c62_adopt_code.specs.Statement.{is_readable}
 use Rattle.c62_adopt_code.specs.Role.{Role, Remark, Silent, Acts, Begins, Pads, Tells, Unknown, Refused, role_of}
@@ -99,6 +100,14 @@ abbrev pub shortened : Result (List ℕ) Refusal → Result (List ℕ) Refusal
 shortened (Ok code) = Ok (take most_bytes code)
 shortened (Err refusal) = Err refusal
 
--- the code of a text, line by line
+-- the code of a text whose lines are spelled as the reader of lines has it, line by line
+unfoldable pub plain_code : List ℕ → Result (List ℕ) Refusal
+plain_code text = shortened (below [] (lines_coded (lines_of text)))
+
+-- a text that is too long so is its own code, and isn't looked at
+abbrev pub code_if_short : List ℕ → Result (List ℕ) Refusal
+code_if_short text = if nat_lt (most_bytes + 1) (length text) then Ok (take (most_bytes + 1) text) else plain_code text
+
+-- the code of a text
 unfoldable pub code_of : List ℕ → Result (List ℕ) Refusal
-code_of text = shortened (below [] (lines_coded (lines_of text)))
+code_of text = code_if_short (spelled_text text)

@@ -1,10 +1,10 @@
 //! The code of a text of packets.
 
-ghost use Rattle.std.specs.Prelude.{◌≡◌, ◌≤◌, ◌<◌, ◌∷◌, ◌++◌, [], Ok, length, IfOk, OnOk, MatchResult};
+ghost use Rattle.std.specs.Prelude.{◌≡◌, ◌≤◌, ◌<◌, ◌+◌, ◌∷◌, ◌++◌, [], Ok, length, IfOk, OnOk, MatchResult};
 ghost use Rattle.c62_read.specs.Text.{lines_of};
 ghost use Rattle.c62_adopt_line.specs.Line.{line_says};
 ghost use Rattle.c62_adopt_code.specs.Role.{role_read, role_of};
-ghost use Rattle.c62_adopt_code.specs.Code.{text_section, section_behind, home_of, taken, line_taken, code_line, way_behind, code_of, text_of};
+ghost use Rattle.c62_adopt_code.specs.Code.{text_section, section_behind, home_of, taken, line_taken, code_line, way_behind, plain_code, code_of, text_of};
 ghost use Rattle.c62_adopt_code.specs.Told.{FailsWith, TakesLine, RefusesLine};
 
 use crate::fault::{CodeCause, CodeFault};
@@ -13,6 +13,7 @@ use crate::statement::is_readable;
 use crate::way::Way;
 use c62_adopt_cut::MOST_BYTES;
 use c62_adopt_line::{LineFault, read_line};
+use c62_adopt_spell::spelled_text;
 use c62_read::first_line;
 use std::alloc::{AllocError, Global};
 
@@ -171,19 +172,12 @@ impl<'a> Site<'a> {
     }
 }
 
-/// The code of a text of at most [`MOST_BYTES`](c62_adopt_cut::MOST_BYTES) bytes: its lines, each with a line feed behind it, in which those are
-/// empty that say nothing, as they are comments or stand in other sections than the first with an instruction (docs/ADOPT.md, "Sections").
-/// So each line has the number that it has in the text. Text without directives and comments is its own code.
-///
-/// # Errors
-///
-/// `At` for the first line that keeps the text from having one: `OtherSection` for an instruction in another section, `Padding` for an alignment
-/// whose padding may take cycles that code above runs through (docs/ADOPT.md, "Alignment"), and `Directive` for a directive that has another
-/// statement behind it, or may lay something down. `Memory` where memory ran out, which may come in place of any answer.
+/// The code of a text whose lines are in the spelling that the reader of lines has: its lines, each with a line feed behind it, in which those are
+/// empty that say nothing.
 #[tactic(auto, using(crate::proofs::CodeLemmas::refused_there))]
-pub fn code_of(alloc: Global, text: &[u8]) -> Result<Vec<u8>, CodeFault>
-    requires { length text.now ≤ MOST_BYTES }
-    ensures { MatchResult result (λ code. code_of text.now ≡ Ok code.items) (λ fault. FailsWith fault (code_of text.now)) }
+fn plain_code(alloc: Global, text: &[u8]) -> Result<Vec<u8>, CodeFault>
+    requires { length text.now ≤ MOST_BYTES + 1 }
+    ensures { MatchResult result (λ code. plain_code text.now ≡ Ok code.items) (λ fault. FailsWith fault (plain_code text.now)) }
 {
     let mut code = Vec::new(alloc);
     let mut plain = Vec::new(alloc);
@@ -201,4 +195,28 @@ pub fn code_of(alloc: Global, text: &[u8]) -> Result<Vec<u8>, CodeFault>
     }
     code.truncate(MOST_BYTES);
     Ok(code)
+}
+
+/// The code of a text of at most [`MOST_BYTES`](c62_adopt_cut::MOST_BYTES) bytes: its lines, each in the spelling that the reader of lines has and
+/// with a line feed behind it, in which those are empty that say nothing, as they are comments or stand in other sections than the first with an
+/// instruction (docs/ADOPT.md, "Sections" and "Other spellings"). So each line has the number that it has in the text. Text without directives
+/// and comments, of which each line says something, is its own code. Where it has more bytes in that spelling than a text may have, the bytes that
+/// show it are its code.
+///
+/// # Errors
+///
+/// `At` for the first line that keeps the text from having one: `OtherSection` for an instruction in another section, `Padding` for an alignment
+/// whose padding may take cycles that code above runs through (docs/ADOPT.md, "Alignment"), and `Directive` for a directive that has another
+/// statement behind it, or may lay something down. `Memory` where memory ran out, which may come in place of any answer.
+#[tactic(auto, unfolding(crate::specs::Code::code_of))]
+pub fn code_of(alloc: Global, text: &[u8]) -> Result<Vec<u8>, CodeFault>
+    requires { length text.now ≤ MOST_BYTES }
+    ensures { MatchResult result (λ code. code_of text.now ≡ Ok code.items) (λ fault. FailsWith fault (code_of text.now)) }
+{
+    let mut spelled = spelled_text(alloc, text)?;
+    if spelled.len() > MOST_BYTES + 1 {
+        spelled.truncate(MOST_BYTES + 1);
+        return Ok(spelled);
+    }
+    plain_code(alloc, &spelled)
 }

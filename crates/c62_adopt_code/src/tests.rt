@@ -28,7 +28,7 @@ fn told_again(alloc: Global, text: &str) -> Result<String, AllocError> {
 }
 
 /// Texts and their code.
-const CODES: [(&str, &str); 17] = [
+const CODES: [(&str, &str); 20] = [
     ("", ""),
     (" MVK .S1 1,A1", " MVK .S1 1,A1\n"),
     ("L:\r\n .text\r\n\tNOP\r\n\r\n", "L:\n\n\tNOP\n\n"),
@@ -55,8 +55,8 @@ const CODES: [(&str, &str); 17] = [
     ),
     // What the reader of lines refuses stays.
     (
-        ".word 3\n FOO\n|| .data\n .set x,3\n",
-        ".word 3\n FOO\n|| .data\n .set x,3\n",
+        ".word 3\n FOO\n|| .data\n .set x,y\n",
+        ".word 3\n FOO\n|| .data\n .set x,y\n",
     ),
     (" .type f, @function\n NOP\n", " .type f, @function\n NOP\n"),
     // Alignments that take no cycle, or through which nothing runs.
@@ -78,6 +78,19 @@ const CODES: [(&str, &str); 17] = [
         " NOP 5\n|| NOP 2\n|| B .S2 L\n .align 6\n",
     ),
     (" NOP\n .data\n .align 6\n .string 'a'\n", " NOP\n\n\n\n"),
+    // Other spellings.
+    (
+        ".data /* x */\n/* x */\n.text /* x */\n MVK .S1 (1),A1 /* x */\n",
+        "\n\n\nMVK .S1 1 , A1 \n",
+    ),
+    (
+        ".data\nLOOP\n.text\nLOOP NOP\n B .S2 LOOP",
+        "\n\n\nLOOP:NOP \n B .S2 LOOP\n",
+    ),
+    (
+        " RET .S2 B3\n NOP 3+2\nLOOP .align 6\n",
+        " RET .S2 B3\nNOP 5 \nLOOP: .align 6\n",
+    ),
 ];
 
 /// Texts without code, and why.

@@ -4,7 +4,9 @@ use Rattle.c62_read.specs.Block.{Serial}
 use Rattle.c62_packet.specs.Packed.{Packed}
 use Rattle.c62_listing.specs.Listing.{listing}
 use Rattle.c62_adopt.specs.declared.fault.AdoptFault.{AdoptFault}
-use Rattle.c62_adopt.specs.Answer.{IsAdopted, LacksCode, Refuses, code_read}
+use Rattle.c62_adopt.specs.Answer.{IsAdopted, LacksCode, Refuses, code_cut, code_read}
+use Rattle.c62_adopt_late.specs.declared.late.Late.{Late}
+use Rattle.c62_adopt_late.specs.Late.{first_late}
 use Rattle.c62_adopt.proofs.CodeLemmas.{coded_by}
 use Rattle.c62_adopt.specs.Laws.{DrainsNothing}
 use Rattle.clap.specs.Words.{Text}
@@ -16,15 +18,14 @@ use Rattle.c62_rows.specs.Told.{BeginsAs}
 use Rattle.c62_command.specs.declared.setting.Setting.{Setting}
 use Rattle.c62_command.specs.declared.command.Course.{Course}
 use Rattle.c62_command.specs.declared.command.Packing.{Packing}
-use Rattle.c62_command.specs.declared.command.Showing.{Showing}
 use Rattle.c62_answer.specs.declared.outcome.Outcome.{Outcome}
 use Rattle.c62_answer.specs.declared.failure.Failure.{Failure}
 use Rattle.c62_answer.specs.declared.failure.Failure.TheVariants as failures
 use Rattle.c62_answer.specs.Message.{fault_message}
-use Rattle.c62_command.specs.CommandLine.{Adoption, Ask, FlightReport, ListingPicture, ListingReport, PacketsPicture}
+use Rattle.c62_command.specs.CommandLine.{Adoption, Ask, FlightReport}
 use Rattle.c62_answer.specs.Schedule.{AreScheduled}
 use Rattle.c62_answer.specs.Texts.{IsNoProgram}
-use Rattle.c62_answer.specs.Run.{Gives, GivesProgram, GivesPackets, IsAdoptFailure, IsRowsFailure, IsAnswer, IsFlightReport, IsFlown, IsPacketReport, IsRefusedText, IsSameReport, outcome_adopted}
+use Rattle.c62_answer.specs.Run.{Gives, GivesProgram, IsAdoptFailure, IsRowsFailure, IsAnswer, IsFlightReport, IsFlown, IsPacketReport, IsRefusedText, IsSameReport, added_of, outcome_adopted}
 use Rattle.c62_answer.proofs.Schedules.{runs_serially}
 
 module _ (ask : Ask) (text : List ℕ) where
@@ -36,41 +37,13 @@ module _ (ask : Ask) (text : List ℕ) where
   no_program same (failures.Unflown fault) gives = absurd gives
   no_program same (failures.TextPart fault) gives = absurd gives
   no_program same (failures.ListingPart fault) gives = absurd gives
+  no_program same (failures.PacketsPart fault) gives = absurd gives
   no_program same failures.NoListing gives = absurd gives
   no_program same (failures.Words e) gives = absurd gives
   no_program same (failures.Setting k) gives = absurd gives
   no_program same failures.Memory gives = tt
   no_program same failures.Input gives = absurd gives
   no_program same failures.Output gives = absurd gives
-
--- where a listing was not read, that is the answer
-pub no_picture : (showing : Showing) (text : List ℕ) (f : Failure) → GivesPackets text (Err f) → Gives (ListingPicture showing) text (Err f)
-no_picture showing text (failures.Unread fault) gives = absurd gives
-no_picture showing text (failures.Unlisted fault) gives = gives
-no_picture showing text (failures.Unadopted fault) gives = absurd gives
-no_picture showing text (failures.Unflown fault) gives = absurd gives
-no_picture showing text (failures.TextPart fault) gives = absurd gives
-no_picture showing text (failures.ListingPart fault) gives = absurd gives
-no_picture showing text failures.NoListing gives = absurd gives
-no_picture showing text (failures.Words e) gives = absurd gives
-no_picture showing text (failures.Setting k) gives = absurd gives
-no_picture showing text failures.Memory gives = tt
-no_picture showing text failures.Input gives = absurd gives
-no_picture showing text failures.Output gives = absurd gives
-
-pub no_packets : (course : Course) (settings : List Setting) (text : List ℕ) (f : Failure) → GivesPackets text (Err f) → Gives (ListingReport course settings) text (Err f)
-no_packets course settings text (failures.Unread fault) gives = absurd gives
-no_packets course settings text (failures.Unlisted fault) gives = gives
-no_packets course settings text (failures.Unadopted fault) gives = absurd gives
-no_packets course settings text (failures.Unflown fault) gives = absurd gives
-no_packets course settings text (failures.TextPart fault) gives = absurd gives
-no_packets course settings text (failures.ListingPart fault) gives = absurd gives
-no_packets course settings text failures.NoListing gives = absurd gives
-no_packets course settings text (failures.Words e) gives = absurd gives
-no_packets course settings text (failures.Setting k) gives = absurd gives
-no_packets course settings text failures.Memory gives = tt
-no_packets course settings text failures.Input gives = absurd gives
-no_packets course settings text failures.Output gives = absurd gives
 
 -- the packets of a program run as it does
 pub same_report : (packing : Packing) (program : List Serial) (packets : List Packed) (settings : List Setting) (course : Course) (outcome : Outcome) (answer : List ℕ)
@@ -88,17 +61,13 @@ pub no_adoption : (drain : Bool) (text : List ℕ) (fault : AdoptFault) (f : Fai
 no_adoption drain text fault f (inl memory) refused = rw (memory.1) tt
 no_adoption drain text fault f (inr known) refused = rw (known.1) (record { fault = fault; known = known.0; refused = refused; told = refl })
 
--- where it makes none, there is no picture of them
-pub no_packets_picture : (showing : Showing) (text : List ℕ) (fault : AdoptFault) (f : Failure) → IsAdoptFailure fault f → Refuses false text fault
-    → Gives (PacketsPicture showing) text (Err f)
-no_packets_picture showing text fault f (inl memory) refused = rw (memory.1) tt
-no_packets_picture showing text fault f (inr known) refused = rw (known.1) (record { fault = fault; known = known.0; refused = refused; told = refl })
-
 -- where it does, this is
-pub adopted_text : (drain : Bool) (text answer : List ℕ) (packets : List Packed) (added : ℕ) → DrainsNothing text packets
-    → IsAdopted drain text packets added → answer ≡ listing packets → IsAnswer (Adoption drain) (outcome_adopted drain added) text answer
-adopted_text true text answer packets added lacks is listed = record { packets = packets; adopted = is; listed = listed }
-adopted_text false text answer packets added lacks is listed =
+pub adopted_text : (drain : Bool) (text answer : List ℕ) (packets : List Packed) (added : ℕ) (late : Option Late) → DrainsNothing text packets
+    → IsAdopted drain text packets added → late ≡ first_late (code_cut text) → answer ≡ listing packets
+    → IsAnswer (Adoption drain) (outcome_adopted drain (added_of added late)) text answer
+adopted_text true text answer packets added late lacks is first listed =
+    record { adopted = record { packets = packets; adopted = is; listed = listed }; late = first }
+adopted_text false text answer packets added late lacks is first listed =
     record { packets = packets; adopted = subst (IsAdopted false text packets) (lacks added is).0 is; listed = listed }
 
 -- ---- packets in flight

@@ -1,10 +1,10 @@
 -- A check of the front of an input is one of the whole.
-use Rattle.std.proofs.Common.{◌≡◌, ◌∙◌, ℕ, ◌+◌, ◌-◌, ◌<◌, ◌≤◌, Bool, List, [], ◌∷◌, ◌++◌, length, take, drop, map, Result, Ok, Err, refl, sym, ap, subst, arith, append_assoc, append-nil, inl, inr}
+use Rattle.std.proofs.Common.{◌≡◌, ◌∙◌, ℕ, ◌+◌, ◌-◌, ◌<◌, ◌≤◌, Bool, false, List, [], ◌∷◌, ◌++◌, length, take, drop, map, Result, Ok, Err, refl, sym, ap, subst, arith, append_assoc, append-nil, inl, inr}
 use Rattle.std.specs.Prelude.{codes, IsErrAnd}
 use Rattle.std.proofs.Math.Seq.{take-append-add}
 use Rattle.std.proofs.Math.ListN.{drop_of_length-le}
 use Rattle.std.proofs.lemmas.Bool.{cases_lt, lt-ltb}
-use Rattle.std.proofs.lemmas.List.{length-append, length-take, take-append-drop, take_all}
+use Rattle.std.proofs.lemmas.List.{length-append, length-take, take-append-drop, take-append-le, take_all}
 use Rattle.c62_line.specs.declared.fault.Cause.TheVariants.{TextTooLong}
 use Rattle.c62_read.specs.Block.{Serial}
 use Rattle.c62_read.specs.Program.{BlockParts, Refusal, block_parts, drafts_in, program_in}
@@ -16,7 +16,11 @@ use Rattle.c62_listing_reader.specs.Reading.{Refuses}
 use Rattle.c62_packet.specs.Packed.{Packed}
 use Rattle.c62_answer.specs.Message.{fault_message, of_text}
 use Rattle.c62_answer.specs.Parting.{IsCut, IsEnded, IsParted}
-use Rattle.c62_answer.specs.Texts.{IsNoProgram, SaysProgram}
+use Rattle.c62_adopt.specs.Answer.{code_read}
+use Rattle.c62_adopt.proofs.CodeLemmas.{adopted_same, code_read-take, refuses_same as packets_refused}
+use Rattle.c62_command.specs.declared.command.Form.{Form}
+use Rattle.c62_command.specs.declared.command.Form.TheVariants.{Listed, Written}
+use Rattle.c62_answer.specs.Texts.{IsNoProgram, SaysNoPackets, SaysPackets, SaysProgram}
 use Rattle.c62_answer.specs.Check.{HasFaultyListing, HasFaultyText, IsCheck, IsEndless, IsNoCheck}
 use Rattle.c62_answer.specs.Check.IsNoCheck.{Endless, FaultyListing, FaultyText, Unparted}
 
@@ -155,10 +159,42 @@ module _ (all : List ℕ) (n : ℕ) (enough : 9437190 ≤ n) where
             too_long_listing listing long ∙ sym (too_long_listing (listing ++ drop n all) (omega (arith, long, more)))
       ]
 
+  -- and so do packets as they are written
+  same_code : (text listing : List ℕ) → IsCut (take n all) text listing → length text ≤ 1048576 → code_read listing ≡ code_read (listing ++ drop n all)
+  same_code text listing cut short =
+      let size = cut_length cut in
+      let ends = end_length cut in
+      elim (cases_lt (length (take n all)) n) [
+        | inl whole ↦ ap code_read (sym (append-nil listing) ∙ ap (λ (xs : List ℕ). listing ++ xs) (sym (left_out whole)))
+        | inr full ↦
+            let long : 8388609 ≤ length listing = omega (arith, size, ends, full, short, enough) in
+            sym (code_read-take listing) ∙ ap code_read (sym (take-append-le 8388609 listing (drop n all) long)) ∙ code_read-take (listing ++ drop n all)
+      ]
+
+  says_all : (form : Form) (text listing : List ℕ) (packets : List Packed) → IsCut (take n all) text listing → length text ≤ 1048576
+      → SaysPackets form listing packets → SaysPackets form (listing ++ drop n all) packets
+  says_all Listed text listing packets cut short is = read_same listing (listing ++ drop n all) packets (same_listing text listing cut short) is
+  says_all Written text listing packets cut short is = adopted_same false listing (listing ++ drop n all) packets 0 (same_code text listing cut short) is
+
+  none_all : (form : Form) (text listing message : List ℕ) → IsCut (take n all) text listing → length text ≤ 1048576
+      → SaysNoPackets form listing message → SaysNoPackets form (listing ++ drop n all) message
+  none_all Listed text listing message cut short is = record {
+    fault = is.fault;
+    known = is.known;
+    refused = refuses_same listing (listing ++ drop n all) is.fault (same_listing text listing cut short) is.refused;
+    told = is.told;
+  }
+  none_all Written text listing message cut short is = record {
+    fault = is.fault;
+    known = is.known;
+    refused = packets_refused false listing (listing ++ drop n all) is.fault (same_code text listing cut short) is.refused;
+    told = is.told;
+  }
+
   -- ---- checks
 
-  pub check_all : (same : Bool) (answer : List ℕ) → IsCheck (take n all) same answer → IsCheck all same answer
-  check_all same answer is =
+  pub check_all : (form : Form) (same : Bool) (answer : List ℕ) → IsCheck form (take n all) same answer → IsCheck form all same answer
+  check_all form same answer is =
       let short = short_said is.text is.program is.says in
       record {
         text = is.text;
@@ -167,7 +203,7 @@ module _ (all : List ℕ) (n : ℕ) (enough : 9437190 ≤ n) where
         program = is.program;
         says = is.says;
         packets = is.packets;
-        read = read_same is.listing (is.listing ++ drop n all) is.packets (same_listing is.text is.listing is.parted.cut short) is.read;
+        read = says_all form is.text is.listing is.packets is.parted.cut short is.read;
         checked = is.checked;
         serial = is.serial;
       }
@@ -196,8 +232,8 @@ module _ (all : List ℕ) (n : ℕ) (enough : 9437190 ≤ n) where
         subst (λ (p : Result (List BlockParts) Refusal). IsErrAnd p (λ fault. message ≡ fault_message fault.0 fault.1)) (too_long text long) is,
       )
 
-  faulty_text_all : (message : List ℕ) → HasFaultyText (take n all) message → IsNoCheck all message
-  faulty_text_all message is =
+  faulty_text_all : (form : Form) (message : List ℕ) → HasFaultyText (take n all) message → IsNoCheck form all message
+  faulty_text_all form message is =
       elim (cases_lt 1048576 (length is.text)) [
         | inl long ↦ let endless = long_all is.text is.listing is.fault is.parted long is.refused in Endless endless.0 (is.told ∙ ap of_text endless.1)
         | inr short ↦ FaultyText (record {
@@ -210,10 +246,9 @@ module _ (all : List ℕ) (n : ℕ) (enough : 9437190 ≤ n) where
         })
       ]
 
-  faulty_listing_all : (message : List ℕ) → HasFaultyListing (take n all) message → IsNoCheck all message
-  faulty_listing_all message is =
+  faulty_listing_all : (form : Form) (message : List ℕ) → HasFaultyListing form (take n all) message → IsNoCheck form all message
+  faulty_listing_all form message is =
       let short = short_said is.text is.program is.says in
-      let refused = is.refused in
       FaultyListing (record {
         text = is.text;
         listing = is.listing ++ drop n all;
@@ -221,17 +256,12 @@ module _ (all : List ℕ) (n : ℕ) (enough : 9437190 ≤ n) where
         program = is.program;
         says = is.says;
         fault = is.fault;
-        refused = record {
-          fault = refused.fault;
-          known = refused.known;
-          refused = refuses_same is.listing (is.listing ++ drop n all) refused.fault (same_listing is.text is.listing is.parted.cut short) refused.refused;
-          told = refused.told;
-        };
+        refused = none_all form is.text is.listing is.fault is.parted.cut short is.refused;
         told = is.told;
       })
 
-  pub no_check_all : (message : List ℕ) → IsNoCheck (take n all) message → IsNoCheck all message
-  no_check_all message (Endless endless told) = Endless (endless_all (length (take n all)) endless.long (omega arith) endless.none) told
-  no_check_all message (Unparted unparted told) = subst (λ (xs : List ℕ). IsNoCheck xs message) (taken_short unparted.short) (Unparted unparted told)
-  no_check_all message (FaultyText is) = faulty_text_all message is
-  no_check_all message (FaultyListing is) = faulty_listing_all message is
+  pub no_check_all : (form : Form) (message : List ℕ) → IsNoCheck form (take n all) message → IsNoCheck form all message
+  no_check_all form message (Endless endless told) = Endless (endless_all (length (take n all)) endless.long (omega arith) endless.none) told
+  no_check_all form message (Unparted unparted told) = subst (λ (xs : List ℕ). IsNoCheck form xs message) (taken_short unparted.short) (Unparted unparted told)
+  no_check_all form message (FaultyText is) = faulty_text_all form message is
+  no_check_all form message (FaultyListing is) = faulty_listing_all form message is

@@ -1,6 +1,7 @@
 pub mod Schedules
 pub mod SideBySide
 pub mod Answering
+pub mod Given
 pub mod Known
 pub mod FirstLine
 pub mod OneParting
@@ -13,4 +14,6 @@ pub mod ReadBack
 pub mod OneBoard
 pub mod OneText
 mod AdoptedBack
+mod LateMessage
+mod AdoptedRun
 pub mod Bounds

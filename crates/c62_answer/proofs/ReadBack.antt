@@ -30,9 +30,10 @@ use Rattle.c62_listing_reader.proofs.ShownLemmas.{field_good}
 use Rattle.c62_command.specs.declared.setting.Setting.{Setting}
 use Rattle.c62_command.specs.declared.command.Course.{Course}
 use Rattle.c62_command.specs.declared.command.Packing.{Packing}
+use Rattle.c62_command.specs.declared.command.Form.TheVariants.{Listed}
 use Rattle.c62_answer.specs.declared.outcome.Outcome.{Outcome}
 use Rattle.c62_answer.specs.Schedule.{AreScheduled, IsScheduled}
-use Rattle.c62_answer.specs.Run.{IsListingReport}
+use Rattle.c62_answer.specs.Run.{IsStandingReport}
 use Rattle.c62_answer.specs.Texts.{SaysProgram}
 use Rattle.c62_answer.specs.ReadBack.{IsReadBack, IsReportOf}
 use Rattle.c62_answer.proofs.Schedules.{as_many, closed, runs_serially, same_labels}
@@ -113,7 +114,7 @@ module _ (packing : Packing) (text : List ℕ) (program : List Serial) (packets 
 
 module _ (packing : Packing) (program : List Serial) (packets others : List Packed) (answer : List ℕ) (all : AreScheduled packing program packets)
     (read : IsRead answer others) (alike : AreAlike packets others) where
-  report_of : (settings : List Setting) (course : Course) (outcome : Outcome) (report : List ℕ) (sim : IsListingReport settings course outcome answer report)
+  report_of : (settings : List Setting) (course : Course) (outcome : Outcome) (report : List ℕ) (sim : IsStandingReport Listed settings course outcome answer report)
       → IsReportOf program packets settings course outcome answer report sim
   report_of settings course outcome report sim =
       let same : sim.packets ≡ others = one_reading answer sim.packets others sim.read read in

@@ -9,14 +9,20 @@ use Rattle.c62_read.specs.Program.{BlockParts, Refusal, program_in}
 use Rattle.c62_packet.specs.Packed.{Packed}
 use Rattle.c62_listing_reader.specs.Faults.{drafts_in as listed_in}
 use Rattle.c62_adopt.specs.declared.fault.AdoptFault.{AdoptFault}
-use Rattle.c62_adopt.specs.Answer.{IsAdopted, Refuses as RefusesPackets, code_read}
+use Rattle.c62_adopt.specs.Answer.{IsAdopted, Refuses as RefusesPackets, code_in, code_read}
+use Rattle.c62_adopt_code.specs.Code.{Refusal as CodeRefusal}
+use Rattle.c62_adopt_cut.specs.Text.{text_cut}
+use Rattle.c62_adopt_late.specs.Late.{first_late}
+use Rattle.c62_answer.specs.declared.outcome.Added.{Added}
 use Rattle.c62_adopt.proofs.CodeLemmas.{adopted_same, code_read-take, refuses_same as packets_refused}
 use Rattle.c62_answer.specs.Message.{IsFront, IsToldOf, Telling, Tells, TellsOf, TellsOutcome, adopt_message, drained_message, fault_message, list_message, rows_message, message_of, no_listing, of_listing, of_text, setting_message, told_of}
-use Rattle.c62_answer.specs.Run.{AsksInVain, AsksNothing, BeginsAnswer, Blames, BreaksOff, Does, Ends, EndsOnBytes, Fails, Gives, HasFailed, IsAdoptedText, IsAnswer, IsCommandFailure, IsDone, IsRefused, IsRefusedText, IsRun, IsRunBy, IsRunOnBytes, Streams, TakesAtMost, limit_of, status_done, status_of}
+use Rattle.c62_answer.specs.Run.{AsksInVain, AsksNothing, BeginsAnswer, Blames, BreaksOff, Does, Ends, EndsOnBytes, Fails, Gives, HasFailed, IsAdoptedText, IsDrainedText, IsAnswer, IsCommandFailure, IsDone, IsRefused, IsRefusedText, IsRun, IsRunBy, IsRunOnBytes, Streams, TakesAtMost, limit_of, status_done, status_of}
 use Rattle.c62_command.specs.declared.command.CommandError.{CommandError}
 use Rattle.c62_command.specs.declared.command.CommandError.TheVariants as command
 use Rattle.c62_answer.proofs.Flights.{flight_all, no_flight_all}
-use Rattle.c62_command.specs.CommandLine.{Adoption, Ask, FlightReport, HasBadSetting, IsRefusal, IsUnknown, Listing, ListingPicture, ListingReport, PacketReport, PacketsPicture, Picture, SerialReport, Verdicts, asked}
+use Rattle.c62_command.specs.CommandLine.{Adoption, Ask, FlightReport, HasBadSetting, IsRefusal, IsUnknown, Listing, ListingPicture, PacketReport, PacketsPicture, Picture, SerialReport, StandingReport, Verdicts, asked}
+use Rattle.c62_command.specs.declared.command.Form.{Form}
+use Rattle.c62_command.specs.declared.command.Form.TheVariants.{Listed, Written}
 use Rattle.clap.specs.Words.{Text}
 use Rattle.c62_answer.specs.declared.failure.Failure.{Failure}
 use Rattle.c62_answer.specs.declared.failure.Failure.TheVariants as failures
@@ -62,6 +68,12 @@ adopted_all drain added all text answer read is = record {
   listed = is.listed;
 }
 
+drained_all : (added : Added) (all text answer : List ℕ) → text ≡ take 8388609 all → IsDrainedText added text answer → IsDrainedText added all answer
+drained_all added all text answer read is = record {
+  adopted = adopted_all true added.cycles all text answer read is.adopted;
+  late = is.late ∙ ap (λ (code : Result (List ℕ) CodeRefusal). first_late (text_cut (code_in code))) (code_all all text read);
+}
+
 no_packets_all : (drain : Bool) (all text message : List ℕ) → text ≡ take 8388609 all → IsNoPackets drain text message → IsNoPackets drain all message
 no_packets_all drain all text message read is = record {
   fault = is.fault;
@@ -69,6 +81,15 @@ no_packets_all drain all text message read is = record {
   refused = packets_refused drain text all is.fault (code_all all text read) is.refused;
   told = is.told;
 }
+
+-- a listing and packets as they are written may be as long
+checked_all : (form : Form) (same : Bool) (all text answer : List ℕ) → text ≡ take (limit_of (Verdicts form) + 1) all → IsCheck form text same answer → IsCheck form all same answer
+checked_all Listed same all text answer read is = check_all all 9437190 (omega arith) Listed same answer (subst (λ (xs : List ℕ). IsCheck Listed xs same answer) read is)
+checked_all Written same all text answer read is = check_all all 9437190 (omega arith) Written same answer (subst (λ (xs : List ℕ). IsCheck Written xs same answer) read is)
+
+unchecked_all : (form : Form) (all text message : List ℕ) → text ≡ take (limit_of (Verdicts form) + 1) all → IsNoCheck form text message → IsNoCheck form all message
+unchecked_all Listed all text message read is = no_check_all all 9437190 (omega arith) Listed message (subst (λ (xs : List ℕ). IsNoCheck Listed xs message) read is)
+unchecked_all Written all text message read is = no_check_all all 9437190 (omega arith) Written message (subst (λ (xs : List ℕ). IsNoCheck Written xs message) read is)
 
 -- the answer to what was read is the answer to all
 answered : (ask : Ask) (outcome : Outcome) (all text answer : List ℕ) → text ≡ take (limit_of ask + 1) all → IsAnswer ask outcome text answer → IsAnswer ask outcome all answer
@@ -109,16 +130,21 @@ answered (PacketReport packing course settings) outcome all text answer read is 
   packed = is.packed;
   reported = is.reported;
 }
-answered (ListingReport course settings) outcome all text answer read is = record {
+answered (StandingReport Listed course settings) outcome all text answer read is = record {
   packets = is.packets;
   read = read_same text all is.packets (listed_all all text read) is.read;
   reported = is.reported;
 }
+answered (StandingReport Written course settings) outcome all text answer read is = record {
+  packets = is.packets;
+  read = adopted_same false text all is.packets 0 (code_all all text read) is.read;
+  reported = is.reported;
+}
 answered (FlightReport most strict from settings) outcome all text answer read is = flight_all most strict from settings outcome all text answer read is
 answered (Adoption false) Done all text answer read is = adopted_all false 0 all text answer read is
-answered (Adoption true) (Drained added) all text answer read is = adopted_all true added all text answer read is
-answered Verdicts Done all text answer read is = check_all all 9437190 (omega arith) true answer (subst (λ (xs : List ℕ). IsCheck xs true answer) read is)
-answered Verdicts NotSame all text answer read is = check_all all 9437190 (omega arith) false answer (subst (λ (xs : List ℕ). IsCheck xs false answer) read is)
+answered (Adoption true) (Drained added) all text answer read is = drained_all added all text answer read is
+answered (Verdicts form) Done all text answer read is = checked_all form true all text answer read is
+answered (Verdicts form) NotSame all text answer read is = checked_all form false all text answer read is
 answered (Listing packing) (Drained added) all text answer read is = absurd is
 answered (Listing packing) NotSame all text answer read is = absurd is
 answered (Picture showing) (Drained added) all text answer read is = absurd is
@@ -131,14 +157,14 @@ answered (Adoption false) (Drained added) all text answer read is = absurd is
 answered (Adoption false) NotSame all text answer read is = absurd is
 answered (Adoption true) Done all text answer read is = absurd is
 answered (Adoption true) NotSame all text answer read is = absurd is
-answered Verdicts (Drained added) all text answer read is = absurd is
+answered (Verdicts form) (Drained added) all text answer read is = absurd is
 answered (Listing packing) (Breached breach) all text answer read is = absurd is
 answered (Picture showing) (Breached breach) all text answer read is = absurd is
 answered (ListingPicture showing) (Breached breach) all text answer read is = absurd is
 answered (PacketsPicture showing) (Breached breach) all text answer read is = absurd is
 answered (Adoption false) (Breached breach) all text answer read is = absurd is
 answered (Adoption true) (Breached breach) all text answer read is = absurd is
-answered Verdicts (Breached breach) all text answer read is = absurd is
+answered (Verdicts form) (Breached breach) all text answer read is = absurd is
 
 -- the answer to what was read, written
 pub answers : (ask : Ask) (known old new : Option (List ℕ)) (text : List ℕ) (reply : Reply) → IfSome known (λ all. text ≡ take (limit_of ask + 1) all)
@@ -199,12 +225,13 @@ refused_all (Listing packing) all text message read is = no_program_all all text
 refused_all (Picture showing) all text message read is = no_program_all all text message read is
 refused_all (SerialReport course settings) all text message read is = no_program_all all text message read is
 refused_all (PacketReport packing course settings) all text message read is = no_program_all all text message read is
-refused_all (ListingReport course settings) all text message read is = no_listing_all all text message read is
+refused_all (StandingReport Listed course settings) all text message read is = no_listing_all all text message read is
+refused_all (StandingReport Written course settings) all text message read is = no_packets_all false all text message read is
 refused_all (ListingPicture showing) all text message read is = no_listing_all all text message read is
 refused_all (PacketsPicture showing) all text message read is = no_packets_all false all text message read is
 refused_all (FlightReport most strict from settings) all text message read is = no_flight_all from all text message read is
 refused_all (Adoption drain) all text message read is = no_packets_all drain all text message read is
-refused_all Verdicts all text message read is = no_check_all all 9437190 (omega arith) message (subst (λ (xs : List ℕ). IsNoCheck xs message) read is)
+refused_all (Verdicts form) all text message read is = unchecked_all form all text message read is
 
 refused : (ask : Ask) (known : Option (List ℕ)) (text message : List ℕ) → IfSome known (λ all. text ≡ take (limit_of ask + 1) all) → IsRefusedText ask text message
     → IsRefused ask known message
@@ -220,6 +247,7 @@ refuses ask known old text (failures.Unadopted fault) read gives = (refused ask 
 refuses ask known old text (failures.Unflown fault) read gives = (refused ask known text (rows_message fault) read gives, Keeps-same old)
 refuses ask known old text (failures.TextPart fault) read gives = (refused ask known text (of_text (fault_message fault.line fault.cause)) read gives, Keeps-same old)
 refuses ask known old text (failures.ListingPart fault) read gives = (refused ask known text (of_listing (list_message fault)) read gives, Keeps-same old)
+refuses ask known old text (failures.PacketsPart fault) read gives = (refused ask known text (of_listing (adopt_message fault)) read gives, Keeps-same old)
 refuses ask known old text failures.NoListing read gives = (refused ask known text no_listing read gives, Keeps-same old)
 refuses ask known old text failures.Memory read gives = Keeps-same old
 refuses ask known old text failures.Input read gives = absurd gives
@@ -370,6 +398,8 @@ module _ (Told : Telling) (words : List Text) (old new : Streams) (reads : Reads
       is_refused fails.1 (record { text = of_text (fault_message fault.line fault.cause); is = for_asked words ask _ is fails.0; told = told }) (λ none. absurd cc)
   is_not_done (failures.ListingPart fault) ask is fails told =
       is_refused fails.1 (record { text = of_listing (list_message fault); is = for_asked words ask _ is fails.0; told = told }) (λ none. absurd cc)
+  is_not_done (failures.PacketsPart fault) ask is fails told =
+      is_refused fails.1 (record { text = of_listing (adopt_message fault); is = for_asked words ask _ is fails.0; told = told }) (λ none. absurd cc)
   is_not_done failures.NoListing ask is fails told =
       is_refused fails.1 (record { text = no_listing; is = for_asked words ask _ is fails.0; told = told }) (λ none. absurd cc)
   is_not_done failures.Memory ask is fails told = is_out_of_memory fails told

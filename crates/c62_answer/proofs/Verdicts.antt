@@ -2,26 +2,27 @@
 use Rattle.std.proofs.Common.{ℕ, ◌<◌, ◌≤◌, Bool, true, false, List, length, Err, refl}
 use Rattle.c62_line.specs.declared.fault.Cause.TheVariants.{TextTooLong}
 use Rattle.c62_read.specs.Block.{Serial}
+use Rattle.c62_command.specs.declared.command.Form.{Form}
 use Rattle.c62_answer.specs.declared.failure.Failure.{Failure}
 use Rattle.c62_answer.specs.declared.failure.Failure.TheVariants as failures
-use Rattle.c62_answer.specs.Message.{fault_message, list_message, no_listing, of_text}
+use Rattle.c62_answer.specs.Message.{adopt_message, fault_message, list_message, no_listing, of_text}
 use Rattle.c62_answer.specs.Parting.{HasNoParting, IsParted}
 use Rattle.c62_answer.specs.Texts.{SaysProgram}
 use Rattle.c62_answer.specs.Check.{IsCheck, IsNoCheck}
 use Rattle.c62_answer.specs.Check.IsNoCheck.{Endless, FaultyListing, FaultyText, Unparted}
-use Rattle.c62_answer.specs.Run.{Gives, GivesListingPart, GivesTextPart, IsAnswer, outcome_of}
+use Rattle.c62_answer.specs.Run.{Gives, GivesPacketsPart, GivesTextPart, IsAnswer, outcome_of}
 use Rattle.c62_command.specs.CommandLine.{Verdicts}
 
 -- no line parts the input
-pub endless : (input : List ℕ) → HasNoParting input → 1048576 < length input → IsNoCheck input (of_text (fault_message 0 TextTooLong))
-endless input none long = Endless (record { long = long; none = λ text listing cut. absurd (none text listing cut) }) refl
+pub endless : (form : Form) (input : List ℕ) → HasNoParting input → 1048576 < length input → IsNoCheck form input (of_text (fault_message 0 TextTooLong))
+endless form input none long = Endless (record { long = long; none = λ text listing cut. absurd (none text listing cut) }) refl
 
-pub unparted : (input : List ℕ) → HasNoParting input → length input ≤ 1048576 → IsNoCheck input no_listing
-unparted input none short = Unparted (record { short = short; none = none }) refl
+pub unparted : (form : Form) (input : List ℕ) → HasNoParting input → length input ≤ 1048576 → IsNoCheck form input no_listing
+unparted form input none short = Unparted (record { short = short; none = none }) refl
 
-module _ (input text listing : List ℕ) (parted : IsParted input text listing) where
+module _ (form : Form) (input text listing : List ℕ) (parted : IsParted input text listing) where
   -- no program was read
-  pub no_text : (f : Failure) → GivesTextPart text (Err f) → Gives Verdicts input (Err f)
+  pub no_text : (f : Failure) → GivesTextPart text (Err f) → Gives (Verdicts form) input (Err f)
   no_text (failures.Unread fault) gives = absurd gives
   no_text (failures.Unlisted fault) gives = absurd gives
   no_text (failures.Unadopted fault) gives = absurd gives
@@ -36,6 +37,7 @@ module _ (input text listing : List ℕ) (parted : IsParted input text listing) 
         told = refl;
       })
   no_text (failures.ListingPart fault) gives = absurd gives
+  no_text (failures.PacketsPart fault) gives = absurd gives
   no_text failures.NoListing gives = absurd gives
   no_text (failures.Words e) gives = absurd gives
   no_text (failures.Setting k) gives = absurd gives
@@ -44,13 +46,13 @@ module _ (input text listing : List ℕ) (parted : IsParted input text listing) 
   no_text failures.Output gives = absurd gives
 
   -- a program was read, and no packets
-  pub no_listing_part : (program : List Serial) → SaysProgram text program → (f : Failure) → GivesListingPart listing (Err f) → Gives Verdicts input (Err f)
-  no_listing_part program says (failures.Unread fault) gives = absurd gives
-  no_listing_part program says (failures.Unlisted fault) gives = absurd gives
-  no_listing_part program says (failures.Unadopted fault) gives = absurd gives
-  no_listing_part program says (failures.Unflown fault) gives = absurd gives
-  no_listing_part program says (failures.TextPart fault) gives = absurd gives
-  no_listing_part program says (failures.ListingPart fault) gives =
+  pub no_packets_part : (program : List Serial) → SaysProgram text program → (f : Failure) → GivesPacketsPart form listing (Err f) → Gives (Verdicts form) input (Err f)
+  no_packets_part program says (failures.Unread fault) gives = absurd gives
+  no_packets_part program says (failures.Unlisted fault) gives = absurd gives
+  no_packets_part program says (failures.Unadopted fault) gives = absurd gives
+  no_packets_part program says (failures.Unflown fault) gives = absurd gives
+  no_packets_part program says (failures.TextPart fault) gives = absurd gives
+  no_packets_part program says (failures.ListingPart fault) gives =
       FaultyListing (record {
         text = text;
         listing = listing;
@@ -61,14 +63,25 @@ module _ (input text listing : List ℕ) (parted : IsParted input text listing) 
         refused = gives;
         told = refl;
       })
-  no_listing_part program says failures.NoListing gives = absurd gives
-  no_listing_part program says (failures.Words e) gives = absurd gives
-  no_listing_part program says (failures.Setting k) gives = absurd gives
-  no_listing_part program says failures.Memory gives = tt
-  no_listing_part program says failures.Input gives = absurd gives
-  no_listing_part program says failures.Output gives = absurd gives
+  no_packets_part program says (failures.PacketsPart fault) gives =
+      FaultyListing (record {
+        text = text;
+        listing = listing;
+        parted = parted;
+        program = program;
+        says = says;
+        fault = adopt_message fault;
+        refused = gives;
+        told = refl;
+      })
+  no_packets_part program says failures.NoListing gives = absurd gives
+  no_packets_part program says (failures.Words e) gives = absurd gives
+  no_packets_part program says (failures.Setting k) gives = absurd gives
+  no_packets_part program says failures.Memory gives = tt
+  no_packets_part program says failures.Input gives = absurd gives
+  no_packets_part program says failures.Output gives = absurd gives
 
 -- both were read, and this is told of them
-pub told : (input answer : List ℕ) (same : Bool) → IsCheck input same answer → IsAnswer Verdicts (outcome_of same) input answer
-told input answer true is = is
-told input answer false is = is
+pub told : (form : Form) (input answer : List ℕ) (same : Bool) → IsCheck form input same answer → IsAnswer (Verdicts form) (outcome_of same) input answer
+told form input answer true is = is
+told form input answer false is = is

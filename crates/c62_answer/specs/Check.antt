@@ -1,26 +1,27 @@
--- What is told where a listing is held against a serial text that stands before it (docs/CHECK.md).
+-- What is told where packets, in a listing or as they are written, are held against a serial text that stands before them
+-- (docs/CHECK.md). The name `listing` is what stands behind the line, in whichever form.
 use Rattle.std.specs.Prelude.{◌≡◌, ℕ, ◌<◌, ◌≤◌, Bool, true, List, length}
 use Rattle.c62_line.specs.declared.fault.Cause.TheVariants.{TextTooLong}
 use Rattle.c62_read.specs.Block.{Serial}
 use Rattle.c62_read.specs.Program.{most_bytes}
 use Rattle.c62_packet.specs.Packed.{Packed}
-use Rattle.c62_listing_reader.specs.Faults.{IsRead}
+use Rattle.c62_command.specs.declared.command.Form.{Form}
 use Rattle.c62_check.specs.Checked.{IsChecked}
 use Rattle.c62_check.specs.Serial.{AreSerialPackets}
 use Rattle.c62_answer.specs.Message.{fault_message, no_listing, of_listing, of_text}
 use Rattle.c62_answer.specs.Parting.{IsCut, IsParted, HasNoParting}
-use Rattle.c62_answer.specs.Texts.{SaysProgram, IsNoProgram, IsNoListing}
+use Rattle.c62_answer.specs.Texts.{SaysProgram, SaysPackets, SaysNoPackets, IsNoProgram}
 
--- The input is a text and a listing, and this is told of them, and whether every block is the same. Where it is, the packets
--- of the listing run as the program of the text, from every sound machine and under every limit.
-pub record IsCheck (input : List ℕ) (same : Bool) (answer : List ℕ) : Type 0 where
+-- The input is a text and packets of this form, and this is told of them, and whether every block is the same. Where it is, the
+-- packets run as the program of the text, from every sound machine and under every limit.
+pub record IsCheck (form : Form) (input : List ℕ) (same : Bool) (answer : List ℕ) : Type 0 where
   pub text : List ℕ
   pub listing : List ℕ
   pub parted : IsParted input text listing
   pub program : List Serial
   pub says : SaysProgram text program
   pub packets : List Packed
-  pub read : IsRead listing packets
+  pub read : SaysPackets form listing packets
   pub checked : IsChecked program packets answer same
   pub serial : same ≡ true → AreSerialPackets program packets
 
@@ -45,20 +46,20 @@ pub record HasFaultyText (input message : List ℕ) : Type 0 where
   pub refused : IsNoProgram text fault
   pub told : message ≡ of_text fault
 
--- the text says a program, but the listing is none, and its fault is told
-pub record HasFaultyListing (input message : List ℕ) : Type 0 where
+-- the text says a program, but what stands behind it says no packets, and its fault is told
+pub record HasFaultyListing (form : Form) (input message : List ℕ) : Type 0 where
   pub text : List ℕ
   pub listing : List ℕ
   pub parted : IsParted input text listing
   pub program : List Serial
   pub says : SaysProgram text program
   pub fault : List ℕ
-  pub refused : IsNoListing listing fault
+  pub refused : SaysNoPackets form listing fault
   pub told : message ≡ of_listing fault
 
 -- nothing can be checked, and the message tells why
-pub data IsNoCheck (input message : List ℕ) : Type 0 where
-  Endless : IsEndless input → message ≡ of_text (fault_message 0 TextTooLong) → IsNoCheck input message
-  Unparted : IsUnparted input → message ≡ no_listing → IsNoCheck input message
-  FaultyText : HasFaultyText input message → IsNoCheck input message
-  FaultyListing : HasFaultyListing input message → IsNoCheck input message
+pub data IsNoCheck (form : Form) (input message : List ℕ) : Type 0 where
+  Endless : IsEndless input → message ≡ of_text (fault_message 0 TextTooLong) → IsNoCheck form input message
+  Unparted : IsUnparted input → message ≡ no_listing → IsNoCheck form input message
+  FaultyText : HasFaultyText input message → IsNoCheck form input message
+  FaultyListing : HasFaultyListing form input message → IsNoCheck form input message

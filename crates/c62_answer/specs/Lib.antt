@@ -1,4 +1,5 @@
 pub mod Schedule
+pub mod Drawing
 pub mod Standing
 pub mod Message
 pub mod Texts
@@ -8,4 +9,5 @@ pub mod Run
 pub mod ReadBack
 pub mod OneText
 pub mod AdoptedBack
+pub mod AdoptedRun
 pub mod Bounds

@@ -13,6 +13,9 @@ use Rattle.c62_rows.specs.declared.fault.RowsFault.{RowsFault}
 use Rattle.c62_rows.specs.FaultText.{fault_text as rows_fault_text}
 use Rattle.c62_answer.specs.declared.failure.Failure.{Failure}
 use Rattle.c62_answer.specs.declared.failure.Failure.TheVariants as failure
+use Rattle.c62_op.specs.Name.{register_name}
+use Rattle.c62_adopt_late.specs.declared.late.Late.{Late}
+use Rattle.c62_answer.specs.declared.outcome.Added.{Added}
 use Rattle.c62_answer.specs.declared.outcome.Outcome.{Outcome}
 use Rattle.c62_answer.specs.declared.outcome.Outcome.TheVariants.{Drained}
 
@@ -30,7 +33,7 @@ adopt_message fault = adopt_fault_text fault ++ codes "\n"
 abbrev pub rows_message : RowsFault → List ℕ
 rows_message fault = rows_fault_text fault ++ codes "\n"
 
--- what is told of the text of a check, and of its listing
+-- what is told of the text of a check, and of its listing, or packets in the place of one
 abbrev pub of_text : List ℕ → List ℕ
 of_text message = codes "text " ++ message
 
@@ -53,6 +56,7 @@ message_of (failure.Unadopted fault) = Some (adopt_message fault)
 message_of (failure.Unflown fault) = Some (rows_message fault)
 message_of (failure.TextPart fault) = Some (of_text (fault_message fault.line fault.cause))
 message_of (failure.ListingPart fault) = Some (of_listing (list_message fault))
+message_of (failure.PacketsPart fault) = Some (of_listing (adopt_message fault))
 message_of failure.NoListing = Some no_listing
 message_of (failure.Words error) = None
 message_of (failure.Setting number) = Some (setting_message number)
@@ -60,12 +64,20 @@ message_of failure.Memory = Some (codes "memory\n")
 message_of failure.Input = Some (codes "input\n")
 message_of failure.Output = Some (codes "output\n")
 
--- how many cycles were added to drain a text; nothing where there were none
-abbrev pub drained_message : ℕ → List ℕ
-drained_message added =
-    if added == 0 then []
-    else (if added == 1 then codes "1 cycle added\n"
-    else decimal added ++ codes " cycles added\n")
+abbrev pub added_word : ℕ → List ℕ
+added_word cycles = if cycles == 1 then codes " cycle added" else codes " cycles added"
+
+abbrev pub cycles_added : ℕ → List ℕ
+cycles_added cycles = decimal cycles ++ added_word cycles
+
+-- the register that is read too early, and the line that writes it
+abbrev pub late_message : Option Late → List ℕ
+late_message None = []
+late_message (Some late) = codes "; " ++ register_name late.reg ++ codes " was read below line " ++ decimal late.line ++ codes " before it landed"
+
+-- what was added to drain a text; nothing where no cycles were
+abbrev pub drained_message : Added → List ℕ
+drained_message added = if added.cycles == 0 then [] else cycles_added added.cycles ++ late_message added.late ++ codes "\n"
 
 -- pieces one behind the other
 abbrev pub joined : List (Bor (List ℕ)) → List ℕ
@@ -96,7 +108,7 @@ pub record TellsOf (Told : Telling) (IsText : List ℕ → Type 0) (old new : Op
   pub is : IsText text
   pub told : Told old new text
 
--- Of a text that was drained it was told how many cycles were added. Else nothing was.
+-- Of a text that was drained it was told what was added. Else nothing was.
 abbrev pub TellsOutcome : Telling → Outcome → Option (List ℕ) → Option (List ℕ) → Type 0
 TellsOutcome Told (Drained added) old new = Told old new (drained_message added)
 TellsOutcome Told _ old new = Keeps old new

@@ -10,13 +10,14 @@ use Rattle.c62_listing_reader.specs.Laws.{AreShown}
 use Rattle.c62_command.specs.declared.setting.Setting.{Setting}
 use Rattle.c62_command.specs.declared.command.Course.{Course}
 use Rattle.c62_command.specs.declared.command.Packing.{Packing}
+use Rattle.c62_command.specs.declared.command.Form.TheVariants.{Listed}
 use Rattle.c62_answer.specs.declared.outcome.Outcome.{Outcome}
-use Rattle.c62_answer.specs.Run.{IsPackedText, IsListingReport}
+use Rattle.c62_answer.specs.Run.{IsPackedText, IsStandingReport}
 
 -- The report of a listing is one of a program, of which these packets were packed: they run as those that are read do, but
 -- for the lines that faulted, which are those of the same places, and leave what the program leaves.
 pub record IsReportOf (program : List Serial) (packets : List Packed) (settings : List Setting) (course : Course) (outcome : Outcome) (answer report : List ℕ)
-    (sim : IsListingReport settings course outcome answer report) : Type 0 where
+    (sim : IsStandingReport Listed settings course outcome answer report) : Type 0 where
   pub same : HaveTheSameChain sim.packets packets sim.reported.opening sim.reported.opening course.blocks sim.reported.chain sim.reported.cycles sim.reported.final
   pub serial : RunsProgram program sim.reported.opening course.blocks sim.reported.chain same.left
 
@@ -27,7 +28,7 @@ pub record AreReadBack (program : List Serial) (packets : List Packed) (answer :
   pub others : List Packed
   pub read : IsRead answer others
   pub alike : AreAlike packets others
-  pub reports : (settings : List Setting) (course : Course) (outcome : Outcome) (report : List ℕ) (sim : IsListingReport settings course outcome answer report)
+  pub reports : (settings : List Setting) (course : Course) (outcome : Outcome) (report : List ℕ) (sim : IsStandingReport Listed settings course outcome answer report)
       → IsReportOf program packets settings course outcome answer report sim
 
 -- so it is of what is packed of a text

@@ -4,7 +4,8 @@ use Rattle.std.specs.Io.KnownBytes.{Appends, Consumes, Keeps}
 use Rattle.std.specs.Option.{IsSomeAnd}
 use Rattle.clap.specs.Words.{Text}
 use Rattle.c62_answer.specs.declared.failure.Failure.{Failure}
-use Rattle.c62_answer.specs.declared.failure.Failure.TheVariants.{Unread, Unlisted, Unadopted, Unflown, TextPart, ListingPart, NoListing, Words, Setting, Memory, Input, Output}
+use Rattle.c62_answer.specs.declared.failure.Failure.TheVariants.{Unread, Unlisted, Unadopted, Unflown, TextPart, ListingPart, PacketsPart, NoListing, Words, Setting, Memory, Input, Output}
+use Rattle.c62_answer.specs.declared.outcome.Added.{Added}
 use Rattle.c62_answer.specs.declared.outcome.Outcome.{Outcome}
 use Rattle.c62_answer.specs.declared.outcome.Outcome.TheVariants.{Done, Drained, NotSame, Breached}
 use Rattle.c62_answer.specs.declared.outcome.Breach.TheVariants as breach
@@ -16,6 +17,8 @@ use Rattle.c62_command.specs.declared.setting.Setting.TheVariants as given
 use Rattle.c62_command.specs.declared.command.Course.{Course}
 use Rattle.c62_command.specs.declared.command.Packing.{Packing}
 use Rattle.c62_command.specs.declared.command.Showing.{Showing}
+use Rattle.c62_command.specs.declared.command.Form.{Form}
+use Rattle.c62_command.specs.declared.command.Form.TheVariants.{Listed, Written}
 use Rattle.c62_line.specs.declared.fault.Cause.TheVariants.{Memory as OutOfStore}
 use Rattle.c62_line.specs.declared.fault.ReadFault.{ReadFault}
 use Rattle.c62_read.specs.Block.{Serial}
@@ -31,11 +34,13 @@ use Rattle.c62_pipe.specs.Chain.{RunsPackets}
 use Rattle.c62_listing.specs.Listing.{listing}
 use Rattle.c62_listing_reader.specs.declared.fault.ListFault.{ListFault}
 use Rattle.c62_listing_reader.specs.declared.fault.ListFault.TheVariants.{Memory as NoStore}
-use Rattle.c62_listing_reader.specs.Faults.{IsRead, most_bytes as most_listing_bytes}
+use Rattle.c62_listing_reader.specs.Faults.{most_bytes as most_listing_bytes}
 use Rattle.c62_adopt_cut.specs.Text.{most_bytes as most_packets_bytes}
 use Rattle.c62_adopt.specs.declared.fault.AdoptFault.{AdoptFault}
 use Rattle.c62_adopt.specs.declared.fault.AdoptFault.TheVariants.{Memory as NoRoom}
-use Rattle.c62_adopt.specs.Answer.{IsAdopted, IsCoded, code_in, code_read}
+use Rattle.c62_adopt.specs.Answer.{IsAdopted, IsCoded, code_cut, code_in, code_read}
+use Rattle.c62_adopt_late.specs.declared.late.Late.{Late}
+use Rattle.c62_adopt_late.specs.Late.{first_late}
 use Rattle.c62_flight.specs.Text.{Text as FlightText}
 use Rattle.c62_flight.specs.Flight.{Flies}
 use Rattle.c62_flight.specs.declared.stop.Stop.{Stop}
@@ -44,8 +49,8 @@ use Rattle.c62_rows.specs.declared.fault.RowsFault.{RowsFault}
 use Rattle.c62_rows.specs.declared.fault.RowsFault.TheVariants.{Memory as NoPlace}
 use Rattle.c62_rows.specs.Text.{IsTextFrom}
 use Rattle.c62_show.specs.declared.shown.Shown.{Shown}
-use Rattle.c62_show.specs.Picture.{picture}
 use Rattle.c62_answer.specs.Bounds.{AreBounded}
+use Rattle.c62_answer.specs.Drawing.{drawing}
 use Rattle.c62_answer.specs.Schedule.{AreScheduled, AreShown}
 use Rattle.c62_answer.specs.Standing.{IsShownListing, IsShownPackets}
 use Rattle.c62_report.specs.Report.{serial_report, packet_report}
@@ -53,10 +58,11 @@ use Rattle.c62_report.specs.Flight.{flight_report}
 use Rattle.c62_profile.specs.declared.tally.Tally.{Tally}
 use Rattle.c62_profile.specs.Visits.{CountsPackets, CountsProgram}
 use Rattle.c62_profile.specs.Table.{packet_table, serial_table}
-use Rattle.c62_command.specs.CommandLine.{Ask, Listing, Picture, ListingPicture, PacketsPicture, SerialReport, PacketReport, ListingReport, FlightReport, Adoption, Verdicts, IsRefusal, IsUnknown, HasBadSetting, asked}
+use Rattle.c62_command.specs.CommandLine.{Ask, Listing, Picture, ListingPicture, PacketsPicture, SerialReport, PacketReport, StandingReport, FlightReport, Adoption, Verdicts, IsRefusal, IsUnknown, HasBadSetting, asked}
 use Rattle.c62_answer.specs.Message.{adopt_message, fault_message, list_message, rows_message, no_listing, of_listing, of_text, setting_message, IsFront, IsToldOf, Telling, Tells, TellsOf, TellsOutcome}
-use Rattle.c62_answer.specs.Texts.{SaysProgram, IsNoProgram, IsNoListing, IsNoPackets, IsNoFlight}
+use Rattle.c62_answer.specs.Texts.{SaysProgram, SaysPackets, SaysNoPackets, IsNoProgram, IsNoListing, IsNoPackets, IsNoFlight}
 use Rattle.c62_answer.specs.Check.{IsCheck, IsNoCheck}
+use Rattle.c62_printing.specs.Printing.{prints}
 
 abbrev pub status_of : Failure → ℕ
 status_of (Unread _) = 1
@@ -65,6 +71,7 @@ status_of (Unadopted _) = 1
 status_of (Unflown _) = 1
 status_of (TextPart _) = 1
 status_of (ListingPart _) = 1
+status_of (PacketsPart _) = 1
 status_of NoListing = 1
 status_of (Words _) = 2
 status_of (Setting _) = 2
@@ -116,12 +123,15 @@ IsAdoptFailure fault f = ((fault ≡ NoRoom) × (f ≡ Memory)) ⊎ ((fault ≢ 
 abbrev pub IsRowsFailure : RowsFault → Failure → Type 0
 IsRowsFailure fault f = ((fault ≡ NoPlace) × (f ≡ Memory)) ⊎ ((fault ≢ NoPlace) × (f ≡ Unflown fault))
 
--- what a fault of the text of a check is, and one of its listing
+-- what a fault of the text of a check is, and one of its listing, or of packets in the place of one
 abbrev pub IsTextFailure : ReadFault → Failure → Type 0
 IsTextFailure fault f = ((fault.cause ≡ OutOfStore) × (f ≡ Memory)) ⊎ ((fault.cause ≢ OutOfStore) × (f ≡ TextPart fault))
 
 abbrev pub IsListingFailure : ListFault → Failure → Type 0
 IsListingFailure fault f = ((fault ≡ NoStore) × (f ≡ Memory)) ⊎ ((fault ≢ NoStore) × (f ≡ ListingPart fault))
+
+abbrev pub IsPacketsFailure : AdoptFault → Failure → Type 0
+IsPacketsFailure fault f = ((fault ≡ NoRoom) × (f ≡ Memory)) ⊎ ((fault ≢ NoRoom) × (f ≡ PacketsPart fault))
 
 -- what an error of the command line is
 abbrev pub IsCommandFailure : CommandError → Failure → Type 0
@@ -137,15 +147,20 @@ TakesAtMost n old new = (bytes : List ℕ) × Consumes old new bytes × (length 
 abbrev pub BeginsAll : ℕ → Option (List ℕ) → List ℕ → Type 0
 BeginsAll limit all text = IfSome all (λ bytes. text ≡ take (limit + 1) bytes)
 
--- the most bytes that may be given: of a listing, of packets as they are written, of a text and a listing with the longest line
+-- the most bytes of a text of packets in this form
+abbrev pub most_of : Form → ℕ
+most_of Listed = most_listing_bytes
+most_of Written = most_packets_bytes
+
+-- the most bytes that may be given: of a listing, of packets as they are written, of a text and one of these with the longest line
 -- `---` between them, or of serial text
 abbrev pub limit_of : Ask → ℕ
 limit_of (ListingPicture showing) = most_listing_bytes
 limit_of (PacketsPicture showing) = most_packets_bytes
-limit_of (ListingReport course settings) = most_listing_bytes
+limit_of (StandingReport form course settings) = most_of form
 limit_of (FlightReport cycles strict from settings) = most_packets_bytes
 limit_of (Adoption drain) = most_packets_bytes
-limit_of Verdicts = most_bytes + 5 + most_listing_bytes
+limit_of (Verdicts form) = most_bytes + 5 + most_of form
 limit_of _ = most_bytes
 
 -- where the words ask for something, no more is taken than one byte past the limit of that
@@ -169,7 +184,7 @@ pub record IsShownText (showing : Showing) (text answer : List ℕ) : Type 0 whe
   pub shown : List Shown
   pub packed : AreShown showing program shown
   pub bounded : AreBounded program shown
-  pub drawn : answer ≡ picture shown
+  pub drawn : answer ≡ drawing showing shown
 
 -- the machine after a setting
 abbrev pub with_setting : Machine → Given → Machine
@@ -177,6 +192,7 @@ with_setting machine (given.Register reg value) = with_word reg value machine
 with_setting machine (given.Byte address value) = with_bytes address 1 value machine
 with_setting machine (given.Half address value) = with_bytes address 2 value machine
 with_setting machine (given.Word address value) = with_bytes address 4 value machine
+with_setting machine (given.Print print) = machine
 
 -- the machine after these settings, in their order
 abbrev pub with_settings : List Given → Machine → Machine
@@ -201,7 +217,8 @@ TellsPackets false packets opening limit chain final table = table ≡ []
 TellsPackets true packets opening limit chain final table =
     (tally : Tally) × CountsPackets packets opening limit chain final tally × (table ≡ packet_table packets tally)
 
--- The report of a program's serial run, from zeros with these settings, with the table of its blocks below it where that is asked for.
+-- The report of a program's serial run, from zeros with these settings, with memory that they print below it, and the table of its
+-- blocks where that is asked for.
 pub record IsReport (program : List Serial) (settings : List Given) (course : Course) (outcome : Outcome) (answer : List ℕ) : Type 0 where
   pub opening : Machine
   pub begin : IsOpening settings opening
@@ -210,7 +227,7 @@ pub record IsReport (program : List Serial) (settings : List Given) (course : Co
   pub run : RunsProgram program opening course.blocks chain final
   pub table : List ℕ
   pub told : TellsSerial course.profile program opening course.blocks chain final table
-  pub report : answer ≡ serial_report chain final ++ table
+  pub report : answer ≡ serial_report chain final ++ prints final settings ++ table
   pub ends : outcome ≡ outcome_run course.strict (is_limit chain.stop) final.faults
 
 -- The report of such a run of packets.
@@ -223,7 +240,7 @@ pub record IsPacketReport (packets : List Packed) (settings : List Given) (cours
   pub run : RunsPackets packets opening course.blocks chain cycles final
   pub table : List ℕ
   pub told : TellsPackets course.profile packets opening course.blocks chain final table
-  pub report : answer ≡ packet_report chain cycles final ++ table
+  pub report : answer ≡ packet_report chain cycles final ++ prints final settings ++ table
   pub ends : outcome ≡ outcome_run course.strict (is_limit chain.stop) final.faults
 
 -- The same, where the packets run as this program does: without its line of cycles it is the report of the serial run.
@@ -245,10 +262,10 @@ pub record IsRunReport (packing : Packing) (settings : List Given) (course : Cou
   pub packed : AreScheduled packing program packets
   pub reported : IsSameReport program packets settings course outcome answer
 
--- the text is a listing, of the run of whose packets this is the report
-pub record IsListingReport (settings : List Given) (course : Course) (outcome : Outcome) (text answer : List ℕ) : Type 0 where
+-- the text, of this form, says packets, of the run of which as they stand this is the report
+pub record IsStandingReport (form : Form) (settings : List Given) (course : Course) (outcome : Outcome) (text answer : List ℕ) : Type 0 where
   pub packets : List Packed
-  pub read : IsRead text packets
+  pub read : SaysPackets form text packets
   pub reported : IsPacketReport packets settings course outcome answer
 
 -- The report of a run of a text of packets from this row on, of at most so many cycles, from zeros with these settings.
@@ -259,7 +276,7 @@ pub record IsFlown (flying : FlightText) (first : ℕ) (settings : List Given) (
   pub cycles : ℕ
   pub final : Machine
   pub flies : Flies flying first most opening stop cycles final
-  pub report : answer ≡ flight_report stop cycles final
+  pub report : answer ≡ flight_report stop cycles final ++ prints final settings
   pub ends : outcome ≡ outcome_run strict (is_flight_limit stop) final.faults
 
 -- the text's code is one of packets, and this is the report of its run with everything in flight
@@ -276,8 +293,16 @@ pub record IsAdoptedText (drain : Bool) (added : ℕ) (text answer : List ℕ) :
   pub adopted : IsAdopted drain text packets added
   pub listed : answer ≡ listing packets
 
--- how an adoption ends, where so many cycles were added
-abbrev pub outcome_adopted : Bool → ℕ → Outcome
+-- so it is with these cycles, and this is the first register that the text reads below a block before what lands in it there
+pub record IsDrainedText (added : Added) (text answer : List ℕ) : Type 0 where
+  pub adopted : IsAdoptedText true added.cycles text answer
+  pub late : added.late ≡ first_late (code_cut text)
+
+abbrev pub added_of : ℕ → Option Late → Added
+added_of cycles late = record { cycles = cycles; late = late }
+
+-- how an adoption ends, where this was added
+abbrev pub outcome_adopted : Bool → Added → Outcome
 outcome_adopted true added = Drained added
 outcome_adopted false added = Done
 
@@ -295,12 +320,12 @@ IsAnswer (ListingPicture showing) Done text answer = IsShownListing showing text
 IsAnswer (PacketsPicture showing) Done text answer = IsShownPackets showing text answer
 IsAnswer (SerialReport course settings) outcome text answer = IsSerialReport settings course outcome text answer
 IsAnswer (PacketReport packing course settings) outcome text answer = IsRunReport packing settings course outcome text answer
-IsAnswer (ListingReport course settings) outcome text answer = IsListingReport settings course outcome text answer
+IsAnswer (StandingReport form course settings) outcome text answer = IsStandingReport form settings course outcome text answer
 IsAnswer (FlightReport most strict from settings) outcome text answer = IsFlightReport most strict from settings outcome text answer
 IsAnswer (Adoption false) Done text answer = IsAdoptedText false 0 text answer
-IsAnswer (Adoption true) (Drained added) text answer = IsAdoptedText true added text answer
-IsAnswer Verdicts Done text answer = IsCheck text true answer
-IsAnswer Verdicts NotSame text answer = IsCheck text false answer
+IsAnswer (Adoption true) (Drained added) text answer = IsDrainedText added text answer
+IsAnswer (Verdicts form) Done text answer = IsCheck form text true answer
+IsAnswer (Verdicts form) NotSame text answer = IsCheck form text false answer
 IsAnswer _ _ text answer = ⊥
 
 -- ---- refusals
@@ -309,10 +334,10 @@ IsAnswer _ _ text answer = ⊥
 abbrev pub IsRefusedText : Ask → List ℕ → List ℕ → Type 0
 IsRefusedText (ListingPicture showing) text message = IsNoListing text message
 IsRefusedText (PacketsPicture showing) text message = IsNoPackets false text message
-IsRefusedText (ListingReport course settings) text message = IsNoListing text message
+IsRefusedText (StandingReport form course settings) text message = SaysNoPackets form text message
 IsRefusedText (FlightReport most strict from settings) text message = IsNoFlight from text message
 IsRefusedText (Adoption drain) text message = IsNoPackets drain text message
-IsRefusedText Verdicts text message = IsNoCheck text message
+IsRefusedText (Verdicts form) text message = IsNoCheck form text message
 IsRefusedText _ text message = IsNoProgram text message
 
 -- ---- streams
@@ -365,12 +390,13 @@ GivesProgram text (Err (Unread fault)) = IsNoProgram text (fault_message fault.l
 GivesProgram text (Err Memory) = Unit {0}
 GivesProgram text (Err _) = ⊥
 
--- the packets that a listing says, or its fault, unless memory ran out
-abbrev pub GivesPackets : List ℕ → Result (List Packed) Failure → Type 0
-GivesPackets text (Ok packets) = IsRead text packets
-GivesPackets text (Err (Unlisted fault)) = IsNoListing text (list_message fault)
-GivesPackets text (Err Memory) = Unit {0}
-GivesPackets text (Err _) = ⊥
+-- the packets that a text of this form says, or its fault, unless memory ran out
+abbrev pub GivesPackets : Form → List ℕ → Result (List Packed) Failure → Type 0
+GivesPackets form text (Ok packets) = SaysPackets form text packets
+GivesPackets form text (Err (Unlisted fault)) = SaysNoPackets form text (list_message fault)
+GivesPackets form text (Err (Unadopted fault)) = SaysNoPackets form text (adopt_message fault)
+GivesPackets form text (Err Memory) = Unit {0}
+GivesPackets form text (Err _) = ⊥
 
 -- the program that the text of a check says, or its fault, unless memory ran out
 abbrev pub GivesTextPart : List ℕ → Result (List Serial) Failure → Type 0
@@ -379,12 +405,13 @@ GivesTextPart text (Err (TextPart fault)) = IsNoProgram text (fault_message faul
 GivesTextPart text (Err Memory) = Unit {0}
 GivesTextPart text (Err _) = ⊥
 
--- the packets that the listing of a check says, or its fault, unless memory ran out
-abbrev pub GivesListingPart : List ℕ → Result (List Packed) Failure → Type 0
-GivesListingPart text (Ok packets) = IsRead text packets
-GivesListingPart text (Err (ListingPart fault)) = IsNoListing text (list_message fault)
-GivesListingPart text (Err Memory) = Unit {0}
-GivesListingPart text (Err _) = ⊥
+-- the packets that are to be checked, in this form, or their fault, unless memory ran out
+abbrev pub GivesPacketsPart : Form → List ℕ → Result (List Packed) Failure → Type 0
+GivesPacketsPart form text (Ok packets) = SaysPackets form text packets
+GivesPacketsPart form text (Err (ListingPart fault)) = SaysNoPackets form text (list_message fault)
+GivesPacketsPart form text (Err (PacketsPart fault)) = SaysNoPackets form text (adopt_message fault)
+GivesPacketsPart form text (Err Memory) = Unit {0}
+GivesPacketsPart form text (Err _) = ⊥
 
 -- the answer to a text, or its fault, unless memory ran out
 abbrev pub Gives : Ask → List ℕ → Result Reply Failure → Type 0
@@ -395,6 +422,7 @@ Gives ask text (Err (Unadopted fault)) = IsRefusedText ask text (adopt_message f
 Gives ask text (Err (Unflown fault)) = IsRefusedText ask text (rows_message fault)
 Gives ask text (Err (TextPart fault)) = IsRefusedText ask text (of_text (fault_message fault.line fault.cause))
 Gives ask text (Err (ListingPart fault)) = IsRefusedText ask text (of_listing (list_message fault))
+Gives ask text (Err (PacketsPart fault)) = IsRefusedText ask text (of_listing (adopt_message fault))
 Gives ask text (Err NoListing) = IsRefusedText ask text no_listing
 Gives ask text (Err Memory) = Unit {0}
 Gives ask text (Err _) = ⊥
@@ -407,6 +435,7 @@ Fails ask text old new (Unadopted fault) = IsRefused ask text (adopt_message fau
 Fails ask text old new (Unflown fault) = IsRefused ask text (rows_message fault) × Keeps old new
 Fails ask text old new (TextPart fault) = IsRefused ask text (of_text (fault_message fault.line fault.cause)) × Keeps old new
 Fails ask text old new (ListingPart fault) = IsRefused ask text (of_listing (list_message fault)) × Keeps old new
+Fails ask text old new (PacketsPart fault) = IsRefused ask text (of_listing (adopt_message fault)) × Keeps old new
 Fails ask text old new NoListing = IsRefused ask text no_listing × Keeps old new
 Fails ask text old new Memory = Keeps old new
 Fails ask text old new Input = Keeps old new

@@ -5,10 +5,10 @@ use Rattle.c62_packet.specs.Packed.{Packed}
 use Rattle.c62_listing_reader.specs.Faults.{IsRead}
 use Rattle.c62_adopt.specs.Answer.{IsAdopted}
 use Rattle.c62_show.specs.declared.shown.Shown.{Shown}
-use Rattle.c62_show.specs.Picture.{picture}
 use Rattle.c62_standing.specs.declared.standing.Details.{Details}
 use Rattle.c62_standing.specs.Standing.{IsStanding}
 use Rattle.c62_command.specs.declared.command.Showing.{Showing}
+use Rattle.c62_answer.specs.Drawing.{drawing}
 
 -- what is told of packets beside their picture
 abbrev pub details_of : Showing → Details
@@ -19,7 +19,7 @@ details_of showing = record { why = showing.why; registers = showing.registers }
 pub record IsDrawn (showing : Showing) (packets : List Packed) (answer : List ℕ) : Type 0 where
   pub shown : List Shown
   pub standing : AllZip (IsStanding (details_of showing)) packets shown
-  pub drawn : answer ≡ picture shown
+  pub drawn : answer ≡ drawing showing shown
 
 -- the text is a listing, and this the picture of its packets
 pub record IsShownListing (showing : Showing) (text answer : List ℕ) : Type 0 where

@@ -1,16 +1,20 @@
 -- What texts say, and what is told of those that say nothing.
-use Rattle.std.specs.Prelude.{◌≡◌, ◌≢◌, ◌⊎◌, ℕ, Bool, List, Option, map, Ok, IsErrAnd}
+use Rattle.std.specs.Prelude.{◌≡◌, ◌≢◌, ◌⊎◌, ℕ, Bool, false, List, Option, map, Ok, IsErrAnd}
 use Rattle.c62_read.specs.Block.{Serial}
 use Rattle.c62_read.specs.Program.{program_in, block_parts}
+use Rattle.c62_packet.specs.Packed.{Packed}
+use Rattle.c62_listing_reader.specs.Faults.{IsRead}
 use Rattle.c62_listing_reader.specs.declared.fault.ListFault.{ListFault}
 use Rattle.c62_listing_reader.specs.declared.fault.ListFault.TheVariants.{Memory as NoStore}
 use Rattle.c62_listing_reader.specs.Reading.{Refuses}
 use Rattle.c62_adopt.specs.declared.fault.AdoptFault.{AdoptFault}
 use Rattle.c62_adopt.specs.declared.fault.AdoptFault.TheVariants.{Memory as NoRoom}
-use Rattle.c62_adopt.specs.Answer.{IsCoded, LacksCode, Refuses as RefusesPackets, code_in, code_read}
+use Rattle.c62_adopt.specs.Answer.{IsAdopted, IsCoded, LacksCode, Refuses as RefusesPackets, code_in, code_read}
 use Rattle.c62_rows.specs.declared.fault.RowsFault.{RowsFault}
 use Rattle.c62_rows.specs.declared.fault.RowsFault.TheVariants.{Memory as NoPlace}
 use Rattle.c62_rows.specs.Text.{RefusesFrom}
+use Rattle.c62_command.specs.declared.command.Form.{Form}
+use Rattle.c62_command.specs.declared.command.Form.TheVariants.{Listed, Written}
 use Rattle.c62_answer.specs.Message.{adopt_message, fault_message, list_message, rows_message}
 
 -- the text says a program
@@ -34,6 +38,16 @@ pub record IsNoPackets (drain : Bool) (text message : List ℕ) : Type 0 where
   pub known : fault ≢ NoRoom
   pub refused : RefusesPackets drain text fault
   pub told : message ≡ adopt_message fault
+
+-- The text, of this form, says these packets as they stand. Their lines are those of the text.
+abbrev pub SaysPackets : Form → List ℕ → List Packed → Type 0
+SaysPackets Listed text packets = IsRead text packets
+SaysPackets Written text packets = IsAdopted false text packets 0
+
+-- it says none, and the message tells its first fault
+abbrev pub SaysNoPackets : Form → List ℕ → List ℕ → Type 0
+SaysNoPackets Listed text message = IsNoListing text message
+SaysNoPackets Written text message = IsNoPackets false text message
 
 -- the text has no code, and the message tells the line that keeps it from having some
 pub record IsUncoded (text message : List ℕ) : Type 0 where

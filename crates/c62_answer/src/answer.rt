@@ -4,26 +4,28 @@ ghost use Rattle.std.specs.Prelude.{◌≡◌, ◌≤◌, true, false, IfOk, IsT
 ghost use Rattle.c62_listing.specs.Listing.{listing};
 ghost use Rattle.c62_packet.specs.Packets.{is_closed};
 ghost use Rattle.c62_show.specs.Picture.{picture};
-ghost use Rattle.c62_command.specs.CommandLine.{Listing, Picture, SerialReport, PacketReport, ListingReport, Adoption, ask_of};
-ghost use Rattle.c62_answer.specs.Run.{Gives, GivesProgram, GivesPackets, limit_of};
+ghost use Rattle.c62_show.specs.Summary.{summary};
+ghost use Rattle.c62_command.specs.CommandLine.{Listing, Picture, SerialReport, PacketReport, StandingReport, Adoption, ask_of};
+ghost use Rattle.c62_answer.specs.Drawing.{drawing};
+ghost use Rattle.c62_answer.specs.Run.{added_of, Gives, GivesProgram, limit_of, most_of};
 ghost use Rattle.c62_answer.specs.declared.parting.TheConstants.{MOST_BYTES};
 
 use crate::checking::verdicts;
 use crate::exec::exec;
 use crate::failure::Failure;
-use crate::outcome::{Outcome, Reply};
+use crate::outcome::{Added, Outcome, Reply};
+use crate::packets::packets_in;
 use crate::parting;
 use crate::run::{packet_run, serial_run};
 use crate::schedule::{packets_by_turns, packets_by_workers, shown_by_turns, shown_by_workers};
 use crate::standing::{show_listing, show_packets};
-use c62_adopt::adopt;
 use c62_adopt::laws::texts_that_stand_lack_nothing;
-use c62_command::{Packing, Request, Showing, Start};
+use c62_adopt::{Adopted, adopt};
+use c62_command::{Form, Packing, Request, Showing, Start};
 use c62_listing::list;
-use c62_listing_reader::read_listing;
 use c62_packet::Packets;
 use c62_read::{Program, read_program};
-use c62_show::{Shown, picture};
+use c62_show::{Shown, picture, summary};
 use std::alloc::{AllocError, Global};
 use std::sync::Wait;
 use std::thread::Threads;
@@ -38,17 +40,6 @@ fn program_of(alloc: Global, text: &[u8]) -> Result<Program, Failure>
     }
 }
 
-/// The packets that a listing says.
-pub(crate) fn packets_in(alloc: Global, text: &[u8]) -> Result<Packets, Failure>
-    ensures packets { GivesPackets text.now result }
-    ensures closed { IfOk result (λ packets. IsTrue (is_closed packets)) }
-{
-    match read_listing(alloc, text) {
-        Ok(packets) => Ok(packets),
-        Err(fault) => Err(Failure::from(fault)),
-    }
-}
-
 fn listing_of(alloc: Global, packets: &Packets) -> Result<Vec<u8>, AllocError>
     requires { IsTrue (is_closed packets.now) }
     ensures { IfOk result (λ text. text.items ≡ listing packets.now) }
@@ -56,11 +47,19 @@ fn listing_of(alloc: Global, packets: &Packets) -> Result<Vec<u8>, AllocError>
     Ok(list(alloc, packets)?.into_bytes())
 }
 
-/// The picture of these blocks.
-pub(crate) fn picture_of(alloc: Global, shown: &[Shown]) -> Result<Vec<u8>, AllocError>
-    ensures { IfOk result (λ text. text.items ≡ picture shown.now) }
+/// The picture of blocks, or their heads alone.
+pub(crate) fn picture_of(
+    alloc: Global,
+    showing: Showing,
+    shown: &[Shown],
+) -> Result<Vec<u8>, AllocError>
+    ensures { IfOk result (λ text. text.items ≡ drawing showing shown.now) }
 {
-    Ok(picture(alloc, shown)?.into_bytes())
+    if showing.summary {
+        Ok(summary(alloc, shown)?.into_bytes())
+    } else {
+        Ok(picture(alloc, shown)?.into_bytes())
+    }
 }
 
 /// The listing of what a text says, packed by turns.
@@ -84,7 +83,7 @@ fn show_by_turns(alloc: Global, text: &[u8], showing: Showing) -> Result<Reply, 
     let program = program_of(alloc, text)?;
     let shown = shown_by_turns(alloc, program, showing)?;
     Ok(Reply {
-        text: picture_of(alloc, &shown)?,
+        text: picture_of(alloc, showing, &shown)?,
         outcome: Outcome::Done,
     })
 }
@@ -133,7 +132,7 @@ fn show_by_workers<H: AllocGlobal + Threads + Wait + Sync>(
     let program = program_of(rt.alloc(), text)?;
     let shown = shown_by_workers(rt, program, showing)?;
     Ok(Reply {
-        text: picture_of(rt.alloc(), &shown)?,
+        text: picture_of(rt.alloc(), showing, &shown)?,
         outcome: Outcome::Done,
     })
 }
@@ -161,12 +160,22 @@ fn serial(alloc: Global, text: &[u8], start: &Start) -> Result<Reply, Failure>
     Ok(serial_run(alloc, &program, start)?)
 }
 
-/// The report of a run of the packets of a listing.
-fn sim(alloc: Global, text: &[u8], start: &Start) -> Result<Reply, Failure>
-    ensures { Gives (ListingReport start.now.course start.now.settings.items) text.now result }
+/// The report of a run of packets as they stand in a text of this form.
+fn sim(alloc: Global, form: Form, text: &[u8], start: &Start) -> Result<Reply, Failure>
+    ensures { Gives (StandingReport form start.now.course start.now.settings.items) text.now result }
 {
-    let packets = packets_in(alloc, text)?;
+    let packets = packets_in(alloc, form, text)?;
     Ok(packet_run(alloc, &packets, start)?)
+}
+
+/// What was added to a text that was adopted.
+fn added_in(adopted: &Adopted) -> Added
+    ensures { result ≡ added_of adopted.now.added adopted.now.late }
+{
+    Added {
+        cycles: adopted.added,
+        late: adopted.late,
+    }
 }
 
 /// The listing of a text of packets as people and compilers write them. Where it is drained, the cycles are added that lack.
@@ -178,7 +187,7 @@ fn adopted(alloc: Global, text: &[u8], drain: bool) -> Result<Reply, Failure>
     texts_that_stand_lack_nothing();
     Ok(Reply {
         text: listing_of(alloc, &adopted.packets)?,
-        outcome: Outcome::of_adoption(drain, adopted.added),
+        outcome: Outcome::of_adoption(drain, added_in(&adopted)),
     })
 }
 
@@ -219,10 +228,21 @@ pub fn answer<H: AllocGlobal + Threads + Wait + Sync>(
             }
         }
         Request::Serial(start) => serial(rt.alloc(), text, start),
-        Request::Sim(start) => sim(rt.alloc(), text, start),
+        Request::Sim(form, start) => sim(rt.alloc(), *form, text, start),
         Request::Exec(start) => exec(rt.alloc(), text, start),
         Request::Adopt(drain) => adopted(rt.alloc(), text, *drain),
-        Request::Check => verdicts(rt.alloc(), text),
+        Request::Check(form) => verdicts(rt.alloc(), *form, text),
+    }
+}
+
+/// The most bytes of a text of packets in this form.
+fn most_of(form: Form) -> usize
+    ensures limit { result ≡ most_of form }
+    ensures most { result ≤ MOST_BYTES }
+{
+    match form {
+        Form::Listed => c62_listing_reader::MOST_BYTES,
+        Form::Written => c62_adopt_cut::MOST_BYTES,
     }
 }
 
@@ -232,8 +252,9 @@ pub fn limit_of(request: &Request) -> usize
     ensures most { result ≤ MOST_BYTES }
 {
     match request {
-        Request::Check => parting::MOST_BYTES,
-        Request::Sim(_) | Request::ShowListing(_) => c62_listing_reader::MOST_BYTES,
+        Request::Check(Form::Listed) | Request::Check(Form::Written) => parting::MOST_BYTES,
+        Request::Sim(form, _) => most_of(*form),
+        Request::ShowListing(_) => c62_listing_reader::MOST_BYTES,
         Request::Exec(_) | Request::Adopt(_) | Request::ShowPackets(_) => c62_adopt_cut::MOST_BYTES,
         Request::Pack(_) | Request::Show(_) | Request::Run(_, _) | Request::Serial(_) => {
             c62_read::MOST_BYTES

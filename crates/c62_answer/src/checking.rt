@@ -1,15 +1,17 @@
-//! Holds a listing against a serial text (docs/CHECK.md).
+//! Holds packets, in a listing or as they are written, against a serial text (docs/CHECK.md).
 
 ghost use Rattle.std.specs.Prelude.{Err};
 ghost use Rattle.c62_command.specs.CommandLine.{Verdicts};
 ghost use Rattle.c62_answer.specs.Parting.{HasNoParting};
-ghost use Rattle.c62_answer.specs.Run.{Gives, GivesTextPart, GivesListingPart};
+ghost use Rattle.c62_answer.specs.Run.{Gives, GivesTextPart, GivesPacketsPart};
 
 use crate::failure::Failure;
 use crate::outcome::{Outcome, Reply};
+use crate::packets::written_packets;
 use crate::parting::parts_of;
 use c62_check::check;
 use c62_check::laws::checked_packets_are_serial;
+use c62_command::Form;
 use c62_listing_reader::read_listing;
 use c62_packet::Packets;
 use c62_read::{Cause, MOST_BYTES, Program, ReadFault, read_program};
@@ -19,7 +21,7 @@ use std::alloc::Global;
 #[tactic(auto, using(crate::proofs::Verdicts::endless, crate::proofs::Verdicts::unparted))]
 fn unparted(input: &[u8]) -> Failure
     requires { HasNoParting input.now }
-    ensures { Gives Verdicts input.now (Err result) }
+    ensures { (form : Form) → Gives (Verdicts form) input.now (Err result) }
 {
     if input.len() > MOST_BYTES {
         Failure::TextPart(ReadFault::at(0, Cause::TextTooLong))
@@ -40,7 +42,7 @@ fn text_part(alloc: Global, text: &[u8]) -> Result<Program, Failure>
 
 /// The packets that the listing of a check says.
 fn listing_part(alloc: Global, listing: &[u8]) -> Result<Packets, Failure>
-    ensures { GivesListingPart listing.now result }
+    ensures { GivesPacketsPart Form.Listed listing.now result }
 {
     match read_listing(alloc, listing) {
         Ok(packets) => Ok(packets),
@@ -48,19 +50,39 @@ fn listing_part(alloc: Global, listing: &[u8]) -> Result<Packets, Failure>
     }
 }
 
-/// What each block of a listing is, held against the text that stands before it.
+/// The packets that stand, as they are written, in the place of the listing of a check.
+fn written_part(alloc: Global, text: &[u8]) -> Result<Packets, Failure>
+    ensures { GivesPacketsPart Form.Written text.now result }
+{
+    match written_packets(alloc, text) {
+        Ok(packets) => Ok(packets),
+        Err(fault) => Err(Failure::of_packets(fault)),
+    }
+}
+
+/// The packets that are to be checked.
+fn packets_part(alloc: Global, form: Form, text: &[u8]) -> Result<Packets, Failure>
+    ensures { GivesPacketsPart form text.now result }
+{
+    match form {
+        Form::Listed => listing_part(alloc, text),
+        Form::Written => written_part(alloc, text),
+    }
+}
+
+/// What each block of packets in this form is, held against the text that stands before them.
 ///
 /// # Errors
 ///
-/// The first fault of the text, then that of the listing, or that memory ran out.
-pub fn verdicts(alloc: Global, input: &[u8]) -> Result<Reply, Failure>
-    ensures { Gives Verdicts input.now result }
+/// The first fault of the text, then that of the packets, or that memory ran out.
+pub fn verdicts(alloc: Global, form: Form, input: &[u8]) -> Result<Reply, Failure>
+    ensures { Gives (Verdicts form) input.now result }
 {
     let Some(parts) = parts_of(input) else {
         return Err(unparted(input));
     };
     let program = text_part(alloc, parts.text)?;
-    let packets = listing_part(alloc, parts.listing)?;
+    let packets = packets_part(alloc, form, parts.listing)?;
     let checked = check(alloc, program, &packets)?;
     // It tells that packets that are the same run as the program.
     checked_packets_are_serial();

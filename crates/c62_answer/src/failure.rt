@@ -2,7 +2,7 @@
 
 ghost use Rattle.std.specs.Prelude.{◌≡◌, ◌⊎◌};
 ghost use Rattle.c62_answer.specs.declared.failure.Failure.TheVariants.{Memory, Input};
-ghost use Rattle.c62_answer.specs.Run.{status_of, IsCommandFailure, IsReadFailure, IsListFailure, IsAdoptFailure, IsRowsFailure, IsTextFailure, IsListingFailure};
+ghost use Rattle.c62_answer.specs.Run.{status_of, IsCommandFailure, IsReadFailure, IsListFailure, IsAdoptFailure, IsRowsFailure, IsTextFailure, IsListingFailure, IsPacketsFailure};
 
 use crate::input::InputError;
 use c62_adopt::AdoptFault;
@@ -27,6 +27,8 @@ pub enum Failure {
     TextPart(ReadFault),
     /// The listing of what is to be checked has a fault.
     ListingPart(ListFault),
+    /// The packets of what is to be checked, as they are written, have a fault.
+    PacketsPart(AdoptFault),
     /// What is to be checked has no line `---`, and so no listing.
     NoListing,
     /// The words ask for nothing that there is.
@@ -49,7 +51,8 @@ impl Failure {
         match self {
             Failure::Unread(_) | Failure::Unlisted(_) => 1,
             Failure::Unadopted(_) | Failure::Unflown(_) => 1,
-            Failure::TextPart(_) | Failure::ListingPart(_) | Failure::NoListing => 1,
+            Failure::TextPart(_) | Failure::ListingPart(_) => 1,
+            Failure::PacketsPart(_) | Failure::NoListing => 1,
             Failure::Words(_) | Failure::Setting(_) => 2,
             Failure::Memory => 3,
             Failure::Input | Failure::Output => 4,
@@ -73,6 +76,16 @@ impl Failure {
         match fault {
             ListFault::Memory => Failure::Memory,
             _ => Failure::ListingPart(fault),
+        }
+    }
+
+    /// The failure of a check whose packets, as they are written, have this fault.
+    pub fn of_packets(fault: AdoptFault) -> Failure
+        ensures { IsPacketsFailure fault result }
+    {
+        match fault {
+            AdoptFault::Memory => Failure::Memory,
+            _ => Failure::PacketsPart(fault),
         }
     }
 }

@@ -5,6 +5,7 @@ ghost use Rattle.c62_read.specs.Block.{Serial};
 ghost use Rattle.c62_command.specs.declared.command.Packing.{Packing};
 ghost use Rattle.c62_answer.specs.ReadBack.{IsReadBack};
 ghost use Rattle.c62_answer.specs.AdoptedBack.{IsAdoptedBack};
+ghost use Rattle.c62_answer.specs.AdoptedRun.{RunsAsItsListing};
 ghost use Rattle.c62_answer.specs.OneText.{HasOneBoard, HaveOnePacking, HasOneText};
 ghost use Rattle.c62_answer.specs.Parting.{IsPartedOnce};
 
@@ -19,6 +20,12 @@ pub fn what_is_packed_is_read_back()
 /// more.
 pub fn what_is_packed_is_adopted_as_itself()
     ensures { (packing : Packing) (drain : Bool) (text answer : List ℕ) → IsAdoptedBack packing drain text answer }
+{}
+
+/// What `sim --packets` reports of a text is what `sim` reports of the listing that `adopt` writes of it, but for the lines at
+/// `fault`: the same blocks are run, in as many cycles, and leave the same, and the faulted lines are those of the same places.
+pub fn packets_run_as_their_listing()
+    ensures { (text : List ℕ) → RunsAsItsListing text }
 {}
 
 /// `pack --turns` can write one listing only of a text, with one budget of ejections: the board that

@@ -10,6 +10,7 @@ mod input;
 pub mod laws;
 mod message;
 mod outcome;
+mod packets;
 mod parting;
 mod run;
 mod schedule;

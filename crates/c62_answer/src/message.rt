@@ -1,13 +1,16 @@
 //! Tells what failed, and how many cycles were added to drain a text (README.md, "Command line").
 
-ghost use Rattle.std.specs.Prelude.{◌++◌, IfSome, codes, decimal};
-ghost use Rattle.c62_answer.specs.Message.{adopt_message, drained_message, fault_message, list_message, message_of, rows_message, setting_message, told_of, TellsOutcome};
+ghost use Rattle.std.specs.Prelude.{◌≡◌, ◌++◌, IfSome, Some, codes, decimal};
+ghost use Rattle.c62_op.specs.Name.{file_letter};
+ghost use Rattle.c62_answer.specs.Message.{added_word, adopt_message, cycles_added, drained_message, fault_message, late_message, list_message, message_of, rows_message, setting_message, told_of, TellsOutcome};
 
 use crate::failure::Failure;
-use crate::outcome::Outcome;
+use crate::outcome::{Added, Outcome};
 use crate::writing::{Refused, show, write_pieces, write_whole};
 use c62_adopt::AdoptFault;
+use c62_adopt_late::Late;
 use c62_listing_reader::ListFault;
+use c62_op::Side;
 use c62_read::ReadFault;
 use c62_rows::RowsFault;
 use itoa::Buffer;
@@ -85,15 +88,15 @@ fn tell_list_fault<E: Write>(errors: &mut E, part: &str, fault: ListFault) -> Re
     }
 }
 
-/// Tells the fault of a text of packets.
-fn tell_adopt_fault<E: Write>(errors: &mut E, fault: AdoptFault) -> Result<(), Refused>
-    ensures { told_of result (E.contents errors.old) (E.contents errors.new) (adopt_message fault) }
+/// Tells the fault of a text of packets behind the name of a part.
+fn tell_adopt_fault<E: Write>(errors: &mut E, part: &str, fault: AdoptFault) -> Result<(), Refused>
+    ensures { told_of result (E.contents errors.old) (E.contents errors.new) (part.now ++ adopt_message fault) }
 {
     match fault {
-        AdoptFault::Text(fault) => tell_line(errors, "", fault.line, fault.cause.name()),
-        AdoptFault::Rule(line, rule) => tell_line(errors, "", line, rule.name()),
-        AdoptFault::Code(line, cause) => tell_line(errors, "", line, cause.name()),
-        AdoptFault::Memory => write_whole(errors, b"memory\n"),
+        AdoptFault::Text(fault) => tell_line(errors, part, fault.line, fault.cause.name()),
+        AdoptFault::Rule(line, rule) => tell_line(errors, part, line, rule.name()),
+        AdoptFault::Code(line, cause) => tell_line(errors, part, line, cause.name()),
+        AdoptFault::Memory => write_pieces(errors, &[part, "memory\n"]),
     }
 }
 
@@ -127,10 +130,11 @@ pub fn report<E: Write>(errors: &mut E, failure: &Failure) -> Result<(), Refused
     match failure {
         Failure::Unread(fault) => tell_read_fault(errors, "", *fault),
         Failure::Unlisted(fault) => tell_list_fault(errors, "", *fault),
-        Failure::Unadopted(fault) => tell_adopt_fault(errors, *fault),
+        Failure::Unadopted(fault) => tell_adopt_fault(errors, "", *fault),
         Failure::Unflown(fault) => tell_rows_fault(errors, *fault),
         Failure::TextPart(fault) => tell_read_fault(errors, "text ", *fault),
         Failure::ListingPart(fault) => tell_list_fault(errors, "listing ", *fault),
+        Failure::PacketsPart(fault) => tell_adopt_fault(errors, "listing ", *fault),
         Failure::NoListing => write_whole(errors, b"text line 0: NoListing\n"),
         Failure::Words(error) => show(errors, error),
         Failure::Setting(number) => tell_setting(errors, *number),
@@ -140,19 +144,68 @@ pub fn report<E: Write>(errors: &mut E, failure: &Failure) -> Result<(), Refused
     }
 }
 
-/// Tells how many cycles were added to drain a text; nothing where there were none.
-fn tell_added<E: Write>(errors: &mut E, added: u64) -> Result<(), Refused>
-    ensures { told_of result (E.contents errors.old) (E.contents errors.new) (drained_message added) }
+fn added_word(cycles: u64) -> &'static str
+    ensures { result.now ≡ added_word cycles }
 {
-    let mut buffer = Buffer::new();
-    match added {
-        0 => Ok(()),
-        1 => write_whole(errors, b"1 cycle added\n"),
-        _ => write_pieces(errors, &[buffer.format(added), " cycles added\n"]),
+    if cycles == 1 {
+        " cycle added"
+    } else {
+        " cycles added"
     }
 }
 
-/// Tells of a text that was drained how many cycles were added, and else nothing.
+fn file_letter(side: Side) -> &'static str
+    ensures { result.now ≡ file_letter side }
+{
+    match side {
+        Side::A => "A",
+        Side::B => "B",
+    }
+}
+
+/// Tells that so many cycles were added, and the register that is read too early.
+fn tell_late<E: Write>(errors: &mut E, cycles: u64, late: Late) -> Result<(), Refused>
+    ensures { told_of result (E.contents errors.old) (E.contents errors.new) (cycles_added cycles ++ late_message (Some late) ++ codes "\n") }
+{
+    let mut count = Buffer::new();
+    let mut number = Buffer::new();
+    let mut line = Buffer::new();
+    let pieces = [
+        count.format(cycles),
+        added_word(cycles),
+        "; ",
+        file_letter(late.reg.side),
+        number.format(late.reg.number),
+        " was read below line ",
+        line.format(late.line),
+        " before it landed",
+        "\n",
+    ];
+    write_pieces(errors, &pieces)
+}
+
+/// Tells that so many cycles were added.
+fn tell_cycles<E: Write>(errors: &mut E, cycles: u64) -> Result<(), Refused>
+    ensures { told_of result (E.contents errors.old) (E.contents errors.new) (cycles_added cycles ++ codes "\n") }
+{
+    let mut count = Buffer::new();
+    write_pieces(errors, &[count.format(cycles), added_word(cycles), "\n"])
+}
+
+/// Tells what was added to drain a text; nothing where no cycles were.
+fn tell_added<E: Write>(errors: &mut E, added: Added) -> Result<(), Refused>
+    ensures { told_of result (E.contents errors.old) (E.contents errors.new) (drained_message added) }
+{
+    if added.cycles == 0 {
+        return Ok(());
+    }
+    match added.late {
+        None => tell_cycles(errors, added.cycles),
+        Some(late) => tell_late(errors, added.cycles, late),
+    }
+}
+
+/// Tells of a text that was drained what was added, and else nothing.
 ///
 /// # Errors
 ///

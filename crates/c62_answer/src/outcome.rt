@@ -12,13 +12,23 @@ pub enum Breach {
     Limit,
 }
 
+use c62_adopt_late::Late;
+
+/// What was added to drain a text.
+#[derive(Clone, Copy, PartialEq, Eq, Debug)]
+pub struct Added {
+    pub cycles: u64,
+    /// The first register that the text reads below a block before what lands in it there, so that draining it may change what it does.
+    pub late: Option<Late>,
+}
+
 /// How a run ends that is done.
 #[derive(Clone, Copy, PartialEq, Eq, Debug)]
 pub enum Outcome {
     /// The answer is written; where that is what a check tells, every block is the same.
     Done,
-    /// The listing of a text that was drained is written: so many cycles were added.
-    Drained(u64),
+    /// The listing of a text that was drained is written: this was added.
+    Drained(Added),
     /// What a check tells is written, and some block isn't the same.
     NotSame,
     /// The report of a strict run is written, and it has this.
@@ -33,8 +43,8 @@ pub struct Reply {
 }
 
 impl Outcome {
-    /// How an adoption ends, where so many cycles were added.
-    pub fn of_adoption(drain: bool, added: u64) -> Outcome
+    /// How an adoption ends, where this was added.
+    pub fn of_adoption(drain: bool, added: Added) -> Outcome
         ensures { result ≡ outcome_adopted drain added }
     {
         if drain {

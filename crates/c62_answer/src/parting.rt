@@ -6,7 +6,7 @@ ghost use Rattle.c62_answer.specs.Parting.{HasNoParting, IsParted, IsEnded, NoEn
 use memchr::memchr;
 
 /// The most bytes that are read of what is to be checked: the longest text, the line that parts it from the listing, with a
-/// carriage return and a line feed, and the longest listing.
+/// carriage return and a line feed, and the longest listing. Packets as they are written may be as long.
 pub const MOST_BYTES: usize = 9_437_189;
 
 /// The line that parts text and listing.

@@ -5,12 +5,11 @@ ghost use Rattle.c62_command.specs.CommandLine.{ListingPicture, PacketsPicture};
 ghost use Rattle.c62_answer.specs.Run.{Gives};
 ghost use Rattle.c62_answer.specs.Standing.{IsDrawn, details_of};
 
-use crate::answer::{packets_in, picture_of};
+use crate::answer::picture_of;
 use crate::failure::Failure;
 use crate::outcome::{Outcome, Reply};
-use c62_adopt::adopt;
-use c62_adopt::laws::texts_that_stand_lack_nothing;
-use c62_command::Showing;
+use crate::packets::packets_in;
+use c62_command::{Form, Showing};
 use c62_packet::Packets;
 use c62_standing::{Details, shown_as_they_stand};
 use std::alloc::{AllocError, Global};
@@ -30,7 +29,7 @@ fn drawn(alloc: Global, packets: &Packets, showing: Showing) -> Result<Vec<u8>, 
     ensures { IfOk result (λ text. IsDrawn showing packets.now text.items) }
 {
     let shown = shown_as_they_stand(alloc, packets, details_of(showing))?;
-    let text = picture_of(alloc, &shown)?;
+    let text = picture_of(alloc, showing, &shown)?;
     Ok(text)
 }
 
@@ -38,7 +37,7 @@ fn drawn(alloc: Global, packets: &Packets, showing: Showing) -> Result<Vec<u8>, 
 pub(crate) fn show_listing(alloc: Global, text: &[u8], showing: Showing) -> Result<Reply, Failure>
     ensures { Gives (ListingPicture showing) text.now result }
 {
-    let packets = packets_in(alloc, text)?;
+    let packets = packets_in(alloc, Form::Listed, text)?;
     Ok(Reply {
         text: drawn(alloc, &packets, showing)?,
         outcome: Outcome::Done,
@@ -49,11 +48,9 @@ pub(crate) fn show_listing(alloc: Global, text: &[u8], showing: Showing) -> Resu
 pub(crate) fn show_packets(alloc: Global, text: &[u8], showing: Showing) -> Result<Reply, Failure>
     ensures { Gives (PacketsPicture showing) text.now result }
 {
-    let adopted = adopt(alloc, text, false)?;
-    // It tells that no cycle is added where the text isn't drained.
-    texts_that_stand_lack_nothing();
+    let packets = packets_in(alloc, Form::Written, text)?;
     Ok(Reply {
-        text: drawn(alloc, &adopted.packets, showing)?,
+        text: drawn(alloc, &packets, showing)?,
         outcome: Outcome::Done,
     })
 }

@@ -3,3 +3,5 @@ pub mod ParsedNumber
 pub mod Asking
 pub mod Passed
 pub mod Limits
+pub mod Blaming
+pub mod Printing

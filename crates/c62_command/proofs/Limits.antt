@@ -125,19 +125,19 @@ blocks_checked : Each (AreChecked (codes "blocks") IsBlocks) (built tool_app).su
 blocks_checked = (
   ((λ e. absurd cc), ((λ e. absurd cc), ((λ e. absurd cc), tt))),
   (
-    ((λ e. absurd cc), ((λ e. absurd cc), ((λ e. absurd cc), ((λ e. absurd cc), ((λ e. absurd cc), ((λ e. absurd cc), ((λ e. absurd cc), tt))))))),
+    ((λ e. absurd cc), ((λ e. absurd cc), ((λ e. absurd cc), ((λ e. absurd cc), ((λ e. absurd cc), ((λ e. absurd cc), ((λ e. absurd cc), ((λ e. absurd cc), tt)))))))),
     (
       ((λ e. absurd cc), ((λ e. absurd cc), ((λ e. ((λ count. absurd cc), λ values none. values_pass false (parser.Signed (pos 1) (pos 1000000)) values none)), ((λ e. absurd cc), ((λ e. absurd cc), ((λ e. absurd cc), ((λ e. absurd cc), tt))))))),
       (
         ((λ e. ((λ count. absurd cc), λ values none. values_pass false (parser.Signed (pos 1) (pos 1000000)) values none)), ((λ e. absurd cc), ((λ e. absurd cc), ((λ e. absurd cc), ((λ e. absurd cc), tt))))),
         (
-          ((λ e. ((λ count. absurd cc), λ values none. values_pass false (parser.Signed (pos 1) (pos 1000000)) values none)), ((λ e. absurd cc), ((λ e. absurd cc), ((λ e. absurd cc), ((λ e. absurd cc), tt))))),
+          ((λ e. absurd cc), ((λ e. ((λ count. absurd cc), λ values none. values_pass false (parser.Signed (pos 1) (pos 1000000)) values none)), ((λ e. absurd cc), ((λ e. absurd cc), ((λ e. absurd cc), ((λ e. absurd cc), tt)))))),
           (
             ((λ e. absurd cc), ((λ e. absurd cc), ((λ e. absurd cc), ((λ e. absurd cc), ((λ e. absurd cc), tt))))),
             (
               ((λ e. absurd cc), ((λ e. absurd cc), tt)),
               (
-                ((λ e. absurd cc), tt),
+                ((λ e. absurd cc), ((λ e. absurd cc), tt)),
                 (
                   ((λ e. absurd cc), tt),
                   tt,
@@ -155,19 +155,19 @@ eject_checked : Each (AreChecked (codes "eject") IsBudget) (built tool_app).subs
 eject_checked = (
   ((λ e. absurd cc), ((λ e. ((λ count. absurd cc), λ values none. values_pass false (parser.Signed (pos 0) (pos 1000)) values none)), ((λ e. absurd cc), tt))),
   (
-    ((λ e. absurd cc), ((λ e. ((λ count. absurd cc), λ values none. values_pass false (parser.Signed (pos 0) (pos 1000)) values none)), ((λ e. absurd cc), ((λ e. absurd cc), ((λ e. absurd cc), ((λ e. absurd cc), ((λ e. absurd cc), tt))))))),
+    ((λ e. absurd cc), ((λ e. ((λ count. absurd cc), λ values none. values_pass false (parser.Signed (pos 0) (pos 1000)) values none)), ((λ e. absurd cc), ((λ e. absurd cc), ((λ e. absurd cc), ((λ e. absurd cc), ((λ e. absurd cc), ((λ e. absurd cc), tt)))))))),
     (
       ((λ e. absurd cc), ((λ e. ((λ count. absurd cc), λ values none. values_pass false (parser.Signed (pos 0) (pos 1000)) values none)), ((λ e. absurd cc), ((λ e. absurd cc), ((λ e. absurd cc), ((λ e. absurd cc), ((λ e. absurd cc), tt))))))),
       (
         ((λ e. absurd cc), ((λ e. absurd cc), ((λ e. absurd cc), ((λ e. absurd cc), ((λ e. absurd cc), tt))))),
         (
-          ((λ e. absurd cc), ((λ e. absurd cc), ((λ e. absurd cc), ((λ e. absurd cc), ((λ e. absurd cc), tt))))),
+          ((λ e. absurd cc), ((λ e. absurd cc), ((λ e. absurd cc), ((λ e. absurd cc), ((λ e. absurd cc), ((λ e. absurd cc), tt)))))),
           (
             ((λ e. absurd cc), ((λ e. absurd cc), ((λ e. absurd cc), ((λ e. absurd cc), ((λ e. absurd cc), tt))))),
             (
               ((λ e. absurd cc), ((λ e. absurd cc), tt)),
               (
-                ((λ e. absurd cc), tt),
+                ((λ e. absurd cc), ((λ e. absurd cc), tt)),
                 (
                   ((λ e. absurd cc), tt),
                   tt,
@@ -185,19 +185,19 @@ cycles_checked : Each (AreChecked (codes "cycles") IsCycles) (built tool_app).su
 cycles_checked = (
   ((λ e. absurd cc), ((λ e. absurd cc), ((λ e. absurd cc), tt))),
   (
-    ((λ e. absurd cc), ((λ e. absurd cc), ((λ e. absurd cc), ((λ e. absurd cc), ((λ e. absurd cc), ((λ e. absurd cc), ((λ e. absurd cc), tt))))))),
+    ((λ e. absurd cc), ((λ e. absurd cc), ((λ e. absurd cc), ((λ e. absurd cc), ((λ e. absurd cc), ((λ e. absurd cc), ((λ e. absurd cc), ((λ e. absurd cc), tt)))))))),
     (
       ((λ e. absurd cc), ((λ e. absurd cc), ((λ e. absurd cc), ((λ e. absurd cc), ((λ e. absurd cc), ((λ e. absurd cc), ((λ e. absurd cc), tt))))))),
       (
         ((λ e. absurd cc), ((λ e. absurd cc), ((λ e. absurd cc), ((λ e. absurd cc), ((λ e. absurd cc), tt))))),
         (
-          ((λ e. absurd cc), ((λ e. absurd cc), ((λ e. absurd cc), ((λ e. absurd cc), ((λ e. absurd cc), tt))))),
+          ((λ e. absurd cc), ((λ e. absurd cc), ((λ e. absurd cc), ((λ e. absurd cc), ((λ e. absurd cc), ((λ e. absurd cc), tt)))))),
           (
             ((λ e. ((λ count. absurd cc), λ values none. values_pass false (parser.Signed (pos 1) (pos 1000000000)) values none)), ((λ e. absurd cc), ((λ e. absurd cc), ((λ e. absurd cc), ((λ e. absurd cc), tt))))),
             (
               ((λ e. absurd cc), ((λ e. absurd cc), tt)),
               (
-                ((λ e. absurd cc), tt),
+                ((λ e. absurd cc), ((λ e. absurd cc), tt)),
                 (
                   ((λ e. absurd cc), tt),
                   tt,

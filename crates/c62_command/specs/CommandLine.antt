@@ -18,6 +18,8 @@ use Rattle.c62_command.specs.declared.setting.SettingError.TheVariants.{Bad, Mem
 use Rattle.c62_command.specs.declared.command.Packing.{Packing}
 use Rattle.c62_command.specs.declared.command.Showing.{Showing}
 use Rattle.c62_command.specs.declared.command.Course.{Course}
+use Rattle.c62_command.specs.declared.command.Form.{Form}
+use Rattle.c62_command.specs.declared.command.Form.TheVariants.{Listed, Written}
 use Rattle.c62_command.specs.declared.command.CommandError.{CommandError}
 use Rattle.c62_command.specs.declared.command.CommandError.TheVariants as refused
 use Rattle.c62_command.specs.declared.command.Request.{Request}
@@ -66,6 +68,10 @@ listing_rule = record (new_rule (codes "listing")) { long = Some (codes "listing
 abbrev pub packets_rule : Rule
 packets_rule = record (new_rule (codes "packets")) { long = Some (codes "packets"); action = Some SetTrue }
 
+-- `--summary`
+abbrev pub summary_rule : Rule
+summary_rule = record (new_rule (codes "summary")) { long = Some (codes "summary"); action = Some SetTrue }
+
 -- `--drain`
 abbrev pub drain_rule : Rule
 drain_rule = record (new_rule (codes "drain")) { long = Some (codes "drain"); action = Some SetTrue }
@@ -98,9 +104,12 @@ pack_app = with_packing (new_app (codes "pack"))
 abbrev pub with_forms : App → App
 with_forms app = with_rule (with_rule app listing_rule) packets_rule
 
--- `show [--turns] [--eject N] [--listing] [--packets] [--why] [--registers]`
+abbrev pub with_details : App → App
+with_details app = with_rule (with_rule (with_rule app why_rule) registers_rule) summary_rule
+
+-- `show [--turns] [--eject N] [--listing] [--packets] [--why] [--registers] [--summary]`
 abbrev pub show_app : App
-show_app = with_rule (with_rule (with_forms (with_packing (new_app (codes "show")))) why_rule) registers_rule
+show_app = with_details (with_forms (with_packing (new_app (codes "show"))))
 
 -- `run [--turns] [--eject N] [--blocks N] [--profile] [--strict] [SETTING]..`
 abbrev pub run_app : App
@@ -110,9 +119,9 @@ run_app = with_start (with_packing (new_app (codes "run")))
 abbrev pub serial_app : App
 serial_app = with_start (new_app (codes "serial"))
 
--- `sim [--blocks N] [--profile] [--strict] [SETTING]..`
+-- `sim [--packets] [--blocks N] [--profile] [--strict] [SETTING]..`
 abbrev pub sim_app : App
-sim_app = with_start (new_app (codes "sim"))
+sim_app = with_start (with_rule (new_app (codes "sim")) packets_rule)
 
 -- `exec [--cycles N] [--from NAME] [--strict] [SETTING]..`
 abbrev pub exec_app : App
@@ -122,9 +131,9 @@ exec_app = with_flight (new_app (codes "exec"))
 abbrev pub adopt_app : App
 adopt_app = with_rule (new_app (codes "adopt")) drain_rule
 
--- `check`
+-- `check [--packets]`
 abbrev pub check_app : App
-check_app = new_app (codes "check")
+check_app = with_rule (new_app (codes "check")) packets_rule
 
 abbrev pub bare_app : App
 bare_app = let new = new_app (codes "c62") in record new { top = record new.top { no_binary_name = true; subcommand_required = true } }
@@ -160,15 +169,15 @@ pub data Ask : Type 0 where
   SerialReport : Course → List Setting → Ask
   -- the report of the same run of the packets of a text, packed so
   PacketReport : Packing → Course → List Setting → Ask
-  -- the report of such a run of the packets that a listing says
-  ListingReport : Course → List Setting → Ask
+  -- the report of such a run of packets as they stand in a text of this form
+  StandingReport : Form → Course → List Setting → Ask
   -- the report of a run of at most so many cycles of a text of packets, from the row of this label on or the first, from a state
   -- with these settings
   FlightReport : (cycles : ℕ) → (strict : Bool) → (from : Option Text) → List Setting → Ask
   -- the listing of a text of packets, with the cycles added that lack in it or without them
   Adoption : (drain : Bool) → Ask
-  -- what each block of a listing is, held against a text
-  Verdicts : Ask
+  -- what each block of packets in a text of this form is, held against a serial text
+  Verdicts : Form → Ask
 
 abbrev pub ask_of : Request → Ask
 ask_of (Pack packing) = Listing packing
@@ -177,10 +186,10 @@ ask_of (ShowListing showing) = ListingPicture showing
 ask_of (ShowPackets showing) = PacketsPicture showing
 ask_of (Run packing start) = PacketReport packing start.course start.settings.items
 ask_of (Serial start) = SerialReport start.course start.settings.items
-ask_of (Sim start) = ListingReport start.course start.settings.items
+ask_of (Sim form start) = StandingReport form start.course start.settings.items
 ask_of (Exec start) = FlightReport start.cycles start.strict (option_map (λ name. name.items) start.from) start.settings.items
 ask_of (Adopt drain) = Adoption drain
-ask_of Check = Verdicts
+ask_of (Check form) = Verdicts form
 
 -- a flag was set
 abbrev pub is_set : Text → List Row → Bool
@@ -213,13 +222,22 @@ abbrev pub packing_of : List Row → Packing
 packing_of rows = record { turns = is_set (codes "turns") rows; budget = budget_of rows }
 
 abbrev pub showing_of : List Row → Showing
-showing_of rows = record { packing = packing_of rows; why = is_set (codes "why") rows; registers = is_set (codes "registers") rows }
+showing_of rows = record {
+  packing = packing_of rows;
+  why = is_set (codes "why") rows;
+  registers = is_set (codes "registers") rows;
+  summary = is_set (codes "summary") rows;
+}
 
 -- which picture is asked for: of serial text the packets are shown, and of other texts the schedule that stands there
 abbrev pub show_asked : List Row → Ask
 show_asked rows =
     if is_set (codes "listing") rows then ListingPicture (showing_of rows)
     else (if is_set (codes "packets") rows then PacketsPicture (showing_of rows) else Picture (showing_of rows))
+
+-- how packets are written that are read in place of a listing
+abbrev pub form_of : List Row → Form
+form_of rows = if is_set (codes "packets") rows then Written else Listed
 
 abbrev pub course_of : List Row → Course
 course_of rows = record { blocks = blocks_of rows; profile = is_set (codes "profile") rows; strict = is_set (codes "strict") rows }
@@ -248,7 +266,7 @@ named_rows name matches = Some (name, found_rows matches)
 abbrev pub report_asked : Text → List Row → List Setting → Ask
 report_asked name rows settings =
     if bytes_eq name (codes "run") then PacketReport (packing_of rows) (course_of rows) settings
-    else (if bytes_eq name (codes "sim") then ListingReport (course_of rows) settings
+    else (if bytes_eq name (codes "sim") then StandingReport (form_of rows) (course_of rows) settings
     else (if bytes_eq name (codes "exec") then FlightReport (cycles_of rows) (is_set (codes "strict") rows) (first_of (codes "from") rows) settings
     else SerialReport (course_of rows) settings))
 
@@ -259,7 +277,7 @@ ask_in (Some (name, rows)) =
     if bytes_eq name (codes "pack") then Some (Listing (packing_of rows))
     else (if bytes_eq name (codes "show") then Some (show_asked rows)
     else (if bytes_eq name (codes "adopt") then Some (Adoption (is_set (codes "drain") rows))
-    else (if bytes_eq name (codes "check") then Some Verdicts
+    else (if bytes_eq name (codes "check") then Some (Verdicts (form_of rows))
     else option_map (report_asked name rows) (settings_of (setting_words rows)))))
 
 abbrev pub unless_fault : Kinds → Option Ask → Option Ask

@@ -1,12 +1,12 @@
 -- The settings of the command line (docs/REPORT.md, "Settings").
-use Rattle.std.specs.Prelude.{◌≡◌, ℕ, ◌+◌, ◌%◌, ◌<◌, ℤ, pos, int_le, unsigned_abs, Bool, true, false, ◌==◌, ◌&&◌, nat_eq, nat_le, List, [], ◌∷◌, ◌++◌, length, take, drop, codes, Option, Some, None, is_some, option_map, option_and_then, IsTrue, if◌then◌else◌}
-use Rattle.std.specs.List.{position, starts_with}
+use Rattle.std.specs.Prelude.{◌≡◌, ℕ, ◌+◌, ◌*◌, ◌/◌, ◌%◌, ◌<◌, ◌≤◌, ℤ, pos, int_le, unsigned_abs, Bool, true, false, ◌==◌, ◌&&◌, nat_eq, nat_le, List, [], ◌∷◌, ◌++◌, length, take, drop, codes, Option, Some, None, is_some, option_map, option_and_then, IsTrue, if◌then◌else◌}
+use Rattle.std.specs.List.{All, position, starts_with}
 use Rattle.std.specs.Borrow.{Bor}
 use Rattle.std.specs.Str.{bytes_eq}
 use Rattle.c62_op.specs.Word.{word}
 use Rattle.c62_token.specs.Number.{number_of, register_of}
 use Rattle.c62_command.specs.declared.setting.Setting.{Setting}
-use Rattle.c62_command.specs.declared.setting.Setting.TheVariants.{Register, Byte as InByte, Half as InHalf, Word as InWord}
+use Rattle.c62_command.specs.declared.setting.Setting.TheVariants.{Register, Byte as InByte, Half as InHalf, Word as InWord, Print as Prints}
 use Rattle.c62_command.specs.declared.setting.Size.{Size}
 use Rattle.c62_command.specs.declared.setting.Size.TheVariants.{Byte, Half, Word}
 use Rattle.c62_command.specs.declared.setting.SettingError.{SettingError}
@@ -81,6 +81,61 @@ unfoldable pub cells : Size → ℕ → List (List ℕ) → Option (List Setting
 cells size address [] = Some []
 cells size address (text ∷ texts) = and_setting (cell size address text) (cells size (address + bytes_in size) texts)
 
+-- ---- what is printed
+
+-- from 1 to 65,536
+abbrev pub length_of : ℤ → Option ℕ
+length_of z = if int_le (pos 1) z && int_le z (pos 65536) then Some (unsigned_abs z) else None
+
+abbrev pub address_in : List ℕ → Option ℕ
+address_in text = option_and_then address_of (number_of text)
+
+abbrev pub length_in : List ℕ → Option ℕ
+length_in text = option_and_then length_of (number_of text)
+
+-- so many bytes are values of this size
+abbrev pub is_whole : Size → ℕ → Bool
+is_whole size length = length % bytes_in size == 0
+
+-- so many bytes from an address on lie in memory, and are values of this size
+abbrev pub spans : Size → ℕ → ℕ → Bool
+spans size address length = holds size address && is_whole size length && nat_le (address + length) 65536
+
+-- the values of so many bytes from an address on
+abbrev pub printed : (address length : ℕ) → (size : Size) → (signed : Bool) → Option Setting
+printed address length size signed =
+    if spans size address length then Some (Prints (record { address = address; count = length / bytes_in size; size = size; signed = signed }))
+    else None
+
+-- `ADDRESS+LENGTH`
+abbrev pub print_as : List ℕ → Size → Bool → Option Setting
+print_as text size signed =
+    option_and_then (λ k. option_and_then (λ address. option_and_then (λ length. printed address length size signed) (length_in (drop (k + 1) text)))
+    (address_in (take k text))) (position (λ b. b == 43) text)
+
+-- what stands behind a colon: halves, bytes, and words, halves or bytes as signed decimals
+abbrev pub form_named : List ℕ → Option (Size × Bool)
+form_named name =
+    if bytes_eq name (codes "h") then Some (Half, false)
+    else (if bytes_eq name (codes "b") then Some (Byte, false)
+    else (if bytes_eq name (codes "d") then Some (Word, true)
+    else (if bytes_eq name (codes "hd") then Some (Half, true)
+    else (if bytes_eq name (codes "bd") then Some (Byte, true)
+    else None))))
+
+-- without a colon values are words in hexadecimal digits
+abbrev pub print_parted : List ℕ → Option ℕ → Option Setting
+print_parted text None = print_as text Word false
+print_parted text (Some k) = option_and_then (λ form. print_as (take k text) form.0 form.1) (form_named (drop (k + 1) text))
+
+unfoldable pub print_setting : List ℕ → Option Setting
+print_setting text = print_parted text (position (λ b. b == 58) text)
+
+-- values that are printed lie in memory, each on its size
+abbrev pub PrintsMemory : Setting → Type 0
+PrintsMemory (Prints print) = (print.address % bytes_in print.size ≡ 0) × (print.address + print.count * bytes_in print.size ≤ 65536)
+PrintsMemory _ = Unit {0}
+
 -- ---- words
 
 abbrev pub register_setting : List ℕ → List ℕ → Option Setting
@@ -92,11 +147,15 @@ one setting = option_map (λ s. s ∷ []) setting
 abbrev pub memory_settings : List ℕ → List ℕ → Option (List Setting)
 memory_settings place text = option_and_then (λ found. cells found.1 found.0 (parts text)) (place_in place)
 
--- what is set where this is put into `@ADDRESS`, `@ADDRESS:h`, `@ADDRESS:b` or a register
+-- `print` prints, and any other name is that of a register
+abbrev pub named_setting : List ℕ → List ℕ → Option Setting
+named_setting name text = if bytes_eq name (codes "print") then print_setting text else register_setting name text
+
+-- what is set where this is put into `@ADDRESS`, `@ADDRESS:h`, `@ADDRESS:b` or a register, or what is printed
 unfoldable pub settings_at : List ℕ → List ℕ → Option (List Setting)
 settings_at name text =
     if starts_with nat_eq name (64 ∷ []) then memory_settings (drop 1 name) text
-    else one (register_setting name text)
+    else one (named_setting name text)
 
 -- the settings that a word says: what stands before its first `=` is set to what stands behind
 unfoldable pub settings_in : List ℕ → Option (List Setting)
@@ -133,3 +192,7 @@ pub record IsFirstBad (texts : List (List ℕ)) (k : ℕ) : Type 0 where
 -- an error that blames a word blames the first of these that is no setting
 abbrev pub IsBadAmong : List (List ℕ) → SettingError → Type 0
 IsBadAmong texts error = (k : ℕ) → error ≡ Bad k → IsFirstBad texts k
+
+-- whatever settings words say, what these print is memory
+abbrev pub ArePrintedOfMemory : List (List ℕ) → Type 0
+ArePrintedOfMemory texts = (settings : List Setting) → AreSettings texts settings → All PrintsMemory settings

@@ -2,7 +2,7 @@
 
 ghost use Rattle.std.specs.Prelude.{◌≡◌, IfOk, IfErr, Some, false, map, [], codes, option_map};
 ghost use Rattle.clap.specs.Words.{app_of, rule_of, first_of, subcommand_of, subcommand_rows_of, fault_of};
-ghost use Rattle.c62_command.specs.CommandLine.{turns_rule, eject_rule, blocks_rule, settings_rule, cycles_rule, from_rule, drain_rule, why_rule, registers_rule, listing_rule, packets_rule, with_forms, pack_app, show_app, run_app, serial_app, sim_app, exec_app, adopt_app, check_app, bare_app, listing_app, packing_app, running_app, tool_app, with_packing, with_start, is_set, blocks_of, cycles_of, budget_of, packing_of, showing_of, show_asked, plain_packing, IsLocal, found_rows, words_of, named_rows, ask_in, ask_of, asked, IsBadIn, IsBlame, IsRefusal, IsWordsError, IsSettingError, profile_rule, strict_rule, with_flight, course_of};
+ghost use Rattle.c62_command.specs.CommandLine.{turns_rule, eject_rule, blocks_rule, settings_rule, cycles_rule, from_rule, drain_rule, why_rule, registers_rule, listing_rule, packets_rule, with_forms, form_of, pack_app, show_app, run_app, serial_app, sim_app, exec_app, adopt_app, check_app, bare_app, listing_app, packing_app, running_app, tool_app, with_packing, with_start, is_set, blocks_of, cycles_of, budget_of, packing_of, showing_of, show_asked, plain_packing, IsLocal, found_rows, words_of, named_rows, ask_in, ask_of, asked, IsBadIn, IsBlame, IsRefusal, IsWordsError, IsSettingError, profile_rule, strict_rule, with_flight, course_of, summary_rule, with_details};
 ghost use Rattle.c62_command.specs.Settings.{AreSettings, IsBadAmong};
 
 use crate::setting::{Setting, SettingError, read_settings};
@@ -20,7 +20,11 @@ const DEFAULT_CYCLES: u32 = 1_000_000;
 /// What the help of each command ends with: an example, and where more is told.
 macro_rules! ending {
     ($example:literal) => {
+        ending!("", $example)
+    };
+    ($above:literal, $example:literal) => {
         concat!(
+            $above,
             "Example:\n  ",
             $example,
             "\n\n`c62 help status` tells where texts come from, and what each status means."
@@ -45,6 +49,8 @@ pub struct Showing {
     pub why: bool,
     /// Whether it is told which registers are live, and which are free.
     pub registers: bool,
+    /// Whether the head of each block is shown alone.
+    pub summary: bool,
 }
 
 /// How far a run goes, and what is told of it beside its report.
@@ -76,6 +82,15 @@ pub struct FlightStart {
     pub settings: Vec<Setting>,
 }
 
+/// How the packets of a text are written.
+#[derive(Clone, Copy, PartialEq, Eq, Debug)]
+pub enum Form {
+    /// As a listing.
+    Listed,
+    /// As people and compilers write them for an assembler. They are adopted as they stand.
+    Written,
+}
+
 /// What was asked for.
 #[derive(Debug, Drop)]
 pub enum Request {
@@ -91,14 +106,14 @@ pub enum Request {
     Run(Packing, Start),
     /// The report of the serial run of a serial text.
     Serial(Start),
-    /// The report of a run of the packets of a listing.
-    Sim(Start),
+    /// The report of a run of packets as they stand in a text of this form.
+    Sim(Form, Start),
     /// The report of a run of a text of packets, with everything in flight.
     Exec(FlightStart),
     /// The listing of a text of packets as people and compilers write them. Where it is drained, the cycles are added that lack.
     Adopt(bool),
-    /// What each block of a listing is, held against a serial text.
-    Check,
+    /// What each block of packets in a text of this form is, held against a serial text that stands before it.
+    Check(Form),
 }
 
 /// Why words ask for nothing.
@@ -200,7 +215,9 @@ fn drain_flag<'a>(alloc: Global) -> Arg<'a>
     Arg::new(alloc, "drain")
         .long("drain")
         .action(ArgAction::SetTrue)
-        .help("Adds the NOPs that lack before labels and at the end, and says how many cycles")
+        .help(
+            "Adds the NOPs that lack before labels and at the end, says how many cycles, and what they may change",
+        )
 }
 
 fn why_flag<'a>(alloc: Global) -> Arg<'a>
@@ -241,6 +258,27 @@ fn packets_flag<'a>(alloc: Global) -> Arg<'a>
         .long("packets")
         .action(ArgAction::SetTrue)
         .help("Reads packets as they are written, and shows the schedule that stands there")
+}
+
+/// The same flag where packets as they are written may stand in the place of a listing.
+fn written_flag<'a>(alloc: Global) -> Arg<'a>
+    ensures rule { rule_of result ≡ packets_rule }
+    ensures local { result.global ≡ false }
+{
+    Arg::new(alloc, "packets")
+        .long("packets")
+        .action(ArgAction::SetTrue)
+        .help("Reads packets as they are written in place of a listing")
+}
+
+fn summary_flag<'a>(alloc: Global) -> Arg<'a>
+    ensures rule { rule_of result ≡ summary_rule }
+    ensures local { result.global ≡ false }
+{
+    Arg::new(alloc, "summary")
+        .long("summary")
+        .action(ArgAction::SetTrue)
+        .help("Shows of each block its length alone, and how short one can be")
 }
 
 fn profile_flag<'a>(alloc: Global) -> Arg<'a>
@@ -315,6 +353,17 @@ fn with_forms<'a>(alloc: Global, command: Command<'a>) -> Result<Command<'a>, Al
     command.arg(listing_flag(alloc))?.arg(packets_flag(alloc))
 }
 
+/// The command with what is told of each block beside its picture, or that its head stands alone.
+fn with_details<'a>(alloc: Global, command: Command<'a>) -> Result<Command<'a>, AllocError>
+    ensures app { IfOk result (λ c. app_of c ≡ with_details (app_of command.entry)) }
+    ensures local { IsLocal command.entry → IfOk result IsLocal }
+{
+    command
+        .arg(why_flag(alloc))?
+        .arg(registers_flag(alloc))?
+        .arg(summary_flag(alloc))
+}
+
 fn pack_command<'a>(alloc: Global) -> Result<Command<'a>, AllocError>
     ensures app { IfOk result (λ c. app_of c ≡ pack_app) }
     ensures local { IfOk result IsLocal }
@@ -333,12 +382,10 @@ fn show_command<'a>(alloc: Global) -> Result<Command<'a>, AllocError>
     let command = Command::new(alloc, "show")
         .about("Packs serial text and shows each block's schedule, and how short one can be")
         .override_usage(
-            "c62 show [--why] [--registers] [--turns] [--eject <N>] [-o <FILE>] [FILE]\n       c62 show --listing|--packets [--why] [--registers] [-o <FILE>] [FILE]",
+            "c62 show [--why] [--registers] [--summary] [--turns] [--eject <N>] [-o <FILE>] [FILE]\n       c62 show --listing|--packets [--why] [--registers] [--summary] [-o <FILE>] [FILE]",
         )
         .after_help(ending!("c62 show --why kernel.s"));
-    with_forms(alloc, with_packing(alloc, command)?)?
-        .arg(why_flag(alloc))?
-        .arg(registers_flag(alloc))
+    with_details(alloc, with_forms(alloc, with_packing(alloc, command)?)?)
 }
 
 fn run_command<'a>(alloc: Global) -> Result<Command<'a>, AllocError>
@@ -374,10 +421,10 @@ fn sim_command<'a>(alloc: Global) -> Result<Command<'a>, AllocError>
     let command = Command::new(alloc, "sim")
         .about("Reads a listing, runs its packets and reports the end")
         .override_usage(
-            "c62 sim [--blocks <N>] [--profile] [--strict] [-o <FILE>] [FILE] [SETTING]...",
+            "c62 sim [--packets] [--blocks <N>] [--profile] [--strict] [-o <FILE>] [FILE] [SETTING]...",
         )
         .after_help(ending!("c62 sim kernel.lst A4=8 @8=99"));
-    with_start(alloc, command)
+    with_start(alloc, command.arg(written_flag(alloc))?)
 }
 
 fn exec_command<'a>(alloc: Global) -> Result<Command<'a>, AllocError>
@@ -402,20 +449,23 @@ fn adopt_command<'a>(alloc: Global) -> Result<Command<'a>, AllocError>
     Command::new(alloc, "adopt")
         .about("Reads packets as they are written for an assembler and writes their listing")
         .override_usage("c62 adopt [--drain] [-o <FILE>] [FILE]")
-        .after_help(ending!("c62 adopt hand.asm --drain"))
+        .after_help(ending!(
+            "c62 adopt hand.asm --drain  (4 cycles added; A5 was read below line 2 before it landed)"
+        ))
         .arg(drain_flag(alloc))
 }
 
-fn check_command<'a>(alloc: Global) -> Command<'a>
-    ensures app { app_of result ≡ check_app }
-    ensures local { IsLocal result }
+fn check_command<'a>(alloc: Global) -> Result<Command<'a>, AllocError>
+    ensures app { IfOk result (λ c. app_of c ≡ check_app) }
+    ensures local { IfOk result IsLocal }
 {
     Command::new(alloc, "check")
         .about("Reads serial text, a line `---` and a listing, and compares their blocks")
         .override_usage(
-            "c62 check [-o <FILE>] <TEXT> <LISTING>\n       c62 check [-o <FILE>] [FILE]  (both in one, with a line `---` between them)",
+            "c62 check [--packets] [-o <FILE>] <TEXT> <LISTING>\n       c62 check [--packets] [-o <FILE>] [FILE]  (both in one, with a line `---` between them)",
         )
         .after_help(ending!("c62 check kernel.s hand.lst"))
+        .arg(written_flag(alloc))
 }
 
 /// The program with no subcommand yet.
@@ -426,7 +476,10 @@ fn bare_command<'a>(alloc: Global) -> Command<'a>
     Command::new(alloc, "c62")
         .about("Packs and runs TMS320C62x instructions")
         .override_usage("c62 <COMMAND>\n       c62              (this is c62 pack --turns)")
-        .after_help(ending!("c62 run kernel.s A4=8"))
+        .after_help(ending!(
+            "`c62 lint kernel.s` prints all faults of a text, and `c62 explain BadUnit` says what a\nfault is; --explain behind a command says what is wrong with its text.\n\n",
+            "c62 run kernel.s A4=8"
+        ))
         .no_binary_name(true)
         .subcommand_required(true)
 }
@@ -465,11 +518,14 @@ fn tool_command<'a>(alloc: Global) -> Result<Command<'a>, AllocError>
 {
     running_command(alloc)?
         .subcommand(adopt_command(alloc)?)?
-        .subcommand(check_command(alloc))
+        .subcommand(check_command(alloc)?)
 }
 
 /// What clap reads of the words.
-fn matches_of<'a, S: AsStr>(alloc: Global, words: &'a [S]) -> Result<ArgMatches<'a>, Error>
+pub(crate) fn matches_of<'a, S: AsStr>(
+    alloc: Global,
+    words: &'a [S],
+) -> Result<ArgMatches<'a>, Error>
     ensures ok { IfOk result (λ m. subcommand_rows_of m ≡ subcommand_of tool_app (map S.text words.entry.now)) }
     ensures taken { IfOk result (λ _. fault_of tool_app (map S.text words.entry.now) ≡ []) }
     ensures err { IfErr result (IsBlame (map S.text words.entry.now)) }
@@ -604,6 +660,7 @@ fn showing_in(matches: &ArgMatches<'_>) -> Showing
         packing: packing_in(matches),
         why: is_set(matches, "why"),
         registers: is_set(matches, "registers"),
+        summary: is_set(matches, "summary"),
     }
 }
 
@@ -618,6 +675,17 @@ fn show_in(matches: &ArgMatches<'_>) -> Request
         Request::ShowPackets(showing)
     } else {
         Request::Show(showing)
+    }
+}
+
+/// How the packets are written that a subcommand reads, by its options.
+fn form_in(matches: &ArgMatches<'_>) -> Form
+    ensures { result ≡ form_of (found_rows matches.now) }
+{
+    if is_set(matches, "packets") {
+        Form::Written
+    } else {
+        Form::Listed
     }
 }
 
@@ -636,7 +704,7 @@ fn request_named(alloc: Global, name: &str, found: &ArgMatches<'_>) -> Result<Re
         return Ok(Request::Adopt(is_set(found, "drain")));
     }
     if name == "check" {
-        return Ok(Request::Check);
+        return Ok(Request::Check(form_in(found)));
     }
     if name == "exec" {
         return Ok(Request::Exec(flight_in(alloc, found)?));
@@ -645,7 +713,7 @@ fn request_named(alloc: Global, name: &str, found: &ArgMatches<'_>) -> Result<Re
     Ok(if name == "run" {
         Request::Run(packing_in(found), start)
     } else if name == "sim" {
-        Request::Sim(start)
+        Request::Sim(form_in(found), start)
     } else {
         Request::Serial(start)
     })

@@ -1,15 +1,17 @@
 //! What the words of the command line ask for.
 #![tactic(auto)]
 
+mod blamed;
 mod command;
 mod laws;
 mod setting;
 
+pub use blamed::setting_at;
 pub use command::{
-    CommandError, Course, FlightStart, Packing, Request, Showing, Start, command_of,
+    CommandError, Course, FlightStart, Form, Packing, Request, Showing, Start, command_of,
 };
-pub use laws::takes_limits;
-pub use setting::{Setting, Size};
+pub use laws::{prints_are_of_memory, takes_limits};
+pub use setting::{Print, Setting, Size, equals_sign, first_part, place_in};
 
 #[cfg(test)]
 mod tests;

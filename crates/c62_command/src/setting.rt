@@ -1,15 +1,16 @@
 //! The settings of the command line (docs/REPORT.md).
 
-ghost use Rattle.std.specs.Prelude.{◌≡◌, ◌+◌, ◌≤◌, ◌==◌, ◌<◌, ℕ, map, length, Some, IfOk, IfErr};
+ghost use Rattle.std.specs.Prelude.{◌≡◌, ◌+◌, ◌≤◌, ◌==◌, ◌<◌, ◌/◌, ℕ, map, length, Some, IfOk, IfErr};
 ghost use Rattle.std.specs.List.{position};
 ghost use Rattle.c62_command.specs.declared.setting.SettingError.TheVariants.{Memory};
-ghost use Rattle.c62_command.specs.Settings.{Adds, AreSettings, IsParted, IsBadAmong, address_of, bytes_in, cells, holds, memory_settings, parts, place_at, place_in, one, register_setting, set_at, settings_at, settings_in, size_named, value_of};
+ghost use Rattle.c62_command.specs.Settings.{Adds, AreSettings, IsParted, IsBadAmong, address_of, bytes_in, cells, holds, form_named, is_whole, length_in, length_of, address_in, memory_settings, named_setting, parts, place_at, place_in, one, print_as, print_setting, printed, register_setting, spans, set_at, settings_at, settings_in, size_named, value_of};
 
 use c62_op::{Reg, word_of};
 use c62_token::number::{number, register};
 use std::alloc::{AllocError, AllocFailed, Global};
 
-/// What is set before a run: a register, or memory at an address that lies on the size of what is put there, below 65,536.
+/// What is set before a run: a register, or memory at an address that lies on the size of what is put there, below 65,536. Or what
+/// is printed below its report, which sets nothing.
 #[derive(Clone, Copy, Debug, PartialEq, Eq)]
 pub enum Setting {
     Register(Reg, u32),
@@ -18,9 +19,23 @@ pub enum Setting {
     /// A half is the low sixteen bits of the value.
     Half(u32, u32),
     Word(u32, u32),
+    Print(Print),
 }
 
-/// How much of memory a value is put into.
+/// Values in memory that are printed below a report, one behind the other. Those that words ask for lie below 65,536, each on its
+/// size.
+#[derive(Clone, Copy, Debug, PartialEq, Eq)]
+pub struct Print {
+    /// The address of the first value.
+    pub address: u32,
+    /// How many values are printed.
+    pub count: u32,
+    pub size: Size,
+    /// Whether they are printed as signed decimals, and not as hexadecimal digits.
+    pub signed: bool,
+}
+
+/// How much of memory a value takes.
 #[derive(Clone, Copy, Debug, PartialEq, Eq)]
 pub enum Size {
     Byte,
@@ -45,7 +60,8 @@ impl From<AllocError> for SettingError {
 }
 
 impl Size {
-    fn bytes(self) -> u32
+    /// How many bytes a value takes.
+    pub fn bytes(self) -> u8
         ensures { result ≡ bytes_in self }
     {
         match self {
@@ -65,6 +81,28 @@ impl Size {
                 Size::Half => address % 2 == 0,
                 Size::Word => address % 4 == 0,
             }
+    }
+
+    /// Whether so many bytes are values of this size.
+    fn is_whole(self, length: u32) -> bool
+        ensures { result ≡ is_whole self length }
+    {
+        match self {
+            Size::Byte => true,
+            Size::Half => length % 2 == 0,
+            Size::Word => length % 4 == 0,
+        }
+    }
+
+    /// How many values of this size so many bytes are.
+    fn count_in(self, length: u32) -> u32
+        ensures { result ≡ length / bytes_in self }
+    {
+        match self {
+            Size::Byte => length,
+            Size::Half => length / 2,
+            Size::Word => length / 4,
+        }
     }
 
     /// Puts the value at this address.
@@ -124,9 +162,10 @@ fn colon(text: &[u8]) -> Option<usize>
     text.iter().position(|b| *b == b':')
 }
 
-/// What stands behind an `@`: an address, and a size behind a colon, or that of words.
+/// What stands behind the `@` of a setting: an address in memory, 0 to 65,535, and the size behind a colon, or that of words. None where it
+/// is no address or no size.
 #[tactic(auto, unfolding(crate::specs::Settings::place_in))]
-fn place_in(text: &[u8]) -> Option<(u32, Size)>
+pub fn place_in(text: &[u8]) -> Option<(u32, Size)>
     ensures { result ≡ place_in text.now }
 {
     match colon(text) {
@@ -143,7 +182,7 @@ fn comma(text: &[u8]) -> Option<usize>
 }
 
 /// What stands before the first comma, and what stands behind it where there is one.
-fn first_part(text: &[u8]) -> (&[u8], Option<&[u8]>)
+pub fn first_part(text: &[u8]) -> (&[u8], Option<&[u8]>)
     ensures { IsParted text.now result.0.now result.1 }
 {
     match comma(text) {
@@ -173,7 +212,7 @@ fn push_cells(
             return Ok(true);
         };
         rest = behind;
-        address += size.bytes();
+        address += u32::from(size.bytes());
     }
     Ok(false)
 }
@@ -186,11 +225,123 @@ fn register_setting(name: &[u8], text: &[u8]) -> Option<Setting>
     Some(Setting::Register(reg, value_of(text)?))
 }
 
-/// Adds the setting of a register, where it is one.
-fn push_register(settings: &mut Vec<Setting>, name: &[u8], text: &[u8]) -> Result<bool, AllocError>
-    ensures { IfOk result (Adds (one (register_setting name.now text.now)) settings.old.items settings.new.items) }
+/// The number of bytes that a number is, where there may be so many.
+fn length_of(number: i64) -> Option<u32>
+    ensures { result ≡ length_of number }
 {
-    match register_setting(name, text) {
+    if 1 <= number && number <= 65_536 {
+        Some(number as u32)
+    } else {
+        None
+    }
+}
+
+/// The address that a text says.
+fn address_in(text: &[u8]) -> Option<u32>
+    ensures { result ≡ address_in text.now }
+{
+    address_of(number(text)?)
+}
+
+/// The number of bytes that a text says.
+fn length_in(text: &[u8]) -> Option<u32>
+    ensures { result ≡ length_in text.now }
+{
+    length_of(number(text)?)
+}
+
+/// The index of the first plus.
+fn plus(text: &[u8]) -> Option<usize>
+    ensures { result ≡ position (λ b. b == 43) text.now }
+{
+    text.iter().position(|b| *b == b'+')
+}
+
+/// Whether so many bytes from an address on lie in memory, and are values of this size.
+fn spans(size: Size, address: u32, length: u32) -> bool
+    ensures { result ≡ spans size address length }
+{
+    size.holds(address) && size.is_whole(length) && u64::from(address) + u64::from(length) <= 65_536
+}
+
+/// The values of so many bytes from an address on.
+fn printed(address: u32, length: u32, size: Size, signed: bool) -> Option<Setting>
+    ensures { result ≡ printed address length size signed }
+{
+    if spans(size, address, length) {
+        Some(Setting::Print(Print {
+            address,
+            count: size.count_in(length),
+            size,
+            signed,
+        }))
+    } else {
+        None
+    }
+}
+
+/// The values that a text says as `ADDRESS+LENGTH`, of this size.
+fn print_as(text: &[u8], size: Size, signed: bool) -> Option<Setting>
+    ensures { result ≡ print_as text.now size signed }
+{
+    let plus = plus(text)?;
+    printed(
+        address_in(&text[..plus])?,
+        length_in(&text[plus + 1..])?,
+        size,
+        signed,
+    )
+}
+
+/// The size of values of this name, and whether they are printed as signed decimals.
+fn form_named(name: &[u8]) -> Option<(Size, bool)>
+    ensures { result ≡ form_named name.now }
+{
+    if name == b"h".as_slice() {
+        Some((Size::Half, false))
+    } else if name == b"b".as_slice() {
+        Some((Size::Byte, false))
+    } else if name == b"d".as_slice() {
+        Some((Size::Word, true))
+    } else if name == b"hd".as_slice() {
+        Some((Size::Half, true))
+    } else if name == b"bd".as_slice() {
+        Some((Size::Byte, true))
+    } else {
+        None
+    }
+}
+
+/// The values that a text says: `ADDRESS+LENGTH`, and their form behind a colon, or words.
+#[tactic(auto, unfolding(crate::specs::Settings::print_setting))]
+fn print_setting(text: &[u8]) -> Option<Setting>
+    ensures { result ≡ print_setting text.now }
+{
+    match colon(text) {
+        None => print_as(text, Size::Word, false),
+        Some(colon) => {
+            let (size, signed) = form_named(&text[colon + 1..])?;
+            print_as(&text[..colon], size, signed)
+        }
+    }
+}
+
+/// What this text says of a name: what is printed, or the value of a register.
+fn named_setting(name: &[u8], text: &[u8]) -> Option<Setting>
+    ensures { result ≡ named_setting name.now text.now }
+{
+    if name == b"print".as_slice() {
+        print_setting(text)
+    } else {
+        register_setting(name, text)
+    }
+}
+
+/// Adds what this text says of a name, where it says something.
+fn push_named(settings: &mut Vec<Setting>, name: &[u8], text: &[u8]) -> Result<bool, AllocError>
+    ensures { IfOk result (Adds (one (named_setting name.now text.now)) settings.old.items settings.new.items) }
+{
+    match named_setting(name, text) {
         Some(setting) => {
             settings.push(setting)?;
             Ok(true)
@@ -209,7 +360,7 @@ fn push_memory(settings: &mut Vec<Setting>, place: &[u8], text: &[u8]) -> Result
     }
 }
 
-/// Adds what is set where this text is put into a register or, behind an `@`, into memory.
+/// Adds what is set where this text is put into a register or, behind an `@`, into memory, or what is printed.
 #[tactic(auto, unfolding(crate::specs::Settings::settings_at))]
 fn push_settings_at(
     settings: &mut Vec<Setting>,
@@ -220,19 +371,19 @@ fn push_settings_at(
 {
     match name.strip_prefix(b"@") {
         Some(place) => push_memory(settings, place, text),
-        None => push_register(settings, name, text),
+        None => push_named(settings, name, text),
     }
 }
 
-/// The index of the first `=`.
-fn equals_sign(text: &[u8]) -> Option<usize>
+/// The index of the first `=`, which parts a setting into its place and its values.
+pub fn equals_sign(text: &[u8]) -> Option<usize>
     ensures { result ≡ position (λ b. b == 61) text.now }
 {
     text.iter().position(|b| *b == b'=')
 }
 
-/// Adds the settings that a word says: `REG=NUMBER`, `@ADDRESS=NUMBER,..`, `@ADDRESS:h=NUMBER,..` or `@ADDRESS:b=NUMBER,..`.
-/// Answers whether it says some.
+/// Adds the settings that a word says: `REG=NUMBER`, `@ADDRESS=NUMBER,..`, `@ADDRESS:h=NUMBER,..`, `@ADDRESS:b=NUMBER,..` or
+/// `print=ADDRESS+LENGTH`. Answers whether it says some.
 #[tactic(auto, unfolding(crate::specs::Settings::settings_in))]
 fn push_word(settings: &mut Vec<Setting>, text: &[u8]) -> Result<bool, AllocError>
     ensures { IfOk result (Adds (settings_in text.now) settings.old.items settings.new.items) }

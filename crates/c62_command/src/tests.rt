@@ -1,12 +1,15 @@
 //! What words ask for, as the README and docs/REPORT.md say.
 
-use crate::{CommandError, FlightStart, Packing, Request, Setting, Showing, Start, command_of};
+use crate::{
+    CommandError, FlightStart, Form, Packing, Print, Request, Setting, Showing, Size, Start,
+    command_of,
+};
 use c62_op::Side;
 use std::alloc::Global;
 use std::test::Fail;
 
 /// Words, and what they ask for or why they are refused.
-const ASKED: [(&[&str], &str); 38] = [
+const ASKED: [(&[&str], &str); 61] = [
     (&[], "pack by turns, 0 ejections"),
     (&["pack"], "pack by workers, 0 ejections"),
     (&["pack", "--turns"], "pack by turns, 0 ejections"),
@@ -30,6 +33,16 @@ const ASKED: [(&[&str], &str); 38] = [
     (&["show", "--packets"], "show packets"),
     (&["show", "--packets", "--packets"], "words"),
     (&["pack", "--listing"], "words"),
+    (
+        &["show", "--summary", "--turns"],
+        "show by turns, 0 ejections, summary",
+    ),
+    (
+        &["show", "--listing", "--summary", "--why"],
+        "show listing, why, summary",
+    ),
+    (&["show", "--summary", "--summary"], "words"),
+    (&["pack", "--summary"], "words"),
     (&["show", "--blocks", "2"], "words"),
     (&["pack", "--why"], "words"),
     (&["show", "A1=5"], "words"),
@@ -48,6 +61,10 @@ const ASKED: [(&[&str], &str); 38] = [
     (
         &["sim", "--blocks", "1", "@65532=1"],
         "sim; 1 blocks, @65532 = 1",
+    ),
+    (
+        &["sim", "A1=1", "--packets"],
+        "sim packets; 1000 blocks, A1 = 1",
     ),
     (&["exec"], "exec; 1000000 cycles"),
     (
@@ -76,12 +93,42 @@ const ASKED: [(&[&str], &str); 38] = [
     ),
     (&["serial", "--profile"], "serial; 1000 blocks, profile"),
     (&["exec", "--strict"], "exec; 1000000 cycles, strict"),
+    (
+        &["exec", "print=0x300+8", "print=6+4:h", "print=65535+1:b"],
+        "exec; 1000000 cycles, 2 words at 768, 2 halves at 6, 1 bytes at 65535",
+    ),
+    (
+        &[
+            "sim",
+            "print=0+65536:d",
+            "A1=1",
+            "print=2+2:hd",
+            "print=1+3:bd",
+        ],
+        "sim; 1000 blocks, 16384 signed words at 0, A1 = 1, 1 signed halves at 2, 3 signed bytes at 1",
+    ),
+    (&["sim", "A1=1", "print=65532+8"], "setting 2"),
+    (&["sim", "print=6+4"], "setting 1"),
+    (&["sim", "print=8+3:h"], "setting 1"),
+    (&["sim", "print=8+0:b"], "setting 1"),
+    (&["sim", "print=8"], "setting 1"),
+    (&["sim", "print=8+4:"], "setting 1"),
+    (&["sim", "print=8+4:w"], "setting 1"),
+    (&["sim", "print="], "setting 1"),
+    (&["pack", "print=8+4"], "words"),
     (&["exec", "--profile"], "words"),
     (&["adopt"], "adopt"),
     (&["adopt", "--drain"], "adopt, drained"),
     (&["adopt", "--turns"], "words"),
     (&["check"], "check"),
+    (&["check", "--packets"], "check packets"),
+    (&["check", "--packets", "--packets"], "words"),
+    (&["check", "--listing"], "words"),
     (&["check", "A1=5"], "words"),
+    (&["pack", "--packets"], "words"),
+    (&["run", "--packets"], "words"),
+    (&["exec", "--packets"], "words"),
+    (&["adopt", "--packets"], "words"),
     (&["serial", "A1=5", "x"], "setting 2"),
     (&["serial", "--blocks", "0"], "words"),
     (&["frob"], "words"),
@@ -95,7 +142,8 @@ fn packing_text(alloc: Global, packing: Packing) -> Result<String, Fail> {
 fn showing_text(alloc: Global, showing: Showing) -> Result<String, Fail> {
     let why = if showing.why { ", why" } else { "" };
     let registers = if showing.registers { ", registers" } else { "" };
-    Ok(format!(in alloc; "{why}{registers}")?)
+    let summary = if showing.summary { ", summary" } else { "" };
+    Ok(format!(in alloc; "{why}{registers}{summary}")?)
 }
 
 fn setting_text(alloc: Global, setting: Setting) -> Result<String, Fail> {
@@ -110,7 +158,25 @@ fn setting_text(alloc: Global, setting: Setting) -> Result<String, Fail> {
         Setting::Byte(address, value) => format!(in alloc; "@{address}:b = {value}")?,
         Setting::Half(address, value) => format!(in alloc; "@{address}:h = {value}")?,
         Setting::Word(address, value) => format!(in alloc; "@{address} = {value}")?,
+        Setting::Print(print) => print_text(alloc, print)?,
     })
+}
+
+fn form_text(form: Form) -> &'static str {
+    match form {
+        Form::Listed => "",
+        Form::Written => " packets",
+    }
+}
+
+fn print_text(alloc: Global, print: Print) -> Result<String, Fail> {
+    let signed = if print.signed { "signed " } else { "" };
+    let size = match print.size {
+        Size::Byte => "bytes",
+        Size::Half => "halves",
+        Size::Word => "words",
+    };
+    Ok(format!(in alloc; "{} {signed}{size} at {}", print.count, print.address)?)
 }
 
 fn settings_text(alloc: Global, settings: &[Setting]) -> Result<String, Fail> {
@@ -163,13 +229,15 @@ fn request_text(alloc: Global, request: &Request) -> Result<String, Fail> {
             start_text(alloc, start)?
         )?,
         Request::Serial(start) => format!(in alloc; "serial; {}", start_text(alloc, start)?)?,
-        Request::Sim(start) => format!(in alloc; "sim; {}", start_text(alloc, start)?)?,
+        Request::Sim(form, start) => {
+            format!(in alloc; "sim{}; {}", form_text(*form), start_text(alloc, start)?)?
+        }
         Request::Exec(start) => format!(in alloc; "exec; {}", flight_text(alloc, start)?)?,
         Request::Adopt(drain) => {
             let way = if *drain { ", drained" } else { "" };
             format!(in alloc; "adopt{way}")?
         }
-        Request::Check => format!(in alloc; "check")?,
+        Request::Check(form) => format!(in alloc; "check{}", form_text(*form))?,
     })
 }
 

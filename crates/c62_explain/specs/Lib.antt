@@ -1,3 +1,4 @@
 pub mod Sentence
 pub mod Near
 pub mod Picture
+pub mod Topic

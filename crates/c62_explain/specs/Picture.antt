@@ -1,5 +1,6 @@
 -- How a fault is shown (docs/FAULTS.md, "What `--explain` prints" and "All faults at once").
 use Rattle.std.specs.Prelude.{◌≡◌, ◌⊎◌, ℕ, ◌+◌, ◌-◌, nat_lt, ◌==◌, List, [], ◌∷◌, ◌++◌, length, map, take, max, min, decimal, replicate, codes, unwrap_or, slice_get, if◌then◌else◌}
+use Rattle.std.specs.List.{flat_map}
 use Rattle.c62_token.specs.Token.{is_allowed}
 use Rattle.c62_line.specs.declared.fault.Cause.{Cause}
 use Rattle.c62_line.specs.declared.fault.ReadFault.{ReadFault}
@@ -62,17 +63,36 @@ marked line number place says = margin number ++ codes " | " ++ lead line place 
 unfoldable pub picture : List ℕ → List ℕ → ℕ → Place → List ℕ → List ℕ
 picture name line number place says = quoted name line number place ++ marked line number place says
 
+-- bytes of which this holds stand behind the old ones
+abbrev pub Adds : (List ℕ → Type 0) → List ℕ → List ℕ → Type 0
+Adds Says old new = (more : List ℕ) × (new ≡ old ++ more) × Says more
+
+-- ---- lines of help
+
+-- these words, one behind the other, on a line of help for the line of this number
+abbrev pub hint : ℕ → List (List ℕ) → List ℕ
+hint number words = margin number ++ codes " = help: " ++ flat_map (λ word. word) words ++ codes "\n"
+
+-- lines of help alone
+abbrev pub IsHelp : ℕ → List ℕ → Type 0
+IsHelp number out = (hints : List (List (List ℕ))) × (out ≡ flat_map (hint number) hints)
+
+-- lines of help stand behind the old bytes
+abbrev pub AddsHelp : ℕ → List ℕ → List ℕ → Type 0
+AddsHelp number old new = Adds (IsHelp number) old new
+
 -- ---- what is answered
 
 -- the place is that of this fault of the text
 abbrev pub IsPlaceIn : List ℕ → ReadFault → Place → Type 0
 IsPlaceIn text fault place = IsPlace fault.cause (line_at text fault.line) place
 
--- the picture of the fault, and behind it what may help
+-- the picture of the fault, and behind it lines of help
 pub record IsPictured (name text : List ℕ) (fault : ReadFault) (out : List ℕ) : Type 0 where
   pub place : Place
   pub there : IsPlaceIn text fault place
   pub help : List ℕ
+  pub helps : IsHelp fault.line help
   pub says : out ≡ picture name (line_at text fault.line) fault.line place (sentence fault.cause) ++ help
 
 -- a fault of no line has no picture
@@ -100,7 +120,3 @@ pub record LintsText (name text : List ℕ) (most : ℕ) (out : List ℕ) : Type
   pub faults : List ReadFault
   pub all : map refusal_of faults ≡ take (few most) (faults_in text)
   pub says : Lints name text faults out
-
--- bytes of which this holds stand behind the old ones
-abbrev pub Adds : (List ℕ → Type 0) → List ℕ → List ℕ → Type 0
-Adds Says old new = (more : List ℕ) × (new ≡ old ++ more) × Says more

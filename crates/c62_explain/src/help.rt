@@ -1,5 +1,9 @@
 //! What may help where a line has a fault.
 
+ghost use Rattle.std.specs.Prelude.{◌≡◌, ◌++◌, map, IfOk, OnOk};
+ghost use Rattle.std.specs.List.{flat_map};
+ghost use Rattle.c62_explain.specs.Picture.{AddsHelp, IsHelp, hint};
+
 use crate::names::{is_left_out, is_of_others, nearest_mnemonic};
 use crate::near::is_near;
 use crate::operands::{push_forms, push_letters, push_range, push_sides};
@@ -24,17 +28,27 @@ pub(crate) struct Faulty<'a> {
     pub place: Place,
 }
 
+/// Adds words, one behind the other.
+fn push_words(out: &mut Vec<u8>, words: &[&[u8]]) -> Result<(), AllocError>
+    ensures { OnOk result (out.new.items ≡ out.old.items ++ flat_map (λ word. word) (map (λ word. word.now) words.now)) }
+{
+    for word in words {
+        out.extend_from_slice(word)?;
+    }
+    Ok(())
+}
+
 /// Adds a line of help for the line of this number: these words, one behind the other.
 ///
 /// # Errors
 ///
 /// `AllocError` where memory ran out.
-pub fn push_hint(out: &mut Vec<u8>, number: u32, words: &[&[u8]]) -> Result<(), AllocError> {
+pub fn push_hint(out: &mut Vec<u8>, number: u32, words: &[&[u8]]) -> Result<(), AllocError>
+    ensures { OnOk result (out.new.items ≡ out.old.items ++ hint number (map (λ word. word.now) words.now)) }
+{
     push_margin(out, number)?;
     out.extend_from_slice(b" = help: ")?;
-    for word in words {
-        out.extend_from_slice(word)?;
-    }
+    push_words(out, words)?;
     out.extend_from_slice(b"\n")
 }
 
@@ -53,7 +67,9 @@ impl<'a> Faulty<'a> {
         Tokens::new(&behind[self.place.len.min(behind.len())..])
     }
 
-    fn push(self, out: &mut Vec<u8>, words: &[&[u8]]) -> Result<(), AllocError> {
+    fn push(self, out: &mut Vec<u8>, words: &[&[u8]]) -> Result<(), AllocError>
+        ensures { OnOk result (AddsHelp self.entry.fault.line out.old.items out.new.items) }
+    {
         push_hint(out, self.fault.line, words)
     }
 
@@ -71,7 +87,10 @@ fn begins_with_mnemonic(rest: Tokens<'_>) -> bool {
 }
 
 /// Help for a word that is no mnemonic.
-fn push_mnemonic_help(out: &mut Vec<u8>, at: Faulty<'_>) -> Result<(), AllocError> {
+#[tactic(auto, using(crate::proofs::HintLemmas::adds_none, crate::proofs::HintLemmas::adds_behind_on))]
+fn push_mnemonic_help(out: &mut Vec<u8>, at: Faulty<'_>) -> Result<(), AllocError>
+    ensures { OnOk result (AddsHelp at.entry.fault.line out.old.items out.new.items) }
+{
     let word = at.word();
     if word.is_empty() {
         return Ok(());
@@ -131,14 +150,20 @@ fn line_with_label(text: &[u8], word: &[u8]) -> u32 {
     0
 }
 
-fn push_target_help(out: &mut Vec<u8>, at: Faulty<'_>) -> Result<(), AllocError> {
+#[tactic(auto, using(crate::proofs::HintLemmas::adds_none, crate::proofs::HintLemmas::adds_behind_on))]
+fn push_target_help(out: &mut Vec<u8>, at: Faulty<'_>) -> Result<(), AllocError>
+    ensures { OnOk result (AddsHelp at.entry.fault.line out.old.items out.new.items) }
+{
     match nearest_label(at.text, at.word()) {
         Some(label) => at.push(out, &[b"the nearest label is ", label]),
         None => Ok(()),
     }
 }
 
-fn push_label_help(out: &mut Vec<u8>, at: Faulty<'_>, alloc: Global) -> Result<(), AllocError> {
+#[tactic(auto, using(crate::proofs::HintLemmas::adds_none, crate::proofs::HintLemmas::adds_behind_on))]
+fn push_label_help(out: &mut Vec<u8>, at: Faulty<'_>, alloc: Global) -> Result<(), AllocError>
+    ensures { OnOk result (AddsHelp at.entry.fault.line out.old.items out.new.items) }
+{
     let mut number = Vec::new(alloc);
     push_number(&mut number, u64::from(line_with_label(at.text, at.word())))?;
     at.push(out, &[b"line ", &number, b" has it"])
@@ -250,7 +275,39 @@ fn word_help(mut operands: Operands, word: &[u8]) -> Option<&'static [u8]> {
     None
 }
 
-fn push_operand_help(out: &mut Vec<u8>, at: Faulty<'_>, alloc: Global) -> Result<(), AllocError> {
+/// What is known of a word with which no operands go on.
+#[tactic(auto, using(crate::proofs::HintLemmas::adds_none, crate::proofs::HintLemmas::adds_behind_on))]
+fn push_word_help(out: &mut Vec<u8>, at: Faulty<'_>, operands: Operands) -> Result<(), AllocError>
+    ensures { OnOk result (AddsHelp at.entry.fault.line out.old.items out.new.items) }
+{
+    if let Mnemonic::Nop = operands.mnemonic {
+        return Ok(());
+    }
+    match word_help(operands, at.word()) {
+        Some(help) => at.push(out, &[help]),
+        None => Ok(()),
+    }
+}
+
+/// The forms that the mnemonic has.
+#[tactic(auto, using(crate::proofs::HintLemmas::adds_none, crate::proofs::HintLemmas::adds_behind_on))]
+fn push_forms_help(
+    out: &mut Vec<u8>,
+    at: Faulty<'_>,
+    mnemonic: Mnemonic,
+    alloc: Global,
+) -> Result<(), AllocError>
+    ensures { OnOk result (AddsHelp at.entry.fault.line out.old.items out.new.items) }
+{
+    let mut forms = Vec::new(alloc);
+    push_forms(&mut forms, mnemonic)?;
+    at.push(out, &[&forms])
+}
+
+#[tactic(auto, using(crate::proofs::HintLemmas::adds_none, crate::proofs::HintLemmas::adds_behind_on))]
+fn push_operand_help(out: &mut Vec<u8>, at: Faulty<'_>, alloc: Global) -> Result<(), AllocError>
+    ensures { OnOk result (AddsHelp at.entry.fault.line out.old.items out.new.items) }
+{
     let Some(operands) = Operands::of(alloc, at)? else {
         return at.push(
             out,
@@ -258,17 +315,14 @@ fn push_operand_help(out: &mut Vec<u8>, at: Faulty<'_>, alloc: Global) -> Result
         );
     };
     let mnemonic = operands.mnemonic;
-    if !matches!(mnemonic, Mnemonic::Nop) {
-        if let Some(help) = word_help(operands, at.word()) {
-            at.push(out, &[help])?;
-        }
-    }
-    let mut forms = Vec::new(alloc);
-    push_forms(&mut forms, mnemonic)?;
-    at.push(out, &[&forms])
+    push_word_help(out, at, operands)?;
+    push_forms_help(out, at, mnemonic, alloc)
 }
 
-fn push_unit_help(out: &mut Vec<u8>, at: Faulty<'_>, alloc: Global) -> Result<(), AllocError> {
+#[tactic(auto, using(crate::proofs::HintLemmas::adds_none, crate::proofs::HintLemmas::adds_behind_on))]
+fn push_unit_help(out: &mut Vec<u8>, at: Faulty<'_>, alloc: Global) -> Result<(), AllocError>
+    ensures { OnOk result (AddsHelp at.entry.fault.line out.old.items out.new.items) }
+{
     let Some((mnemonic, _)) = at.mnemonic() else {
         return Ok(());
     };
@@ -277,7 +331,10 @@ fn push_unit_help(out: &mut Vec<u8>, at: Faulty<'_>, alloc: Global) -> Result<()
     at.push(out, &[&letters])
 }
 
-fn push_range_help(out: &mut Vec<u8>, at: Faulty<'_>, alloc: Global) -> Result<(), AllocError> {
+#[tactic(auto, using(crate::proofs::HintLemmas::adds_none, crate::proofs::HintLemmas::adds_behind_on))]
+fn push_range_help(out: &mut Vec<u8>, at: Faulty<'_>, alloc: Global) -> Result<(), AllocError>
+    ensures { OnOk result (AddsHelp at.entry.fault.line out.old.items out.new.items) }
+{
     let Some((mnemonic, rest)) = at.mnemonic() else {
         return Ok(());
     };
@@ -286,7 +343,10 @@ fn push_range_help(out: &mut Vec<u8>, at: Faulty<'_>, alloc: Global) -> Result<(
     at.push(out, &[&range])
 }
 
-fn push_side_help(out: &mut Vec<u8>, at: Faulty<'_>, alloc: Global) -> Result<(), AllocError> {
+#[tactic(auto, using(crate::proofs::HintLemmas::adds_none, crate::proofs::HintLemmas::adds_behind_on))]
+fn push_side_help(out: &mut Vec<u8>, at: Faulty<'_>, alloc: Global) -> Result<(), AllocError>
+    ensures { OnOk result (AddsHelp at.entry.fault.line out.old.items out.new.items) }
+{
     let Some((_, rest)) = at.mnemonic() else {
         return Ok(());
     };
@@ -295,12 +355,15 @@ fn push_side_help(out: &mut Vec<u8>, at: Faulty<'_>, alloc: Global) -> Result<()
     at.push(out, &[&sides])
 }
 
+#[tactic(auto, using(crate::proofs::HintLemmas::adds_none, crate::proofs::HintLemmas::adds_behind_on))]
 fn push_form_help(
     out: &mut Vec<u8>,
     at: Faulty<'_>,
     fault: FormFault,
     alloc: Global,
-) -> Result<(), AllocError> {
+) -> Result<(), AllocError>
+    ensures { OnOk result (AddsHelp at.entry.fault.line out.old.items out.new.items) }
+{
     match fault {
         FormFault::BadCondition => Ok(()),
         FormFault::ConstantRange => push_range_help(out, at, alloc),
@@ -319,27 +382,38 @@ fn push_form_help(
     }
 }
 
-/// Lines of help for a fault, none where nothing is known that helps.
-pub(crate) fn help_of(alloc: Global, at: Faulty<'_>) -> Result<Vec<u8>, AllocError> {
-    let mut out = Vec::new(alloc);
+/// Lines of help for a fault, where something is known that helps.
+#[tactic(auto, using(crate::proofs::HintLemmas::adds_none, crate::proofs::HintLemmas::adds_behind_on))]
+fn push_help(out: &mut Vec<u8>, at: Faulty<'_>, alloc: Global) -> Result<(), AllocError>
+    ensures { OnOk result (AddsHelp at.entry.fault.line out.old.items out.new.items) }
+{
     match at.fault.cause {
-        Cause::UnknownMnemonic => push_mnemonic_help(&mut out, at)?,
-        Cause::BadUnit => push_unit_help(&mut out, at, alloc)?,
-        Cause::BadOperand => push_operand_help(&mut out, at, alloc)?,
-        Cause::Form(fault) => push_form_help(&mut out, at, fault, alloc)?,
-        Cause::UnknownTarget => push_target_help(&mut out, at)?,
-        Cause::DuplicateLabel => push_label_help(&mut out, at, alloc)?,
+        Cause::UnknownMnemonic => push_mnemonic_help(out, at),
+        Cause::BadUnit => push_unit_help(out, at, alloc),
+        Cause::BadOperand => push_operand_help(out, at, alloc),
+        Cause::Form(fault) => push_form_help(out, at, fault, alloc),
+        Cause::UnknownTarget => push_target_help(out, at),
+        Cause::DuplicateLabel => push_label_help(out, at, alloc),
         Cause::BadLabel => at.push(
-            &mut out,
+            out,
             &[b"register pairs are left out, as results of 40 bits are"],
-        )?,
+        ),
         Cause::Directive => at.push(
-            &mut out,
+            out,
             &[b"`adopt` reads texts with directives, and docs/ADOPT.md says which"],
-        )?,
-        Cause::ParallelBar => at.push(&mut out, &[b"`adopt` reads packets, and `sim` a listing"])?,
-        _ => (),
+        ),
+        Cause::ParallelBar => at.push(out, &[b"`adopt` reads packets, and `sim` a listing"]),
+        _ => Ok(()),
     }
+}
+
+/// Lines of help for a fault, none where nothing is known that helps.
+#[tactic(auto, using(crate::proofs::HintLemmas::is_help))]
+pub(crate) fn help_of(alloc: Global, at: Faulty<'_>) -> Result<Vec<u8>, AllocError>
+    ensures { IfOk result (λ out. IsHelp at.entry.fault.line out.items) }
+{
+    let mut out = Vec::new(alloc);
+    push_help(&mut out, at, alloc)?;
     Ok(out)
 }
 
@@ -354,7 +428,9 @@ pub fn line_help(
     line: &[u8],
     fault: ReadFault,
     place: Place,
-) -> Result<Vec<u8>, AllocError> {
+) -> Result<Vec<u8>, AllocError>
+    ensures { IfOk result (λ out. IsHelp fault.line out.items) }
+{
     let at = Faulty {
         text,
         line,

@@ -385,3 +385,51 @@ fn names_have_pages(rt: HostRuntime) -> Result<(), Fail> {
     }
     Ok(())
 }
+
+/// Names of faults and rules, each of which has a page.
+const NAMES: [&str; 35] = [
+    "NotAscii",
+    "LineTooLong",
+    "ParallelBar",
+    "BadLabel",
+    "DuplicateLabel",
+    "Directive",
+    "UnknownMnemonic",
+    "BadUnit",
+    "BadOperand",
+    "BadCondition",
+    "ConstantRange",
+    "TwoCrossed",
+    "BadSide",
+    "NoUnit",
+    "UnknownTarget",
+    "TooManyInstructions",
+    "TooManyBlocks",
+    "TextTooLong",
+    "Memory",
+    "UnitWanted",
+    "Shape",
+    "TwoBranches",
+    "NotDrained",
+    "TooManyCycles",
+    "OtherSection",
+    "Padding",
+    "TooManyTargets",
+    "NoListing",
+    "P1",
+    "P2",
+    "P3",
+    "P4",
+    "P5",
+    "p1",
+    "shape",
+];
+
+#[test]
+fn each_name_has_a_page(rt: HostRuntime) -> Result<(), Fail> {
+    for name in NAMES {
+        assert!(&rt; page(rt.alloc(), name.as_bytes())?.is_some(), "{name}");
+    }
+    assert!(&rt; page(rt.alloc(), b"P6")?.is_none());
+    Ok(())
+}

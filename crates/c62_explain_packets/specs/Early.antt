@@ -3,7 +3,8 @@
 use Rattle.std.specs.Prelude.{ℕ, ◌+◌, ◌-◌, Bool, ◌&&◌, nat_lt, List, map}
 use Rattle.std.specs.List.{filter, flat_map}
 use Rattle.c62_op.specs.declared.register.Reg.{Reg}
-use Rattle.c62_insn.specs.Insn.{reads_register, register_writes}
+use Rattle.c62_op.specs.Shape.{is_load}
+use Rattle.c62_insn.specs.Insn.{op_of, reads_register, register_writes}
 use Rattle.c62_adopt_cut.specs.declared.draft.Issue.{Issue}
 use Rattle.c62_explain_packets.specs.declared.early.EarlyRead.{EarlyRead}
 
@@ -18,7 +19,7 @@ is_early reader writer write =
 
 abbrev pub read_early : Issue → Issue → Reg × ℕ → EarlyRead
 read_early reader writer write =
-    record { line = reader.line; register = write.0; writer = writer.line; missing = landed writer write.1 - reader.cycle }
+    record { line = reader.line; register = write.0; writer = writer.line; loads = is_load (op_of writer.insn); missing = landed writer write.1 - reader.cycle }
 
 -- the reads of one instruction, of what another writes
 abbrev pub early_by : Issue → Issue → List EarlyRead

@@ -8,11 +8,15 @@ use Rattle.c62_listing_reader.specs.Reading.{Refuses as RefusesListing}
 use Rattle.c62_adopt.specs.declared.fault.AdoptFault.{AdoptFault}
 use Rattle.c62_adopt.specs.declared.fault.AdoptFault.TheVariants.{Memory as NoRoom}
 use Rattle.c62_adopt.specs.Answer.{IsAdopted, Refuses}
+use Rattle.c62_explain_packets.specs.Warned.{TellsRefusal, WarnsText}
 
--- a text of packets has a fault where it isn't adopted as it stands
-pub data IsLintedPackets (text : List ℕ) (faulty : Bool) : Type 0 where
-  Adopted : faulty ≡ false → (packets : List Packed) (added : ℕ) → IsAdopted false text packets added → IsLintedPackets text faulty
-  Refused : faulty ≡ true → (fault : AdoptFault) → fault ≢ NoRoom → Refuses false text fault → IsLintedPackets text faulty
+-- A text of packets has a fault where it isn't adopted as it stands, and the line tells that. Of one that is adopted the reads in delay slots
+-- are told, at most so many.
+pub data IsLintedPackets (most : ℕ) (name text lines : List ℕ) (faulty : Bool) : Type 0 where
+  Adopted : faulty ≡ false → (packets : List Packed) (added : ℕ) → IsAdopted false text packets added → WarnsText most name text lines
+      → IsLintedPackets most name text lines faulty
+  Refused : faulty ≡ true → (fault : AdoptFault) → fault ≢ NoRoom → Refuses false text fault → TellsRefusal name fault lines
+      → IsLintedPackets most name text lines faulty
 
 -- and a listing where it isn't read
 pub data IsLintedListing (text : List ℕ) (faulty : Bool) : Type 0 where

@@ -18,6 +18,8 @@ pub struct EarlyRead {
     pub register: Reg,
     /// The line that writes.
     pub writer: u32,
+    /// Whether that loads.
+    pub loads: bool,
     /// How many cycles later the read would get what is written.
     pub missing: u64,
 }
@@ -80,6 +82,7 @@ fn push_early_by(
                 line: reader.line,
                 register,
                 writer: writer.line,
+                loads: writer.insn.op().is_load(),
                 missing: landed(writer, delay) - u64::from(reader.cycle),
             })?;
         }

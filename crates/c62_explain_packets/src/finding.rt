@@ -1,6 +1,11 @@
 //! What is wrong with which line of packets.
 
-ghost use Rattle.std.specs.Prelude.{◌<◌, ◌^◌, IfOk};
+ghost use Rattle.std.specs.Prelude.{◌≡◌, ◌<◌, ◌^◌, IfOk, MatchOption, option_map};
+ghost use Rattle.c62_adopt_cut.specs.FaultText.{cause_name as text_cause_name};
+ghost use Rattle.c62_adopt_line.specs.FaultName.{line_fault_name};
+ghost use Rattle.c62_adopt.specs.FaultText.{adopt_fault_text};
+ghost use Rattle.c62_rows.specs.FaultText.{cause_name as rows_cause_name, fault_text as rows_fault_text};
+ghost use Rattle.c62_explain_packets.specs.Finding.{IsShort, IsShortLine, IsShortRow, IsShortRows, IsShortText, IsToldAs, found_at, what_name};
 
 use c62_adopt::{AdoptFault, adopt};
 use c62_adopt_code::CodeCause;
@@ -74,7 +79,10 @@ fn read_sentence(cause: Cause) -> &'static [u8] {
 }
 
 impl What {
-    fn of_line(fault: LineFault) -> Option<What> {
+    /// What is wrong where a line has this fault; none where memory ran out.
+    fn of_line(fault: LineFault) -> Option<What>
+        ensures { MatchOption result (IsShortLine fault) (λ what. what_name what ≡ line_fault_name fault) }
+    {
         match fault {
             LineFault::Read(cause) => Some(What::Read(cause)),
             LineFault::UnitWanted => Some(What::UnitWanted),
@@ -82,7 +90,10 @@ impl What {
         }
     }
 
-    fn of_text(cause: TextCause) -> Option<What> {
+    /// What is wrong where a text has this fault in a line; none where memory ran out.
+    fn of_text(cause: TextCause) -> Option<What>
+        ensures { MatchOption result (IsShortText cause) (λ what. what_name what ≡ text_cause_name cause) }
+    {
         match cause {
             TextCause::Line(fault) => What::of_line(fault),
             TextCause::TooManyCycles => Some(What::TooManyCycles),
@@ -91,7 +102,10 @@ impl What {
         }
     }
 
-    fn of_rows(cause: RowsCause) -> Option<What> {
+    /// What is wrong where rows have this fault in a line; none where memory ran out.
+    fn of_rows(cause: RowsCause) -> Option<What>
+        ensures { MatchOption result (IsShortRow cause) (λ what. what_name what ≡ rows_cause_name cause) }
+    {
         match cause {
             RowsCause::Line(fault) => What::of_line(fault),
             RowsCause::TooManyTargets => Some(What::TooManyTargets),
@@ -101,7 +115,9 @@ impl What {
     }
 
     /// Its name, as it is told.
-    pub fn name(self) -> &'static str {
+    pub fn name(self) -> &'static str
+        ensures { result.now ≡ what_name self }
+    {
         match self {
             What::Read(cause) => cause.name(),
             What::UnitWanted => "UnitWanted",
@@ -145,13 +161,18 @@ impl What {
 }
 
 impl Finding {
-    fn at(line: u32, what: Option<What>) -> Option<Finding> {
+    /// This in that line, where there is something.
+    fn at(line: u32, what: Option<What>) -> Option<Finding>
+        ensures { result ≡ option_map (found_at line) what }
+    {
         Some(Finding { line, what: what? })
     }
 }
 
-/// What is wrong with a text of packets that isn't adopted; none where memory ran out.
-pub fn of_adopt(fault: AdoptFault) -> Option<Finding> {
+/// What is wrong with a text of packets that isn't adopted, which is what is told of it; none where memory ran out.
+pub fn of_adopt(fault: AdoptFault) -> Option<Finding>
+    ensures { MatchOption result (IsShort fault) (IsToldAs (adopt_fault_text fault)) }
+{
     match fault {
         AdoptFault::Text(fault) => Finding::at(fault.line, What::of_text(fault.cause)),
         AdoptFault::Rule(line, rule) => Finding::at(line, Some(What::Rule(rule))),
@@ -160,8 +181,10 @@ pub fn of_adopt(fault: AdoptFault) -> Option<Finding> {
     }
 }
 
-/// What is wrong with a text of packets that makes no rows; none where that is no line's.
-pub fn of_rows(fault: RowsFault) -> Option<Finding> {
+/// What is wrong with a text of packets that makes no rows, which is what is told of it; none where that is no line's.
+pub fn of_rows(fault: RowsFault) -> Option<Finding>
+    ensures { MatchOption result (IsShortRows fault) (IsToldAs (rows_fault_text fault)) }
+{
     match fault {
         RowsFault::At(line, cause) => Finding::at(line, What::of_rows(cause)),
         RowsFault::From | RowsFault::Memory => None,

@@ -1,5 +1,8 @@
 //! Which lines have part in a fault of packets, and what helps.
 
+ghost use Rattle.std.specs.Prelude.{◌≡◌, ◌++◌, OnOk};
+ghost use Rattle.c62_op.specs.Name.{register_name};
+
 use crate::finding::{Finding, What};
 use crate::sharing::{lacking, landing_together, lines_sharing};
 use c62_adopt_code::CodeCause;
@@ -26,7 +29,9 @@ fn unit_name(unit: Unit) -> &'static [u8] {
     }
 }
 
-pub(crate) fn push_register(out: &mut Vec<u8>, reg: Reg) -> Result<(), AllocError> {
+pub(crate) fn push_register(out: &mut Vec<u8>, reg: Reg) -> Result<(), AllocError>
+    ensures { OnOk result (out.new.items ≡ out.old.items ++ register_name reg) }
+{
     let mut buffer = Buffer::new();
     out.extend_from_slice(match reg.side {
         Side::A => b"A",

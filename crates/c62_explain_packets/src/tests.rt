@@ -128,10 +128,10 @@ const ROWS: [(&str, &[&str]); 14] = [
         ],
     ),
     (
-        " nop\n .set x,3\n",
+        " nop\n .set x,y\n",
         &[
             " --> h.s:2:2",
-            "2 |  .set x,3",
+            "2 |  .set x,y",
             "  |  ^^^^ this directive isn't known",
             "  = help: docs/ADOPT.md has the directives that are read",
         ],

@@ -1,8 +1,8 @@
 -- The words of a call with the words of its files of settings in their places (docs/COMMANDS.md, "Files").
-use Rattle.std.specs.Prelude.{◌≡◌, ℕ, ◌+◌, ◌≤◌, Bool, true, false, List, [], ◌∷◌, ◌++◌, ◌⊎◌, length, map, take, slice_get, Option, Some, IfSome}
+use Rattle.std.specs.Prelude.{◌≡◌, ℕ, ◌+◌, ◌≤◌, Bool, true, false, List, [], ◌∷◌, ◌++◌, ◌⊎◌, length, map, take, codes, slice_get, Option, Some, IfSome}
 use Rattle.std.specs.List.{count_by}
 use Rattle.std.specs.Str.Lossy.{utf8_lossy}
-use Rattle.c62_files.specs.Words.{Text, Word, Plain, InputName, OutputName, SettingsName, Loads}
+use Rattle.c62_files.specs.Words.{Text, Word, Plain, InputName, OutputName, SettingsName, Loads, Prints}
 use Rattle.c62_files.specs.Load.{AreLoaded, IsMisfit, IsPlaced}
 use Rattle.c62_files.specs.Settings.{settings_words}
 use Rattle.c62_files.specs.declared.expand.TheConstants.{MOST_SETTINGS}
@@ -30,6 +30,7 @@ abbrev pub Gives : Holding → Word → List Text → Type 0
 Gives holds (Plain word) words = words ≡ word ∷ []
 Gives holds (SettingsName name) words = AreOfFile holds name words
 Gives holds (Loads word) words = AreLoaded holds word words
+Gives holds (Prints word) words = words ≡ (codes "print=" ++ word) ∷ []
 Gives holds (InputName name) words = words ≡ []
 Gives holds (OutputName name) words = words ≡ []
 

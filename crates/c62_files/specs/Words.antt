@@ -5,7 +5,7 @@ use Rattle.std.specs.Option.{option_to_list}
 use Rattle.std.specs.Str.{bytes_eq}
 use Rattle.std.specs.Borrow.{Bor}
 use Rattle.c62_files.specs.declared.wanted.Wanted.{Wanted}
-use Rattle.c62_files.specs.declared.wanted.Wanted.TheVariants.{Command, Nothing, Value, Output, Settings, Load, Help}
+use Rattle.c62_files.specs.declared.wanted.Wanted.TheVariants.{Command, Nothing, Value, Output, Settings, Load, Print, Help}
 use Rattle.c62_files.specs.declared.piece.Piece.{Piece}
 use Rattle.c62_files.specs.declared.piece.Piece.TheVariants as given
 
@@ -20,6 +20,7 @@ texts words = map (λ word. word.now) words
 abbrev pub takes_value : Text → Bool
 takes_value word =
     bytes_eq word (codes "--eject") || bytes_eq word (codes "--blocks") || bytes_eq word (codes "--cycles") || bytes_eq word (codes "--from")
+    || bytes_eq word (codes "--most") || bytes_eq word (codes "--as")
 
 -- what a word wants of the one behind it
 abbrev pub wanted_by : Text → Wanted
@@ -27,18 +28,20 @@ wanted_by word =
     if bytes_eq word (codes "-o") then Output
     else (if bytes_eq word (codes "--settings") then Settings
     else (if bytes_eq word (codes "--load") then Load
+    else (if bytes_eq word (codes "--print") then Print
     else (if takes_value word then Value
-    else Nothing)))
+    else Nothing))))
 
 -- what the command wants: behind `help` no word names a file
 abbrev pub wanted_by_command : Text → Wanted
 wanted_by_command command = if bytes_eq command (codes "help") then Help else Nothing
 
--- the option that wants the name of a file
+-- the option that wants a word of its own: the name of a file, or what is printed
 abbrev pub option_of : Wanted → Option Text
 option_of Output = Some (codes "-o")
 option_of Settings = Some (codes "--settings")
 option_of Load = Some (codes "--load")
+option_of Print = Some (codes "--print")
 option_of _ = None
 
 -- A file's name is no option, which begins with `-`, and no setting, which has a `=`. A lone `-` is standard input.
@@ -58,6 +61,8 @@ pub data Word : Type 0 where
   SettingsName : Text → Word
   -- an address and the name of a file whose bytes are put there
   Loads : Text → Word
+  -- an address and a length of memory that is printed
+  Prints : Text → Word
 
 abbrev pub text_piece : Piece → Word
 text_piece (given.Plain word) = Plain word.now
@@ -65,16 +70,18 @@ text_piece (given.Input name) = InputName name.now
 text_piece (given.Output name) = OutputName name.now
 text_piece (given.Settings name) = SettingsName name.now
 text_piece (given.Load word) = Loads word.now
+text_piece (given.Print word) = Prints word.now
 
 -- what a word is by itself
 abbrev pub lone : Text → Word
 lone word = if is_name word then InputName word else Plain word
 
--- what a word is that wants this of the one behind it: an option that wants a name is nothing without it
+-- what a word is that wants this of the one behind it: an option that wants a word of its own is nothing without it
 abbrev pub wanting : Wanted → Text → Option Word
 wanting Output word = None
 wanting Settings word = None
 wanting Load word = None
+wanting Print word = None
 wanting Value word = Some (Plain word)
 wanting _ word = Some (lone word)
 
@@ -83,6 +90,7 @@ abbrev pub piece_at : Wanted → Text → Option Word
 piece_at Output word = Some (OutputName word)
 piece_at Settings word = Some (SettingsName word)
 piece_at Load word = Some (Loads word)
+piece_at Print word = Some (Prints word)
 piece_at Nothing word = wanting (wanted_by word) word
 piece_at _ word = Some (Plain word)
 

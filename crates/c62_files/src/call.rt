@@ -34,7 +34,7 @@ pub struct Call<'a> {
 /// Why words make no call.
 #[derive(Debug, Drop)]
 pub enum CallError<'a> {
-    /// Nothing stands behind this option, which wants the name of a file.
+    /// Nothing stands behind this option, which wants the name of a file, or of `--print` what is printed.
     NoName(&'static str),
     /// The file of this name is one more than the command reads.
     TooManyInputs(&'a str),
@@ -59,7 +59,11 @@ fn push_input<'a>(names: &mut Vec<&'a str>, piece: &Piece<'a>) -> Result<(), All
 {
     match piece {
         Piece::Input(name) => Ok(names.push(*name)?),
-        Piece::Plain(_) | Piece::Output(_) | Piece::Settings(_) | Piece::Load(_) => Ok(()),
+        Piece::Plain(_)
+        | Piece::Output(_)
+        | Piece::Settings(_)
+        | Piece::Load(_)
+        | Piece::Print(_) => Ok(()),
     }
 }
 
@@ -80,7 +84,8 @@ fn push_output<'a>(names: &mut Vec<&'a str>, piece: &Piece<'a>) -> Result<(), Al
 {
     match piece {
         Piece::Output(name) => Ok(names.push(*name)?),
-        Piece::Plain(_) | Piece::Input(_) | Piece::Settings(_) | Piece::Load(_) => Ok(()),
+        Piece::Plain(_) | Piece::Input(_) | Piece::Settings(_) | Piece::Load(_) | Piece::Print(_) =>
+            Ok(()),
     }
 }
 
@@ -181,7 +186,7 @@ fn target_of<'a>(names: &[&'a str]) -> Result<Option<&'a str>, CallError<'a>>
 ///
 /// # Errors
 ///
-/// Where an option lacks its name, more files are named than the command reads or the answer goes to, or memory ran out.
+/// Where nothing stands behind an option that wants something, more files are named than the command reads or the answer goes to, or memory ran out.
 pub fn call_of<'a, S: AsStr>(alloc: Global, words: &'a [S]) -> Result<Call<'a>, CallError<'a>>
     ensures ok { IfOk result (IsCall (map S.text words.entry.now)) }
     ensures err { IfErr result (IsMistake (map S.text words.entry.now)) }

@@ -1,6 +1,6 @@
 //! Puts the words of files of settings into their places among the words of a call.
 
-ghost use Rattle.std.specs.Prelude.{◌≡◌, ◌++◌, ◌∷◌, ◌≤◌, ◌<◌, ◌-◌, ◌+◌, ◌^◌, if◌then◌else◌, List, [], IfOk, IfErr, IfSome, OnOk, OnErr, length, map, string_bytes};
+ghost use Rattle.std.specs.Prelude.{◌≡◌, ◌++◌, ◌∷◌, ◌≤◌, ◌<◌, ◌-◌, ◌+◌, ◌^◌, if◌then◌else◌, List, [], IfOk, IfErr, IfSome, OnOk, OnErr, codes, length, map, string_bytes};
 ghost use Rattle.std.specs.Str.Lossy.{utf8_lossy};
 ghost use Rattle.c62_files.specs.Words.{Text, text_piece};
 ghost use Rattle.c62_files.specs.Settings.{settings_words};
@@ -74,6 +74,16 @@ fn push_word(alloc: Global, words: &mut Vec<String>, word: &str) -> Result<(), A
     Ok(())
 }
 
+/// Adds the setting that stands for what is printed.
+fn push_print(alloc: Global, words: &mut Vec<String>, word: &str) -> Result<(), AllocError>
+    ensures { OnOk result (map string_bytes words.new.items ≡ map string_bytes words.old.items ++ (codes "print=" ++ word.now) ∷ []) }
+{
+    let mut setting = String::from_str(alloc, "print=")?;
+    setting.push_str(word)?;
+    words.push(setting)?;
+    Ok(())
+}
+
 /// Adds what stands in the place of a word.
 fn push_words<'a, F: Folder>(
     alloc: Global,
@@ -92,6 +102,7 @@ fn push_words<'a, F: Folder>(
             Err(error) => Err(Stopped::Unread(Unread { name: *name, error })),
         },
         Piece::Load(word) => push_load(alloc, folder, words, *word),
+        Piece::Print(word) => Ok(push_print(alloc, words, *word)?),
         Piece::Input(_) | Piece::Output(_) => Ok(()),
     }
 }
@@ -113,7 +124,11 @@ fn loads_with(loads: usize, piece: &Piece<'_>) -> usize
 {
     match piece {
         Piece::Load(_) => loads + 1,
-        Piece::Plain(_) | Piece::Settings(_) | Piece::Input(_) | Piece::Output(_) => loads,
+        Piece::Plain(_)
+        | Piece::Settings(_)
+        | Piece::Input(_)
+        | Piece::Output(_)
+        | Piece::Print(_) => loads,
     }
 }
 

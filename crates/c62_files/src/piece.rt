@@ -22,6 +22,8 @@ pub enum Piece<'a> {
     Settings(&'a str),
     /// Behind `--load`: `ADDRESS=NAME`, where the bytes of the file of this name are put into memory from this address on.
     Load(&'a str),
+    /// Behind `--print`: `ADDRESS+LENGTH`, and how it is printed.
+    Print(&'a str),
 }
 
 /// What words are, and what the last of them wants of a word that isn't there.
@@ -61,7 +63,7 @@ fn lone<'a>(word: &'a str) -> Piece<'a>
     }
 }
 
-/// What a word is, behind one that wants this. An option that wants a file's name is none of its own.
+/// What a word is, behind one that wants this. An option that wants a word of its own is nothing without it.
 fn piece_at<'a>(wanted: Wanted, word: &'a str) -> Option<Piece<'a>>
     ensures { option_map text_piece result ≡ piece_at wanted word.entry.now }
 {
@@ -70,8 +72,9 @@ fn piece_at<'a>(wanted: Wanted, word: &'a str) -> Option<Piece<'a>>
         Wanted::Output => Some(Piece::Output(word)),
         Wanted::Settings => Some(Piece::Settings(word)),
         Wanted::Load => Some(Piece::Load(word)),
+        Wanted::Print => Some(Piece::Print(word)),
         Wanted::Nothing => match Wanted::by(word) {
-            Wanted::Output | Wanted::Settings | Wanted::Load => None,
+            Wanted::Output | Wanted::Settings | Wanted::Load | Wanted::Print => None,
             Wanted::Value => Some(Piece::Plain(word)),
             Wanted::Command | Wanted::Nothing | Wanted::Help => Some(lone(word)),
         },
@@ -85,7 +88,8 @@ fn wanted_after(wanted: Wanted, word: &str) -> Wanted
     match wanted {
         Wanted::Command => Wanted::by_command(word),
         Wanted::Help => Wanted::Help,
-        Wanted::Value | Wanted::Output | Wanted::Settings | Wanted::Load => Wanted::Nothing,
+        Wanted::Value | Wanted::Output | Wanted::Settings | Wanted::Load | Wanted::Print =>
+            Wanted::Nothing,
         Wanted::Nothing => Wanted::by(word),
     }
 }

@@ -18,6 +18,8 @@ pub enum Wanted {
     Settings,
     /// An address and the name of a file whose bytes are put there: behind `--load`.
     Load,
+    /// An address and a length of memory that is printed: behind `--print`.
+    Print,
     /// A word for the command, and so are all behind it: behind `help`.
     Help,
 }
@@ -44,10 +46,14 @@ impl Wanted {
             Wanted::Settings
         } else if word == "--load" {
             Wanted::Load
+        } else if word == "--print" {
+            Wanted::Print
         } else if word == "--eject"
             || word == "--blocks"
             || word == "--cycles"
             || word == "--from"
+            || word == "--most"
+            || word == "--as"
         {
             Wanted::Value
         } else {
@@ -55,7 +61,7 @@ impl Wanted {
         }
     }
 
-    /// The option that wants the name of a file.
+    /// The option that wants a word of its own: the name of a file, or what is printed.
     pub fn option(self) -> Option<&'static str>
         ensures { option_map (λ option. option.now) result ≡ option_of self }
     {
@@ -63,6 +69,7 @@ impl Wanted {
             Wanted::Output => Some("-o"),
             Wanted::Settings => Some("--settings"),
             Wanted::Load => Some("--load"),
+            Wanted::Print => Some("--print"),
             Wanted::Command | Wanted::Nothing | Wanted::Value | Wanted::Help => None,
         }
     }

@@ -2,9 +2,11 @@
 #![tactic(auto)]
 
 mod flight;
+mod print;
 mod report;
 
 pub use flight::flight_report;
+pub use print::push_print;
 pub use report::{packet_report, serial_report};
 
 #[cfg(test)]

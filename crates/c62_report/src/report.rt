@@ -26,7 +26,7 @@ fn hex_digit(digit: u8) -> u8
 
 /// So many low hexadecimal digits of a value.
 #[tactic(auto, unfolding(crate::specs::Report::hex))]
-fn push_hex(out: &mut Vec<u8>, digits: u8, value: u32) -> Result<(), AllocError>
+pub(crate) fn push_hex(out: &mut Vec<u8>, digits: u8, value: u32) -> Result<(), AllocError>
     ensures { OnOk result (out.new.items ≡ out.old.items ++ hex digits value) }
 {
     if digits == 0 {

@@ -1,4 +1,5 @@
 pub mod Heads
+pub mod Headed
 pub mod Cells
 pub mod Printed
 pub mod Stepping

@@ -14,8 +14,10 @@ use Rattle.c62_show.specs.declared.limits.Limits.{Limits}
 use Rattle.c62_show.specs.declared.shown.Shown.{Shown}
 use Rattle.c62_show.specs.Limits.{AreLimits, least_of}
 use Rattle.c62_show.specs.Head.{verdict, none_is_shorter}
+use Rattle.c62_grid.specs.declared.widths.Widths.{Widths}
 use Rattle.c62_grid.specs.Grid.{cells, cycle_row, insn_cell, is_issued, is_on, next_issue, packet}
-use Rattle.c62_show.specs.Picture.{marked, picture, widths_of}
+use Rattle.c62_show.specs.Picture.{block_text, marked, picture, widths_of}
+use Rattle.c62_show.specs.Summary.{head_text}
 use Rattle.c62_grid.specs.Words.{line}
 
 -- So many cycles are at least the bound that is told of a block, and where its head says that no schedule is shorter, at least as
@@ -70,3 +72,12 @@ abbrev pub AreAllPrinted : List Shown → Type 0
 AreAllPrinted shown =
     (number k : ℕ) (each : Shown) (p : Placed) → slice_get shown number ≡ Some each → IsPacketBlock each.packets → slice_get each.packets.placed k ≡ Some p
     → IsPrinted shown each p
+
+-- a text begins with a part
+pub record BeginsWith (text part : List ℕ) : Type 0 where
+  pub rest : List ℕ
+  pub split : text ≡ part ++ rest
+
+-- in a picture a block begins with its head, as it stands alone
+abbrev pub IsHeaded : Widths → ℕ → Shown → Type 0
+IsHeaded widths number shown = BeginsWith (block_text widths number shown) (head_text number shown)

@@ -5,8 +5,9 @@ ghost use Rattle.c62_packet.specs.declared.placed.Placed.{Placed};
 ghost use Rattle.c62_packet.specs.Packed.{Packed};
 ghost use Rattle.c62_read.specs.Block.{Serial};
 ghost use Rattle.c62_show.specs.declared.shown.Shown.{Shown};
-ghost use Rattle.c62_show.specs.Laws.{HeadIsTrue, HeadIsTrueOfSchedules, BoundIsRaised, IsIdleUntil, AreAllShown, AreAllPrinted};
+ghost use Rattle.c62_show.specs.Laws.{HeadIsTrue, HeadIsTrueOfSchedules, BoundIsRaised, IsIdleUntil, AreAllShown, AreAllPrinted, IsHeaded};
 ghost use Rattle.c62_show.specs.declared.limits.Limits.{Limits};
+ghost use Rattle.c62_grid.specs.declared.widths.Widths.{Widths};
 
 /// Where the head of a block says that no schedule is shorter, none is in which each instruction has a cycle and a unit that
 /// takes it, whichever is written, so that all bounds are kept and no two go over one cross path in a cycle; and none is shorter
@@ -32,4 +33,9 @@ pub fn pauses_are_idle()
 pub fn instructions_are_shown()
     ensures found { (block : Packed) → AreAllShown block }
     ensures printed { (shown : List Shown) → AreAllPrinted shown }
+{}
+
+/// In a picture each block begins with its head, as it stands among heads alone.
+pub fn heads_alone_begin_blocks()
+    ensures { (widths : Widths) (number : ℕ) (shown : Shown) → IsHeaded widths number shown }
 {}

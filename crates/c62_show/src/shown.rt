@@ -51,7 +51,7 @@ fn widths_of(shown: &[Shown]) -> Widths
 }
 
 /// How many cycles each schedule of a block takes at least, where that is known.
-fn least_told(limits: &Option<Limits>) -> Option<u64>
+pub(crate) fn least_told(limits: &Option<Limits>) -> Option<u64>
     ensures { result ≡ option_map least_of limits.now }
 {
     match limits {

@@ -1,23 +1,24 @@
-//! Pictures of blocks without instructions; those with instructions are shown from texts in a crate above.
+//! Pictures of blocks without instructions, and their heads alone; those with instructions are shown from texts in a crate above.
 
-use crate::{Shown, picture};
+use crate::{Shown, picture, summary};
 use c62_packet::PacketBlock;
 use c62_read::read_insn;
 use std::test::Fail;
 
-/// Lines with labels, and the picture of blocks under them.
-const EMPTY: [(&[&[u8]], &str); 3] = [
-    (&[], ""),
-    (&[b"L:"], "L: no instruction\n"),
+/// Lines with labels, the picture of blocks under them, and the heads of these alone.
+const EMPTY: [(&[&[u8]], &str, &str); 3] = [
+    (&[], "", ""),
+    (&[b"L:"], "L: no instruction\n", "L: no instruction\n"),
     (
         &[b"", b"_end$:", b""],
         "block 0: no instruction\n\n_end$: no instruction\n\nblock 2: no instruction\n",
+        "block 0: no instruction\n_end$: no instruction\nblock 2: no instruction\n",
     ),
 ];
 
 #[test]
 fn blocks_without_instructions(rt: HostRuntime) -> Result<(), Fail> {
-    for (lines, want) in &EMPTY {
+    for (lines, pictured, heads) in &EMPTY {
         let mut shown = Vec::new(rt.alloc());
         for line in *lines {
             shown.push(Shown {
@@ -28,7 +29,9 @@ fn blocks_without_instructions(rt: HostRuntime) -> Result<(), Fail> {
             })?;
         }
         let text = picture(rt.alloc(), &shown)?;
-        assert_eq!(rt; text.as_str(), *want);
+        assert_eq!(rt; text.as_str(), *pictured);
+        let text = summary(rt.alloc(), &shown)?;
+        assert_eq!(rt; text.as_str(), *heads);
     }
     Ok(())
 }

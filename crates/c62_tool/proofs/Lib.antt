@@ -1,0 +1,4 @@
+pub mod Taught
+pub mod Failing
+pub mod Writing
+pub mod Calling

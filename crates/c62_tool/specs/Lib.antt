@@ -1,4 +1,6 @@
+pub mod Written
 pub mod Page
 pub mod Trouble
 pub mod Joined
+pub mod Teaching
 pub mod Program

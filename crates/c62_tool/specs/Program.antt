@@ -1,21 +1,31 @@
 -- What the program does to files and streams (docs/COMMANDS.md, "Files").
-use Rattle.std.specs.Prelude.{◌≡◌, ◌≢◌, ℕ, ◌+◌, ◌==◌, ◌||◌, nat_le, Bool, true, false, List, [], map, take, codes, Option, Some, None, IfSome, if◌then◌else◌}
-use Rattle.std.specs.Io.KnownBytes.{Appends, Keeps}
+use Rattle.std.specs.Prelude.{◌≡◌, ◌≢◌, ℕ, ◌+◌, ◌==◌, ◌&&◌, ◌||◌, nat_le, Bool, true, false, List, [], map, take, codes, Option, Some, None, IfSome, if◌then◌else◌}
+use Rattle.std.specs.Io.KnownBytes.{Keeps}
 use Rattle.std.specs.Borrow.{Bor}
 use Rattle.clap.specs.Words.{Text}
 use Rattle.c62_answer.specs.Message.{Tells}
 use Rattle.c62_answer.specs.Run.{Streams, IsRun, streams}
 use Rattle.c62_answer.specs.declared.parting.TheConstants.{MOST_BYTES}
-use Rattle.c62_command.specs.CommandLine.{IsRefusal}
+use Rattle.c62_command.specs.Blamed.{setting_at}
+use Rattle.c62_command.specs.CommandLine.{IsRefusal, ask_of, asked}
 use Rattle.c62_command.specs.declared.command.CommandError.{CommandError}
-use Rattle.c62_command.specs.declared.command.CommandError.TheVariants.{Memory}
-use Rattle.c62_files.specs.Words.{text_piece}
+use Rattle.c62_command.specs.declared.command.CommandError.TheVariants.{Memory, Setting}
+use Rattle.c62_files.specs.Words.{outputs, text_piece}
 use Rattle.c62_files.specs.Expand.{Expands, Holding}
-use Rattle.c62_files.specs.Call.{From, IsCall, IsMistake, Standard, File, Parts, is_standard, text_source}
+use Rattle.c62_files.specs.Call.{From, IsCall, IsMistake, Standard, File, Parts, is_standard, target_in, text_source}
 use Rattle.c62_files.specs.declared.call.Call.{Call}
+use Rattle.c62_teach.specs.declared.words.Linting.{Linting}
+use Rattle.c62_teach.specs.Words.{is_explained, is_lint, linting_of, plain_words}
+use Rattle.c62_teach.specs.Linted.{IsLinted}
+use Rattle.c62_teach.specs.Setting.{setting_taught}
 use Rattle.c62_tool.specs.Joined.{IsJoined}
+use Rattle.c62_tool.specs.Teaching.{Explains, IsLintRun, IsTopicRun, RunsMore, is_topic, name_asked, text_name}
+use Rattle.c62_tool.specs.Written.{IsWritten}
+use Rattle.c62_tool.specs.declared.page.TheConstants.{LINT}
+use Rattle.c62_tool.specs.declared.teaching.Asked.{Asked}
+use Rattle.c62_tool.specs.declared.teaching.Asked.TheVariants.{Known, Unknown}
 use Rattle.c62_tool.specs.Page.{page_asked, page_text}
-use Rattle.c62_tool.specs.Trouble.{status_of}
+use Rattle.c62_tool.specs.Trouble.{HasTrouble, IsSaid, status_of}
 use Rattle.c62_tool.specs.declared.page.Page.{Page as Told}
 use Rattle.c62_tool.specs.declared.trouble.Trouble.{Trouble}
 use Rattle.c62_tool.specs.declared.trouble.Trouble.TheVariants.{NoCall}
@@ -60,20 +70,62 @@ pub data RunsFrom (holds : Holding) (words : List Text) (source : From) (old new
       → IsRun words (streams (Some bytes) old.output old.errors) (streams left new.output new.errors) status
       → RunsFrom holds words source old new status
 
--- an answer was made: all of it was written
-abbrev pub is_made : ℕ → Bool
-is_made status = status == 0 || nat_le 5 status
+-- A run of `lint`: its words are refused before anything is read, or the faults of what its source gives are told.
+pub data RunsLint (holds : Holding) (words : List Text) (source : From) (old new : Streams) (status : ℕ) : Type 0 where
+  Refused : linting_of words ≡ None → status ≡ 2 → Tells old.errors new.errors LINT.now → Keeps old.output new.output → Keeps old.input new.input
+      → RunsLint holds words source old new status
+  Lints : (linting : Linting) → linting_of words ≡ Some linting → (bytes : List ℕ) → IsGiven holds old.input source bytes
+      → (lines : List ℕ) (faulty : Bool) → IsLinted linting (text_name source) bytes lines faulty
+      → IsLintRun lines faulty old.output new.output old.errors new.errors status → RunsLint holds words source old new status
+
+-- what explains why words ask for nothing: of a setting that is none the reason, and of other words nothing
+abbrev pub refusal_taught : List Text → CommandError → List ℕ
+refusal_taught words (Setting k) = setting_taught (setting_at words k)
+refusal_taught words error = []
+
+-- the words ask for nothing, and this explains why
+pub record IsRefusedFor (words : List Text) (more : List ℕ) : Type 0 where
+  pub error : CommandError
+  pub known : error ≢ Memory
+  pub refused : IsRefusal error words
+  pub taught : more ≡ refusal_taught words error
+
+-- what words ask for, or why they ask for nothing
+abbrev pub IsAsked : List Text → Asked → Type 0
+IsAsked words (Known request) = asked words ≡ Some (ask_of request)
+IsAsked words (Unknown more) = IsRefusedFor words more.items
+
+-- A run of words with `--explain`: what is promised of a run without that is so of it. Behind what that tells of a text or of words that are
+-- refused stands what explains why.
+pub data RunsExplained (holds : Holding) (words : List Text) (source : From) (old new : Streams) (status : ℕ) : Type 0 where
+  OnNothing : (more : List ℕ) → IsRefusedFor (plain_words words) more → RunsMore 2 (plain_words words) more old new status
+      → RunsExplained holds words source old new status
+  OnBytes : (bytes : List ℕ) (left : Option (List ℕ)) → IsGiven holds old.input source bytes
+      → (more : List ℕ) → Explains (plain_words words) source bytes more
+      → RunsMore 1 (plain_words words) more (streams (Some bytes) old.output old.errors) (streams left new.output new.errors) status
+      → RunsExplained holds words source old new status
+
+-- What words do on what their source gives: they ask for `lint`, or for a command with or without explanations.
+pub data RunsWords (holds : Holding) (words : List Text) (source : From) (old new : Streams) (status : ℕ) : Type 0 where
+  Lint : is_lint words ≡ true → RunsLint holds words source old new status → RunsWords holds words source old new status
+  Explained : is_explained words ≡ true → RunsExplained holds words source old new status → RunsWords holds words source old new status
+  Plain : is_lint words ≡ false → is_explained words ≡ false → RunsFrom holds words source old new status
+      → RunsWords holds words source old new status
+
+-- An answer was made: all of it was written. That of `lint` is what it finds.
+abbrev pub is_made : List Text → ℕ → Bool
+is_made words status = status == 0 || nat_le 5 status || is_lint words && status == 1
 
 -- A run whose answer goes to a file. That holds the answer then, where one was made, and else what it held.
 pub record RunsTo (before after : Holding) (words : List Text) (source : From) (target : Text) (old new : Streams) (status : ℕ) : Type 0 where
   pub answer : List ℕ
-  pub runs : RunsFrom before words source (streams old.input (Some []) old.errors) (streams new.input (Some answer) new.errors) status
-  pub made : is_made status ≡ true → IfSome (after target) (λ all. all ≡ answer)
-  pub kept : is_made status ≡ false → after ≡ before
+  pub runs : RunsWords before words source (streams old.input (Some []) old.errors) (streams new.input (Some answer) new.errors) status
+  pub made : is_made words status ≡ true → IfSome (after target) (λ all. all ≡ answer)
+  pub kept : is_made words status ≡ false → after ≡ before
 
 -- what a run does to the output, or to the file that its answer goes to; then nothing is written to the output
 abbrev pub RunsTarget : (before after : Holding) → List Text → From → Option (Bor Text) → (old new : Streams) → ℕ → Type 0
-RunsTarget before after words source None old new status = RunsFrom before words source old new status
+RunsTarget before after words source None old new status = RunsWords before words source old new status
 RunsTarget before after words source (Some target) old new status =
     RunsTo before after words source target.now old new status × Keeps old.output new.output
 
@@ -83,15 +135,24 @@ pub record RunsCall (before after : Holding) (call : Call) (old new : Streams) (
   pub expanded : Expands before (map text_piece call.words.items) words
   pub runs : RunsTarget before after words (text_source call.source) call.target old new status
 
--- a page is written, or the front of it that a stream took
-pub record IsPageRun (page : Told) (old new : Option (List ℕ)) (status : ℕ) : Type 0 where
-  pub whole : status ≡ 0 → Appends old new (page_text page)
-  pub broken : status ≢ 0 → (status ≡ 4) × Tells old new (page_text page)
+-- files are as they were; of one that was to be written this is said of that alone
+abbrev pub AreKept : (before after : Holding) → (target : Option Text) → Type 0
+AreKept before after None = after ≡ before
+AreKept before after (Some target) = after target ≡ before target
 
--- What the program does: it tells a page, does what a call asks for, or has trouble with words or files and writes no answer.
+-- There is trouble with words or files. Nothing is written, and no file changes.
+pub record IsFailure (before after : Holding) (words : List Text) (old new : Streams) (status : ℕ) : Type 0 where
+  pub trouble : Trouble
+  pub why : HasTrouble before words trouble
+  pub ends : status ≡ status_of trouble
+  pub said : IsSaid trouble old.errors new.errors
+  pub unwritten : Keeps old.output new.output
+  pub kept : AreKept before after (target_in (outputs words))
+
+-- What the program does: it prints a page, explains a name, or does what a call asks for, or there is trouble.
 pub data IsProgramRun (before after : Holding) (words : List Text) (old new : Streams) (status : ℕ) : Type 0 where
-  Page : (page : Told) → page_asked words ≡ Some page → IsPageRun page old.output new.output status → IsProgramRun before after words old new status
-  Runs : (call : Call) → page_asked words ≡ None → IsCall words call → RunsCall before after call old new status
+  Page : (page : Told) → page_asked words ≡ Some page → IsWritten (page_text page) 0 old.output new.output old.errors new.errors status → IsProgramRun before after words old new status
+  Topic : page_asked words ≡ None → is_topic words ≡ true → IsTopicRun (name_asked words) old.output new.output old.errors new.errors status → IsProgramRun before after words old new status
+  Runs : (call : Call) → page_asked words ≡ None → is_topic words ≡ false → IsCall words call → RunsCall before after call old new status
       → IsProgramRun before after words old new status
-  Fails : (trouble : Trouble) → page_asked words ≡ None → status ≡ status_of trouble → Keeps old.output new.output
-      → IsProgramRun before after words old new status
+  Fails : page_asked words ≡ None → is_topic words ≡ false → IsFailure before after words old new status → IsProgramRun before after words old new status

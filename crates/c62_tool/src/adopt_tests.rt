@@ -41,7 +41,7 @@ const ADOPTED: [(&[&str], &[u8], &str, &str); 10] = [
         &["adopt", "--drain"],
         b"LDW .D1 *A4,A5\nL: ADD .L1 A5,A6,A7\n",
         "   LDW .D1T1 *A4,A5\n   NOP 4\n\nL:\n   ADD .L1 A5,A6,A7\n",
-        "4 cycles added\n",
+        "4 cycles added; A5 was read below line 1 before it landed\n",
     ),
     (
         &["adopt", "--drain"],

@@ -82,7 +82,7 @@ const LISTING: &str = "   MVK .S1 5,A1\n";
 const REPORT: &str = "blocks 1\nexit end\nA1 00000005\nA2 00000003\n";
 
 /// Words, standard input, and the output, what is told and the status.
-const RUNS: [(&[&str], &[u8], &str, &str, u8); 46] = [
+const RUNS: [(&[&str], &[u8], &str, &str, u8); 49] = [
     (&["pack", "--turns", "first.s"], b"FOO", LISTING, "", 0),
     (&["pack", "first.s", "--eject", "3"], b"FOO", LISTING, "", 0),
     (&["pack", "-"], b"MVK 5,A1", LISTING, "", 0),
@@ -319,6 +319,28 @@ const RUNS: [(&[&str], &[u8], &str, &str, u8); 46] = [
         b"",
         "",
         "error: --load wants the name of a file behind it\n",
+        2,
+    ),
+    // memory that is printed
+    (
+        &["serial", "-", "--print", "8+4:h", "--load", "8=three"],
+        b"",
+        "blocks 0\nexit end\n@0008 00ff0201\nprint 0008 0201\nprint 000a 00ff\n",
+        "",
+        0,
+    ),
+    (
+        &["serial", "A1=1", "--print", "8+3:h"],
+        b"",
+        "",
+        "setting 2: bad\n",
+        2,
+    ),
+    (
+        &["serial", "--print"],
+        b"",
+        "",
+        "error: --print wants ADDRESS+LENGTH behind it\n",
         2,
     ),
     // a report of a strict run, with its status

@@ -5,7 +5,10 @@
 mod joined;
 mod page;
 mod program;
+mod teaching;
+mod topic;
 mod trouble;
+mod written;
 
 use c62_files::Disk;
 use program::run_program;
@@ -42,12 +45,20 @@ fn main(rt: HostRuntime) -> ExitCode {
 #[cfg(test)]
 mod adopt_tests;
 #[cfg(test)]
+mod check_tests;
+#[cfg(test)]
 mod exec_tests;
 #[cfg(test)]
 mod file_tests;
 #[cfg(test)]
 mod show_tests;
 #[cfg(test)]
+mod stream_tests;
+#[cfg(test)]
+mod teach_tests;
+#[cfg(test)]
 mod tests;
 #[cfg(test)]
 mod worker_tests;
+#[cfg(test)]
+mod written_tests;

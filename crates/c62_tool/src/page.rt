@@ -2,7 +2,7 @@
 
 ghost use Rattle.std.specs.Prelude.{◌≡◌, map};
 ghost use Rattle.c62_answer.specs.Message.{told_of};
-ghost use Rattle.c62_tool.specs.Page.{page_asked, page_text};
+ghost use Rattle.c62_tool.specs.Page.{help_page, page_asked, page_text};
 
 use c62_answer::{Refused, write_pieces, write_whole};
 use std::convert::AsStr;
@@ -21,6 +21,7 @@ is `-`. The answer goes to standard output, or to the file behind -o, which is m
 or not at all, as in: c62 pack kernel.s -o kernel.lst
 Settings can stand in a file, as in: c62 run kernel.s --settings kernel.settings
 and the bytes of a file in memory, as in: c62 run kernel.s --load 0x100=table.bin
+Memory is printed below the report, as in: c62 run kernel.s --print 0x300+16:hd
 
 Status, and what standard error says:
   0  done, and nothing is said but how many cycles were added to drain packets
@@ -37,6 +38,34 @@ Status, and what standard error says:
 docs/SERIAL_TEXT.md, docs/LISTING.md, docs/ADOPT.md, docs/EXEC.md and docs/CHECK.md tell what each fault is.
 ";
 
+/// How `lint` is used (docs/FAULTS.md).
+pub const LINT: &str = "\
+Prints the first fault of each faulty line of a text, as FILE:LINE:COLUMN: error: NAME: SENTENCE
+
+Usage: c62 lint [--as <KIND>] [--most <N>] [-o <FILE>] [FILE]
+
+Options:
+      --as <KIND>  What the text is: serial (as pack reads it), listing (as sim reads it) or
+                   packets (as adopt reads them, with reads in delay slots as warnings);
+                   serial where none is given
+      --most <N>   Prints at most N faults, 1 to 1000; 100 where none is given
+
+The status is 1 where the text is refused for a fault, and else 0.
+
+Example:
+  c62 lint kernel.s
+";
+
+/// How `explain` is used.
+pub const EXPLAIN: &str = "\
+Prints what a fault or a packet rule is, with an example
+
+Usage: c62 explain <NAME>
+
+Example:
+  c62 explain BadUnit
+";
+
 /// A page that the program tells of itself.
 #[derive(Clone, Copy, PartialEq, Eq, Debug)]
 pub enum Page {
@@ -44,6 +73,25 @@ pub enum Page {
     Version,
     /// The streams and the statuses: `help status`.
     Status,
+    /// How `lint` is used: `help lint`.
+    Lint,
+    /// How `explain` is used: `help explain`.
+    Explain,
+}
+
+/// The page that this word asks for behind `help`.
+fn help_page(page: &str) -> Option<Page>
+    ensures { result ≡ help_page page.now }
+{
+    if page == "status" {
+        Some(Page::Status)
+    } else if page == "lint" {
+        Some(Page::Lint)
+    } else if page == "explain" {
+        Some(Page::Explain)
+    } else {
+        None
+    }
 }
 
 /// The page that the words ask for.
@@ -52,7 +100,7 @@ pub fn page_asked<S: AsStr>(words: &[S]) -> Option<Page>
 {
     match words {
         [word] if word.as_str() == "--version" => Some(Page::Version),
-        [word, page] if word.as_str() == "help" && page.as_str() == "status" => Some(Page::Status),
+        [word, page] if word.as_str() == "help" => help_page(page.as_str()),
         _ => None,
     }
 }
@@ -64,5 +112,7 @@ pub fn write_page<W: Write>(output: &mut W, page: Page) -> Result<(), Refused>
     match page {
         Page::Version => write_pieces(output, &["c62 ", VERSION, " (", TOOLCHAIN, ")\n"]),
         Page::Status => write_whole(output, STATUS.as_bytes()),
+        Page::Lint => write_whole(output, LINT.as_bytes()),
+        Page::Explain => write_whole(output, EXPLAIN.as_bytes()),
     }
 }

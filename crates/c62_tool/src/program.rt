@@ -1,18 +1,25 @@
 //! The program over files and streams.
 
-ghost use Rattle.std.specs.Prelude.{◌≡◌, None, IfOk, IfErr, false, map, string_bytes};
+ghost use Rattle.std.specs.Prelude.{◌≡◌, ◌⊎◌, None, Some, IfOk, IfErr, true, false, map, option_map, string_bytes};
 ghost use Rattle.std.specs.Io.KnownBytes.{Keeps};
 ghost use Rattle.c62_answer.specs.Run.{streams};
 ghost use Rattle.c62_files.specs.Call.{is_standard, text_source};
-ghost use Rattle.c62_tool.specs.Trouble.{status_of};
-ghost use Rattle.c62_tool.specs.Program.{AreParts, IsGiven, IsHeld, IsPageRun, IsProgramRun, IsRefused, RunsCall, RunsFrom, RunsTo, is_made};
+ghost use Rattle.c62_answer.specs.Message.{Tells};
+ghost use Rattle.c62_tool.specs.Trouble.{HasCallTrouble, IsTroubleWith, IsTroubleWithRun, IsTroubleWithSource, Says, is_early, status_of};
+ghost use Rattle.c62_tool.specs.Page.{page_text};
+ghost use Rattle.c62_tool.specs.Written.{IsWritten};
+ghost use Rattle.c62_tool.specs.Program.{AreKept, AreParts, IsGiven, IsHeld, IsProgramRun, IsRefused, RunsCall, RunsFrom, RunsTo, RunsWords, is_made};
 
 use crate::joined::joined;
 use crate::page::{Page, page_asked, write_page};
+use crate::teaching::{run_explained, run_lint};
+use crate::topic::{is_topic, run_topic};
 use crate::trouble::{Trouble, report};
-use c62_answer::{InputError, MOST_BYTES, read_text, run_tool, write_whole};
+use crate::written::status_behind;
+use c62_answer::{InputError, MOST_BYTES, read_text, run_tool};
 use c62_command::{CommandError, command_of};
 use c62_files::{Call, Folder, Source, call_of, expanded};
+use c62_teach::{is_explained, is_lint};
 use std::alloc::{AllocError, Global};
 use std::convert::AsStr;
 use std::io::{Read, Write};
@@ -28,6 +35,7 @@ fn part_of<'a, F: Folder, R: Read>(
 ) -> Result<Vec<u8>, Trouble<'a>>
     ensures held { IfOk result (λ bytes. IsHeld (F.holds folder.now) (R.remaining input.old) name.entry.now bytes.items) }
     ensures unread { is_standard name.entry.now ≡ false → R.remaining input.new ≡ R.remaining input.old }
+    ensures err { IfErr result (IsTroubleWith name.entry.now) }
 {
     if name == "-" {
         match read_text(alloc, input, MOST_BYTES) {
@@ -51,7 +59,8 @@ fn parts_of<'a, F: Folder, R: Read>(
     listing: &'a str,
     input: &mut R,
 ) -> Result<Vec<u8>, Trouble<'a>>
-    ensures { IfOk result (λ bytes. AreParts (F.holds folder.now) (R.remaining input.old) text.entry.now listing.entry.now bytes.items) }
+    ensures ok { IfOk result (λ bytes. AreParts (F.holds folder.now) (R.remaining input.old) text.entry.now listing.entry.now bytes.items) }
+    ensures err { IfErr result (λ trouble. IsTroubleWith text.entry.now trouble ⊎ IsTroubleWith listing.entry.now trouble) }
 {
     let text = part_of(alloc, folder, text, input)?;
     let listing = part_of(alloc, folder, listing, input)?;
@@ -59,13 +68,14 @@ fn parts_of<'a, F: Folder, R: Read>(
 }
 
 /// The bytes that a source gives.
-fn given<'a, F: Folder, R: Read>(
+pub(crate) fn given<'a, F: Folder, R: Read>(
     alloc: Global,
     folder: &F,
     source: Source<'a>,
     input: &mut R,
 ) -> Result<Vec<u8>, Trouble<'a>>
-    ensures { IfOk result (λ bytes. IsGiven (F.holds folder.now) (R.remaining input.old) (text_source source.entry) bytes.items) }
+    ensures ok { IfOk result (λ bytes. IsGiven (F.holds folder.now) (R.remaining input.old) (text_source source.entry) bytes.items) }
+    ensures err { IfErr result (IsTroubleWithSource (text_source source.entry)) }
 {
     match source {
         Source::Standard => part_of(alloc, folder, "-", input),
@@ -99,6 +109,8 @@ fn run_from<'a, H: AllocGlobal + Threads + Wait + Sync, F: Folder, R: Read, W: W
         let new = streams (R.remaining input.new) (W.contents output.new) (E.contents errors.new) in
         IfOk result (RunsFrom (F.holds folder.now) (map string_bytes words.now) (text_source source.entry) old new) }
     ensures err { IfErr result (λ _. Keeps (W.contents output.old) (W.contents output.new)) }
+    ensures silent { IfErr result (λ _. Keeps (E.contents errors.old) (E.contents errors.new)) }
+    ensures why { IfErr result (IsTroubleWithSource (text_source source.entry)) }
 {
     if let Source::Standard = source {
         return Ok(run_tool(rt, words, input, output, errors));
@@ -111,11 +123,38 @@ fn run_from<'a, H: AllocGlobal + Threads + Wait + Sync, F: Folder, R: Read, W: W
     Ok(run_tool(rt, words, &mut text, output, errors))
 }
 
-/// Whether a run that ends with this status made an answer.
-fn is_made(status: u8) -> bool
-    ensures { result ≡ is_made status }
+/// Does what words ask for on what their source gives: `lint`, or a command with or without explanations.
+#[tactic(auto)]
+fn run_words<'a, H: AllocGlobal + Threads + Wait + Sync, F: Folder, R: Read, W: Write, E: Write>(
+    rt: &H,
+    folder: &F,
+    words: &[String],
+    source: Source<'a>,
+    input: &mut R,
+    output: &mut W,
+    errors: &mut E,
+) -> Result<u8, Trouble<'a>>
+    ensures ok { let old = streams (R.remaining input.old) (W.contents output.old) (E.contents errors.old) in
+        let new = streams (R.remaining input.new) (W.contents output.new) (E.contents errors.new) in
+        IfOk result (RunsWords (F.holds folder.now) (map string_bytes words.now) (text_source source.entry) old new) }
+    ensures err { IfErr result (λ _. Keeps (W.contents output.old) (W.contents output.new)) }
+    ensures silent { IfErr result (λ _. Keeps (E.contents errors.old) (E.contents errors.new)) }
+    ensures why { IfErr result (IsTroubleWithSource (text_source source.entry)) }
 {
-    status == 0 || status >= 5
+    if is_lint(words) {
+        return Ok(run_lint(rt, folder, words, source, input, output, errors)?);
+    }
+    if is_explained(words) {
+        return Ok(run_explained(rt, folder, words, source, input, output, errors)?);
+    }
+    Ok(run_from(rt, folder, words, source, input, output, errors)?)
+}
+
+/// Whether a run of these words that ends with this status made an answer.
+fn is_made(words: &[String], status: u8) -> bool
+    ensures { result ≡ is_made (map string_bytes words.now) status }
+{
+    status == 0 || status >= 5 || is_lint(words) && status == 1
 }
 
 /// Runs a command whose answer goes to the file of this name.
@@ -131,10 +170,13 @@ fn run_to<'a, H: AllocGlobal + Threads + Wait + Sync, F: Folder, R: Read, E: Wri
     ensures ok { let old = streams (R.remaining input.old) None (E.contents errors.old) in
         let new = streams (R.remaining input.new) None (E.contents errors.new) in
         IfOk result (RunsTo (F.holds folder.old) (F.holds folder.new) (map string_bytes words.now) (text_source source.entry) target.entry.now old new) }
+    ensures silent { IfErr result (λ trouble. is_early trouble ≡ true → Keeps (E.contents errors.old) (E.contents errors.new)) }
+    ensures kept { IfErr result (λ _. AreKept (F.holds folder.old) (F.holds folder.new) (Some target.entry.now)) }
+    ensures why { IfErr result (IsTroubleWithRun (text_source source.entry) (Some target.entry)) }
 {
     let mut answer = Vec::new(rt.alloc());
-    let status = run_from(rt, folder, words, source, input, &mut answer, errors)?;
-    if !is_made(status) {
+    let status = run_words(rt, folder, words, source, input, &mut answer, errors)?;
+    if !is_made(words, status) {
         return Ok(status);
     }
     match folder.replace(rt.alloc(), target, &answer) {
@@ -156,37 +198,34 @@ fn run_call<'a, H: AllocGlobal + Threads + Wait + Sync, F: Folder, R: Read, W: W
         let new = streams (R.remaining input.new) (W.contents output.new) (E.contents errors.new) in
         IfOk result (RunsCall (F.holds folder.old) (F.holds folder.new) call.now old new) }
     ensures err { IfErr result (λ _. Keeps (W.contents output.old) (W.contents output.new)) }
+    ensures silent { IfErr result (λ trouble. is_early trouble ≡ true → Keeps (E.contents errors.old) (E.contents errors.new)) }
+    ensures kept { IfErr result (λ _. AreKept (F.holds folder.old) (F.holds folder.new) (option_map (λ name. name.now) call.now.target)) }
+    ensures why { IfErr result (HasCallTrouble (F.holds folder.old) call.now) }
 {
     let words = match expanded(rt.alloc(), folder, &call.words) {
         Ok(words) => words,
         Err(error) => return Err(Trouble::of_words(error)),
     };
     match call.target {
-        None => run_from(rt, folder, &words, call.source, input, output, errors),
+        None => run_words(rt, folder, &words, call.source, input, output, errors),
         Some(target) => run_to(rt, folder, &words, call.source, target, input, errors),
     }
 }
 
-/// Tells a page. Where the output takes no more, the status is 4.
-fn tell_page<W: Write, E: Write>(page: Page, output: &mut W, errors: &mut E) -> u8
-    ensures { IsPageRun page (W.contents output.old) (W.contents output.new) result }
+/// Prints a page, and answers the status.
+#[tactic(auto, using(crate::proofs::Writing::is_written))]
+fn print_page<W: Write, E: Write>(page: Page, output: &mut W, errors: &mut E) -> u8
+    ensures { IsWritten (page_text page) 0 (W.contents output.old) (W.contents output.new) (E.contents errors.old) (E.contents errors.new) result }
 {
-    match write_page(output, page) {
-        Ok(()) => 0,
-        Err(_) => {
-            let _ = write_whole(
-                errors,
-                b"output
-",
-            );
-            4
-        }
-    }
+    let written = write_page(output, page);
+    status_behind(written, 0, errors)
 }
 
-/// Tells a trouble, and answers its status.
+/// Says what the trouble is, and answers its status.
+#[tactic(auto, using(crate::proofs::Failing::says_told))]
 fn give_up<E: Write>(trouble: &Trouble<'_>, errors: &mut E) -> u8
-    ensures { result ≡ status_of trouble.now }
+    ensures status { result ≡ status_of trouble.now }
+    ensures said { Says Tells trouble.now (E.contents errors.old) (E.contents errors.new) }
 {
     let _ = report(errors, trouble);
     trouble.status()
@@ -210,7 +249,10 @@ pub fn run_program<
         IsProgramRun (F.holds folder.old) (F.holds folder.new) (map S.text words.now) old new result }
 {
     if let Some(page) = page_asked(words) {
-        return tell_page(page, output, errors);
+        return print_page(page, output, errors);
+    }
+    if is_topic(words) {
+        return run_topic(rt.alloc(), words, output, errors);
     }
     let call = match call_of(rt.alloc(), words) {
         Ok(call) => call,

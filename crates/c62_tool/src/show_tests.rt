@@ -4,8 +4,29 @@ use c62_answer::run_on_bytes;
 use std::test::Fail;
 
 /// Words and a text, and the picture of its blocks.
-const SHOWN: [(&[&str], &[u8], &str); 15] = [
+const SHOWN: [(&[&str], &[u8], &str); 19] = [
     (&["show"], b"\r\n* \n", ""),
+    // the heads alone
+    (
+        &["show", "--summary"],
+        b"LDW *A4,A5\nLDW *B4,A6",
+        "block 0: 2 instructions in 6 cycles; no schedule is shorter\n",
+    ),
+    (
+        &["show", "--turns", "--why", "--summary"],
+        b"L1: SUB A1,1,A1\n[A1] B L1\nMVK 1,A1\nEnd_1:",
+        "L1: 2 instructions in 7 cycles; no schedule is shorter\nblock 1: 1 instruction in 1 cycle; no schedule is shorter\nEnd_1: no instruction\n",
+    ),
+    (
+        &["show", "--listing", "--summary", "--registers"],
+        b"L:\n   MVK .S1 1,A1\n   NOP 2\n   ADD .L1 A2,A3,A4\n\n   ADD .L1 A1,A3,A2\n|| ADD .S1 A2,A3,A1\n",
+        "L: 2 instructions in 4 cycles; 3 over the bound of 1\nblock 1: 2 instructions in 1 cycle; the bound isn't known\n",
+    ),
+    (
+        &["show", "--packets", "--summary"],
+        b"loop:  LDW .D1 *A4,A5 ; a word\n    || MVK .S1 1,A1\n       NOP 5\n       ADD .L1 A5,A1,A6\n",
+        "loop: 3 instructions in 7 cycles; 1 over the bound of 6\n",
+    ),
     (&["show", "--turns"], b"L:", "L: no instruction\n"),
     (
         &["show"],

@@ -1,110 +1,10 @@
-//! Runs over streams in memory, and over streams that fail.
+//! Runs over streams in memory: listings, texts that are refused, and what is told of words.
 
-use c62_answer::{run_on_bytes, run_tool};
-use std::io;
-use std::io::{Read, Write};
+use c62_answer::run_on_bytes;
 use std::process::Abort;
 use std::sync::Wait;
 use std::test::Fail;
 use std::thread::Threads;
-
-/// Gives these bytes in so many reads, and then fails.
-#[derive(Drop)]
-struct Torn<'a> {
-    reads: usize,
-    bytes: &'a [u8],
-}
-
-impl Read for Torn<'_> {
-    fn read(&mut self, buf: &mut [u8]) -> io::Result<usize> {
-        if self.reads == 0 {
-            return Err(io::Error::from(io::ErrorKind::Other));
-        }
-        self.reads -= 1;
-        let most = buf.len().min(1);
-        self.bytes.read(&mut buf[..most])
-    }
-}
-
-/// Gives line feeds for ever.
-#[derive(Drop)]
-struct Endless;
-
-impl Read for Endless {
-    fn read(&mut self, buf: &mut [u8]) -> io::Result<usize> {
-        buf.fill(b'\n');
-        Ok(buf.len())
-    }
-}
-
-/// Takes a byte in each of so many writes, and then fails, or takes nothing more.
-#[derive(Drop)]
-struct Full {
-    writes: usize,
-    fails: bool,
-}
-
-impl Write for Full {
-    fn write(&mut self, buf: &[u8]) -> io::Result<usize> {
-        if self.writes > 0 {
-            self.writes -= 1;
-            Ok(buf.len().min(1))
-        } else if self.fails {
-            Err(io::Error::from(io::ErrorKind::Other))
-        } else {
-            Ok(0)
-        }
-    }
-
-    fn flush(&mut self) -> io::Result<()> {
-        if self.fails && self.writes == 0 {
-            Err(io::Error::from(io::ErrorKind::Other))
-        } else {
-            Ok(())
-        }
-    }
-}
-
-/// Takes all that is written, and fails when it is flushed.
-#[derive(Drop)]
-struct Unflushed;
-
-impl Write for Unflushed {
-    fn write(&mut self, buf: &[u8]) -> io::Result<usize> {
-        Ok(buf.len())
-    }
-
-    fn flush(&mut self) -> io::Result<()> {
-        Err(io::Error::from(io::ErrorKind::Other))
-    }
-}
-
-/// Takes a byte in each second write, and is interrupted in each other.
-#[derive(Drop)]
-struct Slow {
-    taken: Vec<u8>,
-    interrupts: bool,
-}
-
-impl Write for Slow {
-    fn write(&mut self, buf: &[u8]) -> io::Result<usize> {
-        self.interrupts = !self.interrupts;
-        if self.interrupts {
-            return Err(io::Error::from(io::ErrorKind::Interrupted));
-        }
-        match buf.first() {
-            Some(byte) => {
-                self.taken.push(*byte)?;
-                Ok(1)
-            }
-            None => Ok(0),
-        }
-    }
-
-    fn flush(&mut self) -> io::Result<()> {
-        Ok(())
-    }
-}
 
 /// Words and a text, and the listing of the text.
 const LISTED: [(&[&str], &[u8], &str); 23] = [
@@ -244,114 +144,6 @@ const REFUSED_TEXTS: [(&[u8], usize, &[u8], &str); 4] = [
     (b"\n", 1_048_577, b"", "line 0: TextTooLong\n"),
 ];
 
-/// Text and listing, parted by a line, and what is told of them where every block is the same.
-const SAME: [(&[u8], &str); 8] = [
-    (b"---", ""),
-    (b"---\r\n", ""),
-    (
-        b"MVK 5,A1\nMVK 7,A2\nADD A1,A2,A3\n---\n   MVK .S1 7,A2\n   MVK .S1 5,A1\n   NOP 1\n   ADD .L1 A1,A2,A3\n",
-        "block 0 same\n",
-    ),
-    (
-        b"MVK 1,A1\r\nMVK 1,A1\r\n---\r\n   MVK .S1 1,A1\n   MVK .S1 1,A1\n",
-        "block 0 same\n",
-    ),
-    // a unit that the text doesn't write, and a side that pack never chooses
-    (
-        b"ADD .L1 A1,A2,A3\n---\n   ADD .D1 A1,A2,A3\n",
-        "block 0 same\n",
-    ),
-    (
-        b"L: B .S2 L\n---\nL:\n   B .S1 L\n   NOP 5\n",
-        "block 0 same\n",
-    ),
-    // an access that faults, on another line
-    (
-        b";\nMVK 1,A4\nLDW *A4,A5\n---\n   MVK .S1 1,A4\n   LDW .D1T1 *A4,A5\n   NOP 4\n",
-        "block 0 same\n",
-    ),
-    (
-        b"L1: SUB A1,1,A1\n[A1] B L1\nEnd:\n---\nL1:\n   SUB .L1 A1,1,A1\n   [A1] B .S2 L1\n   NOP 5\n\nEnd:\n",
-        "block 0 same\nblock 1 same\n",
-    ),
-];
-
-/// The same where some block isn't.
-const NOT_SAME: [(&[u8], &str); 6] = [
-    (
-        b"MVK 5,A1\nMVK 7,A2\nADD A1,A2,A3\n---\n   ADD .L1 A1,A2,A3\n|| MVK .S1 5,A1\n   MVK .S1 7,A2\n",
-        "block 0 early 1 after 2 needs 1 has 0 reads A1\n",
-    ),
-    (
-        b"LDW *A4,A5\nADD A5,A5,A6\n---\n   LDW .D1T1 *A4,A5\n   NOP 3\n   ADD .L1 A5,A5,A6\n",
-        "block 0 early 3 after 1 needs 5 has 4 reads A5\n",
-    ),
-    (b";\nMVK 1,A1\n---\n", "block 0 only in text\n"),
-    // the first line parts, and no line of the listing does
-    (
-        b"MVK 1,A1\nMVK 2,A2\n---\n   MVK .S1 2,A2\n",
-        "block 0 missing 1\n",
-    ),
-    (
-        b"MVK 1,A1\n---\n   MVK .S1 2,A2\n   MVK .S1 1,A1\n",
-        "block 0 extra 1\n",
-    ),
-    (
-        b"MVK 1,A1\nB Q\nQ:\n---\n   MVK .S1 1,A1\n|| B .S2 P\n   NOP 5\n\nP:\n",
-        "block 1 label P not Q\n",
-    ),
-];
-
-/// What can't be checked, and what is told of it. Both parts count their lines from 1, and the text's fault is told first.
-const UNCHECKED: [(&[u8], &str); 14] = [
-    (b"", "text line 0: NoListing\n"),
-    (b"MVK 1,A1\n", "text line 0: NoListing\n"),
-    (b"FOO\n--- \n", "text line 0: NoListing\n"),
-    (b"---\r", "text line 0: NoListing\n"),
-    (b"\nFOO\n---\nBAR\n", "text line 2: UnknownMnemonic\n"),
-    (b"\nFOO\n---\n---\n", "text line 2: UnknownMnemonic\n"),
-    (
-        b"MVK 1,A1\r\n---\r\n   BAR\n",
-        "listing line 1: UnknownMnemonic\n",
-    ),
-    (b"MVK 1,A1\n---\n\n", "listing line 1: Shape\n"),
-    (
-        b"MVK 1,A1\n---\n   MVK .S1 1,A1\r\n",
-        "listing line 1: Shape\n",
-    ),
-    (
-        b"MVK 1,A1\n---\n   MVK .S1 1,A1\n---\n",
-        "listing line 2: Shape\n",
-    ),
-    (b"---\n---", "listing line 1: Shape\n"),
-    (
-        b"MVK 1,A1\n---\n   LDW .D1T1 *A4,A5\n",
-        "listing block 0: NotDrained\n",
-    ),
-    (
-        b"MVK 1,A1\n---\n   LDW .D1T1 *A4,A5\n|| LDW .D2T1 *B4,A6\n   NOP 4\n",
-        "listing block 0 cycle 0: P3\n",
-    ),
-    (
-        b"B Q\n---\n   B .S2 Q\n   NOP 5\n",
-        "text line 1: UnknownTarget\n",
-    ),
-];
-
-/// A line of 64 bytes that says nothing, and how often it stands in the longest text.
-const COMMENT: &[u8] = b";;;;;;;;;;;;;;;;;;;;;;;;;;;;;;;;;;;;;;;;;;;;;;;;;;;;;;;;;;;;;;;\n";
-
-const MOST_COMMENTS: usize = 16_384;
-
-/// Behind the longest text, what a check can't be made of, and what is told of it.
-const UNCHECKED_LONG: [(&[u8], &str); 5] = [
-    (b"", "text line 0: NoListing\n"),
-    (b"---\nFOO", "listing line 1: Shape\n"),
-    (b"\n", "text line 0: TextTooLong\n"),
-    (b"\n---\n", "text line 0: TextTooLong\n"),
-    (b"FOO\n---\nFOO", "text line 0: TextTooLong\n"),
-];
-
 /// How a help ends.
 const STATUS_HELP: &str =
     "`c62 help status` tells where texts come from, and what each status means.\n";
@@ -378,6 +170,9 @@ Commands:
 
 Options:
   -h, --help  Print help
+
+`c62 lint kernel.s` prints all faults of a text, and `c62 explain BadUnit` says what a
+fault is; --explain behind a command says what is wrong with its text.
 ",
         "c62 run kernel.s A4=8",
     ),
@@ -398,8 +193,8 @@ Options:
         &["show", "--help"],
         "Packs serial text and shows each block's schedule, and how short one can be
 
-Usage: c62 show [--why] [--registers] [--turns] [--eject <N>] [-o <FILE>] [FILE]
-       c62 show --listing|--packets [--why] [--registers] [-o <FILE>] [FILE]
+Usage: c62 show [--why] [--registers] [--summary] [--turns] [--eject <N>] [-o <FILE>] [FILE]
+       c62 show --listing|--packets [--why] [--registers] [--summary] [-o <FILE>] [FILE]
 
 Options:
       --turns      Packs on one thread, one side after the other
@@ -408,6 +203,7 @@ Options:
       --packets    Reads packets as they are written, and shows the schedule that stands there
       --why        Tells why each instruction isn't issued a cycle earlier, and its slack
       --registers  Tells how many registers of each side are live at most, and which are free
+      --summary    Shows of each block its length alone, and how short one can be
   -h, --help       Print help
 ",
         "c62 show --why kernel.s",
@@ -452,12 +248,13 @@ Options:
         &["sim", "-h"],
         "Reads a listing, runs its packets and reports the end
 
-Usage: c62 sim [--blocks <N>] [--profile] [--strict] [-o <FILE>] [FILE] [SETTING]...
+Usage: c62 sim [--packets] [--blocks <N>] [--profile] [--strict] [-o <FILE>] [FILE] [SETTING]...
 
 Arguments:
   [SETTING]...  REG=NUMBER sets a register, @ADDRESS=NUMBER,.. words of memory; with :h or :b halves or bytes
 
 Options:
+      --packets     Reads packets as they are written in place of a listing
       --blocks <N>  Runs at most N blocks, 1 to 1000000; 1000 where none is given
       --profile     Adds a table of how often each block was run, and what it took
       --strict      Ends with status 7 where an access faults, and else with 6 at the limit
@@ -472,20 +269,21 @@ Options:
 Usage: c62 adopt [--drain] [-o <FILE>] [FILE]
 
 Options:
-      --drain  Adds the NOPs that lack before labels and at the end, and says how many cycles
+      --drain  Adds the NOPs that lack before labels and at the end, says how many cycles, and what they may change
   -h, --help   Print help
 ",
-        "c62 adopt hand.asm --drain",
+        "c62 adopt hand.asm --drain  (4 cycles added; A5 was read below line 2 before it landed)",
     ),
     (
         &["check", "-h"],
         "Reads serial text, a line `---` and a listing, and compares their blocks
 
-Usage: c62 check [-o <FILE>] <TEXT> <LISTING>
-       c62 check [-o <FILE>] [FILE]  (both in one, with a line `---` between them)
+Usage: c62 check [--packets] [-o <FILE>] <TEXT> <LISTING>
+       c62 check [--packets] [-o <FILE>] [FILE]  (both in one, with a line `---` between them)
 
 Options:
-  -h, --help  Print help
+      --packets  Reads packets as they are written in place of a listing
+  -h, --help     Print help
 ",
         "c62 check kernel.s hand.lst",
     ),
@@ -518,42 +316,8 @@ For more information, try '--help'.
     ),
 ];
 
-/// Words that are no command line.
-const REFUSED_WORDS: [&[&str]; 30] = [
-    &["-h"],
-    &["help"],
-    &["help", "pack"],
-    &["--version"],
-    &["--"],
-    &[""],
-    &["--turns"],
-    &["--eject", "1"],
-    &["pack", "--eject", "-1"],
-    &["run", "--eject", "x"],
-    &["serial", "--eject", "1"],
-    &["sim", "--turns"],
-    &["pack", "A1=1"],
-    &["pack", "extra"],
-    &["pack", "--turns", "--turns"],
-    &["pack", "--turns=yes"],
-    &["pack", "pack"],
-    &["show", "--blocks", "2"],
-    &["show", "A1=1"],
-    &["serial", "--blocks"],
-    &["serial", "--blocks", "1000001"],
-    &["serial", "--blocks", "0x5"],
-    &["serial", "--blocks", "1", "--blocks", "1"],
-    &["serial", "-5"],
-    &["adopt", "--turns"],
-    &["adopt", "A1=1"],
-    &["adopt", "--drain=yes"],
-    &["check", "--turns"],
-    &["check", "A1=1"],
-    &["check", "text.s", "hand.lst"],
-];
-
 /// The text is refused, and this is told.
-fn refuses<H: AllocGlobal + Threads + Wait + Abort + Sync>(
+pub(crate) fn refuses<H: AllocGlobal + Threads + Wait + Abort + Sync>(
     rt: &H,
     command: &str,
     text: &[u8],
@@ -629,60 +393,6 @@ fn refused_texts(rt: HostRuntime) -> Result<(), Fail> {
     Ok(())
 }
 
-/// A run of a check answers so.
-fn checks<H: AllocGlobal + Threads + Wait + Abort + Sync>(
-    rt: &H,
-    input: &[u8],
-    status: u8,
-    expected: &str,
-) {
-    let ran = run_on_bytes(rt, &["check"], input);
-    assert_eq!(rt; ran.output.as_slice(), expected.as_bytes());
-    assert!(rt; ran.errors.is_empty());
-    assert_eq!(rt; ran.status, status);
-}
-
-#[test]
-fn checked_texts(rt: HostRuntime) -> Result<(), Fail> {
-    for (input, expected) in &SAME {
-        checks(&rt, input, 0, expected);
-    }
-    for (input, expected) in &NOT_SAME {
-        checks(&rt, input, 5, expected);
-    }
-    Ok(())
-}
-
-#[test]
-fn unchecked_texts(rt: HostRuntime) -> Result<(), Fail> {
-    for (input, expected) in &UNCHECKED {
-        refuses(&rt, "check", input, expected);
-    }
-    Ok(())
-}
-
-/// The longest text, with what may stand behind it, up to a listing of a byte too many.
-#[test]
-fn longest_checks(rt: HostRuntime) -> Result<(), Fail> {
-    let mut input = Vec::new(rt.alloc());
-    for _ in 0..MOST_COMMENTS {
-        input.extend_from_slice(COMMENT)?;
-    }
-    for (rest, expected) in &UNCHECKED_LONG {
-        let length = input.len();
-        input.extend_from_slice(rest)?;
-        refuses(&rt, "check", &input, expected);
-        input.truncate(length);
-    }
-    input.extend_from_slice(b"---\r\n")?;
-    for _ in 0..2048 {
-        input.extend_from_slice(&[b'A'; 4096])?;
-    }
-    input.push(b'A')?;
-    refuses(&rt, "check", &input, "listing line 0: TextTooLong\n");
-    Ok(())
-}
-
 #[test]
 fn told_words(rt: HostRuntime) -> Result<(), Fail> {
     for (words, text, example) in &TOLD {
@@ -695,129 +405,6 @@ fn told_words(rt: HostRuntime) -> Result<(), Fail> {
         assert_eq!(rt; ran.errors.as_slice(), expected.as_bytes());
         assert_eq!(rt; ran.status, 2);
         assert!(rt; ran.output.is_empty());
-    }
-    Ok(())
-}
-
-/// Words are judged before any input is read, so that this reader isn't asked.
-#[test]
-fn refused_words(rt: HostRuntime) -> Result<(), Fail> {
-    for words in &REFUSED_WORDS {
-        let mut input = Torn {
-            reads: 0,
-            bytes: b"",
-        };
-        let mut output = Vec::new(rt.alloc());
-        let mut errors = Vec::new(rt.alloc());
-        let status = run_tool(&rt, *words, &mut input, &mut output, &mut errors);
-        assert_eq!(rt; status, 2);
-        assert!(rt; output.is_empty());
-        assert_eq!(rt; errors.last().copied(), Some(b'\n'));
-    }
-    Ok(())
-}
-
-#[test]
-fn readers_that_fail(rt: HostRuntime) -> Result<(), Fail> {
-    for reads in 0..12 {
-        let mut input = Torn {
-            reads,
-            bytes: b"FOO\nMVK 5,A1",
-        };
-        let mut output = Vec::new(rt.alloc());
-        let mut errors = Vec::new(rt.alloc());
-        let status = run_tool(&rt, &["pack"], &mut input, &mut output, &mut errors);
-        assert_eq!(rt; status, 4);
-        assert!(rt; output.is_empty());
-        assert_eq!(rt; errors.as_slice(), b"input\n".as_slice());
-    }
-
-    let mut output = Vec::new(rt.alloc());
-    let mut errors = Vec::new(rt.alloc());
-    let status = run_tool(&rt, &["pack"], &mut Endless, &mut output, &mut errors);
-    assert_eq!(rt; status, 1);
-    assert!(rt; output.is_empty());
-    assert_eq!(rt; errors.as_slice(), b"line 0: TextTooLong\n".as_slice());
-    Ok(())
-}
-
-#[test]
-fn writers_that_fail(rt: HostRuntime) -> Result<(), Fail> {
-    // The listing has 16 bytes.
-    for writes in 0..16 {
-        for fails in [true, false] {
-            let mut input: &[u8] = b"MVK 5,A1\n";
-            let mut errors = Vec::new(rt.alloc());
-            let mut full = Full { writes, fails };
-            let status = run_tool(&rt, &["pack"], &mut input, &mut full, &mut errors);
-            assert_eq!(rt; status, 4);
-            assert_eq!(rt; errors.as_slice(), b"output\n".as_slice());
-        }
-    }
-
-    let mut input: &[u8] = b"MVK 5,A1\n";
-    let mut errors = Vec::new(rt.alloc());
-    let status = run_tool(&rt, &["pack"], &mut input, &mut Unflushed, &mut errors);
-    assert_eq!(rt; status, 4);
-    assert_eq!(rt; errors.as_slice(), b"output\n".as_slice());
-
-    // A failure of the error stream changes no status.
-    let rows: [(&[&str], u8); 2] = [(&["pack"], 1), (&["frob"], 2)];
-    for (words, expected) in &rows {
-        let mut input: &[u8] = b"FOO";
-        let mut output = Vec::new(rt.alloc());
-        let mut errors = Full {
-            writes: 3,
-            fails: true,
-        };
-        let status = run_tool(&rt, *words, &mut input, &mut output, &mut errors);
-        assert_eq!(rt; status, *expected);
-    }
-    Ok(())
-}
-
-/// Words, a line, how often it stands, what follows it, and what is told, on a stream that takes a byte at a time.
-const TOLD_SLOWLY: [(&[&str], &[u8], usize, &[u8], &str); 4] = [
-    (
-        &["check"],
-        b"MVK 1,A1\n",
-        257,
-        b"---\n",
-        "text line 257: TooManyInstructions\n",
-    ),
-    (
-        &["check"],
-        b"",
-        0,
-        b"---\n   LDW .D1T1 *A4,A5\n|| LDW .D2T1 *B4,A6\n   NOP 4\n",
-        "listing block 0 cycle 0: P3\n",
-    ),
-    (&["serial", "A1=1", "A1"], b"", 0, b"", "setting 2: bad\n"),
-    (
-        &["adopt", "--drain"],
-        b"",
-        0,
-        b"LDW .D1 *A4,A5",
-        "4 cycles added\n",
-    ),
-];
-
-#[test]
-fn told_byte_by_byte(rt: HostRuntime) -> Result<(), Fail> {
-    for (words, line, count, rest, told) in &TOLD_SLOWLY {
-        let mut text = Vec::new(rt.alloc());
-        for _ in 0..*count {
-            text.extend_from_slice(line)?;
-        }
-        text.extend_from_slice(rest)?;
-        let mut input = text.as_slice();
-        let mut output = Vec::new(rt.alloc());
-        let mut errors = Slow {
-            taken: Vec::new(rt.alloc()),
-            interrupts: false,
-        };
-        run_tool(&rt, *words, &mut input, &mut output, &mut errors);
-        assert_eq!(rt; errors.taken.as_slice(), told.as_bytes());
     }
     Ok(())
 }

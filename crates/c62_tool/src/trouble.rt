@@ -2,7 +2,8 @@
 
 ghost use Rattle.std.specs.Prelude.{◌≡◌};
 ghost use Rattle.c62_answer.specs.Message.{told_of};
-ghost use Rattle.c62_tool.specs.Trouble.{IsTroubleOf, call_message, load_message, reason_of, status_of};
+ghost use Rattle.c62_tool.specs.Trouble.{IsTroubleWith, IsTroubleWriting, Says, call_message, load_message, of_reading, of_words, reason_of, status_of, wanted_text};
+ghost use Rattle.c62_tool.specs.declared.trouble.Trouble.TheVariants.{Memory};
 
 use c62_answer::{Refused, show, write_pieces, write_whole};
 use c62_files::{CallError, FileError, Misfit, Unexpanded};
@@ -29,6 +30,8 @@ pub enum Trouble<'a> {
 }
 
 impl From<AllocError> for Trouble<'_> {
+    ghost from_gives = { λ _ trouble. trouble ≡ Memory };
+
     fn from(_error: AllocError) -> Self {
         Trouble::Memory
     }
@@ -36,7 +39,10 @@ impl From<AllocError> for Trouble<'_> {
 
 impl<'a> Trouble<'a> {
     /// Why the file of this name isn't read.
-    pub fn of_reading(name: &'a str, error: FileError) -> Trouble<'a> {
+    pub fn of_reading(name: &'a str, error: FileError) -> Trouble<'a>
+        ensures is { result ≡ of_reading name.entry error }
+        ensures with { IsTroubleWith name.entry.now result }
+    {
         match error {
             FileError::Memory => Trouble::Memory,
             FileError::Failed(error) => Trouble::Unread(name, error),
@@ -44,7 +50,9 @@ impl<'a> Trouble<'a> {
     }
 
     /// Why the file of this name isn't written.
-    pub fn of_writing(name: &'a str, error: FileError) -> Trouble<'a> {
+    pub fn of_writing(name: &'a str, error: FileError) -> Trouble<'a>
+        ensures { IsTroubleWriting name.entry.now result }
+    {
         match error {
             FileError::Memory => Trouble::Memory,
             FileError::Failed(error) => Trouble::Unwritten(name, error),
@@ -53,7 +61,7 @@ impl<'a> Trouble<'a> {
 
     /// Why it isn't known what stands in the places of words.
     pub fn of_words(error: Unexpanded<'a>) -> Trouble<'a>
-        ensures { IsTroubleOf error.entry result }
+        ensures { result ≡ of_words error.entry }
     {
         match error {
             Unexpanded::Unread(unread) => Trouble::of_reading(unread.name, unread.error),
@@ -73,6 +81,17 @@ impl<'a> Trouble<'a> {
     }
 }
 
+/// What an option wants behind it.
+fn wanted_text(option: &str) -> &'static str
+    ensures { result.now ≡ wanted_text option.now }
+{
+    if option == "--print" {
+        " wants ADDRESS+LENGTH behind it\n"
+    } else {
+        " wants the name of a file behind it\n"
+    }
+}
+
 /// Tells what is wrong with the words.
 fn tell_call<E: Write>(errors: &mut E, error: &CallError<'_>) -> Result<(), Refused>
     ensures { told_of result (E.contents errors.old) (E.contents errors.new) (call_message error.now) }
@@ -80,7 +99,7 @@ fn tell_call<E: Write>(errors: &mut E, error: &CallError<'_>) -> Result<(), Refu
     match error {
         CallError::NoName(option) => write_pieces(
             errors,
-            &["error: ", *option, " wants the name of a file behind it\n"],
+            &["error: ", *option, wanted_text(*option)],
         ),
         CallError::TooManyInputs(name) => write_pieces(
             errors,
@@ -146,7 +165,9 @@ fn tell_file<E: Write>(
 /// # Errors
 ///
 /// Where the stream takes no more.
-pub fn report<E: Write>(errors: &mut E, trouble: &Trouble<'_>) -> Result<(), Refused> {
+pub fn report<E: Write>(errors: &mut E, trouble: &Trouble<'_>) -> Result<(), Refused>
+    ensures { Says (told_of result) trouble.now (E.contents errors.old) (E.contents errors.new) }
+{
     match trouble {
         Trouble::NoCall(error) => tell_call(errors, error),
         Trouble::Unread(name, error) => tell_file(errors, "cannot read ", *name, error),

@@ -4,7 +4,7 @@ use crate::tool::run_on_bytes;
 use std::test::Fail;
 
 /// Words, a text, and the report.
-const REPORTED: [(&[&str], &[u8], &str); 23] = [
+const REPORTED: [(&[&str], &[u8], &str); 27] = [
     (&["serial"], b"", "blocks 0\nexit end\n"),
     (
         &["serial", "A4=1"],
@@ -93,6 +93,39 @@ const REPORTED: [(&[&str], &[u8], &str); 23] = [
         &["serial", "@0x8=1,2", "@9:b=7"],
         b"",
         "blocks 0\nexit end\n@0008 00000701\n@000c 00000002\n",
+    ),
+    // memory that is printed, in the order of the words, before a table
+    (
+        &[
+            "serial",
+            "@0x300:h=3500,-1",
+            "print=0x300+4:hd",
+            "print=0x302+2:h",
+        ],
+        b"",
+        "blocks 0\nexit end\n@0300 ffff0dac\nprint 0300 3500\nprint 0302 -1\nprint 0302 ffff\n",
+    ),
+    (
+        &[
+            "serial",
+            "--profile",
+            "print=8+8",
+            "@8=-2",
+            "print=8+4:d",
+            "print=8+2:bd",
+        ],
+        b"",
+        "blocks 0\nexit end\n@0008 fffffffe\nprint 0008 fffffffe\nprint 000c 00000000\nprint 0008 -2\nprint 0008 -2\nprint 0009 -1\nblock runs instructions sum share\n",
+    ),
+    (
+        &["sim", "@8:b=0x80", "print=8+1:b", "print=8+1:bd"],
+        b"",
+        "blocks 0\ncycles 0\nexit end\n@0008 00000080\nprint 0008 80\nprint 0008 -128\n",
+    ),
+    (
+        &["exec", "print=65534+2:h"],
+        b" NOP\n",
+        "cycles 1\nexit end\nprint fffe 0000\n",
     ),
     // tables
     (
@@ -246,7 +279,7 @@ const NO_LISTING: [(&[u8], &str); 7] = [
 ];
 
 /// Words with a bad setting, and its number.
-const BAD_SETTINGS: [(&[&str], usize); 23] = [
+const BAD_SETTINGS: [(&[&str], usize); 25] = [
     (&["serial", "@6=1"], 1),
     (&["serial", "A16=1"], 1),
     (&["serial", "A1=5", "x"], 2),
@@ -271,6 +304,8 @@ const BAD_SETTINGS: [(&[&str], usize); 23] = [
     (&["serial", "@8:w=1"], 1),
     (&["serial", "@8:=1"], 1),
     (&["serial", "A1=1,2"], 1),
+    (&["serial", "A1=1", "print=65532+8"], 2),
+    (&["exec", "print=6+4"], 1),
 ];
 
 #[test]

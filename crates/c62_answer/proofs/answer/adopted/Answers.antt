@@ -10,5 +10,6 @@ returns-in_err-adopted c =
 pub returns : goal.returns
 returns c =
     let adopted = c.in_ok-adopted.adopted in
-    rw c.of_adoption.ensures (adopted_text c.args.drain c.args.text.now c.in_ok-listing_of.field-0.items adopted.packets adopted.added
-    (c.texts_that_stand_lack_nothing.ensures c.args.text.now adopted.packets) c.in_ok-adopted.ensures.adopted c.in_ok-listing_of.ensures)
+    rw (c.of_adoption.ensures, c.added_in.ensures) (adopted_text c.args.drain c.args.text.now c.in_ok-listing_of.field-0.items adopted.packets adopted.added
+    adopted.late (c.texts_that_stand_lack_nothing.ensures c.args.text.now adopted.packets) c.in_ok-adopted.ensures.adopted c.in_ok-adopted.ensures.late
+    c.in_ok-listing_of.ensures)

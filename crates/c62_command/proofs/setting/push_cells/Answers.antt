@@ -40,7 +40,7 @@ loop-rest-preserved c new good adds =
     let pushed : c.push.new.self.items ≡ c.loop-rest.settings.items ++ set_at c.args.size c.loop-rest.address c.in-Some.value ∷ [] = search rules in
     let further : Adds (cells c.args.size (c.loop-rest.address + bytes_in c.args.size) (parts c.in-Some-behind.behind.now))
     (c.loop-rest.settings.items ++ set_at c.args.size c.loop-rest.address c.in-Some.value ∷ []) new good =
-    rw (sym c.bytes-address.ensures, sym pushed) adds in
+    rw (sym c.bytes.ensures, sym c.from-address.ensures, sym pushed) adds in
     c.loop-rest.invariant new good
     (next_value c.args.size c.loop-rest.address c.in-Some.value c.loop-rest.rest.now c.first_part.result.0.now c.in-Some-behind.behind.now
     c.loop-rest.settings.items new good parted.0 held some further)

@@ -1,0 +1,4 @@
+mod Bits
+mod BracketLemmas
+mod SpacedLemmas
+pub mod SpellLemmas

@@ -1,0 +1,10 @@
+pub mod Comment
+pub mod Number
+pub mod Operation
+pub mod Names
+pub mod Sum
+pub mod Bracket
+pub mod Statement
+pub mod Line
+pub mod Text
+pub mod Laws

@@ -1,0 +1,120 @@
+-- What is said of the name of a fault or a rule (docs/FAULTS.md, "Names").
+use Rattle.std.specs.Prelude.{ℕ, List, [], ◌∷◌, ◌++◌, codes, find, Option, option_map}
+use Rattle.std.specs.Option.{option_or}
+use Rattle.c62_insn.specs.declared.fault.FormFault.TheVariants.{NoUnit, BadSide, BadCondition, ConstantRange, TwoCrossed}
+use Rattle.c62_token.specs.Number.{spells}
+use Rattle.c62_line.specs.Fault.{cause_name}
+use Rattle.c62_line.specs.declared.fault.Cause.{Cause}
+use Rattle.c62_line.specs.declared.fault.Cause.TheVariants.{BadLabel, UnknownMnemonic, BadUnit, BadOperand, Form, ParallelBar, Directive, UnknownTarget}
+use Rattle.c62_explain.specs.Sentence.{sentence}
+use Rattle.c62_explain.specs.declared.topic.Topic.{Topic}
+use Rattle.c62_explain.specs.declared.topic.Topic.TheVariants as on
+use Rattle.c62_explain.specs.declared.topic.TheConstants.{CAUSES, TOPICS}
+
+-- a line that has this fault; none where one line alone hasn't
+abbrev pub example : Cause → List ℕ
+example ParallelBar = codes "|| ADD A1,A2,A3"
+example BadLabel = codes "A1: MVK 1,A2"
+example Directive = codes ".text"
+example UnknownMnemonic = codes "SADD A1,A2,A3"
+example BadUnit = codes "MVK .M1 1,A1"
+example BadOperand = codes "MVK 1,A16"
+example (Form BadCondition) = codes "[A3] MVK 1,A1"
+example (Form ConstantRange) = codes "MVK 32768,A1"
+example (Form TwoCrossed) = codes "ADD B1,B2,A0"
+example (Form BadSide) = codes "ADD .L2 A1,A2,A3"
+example (Form NoUnit) = codes "ADD 20,B2,A3"
+example UnknownTarget = codes "B NOWHERE"
+example _ = []
+
+-- the line with an example, where there is one
+abbrev pub example_line : List ℕ → List ℕ
+example_line [] = []
+example_line (first ∷ rest) = codes "example: " ++ (first ∷ rest) ++ codes "\n"
+
+-- a name, what it says, an example and a page
+abbrev pub page_of : (name says shown page : List ℕ) → List ℕ
+page_of name says shown page = name ++ codes ": " ++ says ++ codes "\n" ++ example_line shown ++ codes "see " ++ page ++ codes "\n"
+
+-- the same of a fault of a serial text
+abbrev pub cause_page : Cause → List ℕ
+cause_page cause = page_of (cause_name cause) (sentence cause) (example cause) (codes "docs/SERIAL_TEXT.md, \"Faults of a line\"")
+
+-- a fault or a rule that serial texts don't have: its name, what it is, lines that have it, and its page
+abbrev pub topic_name : Topic → List ℕ
+topic_name on.UnitWanted = codes "UnitWanted"
+topic_name on.Shape = codes "Shape"
+topic_name on.TwoBranches = codes "TwoBranches"
+topic_name on.NotDrained = codes "NotDrained"
+topic_name on.TooManyCycles = codes "TooManyCycles"
+topic_name on.P1 = codes "P1"
+topic_name on.P2 = codes "P2"
+topic_name on.P3 = codes "P3"
+topic_name on.P4 = codes "P4"
+topic_name on.P5 = codes "P5"
+topic_name on.OtherSection = codes "OtherSection"
+topic_name on.Padding = codes "Padding"
+topic_name on.TooManyTargets = codes "TooManyTargets"
+topic_name on.NoListing = codes "NoListing"
+
+abbrev pub topic_sentence : Topic → List ℕ
+topic_sentence on.UnitWanted = codes "in a packet each instruction names its unit"
+topic_sentence on.Shape = codes "this isn't a line as a listing has it"
+topic_sentence on.TwoBranches = codes "a branch is in the delay slots of another"
+topic_sentence on.NotDrained = codes "something is still in flight where its block is over"
+topic_sentence on.TooManyCycles = codes "a block has more cycles than it may have"
+topic_sentence on.P1 = codes "two instructions of one cycle are on one unit"
+topic_sentence on.P2 = codes "two instructions of one cycle use one cross path"
+topic_sentence on.P3 = codes "two accesses of one cycle use one data path"
+topic_sentence on.P4 = codes "the instructions of one cycle read a register more than four times"
+topic_sentence on.P5 = codes "two writes of one register land in one cycle"
+topic_sentence on.OtherSection = codes "this stands in another section than the code"
+topic_sentence on.Padding = codes "this alignment may be padded with cycles that code runs through"
+topic_sentence on.TooManyTargets = codes "a text has at most 256 labels that are named"
+topic_sentence on.NoListing = codes "what is to be checked has no line `---`, and so no listing"
+
+abbrev pub topic_example : Topic → List ℕ
+topic_example on.UnitWanted = codes "ADD A1,A2,A3"
+topic_example on.Shape = codes "add .l1 a1,a2,a3"
+topic_example on.TwoBranches = codes "two lines B .S1 L, one behind the other"
+topic_example on.NotDrained = codes "LDW .D1T1 *A4,A5 as the last line"
+topic_example on.P1 = codes "ADD .L1 A1,A2,A3 and SUB .L1 A4,A5,A6"
+topic_example on.P2 = codes "ADD .L1X A1,B1,A2 and SUB .S1X A3,B3,A4"
+topic_example on.P3 = codes "LDW .D1T1 *A4,A5 and LDW .D2T1 *B4,A6"
+topic_example on.P4 = codes "ADD .L1 A1,A1,A5, MPY .M1 A1,A1,A4 and SUB .S1 A1,A2,A3"
+topic_example on.P5 = codes "MPY .M1 A1,A2,A3, and a cycle later ADD .L1 A4,A5,A3"
+topic_example on.OtherSection = codes "ADD .L1 A1,A2,A3 below .data"
+topic_example on.Padding = codes ".align 6 below MVK .S1 1,A1"
+topic_example _ = []
+
+abbrev pub topic_page : Topic → List ℕ
+topic_page on.UnitWanted = codes "docs/ADOPT.md"
+topic_page on.Shape = codes "docs/LISTING.md"
+topic_page on.TwoBranches = codes "docs/LISTING.md"
+topic_page on.NotDrained = codes "docs/LISTING.md"
+topic_page on.TooManyCycles = codes "docs/ADOPT.md"
+topic_page on.P1 = codes "docs/MACHINE.md"
+topic_page on.P2 = codes "docs/MACHINE.md"
+topic_page on.P3 = codes "docs/MACHINE.md"
+topic_page on.P4 = codes "docs/MACHINE.md"
+topic_page on.P5 = codes "docs/MACHINE.md"
+topic_page on.OtherSection = codes "docs/ADOPT.md"
+topic_page on.Padding = codes "docs/ADOPT.md"
+topic_page on.TooManyTargets = codes "docs/EXEC.md"
+topic_page on.NoListing = codes "docs/CHECK.md"
+
+-- what is said of it
+abbrev pub topic_text : Topic → List ℕ
+topic_text topic = page_of (topic_name topic) (topic_sentence topic) (topic_example topic) (topic_page topic)
+
+-- the fault of a serial text that has this name, in either case
+unfoldable pub known_cause : List ℕ → Option Cause
+known_cause word = find (λ cause. spells (cause_name cause) word) CAUSES
+
+-- the other fault or rule that has this name
+unfoldable pub known_topic : List ℕ → Option Topic
+known_topic word = find (λ topic. spells (topic_name topic) word) TOPICS
+
+-- what is said of a name: none of other words
+abbrev pub page_in : List ℕ → Option (List ℕ)
+page_in word = option_or (option_map cause_page (known_cause word)) (option_map topic_text (known_topic word))

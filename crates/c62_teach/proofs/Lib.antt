@@ -1,0 +1,4 @@
+pub mod Most
+pub mod Listed
+pub mod Refusals
+pub mod Values

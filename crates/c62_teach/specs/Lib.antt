@@ -1,0 +1,4 @@
+pub mod Words
+pub mod Linted
+pub mod Taught
+pub mod Setting

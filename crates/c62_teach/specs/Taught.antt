@@ -1,0 +1,24 @@
+-- What `--explain` tells behind the line that refuses a text (docs/FAULTS.md, "What `--explain` prints").
+use Rattle.std.specs.Prelude.{◌≡◌, ℕ, List, IfErr}
+use Rattle.c62_line.specs.declared.fault.ReadFault.{ReadFault}
+use Rattle.c62_read.specs.Program.{Refusal, program_in}
+use Rattle.c62_lint.specs.Faults.{refusal_of}
+use Rattle.c62_explain.specs.Picture.{Explains}
+use Rattle.c62_command.specs.CommandLine.{Ask, Listing, Picture, SerialReport, PacketReport}
+
+-- this explains the fault that a serial text is refused for
+pub record ExplainsRefusal (name text : List ℕ) (refusal : Refusal) (more : List ℕ) : Type 0 where
+  pub fault : ReadFault
+  pub same : refusal_of fault ≡ refusal
+  pub explains : Explains name text fault more
+
+abbrev pub TeachesSerial : (name text more : List ℕ) → Type 0
+TeachesSerial name text more = IfErr (program_in text) (λ refusal. ExplainsRefusal name text refusal more)
+
+-- What is told of a text that is refused for what is asked of it. Of other texts than serial ones that is left open.
+abbrev pub Teaches : Ask → (name listing text more : List ℕ) → Type 0
+Teaches (Listing packing) name listing text more = TeachesSerial name text more
+Teaches (Picture showing) name listing text more = TeachesSerial name text more
+Teaches (SerialReport blocks settings) name listing text more = TeachesSerial name text more
+Teaches (PacketReport packing blocks settings) name listing text more = TeachesSerial name text more
+Teaches ask name listing text more = Unit {0}

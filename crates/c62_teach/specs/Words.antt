@@ -1,0 +1,86 @@
+-- What the words of `lint` ask for, and which words ask for explanations (docs/FAULTS.md).
+use Rattle.std.specs.Prelude.{ℕ, ℤ, pos, int_le, unsigned_abs, Bool, false, ◌&&◌, ◌||◌, List, [], ◌∷◌, Option, Some, None, option_map, option_and_then, codes, if◌then◌else◌}
+use Rattle.std.specs.List.{flat_map, list_any}
+use Rattle.std.specs.Str.{bytes_eq}
+use Rattle.c62_token.specs.Number.{number_of}
+use Rattle.c62_teach.specs.declared.words.Kind.{Kind}
+use Rattle.c62_teach.specs.declared.words.Kind.TheVariants.{Serial, Listing, Packets}
+use Rattle.c62_teach.specs.declared.words.Linting.{Linting}
+
+abbrev pub Text : Type 0
+Text = List ℕ
+
+-- `lint`
+abbrev pub is_lint : List Text → Bool
+is_lint [] = false
+is_lint (command ∷ words) = bytes_eq command (codes "lint")
+
+-- from 1 to 1,000
+abbrev pub most_by : ℤ → Option ℕ
+most_by z = if int_le (pos 1) z && int_le z (pos 1000) then Some (unsigned_abs z) else None
+
+abbrev pub most_of : Text → Option ℕ
+most_of word = option_and_then most_by (number_of word)
+
+abbrev pub kind_of : Text → Option Kind
+kind_of word =
+    if bytes_eq word (codes "serial") then Some Serial
+    else (if bytes_eq word (codes "listing") then Some Listing
+    else (if bytes_eq word (codes "packets") then Some Packets
+    else None))
+
+abbrev pub with_most : Linting → ℕ → Linting
+with_most linting most = record { kind = linting.kind; most = most }
+
+abbrev pub with_kind : Linting → Kind → Linting
+with_kind linting kind = record { kind = kind; most = linting.most }
+
+-- `--most N`, or `--as KIND`
+abbrev pub changed : Linting → (option value : Text) → Option Linting
+changed linting option value =
+    if bytes_eq option (codes "--most") then option_map (with_most linting) (most_of value)
+    else (if bytes_eq option (codes "--as") then option_map (with_kind linting) (kind_of value)
+    else None)
+
+-- 100 faults of a serial text, where nothing is said
+abbrev pub default : Linting
+default = record { kind = Serial; most = 100 }
+
+-- what is wanted behind a first option: a second one may follow, and of two alike that stands
+abbrev pub behind_first : Linting → List Text → Option Linting
+behind_first linting [] = Some linting
+behind_first linting (option ∷ value ∷ []) = changed linting option value
+behind_first linting _ = None
+
+-- what the words behind `lint` want
+unfoldable pub linting_by : List Text → Option Linting
+linting_by [] = Some default
+linting_by (option ∷ value ∷ words) = option_and_then (λ linting. behind_first linting words) (changed default option value)
+linting_by _ = None
+
+abbrev pub linting_of : List Text → Option Linting
+linting_of [] = None
+linting_of (command ∷ words) = linting_by words
+
+-- ---- `--explain`
+
+-- the commands that read a text
+abbrev pub is_answered : Text → Bool
+is_answered command =
+    bytes_eq command (codes "pack") || bytes_eq command (codes "show") || bytes_eq command (codes "run") || bytes_eq command (codes "serial")
+    || bytes_eq command (codes "sim") || bytes_eq command (codes "exec") || bytes_eq command (codes "adopt") || bytes_eq command (codes "check")
+
+abbrev pub explains : List Text → Bool
+explains words = list_any (λ word. bytes_eq word (codes "--explain")) words
+
+-- a command that reads a text, and `--explain` behind it
+abbrev pub is_explained : List Text → Bool
+is_explained [] = false
+is_explained (command ∷ words) = is_answered command && explains words
+
+abbrev pub plain_word : Text → List Text
+plain_word word = if bytes_eq word (codes "--explain") then [] else word ∷ []
+
+-- the words without it
+abbrev pub plain_words : List Text → List Text
+plain_words words = flat_map plain_word words

@@ -1,0 +1,43 @@
+//! The faults of a text, one a line.
+
+ghost use Rattle.std.specs.Prelude.{◌≤◌, IfOk};
+ghost use Rattle.c62_teach.specs.Linted.{IsLinted, IsLintedSerial};
+
+use crate::words::{Kind, Linting};
+use c62_explain::lint;
+use c62_explain_packets::{Linted, lint_listing, lint_packets};
+use std::alloc::{AllocError, Global};
+
+/// The faults of a serial text that has this name.
+#[tactic(auto, using(crate::proofs::Refusals::linted_by))]
+fn lint_serial(alloc: Global, name: &[u8], text: &[u8], most: usize) -> Result<Linted, AllocError>
+    requires { 1 ≤ most }
+    ensures { IfOk result (λ linted. IsLintedSerial most name.now text.now linted.lines.items linted.faulty) }
+{
+    let lines = lint(alloc, name, text, most)?;
+    Ok(Linted {
+        faulty: !lines.is_empty(),
+        lines,
+    })
+}
+
+/// The faults of a text that has this name, one a line (docs/FAULTS.md, "All faults at once").
+///
+/// # Errors
+///
+/// `AllocError` where memory ran out.
+pub fn lint_text(
+    alloc: Global,
+    linting: Linting,
+    name: &[u8],
+    text: &[u8],
+) -> Result<Linted, AllocError>
+    requires { 1 ≤ linting.most }
+    ensures { IfOk result (λ linted. IsLinted linting name.now text.now linted.lines.items linted.faulty) }
+{
+    match linting.kind {
+        Kind::Serial => lint_serial(alloc, name, text, linting.most),
+        Kind::Listing => lint_listing(alloc, name, text),
+        Kind::Packets => lint_packets(alloc, name, text, linting.most),
+    }
+}

@@ -1,0 +1,76 @@
+//! What is told behind the line that refuses a text.
+
+ghost use Rattle.std.specs.Prelude.{◌≢◌, IfOk};
+ghost use Rattle.c62_command.specs.CommandLine.{ask_of};
+ghost use Rattle.c62_teach.specs.Taught.{Teaches, TeachesSerial};
+
+use crate::other::push_serial_hint;
+use crate::packets::{adopt_taught, check_taught, exec_taught, form_taught};
+use c62_command::{FlightStart, Form, Request};
+use c62_explain::explain;
+use c62_line::Cause;
+use c62_read::read_program;
+use std::alloc::{AllocError, Global};
+
+/// What a text is called, and of a check its listing.
+#[derive(Clone, Copy, PartialEq, Eq, Debug)]
+pub struct Names<'a> {
+    pub text: &'a str,
+    pub listing: &'a str,
+}
+
+/// What explains the fault of a serial text that has this name; nothing where the text has none.
+#[tactic(auto, using(crate::proofs::Refusals::taught_by, crate::proofs::Refusals::taught_more))]
+fn serial_taught(alloc: Global, name: &[u8], text: &[u8]) -> Result<Vec<u8>, AllocError>
+    ensures { IfOk result (λ more. TeachesSerial name.now text.now more.items) }
+{
+    let fault = match read_program(alloc, text) {
+        Ok(_) => return Ok(Vec::new(alloc)),
+        Err(fault) => fault,
+    };
+    if let Cause::Memory = fault.cause {
+        return Err(AllocError);
+    }
+    let mut more = explain(alloc, name, text, fault)?;
+    if fault.line == 0 {
+        return Ok(more);
+    }
+    push_serial_hint(&mut more, alloc, text, fault.line)?;
+    Ok(more)
+}
+
+/// The name of the label with whose row a run begins.
+fn from_of(start: &FlightStart) -> Option<&[u8]> {
+    match &start.from {
+        Some(name) => Some(name),
+        None => None,
+    }
+}
+
+/// What is told behind the line that refuses a text, where that is asked to be explained: where the fault is found, the line with carets
+/// under it, what is wrong, and what helps (docs/FAULTS.md). Nothing where the text isn't refused.
+///
+/// # Errors
+///
+/// `AllocError` where memory ran out.
+pub fn taught(
+    alloc: Global,
+    request: &Request,
+    names: Names<'_>,
+    text: &[u8],
+) -> Result<Vec<u8>, AllocError>
+    ensures { IfOk result (λ more. Teaches (ask_of request.now) names.entry.text.now names.entry.listing.now text.now more.items) }
+{
+    let name = names.text.as_bytes();
+    match request {
+        Request::Pack(_) | Request::Show(_) | Request::Run(_, _) | Request::Serial(_) => {
+            serial_taught(alloc, name, text)
+        }
+        Request::Sim(form, _) => form_taught(alloc, *form, name, text),
+        Request::ShowListing(_) => form_taught(alloc, Form::Listed, name, text),
+        Request::Exec(start) => exec_taught(alloc, name, text, from_of(start)),
+        Request::Adopt(drain) => adopt_taught(alloc, name, text, *drain),
+        Request::ShowPackets(_) => form_taught(alloc, Form::Written, name, text),
+        Request::Check(form) => check_taught(alloc, *form, names, text),
+    }
+}

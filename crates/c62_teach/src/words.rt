@@ -1,0 +1,190 @@
+//! What the words of `lint` ask for, and which words ask for explanations (docs/FAULTS.md).
+
+ghost use Rattle.std.specs.Prelude.{◌≡◌, ◌≤◌, IfOk, IfSome, OnOk, ◌++◌, codes, map, string_bytes};
+ghost use Rattle.std.specs.List.{list_any};
+ghost use Rattle.std.specs.Str.{bytes_eq};
+ghost use Rattle.c62_teach.specs.Words.{behind_first, changed, explains, is_answered, is_explained, is_lint, kind_of, linting_by, linting_of, most_by, most_of, plain_word, plain_words};
+
+use c62_token::number::number;
+use std::alloc::{AllocError, Global};
+
+/// What a text is.
+#[derive(Clone, Copy, PartialEq, Eq, Debug)]
+pub enum Kind {
+    /// Serial text, as `pack` reads it.
+    Serial,
+    /// A listing, as `sim` reads it.
+    Listing,
+    /// Packets as people and compilers write them, as `adopt` reads them.
+    Packets,
+}
+
+/// What is wanted of `lint`.
+#[derive(Clone, Copy, PartialEq, Eq, Debug)]
+pub struct Linting {
+    pub kind: Kind,
+    /// How many faults are told at most, 1 to 1,000.
+    pub most: usize,
+}
+
+/// What is wanted where nothing is said.
+const DEFAULT: Linting = Linting {
+    kind: Kind::Serial,
+    most: 100,
+};
+
+/// Whether the words ask for `lint`.
+pub fn is_lint(words: &[String]) -> bool
+    ensures { result ≡ is_lint (map string_bytes words.now) }
+{
+    match words {
+        [] => false,
+        [command, ..] => command.as_str() == "lint",
+    }
+}
+
+fn most_by(number: i64) -> Option<usize>
+    ensures { result ≡ most_by number }
+{
+    if 1 <= number && number <= 1000 {
+        Some(number as usize)
+    } else {
+        None
+    }
+}
+
+/// How many faults are told at most, where the word says that.
+fn most_of(word: &str) -> Option<usize>
+    ensures { result ≡ most_of word.now }
+{
+    most_by(number(word.as_bytes())?)
+}
+
+/// The kind of text that the word names.
+fn kind_of(word: &str) -> Option<Kind>
+    ensures { result ≡ kind_of word.now }
+{
+    if word == "serial" {
+        Some(Kind::Serial)
+    } else if word == "listing" {
+        Some(Kind::Listing)
+    } else if word == "packets" {
+        Some(Kind::Packets)
+    } else {
+        None
+    }
+}
+
+/// What is wanted behind an option with this value.
+fn changed(linting: Linting, option: &str, value: &str) -> Option<Linting>
+    ensures { result ≡ changed linting option.now value.now }
+{
+    if option == "--most" {
+        Some(Linting {
+            kind: linting.kind,
+            most: most_of(value)?,
+        })
+    } else if option == "--as" {
+        Some(Linting {
+            kind: kind_of(value)?,
+            most: linting.most,
+        })
+    } else {
+        None
+    }
+}
+
+/// What is wanted behind a first option.
+fn behind_first(linting: Linting, words: &[String]) -> Option<Linting>
+    ensures { result ≡ behind_first linting (map string_bytes words.now) }
+{
+    match words {
+        [] => Some(linting),
+        [option, value] => changed(linting, option.as_str(), value.as_str()),
+        _ => None,
+    }
+}
+
+/// What the words behind `lint` want.
+#[tactic(auto, unfolding(crate::specs::Words::linting_by))]
+fn linting_by(words: &[String]) -> Option<Linting>
+    ensures { result ≡ linting_by (map string_bytes words.now) }
+{
+    match words {
+        [] => Some(DEFAULT),
+        [_] => None,
+        [option, value, rest @ ..] => {
+            behind_first(changed(DEFAULT, option.as_str(), value.as_str())?, rest)
+        }
+    }
+}
+
+/// What the words that begin with `lint` want: `--most N` and `--as KIND`, in any order. None for other words.
+pub fn linting_of(words: &[String]) -> Option<Linting>
+    ensures is { result ≡ linting_of (map string_bytes words.now) }
+    ensures most { IfSome result (λ linting. 1 ≤ linting.most) }
+{
+    match words {
+        [] => None,
+        [_, options @ ..] => linting_by(options),
+    }
+}
+
+/// Whether a text is read for this command, and what is told of a fault can be explained.
+fn is_answered(command: &str) -> bool
+    ensures { result ≡ is_answered command.now }
+{
+    command == "pack"
+        || command == "show"
+        || command == "run"
+        || command == "serial"
+        || command == "sim"
+        || command == "exec"
+        || command == "adopt"
+        || command == "check"
+}
+
+/// Whether a word is `--explain`.
+fn has_explain(words: &[String]) -> bool
+    ensures { result ≡ list_any (λ word. bytes_eq (string_bytes word) (codes "--explain")) words.now }
+{
+    words.iter().any(|word| word.as_str() == "--explain")
+}
+
+fn explains(words: &[String]) -> bool
+    ensures { result ≡ explains (map string_bytes words.now) }
+{
+    has_explain(words)
+}
+
+/// Whether the words ask for an explanation of what a text is refused for.
+pub fn is_explained(words: &[String]) -> bool
+    ensures { result ≡ is_explained (map string_bytes words.now) }
+{
+    match words {
+        [] => false,
+        [command, rest @ ..] => is_answered(command.as_str()) && explains(rest),
+    }
+}
+
+/// Adds a word that isn't `--explain`.
+fn push_plain<'a>(plain: &mut Vec<&'a str>, word: &'a str) -> Result<(), AllocError>
+    ensures { OnOk result (map (λ word. word.now) plain.new.items ≡ map (λ word. word.now) plain.old.items ++ plain_word word.entry.now) }
+{
+    if word == "--explain" {
+        Ok(())
+    } else {
+        Ok(plain.push(word)?)
+    }
+}
+
+/// The words without `--explain`.
+pub fn plain_words<'a>(alloc: Global, words: &'a [String]) -> Result<Vec<&'a str>, AllocError>
+    ensures { IfOk result (λ plain. map (λ word. word.now) plain.items ≡ plain_words (map string_bytes words.entry.now)) }
+{
+    let mut plain = Vec::new(alloc);
+    for word in words {
+        push_plain(&mut plain, word.as_str())?;
+    }
+    Ok(plain)
+}
