@@ -7,8 +7,8 @@ use Rattle.c62_token.specs.Number.{are_digits, number_of, spells}
 
 -- `0X` and as many digits as behind `0x`
 abbrev pub capital_of : Word → Option ℤ
-capital_of (zero ∷ x ∷ digits) =
-    if zero == 48 && x == 88 && nat_le (length digits) 8 then number_of (48 ∷ 120 ∷ digits) else None
+capital_of (d ∷ x ∷ digits) =
+    if d == 48 && x == 88 && nat_le (length digits) 8 then number_of (48 ∷ 120 ∷ digits) else None
 capital_of _ = None
 
 -- `0b` and one to 32 digits
@@ -18,7 +18,7 @@ bits_of (d ∷ digits) =
     if nat_le (length digits) 31 && are_digits 2 (d ∷ digits) then Some (pos (digits_value 2 (d ∷ digits))) else None
 
 abbrev pub binary_of : Word → Option ℤ
-binary_of (zero ∷ b ∷ digits) = if zero == 48 && (b == 98 || b == 66) then bits_of digits else None
+binary_of (d ∷ b ∷ digits) = if d == 48 && (b == 98 || b == 66) then bits_of digits else None
 binary_of _ = None
 
 -- the number that a word says
