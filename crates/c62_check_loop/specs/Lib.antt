@@ -1,0 +1,4 @@
+pub mod Region
+pub mod Relined
+pub mod Told
+pub mod Lines
