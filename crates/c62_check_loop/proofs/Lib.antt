@@ -1,1 +1,2 @@
 pub mod Relining
+pub mod Sames

@@ -3,6 +3,7 @@
 
 mod extent;
 mod found;
+pub mod laws;
 mod lines;
 mod region;
 mod relined;
