@@ -2,6 +2,11 @@
 use Rattle.std.proofs.Common.{◌≡◌, ℕ, zero, suc, ◌+◌, ◌<◌, ◌≤◌, List, [], ◌∷◌, length, map, get_or, refl, sym, ◌∙◌, ap, subst, ⊎_elim, arith}
 use Rattle.std.proofs.lemmas.Bool.{cases_lt}
 use Rattle.std.proofs.lemmas.List.{get_or_default}
+use Rattle.std.proofs.lemmas.Simd.{map-map}
+use Rattle.c62_rows.specs.declared.rows.Row.{Row as RowRead}
+use Rattle.c62_rows.specs.declared.rows.Rows.{Rows as RowsRead}
+use Rattle.c62_rows.specs.Rows.{row_read, text_of}
+use Rattle.c62_check_loop.specs.Relined.{row_unlined, AreRelined}
 
 -- at each number below n both give the same
 abbrev pub AreAlike : {A B : Type 0} → (A → B) → List A → List A → ℕ → Type 0
@@ -25,3 +30,15 @@ alike_whole {A} {B} f (x ∷ xs) (y ∷ ys) e h =
     let front : f x ≡ f y = h 0 x y (omega arith) in
     let rest : map f xs ≡ map f ys = alike_whole f xs ys (omega arith) (λ k d q l. h (suc k) d q (omega arith)) in
     ap (λ z. z ∷ map f xs) front ∙ ap (λ zs. f y ∷ zs) rest
+
+-- ---- texts
+
+-- rows one for one, and labels at the same ones
+pub same_text : (text other : RowsRead) (rows others : List RowRead) (aims names : List ℕ) → rows ≡ text.rows.items → others ≡ other.rows.items
+    → aims ≡ text.aims.items → names ≡ other.aims.items → map (λ row. row_unlined (row_read row)) rows ≡ map (λ row. row_unlined (row_read row)) others
+    → aims ≡ names → AreRelined (text_of text) (text_of other)
+same_text text other rows others aims names are_rows are_others are_aims are_names same labels = record {
+  rows = map-map row_unlined row_read text.rows.items ∙ ap (λ xs. map (λ row. row_unlined (row_read row)) xs) (sym are_rows) ∙ same
+      ∙ ap (λ xs. map (λ row. row_unlined (row_read row)) xs) are_others ∙ sym (map-map row_unlined row_read other.rows.items);
+  aims = sym are_aims ∙ labels ∙ are_names;
+}

@@ -1,5 +1,5 @@
 -- What follows where a loop is told to be `same` (docs/CHECK.md, "Pipelined loops").
-use Rattle.std.specs.Prelude.{◌≡◌, ℕ, ◌+◌, ◌^◌, ◌<◌, ◌≤◌, ◌×◌, Bool}
+use Rattle.std.specs.Prelude.{◌≡◌, ℕ, ◌+◌, ◌^◌, ◌<◌, ◌≤◌, Bool}
 use Rattle.c62_insn.specs.declared.insn.Insn.{Insn}
 use Rattle.c62_serial.specs.State.{Machine, IsSound, word_in}
 use Rattle.c62_serial.specs.Serial.{serial}

@@ -48,10 +48,13 @@ abbrev pub straight_of : Option Serial → List SerialInsn
 straight_of None = []
 straight_of (Some block) = straight_in block.insns
 
+abbrev pub unlabelled_in : Option (List ℕ) → List SerialInsn → List SerialInsn
+unlabelled_in None insns = straight_in insns
+unlabelled_in (Some name) insns = []
+
 abbrev pub unlabelled_of : Option Serial → List SerialInsn
 unlabelled_of None = []
-unlabelled_of (Some (record { label = None; insns = insns })) = straight_in insns
-unlabelled_of (Some (record { label = Some name; insns = insns })) = []
+unlabelled_of (Some block) = unlabelled_in block.label block.insns
 
 -- what leads to the block of this number: the block above, where it has no branch
 abbrev pub above : List Serial → ℕ → List SerialInsn

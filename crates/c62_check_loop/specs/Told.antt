@@ -1,5 +1,5 @@
 -- What `same` says (docs/CHECK.md, "How it is decided").
-use Rattle.std.specs.Prelude.{◌≡◌, ℕ, ◌+◌, ◌×◌, Bool, List, Unit, Option, Some, None}
+use Rattle.std.specs.Prelude.{◌≡◌, ℕ, ◌+◌, Bool, List, Option, Some, None}
 use Rattle.c62_insn.specs.declared.insn.Insn.{Insn}
 use Rattle.c62_read.specs.Block.{Serial}
 use Rattle.c62_flight.specs.Text.{Text}

@@ -1,7 +1,7 @@
 //! The line of a loop (docs/CHECK.md, "How it is decided").
 
 ghost use Rattle.std.specs.Prelude.{◌≡◌, ◌++◌, OnOk, decimal};
-ghost use Rattle.c62_check_loop.specs.Lines.{words_of, loop_line};
+ghost use Rattle.c62_check_loop.specs.Lines.{same_words, words_of, loop_line};
 
 use crate::verdict::LoopVerdict;
 use c62_line::Label;
@@ -17,6 +17,14 @@ fn push_number(out: &mut Vec<u8>, word: &[u8], number: u32) -> Result<(), AllocE
     out.extend_from_slice(buffer.format(number).as_bytes())
 }
 
+/// Adds from how many trips on the packets do the same, and in how many cycles a trip.
+fn push_same(out: &mut Vec<u8>, trips: u32, cycles: u32) -> Result<(), AllocError>
+    ensures { OnOk result (out.new.items ≡ out.old.items ++ same_words trips cycles) }
+{
+    push_number(out, b" same from ", trips)?;
+    push_number(out, b" trips cycles ", cycles)
+}
+
 /// Adds what is told of a loop.
 #[tactic(auto, unfolding(crate::specs::Lines::words_of))]
 fn push_words(out: &mut Vec<u8>, verdict: LoopVerdict) -> Result<(), AllocError>
@@ -24,8 +32,7 @@ fn push_words(out: &mut Vec<u8>, verdict: LoopVerdict) -> Result<(), AllocError>
 {
     match verdict {
         LoopVerdict::Same { trips, cycles } => {
-            push_number(out, b" same from ", u32::from(trips))?;
-            push_number(out, b" trips cycles ", u32::from(cycles))
+            push_same(out, u32::from(trips), u32::from(cycles))
         }
         LoopVerdict::Missing(line) => push_number(out, b" missing ", line),
         LoopVerdict::Extra(line) => push_number(out, b" extra ", line),

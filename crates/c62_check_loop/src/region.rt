@@ -1,10 +1,10 @@
 //! Loops of a program that count down (docs/CHECK.md, "How it is decided").
 
-ghost use Rattle.std.specs.Prelude.{◌≡◌, IfOk, None};
+ghost use Rattle.std.specs.Prelude.{◌≡◌, IfOk, None, slice_get};
 ghost use Rattle.std.specs.Option.{option_copied};
 ghost use Rattle.c62_insn.specs.Insn.{operands_of, cond_of};
 ghost use Rattle.c62_loop_match.specs.Parts.{region_of as region_read};
-ghost use Rattle.c62_check_loop.specs.Region.{tested, tested_by, counter_in, counter_of, last_of, is_branch_entry, straight_in, straight_of, unlabelled_of, above, below, FindsRegion};
+ghost use Rattle.c62_check_loop.specs.Region.{tested, tested_by, counter_in, counter_of, last_of, is_branch_entry, straight_in, straight_of, unlabelled_in, unlabelled_of, above, below, FindsRegion};
 
 use c62_insn::{Insn, Operands, Reg};
 use c62_loop_match::Region;
@@ -59,26 +59,48 @@ fn straight_in(alloc: Global, insns: &[SerialInsn]) -> Result<Vec<SerialInsn>, A
     }
 }
 
-/// The instructions above a loop's block, where they lead to it.
-fn above(alloc: Global, blocks: &[Block], number: u8) -> Result<Vec<SerialInsn>, AllocError>
-    ensures { IfOk result (λ straight. straight.items ≡ above blocks.now number) }
+/// The instructions of the block of this number, and none where there is no such block or it ends with a branch.
+fn straight_at(
+    alloc: Global,
+    blocks: &[Block],
+    number: usize,
+) -> Result<Vec<SerialInsn>, AllocError>
+    ensures { IfOk result (λ straight. straight.items ≡ straight_of (slice_get blocks.now number)) }
 {
-    if number == 0 {
-        return Ok(Vec::new(alloc));
-    }
-    match blocks.get(usize::from(number) - 1) {
+    match blocks.get(number) {
         Some(block) => straight_in(alloc, block.insns()),
         None => Ok(Vec::new(alloc)),
     }
 }
 
-/// Those below it, up to the next label.
+/// The instructions above a loop's block, where they lead to it.
+fn above(alloc: Global, blocks: &[Block], number: u8) -> Result<Vec<SerialInsn>, AllocError>
+    ensures { IfOk result (λ straight. straight.items ≡ above blocks.now number) }
+{
+    if number == 0 {
+        Ok(Vec::new(alloc))
+    } else {
+        straight_at(alloc, blocks, usize::from(number) - 1)
+    }
+}
+
+/// The instructions of a block without a label, and none of one with a label.
+fn unlabelled_in(alloc: Global, block: &Block) -> Result<Vec<SerialInsn>, AllocError>
+    ensures { IfOk result (λ straight. straight.items ≡ unlabelled_in block.now.label block.now.insns) }
+{
+    match block.label() {
+        None => straight_in(alloc, block.insns()),
+        Some(_) => Ok(Vec::new(alloc)),
+    }
+}
+
+/// Those below a loop's block, up to the next label.
 fn below(alloc: Global, blocks: &[Block], number: u8) -> Result<Vec<SerialInsn>, AllocError>
     ensures { IfOk result (λ straight. straight.items ≡ below blocks.now number) }
 {
     match blocks.get(usize::from(number) + 1) {
-        Some(block) if block.label().is_none() => straight_in(alloc, block.insns()),
-        _ => Ok(Vec::new(alloc)),
+        Some(block) => unlabelled_in(alloc, block),
+        None => Ok(Vec::new(alloc)),
     }
 }
 

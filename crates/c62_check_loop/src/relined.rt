@@ -52,9 +52,16 @@ fn are_same_rows(rows: &[Row], others: &[Row]) -> bool
     true
 }
 
+/// Whether these labels name the rows of the others.
+fn are_same_aims(aims: &[u32], others: &[u32]) -> bool
+    ensures { OnTrue result (aims.now ≡ others.now) }
+{
+    aims == others
+}
+
 /// Whether both are the same packets, whatever lines these have, with labels at the same rows.
 pub(crate) fn are_relined(rows: &Rows, others: &Rows) -> bool
     ensures { OnTrue result (AreRelined (text_of rows.now) (text_of others.now)) }
 {
-    rows.aims.as_slice() == others.aims.as_slice() && are_same_rows(&rows.rows, &others.rows)
+    are_same_aims(&rows.aims, &others.aims) && are_same_rows(&rows.rows, &others.rows)
 }

@@ -57,7 +57,9 @@ pub(crate) fn seats_of(
                 taken: false,
             })?;
         }
-        let next = u64::from(end) + u64::from(of_row.idle) + 1;
+        let next = u64::from(end)
+            .saturating_add(u64::from(of_row.idle))
+            .saturating_add(1);
         let Ok(fitting) = u16::try_from(next) else {
             return Ok(None);
         };
