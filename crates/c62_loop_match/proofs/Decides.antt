@@ -165,3 +165,8 @@ pub answered : (promised : Insn → Insn → Bool) (region : Region) (loop : Pip
 answered promised region loop most layout works schedule control laid work fits steering holds (Ok kept) keeps =
     OnTrue_from kept (IsPipelining promised region loop most) (λ t. pipelines promised region loop most layout works schedule control laid work fits steering holds (OnTrue_at t keeps))
 answered promised region loop most layout works schedule control laid work fits steering holds (Err failed) keeps = keeps
+
+-- what holds anyway holds where the answer is true
+pub holding : (kept : Result Bool AllocError) (P : Type 0) → P → IfOk kept (λ same. OnTrue same P)
+holding (Ok kept) P p = OnTrue_from kept P (λ t. p)
+holding (Err e) P p = tt

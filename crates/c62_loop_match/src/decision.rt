@@ -4,7 +4,7 @@ ghost use Rattle.std.specs.Prelude.{◌≡◌, ◌++◌, map, IfOk, IfSome, Matc
 ghost use Rattle.std.specs.Bool.{OnTrue};
 ghost use Rattle.std.specs.List.{flat_map};
 ghost use Rattle.c62_loop.specs.Counter.{work_of};
-ghost use Rattle.c62_loop.specs.Loop.{IsCountedLoop, IsPipelined};
+ghost use Rattle.c62_loop.specs.Loop.{IsCountedLoop, IsPipelined, interval};
 ghost use Rattle.c62_loop.specs.Whole.{IsPipelining};
 ghost use Rattle.c62_loop_match.specs.Parts.{region_of, loop_of, schedule_of, control_of, stage_of};
 ghost use Rattle.c62_loop_match.specs.Promise.{promises};
@@ -266,7 +266,8 @@ fn is_pipelining(
     promise: Promise,
     most: u8,
 ) -> Result<bool, AllocError>
-    ensures { IfOk result (λ same. OnTrue same (IsPipelining (promises promise) (region_of region.now) (loop_of pipelined.now) most)) }
+    ensures same { IfOk result (λ same. OnTrue same (IsPipelining (promises promise) (region_of region.now) (loop_of pipelined.now) most)) }
+    ensures interval { IfOk result (λ same. OnTrue same (schedule.now.interval ≡ interval (loop_of pipelined.now))) }
 {
     let Some(layout) = layout_of(alloc, pipelined)? else {
         return Ok(false);
@@ -289,7 +290,8 @@ fn is_pipelining(
     keeps(alloc, &works, schedule, promise, most)
 }
 
-/// Whether the loop counts, the rows are those of packets of it, and these pipeline it, where this stands so in them.
+/// Whether the loop counts, the rows are those of packets of it, and these pipeline it, where this stands so in them. A pass of the
+/// kernel then takes the schedule's interval.
 ///
 /// # Errors
 ///
@@ -303,7 +305,8 @@ pub fn decide(
     promise: Promise,
     most: u8,
 ) -> Result<bool, AllocError>
-    ensures { IfOk result (λ same. OnTrue same (Decided (promises promise) (region_of region.now) (loop_of pipelined.now) most)) }
+    ensures same { IfOk result (λ same. OnTrue same (Decided (promises promise) (region_of region.now) (loop_of pipelined.now) most)) }
+    ensures interval { IfOk result (λ same. OnTrue same (schedule.now.interval ≡ interval (loop_of pipelined.now))) }
 {
     if !is_counted_loop(region) {
         return Ok(false);

@@ -1,0 +1,2 @@
+pub mod Relining
+pub mod Sames

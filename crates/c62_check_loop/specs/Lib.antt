@@ -1,0 +1,5 @@
+pub mod Region
+pub mod Relined
+pub mod Told
+pub mod Lines
+pub mod Laws

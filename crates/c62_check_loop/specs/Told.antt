@@ -1,0 +1,31 @@
+-- What `same` says (docs/CHECK.md, "How it is decided").
+use Rattle.std.specs.Prelude.{◌≡◌, ℕ, ◌+◌, Bool, List, Option, Some, None}
+use Rattle.c62_insn.specs.declared.insn.Insn.{Insn}
+use Rattle.c62_read.specs.Block.{Serial}
+use Rattle.c62_flight.specs.Text.{Text}
+use Rattle.c62_loop.specs.Loop.{Region, Pipelined, interval}
+use Rattle.c62_loop_match.specs.Decide.{Decided}
+use Rattle.c62_check_loop.specs.declared.verdict.LoopVerdict.{LoopVerdict}
+use Rattle.c62_check_loop.specs.declared.verdict.LoopVerdict.TheVariants.{Same}
+use Rattle.c62_check_loop.specs.Region.{IsRegionOf, counter_of}
+use Rattle.c62_check_loop.specs.Relined.{AreRelined}
+
+-- Rows of these packets, under the lines of the serial text, pipeline the loop: from so many trips on they do what it does, as
+-- `pipelined_for_all_trips` of c62_loop says. A pass of their kernel takes so many cycles.
+pub record IsSame (promised : Insn → Insn → Bool) (region : Region) (packets : Text) (trips cycles : ℕ) : Type 0 where
+  pub loop : Pipelined
+  pub most : ℕ
+  pub relined : AreRelined packets loop.text
+  pub trips_are : trips ≡ most + 1
+  pub cycles_are : cycles ≡ interval loop
+  pub decided : Decided promised region loop most
+
+-- what is told of a loop holds
+abbrev pub Tells : (Insn → Insn → Bool) → Region → Text → LoopVerdict → Type 0
+Tells promised region packets (Same trips cycles) = IsSame promised region packets trips cycles
+Tells promised region packets verdict = Unit {0}
+
+-- it is told of each block that ends with a branch to itself under a counter, and of no other
+abbrev pub IsTold : (Insn → Insn → Bool) → List Serial → ℕ → Text → Option LoopVerdict → Type 0
+IsTold promised blocks number packets None = counter_of blocks number ≡ None
+IsTold promised blocks number packets (Some verdict) = (region : Region) × IsRegionOf blocks number region × Tells promised region packets verdict

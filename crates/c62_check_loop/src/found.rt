@@ -1,0 +1,284 @@
+//! Which instructions of the packets stand for which of the loop.
+
+use crate::extent::Extent;
+use crate::seats::{Seat, Seats, seats_of, take_all, take_first, take_last};
+use c62_insn::Reg;
+use c62_loop_match::{Control, Pipelined, Region, Schedule, Stage, touches};
+use c62_packet::Placed;
+use c62_read::SerialInsn;
+use c62_rows::{Row, Rows};
+use std::alloc::{AllocError, Global};
+
+/// What stands where.
+#[derive(Drop)]
+pub(crate) struct Match {
+    pub pipelined: Pipelined,
+    pub schedule: Schedule,
+    pub control: Control,
+    /// How many iterations prolog and epilog hold.
+    pub most: u8,
+}
+
+/// What is found of a loop in packets.
+#[derive(Drop)]
+pub(crate) enum Found {
+    Whole(Match),
+    /// They lack an instruction of this line of the text.
+    Missing(u32),
+    /// The loop lacks the instruction of this line of the packets.
+    Extra(u32),
+    /// Prolog and epilog hold other iterations of the instruction of this line than of the first.
+    Uneven(u32),
+    /// A cycle or a number of iterations is too great.
+    TooLong,
+}
+
+fn entry_of(placed: &Placed) -> SerialInsn {
+    SerialInsn {
+        insn: placed.insn,
+        line: placed.line,
+    }
+}
+
+/// The rows again.
+fn copied(alloc: Global, rows: &Rows) -> Result<Rows, AllocError> {
+    let mut copies = Vec::with_capacity(alloc, rows.rows.len())?;
+    for row in &rows.rows {
+        copies.push(Row {
+            insns: Vec::from_slice(alloc, &row.insns)?,
+            idle: row.idle,
+        })?;
+    }
+    Ok(Rows {
+        rows: copies,
+        aims: Vec::from_slice(alloc, &rows.aims)?,
+    })
+}
+
+/// The line of the first that is free and no control.
+fn first_other(seats: &[Seat], counter: Reg) -> Option<u32> {
+    for seat in seats {
+        if !seat.taken && !touches(counter, &entry_of(&seat.placed)) {
+            return Some(seat.placed.line);
+        }
+    }
+    None
+}
+
+/// The free ones that touch the counter, in the order of their cycles, and in a cycle branches before steps.
+fn control_in(alloc: Global, seats: &[Seat], counter: Reg) -> Result<Vec<Placed>, AllocError> {
+    let mut control: Vec<Placed> = Vec::new(alloc);
+    for seat in seats {
+        if !seat.taken && touches(counter, &entry_of(&seat.placed)) {
+            let cycle = seat.placed.cycle;
+            let before = control.iter().position(|each| each.cycle == cycle);
+            match before {
+                Some(place) if seat.placed.insn.op().is_branch() => control.insert(
+                    place,
+                    seat.placed,
+                )?,
+                _ => control.push(seat.placed)?,
+            }
+        }
+    }
+    Ok(control)
+}
+
+/// The parts of a loop's packets.
+#[derive(Drop)]
+struct Parts {
+    rows: Rows,
+    prolog: Seats,
+    kernel: Seats,
+    epilog: Seats,
+}
+
+fn parts_of(alloc: Global, rows: &Rows, extent: Extent) -> Result<Option<Parts>, AllocError> {
+    let Some(prolog) = seats_of(alloc, rows, extent.first, extent.kernel, 0)? else {
+        return Ok(None);
+    };
+    let Some(kernel) = seats_of(alloc, rows, extent.kernel, extent.epilog, prolog.end)? else {
+        return Ok(None);
+    };
+    let Some(epilog) = seats_of(alloc, rows, extent.epilog, extent.last, prolog.end)? else {
+        return Ok(None);
+    };
+    Ok(Some(Parts {
+        rows: copied(alloc, rows)?,
+        prolog,
+        kernel,
+        epilog,
+    }))
+}
+
+/// Takes what stands before the loop from the prolog. An error is the line of one that is missing.
+fn take_before(
+    alloc: Global,
+    parts: &mut Parts,
+    counter: Reg,
+    entries: &[SerialInsn],
+) -> Result<Result<Vec<Placed>, u32>, AllocError> {
+    let mut before = Vec::new(alloc);
+    for entry in entries {
+        if !touches(counter, entry) {
+            match take_first(&mut parts.prolog.seats, &mut parts.rows, entry) {
+                Some(placed) => before.push(placed)?,
+                None => return Ok(Err(entry.line)),
+            }
+        }
+    }
+    Ok(Ok(before))
+}
+
+/// Takes what stands behind the loop from the epilog, the last first.
+fn take_behind(
+    alloc: Global,
+    parts: &mut Parts,
+    counter: Reg,
+    entries: &[SerialInsn],
+) -> Result<Result<Vec<Placed>, u32>, AllocError> {
+    let mut behind = Vec::new(alloc);
+    for entry in entries.iter().rev() {
+        if !touches(counter, entry) {
+            match take_last(&mut parts.epilog.seats, &mut parts.rows, entry) {
+                Some(placed) => behind.insert(0, placed)?,
+                None => return Ok(Err(entry.line)),
+            }
+        }
+    }
+    Ok(Ok(behind))
+}
+
+/// Takes the instances of the loop's instructions.
+fn take_stages(
+    alloc: Global,
+    parts: &mut Parts,
+    counter: Reg,
+    entries: &[SerialInsn],
+) -> Result<Result<Vec<Stage>, u32>, AllocError> {
+    let mut stages = Vec::new(alloc);
+    for entry in entries {
+        if !touches(counter, entry) {
+            let Some(kernel) = take_first(&mut parts.kernel.seats, &mut parts.rows, entry) else {
+                return Ok(Err(entry.line));
+            };
+            let early = take_all(alloc, &mut parts.prolog.seats, &mut parts.rows, entry)?;
+            let late = take_all(alloc, &mut parts.epilog.seats, &mut parts.rows, entry)?;
+            stages.push(Stage {
+                early,
+                kernel,
+                late,
+            })?;
+        }
+    }
+    Ok(Ok(stages))
+}
+
+/// How many iterations prolog and epilog hold of an instruction.
+fn held(stage: &Stage) -> usize {
+    stage.early.len().saturating_add(stage.late.len())
+}
+
+/// How many they hold of each, or the line of the first of which they hold others.
+fn most_of(stages: &[Stage]) -> Result<usize, u32> {
+    let most = match stages.first() {
+        Some(stage) => held(stage),
+        None => 0,
+    };
+    for stage in stages {
+        if held(stage) != most {
+            return Err(stage.kernel.line);
+        }
+    }
+    Ok(most)
+}
+
+/// The line of the first instruction of the packets that stands for none of the loop and doesn't count.
+fn extra_in(parts: &Parts, counter: Reg) -> Option<u32> {
+    if let Some(line) = first_other(&parts.prolog.seats, counter) {
+        return Some(line);
+    }
+    if let Some(line) = first_other(&parts.kernel.seats, counter) {
+        return Some(line);
+    }
+    for seat in &parts.epilog.seats {
+        if !seat.taken {
+            return Some(seat.placed.line);
+        }
+    }
+    None
+}
+
+/// What is found where each instruction of the loop is.
+fn gathered(
+    alloc: Global,
+    parts: Parts,
+    schedule: Schedule,
+    counter: Reg,
+    extent: Extent,
+) -> Result<Found, AllocError> {
+    let most = match most_of(&schedule.stages) {
+        Ok(most) => most,
+        Err(line) => return Ok(Found::Uneven(line)),
+    };
+    let Ok(most) = u8::try_from(most) else {
+        return Ok(Found::TooLong);
+    };
+    if let Some(line) = extra_in(&parts, counter) {
+        return Ok(Found::Extra(line));
+    }
+    let control = Control {
+        early: control_in(alloc, &parts.prolog.seats, counter)?,
+        kernel: control_in(alloc, &parts.kernel.seats, counter)?,
+    };
+    let pipelined = Pipelined {
+        rows: parts.rows,
+        first: extent.first,
+        prolog: extent.kernel.saturating_sub(extent.first),
+        kernel: extent.epilog.saturating_sub(extent.kernel),
+        epilog: extent.last.saturating_sub(extent.epilog),
+        label: extent.label,
+    };
+    Ok(Found::Whole(Match {
+        pipelined,
+        schedule,
+        control,
+        most,
+    }))
+}
+
+/// The region's instructions, found again in the rows of a loop: the first of those that are the same is that of the first iteration.
+///
+/// # Errors
+///
+/// `AllocError` where memory ran out.
+pub(crate) fn find(
+    alloc: Global,
+    region: &Region,
+    rows: &Rows,
+    extent: Extent,
+) -> Result<Found, AllocError> {
+    let Some(mut parts) = parts_of(alloc, rows, extent)? else {
+        return Ok(Found::TooLong);
+    };
+    let before = match take_before(alloc, &mut parts, region.counter, &region.before)? {
+        Ok(before) => before,
+        Err(line) => return Ok(Found::Missing(line)),
+    };
+    let behind = match take_behind(alloc, &mut parts, region.counter, &region.behind)? {
+        Ok(behind) => behind,
+        Err(line) => return Ok(Found::Missing(line)),
+    };
+    let stages = match take_stages(alloc, &mut parts, region.counter, &region.body)? {
+        Ok(stages) => stages,
+        Err(line) => return Ok(Found::Missing(line)),
+    };
+    let interval = parts.kernel.end.saturating_sub(parts.prolog.end);
+    let schedule = Schedule {
+        before,
+        stages,
+        behind,
+        interval,
+    };
+    gathered(alloc, parts, schedule, region.counter, extent)
+}

@@ -1,0 +1,17 @@
+//! Finds the loops of a serial text again in software pipelined packets, and says whether these do the same.
+#![tactic(auto)]
+
+mod extent;
+mod found;
+pub mod laws;
+mod lines;
+mod region;
+mod relined;
+mod seats;
+mod verdict;
+
+pub use lines::push_loop;
+pub use verdict::{LoopVerdict, check_loop};
+
+#[cfg(test)]
+mod tests;

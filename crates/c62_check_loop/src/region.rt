@@ -1,0 +1,133 @@
+//! Loops of a program that count down (docs/CHECK.md, "How it is decided").
+
+ghost use Rattle.std.specs.Prelude.{◌≡◌, IfOk, None, slice_get};
+ghost use Rattle.std.specs.Option.{option_copied};
+ghost use Rattle.c62_insn.specs.Insn.{operands_of, cond_of};
+ghost use Rattle.c62_loop_match.specs.Parts.{region_of as region_read};
+ghost use Rattle.c62_check_loop.specs.Region.{tested, tested_by, counter_in, counter_of, last_of, is_branch_entry, straight_in, straight_of, unlabelled_in, unlabelled_of, above, below, FindsRegion};
+
+use c62_insn::{Insn, Operands, Reg};
+use c62_loop_match::Region;
+use c62_read::{Block, SerialInsn};
+use std::alloc::{AllocError, Global};
+
+/// The register that a branch to the block of this number tests, where it goes while that isn't 0.
+fn tested(number: u8, insn: Insn) -> Option<Reg>
+    ensures { result ≡ tested number (operands_of insn) (cond_of insn) }
+{
+    match (insn.operands(), insn.cond()) {
+        (Operands::Block(target), Some(cond)) if target == number && !cond.negated => Some(
+            cond.reg,
+        ),
+        _ => None,
+    }
+}
+
+fn last_of(insns: &[SerialInsn]) -> Option<SerialInsn>
+    ensures { result ≡ last_of insns.now }
+{
+    insns.last().copied()
+}
+
+/// The register that the last instruction of a block tests, where that is a branch to the block itself which goes while the register
+/// isn't 0.
+fn counter_of(blocks: &[Block], number: u8) -> Option<Reg>
+    ensures { result ≡ counter_of blocks.now number }
+{
+    let block = blocks.get(usize::from(number))?;
+    tested(number, last_of(block.insns())?.insn)
+}
+
+/// Whether a block ends with a branch.
+fn ends_with_branch(insns: &[SerialInsn]) -> bool
+    ensures { result ≡ is_branch_entry (last_of insns.now) }
+{
+    match last_of(insns) {
+        Some(last) => last.insn.op().is_branch(),
+        None => false,
+    }
+}
+
+/// The instructions of a block, and none where it ends with a branch.
+fn straight_in(alloc: Global, insns: &[SerialInsn]) -> Result<Vec<SerialInsn>, AllocError>
+    ensures { IfOk result (λ straight. straight.items ≡ straight_in insns.now) }
+{
+    if ends_with_branch(insns) {
+        Ok(Vec::new(alloc))
+    } else {
+        Vec::from_slice(alloc, insns)
+    }
+}
+
+/// The instructions of the block of this number, and none where there is no such block or it ends with a branch.
+fn straight_at(
+    alloc: Global,
+    blocks: &[Block],
+    number: usize,
+) -> Result<Vec<SerialInsn>, AllocError>
+    ensures { IfOk result (λ straight. straight.items ≡ straight_of (slice_get blocks.now number)) }
+{
+    match blocks.get(number) {
+        Some(block) => straight_in(alloc, block.insns()),
+        None => Ok(Vec::new(alloc)),
+    }
+}
+
+/// The instructions above a loop's block, where they lead to it.
+fn above(alloc: Global, blocks: &[Block], number: u8) -> Result<Vec<SerialInsn>, AllocError>
+    ensures { IfOk result (λ straight. straight.items ≡ above blocks.now number) }
+{
+    if number == 0 {
+        Ok(Vec::new(alloc))
+    } else {
+        straight_at(alloc, blocks, usize::from(number) - 1)
+    }
+}
+
+/// The instructions of a block without a label, and none of one with a label.
+fn unlabelled_in(alloc: Global, block: &Block) -> Result<Vec<SerialInsn>, AllocError>
+    ensures { IfOk result (λ straight. straight.items ≡ unlabelled_in block.now.label block.now.insns) }
+{
+    match block.label() {
+        None => straight_in(alloc, block.insns()),
+        Some(_) => Ok(Vec::new(alloc)),
+    }
+}
+
+/// Those below a loop's block, up to the next label.
+fn below(alloc: Global, blocks: &[Block], number: u8) -> Result<Vec<SerialInsn>, AllocError>
+    ensures { IfOk result (λ straight. straight.items ≡ below blocks.now number) }
+{
+    match blocks.get(usize::from(number) + 1) {
+        Some(block) => unlabelled_in(alloc, block),
+        None => Ok(Vec::new(alloc)),
+    }
+}
+
+/// The region of a loop: its block, and the straight instructions that lead to it and stand behind it. `None` where the block is no
+/// loop under a counter.
+///
+/// # Errors
+///
+/// `AllocError` where memory ran out.
+pub(crate) fn region_of(
+    alloc: Global,
+    blocks: &[Block],
+    number: u8,
+) -> Result<Option<Region>, AllocError>
+    ensures { IfOk result (FindsRegion blocks.now number) }
+{
+    let Some(counter) = counter_of(blocks, number) else {
+        return Ok(None);
+    };
+    let Some(block) = blocks.get(usize::from(number)) else {
+        return Ok(None);
+    };
+    Ok(Some(Region {
+        before: above(alloc, blocks, number)?,
+        body: Vec::from_slice(alloc, block.insns())?,
+        behind: below(alloc, blocks, number)?,
+        counter,
+        number,
+    }))
+}

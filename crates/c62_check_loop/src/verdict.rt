@@ -1,0 +1,146 @@
+//! What is told of a loop and packets (docs/CHECK.md, "How it is decided").
+
+ghost use Rattle.std.specs.Prelude.{◌+◌, IfOk};
+ghost use Rattle.std.specs.Bool.{OnTrue};
+ghost use Rattle.c62_rows.specs.Rows.{text_of};
+ghost use Rattle.c62_loop_match.specs.Parts.{region_of as region_read};
+ghost use Rattle.c62_loop_match.specs.Promise.{promises};
+ghost use Rattle.c62_check_loop.specs.Told.{IsSame, Tells, IsTold};
+
+use crate::extent::extent_of;
+use crate::found::{Found, Match, find};
+use crate::region::region_of;
+use crate::relined::are_relined;
+use c62_loop_match::{Promise, Region, decide, is_counted_loop, touches};
+use c62_read::Block;
+use c62_rows::{Rows, RowsText};
+use std::alloc::{AllocError, Global};
+
+/// What is told of a loop of a text and packets.
+#[derive(Clone, Copy, PartialEq, Eq, Debug)]
+pub enum LoopVerdict {
+    /// The packets do what the loop does, from so many trips on, in so many cycles a trip.
+    Same { trips: u16, cycles: u16 },
+    /// They lack an instruction of this line of the text.
+    Missing(u32),
+    /// The loop lacks the instruction of this line of the packets.
+    Extra(u32),
+    /// Prolog and epilog hold other iterations of the instruction of this line of the text than of the first.
+    Uneven(u32),
+    /// The block of this line of the text doesn't count down to its branch.
+    Counter(u32),
+    /// What is found is not enough to say so: distances, or steps and branches, are others.
+    Outside,
+}
+
+/// How many instructions of a block are work.
+fn work_in(region: &Region) -> usize {
+    region
+        .body
+        .iter()
+        .filter(|entry| !touches(region.counter, entry))
+        .count()
+}
+
+/// The line of the branch of a loop.
+fn last_line(region: &Region) -> u32 {
+    match region.body.last() {
+        Some(last) => last.line,
+        None => 0,
+    }
+}
+
+/// Whether what was found does what the loop does: it is of these packets, and `decide` says so.
+fn is_same(
+    alloc: Global,
+    region: &Region,
+    rows: &Rows,
+    found: &Match,
+    promise: Promise,
+) -> Result<bool, AllocError>
+    ensures { IfOk result (λ same. OnTrue same
+        (IsSame (promises promise) (region_read region.now) (text_of rows.now) (found.now.most + 1) found.now.schedule.interval)) }
+{
+    if !are_relined(rows, &found.pipelined.rows) {
+        return Ok(false);
+    }
+    decide(
+        alloc,
+        region,
+        &found.pipelined,
+        &found.schedule,
+        &found.control,
+        promise,
+        found.most,
+    )
+}
+
+/// What is told of a match.
+fn judged(
+    alloc: Global,
+    region: &Region,
+    rows: &Rows,
+    found: &Match,
+    promise: Promise,
+) -> Result<LoopVerdict, AllocError>
+    ensures { IfOk result (Tells (promises promise) (region_read region.now) (text_of rows.now)) }
+{
+    if is_same(alloc, region, rows, found, promise)? {
+        return Ok(LoopVerdict::Same {
+            trips: u16::from(found.most) + 1,
+            cycles: found.schedule.interval,
+        });
+    }
+    if is_counted_loop(region) {
+        Ok(LoopVerdict::Outside)
+    } else {
+        Ok(LoopVerdict::Counter(last_line(region)))
+    }
+}
+
+/// What is told of a loop and the rows of its label.
+fn told(
+    alloc: Global,
+    blocks: &[Block],
+    region: &Region,
+    read: &RowsText,
+    promise: Promise,
+) -> Result<LoopVerdict, AllocError>
+    ensures { IfOk result (Tells (promises promise) (region_read region.now) (text_of read.now.rows)) }
+{
+    let work = work_in(region);
+    let Some(extent) = extent_of(alloc, blocks, region.number, read, region.counter, work)? else {
+        return Ok(LoopVerdict::Outside);
+    };
+    match find(alloc, region, &read.rows, extent)? {
+        Found::Whole(found) => judged(alloc, region, &read.rows, &found, promise),
+        Found::Missing(line) => Ok(LoopVerdict::Missing(line)),
+        Found::Extra(line) => Ok(LoopVerdict::Extra(line)),
+        Found::Uneven(line) => Ok(LoopVerdict::Uneven(line)),
+        Found::TooLong => Ok(LoopVerdict::Outside),
+    }
+}
+
+/// What is told of the loop of the block of this number, and nothing where the block doesn't end with a branch to itself that goes
+/// while a register, its counter, isn't 0.
+///
+/// `same` is told only where the packets do what the loop does, with the straight instructions around it, from every sound machine of
+/// which the promise holds and whose counter is at least the trips that are told.
+///
+/// # Errors
+///
+/// `AllocError` where memory ran out.
+pub fn check_loop(
+    alloc: Global,
+    blocks: &[Block],
+    number: u8,
+    read: &RowsText,
+    promise: Promise,
+) -> Result<Option<LoopVerdict>, AllocError>
+    ensures { IfOk result (IsTold (promises promise) blocks.now number (text_of read.now.rows)) }
+{
+    match region_of(alloc, blocks, number)? {
+        Some(region) => Ok(Some(told(alloc, blocks, &region, read, promise)?)),
+        None => Ok(None),
+    }
+}
