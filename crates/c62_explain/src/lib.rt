@@ -12,7 +12,7 @@ mod topic;
 
 pub use help::{line_help, push_hint};
 pub use lines::{MOST_FAULTS, explain, line_at, lint};
-pub use picture::push_picture;
+pub use picture::{push_blanks, push_picture, push_position};
 pub use sentence::sentence as sentence_of;
 pub use topic::page;
 

@@ -66,8 +66,12 @@ fn push_shown(out: &mut Vec<u8>, line: &[u8]) -> Result<(), AllocError>
     push_allowed(out, &line[..MOST_SHOWN.min(line.len())])
 }
 
-/// Blanks as wide as these bytes.
-fn push_blanks(out: &mut Vec<u8>, bytes: &[u8]) -> Result<(), AllocError>
+/// Adds blanks as wide as these bytes: a tab for a tab, and a space for any other byte.
+///
+/// # Errors
+///
+/// `AllocError` where memory ran out.
+pub fn push_blanks(out: &mut Vec<u8>, bytes: &[u8]) -> Result<(), AllocError>
     ensures { OnOk result (out.new.items ≡ out.old.items ++ map blank_byte bytes.now) }
 {
     for b in bytes {
@@ -97,8 +101,12 @@ pub(crate) fn push_margin(out: &mut Vec<u8>, number: u32) -> Result<(), AllocErr
     push_times(out, buffer.format(number).len(), b' ')
 }
 
-/// `FILE:LINE:COLUMN`.
-fn push_position(
+/// Adds `FILE:LINE:COLUMN`, the column counted from 1.
+///
+/// # Errors
+///
+/// `AllocError` where memory ran out.
+pub fn push_position(
     out: &mut Vec<u8>,
     name: &[u8],
     number: u32,

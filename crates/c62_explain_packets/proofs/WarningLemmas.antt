@@ -1,13 +1,16 @@
 -- Lines that are told, from the pieces that are written.
 use Rattle.c62_read.proofs.Common.{◌≡◌, ℕ, List, [], ◌∷◌, ◌++◌, ◌∙◌, ap, refl, sym, append_assoc, ◌≤◌, length, get_or, take, drop, take_rest}
-use Rattle.std.proofs.Common.{◌-◌, arith}
+use Rattle.std.proofs.Common.{◌-◌, arith, subst}
 use Rattle.std.proofs.Math.Seq.{drop-cons}
 use Rattle.std.specs.Prelude.{◌≢◌, codes, decimal, OnOk, Result, Ok, Err}
-use Rattle.c62_explain.specs.Picture.{Adds}
+use Rattle.c62_place.specs.declared.place.Place.{Place}
+use Rattle.c62_explain.specs.Picture.{Adds, line_at, position}
 use Rattle.c62_adopt.specs.FaultText.{adopt_fault_text}
 use Rattle.c62_adopt.specs.declared.fault.AdoptFault.{AdoptFault}
 use Rattle.c62_adopt.specs.declared.fault.AdoptFault.TheVariants.{Memory as NoRoom}
 use Rattle.c62_explain_packets.specs.Finding.{IsToldAs, what_name}
+use Rattle.c62_explain_packets.specs.Sentence.{what_sentence}
+use Rattle.c62_explain_packets.specs.Place.{IsFoundAt}
 use Rattle.c62_explain_packets.specs.Warned.{AreWarned, TellsFault, TellsRefusal, Warns, early_text, editors_place, fault_text, verb, writer_text}
 use Rattle.c62_explain_packets.specs.declared.early.EarlyRead.{EarlyRead}
 use Rattle.c62_explain_packets.specs.declared.finding.Finding.{Finding as Found}
@@ -54,24 +57,28 @@ writer_on (Ok done) early old first second new is number says = writer_there ear
 writer_on (Err error) early old first second new is number says = tt
 
 -- or a fault
-told_there : (name sentence : List ℕ) (found : Found) (column : ℕ) (old mid new : List ℕ) → mid ≡ old ++ editors_place name found.line column
-    → new ≡ mid ++ fault_text (what_name found.what) sentence → Adds (TellsFault name found) old new
-told_there name sentence found column old mid new at says =
-    let text = fault_text (what_name found.what) sentence in (
-      editors_place name found.line column ++ text,
-      says ∙ ap (λ (front : List ℕ). front ++ text) at ∙ append_assoc old (editors_place name found.line column) text,
-      record { column = column; sentence = sentence; says = refl },
+told_there : (name text : List ℕ) (found : Found) (place : Place) (old mid new : List ℕ) → IsFoundAt found.what (line_at text found.line) place
+    → mid ≡ old ++ position name found.line place → new ≡ mid ++ fault_text (what_name found.what) (what_sentence found.what)
+    → Adds (TellsFault name text found) old new
+told_there name text found place old mid new there at says =
+    let more = fault_text (what_name found.what) (what_sentence found.what) in (
+      position name found.line place ++ more,
+      says ∙ ap (λ (front : List ℕ). front ++ more) at ∙ append_assoc old (position name found.line place) more,
+      record { place = place; there = there; says = refl },
     )
 
-pub told_on : {E : Type 0} (result : Result (Unit {0}) E) (name what sentence : List ℕ) (found : Found) (column : ℕ) (old mid new : List ℕ)
-    → what ≡ what_name found.what → mid ≡ old ++ editors_place name found.line column → OnOk result (new ≡ mid ++ fault_text what sentence)
-    → OnOk result (Adds (TellsFault name found) old new)
-told_on (Ok done) name what sentence found column old mid new is at says = told_there name sentence found column old mid new at (rw is at says)
-told_on (Err error) name what sentence found column old mid new is at says = tt
+pub told_on : {E : Type 0} (result : Result (Unit {0}) E) (name text what sentence line : List ℕ) (found : Found) (place : Place) (old mid new : List ℕ)
+    → what ≡ what_name found.what → sentence ≡ what_sentence found.what → line ≡ line_at text found.line → IsFoundAt found.what line place
+    → mid ≡ old ++ position name found.line place → OnOk result (new ≡ mid ++ fault_text what sentence)
+    → OnOk result (Adds (TellsFault name text found) old new)
+told_on (Ok done) name text what sentence line found place old mid new is is_said is_line there at says =
+    told_there name text found place old mid new (subst (λ (l : List ℕ). IsFoundAt found.what l place) is_line there) at
+    (subst (λ (w : List ℕ). new ≡ mid ++ fault_text w (what_sentence found.what)) is (subst (λ (s : List ℕ). new ≡ mid ++ fault_text what s) is_said says))
+told_on (Err error) name text what sentence line found place old mid new is is_said is_line there at says = tt
 
 -- what is added to nothing is told alone
-pub told_alone : (name : List ℕ) (found : Found) (line : List ℕ) → Adds (TellsFault name found) [] line → TellsFault name found line
-told_alone name found line (more, is, tells) = rw is tells
+pub told_alone : (name text : List ℕ) (found : Found) (line : List ℕ) → Adds (TellsFault name text found) [] line → TellsFault name text found line
+told_alone name text found line (more, is, tells) = rw is tells
 
 pub warned_alone : (name : List ℕ) (reads : List EarlyRead) (lines : List ℕ) → Adds (AreWarned name reads) [] lines → AreWarned name reads lines
 warned_alone name reads lines (more, is, warned) = rw is warned
@@ -83,6 +90,6 @@ no_line found same = let first : 109 ≡ 108 = ap (λ (text : List ℕ). get_or 
 pub has_room : (fault : AdoptFault) (found : Found) → IsToldAs (adopt_fault_text fault) found → fault ≢ NoRoom
 has_room fault found told is = no_line found (rw is at told)
 
-pub tells_refusal : (name : List ℕ) (fault : AdoptFault) (found : Found) (line : List ℕ) → IsToldAs (adopt_fault_text fault) found
-    → TellsFault name found line → TellsRefusal name fault line
-tells_refusal name fault found line same tells = record { found = found; same = same; tells = tells }
+pub tells_refusal : (name text : List ℕ) (fault : AdoptFault) (found : Found) (line : List ℕ) → IsToldAs (adopt_fault_text fault) found
+    → TellsFault name text found line → TellsRefusal name text fault line
+tells_refusal name text fault found line same tells = record { found = found; same = same; tells = tells }

@@ -2,4 +2,6 @@ pub mod Sharing
 pub mod Linted
 pub mod Early
 pub mod Finding
+pub mod Sentence
+pub mod Place
 pub mod Warned

@@ -15,7 +15,7 @@ use Rattle.c62_explain_packets.specs.Warned.{TellsRefusal, WarnsText}
 pub data IsLintedPackets (most : ℕ) (name text lines : List ℕ) (faulty : Bool) : Type 0 where
   Adopted : faulty ≡ false → (packets : List Packed) (added : ℕ) → IsAdopted false text packets added → WarnsText most name text lines
       → IsLintedPackets most name text lines faulty
-  Refused : faulty ≡ true → (fault : AdoptFault) → fault ≢ NoRoom → Refuses false text fault → TellsRefusal name fault lines
+  Refused : faulty ≡ true → (fault : AdoptFault) → fault ≢ NoRoom → Refuses false text fault → TellsRefusal name text fault lines
       → IsLintedPackets most name text lines faulty
 
 -- and a listing where it isn't read

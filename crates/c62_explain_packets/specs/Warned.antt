@@ -7,7 +7,11 @@ use Rattle.c62_adopt_cut.specs.declared.draft.Draft.{Draft}
 use Rattle.c62_adopt.specs.Answer.{code_cut}
 use Rattle.c62_adopt.specs.FaultText.{adopt_fault_text}
 use Rattle.c62_adopt.specs.declared.fault.AdoptFault.{AdoptFault}
+use Rattle.c62_place.specs.declared.place.Place.{Place}
+use Rattle.c62_explain.specs.Picture.{line_at, position}
 use Rattle.c62_explain_packets.specs.Early.{early_reads}
+use Rattle.c62_explain_packets.specs.Sentence.{what_sentence}
+use Rattle.c62_explain_packets.specs.Place.{IsFoundAt}
 use Rattle.c62_explain_packets.specs.Finding.{IsToldAs, what_name}
 use Rattle.c62_explain_packets.specs.declared.early.EarlyRead.{EarlyRead}
 use Rattle.c62_explain_packets.specs.declared.finding.Finding.{Finding as Found}
@@ -20,19 +24,19 @@ editors_place name line column = name ++ codes ":" ++ decimal line ++ codes ":" 
 
 -- `error: NAME: SENTENCE`
 abbrev pub fault_text : (name sentence : List ℕ) → List ℕ
-fault_text name sentence = codes "error: " ++ name ++ codes ": " ++ sentence ++ codes "\n"
+fault_text name sentence = codes ": error: " ++ name ++ codes ": " ++ sentence ++ codes "\n"
 
--- `FILE:LINE:COLUMN: error: NAME: SENTENCE`
-pub record TellsFault (name : List ℕ) (found : Found) (lines : List ℕ) : Type 0 where
-  pub column : ℕ
-  pub sentence : List ℕ
-  pub says : lines ≡ editors_place name found.line column ++ fault_text (what_name found.what) sentence
+-- `FILE:LINE:COLUMN: error: NAME: SENTENCE`, at the place where the fault is found in that line of the text
+pub record TellsFault (name text : List ℕ) (found : Found) (lines : List ℕ) : Type 0 where
+  pub place : Place
+  pub there : IsFoundAt found.what (line_at text found.line) place
+  pub says : lines ≡ position name found.line place ++ fault_text (what_name found.what) (what_sentence found.what)
 
 -- a line tells what the text is refused for: the line and the name are those of the refusal
-pub record TellsRefusal (name : List ℕ) (fault : AdoptFault) (lines : List ℕ) : Type 0 where
+pub record TellsRefusal (name text : List ℕ) (fault : AdoptFault) (lines : List ℕ) : Type 0 where
   pub found : Found
   pub same : IsToldAs (adopt_fault_text fault) found
-  pub tells : TellsFault name found lines
+  pub tells : TellsFault name text found lines
 
 -- ---- reads in delay slots
 

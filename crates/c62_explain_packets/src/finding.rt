@@ -1,17 +1,20 @@
 //! What is wrong with which line of packets.
 
-ghost use Rattle.std.specs.Prelude.{◌≡◌, ◌<◌, ◌^◌, IfOk, MatchOption, option_map};
+ghost use Rattle.std.specs.Prelude.{◌≡◌, ◌<◌, ◌≤◌, ◌++◌, ◌^◌, IfOk, OnOk, MatchOption, Some, length, option_map};
+ghost use Rattle.std.specs.Option.{option_copied};
 ghost use Rattle.c62_adopt_cut.specs.FaultText.{cause_name as text_cause_name};
 ghost use Rattle.c62_adopt_line.specs.FaultName.{line_fault_name};
 ghost use Rattle.c62_adopt.specs.FaultText.{adopt_fault_text};
 ghost use Rattle.c62_rows.specs.FaultText.{cause_name as rows_cause_name, fault_text as rows_fault_text};
+ghost use Rattle.c62_explain_packets.specs.Sentence.{rule_sentence, code_sentence, read_sentence, what_sentence};
+ghost use Rattle.c62_explain_packets.specs.Place.{serial_cause, blanked_front, without_bars, searched_line, IsFoundAt};
 ghost use Rattle.c62_explain_packets.specs.Finding.{IsShort, IsShortLine, IsShortRow, IsShortRows, IsShortText, IsToldAs, found_at, what_name};
 
 use c62_adopt::{AdoptFault, adopt};
 use c62_adopt_code::CodeCause;
 use c62_adopt_cut::TextCause;
 use c62_adopt_line::{LineFault, behind_bars};
-use c62_explain::sentence_of;
+use c62_explain::{push_blanks, sentence_of};
 use c62_insn::FormFault;
 use c62_line::Cause;
 use c62_listing_reader::ListFault;
@@ -49,7 +52,9 @@ pub struct Finding {
     pub what: What,
 }
 
-fn rule_sentence(rule: PacketRule) -> &'static [u8] {
+fn rule_sentence(rule: PacketRule) -> &'static [u8]
+    ensures { result.now ≡ rule_sentence rule }
+{
     match rule {
         PacketRule::InCycle(CycleRule::P1) => b"another instruction of the cycle is on this unit",
         PacketRule::InCycle(CycleRule::P2) =>
@@ -60,7 +65,9 @@ fn rule_sentence(rule: PacketRule) -> &'static [u8] {
     }
 }
 
-fn code_sentence(cause: CodeCause) -> &'static [u8] {
+fn code_sentence(cause: CodeCause) -> &'static [u8]
+    ensures { result.now ≡ code_sentence cause }
+{
     match cause {
         CodeCause::Directive => b"this directive may lay something down",
         CodeCause::OtherSection => b"this stands in another section than the code",
@@ -69,7 +76,9 @@ fn code_sentence(cause: CodeCause) -> &'static [u8] {
 }
 
 /// What is said of a fault that serial texts have, too.
-fn read_sentence(cause: Cause) -> &'static [u8] {
+fn read_sentence(cause: Cause) -> &'static [u8]
+    ensures { result.now ≡ read_sentence cause }
+{
     match cause {
         Cause::ParallelBar => b"no packet is above these bars",
         Cause::Directive => b"this directive isn't known",
@@ -132,7 +141,9 @@ impl What {
     }
 
     /// What is wrong, in one sentence.
-    pub fn sentence(self) -> &'static [u8] {
+    pub fn sentence(self) -> &'static [u8]
+        ensures { result.now ≡ what_sentence self }
+    {
         match self {
             What::Read(cause) => read_sentence(cause),
             What::UnitWanted => b"in a packet each instruction names its unit",
@@ -148,7 +159,9 @@ impl What {
     }
 
     /// As the cause of a line of serial text: what is found at the same token there.
-    fn cause(self) -> Cause {
+    fn cause(self) -> Cause
+        ensures { result ≡ serial_cause self }
+    {
         match self {
             What::Read(cause) => cause,
             What::UnitWanted | What::Rule(_) => Cause::Form(FormFault::NoUnit),
@@ -215,27 +228,42 @@ pub fn of_listing(
     }
 }
 
+/// Adds a line whose part behind the bars is this, with blanks in the place of what stands in front of that.
+fn push_blanked(out: &mut Vec<u8>, line: &[u8], rest: &[u8]) -> Result<(), AllocError>
+    requires { length rest.now ≤ length line.now }
+    ensures { OnOk result (out.new.items ≡ out.old.items ++ blanked_front line.now (Some rest.now)) }
+{
+    push_blanks(out, &line[..line.len() - rest.len()])?;
+    out.extend_from_slice(rest)
+}
+
 /// The line with blanks in the place of its bars, as serial text has it.
-pub(crate) fn without_bars(alloc: Global, line: &[u8]) -> Result<Vec<u8>, AllocError> {
+pub(crate) fn without_bars(alloc: Global, line: &[u8]) -> Result<Vec<u8>, AllocError>
+    ensures { IfOk result (λ serial. serial.items ≡ without_bars line.now) }
+{
     let mut serial = Vec::new(alloc);
-    if let Some(rest) = behind_bars(line) {
-        for b in &line[..line.len() - rest.len().min(line.len())] {
-            serial.push(if *b == b'\t' { b'\t' } else { b' ' })?;
-        }
-        serial.extend_from_slice(rest)?;
-    } else {
-        serial.extend_from_slice(line)?;
+    match behind_bars(line) {
+        Some(rest) => push_blanked(&mut serial, line, rest)?,
+        None => serial.extend_from_slice(line)?,
     }
     Ok(serial)
 }
 
+/// What is searched for the token at which the fault is found.
+fn searched_line(alloc: Global, what: What, line: &[u8]) -> Result<Vec<u8>, AllocError>
+    ensures { IfOk result (λ searched. searched.items ≡ searched_line what line.now) }
+{
+    match what {
+        What::Read(Cause::ParallelBar) => Vec::from_slice(alloc, line),
+        _ => without_bars(alloc, line),
+    }
+}
+
 /// Where in its line the fault is found.
 pub(crate) fn place_in(alloc: Global, what: What, line: &[u8]) -> Result<Place, AllocError>
+    ensures place { IfOk result (IsFoundAt what line.now) }
     ensures bound { IfOk result (λ place. place.start < 2 ^ 63) }
 {
-    if let What::Read(Cause::ParallelBar) = what {
-        return place_of(alloc, Cause::ParallelBar, line);
-    }
-    let serial = without_bars(alloc, line)?;
-    place_of(alloc, what.cause(), &serial)
+    let searched = searched_line(alloc, what, line)?;
+    place_of(alloc, what.cause(), &searched)
 }

@@ -12,7 +12,7 @@ use crate::finding::{Finding, of_adopt, of_listing, place_in, without_bars};
 use crate::help::push_register;
 use c62_adopt::{adopt, read_code};
 use c62_adopt_cut::{Cut, Draft, read_cut};
-use c62_explain::line_at;
+use c62_explain::{line_at, push_position};
 use c62_insn::Reg;
 use c62_listing_reader::{ListFault, read_listing};
 use c62_place::{Place, token_at};
@@ -29,11 +29,11 @@ pub struct Linted {
     pub faulty: bool,
 }
 
-/// `error: NAME: SENTENCE`
+/// `: error: NAME: SENTENCE`
 fn push_fault(out: &mut Vec<u8>, name: &str, sentence: &[u8]) -> Result<(), AllocError>
     ensures { OnOk result (out.new.items ≡ out.old.items ++ fault_text name.now sentence.now) }
 {
-    out.extend_from_slice(b"error: ")?;
+    out.extend_from_slice(b": error: ")?;
     out.extend_from_slice(name.as_bytes())?;
     out.extend_from_slice(b": ")?;
     out.extend_from_slice(sentence)?;
@@ -48,16 +48,16 @@ fn push_finding(
     text: &[u8],
     finding: Finding,
 ) -> Result<(), AllocError>
-    ensures { OnOk result (Adds (TellsFault name.now finding) out.old.items out.new.items) }
+    ensures { OnOk result (Adds (TellsFault name.now text.now finding) out.old.items out.new.items) }
 {
     let place = place_in(alloc, finding.what, line_at(text, finding.line))?;
-    push_place(out, name, finding.line, place.start.saturating_add(1))?;
+    push_position(out, name, finding.line, place)?;
     push_fault(out, finding.what.name(), finding.what.sentence())
 }
 
 /// A line for this fault.
 fn line_of(alloc: Global, name: &[u8], text: &[u8], finding: Finding) -> Result<Vec<u8>, AllocError>
-    ensures { IfOk result (λ line. TellsFault name.now finding line.items) }
+    ensures { IfOk result (λ line. TellsFault name.now text.now finding line.items) }
 {
     let mut line = Vec::new(alloc);
     push_finding(&mut line, alloc, name, text, finding)?;
