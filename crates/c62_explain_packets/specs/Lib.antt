@@ -5,3 +5,4 @@ pub mod Finding
 pub mod Sentence
 pub mod Place
 pub mod Warned
+pub mod Told

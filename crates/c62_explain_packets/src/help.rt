@@ -2,6 +2,7 @@
 
 ghost use Rattle.std.specs.Prelude.{◌≡◌, ◌++◌, OnOk};
 ghost use Rattle.c62_op.specs.Name.{register_name};
+ghost use Rattle.c62_explain.specs.Picture.{AddsHelp};
 
 use crate::finding::{Finding, What};
 use crate::sharing::{lacking, landing_together, lines_sharing};
@@ -68,6 +69,13 @@ fn from_token(line: &[u8]) -> &[u8] {
     &line[token_at(line, 0).start.min(line.len())..]
 }
 
+/// A line of help of these words.
+fn push_one(out: &mut Vec<u8>, number: u32, words: &[&[u8]]) -> Result<(), AllocError>
+    ensures { OnOk result (AddsHelp number out.old.items out.new.items) }
+{
+    push_hint(out, number, words)
+}
+
 /// A line of help about another line: what it takes too, and the line itself.
 fn push_other(
     out: &mut Vec<u8>,
@@ -75,10 +83,12 @@ fn push_other(
     number: u32,
     other: u32,
     takes: &[u8],
-) -> Result<(), AllocError> {
+) -> Result<(), AllocError>
+    ensures { OnOk result (AddsHelp number out.old.items out.new.items) }
+{
     let mut buffer = Buffer::new();
     let line = from_token(line_at(text, other));
-    push_hint(
+    push_one(
         out,
         number,
         &[
@@ -92,14 +102,18 @@ fn push_other(
 }
 
 /// The lines that share a resource with an instruction.
+#[tactic(auto, using(c62_explain::proofs::HintLemmas::adds_none))]
 fn push_sharing(
     out: &mut Vec<u8>,
     alloc: Global,
     text: &[u8],
+    number: u32,
     resource: Resource,
     issue: &Issue,
     issues: &[Issue],
-) -> Result<(), AllocError> {
+) -> Result<(), AllocError>
+    ensures { OnOk result (AddsHelp number out.old.items out.new.items) }
+{
     let mut takes = Vec::new(alloc);
     takes.extend_from_slice(match resource {
         Resource::ReadsOf(_) => b" reads ",
@@ -107,29 +121,34 @@ fn push_sharing(
     })?;
     push_resource(&mut takes, resource)?;
     for other in lines_sharing(alloc, resource, issue, issues)?.iter() {
-        push_other(out, text, issue.line, *other, &takes)?;
+        push_other(out, text, number, *other, &takes)?;
     }
     Ok(())
 }
 
 /// The line whose write lands together with one of an instruction.
+#[tactic(auto, using(c62_explain::proofs::HintLemmas::adds_none))]
 fn push_landing(
     out: &mut Vec<u8>,
     alloc: Global,
     text: &[u8],
+    number: u32,
     issue: &Issue,
     issues: &[Issue],
-) -> Result<(), AllocError> {
+) -> Result<(), AllocError>
+    ensures { OnOk result (AddsHelp number out.old.items out.new.items) }
+{
     let Some((other, reg)) = landing_together(issue, issues) else {
         return Ok(());
     };
     let mut takes = Vec::new(alloc);
     takes.extend_from_slice(b" writes ")?;
     push_register(&mut takes, reg)?;
-    push_other(out, text, issue.line, other, &takes)
+    push_other(out, text, number, other, &takes)
 }
 
 /// The lines that break a rule with the one of this number.
+#[tactic(auto, using(c62_explain::proofs::HintLemmas::adds_none))]
 fn push_breach(
     out: &mut Vec<u8>,
     alloc: Global,
@@ -137,16 +156,26 @@ fn push_breach(
     number: u32,
     rule: PacketRule,
     cut: &Cut,
-) -> Result<(), AllocError> {
+) -> Result<(), AllocError>
+    ensures { OnOk result (AddsHelp number out.old.items out.new.items) }
+{
     let Some((draft, issue)) = issue_at(&cut.drafts, number) else {
         return Ok(());
     };
     match rule {
         PacketRule::InCycle(rule) => match lacking(rule, issue, &draft.issues) {
-            Some(resource) => push_sharing(out, alloc, text, resource, issue, &draft.issues),
+            Some(resource) => push_sharing(
+                out,
+                alloc,
+                text,
+                number,
+                resource,
+                issue,
+                &draft.issues,
+            ),
             None => Ok(()),
         },
-        PacketRule::P5 => push_landing(out, alloc, text, issue, &draft.issues),
+        PacketRule::P5 => push_landing(out, alloc, text, number, issue, &draft.issues),
     }
 }
 
@@ -170,7 +199,10 @@ fn cycles_missing(cut: &Cut, draft: &Draft, issue: &Issue) -> u32 {
     landed.saturating_sub(over)
 }
 
-fn push_missing(out: &mut Vec<u8>, number: u32, cut: &Cut) -> Result<(), AllocError> {
+#[tactic(auto, using(c62_explain::proofs::HintLemmas::adds_none))]
+fn push_missing(out: &mut Vec<u8>, number: u32, cut: &Cut) -> Result<(), AllocError>
+    ensures { OnOk result (AddsHelp number out.old.items out.new.items) }
+{
     let Some((draft, issue)) = issue_at(&cut.drafts, number) else {
         return Ok(());
     };
@@ -181,7 +213,7 @@ fn push_missing(out: &mut Vec<u8>, number: u32, cut: &Cut) -> Result<(), AllocEr
         buffer.format(missing).as_bytes(),
         b"; `adopt --drain` adds them",
     ];
-    push_hint(out, number, words)
+    push_one(out, number, words)
 }
 
 /// The next branch of the block.
@@ -194,7 +226,10 @@ fn next_branch(draft: &Draft, number: u32) -> Option<u32> {
     None
 }
 
-fn push_branch(out: &mut Vec<u8>, text: &[u8], number: u32, cut: &Cut) -> Result<(), AllocError> {
+#[tactic(auto, using(c62_explain::proofs::HintLemmas::adds_none))]
+fn push_branch(out: &mut Vec<u8>, text: &[u8], number: u32, cut: &Cut) -> Result<(), AllocError>
+    ensures { OnOk result (AddsHelp number out.old.items out.new.items) }
+{
     let Some((draft, _)) = issue_at(&cut.drafts, number) else {
         return Ok(());
     };
@@ -205,6 +240,7 @@ fn push_branch(out: &mut Vec<u8>, text: &[u8], number: u32, cut: &Cut) -> Result
 }
 
 /// What helps where a line has a fault that serial texts have, too; `serial` is the line without its bars.
+#[tactic(auto, using(c62_explain::proofs::HintLemmas::adds_none))]
 fn push_read_help(
     out: &mut Vec<u8>,
     alloc: Global,
@@ -212,9 +248,11 @@ fn push_read_help(
     serial: &[u8],
     fault: ReadFault,
     place: Place,
-) -> Result<(), AllocError> {
+) -> Result<(), AllocError>
+    ensures { OnOk result (AddsHelp fault.line out.old.items out.new.items) }
+{
     match fault.cause {
-        Cause::Directive => push_hint(
+        Cause::Directive => push_one(
             out,
             fault.line,
             &[b"docs/ADOPT.md has the directives that are read"],
@@ -225,6 +263,7 @@ fn push_read_help(
 }
 
 /// Lines of help for a fault of packets; `cut` has the blocks of the text's code.
+#[tactic(auto, using(c62_explain::proofs::HintLemmas::adds_none))]
 pub(crate) fn push_help(
     out: &mut Vec<u8>,
     alloc: Global,
@@ -233,7 +272,9 @@ pub(crate) fn push_help(
     finding: Finding,
     place: Place,
     cut: &Cut,
-) -> Result<(), AllocError> {
+) -> Result<(), AllocError>
+    ensures { OnOk result (AddsHelp finding.line out.old.items out.new.items) }
+{
     let number = finding.line;
     match finding.what {
         What::Read(cause) => push_read_help(
@@ -248,13 +289,13 @@ pub(crate) fn push_help(
         What::NotDrained => push_missing(out, number, cut),
         What::TwoBranches => push_branch(out, text, number, cut),
         What::Code(CodeCause::Directive) => {
-            push_hint(
+            push_one(
                 out,
                 number,
                 &[b"docs/ADOPT.md has the directives that are read"],
             )
         }
-        What::Shape => push_hint(
+        What::Shape => push_one(
             out,
             number,
             &[b"`adopt` reads other spellings, and writes the listing"],

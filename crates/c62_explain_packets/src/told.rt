@@ -1,5 +1,8 @@
 //! What is said of a fault of packets.
 
+ghost use Rattle.std.specs.Prelude.{IfOk};
+ghost use Rattle.c62_explain_packets.specs.Told.{Explains};
+
 use crate::finding::{Finding, place_in, without_bars};
 use crate::help::push_help;
 use c62_adopt::{AdoptFault, read_code};
@@ -27,7 +30,9 @@ pub fn explain(
     name: &[u8],
     text: &[u8],
     finding: Finding,
-) -> Result<Vec<u8>, AllocError> {
+) -> Result<Vec<u8>, AllocError>
+    ensures { IfOk result (λ out. Explains name.now text.now finding out.items) }
+{
     let mut out = Vec::new(alloc);
     if finding.line == 0 {
         return Ok(out);
