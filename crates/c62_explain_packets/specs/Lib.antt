@@ -6,3 +6,4 @@ pub mod Sentence
 pub mod Place
 pub mod Warned
 pub mod Told
+pub mod Listed

@@ -1,5 +1,5 @@
 -- Which texts of packets have a fault (docs/FAULTS.md, "Packets").
-use Rattle.std.specs.Prelude.{◌≡◌, ◌≢◌, ℕ, Bool, true, false, List}
+use Rattle.std.specs.Prelude.{◌≡◌, ◌≢◌, ℕ, Bool, true, false, List, [], Option}
 use Rattle.c62_packet.specs.Packed.{Packed}
 use Rattle.c62_listing_reader.specs.declared.fault.ListFault.{ListFault}
 use Rattle.c62_listing_reader.specs.declared.fault.ListFault.TheVariants.{Memory as NoStore}
@@ -8,7 +8,9 @@ use Rattle.c62_listing_reader.specs.Reading.{Refuses as RefusesListing}
 use Rattle.c62_adopt.specs.declared.fault.AdoptFault.{AdoptFault}
 use Rattle.c62_adopt.specs.declared.fault.AdoptFault.TheVariants.{Memory as NoRoom}
 use Rattle.c62_adopt.specs.Answer.{IsAdopted, Refuses}
+use Rattle.c62_explain_packets.specs.Listed.{IsFoundListed, TellsFound}
 use Rattle.c62_explain_packets.specs.Warned.{TellsRefusal, WarnsText}
+use Rattle.c62_explain_packets.specs.declared.finding.Finding.{Finding as Found}
 
 -- A text of packets has a fault where it isn't adopted as it stands, and the line tells that. Of one that is adopted the reads in delay slots
 -- are told, at most so many.
@@ -19,6 +21,7 @@ pub data IsLintedPackets (most : ℕ) (name text lines : List ℕ) (faulty : Boo
       → IsLintedPackets most name text lines faulty
 
 -- and a listing where it isn't read
-pub data IsLintedListing (text : List ℕ) (faulty : Bool) : Type 0 where
-  Read : faulty ≡ false → (packets : List Packed) → IsRead text packets → IsLintedListing text faulty
-  Unread : faulty ≡ true → (fault : ListFault) → fault ≢ NoStore → RefusesListing text fault → IsLintedListing text faulty
+pub data IsLintedListing (name text lines : List ℕ) (faulty : Bool) : Type 0 where
+  Read : faulty ≡ false → (packets : List Packed) → IsRead text packets → lines ≡ [] → IsLintedListing name text lines faulty
+  Unread : faulty ≡ true → (fault : ListFault) → fault ≢ NoStore → RefusesListing text fault
+      → (found : Option Found) → IsFoundListed text fault found → TellsFound name text found lines → IsLintedListing name text lines faulty

@@ -7,6 +7,7 @@ ghost use Rattle.c62_adopt_line.specs.FaultName.{line_fault_name};
 ghost use Rattle.c62_adopt.specs.FaultText.{adopt_fault_text};
 ghost use Rattle.c62_rows.specs.FaultText.{cause_name as rows_cause_name, fault_text as rows_fault_text};
 ghost use Rattle.c62_explain_packets.specs.Sentence.{rule_sentence, code_sentence, read_sentence, what_sentence};
+ghost use Rattle.c62_explain_packets.specs.Listed.{IsFoundInBlock, IsFoundListed};
 ghost use Rattle.c62_explain_packets.specs.Place.{serial_cause, blanked_front, without_bars, searched_line, IsFoundAt};
 ghost use Rattle.c62_explain_packets.specs.Finding.{IsShort, IsShortLine, IsShortRow, IsShortRows, IsShortText, IsToldAs, found_at, what_name};
 
@@ -204,6 +205,19 @@ pub fn of_rows(fault: RowsFault) -> Option<Finding>
     }
 }
 
+/// What keeps a text from being adopted as it stands.
+fn of_block(alloc: Global, text: &[u8]) -> Result<Option<Finding>, AllocError>
+    ensures { IfOk result (IsFoundInBlock text.now) }
+{
+    match adopt(alloc, text, false) {
+        Ok(_) => Ok(None),
+        Err(fault) => match of_adopt(fault) {
+            Some(finding) => Ok(Some(finding)),
+            None => Err(AllocError),
+        },
+    }
+}
+
 /// What is wrong with a text that is no listing. Of a block it is what would keep the block from being adopted.
 ///
 /// # Errors
@@ -213,17 +227,15 @@ pub fn of_listing(
     alloc: Global,
     text: &[u8],
     fault: ListFault,
-) -> Result<Option<Finding>, AllocError> {
+) -> Result<Option<Finding>, AllocError>
+    ensures { IfOk result (IsFoundListed text.now fault) }
+{
     match fault {
         ListFault::Read(fault) => Ok(Finding::at(fault.line, Some(What::Read(fault.cause)))),
         ListFault::Shape(line) => Ok(Finding::at(line, Some(What::Shape))),
         ListFault::Memory => Err(AllocError),
         ListFault::Unlawful(_, _, _) | ListFault::NotDrained(_) | ListFault::TwoBranches(_) => {
-            match adopt(alloc, text, false) {
-                Ok(_) => Ok(None),
-                Err(AdoptFault::Memory) => Err(AllocError),
-                Err(fault) => Ok(of_adopt(fault)),
-            }
+            of_block(alloc, text)
         }
     }
 }

@@ -4,6 +4,7 @@ ghost use Rattle.std.specs.Prelude.{◌≡◌, ◌++◌, IfOk, OnOk};
 ghost use Rattle.c62_adopt_cut.specs.Drafted.{cut_of};
 ghost use Rattle.c62_adopt.specs.Answer.{code_cut};
 ghost use Rattle.c62_explain.specs.Picture.{Adds};
+ghost use Rattle.c62_explain_packets.specs.Listed.{TellsFound};
 ghost use Rattle.c62_explain_packets.specs.Linted.{IsLintedListing, IsLintedPackets};
 ghost use Rattle.c62_explain_packets.specs.Warned.{AreWarned, TellsFault, Warns, WarnsText, early_among, early_text, editors_place, fault_text, landing_text, later, reader_text, verb, writer_text};
 
@@ -251,13 +252,29 @@ pub fn lint_packets(
     })
 }
 
-/// The first fault of a listing, which is what `sim` refuses it for.
+/// A line for what is found, and none where nothing is.
+fn lines_of(
+    alloc: Global,
+    name: &[u8],
+    text: &[u8],
+    found: Option<Finding>,
+) -> Result<Vec<u8>, AllocError>
+    ensures { IfOk result (λ lines. TellsFound name.now text.now found lines.items) }
+{
+    match found {
+        Some(finding) => line_of(alloc, name, text, finding),
+        None => Ok(Vec::new(alloc)),
+    }
+}
+
+/// The first fault of a listing, which is what `sim` refuses it for. Of a block it is told by the line that keeps the text from being
+/// adopted.
 ///
 /// # Errors
 ///
 /// `AllocError` where memory ran out.
 pub fn lint_listing(alloc: Global, name: &[u8], text: &[u8]) -> Result<Linted, AllocError>
-    ensures { IfOk result (λ linted. IsLintedListing text.now linted.faulty) }
+    ensures { IfOk result (λ linted. IsLintedListing name.now text.now linted.lines.items linted.faulty) }
 {
     let fault = match read_listing(alloc, text) {
         Ok(_) => {
@@ -271,12 +288,9 @@ pub fn lint_listing(alloc: Global, name: &[u8], text: &[u8]) -> Result<Linted, A
     if let ListFault::Memory = fault {
         return Err(AllocError);
     }
-    let lines = match of_listing(alloc, text, fault)? {
-        Some(finding) => line_of(alloc, name, text, finding)?,
-        None => Vec::new(alloc),
-    };
+    let found = of_listing(alloc, text, fault)?;
     Ok(Linted {
-        lines,
+        lines: lines_of(alloc, name, text, found)?,
         faulty: true,
     })
 }

@@ -28,7 +28,7 @@ pub record IsLintedSerial (most : ℕ) (name text lines : List ℕ) (faulty : Bo
 -- what is found in a text of this kind
 abbrev pub IsLintedAs : Kind → (most : ℕ) → (name text lines : List ℕ) → (faulty : Bool) → Type 0
 IsLintedAs Serial most name text lines faulty = IsLintedSerial most name text lines faulty
-IsLintedAs Listing most name text lines faulty = IsLintedListing text faulty
+IsLintedAs Listing most name text lines faulty = IsLintedListing name text lines faulty
 IsLintedAs Packets most name text lines faulty = IsLintedPackets most name text lines faulty
 
 abbrev pub IsLinted : Linting → (name text lines : List ℕ) → (faulty : Bool) → Type 0
