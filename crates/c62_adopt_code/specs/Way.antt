@@ -14,6 +14,10 @@ way untouched age left = record { untouched = untouched; age = age; left = left 
 abbrev pub first_way : Way
 first_way = way true 0 None
 
+-- to a label what is above may run on, and jump
+abbrev pub labelled_way : Way
+labelled_way = way false 0 None
+
 -- six cycles behind its own a branch without a condition takes effect
 abbrev pub goes_away : Says → Bool
 goes_away (Does parts) = is_branch parts.op && is_none parts.cond

@@ -11,6 +11,9 @@ mod way;
 
 pub use code::code_of;
 pub use fault::{CodeCause, CodeFault};
+pub use role::{Role, read_role};
+pub use statement::label_in_front;
+pub use way::Way;
 
 #[cfg(test)]
 mod tests;

@@ -13,7 +13,7 @@ use c62_token::{Tokens, begins_with};
 
 /// What a line is for.
 #[derive(Clone, Copy)]
-pub(crate) enum Role<'a> {
+pub enum Role<'a> {
     /// A comment.
     Remark,
     /// Nothing, or a label alone.
@@ -284,7 +284,7 @@ fn statement_role(labelled: bool, statement: &[u8]) -> Role<'_>
 
 /// What a line is for.
 #[tactic(auto, unfolding(crate::specs::Role::role_of))]
-pub(crate) fn read_role(line: &[u8]) -> Role<'_>
+pub fn read_role(line: &[u8]) -> Role<'_>
     ensures { role_read result ≡ role_of line.now }
 {
     if is_remark(line) {

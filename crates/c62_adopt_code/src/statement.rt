@@ -27,7 +27,7 @@ pub(crate) fn is_readable(line: &[u8]) -> bool
 
 /// The label of a line, of which no more is looked at than a line may have.
 #[tactic(auto, using(std::proofs::lemmas::List::take_min))]
-pub(crate) fn label_in_front(line: &[u8]) -> Option<Label>
+pub fn label_in_front(line: &[u8]) -> Option<Label>
     ensures { result ≡ label_of (front_of line.now) }
 {
     label_of(&line[..MOST_LINE.min(line.len())])

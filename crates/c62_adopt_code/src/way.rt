@@ -13,7 +13,7 @@ use c62_line::What;
 
 /// What is known of the lines above.
 #[derive(Clone, Copy)]
-pub(crate) struct Way {
+pub struct Way {
     /// None of them has a label, an instruction or a NOP.
     untouched: bool,
     /// The cycles that the last packet has come to; six are as many as any more.
@@ -22,7 +22,7 @@ pub(crate) struct Way {
     left: Option<u32>,
 }
 
-ghost use Rattle.c62_adopt_code.specs.Way.{first_way, goes_away, is_silent, sooner, with_branch, at_label, age_behind, with_cycles, way_on, comes_nothing};
+ghost use Rattle.c62_adopt_code.specs.Way.{first_way, labelled_way, goes_away, is_silent, sooner, with_branch, at_label, age_behind, with_cycles, way_on, comes_nothing};
 
 fn cycles_said(what: &What) -> u32
     ensures cycles { result ≡ cycles_said (said_of what.now) }
@@ -86,12 +86,24 @@ fn age_behind(line: &Written, age: u32) -> u32
 
 impl Way {
     /// Above all lines.
-    pub(crate) fn new() -> Way
+    pub fn new() -> Way
         ensures new { result ≡ first_way }
         ensures young { result.age ≤ 6 }
     {
         Way {
             untouched: true,
+            age: 0,
+            left: None,
+        }
+    }
+
+    /// At a label, to which what is above may run on, and jump.
+    pub fn labelled() -> Way
+        ensures new { result ≡ labelled_way }
+        ensures young { result.age ≤ 6 }
+    {
+        Way {
+            untouched: false,
             age: 0,
             left: None,
         }
@@ -146,7 +158,7 @@ impl Way {
     }
 
     /// Below a line.
-    pub(crate) fn on(self, line: &Written) -> Way
+    pub fn on(self, line: &Written) -> Way
         requires { self.age ≤ 6 }
         ensures on { result ≡ way_on (line_written line.now) self }
         ensures young { result.age ≤ 6 }
@@ -157,7 +169,7 @@ impl Way {
     }
 
     /// Whether nothing above runs on to here.
-    pub(crate) fn comes_nothing(self) -> bool
+    pub fn comes_nothing(self) -> bool
         ensures { result ≡ comes_nothing self }
     {
         self.untouched || matches!(self.left, Some(0))

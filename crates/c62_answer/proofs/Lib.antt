@@ -8,6 +8,7 @@ pub mod OneParting
 pub mod Checks
 pub mod Verdicts
 pub mod Flights
+pub mod Reached
 pub mod Runs
 pub mod Telling
 pub mod ReadBack

@@ -19,8 +19,9 @@ use Rattle.c62_answer.specs.Message.{IsFront, IsToldOf, Telling, Tells, TellsOf,
 use Rattle.c62_answer.specs.Run.{AsksInVain, AsksNothing, BeginsAnswer, Blames, BreaksOff, Does, Ends, EndsOnBytes, Fails, Gives, HasFailed, IsAdoptedText, IsDrainedText, IsAnswer, IsCommandFailure, IsDone, IsRefused, IsRefusedText, IsRun, IsRunBy, IsRunOnBytes, Streams, TakesAtMost, limit_of, status_done, status_of}
 use Rattle.c62_command.specs.declared.command.CommandError.{CommandError}
 use Rattle.c62_command.specs.declared.command.CommandError.TheVariants as command
+use Rattle.c62_reach.proofs.Front.{lacks_all, taken_all}
 use Rattle.c62_answer.proofs.Flights.{flight_all, no_flight_all}
-use Rattle.c62_command.specs.CommandLine.{Adoption, Ask, FlightReport, HasBadSetting, IsRefusal, IsUnknown, Listing, ListingPicture, PacketReport, PacketsPicture, Picture, SerialReport, StandingReport, Verdicts, asked}
+use Rattle.c62_command.specs.CommandLine.{Adoption, Ask, FlightReport, HasBadSetting, IsRefusal, IsUnknown, Listing, ListingPicture, PacketReport, PacketsPicture, Picture, Reaching, SerialReport, StandingReport, Verdicts, asked}
 use Rattle.c62_command.specs.declared.command.Form.{Form}
 use Rattle.c62_command.specs.declared.command.Form.TheVariants.{Listed, Written}
 use Rattle.clap.specs.Words.{Text}
@@ -143,6 +144,7 @@ answered (StandingReport Written course settings) outcome all text answer read i
 answered (FlightReport most strict from settings) outcome all text answer read is = flight_all most strict from settings outcome all text answer read is
 answered (Adoption false) Done all text answer read is = adopted_all false 0 all text answer read is
 answered (Adoption true) (Drained added) all text answer read is = drained_all added all text answer read is
+answered (Reaching name ask) outcome all text answer read is = (is.0, taken_all name all text is.0 read is.1, is.2)
 answered (Verdicts form) Done all text answer read is = checked_all form true all text answer read is
 answered (Verdicts form) NotSame all text answer read is = checked_all form false all text answer read is
 answered (Listing packing) (Drained added) all text answer read is = absurd is
@@ -231,6 +233,8 @@ refused_all (ListingPicture showing) all text message read is = no_listing_all a
 refused_all (PacketsPicture showing) all text message read is = no_packets_all false all text message read is
 refused_all (FlightReport most strict from settings) all text message read is = no_flight_all from all text message read is
 refused_all (Adoption drain) all text message read is = no_packets_all drain all text message read is
+refused_all (Reaching name ask) all text message read (inl none) = inl (record { lacks = lacks_all name all text read none.lacks; told = none.told })
+refused_all (Reaching name ask) all text message read (inr is) = inr (is.0, taken_all name all text is.0 read is.1, is.2)
 refused_all (Verdicts form) all text message read is = unchecked_all form all text message read is
 
 refused : (ask : Ask) (known : Option (List ℕ)) (text message : List ℕ) → IfSome known (λ all. text ≡ take (limit_of ask + 1) all) → IsRefusedText ask text message

@@ -48,6 +48,7 @@ use Rattle.c62_flight.specs.declared.stop.Stop.TheVariants as flight
 use Rattle.c62_rows.specs.declared.fault.RowsFault.{RowsFault}
 use Rattle.c62_rows.specs.declared.fault.RowsFault.TheVariants.{Memory as NoPlace}
 use Rattle.c62_rows.specs.Text.{IsTextFrom}
+use Rattle.c62_reach.specs.Taken.{IsTaken}
 use Rattle.c62_show.specs.declared.shown.Shown.{Shown}
 use Rattle.c62_answer.specs.Bounds.{AreBounded}
 use Rattle.c62_answer.specs.Drawing.{drawing}
@@ -58,9 +59,9 @@ use Rattle.c62_report.specs.Flight.{flight_report}
 use Rattle.c62_profile.specs.declared.tally.Tally.{Tally}
 use Rattle.c62_profile.specs.Visits.{CountsPackets, CountsProgram}
 use Rattle.c62_profile.specs.Table.{packet_table, serial_table}
-use Rattle.c62_command.specs.CommandLine.{Ask, Listing, Picture, ListingPicture, PacketsPicture, SerialReport, PacketReport, StandingReport, FlightReport, Adoption, Verdicts, IsRefusal, IsUnknown, HasBadSetting, asked}
+use Rattle.c62_command.specs.CommandLine.{Ask, Listing, Picture, ListingPicture, PacketsPicture, SerialReport, PacketReport, StandingReport, FlightReport, Adoption, Reaching, Verdicts, IsRefusal, IsUnknown, HasBadSetting, asked}
 use Rattle.c62_answer.specs.Message.{adopt_message, fault_message, list_message, rows_message, no_listing, of_listing, of_text, setting_message, IsFront, IsToldOf, Telling, Tells, TellsOf, TellsOutcome}
-use Rattle.c62_answer.specs.Texts.{SaysProgram, SaysPackets, SaysNoPackets, IsNoProgram, IsNoListing, IsNoPackets, IsNoFlight}
+use Rattle.c62_answer.specs.Texts.{SaysProgram, SaysPackets, SaysNoPackets, IsNoProgram, IsNoListing, IsNoPackets, IsNoFlight, IsUnreached}
 use Rattle.c62_answer.specs.Check.{IsCheck, IsNoCheck}
 use Rattle.c62_printing.specs.Printing.{prints}
 
@@ -160,6 +161,7 @@ limit_of (PacketsPicture showing) = most_packets_bytes
 limit_of (StandingReport form course settings) = most_of form
 limit_of (FlightReport cycles strict from settings) = most_packets_bytes
 limit_of (Adoption drain) = most_packets_bytes
+limit_of (Reaching name ask) = most_packets_bytes
 limit_of (Verdicts form) = most_bytes + 5 + most_of form
 limit_of _ = most_bytes
 
@@ -311,8 +313,8 @@ abbrev pub outcome_of : Bool → Outcome
 outcome_of true = Done
 outcome_of false = NotSame
 
--- What answers a text: its listing or its picture, the report of a run, or what a check tells. A text is drained only where that
--- is asked for, only of a check some block may not be the same, and only a strict run may end otherwise than done.
+-- What answers a text: its listing or its picture, the report of a run, or what a check tells, or such an answer to what is taken of it. A
+-- text is drained only where that is asked for, only of a check some block may not be the same, and only a strict run may end otherwise than done.
 abbrev pub IsAnswer : Ask → Outcome → List ℕ → List ℕ → Type 0
 IsAnswer (Listing packing) Done text answer = IsPackedText packing text answer
 IsAnswer (Picture showing) Done text answer = IsShownText showing text answer
@@ -324,6 +326,7 @@ IsAnswer (StandingReport form course settings) outcome text answer = IsStandingR
 IsAnswer (FlightReport most strict from settings) outcome text answer = IsFlightReport most strict from settings outcome text answer
 IsAnswer (Adoption false) Done text answer = IsAdoptedText false 0 text answer
 IsAnswer (Adoption true) (Drained added) text answer = IsDrainedText added text answer
+IsAnswer (Reaching name ask) outcome text answer = (taken : List ℕ) × IsTaken name text taken × IsAnswer ask outcome taken answer
 IsAnswer (Verdicts form) Done text answer = IsCheck form text true answer
 IsAnswer (Verdicts form) NotSame text answer = IsCheck form text false answer
 IsAnswer _ _ text answer = ⊥
@@ -337,6 +340,7 @@ IsRefusedText (PacketsPicture showing) text message = IsNoPackets false text mes
 IsRefusedText (StandingReport form course settings) text message = SaysNoPackets form text message
 IsRefusedText (FlightReport most strict from settings) text message = IsNoFlight from text message
 IsRefusedText (Adoption drain) text message = IsNoPackets drain text message
+IsRefusedText (Reaching name ask) text message = IsUnreached name text message ⊎ ((taken : List ℕ) × IsTaken name text taken × IsRefusedText ask taken message)
 IsRefusedText (Verdicts form) text message = IsNoCheck form text message
 IsRefusedText _ text message = IsNoProgram text message
 
@@ -412,6 +416,12 @@ GivesPacketsPart form text (Err (ListingPart fault)) = SaysNoPackets form text (
 GivesPacketsPart form text (Err (PacketsPart fault)) = SaysNoPackets form text (adopt_message fault)
 GivesPacketsPart form text (Err Memory) = Unit {0}
 GivesPacketsPart form text (Err _) = ⊥
+
+-- nothing is taken of a text from the label of this name on, as no line has it, unless memory ran out
+abbrev pub TakesNothing : (name text : List ℕ) → Failure → Type 0
+TakesNothing name text (Unflown fault) = IsUnreached name text (rows_message fault)
+TakesNothing name text Memory = Unit {0}
+TakesNothing name text _ = ⊥
 
 -- the answer to a text, or its fault, unless memory ran out
 abbrev pub Gives : Ask → List ℕ → Result Reply Failure → Type 0

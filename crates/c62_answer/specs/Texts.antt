@@ -11,8 +11,10 @@ use Rattle.c62_adopt.specs.declared.fault.AdoptFault.{AdoptFault}
 use Rattle.c62_adopt.specs.declared.fault.AdoptFault.TheVariants.{Memory as NoRoom}
 use Rattle.c62_adopt.specs.Answer.{IsAdopted, IsCoded, LacksCode, Refuses as RefusesPackets, code_in, code_read}
 use Rattle.c62_rows.specs.declared.fault.RowsFault.{RowsFault}
-use Rattle.c62_rows.specs.declared.fault.RowsFault.TheVariants.{Memory as NoPlace}
+use Rattle.c62_rows.specs.declared.fault.RowsFault.TheVariants.{From as NoStart, Memory as NoPlace}
 use Rattle.c62_rows.specs.Text.{RefusesFrom}
+use Rattle.c62_reach.specs.declared.fault.ReachFault.TheVariants.{From as Nowhere}
+use Rattle.c62_reach.specs.Taken.{Lacks}
 use Rattle.c62_command.specs.declared.command.Form.{Form}
 use Rattle.c62_command.specs.declared.command.Form.TheVariants.{Listed, Written}
 use Rattle.c62_answer.specs.Message.{adopt_message, fault_message, list_message, rows_message}
@@ -66,3 +68,8 @@ pub record IsNoRows (from : Option (List ℕ)) (text message : List ℕ) : Type 
 
 abbrev pub IsNoFlight : Option (List ℕ) → List ℕ → List ℕ → Type 0
 IsNoFlight from text message = IsUncoded text message ⊎ IsNoRows from text message
+
+-- no line of the text has the label from which on it is to be taken, and the message tells that
+pub record IsUnreached (name text message : List ℕ) : Type 0 where
+  pub lacks : Lacks name text Nowhere
+  pub told : message ≡ rows_message NoStart

@@ -11,11 +11,11 @@ ghost use Rattle.c62_answer.specs.Run.{added_of, Gives, GivesProgram, limit_of, 
 ghost use Rattle.c62_answer.specs.declared.parting.TheConstants.{MOST_BYTES};
 
 use crate::checking::verdicts;
-use crate::exec::exec;
 use crate::failure::Failure;
 use crate::outcome::{Added, Outcome, Reply};
 use crate::packets::packets_in;
 use crate::parting;
+use crate::reaching::{adopted_as, exec_as};
 use crate::run::{packet_run, serial_run};
 use crate::schedule::{packets_by_turns, packets_by_workers, shown_by_turns, shown_by_workers};
 use crate::standing::{show_listing, show_packets};
@@ -179,7 +179,7 @@ fn added_in(adopted: &Adopted) -> Added
 }
 
 /// The listing of a text of packets as people and compilers write them. Where it is drained, the cycles are added that lack.
-fn adopted(alloc: Global, text: &[u8], drain: bool) -> Result<Reply, Failure>
+pub(crate) fn adopted(alloc: Global, text: &[u8], drain: bool) -> Result<Reply, Failure>
     ensures { Gives (Adoption drain) text.now result }
 {
     let adopted = adopt(alloc, text, drain)?;
@@ -229,8 +229,8 @@ pub fn answer<H: AllocGlobal + Threads + Wait + Sync>(
         }
         Request::Serial(start) => serial(rt.alloc(), text, start),
         Request::Sim(form, start) => sim(rt.alloc(), *form, text, start),
-        Request::Exec(start) => exec(rt.alloc(), text, start),
-        Request::Adopt(drain) => adopted(rt.alloc(), text, *drain),
+        Request::Exec(start) => exec_as(rt.alloc(), text, start),
+        Request::Adopt(adopting) => adopted_as(rt.alloc(), text, adopting),
         Request::Check(form) => verdicts(rt.alloc(), *form, text),
     }
 }

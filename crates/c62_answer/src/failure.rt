@@ -21,7 +21,8 @@ pub enum Failure {
     Unlisted(ListFault),
     /// The text of packets has a fault.
     Unadopted(AdoptFault),
-    /// The text of packets that is to run in flight has a fault, or no line has the label that it is to begin with.
+    /// The text of packets that is to run in flight has a fault, or no line has the label that is to be
+    /// begun with.
     Unflown(RowsFault),
     /// The serial text of what is to be checked has a fault.
     TextPart(ReadFault),

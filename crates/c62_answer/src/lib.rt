@@ -12,6 +12,7 @@ mod message;
 mod outcome;
 mod packets;
 mod parting;
+mod reaching;
 mod run;
 mod schedule;
 mod standing;

@@ -133,9 +133,9 @@ blocks_checked = (
         (
           ((λ e. absurd cc), ((λ e. ((λ count. absurd cc), λ values none. values_pass false (parser.Signed (pos 1) (pos 1000000)) values none)), ((λ e. absurd cc), ((λ e. absurd cc), ((λ e. absurd cc), ((λ e. absurd cc), tt)))))),
           (
-            ((λ e. absurd cc), ((λ e. absurd cc), ((λ e. absurd cc), ((λ e. absurd cc), ((λ e. absurd cc), tt))))),
+            ((λ e. absurd cc), ((λ e. absurd cc), ((λ e. absurd cc), ((λ e. absurd cc), ((λ e. absurd cc), ((λ e. absurd cc), tt)))))),
             (
-              ((λ e. absurd cc), ((λ e. absurd cc), tt)),
+              ((λ e. absurd cc), ((λ e. absurd cc), ((λ e. absurd cc), tt))),
               (
                 ((λ e. absurd cc), ((λ e. absurd cc), tt)),
                 (
@@ -163,9 +163,9 @@ eject_checked = (
         (
           ((λ e. absurd cc), ((λ e. absurd cc), ((λ e. absurd cc), ((λ e. absurd cc), ((λ e. absurd cc), ((λ e. absurd cc), tt)))))),
           (
-            ((λ e. absurd cc), ((λ e. absurd cc), ((λ e. absurd cc), ((λ e. absurd cc), ((λ e. absurd cc), tt))))),
+            ((λ e. absurd cc), ((λ e. absurd cc), ((λ e. absurd cc), ((λ e. absurd cc), ((λ e. absurd cc), ((λ e. absurd cc), tt)))))),
             (
-              ((λ e. absurd cc), ((λ e. absurd cc), tt)),
+              ((λ e. absurd cc), ((λ e. absurd cc), ((λ e. absurd cc), tt))),
               (
                 ((λ e. absurd cc), ((λ e. absurd cc), tt)),
                 (
@@ -193,9 +193,9 @@ cycles_checked = (
         (
           ((λ e. absurd cc), ((λ e. absurd cc), ((λ e. absurd cc), ((λ e. absurd cc), ((λ e. absurd cc), ((λ e. absurd cc), tt)))))),
           (
-            ((λ e. ((λ count. absurd cc), λ values none. values_pass false (parser.Signed (pos 1) (pos 1000000000)) values none)), ((λ e. absurd cc), ((λ e. absurd cc), ((λ e. absurd cc), ((λ e. absurd cc), tt))))),
+            ((λ e. ((λ count. absurd cc), λ values none. values_pass false (parser.Signed (pos 1) (pos 1000000000)) values none)), ((λ e. absurd cc), ((λ e. absurd cc), ((λ e. absurd cc), ((λ e. absurd cc), ((λ e. absurd cc), tt)))))),
             (
-              ((λ e. absurd cc), ((λ e. absurd cc), tt)),
+              ((λ e. absurd cc), ((λ e. absurd cc), ((λ e. absurd cc), tt))),
               (
                 ((λ e. absurd cc), ((λ e. absurd cc), tt)),
                 (

@@ -52,6 +52,10 @@ cycles_rule = record (new_rule (codes "cycles")) { long = Some (codes "cycles");
 abbrev pub from_rule : Rule
 from_rule = record (new_rule (codes "from")) { long = Some (codes "from"); value_names = 1 }
 
+-- `--alone`
+abbrev pub alone_rule : Rule
+alone_rule = record (new_rule (codes "alone")) { long = Some (codes "alone"); action = Some SetTrue }
+
 -- `--why`
 abbrev pub why_rule : Rule
 why_rule = record (new_rule (codes "why")) { long = Some (codes "why"); action = Some SetTrue }
@@ -94,8 +98,11 @@ with_packing app = with_rule (with_rule app turns_rule) eject_rule
 abbrev pub with_start : App → App
 with_start app = with_rule (with_rule (with_rule (with_rule app blocks_rule) profile_rule) strict_rule) settings_rule
 
+abbrev pub with_reach : App → App
+with_reach app = with_rule (with_rule app from_rule) alone_rule
+
 abbrev pub with_flight : App → App
-with_flight app = with_rule (with_rule (with_rule (with_rule app cycles_rule) from_rule) strict_rule) settings_rule
+with_flight app = with_rule (with_rule (with_reach (with_rule app cycles_rule)) strict_rule) settings_rule
 
 -- `pack [--turns] [--eject N]`
 abbrev pub pack_app : App
@@ -123,13 +130,13 @@ serial_app = with_start (new_app (codes "serial"))
 abbrev pub sim_app : App
 sim_app = with_start (with_rule (new_app (codes "sim")) packets_rule)
 
--- `exec [--cycles N] [--from NAME] [--strict] [SETTING]..`
+-- `exec [--cycles N] [--from NAME] [--alone] [--strict] [SETTING]..`
 abbrev pub exec_app : App
 exec_app = with_flight (new_app (codes "exec"))
 
--- `adopt [--drain]`
+-- `adopt [--from NAME] [--drain]`
 abbrev pub adopt_app : App
-adopt_app = with_rule (new_app (codes "adopt")) drain_rule
+adopt_app = with_rule (with_rule (new_app (codes "adopt")) from_rule) drain_rule
 
 -- `check [--packets]`
 abbrev pub check_app : App
@@ -176,8 +183,19 @@ pub data Ask : Type 0 where
   FlightReport : (cycles : ℕ) → (strict : Bool) → (from : Option Text) → List Setting → Ask
   -- the listing of a text of packets, with the cycles added that lack in it or without them
   Adoption : (drain : Bool) → Ask
+  -- the same of what is taken of a text of packets from this label on
+  Reaching : (from : Text) → Ask → Ask
   -- what each block of packets in a text of this form is, held against a serial text
   Verdicts : Form → Ask
+
+-- where a label is named, what is asked of that which is taken from there on
+abbrev pub reaching : Option Text → Ask → Ask
+reaching None ask = ask
+reaching (Some name) ask = Reaching name ask
+
+-- a run of the part that it begins with and those that this one reaches, or of the whole text
+abbrev pub flight_asked : (alone : Bool) → (cycles : ℕ) → (strict : Bool) → (from : Option Text) → List Setting → Ask
+flight_asked alone cycles strict from settings = if alone then reaching from (FlightReport cycles strict from settings) else FlightReport cycles strict from settings
 
 abbrev pub ask_of : Request → Ask
 ask_of (Pack packing) = Listing packing
@@ -187,8 +205,8 @@ ask_of (ShowPackets showing) = PacketsPicture showing
 ask_of (Run packing start) = PacketReport packing start.course start.settings.items
 ask_of (Serial start) = SerialReport start.course start.settings.items
 ask_of (Sim form start) = StandingReport form start.course start.settings.items
-ask_of (Exec start) = FlightReport start.cycles start.strict (option_map (λ name. name.items) start.from) start.settings.items
-ask_of (Adopt drain) = Adoption drain
+ask_of (Exec start) = flight_asked start.alone start.cycles start.strict (option_map (λ name. name.items) start.from) start.settings.items
+ask_of (Adopt adopting) = reaching (option_map (λ name. name.items) adopting.from) (Adoption adopting.drain)
 ask_of (Check form) = Verdicts form
 
 -- a flag was set
@@ -267,7 +285,7 @@ abbrev pub report_asked : Text → List Row → List Setting → Ask
 report_asked name rows settings =
     if bytes_eq name (codes "run") then PacketReport (packing_of rows) (course_of rows) settings
     else (if bytes_eq name (codes "sim") then StandingReport (form_of rows) (course_of rows) settings
-    else (if bytes_eq name (codes "exec") then FlightReport (cycles_of rows) (is_set (codes "strict") rows) (first_of (codes "from") rows) settings
+    else (if bytes_eq name (codes "exec") then flight_asked (is_set (codes "alone") rows) (cycles_of rows) (is_set (codes "strict") rows) (first_of (codes "from") rows) settings
     else SerialReport (course_of rows) settings))
 
 -- what the subcommand's name and what was found for its arguments ask for, where the settings are good
@@ -276,7 +294,7 @@ ask_in None = Some (Listing plain_packing)
 ask_in (Some (name, rows)) =
     if bytes_eq name (codes "pack") then Some (Listing (packing_of rows))
     else (if bytes_eq name (codes "show") then Some (show_asked rows)
-    else (if bytes_eq name (codes "adopt") then Some (Adoption (is_set (codes "drain") rows))
+    else (if bytes_eq name (codes "adopt") then Some (reaching (first_of (codes "from") rows) (Adoption (is_set (codes "drain") rows)))
     else (if bytes_eq name (codes "check") then Some (Verdicts (form_of rows))
     else option_map (report_asked name rows) (settings_of (setting_words rows)))))
 

@@ -2,7 +2,7 @@
 
 ghost use Rattle.std.specs.Prelude.{◌≡◌, IfOk, IfErr, Some, false, map, [], codes, option_map};
 ghost use Rattle.clap.specs.Words.{app_of, rule_of, first_of, subcommand_of, subcommand_rows_of, fault_of};
-ghost use Rattle.c62_command.specs.CommandLine.{turns_rule, eject_rule, blocks_rule, settings_rule, cycles_rule, from_rule, drain_rule, why_rule, registers_rule, listing_rule, packets_rule, with_forms, form_of, pack_app, show_app, run_app, serial_app, sim_app, exec_app, adopt_app, check_app, bare_app, listing_app, packing_app, running_app, tool_app, with_packing, with_start, is_set, blocks_of, cycles_of, budget_of, packing_of, showing_of, show_asked, plain_packing, IsLocal, found_rows, words_of, named_rows, ask_in, ask_of, asked, IsBadIn, IsBlame, IsRefusal, IsWordsError, IsSettingError, profile_rule, strict_rule, with_flight, course_of, summary_rule, with_details};
+ghost use Rattle.c62_command.specs.CommandLine.{turns_rule, eject_rule, blocks_rule, settings_rule, cycles_rule, from_rule, alone_rule, drain_rule, why_rule, registers_rule, listing_rule, packets_rule, with_forms, form_of, pack_app, show_app, run_app, serial_app, sim_app, exec_app, adopt_app, check_app, bare_app, listing_app, packing_app, running_app, tool_app, with_packing, with_start, is_set, blocks_of, cycles_of, budget_of, packing_of, showing_of, show_asked, plain_packing, IsLocal, found_rows, words_of, named_rows, ask_in, ask_of, asked, IsBadIn, IsBlame, IsRefusal, IsWordsError, IsSettingError, profile_rule, strict_rule, with_reach, with_flight, course_of, summary_rule, with_details};
 ghost use Rattle.c62_command.specs.Settings.{AreSettings, IsBadAmong};
 
 use crate::setting::{Setting, SettingError, read_settings};
@@ -79,7 +79,18 @@ pub struct FlightStart {
     pub strict: bool,
     /// The label of the row that it begins with, where that isn't the first one.
     pub from: Option<Vec<u8>>,
+    /// Whether of the text only what that label reaches is read.
+    pub alone: bool,
     pub settings: Vec<Setting>,
+}
+
+/// How a text of packets is adopted.
+#[derive(Debug, Drop)]
+pub struct Adopting {
+    /// The label of which what it reaches is adopted, where it isn't the whole text.
+    pub from: Option<Vec<u8>>,
+    /// Whether the cycles are added that lack.
+    pub drain: bool,
 }
 
 /// How the packets of a text are written.
@@ -110,8 +121,8 @@ pub enum Request {
     Sim(Form, Start),
     /// The report of a run of a text of packets, with everything in flight.
     Exec(FlightStart),
-    /// The listing of a text of packets as people and compilers write them. Where it is drained, the cycles are added that lack.
-    Adopt(bool),
+    /// The listing of a text of packets as people and compilers write them.
+    Adopt(Adopting),
     /// What each block of packets in a text of this form is, held against a serial text that stands before it.
     Check(Form),
 }
@@ -205,6 +216,26 @@ fn from_option<'a>(alloc: Global) -> Arg<'a>
 {
     Arg::new(alloc, "from").long("from").value_name("NAME").help(
         "Begins with the packet below this label; with the first where none is given",
+    )
+}
+
+fn alone_flag<'a>(alloc: Global) -> Arg<'a>
+    ensures rule { rule_of result ≡ alone_rule }
+    ensures local { result.global ≡ false }
+{
+    Arg::new(alloc, "alone")
+        .long("alone")
+        .action(ArgAction::SetTrue)
+        .help("Reads of the text only what the label of --from reaches")
+}
+
+/// The option of the same name where what the label reaches is taken.
+fn reach_option<'a>(alloc: Global) -> Arg<'a>
+    ensures rule { rule_of result ≡ from_rule }
+    ensures local { result.global ≡ false }
+{
+    Arg::new(alloc, "from").long("from").value_name("NAME").help(
+        "Takes of the text only what this label reaches; the whole text where none is given",
     )
 }
 
@@ -333,14 +364,20 @@ fn with_start<'a>(alloc: Global, command: Command<'a>) -> Result<Command<'a>, Al
         .arg(settings_words(alloc))
 }
 
+/// The command with the label to begin with, and whether only what it reaches is read.
+fn with_reach<'a>(alloc: Global, command: Command<'a>) -> Result<Command<'a>, AllocError>
+    ensures app { IfOk result (λ c. app_of c ≡ with_reach (app_of command.entry)) }
+    ensures local { IsLocal command.entry → IfOk result IsLocal }
+{
+    command.arg(from_option(alloc))?.arg(alone_flag(alloc))
+}
+
 /// The command with the limit of cycles, the label to begin with, what is told beside the report, and the settings.
 fn with_flight<'a>(alloc: Global, command: Command<'a>) -> Result<Command<'a>, AllocError>
     ensures app { IfOk result (λ c. app_of c ≡ with_flight (app_of command.entry)) }
     ensures local { IsLocal command.entry → IfOk result IsLocal }
 {
-    command
-        .arg(cycles_option(alloc))?
-        .arg(from_option(alloc))?
+    with_reach(alloc, command.arg(cycles_option(alloc))?)?
         .arg(strict_flag(alloc))?
         .arg(settings_words(alloc))
 }
@@ -436,7 +473,7 @@ fn exec_command<'a>(alloc: Global) -> Result<Command<'a>, AllocError>
             "Runs packets as they are written, with branches and loads in flight, and reports the end",
         )
         .override_usage(
-            "c62 exec [--cycles <N>] [--from <NAME>] [--strict] [-o <FILE>] [FILE] [SETTING]...",
+            "c62 exec [--cycles <N>] [--from <NAME> [--alone]] [--strict] [-o <FILE>] [FILE] [SETTING]...",
         )
         .after_help(ending!("c62 exec hand.asm --from loop A4=8"));
     with_flight(alloc, command)
@@ -448,10 +485,11 @@ fn adopt_command<'a>(alloc: Global) -> Result<Command<'a>, AllocError>
 {
     Command::new(alloc, "adopt")
         .about("Reads packets as they are written for an assembler and writes their listing")
-        .override_usage("c62 adopt [--drain] [-o <FILE>] [FILE]")
+        .override_usage("c62 adopt [--from <NAME>] [--drain] [-o <FILE>] [FILE]")
         .after_help(ending!(
             "c62 adopt hand.asm --drain  (4 cycles added; A5 was read below line 2 before it landed)"
         ))
+        .arg(reach_option(alloc))?
         .arg(drain_flag(alloc))
 }
 
@@ -573,7 +611,7 @@ fn bytes_of(alloc: Global, text: &str) -> Result<Vec<u8>, AllocError>
     Ok(bytes)
 }
 
-/// The label with whose row a run begins, where one is named.
+/// The label that is named, where one is.
 fn from_in(alloc: Global, matches: &ArgMatches<'_>) -> Result<Option<Vec<u8>>, AllocError>
     ensures { IfOk result (λ from. option_map (λ name. name.items) from ≡ first_of (codes "from") (found_rows matches.now)) }
 {
@@ -641,6 +679,7 @@ fn flight_in(alloc: Global, matches: &ArgMatches<'_>) -> Result<FlightStart, Set
     ensures cycles { IfOk result (λ start. start.cycles ≡ cycles_of (found_rows matches.now)) }
     ensures strict { IfOk result (λ start. start.strict ≡ is_set (codes "strict") (found_rows matches.now)) }
     ensures from { IfOk result (λ start. option_map (λ name. name.items) start.from ≡ first_of (codes "from") (found_rows matches.now)) }
+    ensures alone { IfOk result (λ start. start.alone ≡ is_set (codes "alone") (found_rows matches.now)) }
     ensures settings { IfOk result (λ start. AreSettings (words_of matches.now) start.settings.items) }
     ensures err { IfErr result (IsBadAmong (words_of matches.now)) }
 {
@@ -648,7 +687,20 @@ fn flight_in(alloc: Global, matches: &ArgMatches<'_>) -> Result<FlightStart, Set
         cycles: cycles_in(matches),
         strict: is_set(matches, "strict"),
         from: from_in(alloc, matches)?,
+        alone: is_set(matches, "alone"),
         settings: settings_in(alloc, matches)?,
+    })
+}
+
+/// How a text is adopted, by the options of the subcommand.
+fn adopting_in(alloc: Global, matches: &ArgMatches<'_>) -> Result<Adopting, AllocError>
+    ensures from { IfOk result (λ adopting. option_map (λ name. name.items) adopting.from ≡ first_of (codes "from") (found_rows matches.now)) }
+    ensures drain { IfOk result (λ adopting. adopting.drain ≡ is_set (codes "drain") (found_rows matches.now)) }
+{
+    let from = from_in(alloc, matches)?;
+    Ok(Adopting {
+        from,
+        drain: is_set(matches, "drain"),
     })
 }
 
@@ -701,7 +753,7 @@ fn request_named(alloc: Global, name: &str, found: &ArgMatches<'_>) -> Result<Re
         return Ok(show_in(found));
     }
     if name == "adopt" {
-        return Ok(Request::Adopt(is_set(found, "drain")));
+        return Ok(Request::Adopt(adopting_in(alloc, found)?));
     }
     if name == "check" {
         return Ok(Request::Check(form_in(found)));

@@ -8,7 +8,7 @@ mod setting;
 
 pub use blamed::setting_at;
 pub use command::{
-    CommandError, Course, FlightStart, Form, Packing, Request, Showing, Start, command_of,
+    Adopting, CommandError, Course, FlightStart, Form, Packing, Request, Showing, Start, command_of,
 };
 pub use laws::{prints_are_of_memory, takes_limits};
 pub use setting::{Print, Setting, Size, equals_sign, first_part, place_in};

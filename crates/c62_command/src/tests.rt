@@ -1,15 +1,15 @@
 //! What words ask for, as the README and docs/REPORT.md say.
 
 use crate::{
-    CommandError, FlightStart, Form, Packing, Print, Request, Setting, Showing, Size, Start,
-    command_of,
+    Adopting, CommandError, FlightStart, Form, Packing, Print, Request, Setting, Showing, Size,
+    Start, command_of,
 };
 use c62_op::Side;
 use std::alloc::Global;
 use std::test::Fail;
 
 /// Words, and what they ask for or why they are refused.
-const ASKED: [(&[&str], &str); 61] = [
+const ASKED: [(&[&str], &str); 70] = [
     (&[], "pack by turns, 0 ejections"),
     (&["pack"], "pack by workers, 0 ejections"),
     (&["pack", "--turns"], "pack by turns, 0 ejections"),
@@ -119,6 +119,18 @@ const ASKED: [(&[&str], &str); 61] = [
     (&["exec", "--profile"], "words"),
     (&["adopt"], "adopt"),
     (&["adopt", "--drain"], "adopt, drained"),
+    (&["adopt", "--from", ".L5"], "adopt from .L5"),
+    (&["adopt", "--drain", "--from=f"], "adopt from f, drained"),
+    (&["adopt", "--from"], "words"),
+    (&["adopt", "--from", "f", "--from", "g"], "words"),
+    (&["adopt", "--alone"], "words"),
+    (
+        &["exec", "--alone", "--from", "f", "--strict"],
+        "exec; 1000000 cycles, strict from f, alone",
+    ),
+    (&["exec", "--alone"], "exec; 1000000 cycles, alone"),
+    (&["sim", "--alone"], "words"),
+    (&["pack", "--from", "f"], "words"),
     (&["adopt", "--turns"], "words"),
     (&["check"], "check"),
     (&["check", "--packets"], "check packets"),
@@ -194,8 +206,20 @@ fn flight_text(alloc: Global, start: &FlightStart) -> Result<String, Fail> {
         text.push_str(" from ")?;
         text.push_str(str::from_utf8(name).unwrap_or("?"))?;
     }
+    text.push_str(if start.alone { ", alone" } else { "" })?;
     text.push_str(&settings_text(alloc, &start.settings)?)?;
     Ok(text)
+}
+
+fn adopting_text(alloc: Global, adopting: &Adopting) -> Result<String, Fail> {
+    let way = if adopting.drain { ", drained" } else { "" };
+    Ok(match &adopting.from {
+        Some(name) => {
+            let name = str::from_utf8(name).unwrap_or("?");
+            format!(in alloc; "adopt from {name}{way}")?
+        }
+        None => format!(in alloc; "adopt{way}")?,
+    })
 }
 
 fn start_text(alloc: Global, start: &Start) -> Result<String, Fail> {
@@ -233,10 +257,7 @@ fn request_text(alloc: Global, request: &Request) -> Result<String, Fail> {
             format!(in alloc; "sim{}; {}", form_text(*form), start_text(alloc, start)?)?
         }
         Request::Exec(start) => format!(in alloc; "exec; {}", flight_text(alloc, start)?)?,
-        Request::Adopt(drain) => {
-            let way = if *drain { ", drained" } else { "" };
-            format!(in alloc; "adopt{way}")?
-        }
+        Request::Adopt(adopting) => adopting_text(alloc, adopting)?,
         Request::Check(form) => format!(in alloc; "check{}", form_text(*form))?,
     })
 }

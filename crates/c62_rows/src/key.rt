@@ -25,7 +25,7 @@ impl Model for Key {
 
 impl Key {
     /// The key of a label.
-    pub(crate) fn new(label: Label) -> Key
+    pub fn new(label: Label) -> Key
         ensures { result ≡ label }
     {
         Key { label }

@@ -17,7 +17,7 @@ use std::alloc::{AllocError, Global};
 
 /// What a line says.
 #[derive(Drop)]
-pub(crate) struct Said {
+pub struct Said {
     /// With 0 where a label stands for its word.
     pub line: Written,
     /// The label whose word the instruction's constant is a half of.
@@ -25,7 +25,7 @@ pub(crate) struct Said {
 }
 
 /// The name with `_` in place of dots.
-pub(crate) fn undotted(alloc: Global, name: &[u8]) -> Result<Vec<u8>, AllocError>
+pub fn undotted(alloc: Global, name: &[u8]) -> Result<Vec<u8>, AllocError>
     ensures { IfOk result (λ plain. plain.items ≡ undotted name.now) }
 {
     let mut plain = Vec::with_capacity(alloc, name.len())?;
@@ -179,7 +179,7 @@ fn zeroed(alloc: Global, line: &[u8]) -> Result<Vec<u8>, AllocError>
 ///
 /// The first fault of the line that needs no other line. `Memory` may come in place of any answer.
 #[tactic(auto, unfolding(crate::specs::Word::row_says))]
-pub(crate) fn read_said(alloc: Global, text: &mut Vec<u8>, line: &[u8]) -> Result<Said, LineFault>
+pub fn read_said(alloc: Global, text: &mut Vec<u8>, line: &[u8]) -> Result<Said, LineFault>
     ensures { MatchResult result (λ said. row_says line.now ≡ Ok (said_read said)) (λ fault. Fails fault (row_says line.now)) }
 {
     let fault = match read_line(text, line) {

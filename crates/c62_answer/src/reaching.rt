@@ -1,0 +1,68 @@
+//! Answers to what is taken of a text from a label on.
+
+ghost use Rattle.std.specs.Prelude.{◌≡◌, MatchResult, option_map};
+ghost use Rattle.c62_command.specs.CommandLine.{Adoption, FlightReport, Reaching, flight_asked, reaching};
+ghost use Rattle.c62_reach.specs.Taken.{IsTaken};
+ghost use Rattle.c62_answer.specs.Run.{Gives, TakesNothing};
+
+use crate::answer::adopted;
+use crate::exec::exec;
+use crate::failure::Failure;
+use crate::outcome::Reply;
+use c62_command::{Adopting, FlightStart};
+use c62_reach::{ReachFault, reached_text};
+use c62_rows::RowsFault;
+use std::alloc::Global;
+
+/// What is taken of a text from the label of this name on.
+fn taken_from(alloc: Global, text: &[u8], name: &[u8]) -> Result<Vec<u8>, Failure>
+    ensures { MatchResult result (λ taken. IsTaken name.now text.now taken.items) (TakesNothing name.now text.now) }
+{
+    match reached_text(alloc, text, name) {
+        Ok(taken) => Ok(taken),
+        Err(ReachFault::From) => Err(Failure::Unflown(RowsFault::From)),
+        Err(ReachFault::Memory) => Err(Failure::Memory),
+    }
+}
+
+/// The listing of what is taken of a text from the label of this name on.
+#[tactic(auto, using(crate::proofs::Reached::reached, crate::proofs::Reached::not_reached))]
+fn adopted_from(alloc: Global, text: &[u8], name: &[u8], drain: bool) -> Result<Reply, Failure>
+    ensures { Gives (Reaching name.now (Adoption drain)) text.now result }
+{
+    match taken_from(alloc, text, name) {
+        Ok(taken) => adopted(alloc, &taken, drain),
+        Err(failure) => Err(failure),
+    }
+}
+
+/// The listing of a text of packets, or of what is taken of it.
+pub(crate) fn adopted_as(alloc: Global, text: &[u8], adopting: &Adopting) -> Result<Reply, Failure>
+    ensures { Gives (reaching (option_map (λ name. name.items) adopting.now.from) (Adoption adopting.now.drain)) text.now result }
+{
+    match &adopting.from {
+        Some(name) => adopted_from(alloc, text, name, adopting.drain),
+        None => adopted(alloc, text, adopting.drain),
+    }
+}
+
+/// The report of a run of what is taken of a text from the label of this name on.
+#[tactic(auto, using(crate::proofs::Reached::reached, crate::proofs::Reached::not_reached))]
+fn exec_from(alloc: Global, text: &[u8], name: &[u8], start: &FlightStart) -> Result<Reply, Failure>
+    ensures { Gives (Reaching name.now (FlightReport start.now.cycles start.now.strict (option_map (λ name. name.items) start.now.from) start.now.settings.items)) text.now result }
+{
+    match taken_from(alloc, text, name) {
+        Ok(taken) => exec(alloc, &taken, start),
+        Err(failure) => Err(failure),
+    }
+}
+
+/// The report of a run of a text of packets, or of what is taken of it.
+pub(crate) fn exec_as(alloc: Global, text: &[u8], start: &FlightStart) -> Result<Reply, Failure>
+    ensures { Gives (flight_asked start.now.alone start.now.cycles start.now.strict (option_map (λ name. name.items) start.now.from) start.now.settings.items) text.now result }
+{
+    match &start.from {
+        Some(name) if start.alone => exec_from(alloc, text, name, start),
+        Some(_) | None => exec(alloc, text, start),
+    }
+}

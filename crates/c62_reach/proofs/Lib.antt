@@ -1,0 +1,9 @@
+pub mod Graph
+pub mod IndexLemmas
+pub mod SearchLemmas
+pub mod PartLemmas
+pub mod Lines
+pub mod TakenLemmas
+pub mod LineLaws
+pub mod LawLemmas
+pub mod Front

@@ -1,0 +1,10 @@
+pub mod FaultText
+pub mod Ended
+pub mod Part
+pub mod PartRead
+pub mod Reach
+pub mod Search
+pub mod Index
+pub mod Taken
+pub mod Told
+pub mod Laws
