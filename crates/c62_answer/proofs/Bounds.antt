@@ -1,5 +1,5 @@
 -- What a picture says of shorter schedules holds of its blocks.
-use Rattle.std.proofs.Common.{arith, ◌≡◌, List, [], ◌∷◌, length, subst, Option, Some, None}
+use Rattle.std.proofs.Common.{arith, ◌≡◌, Bool, true, false, List, [], ◌∷◌, length, subst, Option, Some, None}
 use Rattle.std.specs.Prelude.{IsTrue, IfSome}
 use Rattle.std.specs.Option.{IsSomeAnd}
 use Rattle.std.proofs.lemmas.Bool.Decides.{nat_tests}
@@ -15,7 +15,7 @@ use Rattle.c62_show.specs.Limits.{AreLimits}
 use Rattle.c62_show.proofs.Heads.{head_is_true}
 use Rattle.c62_command.specs.declared.command.Showing.{Showing}
 use Rattle.c62_answer.specs.Bounds.{AreBounded, IsBounded}
-use Rattle.c62_answer.specs.Schedule.{AreShown, IsShown}
+use Rattle.c62_answer.specs.Schedule.{AreShown, IsShown, TellsLimits}
 
 is_sound_block : (block : Serial) → IsPlan (insns_of block) → IsTrue (branch_last (operations block.insns)) → IsTrue (is_block block.insns)
 is_sound_block block plan last =
@@ -23,15 +23,17 @@ is_sound_block block plan last =
     let long = length-map block.insns (λ (entry : SerialInsn). entry.insn) in
     grind (arith, nat_tests, few, long, last)
 
-if_some : (limits : Option Limits) (P : Limits → Type 0) → IsSomeAnd limits P → IfSome limits P
-if_some None P some = absurd some
-if_some (Some limits) P some = some
+are_limits : (shortest : Bool) (block : Serial) (limits : Option Limits) → IsSomeAnd limits (TellsLimits shortest block) → IfSome limits (AreLimits block)
+are_limits shortest block None some = absurd some
+are_limits false block (Some limits) some = some.are
+are_limits true block (Some limits) some = some
 
 bounded : (showing : Showing) (block : Serial) (shown : Shown) → IsShown showing block shown → IsBounded block shown
 bounded showing block shown is packed sound schedule =
     let plan : IsPlan (insns_of block) = subst (λ (own : Serial). IsPlan (insns_of own)) is.scheduled.made.plan_is is.scheduled.made.sound.plan in
     let seated = packets_seated block packed schedule (is_sound_block block plan schedule.branch_last) sound in
-    head_is_true block shown (spots_of schedule.numbered) packed.cycles is.scheduled.packets.sound (if_some shown.limits (AreLimits block) is.limits) plan seated
+    head_is_true block shown (spots_of schedule.numbered) packed.cycles is.scheduled.packets.sound
+    (are_limits showing.packing.shortest block shown.limits is.limits) plan seated
 
 pub are_bounded : (showing : Showing) (program : List Serial) (shown : List Shown) → AreShown showing program shown → AreBounded program shown
 are_bounded showing [] [] all = tt

@@ -1,5 +1,5 @@
 -- One board has one listing.
-use Rattle.std.proofs.Common.{◌≡◌, ◌∙◌, ◌⊎◌, ℕ, zero, suc, ◌<◌, ◌≤◌, true, List, [], ◌∷◌, length, map, get_or, Option, Some, None, refl, sym, ap, subst, arith, inl, inr}
+use Rattle.std.proofs.Common.{◌≡◌, ◌∙◌, ◌⊎◌, ℕ, zero, suc, ◌<◌, ◌≤◌, Bool, true, false, List, [], ◌∷◌, length, map, get_or, Option, Some, None, refl, sym, ap, subst, arith, inl, inr}
 use Rattle.std.specs.Prelude.{Contains, slice_index_or, Result, Ok}
 use Rattle.std.specs.List.{AllPairs}
 use Rattle.std.specs.List.Sorted.{IsPermutation}
@@ -25,7 +25,7 @@ use Rattle.c62_packet.specs.Packed.{Packed, IsInListingOrder, issue_of, issued, 
 use Rattle.c62_pack.specs.Packets.{AreNumbered, ArePackets, StandsAt}
 use Rattle.c62_listing.specs.Listing.{listing}
 use Rattle.c62_command.specs.declared.command.Packing.{Packing}
-use Rattle.c62_answer.specs.Schedule.{AreScheduled, IsScheduled}
+use Rattle.c62_answer.specs.Schedule.{AreScheduled, IsScheduled, MayStand}
 use Rattle.c62_answer.specs.Texts.{SaysProgram}
 use Rattle.c62_answer.specs.OneText.{HasOneText, HaveOnePacking}
 use Rattle.c62_answer.proofs.OneBoard.{one_board}
@@ -199,25 +199,30 @@ packets_once block set one other first last =
     (among_both first.serial one.placed other.placed first.listed listed) (among_both first.serial other.placed one.placed listed first.listed) in
     same_packed one other (first.label ∙ sym last.label) (first.cycles ∙ sym last.cycles) placed
 
-scheduled_once : (packing : Packing) (block : Serial) (one other : Packed) → packing.turns ≡ true → IsScheduled packing block one
+-- the spots are those of the board
+own_spots : (packing : Packing) (block : Serial) (packed : Packed) (plain : packing.shortest ≡ false) (is : IsScheduled packing block packed) → is.spots ≡ is.board.spots
+own_spots packing block packed plain is = subst (λ (shortest : Bool). MayStand shortest block is.board.spots is.spots) plain is.stand
+
+scheduled_once : (packing : Packing) (block : Serial) (one other : Packed) → packing.turns ≡ true → packing.shortest ≡ false → IsScheduled packing block one
     → IsScheduled packing block other → one ≡ other
-scheduled_once packing block one other turns first last =
+scheduled_once packing block one other turns plain first last =
     let same = one_board packing block turns first.board last.board first.made last.made in
-    let spots : first.board.spots ≡ last.board.spots = ap (λ (board : BoardState). board.spots) same in
-    packets_once block last.board.spots one other (subst (λ (set : Spots). ArePackets block set one) spots first.packets) last.packets
+    let boards : first.board.spots ≡ last.board.spots = ap (λ (board : BoardState). board.spots) same in
+    let spots : first.spots ≡ last.spots = own_spots packing block one plain first ∙ boards ∙ sym (own_spots packing block other plain last) in
+    packets_once block last.spots one other (subst (λ (set : Spots). ArePackets block set one) spots first.packets) last.packets
 
 pub one_packing : (packing : Packing) (program : List Serial) → HaveOnePacking packing program
-one_packing packing [] turns [] [] first last = refl
-one_packing packing [] turns [] (q ∷ others) first last = absurd last
-one_packing packing [] turns (p ∷ packets) others first last = absurd first
-one_packing packing (b ∷ program) turns [] others first last = absurd first
-one_packing packing (b ∷ program) turns (p ∷ packets) [] first last = absurd last
-one_packing packing (b ∷ program) turns (p ∷ packets) (q ∷ others) first last =
-    ap (λ (x : Packed). x ∷ packets) (scheduled_once packing b p q turns first.0 last.0)
-    ∙ ap (λ (xs : List Packed). q ∷ xs) (one_packing packing program turns packets others first.1 last.1)
+one_packing packing [] turns plain [] [] first last = refl
+one_packing packing [] turns plain [] (q ∷ others) first last = absurd last
+one_packing packing [] turns plain (p ∷ packets) others first last = absurd first
+one_packing packing (b ∷ program) turns plain [] others first last = absurd first
+one_packing packing (b ∷ program) turns plain (p ∷ packets) [] first last = absurd last
+one_packing packing (b ∷ program) turns plain (p ∷ packets) (q ∷ others) first last =
+    ap (λ (x : Packed). x ∷ packets) (scheduled_once packing b p q turns plain first.0 last.0)
+    ∙ ap (λ (xs : List Packed). q ∷ xs) (one_packing packing program turns plain packets others first.1 last.1)
 
 pub one_text : (packing : Packing) (text : List ℕ) → HasOneText packing text
-one_text packing text turns one other first last =
+one_text packing text turns plain one other first last =
     let program = one_program text first.program last.program first.says last.says in
     let packed : AreScheduled packing last.program first.packets = subst (λ (blocks : List Serial). AreScheduled packing blocks first.packets) program first.packed in
-    first.listed ∙ ap listing (one_packing packing last.program turns first.packets last.packets packed last.packed) ∙ sym last.listed
+    first.listed ∙ ap listing (one_packing packing last.program turns plain first.packets last.packets packed last.packed) ∙ sym last.listed

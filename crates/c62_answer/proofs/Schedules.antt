@@ -1,8 +1,7 @@
 -- The packets of a program's blocks.
-use Rattle.std.proofs.Common.{◌≡◌, ◌∙◌, ℕ, zero, suc, ◌+◌, ◌<◌, ◌≤◌, true, List, [], ◌∷◌, ◌++◌, length, Option, Some, refl, sym, ap, subst, arith}
+use Rattle.std.proofs.Common.{◌≡◌, ◌∙◌, ℕ, zero, suc, ◌+◌, ◌<◌, ◌≤◌, Bool, true, false, List, [], ◌∷◌, ◌++◌, length, map, Option, Some, refl, sym, ap, subst, arith}
 use Rattle.std.specs.Prelude.{slice_get, All}
 use Rattle.std.specs.List.{list_all}
-use Rattle.std.specs.Option.{IsSomeAnd}
 use Rattle.std.proofs.lemmas.List.{length-append}
 use Rattle.std.proofs.lemmas.List.Sums.{list_all-from_AllPass}
 use Rattle.std.proofs.lemmas.List.Sorted.{All-permutation}
@@ -14,7 +13,10 @@ use Rattle.c62_read.specs.Block.{Serial, labels_in, target_stands, targets_stand
 use Rattle.c62_serial.specs.State.{Machine, IsSound}
 use Rattle.c62_serial.specs.Chain.{RunsProgram}
 use Rattle.c62_serial.specs.declared.chain.Chain.{Chain}
+use Rattle.c62_depend.specs.Plan.{insns_of}
 use Rattle.c62_sheet.specs.declared.entry.Spot.{Spot}
+use Rattle.c62_sheet.specs.Lawful.{Spots}
+use Rattle.c62_sheet.specs.Counts.{set_length}
 use Rattle.c62_packet.specs.declared.placed.Placed.{Placed}
 use Rattle.c62_packet.specs.Packed.{Packed}
 use Rattle.c62_packet.specs.Packets.{is_closed, labels_of}
@@ -25,9 +27,13 @@ use Rattle.c62_meaning.specs.Laws.{AreSerial}
 use Rattle.c62_pack.specs.Packets.{AreNumbered, ArePackets}
 use Rattle.c62_command.specs.declared.command.Packing.{Packing}
 use Rattle.c62_command.specs.declared.command.Showing.{Showing}
+use Rattle.c62_show.specs.declared.limits.Limits.{Limits}
 use Rattle.c62_show.specs.declared.shown.Shown.{Shown}
-use Rattle.c62_show.specs.Limits.{AreLimits}
-use Rattle.c62_answer.specs.Schedule.{AddsPackets, AreScheduled, AreShown, IsMade, IsScheduled, IsShown, IsShownOf, TellsWhys}
+use Rattle.c62_show.specs.Limits.{AreLimits, ArePlainLimits}
+use Rattle.c62_show.specs.Registers.{TellsLives}
+use Rattle.c62_shortest.specs.declared.searched.Shortest.{Shortest as Found}
+use Rattle.c62_shortest.specs.Shortest.{IsShortest}
+use Rattle.c62_answer.specs.Schedule.{AddsPackets, ArePacketsFrom, AreScheduled, AreShown, IsMade, IsScheduled, IsShown, IsShownOf, MayStand, TellsLimits, TellsWhys}
 
 -- one block more
 pub scheduled_more : (packing : Packing) (blocks : List Serial) (packets : List Packed) (block : Serial) (packed : Packed) → AreScheduled packing blocks packets
@@ -38,22 +44,18 @@ scheduled_more packing (b ∷ blocks) [] block packed all one = absurd all
 scheduled_more packing (b ∷ blocks) (q ∷ packets) block packed all one = (all.0, scheduled_more packing blocks packets block packed all.1 one)
 
 -- the packets of a board that was made for a block
-pub scheduled_one : (packing : Packing) (block : Serial) (board : BoardState) (packed : Packed) → IsMade packing block board → ArePackets board.plan board.spots packed
-    → AreSerial board.plan.insns packed.placed → IsBlockPacked board.plan packed → IsScheduled packing block packed
-scheduled_one packing block board packed made packets serial keeps = record {
-  board = board;
-  made = made;
-  packets = subst (λ (plan : Serial). ArePackets plan board.spots packed) made.plan_is packets;
-  serial = subst (λ (plan : Serial). AreSerial plan.insns packed.placed) made.plan_is serial;
-  keeps = subst (λ (plan : Serial). IsBlockPacked plan packed) made.plan_is keeps;
-}
+pub scheduled_one : (packing : Packing) (block : Serial) (board : BoardState) (packed : Packed) → IsMade packing block board
+    → ArePacketsFrom packing board.plan board.spots packed → IsScheduled packing block packed
+scheduled_one packing block board packed made from =
+    let here : ArePacketsFrom packing block board.spots packed = subst (λ (plan : Serial). ArePacketsFrom packing plan board.spots packed) made.plan_is from in
+    record { board = board; made = made; spots = here.spots; stand = here.stand; packets = here.packets; serial = here.serial; keeps = here.keeps }
 
 -- the packets of one block more were appended
 pub scheduled_next : (packing : Packing) (blocks : List Serial) (packets new : List Packed) (block : Serial) (board : BoardState) → AreScheduled packing blocks packets
-    → IsMade packing block board → AddsPackets board.plan board.spots packets new → AreScheduled packing (blocks ++ block ∷ []) new
+    → IsMade packing block board → AddsPackets packing board.plan board.spots packets new → AreScheduled packing (blocks ++ block ∷ []) new
 scheduled_next packing blocks packets new block board all made pushed =
-    let one = scheduled_one packing block board pushed.0 made pushed.1 pushed.2 pushed.3 in
-    subst (λ (whole : List Packed). AreScheduled packing (blocks ++ block ∷ []) whole) (sym pushed.4) (scheduled_more packing blocks packets block pushed.0 all one)
+    let one = scheduled_one packing block board pushed.0 made pushed.1 in
+    subst (λ (whole : List Packed). AreScheduled packing (blocks ++ block ∷ []) whole) (sym pushed.2) (scheduled_more packing blocks packets block pushed.0 all one)
 
 -- what is shown of one block more
 pub shown_more : (showing : Showing) (blocks : List Serial) (shown : List Shown) (block : Serial) (one : Shown) → AreShown showing blocks shown
@@ -66,13 +68,77 @@ shown_more showing (b ∷ blocks) (q ∷ shown) block one all is = (all.0, shown
 -- what is shown of a board that was made for a block
 pub shown_one : (showing : Showing) (block : Serial) (board : BoardState) (shown : Shown) → IsMade showing.packing block board
     → IsShownOf showing board.plan board.spots shown → IsShown showing block shown
-unfolding scheduled_one
-shown_one showing block board shown made is = record {
-  scheduled = scheduled_one showing.packing block board shown.packets made is.packets is.serial is.keeps;
-  limits = subst (λ (plan : Serial). IsSomeAnd shown.limits (AreLimits plan)) made.plan_is is.limits;
-  whys = subst (λ (plan : Serial). TellsWhys showing.why plan board.spots shown.packets.cycles shown.whys.items) made.plan_is is.whys;
-  lives = is.lives;
+shown_one showing block board shown made is =
+    let here : IsShownOf showing block board.spots shown = subst (λ (plan : Serial). IsShownOf showing plan board.spots shown) made.plan_is is in
+    let from = here.from in
+    record {
+      scheduled =
+          record { board = board; made = made; spots = from.spots; stand = from.stand; packets = from.packets; serial = from.serial; keeps = from.keeps };
+      limits = here.limits;
+      whys = here.whys;
+      lives = here.lives;
+    }
+
+-- packets of a board's own spots
+pub own_packets : (packing : Packing) (block : Serial) (own : Spots) (packed : Packed) → packing.shortest ≡ false → ArePackets block own packed
+    → AreSerial block.insns packed.placed → IsBlockPacked block packed → ArePacketsFrom packing block own packed
+own_packets packing block own packed plain packets serial keeps = record {
+  spots = own;
+  stand = subst (λ (shortest : Bool). MayStand shortest block own own) (sym plain) refl;
+  packets = packets;
+  serial = serial;
+  keeps = keeps;
 }
+
+-- packets of a schedule that is no longer than the board
+pub short_packets : (packing : Packing) (block : Serial) (own : Spots) (found : Found) → packing.shortest ≡ true
+    → IsShortest block (set_length (insns_of block) own) found → ArePacketsFrom packing block own found.schedule.packets
+short_packets packing block own found asked is =
+    let cycles = is.is.packets.cycles in
+    let short = is.no_longer in
+    record {
+      spots = map Some found.schedule.spots.items;
+      stand =
+          subst (λ (shortest : Bool). MayStand shortest block own (map Some found.schedule.spots.items)) (sym asked)
+          (is.is.lawful, is.is.complete, omega (arith, cycles, short));
+      packets = is.is.packets;
+      serial = is.is.serial;
+      keeps = is.is.keeps;
+    }
+
+-- what is shown of a board's own packets
+pub shown_plainly : (showing : Showing) (block : Serial) (own : Spots) (shown : Shown) (limits : Limits) → showing.packing.shortest ≡ false
+    → ArePackets block own shown.packets → AreSerial block.insns shown.packets.placed → IsBlockPacked block shown.packets → shown.limits ≡ Some limits
+    → ArePlainLimits block limits → TellsWhys showing.why block own shown.packets.cycles shown.whys.items → TellsLives showing.registers shown.packets shown.lives
+    → IsShownOf showing block own shown
+unfolding own_packets
+shown_plainly showing block own shown limits plain packets serial keeps some known whys lives = record {
+  from = own_packets showing.packing block own shown.packets plain packets serial keeps;
+  limits = rw some (subst (λ (shortest : Bool). TellsLimits shortest block limits) (sym plain) known);
+  whys = whys;
+  lives = lives;
+}
+
+-- what is shown of a schedule that is no longer than the board
+pub shown_shortest : (showing : Showing) (block : Serial) (own : Spots) (shown : Shown) (found : Found) (limits : Limits) → showing.packing.shortest ≡ true
+    → IsShortest block (set_length (insns_of block) own) found → shown.packets ≡ found.schedule.packets → shown.limits ≡ Some limits → AreLimits block limits
+    → TellsWhys showing.why block (map Some found.schedule.spots.items) shown.packets.cycles shown.whys.items → TellsLives showing.registers shown.packets shown.lives
+    → IsShownOf showing block own shown
+unfolding short_packets
+shown_shortest showing block own shown found limits asked is same some known whys lives =
+    let short = short_packets showing.packing block own found asked is in
+    record {
+      from = record {
+        spots = short.spots;
+        stand = short.stand;
+        packets = rw same short.packets;
+        serial = rw same short.serial;
+        keeps = rw same short.keeps;
+      };
+      limits = rw some (subst (λ (shortest : Bool). TellsLimits shortest block limits) (sym asked) known);
+      whys = whys;
+      lives = lives;
+    }
 
 -- as many blocks as before
 pub as_many : (packing : Packing) (blocks : List Serial) (packets : List Packed) → AreScheduled packing blocks packets → length packets ≡ length blocks

@@ -1,5 +1,5 @@
 -- Packed by turns, a text has one listing (docs/SCHEDULING.md, "Turns" and "Finishing").
-use Rattle.std.specs.Prelude.{◌≡◌, true, ℕ, List}
+use Rattle.std.specs.Prelude.{◌≡◌, true, false, ℕ, List}
 use Rattle.c62_read.specs.Block.{Serial}
 use Rattle.c62_board.specs.State.{BoardState}
 use Rattle.c62_packet.specs.Packed.{Packed}
@@ -16,12 +16,13 @@ abbrev pub HasOneBoard : Packing → Serial → Type 0
 HasOneBoard packing block =
     packing.turns ≡ true → (one other : BoardState) → IsMade packing block one → IsMade packing block other → IsSameBoard one other
 
--- by turns the blocks of a program have one list of packets
+-- by turns the blocks of a program have one list of packets, unless the shortest schedules are asked for
 abbrev pub HaveOnePacking : Packing → List Serial → Type 0
 HaveOnePacking packing program =
-    packing.turns ≡ true → (one other : List Packed) → AreScheduled packing program one → AreScheduled packing program other → one ≡ other
+    packing.turns ≡ true → packing.shortest ≡ false → (one other : List Packed) → AreScheduled packing program one → AreScheduled packing program other → one ≡ other
 
--- by turns a text has one listing
+-- by turns a text has one listing, unless the shortest schedules are asked for
 abbrev pub HasOneText : Packing → List ℕ → Type 0
 HasOneText packing text =
-    packing.turns ≡ true → (one other : List ℕ) → IsPackedText packing text one → IsPackedText packing text other → one ≡ other
+    packing.turns ≡ true → packing.shortest ≡ false → (one other : List ℕ) → IsPackedText packing text one → IsPackedText packing text other
+    → one ≡ other

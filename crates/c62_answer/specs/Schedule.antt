@@ -1,10 +1,11 @@
 -- How the blocks of a program become packets (docs/SCHEDULING.md, "Turns", "Finishing" and "Two workers").
-use Rattle.std.specs.Prelude.{◌≡◌, ◌≢◌, ℕ, Bool, true, false, List, [], ◌∷◌, ◌++◌}
+use Rattle.std.specs.Prelude.{◌≡◌, ◌≢◌, ℕ, ◌≤◌, Bool, true, false, List, [], ◌∷◌, ◌++◌}
 use Rattle.std.specs.Option.{IsSomeAnd}
 use Rattle.c62_read.specs.Block.{Serial}
 use Rattle.c62_depend.specs.Plan.{insns_of}
-use Rattle.c62_sheet.specs.Lawful.{Spots}
+use Rattle.c62_sheet.specs.Lawful.{Spots, IsLawful}
 use Rattle.c62_sheet.specs.Least.{IsComplete}
+use Rattle.c62_sheet.specs.Counts.{set_length}
 use Rattle.c62_board.specs.declared.turn.Turn.{Turn}
 use Rattle.c62_board.specs.declared.turn.Turn.TheVariants.{Memory}
 use Rattle.c62_board.specs.State.{BoardState, Has, IsSound}
@@ -16,7 +17,8 @@ use Rattle.c62_meaning.specs.Laws.{AreSerial}
 use Rattle.c62_pipe.specs.Chain.{IsBlockPacked}
 use Rattle.c62_pack.specs.Packets.{ArePackets, ArePlaced}
 use Rattle.c62_show.specs.declared.shown.Shown.{Shown}
-use Rattle.c62_show.specs.Limits.{AreLimits}
+use Rattle.c62_show.specs.declared.limits.Limits.{Limits}
+use Rattle.c62_show.specs.Limits.{AreLimits, ArePlainLimits}
 use Rattle.c62_show.specs.Registers.{TellsLives}
 use Rattle.c62_why.specs.declared.why.Why.{Why}
 use Rattle.c62_why.specs.Why.{AreWhys}
@@ -40,18 +42,34 @@ pub record IsMade (packing : Packing) (block : Serial) (board : BoardState) : Ty
   pub sound : IsSound board
   pub turned : packing.turns ≡ true → IsTurned block packing.budget board
 
--- The packets of such a board. Run as packets, they do what the block does serially.
-pub record IsScheduled (packing : Packing) (block : Serial) (packed : Packed) : Type 0 where
-  pub board : BoardState
-  pub made : IsMade packing block board
-  pub packets : ArePackets block board.spots packed
+-- Where the instructions of a block stand, of which a board has these spots: there. Where the shortest schedule is asked for, on the
+-- spots of any lawful set that places all and takes no more cycles.
+abbrev pub MayStand : (shortest : Bool) → Serial → Spots → Spots → Type 0
+MayStand false block own spots = spots ≡ own
+MayStand true block own spots =
+    IsLawful (insns_of block) spots × IsComplete (insns_of block) spots × (set_length (insns_of block) spots ≤ set_length (insns_of block) own)
+
+-- The packets of such spots. Run as packets, they do what the block does serially.
+pub record ArePacketsFrom (packing : Packing) (block : Serial) (own : Spots) (packed : Packed) : Type 0 where
+  pub spots : Spots
+  pub stand : MayStand packing.shortest block own spots
+  pub packets : ArePackets block spots packed
   pub serial : AreSerial block.insns packed.placed
   pub keeps : IsBlockPacked block packed
 
--- the packets of these spots stand behind the others
-abbrev pub AddsPackets : Serial → Spots → List Packed → List Packed → Type 0
-AddsPackets block spots old new =
-    (packed : Packed) × ArePackets block spots packed × AreSerial block.insns packed.placed × IsBlockPacked block packed × (new ≡ old ++ packed ∷ [])
+-- such packets of a board that was made for the block
+pub record IsScheduled (packing : Packing) (block : Serial) (packed : Packed) : Type 0 where
+  pub board : BoardState
+  pub made : IsMade packing block board
+  pub spots : Spots
+  pub stand : MayStand packing.shortest block board.spots spots
+  pub packets : ArePackets block spots packed
+  pub serial : AreSerial block.insns packed.placed
+  pub keeps : IsBlockPacked block packed
+
+-- such packets stand behind the others
+abbrev pub AddsPackets : Packing → Serial → Spots → List Packed → List Packed → Type 0
+AddsPackets packing block own old new = (packed : Packed) × ArePacketsFrom packing block own packed × (new ≡ old ++ packed ∷ [])
 
 -- block by block
 abbrev pub AreScheduled : Packing → List Serial → List Packed → Type 0
@@ -66,20 +84,23 @@ abbrev pub TellsWhys : Bool → Serial → Spots → ℕ → List Why → Type 0
 TellsWhys false block spots cycles whys = whys ≡ []
 TellsWhys true block spots cycles whys = (placed : List Placed) × ArePlaced block spots placed × AreWhys (insns_of block) cycles placed whys
 
+-- how short packets could be at best; where the shortest schedule is asked for, a search may tell more
+abbrev pub TellsLimits : (shortest : Bool) → Serial → Limits → Type 0
+TellsLimits false block limits = ArePlainLimits block limits
+TellsLimits true block limits = AreLimits block limits
+
 -- The packets of such a board, how short they could be at best, why their instructions stand where they do, and their registers.
 pub record IsShown (showing : Showing) (block : Serial) (shown : Shown) : Type 0 where
   pub scheduled : IsScheduled showing.packing block shown.packets
-  pub limits : IsSomeAnd shown.limits (AreLimits block)
-  pub whys : TellsWhys showing.why block scheduled.board.spots shown.packets.cycles shown.whys.items
+  pub limits : IsSomeAnd shown.limits (TellsLimits showing.packing.shortest block)
+  pub whys : TellsWhys showing.why block scheduled.spots shown.packets.cycles shown.whys.items
   pub lives : TellsLives showing.registers shown.packets shown.lives
 
--- what is shown of the packets of these spots
-pub record IsShownOf (showing : Showing) (block : Serial) (spots : Spots) (shown : Shown) : Type 0 where
-  pub packets : ArePackets block spots shown.packets
-  pub serial : AreSerial block.insns shown.packets.placed
-  pub keeps : IsBlockPacked block shown.packets
-  pub limits : IsSomeAnd shown.limits (AreLimits block)
-  pub whys : TellsWhys showing.why block spots shown.packets.cycles shown.whys.items
+-- what is shown of packets of which a board has these spots
+pub record IsShownOf (showing : Showing) (block : Serial) (own : Spots) (shown : Shown) : Type 0 where
+  pub from : ArePacketsFrom showing.packing block own shown.packets
+  pub limits : IsSomeAnd shown.limits (TellsLimits showing.packing.shortest block)
+  pub whys : TellsWhys showing.why block from.spots shown.packets.cycles shown.whys.items
   pub lives : TellsLives showing.registers shown.packets shown.lives
 
 -- block by block

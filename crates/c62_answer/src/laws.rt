@@ -29,7 +29,7 @@ pub fn packets_run_as_their_listing()
 {}
 
 /// `pack --turns` can write one listing only of a text, with one budget of ejections: the board that
-/// turns and finishing lead to is one, and so are the packets and what is written.
+/// turns and finishing lead to is one, and so are the packets and what is written, unless the shortest schedules are asked for.
 pub fn turns_pack_once()
     ensures board { (packing : Packing) (block : Serial) → HasOneBoard packing block }
     ensures packets { (packing : Packing) (program : List Serial) → HaveOnePacking packing program }

@@ -1,21 +1,24 @@
 //! Packs the blocks of a program.
 
 ghost use Rattle.std.specs.Thread.{IsSync};
-ghost use Rattle.std.specs.Prelude.{◌≡◌, ◌<◌, ◌≤◌, true, false, length, IfOk, IsTrue, OnOk};
+ghost use Rattle.std.specs.Prelude.{◌≡◌, ◌<◌, ◌≤◌, true, false, length, map, Some, IfOk, IsTrue, OnOk};
+ghost use Rattle.c62_sheet.specs.Lawful.{IsLawful};
 ghost use Rattle.c62_sheet.specs.Least.{IsComplete};
 ghost use Rattle.c62_depend.specs.Plan.{insns_of};
 ghost use Rattle.c62_board.specs.State.{IsSound};
 ghost use Rattle.c62_read.specs.declared.limits.TheConstants.{MOST_BLOCKS};
 ghost use Rattle.c62_packet.specs.Packets.{is_closed};
-ghost use Rattle.c62_answer.specs.Schedule.{AreScheduled, AddsPackets, AreShown, IsMade, IsScheduled, IsShown, IsShownOf, IsTurned, TellsWhys};
+ghost use Rattle.c62_answer.specs.Schedule.{AreScheduled, AddsPackets, ArePacketsFrom, AreShown, IsMade, IsScheduled, IsShown, IsShownOf, IsTurned, TellsWhys};
 
 use c62_board::{Board, Turn};
 use c62_command::{Packing, Showing};
 use c62_depend::Plan;
-use c62_pack::{packets_of, placed_of};
+use c62_pack::{packets_of, placed_at, placed_of};
 use c62_packet::{PacketBlock, Packets};
 use c62_read::{Block, Program};
-use c62_show::{Shown, limits_of, lives_told};
+use c62_sheet::Spot;
+use c62_shortest::{Schedule, shortest};
+use c62_show::{Shown, limits_of, limits_with, lives_told};
 use c62_why::{Why, whys_of};
 use c62_work::{FreeGate, Options, finish, schedule, turns};
 use rayon::current_num_threads;
@@ -88,13 +91,56 @@ fn board_by_workers<R: Threads + Wait + Sync>(
     Ok(board)
 }
 
-/// Appends the packets of a complete board.
-fn push_packets(alloc: Global, packets: &mut Packets, board: &Board) -> Result<(), AllocError>
+/// The packets of the shortest schedule that is found of a complete board's block.
+#[tactic(auto, using(crate::proofs::Schedules::short_packets))]
+fn shortest_packets(
+    alloc: Global,
+    board: &Board,
+    packing: Packing,
+) -> Result<PacketBlock, AllocError>
+    requires complete { IsComplete (insns_of board.now.plan) board.now.spots }
+    requires asked { packing.shortest ≡ true }
+    ensures { IfOk result (ArePacketsFrom packing board.now.plan board.now.spots) }
+{
+    let found = shortest(alloc, board, u32::from(packing.choices))?;
+    Ok(found.schedule.packets)
+}
+
+/// The packets of a complete board.
+#[tactic(auto, using(crate::proofs::Schedules::own_packets))]
+fn own_packets(alloc: Global, board: &Board, packing: Packing) -> Result<PacketBlock, AllocError>
+    requires complete { IsComplete (insns_of board.now.plan) board.now.spots }
+    requires plain { packing.shortest ≡ false }
+    ensures { IfOk result (ArePacketsFrom packing board.now.plan board.now.spots) }
+{
+    let packets = packets_of(alloc, board)?;
+    Ok(packets)
+}
+
+/// The packets of a complete board, or where it is asked for of the shortest schedule that is found.
+fn packets_from(alloc: Global, board: &Board, packing: Packing) -> Result<PacketBlock, AllocError>
+    requires { IsComplete (insns_of board.now.plan) board.now.spots }
+    ensures { IfOk result (ArePacketsFrom packing board.now.plan board.now.spots) }
+{
+    if packing.shortest {
+        shortest_packets(alloc, board, packing)
+    } else {
+        own_packets(alloc, board, packing)
+    }
+}
+
+/// Appends the packets of a block, of which a complete board is given.
+fn push_packets(
+    alloc: Global,
+    packets: &mut Packets,
+    board: &Board,
+    packing: Packing,
+) -> Result<(), AllocError>
     requires complete { IsComplete (insns_of board.now.plan) board.now.spots }
     requires few { length packets.old < MOST_BLOCKS }
-    ensures pushed { OnOk result (AddsPackets board.now.plan board.now.spots packets.old packets.new) }
+    ensures pushed { OnOk result (AddsPackets packing board.now.plan board.now.spots packets.old packets.new) }
 {
-    match packets.push(packets_of(alloc, board)?) {
+    match packets.push(packets_from(alloc, board, packing)?) {
         Ok(()) => Ok(()),
         Err((_, error)) => Err(error),
     }
@@ -117,7 +163,7 @@ pub fn packets_by_turns(
     let mut packets = Packets::new(alloc);
     for block in program.into_blocks() {
         let board = board_by_turns(alloc, block, packing)?;
-        push_packets(alloc, &mut packets, &board)?;
+        push_packets(alloc, &mut packets, &board, packing)?;
     }
     Ok(packets)
 }
@@ -151,7 +197,7 @@ fn packets_of_block<R: Threads + Wait + Sync>(
     ensures { IfOk result (IsScheduled packing block) }
 {
     let board = board_by_workers(rt, alloc, block, packing)?;
-    Ok(packets_of(alloc, &board)?)
+    Ok(packets_from(alloc, &board, packing)?)
 }
 
 /// The packets of blocks, in their order. The blocks are parted into runs, which are packed side by side.
@@ -223,9 +269,31 @@ fn whys_told(alloc: Global, board: &Board, cycles: u16, why: bool) -> Result<Vec
     Ok(whys)
 }
 
+/// Why each instruction on lawful spots isn't issued a cycle earlier, where that is asked for.
+fn whys_at(
+    alloc: Global,
+    plan: &Plan,
+    spots: &[Spot],
+    cycles: u16,
+    why: bool,
+) -> Result<Vec<Why>, AllocError>
+    requires { IsLawful (insns_of plan.now) (map Some spots.now) }
+    ensures { IfOk result (λ whys. TellsWhys why plan.now (map Some spots.now) cycles whys.items) }
+{
+    if why {
+        let placed = placed_at(alloc, plan, spots)?;
+        let whys = whys_of(alloc, plan, cycles, &placed)?;
+        Ok(whys)
+    } else {
+        Ok(Vec::new(alloc))
+    }
+}
+
 /// What is shown of a complete board.
-fn shown_of(alloc: Global, board: &Board, showing: Showing) -> Result<Shown, AllocError>
-    requires { IsComplete (insns_of board.now.plan) board.now.spots }
+#[tactic(auto, using(crate::proofs::Schedules::own_packets))]
+fn shown_own(alloc: Global, board: &Board, showing: Showing) -> Result<Shown, AllocError>
+    requires complete { IsComplete (insns_of board.now.plan) board.now.spots }
+    requires plain { showing.packing.shortest ≡ false }
     ensures { IfOk result (IsShownOf showing board.now.plan board.now.spots) }
 {
     let packets = packets_of(alloc, board)?;
@@ -237,6 +305,37 @@ fn shown_of(alloc: Global, board: &Board, showing: Showing) -> Result<Shown, All
         whys,
         lives,
     })
+}
+
+/// What is shown of the shortest schedule that is found of a complete board's block.
+fn shown_shortest(alloc: Global, board: &Board, showing: Showing) -> Result<Shown, AllocError>
+    requires complete { IsComplete (insns_of board.now.plan) board.now.spots }
+    requires asked { showing.packing.shortest ≡ true }
+    ensures { IfOk result (IsShownOf showing board.now.plan board.now.spots) }
+{
+    let found = shortest(alloc, board, u32::from(showing.packing.choices))?;
+    let limits = limits_with(alloc, board.plan(), found.least)?;
+    let Schedule { spots, packets } = found.schedule;
+    let whys = whys_at(alloc, board.plan(), &spots, packets.length(), showing.why)?;
+    let lives = lives_told(alloc, &packets, showing.registers)?;
+    Ok(Shown {
+        limits: Some(limits),
+        packets,
+        whys,
+        lives,
+    })
+}
+
+/// What is shown of a complete board, or where it is asked for of the shortest schedule that is found.
+fn shown_of(alloc: Global, board: &Board, showing: Showing) -> Result<Shown, AllocError>
+    requires { IsComplete (insns_of board.now.plan) board.now.spots }
+    ensures { IfOk result (IsShownOf showing board.now.plan board.now.spots) }
+{
+    if showing.packing.shortest {
+        shown_shortest(alloc, board, showing)
+    } else {
+        shown_own(alloc, board, showing)
+    }
 }
 
 /// What is shown of a program's blocks, packed by turns.

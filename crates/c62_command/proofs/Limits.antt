@@ -110,7 +110,7 @@ module _ (option : Text) (Passes : Text → Type 0) where
       let entered_none : below ≡ [] = first_none below _ (then_none walks _ none) in
       first_good option Passes rows (entered_good checks stop name rows entered_none is)
 
--- ---- the three options
+-- ---- the options
 
 abbrev IsBlocks : Text → Type 0
 IsBlocks text = is_signed_in (pos 1) (pos 1000000) text ≡ true
@@ -121,13 +121,16 @@ IsCycles text = is_signed_in (pos 1) (pos 1000000000) text ≡ true
 abbrev IsBudget : Text → Type 0
 IsBudget text = is_signed_in (pos 0) (pos 1000) text ≡ true
 
+abbrev IsChoices : Text → Type 0
+IsChoices text = is_signed_in (pos 0) (pos 10000) text ≡ true
+
 blocks_checked : Each (AreChecked (codes "blocks") IsBlocks) (built tool_app).subs
 blocks_checked = (
-  ((λ e. absurd cc), ((λ e. absurd cc), ((λ e. absurd cc), tt))),
+  ((λ e. absurd cc), ((λ e. absurd cc), ((λ e. absurd cc), ((λ e. absurd cc), ((λ e. absurd cc), tt))))),
   (
-    ((λ e. absurd cc), ((λ e. absurd cc), ((λ e. absurd cc), ((λ e. absurd cc), ((λ e. absurd cc), ((λ e. absurd cc), ((λ e. absurd cc), ((λ e. absurd cc), tt)))))))),
+    ((λ e. absurd cc), ((λ e. absurd cc), ((λ e. absurd cc), ((λ e. absurd cc), ((λ e. absurd cc), ((λ e. absurd cc), ((λ e. absurd cc), ((λ e. absurd cc), ((λ e. absurd cc), ((λ e. absurd cc), tt)))))))))),
     (
-      ((λ e. absurd cc), ((λ e. absurd cc), ((λ e. ((λ count. absurd cc), λ values none. values_pass false (parser.Signed (pos 1) (pos 1000000)) values none)), ((λ e. absurd cc), ((λ e. absurd cc), ((λ e. absurd cc), ((λ e. absurd cc), tt))))))),
+      ((λ e. absurd cc), ((λ e. absurd cc), ((λ e. absurd cc), ((λ e. absurd cc), ((λ e. ((λ count. absurd cc), λ values none. values_pass false (parser.Signed (pos 1) (pos 1000000)) values none)), ((λ e. absurd cc), ((λ e. absurd cc), ((λ e. absurd cc), ((λ e. absurd cc), tt))))))))),
       (
         ((λ e. ((λ count. absurd cc), λ values none. values_pass false (parser.Signed (pos 1) (pos 1000000)) values none)), ((λ e. absurd cc), ((λ e. absurd cc), ((λ e. absurd cc), ((λ e. absurd cc), tt))))),
         (
@@ -153,11 +156,11 @@ blocks_checked = (
 
 eject_checked : Each (AreChecked (codes "eject") IsBudget) (built tool_app).subs
 eject_checked = (
-  ((λ e. absurd cc), ((λ e. ((λ count. absurd cc), λ values none. values_pass false (parser.Signed (pos 0) (pos 1000)) values none)), ((λ e. absurd cc), tt))),
+  ((λ e. absurd cc), ((λ e. ((λ count. absurd cc), λ values none. values_pass false (parser.Signed (pos 0) (pos 1000)) values none)), ((λ e. absurd cc), ((λ e. absurd cc), ((λ e. absurd cc), tt))))),
   (
-    ((λ e. absurd cc), ((λ e. ((λ count. absurd cc), λ values none. values_pass false (parser.Signed (pos 0) (pos 1000)) values none)), ((λ e. absurd cc), ((λ e. absurd cc), ((λ e. absurd cc), ((λ e. absurd cc), ((λ e. absurd cc), ((λ e. absurd cc), tt)))))))),
+    ((λ e. absurd cc), ((λ e. ((λ count. absurd cc), λ values none. values_pass false (parser.Signed (pos 0) (pos 1000)) values none)), ((λ e. absurd cc), ((λ e. absurd cc), ((λ e. absurd cc), ((λ e. absurd cc), ((λ e. absurd cc), ((λ e. absurd cc), ((λ e. absurd cc), ((λ e. absurd cc), tt)))))))))),
     (
-      ((λ e. absurd cc), ((λ e. ((λ count. absurd cc), λ values none. values_pass false (parser.Signed (pos 0) (pos 1000)) values none)), ((λ e. absurd cc), ((λ e. absurd cc), ((λ e. absurd cc), ((λ e. absurd cc), ((λ e. absurd cc), tt))))))),
+      ((λ e. absurd cc), ((λ e. ((λ count. absurd cc), λ values none. values_pass false (parser.Signed (pos 0) (pos 1000)) values none)), ((λ e. absurd cc), ((λ e. absurd cc), ((λ e. absurd cc), ((λ e. absurd cc), ((λ e. absurd cc), ((λ e. absurd cc), ((λ e. absurd cc), tt))))))))),
       (
         ((λ e. absurd cc), ((λ e. absurd cc), ((λ e. absurd cc), ((λ e. absurd cc), ((λ e. absurd cc), tt))))),
         (
@@ -183,11 +186,11 @@ eject_checked = (
 
 cycles_checked : Each (AreChecked (codes "cycles") IsCycles) (built tool_app).subs
 cycles_checked = (
-  ((λ e. absurd cc), ((λ e. absurd cc), ((λ e. absurd cc), tt))),
+  ((λ e. absurd cc), ((λ e. absurd cc), ((λ e. absurd cc), ((λ e. absurd cc), ((λ e. absurd cc), tt))))),
   (
-    ((λ e. absurd cc), ((λ e. absurd cc), ((λ e. absurd cc), ((λ e. absurd cc), ((λ e. absurd cc), ((λ e. absurd cc), ((λ e. absurd cc), ((λ e. absurd cc), tt)))))))),
+    ((λ e. absurd cc), ((λ e. absurd cc), ((λ e. absurd cc), ((λ e. absurd cc), ((λ e. absurd cc), ((λ e. absurd cc), ((λ e. absurd cc), ((λ e. absurd cc), ((λ e. absurd cc), ((λ e. absurd cc), tt)))))))))),
     (
-      ((λ e. absurd cc), ((λ e. absurd cc), ((λ e. absurd cc), ((λ e. absurd cc), ((λ e. absurd cc), ((λ e. absurd cc), ((λ e. absurd cc), tt))))))),
+      ((λ e. absurd cc), ((λ e. absurd cc), ((λ e. absurd cc), ((λ e. absurd cc), ((λ e. absurd cc), ((λ e. absurd cc), ((λ e. absurd cc), ((λ e. absurd cc), ((λ e. absurd cc), tt))))))))),
       (
         ((λ e. absurd cc), ((λ e. absurd cc), ((λ e. absurd cc), ((λ e. absurd cc), ((λ e. absurd cc), tt))))),
         (
@@ -211,9 +214,40 @@ cycles_checked = (
   ),
 )
 
+search_checked : Each (AreChecked (codes "search") IsChoices) (built tool_app).subs
+search_checked = (
+  ((λ e. absurd cc), ((λ e. absurd cc), ((λ e. absurd cc), ((λ e. ((λ count. absurd cc), λ values none. values_pass false (parser.Signed (pos 0) (pos 10000)) values none)), ((λ e. absurd cc), tt))))),
+  (
+    ((λ e. absurd cc), ((λ e. absurd cc), ((λ e. absurd cc), ((λ e. ((λ count. absurd cc), λ values none. values_pass false (parser.Signed (pos 0) (pos 10000)) values none)), ((λ e. absurd cc), ((λ e. absurd cc), ((λ e. absurd cc), ((λ e. absurd cc), ((λ e. absurd cc), ((λ e. absurd cc), tt)))))))))),
+    (
+      ((λ e. absurd cc), ((λ e. absurd cc), ((λ e. absurd cc), ((λ e. ((λ count. absurd cc), λ values none. values_pass false (parser.Signed (pos 0) (pos 10000)) values none)), ((λ e. absurd cc), ((λ e. absurd cc), ((λ e. absurd cc), ((λ e. absurd cc), ((λ e. absurd cc), tt))))))))),
+      (
+        ((λ e. absurd cc), ((λ e. absurd cc), ((λ e. absurd cc), ((λ e. absurd cc), ((λ e. absurd cc), tt))))),
+        (
+          ((λ e. absurd cc), ((λ e. absurd cc), ((λ e. absurd cc), ((λ e. absurd cc), ((λ e. absurd cc), ((λ e. absurd cc), tt)))))),
+          (
+            ((λ e. absurd cc), ((λ e. absurd cc), ((λ e. absurd cc), ((λ e. absurd cc), ((λ e. absurd cc), tt))))),
+            (
+              ((λ e. absurd cc), ((λ e. absurd cc), tt)),
+              (
+                ((λ e. absurd cc), ((λ e. absurd cc), tt)),
+                (
+                  ((λ e. absurd cc), tt),
+                  tt,
+                ),
+              ),
+            ),
+          ),
+        ),
+      ),
+    ),
+  ),
+)
+
 pub takes_limits : (words : List Text) → TakesLimits words
 takes_limits words name rows none is = record {
   blocks = given 32 1 1000000 1000 (first_of (codes "blocks") rows) (λ e. absurd cc) (omega arith) (passing (codes "blocks") IsBlocks blocks_checked words name rows none is);
   cycles = given 32 1 1000000000 1000000 (first_of (codes "cycles") rows) (λ e. absurd cc) (omega arith) (passing (codes "cycles") IsCycles cycles_checked words name rows none is);
   eject = given 16 0 1000 0 (first_of (codes "eject") rows) (λ e. refl) (omega arith) (passing (codes "eject") IsBudget eject_checked words name rows none is);
+  search = given 16 0 10000 0 (first_of (codes "search") rows) (λ e. refl) (omega arith) (passing (codes "search") IsChoices search_checked words name rows none is);
 }

@@ -40,6 +40,14 @@ turns_rule = record (new_rule (codes "turns")) { long = Some (codes "turns"); ac
 abbrev pub eject_rule : Rule
 eject_rule = record (new_rule (codes "eject")) { long = Some (codes "eject"); value_names = 1; parser = Some (Signed (pos 0) (pos 1000)) }
 
+-- `--shortest`
+abbrev pub shortest_rule : Rule
+shortest_rule = record (new_rule (codes "shortest")) { long = Some (codes "shortest"); action = Some SetTrue }
+
+-- `--search N`, from 0 to 10,000
+abbrev pub search_rule : Rule
+search_rule = record (new_rule (codes "search")) { long = Some (codes "search"); value_names = 1; parser = Some (Signed (pos 0) (pos 10000)) }
+
 -- `--blocks N`, from 1 to 1,000,000
 abbrev pub blocks_rule : Rule
 blocks_rule = record (new_rule (codes "blocks")) { long = Some (codes "blocks"); value_names = 1; parser = Some (Signed (pos 1) (pos 1000000)) }
@@ -93,7 +101,7 @@ abbrev pub settings_rule : Rule
 settings_rule = record (new_rule (codes "settings")) { value_names = 1; action = Some Append }
 
 abbrev pub with_packing : App → App
-with_packing app = with_rule (with_rule app turns_rule) eject_rule
+with_packing app = with_rule (with_rule (with_rule (with_rule app turns_rule) eject_rule) shortest_rule) search_rule
 
 abbrev pub with_start : App → App
 with_start app = with_rule (with_rule (with_rule (with_rule app blocks_rule) profile_rule) strict_rule) settings_rule
@@ -104,7 +112,7 @@ with_reach app = with_rule (with_rule app from_rule) alone_rule
 abbrev pub with_flight : App → App
 with_flight app = with_rule (with_rule (with_reach (with_rule app cycles_rule)) strict_rule) settings_rule
 
--- `pack [--turns] [--eject N]`
+-- `pack [--turns] [--eject N] [--shortest] [--search N]`
 abbrev pub pack_app : App
 pack_app = with_packing (new_app (codes "pack"))
 
@@ -114,11 +122,11 @@ with_forms app = with_rule (with_rule app listing_rule) packets_rule
 abbrev pub with_details : App → App
 with_details app = with_rule (with_rule (with_rule app why_rule) registers_rule) summary_rule
 
--- `show [--turns] [--eject N] [--listing] [--packets] [--why] [--registers] [--summary]`
+-- `show [--turns] [--eject N] [--shortest] [--search N] [--listing] [--packets] [--why] [--registers] [--summary]`
 abbrev pub show_app : App
 show_app = with_details (with_forms (with_packing (new_app (codes "show"))))
 
--- `run [--turns] [--eject N] [--blocks N] [--profile] [--strict] [SETTING]..`
+-- `run [--turns] [--eject N] [--shortest] [--search N] [--blocks N] [--profile] [--strict] [SETTING]..`
 abbrev pub run_app : App
 run_app = with_start (with_packing (new_app (codes "run")))
 
@@ -236,8 +244,21 @@ cycles_of rows = number_of 32 (codes "cycles") 1000000 rows
 abbrev pub budget_of : List Row → ℕ
 budget_of rows = number_of 16 (codes "eject") 0 rows
 
+-- by how many choices a block's schedule is searched for: none where nothing is given
+abbrev pub choices_of : List Row → ℕ
+choices_of rows = number_of 16 (codes "search") 0 rows
+
+-- the shortest schedules are asked for, by themselves or by a search
+abbrev pub asks_shortest : List Row → Bool
+asks_shortest rows = option_map_or (λ _. true) (first_of (codes "search") rows) (is_set (codes "shortest") rows)
+
 abbrev pub packing_of : List Row → Packing
-packing_of rows = record { turns = is_set (codes "turns") rows; budget = budget_of rows }
+packing_of rows = record {
+  turns = is_set (codes "turns") rows;
+  budget = budget_of rows;
+  shortest = asks_shortest rows;
+  choices = choices_of rows;
+}
 
 abbrev pub showing_of : List Row → Showing
 showing_of rows = record {
@@ -260,9 +281,9 @@ form_of rows = if is_set (codes "packets") rows then Written else Listed
 abbrev pub course_of : List Row → Course
 course_of rows = record { blocks = blocks_of rows; profile = is_set (codes "profile") rows; strict = is_set (codes "strict") rows }
 
--- by turns and without ejections
+-- by turns, without ejections, and the schedules that these lead to
 abbrev pub plain_packing : Packing
-plain_packing = record { turns = true; budget = 0 }
+plain_packing = record { turns = true; budget = 0; shortest = false; choices = 0 }
 
 -- the words that are to be settings
 abbrev pub setting_words : List Row → List Text
@@ -365,6 +386,8 @@ pub record AreLimits (rows : List Row) : Type 0 where
   pub cycles : IsNumberOf 1 1000000000 1000000 (first_of (codes "cycles") rows) (cycles_of rows)
   -- behind `--eject` 0 to 1,000, and 0 without it
   pub eject : IsNumberOf 0 1000 0 (first_of (codes "eject") rows) (budget_of rows)
+  -- behind `--search` 0 to 10,000, and 0 without it
+  pub search : IsNumberOf 0 10000 0 (first_of (codes "search") rows) (choices_of rows)
 
 -- Where clap takes the words, no number is made up.
 abbrev pub TakesLimits : List Text → Type 0

@@ -2,7 +2,7 @@
 
 ghost use Rattle.std.specs.Prelude.{◌≡◌, IfOk, IfErr, Some, false, map, [], codes, option_map};
 ghost use Rattle.clap.specs.Words.{app_of, rule_of, first_of, subcommand_of, subcommand_rows_of, fault_of};
-ghost use Rattle.c62_command.specs.CommandLine.{turns_rule, eject_rule, blocks_rule, settings_rule, cycles_rule, from_rule, alone_rule, drain_rule, why_rule, registers_rule, listing_rule, packets_rule, with_forms, form_of, pack_app, show_app, run_app, serial_app, sim_app, exec_app, adopt_app, check_app, bare_app, listing_app, packing_app, running_app, tool_app, with_packing, with_start, is_set, blocks_of, cycles_of, budget_of, packing_of, showing_of, show_asked, plain_packing, IsLocal, found_rows, words_of, named_rows, ask_in, ask_of, asked, IsBadIn, IsBlame, IsRefusal, IsWordsError, IsSettingError, profile_rule, strict_rule, with_reach, with_flight, course_of, summary_rule, with_details};
+ghost use Rattle.c62_command.specs.CommandLine.{turns_rule, eject_rule, blocks_rule, settings_rule, cycles_rule, from_rule, alone_rule, drain_rule, why_rule, registers_rule, listing_rule, packets_rule, with_forms, form_of, pack_app, show_app, run_app, serial_app, sim_app, exec_app, adopt_app, check_app, bare_app, listing_app, packing_app, running_app, tool_app, with_packing, with_start, is_set, blocks_of, cycles_of, budget_of, packing_of, showing_of, show_asked, plain_packing, IsLocal, found_rows, words_of, named_rows, ask_in, ask_of, asked, IsBadIn, IsBlame, IsRefusal, IsWordsError, IsSettingError, profile_rule, strict_rule, with_reach, with_flight, course_of, summary_rule, with_details, shortest_rule, search_rule, choices_of, asks_shortest};
 ghost use Rattle.c62_command.specs.Settings.{AreSettings, IsBadAmong};
 
 use crate::setting::{Setting, SettingError, read_settings};
@@ -39,6 +39,10 @@ pub struct Packing {
     pub turns: bool,
     /// How many ejections there may be in a block.
     pub budget: u16,
+    /// Whether the shortest schedule of each block is taken that is found.
+    pub shortest: bool,
+    /// By how many choices a block's shortest schedule is searched for at most.
+    pub choices: u16,
 }
 
 /// How blocks are shown.
@@ -165,6 +169,8 @@ impl From<SettingError> for CommandError {
 const PLAIN: Packing = Packing {
     turns: true,
     budget: 0,
+    shortest: false,
+    choices: 0,
 };
 
 fn turns_flag<'a>(alloc: Global) -> Arg<'a>
@@ -186,6 +192,27 @@ fn eject_option<'a>(alloc: Global) -> Arg<'a>
         .value_name("N")
         .value_parser(value_parser!(u16).range(0..=1000))
         .help("Ejects at most N placed instructions of a block, 0 to 1000; 0 where none is given")
+}
+
+fn shortest_flag<'a>(alloc: Global) -> Arg<'a>
+    ensures rule { rule_of result ≡ shortest_rule }
+    ensures local { result.global ≡ false }
+{
+    Arg::new(alloc, "shortest")
+        .long("shortest")
+        .action(ArgAction::SetTrue)
+        .help("Takes the shortest schedule of each block that further lists find")
+}
+
+fn search_option<'a>(alloc: Global) -> Arg<'a>
+    ensures rule { rule_of result ≡ search_rule }
+    ensures local { result.global ≡ false }
+{
+    Arg::new(alloc, "search")
+        .long("search")
+        .value_name("N")
+        .value_parser(value_parser!(u16).range(0..=10_000))
+        .help("The same, and searches by at most N choices for each block, 0 to 10000")
 }
 
 fn blocks_option<'a>(alloc: Global) -> Arg<'a>
@@ -349,7 +376,11 @@ fn with_packing<'a>(alloc: Global, command: Command<'a>) -> Result<Command<'a>, 
     ensures app { IfOk result (λ c. app_of c ≡ with_packing (app_of command.entry)) }
     ensures local { IsLocal command.entry → IfOk result IsLocal }
 {
-    command.arg(turns_flag(alloc))?.arg(eject_option(alloc))
+    command
+        .arg(turns_flag(alloc))?
+        .arg(eject_option(alloc))?
+        .arg(shortest_flag(alloc))?
+        .arg(search_option(alloc))
 }
 
 /// The command with the limit of blocks, what is told beside the report, and the settings.
@@ -407,7 +438,9 @@ fn pack_command<'a>(alloc: Global) -> Result<Command<'a>, AllocError>
 {
     let command = Command::new(alloc, "pack")
         .about("Reads serial text and writes its listing")
-        .override_usage("c62 pack [--turns] [--eject <N>] [-o <FILE>] [FILE]")
+        .override_usage(
+            "c62 pack [--turns] [--eject <N>] [--shortest] [--search <N>] [-o <FILE>] [FILE]",
+        )
         .after_help(ending!("c62 pack kernel.s"));
     with_packing(alloc, command)
 }
@@ -419,7 +452,7 @@ fn show_command<'a>(alloc: Global) -> Result<Command<'a>, AllocError>
     let command = Command::new(alloc, "show")
         .about("Packs serial text and shows each block's schedule, and how short one can be")
         .override_usage(
-            "c62 show [--why] [--registers] [--summary] [--turns] [--eject <N>] [-o <FILE>] [FILE]\n       c62 show --listing|--packets [--why] [--registers] [--summary] [-o <FILE>] [FILE]",
+            "c62 show [--why] [--registers] [--summary] [--turns] [--eject <N>] [--shortest] [--search <N>] [-o <FILE>] [FILE]\n       c62 show --listing|--packets [--why] [--registers] [--summary] [-o <FILE>] [FILE]",
         )
         .after_help(ending!("c62 show --why kernel.s"));
     with_details(alloc, with_forms(alloc, with_packing(alloc, command)?)?)
@@ -432,7 +465,7 @@ fn run_command<'a>(alloc: Global) -> Result<Command<'a>, AllocError>
     let command = Command::new(alloc, "run")
         .about("Packs serial text, runs the packets and reports the end")
         .override_usage(
-            "c62 run [--turns] [--eject <N>] [--blocks <N>] [--profile] [--strict] [-o <FILE>] [FILE] [SETTING]...",
+            "c62 run [--turns] [--eject <N>] [--shortest] [--search <N>] [--blocks <N>] [--profile] [--strict] [-o <FILE>] [FILE] [SETTING]...",
         )
         .after_help(ending!("c62 run kernel.s A4=8 @8=99"));
     with_start(alloc, with_packing(alloc, command)?)
@@ -631,12 +664,34 @@ fn budget_in(matches: &ArgMatches<'_>) -> u16
     }
 }
 
+/// By how many choices a schedule is searched for.
+fn choices_in(matches: &ArgMatches<'_>) -> u16
+    ensures { result ≡ choices_of (found_rows matches.now) }
+{
+    match matches.get_str("search") {
+        Some(text) => text.parse().unwrap_or(0),
+        None => 0,
+    }
+}
+
+/// Whether the shortest schedules are asked for. A search asks for them too.
+fn asks_shortest(matches: &ArgMatches<'_>) -> bool
+    ensures { result ≡ asks_shortest (found_rows matches.now) }
+{
+    match matches.get_str("search") {
+        Some(_) => true,
+        None => is_set(matches, "shortest"),
+    }
+}
+
 fn packing_in(matches: &ArgMatches<'_>) -> Packing
     ensures { result ≡ packing_of (found_rows matches.now) }
 {
     Packing {
         turns: is_set(matches, "turns"),
         budget: budget_in(matches),
+        shortest: asks_shortest(matches),
+        choices: choices_in(matches),
     }
 }
 

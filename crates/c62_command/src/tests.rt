@@ -9,7 +9,7 @@ use std::alloc::Global;
 use std::test::Fail;
 
 /// Words, and what they ask for or why they are refused.
-const ASKED: [(&[&str], &str); 70] = [
+const ASKED: [(&[&str], &str); 78] = [
     (&[], "pack by turns, 0 ejections"),
     (&["pack"], "pack by workers, 0 ejections"),
     (&["pack", "--turns"], "pack by turns, 0 ejections"),
@@ -21,6 +21,23 @@ const ASKED: [(&[&str], &str); 70] = [
         &["show", "--eject=9", "--turns"],
         "show by turns, 9 ejections",
     ),
+    (
+        &["pack", "--shortest", "--turns"],
+        "pack by turns, 0 ejections, shortest by 0 choices",
+    ),
+    (
+        &["show", "--search", "10000"],
+        "show by workers, 0 ejections, shortest by 10000 choices",
+    ),
+    (
+        &["run", "--search=0", "--shortest"],
+        "run by workers, 0 ejections, shortest by 0 choices; 1000 blocks",
+    ),
+    (&["pack", "--search", "10001"], "words"),
+    (&["pack", "--search"], "words"),
+    (&["pack", "--shortest", "--shortest"], "words"),
+    (&["sim", "--shortest"], "words"),
+    (&["serial", "--search", "1"], "words"),
     (&["show", "--why"], "show by workers, 0 ejections, why"),
     (
         &["show", "--registers"],
@@ -148,7 +165,11 @@ const ASKED: [(&[&str], &str); 70] = [
 
 fn packing_text(alloc: Global, packing: Packing) -> Result<String, Fail> {
     let way = if packing.turns { "turns" } else { "workers" };
-    Ok(format!(in alloc; "by {way}, {} ejections", packing.budget)?)
+    let mut text = format!(in alloc; "by {way}, {} ejections", packing.budget)?;
+    if packing.shortest {
+        text.push_str(&format!(in alloc; ", shortest by {} choices", packing.choices)?)?;
+    }
+    Ok(text)
 }
 
 fn showing_text(alloc: Global, showing: Showing) -> Result<String, Fail> {

@@ -19,8 +19,8 @@ texts words = map (λ word. word.now) words
 -- an option of a command whose value is the word behind it
 abbrev pub takes_value : Text → Bool
 takes_value word =
-    bytes_eq word (codes "--eject") || bytes_eq word (codes "--blocks") || bytes_eq word (codes "--cycles") || bytes_eq word (codes "--from")
-    || bytes_eq word (codes "--most") || bytes_eq word (codes "--as")
+    bytes_eq word (codes "--eject") || bytes_eq word (codes "--search") || bytes_eq word (codes "--blocks") || bytes_eq word (codes "--cycles")
+    || bytes_eq word (codes "--from") || bytes_eq word (codes "--most") || bytes_eq word (codes "--as")
 
 -- what a word wants of the one behind it
 abbrev pub wanted_by : Text → Wanted

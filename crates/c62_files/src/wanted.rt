@@ -49,6 +49,7 @@ impl Wanted {
         } else if word == "--print" {
             Wanted::Print
         } else if word == "--eject"
+            || word == "--search"
             || word == "--blocks"
             || word == "--cycles"
             || word == "--from"

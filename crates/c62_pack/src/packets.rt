@@ -69,6 +69,22 @@ pub fn placed_of(alloc: Global, board: &Board) -> Result<Vec<Placed>, AllocError
     Ok(placed)
 }
 
+/// The instructions of a plan on lawful spots, as [`placed_of`] has them of a board.
+///
+/// # Errors
+///
+/// Where memory ran out.
+pub fn placed_at(alloc: Global, plan: &Plan, spots: &[Spot]) -> Result<Vec<Placed>, AllocError>
+    requires { IsLawful (insns_of plan.now) (map Some spots.now) }
+    ensures placed { IfOk result (λ placed. ArePlaced plan.now (map Some spots.now) placed.items) }
+    ensures count { IfOk result (λ placed. length placed.items ≡ length plan.now.insns) }
+    ensures few { IfOk result (λ placed. length placed.items ≤ MOST_INSTRUCTIONS) }
+{
+    let _all = plan.len();
+    let placed = all_placed(alloc, plan, spots)?;
+    Ok(placed)
+}
+
 /// The packets of a plan whose instruction `i` stands at spot `i`, as [`packets_of`] has them of a board, for any lawful
 /// spots, least or not.
 ///

@@ -1,2 +1,3 @@
 mod Holding
 mod Crowds
+pub mod AtLeast

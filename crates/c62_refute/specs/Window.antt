@@ -32,6 +32,10 @@ HoldAll block most windows = (set : Spots) (cycles : ℕ) → IsSeated block set
 abbrev pub IsRefuted : List Insn → ℕ → Type 0
 IsRefuted block most = (set : Spots) (cycles : ℕ) → IsSeated block set cycles → cycles ≤ most → ⊥
 
+-- each schedule takes at least so many cycles
+abbrev pub TakesAtLeast : List Insn → ℕ → Type 0
+TakesAtLeast block least = (set : Spots) (cycles : ℕ) → IsSeated block set cycles → least ≤ cycles
+
 -- as many windows that hold what the old ones hold, or none where these hold none
 pub record IsKept (block : List Insn) (old new : List Cycles) : Type 0 where
   pub sized : length new ≡ length block

@@ -6,6 +6,7 @@ mod edge;
 mod room;
 mod search;
 mod shrink;
+mod trial;
 mod window;
 
 pub use search::{Search, search_for};

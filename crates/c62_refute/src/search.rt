@@ -7,8 +7,10 @@ ghost use Rattle.c62_refute.specs.Window.{HoldNone, IsRefuted, HoldAll, IsShrunk
 ghost use Rattle.c62_refute.specs.Edge.{IsEdge};
 
 use crate::shrink::{Demands, demands_of, shrink};
+use crate::trial::tried;
 use crate::window::Window;
 use c62_depend::Plan;
+use c62_sheet::Spot;
 use std::alloc::{AllocError, Global};
 
 /// How often a choice may hang on others at most.
@@ -19,8 +21,8 @@ const MOST_DEPTH: u8 = 255;
 pub enum Search {
     /// No schedule takes so few cycles.
     Refuted,
-    /// Of each instruction the cycle in which it may be issued. That these keep all rules isn't said.
-    Found(Vec<u16>),
+    /// Where the instructions stand in one, by number. No contract says that it keeps the rules.
+    Found(Vec<Spot>),
     /// Neither was found with so many choices.
     Open,
 }
@@ -53,15 +55,6 @@ fn narrowest(windows: &[Window]) -> Option<usize>
         i += 1;
     }
     best
-}
-
-/// The first cycles of windows.
-fn firsts(alloc: Global, windows: &[Window]) -> Result<Vec<u16>, AllocError> {
-    let mut cycles = Vec::with_capacity(alloc, windows.len())?;
-    for window in windows {
-        cycles.push(window.first)?;
-    }
-    Ok(cycles)
 }
 
 /// The windows with another one for instruction `i`.
@@ -97,6 +90,17 @@ fn shrunk(
     }
 }
 
+/// What a search comes to in which one of the choices is open: nothing is refuted by it.
+fn unrefuted(search: Search) -> Search
+    ensures { result ≡ Refuted → ⊥ }
+{
+    match search {
+        Search::Refuted => Search::Open,
+        Search::Found(spots) => Search::Found(spots),
+        Search::Open => Search::Open,
+    }
+}
+
 /// Searches in these windows, with so many choices left.
 fn search_in(
     alloc: Global,
@@ -115,8 +119,11 @@ fn search_in(
         let Some(left) = shrunk(alloc, plan, demands, windows)? else {
             return Ok(Search::Refuted);
         };
+        if let Some(spots) = tried(alloc, plan, &left, demands.most)? {
+            return Ok(Search::Found(spots));
+        }
         let Some(i) = narrowest(&left) else {
-            return Ok(Search::Found(firsts(alloc, &left)?));
+            return Ok(Search::Open);
         };
         if *nodes == 0 || depth == 0 {
             return Ok(Search::Open);
@@ -125,26 +132,35 @@ fn search_in(
         let window = left[i];
         let fixed = with_window(alloc, &left, i, window.end())?;
         let found = search_in(alloc, plan, demands, fixed, nodes, depth - 1)?;
-        let Search::Refuted = found else {
-            return Ok(found);
-        };
-        windows = with_window(alloc, &left, i, window.without_end())?;
+        let rest = with_window(alloc, &left, i, window.without_end())?;
+        match found {
+            Search::Refuted => windows = rest,
+            Search::Found(spots) => return Ok(Search::Found(spots)),
+            Search::Open => {
+                let found = search_in(alloc, plan, demands, rest, nodes, depth - 1)?;
+                return Ok(unrefuted(found));
+            }
+        }
     }
     Ok(Search::Open)
 }
 
-/// Searches for a schedule of at most so many cycles, by at most so many choices (`docs/SCHEDULING.md`, "Search"). `Refuted`
-/// is answered only where there is none: no cycles and units for the instructions keep all distances and put no two on one
-/// unit or data path in a cycle, and end within so many. Nothing is said of what is found.
+/// Searches for a schedule of at most so many cycles, by at most `nodes` choices, of which those that were made are taken
+/// (`docs/SCHEDULING.md`, "Search"). `Refuted` is answered only where there is none: no cycles and units for the instructions
+/// keep all distances and put no two on one unit or data path in a cycle, and end within so many.
 ///
 /// # Errors
 ///
 /// Where memory ran out.
-pub fn search_for(alloc: Global, plan: &Plan, most: u16, nodes: u32) -> Result<Search, AllocError>
+pub fn search_for(
+    alloc: Global,
+    plan: &Plan,
+    most: u16,
+    nodes: &mut u32,
+) -> Result<Search, AllocError>
     ensures { IfOk result (λ found. found ≡ Refuted → IsRefuted (insns_of plan.now) most) }
 {
-    let demands = demands_of(alloc, plan)?;
+    let demands = demands_of(alloc, plan, most)?;
     let windows = whole(alloc, plan, most)?;
-    let mut nodes = nodes;
-    search_in(alloc, plan, &demands, windows, &mut nodes, MOST_DEPTH)
+    search_in(alloc, plan, &demands, windows, nodes, MOST_DEPTH)
 }

@@ -18,15 +18,18 @@ const MOST_ROUNDS: u16 = 64;
 /// What a block asks of its windows.
 #[derive(Drop)]
 pub(crate) struct Demands {
+    /// In how many cycles it is to end.
+    pub(crate) most: u16,
     pub(crate) edges: Vec<Edge>,
     pub(crate) rooms: Vec<Room>,
 }
 
-/// What a block asks of its windows.
-pub(crate) fn demands_of(alloc: Global, plan: &Plan) -> Result<Demands, AllocError>
+/// What a block that is to end in so many cycles asks of its windows.
+pub(crate) fn demands_of(alloc: Global, plan: &Plan, most: u16) -> Result<Demands, AllocError>
     ensures { IfOk result (λ demands. All (IsEdge (insns_of plan.now)) demands.edges.items) }
 {
     Ok(Demands {
+        most,
         edges: edges(alloc, plan)?,
         rooms: rooms(alloc, plan)?,
     })

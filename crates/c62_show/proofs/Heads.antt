@@ -23,7 +23,12 @@ use Rattle.c62_show.specs.Laws.{HeadIsTrue, HeadIsTrueOfSchedules, BoundIsRaised
 -- ---- the bound
 
 pub bound_is_raised : (block : Serial) (limits : Limits) → BoundIsRaised block limits
-bound_is_raised block limits are = (are.raised, λ least is. is_sharper (insns_of block) least limits.raised is are.raised)
+bound_is_raised block limits are = record {
+  raised = are.raised;
+  more = omega arith;
+  plain = λ none. omega (arith, none);
+  least = λ least is. (let sharper = is_sharper (insns_of block) least limits.raised is are.raised in omega (arith, sharper));
+}
 
 -- ---- the words
 
@@ -62,7 +67,9 @@ least_bounds : (block : Serial) (limits : Option Limits) (set : Spots) (cycles :
     → IsSeatedAcross (insns_of block) set cycles → IfSome limits (λ known. least_of known ≤ cycles)
 least_bounds block None set cycles are plan seated = tt
 least_bounds block (Some limits) set cycles are plan seated =
-    (raised_bound_holds (insns_of block) set cycles plan seated).raised (least_of limits) are.raised
+    let raised = (raised_bound_holds (insns_of block) set cycles plan seated).raised limits.raised are.raised in
+    let searched = are.searched set cycles seated.seated in
+    omega (arith, raised, searched)
 
 none_by : (limits : Option Limits) (own cycles : ℕ) → own ≤ 2048 → IfSome limits (λ known. least_of known ≤ cycles)
     → verdict own (option_map least_of limits) ≡ none_is_shorter → own ≤ cycles

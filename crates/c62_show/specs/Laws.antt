@@ -39,11 +39,15 @@ HeadIsTrueOfSchedules block shown =
     (set : Spots) → IsPacketBlock shown.packets → IfSome shown.limits (AreLimits block) → IsPlan (insns_of block) → IsLawful (insns_of block) set
     → IsComplete (insns_of block) set → IsNoShorter shown (set_length (insns_of block) set)
 
--- the bound that is told of a block is its raised bound, and at least its least length
+-- the bound that is told of a block is at least its raised bound, and so its least length, and is that where no search tells more
+pub record IsRaisedBound (block : Serial) (limits : Limits) : Type 0 where
+  pub raised : IsRaisedLength (insns_of block) limits.raised
+  pub more : limits.raised ≤ least_of limits
+  pub plain : limits.searched ≡ 0 → least_of limits ≡ limits.raised
+  pub least : (least : ℕ) → IsLeastLength (insns_of block) least → least ≤ least_of limits
+
 abbrev pub BoundIsRaised : Serial → Limits → Type 0
-BoundIsRaised block limits =
-    AreLimits block limits
-    → IsRaisedLength (insns_of block) (least_of limits) × ((least : ℕ) → IsLeastLength (insns_of block) least → least ≤ least_of limits)
+BoundIsRaised block limits = AreLimits block limits → IsRaisedBound block limits
 
 -- from a cycle in which nothing is issued, nothing is issued before the next cycle of which the row tells
 abbrev pub IsIdleUntil : List Placed → ℕ → ℕ → Type 0

@@ -1,5 +1,5 @@
 -- How short a schedule of a block can be at best, and why (docs/SCHEDULING.md, "Needs" and "Raised heights").
-use Rattle.std.specs.Prelude.{◌≡◌, ℕ, ◌+◌, ◌-◌, List, length, map, Option, Some, None, slice_get}
+use Rattle.std.specs.Prelude.{◌≡◌, ℕ, ◌+◌, ◌-◌, max, List, length, map, Option, Some, None, slice_get}
 use Rattle.c62_read.specs.declared.block.SerialInsn.{SerialInsn}
 use Rattle.c62_read.specs.Block.{Serial}
 use Rattle.c62_depend.specs.Plan.{insns_of}
@@ -8,6 +8,7 @@ use Rattle.c62_reason.specs.Reason.{IsReason}
 use Rattle.c62_bound.specs.Bound.{FindsNeed}
 use Rattle.c62_bound.specs.Path.{IsPathLength, IsCriticalPath}
 use Rattle.c62_raised.specs.Raised.{IsRaisedLength}
+use Rattle.c62_refute.specs.Window.{TakesAtLeast}
 use Rattle.c62_show.specs.declared.limits.Limits.{Limits}
 use Rattle.c62_show.specs.declared.limits.Step.{Step}
 
@@ -31,7 +32,8 @@ pub record AreSteps (block : Serial) (path : List ℕ) (steps : List Step) : Typ
   pub each : (k i j : ℕ) (step : Step) → slice_get path k ≡ Some i → slice_get path (k + 1) ≡ Some j → slice_get steps k ≡ Some step
       → IsStep block i j step
 
--- the length of the block's critical path, the lines of one and the steps between them, the greatest need, and the raised bound
+-- the length of the block's critical path, the lines of one and the steps between them, the greatest need, the raised bound, and how
+-- many cycles each schedule takes at least as a search tells
 pub record AreLimits (block : Serial) (limits : Limits) : Type 0 where
   pub path_length : IsPathLength (insns_of block) limits.path_length
   pub path : List ℕ
@@ -40,7 +42,13 @@ pub record AreLimits (block : Serial) (limits : Limits) : Type 0 where
   pub steps : AreSteps block path limits.steps.items
   pub need : FindsNeed (insns_of block) limits.need
   pub raised : IsRaisedLength (insns_of block) limits.raised
+  pub searched : TakesAtLeast (insns_of block) limits.searched
 
--- how many cycles each schedule takes at least
+-- these, where no search tells more
+pub record ArePlainLimits (block : Serial) (limits : Limits) : Type 0 where
+  pub are : AreLimits block limits
+  pub plain : limits.searched ≡ 0
+
+-- how many cycles each schedule takes at least: the raised bound, or more where a search tells that
 abbrev pub least_of : Limits → ℕ
-least_of limits = limits.raised
+least_of limits = max limits.raised limits.searched

@@ -18,7 +18,7 @@ pub fn heads_are_true()
     ensures lawful { (block : Serial) (shown : Shown) → HeadIsTrueOfSchedules block shown }
 {}
 
-/// The bound that is told of a block is its raised bound, and at least its least length.
+/// The bound that is told of a block is its raised bound, or more where a search tells that, and at least its least length.
 pub fn bounds_are_raised()
     ensures { (block : Serial) (limits : Limits) → BoundIsRaised block limits }
 {}

@@ -10,7 +10,7 @@ mod shown;
 mod whys;
 
 pub use alone::summary;
-pub use limits::{Limits, Step, limits_of};
+pub use limits::{Limits, Step, limits_of, limits_with};
 pub use registers::lives_told;
 pub use shown::{Shown, picture};
 

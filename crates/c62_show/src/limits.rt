@@ -3,7 +3,8 @@
 ghost use Rattle.std.specs.Prelude.{◌≡◌, IfOk, map};
 ghost use Rattle.c62_depend.specs.Plan.{insns_of};
 ghost use Rattle.c62_bound.specs.Path.{IsTight, IsCriticalPath};
-ghost use Rattle.c62_show.specs.Limits.{line_of, IsStep, AreSteps, AreLimits};
+ghost use Rattle.c62_refute.specs.Window.{TakesAtLeast};
+ghost use Rattle.c62_show.specs.Limits.{line_of, IsStep, AreSteps, AreLimits, ArePlainLimits};
 
 use c62_bound::{Need, bound, critical_path, path_length};
 use c62_depend::Plan;
@@ -35,6 +36,8 @@ pub struct Limits {
     pub need: Option<Need>,
     /// How many cycles each schedule takes at least: the raised bound.
     pub raised: u32,
+    /// How many each takes at least as a search tells, and 0 where none does.
+    pub searched: u32,
 }
 
 impl Limits {
@@ -44,7 +47,7 @@ impl Limits {
     pub fn least(&self) -> u32
         ensures { result ≡ least_of self.now }
     {
-        self.raised
+        self.raised.max(self.searched)
     }
 }
 
@@ -97,13 +100,16 @@ fn steps_of(alloc: Global, plan: &Plan, path: &[u16]) -> Result<Vec<Step>, Alloc
     Ok(steps)
 }
 
-/// How short a schedule of the plan's block can be at best, and why.
+/// How short a schedule of the plan's block can be at best, and why, where a search tells that each takes at least so many
+/// cycles.
 ///
 /// # Errors
 ///
 /// Where memory ran out.
-pub fn limits_of(alloc: Global, plan: &Plan) -> Result<Limits, AllocError>
-    ensures { IfOk result (AreLimits plan.now) }
+pub fn limits_with(alloc: Global, plan: &Plan, searched: u32) -> Result<Limits, AllocError>
+    requires { TakesAtLeast (insns_of plan.now) searched }
+    ensures are { IfOk result (AreLimits plan.now) }
+    ensures searched { IfOk result (λ limits. limits.searched ≡ searched) }
 {
     let path = critical_path(alloc, plan)?;
     Ok(Limits {
@@ -112,5 +118,18 @@ pub fn limits_of(alloc: Global, plan: &Plan) -> Result<Limits, AllocError>
         steps: steps_of(alloc, plan, &path)?,
         need: bound(plan),
         raised: raised_length(plan),
+        searched,
     })
+}
+
+/// How short a schedule of the plan's block can be at best, and why, where nothing was searched for.
+///
+/// # Errors
+///
+/// Where memory ran out.
+pub fn limits_of(alloc: Global, plan: &Plan) -> Result<Limits, AllocError>
+    ensures { IfOk result (ArePlainLimits plan.now) }
+{
+    let limits = limits_with(alloc, plan, 0)?;
+    Ok(limits)
 }

@@ -6,7 +6,7 @@ use Rattle.c62_packet.specs.Packed.{Packed, IsPacketBlock}
 use Rattle.c62_depend.specs.Plan.{insns_of}
 use Rattle.c62_show.specs.declared.limits.Limits.{Limits}
 use Rattle.c62_show.specs.declared.shown.Shown.{Shown}
-use Rattle.c62_show.specs.Limits.{AreLimits}
+use Rattle.c62_show.specs.Limits.{ArePlainLimits}
 use Rattle.c62_why.specs.declared.why.Why.{Why}
 use Rattle.c62_why.specs.Why.{AreWhys}
 use Rattle.c62_show.specs.Laws.{IsNoShorter}
@@ -30,7 +30,7 @@ pub record IsToldOf (details : Details) (packed : Packed) (shown : Shown) (limit
   pub block : Serial
   pub placed : List Placed
   pub unpacked : IsUnpacked packed block placed
-  pub known : AreLimits block limits
+  pub known : ArePlainLimits block limits
   pub whys : TellsWhys details.why block packed.cycles placed shown.whys.items
   pub bounded : NoneIsShorter block shown
 

@@ -4,8 +4,38 @@ use c62_answer::run_on_bytes;
 use std::test::Fail;
 
 /// Words and a text, and the picture of its blocks.
-const SHOWN: [(&[&str], &[u8], &str); 19] = [
+const SHOWN: [(&[&str], &[u8], &str); 22] = [
     (&["show"], b"\r\n* \n", ""),
+    // a schedule that the bound doesn't tell to be the shortest, and a search does
+    (
+        &["show", "--turns", "--summary"],
+        LATE_PRODUCTS,
+        "block 0: 5 instructions in 9 cycles; 1 over the bound of 8\n",
+    ),
+    (
+        &["show", "--turns", "--summary", "--shortest"],
+        LATE_PRODUCTS,
+        "block 0: 5 instructions in 9 cycles; no schedule is shorter\n",
+    ),
+    // of a shorter schedule the same is told as of the scheduler's own
+    (
+        &["show", "--turns", "--shortest", "--why"],
+        b"L1: MVK 1,A1\nMVK 2,A2\nB .S1 L1",
+        "\
+L1: 3 instructions in 6 cycles; no schedule is shorter
+   path     6: line 3
+cycle   .L1    .S1    .M1    .D1    .L2    .S2    .M2    .D2    1X   2X   T1   T2 lands
+    0   .    3*B      .      .      .      .      .      .       .    .    .    .
+  1-3   idle
+    4   .    1 MVK    .      .      .      .      .      .       .    .    .    .
+    5   .    2 MVK    .      .      .      .      .      .       .    .    .    . branch
+  use   -      50%    -      -      -      -      -      -       -    -    -    -
+  line cycle slack  not a cycle earlier
+     1     4     1  nothing
+     2     5     0  .S1 taken by 1
+     3     0     0  -
+",
+    ),
     // the heads alone
     (
         &["show", "--summary"],
@@ -233,6 +263,9 @@ cycle   .L1    .S1    .M1    .D1    .L2    .S2    .M2    .D2    1X   2X   T1   T
 ",
     ),
 ];
+
+/// Two products behind one load and one behind another, on one unit: nothing crowds behind either load.
+const LATE_PRODUCTS: &[u8] = b"LDW *A4,A5\nLDW *B4,B5\nMPY A5,A6,A7\nMPY A5,A8,A9\nMPY A10,B5,A11";
 
 /// A block that an ejection changes.
 const EJECTING: &[u8] =

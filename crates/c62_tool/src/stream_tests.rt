@@ -104,7 +104,7 @@ impl Write for Slow {
 }
 
 /// Words that are no command line.
-const REFUSED_WORDS: [&[&str]; 34] = [
+const REFUSED_WORDS: [&[&str]; 36] = [
     &["-h"],
     &["help"],
     &["help", "pack"],
@@ -117,6 +117,8 @@ const REFUSED_WORDS: [&[&str]; 34] = [
     &["run", "--eject", "x"],
     &["serial", "--eject", "1"],
     &["sim", "--turns"],
+    &["sim", "--shortest"],
+    &["pack", "--search", "10001"],
     &["pack", "A1=1"],
     &["pack", "extra"],
     &["pack", "--turns", "--turns"],

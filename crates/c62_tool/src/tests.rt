@@ -7,7 +7,7 @@ use std::test::Fail;
 use std::thread::Threads;
 
 /// Words and a text, and the listing of the text.
-const LISTED: [(&[&str], &[u8], &str); 23] = [
+const LISTED: [(&[&str], &[u8], &str); 26] = [
     (&[], b"", ""),
     (&["pack"], b"\r\n* \n", ""),
     (
@@ -95,6 +95,18 @@ const LISTED: [(&[&str], &[u8], &str); 23] = [
         EJECTING,
         "   ADD .L1X A1,B1,A3\n|| ADD .L2X B2,A2,B3\n|| LDW .D2T2 *B4,B5\n   ADD .L1 A3,A3,A4\n|| MPY .M1X A5,B1,A2\n   NOP 1\n   MPY .M1 A2,A2,A6\n   NOP 1\n",
     ),
+    // the branch finds .S1 taken, unless the shortest schedule is asked for, by itself or by a search
+    (
+        &["pack", "--turns"],
+        BRANCHING,
+        "L1:\n   MVK .S1 1,A1\n   MVK .S1 2,A2\n   B .S1 L1\n   NOP 5\n",
+    ),
+    (
+        &["pack", "--turns", "--shortest"],
+        BRANCHING,
+        BRANCHED_FIRST,
+    ),
+    (&["pack", "--search", "0"], BRANCHING, BRANCHED_FIRST),
     // a block behind another, and one that falls through with its label alone
     (
         &["pack", "--turns"],
@@ -114,6 +126,11 @@ const LISTED: [(&[&str], &[u8], &str); 23] = [
         "   MVK .S1 5,A1\n   MVK .S1 7,A2\n   ADD .L1 A1,A2,A3\n",
     ),
 ];
+
+/// A block whose branch is best issued first, and its listing with that.
+const BRANCHING: &[u8] = b"L1: MVK 1,A1\nMVK 2,A2\nB .S1 L1";
+
+const BRANCHED_FIRST: &str = "L1:\n   B .S1 L1\n   NOP 3\n   MVK .S1 1,A1\n   MVK .S1 2,A2\n";
 
 /// A block in which an ejection pays, and its listing with one.
 const EJECTING: &[u8] =
@@ -180,12 +197,14 @@ fault is; --explain behind a command says what is wrong with its text.
         &["pack", "--help"],
         "Reads serial text and writes its listing
 
-Usage: c62 pack [--turns] [--eject <N>] [-o <FILE>] [FILE]
+Usage: c62 pack [--turns] [--eject <N>] [--shortest] [--search <N>] [-o <FILE>] [FILE]
 
 Options:
-      --turns      Packs on one thread, one side after the other
-      --eject <N>  Ejects at most N placed instructions of a block, 0 to 1000; 0 where none is given
-  -h, --help       Print help
+      --turns       Packs on one thread, one side after the other
+      --eject <N>   Ejects at most N placed instructions of a block, 0 to 1000; 0 where none is given
+      --shortest    Takes the shortest schedule of each block that further lists find
+      --search <N>  The same, and searches by at most N choices for each block, 0 to 10000
+  -h, --help        Print help
 ",
         "c62 pack kernel.s",
     ),
@@ -193,18 +212,20 @@ Options:
         &["show", "--help"],
         "Packs serial text and shows each block's schedule, and how short one can be
 
-Usage: c62 show [--why] [--registers] [--summary] [--turns] [--eject <N>] [-o <FILE>] [FILE]
+Usage: c62 show [--why] [--registers] [--summary] [--turns] [--eject <N>] [--shortest] [--search <N>] [-o <FILE>] [FILE]
        c62 show --listing|--packets [--why] [--registers] [--summary] [-o <FILE>] [FILE]
 
 Options:
-      --turns      Packs on one thread, one side after the other
-      --eject <N>  Ejects at most N placed instructions of a block, 0 to 1000; 0 where none is given
-      --listing    Reads a listing, and shows the schedule that stands there
-      --packets    Reads packets as they are written, and shows the schedule that stands there
-      --why        Tells why each instruction isn't issued a cycle earlier, and its slack
-      --registers  Tells how many registers of each side are live at most, and which are free
-      --summary    Shows of each block its length alone, and how short one can be
-  -h, --help       Print help
+      --turns       Packs on one thread, one side after the other
+      --eject <N>   Ejects at most N placed instructions of a block, 0 to 1000; 0 where none is given
+      --shortest    Takes the shortest schedule of each block that further lists find
+      --search <N>  The same, and searches by at most N choices for each block, 0 to 10000
+      --listing     Reads a listing, and shows the schedule that stands there
+      --packets     Reads packets as they are written, and shows the schedule that stands there
+      --why         Tells why each instruction isn't issued a cycle earlier, and its slack
+      --registers   Tells how many registers of each side are live at most, and which are free
+      --summary     Shows of each block its length alone, and how short one can be
+  -h, --help        Print help
 ",
         "c62 show --why kernel.s",
     ),
@@ -212,7 +233,7 @@ Options:
         &["run", "--help"],
         "Packs serial text, runs the packets and reports the end
 
-Usage: c62 run [--turns] [--eject <N>] [--blocks <N>] [--profile] [--strict] [-o <FILE>] [FILE] [SETTING]...
+Usage: c62 run [--turns] [--eject <N>] [--shortest] [--search <N>] [--blocks <N>] [--profile] [--strict] [-o <FILE>] [FILE] [SETTING]...
 
 Arguments:
   [SETTING]...  REG=NUMBER sets a register, @ADDRESS=NUMBER,.. words of memory; with :h or :b halves or bytes
@@ -220,6 +241,8 @@ Arguments:
 Options:
       --turns       Packs on one thread, one side after the other
       --eject <N>   Ejects at most N placed instructions of a block, 0 to 1000; 0 where none is given
+      --shortest    Takes the shortest schedule of each block that further lists find
+      --search <N>  The same, and searches by at most N choices for each block, 0 to 10000
       --blocks <N>  Runs at most N blocks, 1 to 1000000; 1000 where none is given
       --profile     Adds a table of how often each block was run, and what it took
       --strict      Ends with status 7 where an access faults, and else with 6 at the limit

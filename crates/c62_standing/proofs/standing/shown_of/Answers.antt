@@ -18,7 +18,7 @@ returns c =
         known = c.in_ok-limits.ensures;
         whys = subst (λ (cycles : ℕ). TellsWhys c.args.details.why c.args.one.now.plan cycles c.args.one.now.placed.items c.in_ok-whys.whys.items)
             c.length.ensures.same c.in_ok-whys.ensures;
-        bounded = none_shorter c.args.one.now.plan shown limits refl c.length.ensures.sound c.in_ok-limits.ensures c.len-all.ensures.sound;
+        bounded = none_shorter c.args.one.now.plan shown limits refl c.length.ensures.sound c.in_ok-limits.ensures.are c.len-all.ensures.sound;
       };
       lives = c.in_ok-lives.ensures;
     }

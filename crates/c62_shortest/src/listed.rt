@@ -1,0 +1,75 @@
+//! The shortest of the schedules that lists find.
+
+ghost use Rattle.std.specs.Prelude.{◌≤◌, IfOk};
+ghost use Rattle.c62_shortest.specs.Shortest.{IsScheduleOf};
+
+use crate::schedule::{Schedule, shorter};
+use c62_depend::Plan;
+use c62_sheet::Spot;
+use c62_tries::{Order, Way, listed, spots_in};
+use std::alloc::{AllocError, Global};
+
+/// The cycles of spots.
+fn cycles_of(alloc: Global, spots: &[Spot]) -> Result<Vec<u16>, AllocError> {
+    let mut cycles = Vec::with_capacity(alloc, spots.len())?;
+    for spot in spots {
+        cycles.push(spot.cycle)?;
+    }
+    Ok(cycles)
+}
+
+/// The shorter of a schedule and the one with the instructions in these cycles, where that is lawful.
+fn shorter_in(
+    alloc: Global,
+    plan: &Plan,
+    best: Schedule,
+    cycles: &[u16],
+) -> Result<Schedule, AllocError>
+    requires { IsScheduleOf plan.now best }
+    ensures is { IfOk result (IsScheduleOf plan.now) }
+    ensures no_longer { IfOk result (λ found. found.packets.cycles ≤ best.packets.cycles) }
+{
+    let spots = spots_in(alloc, plan, cycles)?;
+    shorter(alloc, plan, best, spots)
+}
+
+/// The shorter of a schedule and what these cycles become when the instructions are placed again, from the end of the block
+/// and then from its begin.
+fn justified(
+    alloc: Global,
+    plan: &Plan,
+    best: Schedule,
+    cycles: &[u16],
+) -> Result<Schedule, AllocError>
+    requires { IsScheduleOf plan.now best }
+    ensures is { IfOk result (IsScheduleOf plan.now) }
+    ensures no_longer { IfOk result (λ found. found.packets.cycles ≤ best.packets.cycles) }
+{
+    let late = Order::by_cycle(alloc, cycles, Way::Backward)?;
+    let back = listed(alloc, plan, &late)?;
+    let best = shorter_in(alloc, plan, best, &back)?;
+    let soon = Order::by_cycle(alloc, &back, Way::Forward)?;
+    let forth = listed(alloc, plan, &soon)?;
+    shorter_in(alloc, plan, best, &forth)
+}
+
+/// The shortest of a schedule and of what lists find: one from the first cycle by height, one from the last cycle by depth,
+/// and each of the two and the schedule placed again from both ends.
+///
+/// # Errors
+///
+/// Where memory ran out.
+pub(crate) fn by_lists(alloc: Global, plan: &Plan, own: Schedule) -> Result<Schedule, AllocError>
+    requires { IsScheduleOf plan.now own }
+    ensures is { IfOk result (IsScheduleOf plan.now) }
+    ensures no_longer { IfOk result (λ found. found.packets.cycles ≤ own.packets.cycles) }
+{
+    let cycles = cycles_of(alloc, &own.spots)?;
+    let forward = listed(alloc, plan, &Order::by_height(alloc, plan)?)?;
+    let best = shorter_in(alloc, plan, own, &forward)?;
+    let backward = listed(alloc, plan, &Order::by_depth(alloc, plan)?)?;
+    let best = shorter_in(alloc, plan, best, &backward)?;
+    let best = justified(alloc, plan, best, &backward)?;
+    let best = justified(alloc, plan, best, &forward)?;
+    justified(alloc, plan, best, &cycles)
+}
