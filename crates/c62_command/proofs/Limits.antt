@@ -226,9 +226,9 @@ search_checked = (
         (
           ((λ e. absurd cc), ((λ e. absurd cc), ((λ e. absurd cc), ((λ e. absurd cc), ((λ e. absurd cc), ((λ e. absurd cc), tt)))))),
           (
-            ((λ e. absurd cc), ((λ e. absurd cc), ((λ e. absurd cc), ((λ e. absurd cc), ((λ e. absurd cc), tt))))),
+            ((λ e. absurd cc), ((λ e. absurd cc), ((λ e. absurd cc), ((λ e. absurd cc), ((λ e. absurd cc), ((λ e. absurd cc), tt)))))),
             (
-              ((λ e. absurd cc), ((λ e. absurd cc), tt)),
+              ((λ e. absurd cc), ((λ e. absurd cc), ((λ e. absurd cc), tt))),
               (
                 ((λ e. absurd cc), ((λ e. absurd cc), tt)),
                 (
