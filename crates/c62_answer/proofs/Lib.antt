@@ -17,3 +17,4 @@ mod AdoptedBack
 mod LateMessage
 mod AdoptedRun
 pub mod Bounds
+mod WithMemory
