@@ -18,3 +18,4 @@ mod AdoptedBack
 mod LateMessage
 mod AdoptedRun
 pub mod Bounds
+mod WithMemory

@@ -11,3 +11,4 @@ pub mod OneText
 pub mod AdoptedBack
 pub mod AdoptedRun
 pub mod Bounds
+pub mod Memory

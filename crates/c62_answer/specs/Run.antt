@@ -64,6 +64,7 @@ use Rattle.c62_answer.specs.Message.{adopt_message, fault_message, list_message,
 use Rattle.c62_answer.specs.Texts.{SaysProgram, SaysPackets, SaysNoPackets, IsNoProgram, IsNoListing, IsNoPackets, IsNoFlight, IsUnreached}
 use Rattle.c62_answer.specs.Check.{IsCheck, IsNoCheck}
 use Rattle.c62_printing.specs.Printing.{prints}
+use Rattle.c62_printing.specs.Dumping.{dumps}
 
 abbrev pub status_of : Failure → ℕ
 status_of (Unread _) = 1
@@ -195,6 +196,7 @@ with_setting machine (given.Byte address value) = with_bytes address 1 value mac
 with_setting machine (given.Half address value) = with_bytes address 2 value machine
 with_setting machine (given.Word address value) = with_bytes address 4 value machine
 with_setting machine (given.Print print) = machine
+with_setting machine (given.Dump dump) = machine
 
 -- the machine after these settings, in their order
 abbrev pub with_settings : List Given → Machine → Machine
@@ -219,8 +221,8 @@ TellsPackets false packets opening limit chain final table = table ≡ []
 TellsPackets true packets opening limit chain final table =
     (tally : Tally) × CountsPackets packets opening limit chain final tally × (table ≡ packet_table packets tally)
 
--- The report of a program's serial run, from zeros with these settings, with memory that they print below it, and the table of its
--- blocks where that is asked for.
+-- The report of a program's serial run, from zeros with these settings, with memory that they print below it, the table of its
+-- blocks where that is asked for, and the bytes that they write to files.
 pub record IsReport (program : List Serial) (settings : List Given) (course : Course) (outcome : Outcome) (answer : List ℕ) : Type 0 where
   pub opening : Machine
   pub begin : IsOpening settings opening
@@ -229,7 +231,7 @@ pub record IsReport (program : List Serial) (settings : List Given) (course : Co
   pub run : RunsProgram program opening course.blocks chain final
   pub table : List ℕ
   pub told : TellsSerial course.profile program opening course.blocks chain final table
-  pub report : answer ≡ serial_report chain final ++ prints final settings ++ table
+  pub report : answer ≡ serial_report chain final ++ prints final settings ++ table ++ dumps final settings
   pub ends : outcome ≡ outcome_run course.strict (is_limit chain.stop) final.faults
 
 -- The report of such a run of packets.
@@ -242,7 +244,7 @@ pub record IsPacketReport (packets : List Packed) (settings : List Given) (cours
   pub run : RunsPackets packets opening course.blocks chain cycles final
   pub table : List ℕ
   pub told : TellsPackets course.profile packets opening course.blocks chain final table
-  pub report : answer ≡ packet_report chain cycles final ++ prints final settings ++ table
+  pub report : answer ≡ packet_report chain cycles final ++ prints final settings ++ table ++ dumps final settings
   pub ends : outcome ≡ outcome_run course.strict (is_limit chain.stop) final.faults
 
 -- The same, where the packets run as this program does: without its line of cycles it is the report of the serial run.
@@ -278,7 +280,7 @@ pub record IsFlown (flying : FlightText) (first : ℕ) (settings : List Given) (
   pub cycles : ℕ
   pub final : Machine
   pub flies : Flies flying first most opening stop cycles final
-  pub report : answer ≡ flight_report stop cycles final ++ prints final settings
+  pub report : answer ≡ flight_report stop cycles final ++ prints final settings ++ dumps final settings
   pub ends : outcome ≡ outcome_run strict (is_flight_limit stop) final.faults
 
 -- the text's code is one of packets, and this is the report of its run with everything in flight

@@ -14,7 +14,7 @@ use c62_adopt::read_code;
 use c62_command::{FlightStart, Setting};
 use c62_exec::fly;
 use c62_flight::Stop;
-use c62_printing::push_prints;
+use c62_printing::{push_dumps, push_prints};
 use c62_report::flight_report;
 use c62_rows::{Begun, read_from};
 use std::alloc::{AllocError, Global};
@@ -44,6 +44,7 @@ fn flown(
     let flown = fly(&begun.rows, begun.first, most, &mut state)?;
     let mut text = flight_report(alloc, flown.stop, flown.cycles, &state)?;
     push_prints(&mut text, &state, settings)?;
+    push_dumps(&mut text, &state, settings)?;
     Ok(Reply {
         text,
         outcome: Outcome::of_run(strict, is_flight_limit(flown.stop), state.faults()),

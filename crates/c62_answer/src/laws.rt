@@ -8,6 +8,7 @@ ghost use Rattle.c62_answer.specs.AdoptedBack.{IsAdoptedBack};
 ghost use Rattle.c62_answer.specs.AdoptedRun.{RunsAsItsListing};
 ghost use Rattle.c62_answer.specs.OneText.{HasOneBoard, HaveOnePacking, HasOneText};
 ghost use Rattle.c62_answer.specs.Parting.{IsPartedOnce};
+ghost use Rattle.c62_answer.specs.Memory.{AnswersEndWithMemory};
 
 /// What `pack` writes, by turns or by two workers, is a listing that is read back: as the packets that
 /// were packed, but for the lines of their instructions. So each report that `sim` gives of it is one of
@@ -39,4 +40,9 @@ pub fn turns_pack_once()
 /// What is to be checked is parted in one way: it has one first line `---`.
 pub fn an_input_is_parted_once()
     ensures { (input : List ℕ) → IsPartedOnce input }
+{}
+
+/// The answer of a run ends with the bytes of memory that its settings write to files, in their order.
+pub fn answers_end_with_memory()
+    ensures { AnswersEndWithMemory }
 {}

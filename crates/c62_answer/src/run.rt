@@ -10,7 +10,7 @@ use crate::outcome::{Outcome, Reply};
 use c62_command::{Course, Setting, Start};
 use c62_packet::Packets;
 use c62_pipe::run_chain;
-use c62_printing::push_prints;
+use c62_printing::{push_dumps, push_prints};
 use c62_profile::{packet_table, run_packets, run_serial, serial_table};
 use c62_read::Program;
 use c62_report::{packet_report, serial_report};
@@ -32,8 +32,8 @@ fn set(state: &mut State, setting: Setting)
         Setting::Word(address, value) => {
             let _ = state.poke(address, value);
         }
-        // That sets nothing: it is printed when the run is over.
-        Setting::Print(_) => {}
+        // That sets nothing: it is printed, or goes to a file, when the run is over.
+        Setting::Print(_) | Setting::Dump(_) => {}
     }
 }
 
@@ -127,6 +127,7 @@ pub fn serial_run(alloc: Global, program: &Program, start: &Start) -> Result<Rep
     let mut text = serial_report(alloc, chain, &state)?;
     push_prints(&mut text, &state, &start.settings)?;
     text.extend_from_slice(&table)?;
+    push_dumps(&mut text, &state, &start.settings)?;
     Ok(Reply {
         text,
         outcome: Outcome::of_run(start.course.strict, is_limit(chain.stop), state.faults()),
@@ -197,6 +198,7 @@ pub fn packet_run(alloc: Global, packets: &Packets, start: &Start) -> Result<Rep
     let mut text = packet_report(alloc, chain, cycles, &state)?;
     push_prints(&mut text, &state, &start.settings)?;
     text.extend_from_slice(&table)?;
+    push_dumps(&mut text, &state, &start.settings)?;
     Ok(Reply {
         text,
         outcome: Outcome::of_run(start.course.strict, is_limit(chain.stop), state.faults()),

@@ -7,10 +7,10 @@ use Rattle.std.proofs.lemmas.Bool.Decides.{nat_tests}
 use Rattle.std.proofs.lemmas.List.Elements.{All-append, All-cons, All-nil}
 use Rattle.c62_token.specs.Number.{register_of}
 use Rattle.c62_command.specs.declared.setting.Setting.{Setting}
-use Rattle.c62_command.specs.declared.setting.Setting.TheVariants.{Register, Print as Prints}
+use Rattle.c62_command.specs.declared.setting.Setting.TheVariants.{Register, Print as Prints, Dump as Dumps}
 use Rattle.c62_command.specs.declared.setting.Size.{Size}
 use Rattle.c62_command.specs.declared.setting.Size.TheVariants.{Byte, Half, Word}
-use Rattle.c62_command.specs.Settings.{AreSettings, ArePrintedOfMemory, PrintsMemory, address_in, and_setting, and_settings, bytes_in, cell, cells, form_named, holds, length_in, memory_settings, named_setting, one, parts, place_in, print_as, print_parted, print_setting, printed, register_setting, set_at, settings_at, settings_in, settings_of, spans, value_of}
+use Rattle.c62_command.specs.Settings.{AreSettings, ArePrintedOfMemory, PrintsMemory, address_in, and_setting, and_settings, bytes_in, cell, cells, dump_setting, dumped, extent_in, form_named, holds, length_in, memory_settings, named_setting, one, parts, place_in, print_as, print_parted, print_setting, printed, register_setting, set_at, settings_at, settings_in, settings_of, spans, value_of}
 
 -- where this is something, it prints nothing but memory
 abbrev IsPrinted : Option Setting → Type 0
@@ -45,10 +45,7 @@ is_printed address length size signed = go (spans size address length) refl
 
 as_printed : (text : List ℕ) (size : Size) (signed : Bool) → IsPrinted (print_as text size signed)
 as_printed text size signed =
-    and_then PrintsMemory _ (position (λ b. b == 43) text)
-    (λ k. and_then PrintsMemory _ (address_in (take k text))
-    (λ address. and_then PrintsMemory (λ length. printed address length size signed) (length_in (drop (k + 1) text))
-    (λ length. is_printed address length size signed)))
+    and_then PrintsMemory (λ extent. printed extent.0 extent.1 size signed) (extent_in text) (λ extent. is_printed extent.0 extent.1 size signed)
 
 parted_printed : (text : List ℕ) (colon : Option ℕ) → IsPrinted (print_parted text colon)
 parted_printed text None = as_printed text Word false
@@ -58,6 +55,18 @@ parted_printed text (Some k) =
 setting_printed : (text : List ℕ) → IsPrinted (print_setting text)
 unfolding print_setting
 setting_printed text = parted_printed text (position (λ b. b == 58) text)
+
+-- ---- what goes to files
+
+is_dumped : (address length : ℕ) → IsPrinted (dumped address length)
+is_dumped address length = go (spans Byte address length) refl
+  where
+    go : (b : Bool) → spans Byte address length ≡ b → IsPrinted (cond b (Some (Dumps (record { address = address; count = length }))) None)
+    go true e = grind (arith, nat_tests, e)
+    go false e = tt
+
+setting_dumped : (text : List ℕ) → IsPrinted (dump_setting text)
+setting_dumped text = and_then PrintsMemory (λ extent. dumped extent.0 extent.1) (extent_in text) (λ extent. is_dumped extent.0 extent.1)
 
 -- ---- what is set
 
@@ -100,7 +109,9 @@ memory_said place text =
 
 named_said : (name text : List ℕ) → IsPrinted (named_setting name text)
 named_said name text =
-    either PrintsMemory (bytes_eq name (codes "print")) (print_setting text) (register_setting name text) (setting_printed text) (register_set name text)
+    let other : Option Setting = cond (bytes_eq name (codes "dump")) (dump_setting text) (register_setting name text) in
+    either PrintsMemory (bytes_eq name (codes "print")) (print_setting text) other (setting_printed text)
+    (either PrintsMemory (bytes_eq name (codes "dump")) (dump_setting text) (register_setting name text) (setting_dumped text) (register_set name text))
 
 said_at : (name text : List ℕ) → ArePrinted (settings_at name text)
 unfolding settings_at

@@ -6,7 +6,7 @@ use Rattle.std.specs.Str.{bytes_eq}
 use Rattle.c62_op.specs.Word.{word}
 use Rattle.c62_token.specs.Number.{number_of, register_of}
 use Rattle.c62_command.specs.declared.setting.Setting.{Setting}
-use Rattle.c62_command.specs.declared.setting.Setting.TheVariants.{Register, Byte as InByte, Half as InHalf, Word as InWord, Print as Prints}
+use Rattle.c62_command.specs.declared.setting.Setting.TheVariants.{Register, Byte as InByte, Half as InHalf, Word as InWord, Print as Prints, Dump as Dumps}
 use Rattle.c62_command.specs.declared.setting.Size.{Size}
 use Rattle.c62_command.specs.declared.setting.Size.TheVariants.{Byte, Half, Word}
 use Rattle.c62_command.specs.declared.setting.SettingError.{SettingError}
@@ -108,10 +108,13 @@ printed address length size signed =
     else None
 
 -- `ADDRESS+LENGTH`
+abbrev pub extent_in : List ℕ → Option (ℕ × ℕ)
+extent_in text =
+    option_and_then (λ k. option_and_then (λ address. option_map (λ length. (address, length)) (length_in (drop (k + 1) text))) (address_in (take k text)))
+    (position (λ b. b == 43) text)
+
 abbrev pub print_as : List ℕ → Size → Bool → Option Setting
-print_as text size signed =
-    option_and_then (λ k. option_and_then (λ address. option_and_then (λ length. printed address length size signed) (length_in (drop (k + 1) text)))
-    (address_in (take k text))) (position (λ b. b == 43) text)
+print_as text size signed = option_and_then (λ extent. printed extent.0 extent.1 size signed) (extent_in text)
 
 -- what stands behind a colon: halves, bytes, and words, halves or bytes as signed decimals
 abbrev pub form_named : List ℕ → Option (Size × Bool)
@@ -131,9 +134,19 @@ print_parted text (Some k) = option_and_then (λ form. print_as (take k text) fo
 unfoldable pub print_setting : List ℕ → Option Setting
 print_setting text = print_parted text (position (λ b. b == 58) text)
 
--- values that are printed lie in memory, each on its size
+-- ---- what goes to files
+
+-- so many bytes from an address on
+abbrev pub dumped : (address length : ℕ) → Option Setting
+dumped address length = if spans Byte address length then Some (Dumps (record { address = address; count = length })) else None
+
+abbrev pub dump_setting : List ℕ → Option Setting
+dump_setting text = option_and_then (λ extent. dumped extent.0 extent.1) (extent_in text)
+
+-- values that are printed lie in memory, each on its size, and so do bytes that go to files
 abbrev pub PrintsMemory : Setting → Type 0
 PrintsMemory (Prints print) = (print.address % bytes_in print.size ≡ 0) × (print.address + print.count * bytes_in print.size ≤ 65536)
+PrintsMemory (Dumps dump) = dump.address + dump.count ≤ 65536
 PrintsMemory _ = Unit {0}
 
 -- ---- words
@@ -147,11 +160,14 @@ one setting = option_map (λ s. s ∷ []) setting
 abbrev pub memory_settings : List ℕ → List ℕ → Option (List Setting)
 memory_settings place text = option_and_then (λ found. cells found.1 found.0 (parts text)) (place_in place)
 
--- `print` prints, and any other name is that of a register
+-- `print` prints, `dump` writes to a file, and any other name is that of a register
 abbrev pub named_setting : List ℕ → List ℕ → Option Setting
-named_setting name text = if bytes_eq name (codes "print") then print_setting text else register_setting name text
+named_setting name text =
+    if bytes_eq name (codes "print") then print_setting text
+    else (if bytes_eq name (codes "dump") then dump_setting text
+    else register_setting name text)
 
--- what is set where this is put into `@ADDRESS`, `@ADDRESS:h`, `@ADDRESS:b` or a register, or what is printed
+-- what is set where this is put into `@ADDRESS`, `@ADDRESS:h`, `@ADDRESS:b` or a register, or what is printed or goes to a file
 unfoldable pub settings_at : List ℕ → List ℕ → Option (List Setting)
 settings_at name text =
     if starts_with nat_eq name (64 ∷ []) then memory_settings (drop 1 name) text
@@ -193,6 +209,6 @@ pub record IsFirstBad (texts : List (List ℕ)) (k : ℕ) : Type 0 where
 abbrev pub IsBadAmong : List (List ℕ) → SettingError → Type 0
 IsBadAmong texts error = (k : ℕ) → error ≡ Bad k → IsFirstBad texts k
 
--- whatever settings words say, what these print is memory
+-- whatever settings words say, what these print or write to files is memory
 abbrev pub ArePrintedOfMemory : List (List ℕ) → Type 0
 ArePrintedOfMemory texts = (settings : List Setting) → AreSettings texts settings → All PrintsMemory settings

@@ -10,7 +10,7 @@ pub fn takes_limits()
     ensures { (words : List Text) → TakesLimits words }
 {}
 
-/// Whatever settings words say, all values that these print lie in memory.
+/// Whatever settings words say, all values that these print lie in memory, and so do all bytes that they write to files.
 pub fn prints_are_of_memory()
     ensures { (texts : List (List ℕ)) → ArePrintedOfMemory texts }
 {}

@@ -11,7 +11,7 @@ pub use command::{
     Adopting, CommandError, Course, FlightStart, Form, Packing, Request, Showing, Start, command_of,
 };
 pub use laws::{prints_are_of_memory, takes_limits};
-pub use setting::{Print, Setting, Size, equals_sign, first_part, place_in};
+pub use setting::{Dump, Print, Setting, Size, equals_sign, first_part, place_in};
 
 #[cfg(test)]
 mod tests;

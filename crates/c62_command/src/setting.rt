@@ -3,14 +3,14 @@
 ghost use Rattle.std.specs.Prelude.{◌≡◌, ◌+◌, ◌≤◌, ◌==◌, ◌<◌, ◌/◌, ℕ, map, length, Some, IfOk, IfErr};
 ghost use Rattle.std.specs.List.{position};
 ghost use Rattle.c62_command.specs.declared.setting.SettingError.TheVariants.{Memory};
-ghost use Rattle.c62_command.specs.Settings.{Adds, AreSettings, IsParted, IsBadAmong, address_of, bytes_in, cells, holds, form_named, is_whole, length_in, length_of, address_in, memory_settings, named_setting, parts, place_at, place_in, one, print_as, print_setting, printed, register_setting, spans, set_at, settings_at, settings_in, size_named, value_of};
+ghost use Rattle.c62_command.specs.Settings.{Adds, AreSettings, IsParted, IsBadAmong, address_of, bytes_in, cells, holds, form_named, is_whole, length_in, length_of, address_in, memory_settings, named_setting, parts, place_at, place_in, one, dump_setting, dumped, extent_in, print_as, print_setting, printed, register_setting, spans, set_at, settings_at, settings_in, size_named, value_of};
 
 use c62_op::{Reg, word_of};
 use c62_token::number::{number, register};
 use std::alloc::{AllocError, AllocFailed, Global};
 
 /// What is set before a run: a register, or memory at an address that lies on the size of what is put there, below 65,536. Or what
-/// is printed below its report, which sets nothing.
+/// is printed below its report or written to files, which sets nothing.
 #[derive(Clone, Copy, Debug, PartialEq, Eq)]
 pub enum Setting {
     Register(Reg, u32),
@@ -20,6 +20,7 @@ pub enum Setting {
     Half(u32, u32),
     Word(u32, u32),
     Print(Print),
+    Dump(Dump),
 }
 
 /// Values in memory that are printed below a report, one behind the other. Those that words ask for lie below 65,536, each on its
@@ -33,6 +34,15 @@ pub struct Print {
     pub size: Size,
     /// Whether they are printed as signed decimals, and not as hexadecimal digits.
     pub signed: bool,
+}
+
+/// Bytes of memory that are written to a file at the end of a run, one behind the other. Those that words ask for lie below 65,536.
+#[derive(Clone, Copy, Debug, PartialEq, Eq)]
+pub struct Dump {
+    /// The address of the first byte.
+    pub address: u32,
+    /// How many bytes are written.
+    pub count: u32,
 }
 
 /// How much of memory a value takes.
@@ -280,17 +290,20 @@ fn printed(address: u32, length: u32, size: Size, signed: bool) -> Option<Settin
     }
 }
 
+/// The address and the number of bytes that a text says as `ADDRESS+LENGTH`.
+fn extent_in(text: &[u8]) -> Option<(u32, u32)>
+    ensures { result ≡ extent_in text.now }
+{
+    let plus = plus(text)?;
+    Some((address_in(&text[..plus])?, length_in(&text[plus + 1..])?))
+}
+
 /// The values that a text says as `ADDRESS+LENGTH`, of this size.
 fn print_as(text: &[u8], size: Size, signed: bool) -> Option<Setting>
     ensures { result ≡ print_as text.now size signed }
 {
-    let plus = plus(text)?;
-    printed(
-        address_in(&text[..plus])?,
-        length_in(&text[plus + 1..])?,
-        size,
-        signed,
-    )
+    let (address, length) = extent_in(text)?;
+    printed(address, length, size, signed)
 }
 
 /// The size of values of this name, and whether they are printed as signed decimals.
@@ -326,12 +339,36 @@ fn print_setting(text: &[u8]) -> Option<Setting>
     }
 }
 
-/// What this text says of a name: what is printed, or the value of a register.
+/// So many bytes from an address on, which go to a file.
+fn dumped(address: u32, length: u32) -> Option<Setting>
+    ensures { result ≡ dumped address length }
+{
+    if spans(Size::Byte, address, length) {
+        Some(Setting::Dump(Dump {
+            address,
+            count: length,
+        }))
+    } else {
+        None
+    }
+}
+
+/// The bytes that a text says as `ADDRESS+LENGTH`, which go to a file.
+fn dump_setting(text: &[u8]) -> Option<Setting>
+    ensures { result ≡ dump_setting text.now }
+{
+    let (address, length) = extent_in(text)?;
+    dumped(address, length)
+}
+
+/// What this text says of a name: what is printed, what goes to a file, or the value of a register.
 fn named_setting(name: &[u8], text: &[u8]) -> Option<Setting>
     ensures { result ≡ named_setting name.now text.now }
 {
     if name == b"print".as_slice() {
         print_setting(text)
+    } else if name == b"dump".as_slice() {
+        dump_setting(text)
     } else {
         register_setting(name, text)
     }
@@ -360,7 +397,7 @@ fn push_memory(settings: &mut Vec<Setting>, place: &[u8], text: &[u8]) -> Result
     }
 }
 
-/// Adds what is set where this text is put into a register or, behind an `@`, into memory, or what is printed.
+/// Adds what is set where this text is put into a register or, behind an `@`, into memory, or what is printed or goes to a file.
 #[tactic(auto, unfolding(crate::specs::Settings::settings_at))]
 fn push_settings_at(
     settings: &mut Vec<Setting>,
@@ -382,8 +419,8 @@ pub fn equals_sign(text: &[u8]) -> Option<usize>
     text.iter().position(|b| *b == b'=')
 }
 
-/// Adds the settings that a word says: `REG=NUMBER`, `@ADDRESS=NUMBER,..`, `@ADDRESS:h=NUMBER,..`, `@ADDRESS:b=NUMBER,..` or
-/// `print=ADDRESS+LENGTH`. Answers whether it says some.
+/// Adds the settings that a word says: `REG=NUMBER`, `@ADDRESS=NUMBER,..`, `@ADDRESS:h=NUMBER,..`, `@ADDRESS:b=NUMBER,..`,
+/// `print=ADDRESS+LENGTH` or `dump=ADDRESS+LENGTH`. Answers whether it says some.
 #[tactic(auto, unfolding(crate::specs::Settings::settings_in))]
 fn push_word(settings: &mut Vec<Setting>, text: &[u8]) -> Result<bool, AllocError>
     ensures { IfOk result (Adds (settings_in text.now) settings.old.items settings.new.items) }

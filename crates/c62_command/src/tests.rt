@@ -1,15 +1,15 @@
 //! What words ask for, as the README and docs/REPORT.md say.
 
 use crate::{
-    Adopting, CommandError, FlightStart, Form, Packing, Print, Request, Setting, Showing, Size,
-    Start, command_of,
+    Adopting, CommandError, Dump, FlightStart, Form, Packing, Print, Request, Setting, Showing,
+    Size, Start, command_of,
 };
 use c62_op::Side;
 use std::alloc::Global;
 use std::test::Fail;
 
 /// Words, and what they ask for or why they are refused.
-const ASKED: [(&[&str], &str); 78] = [
+const ASKED: [(&[&str], &str); 84] = [
     (&[], "pack by turns, 0 ejections"),
     (&["pack"], "pack by workers, 0 ejections"),
     (&["pack", "--turns"], "pack by turns, 0 ejections"),
@@ -133,6 +133,15 @@ const ASKED: [(&[&str], &str); 78] = [
     (&["sim", "print=8+4:w"], "setting 1"),
     (&["sim", "print="], "setting 1"),
     (&["pack", "print=8+4"], "words"),
+    (
+        &["exec", "dump=0x300+64", "A1=1", "dump=0+65536"],
+        "exec; 1000000 cycles, 64 bytes to a file from 768, A1 = 1, 65536 bytes to a file from 0",
+    ),
+    (&["run", "A1=1", "dump=65535+2"], "setting 2"),
+    (&["sim", "dump=8+0"], "setting 1"),
+    (&["sim", "dump=8+4:h"], "setting 1"),
+    (&["sim", "dump="], "setting 1"),
+    (&["pack", "dump=8+4"], "words"),
     (&["exec", "--profile"], "words"),
     (&["adopt"], "adopt"),
     (&["adopt", "--drain"], "adopt, drained"),
@@ -192,6 +201,7 @@ fn setting_text(alloc: Global, setting: Setting) -> Result<String, Fail> {
         Setting::Half(address, value) => format!(in alloc; "@{address}:h = {value}")?,
         Setting::Word(address, value) => format!(in alloc; "@{address} = {value}")?,
         Setting::Print(print) => print_text(alloc, print)?,
+        Setting::Dump(dump) => dump_text(alloc, dump)?,
     })
 }
 
@@ -210,6 +220,10 @@ fn print_text(alloc: Global, print: Print) -> Result<String, Fail> {
         Size::Word => "words",
     };
     Ok(format!(in alloc; "{} {signed}{size} at {}", print.count, print.address)?)
+}
+
+fn dump_text(alloc: Global, dump: Dump) -> Result<String, Fail> {
+    Ok(format!(in alloc; "{} bytes to a file from {}", dump.count, dump.address)?)
 }
 
 fn settings_text(alloc: Global, settings: &[Setting]) -> Result<String, Fail> {

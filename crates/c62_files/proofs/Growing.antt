@@ -7,7 +7,7 @@ use Rattle.std.proofs.lemmas.List.{append-nil, drop_more, get_or-map, length-map
 use Rattle.std.proofs.lemmas.List.Sums.{count_by_more_no, count_by_more_yes}
 use Rattle.std.proofs.lemmas.Option.{slice_get-get_or, slice_get-map}
 use Rattle.c62_files.specs.declared.piece.Piece.{Piece}
-use Rattle.c62_files.specs.Words.{Text, Word, Plain, InputName, OutputName, SettingsName, Loads, Prints, text_piece}
+use Rattle.c62_files.specs.Words.{Text, Word, Plain, InputName, OutputName, SettingsName, Loads, Prints, Dumps, text_piece}
 use Rattle.c62_files.specs.declared.load.Stopped.{Stopped}
 use Rattle.c62_files.specs.declared.load.Stopped.TheVariants.{Unread as NotRead, Misfit as NotFit}
 use Rattle.c62_files.specs.Expand.{Expands, Gives, Holding, IsGrown, IsStoppedAt, IsUnexpanded, is_load, numbered}
@@ -68,6 +68,7 @@ stopped_word holds pieces i loads (InputName word) (NotFit misfit) stands counte
 stopped_word holds pieces i loads (OutputName word) (NotFit misfit) stands counted why = absurd why
 stopped_word holds pieces i loads (SettingsName word) (NotFit misfit) stands counted why = absurd why
 stopped_word holds pieces i loads (Prints word) (NotFit misfit) stands counted why = absurd why
+stopped_word holds pieces i loads (Dumps word) (NotFit misfit) stands counted why = absurd why
 
 pub stopped_at : (holds : Holding) (pieces : List Piece) (i loads : ℕ) (d piece : Piece) (stopped : Stopped) → i < length pieces → piece ≡ get_or pieces i d
     → loads ≡ count_by is_load (take i (map text_piece pieces)) → IsStoppedAt holds (text_piece piece) stopped

@@ -1,3 +1,5 @@
 mod Pieces
 mod Readings
 mod Growing
+mod Parting
+pub mod WrittenFiles

@@ -1,7 +1,7 @@
 -- Where the text of a call comes from, and where its answer goes to (docs/COMMANDS.md, "Files").
 use Rattle.std.specs.Prelude.{◌≡◌, ◌≢◌, ℕ, Bool, true, false, ◌&&◌, List, [], ◌∷◌, map, codes, Option, Some, None, option_map, slice_get, if◌then◌else◌}
 use Rattle.std.specs.Str.{bytes_eq}
-use Rattle.c62_files.specs.Words.{Text, all_pieces, inputs, option_of, outputs, text_piece, wants_more}
+use Rattle.c62_files.specs.Words.{Text, all_pieces, dumps, inputs, option_of, outputs, text_piece, texts, wants_more}
 use Rattle.c62_files.specs.declared.call.Source.{Source}
 use Rattle.c62_files.specs.declared.call.Source.TheVariants as given
 use Rattle.c62_files.specs.declared.call.Call.{Call}
@@ -42,7 +42,7 @@ unfoldable pub target_in : List Text → Option Text
 target_in [] = None
 target_in (name ∷ names) = if is_standard name then None else Some name
 
--- what words ask for: what they are, one source and at most one file for the answer
+-- what words ask for: what they are, one source, at most one file for the answer, and files for memory
 pub record IsCall (words : List Text) (call : Call) : Type 0 where
   pub pieces : map text_piece call.words.items ≡ all_pieces words
   pub whole : option_of (wants_more words) ≡ None
@@ -50,6 +50,7 @@ pub record IsCall (words : List Text) (call : Call) : Type 0 where
   pub source : source_in (inputs words) ≡ Some (text_source call.source)
   pub single : slice_get (outputs words) 1 ≡ None
   pub target : option_map (λ name. name.now) call.target ≡ target_in (outputs words)
+  pub dumped : texts call.dumps.items ≡ dumps words
 
 -- why words ask for nothing, unless memory ran out
 abbrev pub IsMistake : List Text → CallError → Type 0

@@ -2,7 +2,8 @@
 use Rattle.std.specs.Prelude.{◌≡◌, ℕ, ◌+◌, ◌≤◌, Bool, true, false, List, [], ◌∷◌, ◌++◌, ◌⊎◌, length, map, take, codes, slice_get, Option, Some, IfSome}
 use Rattle.std.specs.List.{count_by}
 use Rattle.std.specs.Str.Lossy.{utf8_lossy}
-use Rattle.c62_files.specs.Words.{Text, Word, Plain, InputName, OutputName, SettingsName, Loads, Prints}
+use Rattle.c62_files.specs.Words.{Text, Word, Plain, InputName, OutputName, SettingsName, Loads, Prints, Dumps, extent_of}
+pub use Rattle.c62_files.specs.Writing.{Holding}
 use Rattle.c62_files.specs.Load.{AreLoaded, IsMisfit, IsPlaced}
 use Rattle.c62_files.specs.Settings.{settings_words}
 use Rattle.c62_files.specs.declared.expand.TheConstants.{MOST_SETTINGS}
@@ -13,10 +14,6 @@ use Rattle.c62_files.specs.declared.load.Misfit.{Misfit}
 use Rattle.c62_files.specs.declared.load.Stopped.{Stopped}
 use Rattle.c62_files.specs.declared.load.Stopped.TheVariants.{Unread as NotRead, Misfit as NotFit}
 use Rattle.c62_files.specs.declared.folder.FileError.TheVariants.{Memory}
-
--- what files hold by their names, where that is known
-abbrev pub Holding : Type 0
-Holding = Text → Option (List ℕ)
 
 -- the words of a file of settings that is no longer than it may be; bytes that are no UTF-8 are none of a setting
 pub record AreOfFile (holds : Holding) (name : Text) (words : List Text) : Type 0 where
@@ -31,6 +28,7 @@ Gives holds (Plain word) words = words ≡ word ∷ []
 Gives holds (SettingsName name) words = AreOfFile holds name words
 Gives holds (Loads word) words = AreLoaded holds word words
 Gives holds (Prints word) words = words ≡ (codes "print=" ++ word) ∷ []
+Gives holds (Dumps word) words = words ≡ (codes "dump=" ++ extent_of word) ∷ []
 Gives holds (InputName name) words = words ≡ []
 Gives holds (OutputName name) words = words ≡ []
 

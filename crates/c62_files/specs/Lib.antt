@@ -1,4 +1,5 @@
 pub mod Words
+pub mod Writing
 pub mod Call
 pub mod Settings
 pub mod Load

@@ -1,11 +1,11 @@
 -- Which words of the command line name files (docs/COMMANDS.md, "Files").
-use Rattle.std.specs.Prelude.{ℕ, Bool, false, not, ◌==◌, ◌||◌, List, [], ◌∷◌, ◌++◌, map, length, codes, Option, Some, None, if◌then◌else◌}
-use Rattle.std.specs.List.{list_any, flat_map}
-use Rattle.std.specs.Option.{option_to_list}
+use Rattle.std.specs.Prelude.{ℕ, ◌+◌, Bool, false, not, ◌==◌, ◌||◌, List, [], ◌∷◌, ◌++◌, map, take, drop, length, codes, Option, Some, None, option_map, if◌then◌else◌}
+use Rattle.std.specs.List.{list_any, flat_map, position}
+use Rattle.std.specs.Option.{option_map_or, option_to_list}
 use Rattle.std.specs.Str.{bytes_eq}
 use Rattle.std.specs.Borrow.{Bor}
 use Rattle.c62_files.specs.declared.wanted.Wanted.{Wanted}
-use Rattle.c62_files.specs.declared.wanted.Wanted.TheVariants.{Command, Nothing, Value, Output, Settings, Load, Print, Help}
+use Rattle.c62_files.specs.declared.wanted.Wanted.TheVariants.{Command, Nothing, Value, Output, Settings, Load, Print, Dump, Help}
 use Rattle.c62_files.specs.declared.piece.Piece.{Piece}
 use Rattle.c62_files.specs.declared.piece.Piece.TheVariants as given
 
@@ -29,19 +29,21 @@ wanted_by word =
     else (if bytes_eq word (codes "--settings") then Settings
     else (if bytes_eq word (codes "--load") then Load
     else (if bytes_eq word (codes "--print") then Print
+    else (if bytes_eq word (codes "--dump") then Dump
     else (if takes_value word then Value
-    else Nothing))))
+    else Nothing)))))
 
 -- what the command wants: behind `help` no word names a file
 abbrev pub wanted_by_command : Text → Wanted
 wanted_by_command command = if bytes_eq command (codes "help") then Help else Nothing
 
--- the option that wants a word of its own: the name of a file, or what is printed
+-- the option that wants a word of its own: the name of a file, or what is printed or goes to a file
 abbrev pub option_of : Wanted → Option Text
 option_of Output = Some (codes "-o")
 option_of Settings = Some (codes "--settings")
 option_of Load = Some (codes "--load")
 option_of Print = Some (codes "--print")
+option_of Dump = Some (codes "--dump")
 option_of _ = None
 
 -- A file's name is no option, which begins with `-`, and no setting, which has a `=`. A lone `-` is standard input.
@@ -63,6 +65,8 @@ pub data Word : Type 0 where
   Loads : Text → Word
   -- an address and a length of memory that is printed
   Prints : Text → Word
+  -- an address and a length of memory, and the name of the file that it goes to
+  Dumps : Text → Word
 
 abbrev pub text_piece : Piece → Word
 text_piece (given.Plain word) = Plain word.now
@@ -71,6 +75,7 @@ text_piece (given.Output name) = OutputName name.now
 text_piece (given.Settings name) = SettingsName name.now
 text_piece (given.Load word) = Loads word.now
 text_piece (given.Print word) = Prints word.now
+text_piece (given.Dump word) = Dumps word.now
 
 -- what a word is by itself
 abbrev pub lone : Text → Word
@@ -82,6 +87,7 @@ wanting Output word = None
 wanting Settings word = None
 wanting Load word = None
 wanting Print word = None
+wanting Dump word = None
 wanting Value word = Some (Plain word)
 wanting _ word = Some (lone word)
 
@@ -91,6 +97,7 @@ piece_at Output word = Some (OutputName word)
 piece_at Settings word = Some (SettingsName word)
 piece_at Load word = Some (Loads word)
 piece_at Print word = Some (Prints word)
+piece_at Dump word = Some (Dumps word)
 piece_at Nothing word = wanting (wanted_by word) word
 piece_at _ word = Some (Plain word)
 
@@ -136,3 +143,26 @@ inputs words = flat_map input_in (all_pieces words)
 -- the names of files that the answer goes to
 abbrev pub outputs : List Text → List Text
 outputs words = flat_map output_in (all_pieces words)
+
+-- ---- memory that goes to files
+
+-- what stands before the first `=` of a word, and what stands behind it
+abbrev pub dump_parts : Text → Option (Text × Text)
+dump_parts word = option_map (λ k. (take k word, drop (k + 1) word)) (position (λ b. b == 61) word)
+
+-- `ADDRESS+LENGTH` of `ADDRESS+LENGTH=NAME`, and nothing where there is no name
+abbrev pub extent_of : Text → Text
+extent_of word = option_map_or (λ parts. parts.0) (dump_parts word) []
+
+-- the name of the file
+abbrev pub name_of : Text → Option Text
+name_of word = option_map (λ parts. parts.1) (dump_parts word)
+
+-- the name of a file that memory goes to
+abbrev pub dump_in : Word → List Text
+dump_in (Dumps word) = option_to_list (name_of word)
+dump_in _ = []
+
+-- the names of files that memory goes to
+abbrev pub dumps : List Text → List Text
+dumps words = flat_map dump_in (all_pieces words)

@@ -2,10 +2,12 @@
 
 ghost use Rattle.std.specs.Prelude.{◌≡◌, ◌++◌, IfOk, OnOk, IfErr, Some, None, map, option_map, slice_get};
 ghost use Rattle.std.specs.List.{flat_map};
-ghost use Rattle.c62_files.specs.Words.{input_in, output_in, text_piece, texts};
+ghost use Rattle.std.specs.Option.{option_to_list};
+ghost use Rattle.c62_files.specs.Words.{dump_in, input_in, output_in, text_piece, texts};
 ghost use Rattle.c62_files.specs.declared.call.CallError.TheVariants.{Memory};
 ghost use Rattle.c62_files.specs.Call.{IsCall, IsMistake, IsSourceMistake, IsTargetMistake, is_standard, most_inputs, most_of, source_in, target_in, text_source};
 
+use crate::dump::name_of;
 use crate::piece::{Piece, pieces_of};
 use crate::wanted::Wanted;
 use std::alloc::{AllocError, Global};
@@ -29,12 +31,14 @@ pub struct Call<'a> {
     pub source: Source<'a>,
     /// The name of the file that the answer goes to, where that isn't standard output.
     pub target: Option<&'a str>,
+    /// The names of files that memory goes to.
+    pub dumps: Vec<&'a str>,
 }
 
 /// Why words make no call.
 #[derive(Debug, Drop)]
 pub enum CallError<'a> {
-    /// Nothing stands behind this option, which wants the name of a file, or of `--print` what is printed.
+    /// Nothing stands behind this option, which wants the name of a file, or of `--print` and `--dump` what is printed or written.
     NoName(&'static str),
     /// The file of this name is one more than the command reads.
     TooManyInputs(&'a str),
@@ -63,7 +67,8 @@ fn push_input<'a>(names: &mut Vec<&'a str>, piece: &Piece<'a>) -> Result<(), All
         | Piece::Output(_)
         | Piece::Settings(_)
         | Piece::Load(_)
-        | Piece::Print(_) => Ok(()),
+        | Piece::Print(_)
+        | Piece::Dump(_) => Ok(()),
     }
 }
 
@@ -84,8 +89,12 @@ fn push_output<'a>(names: &mut Vec<&'a str>, piece: &Piece<'a>) -> Result<(), Al
 {
     match piece {
         Piece::Output(name) => Ok(names.push(*name)?),
-        Piece::Plain(_) | Piece::Input(_) | Piece::Settings(_) | Piece::Load(_) | Piece::Print(_) =>
-            Ok(()),
+        Piece::Plain(_)
+        | Piece::Input(_)
+        | Piece::Settings(_)
+        | Piece::Load(_)
+        | Piece::Print(_)
+        | Piece::Dump(_) => Ok(()),
     }
 }
 
@@ -96,6 +105,42 @@ fn outputs_in<'a>(alloc: Global, pieces: &[Piece<'a>]) -> Result<Vec<&'a str>, A
     let mut names = Vec::new(alloc);
     for piece in pieces {
         push_output(&mut names, piece)?;
+    }
+    Ok(names)
+}
+
+/// Adds a name, where there is one.
+fn push_some<'a>(names: &mut Vec<&'a str>, name: Option<&'a str>) -> Result<(), AllocError>
+    ensures { OnOk result (texts names.new.items ≡ texts names.old.items ++ option_to_list (option_map (λ n. n.now) name.entry)) }
+{
+    match name {
+        Some(name) => Ok(names.push(name)?),
+        None => Ok(()),
+    }
+}
+
+/// Adds the name of a file that memory goes to.
+fn push_dump<'a>(names: &mut Vec<&'a str>, piece: &Piece<'a>) -> Result<(), AllocError>
+    ensures { OnOk result (texts names.new.items ≡ texts names.old.items ++ dump_in (text_piece piece.now)) }
+{
+    match piece {
+        Piece::Dump(word) => push_some(names, name_of(*word)),
+        Piece::Plain(_)
+        | Piece::Input(_)
+        | Piece::Output(_)
+        | Piece::Settings(_)
+        | Piece::Load(_)
+        | Piece::Print(_) => Ok(()),
+    }
+}
+
+/// The names of files that memory goes to, among these pieces.
+fn dumps_in<'a>(alloc: Global, pieces: &[Piece<'a>]) -> Result<Vec<&'a str>, AllocError>
+    ensures { IfOk result (λ names. texts names.items ≡ flat_map dump_in (map text_piece pieces.now)) }
+{
+    let mut names = Vec::new(alloc);
+    for piece in pieces {
+        push_dump(&mut names, piece)?;
     }
     Ok(names)
 }
@@ -200,6 +245,7 @@ pub fn call_of<'a, S: AsStr>(alloc: Global, words: &'a [S]) -> Result<Call<'a>, 
     Ok(Call {
         source: source_of(most_of(words), &inputs)?,
         target: target_of(&outputs)?,
+        dumps: dumps_in(alloc, &found.pieces)?,
         words: found.pieces,
     })
 }

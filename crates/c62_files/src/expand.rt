@@ -7,6 +7,7 @@ ghost use Rattle.c62_files.specs.Settings.{settings_words};
 ghost use Rattle.c62_files.specs.Expand.{Expands, Gives, IsStoppedAt, IsUnexpanded, is_load, numbered};
 ghost use Rattle.c62_files.specs.declared.folder.FileError.TheVariants.{Memory};
 
+use crate::dump::extent_of;
 use crate::folder::{FileError, Folder};
 use crate::load::{Misfit, Stopped, push_load};
 use crate::piece::Piece;
@@ -74,12 +75,17 @@ fn push_word(alloc: Global, words: &mut Vec<String>, word: &str) -> Result<(), A
     Ok(())
 }
 
-/// Adds the setting that stands for what is printed.
-fn push_print(alloc: Global, words: &mut Vec<String>, word: &str) -> Result<(), AllocError>
-    ensures { OnOk result (map string_bytes words.new.items ≡ map string_bytes words.old.items ++ (codes "print=" ++ word.now) ∷ []) }
+/// Adds the setting that puts a text behind a place.
+fn push_setting(
+    alloc: Global,
+    words: &mut Vec<String>,
+    place: &str,
+    text: &str,
+) -> Result<(), AllocError>
+    ensures { OnOk result (map string_bytes words.new.items ≡ map string_bytes words.old.items ++ (place.now ++ text.now) ∷ []) }
 {
-    let mut setting = String::from_str(alloc, "print=")?;
-    setting.push_str(word)?;
+    let mut setting = String::from_str(alloc, place)?;
+    setting.push_str(text)?;
     words.push(setting)?;
     Ok(())
 }
@@ -102,7 +108,8 @@ fn push_words<'a, F: Folder>(
             Err(error) => Err(Stopped::Unread(Unread { name: *name, error })),
         },
         Piece::Load(word) => push_load(alloc, folder, words, *word),
-        Piece::Print(word) => Ok(push_print(alloc, words, *word)?),
+        Piece::Print(word) => Ok(push_setting(alloc, words, "print=", *word)?),
+        Piece::Dump(word) => Ok(push_setting(alloc, words, "dump=", extent_of(*word))?),
         Piece::Input(_) | Piece::Output(_) => Ok(()),
     }
 }
@@ -128,11 +135,13 @@ fn loads_with(loads: usize, piece: &Piece<'_>) -> usize
         | Piece::Settings(_)
         | Piece::Input(_)
         | Piece::Output(_)
-        | Piece::Print(_) => loads,
+        | Piece::Print(_)
+        | Piece::Dump(_) => loads,
     }
 }
 
-/// The words of a call, with those of its files of settings in their places, and with settings for the files that it loads.
+/// The words of a call, with those of its files of settings in their places, and with settings for the files that it loads, and for
+/// what it prints or writes to files.
 ///
 /// # Errors
 ///

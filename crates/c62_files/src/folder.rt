@@ -1,6 +1,7 @@
 //! Files by their names.
 
 ghost use Rattle.std.specs.Prelude.{◌≡◌, ◌+◌, ℕ, List, Option, None, IfOk, IfSome, OnOk, OnErr, take};
+ghost use Rattle.c62_files.specs.Writing.{IsReplaced};
 
 use std::alloc::{AllocError, Global};
 use std::fs::{Files, OpenFile, OpenOptions};
@@ -44,14 +45,14 @@ pub trait Folder {
     fn read(&self, alloc: Global, name: &str, limit: usize) -> Result<Vec<u8>, FileError>
         ensures { IfOk result (λ bytes. IfSome (holds self.now name.now) (λ all. bytes.items ≡ take (limit + 1) all)) };
 
-    /// Makes a file of this name hold these bytes, be it there or not.
+    /// Makes a file of this name hold these bytes, be it there or not. What is known of files by other names is as it was.
     ///
     /// # Errors
     ///
-    /// Where it can't be written, or memory ran out. It is what it was then.
+    /// Where it can't be written, or memory ran out. All files are what they were then.
     fn replace(&mut self, alloc: Global, name: &str, bytes: &[u8]) -> Result<(), FileError>
-        ensures ok { OnOk result (IfSome (holds self.new name.now) (λ all. all ≡ bytes.now)) }
-        ensures err { OnErr result (holds self.new name.now ≡ holds self.old name.now) };
+        ensures ok { OnOk result (IsReplaced (holds self.old) name.now bytes.now (holds self.new)) }
+        ensures err { OnErr result (holds self.new ≡ holds self.old) };
 }
 
 /// The files of the system. Of what they hold nothing is known.

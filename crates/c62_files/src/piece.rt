@@ -24,6 +24,8 @@ pub enum Piece<'a> {
     Load(&'a str),
     /// Behind `--print`: `ADDRESS+LENGTH`, and how it is printed.
     Print(&'a str),
+    /// Behind `--dump`: `ADDRESS+LENGTH=NAME`, where so many bytes of memory from this address on go to the file of this name.
+    Dump(&'a str),
 }
 
 /// What words are, and what the last of them wants of a word that isn't there.
@@ -73,8 +75,9 @@ fn piece_at<'a>(wanted: Wanted, word: &'a str) -> Option<Piece<'a>>
         Wanted::Settings => Some(Piece::Settings(word)),
         Wanted::Load => Some(Piece::Load(word)),
         Wanted::Print => Some(Piece::Print(word)),
+        Wanted::Dump => Some(Piece::Dump(word)),
         Wanted::Nothing => match Wanted::by(word) {
-            Wanted::Output | Wanted::Settings | Wanted::Load | Wanted::Print => None,
+            Wanted::Output | Wanted::Settings | Wanted::Load | Wanted::Print | Wanted::Dump => None,
             Wanted::Value => Some(Piece::Plain(word)),
             Wanted::Command | Wanted::Nothing | Wanted::Help => Some(lone(word)),
         },
@@ -88,8 +91,12 @@ fn wanted_after(wanted: Wanted, word: &str) -> Wanted
     match wanted {
         Wanted::Command => Wanted::by_command(word),
         Wanted::Help => Wanted::Help,
-        Wanted::Value | Wanted::Output | Wanted::Settings | Wanted::Load | Wanted::Print =>
-            Wanted::Nothing,
+        Wanted::Value
+        | Wanted::Output
+        | Wanted::Settings
+        | Wanted::Load
+        | Wanted::Print
+        | Wanted::Dump => Wanted::Nothing,
         Wanted::Nothing => Wanted::by(word),
     }
 }

@@ -20,6 +20,8 @@ pub enum Wanted {
     Load,
     /// An address and a length of memory that is printed: behind `--print`.
     Print,
+    /// An address and a length of memory, and the name of the file that it goes to: behind `--dump`.
+    Dump,
     /// A word for the command, and so are all behind it: behind `help`.
     Help,
 }
@@ -48,6 +50,8 @@ impl Wanted {
             Wanted::Load
         } else if word == "--print" {
             Wanted::Print
+        } else if word == "--dump" {
+            Wanted::Dump
         } else if word == "--eject"
             || word == "--search"
             || word == "--blocks"
@@ -62,7 +66,7 @@ impl Wanted {
         }
     }
 
-    /// The option that wants a word of its own: the name of a file, or what is printed.
+    /// The option that wants a word of its own: the name of a file, or what is printed or goes to a file.
     pub fn option(self) -> Option<&'static str>
         ensures { option_map (λ option. option.now) result ≡ option_of self }
     {
@@ -71,6 +75,7 @@ impl Wanted {
             Wanted::Settings => Some("--settings"),
             Wanted::Load => Some("--load"),
             Wanted::Print => Some("--print"),
+            Wanted::Dump => Some("--dump"),
             Wanted::Command | Wanted::Nothing | Wanted::Value | Wanted::Help => None,
         }
     }

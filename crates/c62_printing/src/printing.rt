@@ -23,8 +23,11 @@ fn push_printed(out: &mut Vec<u8>, state: &State, setting: Setting) -> Result<()
             print.size.bytes(),
             print.signed,
         ),
-        Setting::Register(_, _) | Setting::Byte(_, _) | Setting::Half(_, _) | Setting::Word(_, _) =>
-            Ok(()),
+        Setting::Register(_, _)
+        | Setting::Byte(_, _)
+        | Setting::Half(_, _)
+        | Setting::Word(_, _)
+        | Setting::Dump(_) => Ok(()),
     }
 }
 

@@ -1,7 +1,7 @@
 //! Values that settings ask for, by the rules of docs/REPORT.md.
 
-use crate::push_prints;
-use c62_command::{Print, Setting, Size};
+use crate::{push_dumps, push_prints};
+use c62_command::{Dump, Print, Setting, Size};
 use c62_serial::State;
 use std::test::Fail;
 
@@ -86,6 +86,28 @@ fn what_sets_prints_nothing(rt: HostRuntime) -> Result<(), Fail> {
         Setting::Word(8, 1),
     ];
     push_prints(&mut out, &state, &settings)?;
+    push_dumps(&mut out, &state, &settings)?;
     assert!(rt; out.is_empty());
+    Ok(())
+}
+
+#[test]
+fn bytes_are_dumped(rt: HostRuntime) -> Result<(), Fail> {
+    let mut state = State::new(rt.alloc())?;
+    let _ = state.poke(8, 0xffff_8001);
+    let mut out = Vec::new(rt.alloc());
+    let settings = [
+        Setting::Dump(Dump {
+            address: 7,
+            count: 4,
+        }),
+        Setting::Word(8, 5),
+        Setting::Dump(Dump {
+            address: 11,
+            count: 1,
+        }),
+    ];
+    push_dumps(&mut out, &state, &settings)?;
+    assert_eq!(rt; out.as_slice(), b"\x00\x01\x80\xff\xff".as_slice());
     Ok(())
 }

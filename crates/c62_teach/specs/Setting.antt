@@ -39,9 +39,16 @@ abbrev pub print_reason : List ℕ
 print_reason =
     codes "ADDRESS+LENGTH is printed, whole words within memory; with :h, :b, :d, :hd or :bd behind it halves, bytes or decimals"
 
--- `print` prints, and any other name is that of a register
+-- what can be written to a file
+abbrev pub dump_reason : List ℕ
+dump_reason = codes "--dump ADDRESS+LENGTH=NAME writes bytes within memory to a file"
+
+-- `print` prints, `dump` writes to a file, and any other name is that of a register
 abbrev pub named_reason : (name value : Text) → List ℕ
-named_reason name value = if bytes_eq name (codes "print") then print_reason else register_reason name value (register_of name)
+named_reason name value =
+    if bytes_eq name (codes "print") then print_reason
+    else (if bytes_eq name (codes "dump") then dump_reason
+    else register_reason name value (register_of name))
 
 -- why these values can't be put into `@ADDRESS`, or this one into a register, or why that can't be printed
 abbrev pub reason_at : (place values : Text) → List ℕ

@@ -79,7 +79,7 @@ fn push_register_reason(out: &mut Vec<u8>, name: &[u8], value: &[u8]) -> Result<
     }
 }
 
-/// Why this value can't be put under this name: `print` prints, and any other name is that of a register.
+/// Why this value can't be put under this name: `print` prints, `dump` writes to a file, and any other name is that of a register.
 fn push_named_reason(out: &mut Vec<u8>, name: &[u8], value: &[u8]) -> Result<(), AllocError>
     ensures { OnOk result (out.new.items ≡ out.old.items ++ named_reason name.now value.now) }
 {
@@ -87,6 +87,8 @@ fn push_named_reason(out: &mut Vec<u8>, name: &[u8], value: &[u8]) -> Result<(),
         out.extend_from_slice(
             b"ADDRESS+LENGTH is printed, whole words within memory; with :h, :b, :d, :hd or :bd behind it halves, bytes or decimals",
         )
+    } else if name == b"dump".as_slice() {
+        out.extend_from_slice(b"--dump ADDRESS+LENGTH=NAME writes bytes within memory to a file")
     } else {
         push_register_reason(out, name, value)
     }

@@ -1,6 +1,5 @@
 -- Why nothing comes of words, from what a step of their run says.
-use Rattle.std.proofs.Common.{◌≡◌, ◌∙◌, ℕ, true, List, ◌++◌, Option, Some, None, Result, refl, ap, subst, inl, inr}
-use Rattle.std.specs.Prelude.{option_map}
+use Rattle.std.proofs.Common.{◌≡◌, ◌∙◌, ℕ, true, List, [], ◌++◌, Option, Some, None, Result, refl, ap, subst, inl, inr}
 use Rattle.std.specs.Io.KnownBytes.{Appends, Keeps}
 use Rattle.std.specs.Borrow.{Bor}
 use Rattle.std.proofs.KnownBytes.{Keeps-refl}
@@ -8,19 +7,21 @@ use Rattle.clap.specs.Words.{Text}
 use Rattle.c62_answer.specs.Message.{Tells, told_of}
 use Rattle.c62_answer.specs.Run.{Streams, streams}
 use Rattle.c62_answer.proofs.Runs.{told_tells}
-use Rattle.c62_files.specs.Call.{From, IsCall, IsMistake, Standard, File, Parts, target_in, text_source}
+use Rattle.c62_files.specs.Call.{From, IsCall, IsMistake, Standard, File, Parts, text_source}
 use Rattle.c62_files.specs.Expand.{Holding}
 use Rattle.c62_files.specs.declared.expand.Unexpanded.{Unexpanded}
 use Rattle.c62_files.specs.declared.expand.Unexpanded.TheVariants.{Load, Unread as NotRead}
-use Rattle.c62_files.specs.Words.{outputs}
+use Rattle.c62_files.specs.Words.{dumps, texts}
+use Rattle.c62_dumping.specs.Cut.{files_of}
+use Rattle.c62_files.proofs.WrittenFiles.{none_begun}
 use Rattle.c62_files.specs.declared.call.Call.{Call}
 use Rattle.c62_files.specs.declared.call.CallError.{CallError}
 use Rattle.c62_files.specs.declared.folder.FileError.{FileError}
 use Rattle.c62_files.specs.declared.folder.FileError.TheVariants as failure
 use Rattle.c62_tool.specs.declared.trouble.Trouble.{Trouble}
-use Rattle.c62_tool.specs.declared.trouble.Trouble.TheVariants.{NoCall, NoLoad, Unread, Unwritten, Input, Memory}
-use Rattle.c62_tool.specs.Trouble.{Called, Expanding, HasCallTrouble, IsSaid, IsTroubleWithRun, IsTroubleWithSource, Mistaken, Running, Says, call_message, is_early, load_message, of_reading, of_words, status_of}
-use Rattle.c62_tool.specs.Program.{AreKept, IsFailure}
+use Rattle.c62_tool.specs.declared.trouble.Trouble.TheVariants.{NoCall, NoLoad, Unread, Unwritten, LooseDump, Input, Memory}
+use Rattle.c62_tool.specs.Trouble.{Called, Expanding, HasCallTrouble, IsSaid, IsTroubleDumping, IsTroubleWithRun, IsTroubleWithSource, Loose, Mistaken, Running, Says, call_message, is_early, load_message, loose_message, of_reading, of_words, status_of}
+use Rattle.c62_tool.specs.Program.{HasBegun, IsFailure}
 
 -- ---- memory
 
@@ -37,6 +38,7 @@ says_told result (NoCall error) old new said = told_tells result old new (call_m
 says_told result (NoLoad number misfit) old new said = told_tells result old new (load_message number misfit) said
 says_told result (Unread name error) old new said = tt
 says_told result (Unwritten name error) old new said = tt
+says_told result LooseDump old new said = told_tells result old new loose_message said
 says_told result Input old new said = told_tells result old new _ said
 says_told result Memory old new said = told_tells result old new _ said
 
@@ -72,7 +74,9 @@ not_run source (Some target) error (inr with) = with
 
 no_mistake : (holds : Holding) (call : Call) (error : CallError) → HasCallTrouble holds call (NoCall error) → ⊥
 no_mistake holds call error (Expanding why is same) = not_words why error same
-no_mistake holds call error (Running with) = not_run (text_source call.source) call.target error with
+no_mistake holds call error (Loose words are loose same) = cc
+no_mistake holds call error (Running (inl with)) = not_run (text_source call.source) call.target error with
+no_mistake holds call error (Running (inr with)) = with
 
 is_said : (holds : Holding) (call : Call) (trouble : Trouble) (old told new : Option (List ℕ)) → HasCallTrouble holds call trouble
     → (is_early trouble ≡ true → Keeps old told) → Says Tells trouble told new → IsSaid trouble old new
@@ -80,14 +84,15 @@ is_said holds call (NoCall error) old told new has silent says = absurd (no_mist
 is_said holds call (NoLoad number misfit) old told new has silent says = tells_behind old told new _ (silent refl) says
 is_said holds call (Unread name error) old told new has silent says = tt
 is_said holds call (Unwritten name error) old told new has silent says = tt
+is_said holds call LooseDump old told new has silent says = tells_behind old told new _ (silent refl) says
 is_said holds call Input old told new has silent says = tells_behind old told new _ (silent refl) says
 is_said holds call Memory old told new has silent says = tt
 
 -- ---- failures
 
-are_kept : (before : Holding) (target : Option Text) → AreKept before before target
-are_kept before None = refl
-are_kept before (Some target) = refl
+-- where no file changes, none is begun
+pub not_begun : (before after : Holding) (names : List Text) → after ≡ before → HasBegun before after names
+not_begun before after names kept = rw kept ([], [], none_begun before (files_of names [] []))
 
 pub mistaken : (before : Holding) (words : List Text) (error : CallError) (input output old new : Option (List ℕ)) (status : ℕ) → IsMistake words error
     → status ≡ status_of (NoCall error) → Says Tells (NoCall error) old new
@@ -98,17 +103,17 @@ mistaken before words error input output old new status is ends says = record {
   ends = ends;
   said = says;
   unwritten = Keeps-refl output;
-  kept = are_kept before (target_in (outputs words));
+  kept = not_begun before before (dumps words) refl;
 }
 
 pub called : (before after : Holding) (words : List Text) (call : Call) (trouble : Trouble) (old new : Streams) (told : Option (List ℕ)) (status : ℕ)
     → IsCall words call → HasCallTrouble before call trouble → status ≡ status_of trouble → (is_early trouble ≡ true → Keeps old.errors told) → Says Tells trouble told new.errors
-    → Keeps old.output new.output → AreKept before after (option_map (λ name. name.now) call.target) → IsFailure before after words old new status
+    → Keeps old.output new.output → HasBegun before after (texts call.dumps.items) → IsFailure before after words old new status
 called before after words call trouble old new told status is has ends silent says unwritten kept = record {
   trouble = trouble;
   why = Called call is has;
   ends = ends;
   said = is_said before call trouble old.errors told new.errors has silent says;
   unwritten = unwritten;
-  kept = subst (AreKept before after) is.target kept;
+  kept = subst (HasBegun before after) is.dumped kept;
 }

@@ -2,3 +2,4 @@ pub mod Taught
 pub mod Failing
 pub mod Writing
 pub mod Calling
+pub mod Dumps

@@ -1,5 +1,6 @@
 -- What the program does to files and streams (docs/COMMANDS.md, "Files").
-use Rattle.std.specs.Prelude.{◌≡◌, ◌≢◌, ℕ, ◌+◌, ◌==◌, ◌&&◌, ◌||◌, nat_le, Bool, true, false, List, [], map, take, codes, Option, Some, None, IfSome, if◌then◌else◌}
+use Rattle.std.specs.Prelude.{◌≡◌, ◌≢◌, ◌⊎◌, ℕ, ◌+◌, ◌==◌, ◌&&◌, ◌||◌, nat_le, Bool, true, false, List, [], ◌∷◌, length, map, take, codes, Option, Some, None, IfSome, if◌then◌else◌}
+use Rattle.std.specs.Option.{IsSomeAnd}
 use Rattle.std.specs.Io.KnownBytes.{Keeps}
 use Rattle.std.specs.Borrow.{Bor}
 use Rattle.clap.specs.Words.{Text}
@@ -10,9 +11,12 @@ use Rattle.c62_command.specs.Blamed.{setting_at}
 use Rattle.c62_command.specs.CommandLine.{IsRefusal, ask_of, asked}
 use Rattle.c62_command.specs.declared.command.CommandError.{CommandError}
 use Rattle.c62_command.specs.declared.command.CommandError.TheVariants.{Memory, Setting}
-use Rattle.c62_files.specs.Words.{outputs, text_piece}
+use Rattle.c62_dumping.specs.Counts.{counts_asked}
+use Rattle.c62_dumping.specs.Cut.{dumped_in, files_of, report_in}
+use Rattle.c62_files.specs.Words.{dumps, text_piece, texts}
 use Rattle.c62_files.specs.Expand.{Expands, Holding}
-use Rattle.c62_files.specs.Call.{From, IsCall, IsMistake, Standard, File, Parts, is_standard, target_in, text_source}
+use Rattle.c62_files.specs.Writing.{AreBegun, AreWritten, IsReplaced}
+use Rattle.c62_files.specs.Call.{From, IsCall, IsMistake, Standard, File, Parts, is_standard, text_source}
 use Rattle.c62_files.specs.declared.call.Call.{Call}
 use Rattle.c62_teach.specs.declared.words.Linting.{Linting}
 use Rattle.c62_teach.specs.Words.{is_explained, is_lint, linting_of, plain_words}
@@ -116,11 +120,11 @@ pub data RunsWords (holds : Holding) (words : List Text) (source : From) (old ne
 abbrev pub is_made : List Text → ℕ → Bool
 is_made words status = status == 0 || nat_le 5 status || is_lint words && status == 1
 
--- A run whose answer goes to a file. That holds the answer then, where one was made, and else what it held.
+-- A run whose answer goes to a file. That holds the answer then, where one was made, and else what it held. Other files are as they were.
 pub record RunsTo (before after : Holding) (words : List Text) (source : From) (target : Text) (old new : Streams) (status : ℕ) : Type 0 where
   pub answer : List ℕ
   pub runs : RunsWords before words source (streams old.input (Some []) old.errors) (streams new.input (Some answer) new.errors) status
-  pub made : is_made words status ≡ true → IfSome (after target) (λ all. all ≡ answer)
+  pub made : is_made words status ≡ true → IsReplaced before target answer after
   pub kept : is_made words status ≡ false → after ≡ before
 
 -- what a run does to the output, or to the file that its answer goes to; then nothing is written to the output
@@ -129,25 +133,75 @@ RunsTarget before after words source None old new status = RunsWords before word
 RunsTarget before after words source (Some target) old new status =
     RunsTo before after words source target.now old new status × Keeps old.output new.output
 
+-- ---- memory that goes to files
+
+-- what the words ask for writes so many bytes to each file
+abbrev pub AsksFor : List Text → (counts : List ℕ) → Type 0
+AsksFor words counts = IsSomeAnd (asked words) (λ ask. counts ≡ counts_asked ask)
+
+-- so it is, or the words ask for nothing
+abbrev pub AreCounts : List Text → Option (List ℕ) → Type 0
+AreCounts words None = IsRefused words
+AreCounts words (Some counts) = AsksFor words counts
+
+-- so many files are named, and that is how many bytes go to each; words that ask for nothing have none
+abbrev pub AreCountsFor : (names : ℕ) → List Text → (counts : List ℕ) → Type 0
+AreCountsFor names words counts = (IsRefused words × (counts ≡ [])) ⊎ ((length counts ≡ names) × AsksFor words counts)
+
+-- the report goes to the output, or to the file of this name
+abbrev pub IsDelivered : (before after : Holding) → (target : Option (Bor Text)) → (report : List ℕ) → (done : ℕ) → (old new errors told : Option (List ℕ))
+    → (status : ℕ) → Type 0
+IsDelivered before after None report done old new errors told status = (after ≡ before) × IsWritten report done old new errors told status
+IsDelivered before after (Some target) report done old new errors told status =
+    IsReplaced before target.now report after × (status ≡ done) × Keeps old new × Keeps errors told
+
+-- Memory is written to its files, in the order of the words, and then the report to where it goes.
+pub record IsDumped (before after : Holding) (call : Call) (counts answer : List ℕ) (done : ℕ) (old new : Streams) (status : ℕ) : Type 0 where
+  pub between : Holding
+  pub written : AreWritten before (files_of (texts call.dumps.items) counts (dumped_in counts answer)) between
+  pub delivered : IsDelivered between after call.target (report_in counts answer) done old.output new.output old.errors new.errors status
+
+-- nothing is written
+pub record IsUndone (before after : Holding) (done : ℕ) (old new : Streams) (status : ℕ) : Type 0 where
+  pub kept : after ≡ before
+  pub ends : status ≡ done
+  pub unwritten : Keeps old.output new.output
+  pub silent : Keeps old.errors new.errors
+
+-- A run whose answer ends with so many bytes for each of these files. They and the report are written where there is an answer.
+pub record RunsDumping (before after : Holding) (words : List Text) (call : Call) (counts : List ℕ) (old new : Streams) (status : ℕ) : Type 0 where
+  pub answer : List ℕ
+  pub done : ℕ
+  -- what the error stream holds then
+  pub told : Option (List ℕ)
+  pub runs : RunsWords before words (text_source call.source) (streams old.input (Some []) old.errors) (streams new.input (Some answer) told) done
+  pub made : is_made words done ≡ true → IsDumped before after call counts answer done (streams old.input old.output told) new status
+  pub none : is_made words done ≡ false → IsUndone before after done (streams old.input old.output told) new status
+
+-- what a run does whose words write memory to files of these names, if to any
+abbrev pub RunsNaming : List (Bor Text) → (before after : Holding) → List Text → Call → (old new : Streams) → (status : ℕ) → Type 0
+RunsNaming [] before after words call old new status = RunsTarget before after words (text_source call.source) call.target old new status
+RunsNaming (name ∷ names) before after words call old new status =
+    (counts : List ℕ) × AreCountsFor (length (name ∷ names)) (plain_words words) counts × RunsDumping before after words call counts old new status
+
 -- what a call does, on its words with those of its files of settings in their places
 pub record RunsCall (before after : Holding) (call : Call) (old new : Streams) (status : ℕ) : Type 0 where
   pub words : List Text
   pub expanded : Expands before (map text_piece call.words.items) words
-  pub runs : RunsTarget before after words (text_source call.source) call.target old new status
+  pub runs : RunsNaming call.dumps.items before after words call old new status
 
--- files are as they were; of one that was to be written this is said of that alone
-abbrev pub AreKept : (before after : Holding) → (target : Option Text) → Type 0
-AreKept before after None = after ≡ before
-AreKept before after (Some target) = after target ≡ before target
+-- files are as they were, but that memory may have been written to the first few of these
+abbrev pub HasBegun : (before after : Holding) → (names : List Text) → Type 0
+HasBegun before after names = (counts : List ℕ) × (bytes : List ℕ) × AreBegun before (files_of names counts bytes) after
 
--- There is trouble with words or files. Nothing is written, and no file changes.
+-- There is trouble with words or files. Nothing is written, and no file changes but those that memory goes to.
 pub record IsFailure (before after : Holding) (words : List Text) (old new : Streams) (status : ℕ) : Type 0 where
   pub trouble : Trouble
   pub why : HasTrouble before words trouble
   pub ends : status ≡ status_of trouble
   pub said : IsSaid trouble old.errors new.errors
   pub unwritten : Keeps old.output new.output
-  pub kept : AreKept before after (target_in (outputs words))
+  pub kept : HasBegun before after (dumps words)
 
 -- What the program does: it prints a page, explains a name, or does what a call asks for, or there is trouble.
 pub data IsProgramRun (before after : Holding) (words : List Text) (old new : Streams) (status : ℕ) : Type 0 where

@@ -82,7 +82,7 @@ const LISTING: &str = "   MVK .S1 5,A1\n";
 const REPORT: &str = "blocks 1\nexit end\nA1 00000005\nA2 00000003\n";
 
 /// Words, standard input, and the output, what is told and the status.
-const RUNS: [(&[&str], &[u8], &str, &str, u8); 49] = [
+const RUNS: [(&[&str], &[u8], &str, &str, u8); 56] = [
     (&["pack", "--turns", "first.s"], b"FOO", LISTING, "", 0),
     (&["pack", "first.s", "--eject", "3"], b"FOO", LISTING, "", 0),
     (&["pack", "-"], b"MVK 5,A1", LISTING, "", 0),
@@ -343,6 +343,56 @@ const RUNS: [(&[&str], &[u8], &str, &str, u8); 49] = [
         "error: --print wants ADDRESS+LENGTH behind it\n",
         2,
     ),
+    // memory that goes to files
+    (
+        &["serial", "--dump"],
+        b"",
+        "",
+        "error: --dump wants ADDRESS+LENGTH=NAME behind it\n",
+        2,
+    ),
+    (
+        &["serial", "none.s", "--dump", "65535+2=old"],
+        b"",
+        "",
+        "setting 1: bad\n",
+        2,
+    ),
+    (
+        &["serial", "none.s", "A1=1", "--dump", "8+2"],
+        b"",
+        "",
+        "setting 2: bad\n",
+        2,
+    ),
+    (
+        &["serial", "none.s", "--dump", "8+2:h=old"],
+        b"",
+        "",
+        "setting 1: bad\n",
+        2,
+    ),
+    (
+        &["serial", "none.s", "--dump", "8+2=old", "dump=8+2"],
+        b"",
+        "",
+        "error: dump= stands for --dump, which names a file\n",
+        2,
+    ),
+    (
+        &["serial", "--explain", "none.s", "dump=8+2"],
+        b"",
+        "",
+        "error: dump= stands for --dump, which names a file\n",
+        2,
+    ),
+    (
+        &["serial", "first.s", "--dump", "8+2=old", "A1=zz"],
+        b"",
+        "",
+        "setting 2: bad\n",
+        2,
+    ),
     // a report of a strict run, with its status
     (
         &["serial", "first.s", "--strict"],
@@ -369,57 +419,160 @@ const RUNS: [(&[&str], &[u8], &str, &str, u8); 49] = [
     ),
 ];
 
-/// Words, whether the shelf is full, the file that is looked at, what it holds then, what is told, and the status.
-const WRITES: [(&[&str], bool, &str, &str, &str, u8); 6] = [
-    (
-        &["pack", "first.s", "-o", "old"],
-        false,
-        "old",
-        LISTING,
-        "",
-        0,
-    ),
-    (
-        &["pack", "-o", "first.s", "first.s"],
-        false,
-        "first.s",
-        LISTING,
-        "",
-        0,
-    ),
-    (
-        &["pack", "-o", "old", "bad.s"],
-        false,
-        "old",
-        "what it was",
-        "line 2: UnknownMnemonic\n",
-        1,
-    ),
-    (
-        &["pack", "first.s", "-o", "old"],
-        true,
-        "old",
-        "what it was",
-        "cannot write old: no storage space\n",
-        4,
-    ),
-    (
-        &["sim", "A4=1", "fault.lst", "--strict", "-o", "old"],
-        false,
-        "old",
-        "blocks 1\ncycles 5\nexit end\nA4 00000001\nfault 1\n",
-        "",
-        7,
-    ),
-    (
-        &["check", "first.lst", "-o", "old"],
-        false,
-        "old",
-        "what it was",
-        "text line 0: NoListing\n",
-        1,
-    ),
+/// Words that write, and what comes of them.
+struct Written<'a> {
+    words: &'a [&'a str],
+    /// The output, what is told, and the status.
+    wanted: (&'a str, &'a str, u8),
+    /// A file, and what it holds then.
+    file: (&'a str, &'a str),
+}
+
+/// What is written where there is room.
+const WRITES: [Written<'static>; 14] = [
+    Written {
+        words: &["pack", "first.s", "-o", "old"],
+        wanted: ("", "", 0),
+        file: ("old", LISTING),
+    },
+    Written {
+        words: &["pack", "-o", "first.s", "first.s"],
+        wanted: ("", "", 0),
+        file: ("first.s", LISTING),
+    },
+    Written {
+        words: &["pack", "-o", "old", "bad.s"],
+        wanted: ("", "line 2: UnknownMnemonic\n", 1),
+        file: ("old", OLD),
+    },
+    Written {
+        words: &["sim", "A4=1", "fault.lst", "--strict", "-o", "old"],
+        wanted: ("", "", 7),
+        file: (
+            "old",
+            "blocks 1\ncycles 5\nexit end\nA4 00000001\nfault 1\n",
+        ),
+    },
+    Written {
+        words: &["check", "first.lst", "-o", "old"],
+        wanted: ("", "text line 0: NoListing\n", 1),
+        file: ("old", OLD),
+    },
+    // memory, as it is at the end of the run
+    Written {
+        words: &["serial", "-", "--dump", "8+2=old", "@8:b=65,66,67"],
+        wanted: ("blocks 0\nexit end\n@0008 00434241\n", "", 0),
+        file: ("old", "AB"),
+    },
+    Written {
+        words: &[
+            "run",
+            "--turns",
+            "first.s",
+            "--dump",
+            "8+1=old",
+            "@8:b=65",
+            "--profile",
+        ],
+        wanted: (
+            "blocks 1\ncycles 1\nexit end\nA1 00000005\n@0008 00000041\nblock runs cycles sum share\n0 1 1 1 100.0%\n",
+            "",
+            0,
+        ),
+        file: ("old", "A"),
+    },
+    Written {
+        words: &[
+            "exec",
+            "first.lst",
+            "@8:b=65",
+            "--print",
+            "8+1:b",
+            "--dump",
+            "8+1=old",
+        ],
+        wanted: (
+            "cycles 1\nexit end\nA1 00000005\n@0008 00000041\nprint 0008 41\n",
+            "",
+            0,
+        ),
+        file: ("old", "A"),
+    },
+    // Of two files of one name the later one stands, and the report is the last.
+    Written {
+        words: &[
+            "serial",
+            "-",
+            "@8:b=65,66,67",
+            "--dump",
+            "8+2=old",
+            "--dump",
+            "10+1=old",
+        ],
+        wanted: ("blocks 0\nexit end\n@0008 00434241\n", "", 0),
+        file: ("old", "C"),
+    },
+    Written {
+        words: &["serial", "-", "@8:b=65", "--dump", "8+1=old", "-o", "old"],
+        wanted: ("", "", 0),
+        file: ("old", "blocks 0\nexit end\n@0008 00000041\n"),
+    },
+    Written {
+        words: &[
+            "serial", "-", "@8:b=65", "--dump", "8+1=old", "-o", "first.s",
+        ],
+        wanted: ("", "", 0),
+        file: ("old", "A"),
+    },
+    Written {
+        words: &[
+            "sim",
+            "A4=1",
+            "@8:b=65",
+            "fault.lst",
+            "--strict",
+            "--dump",
+            "8+1=old",
+        ],
+        wanted: (
+            "blocks 1\ncycles 5\nexit end\nA4 00000001\n@0008 00000041\nfault 1\n",
+            "",
+            7,
+        ),
+        file: ("old", "A"),
+    },
+    Written {
+        words: &["serial", "bad.s", "--dump", "8+1=old"],
+        wanted: ("", "line 2: UnknownMnemonic\n", 1),
+        file: ("old", OLD),
+    },
+    Written {
+        words: &["serial", "first.s", "--dump", "8+1=old", "A1=zz"],
+        wanted: ("", "setting 2: bad\n", 2),
+        file: ("old", OLD),
+    },
 ];
+
+/// What is not where there is none.
+const UNWRITTEN: [Written<'static>; 3] = [
+    Written {
+        words: &["pack", "first.s", "-o", "old"],
+        wanted: ("", "cannot write old: no storage space\n", 4),
+        file: ("old", OLD),
+    },
+    Written {
+        words: &["serial", "first.s", "--dump", "8+1=old"],
+        wanted: ("", "cannot write old: no storage space\n", 4),
+        file: ("old", OLD),
+    },
+    Written {
+        words: &["serial", "first.s", "--dump", "8+1=new", "-o", "old"],
+        wanted: ("", "cannot write new: no storage space\n", 4),
+        file: ("old", OLD),
+    },
+];
+
+const OLD: &str = "what it was";
 
 fn filled_shelf(alloc: Global, is_full: bool) -> Result<Shelf, AllocError> {
     let mut files = Vec::new(alloc);
@@ -458,15 +611,28 @@ fn files_that_are_read(rt: HostRuntime) -> Result<(), Fail> {
     Ok(())
 }
 
+/// Runs words that write. What they answer is wanted, and what the file holds then.
+fn writes<H: AllocGlobal + Threads + Wait + Abort + Sync>(
+    rt: &H,
+    row: &Written<'_>,
+    is_full: bool,
+) -> Result<(), Fail> {
+    let mut shelf = filled_shelf(rt.alloc(), is_full)?;
+    runs(rt, &mut shelf, row.words, b"", row.wanted);
+    match shelf.read(rt.alloc(), row.file.0, 100) {
+        Ok(found) => assert_eq!(rt; found.as_slice(), row.file.1.as_bytes()),
+        Err(_) => assert!(rt; false),
+    }
+    Ok(())
+}
+
 #[test]
 fn files_that_are_written(rt: HostRuntime) -> Result<(), Fail> {
-    for (words, is_full, name, bytes, errors, status) in &WRITES {
-        let mut shelf = filled_shelf(rt.alloc(), *is_full)?;
-        runs(&rt, &mut shelf, words, b"", ("", *errors, *status));
-        match shelf.read(rt.alloc(), name, 100) {
-            Ok(found) => assert_eq!(rt; found.as_slice(), bytes.as_bytes()),
-            Err(_) => assert!(rt; false),
-        }
+    for row in &WRITES {
+        writes(&rt, row, false)?;
+    }
+    for row in &UNWRITTEN {
+        writes(&rt, row, true)?;
     }
     Ok(())
 }

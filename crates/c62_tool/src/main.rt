@@ -2,6 +2,7 @@
 //! with everything in flight.
 #![tactic(auto)]
 
+mod dumping;
 mod joined;
 mod page;
 mod program;

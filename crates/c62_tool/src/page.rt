@@ -22,6 +22,7 @@ or not at all, as in: c62 pack kernel.s -o kernel.lst
 Settings can stand in a file, as in: c62 run kernel.s --settings kernel.settings
 and the bytes of a file in memory, as in: c62 run kernel.s --load 0x100=table.bin
 Memory is printed below the report, as in: c62 run kernel.s --print 0x300+16:hd
+and written to a file, as in: c62 run kernel.s --dump 0x300+64=out.bin
 
 Status, and what standard error says:
   0  done, and nothing is said but how many cycles were added to drain packets

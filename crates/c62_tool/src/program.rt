@@ -1,15 +1,17 @@
 //! The program over files and streams.
 
-ghost use Rattle.std.specs.Prelude.{◌≡◌, ◌⊎◌, None, Some, IfOk, IfErr, true, false, map, option_map, string_bytes};
+ghost use Rattle.std.specs.Prelude.{◌≡◌, ◌⊎◌, None, Some, IfOk, IfErr, OnErr, true, false, map, string_bytes};
 ghost use Rattle.std.specs.Io.KnownBytes.{Keeps};
 ghost use Rattle.c62_answer.specs.Run.{streams};
 ghost use Rattle.c62_files.specs.Call.{is_standard, text_source};
+ghost use Rattle.c62_files.specs.Words.{texts};
 ghost use Rattle.c62_answer.specs.Message.{Tells};
 ghost use Rattle.c62_tool.specs.Trouble.{HasCallTrouble, IsTroubleWith, IsTroubleWithRun, IsTroubleWithSource, Says, is_early, status_of};
 ghost use Rattle.c62_tool.specs.Page.{page_text};
 ghost use Rattle.c62_tool.specs.Written.{IsWritten};
-ghost use Rattle.c62_tool.specs.Program.{AreKept, AreParts, IsGiven, IsHeld, IsProgramRun, IsRefused, RunsCall, RunsFrom, RunsTo, RunsWords, is_made};
+ghost use Rattle.c62_tool.specs.Program.{AreParts, HasBegun, IsGiven, IsHeld, IsProgramRun, IsRefused, RunsCall, RunsFrom, RunsTarget, RunsTo, RunsWords, is_made};
 
+use crate::dumping::{counts_for, run_dumping};
 use crate::joined::joined;
 use crate::page::{Page, page_asked, write_page};
 use crate::teaching::{run_explained, run_lint};
@@ -125,7 +127,14 @@ fn run_from<'a, H: AllocGlobal + Threads + Wait + Sync, F: Folder, R: Read, W: W
 
 /// Does what words ask for on what their source gives: `lint`, or a command with or without explanations.
 #[tactic(auto)]
-fn run_words<'a, H: AllocGlobal + Threads + Wait + Sync, F: Folder, R: Read, W: Write, E: Write>(
+pub(crate) fn run_words<
+    'a,
+    H: AllocGlobal + Threads + Wait + Sync,
+    F: Folder,
+    R: Read,
+    W: Write,
+    E: Write,
+>(
     rt: &H,
     folder: &F,
     words: &[String],
@@ -151,7 +160,7 @@ fn run_words<'a, H: AllocGlobal + Threads + Wait + Sync, F: Folder, R: Read, W: 
 }
 
 /// Whether a run of these words that ends with this status made an answer.
-fn is_made(words: &[String], status: u8) -> bool
+pub(crate) fn is_made(words: &[String], status: u8) -> bool
     ensures { result ≡ is_made (map string_bytes words.now) status }
 {
     status == 0 || status >= 5 || is_lint(words) && status == 1
@@ -171,7 +180,7 @@ fn run_to<'a, H: AllocGlobal + Threads + Wait + Sync, F: Folder, R: Read, E: Wri
         let new = streams (R.remaining input.new) None (E.contents errors.new) in
         IfOk result (RunsTo (F.holds folder.old) (F.holds folder.new) (map string_bytes words.now) (text_source source.entry) target.entry.now old new) }
     ensures silent { IfErr result (λ trouble. is_early trouble ≡ true → Keeps (E.contents errors.old) (E.contents errors.new)) }
-    ensures kept { IfErr result (λ _. AreKept (F.holds folder.old) (F.holds folder.new) (Some target.entry.now)) }
+    ensures kept { OnErr result (F.holds folder.new ≡ F.holds folder.old) }
     ensures why { IfErr result (IsTroubleWithRun (text_source source.entry) (Some target.entry)) }
 {
     let mut answer = Vec::new(rt.alloc());
@@ -182,6 +191,30 @@ fn run_to<'a, H: AllocGlobal + Threads + Wait + Sync, F: Folder, R: Read, E: Wri
     match folder.replace(rt.alloc(), target, &answer) {
         Ok(()) => Ok(status),
         Err(error) => Err(Trouble::of_writing(target, error)),
+    }
+}
+
+/// Runs a command whose answer goes to the output, or to the file of this name.
+fn run_target<'a, H: AllocGlobal + Threads + Wait + Sync, F: Folder, R: Read, W: Write, E: Write>(
+    rt: &H,
+    folder: &mut F,
+    words: &[String],
+    call: &Call<'a>,
+    input: &mut R,
+    output: &mut W,
+    errors: &mut E,
+) -> Result<u8, Trouble<'a>>
+    ensures ok { let old = streams (R.remaining input.old) (W.contents output.old) (E.contents errors.old) in
+        let new = streams (R.remaining input.new) (W.contents output.new) (E.contents errors.new) in
+        IfOk result (RunsTarget (F.holds folder.old) (F.holds folder.new) (map string_bytes words.now) (text_source call.now.source) call.now.target old new) }
+    ensures err { IfErr result (λ _. Keeps (W.contents output.old) (W.contents output.new)) }
+    ensures silent { IfErr result (λ trouble. is_early trouble ≡ true → Keeps (E.contents errors.old) (E.contents errors.new)) }
+    ensures kept { OnErr result (F.holds folder.new ≡ F.holds folder.old) }
+    ensures why { IfErr result (IsTroubleWithRun (text_source call.now.source) call.now.target) }
+{
+    match call.target {
+        None => run_words(rt, folder, words, call.source, input, output, errors),
+        Some(target) => run_to(rt, folder, words, call.source, target, input, errors),
     }
 }
 
@@ -199,16 +232,17 @@ fn run_call<'a, H: AllocGlobal + Threads + Wait + Sync, F: Folder, R: Read, W: W
         IfOk result (RunsCall (F.holds folder.old) (F.holds folder.new) call.now old new) }
     ensures err { IfErr result (λ _. Keeps (W.contents output.old) (W.contents output.new)) }
     ensures silent { IfErr result (λ trouble. is_early trouble ≡ true → Keeps (E.contents errors.old) (E.contents errors.new)) }
-    ensures kept { IfErr result (λ _. AreKept (F.holds folder.old) (F.holds folder.new) (option_map (λ name. name.now) call.now.target)) }
+    ensures kept { OnErr result (HasBegun (F.holds folder.old) (F.holds folder.new) (texts call.now.dumps.items)) }
     ensures why { IfErr result (HasCallTrouble (F.holds folder.old) call.now) }
 {
     let words = match expanded(rt.alloc(), folder, &call.words) {
         Ok(words) => words,
         Err(error) => return Err(Trouble::of_words(error)),
     };
-    match call.target {
-        None => run_words(rt, folder, &words, call.source, input, output, errors),
-        Some(target) => run_to(rt, folder, &words, call.source, target, input, errors),
+    let counts = counts_for(rt.alloc(), call.dumps.len(), &words)?;
+    match call.dumps.as_slice() {
+        [] => run_target(rt, folder, &words, call, input, output, errors),
+        [_, ..] => run_dumping(rt, folder, &words, call, &counts, input, output, errors),
     }
 }
 
@@ -235,7 +269,7 @@ fn give_up<E: Write>(trouble: &Trouble<'_>, errors: &mut E) -> u8
 /// name, or from the reader, and the answer goes to the output or to a file (docs/COMMANDS.md, "Files").
 ///
 /// What [`run_tool`] promises of the bytes of a reader, it promises of the bytes that were read of a file. A file that the answer goes
-/// to holds all of it where there is one, and else what it held.
+/// to holds all of it where there is one, and else what it held. So do the files that memory goes to, which are written before it.
 pub fn run_program<
     H: AllocGlobal + Threads + Wait + Sync,
     F: Folder,

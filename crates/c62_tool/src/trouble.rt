@@ -23,6 +23,8 @@ pub enum Trouble<'a> {
     Unwritten(&'a str, io::Error),
     /// The file that the load of this number, from 1, puts into memory doesn't fit there.
     NoLoad(usize, Misfit),
+    /// A word stands for `--dump`, and no file is named for it.
+    LooseDump,
     /// Standard input can't be read.
     Input,
     /// Memory ran out.
@@ -75,7 +77,7 @@ impl<'a> Trouble<'a> {
     {
         match self {
             Trouble::NoCall(CallError::Memory) | Trouble::Memory => 3,
-            Trouble::NoCall(_) | Trouble::NoLoad(_, _) => 2,
+            Trouble::NoCall(_) | Trouble::NoLoad(_, _) | Trouble::LooseDump => 2,
             Trouble::Unread(_, _) | Trouble::Unwritten(_, _) | Trouble::Input => 4,
         }
     }
@@ -87,6 +89,8 @@ fn wanted_text(option: &str) -> &'static str
 {
     if option == "--print" {
         " wants ADDRESS+LENGTH behind it\n"
+    } else if option == "--dump" {
+        " wants ADDRESS+LENGTH=NAME behind it\n"
     } else {
         " wants the name of a file behind it\n"
     }
@@ -173,6 +177,10 @@ pub fn report<E: Write>(errors: &mut E, trouble: &Trouble<'_>) -> Result<(), Ref
         Trouble::Unread(name, error) => tell_file(errors, "cannot read ", *name, error),
         Trouble::Unwritten(name, error) => tell_file(errors, "cannot write ", *name, error),
         Trouble::NoLoad(number, misfit) => print_load(errors, *number, *misfit),
+        Trouble::LooseDump => write_whole(
+            errors,
+            b"error: dump= stands for --dump, which names a file\n",
+        ),
         Trouble::Input => write_whole(errors, b"input\n"),
         Trouble::Memory => write_whole(errors, b"memory\n"),
     }

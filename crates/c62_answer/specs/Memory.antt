@@ -1,0 +1,23 @@
+-- Answers end with the bytes of memory that go to files (docs/COMMANDS.md, "Files").
+use Rattle.std.specs.Prelude.{◌≡◌, ℕ, List, ◌++◌}
+use Rattle.c62_command.specs.declared.setting.Setting.{Setting as Given}
+use Rattle.c62_command.specs.CommandLine.{Ask, SerialReport, PacketReport, StandingReport, FlightReport}
+use Rattle.c62_printing.specs.Dumping.{dumps}
+use Rattle.c62_serial.specs.State.{Machine}
+use Rattle.c62_answer.specs.declared.outcome.Outcome.{Outcome}
+use Rattle.c62_answer.specs.Run.{IsAnswer}
+
+-- behind the report stand the bytes that these settings write to files, of the machine at the end
+abbrev pub EndsWithMemory : List Given → List ℕ → Type 0
+EndsWithMemory settings answer = (report : List ℕ) × (final : Machine) × (answer ≡ report ++ dumps final settings)
+
+-- so it is with the answer of a run
+abbrev pub HasItsMemory : Ask → List ℕ → Type 0
+HasItsMemory (SerialReport course settings) answer = EndsWithMemory settings answer
+HasItsMemory (PacketReport packing course settings) answer = EndsWithMemory settings answer
+HasItsMemory (StandingReport form course settings) answer = EndsWithMemory settings answer
+HasItsMemory (FlightReport most strict from settings) answer = EndsWithMemory settings answer
+HasItsMemory _ answer = Unit {0}
+
+abbrev pub AnswersEndWithMemory : Type 0
+AnswersEndWithMemory = (ask : Ask) (outcome : Outcome) (text answer : List ℕ) → IsAnswer ask outcome text answer → HasItsMemory ask answer
