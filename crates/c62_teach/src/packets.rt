@@ -4,11 +4,12 @@ use crate::other::push_packets_hint;
 use crate::teaching::Names;
 use c62_adopt::{AdoptFault, adopt, read_code};
 use c62_answer::parts_of;
-use c62_command::Form;
+use c62_command::{Adopting, FlightStart, Form};
 use c62_explain::explain as explain_serial;
 use c62_explain_packets::{Finding, explain, of_adopt, of_listing, of_rows};
 use c62_line::Cause;
 use c62_listing_reader::{ListFault, read_listing};
+use c62_reach::{ReachFault, reached_text};
 use c62_read::read_program;
 use c62_rows::{RowsFault, read_from};
 use std::alloc::{AllocError, Global};
@@ -40,7 +41,7 @@ fn sim_taught(alloc: Global, name: &[u8], text: &[u8]) -> Result<Vec<u8>, AllocE
 }
 
 /// What explains the fault of a text of packets, drained or as it stands.
-pub(crate) fn adopt_taught(
+fn adopt_taught(
     alloc: Global,
     name: &[u8],
     text: &[u8],
@@ -53,8 +54,64 @@ pub(crate) fn adopt_taught(
     }
 }
 
+/// What explains the fault of what is taken of a text of packets from this label on.
+fn adopt_taught_from(
+    alloc: Global,
+    name: &[u8],
+    text: &[u8],
+    from: &[u8],
+    drain: bool,
+) -> Result<Vec<u8>, AllocError> {
+    match reached_text(alloc, text, from) {
+        Ok(taken) => adopt_taught(alloc, name, &taken, drain),
+        Err(ReachFault::Memory) => Err(AllocError),
+        Err(ReachFault::From) => found_taught(alloc, name, text, of_rows(RowsFault::From)),
+    }
+}
+
+/// What explains the fault of a text of packets that is to be adopted so.
+pub(crate) fn adopting_taught(
+    alloc: Global,
+    name: &[u8],
+    text: &[u8],
+    adopting: &Adopting,
+) -> Result<Vec<u8>, AllocError> {
+    match &adopting.from {
+        Some(from) => adopt_taught_from(alloc, name, text, from, adopting.drain),
+        None => adopt_taught(alloc, name, text, adopting.drain),
+    }
+}
+
+/// What explains the fault of what is taken of a text of packets from this label on, and is to run in flight from there.
+fn exec_taught_alone(
+    alloc: Global,
+    name: &[u8],
+    text: &[u8],
+    from: &[u8],
+) -> Result<Vec<u8>, AllocError> {
+    match reached_text(alloc, text, from) {
+        Ok(taken) => exec_taught(alloc, name, &taken, Some(from)),
+        Err(ReachFault::Memory) => Err(AllocError),
+        Err(ReachFault::From) => found_taught(alloc, name, text, of_rows(RowsFault::From)),
+    }
+}
+
+/// What explains the fault of a text of packets that is to run in flight so.
+pub(crate) fn flight_taught(
+    alloc: Global,
+    name: &[u8],
+    text: &[u8],
+    start: &FlightStart,
+) -> Result<Vec<u8>, AllocError> {
+    match &start.from {
+        Some(from) if start.alone => exec_taught_alone(alloc, name, text, from),
+        Some(from) => exec_taught(alloc, name, text, Some(from)),
+        None => exec_taught(alloc, name, text, None),
+    }
+}
+
 /// What explains the fault of a text of packets that is to run in flight, from this label on.
-pub(crate) fn exec_taught(
+fn exec_taught(
     alloc: Global,
     name: &[u8],
     text: &[u8],

@@ -5,8 +5,8 @@ ghost use Rattle.c62_command.specs.CommandLine.{ask_of};
 ghost use Rattle.c62_teach.specs.Taught.{Teaches, TeachesSerial};
 
 use crate::other::push_serial_hint;
-use crate::packets::{adopt_taught, check_taught, exec_taught, form_taught};
-use c62_command::{FlightStart, Form, Request};
+use crate::packets::{adopting_taught, check_taught, flight_taught, form_taught};
+use c62_command::{Form, Request};
 use c62_explain::explain;
 use c62_line::Cause;
 use c62_read::read_program;
@@ -39,14 +39,6 @@ fn serial_taught(alloc: Global, name: &[u8], text: &[u8]) -> Result<Vec<u8>, All
     Ok(more)
 }
 
-/// The name of the label with whose row a run begins.
-fn from_of(start: &FlightStart) -> Option<&[u8]> {
-    match &start.from {
-        Some(name) => Some(name),
-        None => None,
-    }
-}
-
 /// What is told behind the line that refuses a text, where that is asked to be explained: where the fault is found, the line with carets
 /// under it, what is wrong, and what helps (docs/FAULTS.md). Nothing where the text isn't refused.
 ///
@@ -68,8 +60,8 @@ pub fn taught(
         }
         Request::Sim(form, _) => form_taught(alloc, *form, name, text),
         Request::ShowListing(_) => form_taught(alloc, Form::Listed, name, text),
-        Request::Exec(start) => exec_taught(alloc, name, text, from_of(start)),
-        Request::Adopt(drain) => adopt_taught(alloc, name, text, *drain),
+        Request::Exec(start) => flight_taught(alloc, name, text, start),
+        Request::Adopt(adopting) => adopting_taught(alloc, name, text, adopting),
         Request::ShowPackets(_) => form_taught(alloc, Form::Written, name, text),
         Request::Check(form) => check_taught(alloc, *form, names, text),
     }

@@ -7,7 +7,7 @@ use std::test::Fail;
 use std::thread::Threads;
 
 /// Words, a text, its listing, and what is told.
-const ADOPTED: [(&[&str], &[u8], &str, &str); 10] = [
+const ADOPTED: [(&[&str], &[u8], &str, &str); 12] = [
     (&["adopt"], b"", "", ""),
     (&["adopt", "--drain"], b"\t.text\r\n NOP 9\n", "", ""),
     // A packet in the order of its units, each with its X or T, with NOPs alone and beside others.
@@ -23,6 +23,19 @@ const ADOPTED: [(&[&str], &[u8], &str, &str); 10] = [
         b"L1:\n   SUB .L1 A1,1,A1\n   [A1] B .S2 L1\n   NOP 5\n\nEnd_1:\n",
         "L1:\n   SUB .L1 A1,1,A1\n   [A1] B .S2 L1\n   NOP 5\n\nEnd_1:\n",
         "",
+    ),
+    // What a label reaches: by a branch, and by running on.
+    (
+        &["adopt", "--from", "f"],
+        b"g: FOO\nf: B .S1 .L2\n NOP 5\nh: FOO\n.L2: MVK .S1 1,A1\n.L3: RET .S2 B3\n NOP 5\ni: FOO\n",
+        "f:\n   B .S1 _L2\n   NOP 5\n\n_L2:\n   MVK .S1 1,A1\n\n_L3:\n   B .S2 B3\n   NOP 5\n",
+        "",
+    ),
+    (
+        &["adopt", "--from", "f", "--drain"],
+        b"g: MPY .M1 A1,A1,A2\nf: LDW .D1 *A4,A5",
+        "f:\n   LDW .D1T1 *A4,A5\n   NOP 4\n",
+        "4 cycles added\n",
     ),
     // Nothing lacks, or cycles lack before a label and at the end.
     (
@@ -144,6 +157,38 @@ fn refused_packets(rt: HostRuntime) -> Result<(), Fail> {
     Ok(())
 }
 
+/// Texts of which what a label reaches isn't adopted.
+const UNREACHED: [(&[&str], &[u8], &str); 4] = [
+    (
+        &["adopt", "--from", "g"],
+        b"f: NOP\n",
+        "from: UnknownTarget\n",
+    ),
+    (
+        &["adopt", "--from", "f"],
+        b"g: FOO\nf: B .S1 q\n NOP 5\n",
+        "line 2: UnknownTarget\n",
+    ),
+    (
+        &["adopt", "--from", "f"],
+        b"f: RET .S2 B3\n NOP 4\ng: FOO\n",
+        "line 3: UnknownMnemonic\n",
+    ),
+    (
+        &["adopt", "--from", "f"],
+        b"g: FOO\n .macro\nf: NOP\n",
+        "line 2: Directive\n",
+    ),
+];
+
+#[test]
+fn unreached_packets(rt: HostRuntime) -> Result<(), Fail> {
+    for (words, text, expected) in &UNREACHED {
+        refuses(&rt, words, text, expected);
+    }
+    Ok(())
+}
+
 #[test]
 fn laying_directives(rt: HostRuntime) -> Result<(), Fail> {
     for name in &LAYING {
@@ -179,5 +224,7 @@ fn longest_texts(rt: HostRuntime) -> Result<(), Fail> {
     assert!(rt; ran.errors.is_empty());
     text.push(b'\n')?;
     refuses(&rt, &["adopt"], &text, "line 0: TextTooLong\n");
+    let words = ["adopt", "--from", "f"];
+    refuses(&rt, &words, &text, "line 0: TextTooLong\n");
     Ok(())
 }

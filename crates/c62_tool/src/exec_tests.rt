@@ -4,7 +4,7 @@ use c62_answer::run_on_bytes;
 use std::test::Fail;
 
 /// Words, a text of packets, and the report of its flight.
-const FLOWN: [(&[&str], &[u8], &str); 10] = [
+const FLOWN: [(&[&str], &[u8], &str); 11] = [
     (&["exec"], b"", "cycles 0\nexit end\n"),
     // A branch ends a NOP, and what was loaded lands behind the end.
     (
@@ -51,6 +51,12 @@ const FLOWN: [(&[&str], &[u8], &str); 10] = [
         b"M: B .S1 F\n MVKL .S2 R,B3\n MVKH .S2 R,B3\n NOP 3\nR: MV .L1 A4,A5\n RET .S2 B5\n NOP 5\nF: RET .S2 B3\n||MPY .M1 A4,A4,A4\n NOP 5\n",
         "cycles 19\nexit register 00002000\nA4 00000009\nA5 00000009\nB3 80000080\nB5 00002000\n",
     ),
+    // What a label reaches, without the functions that can't be read.
+    (
+        &["exec", "--alone", "--from", "F", "B3=0x2000"],
+        b"G: FOO\nF: B .S1 H\n NOP 5\nJ: .word 3\nH: RET .S2 B3\n NOP 5\nI: FOO\n",
+        "cycles 12\nexit register 00002000\nB3 00002000\n",
+    ),
     // A store that faults, by its line.
     (
         &["exec"],
@@ -71,7 +77,7 @@ fn flights(rt: HostRuntime) -> Result<(), Fail> {
 }
 
 /// Words, a text, and what it is refused for.
-const REFUSED: [(&[&str], &[u8], &str); 6] = [
+const REFUSED: [(&[&str], &[u8], &str); 8] = [
     (
         &["exec"],
         b"L: B .S1 L\n|| B .S2 B3\n",
@@ -93,6 +99,16 @@ const REFUSED: [(&[&str], &[u8], &str); 6] = [
         &["exec", "--from", "Q"],
         b"B .S2 R\n",
         "line 1: UnknownTarget\n",
+    ),
+    (
+        &["exec", "--from", "Q", "--alone"],
+        b"B .S2 R\n",
+        "from: UnknownTarget\n",
+    ),
+    (
+        &["exec", "--from", "L", "--alone"],
+        b"FOO\nL: B .S2 R\n NOP 5\nFOO: NOP\n",
+        "line 2: UnknownTarget\n",
     ),
 ];
 

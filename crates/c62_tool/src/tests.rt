@@ -289,11 +289,12 @@ Options:
         &["adopt", "-h"],
         "Reads packets as they are written for an assembler and writes their listing
 
-Usage: c62 adopt [--drain] [-o <FILE>] [FILE]
+Usage: c62 adopt [--from <NAME>] [--drain] [-o <FILE>] [FILE]
 
 Options:
-      --drain  Adds the NOPs that lack before labels and at the end, says how many cycles, and what they may change
-  -h, --help   Print help
+      --from <NAME>  Takes of the text only what this label reaches; the whole text where none is given
+      --drain        Adds the NOPs that lack before labels and at the end, says how many cycles, and what they may change
+  -h, --help         Print help
 ",
         "c62 adopt hand.asm --drain  (4 cycles added; A5 was read below line 2 before it landed)",
     ),
