@@ -1,6 +1,6 @@
 -- Answers end with the bytes of memory that go to files.
 use Rattle.std.proofs.Common.{ℕ, List, ◌++◌}
-use Rattle.c62_command.specs.CommandLine.{Ask, Listing, Picture, ListingPicture, PacketsPicture, SerialReport, PacketReport, StandingReport, FlightReport, Adoption, Verdicts}
+use Rattle.c62_command.specs.CommandLine.{Ask, Listing, Picture, ListingPicture, PacketsPicture, SerialReport, PacketReport, StandingReport, FlightReport, Adoption, Reaching, Verdicts}
 use Rattle.c62_printing.specs.Printing.{prints}
 use Rattle.c62_report.specs.Report.{serial_report, packet_report}
 use Rattle.c62_report.specs.Flight.{flight_report}
@@ -25,3 +25,4 @@ ends_with_memory (ListingPicture showing) outcome text answer is = tt
 ends_with_memory (PacketsPicture showing) outcome text answer is = tt
 ends_with_memory (Adoption drain) outcome text answer is = tt
 ends_with_memory (Verdicts form) outcome text answer is = tt
+ends_with_memory (Reaching name ask) outcome text answer (taken, is_taken, is) = ends_with_memory ask outcome taken answer is
