@@ -6,10 +6,11 @@ use crate::{
 };
 use c62_op::Side;
 use std::alloc::Global;
+use std::process::Abort;
 use std::test::Fail;
 
-/// Words, and what they ask for or why they are refused.
-const ASKED: [(&[&str], &str); 84] = [
+/// Words for a listing or a picture, and what they ask for or why they are refused.
+const LISTINGS: [(&[&str], &str); 26] = [
     (&[], "pack by turns, 0 ejections"),
     (&["pack"], "pack by workers, 0 ejections"),
     (&["pack", "--turns"], "pack by turns, 0 ejections"),
@@ -63,6 +64,10 @@ const ASKED: [(&[&str], &str); 84] = [
     (&["show", "--blocks", "2"], "words"),
     (&["pack", "--why"], "words"),
     (&["show", "A1=5"], "words"),
+];
+
+/// The same for a run, and for what is done with packets.
+const RUNS: [(&[&str], &str); 58] = [
     (&["run"], "run by workers, 0 ejections; 1000 blocks"),
     (
         &[
@@ -306,12 +311,22 @@ fn answer_text(alloc: Global, answer: &Result<Request, CommandError>) -> Result<
     }
 }
 
-#[test]
-fn words_ask(rt: HostRuntime) -> Result<(), Fail> {
-    for (words, want) in &ASKED {
-        let answer = command_of(rt.alloc(), words);
-        let found = answer_text(rt.alloc(), &answer)?;
+/// Whether the words of each row ask for that.
+fn are_asked(rt: &impl Abort, alloc: Global, rows: &[(&[&str], &str)]) -> Result<(), Fail> {
+    for (words, want) in rows {
+        let answer = command_of(alloc, words);
+        let found = answer_text(alloc, &answer)?;
         assert_eq!(rt; found.as_str(), *want);
     }
     Ok(())
+}
+
+#[test]
+fn words_ask_for_listings(rt: HostRuntime) -> Result<(), Fail> {
+    are_asked(&rt, rt.alloc(), &LISTINGS)
+}
+
+#[test]
+fn words_ask_for_runs(rt: HostRuntime) -> Result<(), Fail> {
+    are_asked(&rt, rt.alloc(), &RUNS)
 }
