@@ -1,7 +1,7 @@
 //! Blocks that lists make shorter.
 
 use crate::{Schedule, shortest};
-use c62_board::{Board, Who};
+use c62_board::{Board, PlaceFault, Spot, Who};
 use c62_depend::Plan;
 use c62_read::read_program;
 use std::alloc::Global;
@@ -22,6 +22,11 @@ const LENGTHS: [(&str, u16, u16); 6] = [
     ("L1: SUB A1,1,A1\nMVK 7,A7\nMVK 8,A8\n[A1] B .S1 L1", 8, 7),
 ];
 
+fn place(rt: &impl Abort, board: &mut Board, i: u16) -> Result<Spot, PlaceFault> {
+    assert!(rt; i < board.plan().len());
+    board.place(i, Who::Tail)
+}
+
 /// The board of the only block of a text, placed in the order of the text.
 fn board_of(rt: &impl Abort, alloc: Global, text: &str) -> Result<Board, Fail> {
     let mut blocks = read_program(alloc, text.as_bytes())?.into_blocks();
@@ -36,7 +41,7 @@ fn board_of(rt: &impl Abort, alloc: Global, text: &str) -> Result<Board, Fail> {
         Err((_, error)) => return Err(error.into()),
     };
     for i in 0..board.plan().len() {
-        assert!(rt; board.place(i, Who::Tail).is_ok(), "{text}");
+        assert!(rt; place(rt, &mut board, i).is_ok(), "{text}");
     }
     Ok(board)
 }
