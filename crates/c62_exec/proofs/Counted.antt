@@ -28,13 +28,13 @@ module _ (text : Text) (first limit : ℕ) (opening : Machine) where
   -- a row more was begun
   pub record IsBegun (row cycle : ℕ) (old new : Tally) : Type 0 where
     pub counts : new.counts.items ≡ with_run (min row (length text.rows)) (closed cycle old)
-    pub row : new.row ≡ min row (length text.rows)
+    pub place : new.row ≡ min row (length text.rows)
     pub start : new.start ≡ cycle
     pub below : AreBelow (cycle + 1) new
 
   module _ (row cycle : ℕ) (way : Way) (old new : Tally) (counted : IsCounted text first limit opening (At row) cycle way old) (begun : IsBegun row cycle old new) where
     more : IsTally (length text.rows) (on_to counted.path row cycle) new
-    more = tally_more (length text.rows) counted.path row cycle old new counted.tallied begun.counts begun.row begun.start
+    more = tally_more (length text.rows) counted.path row cycle old new counted.tallied begun.counts begun.place begun.start
 
     -- and is over
     pub counted_over : (position : Position) (end : ℕ) (now : Way) → IsAt text first limit opening (on_to counted.path row cycle) position end now → cycle < end
@@ -46,10 +46,10 @@ module _ (text : Text) (first limit : ℕ) (opening : Machine) where
       below = below_later (cycle + 1) end new begun.below (omega arith);
     }
 
-    -- or broke the run
-    pub broken_counted : (stop : Stop) (cycles : ℕ) (final : Machine) → FliesBy text first limit opening stop cycles final (on_to counted.path row cycle)
+    -- or the run stops behind it, or by it
+    pub stopped_counted : (stop : Stop) (cycles : ℕ) (final : Machine) → FliesBy text first limit opening stop cycles final (on_to counted.path row cycle)
         → FliesTallied text first limit opening stop cycles final new
-    broken_counted stop cycles final by =
+    stopped_counted stop cycles final by =
         record { flies = by.flies; tallied = subst (λ path. IsTally (length text.rows) path new) (sym by.by) more; below = begun.below.cycles }
 
   -- the run ends where it stands

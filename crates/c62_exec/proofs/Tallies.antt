@@ -152,7 +152,9 @@ module _ (count : ℕ) (tally : Tally) (fresh : IsFresh count tally) where
         let low : place < count = within place inside in
         cycles_more (end - tally.start) tally.row tally.counts.items place inside
         ∙ ap (λ n. n + more_if tally.row place (end - tally.start)) (ap (λ (c : Count). c.cycles) (none_at place low))
-        ∙ cond-false _ _ _ (ne_eqb tally.row place (λ e. let at : tally.row ≡ count = fresh.row in absurd (omega arith)));
+        ∙ (let none : more_if tally.row place (end - tally.start) ≡ 0 =
+        cond-false _ _ _ (ne_eqb tally.row place (λ e. let at : tally.row ≡ count = fresh.row in absurd (omega arith))) in
+        let zero : 0 + more_if tally.row place (end - tally.start) ≡ 0 = omega arith in zero);
   }
 
   pub fresh_below : AreBelow 0 tally

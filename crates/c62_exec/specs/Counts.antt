@@ -36,9 +36,9 @@ abbrev pub count_at : List Count → ℕ → Count
 count_at counts place = slice_index_or counts place no_count
 
 -- these are the counts of so many rows on a path in a run of so many cycles
-pub record AreCounts (rows : ℕ) (path : List Visit) (cycles : ℕ) (counts : List Count) : Type 0 where
+pub record AreCounts (rows : ℕ) (path : List Visit) (end : ℕ) (counts : List Count) : Type 0 where
   pub runs : (place : ℕ) → place < length counts → (count_at counts place).runs ≡ runs_in rows place path
-  pub cycles : (place : ℕ) → place < length counts → (count_at counts place).cycles ≡ cycles_in rows place path cycles
+  pub cycles : (place : ℕ) → place < length counts → (count_at counts place).cycles ≡ cycles_in rows place path end
 
 -- A text flies so, and these are the counts of its rows on the way, with one of all rows behind the last.
 pub record CountsFlight (text : Text) (first limit : ℕ) (opening : Machine) (stop : Stop) (cycles : ℕ) (final : Machine) (counts : List Count) : Type 0 where

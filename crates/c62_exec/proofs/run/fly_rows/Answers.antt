@@ -8,7 +8,7 @@ use Rattle.c62_exec.specs.Step.{on_way}
 use Rattle.c62_exec.specs.Counts.{closed, with_run}
 use Rattle.c62_exec.proofs.Paths.{IsAt, at_first, on_to}
 use Rattle.c62_exec.proofs.Tallies.{same_size}
-use Rattle.c62_exec.proofs.Counted.{IsBegun, broken_counted, counted_first, counted_over, ended_counted}
+use Rattle.c62_exec.proofs.Counted.{IsBegun, stopped_counted, counted_first, counted_over, ended_counted}
 use Rattle.c62_exec.proofs.Soon.{soon_down}
 use Rattle.c62_exec.proofs.Loop.{fits, enough, text_size}
 use Rattle.c62_exec.proofs.Steps.{limit_flies, end_flies, register_flies, was_over, was_broken}
@@ -60,11 +60,11 @@ pub returns-in-Broken-clause-ok : goal.returns-in-Broken-clause-ok
 returns-in-Broken-clause-ok c =
     let begun : IsBegun (text_of c.args.rows.now) c.args.first c.args.limit c.args.state.now.machine c.loop-row.row c.loop-row.cycle c.loop-row.tally c.begin.new.self = record {
       counts = c.begin.ensures.counts ∙ ap (λ r. with_run r (closed c.loop-row.cycle c.loop-row.tally)) c.place_of.ensures;
-      row = c.begin.ensures.row ∙ c.place_of.ensures;
+      place = c.begin.ensures.row ∙ c.place_of.ensures;
       start = c.begin.ensures.start;
       below = c.begin.ensures.below;
     } in
-    broken_counted (text_of c.args.rows.now) c.args.first c.args.limit c.args.state.now.machine c.loop-row.row c.loop-row.cycle (on_way c.loop-row.underway.pipe c.loop-row.underway.turns c.loop-row.state.machine) c.loop-row.tally c.begin.new.self c.loop-row.invariant.counted begun c.in-Broken.stop (c.in-Broken.broken + 1) c.settle.new.state.machine
+    stopped_counted (text_of c.args.rows.now) c.args.first c.args.limit c.args.state.now.machine c.loop-row.row c.loop-row.cycle (on_way c.loop-row.underway.pipe c.loop-row.underway.turns c.loop-row.state.machine) c.loop-row.tally c.begin.new.self c.loop-row.invariant.counted begun c.in-Broken.stop (c.in-Broken.broken + 1) c.settle.new.state.machine
     (was_broken (text_of c.args.rows.now) c.args.first c.args.limit c.args.state.now.machine c.loop-row.invariant.counted.path c.loop-row.row c.loop-row.cycle (on_way c.loop-row.underway.pipe c.loop-row.underway.turns c.loop-row.state.machine) (on_way c.run_row.new.underway.pipe c.run_row.new.underway.turns c.run_row.new.state.machine) c.run_row.result c.requires.rows c.loop-row.invariant.counted.there
     (elim c.if-row-len.branch [ then-row-len w ↦ inl (inside c.args.rows.now c.loop-row.row c.len-in-loop-row.result (c.len-in-loop-row.ensures ∙ c.args.rows.now.rows.ok.0) w.if-row-len.true) | else-row-len+then-any w ↦ inr (sym w.any.ensures ∙ w.if-any.true) ])
     (let most : c.from-most.result ≡ c.args.limit = c.loop-row.invariant.most in let less : c.loop-row.cycle < c.from-most.result = omega arith in omega arith) c.run_row.ensures.passed
@@ -78,12 +78,11 @@ returns-in-Err-clause-ok c =
     c.in-Over.end c.in-Over.turn (Outside c.in-Err.word) c.in-Over.is c.in-Err.ensures.position in
     let begun : IsBegun (text_of c.args.rows.now) c.args.first c.args.limit c.args.state.now.machine c.loop-row.row c.loop-row.cycle c.loop-row.tally c.begin.new.self = record {
       counts = c.begin.ensures.counts ∙ ap (λ r. with_run r (closed c.loop-row.cycle c.loop-row.tally)) c.place_of.ensures;
-      row = c.begin.ensures.row ∙ c.place_of.ensures;
+      place = c.begin.ensures.row ∙ c.place_of.ensures;
       start = c.begin.ensures.start;
       below = c.begin.ensures.below;
     } in
-    let counted = counted_over (text_of c.args.rows.now) c.args.first c.args.limit c.args.state.now.machine c.loop-row.row c.loop-row.cycle (on_way c.loop-row.underway.pipe c.loop-row.underway.turns c.loop-row.state.machine) c.loop-row.tally c.begin.new.self c.loop-row.invariant.counted begun (Outside c.in-Err.word) c.in-Over.end (on_way c.run_row.new.underway.pipe c.run_row.new.underway.turns c.run_row.new.state.machine) over.0 over.1 in
-    ended_counted (text_of c.args.rows.now) c.args.first c.args.limit c.args.state.now.machine (Outside c.in-Err.word) c.in-Over.end (on_way c.run_row.new.underway.pipe c.run_row.new.underway.turns c.run_row.new.state.machine) c.begin.new.self counted
+    stopped_counted (text_of c.args.rows.now) c.args.first c.args.limit c.args.state.now.machine c.loop-row.row c.loop-row.cycle (on_way c.loop-row.underway.pipe c.loop-row.underway.turns c.loop-row.state.machine) c.loop-row.tally c.begin.new.self c.loop-row.invariant.counted begun
     c.come_down-in-Err.result.stop c.come_down-in-Err.result.cycles c.come_down-in-Err.new.state.machine
     (register_flies (text_of c.args.rows.now) c.args.first c.args.limit c.args.state.now.machine (on_to c.loop-row.invariant.counted.path c.loop-row.row c.loop-row.cycle) c.in-Err.word c.in-Over.end (on_way c.run_row.new.underway.pipe c.run_row.new.underway.turns c.run_row.new.state.machine)
     (on_way c.come_down-in-Err.new.self.pipe c.come_down-in-Err.new.self.turns c.come_down-in-Err.new.state.machine) c.come_down-in-Err.result over.0
@@ -115,7 +114,7 @@ loop-row-preserved c =
     let same : line_capacity c.run_row.new.state ≡ line_capacity c.loop-row.state = c.run_row.ensures.capacity in
     let begun : IsBegun (text_of c.args.rows.now) c.args.first c.args.limit c.args.state.now.machine c.loop-row.row c.loop-row.cycle c.loop-row.tally c.begin.new.self = record {
       counts = c.begin.ensures.counts ∙ ap (λ r. with_run r (closed c.loop-row.cycle c.loop-row.tally)) c.place_of.ensures;
-      row = c.begin.ensures.row ∙ c.place_of.ensures;
+      place = c.begin.ensures.row ∙ c.place_of.ensures;
       start = c.begin.ensures.start;
       below = c.begin.ensures.below;
     } in
