@@ -96,7 +96,7 @@ one_place more place a (suc n) above below = go (eqb place a) refl (λ further. 
         sum_by-cons (λ k. cond (eqb place k) more 0) a (range_with_len (a + 1) n) ∙ omega (arith, here, rest)
 
 -- what the visits of a path take together
-all_cycles : List Visit → ℕ → ℕ
+abbrev all_cycles : List Visit → ℕ → ℕ
 all_cycles [] end = 0
 all_cycles (visit ∷ path) end = (next_start path end - visit.start) + all_cycles path end
 
@@ -113,7 +113,7 @@ path_sum rows (visit ∷ path) end =
 
 module _ (text : Text) (limit : ℕ) (issued : Issued) where
   -- none of these is begun behind a cycle
-  AreBy : List Visit → ℕ → Type 0
+  abbrev AreBy : List Visit → ℕ → Type 0
   AreBy [] cycles = Unit {0}
   AreBy (visit ∷ path) cycles = (visit.start ≤ cycles) × AreBy path cycles
 

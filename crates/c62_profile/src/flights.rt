@@ -106,7 +106,6 @@ fn push_counts(out: &mut Vec<u8>, counts: &[Count], whole: u64) -> Result<(), Al
 }
 
 /// Adds the row of a block, where it is told.
-#[tactic(auto, using(crate::proofs::Parts::few_in_block))]
 fn push_block(
     out: &mut Vec<u8>,
     counts: &[Count],
