@@ -1,6 +1,7 @@
 -- What answers a text, from what each step gave.
 use Rattle.std.proofs.Common.{◌≡◌, ◌∙◌, ℕ, Bool, true, false, List, Option, Ok, Err, ap, sym, refl, subst, inl, inr}
 use Rattle.c62_read.specs.Block.{Serial}
+use Rattle.c62_read.specs.Program.{Name}
 use Rattle.c62_packet.specs.Packed.{Packed}
 use Rattle.c62_listing.specs.Listing.{listing}
 use Rattle.c62_adopt.specs.declared.fault.AdoptFault.{AdoptFault}
@@ -13,10 +14,11 @@ use Rattle.clap.specs.Words.{Text}
 use Rattle.c62_rows.specs.declared.fault.RowsFault.{RowsFault}
 use Rattle.c62_rows.specs.declared.text.Begun.{Begun}
 use Rattle.c62_rows.specs.Rows.{text_of}
-use Rattle.c62_rows.specs.Text.{IsTextFrom, RefusesFrom}
+use Rattle.c62_rows.specs.Text.{IsText, IsTextFrom, RefusesFrom}
 use Rattle.c62_rows.specs.Told.{BeginsAs}
 use Rattle.c62_command.specs.declared.setting.Setting.{Setting}
 use Rattle.c62_command.specs.declared.command.Course.{Course}
+use Rattle.c62_command.specs.declared.flight.FlightCourse.{FlightCourse}
 use Rattle.c62_command.specs.declared.command.Packing.{Packing}
 use Rattle.c62_answer.specs.declared.outcome.Outcome.{Outcome}
 use Rattle.c62_answer.specs.declared.failure.Failure.{Failure}
@@ -73,10 +75,10 @@ adopted_text false text answer packets added late lacks is first listed =
 -- ---- packets in flight
 
 -- where a text makes no rows, or none has the label with which a run is to begin, that is the answer
-pub no_flight : (most : ℕ) (strict : Bool) (from : Option Text) (settings : List Setting) (text code : List ℕ) (fault : RowsFault) (f : Failure)
-    → code_read text ≡ Ok code → IsRowsFailure fault f → RefusesFrom code from fault → Gives (FlightReport most strict from settings) text (Err f)
-no_flight most strict from settings text code fault f is (inl memory) refused = rw (memory.1) tt
-no_flight most strict from settings text code fault f is (inr known) refused =
+pub no_flight : (course : FlightCourse) (from : Option Text) (settings : List Setting) (text code : List ℕ) (fault : RowsFault) (f : Failure)
+    → code_read text ≡ Ok code → IsRowsFailure fault f → RefusesFrom code from fault → Gives (FlightReport course from settings) text (Err f)
+no_flight course from settings text code fault f is (inl memory) refused = rw (memory.1) tt
+no_flight course from settings text code fault f is (inr known) refused =
     let same = coded_by text code is in
     rw (known.1) (inr (record {
       coded = is ∙ ap Ok (sym same);
@@ -87,16 +89,16 @@ no_flight most strict from settings text code fault f is (inr known) refused =
     }))
 
 -- where it has no code
-pub uncoded_flight : (most : ℕ) (strict : Bool) (from : Option Text) (settings : List Setting) (text : List ℕ) (fault : AdoptFault) (f : Failure)
-    → IsAdoptFailure fault f → LacksCode text fault → Gives (FlightReport most strict from settings) text (Err f)
-uncoded_flight most strict from settings text fault f (inl memory) lacks = rw (memory.1) tt
-uncoded_flight most strict from settings text fault f (inr known) lacks =
+pub uncoded_flight : (course : FlightCourse) (from : Option Text) (settings : List Setting) (text : List ℕ) (fault : AdoptFault) (f : Failure)
+    → IsAdoptFailure fault f → LacksCode text fault → Gives (FlightReport course from settings) text (Err f)
+uncoded_flight course from settings text fault f (inl memory) lacks = rw (memory.1) tt
+uncoded_flight course from settings text fault f (inr known) lacks =
     rw (known.1) (inl (record { fault = fault; known = known.0; lacks = lacks; told = refl }))
 
 -- where it does, this is
-pub flight_text : (most : ℕ) (strict : Bool) (named from : Option Text) (settings : List Setting) (outcome : Outcome) (text code answer : List ℕ) (begun : Begun) → named ≡ from
-    → code_read text ≡ Ok code → BeginsAs code named begun → IsFlown (text_of begun.rows) begun.first settings most strict outcome answer → IsFlightReport most strict from settings outcome text answer
-flight_text most strict named from settings outcome text code answer begun same is begins flown =
+pub flight_text : (course : FlightCourse) (named from : Option Text) (settings : List Setting) (outcome : Outcome) (text code answer : List ℕ) (begun : Begun) → named ≡ from
+    → code_read text ≡ Ok code → BeginsAs code named begun → IsFlown (text_of begun.rows) begun.labels.entries begun.first settings course outcome answer → IsFlightReport course from settings outcome text answer
+flight_text course named from settings outcome text code answer begun same is begins flown =
     let own = coded_by text code is in
     let start = subst (λ (o : Option Text). IsTextFrom code o (text_of begun.rows) begun.first) same begins.is_text in
     record {
@@ -104,11 +106,14 @@ flight_text most strict named from settings outcome text code answer begun same 
       first = begun.first;
       coded = is ∙ ap Ok (sym own);
       begins = subst (λ (c : List ℕ). IsTextFrom c from (text_of begun.rows) begun.first) (sym own) start;
+      labels = begun.labels.entries;
+      named = subst (λ (c : List ℕ). IsText c (text_of begun.rows) begun.labels.entries) (sym own)
+          (subst (λ (labels : List (Name × ℕ)). IsText code (text_of begun.rows) labels) (sym begins.named) begins.is_text.is_text);
       flown = flown;
     }
 
 -- the name stands in the words
-pub no_flight_named : (most : ℕ) (strict : Bool) (named from : Option Text) (settings : List Setting) (text code : List ℕ) (fault : RowsFault) (f : Failure) → named ≡ from
-    → code_read text ≡ Ok code → IsRowsFailure fault f → RefusesFrom code named fault → Gives (FlightReport most strict from settings) text (Err f)
-no_flight_named most strict named from settings text code fault f same own is refused =
-    no_flight most strict from settings text code fault f own is (subst (λ (o : Option Text). RefusesFrom code o fault) same refused)
+pub no_flight_named : (course : FlightCourse) (named from : Option Text) (settings : List Setting) (text code : List ℕ) (fault : RowsFault) (f : Failure) → named ≡ from
+    → code_read text ≡ Ok code → IsRowsFailure fault f → RefusesFrom code named fault → Gives (FlightReport course from settings) text (Err f)
+no_flight_named course named from settings text code fault f same own is refused =
+    no_flight course from settings text code fault f own is (subst (λ (o : Option Text). RefusesFrom code o fault) same refused)

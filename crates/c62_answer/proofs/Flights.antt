@@ -1,8 +1,9 @@
 -- What is read of an input, as far as a byte past the limit, flies as all of it does.
-use Rattle.std.proofs.Common.{◌≡◌, inl, inr, ℕ, Bool, List, take, Ok, Option, sym, ap, subst, ◌∙◌}
+use Rattle.std.proofs.Common.{◌≡◌, inl, inr, ℕ, List, take, Ok, Option, sym, ap, subst, ◌∙◌}
 use Rattle.clap.specs.Words.{Text}
+use Rattle.c62_command.specs.declared.flight.FlightCourse.{FlightCourse}
 use Rattle.c62_command.specs.declared.setting.Setting.{Setting as Given}
-use Rattle.c62_rows.specs.Text.{IsTextFrom, RefusesFrom}
+use Rattle.c62_rows.specs.Text.{IsText, IsTextFrom, RefusesFrom}
 use Rattle.c62_adopt.specs.Answer.{code_in, code_read}
 use Rattle.c62_adopt.proofs.CodeLemmas.{code_read-take, lacks_same}
 use Rattle.c62_answer.specs.declared.outcome.Outcome.{Outcome}
@@ -12,15 +13,17 @@ use Rattle.c62_answer.specs.Texts.{IsNoFlight}
 code_all : (all text : List ℕ) → text ≡ take 8388609 all → code_read text ≡ code_read all
 code_all all text read = ap code_read read ∙ code_read-take all
 
-pub flight_all : (most : ℕ) (strict : Bool) (from : Option Text) (settings : List Given) (outcome : Outcome) (all text answer : List ℕ) → text ≡ take 8388609 all
-    → IsFlightReport most strict from settings outcome text answer → IsFlightReport most strict from settings outcome all answer
-flight_all most strict from settings outcome all text answer read is =
+pub flight_all : (course : FlightCourse) (from : Option Text) (settings : List Given) (outcome : Outcome) (all text answer : List ℕ) → text ≡ take 8388609 all
+    → IsFlightReport course from settings outcome text answer → IsFlightReport course from settings outcome all answer
+flight_all course from settings outcome all text answer read is =
     let same = code_all all text read in
     record {
       flying = is.flying;
       first = is.first;
       coded = sym same ∙ is.coded ∙ ap (λ r. Ok (code_in r)) same;
       begins = subst (λ (t : List ℕ). IsTextFrom t from is.flying is.first) (ap code_in same) is.begins;
+      labels = is.labels;
+      named = subst (λ (t : List ℕ). IsText t is.flying is.labels) (ap code_in same) is.named;
       flown = is.flown;
     }
 

@@ -19,3 +19,4 @@ mod LateMessage
 mod AdoptedRun
 pub mod Bounds
 mod WithMemory
+mod Flown

@@ -141,7 +141,7 @@ answered (StandingReport Written course settings) outcome all text answer read i
   read = adopted_same false text all is.packets 0 (code_all all text read) is.read;
   reported = is.reported;
 }
-answered (FlightReport most strict from settings) outcome all text answer read is = flight_all most strict from settings outcome all text answer read is
+answered (FlightReport course from settings) outcome all text answer read is = flight_all course from settings outcome all text answer read is
 answered (Adoption false) Done all text answer read is = adopted_all false 0 all text answer read is
 answered (Adoption true) (Drained added) all text answer read is = drained_all added all text answer read is
 answered (Reaching name ask) outcome all text answer read is = (is.0, taken_all name all text is.0 read is.1, is.2)
@@ -231,7 +231,7 @@ refused_all (StandingReport Listed course settings) all text message read is = n
 refused_all (StandingReport Written course settings) all text message read is = no_packets_all false all text message read is
 refused_all (ListingPicture showing) all text message read is = no_listing_all all text message read is
 refused_all (PacketsPicture showing) all text message read is = no_packets_all false all text message read is
-refused_all (FlightReport most strict from settings) all text message read is = no_flight_all from all text message read is
+refused_all (FlightReport course from settings) all text message read is = no_flight_all from all text message read is
 refused_all (Adoption drain) all text message read is = no_packets_all drain all text message read is
 refused_all (Reaching name ask) all text message read (inl none) = inl (record { lacks = lacks_all name all text read none.lacks; told = none.told })
 refused_all (Reaching name ask) all text message read (inr is) = inr (is.0, taken_all name all text is.0 read is.1, is.2)

@@ -16,9 +16,9 @@ ends_with_memory (PacketReport packing course settings) outcome text answer is =
 ends_with_memory (StandingReport form course settings) outcome text answer is =
     let told = is.reported in
     (packet_report told.chain told.cycles told.final ++ prints told.final settings ++ told.table, told.final, told.report)
-ends_with_memory (FlightReport most strict from settings) outcome text answer is =
+ends_with_memory (FlightReport course from settings) outcome text answer is =
     let told = is.flown in
-    (flight_report told.stop told.cycles told.final ++ prints told.final settings, told.final, told.report)
+    (flight_report told.stop told.cycles told.final ++ prints told.final settings ++ told.table, told.final, told.report)
 ends_with_memory (Listing packing) outcome text answer is = tt
 ends_with_memory (Picture showing) outcome text answer is = tt
 ends_with_memory (ListingPicture showing) outcome text answer is = tt

@@ -16,7 +16,7 @@ abbrev pub HasItsMemory : Ask → List ℕ → Type 0
 HasItsMemory (SerialReport course settings) answer = EndsWithMemory settings answer
 HasItsMemory (PacketReport packing course settings) answer = EndsWithMemory settings answer
 HasItsMemory (StandingReport form course settings) answer = EndsWithMemory settings answer
-HasItsMemory (FlightReport most strict from settings) answer = EndsWithMemory settings answer
+HasItsMemory (FlightReport course from settings) answer = EndsWithMemory settings answer
 HasItsMemory (Reaching name ask) answer = HasItsMemory ask answer
 HasItsMemory _ answer = Unit {0}
 

@@ -15,6 +15,7 @@ use Rattle.c62_command.specs.declared.command.CommandError.TheVariants as comman
 use Rattle.c62_command.specs.declared.setting.Setting.{Setting as Given}
 use Rattle.c62_command.specs.declared.setting.Setting.TheVariants as given
 use Rattle.c62_command.specs.declared.command.Course.{Course}
+use Rattle.c62_command.specs.declared.flight.FlightCourse.{FlightCourse}
 use Rattle.c62_command.specs.declared.command.Packing.{Packing}
 use Rattle.c62_command.specs.declared.command.Showing.{Showing}
 use Rattle.c62_command.specs.declared.command.Form.{Form}
@@ -22,7 +23,7 @@ use Rattle.c62_command.specs.declared.command.Form.TheVariants.{Listed, Written}
 use Rattle.c62_line.specs.declared.fault.Cause.TheVariants.{Memory as OutOfStore}
 use Rattle.c62_line.specs.declared.fault.ReadFault.{ReadFault}
 use Rattle.c62_read.specs.Block.{Serial}
-use Rattle.c62_read.specs.Program.{most_bytes}
+use Rattle.c62_read.specs.Program.{Name, most_bytes}
 use Rattle.c62_serial.specs.State.{Machine, IsSound, IsZero, with_word}
 use Rattle.c62_serial.specs.Memory.{with_bytes}
 use Rattle.c62_serial.specs.declared.chain.Chain.{Chain}
@@ -47,7 +48,9 @@ use Rattle.c62_flight.specs.declared.stop.Stop.{Stop}
 use Rattle.c62_flight.specs.declared.stop.Stop.TheVariants as flight
 use Rattle.c62_rows.specs.declared.fault.RowsFault.{RowsFault}
 use Rattle.c62_rows.specs.declared.fault.RowsFault.TheVariants.{Memory as NoPlace}
-use Rattle.c62_rows.specs.Text.{IsTextFrom}
+use Rattle.c62_rows.specs.Text.{IsText, IsTextFrom}
+use Rattle.c62_exec.specs.declared.tally.Count.{Count}
+use Rattle.c62_exec.specs.Counts.{CountsFlight}
 use Rattle.c62_reach.specs.Taken.{IsTaken}
 use Rattle.c62_show.specs.declared.shown.Shown.{Shown}
 use Rattle.c62_answer.specs.Bounds.{AreBounded}
@@ -59,6 +62,7 @@ use Rattle.c62_report.specs.Flight.{flight_report}
 use Rattle.c62_profile.specs.declared.tally.Tally.{Tally}
 use Rattle.c62_profile.specs.Visits.{CountsPackets, CountsProgram}
 use Rattle.c62_profile.specs.Table.{packet_table, serial_table}
+use Rattle.c62_profile.specs.Flights.{flight_table}
 use Rattle.c62_command.specs.CommandLine.{Ask, Listing, Picture, ListingPicture, PacketsPicture, SerialReport, PacketReport, StandingReport, FlightReport, Adoption, Reaching, Verdicts, IsRefusal, IsUnknown, HasBadSetting, asked}
 use Rattle.c62_answer.specs.Message.{adopt_message, fault_message, list_message, rows_message, no_listing, of_listing, of_text, setting_message, IsFront, IsToldOf, Telling, Tells, TellsOf, TellsOutcome}
 use Rattle.c62_answer.specs.Texts.{SaysProgram, SaysPackets, SaysNoPackets, IsNoProgram, IsNoListing, IsNoPackets, IsNoFlight, IsUnreached}
@@ -160,7 +164,7 @@ abbrev pub limit_of : Ask → ℕ
 limit_of (ListingPicture showing) = most_listing_bytes
 limit_of (PacketsPicture showing) = most_packets_bytes
 limit_of (StandingReport form course settings) = most_of form
-limit_of (FlightReport cycles strict from settings) = most_packets_bytes
+limit_of (FlightReport course from settings) = most_packets_bytes
 limit_of (Adoption drain) = most_packets_bytes
 limit_of (Reaching name ask) = most_packets_bytes
 limit_of (Verdicts form) = most_bytes + 5 + most_of form
@@ -272,24 +276,35 @@ pub record IsStandingReport (form : Form) (settings : List Given) (course : Cour
   pub read : SaysPackets form text packets
   pub reported : IsPacketReport packets settings course outcome answer
 
--- The report of a run of a text of packets from this row on, of at most so many cycles, from zeros with these settings.
-pub record IsFlown (flying : FlightText) (first : ℕ) (settings : List Given) (most : ℕ) (strict : Bool) (outcome : Outcome) (answer : List ℕ) : Type 0 where
+-- where it is asked for, the table of a run with everything in flight, of a text with these labels
+abbrev pub TellsFlight : (profile : Bool) → FlightText → List (Name × ℕ) → ℕ → ℕ → Machine → Stop → ℕ → Machine → List ℕ → Type 0
+TellsFlight false flying labels first most opening stop cycles final table = table ≡ []
+TellsFlight true flying labels first most opening stop cycles final table =
+    (counts : List Count) × CountsFlight flying first most opening stop cycles final counts × (table ≡ flight_table labels counts cycles)
+
+-- The report of a run of a text of packets with these labels from this row on, on this course, from zeros with these settings, with
+-- memory that they print below it, the table of its rows where that is asked for, and the bytes that they write to files.
+pub record IsFlown (flying : FlightText) (labels : List (Name × ℕ)) (first : ℕ) (settings : List Given) (course : FlightCourse) (outcome : Outcome) (answer : List ℕ) : Type 0 where
   pub opening : Machine
   pub begin : IsOpening settings opening
   pub stop : Stop
   pub cycles : ℕ
   pub final : Machine
-  pub flies : Flies flying first most opening stop cycles final
-  pub report : answer ≡ flight_report stop cycles final ++ prints final settings ++ dumps final settings
-  pub ends : outcome ≡ outcome_run strict (is_flight_limit stop) final.faults
+  pub flies : Flies flying first course.cycles opening stop cycles final
+  pub table : List ℕ
+  pub told : TellsFlight course.profile flying labels first course.cycles opening stop cycles final table
+  pub report : answer ≡ flight_report stop cycles final ++ prints final settings ++ table ++ dumps final settings
+  pub ends : outcome ≡ outcome_run course.strict (is_flight_limit stop) final.faults
 
 -- the text's code is one of packets, and this is the report of its run with everything in flight
-pub record IsFlightReport (most : ℕ) (strict : Bool) (from : Option Text) (settings : List Given) (outcome : Outcome) (text answer : List ℕ) : Type 0 where
+pub record IsFlightReport (course : FlightCourse) (from : Option Text) (settings : List Given) (outcome : Outcome) (text answer : List ℕ) : Type 0 where
   pub flying : FlightText
   pub first : ℕ
   pub coded : IsCoded text
   pub begins : IsTextFrom (code_in (code_read text)) from flying first
-  pub flown : IsFlown flying first settings most strict outcome answer
+  pub labels : List (Name × ℕ)
+  pub named : IsText (code_in (code_read text)) flying labels
+  pub flown : IsFlown flying labels first settings course outcome answer
 
 -- the text is adopted as packets, with so many cycles added to drain it, and this is their listing
 pub record IsAdoptedText (drain : Bool) (added : ℕ) (text answer : List ℕ) : Type 0 where
@@ -325,7 +340,7 @@ IsAnswer (PacketsPicture showing) Done text answer = IsShownPackets showing text
 IsAnswer (SerialReport course settings) outcome text answer = IsSerialReport settings course outcome text answer
 IsAnswer (PacketReport packing course settings) outcome text answer = IsRunReport packing settings course outcome text answer
 IsAnswer (StandingReport form course settings) outcome text answer = IsStandingReport form settings course outcome text answer
-IsAnswer (FlightReport most strict from settings) outcome text answer = IsFlightReport most strict from settings outcome text answer
+IsAnswer (FlightReport course from settings) outcome text answer = IsFlightReport course from settings outcome text answer
 IsAnswer (Adoption false) Done text answer = IsAdoptedText false 0 text answer
 IsAnswer (Adoption true) (Drained added) text answer = IsDrainedText added text answer
 IsAnswer (Reaching name ask) outcome text answer = (taken : List ℕ) × IsTaken name text taken × IsAnswer ask outcome taken answer
@@ -340,7 +355,7 @@ abbrev pub IsRefusedText : Ask → List ℕ → List ℕ → Type 0
 IsRefusedText (ListingPicture showing) text message = IsNoListing text message
 IsRefusedText (PacketsPicture showing) text message = IsNoPackets false text message
 IsRefusedText (StandingReport form course settings) text message = SaysNoPackets form text message
-IsRefusedText (FlightReport most strict from settings) text message = IsNoFlight from text message
+IsRefusedText (FlightReport course from settings) text message = IsNoFlight from text message
 IsRefusedText (Adoption drain) text message = IsNoPackets drain text message
 IsRefusedText (Reaching name ask) text message = IsUnreached name text message ⊎ ((taken : List ℕ) × IsTaken name text taken × IsRefusedText ask taken message)
 IsRefusedText (Verdicts form) text message = IsNoCheck form text message

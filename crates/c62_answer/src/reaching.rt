@@ -49,7 +49,7 @@ pub(crate) fn adopted_as(alloc: Global, text: &[u8], adopting: &Adopting) -> Res
 /// The report of a run of what is taken of a text from the label of this name on.
 #[tactic(auto, using(crate::proofs::Reached::reached, crate::proofs::Reached::not_reached))]
 fn exec_from(alloc: Global, text: &[u8], name: &[u8], start: &FlightStart) -> Result<Reply, Failure>
-    ensures { Gives (Reaching name.now (FlightReport start.now.cycles start.now.strict (option_map (λ name. name.items) start.now.from) start.now.settings.items)) text.now result }
+    ensures { Gives (Reaching name.now (FlightReport start.now.course (option_map (λ name. name.items) start.now.from) start.now.settings.items)) text.now result }
 {
     match taken_from(alloc, text, name) {
         Ok(taken) => exec(alloc, &taken, start),
@@ -59,7 +59,7 @@ fn exec_from(alloc: Global, text: &[u8], name: &[u8], start: &FlightStart) -> Re
 
 /// The report of a run of a text of packets, or of what is taken of it.
 pub(crate) fn exec_as(alloc: Global, text: &[u8], start: &FlightStart) -> Result<Reply, Failure>
-    ensures { Gives (flight_asked start.now.alone start.now.cycles start.now.strict (option_map (λ name. name.items) start.now.from) start.now.settings.items) text.now result }
+    ensures { Gives (flight_asked start.now.alone start.now.course (option_map (λ name. name.items) start.now.from) start.now.settings.items) text.now result }
 {
     match &start.from {
         Some(name) if start.alone => exec_from(alloc, text, name, start),

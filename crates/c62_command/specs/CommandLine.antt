@@ -18,6 +18,7 @@ use Rattle.c62_command.specs.declared.setting.SettingError.TheVariants.{Bad, Mem
 use Rattle.c62_command.specs.declared.command.Packing.{Packing}
 use Rattle.c62_command.specs.declared.command.Showing.{Showing}
 use Rattle.c62_command.specs.declared.command.Course.{Course}
+use Rattle.c62_command.specs.declared.flight.FlightCourse.{FlightCourse}
 use Rattle.c62_command.specs.declared.command.Form.{Form}
 use Rattle.c62_command.specs.declared.command.Form.TheVariants.{Listed, Written}
 use Rattle.c62_command.specs.declared.command.CommandError.{CommandError}
@@ -103,14 +104,17 @@ settings_rule = record (new_rule (codes "settings")) { value_names = 1; action =
 abbrev pub with_packing : App → App
 with_packing app = with_rule (with_rule (with_rule (with_rule app turns_rule) eject_rule) shortest_rule) search_rule
 
+abbrev pub with_report : App → App
+with_report app = with_rule (with_rule (with_rule app profile_rule) strict_rule) settings_rule
+
 abbrev pub with_start : App → App
-with_start app = with_rule (with_rule (with_rule (with_rule app blocks_rule) profile_rule) strict_rule) settings_rule
+with_start app = with_report (with_rule app blocks_rule)
 
 abbrev pub with_reach : App → App
 with_reach app = with_rule (with_rule app from_rule) alone_rule
 
 abbrev pub with_flight : App → App
-with_flight app = with_rule (with_rule (with_reach (with_rule app cycles_rule)) strict_rule) settings_rule
+with_flight app = with_report (with_reach (with_rule app cycles_rule))
 
 -- `pack [--turns] [--eject N] [--shortest] [--search N]`
 abbrev pub pack_app : App
@@ -138,7 +142,7 @@ serial_app = with_start (new_app (codes "serial"))
 abbrev pub sim_app : App
 sim_app = with_start (with_rule (new_app (codes "sim")) packets_rule)
 
--- `exec [--cycles N] [--from NAME] [--alone] [--strict] [SETTING]..`
+-- `exec [--cycles N] [--from NAME] [--alone] [--profile] [--strict] [SETTING]..`
 abbrev pub exec_app : App
 exec_app = with_flight (new_app (codes "exec"))
 
@@ -186,9 +190,9 @@ pub data Ask : Type 0 where
   PacketReport : Packing → Course → List Setting → Ask
   -- the report of such a run of packets as they stand in a text of this form
   StandingReport : Form → Course → List Setting → Ask
-  -- the report of a run of at most so many cycles of a text of packets, from the row of this label on or the first, from a state
-  -- with these settings
-  FlightReport : (cycles : ℕ) → (strict : Bool) → (from : Option Text) → List Setting → Ask
+  -- the report of a run of a text of packets on this course, from the row of this label on or the first, from a state with these
+  -- settings
+  FlightReport : FlightCourse → (from : Option Text) → List Setting → Ask
   -- the listing of a text of packets, with the cycles added that lack in it or without them
   Adoption : (drain : Bool) → Ask
   -- the same of what is taken of a text of packets from this label on
@@ -202,8 +206,8 @@ reaching None ask = ask
 reaching (Some name) ask = Reaching name ask
 
 -- a run of the part that it begins with and those that this one reaches, or of the whole text
-abbrev pub flight_asked : (alone : Bool) → (cycles : ℕ) → (strict : Bool) → (from : Option Text) → List Setting → Ask
-flight_asked alone cycles strict from settings = if alone then reaching from (FlightReport cycles strict from settings) else FlightReport cycles strict from settings
+abbrev pub flight_asked : (alone : Bool) → FlightCourse → (from : Option Text) → List Setting → Ask
+flight_asked alone course from settings = if alone then reaching from (FlightReport course from settings) else FlightReport course from settings
 
 abbrev pub ask_of : Request → Ask
 ask_of (Pack packing) = Listing packing
@@ -213,7 +217,7 @@ ask_of (ShowPackets showing) = PacketsPicture showing
 ask_of (Run packing start) = PacketReport packing start.course start.settings.items
 ask_of (Serial start) = SerialReport start.course start.settings.items
 ask_of (Sim form start) = StandingReport form start.course start.settings.items
-ask_of (Exec start) = flight_asked start.alone start.cycles start.strict (option_map (λ name. name.items) start.from) start.settings.items
+ask_of (Exec start) = flight_asked start.alone start.course (option_map (λ name. name.items) start.from) start.settings.items
 ask_of (Adopt adopting) = reaching (option_map (λ name. name.items) adopting.from) (Adoption adopting.drain)
 ask_of (Check form) = Verdicts form
 
@@ -281,6 +285,9 @@ form_of rows = if is_set (codes "packets") rows then Written else Listed
 abbrev pub course_of : List Row → Course
 course_of rows = record { blocks = blocks_of rows; profile = is_set (codes "profile") rows; strict = is_set (codes "strict") rows }
 
+abbrev pub flight_course_of : List Row → FlightCourse
+flight_course_of rows = record { cycles = cycles_of rows; profile = is_set (codes "profile") rows; strict = is_set (codes "strict") rows }
+
 -- by turns, without ejections, and the schedules that these lead to
 abbrev pub plain_packing : Packing
 plain_packing = record { turns = true; budget = 0; shortest = false; choices = 0 }
@@ -306,7 +313,7 @@ abbrev pub report_asked : Text → List Row → List Setting → Ask
 report_asked name rows settings =
     if bytes_eq name (codes "run") then PacketReport (packing_of rows) (course_of rows) settings
     else (if bytes_eq name (codes "sim") then StandingReport (form_of rows) (course_of rows) settings
-    else (if bytes_eq name (codes "exec") then flight_asked (is_set (codes "alone") rows) (cycles_of rows) (is_set (codes "strict") rows) (first_of (codes "from") rows) settings
+    else (if bytes_eq name (codes "exec") then flight_asked (is_set (codes "alone") rows) (flight_course_of rows) (first_of (codes "from") rows) settings
     else SerialReport (course_of rows) settings))
 
 -- what the subcommand's name and what was found for its arguments ask for, where the settings are good

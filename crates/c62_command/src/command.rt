@@ -2,9 +2,10 @@
 
 ghost use Rattle.std.specs.Prelude.{◌≡◌, IfOk, IfErr, Some, false, map, [], codes, option_map};
 ghost use Rattle.clap.specs.Words.{app_of, rule_of, first_of, subcommand_of, subcommand_rows_of, fault_of};
-ghost use Rattle.c62_command.specs.CommandLine.{turns_rule, eject_rule, blocks_rule, settings_rule, cycles_rule, from_rule, alone_rule, drain_rule, why_rule, registers_rule, listing_rule, packets_rule, with_forms, form_of, pack_app, show_app, run_app, serial_app, sim_app, exec_app, adopt_app, check_app, bare_app, listing_app, packing_app, running_app, tool_app, with_packing, with_start, is_set, blocks_of, cycles_of, budget_of, packing_of, showing_of, show_asked, plain_packing, IsLocal, found_rows, words_of, named_rows, ask_in, ask_of, asked, IsBadIn, IsBlame, IsRefusal, IsWordsError, IsSettingError, profile_rule, strict_rule, with_reach, with_flight, course_of, summary_rule, with_details, shortest_rule, search_rule, choices_of, asks_shortest};
+ghost use Rattle.c62_command.specs.CommandLine.{turns_rule, eject_rule, blocks_rule, settings_rule, cycles_rule, from_rule, alone_rule, drain_rule, why_rule, registers_rule, listing_rule, packets_rule, with_forms, form_of, pack_app, show_app, run_app, serial_app, sim_app, exec_app, adopt_app, check_app, bare_app, listing_app, packing_app, running_app, tool_app, with_packing, with_report, with_start, is_set, blocks_of, cycles_of, budget_of, packing_of, showing_of, show_asked, plain_packing, IsLocal, found_rows, words_of, named_rows, ask_in, ask_of, asked, IsBadIn, IsBlame, IsRefusal, IsWordsError, IsSettingError, profile_rule, strict_rule, with_reach, with_flight, course_of, flight_course_of, summary_rule, with_details, shortest_rule, search_rule, choices_of, asks_shortest};
 ghost use Rattle.c62_command.specs.Settings.{AreSettings, IsBadAmong};
 
+use crate::flight::{FlightStart, flight_course_in};
 use crate::setting::{Setting, SettingError, read_settings};
 use clap::error::ErrorKind;
 use clap::{Arg, ArgAction, ArgMatches, Command, Error, value_parser};
@@ -72,19 +73,6 @@ pub struct Course {
 #[derive(Debug, Drop)]
 pub struct Start {
     pub course: Course,
-    pub settings: Vec<Setting>,
-}
-
-/// Where a run of packets in flight begins, and how many cycles it has at most.
-#[derive(Debug, Drop)]
-pub struct FlightStart {
-    pub cycles: u32,
-    /// Whether a run that ends by its limit, or in which an access faults, has a status of its own.
-    pub strict: bool,
-    /// The label of the row that it begins with, where that isn't the first one.
-    pub from: Option<Vec<u8>>,
-    /// Whether of the text only what that label reaches is read.
-    pub alone: bool,
     pub settings: Vec<Setting>,
 }
 
@@ -383,16 +371,23 @@ fn with_packing<'a>(alloc: Global, command: Command<'a>) -> Result<Command<'a>, 
         .arg(search_option(alloc))
 }
 
+/// The command with what is told of a run beside its report, and the settings.
+fn with_report<'a>(alloc: Global, command: Command<'a>) -> Result<Command<'a>, AllocError>
+    ensures app { IfOk result (λ c. app_of c ≡ with_report (app_of command.entry)) }
+    ensures local { IsLocal command.entry → IfOk result IsLocal }
+{
+    command
+        .arg(profile_flag(alloc))?
+        .arg(strict_flag(alloc))?
+        .arg(settings_words(alloc))
+}
+
 /// The command with the limit of blocks, what is told beside the report, and the settings.
 fn with_start<'a>(alloc: Global, command: Command<'a>) -> Result<Command<'a>, AllocError>
     ensures app { IfOk result (λ c. app_of c ≡ with_start (app_of command.entry)) }
     ensures local { IsLocal command.entry → IfOk result IsLocal }
 {
-    command
-        .arg(blocks_option(alloc))?
-        .arg(profile_flag(alloc))?
-        .arg(strict_flag(alloc))?
-        .arg(settings_words(alloc))
+    with_report(alloc, command.arg(blocks_option(alloc))?)
 }
 
 /// The command with the label to begin with, and whether only what it reaches is read.
@@ -408,9 +403,8 @@ fn with_flight<'a>(alloc: Global, command: Command<'a>) -> Result<Command<'a>, A
     ensures app { IfOk result (λ c. app_of c ≡ with_flight (app_of command.entry)) }
     ensures local { IsLocal command.entry → IfOk result IsLocal }
 {
-    with_reach(alloc, command.arg(cycles_option(alloc))?)?
-        .arg(strict_flag(alloc))?
-        .arg(settings_words(alloc))
+    let command = with_reach(alloc, command.arg(cycles_option(alloc))?)?;
+    with_report(alloc, command)
 }
 
 /// The command with the forms of text that are shown as they stand.
@@ -506,7 +500,7 @@ fn exec_command<'a>(alloc: Global) -> Result<Command<'a>, AllocError>
             "Runs packets as they are written, with branches and loads in flight, and reports the end",
         )
         .override_usage(
-            "c62 exec [--cycles <N>] [--from <NAME> [--alone]] [--strict] [-o <FILE>] [FILE] [SETTING]...",
+            "c62 exec [--cycles <N>] [--from <NAME> [--alone]] [--profile] [--strict] [-o <FILE>] [FILE] [SETTING]...",
         )
         .after_help(ending!("c62 exec hand.asm --from loop A4=8"));
     with_flight(alloc, command)
@@ -606,7 +600,7 @@ pub(crate) fn matches_of<'a, S: AsStr>(
 }
 
 /// Whether a flag was set.
-fn is_set(matches: &ArgMatches<'_>, flag: &str) -> bool
+pub(crate) fn is_set(matches: &ArgMatches<'_>, flag: &str) -> bool
     ensures { result ≡ is_set flag.now (found_rows matches.now) }
 {
     match matches.get_str(flag) {
@@ -626,7 +620,7 @@ fn blocks_in(matches: &ArgMatches<'_>) -> u32
 }
 
 /// The limit of cycles.
-fn cycles_in(matches: &ArgMatches<'_>) -> u32
+pub(crate) fn cycles_in(matches: &ArgMatches<'_>) -> u32
     ensures { result ≡ cycles_of (found_rows matches.now) }
 {
     match matches.get_str("cycles") {
@@ -731,16 +725,14 @@ fn start_in(alloc: Global, matches: &ArgMatches<'_>) -> Result<Start, SettingErr
 
 /// Where a run of packets in flight begins, by the options of its subcommand.
 fn flight_in(alloc: Global, matches: &ArgMatches<'_>) -> Result<FlightStart, SettingError>
-    ensures cycles { IfOk result (λ start. start.cycles ≡ cycles_of (found_rows matches.now)) }
-    ensures strict { IfOk result (λ start. start.strict ≡ is_set (codes "strict") (found_rows matches.now)) }
+    ensures course { IfOk result (λ start. start.course ≡ flight_course_of (found_rows matches.now)) }
     ensures from { IfOk result (λ start. option_map (λ name. name.items) start.from ≡ first_of (codes "from") (found_rows matches.now)) }
     ensures alone { IfOk result (λ start. start.alone ≡ is_set (codes "alone") (found_rows matches.now)) }
     ensures settings { IfOk result (λ start. AreSettings (words_of matches.now) start.settings.items) }
     ensures err { IfErr result (IsBadAmong (words_of matches.now)) }
 {
     Ok(FlightStart {
-        cycles: cycles_in(matches),
-        strict: is_set(matches, "strict"),
+        course: flight_course_in(matches),
         from: from_in(alloc, matches)?,
         alone: is_set(matches, "alone"),
         settings: settings_in(alloc, matches)?,

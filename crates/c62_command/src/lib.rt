@@ -3,13 +3,15 @@
 
 mod blamed;
 mod command;
+mod flight;
 mod laws;
 mod setting;
 
 pub use blamed::setting_at;
 pub use command::{
-    Adopting, CommandError, Course, FlightStart, Form, Packing, Request, Showing, Start, command_of,
+    Adopting, CommandError, Course, Form, Packing, Request, Showing, Start, command_of,
 };
+pub use flight::{FlightCourse, FlightStart};
 pub use laws::{prints_are_of_memory, takes_limits};
 pub use setting::{Dump, Print, Setting, Size, equals_sign, first_part, place_in};
 

@@ -147,7 +147,7 @@ const RUNS: [(&[&str], &str); 58] = [
     (&["sim", "dump=8+4:h"], "setting 1"),
     (&["sim", "dump="], "setting 1"),
     (&["pack", "dump=8+4"], "words"),
-    (&["exec", "--profile"], "words"),
+    (&["exec", "--profile"], "exec; 1000000 cycles, profile"),
     (&["adopt"], "adopt"),
     (&["adopt", "--drain"], "adopt, drained"),
     (&["adopt", "--from", ".L5"], "adopt from .L5"),
@@ -240,8 +240,10 @@ fn settings_text(alloc: Global, settings: &[Setting]) -> Result<String, Fail> {
 }
 
 fn flight_text(alloc: Global, start: &FlightStart) -> Result<String, Fail> {
-    let mut text = format!(in alloc; "{} cycles", start.cycles)?;
-    text.push_str(if start.strict { ", strict" } else { "" })?;
+    let course = start.course;
+    let mut text = format!(in alloc; "{} cycles", course.cycles)?;
+    text.push_str(if course.profile { ", profile" } else { "" })?;
+    text.push_str(if course.strict { ", strict" } else { "" })?;
     if let Some(name) = &start.from {
         text.push_str(" from ")?;
         text.push_str(str::from_utf8(name).unwrap_or("?"))?;

@@ -19,7 +19,7 @@ abbrev pub settings_asked : Ask → List Given
 settings_asked (SerialReport course settings) = settings
 settings_asked (PacketReport packing course settings) = settings
 settings_asked (StandingReport form course settings) = settings
-settings_asked (FlightReport cycles strict from settings) = settings
+settings_asked (FlightReport course from settings) = settings
 settings_asked (Reaching from ask) = settings_asked ask
 settings_asked _ = []
 

@@ -12,3 +12,6 @@ pub mod Loop
 pub mod Steps
 pub mod Fine
 pub mod Fitting
+pub mod Tallies
+pub mod Counted
+pub mod Soon

@@ -16,7 +16,7 @@ use Rattle.c62_packet.specs.declared.placed.Placed.{Placed}
 use Rattle.c62_flight.specs.declared.stop.Stop.{Stop}
 use Rattle.c62_flight.specs.declared.stop.Stop.TheVariants.{End, Limit}
 use Rattle.c62_flight.specs.Text.{Text, Row, no_row, row_of, At, IsIssuable, insns_in}
-use Rattle.c62_flight.specs.Issued.{Issued, issued_on, is_in_flight, over}
+use Rattle.c62_flight.specs.Issued.{Visit, Issued, issued_on, is_in_flight, over}
 use Rattle.c62_flight.specs.Flight.{ended}
 use Rattle.c62_flight.proofs.Told.{over_told}
 use Rattle.c62_flight.proofs.Underway.{on_path}
@@ -54,13 +54,13 @@ row_few text row is =
 
 -- ---- what ends a run
 
-module _ (text : Text) (first limit : ℕ) (opening : Machine) (row cycle : ℕ) (way : Way) (there : IsAt text first limit opening (At row) cycle way) where
+module _ (text : Text) (first limit : ℕ) (opening : Machine) (path : List Visit) (row cycle : ℕ) (way : Way) (there : IsAt text first limit opening path (At row) cycle way) where
   abbrev goes_by : Bool → Bool → Option Stop
   goes_by inside flying = cond (inside || flying) (cond (nat_le limit cycle) (Some Limit) None) (Some End)
 
-  ended_by : goes_by (ltb row (length text.rows)) (list_any is_some way.turns) ≡ ended text limit (on_path text opening there.path) (At row) cycle
+  ended_by : goes_by (ltb row (length text.rows)) (list_any is_some way.turns) ≡ ended text limit (on_path text opening path) (At row) cycle
   ended_by =
-      ap (λ b. goes_by (ltb row (length text.rows)) b) (in_flight (issued_on text there.path) opening cycle way there.standing)
+      ap (λ b. goes_by (ltb row (length text.rows)) b) (in_flight (issued_on text path) opening cycle way there.standing)
 
   on : (row < length text.rows) ⊎ (list_any is_some way.turns ≡ true) → (ltb row (length text.rows) || list_any is_some way.turns) ≡ true
   on (inl l) = ap (λ b. b || list_any is_some way.turns) (lt-ltb _ _ l)
@@ -70,20 +70,20 @@ module _ (text : Text) (first limit : ℕ) (opening : Machine) (row cycle : ℕ)
       either true = refl
       either false = refl
 
-  pub goes : (row < length text.rows) ⊎ (list_any is_some way.turns ≡ true) → cycle < limit → ended text limit (on_path text opening there.path) (At row) cycle ≡ None
+  pub goes : (row < length text.rows) ⊎ (list_any is_some way.turns ≡ true) → cycle < limit → ended text limit (on_path text opening path) (At row) cycle ≡ None
   goes h l = sym ended_by ∙ cond-true _ _ _ (on h) ∙ cond-false _ _ _ (let f : nat_le limit cycle ≡ false = grind (arith, nat_tests) in f)
 
-  pub limited : (row < length text.rows) ⊎ (list_any is_some way.turns ≡ true) → limit ≤ cycle → ended text limit (on_path text opening there.path) (At row) cycle ≡ Some Limit
+  pub limited : (row < length text.rows) ⊎ (list_any is_some way.turns ≡ true) → limit ≤ cycle → ended text limit (on_path text opening path) (At row) cycle ≡ Some Limit
   limited h l = sym ended_by ∙ cond-true _ _ _ (on h) ∙ cond-true _ _ _ (let t : nat_le limit cycle ≡ true = grind (arith, nat_tests) in t)
 
-  pub over_all : length text.rows ≤ row → list_any is_some way.turns ≡ false → ended text limit (on_path text opening there.path) (At row) cycle ≡ Some End
+  pub over_all : length text.rows ≤ row → list_any is_some way.turns ≡ false → ended text limit (on_path text opening path) (At row) cycle ≡ Some End
   over_all l e =
       sym ended_by ∙ ap (λ b. goes_by b (list_any is_some way.turns)) (le-ltb _ _ l) ∙ ap (λ b. goes_by false b) e
 
   -- ---- what the row asks
 
   pub fits : IsIssuable text → Fit cycle (row_of text row).insns way.flight way.machine
-  fits is = (all_of_row (issued_on text there.path) opening cycle way (row_of text row).insns there.standing (row_rises text row is)).fit
+  fits is = (all_of_row (issued_on text path) opening cycle way (row_of text row).insns there.standing (row_rises text row is)).fit
 
 few_of : (rows : List Row) → ((row : Row) → In row rows → length row.insns ≤ 8) → sum_by (λ (row : Row). length row.insns) rows ≤ 8 * length rows
 few_of [] h = omega arith
@@ -94,11 +94,11 @@ few_of (row ∷ rows) h =
     omega arith
 
 -- room for the faults of a row
-pub enough : (text : Text) (first limit : ℕ) (opening : Machine) (row cycle : ℕ) (way : Way) (state : Contents) → IsAt text first limit opening (At row) cycle way
+pub enough : (text : Text) (first limit : ℕ) (opening : Machine) (path : List Visit) (row cycle : ℕ) (way : Way) (state : Contents) → IsAt text first limit opening path (At row) cycle way
     → IsIssuable text → way.machine ≡ state.machine → length opening.faults + 8 * (length text.rows + 1) ≤ line_capacity state → 8 ≤ state.room
-enough text first limit opening row cycle way state there is same room =
+enough text first limit opening path row cycle way state there is same room =
     let sum : insns_in text ≤ 8 * length text.rows = few_of text.rows (λ r k. All-contains (λ (r : Row). length r.insns ≤ 8) text.rows r is.few_insns (Contains_from_In r text.rows k)) in
-    let few : length way.machine.faults ≤ length opening.faults + insns_in text = few_faults text first limit opening (At row) cycle way there in
+    let few : length way.machine.faults ≤ length opening.faults + insns_in text = few_faults text first limit opening path (At row) cycle way there in
     let size : length way.machine.faults ≡ length state.machine.faults = ap (λ (m : Machine). length m.faults) same in
     omega arith
 

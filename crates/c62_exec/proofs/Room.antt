@@ -47,15 +47,15 @@ line_inside text path p h =
     (In-flat_map (λ (row : Row). row.insns) q.0 (row_of text v.0.row) text.rows (row_inside text.rows v.0.row q.0 q.1) q.1))
 
 -- the lines that faulted are at most those that had and those of the text
-pub few_faults : (text : Text) (first limit : ℕ) (opening : Machine) (position : Position) (cycle : ℕ) (way : Way) → IsAt text first limit opening position cycle way
+pub few_faults : (text : Text) (first limit : ℕ) (opening : Machine) (path : List Visit) (position : Position) (cycle : ℕ) (way : Way) → IsAt text first limit opening path position cycle way
     → length way.machine.faults ≤ length opening.faults + insns_in text
-few_faults text first limit opening position cycle way there =
-    let left = leaves (issued_on text there.path) opening there.standing.ascends cycle (8 * cycle) way.flight way.machine there.standing.row.flying in
+few_faults text first limit opening path position cycle way there =
+    let left = leaves (issued_on text path) opening there.standing.ascends cycle (8 * cycle) way.flight way.machine there.standing.row.flying in
     let few : length way.machine.faults ≤ length (opening.faults ++ lines_of text) = fewer way.machine.faults (opening.faults ++ lines_of text) left.sound.rising (λ n c.
     elim ((left.faults n).0 c) [
       | inl k ↦ In-append_left n opening.faults (lines_of text) (In_from_Contains n opening.faults k)
       | inr f ↦ In-append_right n opening.faults (lines_of text)
-          (subst (λ m. In m (lines_of text)) f.of_line (line_inside text there.path f.placed (In_from_Contains f.placed (issued_on text there.path) f.inside)))
+          (subst (λ m. In m (lines_of text)) f.of_line (line_inside text path f.placed (In_from_Contains f.placed (issued_on text path) f.inside)))
     ]) in
     let all : length (opening.faults ++ lines_of text) ≡ length opening.faults + length (lines_of text) = length-append opening.faults (lines_of text) in
     let lines : length (lines_of text) ≡ length (flat_map (λ (row : Row). row.insns) text.rows) = length-map (flat_map (λ (row : Row). row.insns) text.rows) (λ (p : Placed). p.line) in

@@ -5,11 +5,13 @@ mod clash;
 mod issuable;
 mod run;
 mod taken;
+mod tally;
 mod turns;
 mod underway;
 
 pub use issuable::is_issuable;
-pub use run::{Flown, fly};
+pub use run::{Flown, fly, fly_counted};
+pub use tally::Count;
 
 #[cfg(test)]
 mod tests;

@@ -1,19 +1,21 @@
 //! Runs a text of packets.
 
-ghost use Rattle.std.specs.Prelude.{◌≡◌, ◌+◌, ◌*◌, ◌<◌, ◌≤◌, ◌^◌, length, max, Some, IfSome, IfOk, OnErr, MatchOption, MatchResult};
+ghost use Rattle.std.specs.Prelude.{◌≡◌, ◌+◌, ◌*◌, ◌<◌, ◌≤◌, ◌^◌, length, max, min, Some, IfSome, IfOk, OnErr, MatchOption, MatchResult, OnOk};
 ghost use Rattle.c62_insn.specs.declared.effect.Target.TheVariants.{Register as ToRegister};
 ghost use Rattle.c62_serial.specs.State.{line_capacity};
 ghost use Rattle.c62_flight.specs.Text.{At, Outside, row_of, leads_to, position_after, IsIssuable};
 ghost use Rattle.c62_flight.specs.Flight.{Flies};
 ghost use Rattle.c62_rows.specs.Rows.{text_of};
 ghost use Rattle.c62_exec.specs.Step.{Fit, on_way, gone, row_passes, end_of};
+ghost use Rattle.c62_exec.specs.Counts.{CountsFlight, FliesTallied, IsFresh};
 
+use crate::tally::{Count, Tally};
 use crate::underway::{Passed, Underway};
 use c62_flight::Stop;
 use c62_insn::Target;
 use c62_rows::Rows;
 use c62_serial::State;
-use std::alloc::AllocError;
+use std::alloc::{AllocError, Global};
 
 /// How a run stopped, and after how many cycles.
 #[derive(Clone, Copy, PartialEq, Eq, Debug)]
@@ -64,6 +66,14 @@ fn row_after(rows: &Rows, row: usize, turn: Option<Target>) -> Result<usize, u32
     }
 }
 
+/// The place of a row among the counts, of which the rows behind the last of a text have one.
+#[tactic(auto, using(crate::proofs::Loop::text_size))]
+fn place_of(rows: &Rows, row: usize) -> usize
+    ensures { result ≡ min row (length (text_of rows.now).rows) }
+{
+    row.min(rows.rows.len())
+}
+
 /// Runs a row of the text, or one behind its last, that begins in a cycle.
 fn run_row(
     rows: &Rows,
@@ -88,21 +98,20 @@ fn run_row(
     }
 }
 
-/// Runs a text of packets from a row on, cycle by cycle, with all that is in flight: writes land and
-/// branches take effect over labels, in the slots of other branches and behind the last packet. Before
-/// each row it looks at the limit of cycles. Answers how the run stopped, and after how many cycles;
-/// whatever stopped it, all that it issued lands.
-///
-/// Room for the faults of eight instructions a row, and of eight more, is made first, by the state's
-/// own allocator. Nothing else takes memory, however long the run.
-///
-/// # Errors
-///
-/// `AllocError` where that room was missing and memory runs out. The state is then as before.
-pub fn fly(rows: &Rows, first: u32, limit: u32, state: &mut State) -> Result<Flown, AllocError>
-    requires { IsIssuable (text_of rows.now) }
-    ensures ok { IfOk result (λ flown. Flies (text_of rows.now) first limit state.old.machine
-        flown.stop flown.cycles state.new.machine) }
+/// Runs a text of packets from a row on, as [`fly`] does, and counts the rows that it begins.
+fn fly_rows(
+    rows: &Rows,
+    first: u32,
+    limit: u32,
+    state: &mut State,
+    tally: &mut Tally,
+) -> Result<Flown, AllocError>
+    requires rows { IsIssuable (text_of rows.now) }
+    requires fresh { IsFresh (length tally.old.counts.items) tally.old }
+    ensures ok { IfOk result (λ flown. FliesTallied (text_of rows.now) first limit state.old.machine
+        flown.stop flown.cycles state.new.machine tally.new) }
+    ensures size { OnOk result (length tally.new.counts.items ≡ length tally.old.counts.items) }
+    ensures soon { IfOk result (λ flown. flown.cycles ≤ 2 ^ 35) }
     ensures full { OnErr result (state.old.room < 8 * (length rows.now.rows.items + 1)) }
     ensures err { OnErr result (state.new ≡ state.old) }
 {
@@ -117,6 +126,7 @@ pub fn fly(rows: &Rows, first: u32, limit: u32, state: &mut State) -> Result<Flo
         if cycle >= most {
             return Ok(underway.come_down(Stop::Limit, cycle, state));
         }
+        tally.begin(place_of(rows, row), cycle);
         let turn = match run_row(rows, row, cycle, &mut underway, state) {
             Passed::Over(end, turn) => {
                 cycle = end;
@@ -136,4 +146,57 @@ pub fn fly(rows: &Rows, first: u32, limit: u32, state: &mut State) -> Result<Flo
         };
     }
     Ok(underway.come_down(Stop::End, cycle, state))
+}
+
+/// Runs a text of packets from a row on, cycle by cycle, with all that is in flight: writes land and
+/// branches take effect over labels, in the slots of other branches and behind the last packet. Before
+/// each row it looks at the limit of cycles. Answers how the run stopped, and after how many cycles;
+/// whatever stopped it, all that it issued lands.
+///
+/// Room for the faults of eight instructions a row, and of eight more, is made first, by the state's
+/// own allocator. Nothing else takes memory, however long the run.
+///
+/// # Errors
+///
+/// `AllocError` where that room was missing and memory runs out. The state is then as before.
+pub fn fly(
+    alloc: Global,
+    rows: &Rows,
+    first: u32,
+    limit: u32,
+    state: &mut State,
+) -> Result<Flown, AllocError>
+    requires { IsIssuable (text_of rows.now) }
+    ensures ok { IfOk result (λ flown. Flies (text_of rows.now) first limit state.old.machine
+        flown.stop flown.cycles state.new.machine) }
+    ensures full { OnErr result (state.old.room < 8 * (length rows.now.rows.items + 1)) }
+    ensures err { OnErr result (state.new ≡ state.old) }
+{
+    let mut tally = Tally::none(alloc);
+    fly_rows(rows, first, limit, state, &mut tally)
+}
+
+/// Runs a text of packets as [`fly`] does, and counts of each row, and last of all rows behind the
+/// text's last, how often it was begun, and how many of the run's cycles were its own.
+///
+/// # Errors
+///
+/// `AllocError` where memory ran out. The state is then as before.
+pub fn fly_counted(
+    alloc: Global,
+    rows: &Rows,
+    first: u32,
+    limit: u32,
+    state: &mut State,
+) -> Result<(Flown, Vec<Count>), AllocError>
+    requires { IsIssuable (text_of rows.now) }
+    ensures ok { IfOk result (λ ran. CountsFlight (text_of rows.now) first limit state.old.machine
+        ran.0.stop ran.0.cycles state.new.machine ran.1.items) }
+    ensures soon { IfOk result (λ ran. ran.0.cycles ≤ 2 ^ 35) }
+    ensures err { OnErr result (state.new ≡ state.old) }
+{
+    let mut tally = Tally::new(alloc, rows.rows.len() + 1)?;
+    let flown = fly_rows(rows, first, limit, state, &mut tally)?;
+    tally.close(flown.cycles);
+    Ok((flown, tally.counts))
 }

@@ -1,7 +1,8 @@
 //! Small texts of packets in flight, whose answers come from the processor's manual.
 
 use crate::issuable::is_issuable;
-use crate::run::{Flown, fly};
+use crate::run::{Flown, fly, fly_counted};
+use crate::tally::Count;
 use c62_flight::Stop;
 use c62_insn::Reg;
 use c62_insn::Side::{self, A, B};
@@ -56,6 +57,17 @@ const MEMORY: [&str; 7] = [
     "STW .D1T1 A1,*A4/|| STW .D2T2 B1,*B4 | A1=1 B1=2 A4=8 B4=8 | end 1 A1=1 A4=8 B1=2 B4=8 @8=2",
     "LDW .D1T1 *A4++,A5/LDW .D1T1 *A4++,A5/MV .L1 A5,A6/MV .L1 A5,A7/MV .L1 A5,A8/MV .L1 A5,A9/MV .L1 A5,A10 | A4=8 @8=1 @c=2 | end 7 A4=10 A5=2 A9=1 A10=2 @8=1 @c=2",
     "L1:/LDW .D1T1 *A4++,A5/B .S1 L1/ADD .L1 A5,A6,A6/NOP 4 | A4=8 @8=1 @c=2 @10=3 limit=15 | limit 15 A4=14 A5=3 A6=3 @8=1 @c=2 @10=3",
+];
+
+/// The same, with what is counted: how often each row is begun, and last those behind all, and how many cycles are its own.
+const COUNTS: [&str; 7] = [
+    " |  | 0:0",
+    "MVK .S1 3,A1/NOP 3 |  | 1:1 1:3 0:0",
+    "B .S1 L1/NOP 9/MVK .S1 1,A1/L1: |  | 1:1 1:5 0:0 0:0",
+    "B .S1 L1/L1: |  | 1:1 5:5",
+    "L1:/B .S1 L1 | limit=7 | 2:2 5:5",
+    "MPY .M1 A1,A1,A2/MVK .S1 5,A2/NOP 9 | A1=3 | 1:1 1:1 0:0 0:0",
+    "LDW .D1T1 *A4,A2/MPY .M1 A1,A1,A3/NOP/MPY .M1 A1,A1,A2 | A1=3 A4=8 @8=7 | 1:1 1:1 1:1 1:2 0:0",
 ];
 
 /// Where labels stand, and the rows so far.
@@ -250,7 +262,7 @@ fn check_rows(rt: &impl Abort, alloc: Global, rows: &[&str]) -> Result<(), Fail>
         let issuable = is_issuable(&rows);
         assert!(rt; issuable);
         let Opening { mut state, limit } = Opening::new(rt, alloc, settings)?;
-        let flown = fly(&rows, 0, limit, &mut state)?;
+        let flown = fly(alloc, &rows, 0, limit, &mut state)?;
         let found = report(alloc, flown, &state)?;
         assert_eq!(rt; found.as_str(), want, "{row}");
     }
@@ -272,6 +284,36 @@ fn accesses_in_flight(rt: HostRuntime) -> Result<(), Fail> {
     check_rows(&rt, rt.alloc(), &MEMORY)
 }
 
+fn counts_shown(alloc: Global, counts: &[Count]) -> Result<String, Fail> {
+    let mut text = String::new(alloc);
+    for count in counts {
+        let Count { runs, cycles } = *count;
+        text.push_str(&format!(in alloc; " {runs}:{cycles}")?)?;
+    }
+    Ok(text)
+}
+
+/// Each text is counted as its row says.
+fn check_counts(rt: &impl Abort, alloc: Global, rows: &[&str]) -> Result<(), Fail> {
+    for row in rows {
+        let (text, rest) = row.split_once(" | ").expect(rt, "a text");
+        let (settings, want) = rest.split_once(" |").expect(rt, "settings");
+        let rows = rows_of(alloc, text)?;
+        let issuable = is_issuable(&rows);
+        assert!(rt; issuable);
+        let Opening { mut state, limit } = Opening::new(rt, alloc, settings)?;
+        let (_, counts) = fly_counted(alloc, &rows, 0, limit, &mut state)?;
+        let found = counts_shown(alloc, &counts)?;
+        assert_eq!(rt; found.as_str(), want, "{row}");
+    }
+    Ok(())
+}
+
+#[test]
+fn rows_are_counted(rt: HostRuntime) -> Result<(), Fail> {
+    check_counts(&rt, rt.alloc(), &COUNTS)
+}
+
 /// A run begins at any row.
 #[test]
 fn from_a_row(rt: HostRuntime) -> Result<(), Fail> {
@@ -283,10 +325,10 @@ fn from_a_row(rt: HostRuntime) -> Result<(), Fail> {
         stop: Stop::End,
         cycles: 0,
     };
-    let flown = fly(&rows, 2, 9, &mut state)?;
+    let flown = fly(rt.alloc(), &rows, 2, 9, &mut state)?;
     assert_eq!(rt; flown, want);
     assert_eq!(rt; state.reg(Reg { side: A, number: 1 }), 0);
-    let flown = fly(&rows, 1, 9, &mut state)?;
+    let flown = fly(rt.alloc(), &rows, 1, 9, &mut state)?;
     assert_eq!(rt; flown.cycles, 1);
     assert_eq!(rt; state.reg(Reg { side: A, number: 1 }), 2);
     Ok(())
@@ -299,7 +341,7 @@ fn want_of_memory(rt: HostRuntime) -> Result<(), Fail> {
     let issuable = is_issuable(&rows);
     assert!(rt; issuable);
     let mut state = State::new(rt.alloc())?;
-    let left = match fly(&rows, 0, 9, &mut state) {
+    let left = match fly(rt.alloc(), &rows, 0, 9, &mut state) {
         Ok(_) => 1,
         Err(_) => 0,
     };

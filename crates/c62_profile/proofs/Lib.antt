@@ -3,3 +3,5 @@ pub mod Counting
 pub mod Sums
 pub mod Runs
 pub mod Rows
+pub mod Parts
+pub mod Flown

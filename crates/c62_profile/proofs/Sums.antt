@@ -27,7 +27,7 @@ leads_inside count Does opening final position last (number ∷ numbers) at lead
     (subst P leads.0 at, leads_inside count Does leads.1.machine final (position_after count number leads.1.exit) last numbers (is_position_after count number leads.1.exit) leads.3)
 
 -- what the numbers from a on sum up to, where each is the same
-same_sum : (f g : ℕ → ℕ) (a n : ℕ) → ((k : ℕ) → a ≤ k → k < a + n → f k ≡ g k) → sum_by f (range_with_len a n) ≡ sum_by g (range_with_len a n)
+pub same_sum : (f g : ℕ → ℕ) (a n : ℕ) → ((k : ℕ) → a ≤ k → k < a + n → f k ≡ g k) → sum_by f (range_with_len a n) ≡ sum_by g (range_with_len a n)
 same_sum f g a zero same = refl
 same_sum f g a (suc n) same =
     let first : f a ≡ g a = same a (omega arith) (omega arith) in
@@ -35,13 +35,13 @@ same_sum f g a (suc n) same =
     sum_by-cons f a (range_with_len (a + 1) n) ∙ (let z : f a + sum_by f (range_with_len (a + 1) n) ≡ g a + sum_by g (range_with_len (a + 1) n) = omega arith in z)
     ∙ sym (sum_by-cons g a (range_with_len (a + 1) n))
 
-both_sums : (f g : ℕ → ℕ) (xs : List ℕ) → sum_by (λ k. f k + g k) xs ≡ sum_by f xs + sum_by g xs
+pub both_sums : (f g : ℕ → ℕ) (xs : List ℕ) → sum_by (λ k. f k + g k) xs ≡ sum_by f xs + sum_by g xs
 both_sums f g [] = refl
 both_sums f g (x ∷ xs) =
     let rest : sum_by (λ k. f k + g k) xs ≡ sum_by f xs + sum_by g xs = both_sums f g xs in
     rw (sum_by-cons (λ k. f k + g k) x xs, sum_by-cons f x xs, sum_by-cons g x xs) (omega arith)
 
-no_sum : (xs : List ℕ) → sum_by (λ k. 0) xs ≡ 0
+pub no_sum : (xs : List ℕ) → sum_by (λ k. 0) xs ≡ 0
 no_sum [] = refl
 no_sum (x ∷ xs) = let rest : sum_by (λ k. 0) xs ≡ 0 = no_sum xs in rw (sum_by-cons (λ k. 0) x xs) (omega arith)
 

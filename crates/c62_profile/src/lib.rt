@@ -1,12 +1,14 @@
-//! Tells of a run of blocks how often each was run, and what it took of the whole.
+//! Tells of a run how often each block was run, and what it took of the whole.
 #![tactic(auto)]
 
+mod flights;
 pub mod laws;
 mod packets;
 mod serial;
 mod table;
 mod tally;
 
+pub use flights::flight_table;
 pub use packets::{packet_table, run_packets};
 pub use serial::{run_serial, serial_table};
 pub use tally::Tally;

@@ -18,7 +18,7 @@ pub(crate) struct Row<'a> {
     pub each: u16,
 }
 
-fn push_number(out: &mut Vec<u8>, number: u64) -> Result<(), AllocError>
+pub(crate) fn push_number(out: &mut Vec<u8>, number: u64) -> Result<(), AllocError>
     ensures { OnOk result (out.new.items ≡ out.old.items ++ decimal number) }
 {
     let mut buffer = Buffer::new();
@@ -26,7 +26,7 @@ fn push_number(out: &mut Vec<u8>, number: u64) -> Result<(), AllocError>
 }
 
 /// A blank and a number.
-fn push_field(out: &mut Vec<u8>, number: u64) -> Result<(), AllocError>
+pub(crate) fn push_field(out: &mut Vec<u8>, number: u64) -> Result<(), AllocError>
     ensures { OnOk result (out.new.items ≡ out.old.items ++ codes " " ++ decimal number) }
 {
     out.extend_from_slice(b" ")?;
@@ -45,7 +45,7 @@ fn push_name(out: &mut Vec<u8>, number: usize, label: Option<&Label>) -> Result<
 
 /// How many thousandths of the whole a part is, rounded down.
 #[tactic(auto, unfolding(crate::specs::Table::thousandths))]
-fn thousandths(part: u64, whole: u64) -> u64
+pub(crate) fn thousandths(part: u64, whole: u64) -> u64
     requires { part ≤ 1_000_000_000_000_000 }
     ensures { result ≡ thousandths part whole }
 {
@@ -53,7 +53,7 @@ fn thousandths(part: u64, whole: u64) -> u64
 }
 
 /// So many thousandths, as `98.5%`.
-fn push_percent(out: &mut Vec<u8>, share: u64) -> Result<(), AllocError>
+pub(crate) fn push_percent(out: &mut Vec<u8>, share: u64) -> Result<(), AllocError>
     ensures { OnOk result (out.new.items ≡ out.old.items ++ percent share) }
 {
     push_number(out, share / 10)?;

@@ -1,5 +1,5 @@
 -- What is read of a text once all its lines are.
-use Rattle.std.proofs.Common.{arith, ◌≡◌, inr, ℕ, ◌≤◌, List, length, map, Option, Some, None, sym, ap, ◌∙◌, subst}
+use Rattle.std.proofs.Common.{arith, ◌≡◌, inr, ℕ, ◌≤◌, List, length, map, Option, Some, None, refl, sym, ap, ◌∙◌, subst}
 use Rattle.std.specs.Prelude.{unwrap_or}
 use Rattle.std.proofs.lemmas.List.{length-map}
 use Rattle.c62_read.specs.Program.{Name}
@@ -53,9 +53,10 @@ loses text old new Memory reads is lost = tt
 -- ---- where a run begins
 
 pub begins_as : (text : List ℕ) (from : Option Name) (read : RowsText) (row : Option ℕ) (first : ℕ) → ReadsAs text read → row ≡ first_row from (names_of read)
-    → row ≡ Some first → BeginsAs text from (record { rows = read.rows; first = first })
+    → row ≡ Some first → BeginsAs text from (record { rows = read.rows; first = first; labels = read.labels })
 begins_as text from read row first reads is some = record {
   is_text = record { labels = names_of read; is_text = reads.is_text; begins = sym is ∙ some };
+  named = refl;
   rows = reads.rows;
 }
 

@@ -12,3 +12,4 @@ mod Labelled
 mod Finished
 mod OneLine
 mod OneAnswer
+mod Rising

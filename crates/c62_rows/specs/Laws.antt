@@ -1,5 +1,5 @@
 -- Texts of packets and their rows (docs/EXEC.md, "What holds").
-use Rattle.std.specs.Prelude.{◌≡◌, ◌⊎◌, ℕ, List, Option}
+use Rattle.std.specs.Prelude.{◌≡◌, ◌⊎◌, ℕ, ◌≤◌, List, [], ◌∷◌, length, Option}
 use Rattle.c62_read.specs.Program.{Name}
 use Rattle.c62_flight.specs.Text.{Text}
 use Rattle.c62_rows.specs.declared.fault.RowsFault.{RowsFault}
@@ -27,3 +27,12 @@ pub record HasOneAnswer (text : List ℕ) (from : Option Name) : Type 0 where
   pub start : HasOneStart text from
   pub refusal : (flying : Text) (first : ℕ) (fault : RowsFault) → IsTextFrom text from flying first → RefusesFrom text from fault → fault ≡ Memory
   pub one_refusal : HasOneRefusal text from
+
+-- from this row on labels stand in the order of their rows, and none names a row behind the last of so many and the one below
+abbrev pub RiseTo : ℕ → ℕ → List (Name × ℕ) → Type 0
+RiseTo rows from [] = from ≤ rows
+RiseTo rows from (label ∷ labels) = (from ≤ label.1) × RiseTo rows label.1 labels
+
+-- so those of a text do
+abbrev pub LabelsRise : List ℕ → Type 0
+LabelsRise text = (flying : Text) (labels : List (Name × ℕ)) → IsText text flying labels → RiseTo (length flying.rows) 0 labels

@@ -22,9 +22,10 @@ pub record FindsAims (targets labels : List (Name × ℕ)) (aims : List ℕ) : T
   pub found : lost_among targets labels ≡ None
   pub aims_are : aims ≡ aims_among targets labels
 
--- what flies of a text and from which row on, and what holds of its rows
+-- what flies of a text and from which row on, its labels, and what holds of its rows
 pub record BeginsAs (text : List ℕ) (from : Option Name) (begun : BegunRead) : Type 0 where
   pub is_text : IsTextFrom text from (text_of begun.rows) begun.first
+  pub named : begun.labels.entries ≡ is_text.labels
   pub rows : AreRows begun.rows
 
 -- what is read of a text, and what holds of its rows

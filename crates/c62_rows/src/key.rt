@@ -30,6 +30,13 @@ impl Key {
     {
         Key { label }
     }
+
+    /// The label's bytes.
+    pub fn as_bytes(&self) -> &[u8]
+        ensures { result.now ≡ self.now }
+    {
+        self.label.as_bytes()
+    }
 }
 
 impl PartialEq for Key {

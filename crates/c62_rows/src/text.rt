@@ -157,11 +157,13 @@ pub fn read_rows(alloc: Global, text: &[u8]) -> Result<RowsText, RowsFault>
     read_lines(alloc, text)
 }
 
-/// The rows of a text, and the one with which a run begins.
+/// The rows of a text, the one with which a run begins, and those of its labels.
 #[derive(Drop)]
 pub struct Begun {
     pub rows: Rows,
     pub first: u32,
+    /// Each label with the row that begins below it, or the number of rows where none does, in the order of the text.
+    pub labels: IndexMap<Key, u32>,
 }
 
 impl RowsText {
@@ -176,8 +178,8 @@ impl RowsText {
     }
 }
 
-/// The rows of a text of packets, and the row with which a run begins: that of the label of this name, whose dots are read as `_`,
-/// or the first where none is named.
+/// The rows of a text of packets, the row with which a run begins, and those of its labels. A run begins with the row of the label
+/// of this name, whose dots are read as `_`, or with the first where none is named.
 ///
 /// # Errors
 ///
@@ -191,6 +193,7 @@ pub fn read_from(alloc: Global, text: &[u8], from: Option<&[u8]>) -> Result<Begu
         Some(first) => Ok(Begun {
             rows: read.rows,
             first,
+            labels: read.labels,
         }),
         None => Err(RowsFault::From),
     }

@@ -4,13 +4,29 @@ use c62_answer::run_on_bytes;
 use std::test::Fail;
 
 /// Words, a text of packets, and the report of its flight.
-const FLOWN: [(&[&str], &[u8], &str); 11] = [
+const FLOWN: [(&[&str], &[u8], &str); 14] = [
     (&["exec"], b"", "cycles 0\nexit end\n"),
     // A branch ends a NOP, and what was loaded lands behind the end.
     (
         &["exec", "A4=8", "@8=7"],
         b"B .S2 L\n NOP 4\n|| LDW .D1 *A4,A5\n NOP 9\nL:\n",
         "cycles 6\nexit end\nA4 00000008\nA5 00000007\n@0008 00000007\n",
+    ),
+    // Where the cycles went: a branch ends a NOP, nothing is begun, and cycles pass behind the last row.
+    (
+        &["exec", "--profile"],
+        b"B .S2 L\n NOP 9\n MVK .S1 1,A1\nL: MVK .S1 2,A2\n NOP 2\n",
+        "cycles 9\nexit end\nA2 00000002\nblock runs cycles share\n0 1 6 66.6%\nL 1 3 33.3%\nend 0 0 0.0%\n",
+    ),
+    (
+        &["exec", "--profile"],
+        b"",
+        "cycles 0\nexit end\nblock runs cycles share\nend 0 0 0.0%\n",
+    ),
+    (
+        &["exec", "--profile", "--cycles", "19", "print=0+1:b"],
+        b".K:\nL: B .S2 L\n",
+        "cycles 19\nexit limit\nprint 0000 00\nblock runs cycles share\n_K 0 0 0.0%\nL 4 4 21.0%\nend 15 15 78.9%\n",
     ),
     // A branch in the delay slots of another.
     (

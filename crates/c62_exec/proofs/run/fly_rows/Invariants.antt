@@ -3,12 +3,13 @@ use Rattle.c62_serial.specs.State.{line_capacity}
 use Rattle.c62_flight.specs.Text.{At}
 use Rattle.c62_rows.specs.Rows.{text_of}
 use Rattle.c62_exec.specs.Step.{on_way}
-use Rattle.c62_exec.proofs.Paths.{IsAt}
-use Rattle.c62_exec.proofs.run.fly.Given as goal
+use Rattle.c62_exec.proofs.Counted.{IsCounted}
+use Rattle.c62_exec.proofs.run.fly_rows.Given as goal
 
 abbrev pub invariant-loop-row : goal.invariant-loop-row
 invariant-loop-row l = record {
-  there : IsAt (text_of l.rows) l.first l.limit l.fn.state.machine (At l.row) l.cycle (on_way l.underway.pipe l.underway.turns l.state.machine);
+  counted : IsCounted (text_of l.rows) l.first l.limit l.fn.state.machine (At l.row) l.cycle (on_way l.underway.pipe l.underway.turns l.state.machine) l.tally;
+  size : length l.tally.counts.items ≡ length l.fn.tally.counts.items;
   capacity : length l.fn.state.machine.faults + 8 * (length l.rows.rows.items + 1) ≤ line_capacity l.state;
   row : l.row ≤ 2 ^ 32 + l.cycle;
   cycle : l.cycle ≤ l.most + 2 ^ 33;
