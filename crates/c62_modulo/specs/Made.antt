@@ -1,0 +1,31 @@
+-- Software pipelined packets that are made of a loop (docs/SCHEDULING.md, "Pipelined loops").
+use Rattle.std.specs.Prelude.{◌≡◌, ℕ, ◌+◌, ◌≤◌, Bool, length, All, Option, Some, None}
+use Rattle.c62_insn.specs.declared.insn.Insn.{Insn}
+use Rattle.c62_rules.specs.PacketRules.{KeepsPacketRules}
+use Rattle.c62_packet.specs.Packed.{issued}
+use Rattle.c62_flight.specs.Text.{Row, Text}
+use Rattle.c62_rows.specs.Rows.{IsRow, row_read}
+use Rattle.c62_loop.specs.Loop.{Region, Pipelined, interval, last_row}
+use Rattle.c62_loop_match.specs.Parts.{loop_of}
+use Rattle.c62_loop_match.specs.Decide.{Decided}
+use Rattle.c62_modulo.specs.declared.made.Made.{Made}
+
+-- The packet is a row as a text of packets has them, and keeps the packet rules by itself.
+pub record IsLawful (packet : Row) : Type 0 where
+  pub row : IsRow packet
+  pub rules : KeepsPacketRules (issued packet.insns)
+
+-- The rows are those of prolog, kernel and epilog, and no others.
+pub record StandsAlone (loop : Pipelined) : Type 0 where
+  pub first : loop.first ≡ 0
+  pub last : last_row loop ≡ length loop.text.rows
+
+-- The packets do what the loop does for every number of trips from a granted one on, as `pipelined_for_all_trips` of c62_loop says: prolog and
+-- epilog hold fewer iterations than are granted. A trip takes no more cycles than are allowed.
+pub record IsMade (promised : Insn → Insn → Bool) (region : Region) (trips longest : ℕ) (made : Made) : Type 0 where
+  pub decided : Decided promised region (loop_of made.pipelined) made.most
+  pub granted : made.most + 1 ≤ trips
+  pub lawful : All (λ row. IsLawful (row_read row)) made.pipelined.rows.rows.items
+  pub alone : StandsAlone (loop_of made.pipelined)
+  pub cycles : made.interval ≡ interval (loop_of made.pipelined)
+  pub short : made.interval ≤ longest

@@ -1,0 +1,15 @@
+//! Makes software pipelined packets of a loop under a counter by iterative modulo scheduling (docs/SCHEDULING.md, "Pipelined loops").
+#![tactic(auto)]
+
+mod control;
+mod lawful;
+mod layout;
+mod made;
+mod packets;
+mod straight;
+mod timed;
+
+pub use made::{Made, Terms, pipelined};
+
+#[cfg(test)]
+mod tests;
