@@ -1,5 +1,5 @@
 -- The headline follows from what holds of every board.
-use Rattle.std.proofs.Common.{arith, ◌≡◌, ℕ, suc, ◌+◌, Bool, true, false, List, [], ◌∷◌, length, Some, refl, subst}
+use Rattle.std.proofs.Common.{arith, ◌≡◌, ℕ, suc, ◌+◌, Bool, true, false, List, [], ◌∷◌, length, map, Some, refl, subst}
 use Rattle.std.specs.Prelude.{slice_get, not}
 use Rattle.std.proofs.lemmas.Bool.{false_from_ne_true, and_from}
 use Rattle.c62_op.specs.Shape.{is_branch}
@@ -12,6 +12,7 @@ use Rattle.c62_sheet.specs.Lawful.{Spots, IsLawful}
 use Rattle.c62_board.specs.State.{BoardState}
 use Rattle.c62_meaning.proofs.SerialPackets.{are_serial}
 use Rattle.c62_pack.specs.Headline.{Headline}
+use Rattle.c62_pack.proofs.EitherSide.{on_own_side}
 use Rattle.c62_pack.proofs.Arranging.{packed_sorted}
 
 negated : (b : Bool) → b ≡ false → not b ≡ true
@@ -39,5 +40,5 @@ headline board sound = record {
       let last = last_from board.plan.insns sound.plan.branch in
       let lawful = subst (λ (set : Spots). IsLawful (insns_of board.plan) set) packets.all_placed sound.lawful in
       are_serial board.plan.insns block.placed last
-      (packed_sorted board.plan.insns packets.spots packets.serial packets.numbered lawful last block.placed packets.listed);
+      (packed_sorted board.plan.insns packets.spots packets.serial packets.numbered (on_own_side (insns_of board.plan) (map Some packets.spots) lawful) last block.placed packets.listed);
 }

@@ -1,3 +1,4 @@
 pub mod SameIssues
+pub mod EitherSide
 pub mod Arranging
 pub mod Headlines

@@ -1,2 +1,3 @@
+pub mod EitherSide
 pub mod Packets
 pub mod Headline

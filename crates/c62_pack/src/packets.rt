@@ -7,6 +7,7 @@ ghost use Rattle.c62_sheet.specs.Lawful.{IsLawful};
 ghost use Rattle.c62_sheet.specs.Least.{IsComplete};
 ghost use Rattle.c62_meaning.specs.Laws.{AreSerial};
 ghost use Rattle.c62_pipe.specs.Chain.{IsBlockPacked};
+ghost use Rattle.c62_pack.specs.EitherSide.{IsLawfulOnEitherSide};
 ghost use Rattle.c62_pack.specs.Packets.{ArePackets, ArePlaced, IsAtFault};
 
 use crate::arrange::{all_placed, arrange};
@@ -40,6 +41,7 @@ fn spots_of(alloc: Global, board: &Board) -> Result<Vec<Spot>, AllocError>
 /// # Errors
 ///
 /// Where memory ran out.
+#[tactic(auto, using(crate::proofs::EitherSide::on_own_side))]
 pub fn packets_of(alloc: Global, board: &Board) -> Result<PacketBlock, AllocError>
     requires { IsComplete (insns_of board.now.plan) board.now.spots }
     ensures packets { IfOk result (ArePackets board.now.plan board.now.spots) }
@@ -56,6 +58,7 @@ pub fn packets_of(alloc: Global, board: &Board) -> Result<PacketBlock, AllocErro
 /// # Errors
 ///
 /// Where memory ran out.
+#[tactic(auto, using(crate::proofs::EitherSide::on_own_side))]
 pub fn placed_of(alloc: Global, board: &Board) -> Result<Vec<Placed>, AllocError>
     requires { IsComplete (insns_of board.now.plan) board.now.spots }
     ensures placed { IfOk result (λ placed. ArePlaced board.now.plan board.now.spots placed.items) }
@@ -69,13 +72,13 @@ pub fn placed_of(alloc: Global, board: &Board) -> Result<Vec<Placed>, AllocError
     Ok(placed)
 }
 
-/// The instructions of a plan on lawful spots, as [`placed_of`] has them of a board.
+/// The instructions of a plan on lawful spots, a branch to a block on either side, as [`placed_of`] has them of a board.
 ///
 /// # Errors
 ///
 /// Where memory ran out.
 pub fn placed_at(alloc: Global, plan: &Plan, spots: &[Spot]) -> Result<Vec<Placed>, AllocError>
-    requires { IsLawful (insns_of plan.now) (map Some spots.now) }
+    requires { IsLawfulOnEitherSide (insns_of plan.now) (map Some spots.now) }
     ensures placed { IfOk result (λ placed. ArePlaced plan.now (map Some spots.now) placed.items) }
     ensures count { IfOk result (λ placed. length placed.items ≡ length plan.now.insns) }
     ensures few { IfOk result (λ placed. length placed.items ≤ MOST_INSTRUCTIONS) }
@@ -92,6 +95,7 @@ pub fn placed_at(alloc: Global, plan: &Plan, spots: &[Spot]) -> Result<Vec<Place
 ///
 /// `NotLawful` exactly where the spots are not a lawful complete set of placements of the plan (`docs/SCHEDULING.md`,
 /// "Lawful"), and `Memory` where memory ran out.
+#[tactic(auto, using(crate::proofs::EitherSide::on_own_side))]
 pub fn packets_at(alloc: Global, plan: &Plan, spots: &[Spot]) -> Result<PacketBlock, AtFault>
     ensures packets { IfOk result (ArePackets plan.now (map Some spots.now)) }
     ensures serial { IfOk result (λ block. AreSerial plan.now.insns block.placed) }
@@ -106,4 +110,23 @@ pub fn packets_at(alloc: Global, plan: &Plan, spots: &[Spot]) -> Result<PacketBl
         Ok(block) => Ok(block),
         Err(_) => Err(AtFault::Memory),
     }
+}
+
+/// The packets of a plan whose instruction `i` stands at spot `i`, as [`packets_of`] has them of a board, for lawful spots
+/// with a branch to a block on either side (`docs/SCHEDULING.md`, "Either side").
+///
+/// # Errors
+///
+/// Where memory ran out.
+pub fn packets_on_either_side(
+    alloc: Global,
+    plan: &Plan,
+    spots: &[Spot],
+) -> Result<PacketBlock, AllocError>
+    requires { IsLawfulOnEitherSide (insns_of plan.now) (map Some spots.now) }
+    ensures packets { IfOk result (ArePackets plan.now (map Some spots.now)) }
+    ensures serial { IfOk result (λ block. AreSerial plan.now.insns block.placed) }
+    ensures block { IfOk result (IsBlockPacked plan.now) }
+{
+    arrange(alloc, plan, spots)
 }

@@ -1,2 +1,4 @@
+pub mod SameUnits
+pub mod EitherSide
 pub mod Schedules
 pub mod Lengths

@@ -1,20 +1,20 @@
--- The shortest schedule of a block that was found (docs/SCHEDULING.md, "Shorter by lists" and "Search").
+-- The shortest schedule of a block that was found (docs/SCHEDULING.md, "Shorter by lists", "Search" and "Either side").
 use Rattle.std.specs.Prelude.{ℕ, ◌≤◌, map, Some}
 use Rattle.c62_read.specs.Block.{Serial}
 use Rattle.c62_depend.specs.Plan.{insns_of}
-use Rattle.c62_sheet.specs.Lawful.{IsLawful}
 use Rattle.c62_sheet.specs.Least.{IsComplete}
 use Rattle.c62_meaning.specs.Laws.{AreSerial}
 use Rattle.c62_pipe.specs.Chain.{IsBlockPacked}
+use Rattle.c62_pack.specs.EitherSide.{IsLawfulOnEitherSide}
 use Rattle.c62_pack.specs.Packets.{ArePackets}
 use Rattle.c62_refute.specs.Window.{TakesAtLeast}
 use Rattle.c62_shortest.specs.declared.schedule.Schedule.{Schedule}
 use Rattle.c62_shortest.specs.declared.searched.Shortest.{Shortest as Found}
 
--- The spots are a lawful set in which each instruction of the block is placed, and the packets are theirs. Run as packets, they do
--- what the block does serially.
+-- The spots are a set in which each instruction of the block is placed, lawful but that a branch to a block may stand on either side,
+-- and the packets are theirs. Run as packets, they do what the block does serially.
 pub record IsScheduleOf (block : Serial) (schedule : Schedule) : Type 0 where
-  pub lawful : IsLawful (insns_of block) (map Some schedule.spots.items)
+  pub lawful : IsLawfulOnEitherSide (insns_of block) (map Some schedule.spots.items)
   pub complete : IsComplete (insns_of block) (map Some schedule.spots.items)
   pub packets : ArePackets block (map Some schedule.spots.items) schedule.packets
   pub serial : AreSerial block.insns schedule.packets.placed

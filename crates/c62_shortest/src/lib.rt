@@ -2,6 +2,7 @@
 //! refutes that fewer cycles do.
 #![tactic(auto)]
 
+mod either_side;
 mod found;
 mod listed;
 mod schedule;

@@ -5,15 +5,17 @@ ghost use Rattle.c62_depend.specs.Plan.{insns_of};
 ghost use Rattle.c62_sheet.specs.Counts.{set_length};
 ghost use Rattle.c62_sheet.specs.Least.{IsComplete};
 ghost use Rattle.c62_shortest.specs.Shortest.{IsScheduleOf};
+ghost use Rattle.c62_shortest.specs.Units.{AreWithUnits};
 
 use c62_board::Board;
 use c62_depend::Plan;
-use c62_pack::{AtFault, packets_at, packets_of};
+use c62_pack::{packets_of, packets_on_either_side};
 use c62_packet::PacketBlock;
-use c62_sheet::Spot;
+use c62_sheet::{Spot, are_lawful};
 use std::alloc::{AllocError, Global};
 
-/// A schedule of a block: a lawful set of placements in which each instruction is placed.
+/// A schedule of a block: a set of placements in which each instruction is placed, lawful but that a branch to a block for
+/// which no unit is written may stand on either side.
 #[derive(Drop)]
 pub struct Schedule {
     /// Where the instructions stand, by number.
@@ -56,26 +58,32 @@ pub(crate) fn schedule_of(alloc: Global, board: &Board) -> Result<Schedule, Allo
     Ok(Schedule { spots, packets })
 }
 
-/// The schedule with these spots, where they are lawful, place all and take fewer cycles; else this one.
+/// The schedule with these spots, where they are lawful by a plan with the same instructions, place all and take fewer
+/// cycles; else this one.
 ///
 /// # Errors
 ///
 /// Where memory ran out.
-#[tactic(auto, using(crate::proofs::Schedules::of_spots))]
+#[tactic(auto, using(crate::proofs::Schedules::of_spots, crate::proofs::EitherSide::on_either_side))]
 pub(crate) fn shorter(
     alloc: Global,
     plan: &Plan,
+    by: &Plan,
     best: Schedule,
     spots: Vec<Spot>,
 ) -> Result<Schedule, AllocError>
-    requires { IsScheduleOf plan.now best }
+    requires by { AreWithUnits (insns_of plan.now) (insns_of by.now) }
+    requires best { IsScheduleOf plan.now best }
     ensures is { IfOk result (IsScheduleOf plan.now) }
     ensures no_longer { IfOk result (λ found. found.packets.cycles ≤ best.packets.cycles) }
 {
-    match packets_at(alloc, plan, &spots) {
-        Ok(packets) if packets.length() < best.packets.length() => Ok(Schedule { spots, packets }),
-        Ok(_) => Ok(best),
-        Err(AtFault::NotLawful) => Ok(best),
-        Err(AtFault::Memory) => Err(AllocError),
+    if !are_lawful(by, &spots) {
+        return Ok(best);
+    }
+    let packets = packets_on_either_side(alloc, plan, &spots)?;
+    if packets.length() < best.packets.length() {
+        Ok(Schedule { spots, packets })
+    } else {
+        Ok(best)
     }
 }

@@ -1,7 +1,9 @@
 //! The shortest of the schedules that a search finds.
 
 ghost use Rattle.std.specs.Prelude.{◌≡◌, IfOk};
+ghost use Rattle.c62_depend.specs.Plan.{insns_of};
 ghost use Rattle.c62_shortest.specs.Shortest.{IsScheduleOf, IsShortest};
+ghost use Rattle.c62_shortest.specs.Units.{AreWithUnits};
 
 use crate::schedule::{Schedule, shorter};
 use c62_depend::Plan;
@@ -35,16 +37,23 @@ fn open(schedule: Schedule, goes_on: bool) -> Step
     }
 }
 
-/// Searches for a schedule that is shorter than this one, which is longer than the bound.
-fn once(alloc: Global, plan: &Plan, best: Schedule, nodes: &mut u32) -> Result<Step, AllocError>
-    requires { IsScheduleOf plan.now best }
+/// Searches for a schedule that is shorter than this one, by a plan with the same instructions.
+fn once(
+    alloc: Global,
+    plan: &Plan,
+    by: &Plan,
+    best: Schedule,
+    nodes: &mut u32,
+) -> Result<Step, AllocError>
+    requires by { AreWithUnits (insns_of plan.now) (insns_of by.now) }
+    requires best { IsScheduleOf plan.now best }
     ensures { IfOk result (λ step. IsShortest plan.now best.packets.cycles step.found) }
 {
     let cycles = best.packets.length();
     let Some(most) = cycles.checked_sub(1) else {
         return Ok(open(best, false));
     };
-    match search_for(alloc, plan, most, nodes)? {
+    match search_for(alloc, by, most, nodes)? {
         Search::Refuted => Ok(Step {
             found: Shortest {
                 schedule: best,
@@ -54,15 +63,16 @@ fn once(alloc: Global, plan: &Plan, best: Schedule, nodes: &mut u32) -> Result<S
         }),
         Search::Open => Ok(open(best, false)),
         Search::Found(spots) => {
-            let found = shorter(alloc, plan, best, spots)?;
+            let found = shorter(alloc, plan, by, best, spots)?;
             let goes_on = found.packets.length() < cycles;
             Ok(open(found, goes_on))
         }
     }
 }
 
-/// The shortest of a schedule and those that are found by searches, each for one that is shorter than the one before, by at
-/// most so many choices in all. They end where a schedule is as short as the bound.
+/// The shortest of a schedule and those that are found by searches, each for one that is shorter than the one before, by a
+/// plan with the same instructions and by at most so many choices in all, of which those that were made are taken. They end
+/// where a schedule is as short as the bound.
 ///
 /// # Errors
 ///
@@ -70,14 +80,15 @@ fn once(alloc: Global, plan: &Plan, best: Schedule, nodes: &mut u32) -> Result<S
 pub(crate) fn searched(
     alloc: Global,
     plan: &Plan,
+    by: &Plan,
     best: Schedule,
     bound: u32,
-    nodes: u32,
+    nodes: &mut u32,
 ) -> Result<Shortest, AllocError>
-    requires { IsScheduleOf plan.now best }
+    requires by { AreWithUnits (insns_of plan.now) (insns_of by.now) }
+    requires best { IsScheduleOf plan.now best }
     ensures { IfOk result (IsShortest plan.now best.packets.cycles) }
 {
-    let mut left = nodes;
     let mut found = Shortest {
         schedule: best,
         least: 0,
@@ -86,7 +97,7 @@ pub(crate) fn searched(
         if u32::from(found.schedule.packets.length()) <= bound {
             return Ok(found);
         }
-        let step = once(alloc, plan, found.schedule, &mut left)?;
+        let step = once(alloc, plan, by, found.schedule, nodes)?;
         found = step.found;
         if !step.goes_on {
             return Ok(found);

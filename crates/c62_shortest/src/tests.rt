@@ -9,7 +9,7 @@ use std::process::Abort;
 use std::test::Fail;
 
 /// Blocks: the length of the board made in the order of the text, and the shortest that there is.
-const LENGTHS: [(&str, u16, u16); 6] = [
+const LENGTHS: [(&str, u16, u16); 8] = [
     ("EMPTY:", 0, 0),
     ("MVK 1,A1", 1, 1),
     // In the order of the text the branch finds .S1 taken up to cycle 2. But the constants may land in its delay slots.
@@ -20,6 +20,18 @@ const LENGTHS: [(&str, u16, u16); 6] = [
     ("ADD A1,B1,A2\nMPY A1,B1,A3\nMPY A3,A3,A4", 5, 4),
     // The branch could go in cycle 1, behind the difference; but both constants take .S1 before it.
     ("L1: SUB A1,1,A1\nMVK 7,A7\nMVK 8,A8\n[A1] B .S1 L1", 8, 7),
+    // The branch waits for A1. Its side is A, as fewer other instructions are there, and the shift wants .S1 in cycle 1.
+    (
+        "L1: MVK 1,A1\nSHL A3,2,A4\nLDW *A4,A5\nADD B1,B2,B3\nADD B1,B2,B4\nADD B1,B2,B5\nADD B1,B2,B6\n[A1] B L1",
+        8,
+        7,
+    ),
+    // The same where its unit is written.
+    (
+        "L1: MVK 1,A1\nSHL A3,2,A4\nLDW *A4,A5\nADD B1,B2,B3\nADD B1,B2,B4\nADD B1,B2,B5\nADD B1,B2,B6\n[A1] B .S1 L1",
+        8,
+        8,
+    ),
 ];
 
 fn place(rt: &impl Abort, board: &mut Board, i: u16) -> Result<Spot, PlaceFault> {

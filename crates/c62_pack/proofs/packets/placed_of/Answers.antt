@@ -1,4 +1,4 @@
-use Rattle.std.proofs.Common.{arith, ◌≡◌, length, ap, ◌∙◌}
+use Rattle.std.proofs.Common.{arith, length, ap, ◌∙◌}
 use Rattle.c62_read.specs.Block.{Serial}
 use Rattle.c62_depend.proofs.Plans.{many_insns}
 use Rattle.c62_pack.proofs.Arranging.{as_many}
