@@ -55,7 +55,7 @@ fn region_of(alloc: Global, blocks: &[Block], counter: Reg) -> Result<Region, Al
         body: insns_at(alloc, blocks, number)?,
         behind: insns_at(alloc, blocks, number.saturating_add(1))?,
         counter,
-        number: number as u8,
+        number: u8::try_from(number).unwrap_or(0),
     })
 }
 

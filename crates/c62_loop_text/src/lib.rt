@@ -1,0 +1,9 @@
+//! Writes the packets of a pipelined loop as a text.
+#![tactic(auto)]
+
+mod writer;
+
+pub use writer::push_loop;
+
+#[cfg(test)]
+mod tests;
