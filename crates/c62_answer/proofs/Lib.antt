@@ -14,6 +14,7 @@ pub mod Telling
 pub mod ReadBack
 pub mod OneBoard
 pub mod OneText
+mod PackedSame
 mod AdoptedBack
 mod LateMessage
 mod AdoptedRun

@@ -8,6 +8,7 @@ pub mod Check
 pub mod Run
 pub mod ReadBack
 pub mod OneText
+pub mod PackedSame
 pub mod AdoptedBack
 pub mod AdoptedRun
 pub mod Bounds

@@ -3,7 +3,7 @@ use Rattle.std.specs.Prelude.{◌≡◌, ◌≢◌, ℕ, ◌≤◌, Bool, true, 
 use Rattle.std.specs.Option.{IsSomeAnd}
 use Rattle.c62_read.specs.Block.{Serial}
 use Rattle.c62_depend.specs.Plan.{insns_of}
-use Rattle.c62_sheet.specs.Lawful.{Spots, IsLawful}
+use Rattle.c62_sheet.specs.Lawful.{Spots}
 use Rattle.c62_sheet.specs.Least.{IsComplete}
 use Rattle.c62_sheet.specs.Counts.{set_length}
 use Rattle.c62_board.specs.declared.turn.Turn.{Turn}
@@ -15,6 +15,7 @@ use Rattle.c62_packet.specs.declared.placed.Placed.{Placed}
 use Rattle.c62_packet.specs.Packed.{Packed}
 use Rattle.c62_meaning.specs.Laws.{AreSerial}
 use Rattle.c62_pipe.specs.Chain.{IsBlockPacked}
+use Rattle.c62_pack.specs.EitherSide.{IsLawfulOnEitherSide}
 use Rattle.c62_pack.specs.Packets.{ArePackets, ArePlaced}
 use Rattle.c62_show.specs.declared.shown.Shown.{Shown}
 use Rattle.c62_show.specs.declared.limits.Limits.{Limits}
@@ -43,11 +44,11 @@ pub record IsMade (packing : Packing) (block : Serial) (board : BoardState) : Ty
   pub turned : packing.turns ≡ true → IsTurned block packing.budget board
 
 -- Where the instructions of a block stand, of which a board has these spots: there. Where the shortest schedule is asked for, on the
--- spots of any lawful set that places all and takes no more cycles.
+-- spots of any set that places all and takes no more cycles, lawful but that a branch to a block may stand on either side.
 abbrev pub MayStand : (shortest : Bool) → Serial → Spots → Spots → Type 0
 MayStand false block own spots = spots ≡ own
 MayStand true block own spots =
-    IsLawful (insns_of block) spots × IsComplete (insns_of block) spots × (set_length (insns_of block) spots ≤ set_length (insns_of block) own)
+    IsLawfulOnEitherSide (insns_of block) spots × IsComplete (insns_of block) spots × (set_length (insns_of block) spots ≤ set_length (insns_of block) own)
 
 -- The packets of such spots. Run as packets, they do what the block does serially.
 pub record ArePacketsFrom (packing : Packing) (block : Serial) (own : Spots) (packed : Packed) : Type 0 where

@@ -2,11 +2,13 @@
 
 ghost use Rattle.std.specs.Prelude.{ℕ, Bool, List};
 ghost use Rattle.c62_read.specs.Block.{Serial};
+ghost use Rattle.c62_packet.specs.Packed.{Packed};
 ghost use Rattle.c62_command.specs.declared.command.Packing.{Packing};
 ghost use Rattle.c62_answer.specs.ReadBack.{IsReadBack};
 ghost use Rattle.c62_answer.specs.AdoptedBack.{IsAdoptedBack};
 ghost use Rattle.c62_answer.specs.AdoptedRun.{RunsAsItsListing};
 ghost use Rattle.c62_answer.specs.OneText.{HasOneBoard, HaveOnePacking, HasOneText};
+ghost use Rattle.c62_answer.specs.PackedSame.{PacksSchedules};
 ghost use Rattle.c62_answer.specs.Parting.{IsPartedOnce};
 ghost use Rattle.c62_answer.specs.Memory.{AnswersEndWithMemory};
 
@@ -15,6 +17,12 @@ ghost use Rattle.c62_answer.specs.Memory.{AnswersEndWithMemory};
 /// the program that the text says: the same chain, registers and memory, and faults of the same places.
 pub fn what_is_packed_is_read_back()
     ensures { (packing : Packing) (text answer : List ℕ) → IsReadBack packing text answer }
+{}
+
+/// The packets that `pack`, `show` and `run` make of a block, with whichever words, are a schedule of it as `check` asks: the
+/// same instructions, with every distance that a dependence asks kept.
+pub fn what_is_packed_is_a_schedule()
+    ensures { (packing : Packing) (program : List Serial) (packets : List Packed) → PacksSchedules packing program packets }
 {}
 
 /// What `pack` writes, by turns or by two workers, is adopted as itself, drained or not: to the byte, and without a cycle

@@ -2,7 +2,7 @@
 
 ghost use Rattle.std.specs.Thread.{IsSync};
 ghost use Rattle.std.specs.Prelude.{◌≡◌, ◌<◌, ◌≤◌, true, false, length, map, Some, IfOk, IsTrue, OnOk};
-ghost use Rattle.c62_sheet.specs.Lawful.{IsLawful};
+ghost use Rattle.c62_pack.specs.EitherSide.{IsLawfulOnEitherSide};
 ghost use Rattle.c62_sheet.specs.Least.{IsComplete};
 ghost use Rattle.c62_depend.specs.Plan.{insns_of};
 ghost use Rattle.c62_board.specs.State.{IsSound};
@@ -269,7 +269,8 @@ fn whys_told(alloc: Global, board: &Board, cycles: u16, why: bool) -> Result<Vec
     Ok(whys)
 }
 
-/// Why each instruction on lawful spots isn't issued a cycle earlier, where that is asked for.
+/// Why each instruction on lawful spots, a branch to a block on either side, isn't issued a cycle earlier, where that is asked
+/// for.
 fn whys_at(
     alloc: Global,
     plan: &Plan,
@@ -277,7 +278,7 @@ fn whys_at(
     cycles: u16,
     why: bool,
 ) -> Result<Vec<Why>, AllocError>
-    requires { IsLawful (insns_of plan.now) (map Some spots.now) }
+    requires { IsLawfulOnEitherSide (insns_of plan.now) (map Some spots.now) }
     ensures { IfOk result (λ whys. TellsWhys why plan.now (map Some spots.now) cycles whys.items) }
 {
     if why {
