@@ -11,8 +11,7 @@ use Rattle.c62_loop.specs.Whole.{AreApart}
 use Rattle.c62_loop.proofs.Passes.{end_from}
 use Rattle.c62_loop.proofs.Whole.{pipelined_for_all_trips}
 use Rattle.c62_loop_match.specs.Decide.{Decided}
-use Rattle.c62_check_loop.specs.Told.{IsSame}
-use Rattle.c62_check_loop.specs.Laws.{DoesTheSame, SameIsSerial}
+use Rattle.c62_check_loop.specs.Laws.{SameIsSerial}
 
 -- a pass more takes the interval more
 one_pass_more : (loop : Pipelined) (passes : ℕ) → cycles_of loop (suc passes) ≡ cycles_of loop passes + interval loop

@@ -1,5 +1,5 @@
 -- The loop of a block, with the straight instructions around it (docs/CHECK.md, "How it is decided").
-use Rattle.std.specs.Prelude.{◌≡◌, ℕ, ◌-◌, ◌+◌, ◌==◌, ◌&&◌, not, Bool, true, false, List, [], length, slice_get, Option, Some, None, if◌then◌else◌}
+use Rattle.std.specs.Prelude.{◌≡◌, ℕ, ◌-◌, ◌+◌, ◌==◌, ◌&&◌, not, Bool, false, List, [], length, slice_get, Option, Some, None, is_some, if◌then◌else◌}
 use Rattle.c62_op.specs.declared.register.Reg.{Reg}
 use Rattle.c62_op.specs.declared.register.Cond.{Cond as Condition}
 use Rattle.c62_op.specs.declared.operands.Operands.{Operands}
@@ -60,9 +60,10 @@ unlabelled_of (Some block) = unlabelled_in block.label block.insns
 abbrev pub above : List Serial → ℕ → List SerialInsn
 above blocks number = if number == 0 then [] else straight_of (slice_get blocks (number - 1))
 
--- what stands behind it up to the next label: the block below, where it has neither label nor branch
+-- what stands behind it up to the next label: the block below, where it has neither label nor branch. One that leads to another loop
+-- belongs to that.
 abbrev pub below : List Serial → ℕ → List SerialInsn
-below blocks number = unlabelled_of (slice_get blocks (number + 1))
+below blocks number = if is_some (counter_of blocks (number + 2)) then [] else unlabelled_of (slice_get blocks (number + 1))
 
 -- The region is the loop of the block of this number.
 pub record IsRegionOf (blocks : List Serial) (number : ℕ) (region : Region) : Type 0 where

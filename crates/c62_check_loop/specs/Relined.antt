@@ -1,11 +1,7 @@
 -- Rows whose instructions have other lines (docs/CHECK.md, "How it is decided").
-use Rattle.std.specs.Prelude.{◌≡◌, ℕ, List, map}
-use Rattle.c62_packet.specs.declared.placed.Placed.{Placed}
+use Rattle.std.specs.Prelude.{◌≡◌, map}
 use Rattle.c62_flight.specs.Text.{Text, Row}
-
--- the instruction without its line
-abbrev pub unlined : Placed → Placed
-unlined p = record { cycle = p.cycle; insn = p.insn; line = 0; unit = p.unit }
+use Rattle.c62_loop_match.specs.Reading.{unlined}
 
 abbrev pub row_unlined : Row → Row
 row_unlined row = record { insns = map unlined row.insns; idle = row.idle }

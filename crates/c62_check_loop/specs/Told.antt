@@ -5,8 +5,11 @@ use Rattle.c62_read.specs.Block.{Serial}
 use Rattle.c62_flight.specs.Text.{Text}
 use Rattle.c62_loop.specs.Loop.{Region, Pipelined, interval}
 use Rattle.c62_loop_match.specs.Decide.{Decided}
+use Rattle.c62_loop_match.specs.declared.refusal.Refusal.{Refusal}
+use Rattle.c62_loop_match.specs.declared.refusal.Refusal.TheVariants.{Early as TooEarly, Branch as Astray}
+use Rattle.c62_loop_match.specs.Refusal.{Refuses}
 use Rattle.c62_check_loop.specs.declared.verdict.LoopVerdict.{LoopVerdict}
-use Rattle.c62_check_loop.specs.declared.verdict.LoopVerdict.TheVariants.{Same}
+use Rattle.c62_check_loop.specs.declared.verdict.LoopVerdict.TheVariants.{Same, Early, Branch}
 use Rattle.c62_check_loop.specs.Region.{IsRegionOf, counter_of}
 use Rattle.c62_check_loop.specs.Relined.{AreRelined}
 
@@ -20,9 +23,18 @@ pub record IsSame (promised : Insn → Insn → Bool) (region : Region) (packets
   pub cycles_are : cycles ≡ interval loop
   pub decided : Decided promised region loop most
 
+-- Rows of these packets hold the loop, and what they are refused for holds of them.
+pub record TellsWhy (promised : Insn → Insn → Bool) (region : Region) (packets : Text) (refusal : Refusal) : Type 0 where
+  pub loop : Pipelined
+  pub most : ℕ
+  pub text_is : loop.text ≡ packets
+  pub refuses : Refuses promised region loop most refusal
+
 -- what is told of a loop holds
 abbrev pub Tells : (Insn → Insn → Bool) → Region → Text → LoopVerdict → Type 0
 Tells promised region packets (Same trips cycles) = IsSame promised region packets trips cycles
+Tells promised region packets (Early early) = TellsWhy promised region packets (TooEarly early)
+Tells promised region packets (Branch line) = TellsWhy promised region packets (Astray line)
 Tells promised region packets verdict = Unit {0}
 
 -- it is told of each block that ends with a branch to itself under a counter, and of no other

@@ -1,5 +1,7 @@
 //! Which rows are the prolog, the kernel and the epilog of a loop.
 
+use crate::region::{counter_of, is_behind, leads_on};
+use crate::seats::entry_of;
 use c62_insn::{Operands, Reg};
 use c62_loop_match::touches;
 use c62_packet::Placed;
@@ -44,14 +46,10 @@ struct Part {
 impl Part {
     /// The part with an instruction more.
     fn with(self, counter: Reg, label: u8, placed: &Placed) -> Part {
-        let entry = SerialInsn {
-            insn: placed.insn,
-            line: placed.line,
-        };
         let goes_back =
             matches!(placed.insn.operands(), Operands::Block(number) if number == label);
         Part {
-            work: if touches(counter, &entry) {
+            work: if touches(counter, &entry_of(placed)) {
                 self.work
             } else {
                 self.work.saturating_add(1)
@@ -81,17 +79,25 @@ impl Part {
         }
     }
 
-    /// Whether it is a kernel of so much work: its branch takes effect at the end of a pass.
-    fn is_kernel(self, work: usize) -> bool {
+    /// Whether its branch takes effect at the end of a pass.
+    fn goes_round(self) -> bool {
         match self.branch {
-            Some(cycle) => self.work >= work
-                && cycle.saturating_add(6).checked_rem(self.cycles) == Some(0),
+            Some(cycle) => cycle.saturating_add(6).checked_rem(self.cycles) == Some(0),
             None => false,
         }
     }
 }
 
-/// How many rows from this one on are a kernel of so much work.
+/// Whether a row holds a step of the counter or a branch that tests it.
+fn has_control(row: &Row, counter: Reg) -> bool {
+    row.insns
+        .iter()
+        .any(|placed| touches(counter, &entry_of(placed)))
+}
+
+/// How many rows from this one on are a kernel of so much work: the fewest that hold it, with those right behind that hold steps or
+/// branches alone, and behind them as many empty ones as let its branch take effect at the end of a pass. Where none do, it is without
+/// these.
 fn kernel_rows(rows: &Rows, first: u32, counter: Reg, label: u8, work: usize) -> Option<u32> {
     let mut part = Part {
         rows: 0,
@@ -99,13 +105,22 @@ fn kernel_rows(rows: &Rows, first: u32, counter: Reg, label: u8, work: usize) ->
         work: 0,
         branch: None,
     };
+    let mut least = None;
     for row in rows.rows.get(first as usize..)? {
-        part = part.with_row(counter, label, row);
-        if part.is_kernel(work) {
-            return Some(part.rows);
+        let next = part.with_row(counter, label, row);
+        if least.is_some() && (work < next.work || part.goes_round() && row.insns.is_empty()) {
+            break;
+        }
+        part = next;
+        if work <= part.work && (least.is_none() || has_control(row, counter)) {
+            least = Some(part.rows);
+        }
+        if least.is_some() && part.goes_round() {
+            least = Some(part.rows);
         }
     }
-    None
+    part.branch?;
+    least
 }
 
 /// The row of a block's label, if the packets have it.
@@ -116,32 +131,136 @@ fn row_of(alloc: Global, read: &RowsText, block: &Block) -> Result<Option<u32>, 
     }
 }
 
-/// The rows of the labels of a program's blocks that are next to a row: the last above it, or 0, and the first from another row on, or
-/// the number of rows.
-fn around(
+/// The row of the last label above a block, and 0 where there is none.
+fn label_above(
     alloc: Global,
     blocks: &[Block],
+    number: usize,
     read: &RowsText,
-    row: u32,
-    from: u32,
-) -> Result<(u32, u32), AllocError> {
-    let mut above = 0;
-    let mut below = u32::try_from(read.rows.rows.len()).unwrap_or(u32::MAX);
-    for block in blocks {
-        if let Some(other) = row_of(alloc, read, block)? {
-            if other < row {
-                above = above.max(other);
-            }
-            if from <= other {
-                below = below.min(other);
-            }
+) -> Result<u32, AllocError> {
+    for block in blocks.iter().take(number).rev() {
+        if let Some(row) = row_of(alloc, read, block)? {
+            return Ok(row);
         }
     }
-    Ok((above, below))
+    Ok(0)
 }
 
-/// The rows of the loop of a block, with so many instructions that are work. `None` where the packets have no such label, or no branch
-/// to it that takes effect at the end of a pass.
+/// Whether an instruction of packets is one of these, on whatever unit.
+fn is_among(entries: &[SerialInsn], placed: &Placed) -> bool {
+    entries
+        .iter()
+        .any(|entry| entry.insn.same_but_for_the_unit(&placed.insn))
+}
+
+/// Whether it is one of a block's, or counts, where the block is a loop under this counter.
+fn is_of(block: &Block, counter: Option<Reg>, placed: &Placed) -> bool {
+    let counts = match counter {
+        Some(counter) => touches(counter, &entry_of(placed)),
+        None => false,
+    };
+    counts || is_among(block.insns(), placed)
+}
+
+/// The instructions of the block above another.
+fn insns_above(blocks: &[Block], number: usize) -> &[SerialInsn] {
+    match number.checked_sub(1).and_then(|above| blocks.get(above)) {
+        Some(block) => block.insns(),
+        None => &[],
+    }
+}
+
+/// The first row, from this one on, that holds an instruction of a block which is none of these above it, or the number of rows.
+fn first_with(
+    block: &Block,
+    counter: Option<Reg>,
+    above: &[SerialInsn],
+    rows: &Rows,
+    from: u32,
+) -> u32 {
+    let mut row = from;
+    for of_row in rows.rows.iter().skip(from as usize) {
+        if of_row.insns.iter().any(|placed| is_of(block, counter, placed)
+            && !is_among(above, placed))
+        {
+            return row;
+        }
+        row = row.saturating_add(1);
+    }
+    row
+}
+
+/// The row with which a block begins: its label's, where it has one that isn't a kernel's. A loop's prolog stands above its label, and
+/// other blocks have none: there it is the first row behind the label above that holds what is this block's and not that above it.
+/// `None` where the packets lack the label.
+fn begin_of(
+    alloc: Global,
+    blocks: &[Block],
+    number: usize,
+    read: &RowsText,
+) -> Result<Option<u32>, AllocError> {
+    let Some(block) = blocks.get(number) else {
+        return Ok(u32::try_from(read.rows.rows.len()).ok());
+    };
+    if number == 0 {
+        return Ok(Some(0));
+    }
+    let counter = counter_of(blocks, number);
+    if block.label().is_some() && counter.is_none() {
+        return row_of(alloc, read, block);
+    }
+    let from = label_above(alloc, blocks, number, read)?;
+    let above = insns_above(blocks, number);
+    Ok(Some(first_with(block, counter, above, &read.rows, from)))
+}
+
+/// The number of the first block of a loop's region: the block above it, where that leads to the loop.
+fn first_block(blocks: &[Block], number: usize) -> usize {
+    match number.checked_sub(1) {
+        Some(above) if leads_on(blocks, above) => above,
+        _ => number,
+    }
+}
+
+/// The number of the block behind a loop's region.
+fn block_behind(blocks: &[Block], number: usize) -> usize {
+    let next = number.saturating_add(1);
+    if is_behind(blocks, next) {
+        next.saturating_add(1)
+    } else {
+        next
+    }
+}
+
+/// The kernel of a loop: its first row, the number of its label, and the row behind it.
+fn kernel_of(
+    alloc: Global,
+    blocks: &[Block],
+    number: usize,
+    read: &RowsText,
+    counter: Reg,
+    work: usize,
+) -> Result<Option<(u32, u8, u32)>, AllocError> {
+    let Some(block) = blocks.get(number) else {
+        return Ok(None);
+    };
+    let Some(kernel) = row_of(alloc, read, block)? else {
+        return Ok(None);
+    };
+    let Some(label) = label_of(&read.rows, kernel) else {
+        return Ok(None);
+    };
+    let Some(count) = kernel_rows(&read.rows, kernel, counter, label, work) else {
+        return Ok(None);
+    };
+    match kernel.checked_add(count) {
+        Some(epilog) => Ok(Some((kernel, label, epilog))),
+        None => Ok(None),
+    }
+}
+
+/// The rows of the loop of a block, with so many instructions that are work. `None` where the packets lack a label, or have no branch
+/// to the loop's.
 ///
 /// # Errors
 ///
@@ -154,27 +273,22 @@ pub(crate) fn extent_of(
     counter: Reg,
     work: usize,
 ) -> Result<Option<Extent>, AllocError> {
-    let Some(block) = blocks.get(usize::from(number)) else {
+    let number = usize::from(number);
+    let Some((kernel, label, epilog)) = kernel_of(alloc, blocks, number, read, counter, work)?
+    else {
         return Ok(None);
     };
-    let Some(kernel) = row_of(alloc, read, block)? else {
+    let Some(first) = begin_of(alloc, blocks, first_block(blocks, number), read)? else {
         return Ok(None);
     };
-    let Some(label) = label_of(&read.rows, kernel) else {
+    let Some(last) = begin_of(alloc, blocks, block_behind(blocks, number), read)? else {
         return Ok(None);
     };
-    let Some(count) = kernel_rows(&read.rows, kernel, counter, label, work) else {
-        return Ok(None);
-    };
-    let Some(epilog) = kernel.checked_add(count) else {
-        return Ok(None);
-    };
-    let (first, last) = around(alloc, blocks, read, kernel, epilog)?;
     Ok(Some(Extent {
-        first,
+        first: first.min(kernel),
         kernel,
         epilog,
-        last,
+        last: last.max(epilog),
         label,
     }))
 }

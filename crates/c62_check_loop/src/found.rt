@@ -1,12 +1,13 @@
 //! Which instructions of the packets stand for which of the loop.
 
+use crate::copied::copied;
 use crate::extent::Extent;
-use crate::seats::{Seat, Seats, seats_of, take_all, take_first, take_last};
+use crate::seats::{Lines, Seat, Seats, entry_of, seats_of, take_all, take_first, take_last};
 use c62_insn::Reg;
 use c62_loop_match::{Control, Pipelined, Region, Schedule, Stage, touches};
 use c62_packet::Placed;
 use c62_read::SerialInsn;
-use c62_rows::{Row, Rows};
+use c62_rows::Rows;
 use std::alloc::{AllocError, Global};
 
 /// What stands where.
@@ -31,28 +32,6 @@ pub(crate) enum Found {
     Uneven(u32),
     /// A cycle or a number of iterations is too great.
     TooLong,
-}
-
-fn entry_of(placed: &Placed) -> SerialInsn {
-    SerialInsn {
-        insn: placed.insn,
-        line: placed.line,
-    }
-}
-
-/// The rows again.
-fn copied(alloc: Global, rows: &Rows) -> Result<Rows, AllocError> {
-    let mut copies = Vec::with_capacity(alloc, rows.rows.len())?;
-    for row in &rows.rows {
-        copies.push(Row {
-            insns: Vec::from_slice(alloc, &row.insns)?,
-            idle: row.idle,
-        })?;
-    }
-    Ok(Rows {
-        rows: copies,
-        aims: Vec::from_slice(alloc, &rows.aims)?,
-    })
 }
 
 /// The line of the first that is free and no control.
@@ -88,12 +67,18 @@ fn control_in(alloc: Global, seats: &[Seat], counter: Reg) -> Result<Vec<Placed>
 #[derive(Drop)]
 struct Parts {
     rows: Rows,
+    lines: Lines,
     prolog: Seats,
     kernel: Seats,
     epilog: Seats,
 }
 
-fn parts_of(alloc: Global, rows: &Rows, extent: Extent) -> Result<Option<Parts>, AllocError> {
+fn parts_of(
+    alloc: Global,
+    rows: &Rows,
+    extent: Extent,
+    lines: Lines,
+) -> Result<Option<Parts>, AllocError> {
     let Some(prolog) = seats_of(alloc, rows, extent.first, extent.kernel, 0)? else {
         return Ok(None);
     };
@@ -105,6 +90,7 @@ fn parts_of(alloc: Global, rows: &Rows, extent: Extent) -> Result<Option<Parts>,
     };
     Ok(Some(Parts {
         rows: copied(alloc, rows)?,
+        lines,
         prolog,
         kernel,
         epilog,
@@ -121,7 +107,7 @@ fn take_before(
     let mut before = Vec::new(alloc);
     for entry in entries {
         if !touches(counter, entry) {
-            match take_first(&mut parts.prolog.seats, &mut parts.rows, entry) {
+            match take_first(&mut parts.prolog.seats, &mut parts.rows, entry, parts.lines) {
                 Some(placed) => before.push(placed)?,
                 None => return Ok(Err(entry.line)),
             }
@@ -140,7 +126,7 @@ fn take_behind(
     let mut behind = Vec::new(alloc);
     for entry in entries.iter().rev() {
         if !touches(counter, entry) {
-            match take_last(&mut parts.epilog.seats, &mut parts.rows, entry) {
+            match take_last(&mut parts.epilog.seats, &mut parts.rows, entry, parts.lines) {
                 Some(placed) => behind.insert(0, placed)?,
                 None => return Ok(Err(entry.line)),
             }
@@ -159,11 +145,28 @@ fn take_stages(
     let mut stages = Vec::new(alloc);
     for entry in entries {
         if !touches(counter, entry) {
-            let Some(kernel) = take_first(&mut parts.kernel.seats, &mut parts.rows, entry) else {
+            let Some(kernel) = take_first(
+                &mut parts.kernel.seats,
+                &mut parts.rows,
+                entry,
+                parts.lines,
+            ) else {
                 return Ok(Err(entry.line));
             };
-            let early = take_all(alloc, &mut parts.prolog.seats, &mut parts.rows, entry)?;
-            let late = take_all(alloc, &mut parts.epilog.seats, &mut parts.rows, entry)?;
+            let early = take_all(
+                alloc,
+                &mut parts.prolog.seats,
+                &mut parts.rows,
+                entry,
+                parts.lines,
+            )?;
+            let late = take_all(
+                alloc,
+                &mut parts.epilog.seats,
+                &mut parts.rows,
+                entry,
+                parts.lines,
+            )?;
             stages.push(Stage {
                 early,
                 kernel,
@@ -257,8 +260,9 @@ pub(crate) fn find(
     region: &Region,
     rows: &Rows,
     extent: Extent,
+    lines: Lines,
 ) -> Result<Found, AllocError> {
-    let Some(mut parts) = parts_of(alloc, rows, extent)? else {
+    let Some(mut parts) = parts_of(alloc, rows, extent, lines)? else {
         return Ok(Found::TooLong);
     };
     let before = match take_before(alloc, &mut parts, region.counter, &region.before)? {

@@ -1,6 +1,7 @@
 //! Finds the loops of a serial text again in software pipelined packets, and says whether these do the same.
 #![tactic(auto)]
 
+mod copied;
 mod extent;
 mod found;
 pub mod laws;
@@ -13,5 +14,9 @@ mod verdict;
 pub use lines::push_loop;
 pub use verdict::{LoopVerdict, check_loop};
 
+#[cfg(test)]
+mod refused_tests;
+#[cfg(test)]
+mod several_tests;
 #[cfg(test)]
 mod tests;

@@ -12,13 +12,12 @@ use c62_read::{Block, SerialInsn};
 use std::alloc::{AllocError, Global};
 
 /// The register that a branch to the block of this number tests, where it goes while that isn't 0.
-fn tested(number: u8, insn: Insn) -> Option<Reg>
+fn tested(number: usize, insn: Insn) -> Option<Reg>
     ensures { result ≡ tested number (operands_of insn) (cond_of insn) }
 {
     match (insn.operands(), insn.cond()) {
-        (Operands::Block(target), Some(cond)) if target == number && !cond.negated => Some(
-            cond.reg,
-        ),
+        (Operands::Block(target), Some(cond)) if usize::from(target) == number && !cond.negated =>
+            Some(cond.reg),
         _ => None,
     }
 }
@@ -31,10 +30,10 @@ fn last_of(insns: &[SerialInsn]) -> Option<SerialInsn>
 
 /// The register that the last instruction of a block tests, where that is a branch to the block itself which goes while the register
 /// isn't 0.
-fn counter_of(blocks: &[Block], number: u8) -> Option<Reg>
+pub(crate) fn counter_of(blocks: &[Block], number: usize) -> Option<Reg>
     ensures { result ≡ counter_of blocks.now number }
 {
-    let block = blocks.get(usize::from(number))?;
+    let block = blocks.get(number)?;
     tested(number, last_of(block.insns())?.insn)
 }
 
@@ -94,13 +93,34 @@ fn unlabelled_in(alloc: Global, block: &Block) -> Result<Vec<SerialInsn>, AllocE
     }
 }
 
-/// Those below a loop's block, up to the next label.
+/// Those below a loop's block, up to the next label, where they don't lead to another loop.
 fn below(alloc: Global, blocks: &[Block], number: u8) -> Result<Vec<SerialInsn>, AllocError>
     ensures { IfOk result (λ straight. straight.items ≡ below blocks.now number) }
 {
+    if counter_of(blocks, usize::from(number) + 2).is_some() {
+        return Ok(Vec::new(alloc));
+    }
     match blocks.get(usize::from(number) + 1) {
         Some(block) => unlabelled_in(alloc, block),
         None => Ok(Vec::new(alloc)),
+    }
+}
+
+/// Whether the block of this number is there, and leads to the next one.
+pub(crate) fn leads_on(blocks: &[Block], number: usize) -> bool {
+    match blocks.get(number) {
+        Some(block) => !ends_with_branch(block.insns()),
+        None => false,
+    }
+}
+
+/// Whether the block of this number belongs to the loop above it.
+pub(crate) fn is_behind(blocks: &[Block], number: usize) -> bool {
+    match blocks.get(number) {
+        Some(block) => block.label().is_none()
+            && !ends_with_branch(block.insns())
+            && counter_of(blocks, number.saturating_add(1)).is_none(),
+        None => false,
     }
 }
 
@@ -117,7 +137,7 @@ pub(crate) fn region_of(
 ) -> Result<Option<Region>, AllocError>
     ensures { IfOk result (FindsRegion blocks.now number) }
 {
-    let Some(counter) = counter_of(blocks, number) else {
+    let Some(counter) = counter_of(blocks, usize::from(number)) else {
         return Ok(None);
     };
     let Some(block) = blocks.get(usize::from(number)) else {

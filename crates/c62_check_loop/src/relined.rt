@@ -3,7 +3,8 @@
 ghost use Rattle.std.specs.Prelude.{◌≡◌, map};
 ghost use Rattle.std.specs.Bool.{OnTrue};
 ghost use Rattle.c62_rows.specs.Rows.{row_read, text_of};
-ghost use Rattle.c62_check_loop.specs.Relined.{unlined, row_unlined, AreRelined};
+ghost use Rattle.c62_loop_match.specs.Reading.{unlined};
+ghost use Rattle.c62_check_loop.specs.Relined.{row_unlined, AreRelined};
 
 use c62_packet::Placed;
 use c62_rows::{Row, Rows};

@@ -28,6 +28,14 @@ pub(crate) struct Seats {
     pub end: u16,
 }
 
+/// The instruction without its place.
+pub(crate) fn entry_of(placed: &Placed) -> SerialInsn {
+    SerialInsn {
+        insn: placed.insn,
+        line: placed.line,
+    }
+}
+
 /// The instructions of so many rows, the first begun in a cycle. `None` where the text has fewer or a cycle is too great.
 ///
 /// # Errors
@@ -77,12 +85,30 @@ fn set_line(rows: &mut Rows, seat: &Seat, line: u32) {
     }
 }
 
-/// Takes the instruction of this number for one of the serial text, whose line it gets.
-fn take(seats: &mut [Seat], rows: &mut Rows, number: usize, entry: &SerialInsn) -> Option<Placed> {
+/// Whose lines the instructions of packets have that are taken for some of the serial text.
+#[derive(Clone, Copy)]
+pub(crate) enum Lines {
+    OfText,
+    OfPackets,
+}
+
+/// Takes the instruction of this number for one of the serial text.
+fn take(
+    seats: &mut [Seat],
+    rows: &mut Rows,
+    number: usize,
+    entry: &SerialInsn,
+    lines: Lines,
+) -> Option<Placed> {
     let seat = seats.get_mut(number)?;
     seat.taken = true;
-    seat.placed.line = entry.line;
-    set_line(rows, seat, entry.line);
+    match lines {
+        Lines::OfText => {
+            seat.placed.line = entry.line;
+            set_line(rows, seat, entry.line);
+        }
+        Lines::OfPackets => {}
+    }
     Some(seat.placed)
 }
 
@@ -108,15 +134,21 @@ pub(crate) fn take_first(
     seats: &mut [Seat],
     rows: &mut Rows,
     entry: &SerialInsn,
+    lines: Lines,
 ) -> Option<Placed> {
     let number = first_free(seats, entry.insn)?;
-    take(seats, rows, number, entry)
+    take(seats, rows, number, entry, lines)
 }
 
 /// Takes the last.
-pub(crate) fn take_last(seats: &mut [Seat], rows: &mut Rows, entry: &SerialInsn) -> Option<Placed> {
+pub(crate) fn take_last(
+    seats: &mut [Seat],
+    rows: &mut Rows,
+    entry: &SerialInsn,
+    lines: Lines,
+) -> Option<Placed> {
     let number = last_free(seats, entry.insn)?;
-    take(seats, rows, number, entry)
+    take(seats, rows, number, entry, lines)
 }
 
 /// Takes all that are this instruction, in the order of their cycles.
@@ -129,10 +161,11 @@ pub(crate) fn take_all(
     seats: &mut [Seat],
     rows: &mut Rows,
     entry: &SerialInsn,
+    lines: Lines,
 ) -> Result<Vec<Placed>, AllocError> {
     let mut all = Vec::new(alloc);
     for _seat in 0..seats.len() {
-        match take_first(seats, rows, entry) {
+        match take_first(seats, rows, entry, lines) {
             Some(placed) => all.push(placed)?,
             None => return Ok(all),
         }

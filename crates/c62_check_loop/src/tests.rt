@@ -80,13 +80,13 @@ const UNCOUNTED: &str = "L: LDW .D1 *A4++,A2\n ADD .L1 A2,A3,A3\n SUB .S1 A1,1,A
 const BY_TWO: &str = "L: LDW .D1 *A4++,A2\n ADD .L1 A2,A3,A3\n SUB .S1 A1,2,A1\n [A1] B .S2 L\n";
 
 /// A text, packets, and what is told.
-struct Row {
-    text: &'static str,
+pub(crate) struct Row {
+    pub text: &'static str,
     /// How often each stands behind the one before.
-    packets: &'static [(usize, &'static str)],
+    pub packets: &'static [(usize, &'static str)],
     /// The registers of the promise.
-    apart: &'static str,
-    lines: &'static str,
+    pub apart: &'static str,
+    pub lines: &'static str,
 }
 
 const SUMS: [Row; 8] = [
@@ -306,7 +306,7 @@ const PRODUCTS: [Row; 5] = [
             (1, " ADD .L1X A7,B7,A4"),
         ],
         apart: "",
-        lines: "loop L outside\n",
+        lines: "loop L early 22 after 6 needs 5 has 4 apart 0\n",
     },
     // Loads and stores that may meet,
     Row {
@@ -330,7 +330,7 @@ const PRODUCTS: [Row; 5] = [
             (2, " STW .D2T2 B3,*B4++"),
         ],
         apart: "",
-        lines: "loop L outside\n",
+        lines: "loop L early 5 after 27 needs 1 has -6 apart 1\n",
     },
     // and that are promised not to.
     Row {
@@ -422,7 +422,7 @@ const COUNTERS: [Row; 2] = [
 ];
 
 /// Whether each row is told so.
-fn are_told(rt: &impl Abort, alloc: Global, rows: &[Row]) -> Result<(), Fail> {
+pub(crate) fn are_told(rt: &impl Abort, alloc: Global, rows: &[Row]) -> Result<(), Fail> {
     for row in rows {
         let packets = laid(alloc, row.packets)?;
         let lines = told(alloc, row.text, &packets, row.apart)?;

@@ -5,13 +5,17 @@ ghost use Rattle.std.specs.Bool.{OnTrue};
 ghost use Rattle.c62_rows.specs.Rows.{text_of};
 ghost use Rattle.c62_loop_match.specs.Parts.{region_of as region_read};
 ghost use Rattle.c62_loop_match.specs.Promise.{promises};
-ghost use Rattle.c62_check_loop.specs.Told.{IsSame, Tells, IsTold};
+ghost use Rattle.c62_check_loop.specs.Told.{IsSame, Tells, TellsWhy, IsTold};
 
-use crate::extent::extent_of;
+use crate::copied::copied;
+use crate::extent::{Extent, extent_of};
 use crate::found::{Found, Match, find};
 use crate::region::region_of;
 use crate::relined::are_relined;
-use c62_loop_match::{Promise, Region, decide, is_counted_loop, touches};
+use crate::seats::Lines;
+use c62_loop_match::{
+    Early, Pipelined, Promise, Refusal, Region, decide, is_counted_loop, refusal_of, touches,
+};
 use c62_read::Block;
 use c62_rows::{Rows, RowsText};
 use std::alloc::{AllocError, Global};
@@ -29,7 +33,11 @@ pub enum LoopVerdict {
     Uneven(u32),
     /// The block of this line of the text doesn't count down to its branch.
     Counter(u32),
-    /// What is found is not enough to say so: distances, or steps and branches, are others.
+    /// An instance of them comes too early behind another one.
+    Early(Early),
+    /// The branch on this line of the packets takes effect at the end of no pass.
+    Branch(u32),
+    /// What is found is not enough to say any of this.
     Outside,
 }
 
@@ -75,11 +83,61 @@ fn is_same(
     )
 }
 
+/// Why packets don't pipeline the loop of which this is found in their rows, under lines of theirs.
+fn refused_as(
+    alloc: Global,
+    region: &Region,
+    rows: &Rows,
+    found: &Match,
+    promise: Promise,
+) -> Result<Refusal, AllocError>
+    ensures { IfOk result (TellsWhy (promises promise) (region_read region.now) (text_of rows.now)) }
+{
+    let pipelined = Pipelined {
+        rows: copied(alloc, rows)?,
+        first: found.pipelined.first,
+        prolog: found.pipelined.prolog,
+        kernel: found.pipelined.kernel,
+        epilog: found.pipelined.epilog,
+        label: found.pipelined.label,
+    };
+    refusal_of(
+        alloc,
+        region,
+        &pipelined,
+        &found.schedule,
+        &found.control,
+        promise,
+        found.most,
+    )
+}
+
+/// What is told of packets that don't pipeline a loop.
+fn refused(
+    alloc: Global,
+    region: &Region,
+    rows: &Rows,
+    extent: Extent,
+    promise: Promise,
+) -> Result<LoopVerdict, AllocError>
+    ensures { IfOk result (Tells (promises promise) (region_read region.now) (text_of rows.now)) }
+{
+    let Found::Whole(found) = find(alloc, region, rows, extent, Lines::OfPackets)? else {
+        return Ok(LoopVerdict::Outside);
+    };
+    match refused_as(alloc, region, rows, &found, promise)? {
+        Refusal::Early(early) => Ok(LoopVerdict::Early(early)),
+        Refusal::Branch(line) => Ok(LoopVerdict::Branch(line)),
+        Refusal::Other => Ok(LoopVerdict::Outside),
+    }
+}
+
 /// What is told of a match.
 fn judged(
     alloc: Global,
     region: &Region,
     rows: &Rows,
+    extent: Extent,
     found: &Match,
     promise: Promise,
 ) -> Result<LoopVerdict, AllocError>
@@ -92,7 +150,7 @@ fn judged(
         });
     }
     if is_counted_loop(region) {
-        Ok(LoopVerdict::Outside)
+        refused(alloc, region, rows, extent, promise)
     } else {
         Ok(LoopVerdict::Counter(last_line(region)))
     }
@@ -112,8 +170,8 @@ fn told(
     let Some(extent) = extent_of(alloc, blocks, region.number, read, region.counter, work)? else {
         return Ok(LoopVerdict::Outside);
     };
-    match find(alloc, region, &read.rows, extent)? {
-        Found::Whole(found) => judged(alloc, region, &read.rows, &found, promise),
+    match find(alloc, region, &read.rows, extent, Lines::OfText)? {
+        Found::Whole(found) => judged(alloc, region, &read.rows, extent, &found, promise),
         Found::Missing(line) => Ok(LoopVerdict::Missing(line)),
         Found::Extra(line) => Ok(LoopVerdict::Extra(line)),
         Found::Uneven(line) => Ok(LoopVerdict::Uneven(line)),

@@ -1,38 +1,34 @@
 -- The parts of what is asked of packets, put together.
-use Rattle.std.proofs.Common.{◌≡◌, ℕ, zero, suc, ◌+◌, ◌<◌, ◌≤◌, Bool, List, [], ◌∷◌, ◌++◌, length, map, take, get_or, refl, sym, ◌∙◌, ap, subst, inl, inr, arith}
-use Rattle.std.specs.Prelude.{◌↔◌, All, Contains, Result, Ok, Err, IfOk}
+use Rattle.std.proofs.Common.{◌≡◌, ℕ, suc, ◌+◌, ◌<◌, ◌≤◌, Bool, List, [], ◌∷◌, ◌++◌, length, map, take, get_or, refl, sym, ◌∙◌, ap, subst, inl, inr, arith}
+use Rattle.std.specs.Prelude.{Result, Ok, Err, IfOk}
 use Rattle.std.specs.declared.alloc.AllocError.{AllocError}
 use Rattle.std.specs.Bool.{OnTrue}
 use Rattle.std.proofs.lemmas.Bool.{OnTrue_at, OnTrue_from}
 use Rattle.std.specs.List.{flat_map}
 use Rattle.std.proofs.Math.Seq.{take-suc}
-use Rattle.std.proofs.lemmas.List.{append_assoc, append-nil, flat_map_more}
+use Rattle.std.proofs.lemmas.List.{append-nil, flat_map_more}
 use Rattle.std.proofs.lemmas.Grind.{flat_map-append}
 use Rattle.std.proofs.lemmas.List.Folds.{flat_map-map}
 use Rattle.c62_insn.specs.declared.insn.Insn.{Insn}
-use Rattle.c62_read.specs.declared.block.SerialInsn.{SerialInsn}
 use Rattle.c62_rules.specs.Length.{landing_end}
 use Rattle.c62_packet.specs.declared.placed.Placed.{Placed}
 use Rattle.c62_packet.specs.Packed.{issue_of, AreDrained}
 use Rattle.c62_meaning.proofs.Lookup.{In, In-append_cases}
-use Rattle.c62_flight.specs.Text.{Text}
 use Rattle.c62_flight.specs.Issued.{Visit, issued_in, issued_on}
 use Rattle.c62_flight.specs.Laid.{straight, straight_end}
 use Rattle.c62_loop.specs.Counter.{work_of}
 use Rattle.c62_loop.specs.Loop.{Region, Pipelined, kernel_row, epilog_row, prolog_cycles, interval, pass_start, visits_of, cycles_of}
-use Rattle.c62_loop.specs.Stage.{Stage, Schedule, Straights, KeepDistances, placed_of}
-use Rattle.c62_loop.specs.Whole.{Control, IsSteering, IsPipelining, StandFor, AreStagesOf, insns_in, work_insns}
+use Rattle.c62_loop.specs.Stage.{Stage, Schedule}
+use Rattle.c62_loop.specs.Whole.{Control, IsSteering, IsPipelining, StandFor, AreStagesOf}
 use Rattle.c62_loop.proofs.Apart.{In-All}
 use Rattle.c62_loop.proofs.Turning.{all_in}
 use Rattle.c62_loop.proofs.Passes.{end_from}
 use Rattle.c62_loop_match.specs.declared.parts.Stage.{Stage as StageRead}
-use Rattle.c62_loop_match.specs.declared.layout.Laid.{Laid}
 use Rattle.c62_loop_match.specs.declared.decision.Layout.{Layout}
 use Rattle.c62_loop_match.specs.declared.decision.Works.{Works}
 use Rattle.c62_loop_match.specs.declared.parts.Schedule.{Schedule as ScheduleRead}
 use Rattle.c62_loop_match.specs.declared.parts.Control.{Control as ControlRead}
 use Rattle.c62_loop_match.specs.Parts.{stage_of, schedule_of, control_of}
-use Rattle.c62_loop_match.specs.Layout.{IsLaidOut}
 use Rattle.c62_loop_match.specs.Members.{AreOneSet}
 use Rattle.c62_loop_match.specs.Decide.{IsLayout, IsWork, HasLanded, Fits, HoldThese, HoldsRows, Keeps}
 
@@ -86,13 +82,13 @@ module _ (loop : Pipelined) (layout : Layout) (laid : IsLayout loop layout) wher
 
   -- ---- what is issued where
 
-  in_prolog : layout.prolog.issued.items ≡ issued_on loop.text (straight loop.text loop.first 0 loop.prolog)
+  pub in_prolog : layout.prolog.issued.items ≡ issued_on loop.text (straight loop.text loop.first 0 loop.prolog)
   in_prolog = laid.prolog.issued
 
-  in_kernel : layout.kernel.issued.items ≡ issued_on loop.text (straight loop.text (kernel_row loop) (prolog_cycles loop) loop.kernel)
+  pub in_kernel : layout.kernel.issued.items ≡ issued_on loop.text (straight loop.text (kernel_row loop) (prolog_cycles loop) loop.kernel)
   in_kernel = laid.kernel.issued ∙ ap (λ n. issued_on loop.text (straight loop.text (kernel_row loop) n loop.kernel)) prolog_is
 
-  in_epilog : layout.epilog.issued.items ≡ issued_on loop.text (straight loop.text (epilog_row loop) (prolog_cycles loop) loop.epilog)
+  pub in_epilog : layout.epilog.issued.items ≡ issued_on loop.text (straight loop.text (epilog_row loop) (prolog_cycles loop) loop.epilog)
   in_epilog = laid.epilog.issued ∙ ap (λ n. issued_on loop.text (straight loop.text (epilog_row loop) n loop.epilog)) prolog_is
 
   module _ (between : ℕ) (sum : layout.prolog.end + between ≡ layout.kernel.end) where

@@ -1,18 +1,17 @@
 -- What steps and tests do, told by their form.
-use Rattle.std.proofs.Common.{◌≡◌, ℕ, zero, suc, ◌+◌, ◌-◌, ◌<◌, ◌≤◌, ◌%◌, ◌^◌, ℤ, pos, negsuc, Bool, true, false, not, ◌&&◌, ◌||◌, cond, List, [], ◌∷◌, ◌++◌, map, Option, Some, None, refl, sym, ◌∙◌, ap, subst, ◌⊎◌, inl, inr, ⊎_elim, arith}
-use Rattle.std.specs.Prelude.{◌==◌, int_le, unsigned_abs, Contains, All, option_map, IsTrue, IsFalse}
+use Rattle.std.proofs.Common.{◌≡◌, ℕ, zero, suc, ◌+◌, ◌-◌, ◌<◌, ◌≤◌, ◌%◌, ◌^◌, ℤ, pos, negsuc, Bool, true, false, not, ◌||◌, cond, List, [], ◌∷◌, ◌++◌, map, Option, Some, None, refl, sym, ◌∙◌, ap, subst, inl, inr, arith}
+use Rattle.std.specs.Prelude.{◌==◌, int_le, Contains, All, option_map}
 use Rattle.std.specs.List.{list_any, list_all, zip}
 use Rattle.std.specs.Option.{option_to_list}
-use Rattle.std.proofs.lemmas.Bool.{cond-true, cond-false, or_cases, and_parts, not-true, cases_Bool, cases_lt, eq-eqb, ne_eqb, eqb-true, false≢true}
-use Rattle.std.proofs.lemmas.Bool.Decides.{nat_tests}
-use Rattle.std.proofs.lemmas.Int.{ints, int_rem_euclid_is}
+use Rattle.std.proofs.lemmas.Bool.{cond-true, cond-false, or_cases, and_parts, not-true, eq-eqb, ne_eqb, eqb-true, false≢true}
+use Rattle.std.proofs.lemmas.Int.{ints}
 use Rattle.c62_op.specs.declared.register.Reg.{Reg}
 use Rattle.c62_op.specs.declared.register.Cond.{Cond as Condition}
 use Rattle.c62_op.specs.declared.operands.Op.{Op}
 use Rattle.c62_op.specs.declared.operands.Op.TheVariants.{B as Branch, Add, Sub}
 use Rattle.c62_op.specs.declared.operands.Operands.{Operands}
 use Rattle.c62_op.specs.declared.operands.Operands.TheVariants.{ConstantFirst, ConstantSecond, Block}
-use Rattle.c62_op.specs.Shape.{is_branch, is_load, is_store, reads_of, writes_of}
+use Rattle.c62_op.specs.Shape.{is_load, is_store, reads_of, writes_of}
 use Rattle.c62_op.specs.Takes.{same_reg}
 use Rattle.c62_op.specs.Word.{word as word_of, sum, difference}
 use Rattle.c62_op.proofs.Registers.{same_reg-is, same_reg-refl}
@@ -24,7 +23,7 @@ use Rattle.c62_read.specs.declared.block.SerialInsn.{SerialInsn}
 use Rattle.c62_serial.specs.Effect.{Act, no_act, act_of, loaded}
 use Rattle.c62_packet.specs.declared.placed.Placed.{Placed}
 use Rattle.c62_meaning.proofs.Lookup.{In, In_from_Contains}
-use Rattle.c62_loop.specs.Counter.{constant_in, size_of, steps_on, touches, IsStep, StopsAtZero, IsTest, IsCounted}
+use Rattle.c62_loop.specs.Counter.{constant_in, steps_on, touches, IsStep, StopsAtZero, IsTest, IsCounted}
 use Rattle.c62_loop.specs.Whole.{entry_of, IsControl}
 use Rattle.c62_loop_match.specs.Form.{is_guarded, runs_above_zero, lowers, is_step, stops, goes_to, is_test, counts}
 use Rattle.c62_loop_match.specs.Steering.{is_control}

@@ -4,6 +4,10 @@ pub mod Steps
 pub mod Rows
 pub mod Paths
 pub mod Numbers
+pub mod InParts
 pub mod Pairs
 pub mod Counting
 pub mod Decides
+pub mod Plain
+pub mod Astrays
+pub mod Readings

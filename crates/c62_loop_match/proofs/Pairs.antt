@@ -1,18 +1,16 @@
 -- Distances of pairs, told while going back from the later one.
-use Rattle.std.proofs.Common.{◌≡◌, ℕ, zero, suc, ◌+◌, ◌-◌, ◌*◌, ◌/◌, ◌%◌, ◌<◌, ◌≤◌, ℤ, pos, ◌+ℤ◌, ◌≤ℤ◌, Bool, true, false, not, ◌&&◌, ◌||◌, ltb, cond, List, [], ◌∷◌, ◌++◌, length, map, get_or, Option, Some, None, refl, sym, ◌∙◌, ap, subst, ◌⊎◌, inl, inr, ⊎_elim, arith}
-use Rattle.std.specs.Prelude.{◌==◌, nat_lt, slice_get, option_map, IsTrue, Contains}
-use Rattle.std.specs.List.{list_any}
-use Rattle.std.proofs.lemmas.Bool.{cases_Bool, cases_lt, and_parts, or_cases, or_left, or_right, false≢true, not-true, lt-ltb, ltb-true}
+use Rattle.std.proofs.Common.{◌≡◌, ℕ, zero, suc, ◌+◌, ◌-◌, ◌*◌, ◌<◌, ◌≤◌, ℤ, pos, ◌+ℤ◌, ◌≤ℤ◌, Bool, true, false, not, ◌&&◌, ◌||◌, cond, List, ◌++◌, length, map, get_or, Option, Some, None, refl, sym, ◌∙◌, ap, subst, ◌⊎◌, inl, inr, ⊎_elim, arith}
+use Rattle.std.specs.Prelude.{nat_lt, slice_get, option_map, MatchOption}
+use Rattle.std.proofs.lemmas.Bool.{cases_lt, and_parts, ltb-true}
 use Rattle.std.proofs.lemmas.Bool.Decides.{nat_tests}
 use Rattle.std.proofs.lemmas.Int.{ints}
 use Rattle.std.proofs.lemmas.Option.{same_Some, slice_get_within, slice_get-map}
-use Rattle.std.proofs.Math.Nat.{mul-le-mul_left, mul_comm, div-add-mod}
 use Rattle.c62_op.specs.declared.register.Reg.{Reg}
 use Rattle.c62_op.specs.declared.register.Cond.{Cond as Condition}
 use Rattle.c62_op.specs.Shape.{is_load, is_store}
 use Rattle.c62_insn.specs.declared.insn.Insn.{Insn}
-use Rattle.c62_insn.specs.Insn.{op_of, operands_of, cond_of, reads_register}
-use Rattle.c62_rules.specs.Dependence.{IsBound, Bounds, are_opposite, are_exclusive, are_apart, are_disjoint, exclusive_by, condition_in, disjoint_by, writes_in, is_written_by, range_of, range_in}
+use Rattle.c62_insn.specs.Insn.{op_of, cond_of, reads_register}
+use Rattle.c62_rules.specs.Dependence.{IsBound, are_opposite, are_exclusive, are_apart, are_disjoint, exclusive_by, condition_in, disjoint_by, writes_in, is_written_by, range_in}
 use Rattle.c62_rules.specs.Dependence.IsBound.{ReadAfterWrite, WriteAfterRead, WriteAfterWrite, AfterStore, StoreAfterLoad, BeforeBranch}
 use Rattle.c62_pair.specs.declared.uses.Uses.{Uses}
 use Rattle.c62_pair.specs.declared.reg_set.RegSet.{RegSet}
@@ -29,12 +27,18 @@ use Rattle.c62_depend.proofs.Greatest.{IsGreatest}
 use Rattle.c62_depend.proofs.Common.{same_reg-refl}
 use Rattle.c62_op.specs.Takes.{same_reg}
 use Rattle.c62_packet.specs.declared.placed.Placed.{Placed}
-use Rattle.c62_loop.specs.Stage.{Straights, AreParted, begin_of, insns_of, rounds_with, KeepDistances}
-use Rattle.c62_meaning.specs.Instances.{IsOfMemory, IsOfData, DataBounds}
+use Rattle.c62_loop.specs.Stage.{Straights, insns_of, rounds_with, KeepDistances}
+use Rattle.c62_meaning.specs.Instances.{IsOfMemory, IsOfData}
 use Rattle.std.proofs.lemmas.List.{length-append, length-map, get_or_default}
 use Rattle.c62_loop_match.specs.declared.path.Work.{Work}
 use Rattle.c62_loop_match.specs.Path.{straights_of}
+use Rattle.c62_loop_match.specs.declared.path.Instance.{Instance}
+use Rattle.c62_loop_match.specs.declared.borders.Borders.{Borders}
+use Rattle.c62_loop_match.specs.declared.early.Early.{Early}
+use Rattle.c62_loop_match.specs.Path.{instance}
 use Rattle.c62_loop_match.specs.Distances.{exclusive_under, disjoint_under, IsKept, KeepsPair, Parts, KeepsParted}
+use Rattle.c62_loop_match.specs.Early.{IsEarlyBy, IsEarlyBehind, ComesEarly}
+use Rattle.c62_loop_match.proofs.InParts.{parts_parted}
 
 -- ---- what is written between
 
@@ -126,19 +130,47 @@ excuses path written i j u v are at_i at_j = (
       ∙ ap (λ o. disjoint_by (insns_in path) i j (range_in o) (range_in (Some v.insn))) (sym at_i) ∙ ap (λ o. disjoint_by (insns_in path) i j (range_in (slice_get (insns_in path) i)) (range_in o)) (sym at_j),
 )
 
--- the latency between two, where this is found of them
-pub pair_kept : (promised : Insn → Insn → Bool) (path : List Uses) (cycles : List ℕ) (start : ℕ) (written : RegSet) (i j : ℕ) (u v : Uses) (c d : ℕ)
-    → AreWritten path written i j → slice_get (insns_in path) i ≡ Some u.insn → slice_get (insns_in path) j ≡ Some v.insn → slice_get cycles i ≡ Some c → slice_get cycles j ≡ Some d
-    → IsKept (latency_of (exclusive_under written (cond_of u.insn) (cond_of v.insn)) (disjoint_under written u.covered v.covered || (nat_lt i start && promised u.insn v.insn)) u.insn v.insn) c d
-    → KeepsPair promised (insns_in path) cycles start i j
-pair_kept promised path cycles start written i j u v c d are at_i at_j at_c at_d found p q e f is_p is_q is_e is_f =
+-- the latency between two, as it is found of them
+latency_same : (promised : Insn → Insn → Bool) (path : List Uses) (from to : ℕ) (written : RegSet) (i j : ℕ) (u v : Uses)
+    → AreWritten path written i j → slice_get (insns_in path) i ≡ Some u.insn → slice_get (insns_in path) j ≡ Some v.insn
+    → latency_of (exclusive_under written (cond_of u.insn) (cond_of v.insn)) (disjoint_under written u.covered v.covered || (nat_lt from to && promised u.insn v.insn)) u.insn v.insn
+    ≡ latency_of (are_exclusive (insns_in path) i j) (are_disjoint (insns_in path) i j || (nat_lt from to && promised u.insn v.insn)) u.insn v.insn
+latency_same promised path from to written i j u v are at_i at_j =
     let told = excuses path written i j u v are at_i at_j in
-    let one = subst (λ x. IsKept (latency_of x (disjoint_under written u.covered v.covered || (nat_lt i start && promised u.insn v.insn)) u.insn v.insn) c d) told.0 found in
-    let two = subst (λ x. IsKept (latency_of (are_exclusive (insns_in path) i j) (x || (nat_lt i start && promised u.insn v.insn)) u.insn v.insn) c d) told.1 one in
-    let three = subst (λ x. IsKept (latency_of (are_exclusive (insns_in path) i j) (are_disjoint (insns_in path) i j || (nat_lt i start && promised x v.insn)) x v.insn) c d) (same_Some u.insn p (sym at_i ∙ is_p)) two in
-    let four = subst (λ x. IsKept (latency_of (are_exclusive (insns_in path) i j) (are_disjoint (insns_in path) i j || (nat_lt i start && promised p x)) p x) c d) (same_Some v.insn q (sym at_j ∙ is_q)) three in
-    let five = subst (λ x. IsKept (latency_of (are_exclusive (insns_in path) i j) (are_disjoint (insns_in path) i j || (nat_lt i start && promised p q)) p q) x d) (same_Some c e (sym at_c ∙ is_e)) four in
-    subst (λ x. IsKept (latency_of (are_exclusive (insns_in path) i j) (are_disjoint (insns_in path) i j || (nat_lt i start && promised p q)) p q) e x) (same_Some d f (sym at_d ∙ is_f)) five
+    ap (λ x. latency_of x (disjoint_under written u.covered v.covered || (nat_lt from to && promised u.insn v.insn)) u.insn v.insn) told.0
+    ∙ ap (λ x. latency_of (are_exclusive (insns_in path) i j) (x || (nat_lt from to && promised u.insn v.insn)) u.insn v.insn) told.1
+
+-- two that are as far apart are kept
+pub pair_kept : (promised : Insn → Insn → Bool) (path : List Uses) (instances : List Instance) (from to i j : ℕ) (u v : Uses) (x y : Instance)
+    → slice_get (insns_in path) i ≡ Some u.insn → slice_get (insns_in path) j ≡ Some v.insn → slice_get instances i ≡ Some x → slice_get instances j ≡ Some y
+    → IsKept (latency_of (are_exclusive (insns_in path) i j) (are_disjoint (insns_in path) i j || (nat_lt from to && promised u.insn v.insn)) u.insn v.insn) x.cycle y.cycle
+    → KeepsPair promised (insns_in path) instances from to i j
+pair_kept promised path instances from to i j u v x y at_i at_j at_x at_y found p q a b is_p is_q is_a is_b =
+    let one = subst (λ z. IsKept (latency_of (are_exclusive (insns_in path) i j) (are_disjoint (insns_in path) i j || (nat_lt from to && promised z v.insn)) z v.insn) x.cycle y.cycle) (same_Some u.insn p (sym at_i ∙ is_p)) found in
+    let two = subst (λ z. IsKept (latency_of (are_exclusive (insns_in path) i j) (are_disjoint (insns_in path) i j || (nat_lt from to && promised p z)) p z) x.cycle y.cycle) (same_Some v.insn q (sym at_j ∙ is_q)) one in
+    let three = subst (λ (z : Instance). IsKept (latency_of (are_exclusive (insns_in path) i j) (are_disjoint (insns_in path) i j || (nat_lt from to && promised p q)) p q) z.cycle y.cycle) (same_Some x a (sym at_x ∙ is_a)) two in
+    subst (λ (z : Instance). IsKept (latency_of (are_exclusive (insns_in path) i j) (are_disjoint (insns_in path) i j || (nat_lt from to && promised p q)) p q) a.cycle z.cycle) (same_Some y b (sym at_y ∙ is_b)) three
+
+-- what is told of two is told of both in the path
+pub pair_told : (promised : Insn → Insn → Bool) (path : List Uses) (instances : List Instance) (from to : ℕ) (written : RegSet) (i j : ℕ) (u v : Uses) (x y : Instance) (needed : Option ℤ) (found : Option Early)
+    → AreWritten path written i j → slice_get (insns_in path) i ≡ Some u.insn → slice_get (insns_in path) j ≡ Some v.insn → slice_get instances i ≡ Some x → slice_get instances j ≡ Some y
+    → needed ≡ latency_of (exclusive_under written (cond_of u.insn) (cond_of v.insn)) (disjoint_under written u.covered v.covered || (nat_lt from to && promised u.insn v.insn)) u.insn v.insn
+    → MatchOption found (IsKept needed x.cycle y.cycle) (IsEarlyBy needed x y (to - from))
+    → MatchOption found (KeepsPair promised (insns_in path) instances from to i j) (IsEarlyBehind promised (insns_in path) instances from to i j)
+pair_told promised path instances from to written i j u v x y needed None are at_i at_j at_x at_y is found =
+    pair_kept promised path instances from to i j u v x y at_i at_j at_x at_y
+    (subst (λ o. IsKept o x.cycle y.cycle) (is ∙ latency_same promised path from to written i j u v are at_i at_j) found)
+pair_told promised path instances from to written i j u v x y needed (Some early) are at_i at_j at_x at_y is found = record {
+  p = u.insn;
+  q = v.insn;
+  is_p = at_i;
+  is_q = at_j;
+  first = x;
+  second = y;
+  is_first = at_x;
+  is_second = at_y;
+  by = subst (λ o. IsEarlyBy o x y (to - from) early) (is ∙ latency_same promised path from to written i j u v are at_i at_j) found;
+}
 
 -- ---- bounds
 
@@ -185,65 +217,33 @@ bound_kept exclusive disjoint p q b c d kept by = of_greatest (latency_of exclus
 
 -- so all distances are kept
 pub all_kept : (promised : Insn → Insn → Bool) (straights : Straights) (trips : ℕ) (path : List Insn) (placed : List Placed) → path ≡ insns_of straights trips
-    → ((i j : ℕ) → i < j → j < length path → KeepsParted promised straights trips path (map (λ p. p.cycle) placed) i j) → length placed ≡ length path → KeepDistances promised straights trips placed
+    → ((i j : ℕ) → i < j → j < length path → KeepsParted promised straights trips path (map instance placed) i j) → length placed ≡ length path → KeepDistances promised straights trips placed
 all_kept promised straights trips path placed is keeps count i j p q b at_p at_q asked needed =
     let within : j < length placed = slice_get_within placed j q at_q in
-    let found = keeps i j asked.bounds.before (omega arith) in
+    let found : KeepsParted promised straights trips path (map instance placed) i j = keeps i j asked.bounds.before (omega arith) in
     let first : slice_get path i ≡ Some asked.bounds.first = ap (λ xs. slice_get xs i) is ∙ asked.bounds.is_first in
     let second : slice_get path j ≡ Some asked.bounds.second = ap (λ xs. slice_get xs j) is ∙ asked.bounds.is_second in
-    let kept = found.2 asked.bounds.first asked.bounds.second p.cycle q.cycle first second (cycle_at i p at_p) (cycle_at j q at_q) in
-    bound_kept (are_exclusive path i j) (are_disjoint path i j || (nat_lt i found.0 && promised asked.bounds.first asked.bounds.second)) asked.bounds.first asked.bounds.second b p.cycle q.cycle kept
-    (subst (λ xs. By (are_exclusive xs i j) (are_disjoint xs i j || (nat_lt i found.0 && promised asked.bounds.first asked.bounds.second)) asked.bounds.first asked.bounds.second b) (sym is)
-    (cases_asked (insns_of straights trips) i j (nat_lt i found.0 && promised asked.bounds.first asked.bounds.second) asked.bounds.first asked.bounds.second b asked.bounds.applies asked.of_data
-    (λ memory excused. (let parts = and_parts (nat_lt i found.0) (promised asked.bounds.first asked.bounds.second) excused in needed memory parts.1 (found.1 i (ltb-true i found.0 parts.0))))))
+    let kept = found.keeps asked.bounds.first asked.bounds.second (instance p) (instance q) first second (instance_at i p at_p) (instance_at j q at_q) in
+    bound_kept (are_exclusive path i j) (are_disjoint path i j || (nat_lt found.from found.to && promised asked.bounds.first asked.bounds.second)) asked.bounds.first asked.bounds.second b p.cycle q.cycle kept
+    (subst (λ xs. By (are_exclusive xs i j) (are_disjoint xs i j || (nat_lt found.from found.to && promised asked.bounds.first asked.bounds.second)) asked.bounds.first asked.bounds.second b) (sym is)
+    (cases_asked (insns_of straights trips) i j (nat_lt found.from found.to && promised asked.bounds.first asked.bounds.second) asked.bounds.first asked.bounds.second b asked.bounds.applies asked.of_data
+    (λ memory excused. (let parts = and_parts (nat_lt found.from found.to) (promised asked.bounds.first asked.bounds.second) excused in
+    needed memory parts.1 (parts_parted straights trips i j found.from found.to found.first found.second (ltb-true found.from found.to parts.0))))))
   where
-    cycle_at : (k : ℕ) (x : Placed) → slice_get placed k ≡ Some x → slice_get (map (λ (y : Placed). y.cycle) placed) k ≡ Some x.cycle
-    cycle_at k x at = slice_get-map (λ (y : Placed). y.cycle) placed k ∙ ap (λ o. option_map (λ (y : Placed). y.cycle) o) at
-
--- ---- parts
-
-begins_at : (straights : Straights) (t : ℕ) → begin_of straights t ≡ length straights.before + length straights.body * t
-begins_at straights zero = omega arith
-begins_at straights (suc t) =
-    let rest : begin_of straights t ≡ length straights.before + length straights.body * t = begins_at straights t in
-    let e : begin_of straights t + length straights.body ≡ length straights.before + length straights.body * suc t = omega arith in e
-
--- the part that is last begins behind all iterations
-pub last_parted : (straights : Straights) (trips begin body end j i : ℕ) → Parts straights trips begin body end → end ≤ j → i < end → AreParted straights trips i j
-last_parted straights trips begin body end j i parts behind before =
-    let at : begin_of straights trips ≡ length straights.before + length straights.body * trips = begins_at straights trips in
-    let b : begin ≡ length straights.before = parts.begins in
-    let n : body ≡ length straights.body = parts.block in
-    let times : trips * body ≡ length straights.body * trips = ap (λ k. trips * k) n ∙ mul_comm trips (length straights.body) in
-    let e : end ≡ begin + trips * body = parts.ends in
-    (trips, omega arith, omega arith, omega arith)
-
--- and one in a loop begins an iteration
-pub round_parted : (straights : Straights) (trips begin body end j i : ℕ) → Parts straights trips begin body end → begin ≤ j → j < end → 0 < body → i < j - (j - begin) % body → AreParted straights trips i j
-round_parted straights trips begin body end j i parts after before some first =
-    let t : ℕ = (j - begin) / body in
-    let split : body * ((j - begin) / body) + (j - begin) % body ≡ j - begin = div-add-mod (j - begin) body in
-    let at : begin_of straights ((j - begin) / body) ≡ length straights.before + length straights.body * ((j - begin) / body) = begins_at straights ((j - begin) / body) in
-    let b : begin ≡ length straights.before = parts.begins in
-    let n : body ≡ length straights.body = parts.block in
-    let e : end ≡ begin + trips * body = parts.ends in
-    let times : body * ((j - begin) / body) ≡ length straights.body * ((j - begin) / body) = ap (λ k. k * ((j - begin) / body)) n in
-    let few : (j - begin) / body ≤ trips = ⊎_elim {C = (j - begin) / body ≤ trips} (λ (l : trips < (j - begin) / body). (let le : trips ≤ (j - begin) / body = omega arith in
-    let more : body * trips ≤ body * ((j - begin) / body) = mul-le-mul_left body le in
-    let turn : body * trips ≡ trips * body = mul_comm body trips in absurd (omega arith))) (λ (l : (j - begin) / body ≤ trips). l) (cases_lt trips ((j - begin) / body)) in
-    ((j - begin) / body, few, omega arith, omega arith)
+    instance_at : (k : ℕ) (x : Placed) → slice_get placed k ≡ Some x → slice_get (map instance placed) k ≡ Some (instance x)
+    instance_at k x at = slice_get-map instance placed k ∙ ap (λ o. option_map instance o) at
 
 -- ---- all pairs
 
-pub parted_more : (promised : Insn → Insn → Bool) (path : List Insn) (cycles : List ℕ) (begin body end j start : ℕ)
-    → ((straights : Straights) (trips : ℕ) → Parts straights trips begin body end → (i : ℕ) → i < start → AreParted straights trips i j)
-    → ((i : ℕ) → i < j → KeepsPair promised path cycles start i j)
-    → ((straights : Straights) (trips : ℕ) → Parts straights trips begin body end → (i k : ℕ) → i < k → k < j → KeepsParted promised straights trips path cycles i k)
-    → (straights : Straights) (trips : ℕ) → Parts straights trips begin body end → (i k : ℕ) → i < k → k < j + 1 → KeepsParted promised straights trips path cycles i k
-parted_more promised path cycles begin body end j start parted pairs old straights trips parts i k before within =
-    ⊎_elim {C = KeepsParted promised straights trips path cycles i k} (λ (l : k < j). old straights trips parts i k before l)
+-- all pairs up to one are kept, and so are those of that one
+pub parted_more : (promised : Insn → Insn → Bool) (path : List Insn) (instances : List Instance) (borders : Borders) (j : ℕ)
+    → ((straights : Straights) → Parts straights borders → (i : ℕ) → i < j → KeepsParted promised straights borders.trips path instances i j)
+    → ((straights : Straights) → Parts straights borders → (i k : ℕ) → i < k → k < j → KeepsParted promised straights borders.trips path instances i k)
+    → (straights : Straights) → Parts straights borders → (i k : ℕ) → i < k → k < j + 1 → KeepsParted promised straights borders.trips path instances i k
+parted_more promised path instances borders j pairs old straights parts i k before within =
+    ⊎_elim {C = KeepsParted promised straights borders.trips path instances i k} (λ (l : k < j). old straights parts i k before l)
     (λ (l : j ≤ k). (let s : j ≡ k = omega arith in
-    subst (λ n. KeepsParted promised straights trips path cycles i n) s (start, parted straights trips parts, pairs i (omega arith))))
+    subst (λ n. KeepsParted promised straights borders.trips path instances i n) s (pairs straights parts i (omega arith))))
     (cases_lt k j)
 
 insns_count : (straights : Straights) (trips : ℕ) → length (insns_of straights trips) ≡ length straights.before + (trips * length straights.body + length straights.behind)
@@ -257,25 +257,44 @@ insns_count straights trips = length-append straights.before (rounds_with straig
         let e : suc trips * length body ≡ length body + trips * length body = omega arith in
         omega arith
 
-pub passes_kept : (promised : Insn → Insn → Bool) (work : Work) (trips : ℕ) (path seen : List Uses) (cycles times : List ℕ) (placed : List Placed) (begin body end : ℕ)
-    → insns_in path ≡ insns_of (straights_of work) trips → cycles ≡ map (λ p. p.cycle) placed → seen ≡ path → times ≡ cycles → length cycles ≡ length path
-    → begin ≡ length work.before.items → body ≡ length work.body.items → end ≡ length path - length work.behind.items
-    → ((straights : Straights) (trips : ℕ) → Parts straights trips begin body end → (i j : ℕ) → i < j → j < length seen → KeepsParted promised straights trips (insns_in seen) times i j)
-    → KeepDistances promised (straights_of work) trips placed
-passes_kept promised work trips path seen cycles times placed begin body end is clocked same same_times count b n e keeps =
+-- the borders of a path are those of its instructions
+borders_are : (work : Work) (trips : ℕ) (path : List Uses) (borders : Borders) → insns_in path ≡ insns_of (straights_of work) trips
+    → borders.begin ≡ length work.before.items → borders.body ≡ length work.body.items → borders.end ≡ length path - length work.behind.items → borders.trips ≡ trips
+    → Parts (straights_of work) borders
+borders_are work trips path borders is b n e t =
     let many : length (insns_in path) ≡ length path = length-map path (λ (one : Uses). one.insn) in
-    let few : length placed ≡ length cycles = sym (ap length clocked ∙ length-map placed (λ (p : Placed). p.cycle)) in
     let before : length (insns_in work.before.items) ≡ length work.before.items = length-map work.before.items (λ (one : Uses). one.insn) in
     let block : length (insns_in work.body.items) ≡ length work.body.items = length-map work.body.items (λ (one : Uses). one.insn) in
     let behind : length (insns_in work.behind.items) ≡ length work.behind.items = length-map work.behind.items (λ (one : Uses). one.insn) in
     let whole : length (insns_in path) ≡ length (insns_in work.before.items) + (trips * length (insns_in work.body.items) + length (insns_in work.behind.items)) = ap length is ∙ insns_count (straights_of work) trips in
-    let times_block : trips * body ≡ trips * length (insns_in work.body.items) = ap (λ k. trips * k) (n ∙ sym block) in
-    let parts : Parts (straights_of work) trips begin body end = record { begins = b ∙ sym before; block = n ∙ sym block; ends = omega arith } in
-    let found : (i j : ℕ) → i < j → j < length path → KeepsParted promised (straights_of work) trips (insns_in path) cycles i j
-    = subst (λ xs. (i j : ℕ) → i < j → j < length xs → KeepsParted promised (straights_of work) trips (insns_in xs) cycles i j) same
-    (subst (λ ns. (i j : ℕ) → i < j → j < length seen → KeepsParted promised (straights_of work) trips (insns_in seen) ns i j) same_times (keeps (straights_of work) trips parts)) in
-    all_kept promised (straights_of work) trips (insns_in path) placed is
-    (λ i j l m. subst (λ ns. KeepsParted promised (straights_of work) trips (insns_in path) ns i j) clocked (found i j l (omega arith))) (omega arith)
+    let times_block : borders.trips * borders.body ≡ trips * length (insns_in work.body.items) = ap (λ k. k * borders.body) t ∙ ap (λ k. trips * k) (n ∙ sym block) in
+    record { begins = b ∙ sym before; block = n ∙ sym block; ends = omega arith }
+
+module _ (promised : Insn → Insn → Bool) (work : Work) (trips : ℕ) (path seen : List Uses) (instances times : List Instance) (placed : List Placed) (borders : Borders)
+    (is : insns_in path ≡ insns_of (straights_of work) trips) (placed_are : instances ≡ map instance placed) (same : seen ≡ path) (same_times : times ≡ instances)
+    (count : length instances ≡ length path) (b : borders.begin ≡ length work.before.items) (n : borders.body ≡ length work.body.items)
+    (e : borders.end ≡ length path - length work.behind.items) (t : borders.trips ≡ trips) where
+  parts : Parts (straights_of work) borders
+  parts = borders_are work trips path borders is b n e t
+
+  pub passes_kept : ((straights : Straights) → Parts straights borders → (i j : ℕ) → i < j → j < length seen → KeepsParted promised straights borders.trips (insns_in seen) times i j)
+      → KeepDistances promised (straights_of work) trips placed
+  passes_kept keeps =
+      let many : length (insns_in path) ≡ length path = length-map path (λ (one : Uses). one.insn) in
+      let few : length placed ≡ length instances = sym (ap length placed_are ∙ length-map placed instance) in
+      let found : (i j : ℕ) → i < j → j < length path → KeepsParted promised (straights_of work) trips (insns_in path) instances i j
+      = subst (λ k. (i j : ℕ) → i < j → j < length path → KeepsParted promised (straights_of work) k (insns_in path) instances i j) t
+      (subst (λ xs. (i j : ℕ) → i < j → j < length xs → KeepsParted promised (straights_of work) borders.trips (insns_in xs) instances i j) same
+      (subst (λ ns. (i j : ℕ) → i < j → j < length seen → KeepsParted promised (straights_of work) borders.trips (insns_in seen) ns i j) same_times (keeps (straights_of work) parts))) in
+      all_kept promised (straights_of work) trips (insns_in path) placed is
+      (λ i j l m. subst (λ ns. KeepsParted promised (straights_of work) trips (insns_in path) ns i j) placed_are (found i j l (omega arith))) (omega arith)
+
+  pub passes_early : (early : Early) → ((straights : Straights) → Parts straights borders → ComesEarly promised straights borders.trips (insns_in seen) times early)
+      → ComesEarly promised (straights_of work) trips (insns_of (straights_of work) trips) (map instance placed) early
+  passes_early early comes =
+      subst (λ xs. ComesEarly promised (straights_of work) trips xs (map instance placed) early) (ap insns_in same ∙ is)
+      (subst (λ ns. ComesEarly promised (straights_of work) trips (insns_in seen) ns early) (same_times ∙ placed_are)
+      (subst (λ k. ComesEarly promised (straights_of work) k (insns_in seen) times early) t (comes (straights_of work) parts)))
 
 pub one_later : (P : ℕ → Type 0) (n : ℕ) → P n → ((k : ℕ) → 0 < k → k < n → P k) → (k : ℕ) → 0 < k → k < n + 1 → P k
 one_later P n one old k some high =

@@ -1,17 +1,18 @@
--- Paths of iterations and their cycles, put together from the left.
-use Rattle.std.proofs.Common.{◌≡◌, ℕ, zero, suc, ◌+◌, ◌-◌, ◌*◌, ◌<◌, ◌≤◌, List, [], ◌∷◌, ◌++◌, length, map, get_or, refl, sym, ◌∙◌, ap, arith}
-use Rattle.std.proofs.lemmas.List.{append_assoc, append-nil, map-append}
+-- Paths of iterations and their instances, put together from the left.
+use Rattle.std.proofs.Common.{◌≡◌, ℕ, zero, suc, ◌+◌, ◌-◌, ◌*◌, ◌<◌, ◌≤◌, List, [], ◌∷◌, ◌++◌, map, refl, sym, ◌∙◌, ap, arith}
+use Rattle.std.proofs.lemmas.List.{append_assoc, map-append}
 use Rattle.c62_insn.specs.declared.insn.Insn.{Insn}
 use Rattle.c62_packet.specs.declared.placed.Placed.{Placed}
 use Rattle.c62_meaning.specs.Cut.{moved}
 use Rattle.c62_pair.specs.declared.uses.Uses.{Uses}
 use Rattle.c62_pair.specs.Uses.{insns_in}
-use Rattle.c62_loop.specs.Stage.{Stage, Schedule, Straights, cycles_in, instance_of, round_of, rounds_from, placed_of, rounds_with, insns_of}
+use Rattle.c62_loop.specs.Stage.{cycles_in, instance_of, round_of, rounds_from, placed_of, rounds_with, insns_of}
 use Rattle.c62_loop_match.specs.declared.path.Work.{Work}
 use Rattle.c62_loop_match.specs.declared.parts.Stage.{Stage as StageRead}
 use Rattle.c62_loop_match.specs.declared.parts.Schedule.{Schedule as ScheduleRead}
 use Rattle.c62_loop_match.specs.Parts.{stage_of, schedule_of}
-use Rattle.c62_loop_match.specs.Path.{straights_of}
+use Rattle.c62_loop_match.specs.declared.path.Instance.{Instance}
+use Rattle.c62_loop_match.specs.Path.{straights_of, instance}
 
 -- ---- instructions
 
@@ -46,7 +47,7 @@ module _ (work : Work) (trips : ℕ) where
       ap insns_in e ∙ map-append (λ (one : Uses). one.insn) path work.behind.items
       ∙ ap (λ n. insns_in path ++ rounds_with (insns_in work.body.items) n (insns_in work.behind.items)) (sym left) ∙ built.whole
 
--- ---- cycles
+-- ---- instances
 
 pub cycles_are : (interval passes : ℕ) → cycles_in interval passes ≡ interval * passes
 cycles_are interval zero = omega arith
@@ -60,52 +61,55 @@ map_map : {X Y Z : Type 0} (f : Y → Z) (g : X → Y) (xs : List X) → map f (
 map_map f g [] = refl
 map_map f g (x ∷ xs) = ap (λ ys. f (g x) ∷ ys) (map_map f g xs)
 
-from_zero : (placed : List Placed) → map (λ (p : Placed). 0 + p.cycle) placed ≡ map (λ (p : Placed). p.cycle) placed
+from_zero : (placed : List Placed) → map (λ (p : Placed). instance (moved 0 p)) placed ≡ map instance placed
 from_zero [] = refl
-from_zero (p ∷ placed) = let e : 0 + p.cycle ≡ p.cycle = omega arith in ap (λ n. n ∷ map (λ (q : Placed). 0 + q.cycle) placed) e ∙ ap (λ xs. p.cycle ∷ xs) (from_zero placed)
+from_zero (p ∷ placed) =
+    let at : 0 + p.cycle ≡ p.cycle = omega arith in
+    let e : instance (moved 0 p) ≡ instance p = ap (λ n. instance (record p { cycle = n })) at in
+    ap (λ x. x ∷ map (λ (q : Placed). instance (moved 0 q)) placed) e ∙ ap (λ xs. instance p ∷ xs) (from_zero placed)
 
 module _ (schedule : ScheduleRead) (trips passes : ℕ) where
-  -- what is there, and the cycles of the iterations that are left, are those of the path
-  pub record Counts (number : ℕ) (found : List ℕ) : Type 0 where
-    pub whole : found ++ map (λ p. p.cycle) (rounds_from (schedule_of schedule) passes number (trips - number) (map (moved (cycles_in schedule.interval passes)) schedule.behind.items))
-        ≡ map (λ p. p.cycle) (placed_of (schedule_of schedule) trips passes)
+  -- what is there, and the instances of the iterations that are left, are those of the path
+  pub record Counts (number : ℕ) (found : List Instance) : Type 0 where
+    pub whole : found ++ map instance (rounds_from (schedule_of schedule) passes number (trips - number) (map (moved (cycles_in schedule.interval passes)) schedule.behind.items))
+        ≡ map instance (placed_of (schedule_of schedule) trips passes)
 
-  pub count_begun : (found : List ℕ) → found ≡ map (λ p. 0 + p.cycle) schedule.before.items → Counts 0 found
+  pub count_begun : (found : List Instance) → found ≡ map (λ p. instance (moved 0 p)) schedule.before.items → Counts 0 found
   count_begun found e =
       let all : trips - 0 ≡ trips = omega arith in
       record {
         whole =
-            ap (λ n. found ++ map (λ (p : Placed). p.cycle) (rounds_from (schedule_of schedule) passes 0 n (map (moved (cycles_in schedule.interval passes)) schedule.behind.items))) all
-            ∙ ap (λ xs. xs ++ map (λ (p : Placed). p.cycle) (rounds_from (schedule_of schedule) passes 0 trips (map (moved (cycles_in schedule.interval passes)) schedule.behind.items))) (e ∙ from_zero schedule.before.items)
-            ∙ sym (map-append (λ (p : Placed). p.cycle) schedule.before.items (rounds_from (schedule_of schedule) passes 0 trips (map (moved (cycles_in schedule.interval passes)) schedule.behind.items)));
+            ap (λ n. found ++ map instance (rounds_from (schedule_of schedule) passes 0 n (map (moved (cycles_in schedule.interval passes)) schedule.behind.items))) all
+            ∙ ap (λ xs. xs ++ map instance (rounds_from (schedule_of schedule) passes 0 trips (map (moved (cycles_in schedule.interval passes)) schedule.behind.items))) (e ∙ from_zero schedule.before.items)
+            ∙ sym (map-append instance schedule.before.items (rounds_from (schedule_of schedule) passes 0 trips (map (moved (cycles_in schedule.interval passes)) schedule.behind.items)));
       }
 
-  pub count_more : (number : ℕ) (found next round : List ℕ) → number < trips → next ≡ found ++ round
-      → round ≡ map (λ (stage : StageRead). (instance_of schedule.interval passes number (stage_of stage)).cycle) schedule.stages.items → Counts number found → Counts (number + 1) next
+  pub count_more : (number : ℕ) (found next round : List Instance) → number < trips → next ≡ found ++ round
+      → round ≡ map (λ (stage : StageRead). instance (instance_of schedule.interval passes number (stage_of stage))) schedule.stages.items → Counts number found → Counts (number + 1) next
   count_more number found next round inside e is counted =
       let left : trips - number ≡ suc (trips - (number + 1)) = omega arith in
       let rest : List Placed = rounds_from (schedule_of schedule) passes (number + 1) (trips - (number + 1)) (map (moved (cycles_in schedule.interval passes)) schedule.behind.items) in
-      let same : round ≡ map (λ (p : Placed). p.cycle) (round_of (schedule_of schedule) passes number)
-      = is ∙ sym (ap (map (λ (p : Placed). p.cycle)) (map_map (instance_of schedule.interval passes number) stage_of schedule.stages.items)
-      ∙ map_map (λ (p : Placed). p.cycle) (λ (stage : StageRead). instance_of schedule.interval passes number (stage_of stage)) schedule.stages.items) in
+      let same : round ≡ map instance (round_of (schedule_of schedule) passes number)
+      = is ∙ sym (ap (map instance) (map_map (instance_of schedule.interval passes number) stage_of schedule.stages.items)
+      ∙ map_map instance (λ (stage : StageRead). instance_of schedule.interval passes number (stage_of stage)) schedule.stages.items) in
       let next_is : number + 1 ≡ suc number = omega arith in
       record {
         whole =
-            ap (λ xs. xs ++ map (λ (p : Placed). p.cycle) rest) e ∙ append_assoc found round (map (λ (p : Placed). p.cycle) rest)
-            ∙ ap (λ xs. found ++ (xs ++ map (λ (p : Placed). p.cycle) rest)) same
-            ∙ ap (λ xs. found ++ xs) (sym (map-append (λ (p : Placed). p.cycle) (round_of (schedule_of schedule) passes number) rest))
-            ∙ ap (λ m. found ++ map (λ (p : Placed). p.cycle) (round_of (schedule_of schedule) passes number ++ rounds_from (schedule_of schedule) passes m (trips - (number + 1)) (map (moved (cycles_in schedule.interval passes)) schedule.behind.items))) next_is
-            ∙ ap (λ n. found ++ map (λ (p : Placed). p.cycle) (rounds_from (schedule_of schedule) passes number n (map (moved (cycles_in schedule.interval passes)) schedule.behind.items))) (sym left)
+            ap (λ xs. xs ++ map instance rest) e ∙ append_assoc found round (map instance rest)
+            ∙ ap (λ xs. found ++ (xs ++ map instance rest)) same
+            ∙ ap (λ xs. found ++ xs) (sym (map-append instance (round_of (schedule_of schedule) passes number) rest))
+            ∙ ap (λ m. found ++ map instance (round_of (schedule_of schedule) passes number ++ rounds_from (schedule_of schedule) passes m (trips - (number + 1)) (map (moved (cycles_in schedule.interval passes)) schedule.behind.items))) next_is
+            ∙ ap (λ n. found ++ map instance (rounds_from (schedule_of schedule) passes number n (map (moved (cycles_in schedule.interval passes)) schedule.behind.items))) (sym left)
             ∙ counted.whole;
       }
 
-  pub count_whole : (number : ℕ) (found next behind : List ℕ) → trips ≤ number → next ≡ found ++ behind
-      → behind ≡ map (λ (p : Placed). cycles_in schedule.interval passes + p.cycle) schedule.behind.items → Counts number found
-      → next ≡ map (λ p. p.cycle) (placed_of (schedule_of schedule) trips passes)
+  pub count_whole : (number : ℕ) (found next behind : List Instance) → trips ≤ number → next ≡ found ++ behind
+      → behind ≡ map (λ (p : Placed). instance (moved (cycles_in schedule.interval passes) p)) schedule.behind.items → Counts number found
+      → next ≡ map instance (placed_of (schedule_of schedule) trips passes)
   count_whole number found next behind past e is counted =
       let left : trips - number ≡ 0 = omega arith in
-      let same : behind ≡ map (λ (p : Placed). p.cycle) (map (moved (cycles_in schedule.interval passes)) schedule.behind.items)
-      = is ∙ sym (map_map (λ (p : Placed). p.cycle) (moved (cycles_in schedule.interval passes)) schedule.behind.items) in
+      let same : behind ≡ map instance (map (moved (cycles_in schedule.interval passes)) schedule.behind.items)
+      = is ∙ sym (map_map instance (moved (cycles_in schedule.interval passes)) schedule.behind.items) in
       e ∙ ap (λ xs. found ++ xs) same
-      ∙ ap (λ n. found ++ map (λ (p : Placed). p.cycle) (rounds_from (schedule_of schedule) passes number n (map (moved (cycles_in schedule.interval passes)) schedule.behind.items))) (sym left)
+      ∙ ap (λ n. found ++ map instance (rounds_from (schedule_of schedule) passes number n (map (moved (cycles_in schedule.interval passes)) schedule.behind.items))) (sym left)
       ∙ counted.whole

@@ -1,19 +1,16 @@
 -- Rows, laid out one after the other.
-use Rattle.std.proofs.Common.{◌≡◌, ℕ, zero, suc, ◌+◌, ◌-◌, ◌<◌, ◌≤◌, List, [], ◌∷◌, ◌++◌, length, map, get_or, refl, sym, ◌∙◌, ap, subst, arith}
+use Rattle.std.proofs.Common.{◌≡◌, ℕ, zero, suc, ◌+◌, ◌-◌, ◌<◌, ◌≤◌, List, [], ◌∷◌, ◌++◌, length, map, get_or, refl, sym, ◌∙◌, ap, arith}
 use Rattle.std.specs.Prelude.{All, slice_get, Some}
 use Rattle.std.proofs.lemmas.Option.{slice_get_within, get_or_from_slice_get}
-use Rattle.std.specs.List.{flat_map}
 use Rattle.std.proofs.lemmas.List.{append_assoc, append-nil, length-map}
 use Rattle.c62_packet.specs.declared.placed.Placed.{Placed}
 use Rattle.c62_packet.specs.Packed.{HaveOneBranch}
 use Rattle.c62_flight.specs.Text.{Text, Row, no_row, row_of}
-use Rattle.c62_flight.specs.Issued.{issue_in, issued_in, issued_on}
+use Rattle.c62_flight.specs.Issued.{issue_in, issued_on}
 use Rattle.c62_flight.specs.Laid.{straight, straight_end}
 use Rattle.c62_rows.specs.declared.rows.Row.{Row as RowRead}
 use Rattle.c62_rows.specs.declared.rows.Rows.{Rows as RowsRead}
 use Rattle.c62_rows.specs.Rows.{row_read, text_of}
-use Rattle.c62_loop_match.specs.declared.layout.Laid.{Laid}
-use Rattle.c62_loop_match.specs.Layout.{IsLaidOut}
 
 row_at : (items : List RowRead) (k : ℕ) (d : RowRead) → k < length items → get_or (map row_read items) k no_row ≡ row_read (get_or items k d)
 row_at [] k d l = absurd (omega arith)

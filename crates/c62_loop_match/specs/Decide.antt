@@ -7,9 +7,8 @@ use Rattle.c62_packet.specs.Packed.{AreDrained}
 use Rattle.c62_read.specs.declared.block.SerialInsn.{SerialInsn}
 use Rattle.c62_loop.specs.Counter.{work_of}
 use Rattle.c62_loop.specs.Loop.{Region, Pipelined, IsCountedLoop, IsPipelined, kernel_row, epilog_row}
-use Rattle.c62_loop.specs.Stage.{Schedule, Straights, KeepDistances, placed_of}
+use Rattle.c62_loop.specs.Stage.{Schedule, KeepDistances, placed_of}
 use Rattle.c62_loop.specs.Whole.{Control, IsPipelining, StandFor, AreStagesOf, insns_in}
-use Rattle.c62_loop_match.specs.declared.layout.Laid.{Laid}
 use Rattle.c62_loop_match.specs.declared.decision.Layout.{Layout}
 use Rattle.c62_loop_match.specs.declared.decision.Works.{Works}
 use Rattle.c62_loop_match.specs.Layout.{IsLaidOut}

@@ -1,5 +1,5 @@
 -- Steps of a counter and branches that test it, told by their form (docs/CHECK.md, "Pipelined loops").
-use Rattle.std.specs.Prelude.{ℕ, ℤ, pos, negsuc, int_le, Bool, true, false, ◌==◌, ◌&&◌, not, if◌then◌else◌, Option, Some, None}
+use Rattle.std.specs.Prelude.{ℕ, pos, negsuc, int_le, Bool, true, false, ◌==◌, ◌&&◌, not, if◌then◌else◌, Option, Some, None}
 use Rattle.c62_op.specs.declared.register.Reg.{Reg}
 use Rattle.c62_op.specs.declared.register.Cond.{Cond as Condition}
 use Rattle.c62_op.specs.declared.operands.Op.{Op}

@@ -1,9 +1,6 @@
 -- What rows issue in a run that goes straight through them.
-use Rattle.std.specs.Prelude.{◌≡◌, ℕ, ◌≤◌, List, map, length}
-use Rattle.std.specs.List.Sorted.{IsStrictlyIncreasing}
-use Rattle.c62_op.specs.Units.{index_of}
-use Rattle.c62_packet.specs.declared.placed.Placed.{Placed}
-use Rattle.c62_flight.specs.Text.{Text, Row}
+use Rattle.std.specs.Prelude.{◌≡◌, ℕ}
+use Rattle.c62_flight.specs.Text.{Text}
 use Rattle.c62_flight.specs.Issued.{issued_on}
 use Rattle.c62_flight.specs.Laid.{straight, straight_end}
 use Rattle.c62_loop_match.specs.declared.layout.Laid.{Laid}

@@ -5,6 +5,10 @@ pub mod Promise
 pub mod Layout
 pub mod Path
 pub mod Distances
+pub mod Early
 pub mod Turns
 pub mod Steering
 pub mod Decide
+pub mod Reading
+pub mod Astray
+pub mod Refusal

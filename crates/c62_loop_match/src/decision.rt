@@ -11,7 +11,7 @@ ghost use Rattle.c62_loop_match.specs.Promise.{promises};
 ghost use Rattle.c62_loop_match.specs.Decide.{IsLayout, HoldsWork, HoldsRows, Decided, IsWork};
 
 use crate::counted::{is_counted_loop, work_of};
-use crate::distances::keeps_distances;
+use crate::distances::{Distances, distances_of};
 use crate::layout::{Laid, is_drained, is_pipelined, lay_out};
 use crate::members::are_one_set;
 use crate::parts::{Control, Pipelined, Region, Schedule, Stage};
@@ -25,15 +25,15 @@ use std::alloc::{AllocError, Global};
 
 /// What the rows of prolog, kernel and epilog issue.
 #[derive(Drop)]
-struct Layout {
+pub(crate) struct Layout {
     /// The prolog's, from cycle 0 on.
-    prolog: Laid,
+    pub prolog: Laid,
     /// Those of the kernel's first pass.
-    kernel: Laid,
+    pub kernel: Laid,
     /// The epilog's, where the kernel isn't passed.
-    epilog: Laid,
+    pub epilog: Laid,
     /// The epilog's, where it is passed once.
-    after: Laid,
+    pub after: Laid,
 }
 
 /// What the rows of a loop issue. `None` where the text has fewer, or a cycle is too great.
@@ -41,7 +41,7 @@ struct Layout {
 /// # Errors
 ///
 /// `AllocError` where memory ran out.
-fn layout_of(alloc: Global, pipelined: &Pipelined) -> Result<Option<Layout>, AllocError>
+pub(crate) fn layout_of(alloc: Global, pipelined: &Pipelined) -> Result<Option<Layout>, AllocError>
     ensures { IfOk result (λ found. IfSome found (IsLayout (loop_of pipelined.now))) }
 {
     let rows = &pipelined.rows;
@@ -84,13 +84,13 @@ fn layout_of(alloc: Global, pipelined: &Pipelined) -> Result<Option<Layout>, All
 
 /// The instructions of a region that are work.
 #[derive(Drop)]
-struct Works {
-    before: Vec<SerialInsn>,
-    body: Vec<SerialInsn>,
-    behind: Vec<SerialInsn>,
+pub(crate) struct Works {
+    pub before: Vec<SerialInsn>,
+    pub body: Vec<SerialInsn>,
+    pub behind: Vec<SerialInsn>,
 }
 
-fn works_of(alloc: Global, region: &Region) -> Result<Works, AllocError>
+pub(crate) fn works_of(alloc: Global, region: &Region) -> Result<Works, AllocError>
     ensures { IfOk result (IsWork (region_of region.now)) }
 {
     Ok(Works {
@@ -101,7 +101,7 @@ fn works_of(alloc: Global, region: &Region) -> Result<Works, AllocError>
 }
 
 /// Whether a schedule holds this work, one for one.
-fn holds_work(works: &Works, schedule: &Schedule, most: u8) -> bool
+pub(crate) fn holds_work(works: &Works, schedule: &Schedule, most: u8) -> bool
     ensures { OnTrue result (HoldsWork works.now.before.items works.now.body.items works.now.behind.items (schedule_of schedule.now) most) }
 {
     stand_for(&works.before, &schedule.before)
@@ -177,7 +177,7 @@ fn hold_these(layout: &Layout, prolog: &[Placed], kernel: &[Placed], epilog: &[P
 ghost use Rattle.c62_loop_match.specs.Decide.{HoldThese};
 
 /// Whether the rows hold the schedule and the control, and nothing else.
-fn holds_rows(
+pub(crate) fn holds_rows(
     alloc: Global,
     layout: &Layout,
     schedule: &Schedule,
@@ -203,7 +203,7 @@ fn has_landed(layout: &Layout) -> bool
 ghost use Rattle.c62_loop_match.specs.Decide.{HasLanded};
 
 /// Whether so many cycles lie between two passes.
-fn has_interval(layout: &Layout, schedule: &Schedule) -> bool
+pub(crate) fn has_interval(layout: &Layout, schedule: &Schedule) -> bool
     ensures { OnTrue result (layout.now.prolog.end + schedule.now.interval ≡ layout.now.kernel.end) }
 {
     layout.prolog.end.checked_add(schedule.interval) == Some(layout.kernel.end)
@@ -221,7 +221,7 @@ fn fits(layout: &Layout, works: &Works, schedule: &Schedule, most: u8) -> bool
 ghost use Rattle.c62_loop_match.specs.Decide.{Fits};
 
 /// What the work uses.
-fn uses_in(alloc: Global, works: &Works) -> Result<Work, AllocError>
+pub(crate) fn uses_in(alloc: Global, works: &Works) -> Result<Work, AllocError>
     ensures { IfOk result (λ work. straights_of work ≡ record { before = insns_of_entries works.now.before.items; body = insns_of_entries works.now.body.items; behind = insns_of_entries works.now.behind.items }) }
 {
     Ok(Work {
@@ -246,7 +246,10 @@ fn keeps(
     ensures { IfOk result (λ kept. OnTrue kept (Keeps (promises promise) works.now.before.items works.now.body.items works.now.behind.items (schedule_of schedule.now) most)) }
 {
     let work = uses_in(alloc, works)?;
-    keeps_distances(alloc, &work, schedule, promise, most)
+    match distances_of(alloc, &work, schedule, promise, most)? {
+        Distances::Kept => Ok(true),
+        _ => Ok(false),
+    }
 }
 
 ghost use Rattle.c62_loop_match.specs.Decide.{Keeps};

@@ -1,4 +1,4 @@
-//! The work of so many iterations in serial order, and the cycles of its instances.
+//! The work of so many iterations in serial order, and its instances.
 
 ghost use Rattle.std.specs.Prelude.{◌≡◌, ◌≤◌, ◌+◌, ◌*◌, map, length, slice_index_or, IfOk};
 ghost use Rattle.c62_pair.specs.Uses.{insns_in};
@@ -65,72 +65,91 @@ fn late_instance(stage: &Stage, number: u16) -> Placed
     }
 }
 
-/// The cycle of an instance that isn't in the prolog: that of this pass, or one in the epilog.
-fn later_cycle(stage: &Stage, interval: u16, passes: u16, pass: u16) -> u32
-    ensures { result ≡ later_cycle interval passes pass (stage_of stage.now) }
+/// When an instance is issued, and its line.
+#[derive(Clone, Copy)]
+pub(crate) struct Instance {
+    pub cycle: u32,
+    pub line: u32,
+}
+
+/// An instruction as an instance, so many cycles later.
+fn later(placed: &Placed, cycles: u32) -> Instance
+    requires { cycles ≤ 65535 * 65535 }
+    ensures { result ≡ instance (moved cycles placed.now) }
+{
+    Instance {
+        cycle: cycles + u32::from(placed.cycle),
+        line: placed.line,
+    }
+}
+
+/// An instance that isn't in the prolog: that of this pass, or one in the epilog.
+fn later_instance(stage: &Stage, interval: u16, passes: u16, pass: u16) -> Instance
+    ensures { result ≡ instance (later_of interval passes pass (stage_of stage.now)) }
 {
     if pass < passes {
-        cycles_in(interval, pass) + u32::from(stage.kernel.cycle)
+        later(&stage.kernel, cycles_in(interval, pass))
     } else {
-        cycles_in(interval, passes) + u32::from(late_instance(stage, pass - passes).cycle)
+        later(
+            &late_instance(stage, pass - passes),
+            cycles_in(interval, passes),
+        )
     }
 }
 
-ghost use Rattle.c62_loop_match.specs.Path.{later_cycle};
+ghost use Rattle.c62_meaning.specs.Cut.{moved};
+ghost use Rattle.c62_loop_match.specs.Path.{instance, later_of};
 
-/// The cycle of the instance of an iteration.
-fn instance_cycle(stage: &Stage, interval: u16, passes: u16, trip: u16) -> u32
-    ensures { result ≡ (instance_of interval passes trip (stage_of stage.now)).cycle }
+/// The instance of an iteration.
+fn instance_of(stage: &Stage, interval: u16, passes: u16, trip: u16) -> Instance
+    ensures { result ≡ instance (instance_of interval passes trip (stage_of stage.now)) }
 {
     match stage.early.get(usize::from(trip)) {
-        Some(placed) => u32::from(placed.cycle),
-        None => later_cycle(stage, interval, passes, trip - stage.early.len() as u16),
+        Some(placed) => later(placed, 0),
+        None => later_instance(stage, interval, passes, trip - stage.early.len() as u16),
     }
 }
 
-/// The cycles of the instances of an iteration.
-fn round_cycles(
+/// The instances of an iteration.
+fn round_of(
     alloc: Global,
     schedule: &Schedule,
     passes: u16,
     trip: u16,
-) -> Result<Vec<u32>, AllocError>
-    ensures { IfOk result (λ cycles. cycles.items ≡ map (λ stage. (instance_of schedule.now.interval passes trip (stage_of stage)).cycle) schedule.now.stages.items) }
+) -> Result<Vec<Instance>, AllocError>
+    ensures { IfOk result (λ round. round.items ≡ map (λ stage. instance (instance_of schedule.now.interval passes trip (stage_of stage))) schedule.now.stages.items) }
 {
     schedule
         .stages
         .iter()
-        .map(|stage| instance_cycle(stage, schedule.interval, passes, trip))
+        .map(|stage| instance_of(stage, schedule.interval, passes, trip))
         .collect(alloc)
 }
 
-/// The cycles of these, so many later.
-fn straight_cycles(alloc: Global, placed: &[Placed], later: u32) -> Result<Vec<u32>, AllocError>
-    requires { later ≤ 65535 * 65535 }
-    ensures { IfOk result (λ cycles. cycles.items ≡ map (λ p. later + p.cycle) placed.now) }
+/// These, so many cycles later.
+fn straight_of(alloc: Global, placed: &[Placed], cycles: u32) -> Result<Vec<Instance>, AllocError>
+    requires { cycles ≤ 65535 * 65535 }
+    ensures { IfOk result (λ straight. straight.items ≡ map (λ p. instance (moved cycles p)) placed.now) }
 {
-    placed
-        .iter()
-        .map(|each| later + u32::from(each.cycle))
-        .collect(alloc)
+    placed.iter().map(|each| later(each, cycles)).collect(alloc)
 }
 
-/// The cycles of the instances of so many iterations, in serial order, where the kernel is passed so often.
-pub(crate) fn cycles_of(
+/// The instances of so many iterations, in serial order, where the kernel is passed so often.
+pub(crate) fn instances_of(
     alloc: Global,
     schedule: &Schedule,
     trips: u16,
     passes: u16,
-) -> Result<Vec<u32>, AllocError>
-    ensures { IfOk result (λ cycles. cycles.items ≡ map (λ p. p.cycle) (placed_of (schedule_of schedule.now) trips passes)) }
+) -> Result<Vec<Instance>, AllocError>
+    ensures { IfOk result (λ instances. instances.items ≡ map instance (placed_of (schedule_of schedule.now) trips passes)) }
 {
-    let mut cycles = straight_cycles(alloc, &schedule.before, 0)?;
+    let mut instances = straight_of(alloc, &schedule.before, 0)?;
     for trip in 0..trips {
-        let round = round_cycles(alloc, schedule, passes, trip)?;
-        cycles.extend_from_slice(&round)?;
+        let round = round_of(alloc, schedule, passes, trip)?;
+        instances.extend_from_slice(&round)?;
     }
     let later = cycles_in(schedule.interval, passes);
-    let behind = straight_cycles(alloc, &schedule.behind, later)?;
-    cycles.extend_from_slice(&behind)?;
-    Ok(cycles)
+    let behind = straight_of(alloc, &schedule.behind, later)?;
+    instances.extend_from_slice(&behind)?;
+    Ok(instances)
 }

@@ -1,5 +1,5 @@
 use Rattle.std.proofs.Common.{arith, ◌≡◌, length, sym}
-use Rattle.c62_check_loop.specs.Relined.{unlined}
+use Rattle.c62_loop_match.specs.Reading.{unlined}
 use Rattle.c62_check_loop.proofs.Relining.{alike_more, alike_whole}
 use Rattle.c62_check_loop.proofs.relined.are_same_placed.Goals as goal
 

@@ -1,4 +1,4 @@
-use Rattle.c62_check_loop.specs.Relined.{unlined}
+use Rattle.c62_loop_match.specs.Reading.{unlined}
 use Rattle.c62_check_loop.proofs.Relining.{AreAlike}
 use Rattle.c62_check_loop.proofs.relined.are_same_placed.Given as goal
 

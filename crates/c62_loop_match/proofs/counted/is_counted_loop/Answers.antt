@@ -1,7 +1,6 @@
-use Rattle.std.proofs.Common.{rules, ◌≡◌, true, List}
+use Rattle.std.proofs.Common.{rules, ◌≡◌, true}
 use Rattle.std.proofs.lemmas.Bool.{OnTrue_from}
 use Rattle.std.specs.List.{list_all}
-use Rattle.c62_read.specs.declared.block.SerialInsn.{SerialInsn}
 use Rattle.c62_loop_match.specs.Form.{counts}
 use Rattle.c62_loop_match.proofs.Forms.{all-counted}
 use Rattle.c62_loop_match.proofs.counted.is_counted_loop.Goals as goal

@@ -1,5 +1,4 @@
-use Rattle.std.proofs.Common.{rules, sym, ◌∙◌, ap, arith, ◌≡◌, ◌+◌}
-use Rattle.c62_loop_match.specs.Form.{step_of}
+use Rattle.std.proofs.Common.{rules}
 use Rattle.c62_loop_match.proofs.Steps.{steps_next}
 use Rattle.c62_loop_match.proofs.counted.steps_in.Goals as goal
 

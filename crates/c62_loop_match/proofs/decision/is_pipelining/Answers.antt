@@ -1,12 +1,10 @@
-use Rattle.std.proofs.Common.{rules, Bool}
-use Rattle.std.specs.Bool.{OnTrue}
-use Rattle.std.specs.Prelude.{IfOk}
-use Rattle.std.proofs.lemmas.Bool.{OnTrue_at, OnTrue_from}
+use Rattle.std.proofs.Common.{rules}
+use Rattle.std.proofs.lemmas.Bool.{OnTrue_at}
 use Rattle.c62_loop.specs.Whole.{IsSteering}
 use Rattle.c62_loop_match.specs.Parts.{region_of, loop_of, schedule_of, control_of}
 use Rattle.c62_loop_match.specs.Promise.{promises}
 use Rattle.c62_loop_match.specs.Decide.{IsLayout, IsWork, Fits, HoldsRows}
-use Rattle.c62_loop_match.proofs.Decides.{interval_is, pipelines, answered, holding}
+use Rattle.c62_loop_match.proofs.Decides.{interval_is, answered, holding}
 use Rattle.c62_loop_match.proofs.decision.is_pipelining.Goals as goal
 
 pub is_steering-requires-clause-interval : goal.is_steering-requires-clause-interval

@@ -1,8 +1,8 @@
-use Rattle.std.proofs.Common.{rules, arith, ◌≡◌, ◌+◌, ◌<◌, ◌≤◌, ◌∙◌, sym, true, length}
+use Rattle.std.proofs.Common.{rules, arith, ◌+◌, ◌<◌, ◌≤◌, ◌∙◌, sym, length}
 use Rattle.std.specs.Prelude.{All, ◌==◌}
 use Rattle.std.proofs.lemmas.Bool.{OnTrue_from, eqb-true}
 use Rattle.c62_packet.specs.Packed.{HaveOneBranch}
-use Rattle.c62_flight.specs.Text.{aim_of, IsIssuable}
+use Rattle.c62_flight.specs.Text.{IsIssuable}
 use Rattle.c62_rows.specs.Rows.{text_of}
 use Rattle.c62_loop.specs.Loop.{IsPipelined, last_row}
 use Rattle.c62_loop_match.specs.Parts.{loop_of}

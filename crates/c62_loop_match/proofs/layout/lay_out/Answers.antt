@@ -1,4 +1,4 @@
-use Rattle.std.proofs.Common.{rules, arith, ◌≡◌, ◌+◌, ◌<◌, ◌≤◌, ◌++◌, ◌∙◌, map, length, sym, ap, List}
+use Rattle.std.proofs.Common.{rules, ◌+◌, ◌<◌, ◌++◌, ◌∙◌, map, length, sym, ap, List}
 use Rattle.c62_packet.specs.declared.placed.Placed.{Placed}
 use Rattle.c62_flight.specs.Issued.{issue_in}
 use Rattle.c62_rows.specs.Rows.{row_read, text_of}

@@ -1,5 +1,0 @@
-use Rattle.c62_loop_match.proofs.Paths.{Counts}
-use Rattle.c62_loop_match.proofs.path.cycles_of.Given as goal
-
-abbrev pub invariant-loop-trip : goal.invariant-loop-trip
-invariant-loop-trip l = Counts l.schedule l.trips l.passes l.trip l.cycles.items
