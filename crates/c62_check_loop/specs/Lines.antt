@@ -7,7 +7,7 @@ abbrev pub same_words : (trips cycles : ℕ) → List ℕ
 same_words trips cycles = (codes " same from " ++ decimal trips) ++ (codes " trips cycles " ++ decimal cycles)
 
 abbrev pub words_of : LoopVerdict → List ℕ
-words_of (Same trips cycles) = same_words trips cycles
+words_of (Same trips cycles first last) = same_words trips cycles
 words_of (Missing line) = codes " missing " ++ decimal line
 words_of (Extra line) = codes " extra " ++ decimal line
 words_of (Uneven line) = codes " uneven " ++ decimal line

@@ -31,7 +31,7 @@ fn push_words(out: &mut Vec<u8>, verdict: LoopVerdict) -> Result<(), AllocError>
     ensures { OnOk result (out.new.items ≡ out.old.items ++ words_of verdict) }
 {
     match verdict {
-        LoopVerdict::Same { trips, cycles } => {
+        LoopVerdict::Same { trips, cycles, .. } => {
             push_same(out, u32::from(trips), u32::from(cycles))
         }
         LoopVerdict::Missing(line) => push_number(out, b" missing ", line),
