@@ -4,6 +4,7 @@
 mod blamed;
 mod command;
 mod laws;
+mod promise;
 mod setting;
 
 pub use blamed::setting_at;
@@ -11,6 +12,7 @@ pub use command::{
     Adopting, CommandError, Course, FlightStart, Form, Packing, Request, Showing, Start, command_of,
 };
 pub use laws::{prints_are_of_memory, takes_limits};
+pub use promise::{BadPromise, PromiseError, Promises, Trips, apart_in, read_trips};
 pub use setting::{Dump, Print, Setting, Size, equals_sign, first_part, place_in};
 
 #[cfg(test)]
