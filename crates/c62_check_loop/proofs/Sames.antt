@@ -44,10 +44,13 @@ leaves promised region loop most decided opening count sound counter enough few 
     (pipelined_for_all_trips promised region loop most decided.counts decided.stands decided.pipelines opening (count - most) sound some (counter ∙ sym all)
     (subst (λ n. n < 2 ^ 32) (sym all) few) (subst (λ n. AreApart promised region n opening) (sym all) apart) more)
 
-pub same_is_serial : (promised : Insn → Insn → Bool) (region : Region) (packets : Text) (trips cycles : ℕ) → SameIsSerial promised region packets trips cycles
-same_is_serial promised region packets trips cycles same = record {
+pub same_is_serial : (promised : Insn → Insn → Bool) (region : Region) (packets : Text) (trips cycles first last : ℕ)
+    → SameIsSerial promised region packets trips cycles first last
+same_is_serial promised region packets trips cycles first last same = record {
   loop = same.loop;
   relined = same.relined;
+  first_is = same.first_is;
+  last_is = same.last_is;
   takes = λ count. cycles_of same.loop (count - same.most);
   one_more = λ count enough. one_trip_more same.loop same.most count (omega (arith, enough, same.trips_are)) ∙ ap (λ n. cycles_of same.loop (count - same.most) + n) (sym same.cycles_are);
   leaves = λ opening count sound counter enough few apart more.

@@ -11,16 +11,19 @@ use Rattle.c62_check_loop.specs.Told.{IsSame}
 use Rattle.c62_check_loop.specs.Relined.{AreRelined}
 
 -- From every sound machine whose counter is at least the trips that are told, and of which the promise holds, the packets come from the
--- first row of the loop to the row behind it with nothing in flight, and have left the registers, memory and faulted lines of the serial
+-- first row of the loop to the last, which is the row behind it, with nothing in flight, and have left the registers, memory and faulted lines of the serial
 -- loop. A trip more takes as many cycles more as are told.
-pub record DoesTheSame (promised : Insn → Insn → Bool) (region : Region) (packets : Text) (trips cycles : ℕ) : Type 0 where
+pub record DoesTheSame (promised : Insn → Insn → Bool) (region : Region) (packets : Text) (trips cycles first last : ℕ) : Type 0 where
   pub loop : Pipelined
   pub relined : AreRelined packets loop.text
+  pub first_is : first ≡ loop.first
+  pub last_is : last ≡ last_row loop
   pub takes : ℕ → ℕ
   pub one_more : (count : ℕ) → trips ≤ count → takes (count + 1) ≡ takes count + cycles
   pub leaves : (opening : Machine) (count : ℕ) → IsSound opening → word_in opening region.counter ≡ count → trips ≤ count → count < 2 ^ 32
       → AreApart promised region count opening → (more : ℕ)
       → IsCut loop.text loop.first (takes count + more) opening (last_row loop) (takes count) (serial (serial_path region count) opening).machine
 
-abbrev pub SameIsSerial : (Insn → Insn → Bool) → Region → Text → ℕ → ℕ → Type 0
-SameIsSerial promised region packets trips cycles = IsSame promised region packets trips cycles → DoesTheSame promised region packets trips cycles
+abbrev pub SameIsSerial : (Insn → Insn → Bool) → Region → Text → (trips cycles first last : ℕ) → Type 0
+SameIsSerial promised region packets trips cycles first last =
+    IsSame promised region packets trips cycles first last → DoesTheSame promised region packets trips cycles first last

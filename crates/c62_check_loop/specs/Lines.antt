@@ -20,7 +20,7 @@ unfoldable pub early_words : EarlyRead → List ℕ
 early_words early = pair_words early ++ (cycles_words early ++ (codes " apart " ++ decimal early.apart))
 
 abbrev pub words_of : LoopVerdict → List ℕ
-words_of (Same trips cycles) = same_words trips cycles
+words_of (Same trips cycles first last) = same_words trips cycles
 words_of (Missing line) = codes " missing " ++ decimal line
 words_of (Extra line) = codes " extra " ++ decimal line
 words_of (Uneven line) = codes " uneven " ++ decimal line

@@ -3,7 +3,7 @@ use Rattle.std.specs.Prelude.{◌≡◌, ℕ, ◌+◌, Bool, List, Option, Some,
 use Rattle.c62_insn.specs.declared.insn.Insn.{Insn}
 use Rattle.c62_read.specs.Block.{Serial}
 use Rattle.c62_flight.specs.Text.{Text}
-use Rattle.c62_loop.specs.Loop.{Region, Pipelined, interval}
+use Rattle.c62_loop.specs.Loop.{Region, Pipelined, interval, last_row}
 use Rattle.c62_loop_match.specs.Decide.{Decided}
 use Rattle.c62_loop_match.specs.declared.refusal.Refusal.{Refusal}
 use Rattle.c62_loop_match.specs.declared.refusal.Refusal.TheVariants.{Early as TooEarly, Branch as Astray}
@@ -14,13 +14,16 @@ use Rattle.c62_check_loop.specs.Region.{IsRegionOf, counter_of}
 use Rattle.c62_check_loop.specs.Relined.{AreRelined}
 
 -- Rows of these packets, under the lines of the serial text, pipeline the loop: from so many trips on they do what it does, as
--- `pipelined_for_all_trips` of c62_loop says. A pass of their kernel takes so many cycles.
-pub record IsSame (promised : Insn → Insn → Bool) (region : Region) (packets : Text) (trips cycles : ℕ) : Type 0 where
+-- `pipelined_for_all_trips` of c62_loop says. A pass of their kernel takes so many cycles. They are the rows from the first on, up to
+-- the last one.
+pub record IsSame (promised : Insn → Insn → Bool) (region : Region) (packets : Text) (trips cycles first last : ℕ) : Type 0 where
   pub loop : Pipelined
   pub most : ℕ
   pub relined : AreRelined packets loop.text
   pub trips_are : trips ≡ most + 1
   pub cycles_are : cycles ≡ interval loop
+  pub first_is : first ≡ loop.first
+  pub last_is : last ≡ last_row loop
   pub decided : Decided promised region loop most
 
 -- Rows of these packets hold the loop, and what they are refused for holds of them.
@@ -32,7 +35,7 @@ pub record TellsWhy (promised : Insn → Insn → Bool) (region : Region) (packe
 
 -- what is told of a loop holds
 abbrev pub Tells : (Insn → Insn → Bool) → Region → Text → LoopVerdict → Type 0
-Tells promised region packets (Same trips cycles) = IsSame promised region packets trips cycles
+Tells promised region packets (Same trips cycles first last) = IsSame promised region packets trips cycles first last
 Tells promised region packets (Early early) = TellsWhy promised region packets (TooEarly early)
 Tells promised region packets (Branch line) = TellsWhy promised region packets (Astray line)
 Tells promised region packets verdict = Unit {0}

@@ -10,6 +10,6 @@ ghost use Rattle.c62_check_loop.specs.Laws.{SameIsSerial};
 /// Packets that are told to be the same do what the serial loop does for every number of trips from that which is told on, in as
 /// many cycles more a trip as are told.
 pub fn same_is_serial()
-    ensures { (promised : Insn → Insn → Bool) (region : Region) (packets : Text) (trips cycles : ℕ)
-        → SameIsSerial promised region packets trips cycles }
+    ensures { (promised : Insn → Insn → Bool) (region : Region) (packets : Text) (trips cycles first last : ℕ)
+        → SameIsSerial promised region packets trips cycles first last }
 {}

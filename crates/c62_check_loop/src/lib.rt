@@ -12,6 +12,7 @@ mod seats;
 mod verdict;
 
 pub use lines::push_loop;
+pub use region::{counter_of, ends_with_branch};
 pub use verdict::{LoopVerdict, check_loop};
 
 #[cfg(test)]

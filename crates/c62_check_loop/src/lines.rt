@@ -78,7 +78,7 @@ fn push_words(out: &mut Vec<u8>, verdict: LoopVerdict) -> Result<(), AllocError>
     ensures { OnOk result (out.new.items ≡ out.old.items ++ words_of verdict) }
 {
     match verdict {
-        LoopVerdict::Same { trips, cycles } => {
+        LoopVerdict::Same { trips, cycles, .. } => {
             push_same(out, u64::from(trips), u64::from(cycles))
         }
         LoopVerdict::Missing(line) => push_line(out, b" missing ", line),

@@ -28,17 +28,17 @@ fn last_of(insns: &[SerialInsn]) -> Option<SerialInsn>
     insns.last().copied()
 }
 
-/// The register that the last instruction of a block tests, where that is a branch to the block itself which goes while the register
-/// isn't 0.
-pub(crate) fn counter_of(blocks: &[Block], number: usize) -> Option<Reg>
+/// The counter of the loop that the block of this number is: the register that its last instruction tests, where that is a branch to the
+/// block itself which goes while the register isn't 0. `None` where the block is no such loop, or there is none.
+pub fn counter_of(blocks: &[Block], number: usize) -> Option<Reg>
     ensures { result ≡ counter_of blocks.now number }
 {
     let block = blocks.get(number)?;
     tested(number, last_of(block.insns())?.insn)
 }
 
-/// Whether a block ends with a branch.
-fn ends_with_branch(insns: &[SerialInsn]) -> bool
+/// Whether a block of these instructions ends with a branch.
+pub fn ends_with_branch(insns: &[SerialInsn]) -> bool
     ensures { result ≡ is_branch_entry (last_of insns.now) }
 {
     match last_of(insns) {

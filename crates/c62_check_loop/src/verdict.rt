@@ -1,9 +1,10 @@
 //! What is told of a loop and packets (docs/CHECK.md, "How it is decided").
 
-ghost use Rattle.std.specs.Prelude.{◌+◌, IfOk};
+ghost use Rattle.std.specs.Prelude.{◌≡◌, ◌+◌, IfOk};
 ghost use Rattle.std.specs.Bool.{OnTrue};
 ghost use Rattle.c62_rows.specs.Rows.{text_of};
-ghost use Rattle.c62_loop_match.specs.Parts.{region_of as region_read};
+ghost use Rattle.c62_loop.specs.Loop.{last_row};
+ghost use Rattle.c62_loop_match.specs.Parts.{loop_of, region_of as region_read};
 ghost use Rattle.c62_loop_match.specs.Promise.{promises};
 ghost use Rattle.c62_check_loop.specs.Told.{IsSame, Tells, TellsWhy, IsTold};
 
@@ -23,8 +24,13 @@ use std::alloc::{AllocError, Global};
 /// What is told of a loop of a text and packets.
 #[derive(Clone, Copy, PartialEq, Eq, Debug)]
 pub enum LoopVerdict {
-    /// The packets do what the loop does, from so many trips on, in so many cycles a trip.
-    Same { trips: u16, cycles: u16 },
+    /// The packets' rows from the first on, up to the last one, do what the loop does, from so many trips on, in so many cycles a trip.
+    Same {
+        trips: u16,
+        cycles: u16,
+        first: usize,
+        last: usize,
+    },
     /// They lack an instruction of this line of the text.
     Missing(u32),
     /// The loop lacks the instruction of this line of the packets.
@@ -58,6 +64,16 @@ fn last_line(region: &Region) -> u32 {
     }
 }
 
+/// The row behind the epilog.
+fn last_row(pipelined: &Pipelined) -> usize
+    ensures { result ≡ last_row (loop_of pipelined.now) }
+{
+    pipelined.first as usize
+        + pipelined.prolog as usize
+        + pipelined.kernel as usize
+        + pipelined.epilog as usize
+}
+
 /// Whether what was found does what the loop does: it is of these packets, and `decide` says so.
 fn is_same(
     alloc: Global,
@@ -67,7 +83,8 @@ fn is_same(
     promise: Promise,
 ) -> Result<bool, AllocError>
     ensures { IfOk result (λ same. OnTrue same
-        (IsSame (promises promise) (region_read region.now) (text_of rows.now) (found.now.most + 1) found.now.schedule.interval)) }
+        (IsSame (promises promise) (region_read region.now) (text_of rows.now) (found.now.most + 1) found.now.schedule.interval
+        (loop_of found.now.pipelined).first (last_row (loop_of found.now.pipelined)))) }
 {
     if !are_relined(rows, &found.pipelined.rows) {
         return Ok(false);
@@ -147,6 +164,8 @@ fn judged(
         return Ok(LoopVerdict::Same {
             trips: u16::from(found.most) + 1,
             cycles: found.schedule.interval,
+            first: found.pipelined.first as usize,
+            last: last_row(&found.pipelined),
         });
     }
     if is_counted_loop(region) {

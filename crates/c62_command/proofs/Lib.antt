@@ -1,4 +1,5 @@
 pub mod SettingLemmas
+pub mod PromiseLemmas
 pub mod ParsedNumber
 pub mod Asking
 pub mod Passed

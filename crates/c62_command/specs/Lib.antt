@@ -1,3 +1,4 @@
 pub mod CommandLine
 pub mod Settings
+pub mod Promises
 pub mod Blamed

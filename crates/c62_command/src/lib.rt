@@ -5,6 +5,7 @@ mod blamed;
 mod command;
 mod flight;
 mod laws;
+mod promise;
 mod setting;
 
 pub use blamed::setting_at;
@@ -13,6 +14,7 @@ pub use command::{
 };
 pub use flight::{FlightCourse, FlightStart};
 pub use laws::{prints_are_of_memory, takes_limits};
+pub use promise::{BadPromise, PromiseError, Promises, Trips, apart_in, read_trips};
 pub use setting::{Dump, Print, Setting, Size, equals_sign, first_part, place_in};
 
 #[cfg(test)]
