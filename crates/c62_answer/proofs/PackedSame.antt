@@ -1,6 +1,5 @@
 -- Packets of a board, or of a set that is lawful on either side, are a schedule of their block.
-use Rattle.std.proofs.Common.{◌≡◌, ℕ, zero, suc, Bool, true, false, List, [], ◌∷◌, map, Some, sym, subst}
-use Rattle.std.specs.Prelude.{slice_get}
+use Rattle.std.proofs.Common.{zero, suc, Bool, true, false, List, [], ◌∷◌, map, Some, sym, subst}
 use Rattle.std.proofs.lemmas.Option.{none-some, same_Some}
 use Rattle.std.proofs.lemmas.List.Sorted.{IsPermutation-sym}
 use Rattle.c62_read.specs.declared.block.SerialInsn.{SerialInsn}
@@ -17,7 +16,7 @@ use Rattle.c62_pack.proofs.Arranging.{apart}
 use Rattle.c62_check.specs.Matched.{AreSame}
 use Rattle.c62_check.specs.Schedule.{IsSchedule}
 use Rattle.c62_command.specs.declared.command.Packing.{Packing}
-use Rattle.c62_answer.specs.Schedule.{AreScheduled, IsScheduled, MayStand}
+use Rattle.c62_answer.specs.Schedule.{IsScheduled, MayStand}
 use Rattle.c62_answer.specs.PackedSame.{PacksSchedules}
 
 on_either : (shortest : Bool) (block : Serial) (own spots : Spots) → IsLawful (insns_of block) own → MayStand shortest block own spots
