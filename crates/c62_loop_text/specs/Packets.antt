@@ -1,5 +1,5 @@
 -- Pipelined packets as a text (docs/EXEC.md, "Rows"; docs/LISTING.md).
-use Rattle.std.specs.Prelude.{◌≡◌, ℕ, zero, suc, ◌+◌, List, [], ◌∷◌, ◌++◌, map, take, drop, Some, codes, decimal}
+use Rattle.std.specs.Prelude.{ℕ, zero, suc, ◌+◌, List, [], ◌∷◌, ◌++◌, map, take, drop, Some, codes, decimal}
 use Rattle.std.specs.List.{flat_map}
 use Rattle.c62_insn.specs.Spelling.{spelling}
 use Rattle.c62_packet.specs.declared.placed.Placed.{Placed}

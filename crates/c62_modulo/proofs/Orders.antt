@@ -17,7 +17,8 @@ abbrev unit_at : Placed → ℕ
 unit_at p = unit_index p.unit
 
 -- those of one cycle that rise by their units stand as in a listing
-pub listed : (placed : List Placed) → All (λ p. p.cycle ≡ 0) placed → IsStrictlyIncreasing (map (λ p. unit_index p.unit) placed) → IsInListingOrder placed
+pub listed : (placed : List Placed) → All (λ p. p.cycle ≡ 0) placed
+    → IsStrictlyIncreasing (map (λ p. unit_index p.unit) placed) → IsInListingOrder placed
 listed placed at_once rising =
     IsNonDecreasingBy-from_all_adjacent listing_position placed
     (λ k d l.
@@ -30,15 +31,18 @@ listed placed at_once rising =
     omega (arith, here, next, one, two, rise))
 
 -- such packets are lawful
-pub lawful : (row : RowRead) → length row.insns.items ≤ 8 → StandAsWritten row.insns.items → All (λ p. p.cycle ≡ 0) row.insns.items
-    → IsStrictlyIncreasing (map (λ p. unit_index p.unit) row.insns.items) → KeepsPacketRules (issued row.insns.items) → IsLawful (row_read row)
+pub lawful : (row : RowRead) → length row.insns.items ≤ 8 → StandAsWritten row.insns.items
+    → All (λ p. p.cycle ≡ 0) row.insns.items
+    → IsStrictlyIncreasing (map (λ p. unit_index p.unit) row.insns.items)
+    → KeepsPacketRules (issued row.insns.items) → IsLawful (row_read row)
 lawful row few written at_once rising keeps = record {
   row = record { units = written; cycles = at_once; enough = keeps.enough 0; in_order = rising; few = few };
   rules = keeps;
 }
 
 -- with one more, all of so many are
-pub one_more : {A : Type 0} (P : A → Type 0) (xs : List A) (n : ℕ) (x : A) → n < length xs → x ≡ get_or xs n x → P x → ((k : ℕ) (d : A) → k < n → P (get_or xs k d))
+pub one_more : {A : Type 0} (P : A → Type 0) (xs : List A) (n : ℕ) (x : A) → n < length xs
+    → x ≡ get_or xs n x → P x → ((k : ℕ) (d : A) → k < n → P (get_or xs k d))
     → (k : ℕ) (d : A) → k < n + 1 → P (get_or xs k d)
 one_more P xs n x inside is_x one old k d l =
     ⊎_elim {C = P (get_or xs k d)} (λ (h : k < n). old k d h)

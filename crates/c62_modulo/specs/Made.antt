@@ -1,9 +1,9 @@
 -- Software pipelined packets that are made of a loop (docs/SCHEDULING.md, "Pipelined loops").
-use Rattle.std.specs.Prelude.{◌≡◌, ℕ, ◌+◌, ◌≤◌, Bool, length, All, Option, Some, None}
+use Rattle.std.specs.Prelude.{◌≡◌, ℕ, ◌+◌, ◌≤◌, Bool, length, All}
 use Rattle.c62_insn.specs.declared.insn.Insn.{Insn}
 use Rattle.c62_rules.specs.PacketRules.{KeepsPacketRules}
 use Rattle.c62_packet.specs.Packed.{issued}
-use Rattle.c62_flight.specs.Text.{Row, Text}
+use Rattle.c62_flight.specs.Text.{Row}
 use Rattle.c62_rows.specs.Rows.{IsRow, row_read}
 use Rattle.c62_loop.specs.Loop.{Region, Pipelined, interval, last_row}
 use Rattle.c62_loop_match.specs.Parts.{loop_of}
