@@ -1,5 +1,7 @@
 //! How few cycles may lie between two passes of a kernel: by what the tasks take, and by dependences in a circle.
 
+ghost use Rattle.std.specs.Prelude.{◌≤◌, IfOk, IfSome};
+
 use crate::graph::{Graph, Way};
 use crate::task::Task;
 use c62_insn::{Side, Unit};
@@ -123,7 +125,9 @@ pub(crate) fn by_dependences(
     alloc: Global,
     graph: &Graph,
     most: u16,
-) -> Result<Option<u16>, AllocError> {
+) -> Result<Option<u16>, AllocError>
+    ensures { IfOk result (λ least. IfSome least (λ interval. (1 ≤ interval) × (interval ≤ most))) }
+{
     for interval in 1..=most {
         if longest(alloc, graph, interval, Way::Forward)?.is_some() {
             return Ok(Some(interval));
@@ -132,13 +136,15 @@ pub(crate) fn by_dependences(
     Ok(None)
 }
 
-/// The least interval that resources and dependences allow, if that is no more than a greatest one. No schedule of the tasks has a
-/// shorter one.
+/// The least interval that is found to be allowed by resources and dependences, from 1 to a greatest one. `None` where none is. That no
+/// schedule of the tasks has a shorter one isn't said.
 ///
 /// # Errors
 ///
 /// Where memory ran out.
-pub fn least_interval(alloc: Global, graph: &Graph, most: u16) -> Result<Option<u16>, AllocError> {
+pub fn least_interval(alloc: Global, graph: &Graph, most: u16) -> Result<Option<u16>, AllocError>
+    ensures { IfOk result (λ least. IfSome least (λ interval. (1 ≤ interval) × (interval ≤ most))) }
+{
     let least = by_resources(&graph.tasks);
     match by_dependences(alloc, graph, most)? {
         Some(interval) if least <= most => Ok(Some(interval.max(least))),

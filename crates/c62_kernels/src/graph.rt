@@ -1,5 +1,8 @@
 //! The tasks of a kernel and the dependences between them.
 
+ghost use Rattle.std.specs.Prelude.{◌≡◌, ◌++◌, IfOk, OnOk, length, min};
+ghost use Rattle.c62_kernels.specs.Tasks.{entries_of};
+
 use crate::edge::{Edge, edges_of};
 use crate::task::Task;
 use c62_pair::{RegSet, Uses};
@@ -69,8 +72,20 @@ fn uses_of(alloc: Global, entries: &[SerialInsn]) -> Result<Vec<Uses>, AllocErro
     Ok(uses)
 }
 
+/// Appends a task for each of these.
+fn push_tasks(tasks: &mut Vec<Task>, entries: &[SerialInsn]) -> Result<(), AllocError>
+    ensures { OnOk result (entries_of tasks.new.items ≡ entries_of tasks.old.items ++ entries.now) }
+{
+    for entry in entries {
+        tasks.push(Task::new(*entry))?;
+    }
+    Ok(())
+}
+
 impl Graph {
-    fn with_edges(alloc: Global, tasks: Vec<Task>, edges: Vec<Edge>) -> Result<Graph, AllocError> {
+    fn with_edges(alloc: Global, tasks: Vec<Task>, edges: Vec<Edge>) -> Result<Graph, AllocError>
+        ensures { IfOk result (λ graph. graph.tasks.items ≡ tasks.items) }
+    {
         let mut needs = no_links(alloc, tasks.len())?;
         let mut followers = no_links(alloc, tasks.len())?;
         for edge in &edges {
@@ -107,8 +122,8 @@ impl Graph {
         })
     }
 
-    /// The work of an iteration, then what depends on nothing, with the dependences of so many iterations. Loads and stores from two of
-    /// these bases need no order in two of them.
+    /// The work of an iteration, then what depends on nothing, each a task in this order, with the dependences of so many iterations.
+    /// Loads and stores from two of these bases need no order in two of them.
     ///
     /// # Errors
     ///
@@ -119,21 +134,21 @@ impl Graph {
         others: &[SerialInsn],
         bases: RegSet,
         iterations: i32,
-    ) -> Result<Graph, AllocError> {
+    ) -> Result<Graph, AllocError>
+        ensures { IfOk result (λ graph. entries_of graph.tasks.items ≡ work.now ++ others.now) }
+    {
         let uses = uses_of(alloc, work)?;
         let edges = edges_of(alloc, &uses, bases, iterations)?;
         let mut tasks = Vec::new(alloc);
-        for entry in work {
-            tasks.push(Task::new(*entry))?;
-        }
-        for entry in others {
-            tasks.push(Task::new(*entry))?;
-        }
+        push_tasks(&mut tasks, work)?;
+        push_tasks(&mut tasks, others)?;
         Graph::with_edges(alloc, tasks, edges)
     }
 
-    /// How many tasks there are.
-    pub fn len(&self) -> u16 {
+    /// How many tasks there are, as far as 65,535.
+    pub fn len(&self) -> u16
+        ensures { result ≡ min 65535 (length self.now.tasks.items) }
+    {
         u16::try_from(self.tasks.len()).unwrap_or(u16::MAX)
     }
 

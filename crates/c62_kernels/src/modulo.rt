@@ -1,7 +1,32 @@
 //! A modulo schedule.
 
+ghost use Rattle.std.specs.Prelude.{◌≡◌, find};
+ghost use Rattle.c62_op.specs.Units.{all_units};
+ghost use Rattle.c62_kernels.specs.Schedule.{is_on, row_of, stage_of, unit_of};
+
 use crate::slot::Slot;
 use c62_insn::Unit;
+
+/// Whether a task is issued on this unit.
+fn is_on(slot: &Slot, number: u16, unit: Unit) -> bool
+    ensures { result ≡ is_on slot.now number unit }
+{
+    match slot.seats.get(usize::from(unit.index())) {
+        Some(Some(other)) => *other == number,
+        _ => false,
+    }
+}
+
+/// The first unit on which a task is issued.
+fn unit_in(slot: &Slot, number: u16) -> Option<Unit>
+    ensures { result ≡ find (is_on slot.now number) all_units }
+{
+    let units = Unit::ALL;
+    units
+        .iter()
+        .copied()
+        .find(|unit| is_on(slot, number, *unit))
+}
 
 /// A schedule of the tasks of a kernel, which is passed again and again.
 #[derive(Drop)]
@@ -17,13 +42,17 @@ pub struct Modulo {
 }
 
 impl Modulo {
-    /// The cycle of the kernel in which a task is issued.
-    pub fn row(&self, number: u16) -> u16 {
+    /// The cycle of the kernel in which a task is issued, and 0 for what is no task.
+    pub fn row(&self, number: u16) -> u16
+        ensures { result ≡ row_of self.now number }
+    {
         self.rows.get(usize::from(number)).copied().unwrap_or(0)
     }
 
-    /// How many passes behind the first one it is issued.
-    pub fn stage(&self, number: u16) -> u16 {
+    /// How many passes behind the first one it is issued, and 0 for what is no task.
+    pub fn stage(&self, number: u16) -> u16
+        ensures { result ≡ stage_of self.now number }
+    {
         self.stages.get(usize::from(number)).copied().unwrap_or(0)
     }
 
@@ -36,14 +65,11 @@ impl Modulo {
         most
     }
 
-    /// The unit of a task.
-    pub fn unit(&self, number: u16) -> Option<Unit> {
+    /// The unit of a task: the first on which it is issued in its cycle.
+    pub fn unit(&self, number: u16) -> Option<Unit>
+        ensures { result ≡ unit_of self.now number }
+    {
         let slot = self.slots.get(usize::from(self.row(number)))?;
-        for unit in Unit::ALL {
-            if slot.seats.get(usize::from(unit.index())) == Some(&Some(number)) {
-                return Some(unit);
-            }
-        }
-        None
+        unit_in(slot, number)
     }
 }

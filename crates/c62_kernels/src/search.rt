@@ -1,6 +1,8 @@
 //! Iterative modulo scheduling (docs/SCHEDULING.md, "Pipelined loops"): the most urgent task goes into the first cycle that has room. Where
 //! none has, it takes the place of others, which are placed again.
 
+ghost use Rattle.std.specs.Prelude.{◌≡◌, ◌≤◌, ◌⊎◌, IfOk, IfSome};
+
 use crate::bound::longest;
 use crate::graph::{Graph, Link, Way};
 use crate::modulo::Modulo;
@@ -67,7 +69,9 @@ impl<'a> Search<'a> {
         way: Way,
         begin: u16,
         urgency: Vec<i32>,
-    ) -> Result<Search<'a>, AllocError> {
+    ) -> Result<Search<'a>, AllocError>
+        ensures { IfOk result (λ search. search.interval ≡ interval) }
+    {
         let count = graph.tasks.len();
         let mut cycles = vec![in alloc; None; count]?;
         let mut slots = vec![in alloc; Slot::new(); usize::from(interval)]?;
@@ -151,7 +155,9 @@ impl<'a> Search<'a> {
     }
 
     /// Takes a task out of its cycle, if it isn't fixed.
-    fn take_out(&mut self, number: u16) {
+    fn take_out(&mut self, number: u16)
+        ensures { self.new.interval ≡ self.old.interval }
+    {
         if number == self.fixed.number {
             return;
         }
@@ -186,7 +192,9 @@ impl<'a> Search<'a> {
     }
 
     /// Makes room for a task in a cycle: one gives way where that is enough, or all.
-    fn make_room(&mut self, number: u16, cycle: i32) -> Option<Slot> {
+    fn make_room(&mut self, number: u16, cycle: i32) -> Option<Slot>
+        ensures { self.new.interval ≡ self.old.interval }
+    {
         let row = row_of(self.interval, self.way, cycle);
         let slot = *self.slots.get(row)?;
         match self.in_the_way(&slot, number) {
@@ -202,7 +210,9 @@ impl<'a> Search<'a> {
         self.slot_with(cycle, number)
     }
 
-    fn put(&mut self, number: u16, cycle: i32, with: Slot) {
+    fn put(&mut self, number: u16, cycle: i32, with: Slot)
+        ensures { self.new.interval ≡ self.old.interval }
+    {
         let row = row_of(self.interval, self.way, cycle);
         if let Some(slot) = self.slots.get_mut(row) {
             *slot = with;
@@ -224,7 +234,9 @@ impl<'a> Search<'a> {
     }
 
     /// Places a task. What then stands too early is taken out.
-    fn place(&mut self, number: u16) {
+    fn place(&mut self, number: u16)
+        ensures { self.new.interval ≡ self.old.interval }
+    {
         let early = self.early(number);
         let found = match self.room(number, early) {
             Some(found) => Some(found),
@@ -245,7 +257,10 @@ impl<'a> Search<'a> {
     }
 
     /// Places all tasks, as long as placings are left. Answers whether they are placed.
-    fn run(&mut self, left: &mut u32) -> bool {
+    fn run(&mut self, left: &mut u32) -> bool
+        ensures interval { self.new.interval ≡ self.old.interval }
+        ensures left { left.new ≤ left.old }
+    {
         let placings = u32::from(self.graph.len()).saturating_mul(PLACINGS);
         for _ in 0..placings.min(*left) {
             match self.pick() {
@@ -258,7 +273,9 @@ impl<'a> Search<'a> {
     }
 
     /// The schedule, in as few passes as dependences allow.
-    fn into_modulo(self, alloc: Global) -> Result<Option<Modulo>, AllocError> {
+    fn into_modulo(self, alloc: Global) -> Result<Option<Modulo>, AllocError>
+        ensures { IfOk result (λ found. IfSome found (λ modulo. modulo.interval ≡ self.entry.interval)) }
+    {
         let mut rows = Vec::with_capacity(alloc, self.cycles.len())?;
         for cycle in &self.cycles {
             let row = row_of(self.interval, self.way, cycle.unwrap_or(0));
@@ -313,7 +330,10 @@ fn begun(
     way: Way,
     begin: u16,
     left: &mut u32,
-) -> Result<Option<Modulo>, AllocError> {
+) -> Result<Option<Modulo>, AllocError>
+    ensures interval { IfOk result (λ found. IfSome found (λ modulo. modulo.interval ≡ interval)) }
+    ensures left { left.new ≤ left.old }
+{
     let Some(urgency) = urgency_of(alloc, graph, interval, way)? else {
         return Ok(None);
     };
@@ -334,7 +354,9 @@ pub fn straight_schedule(
     alloc: Global,
     graph: &Graph,
     cycles: u16,
-) -> Result<Option<Modulo>, AllocError> {
+) -> Result<Option<Modulo>, AllocError>
+    ensures { IfOk result (λ found. IfSome found (λ modulo. modulo.interval ≡ cycles)) }
+{
     let mut left = u32::MAX;
     begun(alloc, graph, NOTHING, cycles, Way::Forward, 0, &mut left)
 }
@@ -363,7 +385,9 @@ struct Tries {
 
 impl Tries {
     /// Adds one, which is kept if it has fewer passes than those before.
-    fn add(&mut self, tried: Option<Modulo>) {
+    fn add(&mut self, tried: Option<Modulo>)
+        ensures { (self.new.found ≡ self.old.found) ⊎ (self.new.found ≡ tried) }
+    {
         let Some(modulo) = tried else {
             self.failed = self.failed.saturating_add(1);
             return;
@@ -398,7 +422,10 @@ pub fn schedule_of(
     fixed: Fixed,
     interval: u16,
     left: &mut u32,
-) -> Result<Option<Modulo>, AllocError> {
+) -> Result<Option<Modulo>, AllocError>
+    ensures interval { IfOk result (λ found. IfSome found (λ modulo. modulo.interval ≡ interval)) }
+    ensures left { left.new ≤ left.old }
+{
     let mut tries = Tries {
         found: None,
         failed: 0,

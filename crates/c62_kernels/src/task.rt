@@ -1,5 +1,7 @@
 //! What is to be issued in a pass of a kernel.
 
+ghost use Rattle.std.specs.Prelude.{◌≡◌};
+
 use c62_insn::{Insn, Unit};
 use c62_read::SerialInsn;
 use c62_row::Uses;
@@ -45,7 +47,10 @@ fn rank(insn: Insn, choices: &[Option<Uses>; 8]) -> u8 {
 }
 
 impl Task {
-    pub fn new(entry: SerialInsn) -> Task {
+    /// An instruction as a task.
+    pub fn new(entry: SerialInsn) -> Task
+        ensures { result.entry ≡ entry }
+    {
         let choices = choices_of(entry.insn);
         Task {
             entry,

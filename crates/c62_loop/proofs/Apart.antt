@@ -1,45 +1,27 @@
 -- The counter and its branches stand apart from the work of a path.
-use Rattle.std.proofs.Common.{◌≡◌, ◌≢◌, ℕ, zero, suc, ◌+◌, ◌-◌, ◌^◌, ◌<◌, ◌≤◌, Bool, true, false, not, cond, List, [], ◌∷◌, length, get_or, set, take, refl, sym, ◌∙◌, ap, subst, inl, inr, ⊎_elim, arith}
-use Rattle.std.specs.Prelude.{◌==◌, fold, All}
+use Rattle.std.proofs.Common.{◌≡◌, ◌≢◌, ℕ, zero, suc, ◌+◌, ◌-◌, ◌^◌, ◌<◌, ◌≤◌, Bool, true, false, not, cond, List, []}
+use Rattle.std.proofs.Common.{◌∷◌, length, get_or, set, take, refl, sym, ◌∙◌, ap, subst, inl, inr, ⊎_elim, arith}
+use Rattle.std.specs.Prelude.{◌==◌, fold}
 use Rattle.std.specs.List.{list_any}
 use Rattle.std.proofs.lemmas.Bool.{cases_Bool, cases_lt, cond-true, cond-false, or_left, or_right, false≢true}
 use Rattle.std.proofs.lemmas.List.{set-get_or, set_comm, get_or-set_same, get_or-set_other}
-use Rattle.std.proofs.lemmas.List.Elements.{All-contains}
 use Rattle.c62_op.specs.declared.register.Reg.{Reg}
 use Rattle.c62_op.specs.Takes.{same_reg}
 use Rattle.c62_op.proofs.Registers.{same_register, same_reg-refl}
 use Rattle.c62_insn.specs.Insn.{register_writes, reads_register}
 use Rattle.c62_read.specs.declared.block.SerialInsn.{SerialInsn}
-use Rattle.c62_serial.specs.declared.serial.Exit.TheVariants.{Next}
 use Rattle.c62_serial.specs.State.{Machine, IsSound, index_of, machine_of, word_in, byte_in, with_word}
 use Rattle.c62_serial.specs.Faults.{after_fault}
 use Rattle.c62_serial.specs.Effect.{Act, is_fault}
-use Rattle.c62_serial.specs.Serial.{Ran, after_write, after_access, after_act, after_insn, after_entry, act_in, serial}
+use Rattle.c62_serial.specs.Serial.{after_write, after_access, after_act, after_entry, act_in}
 use Rattle.c62_serial.proofs.RegisterLemmas.{index_within}
-use Rattle.c62_serial.proofs.MachineLemmas.{sound_act, sound_run}
-use Rattle.c62_meaning.proofs.Lookup.{In, Contains_from_In}
+use Rattle.c62_serial.proofs.MachineLemmas.{sound_act}
+use Rattle.c62_meaning.proofs.Lookup.{In}
 use Rattle.c62_meaning.proofs.Acting.{act_same}
 use Rattle.c62_meaning.proofs.Landings.{act_writes}
-use Rattle.c62_loop.specs.Counter.{size_of, steps_on, touches, IsCounted, steps_in, CountsFrom, work_of, CounterStandsApart}
-
--- ---- machines, one instruction after the other
-
-abbrev pub machine_after : List SerialInsn → Machine → Machine
-machine_after [] machine = machine
-machine_after (entry ∷ path) machine = machine_after path (after_entry entry machine)
-
-fold_machine : (path : List SerialInsn) (ran : Ran) → (fold after_insn ran path).machine ≡ machine_after path ran.machine
-fold_machine [] ran = refl
-fold_machine (entry ∷ path) ran = fold_machine path (after_insn ran entry)
-
-pub serial_machine : (path : List SerialInsn) (machine : Machine) → (serial path machine).machine ≡ machine_after path machine
-serial_machine path machine = fold_machine path (record { machine = machine; exit = Next })
-
-pub sound_after : (path : List SerialInsn) (machine : Machine) → IsSound machine → IsSound (machine_after path machine)
-sound_after path machine sound = subst (λ (m : Machine). IsSound m) (serial_machine path machine) (sound_run path machine sound)
-
-pub In-All : {X : Type 0} (P : X → Type 0) (xs : List X) → All P xs → (x : X) → In x xs → P x
-In-All P xs all x h = All-contains P xs x all (Contains_from_In x xs h)
+use Rattle.c62_loop.specs.Counter.{size_of, steps_on, touches, IsCounted, steps_in, CountsFrom, work_of}
+use Rattle.c62_loop.specs.Counter.{CounterStandsApart}
+use Rattle.c62_loop.proofs.Machines.{machine_after, serial_machine, In-All}
 
 -- ---- registers that are set
 
@@ -58,16 +40,20 @@ module _ (counter : Reg) where
   Elsewhere writes = (w : (Reg × ℕ) × ℕ) → In w writes → index_of w.0.0 ≡ index_of counter → ⊥
 
   set_writes : (writes : List ((Reg × ℕ) × ℕ)) (registers : List ℕ) (v : ℕ) → Elsewhere writes
-      → fold after_write (set registers (index_of counter) v) writes ≡ set (fold after_write registers writes) (index_of counter) v
+      → fold after_write (set registers (index_of counter) v) writes ≡ set (fold after_write registers writes)
+      (index_of counter) v
   set_writes [] registers v h = refl
   set_writes (w ∷ writes) registers v h =
-      ap (λ (rs : List ℕ). fold after_write rs writes) (set_comm registers (index_of counter) (index_of w.0.0) v w.1 (λ e. h w (inl refl) (sym e)))
+      ap (λ (rs : List ℕ). fold after_write rs writes)
+      (set_comm registers (index_of counter) (index_of w.0.0) v w.1 (λ e. h w (inl refl) (sym e)))
       ∙ set_writes writes (set registers (index_of w.0.0) w.1) v (λ x k. h x (inr k))
 
-  pub kept : (writes : List ((Reg × ℕ) × ℕ)) (registers : List ℕ) → Elsewhere writes → get_or (fold after_write registers writes) (index_of counter) 0 ≡ get_or registers (index_of counter) 0
+  pub kept : (writes : List ((Reg × ℕ) × ℕ)) (registers : List ℕ) → Elsewhere writes
+      → get_or (fold after_write registers writes) (index_of counter) 0 ≡ get_or registers (index_of counter) 0
   kept [] registers h = refl
   kept (w ∷ writes) registers h =
-      kept writes (set registers (index_of w.0.0) w.1) (λ x k. h x (inr k)) ∙ get_or-set_other registers (index_of w.0.0) (index_of counter) w.1 0 (λ e. h w (inl refl) (sym e))
+      kept writes (set registers (index_of w.0.0) w.1) (λ x k. h x (inr k))
+      ∙ get_or-set_other registers (index_of w.0.0) (index_of counter) w.1 0 (λ e. h w (inl refl) (sym e))
 
   -- ---- what doesn't touch the counter
 
@@ -75,52 +61,65 @@ module _ (counter : Reg) where
     unread : (reg : Reg) → reads_register entry.insn reg ≡ true → index_of reg ≢ index_of counter
     unread reg reads e =
         let same : reg ≡ counter = same_register reg counter e in
-        false≢true (sym free ∙ or_right (steps_on counter entry) _ (subst (λ r. reads_register entry.insn r ≡ true) same reads))
+        false≢true (sym free ∙ or_right (steps_on counter entry) _
+        (subst (λ r. reads_register entry.insn r ≡ true) same reads))
 
     unwritten : (w : Reg × ℕ) → In w (register_writes entry.insn) → index_of w.0 ≢ index_of counter
     unwritten w h e =
         let same : w.0 ≡ counter = same_register w.0 counter e in
         let found : same_reg w.0 counter ≡ true = subst (λ r. same_reg w.0 r ≡ true) same (same_reg-refl w.0) in
-        false≢true (sym free ∙ or_left _ (reads_register entry.insn counter) (any_in (λ (write : Reg × ℕ). same_reg write.0 counter) w (register_writes entry.insn) h found))
+        false≢true (sym free ∙ or_left _ (reads_register entry.insn counter)
+        (any_in (λ (write : Reg × ℕ). same_reg write.0 counter) w (register_writes entry.insn) h found))
 
     elsewhere : (machine : Machine) → Elsewhere (act_in machine entry).writes
     elsewhere machine w h = unwritten w.0 (act_writes entry.insn (word_in machine) (byte_in machine) w h)
 
     no_step : steps_on counter entry ≡ false
-    no_step = ⊎_elim {C = steps_on counter entry ≡ false} (λ t. absurd (false≢true (sym free ∙ or_left _ _ t))) (λ f. f) (cases_Bool (steps_on counter entry))
+    no_step = ⊎_elim {C = steps_on counter entry ≡ false} (λ t. absurd (false≢true (sym free ∙ or_left _ _ t))) (λ f. f)
+        (cases_Bool (steps_on counter entry))
 
     pub value_kept : (machine : Machine) → word_in (after_entry entry machine) counter ≡ word_in machine counter
     value_kept machine = kept (act_in machine entry).writes machine.registers (elsewhere machine)
 
     pub acts_alike : (v : ℕ) (machine : Machine) → act_in (with_word counter v machine) entry ≡ act_in machine entry
     acts_alike v machine =
-        act_same entry.insn (word_in (with_word counter v machine)) (word_in machine) (byte_in machine) (byte_in machine)
+        act_same entry.insn (word_in (with_word counter v machine)) (word_in machine) (byte_in machine)
+        (byte_in machine)
         (λ reg h. get_or-set_other machine.registers (index_of counter) (index_of reg) v 0 (unread reg h)) (λ a h. refl)
 
-    pub commutes : (v : ℕ) (machine : Machine) → after_entry entry (with_word counter v machine) ≡ with_word counter v (after_entry entry machine)
+    pub commutes : (v : ℕ) (machine : Machine)
+        → after_entry entry (with_word counter v machine) ≡ with_word counter v (after_entry entry machine)
     commutes v machine =
         ap (λ (act : Act). after_act entry.line act (with_word counter v machine)) (acts_alike v machine)
-        ∙ ap (λ (rs : List ℕ). machine_of rs (after_access machine.memory (act_in machine entry).access) (after_fault machine.faults entry.line (is_fault (act_in machine entry).access)))
+        ∙ ap (λ (rs : List ℕ). machine_of rs (after_access machine.memory (act_in machine entry).access)
+        (after_fault machine.faults entry.line (is_fault (act_in machine entry).access)))
         (set_writes (act_in machine entry).writes machine.registers v (elsewhere machine))
 
-  pub free_commutes : (path : List SerialInsn) → ((e : SerialInsn) → In e path → touches counter e ≡ false) → (v : ℕ) (machine : Machine)
+  pub free_commutes : (path : List SerialInsn) → ((e : SerialInsn) → In e path → touches counter e ≡ false)
+      → (v : ℕ) (machine : Machine)
       → machine_after path (with_word counter v machine) ≡ with_word counter v (machine_after path machine)
   free_commutes [] free v machine = refl
   free_commutes (entry ∷ path) free v machine =
-      ap (λ (m : Machine). machine_after path m) (commutes entry (free entry (inl refl)) v machine) ∙ free_commutes path (λ e h. free e (inr h)) v (after_entry entry machine)
+      ap (λ (m : Machine). machine_after path m) (commutes entry (free entry (inl refl)) v machine)
+      ∙ free_commutes path (λ e h. free e (inr h)) v (after_entry entry machine)
 
   -- ---- the work of a path
 
-  pub work_with : (entry : SerialInsn) (path : List SerialInsn) → touches counter entry ≡ false → work_of counter (entry ∷ path) ≡ entry ∷ work_of counter path
+  pub work_with : (entry : SerialInsn) (path : List SerialInsn) → touches counter entry ≡ false
+      → work_of counter (entry ∷ path) ≡ entry ∷ work_of counter path
   work_with entry path free = ap (λ b. cond (not b) (entry ∷ work_of counter path) (work_of counter path)) free
 
-  pub work_without : (entry : SerialInsn) (path : List SerialInsn) → touches counter entry ≡ true → work_of counter (entry ∷ path) ≡ work_of counter path
+  pub work_without : (entry : SerialInsn) (path : List SerialInsn) → touches counter entry ≡ true
+      → work_of counter (entry ∷ path) ≡ work_of counter path
   work_without entry path t = ap (λ b. cond (not b) (entry ∷ work_of counter path) (work_of counter path)) t
 
-  pub work_commutes : (path : List SerialInsn) (v : ℕ) (machine : Machine) → machine_after (work_of counter path) (with_word counter v machine) ≡ with_word counter v (machine_after (work_of counter path) machine)
+  pub work_commutes : (path : List SerialInsn) (v : ℕ) (machine : Machine)
+      → machine_after (work_of counter path) (with_word counter v machine) ≡ with_word counter v
+      (machine_after (work_of counter path) machine)
   work_commutes [] v machine = refl
   work_commutes (entry ∷ path) v machine =
-      ⊎_elim {C = machine_after (work_of counter (entry ∷ path)) (with_word counter v machine) ≡ with_word counter v (machine_after (work_of counter (entry ∷ path)) machine)}
+      ⊎_elim {C = machine_after (work_of counter (entry ∷ path)) (with_word counter v machine) ≡ with_word counter v
+      (machine_after (work_of counter (entry ∷ path)) machine)}
       (λ t. ap (λ (p : List SerialInsn). machine_after p (with_word counter v machine)) (work_without entry path t)
       ∙ work_commutes path v machine
       ∙ ap (λ (p : List SerialInsn). with_word counter v (machine_after p machine)) (sym (work_without entry path t)))
@@ -133,26 +132,33 @@ module _ (counter : Reg) where
   -- ---- a path, instruction by instruction
 
   abbrev Apart : List SerialInsn → ℕ → Machine → Type 0
-  Apart path value machine = machine_after path machine ≡ with_word counter (value - steps_in counter path) (machine_after (work_of counter path) machine)
+  Apart path value machine = machine_after path machine ≡ with_word counter (value - steps_in counter path)
+      (machine_after (work_of counter path) machine)
 
-  pub step_more : (entry : SerialInsn) (path : List SerialInsn) → steps_on counter entry ≡ true → steps_in counter (entry ∷ path) ≡ size_of entry + steps_in counter path
+  pub step_more : (entry : SerialInsn) (path : List SerialInsn) → steps_on counter entry ≡ true
+      → steps_in counter (entry ∷ path) ≡ size_of entry + steps_in counter path
   step_more entry path t = cond-true _ _ _ t
 
-  pub no_more : (entry : SerialInsn) (path : List SerialInsn) → steps_on counter entry ≡ false → steps_in counter (entry ∷ path) ≡ steps_in counter path
+  pub no_more : (entry : SerialInsn) (path : List SerialInsn) → steps_on counter entry ≡ false
+      → steps_in counter (entry ∷ path) ≡ steps_in counter path
   no_more entry path f = cond-false _ _ _ f
 
-  counts_behind : (entry : SerialInsn) (path : List SerialInsn) (value : ℕ) → steps_on counter entry ≡ false → CountsFrom counter value (entry ∷ path) → CountsFrom counter value path
+  counts_behind : (entry : SerialInsn) (path : List SerialInsn) (value : ℕ) → steps_on counter entry ≡ false
+      → CountsFrom counter value (entry ∷ path) → CountsFrom counter value path
   counts_behind entry path value f counts i other at t =
       elim (counts (suc i) other at t) [
-        | inl l ↦ (let e : steps_in counter (entry ∷ take i path) ≡ steps_in counter (take i path) = no_more entry (take i path) f in
+        | inl l ↦ (let e : steps_in counter (entry ∷ take i path) ≡ steps_in counter (take i path) = no_more entry
+            (take i path) f in
             let u : steps_in counter (entry ∷ take i path) + size_of other ≤ value = l in inl (omega arith))
         | inr z ↦ inr z
       ]
 
-  counts_less : (entry : SerialInsn) (path : List SerialInsn) (value : ℕ) → steps_on counter entry ≡ true → CountsFrom counter value (entry ∷ path) → CountsFrom counter (value - size_of entry) path
+  counts_less : (entry : SerialInsn) (path : List SerialInsn) (value : ℕ) → steps_on counter entry ≡ true
+      → CountsFrom counter value (entry ∷ path) → CountsFrom counter (value - size_of entry) path
   counts_less entry path value t counts i other at s =
       elim (counts (suc i) other at s) [
-        | inl l ↦ (let e : steps_in counter (entry ∷ take i path) ≡ size_of entry + steps_in counter (take i path) = step_more entry (take i path) t in
+        | inl l ↦ (let e : steps_in counter (entry ∷ take i path) ≡ size_of entry + steps_in counter (take i path) =
+            step_more entry (take i path) t in
             let u : steps_in counter (entry ∷ take i path) + size_of other ≤ value = l in inl (omega arith))
         | inr z ↦ inr z
       ]
@@ -162,35 +168,50 @@ module _ (counter : Reg) where
 
   module _ (number : ℕ) where
     -- one instruction before a path that does so
-    module _ (entry : SerialInsn) (path : List SerialInsn) (value : ℕ) (machine : Machine) (is_counted : IsCounted counter number entry) (counts : CountsFrom counter value (entry ∷ path))
+    module _ (entry : SerialInsn) (path : List SerialInsn) (value : ℕ) (machine : Machine)
+        (is_counted : IsCounted counter number entry) (counts : CountsFrom counter value (entry ∷ path))
         (sound : IsSound machine) (is : word_in machine counter ≡ value) (small : value < 2 ^ 32)
-        (rest : (v : ℕ) (m : Machine) → CountsFrom counter v path → IsSound m → word_in m counter ≡ v → v < 2 ^ 32 → Apart path v m) where
+        (rest : (v : ℕ) (m : Machine) → CountsFrom counter v path → IsSound m → word_in m counter ≡ v → v < 2 ^ 32
+        → Apart path v m) where
       sound_next : IsSound (after_entry entry machine)
       sound_next = sound_act entry.line (act_in machine entry) machine sound
 
       -- what leaves the machine as it was
-      same : steps_on counter entry ≡ false → touches counter entry ≡ true → after_entry entry machine ≡ machine → Apart (entry ∷ path) value machine
+      same : steps_on counter entry ≡ false → touches counter entry ≡ true → after_entry entry machine ≡ machine
+          → Apart (entry ∷ path) value machine
       same f t e =
           ap (λ (m : Machine). machine_after path m) e
           ∙ rest value machine (counts_behind entry path value f counts) sound is small
-          ∙ ap (λ n. with_word counter (value - n) (machine_after (work_of counter path) machine)) (sym (no_more entry path f))
-          ∙ ap (λ (p : List SerialInsn). with_word counter (value - steps_in counter (entry ∷ path)) (machine_after p machine)) (sym (work_without entry path t))
+          ∙ ap (λ n. with_word counter (value - n) (machine_after (work_of counter path) machine))
+          (sym (no_more entry path f))
+          ∙ ap (λ (p : List SerialInsn). with_word counter (value - steps_in counter (entry ∷ path))
+          (machine_after p machine)) (sym (work_without entry path t))
 
       -- what leaves it but for the counter
-      less : (left : ℕ) → steps_on counter entry ≡ true → left ≡ value - size_of entry → after_entry entry machine ≡ with_word counter left machine → Apart (entry ∷ path) value machine
+      less : (left : ℕ) → steps_on counter entry ≡ true → left ≡ value - size_of entry
+          → after_entry entry machine ≡ with_word counter left machine → Apart (entry ∷ path) value machine
       less left t l e =
-          let inside : index_of counter < length machine.registers = (let n : length machine.registers ≡ 32 = sound.registers in let k : index_of counter < 32 = index_within counter in omega arith) in
+          let inside : index_of counter < length machine.registers =
+          (let n : length machine.registers ≡ 32 = sound.registers in let k : index_of counter < 32 =
+          index_within counter in omega arith) in
           let next : IsSound (with_word counter left machine) = subst (λ (m : Machine). IsSound m) e sound_next in
-          let there : word_in (with_word counter left machine) counter ≡ value - size_of entry = get_or-set_same machine.registers (index_of counter) left 0 inside ∙ l in
+          let there : word_in (with_word counter left machine) counter ≡ value - size_of entry = get_or-set_same
+          machine.registers (index_of counter) left 0 inside ∙ l in
           let fewer : value - size_of entry - steps_in counter path ≡ value - steps_in counter (entry ∷ path)
-          = (let s : steps_in counter (entry ∷ path) ≡ size_of entry + steps_in counter path = step_more entry path t in omega arith) in
+          = (let s : steps_in counter (entry ∷ path) ≡ size_of entry + steps_in counter path = step_more entry path t in
+          omega arith) in
           ap (λ (m : Machine). machine_after path m) e
-          ∙ rest (value - size_of entry) (with_word counter left machine) (counts_less entry path value t counts) next there (omega arith)
-          ∙ ap (λ (m : Machine). with_word counter (value - size_of entry - steps_in counter path) m) (work_commutes path left machine)
-          ∙ ap (λ (rs : List ℕ). machine_of rs (machine_after (work_of counter path) machine).memory (machine_after (work_of counter path) machine).faults)
-          (set_again (machine_after (work_of counter path) machine).registers (index_of counter) left (value - size_of entry - steps_in counter path))
+          ∙ rest (value - size_of entry) (with_word counter left machine) (counts_less entry path value t counts) next
+          there (omega arith)
+          ∙ ap (λ (m : Machine). with_word counter (value - size_of entry - steps_in counter path) m)
+          (work_commutes path left machine)
+          ∙ ap (λ (rs : List ℕ). machine_of rs (machine_after (work_of counter path) machine).memory
+          (machine_after (work_of counter path) machine).faults)
+          (set_again (machine_after (work_of counter path) machine).registers (index_of counter) left
+          (value - size_of entry - steps_in counter path))
           ∙ ap (λ n. with_word counter n (machine_after (work_of counter path) machine)) fewer
-          ∙ ap (λ (p : List SerialInsn). with_word counter (value - steps_in counter (entry ∷ path)) (machine_after p machine)) (sym (work_without entry path (touched entry t)))
+          ∙ ap (λ (p : List SerialInsn). with_word counter (value - steps_in counter (entry ∷ path))
+          (machine_after p machine)) (sym (work_without entry path (touched entry t)))
 
       -- a step that finds less than it takes stops at 0
       at_zero : steps_on counter entry ≡ true → value < size_of entry → Apart (entry ∷ path) value machine
@@ -200,49 +221,65 @@ module _ (counter : Reg) where
             | inr stops ↦ (let one : size_of entry ≡ 1 = stops.one in
                 let z : value ≡ 0 = omega arith in
                 less 0 t (omega arith)
-                (ap (λ (act : Act). after_act entry.line act machine) (stops.stops (word_in machine) (byte_in machine) (is ∙ z))
+                (ap (λ (act : Act). after_act entry.line act machine)
+                (stops.stops (word_in machine) (byte_in machine) (is ∙ z))
                 ∙ sym (ap (λ (rs : List ℕ). machine_of rs machine.memory machine.faults)
-                (ap (λ v. set machine.registers (index_of counter) v) (sym (is ∙ z)) ∙ set-get_or machine.registers (index_of counter) 0))))
+                (ap (λ v. set machine.registers (index_of counter) v) (sym (is ∙ z))
+                ∙ set-get_or machine.registers (index_of counter) 0))))
           ]
 
       above_zero : steps_on counter entry ≡ true → size_of entry ≤ value → Apart (entry ∷ path) value machine
       above_zero t enough =
           less (value - size_of entry) t refl
-          (ap (λ (act : Act). after_act entry.line act machine) (is_counted.step t (word_in machine) (byte_in machine) (omega arith) (omega arith))
+          (ap (λ (act : Act). after_act entry.line act machine)
+          (is_counted.step t (word_in machine) (byte_in machine) (omega arith) (omega arith))
           ∙ ap (λ v. with_word counter (v - size_of entry) machine) is)
 
       tests : steps_on counter entry ≡ false → touches counter entry ≡ true → Apart (entry ∷ path) value machine
       tests f t = same f t (either (word_in machine counter == 0) refl)
         where
           either : (b : Bool) → (word_in machine counter == 0) ≡ b → after_entry entry machine ≡ machine
-          either true z = ap (λ (act : Act). after_act entry.line act machine) (is_counted.test f t (word_in machine) (byte_in machine) ∙ cond-true _ _ _ z)
-          either false z = ap (λ (act : Act). after_act entry.line act machine) (is_counted.test f t (word_in machine) (byte_in machine) ∙ cond-false _ _ _ z)
+          either true z = ap (λ (act : Act). after_act entry.line act machine)
+              (is_counted.test f t (word_in machine) (byte_in machine) ∙ cond-true _ _ _ z)
+          either false z = ap (λ (act : Act). after_act entry.line act machine)
+              (is_counted.test f t (word_in machine) (byte_in machine) ∙ cond-false _ _ _ z)
 
       free : steps_on counter entry ≡ false → touches counter entry ≡ false → Apart (entry ∷ path) value machine
       free f u =
-          rest value (after_entry entry machine) (counts_behind entry path value f counts) sound_next (value_kept entry u machine ∙ is) small
-          ∙ ap (λ n. with_word counter (value - n) (machine_after (work_of counter path) (after_entry entry machine))) (sym (no_more entry path f))
-          ∙ ap (λ (p : List SerialInsn). with_word counter (value - steps_in counter (entry ∷ path)) (machine_after p machine)) (sym (work_with entry path u))
+          rest value (after_entry entry machine) (counts_behind entry path value f counts) sound_next
+          (value_kept entry u machine ∙ is) small
+          ∙ ap (λ n. with_word counter (value - n) (machine_after (work_of counter path) (after_entry entry machine)))
+          (sym (no_more entry path f))
+          ∙ ap (λ (p : List SerialInsn). with_word counter (value - steps_in counter (entry ∷ path))
+          (machine_after p machine)) (sym (work_with entry path u))
 
       one_more : Apart (entry ∷ path) value machine
       one_more =
           ⊎_elim {C = Apart (entry ∷ path) value machine}
-          (λ t. ⊎_elim {C = Apart (entry ∷ path) value machine} (λ (l : value < size_of entry). at_zero t l) (λ (l : size_of entry ≤ value). above_zero t l) (cases_lt value (size_of entry)))
-          (λ f. ⊎_elim {C = Apart (entry ∷ path) value machine} (λ t. tests f t) (λ u. free f u) (cases_Bool (touches counter entry)))
+          (λ t. ⊎_elim {C = Apart (entry ∷ path) value machine} (λ (l : value < size_of entry). at_zero t l)
+          (λ (l : size_of entry ≤ value). above_zero t l) (cases_lt value (size_of entry)))
+          (λ f. ⊎_elim {C = Apart (entry ∷ path) value machine} (λ t. tests f t) (λ u. free f u)
+          (cases_Bool (touches counter entry)))
           (cases_Bool (steps_on counter entry))
 
-    pub apart : (path : List SerialInsn) (value : ℕ) (machine : Machine) → ((e : SerialInsn) → In e path → IsCounted counter number e) → CountsFrom counter value path → IsSound machine
+    pub apart : (path : List SerialInsn) (value : ℕ) (machine : Machine)
+        → ((e : SerialInsn) → In e path → IsCounted counter number e) → CountsFrom counter value path
+        → IsSound machine
         → word_in machine counter ≡ value → value < 2 ^ 32 → Apart path value machine
     apart [] value machine counted counts sound is small =
         let e : value ≡ value - 0 = omega arith in
         sym (ap (λ (rs : List ℕ). machine_of rs machine.memory machine.faults)
-        (ap (λ v. set machine.registers (index_of counter) v) (sym is) ∙ set-get_or machine.registers (index_of counter) 0))
+        (ap (λ v. set machine.registers (index_of counter) v) (sym is)
+        ∙ set-get_or machine.registers (index_of counter) 0))
         ∙ ap (λ v. with_word counter v machine) e
     apart (entry ∷ path) value machine counted counts sound is small =
-        one_more entry path value machine (counted entry (inl refl)) counts sound is small (λ v m c s e l. apart path v m (λ x h. counted x (inr h)) c s e l)
+        one_more entry path value machine (counted entry (inl refl)) counts sound is small
+        (λ v m c s e l. apart path v m (λ x h. counted x (inr h)) c s e l)
 
     pub stands_apart : (path : List SerialInsn) (opening : Machine) → CounterStandsApart counter number path opening
     stands_apart path opening counted counts sound small =
         serial_machine path opening
-        ∙ apart path (word_in opening counter) opening (In-All (IsCounted counter number) path counted) counts sound refl small
-        ∙ ap (λ (m : Machine). with_word counter (word_in opening counter - steps_in counter path) m) (sym (serial_machine (work_of counter path) opening))
+        ∙ apart path (word_in opening counter) opening (In-All (IsCounted counter number) path counted) counts sound
+        refl small
+        ∙ ap (λ (m : Machine). with_word counter (word_in opening counter - steps_in counter path) m)
+        (sym (serial_machine (work_of counter path) opening))

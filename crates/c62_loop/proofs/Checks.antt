@@ -1,25 +1,26 @@
 -- Finite checks of distances, turns and lists.
-use Rattle.std.proofs.Common.{◌≡◌, ℕ, zero, suc, ◌+◌, ◌<◌, ◌≤◌, ℤ, pos, ◌+ℤ◌, ◌≤ℤ◌, Bool, true, false, not, ◌&&◌, ◌||◌, leb, ltb, List, [], ◌∷◌, length, Option, Some, None, refl, sym, ◌∙◌, ap, subst, inl, inr, ⊎_elim, arith}
-use Rattle.std.specs.Prelude.{◌↔◌, All, Contains, slice_get}
+use Rattle.std.proofs.Common.{◌≡◌, ℕ, zero, suc, ◌+◌, ◌<◌, ◌≤◌, ℤ, pos, ◌+ℤ◌, ◌≤ℤ◌, Bool, true, false, not, ◌&&◌, ◌||◌}
+use Rattle.std.proofs.Common.{leb, ltb, List, [], ◌∷◌, length, Option, Some, None, refl, sym, ◌∙◌, ap, subst, inl, inr}
+use Rattle.std.proofs.Common.{⊎_elim, arith, map}
+use Rattle.std.specs.Prelude.{All, Contains, slice_get}
 use Rattle.std.specs.Int.Signed.{le_z, le_z_yes}
 use Rattle.std.proofs.lemmas.Bool.{cases_lt, and_parts, leb-true, ltb-true}
 use Rattle.std.proofs.lemmas.Float.{T_from_true}
 use Rattle.std.proofs.lemmas.Int.{ints}
-use Rattle.std.proofs.lemmas.Option.{none-some, same_Some, slice_get_within}
+use Rattle.std.proofs.lemmas.Option.{none-some, same_Some, get_or_from_slice_get, slice_get_within}
+use Rattle.std.specs.List.{list_all}
 use Rattle.std.specs.List.Sorted.{IsStrictlyIncreasing}
 use Rattle.c62_op.specs.declared.register.Reg.{Reg}
 use Rattle.c62_insn.specs.declared.insn.Insn.{Insn}
 use Rattle.c62_rules.specs.Dependence.{IsLatency}
-use Rattle.c62_rules.specs.Length.{landing_end}
 use Rattle.c62_depend.specs.Latency.{latency}
 use Rattle.c62_depend.proofs.Latencies.{latency-is}
 use Rattle.c62_packet.specs.declared.placed.Placed.{Placed}
-use Rattle.c62_packet.specs.Packed.{issue_of}
-use Rattle.c62_meaning.proofs.Lookup.{In, In_from_Contains, Contains_from_In}
+use Rattle.c62_meaning.proofs.Lookup.{In, In_from_Contains}
 use Rattle.c62_loop.specs.Counter.{steps_on}
 use Rattle.c62_loop.specs.Stage.{Straights, insns_of, KeepDistances}
 use Rattle.c62_loop.specs.Whole.{entry_of, IsInTurn, AreInTurn, StandInTurn}
-use Rattle.c62_loop.proofs.Turning.{all_in}
+use Rattle.c62_loop.proofs.Lists.{all_in}
 
 -- ---- finite checks
 
@@ -31,7 +32,8 @@ pub below : (f : ℕ → Bool) (n k : ℕ) → all_below f n ≡ true → k < n 
 below f zero k e l = absurd (omega arith)
 below f (suc n) k e l =
     ⊎_elim {C = f k ≡ true} (λ (u : k < n). below f n k (and_parts (f n) (all_below f n) e).1 u)
-    (λ (u : n ≤ k). let s : n ≡ k = omega arith in subst (λ m. f m ≡ true) s (and_parts (f n) (all_below f n) e).0) (cases_lt k n)
+    (λ (u : n ≤ k). let s : n ≡ k = omega arith in subst (λ m. f m ≡ true) s (and_parts (f n) (all_below f n) e).0)
+    (cases_lt k n)
 
 -- a latency is kept
 abbrev pub is_kept : Option ℤ → Option Placed → Option Placed → Bool
@@ -39,9 +41,11 @@ is_kept (Some l) (Some p) (Some q) = le_z (pos p.cycle +ℤ l) (pos q.cycle)
 is_kept _ _ _ = true
 
 abbrev pub are_kept : List Insn → List Placed → ℕ → Bool
-are_kept path placed n = all_below (λ j. all_below (λ i. is_kept (latency path i j) (slice_get placed i) (slice_get placed j)) j) n
+are_kept path placed n = all_below
+    (λ j. all_below (λ i. is_kept (latency path i j) (slice_get placed i) (slice_get placed j)) j) n
 
-pub keep_all : (straights : Straights) (trips : ℕ) (placed : List Placed) → are_kept (insns_of straights trips) placed (length placed) ≡ true
+pub keep_all : (straights : Straights) (trips : ℕ) (placed : List Placed)
+    → are_kept (insns_of straights trips) placed (length placed) ≡ true
     → KeepDistances (λ one other. false) straights trips placed
 keep_all straights trips placed e i j p q bound at_p at_q asked needed =
     by_latency (latency (insns_of straights trips) i j) refl (latency-is (insns_of straights trips) i j)
@@ -49,33 +53,32 @@ keep_all straights trips placed e i j p q bound at_p at_q asked needed =
     kept : is_kept (latency (insns_of straights trips) i j) (slice_get placed i) (slice_get placed j) ≡ true
     kept =
         below (λ i. is_kept (latency (insns_of straights trips) i j) (slice_get placed i) (slice_get placed j)) j i
-        (below (λ j. all_below (λ i. is_kept (latency (insns_of straights trips) i j) (slice_get placed i) (slice_get placed j)) j) (length placed) j e (slice_get_within placed j q at_q)) asked.bounds.before
+        (below (λ j. all_below
+        (λ i. is_kept (latency (insns_of straights trips) i j) (slice_get placed i) (slice_get placed j)) j)
+        (length placed) j e (slice_get_within placed j q at_q)) asked.bounds.before
 
-    by_latency : (o : Option ℤ) → latency (insns_of straights trips) i j ≡ o → IsLatency (insns_of straights trips) i j o → (pos p.cycle +ℤ bound) ≤ℤ pos q.cycle
+    by_latency : (o : Option ℤ) → latency (insns_of straights trips) i j ≡ o
+        → IsLatency (insns_of straights trips) i j o → (pos p.cycle +ℤ bound) ≤ℤ pos q.cycle
     by_latency None at none = absurd (none (bound, asked.bounds))
     by_latency (Some l) at greatest =
         let most : bound ≤ℤ l = greatest.greatest bound asked.bounds in
         let here : is_kept (Some l) (Some p) (Some q) ≡ true
-        = ap (λ o. is_kept (Some l) o (Some q)) (sym at_p) ∙ ap (λ o. is_kept (Some l) (slice_get placed i) o) (sym at_q)
+        = ap (λ o. is_kept (Some l) o (Some q)) (sym at_p)
+        ∙ ap (λ o. is_kept (Some l) (slice_get placed i) o) (sym at_q)
         ∙ ap (λ o. is_kept o (slice_get placed i) (slice_get placed j)) (sym at) ∙ kept in
-        let fits : (pos p.cycle +ℤ l) ≤ℤ pos q.cycle = le_z_yes (T_from_true (le_z (pos p.cycle +ℤ l) (pos q.cycle)) here) in
+        let fits : (pos p.cycle +ℤ l) ≤ℤ pos q.cycle = le_z_yes
+        (T_from_true (le_z (pos p.cycle +ℤ l) (pos q.cycle)) here) in
         omega (arith, ints, most, fits)
 
--- those of a list stand in another
-abbrev pub Within : List Placed → List Placed → Type 0
-Within [] ys = Unit {0}
-Within (x ∷ xs) ys = In x ys × Within xs ys
-
-pub within : (xs ys : List Placed) → Within xs ys → (p : Placed) → Contains xs p → Contains ys p
-within xs ys h p c = Contains_from_In p ys (inside xs h (In_from_Contains p xs c))
-  where
-    inside : (xs : List Placed) → Within xs ys → In p xs → In p ys
-    inside [] h k = absurd k
-    inside (x ∷ xs) h (inl e) = subst (λ z. In z ys) e h.0
-    inside (x ∷ xs) h (inr k) = inside xs h.1 k
-
-pub both : (xs ys : List Placed) → Within xs ys → Within ys xs → (p : Placed) → Contains xs p ↔ Contains ys p
-both xs ys h k p = (within xs ys h p, within ys xs k p)
+-- those of a list stand in another, at these places
+pub stand_at : (xs ys : List Placed) (places : List ℕ) → map (slice_get ys) places ≡ map Some xs → (p : Placed)
+    → Contains xs p → Contains ys p
+stand_at [] ys places e p (k, l, same) = absurd (omega (arith, l))
+stand_at (x ∷ xs) ys [] e p c = absurd cc
+stand_at (x ∷ xs) ys (place ∷ places) e p (zero, l, same) =
+    let first : slice_get ys place ≡ Some x = cc in
+    (place, slice_get_within ys place x first, get_or_from_slice_get ys place x p first ∙ same)
+stand_at (x ∷ xs) ys (place ∷ places) e p (suc k, l, same) = stand_at xs ys places (cc) p (k, omega (arith, l), same)
 
 -- in turn
 abbrev pub is_in_turn : Reg → Placed → Placed → Bool
@@ -101,17 +104,23 @@ in_turn counter p q e =
       step = λ t. ltb-true p.cycle q.cycle (ap (λ b. not b || ltb p.cycle q.cycle) (sym t) ∙ parts.1);
     }
 
-pub behind_turn : (counter : Reg) (p : Placed) (qs : List Placed) → all_behind counter p qs ≡ true → (q : Placed) → In q qs → IsInTurn counter p q
+pub behind_turn : (counter : Reg) (p : Placed) (qs : List Placed) → all_behind counter p qs ≡ true → (q : Placed)
+    → In q qs → IsInTurn counter p q
 behind_turn counter p [] e q h = absurd h
 behind_turn counter p (x ∷ qs) e q (inl s) =
-    subst (λ z. IsInTurn counter p z) s (in_turn counter p x (and_parts (is_in_turn counter p x) (all_behind counter p qs) e).0)
-behind_turn counter p (x ∷ qs) e q (inr h) = behind_turn counter p qs (and_parts (is_in_turn counter p x) (all_behind counter p qs) e).1 q h
+    subst (λ z. IsInTurn counter p z) s
+    (in_turn counter p x (and_parts (is_in_turn counter p x) (all_behind counter p qs) e).0)
+behind_turn counter p (x ∷ qs) e q (inr h) = behind_turn counter p qs
+    (and_parts (is_in_turn counter p x) (all_behind counter p qs) e).1 q h
 
-pub lists_turn : (counter : Reg) (ps qs : List Placed) → all_turn counter ps qs ≡ true → (p q : Placed) → In p ps → In q qs → IsInTurn counter p q
+pub lists_turn : (counter : Reg) (ps qs : List Placed) → all_turn counter ps qs ≡ true → (p q : Placed) → In p ps
+    → In q qs → IsInTurn counter p q
 lists_turn counter [] qs e p q h k = absurd h
 lists_turn counter (x ∷ ps) qs e p q (inl s) k =
-    subst (λ z. IsInTurn counter z q) s (behind_turn counter x qs (and_parts (all_behind counter x qs) (all_turn counter ps qs) e).0 q k)
-lists_turn counter (x ∷ ps) qs e p q (inr h) k = lists_turn counter ps qs (and_parts (all_behind counter x qs) (all_turn counter ps qs) e).1 p q h k
+    subst (λ z. IsInTurn counter z q) s
+    (behind_turn counter x qs (and_parts (all_behind counter x qs) (all_turn counter ps qs) e).0 q k)
+lists_turn counter (x ∷ ps) qs e p q (inr h) k = lists_turn counter ps qs
+    (and_parts (all_behind counter x qs) (all_turn counter ps qs) e).1 p q h k
 
 pub are_turn : (counter : Reg) (ps qs : List Placed) → all_turn counter ps qs ≡ true → AreInTurn counter ps qs
 are_turn counter ps qs e p q c d = lists_turn counter ps qs e p q (In_from_Contains p ps c) (In_from_Contains q qs d)
@@ -119,8 +128,11 @@ are_turn counter ps qs e p q c d = lists_turn counter ps qs e p q (In_from_Conta
 pub turn_stands : (counter : Reg) (ps : List Placed) → stand_turn counter ps ≡ true → StandInTurn counter ps
 turn_stands counter [] e = search
 turn_stands counter (p ∷ ps) e =
-    let parts = and_parts (all_behind counter p ps) (stand_turn counter ps) e in
-    ((λ x q c d. subst (λ z. IsInTurn counter z q) (only x (In_from_Contains x (p ∷ []) c)) (behind_turn counter p ps parts.0 q (In_from_Contains q ps d))), turn_stands counter ps parts.1)
+    let parts = and_parts (all_behind counter p ps) (stand_turn counter ps) e in (
+      (λ x q c d. subst (λ z. IsInTurn counter z q) (only x (In_from_Contains x (p ∷ []) c))
+          (behind_turn counter p ps parts.0 q (In_from_Contains q ps d))),
+      turn_stands counter ps parts.1,
+    )
   where
     only : (x : Placed) → In x (p ∷ []) → p ≡ x
     only x (inl e) = e
@@ -131,10 +143,13 @@ abbrev pub EachFrom : (ℕ → Placed → Type 0) → ℕ → List Placed → Ty
 EachFrom P k [] = Unit {0}
 EachFrom P k (x ∷ xs) = P k x × EachFrom P (k + 1) xs
 
-pub each_at : (P : ℕ → Placed → Type 0) (k : ℕ) (xs : List Placed) → EachFrom P k xs → (i : ℕ) (p : Placed) → slice_get xs i ≡ Some p → P (k + i) p
+pub each_at : (P : ℕ → Placed → Type 0) (k : ℕ) (xs : List Placed) → EachFrom P k xs → (i : ℕ) (p : Placed)
+    → slice_get xs i ≡ Some p → P (k + i) p
 each_at P k [] h i p e = absurd (none-some p e)
-each_at P k (x ∷ xs) h zero p e = let s : k ≡ k + 0 = omega arith in subst (λ n. P n p) s (subst (λ z. P k z) (same_Some x p e) h.0)
-each_at P k (x ∷ xs) h (suc i) p e = let s : k + 1 + i ≡ k + suc i = omega arith in subst (λ n. P n p) s (each_at P (k + 1) xs h.1 i p e)
+each_at P k (x ∷ xs) h zero p e = let s : k ≡ k + 0 = omega arith in subst (λ n. P n p) s
+    (subst (λ z. P k z) (same_Some x p e) h.0)
+each_at P k (x ∷ xs) h (suc i) p e = let s : k + 1 + i ≡ k + suc i = omega arith in subst (λ n. P n p) s
+    (each_at P (k + 1) xs h.1 i p e)
 
 -- ---- lists, element by element
 
@@ -150,21 +165,27 @@ all_of {X = X} P xs h = all_in P xs (inside xs h)
     inside (y ∷ xs) h x (inl e) = subst P e h.0
     inside (y ∷ xs) h x (inr k) = inside xs h.1 x k
 
-abbrev pub land_by : ℕ → List Placed → Bool
-land_by n [] = true
-land_by n (p ∷ ps) = leb (landing_end (issue_of p)) n && land_by n ps
-
-pub lands : (n : ℕ) (ps : List Placed) → land_by n ps ≡ true → AllOf (λ p. landing_end (issue_of p) ≤ n) ps
-lands n [] e = tt
-lands n (p ∷ ps) e = let parts = and_parts (leb (landing_end (issue_of p)) n) (land_by n ps) e in (leb-true _ _ parts.0, lands n ps parts.1)
+-- a number of each is at most so great
+pub few_of : {X : Type 0} (number : X → ℕ) (most : ℕ) (xs : List X) → list_all (λ x. leb (number x) most) xs ≡ true
+    → All (λ x. number x ≤ most) xs
+few_of {X = X} number most xs e = all_in (λ x. number x ≤ most) xs (inside xs e)
+  where
+    inside : (xs : List X) → list_all (λ x. leb (number x) most) xs ≡ true → (x : X) → In x xs → number x ≤ most
+    inside [] e x h = absurd h
+    inside (y ∷ xs) e x h =
+        let parts = and_parts (leb (number y) most) (list_all (λ z. leb (number z) most) xs) e in
+        elim h [
+          | inl same ↦ subst (λ z. number z ≤ most) same (leb-true (number y) most parts.0)
+          | inr later ↦ inside xs parts.1 x later
+        ]
 
 pub rises_one : (a : ℕ) → IsStrictlyIncreasing (a ∷ [])
 rises_one a k l = absurd (omega arith)
 
-pub rises_three : (a b c : ℕ) → a < b → b < c → IsStrictlyIncreasing (a ∷ b ∷ c ∷ [])
-rises_three a b c l u zero k = l
-rises_three a b c l u (suc zero) k = u
-rises_three a b c l u (suc (suc n)) k = absurd (omega arith)
+pub rises_three : IsStrictlyIncreasing (1 ∷ 3 ∷ 5 ∷ [])
+rises_three zero k = omega arith
+rises_three (suc zero) k = omega arith
+rises_three (suc (suc n)) k = absurd (omega arith)
 
 pub rises_four : IsStrictlyIncreasing (0 ∷ 1 ∷ 3 ∷ 5 ∷ [])
 rises_four zero k = omega arith

@@ -1,40 +1,34 @@
 -- Steps and branches of a path, part by part.
-use Rattle.std.proofs.Common.{◌≡◌, ℕ, zero, suc, ◌+◌, ◌-◌, ◌≤◌, true, false, List, [], ◌∷◌, ◌++◌, length, take, Some, refl, sym, ◌∙◌, ap, subst, ◌⊎◌, inl, inr, ⊎_elim, arith}
+use Rattle.std.proofs.Common.{◌≡◌, ℕ, zero, suc, ◌+◌, ◌-◌, ◌≤◌, true, false, List, [], ◌∷◌, ◌++◌, length, take, Some}
+use Rattle.std.proofs.Common.{refl, sym, ◌∙◌, ap, subst, ◌⊎◌, inl, inr, ⊎_elim, arith}
 use Rattle.std.specs.Prelude.{slice_get}
 use Rattle.std.proofs.lemmas.Bool.{cases_Bool}
 use Rattle.std.proofs.lemmas.Option.{none-some, same_Some}
 use Rattle.c62_op.specs.declared.register.Reg.{Reg}
 use Rattle.c62_read.specs.declared.block.SerialInsn.{SerialInsn}
 use Rattle.c62_serial.specs.State.{Machine}
-use Rattle.c62_serial.specs.Serial.{after_entry}
+use Rattle.c62_serial.specs.Serial.{after_entry, serial}
 use Rattle.c62_meaning.proofs.Lookup.{In, In-append_cases}
 use Rattle.c62_loop.specs.Counter.{size_of, steps_on, touches, StopsAtZero, IsCounted, steps_in, CountsFrom, work_of}
-use Rattle.c62_loop.specs.Loop.{Region, rounds, serial_path, IsCountedLoop}
-use Rattle.c62_loop.proofs.Apart.{machine_after, In-All, step_more, no_more, work_with, work_without}
-use Rattle.c62_loop.proofs.Along.{get_cases}
+use Rattle.c62_loop.specs.Loop.{Region, rounds, loop_path, IsCountedLoop}
+use Rattle.c62_loop.proofs.Lists.{get_cases, taken, taken_whole, taken_more}
+use Rattle.c62_loop.proofs.Machines.{machine_after, serial_machine, In-All}
+use Rattle.c62_loop.proofs.Apart.{work_with, work_without, step_more, no_more}
 
-pub after_both : (xs ys : List SerialInsn) (machine : Machine) → machine_after (xs ++ ys) machine ≡ machine_after ys (machine_after xs machine)
+pub after_both : (xs ys : List SerialInsn) (machine : Machine)
+    → machine_after (xs ++ ys) machine ≡ machine_after ys (machine_after xs machine)
 after_both [] ys machine = refl
 after_both (x ∷ xs) ys machine = after_both xs ys (after_entry x machine)
 
--- ---- fronts of lists
+pub serial_both : (xs ys : List SerialInsn) (machine : Machine)
+    → (serial (xs ++ ys) machine).machine ≡ (serial ys (serial xs machine).machine).machine
+serial_both xs ys machine =
+    serial_machine (xs ++ ys) machine
+    ∙ after_both xs ys machine
+    ∙ ap (λ (middle : Machine). machine_after ys middle) (sym (serial_machine xs machine))
+    ∙ sym (serial_machine ys (serial xs machine).machine)
 
-pub taken : {X : Type 0} (i j : ℕ) (xs : List X) (x : X) → slice_get (take i xs) j ≡ Some x → (slice_get xs j ≡ Some x) × (take j (take i xs) ≡ take j xs)
-taken zero j xs x e = absurd (none-some x e)
-taken (suc i) j [] x e = absurd (none-some x e)
-taken (suc i) zero (y ∷ xs) x e = (e, refl)
-taken (suc i) (suc j) (y ∷ xs) x e = let r = taken i j xs x e in (r.0, ap (λ ys. y ∷ ys) r.1)
-
-pub taken_whole : {X : Type 0} (xs ys : List X) (i : ℕ) (x : X) → slice_get xs i ≡ Some x → take i (xs ++ ys) ≡ take i xs
-taken_whole [] ys i x e = absurd (none-some x e)
-taken_whole (y ∷ xs) ys zero x e = refl
-taken_whole (y ∷ xs) ys (suc i) x e = ap (λ zs. y ∷ zs) (taken_whole xs ys i x e)
-
-pub taken_more : {X : Type 0} (xs ys : List X) (k : ℕ) → take (length xs + k) (xs ++ ys) ≡ xs ++ take k ys
-taken_more [] ys k = let e : 0 + k ≡ k = omega arith in ap (λ n. take n ys) e
-taken_more (x ∷ xs) ys k =
-    let e : suc (length xs) + k ≡ suc (length xs + k) = omega arith in
-    ap (λ n. take n (x ∷ (xs ++ ys))) e ∙ ap (λ zs. x ∷ zs) (taken_more xs ys k)
+-- ---- steps
 
 module _ (counter : Reg) where
   pub steps_both : (xs ys : List SerialInsn) → steps_in counter (xs ++ ys) ≡ steps_in counter xs + steps_in counter ys
@@ -43,7 +37,8 @@ module _ (counter : Reg) where
       let rest : steps_in counter (xs ++ ys) ≡ steps_in counter xs + steps_in counter ys = steps_both xs ys in
       ⊎_elim {C = steps_in counter ((x ∷ xs) ++ ys) ≡ steps_in counter (x ∷ xs) + steps_in counter ys}
       (λ t.
-      let a : steps_in counter (x ∷ (xs ++ ys)) ≡ size_of x + steps_in counter (xs ++ ys) = step_more counter x (xs ++ ys) t in
+      let a : steps_in counter (x ∷ (xs ++ ys)) ≡ size_of x + steps_in counter (xs ++ ys) = step_more counter x
+      (xs ++ ys) t in
       let b : steps_in counter (x ∷ xs) ≡ size_of x + steps_in counter xs = step_more counter x xs t in omega arith)
       (λ f.
       let a : steps_in counter (x ∷ (xs ++ ys)) ≡ steps_in counter (xs ++ ys) = no_more counter x (xs ++ ys) f in
@@ -51,17 +46,20 @@ module _ (counter : Reg) where
       (cases_Bool (steps_on counter x))
 
   -- a step has fewer before it than there are
-  pub steps_before : (xs : List SerialInsn) (i : ℕ) (entry : SerialInsn) → slice_get xs i ≡ Some entry → steps_on counter entry ≡ true → steps_in counter (take i xs) + size_of entry ≤ steps_in counter xs
+  pub steps_before : (xs : List SerialInsn) (i : ℕ) (entry : SerialInsn) → slice_get xs i ≡ Some entry
+      → steps_on counter entry ≡ true → steps_in counter (take i xs) + size_of entry ≤ steps_in counter xs
   steps_before [] i entry at t = absurd (none-some entry at)
   steps_before (x ∷ xs) zero entry at t =
       let is : x ≡ entry = same_Some x entry at in
       let same : size_of x ≡ size_of entry = ap size_of is in
-      let e : steps_in counter (x ∷ xs) ≡ size_of x + steps_in counter xs = step_more counter x xs (subst (λ z. steps_on counter z ≡ true) (sym is) t) in omega arith
+      let e : steps_in counter (x ∷ xs) ≡ size_of x + steps_in counter xs = step_more counter x xs
+      (subst (λ z. steps_on counter z ≡ true) (sym is) t) in omega arith
   steps_before (x ∷ xs) (suc i) entry at t =
       let rest : steps_in counter (take i xs) + size_of entry ≤ steps_in counter xs = steps_before xs i entry at t in
       ⊎_elim {C = steps_in counter (x ∷ take i xs) + size_of entry ≤ steps_in counter (x ∷ xs)}
       (λ s.
-      let a : steps_in counter (x ∷ take i xs) ≡ size_of x + steps_in counter (take i xs) = step_more counter x (take i xs) s in
+      let a : steps_in counter (x ∷ take i xs) ≡ size_of x + steps_in counter (take i xs) = step_more counter x
+      (take i xs) s in
       let b : steps_in counter (x ∷ xs) ≡ size_of x + steps_in counter xs = step_more counter x xs s in omega arith)
       (λ s.
       let a : steps_in counter (x ∷ take i xs) ≡ steps_in counter (take i xs) = no_more counter x (take i xs) s in
@@ -70,7 +68,8 @@ module _ (counter : Reg) where
 
   -- ---- counting, part by part
 
-  pub counts_front : (i value : ℕ) (xs : List SerialInsn) → CountsFrom counter value xs → CountsFrom counter value (take i xs)
+  pub counts_front : (i value : ℕ) (xs : List SerialInsn) → CountsFrom counter value xs
+      → CountsFrom counter value (take i xs)
   counts_front i value xs counts j entry at t =
       let r = taken i j xs entry at in
       elim (counts j entry r.0 t) [
@@ -78,20 +77,25 @@ module _ (counter : Reg) where
         | inr z ↦ inr z
       ]
 
-  pub counts_both : (value : ℕ) (xs ys : List SerialInsn) → steps_in counter xs ≤ value → CountsFrom counter value xs → CountsFrom counter (value - steps_in counter xs) ys → CountsFrom counter value (xs ++ ys)
+  pub counts_both : (value : ℕ) (xs ys : List SerialInsn) → steps_in counter xs ≤ value → CountsFrom counter value xs
+      → CountsFrom counter (value - steps_in counter xs) ys → CountsFrom counter value (xs ++ ys)
   counts_both value xs ys small one other i entry at t = by_part (get_cases xs ys i entry at)
     where
-      by_part : (slice_get xs i ≡ Some entry) ⊎ ((k : ℕ) × (i ≡ length xs + k) × (slice_get ys k ≡ Some entry)) → (steps_in counter (take i (xs ++ ys)) + size_of entry ≤ value) ⊎ StopsAtZero counter entry
+      by_part : (slice_get xs i ≡ Some entry) ⊎ ((k : ℕ) × (i ≡ length xs + k) × (slice_get ys k ≡ Some entry))
+          → (steps_in counter (take i (xs ++ ys)) + size_of entry ≤ value) ⊎ StopsAtZero counter entry
       by_part (inl here) =
           elim (one i entry here t) [
-            | inl l ↦ inl (subst (λ zs. steps_in counter zs + size_of entry ≤ value) (sym (taken_whole xs ys i entry here)) l)
+            | inl l ↦ inl (subst (λ zs. steps_in counter zs + size_of entry ≤ value)
+                (sym (taken_whole xs ys i entry here)) l)
             | inr z ↦ inr z
           ]
       by_part (inr r) =
           elim (other r.0 entry r.2 t) [
             | inl l ↦ (let e : steps_in counter (take i (xs ++ ys)) ≡ steps_in counter (xs ++ take r.0 ys)
-                = ap (λ (n : ℕ). steps_in counter (take n (xs ++ ys))) r.1 ∙ ap (λ zs. steps_in counter zs) (taken_more xs ys r.0) in
-                let f : steps_in counter (xs ++ take r.0 ys) ≡ steps_in counter xs + steps_in counter (take r.0 ys) = steps_both xs (take r.0 ys) in
+                = ap (λ (n : ℕ). steps_in counter (take n (xs ++ ys))) r.1
+                ∙ ap (λ zs. steps_in counter zs) (taken_more xs ys r.0) in
+                let f : steps_in counter (xs ++ take r.0 ys) ≡ steps_in counter xs + steps_in counter (take r.0 ys) =
+                steps_both xs (take r.0 ys) in
                 let u : steps_in counter (take r.0 ys) + size_of entry ≤ value - steps_in counter xs = l in
                 let v : steps_in counter xs ≤ value = small in inl (omega arith))
             | inr z ↦ inr z
@@ -99,28 +103,35 @@ module _ (counter : Reg) where
 
   -- what has no steps counts from anywhere
   pub counts_none : (value : ℕ) (xs : List SerialInsn) → steps_in counter xs ≡ 0 → CountsFrom counter value xs
-  counts_none value xs none i entry at t = let l : steps_in counter (take i xs) + size_of entry ≤ steps_in counter xs = steps_before xs i entry at t in inl (omega arith)
+  counts_none value xs none i entry at t = let l : steps_in counter (take i xs) + size_of entry ≤ steps_in counter xs =
+      steps_before xs i entry at t in inl (omega arith)
 
   -- and what has one from a value above 0
   pub counts_one : (value : ℕ) (xs : List SerialInsn) → steps_in counter xs ≡ 1 → CountsFrom counter (suc value) xs
-  counts_one value xs one i entry at t = let l : steps_in counter (take i xs) + size_of entry ≤ steps_in counter xs = steps_before xs i entry at t in inl (omega arith)
+  counts_one value xs one i entry at t = let l : steps_in counter (take i xs) + size_of entry ≤ steps_in counter xs =
+      steps_before xs i entry at t in inl (omega arith)
 
-  steps_rounds : (body : List SerialInsn) (trips : ℕ) → steps_in counter body ≡ 1 → steps_in counter (rounds body trips) ≡ trips
+  steps_rounds : (body : List SerialInsn) (trips : ℕ) → steps_in counter body ≡ 1
+      → steps_in counter (rounds body trips) ≡ trips
   steps_rounds body zero one = refl
   steps_rounds body (suc trips) one =
       let rest : steps_in counter (rounds body trips) ≡ trips = steps_rounds body trips one in
-      let e : steps_in counter (body ++ rounds body trips) ≡ steps_in counter body + steps_in counter (rounds body trips) = steps_both body (rounds body trips) in omega arith
+      let e : steps_in counter (body ++ rounds body trips) ≡ steps_in counter body + steps_in counter
+      (rounds body trips) = steps_both body (rounds body trips) in omega arith
 
-  counts_rounds : (body : List SerialInsn) (trips : ℕ) → steps_in counter body ≡ 1 → CountsFrom counter trips (rounds body trips)
+  counts_rounds : (body : List SerialInsn) (trips : ℕ) → steps_in counter body ≡ 1
+      → CountsFrom counter trips (rounds body trips)
   counts_rounds body zero one i entry at t = absurd (none-some entry at)
   counts_rounds body (suc trips) one i entry at t =
       let left : trips ≡ suc trips - steps_in counter body = omega arith in
-      counts_both (suc trips) body (rounds body trips) (omega arith) (counts_one trips body one) (subst (λ n. CountsFrom counter n (rounds body trips)) left (counts_rounds body trips one)) i entry at t
+      counts_both (suc trips) body (rounds body trips) (omega arith) (counts_one trips body one)
+      (subst (λ n. CountsFrom counter n (rounds body trips)) left (counts_rounds body trips one)) i entry at t
 
   -- ---- work
 
   -- what is work doesn't touch the counter
-  pub in_work : (xs : List SerialInsn) (entry : SerialInsn) → In entry (work_of counter xs) → In entry xs × (touches counter entry ≡ false)
+  pub in_work : (xs : List SerialInsn) (entry : SerialInsn) → In entry (work_of counter xs) → In entry xs
+      × (touches counter entry ≡ false)
   in_work [] entry h = absurd h
   in_work (x ∷ xs) entry h =
       ⊎_elim {C = In entry (x ∷ xs) × (touches counter entry ≡ false)}
@@ -131,7 +142,8 @@ module _ (counter : Reg) where
       ])
       (cases_Bool (touches counter x))
 
-  pub no_work : (xs : List SerialInsn) → ((entry : SerialInsn) → In entry xs → touches counter entry ≡ true) → work_of counter xs ≡ []
+  pub no_work : (xs : List SerialInsn) → ((entry : SerialInsn) → In entry xs → touches counter entry ≡ true)
+      → work_of counter xs ≡ []
   no_work [] h = refl
   no_work (x ∷ xs) h = work_without counter x xs (h x (inl refl)) ∙ no_work xs (λ e k. h e (inr k))
 
@@ -140,31 +152,30 @@ module _ (counter : Reg) where
 module _ (region : Region) (loop : IsCountedLoop region) where
   in_rounds : (trips : ℕ) (entry : SerialInsn) → In entry (rounds region.body trips) → In entry region.body
   in_rounds zero entry h = absurd h
-  in_rounds (suc trips) entry h = elim (In-append_cases entry region.body (rounds region.body trips) h) [ inl k ↦ k | inr k ↦ in_rounds trips entry k ]
+  in_rounds (suc trips) entry h = elim (In-append_cases entry region.body (rounds region.body trips) h)
+      [ inl k ↦ k | inr k ↦ in_rounds trips entry k ]
 
-  pub path_counted : (trips : ℕ) (entry : SerialInsn) → In entry (serial_path region trips) → IsCounted region.counter region.number entry
-  path_counted trips entry h = elim (In-append_cases entry region.before (rounds region.body trips ++ region.behind) h) [
-    | inl k ↦ In-All (IsCounted region.counter region.number) region.before loop.before entry k
-    | inr k ↦ elim (In-append_cases entry (rounds region.body trips) region.behind k) [
-      | inl m ↦ In-All (IsCounted region.counter region.number) region.body loop.body entry (in_rounds trips entry m)
-      | inr m ↦ In-All (IsCounted region.counter region.number) region.behind loop.behind entry m
-    ]
+  pub path_counted : (trips : ℕ) (entry : SerialInsn) → In entry (loop_path region trips)
+      → IsCounted region.counter region.number entry
+  path_counted trips entry h = elim (In-append_cases entry (rounds region.body trips) region.behind h) [
+    | inl m ↦ In-All (IsCounted region.counter region.number) region.body loop.body entry (in_rounds trips entry m)
+    | inr m ↦ In-All (IsCounted region.counter region.number) region.behind loop.behind entry m
   ]
 
-  pub path_steps : (trips : ℕ) → steps_in region.counter (serial_path region trips) ≡ trips
+  pub path_steps : (trips : ℕ) → steps_in region.counter (loop_path region trips) ≡ trips
   path_steps trips =
-      let a : steps_in region.counter (serial_path region trips) ≡ steps_in region.counter region.before + steps_in region.counter (rounds region.body trips ++ region.behind)
-      = steps_both region.counter region.before (rounds region.body trips ++ region.behind) in
-      let b : steps_in region.counter (rounds region.body trips ++ region.behind) ≡ steps_in region.counter (rounds region.body trips) + steps_in region.counter region.behind
+      let b : steps_in region.counter (rounds region.body trips ++ region.behind) ≡ steps_in region.counter
+      (rounds region.body trips) + steps_in region.counter region.behind
       = steps_both region.counter (rounds region.body trips) region.behind in
-      let c : steps_in region.counter (rounds region.body trips) ≡ trips = steps_rounds region.counter region.body trips loop.one_step in
-      let d : steps_in region.counter region.before ≡ 0 = loop.no_step_before in
+      let c : steps_in region.counter (rounds region.body trips) ≡ trips = steps_rounds region.counter region.body trips
+      loop.one_step in
       let e : steps_in region.counter region.behind ≡ 0 = loop.no_step_behind in omega arith
 
-  pub path_counts : (trips : ℕ) → CountsFrom region.counter trips (serial_path region trips)
+  pub path_counts : (trips : ℕ) → CountsFrom region.counter trips (loop_path region trips)
   path_counts trips =
-      let left : trips ≡ trips - steps_in region.counter region.before = (let d : steps_in region.counter region.before ≡ 0 = loop.no_step_before in omega arith) in
-      counts_both region.counter trips region.before (rounds region.body trips ++ region.behind) (let d : steps_in region.counter region.before ≡ 0 = loop.no_step_before in omega arith) (counts_none region.counter trips region.before loop.no_step_before)
-      (subst (λ n. CountsFrom region.counter n (rounds region.body trips ++ region.behind)) left
-      (counts_both region.counter trips (rounds region.body trips) region.behind (let c : steps_in region.counter (rounds region.body trips) ≡ trips = steps_rounds region.counter region.body trips loop.one_step in omega arith) (counts_rounds region.counter region.body trips loop.one_step)
-      (counts_none region.counter (trips - steps_in region.counter (rounds region.body trips)) region.behind loop.no_step_behind)))
+      counts_both region.counter trips (rounds region.body trips) region.behind
+      (let c : steps_in region.counter (rounds region.body trips) ≡ trips = steps_rounds region.counter
+      region.body trips loop.one_step in omega arith)
+      (counts_rounds region.counter region.body trips loop.one_step)
+      (counts_none region.counter (trips - steps_in region.counter (rounds region.body trips)) region.behind
+      loop.no_step_behind)

@@ -1,5 +1,6 @@
 -- The rows of passes and epilog are those of the first pass, and of an epilog behind the prolog, so many cycles later.
-use Rattle.std.proofs.Common.{◌≡◌, ℕ, zero, suc, ◌+◌, ◌<◌, List, [], ◌∷◌, ◌++◌, map, refl, sym, ◌∙◌, ap, subst, ◌⊎◌, inl, inr, arith}
+use Rattle.std.proofs.Common.{◌≡◌, ℕ, zero, suc, ◌+◌, ◌<◌, List, [], ◌∷◌, ◌++◌, map, refl, sym, ◌∙◌, ap, subst, ◌⊎◌}
+use Rattle.std.proofs.Common.{inl, inr, arith}
 use Rattle.std.proofs.lemmas.List.{map-append}
 use Rattle.std.proofs.lemmas.Grind.{flat_map-append}
 use Rattle.c62_packet.specs.declared.placed.Placed.{Placed}
@@ -9,9 +10,10 @@ use Rattle.c62_meaning.proofs.Instances.{in_map}
 use Rattle.c62_flight.specs.Text.{Text, row_of}
 use Rattle.c62_flight.specs.Issued.{issue_in, issued_in, issued_on}
 use Rattle.c62_flight.specs.Laid.{straight}
-use Rattle.c62_loop.specs.Loop.{Pipelined, kernel_row, epilog_row, prolog_cycles, interval, pass_start, passes_from, visits_of}
+use Rattle.c62_loop.specs.Loop.{Pipelined, kernel_row, epilog_row, prolog_cycles, interval, pass_start, passes_from}
+use Rattle.c62_loop.specs.Loop.{visits_of}
 use Rattle.c62_loop.specs.Stage.{cycles_in}
-use Rattle.c62_loop.proofs.Turning.{in_mapped}
+use Rattle.c62_loop.proofs.Lists.{in_mapped}
 
 -- ---- rows that begin later
 
@@ -20,18 +22,26 @@ module _ (text : Text) (k : ℕ) where
   insns_later start [] = refl
   insns_later start (p ∷ ps) = ap (λ (qs : List Placed). issue_in (k + start) p ∷ qs) (insns_later start ps)
 
-  pub rows_later : (row start count : ℕ) → issued_on text (straight text row (k + start) count) ≡ map (moved k) (issued_on text (straight text row start count))
+  pub rows_later : (row start count : ℕ)
+      → issued_on text (straight text row (k + start) count) ≡ map (moved k)
+      (issued_on text (straight text row start count))
   rows_later row start zero = refl
   rows_later row start (suc count) =
       let e : k + start + (row_of text row).idle + 1 ≡ k + (start + (row_of text row).idle + 1) = omega arith in
-      ap (λ (ps : List Placed). ps ++ issued_on text (straight text (row + 1) (k + start + (row_of text row).idle + 1) count)) (insns_later start (row_of text row).insns)
-      ∙ ap (λ (n : ℕ). map (moved k) (map (issue_in start) (row_of text row).insns) ++ issued_on text (straight text (row + 1) n count)) e
-      ∙ ap (λ (ps : List Placed). map (moved k) (map (issue_in start) (row_of text row).insns) ++ ps) (rows_later (row + 1) (start + (row_of text row).idle + 1) count)
-      ∙ sym (map-append (moved k) (map (issue_in start) (row_of text row).insns) (issued_on text (straight text (row + 1) (start + (row_of text row).idle + 1) count)))
+      ap (λ (ps : List Placed). ps ++ issued_on text
+      (straight text (row + 1) (k + start + (row_of text row).idle + 1) count))
+      (insns_later start (row_of text row).insns)
+      ∙ ap (λ (n : ℕ). map (moved k) (map (issue_in start) (row_of text row).insns) ++ issued_on text
+      (straight text (row + 1) n count)) e
+      ∙ ap (λ (ps : List Placed). map (moved k) (map (issue_in start) (row_of text row).insns) ++ ps)
+      (rows_later (row + 1) (start + (row_of text row).idle + 1) count)
+      ∙ sym (map-append (moved k) (map (issue_in start) (row_of text row).insns)
+      (issued_on text (straight text (row + 1) (start + (row_of text row).idle + 1) count)))
 
 pub pass_at : (loop : Pipelined) (pass : ℕ) → pass_start loop pass ≡ cycles_in (interval loop) pass + prolog_cycles loop
 pass_at loop zero = omega arith
-pass_at loop (suc pass) = let e : pass_start loop pass ≡ cycles_in (interval loop) pass + prolog_cycles loop = pass_at loop pass in omega arith
+pass_at loop (suc pass) = let e : pass_start loop pass ≡ cycles_in (interval loop) pass + prolog_cycles loop = pass_at
+    loop pass in omega arith
 
 module _ (loop : Pipelined) where
   abbrev pub prolog_rows : List Placed
@@ -43,12 +53,16 @@ module _ (loop : Pipelined) where
   abbrev pub epilog_rows : List Placed
   epilog_rows = issued_on loop.text (straight loop.text (epilog_row loop) (prolog_cycles loop) loop.epilog)
 
-  one_pass : (pass : ℕ) → issued_on loop.text (straight loop.text (kernel_row loop) (pass_start loop pass) loop.kernel) ≡ map (moved (cycles_in (interval loop) pass)) kernel_rows
+  one_pass : (pass : ℕ)
+      → issued_on loop.text (straight loop.text (kernel_row loop) (pass_start loop pass) loop.kernel) ≡ map
+      (moved (cycles_in (interval loop) pass)) kernel_rows
   one_pass pass =
       ap (λ n. issued_on loop.text (straight loop.text (kernel_row loop) n loop.kernel)) (pass_at loop pass)
       ∙ rows_later loop.text (cycles_in (interval loop) pass) (kernel_row loop) (prolog_cycles loop) loop.kernel
 
-  last_rows : (passes : ℕ) → issued_on loop.text (straight loop.text (epilog_row loop) (pass_start loop passes) loop.epilog) ≡ map (moved (cycles_in (interval loop) passes)) epilog_rows
+  last_rows : (passes : ℕ)
+      → issued_on loop.text (straight loop.text (epilog_row loop) (pass_start loop passes) loop.epilog) ≡ map
+      (moved (cycles_in (interval loop) passes)) epilog_rows
   last_rows passes =
       ap (λ n. issued_on loop.text (straight loop.text (epilog_row loop) n loop.epilog)) (pass_at loop passes)
       ∙ rows_later loop.text (cycles_in (interval loop) passes) (epilog_row loop) (prolog_cycles loop) loop.epilog
@@ -58,70 +72,122 @@ module _ (loop : Pipelined) where
       → (k : ℕ) × (k < count) × (q : Placed) × In q kernel_rows × (p ≡ moved (cycles_in (interval loop) (pass + k)) q)
   from_passes pass zero p h = absurd h
   from_passes pass (suc count) p h =
-      elim (In-append_cases p (issued_on loop.text (straight loop.text (kernel_row loop) (pass_start loop pass) loop.kernel)) (issued_on loop.text (passes_from loop (suc pass) count))
-      (subst (λ ps. In p ps) (flat_map-append (issued_in loop.text) (straight loop.text (kernel_row loop) (pass_start loop pass) loop.kernel) (passes_from loop (suc pass) count)) h)) [
-        | inl m ↦ (let r = in_mapped (moved (cycles_in (interval loop) pass)) kernel_rows p (subst (λ ps. In p ps) (one_pass pass) m) in
-            let e : pass ≡ pass + 0 = omega arith in (0, omega arith, r.0, r.1, r.2 ∙ ap (λ n. moved (cycles_in (interval loop) n) r.0) e))
+      elim (In-append_cases p
+      (issued_on loop.text (straight loop.text (kernel_row loop) (pass_start loop pass) loop.kernel))
+      (issued_on loop.text (passes_from loop (suc pass) count))
+      (subst (λ ps. In p ps)
+      (flat_map-append (issued_in loop.text)
+      (straight loop.text (kernel_row loop) (pass_start loop pass) loop.kernel)
+      (passes_from loop (suc pass) count)) h)) [
+        | inl m ↦ (let r = in_mapped (moved (cycles_in (interval loop) pass)) kernel_rows p
+            (subst (λ ps. In p ps) (one_pass pass) m) in
+            let e : pass ≡ pass + 0 = omega arith in (
+              0,
+              omega arith,
+              r.0,
+              r.1,
+              r.2
+                  ∙ ap (λ n. moved (cycles_in (interval loop) n) r.0) e,
+            ))
         | inr m ↦ (let r = from_passes (suc pass) count p m in
             let l : r.0 < count = r.1 in
-            let e : suc pass + r.0 ≡ pass + suc r.0 = omega arith in (suc r.0, omega arith, r.2, r.3, r.4 ∙ ap (λ n. moved (cycles_in (interval loop) n) r.2) e))
+            let e : suc pass + r.0 ≡ pass + suc r.0 = omega arith in (
+              suc r.0,
+              omega arith,
+              r.2,
+              r.3,
+              r.4
+                  ∙ ap (λ n. moved (cycles_in (interval loop) n) r.2) e,
+            ))
       ]
 
-  to_passes : (pass count k : ℕ) (q : Placed) → k < count → In q kernel_rows → In (moved (cycles_in (interval loop) (pass + k)) q) (issued_on loop.text (passes_from loop pass count))
+  to_passes : (pass count k : ℕ) (q : Placed) → k < count → In q kernel_rows
+      → In (moved (cycles_in (interval loop) (pass + k)) q) (issued_on loop.text (passes_from loop pass count))
   to_passes pass zero k q l h = absurd (omega arith)
   to_passes pass (suc count) zero q l h =
       let e : pass ≡ pass + 0 = omega arith in
-      subst (λ n. In (moved (cycles_in (interval loop) n) q) (issued_on loop.text (passes_from loop pass (suc count)))) e
+      subst (λ n. In (moved (cycles_in (interval loop) n) q) (issued_on loop.text (passes_from loop pass (suc count))))
+      e
       (subst (λ ps. In (moved (cycles_in (interval loop) pass) q) ps)
-      (sym (flat_map-append (issued_in loop.text) (straight loop.text (kernel_row loop) (pass_start loop pass) loop.kernel) (passes_from loop (suc pass) count)))
-      (In-append_left (moved (cycles_in (interval loop) pass) q) (issued_on loop.text (straight loop.text (kernel_row loop) (pass_start loop pass) loop.kernel)) (issued_on loop.text (passes_from loop (suc pass) count))
-      (subst (λ ps. In (moved (cycles_in (interval loop) pass) q) ps) (sym (one_pass pass)) (in_map (moved (cycles_in (interval loop) pass)) q kernel_rows h))))
+      (sym (flat_map-append (issued_in loop.text)
+      (straight loop.text (kernel_row loop) (pass_start loop pass) loop.kernel)
+      (passes_from loop (suc pass) count)))
+      (In-append_left (moved (cycles_in (interval loop) pass) q)
+      (issued_on loop.text (straight loop.text (kernel_row loop) (pass_start loop pass) loop.kernel))
+      (issued_on loop.text (passes_from loop (suc pass) count))
+      (subst (λ ps. In (moved (cycles_in (interval loop) pass) q) ps) (sym (one_pass pass))
+      (in_map (moved (cycles_in (interval loop) pass)) q kernel_rows h))))
   to_passes pass (suc count) (suc k) q l h =
       let e : suc pass + k ≡ pass + suc k = omega arith in
-      subst (λ n. In (moved (cycles_in (interval loop) n) q) (issued_on loop.text (passes_from loop pass (suc count)))) e
+      subst (λ n. In (moved (cycles_in (interval loop) n) q) (issued_on loop.text (passes_from loop pass (suc count))))
+      e
       (subst (λ ps. In (moved (cycles_in (interval loop) (suc pass + k)) q) ps)
-      (sym (flat_map-append (issued_in loop.text) (straight loop.text (kernel_row loop) (pass_start loop pass) loop.kernel) (passes_from loop (suc pass) count)))
-      (In-append_right (moved (cycles_in (interval loop) (suc pass + k)) q) (issued_on loop.text (straight loop.text (kernel_row loop) (pass_start loop pass) loop.kernel)) (issued_on loop.text (passes_from loop (suc pass) count))
+      (sym (flat_map-append (issued_in loop.text)
+      (straight loop.text (kernel_row loop) (pass_start loop pass) loop.kernel)
+      (passes_from loop (suc pass) count)))
+      (In-append_right (moved (cycles_in (interval loop) (suc pass + k)) q)
+      (issued_on loop.text (straight loop.text (kernel_row loop) (pass_start loop pass) loop.kernel))
+      (issued_on loop.text (passes_from loop (suc pass) count))
       (to_passes (suc pass) count k q (omega arith) h)))
 
   module _ (passes : ℕ) where
     abbrev behind_rows : List Placed
     behind_rows = map (moved (cycles_in (interval loop) passes)) epilog_rows
 
-    visits_are : issued_on loop.text (visits_of loop passes) ≡ prolog_rows ++ (issued_on loop.text (passes_from loop 0 passes) ++ behind_rows)
+    visits_are : issued_on loop.text (visits_of loop passes) ≡ prolog_rows ++
+        (issued_on loop.text (passes_from loop 0 passes) ++ behind_rows)
     visits_are =
-        flat_map-append (issued_in loop.text) (straight loop.text loop.first 0 loop.prolog) (passes_from loop 0 passes ++ straight loop.text (epilog_row loop) (pass_start loop passes) loop.epilog)
+        flat_map-append (issued_in loop.text) (straight loop.text loop.first 0 loop.prolog)
+        (passes_from loop 0 passes ++ straight loop.text (epilog_row loop) (pass_start loop passes) loop.epilog)
         ∙ ap (λ (ps : List Placed). prolog_rows ++ ps)
-        (flat_map-append (issued_in loop.text) (passes_from loop 0 passes) (straight loop.text (epilog_row loop) (pass_start loop passes) loop.epilog)
+        (flat_map-append (issued_in loop.text) (passes_from loop 0 passes)
+        (straight loop.text (epilog_row loop) (pass_start loop passes) loop.epilog)
         ∙ ap (λ (ps : List Placed). issued_on loop.text (passes_from loop 0 passes) ++ ps) (last_rows passes))
 
     -- a row is one of the prolog, of a pass, or of the epilog
     pub from_rows : (p : Placed) → In p (issued_on loop.text (visits_of loop passes))
-        → In p prolog_rows ⊎ (((k : ℕ) × (k < passes) × (q : Placed) × In q kernel_rows × (p ≡ moved (cycles_in (interval loop) k) q))
+        → In p prolog_rows ⊎ (((k : ℕ) × (k < passes) × (q : Placed) × In q kernel_rows
+        × (p ≡ moved (cycles_in (interval loop) k) q))
         ⊎ ((q : Placed) × In q epilog_rows × (p ≡ moved (cycles_in (interval loop) passes) q)))
     from_rows p h =
-        elim (In-append_cases p prolog_rows (issued_on loop.text (passes_from loop 0 passes) ++ behind_rows) (subst (λ ps. In p ps) visits_are h)) [
+        elim (In-append_cases p prolog_rows (issued_on loop.text (passes_from loop 0 passes) ++ behind_rows)
+        (subst (λ ps. In p ps) visits_are h)) [
           | inl m ↦ inl m
           | inr m ↦ elim (In-append_cases p (issued_on loop.text (passes_from loop 0 passes)) behind_rows m) [
             | inl n ↦ (let r = from_passes 0 passes p n in
-                let e : 0 + r.0 ≡ r.0 = omega arith in inr (inl (r.0, r.1, r.2, r.3, r.4 ∙ ap (λ n. moved (cycles_in (interval loop) n) r.2) e)))
+                let e : 0 + r.0 ≡ r.0 = omega arith in inr (inl (
+                  r.0,
+                  r.1,
+                  r.2,
+                  r.3,
+                  r.4
+                      ∙ ap (λ n. moved (cycles_in (interval loop) n) r.2) e,
+                )))
             | inr n ↦ inr (inr (in_mapped (moved (cycles_in (interval loop) passes)) epilog_rows p n))
           ]
         ]
 
     pub prolog_there : (p : Placed) → In p prolog_rows → In p (issued_on loop.text (visits_of loop passes))
-    prolog_there p h = subst (λ ps. In p ps) (sym visits_are) (In-append_left p prolog_rows (issued_on loop.text (passes_from loop 0 passes) ++ behind_rows) h)
+    prolog_there p h = subst (λ ps. In p ps) (sym visits_are)
+        (In-append_left p prolog_rows (issued_on loop.text (passes_from loop 0 passes) ++ behind_rows) h)
 
-    pub pass_there : (k : ℕ) (q : Placed) → k < passes → In q kernel_rows → In (moved (cycles_in (interval loop) k) q) (issued_on loop.text (visits_of loop passes))
+    pub pass_there : (k : ℕ) (q : Placed) → k < passes → In q kernel_rows
+        → In (moved (cycles_in (interval loop) k) q) (issued_on loop.text (visits_of loop passes))
     pass_there k q l h =
         let e : 0 + k ≡ k = omega arith in
         subst (λ ps. In (moved (cycles_in (interval loop) k) q) ps) (sym visits_are)
-        (In-append_right (moved (cycles_in (interval loop) k) q) prolog_rows (issued_on loop.text (passes_from loop 0 passes) ++ behind_rows)
-        (In-append_left (moved (cycles_in (interval loop) k) q) (issued_on loop.text (passes_from loop 0 passes)) behind_rows
-        (subst (λ n. In (moved (cycles_in (interval loop) n) q) (issued_on loop.text (passes_from loop 0 passes))) e (to_passes 0 passes k q l h))))
+        (In-append_right (moved (cycles_in (interval loop) k) q) prolog_rows
+        (issued_on loop.text (passes_from loop 0 passes) ++ behind_rows)
+        (In-append_left (moved (cycles_in (interval loop) k) q) (issued_on loop.text (passes_from loop 0 passes))
+        behind_rows
+        (subst (λ n. In (moved (cycles_in (interval loop) n) q) (issued_on loop.text (passes_from loop 0 passes))) e
+        (to_passes 0 passes k q l h))))
 
-    pub epilog_there : (q : Placed) → In q epilog_rows → In (moved (cycles_in (interval loop) passes) q) (issued_on loop.text (visits_of loop passes))
+    pub epilog_there : (q : Placed) → In q epilog_rows
+        → In (moved (cycles_in (interval loop) passes) q) (issued_on loop.text (visits_of loop passes))
     epilog_there q h =
         subst (λ ps. In (moved (cycles_in (interval loop) passes) q) ps) (sym visits_are)
-        (In-append_right (moved (cycles_in (interval loop) passes) q) prolog_rows (issued_on loop.text (passes_from loop 0 passes) ++ behind_rows)
-        (In-append_right (moved (cycles_in (interval loop) passes) q) (issued_on loop.text (passes_from loop 0 passes)) behind_rows (in_map (moved (cycles_in (interval loop) passes)) q epilog_rows h)))
+        (In-append_right (moved (cycles_in (interval loop) passes) q) prolog_rows
+        (issued_on loop.text (passes_from loop 0 passes) ++ behind_rows)
+        (In-append_right (moved (cycles_in (interval loop) passes) q) (issued_on loop.text (passes_from loop 0 passes))
+        behind_rows (in_map (moved (cycles_in (interval loop) passes)) q epilog_rows h)))

@@ -1,8 +1,8 @@
 -- Rows one behind the other, passed again and again.
-use Rattle.std.proofs.Common.{◌≡◌, ◌≢◌, ℕ, zero, suc, ◌+◌, ◌-◌, ◌<◌, ◌≤◌, List, [], ◌∷◌, ◌++◌, length, Some, None, refl, sym, ◌∙◌, ap, subst, inl, inr, ⊎_elim, arith}
+use Rattle.std.proofs.Common.{◌≡◌, ◌≢◌, ℕ, zero, suc, ◌+◌, ◌-◌, ◌<◌, ◌≤◌, List, [], ◌∷◌, ◌++◌, length, Some, None, refl}
+use Rattle.std.proofs.Common.{sym, ◌∙◌, ap, subst, inl, ⊎_elim, arith}
 use Rattle.std.proofs.lemmas.Bool.{cases_lt}
 use Rattle.c62_insn.specs.declared.effect.Target.TheVariants.{Block as ToBlock}
-use Rattle.c62_meaning.proofs.Lookup.{In, In-append_cases}
 use Rattle.c62_flight.specs.Text.{Text, Position, At, row_of, position_after}
 use Rattle.c62_flight.specs.Issued.{Visit, Issued, turn, over, over_of}
 use Rattle.c62_flight.specs.Flight.{stands_after}
@@ -10,45 +10,61 @@ use Rattle.c62_flight.specs.Laid.{straight, straight_end}
 use Rattle.c62_flight.proofs.Told.{turn_told, over_told}
 use Rattle.c62_flight.proofs.Straight.{end_later}
 use Rattle.c62_loop.specs.Along.{LeadAlong}
-use Rattle.c62_loop.specs.Loop.{Pipelined, kernel_row, epilog_row, last_row, interval, pass_start, passes_from, visits_of, cycles_of, IsPipelined}
+use Rattle.c62_loop.specs.Loop.{Pipelined, kernel_row, epilog_row, last_row, interval, pass_start, passes_from}
+use Rattle.c62_loop.specs.Loop.{visits_of, cycles_of, IsPipelined}
 
 -- rows that begin later are over later
-pub end_from : (text : Text) (row start count : ℕ) → straight_end text row start count ≡ start + straight_end text row 0 count
+pub end_from : (text : Text) (row start count : ℕ)
+    → straight_end text row start count ≡ start + straight_end text row 0 count
 end_from text row start zero = omega arith
 end_from text row start (suc count) =
-    let here : straight_end text (row + 1) (start + (row_of text row).idle + 1) count ≡ start + (row_of text row).idle + 1 + straight_end text (row + 1) 0 count
+    let here : straight_end text (row + 1) (start + (row_of text row).idle + 1) count ≡ start + (row_of text row).idle +
+    1 + straight_end text (row + 1) 0 count
     = end_from text (row + 1) (start + (row_of text row).idle + 1) count in
-    let there : straight_end text (row + 1) (0 + (row_of text row).idle + 1) count ≡ 0 + (row_of text row).idle + 1 + straight_end text (row + 1) 0 count
+    let there : straight_end text (row + 1) (0 + (row_of text row).idle + 1) count ≡ 0 + (row_of text row).idle + 1 +
+    straight_end text (row + 1) 0 count
     = end_from text (row + 1) (0 + (row_of text row).idle + 1) count in omega arith
 
 module _ (text : Text) (issued : Issued) where
   abbrev Along : Position → ℕ → List Visit → Position → ℕ → Type 0
   Along position cycle visits last end = LeadAlong text issued position cycle visits last end
 
-  pub along_both : (position middle : Position) (cycle t : ℕ) (visits others : List Visit) (last : Position) (end : ℕ) → Along position cycle visits middle t → Along middle t others last end
+  pub along_both : (position middle : Position) (cycle t : ℕ) (visits others : List Visit) (last : Position) (end : ℕ)
+      → Along position cycle visits middle t → Along middle t others last end
       → Along position cycle (visits ++ others) last end
   along_both position middle cycle t [] others last end one other =
       subst (λ c. Along position c others last end) one.1 (subst (λ p. Along p t others last end) one.0 other)
-  along_both position middle cycle t (visit ∷ visits) others last end one other =
-      (one.0, one.1, one.2, along_both (stands_after text issued visit) middle (over_of text issued visit) t visits others last end one.3 other)
+  along_both position middle cycle t (visit ∷ visits) others last end one other = (
+    one.0,
+    one.1,
+    one.2,
+    along_both (stands_after text issued visit) middle (over_of text issued visit) t visits
+        others last end one.3 other,
+  )
 
   abbrev QuietBetween : ℕ → ℕ → Type 0
   QuietBetween start end = (c : ℕ) → start < c → c < end → turn issued c ≡ None
 
   -- a row is over when its cycles are, where nothing turns within
-  over_is : (row start : ℕ) → QuietBetween start (start + (row_of text row).idle + 1) → start + (row_of text row).idle + 1 ≡ over issued start (row_of text row).idle
-  over_is row start quiet = (over_told issued start (row_of text row).idle (start + (row_of text row).idle + 1)).0 (record {
-    later = omega arith;
-    within = omega arith;
-    straight = λ c t l u h. (turn_told issued c).none (quiet c l u) t h;
-    reached = inl refl;
-  })
+  over_is : (row start : ℕ) → QuietBetween start (start + (row_of text row).idle + 1)
+      → start + (row_of text row).idle + 1 ≡ over issued start (row_of text row).idle
+  over_is row start quiet = (over_told issued start (row_of text row).idle (start + (row_of text row).idle + 1)).0
+      (record {
+        later = omega arith;
+        within = omega arith;
+        straight = λ c t l u h. (turn_told issued c).none (quiet c l u) t h;
+        reached = inl refl;
+      })
 
   -- so are rows; then it goes on where the branch leads that takes effect then, if one does
-  pub rows_along : (row start count : ℕ) → row + suc count ≤ length text.rows → QuietBetween start (straight_end text row start (suc count))
-      → Along (At row) start (straight text row start (suc count)) (position_after text (row + count) (turn issued (straight_end text row start (suc count)))) (straight_end text row start (suc count))
+  pub rows_along : (row start count : ℕ) → row + suc count ≤ length text.rows
+      → QuietBetween start (straight_end text row start (suc count))
+      → Along (At row) start (straight text row start (suc count))
+      (position_after text (row + count) (turn issued (straight_end text row start (suc count))))
+      (straight_end text row start (suc count))
   rows_along row start zero inside quiet =
-      let over_here : start + (row_of text row).idle + 1 ≡ over issued start (row_of text row).idle = over_is row start quiet in
+      let over_here : start + (row_of text row).idle + 1 ≡ over issued start (row_of text row).idle = over_is row start
+      quiet in
       let same : row + 0 ≡ row = omega arith in (
         refl,
         refl,
@@ -60,73 +76,58 @@ module _ (text : Text) (issued : Issued) where
         ),
       )
   rows_along row start (suc count) inside quiet =
-      let later : start + (row_of text row).idle + 1 < straight_end text (row + 1) (start + (row_of text row).idle + 1) (suc count)
-      = (let l : start + (row_of text row).idle + 1 + (row_of text (row + 1)).idle + 1 ≤ straight_end text (row + 1 + 1) (start + (row_of text row).idle + 1 + (row_of text (row + 1)).idle + 1) count
-      = end_later text (row + 1 + 1) (start + (row_of text row).idle + 1 + (row_of text (row + 1)).idle + 1) count in omega arith) in
-      let over_here : start + (row_of text row).idle + 1 ≡ over issued start (row_of text row).idle = over_is row start (λ c l u. quiet c l (omega arith)) in
-      let none : turn issued (start + (row_of text row).idle + 1) ≡ None = quiet (start + (row_of text row).idle + 1) (omega arith) later in
+      let later : start + (row_of text row).idle + 1 < straight_end text (row + 1) (start + (row_of text row).idle + 1)
+      (suc count)
+      = (let l : start + (row_of text row).idle + 1 + (row_of text (row + 1)).idle + 1 ≤ straight_end text (row + 1 + 1)
+      (start + (row_of text row).idle + 1 + (row_of text (row + 1)).idle + 1) count
+      = end_later text (row + 1 + 1) (start + (row_of text row).idle + 1 + (row_of text (row + 1)).idle + 1) count in
+      omega arith) in
+      let over_here : start + (row_of text row).idle + 1 ≡ over issued start (row_of text row).idle = over_is row start
+      (λ c l u. quiet c l (omega arith)) in
+      let none : turn issued (start + (row_of text row).idle + 1) ≡ None = quiet (start + (row_of text row).idle + 1)
+      (omega arith) later in
       let stands : At (row + 1) ≡ position_after text row (turn issued (over issued start (row_of text row).idle))
       = ap (λ o. position_after text row o) (sym none) ∙ ap (λ c. position_after text row (turn issued c)) over_here in
       let same : row + 1 + count ≡ row + suc count = omega arith in
       let end : ℕ = straight_end text (row + 1) (start + (row_of text row).idle + 1) (suc count) in
-      let rest : Along (At (row + 1)) (start + (row_of text row).idle + 1) (straight text (row + 1) (start + (row_of text row).idle + 1) (suc count)) (position_after text (row + 1 + count) (turn issued end)) end
-      = rows_along (row + 1) (start + (row_of text row).idle + 1) count (omega arith) (λ c l u. quiet c (omega arith) u) in (
+      let rest : Along (At (row + 1)) (start + (row_of text row).idle + 1)
+      (straight text (row + 1) (start + (row_of text row).idle + 1) (suc count))
+      (position_after text (row + 1 + count) (turn issued end)) end
+      = rows_along (row + 1) (start + (row_of text row).idle + 1) count (omega arith) (λ c l u. quiet c (omega arith) u)
+      in (
         refl,
         refl,
         omega arith,
-        subst (λ n. Along (position_after text row (turn issued (over issued start (row_of text row).idle))) (over issued start (row_of text row).idle)
-            (straight text (row + 1) (start + (row_of text row).idle + 1) (suc count)) (position_after text n (turn issued end)) end) same
-            (subst (λ p. Along p (over issued start (row_of text row).idle) (straight text (row + 1) (start + (row_of text row).idle + 1) (suc count)) (position_after text (row + 1 + count) (turn issued end)) end) stands
-            (subst (λ c. Along (At (row + 1)) c (straight text (row + 1) (start + (row_of text row).idle + 1) (suc count)) (position_after text (row + 1 + count) (turn issued end)) end) over_here rest)),
+        subst (λ n. Along (position_after text row (turn issued (over issued start (row_of text row).idle)))
+            (over issued start (row_of text row).idle)
+            (straight text (row + 1) (start + (row_of text row).idle + 1) (suc count))
+            (position_after text n (turn issued end)) end) same
+            (subst (λ p. Along p (over issued start (row_of text row).idle)
+            (straight text (row + 1) (start + (row_of text row).idle + 1) (suc count))
+            (position_after text (row + 1 + count) (turn issued end)) end) stands
+            (subst (λ c. Along (At (row + 1)) c
+            (straight text (row + 1) (start + (row_of text row).idle + 1) (suc count))
+            (position_after text (row + 1 + count) (turn issued end)) end) over_here rest)),
       )
 
   -- where nothing turns, to the row behind them
-  pub rows_straight : (row start count : ℕ) → row + count ≤ length text.rows → ((c : ℕ) → start < c → c ≤ straight_end text row start count → turn issued c ≡ None)
+  pub rows_straight : (row start count : ℕ) → row + count ≤ length text.rows
+      → ((c : ℕ) → start < c → c ≤ straight_end text row start count → turn issued c ≡ None)
       → Along (At row) start (straight text row start count) (At (row + count)) (straight_end text row start count)
   rows_straight row start zero inside quiet = (let e : row + 0 ≡ row = omega arith in ap At e, refl)
   rows_straight row start (suc count) inside quiet =
       let later : start < straight_end text row start (suc count)
-      = (let l : start + (row_of text row).idle + 1 ≤ straight_end text (row + 1) (start + (row_of text row).idle + 1) count
+      = (let l : start + (row_of text row).idle + 1 ≤ straight_end text (row + 1) (start + (row_of text row).idle + 1)
+      count
       = end_later text (row + 1) (start + (row_of text row).idle + 1) count in omega arith) in
       let same : row + count + 1 ≡ row + suc count = omega arith in
-      let last : position_after text (row + count) (turn issued (straight_end text row start (suc count))) ≡ At (row + suc count)
-      = ap (λ o. position_after text (row + count) o) (quiet (straight_end text row start (suc count)) later (omega arith)) ∙ ap At same in
-      subst (λ p. Along (At row) start (straight text row start (suc count)) p (straight_end text row start (suc count))) last
+      let last : position_after text (row + count) (turn issued (straight_end text row start (suc count))) ≡ At
+      (row + suc count)
+      = ap (λ o. position_after text (row + count) o)
+      (quiet (straight_end text row start (suc count)) later (omega arith)) ∙ ap At same in
+      subst (λ p. Along (At row) start (straight text row start (suc count)) p
+      (straight_end text row start (suc count))) last
       (rows_along row start count inside (λ c l u. quiet c l (omega arith)))
-
--- ---- which rows are passed
-
-straight_rows : (text : Text) (row start count : ℕ) (visit : Visit) → In visit (straight text row start count) → (row ≤ visit.row) × (visit.row < row + count)
-straight_rows text row start zero visit h = absurd h
-straight_rows text row start (suc count) visit (inl e) = let s : row ≡ visit.row = ap (λ (v : Visit). v.row) e in (omega arith, omega arith)
-straight_rows text row start (suc count) visit (inr h) =
-    let r = straight_rows text (row + 1) (start + (row_of text row).idle + 1) count visit h in
-    let low : row + 1 ≤ visit.row = r.0 in
-    let high : visit.row < row + 1 + count = r.1 in (omega arith, omega arith)
-
-pass_rows : (loop : Pipelined) (pass count : ℕ) (visit : Visit) → In visit (passes_from loop pass count) → (kernel_row loop ≤ visit.row) × (visit.row < epilog_row loop)
-pass_rows loop pass zero visit h = absurd h
-pass_rows loop pass (suc count) visit h =
-    elim (In-append_cases visit (straight loop.text (kernel_row loop) (pass_start loop pass) loop.kernel) (passes_from loop (suc pass) count) h) [
-      | inl k ↦ straight_rows loop.text (kernel_row loop) (pass_start loop pass) loop.kernel visit k
-      | inr k ↦ pass_rows loop (suc pass) count visit k
-    ]
-
-pub rows_within : (loop : Pipelined) (passes : ℕ) (visit : Visit) → In visit (visits_of loop passes) → (loop.first ≤ visit.row) × (visit.row < last_row loop)
-rows_within loop passes visit h =
-    elim (In-append_cases visit (straight loop.text loop.first 0 loop.prolog) (passes_from loop 0 passes ++ straight loop.text (epilog_row loop) (pass_start loop passes) loop.epilog) h) [
-      | inl k ↦ (let r = straight_rows loop.text loop.first 0 loop.prolog visit k in
-          let low : loop.first ≤ visit.row = r.0 in
-          let high : visit.row < loop.first + loop.prolog = r.1 in (omega arith, omega arith))
-      | inr k ↦ elim (In-append_cases visit (passes_from loop 0 passes) (straight loop.text (epilog_row loop) (pass_start loop passes) loop.epilog) k) [
-        | inl n ↦ (let r = pass_rows loop 0 passes visit n in
-            let low : kernel_row loop ≤ visit.row = r.0 in
-            let high : visit.row < epilog_row loop = r.1 in (omega arith, omega arith))
-        | inr n ↦ (let r = straight_rows loop.text (epilog_row loop) (pass_start loop passes) loop.epilog visit n in
-            let low : epilog_row loop ≤ visit.row = r.0 in
-            let high : visit.row < epilog_row loop + loop.epilog = r.1 in (omega arith, omega arith))
-      ]
-    ]
 
 -- ---- passes
 
@@ -137,24 +138,32 @@ module _ (loop : Pipelined) (is : IsPipelined loop) where
       by_count : (count : ℕ) → loop.kernel ≡ count → 0 < interval loop
       by_count zero e = (let l : 0 < loop.kernel = is.some in absurd (omega arith))
       by_count (suc count) e =
-          let l : 0 + (row_of loop.text (kernel_row loop)).idle + 1 ≤ straight_end loop.text (kernel_row loop + 1) (0 + (row_of loop.text (kernel_row loop)).idle + 1) count
+          let l : 0 + (row_of loop.text (kernel_row loop)).idle + 1 ≤ straight_end loop.text (kernel_row loop + 1)
+          (0 + (row_of loop.text (kernel_row loop)).idle + 1) count
           = end_later loop.text (kernel_row loop + 1) (0 + (row_of loop.text (kernel_row loop)).idle + 1) count in
-          let s : interval loop ≡ straight_end loop.text (kernel_row loop) 0 (suc count) = ap (λ n. straight_end loop.text (kernel_row loop) 0 n) e in omega arith
+          let s : interval loop ≡ straight_end loop.text (kernel_row loop) 0 (suc count) = ap
+          (λ n. straight_end loop.text (kernel_row loop) 0 n) e in omega arith
 
   pub starts_below : (pass other : ℕ) → pass ≤ other → pass_start loop pass ≤ pass_start loop other
-  starts_below pass zero l = let e : pass ≡ 0 = omega arith in let f : pass_start loop pass ≡ pass_start loop 0 = ap (pass_start loop) e in omega arith
+  starts_below pass zero l = let e : pass ≡ 0 = omega arith in let f : pass_start loop pass ≡ pass_start loop 0 = ap
+      (pass_start loop) e in omega arith
   starts_below pass (suc other) l =
       ⊎_elim {C = pass_start loop pass ≤ pass_start loop (suc other)}
-      (λ (u : pass < suc other). let k : pass_start loop pass ≤ pass_start loop other = starts_below pass other (omega arith) in omega arith)
-      (λ (u : suc other ≤ pass). let e : pass ≡ suc other = omega arith in let f : pass_start loop pass ≡ pass_start loop (suc other) = ap (pass_start loop) e in omega arith)
+      (λ (u : pass < suc other). let k : pass_start loop pass ≤ pass_start loop other = starts_below pass other
+      (omega arith) in omega arith)
+      (λ (u : suc other ≤ pass). let e : pass ≡ suc other = omega arith in let f : pass_start loop pass ≡ pass_start
+      loop (suc other) = ap (pass_start loop) e in omega arith)
       (cases_lt pass (suc other))
 
   -- no pass begins within one
-  pub none_within : (pass other : ℕ) → pass_start loop pass < pass_start loop other → pass_start loop other < pass_start loop (suc pass) → ⊥
+  pub none_within : (pass other : ℕ) → pass_start loop pass < pass_start loop other
+      → pass_start loop other < pass_start loop (suc pass) → ⊥
   none_within pass other l u =
       ⊎_elim {C = ⊥}
-      (λ (low : other < suc pass). let k : pass_start loop other ≤ pass_start loop pass = starts_below other pass (omega arith) in absurd (omega arith))
-      (λ (high : suc pass ≤ other). let k : pass_start loop (suc pass) ≤ pass_start loop other = starts_below (suc pass) other high in absurd (omega arith))
+      (λ (low : other < suc pass). let k : pass_start loop other ≤ pass_start loop pass = starts_below other pass
+      (omega arith) in absurd (omega arith))
+      (λ (high : suc pass ≤ other). let k : pass_start loop (suc pass) ≤ pass_start loop other = starts_below (suc pass)
+      other high in absurd (omega arith))
       (cases_lt other (suc pass))
 
   pub starts_above : (pass other : ℕ) → pass < other → pass_start loop pass < pass_start loop other
@@ -166,26 +175,39 @@ module _ (loop : Pipelined) (is : IsPipelined loop) where
   module _ (passes : ℕ) (some : 0 < passes) (issued : Issued)
       (turns : (pass : ℕ) → suc pass < passes → turn issued (pass_start loop (suc pass)) ≡ Some (ToBlock loop.label))
       (else : (c : ℕ) → ((pass : ℕ) → suc pass < passes → pass_start loop (suc pass) ≢ c) → turn issued c ≡ None) where
-    pass_over : (pass : ℕ) → straight_end loop.text (kernel_row loop) (pass_start loop pass) loop.kernel ≡ pass_start loop (suc pass)
+    pass_over : (pass : ℕ)
+        → straight_end loop.text (kernel_row loop) (pass_start loop pass) loop.kernel ≡ pass_start loop (suc pass)
     pass_over pass = end_from loop.text (kernel_row loop) (pass_start loop pass) loop.kernel
 
-    one_pass : (pass : ℕ) → LeadAlong loop.text issued (At (kernel_row loop)) (pass_start loop pass) (straight loop.text (kernel_row loop) (pass_start loop pass) loop.kernel)
-        (position_after loop.text (epilog_row loop - 1) (turn issued (pass_start loop (suc pass)))) (pass_start loop (suc pass))
+    one_pass : (pass : ℕ)
+        → LeadAlong loop.text issued (At (kernel_row loop)) (pass_start loop pass)
+        (straight loop.text (kernel_row loop) (pass_start loop pass) loop.kernel)
+        (position_after loop.text (epilog_row loop - 1) (turn issued (pass_start loop (suc pass))))
+        (pass_start loop (suc pass))
     one_pass pass = by_count loop.kernel refl
       where
-        by_count : (count : ℕ) → loop.kernel ≡ count → LeadAlong loop.text issued (At (kernel_row loop)) (pass_start loop pass) (straight loop.text (kernel_row loop) (pass_start loop pass) loop.kernel)
-            (position_after loop.text (epilog_row loop - 1) (turn issued (pass_start loop (suc pass)))) (pass_start loop (suc pass))
+        by_count : (count : ℕ) → loop.kernel ≡ count
+            → LeadAlong loop.text issued (At (kernel_row loop)) (pass_start loop pass)
+            (straight loop.text (kernel_row loop) (pass_start loop pass) loop.kernel)
+            (position_after loop.text (epilog_row loop - 1) (turn issued (pass_start loop (suc pass))))
+            (pass_start loop (suc pass))
         by_count zero e = (let l : 0 < loop.kernel = is.some in absurd (omega arith))
         by_count (suc count) e =
-            let over_at : straight_end loop.text (kernel_row loop) (pass_start loop pass) (suc count) ≡ pass_start loop (suc pass)
+            let over_at : straight_end loop.text (kernel_row loop) (pass_start loop pass) (suc count) ≡ pass_start loop
+            (suc pass)
             = ap (λ n. straight_end loop.text (kernel_row loop) (pass_start loop pass) n) (sym e) ∙ pass_over pass in
             let behind : kernel_row loop + count ≡ epilog_row loop - 1 = omega arith in
-            let inside : kernel_row loop + suc count ≤ length loop.text.rows = (let r : last_row loop ≤ length loop.text.rows = is.rows in omega arith) in
-            subst (λ n. LeadAlong loop.text issued (At (kernel_row loop)) (pass_start loop pass) (straight loop.text (kernel_row loop) (pass_start loop pass) n)
-            (position_after loop.text (epilog_row loop - 1) (turn issued (pass_start loop (suc pass)))) (pass_start loop (suc pass))) (sym e)
-            (subst (λ n. LeadAlong loop.text issued (At (kernel_row loop)) (pass_start loop pass) (straight loop.text (kernel_row loop) (pass_start loop pass) (suc count))
+            let inside : kernel_row loop + suc count ≤ length loop.text.rows =
+            (let r : last_row loop ≤ length loop.text.rows = is.rows in omega arith) in
+            subst (λ n. LeadAlong loop.text issued (At (kernel_row loop)) (pass_start loop pass)
+            (straight loop.text (kernel_row loop) (pass_start loop pass) n)
+            (position_after loop.text (epilog_row loop - 1) (turn issued (pass_start loop (suc pass))))
+            (pass_start loop (suc pass))) (sym e)
+            (subst (λ n. LeadAlong loop.text issued (At (kernel_row loop)) (pass_start loop pass)
+            (straight loop.text (kernel_row loop) (pass_start loop pass) (suc count))
             (position_after loop.text n (turn issued (pass_start loop (suc pass)))) (pass_start loop (suc pass))) behind
-            (subst (λ c. LeadAlong loop.text issued (At (kernel_row loop)) (pass_start loop pass) (straight loop.text (kernel_row loop) (pass_start loop pass) (suc count))
+            (subst (λ c. LeadAlong loop.text issued (At (kernel_row loop)) (pass_start loop pass)
+            (straight loop.text (kernel_row loop) (pass_start loop pass) (suc count))
             (position_after loop.text (kernel_row loop + count) (turn issued c)) c) over_at
             (rows_along loop.text issued (kernel_row loop) (pass_start loop pass) count inside
             (λ c l u. else c (λ other _ same.
@@ -193,50 +215,73 @@ module _ (loop : Pipelined) (is : IsPipelined loop) where
             none_within pass (suc other) (omega arith) (omega arith))))))
 
     all_passes : (pass count : ℕ) → pass + suc count ≡ passes
-        → LeadAlong loop.text issued (At (kernel_row loop)) (pass_start loop pass) (passes_from loop pass (suc count)) (At (epilog_row loop)) (pass_start loop passes)
+        → LeadAlong loop.text issued (At (kernel_row loop)) (pass_start loop pass) (passes_from loop pass (suc count))
+        (At (epilog_row loop)) (pass_start loop passes)
     all_passes pass zero e =
         let last : suc pass ≡ passes = omega arith in
         let none : turn issued (pass_start loop (suc pass)) ≡ None
         = else (pass_start loop (suc pass)) (λ other l same.
-        let u : pass_start loop (suc other) < pass_start loop (suc pass) = starts_above (suc other) (suc pass) (omega arith) in
+        let u : pass_start loop (suc other) < pass_start loop (suc pass) = starts_above (suc other) (suc pass)
+        (omega arith) in
         let here : pass_start loop (suc other) ≡ pass_start loop (suc pass) = same in absurd (omega arith)) in
         let there : epilog_row loop - 1 + 1 ≡ epilog_row loop = (let l : 0 < loop.kernel = is.some in omega arith) in
-        let goes : position_after loop.text (epilog_row loop - 1) (turn issued (pass_start loop (suc pass))) ≡ At (epilog_row loop)
+        let goes : position_after loop.text (epilog_row loop - 1) (turn issued (pass_start loop (suc pass))) ≡ At
+        (epilog_row loop)
         = ap (λ o. position_after loop.text (epilog_row loop - 1) o) none ∙ ap At there in
-        along_both loop.text issued (At (kernel_row loop)) (At (epilog_row loop)) (pass_start loop pass) (pass_start loop (suc pass))
-        (straight loop.text (kernel_row loop) (pass_start loop pass) loop.kernel) [] (At (epilog_row loop)) (pass_start loop passes)
-        (subst (λ p. LeadAlong loop.text issued (At (kernel_row loop)) (pass_start loop pass) (straight loop.text (kernel_row loop) (pass_start loop pass) loop.kernel) p (pass_start loop (suc pass))) goes (one_pass pass))
+        along_both loop.text issued (At (kernel_row loop)) (At (epilog_row loop)) (pass_start loop pass)
+        (pass_start loop (suc pass))
+        (straight loop.text (kernel_row loop) (pass_start loop pass) loop.kernel) [] (At (epilog_row loop))
+        (pass_start loop passes)
+        (subst (λ p. LeadAlong loop.text issued (At (kernel_row loop)) (pass_start loop pass)
+        (straight loop.text (kernel_row loop) (pass_start loop pass) loop.kernel) p
+        (pass_start loop (suc pass))) goes (one_pass pass))
         (refl, ap (λ n. pass_start loop n) (sym last))
     all_passes pass (suc count) e =
         let more : suc pass < passes = omega arith in
-        let goes : position_after loop.text (epilog_row loop - 1) (turn issued (pass_start loop (suc pass))) ≡ At (kernel_row loop)
+        let goes : position_after loop.text (epilog_row loop - 1) (turn issued (pass_start loop (suc pass))) ≡ At
+        (kernel_row loop)
         = ap (λ o. position_after loop.text (epilog_row loop - 1) o) (turns pass more) ∙ ap At is.labelled in
-        along_both loop.text issued (At (kernel_row loop)) (At (kernel_row loop)) (pass_start loop pass) (pass_start loop (suc pass))
-        (straight loop.text (kernel_row loop) (pass_start loop pass) loop.kernel) (passes_from loop (suc pass) (suc count)) (At (epilog_row loop)) (pass_start loop passes)
-        (subst (λ p. LeadAlong loop.text issued (At (kernel_row loop)) (pass_start loop pass) (straight loop.text (kernel_row loop) (pass_start loop pass) loop.kernel) p (pass_start loop (suc pass))) goes (one_pass pass))
+        along_both loop.text issued (At (kernel_row loop)) (At (kernel_row loop)) (pass_start loop pass)
+        (pass_start loop (suc pass))
+        (straight loop.text (kernel_row loop) (pass_start loop pass) loop.kernel)
+        (passes_from loop (suc pass) (suc count)) (At (epilog_row loop)) (pass_start loop passes)
+        (subst (λ p. LeadAlong loop.text issued (At (kernel_row loop)) (pass_start loop pass)
+        (straight loop.text (kernel_row loop) (pass_start loop pass) loop.kernel) p
+        (pass_start loop (suc pass))) goes (one_pass pass))
         (all_passes (suc pass) count (omega arith))
 
     -- so it comes to the row behind the epilog
-    pub loop_along : LeadAlong loop.text issued (At loop.first) 0 (visits_of loop passes) (At (last_row loop)) (cycles_of loop passes)
+    pub loop_along : LeadAlong loop.text issued (At loop.first) 0 (visits_of loop passes) (At (last_row loop))
+        (cycles_of loop passes)
     loop_along =
         let rows : last_row loop ≤ length loop.text.rows = is.rows in
-        let begins : LeadAlong loop.text issued (At loop.first) 0 (straight loop.text loop.first 0 loop.prolog) (At (kernel_row loop)) (pass_start loop 0)
+        let begins : LeadAlong loop.text issued (At loop.first) 0 (straight loop.text loop.first 0 loop.prolog)
+        (At (kernel_row loop)) (pass_start loop 0)
         = rows_straight loop.text issued loop.first 0 loop.prolog (omega arith)
         (λ c l u. else c (λ pass _ same.
         let k : pass_start loop 0 < pass_start loop (suc pass) = starts_above 0 (suc pass) (omega arith) in
         let here : pass_start loop (suc pass) ≡ c = same in absurd (omega arith))) in
-        let ends : LeadAlong loop.text issued (At (epilog_row loop)) (pass_start loop passes) (straight loop.text (epilog_row loop) (pass_start loop passes) loop.epilog) (At (last_row loop)) (cycles_of loop passes)
+        let ends : LeadAlong loop.text issued (At (epilog_row loop)) (pass_start loop passes)
+        (straight loop.text (epilog_row loop) (pass_start loop passes) loop.epilog) (At (last_row loop))
+        (cycles_of loop passes)
         = rows_straight loop.text issued (epilog_row loop) (pass_start loop passes) loop.epilog (omega arith)
         (λ c l u. else c (λ pass m same.
         let k : pass_start loop (suc pass) < pass_start loop passes = starts_above (suc pass) passes m in
         let here : pass_start loop (suc pass) ≡ c = same in absurd (omega arith))) in
-        along_both loop.text issued (At loop.first) (At (kernel_row loop)) 0 (pass_start loop 0) (straight loop.text loop.first 0 loop.prolog)
-        (passes_from loop 0 passes ++ straight loop.text (epilog_row loop) (pass_start loop passes) loop.epilog) (At (last_row loop)) (cycles_of loop passes) begins
-        (along_both loop.text issued (At (kernel_row loop)) (At (epilog_row loop)) (pass_start loop 0) (pass_start loop passes) (passes_from loop 0 passes)
-        (straight loop.text (epilog_row loop) (pass_start loop passes) loop.epilog) (At (last_row loop)) (cycles_of loop passes) (by_passes passes refl) ends)
+        along_both loop.text issued (At loop.first) (At (kernel_row loop)) 0 (pass_start loop 0)
+        (straight loop.text loop.first 0 loop.prolog)
+        (passes_from loop 0 passes ++ straight loop.text (epilog_row loop) (pass_start loop passes) loop.epilog)
+        (At (last_row loop)) (cycles_of loop passes) begins
+        (along_both loop.text issued (At (kernel_row loop)) (At (epilog_row loop)) (pass_start loop 0)
+        (pass_start loop passes) (passes_from loop 0 passes)
+        (straight loop.text (epilog_row loop) (pass_start loop passes) loop.epilog) (At (last_row loop))
+        (cycles_of loop passes) (by_passes passes refl) ends)
       where
-        by_passes : (n : ℕ) → passes ≡ n → LeadAlong loop.text issued (At (kernel_row loop)) (pass_start loop 0) (passes_from loop 0 passes) (At (epilog_row loop)) (pass_start loop passes)
+        by_passes : (n : ℕ) → passes ≡ n
+            → LeadAlong loop.text issued (At (kernel_row loop)) (pass_start loop 0) (passes_from loop 0 passes)
+            (At (epilog_row loop)) (pass_start loop passes)
         by_passes zero e = absurd (omega arith)
         by_passes (suc n) e =
-            subst (λ k. LeadAlong loop.text issued (At (kernel_row loop)) (pass_start loop 0) (passes_from loop 0 k) (At (epilog_row loop)) (pass_start loop passes)) (sym e)
+            subst (λ k. LeadAlong loop.text issued (At (kernel_row loop)) (pass_start loop 0) (passes_from loop 0 k)
+            (At (epilog_row loop)) (pass_start loop passes)) (sym e)
             (all_passes 0 n (omega arith))

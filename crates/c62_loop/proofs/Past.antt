@@ -1,5 +1,6 @@
 -- Instances past the end leave memory as it was, and all that they don't write.
-use Rattle.std.proofs.Common.{◌≡◌, ℕ, Bool, true, false, List, [], ◌∷◌, ◌++◌, Option, Some, None, refl, sym, ◌∙◌, ap, subst, ◌⊎◌, inl, inr}
+use Rattle.std.proofs.Common.{◌≡◌, ℕ, Bool, true, false, List, [], ◌∷◌, ◌++◌, Option, Some, None, refl, sym, ◌∙◌, ap}
+use Rattle.std.proofs.Common.{subst, ◌⊎◌, inl, inr}
 use Rattle.std.specs.Prelude.{Contains}
 use Rattle.std.proofs.lemmas.Bool.{cond-false, cond_both}
 use Rattle.std.proofs.lemmas.List.{append_assoc}
@@ -23,44 +24,60 @@ use Rattle.c62_meaning.proofs.Lookup.{In, In_from_Contains, Contains_from_In}
 use Rattle.c62_meaning.proofs.Landings.{act_writes}
 use Rattle.c62_loop.specs.Loop.{Region, rounds, serial_path, Pipelined}
 use Rattle.c62_loop.specs.Past.{IsSameBut, with_past, PipelinedPastTheEnd}
-use Rattle.c62_loop.proofs.Apart.{machine_after, serial_machine, In-All, kept}
+use Rattle.c62_loop.proofs.Machines.{machine_after, serial_machine, In-All}
+use Rattle.c62_loop.proofs.Apart.{kept}
 use Rattle.c62_loop.proofs.Counting.{after_both}
 use Rattle.c62_loop.proofs.Pipelined.{pipelined_is_serial}
 
 -- ---- an instruction that is no store
 
-no_value : (op : Op) (operands : Operands) (reads : List ℕ) (a : MemoryAccess) → is_store op ≡ false → access_of op operands reads ≡ Some a → a.value ≡ None
-no_value op (Access reg base form offset) reads a f e = ap (λ (x : MemoryAccess). x.value) (sym (same_Some _ a e)) ∙ cond-false _ _ _ f
+no_value : (op : Op) (operands : Operands) (reads : List ℕ) (a : MemoryAccess) → is_store op ≡ false
+    → access_of op operands reads ≡ Some a → a.value ≡ None
+no_value op (Access reg base form offset) reads a f e = ap (λ (x : MemoryAccess). x.value) (sym (same_Some _ a e))
+    ∙ cond-false _ _ _ f
 no_value op _ reads a f e = cc
 
-stores_nothing : (entry : SerialInsn) (machine : Machine) → is_store (op_of entry.insn) ≡ false → after_access machine.memory (act_in machine entry).access ≡ machine.memory
+stores_nothing : (entry : SerialInsn) (machine : Machine) → is_store (op_of entry.insn) ≡ false
+    → after_access machine.memory (act_in machine entry).access ≡ machine.memory
 stores_nothing entry machine f =
-    cond_both (runs (word_in machine) entry.insn) (act_on entry.insn (operand_values (word_in machine) entry.insn) (byte_in machine)) no_act
+    cond_both (runs (word_in machine) entry.insn)
+    (act_on entry.insn (operand_values (word_in machine) entry.insn) (byte_in machine)) no_act
     (λ (act : Act). after_access machine.memory act.access ≡ machine.memory)
-    (λ _. by_access (access_of (op_of entry.insn) (operands_of entry.insn) (operand_values (word_in machine) entry.insn)) refl) (λ _. refl)
+    (λ _. by_access (access_of (op_of entry.insn) (operands_of entry.insn)
+    (operand_values (word_in machine) entry.insn)) refl) (λ _. refl)
   where
-    by_access : (o : Option MemoryAccess) → access_of (op_of entry.insn) (operands_of entry.insn) (operand_values (word_in machine) entry.insn) ≡ o
-        → after_access machine.memory (access_of (op_of entry.insn) (operands_of entry.insn) (operand_values (word_in machine) entry.insn)) ≡ machine.memory
+    by_access : (o : Option MemoryAccess)
+        → access_of (op_of entry.insn) (operands_of entry.insn) (operand_values (word_in machine) entry.insn) ≡ o
+        → after_access machine.memory
+        (access_of (op_of entry.insn) (operands_of entry.insn) (operand_values (word_in machine) entry.insn)) ≡
+        machine.memory
     by_access None e = ap (λ o. after_access machine.memory o) e
     by_access (Some a) e =
         ap (λ o. after_access machine.memory o) e
-        ∙ ap (λ v. after_store machine.memory v a.address a.size) (no_value (op_of entry.insn) (operands_of entry.insn) (operand_values (word_in machine) entry.insn) a f e)
+        ∙ ap (λ v. after_store machine.memory v a.address a.size)
+        (no_value (op_of entry.insn) (operands_of entry.insn) (operand_values (word_in machine) entry.insn) a f
+        e)
 
-fault_kept : (lines : List ℕ) (line other : ℕ) (b : Bool) → Contains lines other → Contains (after_fault lines line b) other
+fault_kept : (lines : List ℕ) (line other : ℕ) (b : Bool) → Contains lines other
+    → Contains (after_fault lines line b) other
 fault_kept lines line other true c = (joined_holds lines line other).1 (inr c)
 fault_kept lines line other false c = c
 
-fault_new : (lines : List ℕ) (line other : ℕ) (b : Bool) → Contains (after_fault lines line b) other → (other ≡ line) ⊎ Contains lines other
+fault_new : (lines : List ℕ) (line other : ℕ) (b : Bool) → Contains (after_fault lines line b) other → (other ≡ line)
+    ⊎ Contains lines other
 fault_new lines line other true c = (joined_holds lines line other).0 c
 fault_new lines line other false c = inr c
 
-word_kept : (entry : SerialInsn) (machine : Machine) (reg : Reg) → ((delay : ℕ) → Contains (register_writes entry.insn) (reg, delay) → ⊥) → word_in (after_entry entry machine) reg ≡ word_in machine reg
+word_kept : (entry : SerialInsn) (machine : Machine) (reg : Reg)
+    → ((delay : ℕ) → Contains (register_writes entry.insn) (reg, delay) → ⊥)
+    → word_in (after_entry entry machine) reg ≡ word_in machine reg
 word_kept entry machine reg none =
     kept reg (act_in machine entry).writes machine.registers
     (λ w h e.
     let same : w.0.0 ≡ reg = same_register w.0.0 reg e in
     let inside : In w.0 (register_writes entry.insn) = act_writes entry.insn (word_in machine) (byte_in machine) w h in
-    none w.0.1 (subst (λ (r : Reg). Contains (register_writes entry.insn) (r, w.0.1)) same (Contains_from_In w.0 (register_writes entry.insn) inside)))
+    none w.0.1 (subst (λ (r : Reg). Contains (register_writes entry.insn) (r, w.0.1)) same
+    (Contains_from_In w.0 (register_writes entry.insn) inside)))
 
 -- ---- one after the other
 
@@ -70,14 +87,19 @@ first_of entry past = Contains_from_In entry (entry ∷ past) (inl refl)
 later_of : (entry other : SerialInsn) (past : List SerialInsn) → Contains past other → Contains (entry ∷ past) other
 later_of entry other past c = Contains_from_In other (entry ∷ past) (inr (In_from_Contains other past c))
 
-same_but : (past : List SerialInsn) (machine : Machine) → ((entry : SerialInsn) → In entry past → is_store (op_of entry.insn) ≡ false) → IsSameBut past machine (machine_after past machine)
+same_but : (past : List SerialInsn) (machine : Machine)
+    → ((entry : SerialInsn) → In entry past → is_store (op_of entry.insn) ≡ false)
+    → IsSameBut past machine (machine_after past machine)
 same_but [] machine none = record { memory = refl; words = λ reg h. refl; kept = λ line c. c; faults = λ line c. inl c }
 same_but (entry ∷ past) machine none =
-    let rest : IsSameBut past (after_entry entry machine) (machine_after past (after_entry entry machine)) = same_but past (after_entry entry machine) (λ e h. none e (inr h)) in
+    let rest : IsSameBut past (after_entry entry machine) (machine_after past (after_entry entry machine)) = same_but
+    past (after_entry entry machine) (λ e h. none e (inr h)) in
     record {
       memory = rest.memory ∙ stores_nothing entry machine (none entry (inl refl));
-      words = λ reg h. rest.words reg (λ e delay c w. h e delay (later_of entry e past c) w) ∙ word_kept entry machine reg (λ delay w. h entry delay (first_of entry past) w);
-      kept = λ line c. rest.kept line (fault_kept machine.faults entry.line line (is_fault (act_in machine entry).access) c);
+      words = λ reg h. rest.words reg (λ e delay c w. h e delay (later_of entry e past c) w)
+          ∙ word_kept entry machine reg (λ delay w. h entry delay (first_of entry past) w);
+      kept = λ line c. rest.kept line
+          (fault_kept machine.faults entry.line line (is_fault (act_in machine entry).access) c);
       faults = λ line c. elim (rest.faults line c) [
         | inl old ↦ elim (fault_new machine.faults entry.line line (is_fault (act_in machine entry).access) old) [
           | inl e ↦ inr (entry, first_of entry past, sym e)
@@ -89,22 +111,27 @@ same_but (entry ∷ past) machine none =
 
 -- ---- the loop
 
-longer_path : (region : Region) (past : List SerialInsn) (trips : ℕ) → serial_path (with_past region past) trips ≡ serial_path region trips ++ past
+longer_path : (region : Region) (past : List SerialInsn) (trips : ℕ)
+    → serial_path (with_past region past) trips ≡ serial_path region trips ++ past
 longer_path region past trips =
     ap (λ xs. region.before ++ xs) (sym (append_assoc (rounds region.body trips) region.behind past))
     ∙ sym (append_assoc region.before (rounds region.body trips ++ region.behind) past)
 
-pub pipelined_past_the_end : (region : Region) (past : List SerialInsn) (loop : Pipelined) (trips passes : ℕ) → PipelinedPastTheEnd region past loop trips passes
+pub pipelined_past_the_end : (region : Region) (past : List SerialInsn) (loop : Pipelined) (trips passes : ℕ)
+    → PipelinedPastTheEnd region past loop trips passes
 pipelined_past_the_end region past loop trips passes none counted is opening m sound begins small = (
   (serial (serial_path (with_past region past) trips) opening).machine,
   subst (λ (after : Machine). IsSameBut past (serial (serial_path region trips) opening).machine after) (sym left)
-      (same_but past (serial (serial_path region trips) opening).machine (In-All (λ entry. is_store (op_of entry.insn) ≡ false) past none)),
+      (same_but past (serial (serial_path region trips) opening).machine
+      (In-All (λ entry. is_store (op_of entry.insn) ≡ false) past none)),
   pipelined_is_serial (with_past region past) loop trips passes counted is opening m sound begins small,
 )
   where
-    left : (serial (serial_path (with_past region past) trips) opening).machine ≡ machine_after past (serial (serial_path region trips) opening).machine
+    left : (serial (serial_path (with_past region past) trips) opening).machine ≡ machine_after past
+        (serial (serial_path region trips) opening).machine
     left =
         serial_machine (serial_path (with_past region past) trips) opening
         ∙ ap (λ xs. machine_after xs opening) (longer_path region past trips)
         ∙ after_both (serial_path region trips) past opening
-        ∙ ap (λ (machine : Machine). machine_after past machine) (sym (serial_machine (serial_path region trips) opening))
+        ∙ ap (λ (machine : Machine). machine_after past machine)
+        (sym (serial_machine (serial_path region trips) opening))

@@ -1,5 +1,6 @@
 -- A counted loop goes round as often as its counter says.
-use Rattle.std.proofs.Common.{◌≡◌, ℕ, zero, suc, ◌+◌, ◌-◌, ◌^◌, ◌<◌, Bool, true, false, List, [], ◌∷◌, ◌++◌, length, Option, Some, None, refl, sym, ◌∙◌, ap, subst, inl, inr, arith}
+use Rattle.std.proofs.Common.{◌≡◌, ℕ, zero, suc, ◌+◌, ◌-◌, ◌^◌, ◌<◌, Bool, true, false, List, [], ◌∷◌, ◌++◌, length}
+use Rattle.std.proofs.Common.{Option, Some, None, refl, sym, ◌∙◌, ap, subst, inl, inr, arith}
 use Rattle.std.specs.Prelude.{◌==◌, fold}
 use Rattle.std.proofs.lemmas.Bool.{cond-true, cond-false, eq-eqb, ne_eqb, false≢true}
 use Rattle.std.proofs.lemmas.List.{get_or-set_same}
@@ -21,25 +22,32 @@ use Rattle.c62_meaning.proofs.Lookup.{In}
 use Rattle.c62_loop.specs.Counter.{IsCounted, steps_in, work_of}
 use Rattle.c62_loop.specs.Loop.{rounds}
 use Rattle.c62_loop.specs.Rounds.{IsLoopBlock, repeated, GoesRound}
-use Rattle.c62_loop.proofs.Apart.{machine_after, serial_machine, sound_after, In-All, apart}
+use Rattle.c62_loop.proofs.Machines.{machine_after, serial_machine, sound_after, In-All}
+use Rattle.c62_loop.proofs.Apart.{apart}
 use Rattle.c62_loop.proofs.Counting.{after_both, counts_one}
 
-fold_both : (xs ys : List SerialInsn) (ran : Ran) → fold after_insn ran (xs ++ ys) ≡ fold after_insn (fold after_insn ran xs) ys
+fold_both : (xs ys : List SerialInsn) (ran : Ran)
+    → fold after_insn ran (xs ++ ys) ≡ fold after_insn (fold after_insn ran xs) ys
 fold_both [] ys ran = refl
 fold_both (x ∷ xs) ys ran = fold_both xs ys (after_insn ran x)
 
 -- without a branch a path falls through
-falls_through : (xs : List SerialInsn) (ran : Ran) → ((entry : SerialInsn) → In entry xs → is_branch (op_of entry.insn) ≡ false) → (fold after_insn ran xs).exit ≡ ran.exit
+falls_through : (xs : List SerialInsn) (ran : Ran)
+    → ((entry : SerialInsn) → In entry xs → is_branch (op_of entry.insn) ≡ false)
+    → (fold after_insn ran xs).exit ≡ ran.exit
 falls_through [] ran none = refl
 falls_through (x ∷ xs) ran none =
-    falls_through xs (after_insn ran x) (λ e h. none e (inr h)) ∙ ap (λ o. exit_after ran.exit o) (by_target (act_in ran.machine x).target refl)
+    falls_through xs (after_insn ran x) (λ e h. none e (inr h))
+    ∙ ap (λ o. exit_after ran.exit o) (by_target (act_in ran.machine x).target refl)
   where
     by_target : (o : Option Target) → (act_in ran.machine x).target ≡ o → (act_in ran.machine x).target ≡ None
     by_target None e = e
     by_target (Some target) e =
-        absurd (false≢true (sym (none x (inl refl)) ∙ goes_branch x.insn (word_in ran.machine) (byte_in ran.machine) target e))
+        absurd (false≢true (sym (none x (inl refl))
+        ∙ goes_branch x.insn (word_in ran.machine) (byte_in ran.machine) target e))
 
-module _ (program : List Serial) (number : ℕ) (counter : Reg) (body : List SerialInsn) (test : SerialInsn) (is : IsLoopBlock program number counter body test) where
+module _ (program : List Serial) (number : ℕ) (counter : Reg) (body : List SerialInsn) (test : SerialInsn)
+    (is : IsLoopBlock program number counter body test) where
   abbrev block : List SerialInsn
   block = body ++ (test ∷ [])
 
@@ -54,29 +62,38 @@ module _ (program : List Serial) (number : ℕ) (counter : Reg) (body : List Ser
   stays machine = either (word_in machine counter == 0) refl
     where
       either : (b : Bool) → (word_in machine counter == 0) ≡ b → after_entry test machine ≡ machine
-      either true z = ap (λ (act : Act). after_act test.line act machine) (is.tests (word_in machine) (byte_in machine) ∙ cond-true _ _ _ z)
-      either false z = ap (λ (act : Act). after_act test.line act machine) (is.tests (word_in machine) (byte_in machine) ∙ cond-false _ _ _ z)
+      either true z = ap (λ (act : Act). after_act test.line act machine) (is.tests (word_in machine) (byte_in machine)
+          ∙ cond-true _ _ _ z)
+      either false z = ap (λ (act : Act). after_act test.line act machine) (is.tests (word_in machine) (byte_in machine)
+          ∙ cond-false _ _ _ z)
 
   round_leaves : (opening : Machine) → (serial block opening).machine ≡ machine_after body opening
-  round_leaves opening = serial_machine block opening ∙ after_both body (test ∷ []) opening ∙ stays (machine_after body opening)
+  round_leaves opening = serial_machine block opening ∙ after_both body (test ∷ []) opening
+      ∙ stays (machine_after body opening)
 
-  module _ (trips : ℕ) (opening : Machine) (sound : IsSound opening) (begins : word_in opening counter ≡ suc trips) (small : suc trips < 2 ^ 32) where
+  module _ (trips : ℕ) (opening : Machine) (sound : IsSound opening) (begins : word_in opening counter ≡ suc trips)
+      (small : suc trips < 2 ^ 32) where
     one_less : word_in (machine_after body opening) counter ≡ trips
     one_less =
         let one : steps_in counter body ≡ 1 = is.one_step in
         let less : suc trips - steps_in counter body ≡ trips = omega arith in
-        let kept : IsSound (machine_after (work_of counter body) opening) = sound_after (work_of counter body) opening sound in
+        let kept : IsSound (machine_after (work_of counter body) opening) = sound_after (work_of counter body) opening
+        sound in
         let n : length (machine_after (work_of counter body) opening).registers ≡ 32 = kept.registers in
         let k : index_of counter < 32 = index_within counter in
-        ap (λ (m : Machine). word_in m counter) (apart counter number body (suc trips) opening counted (counts_one counter trips body is.one_step) sound begins small)
-        ∙ get_or-set_same (machine_after (work_of counter body) opening).registers (index_of counter) (suc trips - steps_in counter body) 0 (omega arith)
+        ap (λ (m : Machine). word_in m counter)
+        (apart counter number body (suc trips) opening counted (counts_one counter trips body is.one_step) sound
+        begins small)
+        ∙ get_or-set_same (machine_after (work_of counter body) opening).registers (index_of counter)
+        (suc trips - steps_in counter body) 0 (omega arith)
         ∙ less
 
     -- the exit is the branch's
     exit_is : (serial block opening).exit ≡ exit_after Next (act_in (serial body opening).machine test).target
     exit_is =
         ap (λ (r : Ran). r.exit) (fold_both body (test ∷ []) (record { machine = opening; exit = Next }))
-        ∙ ap (λ exit. exit_after exit (act_in (serial body opening).machine test).target) (falls_through body (record { machine = opening; exit = Next }) no_branch)
+        ∙ ap (λ exit. exit_after exit (act_in (serial body opening).machine test).target)
+        (falls_through body (record { machine = opening; exit = Next }) no_branch)
 
     finds : word_in (serial body opening).machine counter ≡ trips
     finds = ap (λ (m : Machine). word_in m counter) (serial_machine body opening) ∙ one_less
@@ -84,14 +101,18 @@ module _ (program : List Serial) (number : ℕ) (counter : Reg) (body : List Ser
     goes_on : trips ≡ 0 → (serial block opening).exit ≡ Next
     goes_on z =
         exit_is ∙ ap (λ (act : Act). exit_after Next act.target)
-        (is.tests (word_in (serial body opening).machine) (byte_in (serial body opening).machine) ∙ cond-true _ _ _ (eq-eqb _ 0 (finds ∙ z)))
+        (is.tests (word_in (serial body opening).machine) (byte_in (serial body opening).machine)
+        ∙ cond-true _ _ _ (eq-eqb _ 0 (finds ∙ z)))
 
     goes_back : (trips ≡ 0 → ⊥) → (serial block opening).exit ≡ Block number
     goes_back ne =
         exit_is ∙ ap (λ (act : Act). exit_after Next act.target)
-        (is.tests (word_in (serial body opening).machine) (byte_in (serial body opening).machine) ∙ cond-false _ _ _ (ne_eqb _ 0 (λ z. ne (sym finds ∙ z))))
+        (is.tests (word_in (serial body opening).machine) (byte_in (serial body opening).machine)
+        ∙ cond-false _ _ _ (ne_eqb _ 0 (λ z. ne (sym finds ∙ z))))
 
-  rounds_leave : (trips : ℕ) (opening : Machine) → (serial (rounds block (suc trips)) opening).machine ≡ (serial (rounds block trips) (serial block opening).machine).machine
+  rounds_leave : (trips : ℕ) (opening : Machine)
+      → (serial (rounds block (suc trips)) opening).machine ≡
+      (serial (rounds block trips) (serial block opening).machine).machine
   rounds_leave trips opening =
       serial_machine (rounds block (suc trips)) opening
       ∙ after_both block (rounds block trips) opening
@@ -99,27 +120,42 @@ module _ (program : List Serial) (number : ℕ) (counter : Reg) (body : List Ser
       ∙ sym (serial_machine (rounds block trips) (serial block opening).machine)
 
   goes : (trips : ℕ) (opening : Machine) → IsSound opening → word_in opening counter ≡ suc trips → suc trips < 2 ^ 32
-      → Leads (length program) (serial_blocks program) opening (At number) (repeated number (suc trips)) (serial (rounds block (suc trips)) opening).machine (position_at (length program) (number + 1))
+      → Leads (length program) (serial_blocks program) opening (At number) (repeated number (suc trips))
+      (serial (rounds block (suc trips)) opening).machine (position_at (length program) (number + 1))
   unfolding Leads
   goes zero opening sound begins small = (
     refl,
     serial block opening,
     ap (λ insns. serial insns opening) (sym is.block),
-    (rounds_leave 0 opening, ap (λ exit. position_after (length program) number exit) (sym (goes_on 0 opening sound begins small refl))),
+    (
+      rounds_leave 0 opening,
+      ap (λ exit. position_after (length program) number exit)
+          (sym (goes_on 0 opening sound begins small refl)),
+    ),
   )
   goes (suc trips) opening sound begins small =
-      let next : IsSound (serial block opening).machine = subst (λ (m : Machine). IsSound m) (sym (round_leaves opening)) (sound_after body opening sound) in
+      let next : IsSound (serial block opening).machine = subst (λ (m : Machine). IsSound m)
+      (sym (round_leaves opening)) (sound_after body opening sound) in
       let holds : word_in (serial block opening).machine counter ≡ suc trips
-      = ap (λ (m : Machine). word_in m counter) (round_leaves opening) ∙ one_less (suc trips) opening sound begins small in
+      = ap (λ (m : Machine). word_in m counter) (round_leaves opening)
+      ∙ one_less (suc trips) opening sound begins small in
       let back : At number ≡ position_after (length program) number (serial block opening).exit
-      = sym (at_block (length program) number is.there) ∙ ap (λ exit. position_after (length program) number exit) (sym (goes_back (suc trips) opening sound begins small (λ z. omega arith))) in (
+      = sym (at_block (length program) number is.there)
+      ∙ ap (λ exit. position_after (length program) number exit)
+      (sym (goes_back (suc trips) opening sound begins small (λ z. omega arith))) in (
         refl,
         serial block opening,
         ap (λ insns. serial insns opening) (sym is.block),
-        subst (λ p. Leads (length program) (serial_blocks program) (serial block opening).machine p (repeated number (suc trips)) (serial (rounds block (suc (suc trips))) opening).machine (position_at (length program) (number + 1))) back
-            (subst (λ (m : Machine). Leads (length program) (serial_blocks program) (serial block opening).machine (At number) (repeated number (suc trips)) m (position_at (length program) (number + 1))) (sym (rounds_leave (suc trips) opening))
+        subst (λ p. Leads (length program) (serial_blocks program) (serial block opening).machine p
+            (repeated number (suc trips)) (serial (rounds block (suc (suc trips))) opening).machine
+            (position_at (length program) (number + 1))) back
+            (subst (λ (m : Machine). Leads (length program) (serial_blocks program) (serial block opening).machine
+            (At number) (repeated number (suc trips)) m (position_at (length program) (number + 1)))
+            (sym (rounds_leave (suc trips) opening))
             (goes trips (serial block opening).machine next holds (omega arith))),
       )
 
-pub goes_round : (program : List Serial) (number : ℕ) (counter : Reg) (body : List SerialInsn) (test : SerialInsn) → GoesRound program number counter body test
-goes_round program number counter body test is trips opening sound begins small = goes program number counter body test is trips opening sound begins small
+pub goes_round : (program : List Serial) (number : ℕ) (counter : Reg) (body : List SerialInsn) (test : SerialInsn)
+    → GoesRound program number counter body test
+goes_round program number counter body test is trips opening sound begins small = goes program number counter body test
+    is trips opening sound begins small

@@ -2,6 +2,8 @@
 -- loops"; SPRU198, "Software Pipelining").
 use Rattle.std.specs.Prelude.{◌≡◌, ℕ, zero, suc, ◌+◌, ◌^◌, ◌<◌, ◌≤◌, List, [], ◌++◌, length, take, slice_get, All, Some, IsTrue, IsFalse}
 use Rattle.c62_op.specs.declared.register.Reg.{Reg}
+use Rattle.c62_op.specs.Shape.{is_branch}
+use Rattle.c62_insn.specs.Insn.{op_of}
 use Rattle.c62_read.specs.declared.block.SerialInsn.{SerialInsn}
 use Rattle.c62_serial.specs.State.{Machine, IsSound, word_in}
 use Rattle.c62_serial.specs.Serial.{serial}
@@ -29,16 +31,24 @@ abbrev pub rounds : List SerialInsn → ℕ → List SerialInsn
 rounds body zero = []
 rounds body (suc trips) = body ++ rounds body trips
 
--- the instructions that a run takes whose loop goes round so many times
-abbrev pub serial_path : Region → ℕ → List SerialInsn
-serial_path region trips = region.before ++ (rounds region.body trips ++ region.behind)
+-- from the label on, the instructions that a run takes whose loop goes round so many times
+abbrev pub loop_path : Region → ℕ → List SerialInsn
+loop_path region trips = rounds region.body trips ++ region.behind
 
--- The loop counts: its block lowers the counter by one, and all that touches it in the region are steps and branches to the loop.
+-- and with those above it
+abbrev pub serial_path : Region → ℕ → List SerialInsn
+serial_path region trips = region.before ++ loop_path region trips
+
+-- what the counter holds when a run comes to the label
+abbrev pub trips_of : Region → Machine → ℕ
+trips_of region opening = word_in (serial region.before opening).machine region.counter
+
+-- The loop counts: its block lowers the counter by one, and all that touches it from the label on are steps and branches to the loop.
+-- What stands above may do with it what it likes, but branches nowhere.
 pub record IsCountedLoop (region : Region) : Type 0 where
-  pub before : All (IsCounted region.counter region.number) region.before
+  pub straight_before : All (λ entry. IsFalse (is_branch (op_of entry.insn))) region.before
   pub body : All (IsCounted region.counter region.number) region.body
   pub behind : All (IsCounted region.counter region.number) region.behind
-  pub no_step_before : steps_in region.counter region.before ≡ 0
   pub one_step : steps_in region.counter region.body ≡ 1
   pub no_step_behind : steps_in region.counter region.behind ≡ 0
 
@@ -104,34 +114,36 @@ pub record IsPipelined (loop : Pipelined) : Type 0 where
 abbrev pub EndsPass : Pipelined → ℕ → Placed → Type 0
 EndsPass loop pass p = p.cycle + 6 ≡ pass_start loop (suc pass)
 
--- The packets hold the loop of so many trips in so many passes of the kernel: what is issued are instances of the work of the
--- serial path, and of steps and branches of their own.
+-- The packets hold the loop of so many trips in so many passes of the kernel: what is issued are instances of the instructions above
+-- the label, of steps and branches of their own, and of the work of the loop.
 pub record IsMatch (region : Region) (loop : Pipelined) (trips passes : ℕ) (opening : Machine) : Type 0 where
   pub some : 0 < passes
   -- the steps and branches, in an order in which they are instances
   pub control : List SerialInsn
   pub touch : All (λ entry. IsTrue (touches region.counter entry)) control
   pub counted : All (IsCounted region.counter loop.label) control
-  pub instances : AreInstancesFrom opening (control ++ work_of region.counter (serial_path region trips)) (issued_on loop.text (visits_of loop passes))
+  pub instances : AreInstancesFrom opening (region.before ++ (control ++ work_of region.counter (loop_path region trips))) (issued_on loop.text (visits_of loop passes))
   -- all has landed when the epilog is over
   pub drained : AreDrained (cycles_of loop passes) (issued_on loop.text (visits_of loop passes))
   -- each step finds the counter above 0 or stops there, and they are enough to bring it there
   pub counts : CountsFrom region.counter trips control
   pub enough : trips ≤ steps_in region.counter control
   -- each branch takes effect at the end of a pass, and finds the counter at 0 from the last pass on, and not before
-  pub decides : (i : ℕ) (entry : SerialInsn) (p : Placed) → slice_get control i ≡ Some entry → slice_get instances.placed i ≡ Some p
+  pub decides : (i : ℕ) (entry : SerialInsn) (p : Placed) → slice_get control i ≡ Some entry
+      → slice_get instances.placed (length region.before + i) ≡ Some p
       → IsFalse (steps_on region.counter entry)
       → (pass : ℕ) × EndsPass loop pass p × (steps_in region.counter (take i control) + passes ≡ trips + suc pass)
   -- at the end of each pass but the last some branch does
   pub decided : (pass : ℕ) → suc pass < passes
-      → (i : ℕ) × (entry : SerialInsn) × (p : Placed) × (slice_get control i ≡ Some entry) × (slice_get instances.placed i ≡ Some p)
+      → (i : ℕ) × (entry : SerialInsn) × (p : Placed) × (slice_get control i ≡ Some entry)
+      × (slice_get instances.placed (length region.before + i) ≡ Some p)
       × IsFalse (steps_on region.counter entry) × EndsPass loop pass p
 
 -- ---- law
 
--- From every sound machine whose counter is so many trips the flight from the first row of the prolog comes to the row behind the
+-- From every sound machine that comes to the label with so many trips in the counter the flight from the first row of the prolog comes to the row behind the
 -- epilog with nothing in flight, and has left the registers, memory and faulted lines of the serial path.
 abbrev pub PipelinedIsSerial : Region → Pipelined → ℕ → ℕ → Type 0
 PipelinedIsSerial region loop trips passes = IsCountedLoop region → IsPipelined loop → (opening : Machine)
-    → IsMatch region loop trips passes opening → IsSound opening → word_in opening region.counter ≡ trips → trips < 2 ^ 32 → (more : ℕ)
+    → IsMatch region loop trips passes opening → IsSound opening → trips_of region opening ≡ trips → trips < 2 ^ 32 → (more : ℕ)
     → IsCut loop.text loop.first (cycles_of loop passes + more) opening (last_row loop) (cycles_of loop passes) (serial (serial_path region trips) opening).machine

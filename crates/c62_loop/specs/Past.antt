@@ -7,7 +7,7 @@ use Rattle.c62_read.specs.declared.block.SerialInsn.{SerialInsn}
 use Rattle.c62_serial.specs.State.{Machine, IsSound, word_in}
 use Rattle.c62_serial.specs.Serial.{serial}
 use Rattle.c62_flight.specs.Cut.{IsCut}
-use Rattle.c62_loop.specs.Loop.{Region, serial_path, IsCountedLoop, Pipelined, last_row, cycles_of, IsPipelined, IsMatch}
+use Rattle.c62_loop.specs.Loop.{Region, serial_path, trips_of, IsCountedLoop, Pipelined, last_row, cycles_of, IsPipelined, IsMatch}
 
 -- memory is as it was, and so are the registers that none of these instructions writes; the faulted lines are those that were, and lines of theirs
 pub record IsSameBut (past : List SerialInsn) (before after : Machine) : Type 0 where
@@ -23,6 +23,6 @@ with_past region past = record region { behind = region.behind ++ past }
 -- Where such instances are no stores, the packets leave what the serial loop leaves, but for the registers that they write and for faulted lines of theirs.
 abbrev pub PipelinedPastTheEnd : Region → List SerialInsn → Pipelined → ℕ → ℕ → Type 0
 PipelinedPastTheEnd region past loop trips passes = All (λ entry. IsFalse (is_store (op_of entry.insn))) past → IsCountedLoop (with_past region past) → IsPipelined loop
-    → (opening : Machine) → IsMatch (with_past region past) loop trips passes opening → IsSound opening → word_in opening region.counter ≡ trips → trips < 2 ^ 32
+    → (opening : Machine) → IsMatch (with_past region past) loop trips passes opening → IsSound opening → trips_of region opening ≡ trips → trips < 2 ^ 32
     → (after : Machine) × IsSameBut past (serial (serial_path region trips) opening).machine after
     × ((more : ℕ) → IsCut loop.text loop.first (cycles_of loop passes + more) opening (last_row loop) (cycles_of loop passes) after)

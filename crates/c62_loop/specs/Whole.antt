@@ -6,7 +6,7 @@ use Rattle.c62_op.specs.Shape.{is_load, is_store}
 use Rattle.c62_insn.specs.declared.insn.Insn.{Insn}
 use Rattle.c62_insn.specs.Insn.{op_of, register_writes, reads_register}
 use Rattle.c62_read.specs.declared.block.SerialInsn.{SerialInsn}
-use Rattle.c62_serial.specs.State.{Machine, IsSound, word_in}
+use Rattle.c62_serial.specs.State.{Machine, IsSound}
 use Rattle.c62_serial.specs.Serial.{serial}
 use Rattle.c62_packet.specs.declared.placed.Placed.{Placed}
 use Rattle.c62_packet.specs.Packed.{AreDrained}
@@ -17,7 +17,7 @@ use Rattle.c62_flight.specs.Issued.{issued_on}
 use Rattle.c62_flight.specs.Laid.{straight}
 use Rattle.c62_flight.specs.Cut.{IsCut}
 use Rattle.c62_loop.specs.Counter.{size_of, touches, steps_on, steps_in, StopsAtZero, IsCounted, work_of}
-use Rattle.c62_loop.specs.Loop.{Region, serial_path, IsCountedLoop, Pipelined, kernel_row, epilog_row, last_row, prolog_cycles, interval, visits_of, cycles_of, IsPipelined, EndsPass}
+use Rattle.c62_loop.specs.Loop.{Region, loop_path, serial_path, trips_of, IsCountedLoop, Pipelined, kernel_row, epilog_row, last_row, prolog_cycles, interval, visits_of, cycles_of, IsPipelined, EndsPass}
 use Rattle.c62_loop.specs.Stage.{Stage, Schedule, Straights, placed_of, AreParted, KeepDistances}
 
 -- ---- work
@@ -43,10 +43,14 @@ AreStagesOf most _ _ = ⊥
 abbrev pub insns_in : List SerialInsn → List Insn
 insns_in entries = map (λ entry. entry.insn) entries
 
--- the instructions of a region's work
+-- the instructions above the label, and the work of so many iterations and of what stands behind them
+abbrev pub work_path : Region → ℕ → List SerialInsn
+work_path region trips = region.before ++ work_of region.counter (loop_path region trips)
+
+-- those of a region
 abbrev pub work_insns : Region → Straights
 work_insns region = record {
-  before = insns_in (work_of region.counter region.before);
+  before = insns_in region.before;
   body = insns_in (work_of region.counter region.body);
   behind = insns_in (work_of region.counter region.behind);
 }
@@ -112,14 +116,28 @@ pub record IsSteering (counter : Reg) (loop : Pipelined) (most : ℕ) (control :
       → EndsPass loop ahead p × (steps_of counter control.early + steps_of counter (take i control.kernel) ≡ most + suc ahead)
   pub kernel_pass : (i : ℕ) × (p : Placed) × (slice_get control.kernel i ≡ Some p) × IsFalse (steps_on counter (entry_of p))
 
+-- ---- where the counter begins
+
+-- By so many cycles at least a step or branch comes behind an instruction above the label: what this writes into the counter has landed
+-- before that reads it, and no step lands before this has read the counter.
+pub data IsAsked (counter : Reg) (p q : Placed) (needs : ℕ) : Type 0 where
+  Lands : (delay : ℕ) → Contains (register_writes p.insn) (counter, delay) → needs ≡ delay + 1 → IsAsked counter p q needs
+  Reads : IsTrue (reads_register p.insn counter) → IsTrue (steps_on counter (entry_of q)) → needs ≡ 0 → IsAsked counter p q needs
+
+abbrev pub ComesBehind : Reg → Placed → Placed → Type 0
+ComesBehind counter p q = (needs : ℕ) → IsAsked counter p q needs → p.cycle + needs ≤ q.cycle
+
+abbrev pub ComeBehind : Reg → List Placed → List Placed → Type 0
+ComeBehind counter ps qs = (p q : Placed) → Contains ps p → Contains qs q → ComesBehind counter p q
+
 -- ---- the whole
 
--- In the serial run of the loop's work from this machine two instructions of which it is promised never load or store one byte, but in one
+-- In the serial run of these instructions and of the loop's work from this machine two instructions of which it is promised never load or store one byte, but in one
 -- iteration.
 abbrev pub AreApart : (Insn → Insn → Bool) → Region → ℕ → Machine → Type 0
-AreApart promised region trips opening = (i j : ℕ) (first second : Insn) → slice_get (insns_in (work_of region.counter (serial_path region trips))) i ≡ Some first
-    → slice_get (insns_in (work_of region.counter (serial_path region trips))) j ≡ Some second → IsTrue (promised first second)
-    → AreParted (work_insns region) trips i j → Meet (work_of region.counter (serial_path region trips)) opening i j → ⊥
+AreApart promised region trips opening = (i j : ℕ) (first second : Insn) → slice_get (insns_in (work_path region trips)) i ≡ Some first
+    → slice_get (insns_in (work_path region trips)) j ≡ Some second → IsTrue (promised first second)
+    → AreParted (work_insns region) trips i j → Meet (work_path region trips) opening i j → ⊥
 
 -- The packets pipeline the loop: prolog and epilog hold so many iterations of each instruction, and each pass of the kernel one. What is asked
 -- is asked of finitely many rows, passes and pairs.
@@ -127,8 +145,8 @@ pub record IsPipelining (promised : Insn → Insn → Bool) (region : Region) (l
   pub schedule : Schedule
   pub control : Control
   pub same_interval : schedule.interval ≡ interval loop
-  -- the work, one for one
-  pub before : StandFor (work_of region.counter region.before) schedule.before
+  -- what stands above the label and the work, one for one
+  pub before : StandFor region.before schedule.before
   pub body : AreStagesOf most (work_of region.counter region.body) schedule.stages
   pub behind : StandFor (work_of region.counter region.behind) schedule.behind
   -- the rows hold this and the control, and nothing else
@@ -139,15 +157,17 @@ pub record IsPipelining (promised : Insn → Insn → Bool) (region : Region) (l
   pub epilog : (p : Placed) → Contains (issued_on loop.text (straight loop.text (epilog_row loop) (prolog_cycles loop) loop.epilog)) p
       ↔ Contains (flat_map (λ stage. stage.late) schedule.stages ++ schedule.behind) p
   pub steering : IsSteering region.counter loop most control
+  -- which begins with what those above leave in the counter
+  pub begins : ComeBehind region.counter schedule.before (control.early ++ control.kernel)
   -- distances are kept in one pass to three more than those iterations
   pub keeps : (passes : ℕ) → 0 < passes → passes ≤ most + 3 → KeepDistances promised (work_insns region) (most + passes) (placed_of schedule (most + passes) passes)
   -- after one pass all has landed when the epilog is over
   pub drained : AreDrained (cycles_of loop 1) (issued_on loop.text (visits_of loop 1))
 
--- From every sound machine of which the promises hold, and whose counter is one trip more than those iterations or any number above, the flight from the first row
+-- From every sound machine of which the promises hold, and which comes to the label with one trip more than those iterations or any number above, the flight from the first row
 -- of the prolog comes to the row behind the epilog with nothing in flight, and has left the registers, memory and faulted lines of
 -- the serial loop of as many trips.
 abbrev pub PipelinedForAllTrips : (Insn → Insn → Bool) → Region → Pipelined → ℕ → Type 0
 PipelinedForAllTrips promised region loop most = IsCountedLoop region → IsPipelined loop → IsPipelining promised region loop most
-    → (opening : Machine) (passes : ℕ) → IsSound opening → 0 < passes → word_in opening region.counter ≡ most + passes → most + passes < 2 ^ 32 → AreApart promised region (most + passes) opening → (more : ℕ)
+    → (opening : Machine) (passes : ℕ) → IsSound opening → 0 < passes → trips_of region opening ≡ most + passes → most + passes < 2 ^ 32 → AreApart promised region (most + passes) opening → (more : ℕ)
     → IsCut loop.text loop.first (cycles_of loop passes + more) opening (last_row loop) (cycles_of loop passes) (serial (serial_path region (most + passes)) opening).machine

@@ -45,7 +45,8 @@ pub fn loops_go_round()
 /// epilog issue instances of the work of so many trips of the serial loop, and steps and branches that
 /// count the passes, the flight from the first row comes to the row behind the epilog with nothing in
 /// flight, and has left the registers, memory and faulted lines of the serial loop, from each sound
-/// machine whose counter is that many trips. Accesses that don't meet in the run from there need no order.
+/// machine that comes to the label with that many trips in the counter. Accesses that don't meet in the run
+/// from there need no order.
 pub fn pipelined_is_serial()
     ensures { (region : Region) (pipelined : Pipelined) (trips passes : ℕ)
         → PipelinedIsSerial region pipelined trips passes }
@@ -71,8 +72,9 @@ pub fn kept_in_more_passes()
 
 /// A pipelined loop is serial for every number of trips: where a prolog, a kernel and an epilog hold its
 /// work and count its passes, and distances are kept in one pass to three more than there are iterations
-/// in prolog and epilog, it is as `pipelined_is_serial` says from every sound machine whose counter is
-/// more than those iterations. Accesses of which it is promised that in the serial run they never meet but
+/// in prolog and epilog, it is as `pipelined_is_serial` says from every sound machine that comes to the label with
+/// more trips than those iterations. The instructions above the label may set the counter as they like: what they leave there
+/// has landed before a step or branch finds it. Accesses of which it is promised that in the serial run they never meet but
 /// in one iteration need no order between iterations, where that promise holds.
 pub fn pipelined_for_all_trips()
     ensures { (promised : Insn → Insn → Bool) (region : Region) (pipelined : Pipelined) (most : ℕ)

@@ -6,7 +6,8 @@ use Rattle.c62_packet.specs.declared.placed.Placed.{Placed}
 use Rattle.c62_loop_match.specs.declared.steering.Rule.{Rule}
 use Rattle.c62_loop_match.specs.Astray.{HoldsAstray}
 
-pub left : (rule : Rule) (begin label : ℕ) (early kernel : List Placed) (line : ℕ) → HoldsAstray rule begin label early line → HoldsAstray rule begin label (early ++ kernel) line
+pub left : (rule : Rule) (begin label : ℕ) (early kernel : List Placed) (line : ℕ)
+    → HoldsAstray rule begin label early line → HoldsAstray rule begin label (early ++ kernel) line
 left rule begin label early kernel line found = record {
   branch = found.branch;
   among = Contains-append_left early kernel found.branch found.among;
@@ -14,7 +15,8 @@ left rule begin label early kernel line found = record {
   line_is = found.line_is;
 }
 
-pub right : (rule : Rule) (begin label : ℕ) (early kernel : List Placed) (found : Option ℕ) → IfSome found (HoldsAstray rule begin label kernel)
+pub right : (rule : Rule) (begin label : ℕ) (early kernel : List Placed) (found : Option ℕ)
+    → IfSome found (HoldsAstray rule begin label kernel)
     → IfSome found (HoldsAstray rule begin label (early ++ kernel))
 right rule begin label early kernel None found = tt
 right rule begin label early kernel (Some line) found = record {

@@ -7,5 +7,6 @@ use Rattle.c62_depend.specs.Latency.{latency_of}
 use Rattle.c62_depend.proofs.Numbers.{all_is}
 
 pub all_numbers : (p q : Uses) (exclusive disjoint : Bool)
-    → as_bound (max (number_of_registers exclusive p q) (number_of_order disjoint p.insn q.insn)) ≡ latency_of exclusive disjoint p.insn q.insn
+    → as_bound (max (number_of_registers exclusive p q) (number_of_order disjoint p.insn q.insn)) ≡ latency_of exclusive
+    disjoint p.insn q.insn
 all_numbers p q exclusive disjoint = all_is p q exclusive disjoint

@@ -21,9 +21,9 @@ pub record IsLayout (loop : Pipelined) (layout : Layout) : Type 0 where
   pub epilog : IsLaidOut loop.text (epilog_row loop) loop.epilog layout.prolog.end layout.epilog
   pub after : IsLaidOut loop.text (epilog_row loop) loop.epilog layout.kernel.end layout.after
 
--- the region without its counter and the branches that test it
+-- the instructions above the label, and the rest of the region without its counter and the branches that test it
 pub record IsWork (region : Region) (works : Works) : Type 0 where
-  pub before : works.before.items ≡ work_of region.counter region.before
+  pub before : works.before.items ≡ region.before
   pub body : works.body.items ≡ work_of region.counter region.body
   pub behind : works.behind.items ≡ work_of region.counter region.behind
 

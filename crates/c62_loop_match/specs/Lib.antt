@@ -8,6 +8,7 @@ pub mod Distances
 pub mod Early
 pub mod Turns
 pub mod Steering
+pub mod Begin
 pub mod Decide
 pub mod Reading
 pub mod Astray

@@ -33,12 +33,12 @@ schedule_unlined schedule = record {
 
 -- ---- readings
 
--- The rows of prolog, kernel and epilog hold this schedule and this control, and nothing else. The schedule is of the region's work,
--- whatever lines the packets give it: each instruction of the block once in the kernel, and so often in prolog and epilog.
+-- The rows of prolog, kernel and epilog hold this schedule and this control, and nothing else. The schedule is of the instructions
+-- above the label and of the region's work, whatever lines the packets give them: each instruction of the block once in the kernel, and so often in prolog and epilog.
 pub record IsReading (region : Region) (loop : Pipelined) (most : ℕ) (schedule : Schedule) (control : Control) : Type 0 where
   pub stands : IsPipelined loop
   pub same_interval : schedule.interval ≡ interval loop
-  pub work : HoldsWork (map entry_unlined (work_of region.counter region.before)) (map entry_unlined (work_of region.counter region.body))
+  pub work : HoldsWork (map entry_unlined region.before) (map entry_unlined (work_of region.counter region.body))
       (map entry_unlined (work_of region.counter region.behind)) (schedule_unlined schedule) most
   pub prolog : AreOneSet (issued_on loop.text (straight loop.text loop.first 0 loop.prolog))
       (control.early ++ (schedule.before ++ flat_map (λ stage. stage.early) schedule.stages))

@@ -1,5 +1,5 @@
 -- Why packets that hold a loop don't pipeline it (docs/CHECK.md, "How it is decided").
-use Rattle.std.specs.Prelude.{◌≡◌, ℕ, ◌+◌, ◌++◌, Bool, List, map, Contains, IsTrue}
+use Rattle.std.specs.Prelude.{◌≡◌, ◌⊎◌, ℕ, ◌+◌, ◌++◌, Bool, List, map, Contains, IsTrue}
 use Rattle.c62_insn.specs.declared.insn.Insn.{Insn}
 use Rattle.c62_packet.specs.declared.placed.Placed.{Placed}
 use Rattle.c62_loop.specs.Loop.{Region, Pipelined, EndsPass}
@@ -8,6 +8,7 @@ use Rattle.c62_loop.specs.Whole.{Control, work_insns}
 use Rattle.c62_loop_match.specs.declared.early.Early.{Early as EarlyRead}
 use Rattle.c62_loop_match.specs.declared.refusal.Refusal.{Refusal}
 use Rattle.c62_loop_match.specs.declared.refusal.Refusal.TheVariants.{Early, Branch, Other}
+use Rattle.c62_loop_match.specs.Begin.{HoldEarlyStart}
 use Rattle.c62_loop_match.specs.Early.{IsEarly}
 use Rattle.c62_loop_match.specs.Form.{is_test}
 use Rattle.c62_loop_match.specs.Reading.{IsReading, entry_unlined, schedule_unlined}
@@ -17,12 +18,14 @@ use Rattle.c62_read.specs.declared.block.SerialInsn.{SerialInsn}
 use Rattle.c62_loop_match.specs.declared.distances.Distances.{Distances}
 use Rattle.c62_loop_match.specs.declared.distances.Distances.TheVariants.{Kept, TooEarly, Unlike}
 
--- The packets hold the loop, and an instance in them comes too early behind another one.
+-- The packets hold the loop, and in them an instance comes too early behind another one, or a step or branch behind one of those that
+-- stand above the label.
 pub record HoldsEarly (promised : Insn → Insn → Bool) (region : Region) (loop : Pipelined) (most : ℕ) (early : EarlyRead) : Type 0 where
   pub schedule : Schedule
   pub control : Control
   pub reads : IsReading region loop most schedule control
   pub early_is : IsEarly promised (work_insns region) schedule most early
+      ⊎ HoldEarlyStart region.counter schedule.before (control.early ++ control.kernel) early
 
 -- They hold it, and the prolog or the kernel's first pass has a branch on this line that tests the counter, and goes to the kernel at the
 -- end of no pass.

@@ -186,15 +186,30 @@ fn has_steps(counter: Reg, entries: &[SerialInsn], wanted: u64) -> bool
     }
 }
 
-/// Whether the loop counts: its block lowers the counter by one, and all that touches it in the region are steps and branches to
-/// the loop.
+fn is_straight(entry: &SerialInsn) -> bool
+    ensures { result ≡ not (is_branch (op_of entry.now.insn)) }
+{
+    !entry.insn.op().is_branch()
+}
+
+ghost use Rattle.std.specs.Prelude.{not};
+ghost use Rattle.c62_op.specs.Shape.{is_branch};
+
+/// Whether none of these is a branch.
+fn are_straight(entries: &[SerialInsn]) -> bool
+    ensures { result ≡ list_all (λ entry. not (is_branch (op_of entry.insn))) entries.now }
+{
+    entries.iter().all(|entry| is_straight(entry))
+}
+
+/// Whether the loop counts: its block lowers the counter by one, and all that touches it from the label on are steps and branches
+/// to the loop. What stands above may do with it what it likes, but branches nowhere.
 pub fn is_counted_loop(region: &Region) -> bool
     ensures { OnTrue result (IsCountedLoop (region_of region.now)) }
 {
-    all_count(region.counter, region.number, &region.before)
+    are_straight(&region.before)
         && all_count(region.counter, region.number, &region.body)
         && all_count(region.counter, region.number, &region.behind)
-        && has_steps(region.counter, &region.before, 0)
         && has_steps(region.counter, &region.body, 1)
         && has_steps(region.counter, &region.behind, 0)
 }

@@ -10,6 +10,7 @@ ghost use Rattle.c62_loop_match.specs.Parts.{region_of, loop_of, schedule_of, co
 ghost use Rattle.c62_loop_match.specs.Promise.{promises};
 ghost use Rattle.c62_loop_match.specs.Decide.{IsLayout, HoldsWork, HoldsRows, Decided, IsWork};
 
+use crate::begins::begins;
 use crate::counted::{is_counted_loop, work_of};
 use crate::distances::{Distances, distances_of};
 use crate::layout::{Laid, is_drained, is_pipelined, lay_out};
@@ -82,7 +83,7 @@ pub(crate) fn layout_of(alloc: Global, pipelined: &Pipelined) -> Result<Option<L
     }))
 }
 
-/// The instructions of a region that are work.
+/// The instructions above the label of a region, and those of the rest that are work.
 #[derive(Drop)]
 pub(crate) struct Works {
     pub before: Vec<SerialInsn>,
@@ -94,7 +95,7 @@ pub(crate) fn works_of(alloc: Global, region: &Region) -> Result<Works, AllocErr
     ensures { IfOk result (IsWork (region_of region.now)) }
 {
     Ok(Works {
-        before: work_of(alloc, region.counter, &region.before)?,
+        before: Vec::from_slice(alloc, &region.before)?,
         body: work_of(alloc, region.counter, &region.body)?,
         behind: work_of(alloc, region.counter, &region.behind)?,
     })
@@ -285,6 +286,9 @@ fn is_pipelining(
         most,
     };
     if !is_steering(rule, layout.prolog.end, pipelined, control) {
+        return Ok(false);
+    }
+    if !begins(region.counter, &schedule.before, control) {
         return Ok(false);
     }
     if !holds_rows(alloc, &layout, schedule, control)? {

@@ -1,6 +1,7 @@
 //! Decides whether packets pipeline a counted loop, where it is told what stands where.
 #![tactic(auto)]
 
+mod begins;
 mod borders;
 mod counted;
 mod decision;

@@ -48,7 +48,7 @@ pub struct Stage {
     pub late: Vec<Placed>,
 }
 
-/// Where the work of a region stands: all but steps of the counter and branches.
+/// Where the instructions above the label of a region stand, and the work of the rest: all but steps of the counter and branches.
 #[derive(Drop)]
 pub struct Schedule {
     /// The instructions before the loop, in the prolog.

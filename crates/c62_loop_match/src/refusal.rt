@@ -10,6 +10,7 @@ ghost use Rattle.c62_loop_match.specs.Reading.{entry_unlined, schedule_unlined, 
 ghost use Rattle.c62_loop_match.specs.Astray.{GoesAstray};
 ghost use Rattle.c62_loop_match.specs.Refusal.{Refuses};
 
+use crate::begins::first_start;
 use crate::counted::is_test;
 use crate::decision::{
     Layout, Works, has_interval, holds_rows, holds_work, layout_of, uses_in, works_of,
@@ -128,7 +129,8 @@ fn refused_for(found: Distances) -> Refusal
 ghost use Rattle.c62_loop_match.specs.Refusal.{refused_for};
 
 /// Why packets don't pipeline the loop that they hold so: of what keeps them from it the first branch that takes effect at the end of
-/// no pass, or the first instance that comes too early, in as few passes as show it. The instances have the lines of the packets.
+/// no pass, the first step or branch that comes too early behind an instruction above the label, or the first instance that comes too
+/// early, in as few passes as show it. The instances have the lines of the packets.
 ///
 /// # Errors
 ///
@@ -161,6 +163,9 @@ pub fn refusal_of(
     };
     if let Some(line) = astray_in(rule, layout.prolog.end, pipelined.label, control) {
         return Ok(Refusal::Branch(line));
+    }
+    if let Some(early) = first_start(region.counter, &schedule.before, control) {
+        return Ok(Refusal::Early(early));
     }
     let work = uses_in(alloc, &works)?;
     Ok(refused_for(distances_of(alloc, &work, schedule, promise, most)?))

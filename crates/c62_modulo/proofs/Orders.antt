@@ -24,10 +24,13 @@ listed placed at_once rising =
     (λ k d l.
     let here : (get_or placed k d).cycle ≡ 0 = at_once k d (omega (arith, l)) in
     let next : (get_or placed (k + 1) d).cycle ≡ 0 = at_once (k + 1) d l in
-    let one : get_or (map unit_at placed) k 0 ≡ unit_at (get_or placed k d) = get_or-map unit_at placed k d 0 (omega (arith, l)) in
-    let two : get_or (map unit_at placed) (k + 1) 0 ≡ unit_at (get_or placed (k + 1) d) = get_or-map unit_at placed (k + 1) d 0 l in
+    let one : get_or (map unit_at placed) k 0 ≡ unit_at (get_or placed k d) = get_or-map unit_at placed k d 0
+    (omega (arith, l)) in
+    let two : get_or (map unit_at placed) (k + 1) 0 ≡ unit_at (get_or placed (k + 1) d) = get_or-map unit_at placed
+    (k + 1) d 0 l in
     let many : length (map unit_at placed) ≡ length placed = length-map placed unit_at in
-    let rise : get_or (map unit_at placed) k 0 < get_or (map unit_at placed) (k + 1) 0 = rising k (omega (arith, l, many)) in
+    let rise : get_or (map unit_at placed) k 0 < get_or (map unit_at placed) (k + 1) 0 = rising k
+    (omega (arith, l, many)) in
     omega (arith, here, next, one, two, rise))
 
 -- such packets are lawful

@@ -9,7 +9,7 @@ mod packets;
 mod straight;
 mod timed;
 
-pub use made::{Made, Terms, pipelined};
+pub use made::{Made, Shortness, Terms, pipelined};
 
 #[cfg(test)]
 mod tests;

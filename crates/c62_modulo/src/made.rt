@@ -1,22 +1,24 @@
 //! Software pipelined packets of a loop (docs/SCHEDULING.md, "Pipelined loops").
 
-ghost use Rattle.std.specs.Prelude.{◌≡◌, IfOk, IfSome, All};
+ghost use Rattle.std.specs.Prelude.{◌≡◌, ℕ, IfOk, IfSome, All};
 ghost use Rattle.std.specs.Bool.{OnTrue};
 ghost use Rattle.c62_rows.specs.Rows.{row_read};
-ghost use Rattle.c62_loop.specs.Loop.{interval};
+ghost use Rattle.c62_loop.specs.Loop.{interval, Region as Counted};
+ghost use Rattle.c62_loop_match.specs.declared.promise.Promise.{Promise as OfAccesses};
 ghost use Rattle.c62_loop_match.specs.Parts.{loop_of, region_of as region_read};
 ghost use Rattle.c62_loop_match.specs.Promise.{promises};
 ghost use Rattle.c62_loop_match.specs.Decide.{Decided};
-ghost use Rattle.c62_modulo.specs.Made.{IsLawful, StandsAlone, IsMade};
+ghost use Rattle.c62_modulo.specs.Made.{IsLawful, StandsAlone, IsMade, IsShown};
 
 use crate::control::{Counter, branch_row};
 use crate::lawful::{are_lawful, stands_alone};
 use crate::packets::{Packets, Straights, packets_of};
 use crate::straight::straight;
 use c62_insn::Reg;
-use c62_kernels::{Fixed, Graph, Modulo, OF_LOOPS, least_interval, schedule_of};
+use c62_kernels::{Fixed, Graph, Modulo, OF_LOOPS, least_interval as first_interval, schedule_of};
+use c62_loop_bound::least_interval;
 use c62_loop_match::{Pipelined, Promise, Region, decide, is_counted_loop, touches};
-use c62_read::SerialInsn;
+use c62_read::{MOST_INSTRUCTIONS, SerialInsn};
 use std::alloc::{AllocError, Global};
 
 /// How often instructions are placed for a loop.
@@ -42,8 +44,32 @@ pub struct Made {
     pub most: u8,
     /// The cycles of a trip.
     pub interval: u16,
-    /// The least number of cycles that units, paths, reads and dependences allow a trip.
+    /// The cycles that units, paths, reads and dependences ask of a trip: no packets of the loop have fewer
+    /// ([`c62_loop_bound::laws::no_interval_is_shorter`]).
     pub least: u16,
+}
+
+/// What is known of how short a trip can be.
+#[derive(Clone, Copy, PartialEq, Eq, Debug)]
+pub enum Shortness {
+    /// No packets of the loop have a shorter one.
+    Shortest,
+    /// None have one of fewer cycles than these, which are fewer than found.
+    Over(u16),
+}
+
+impl Made {
+    /// What is known of whether packets of the loop may have a shorter trip.
+    pub fn shortness(&self) -> Shortness
+        ensures { (promise : OfAccesses) (region : Counted) (trips longest : ℕ) → IsMade (promises promise) region trips longest self.now
+            → IsShown promise region self.now.interval result }
+    {
+        if self.interval <= self.least {
+            Shortness::Shortest
+        } else {
+            Shortness::Over(self.least)
+        }
+    }
 }
 
 /// The instructions that don't touch the counter.
@@ -94,11 +120,10 @@ fn graph_of(
     Ok(Some(graph))
 }
 
-/// The straight instructions of a region.
+/// The straight instructions of a region: those before the loop whole.
 fn straights_of(alloc: Global, region: &Region) -> Result<Option<Straights>, AllocError> {
-    let before = work_in(alloc, region.counter, &region.before)?;
     let behind = work_in(alloc, region.counter, &region.behind)?;
-    let Some(before) = straight(alloc, &before)? else {
+    let Some(before) = straight(alloc, &region.before)? else {
         return Ok(None);
     };
     let Some(behind) = straight(alloc, &behind)? else {
@@ -141,7 +166,6 @@ fn accepted(
     terms: Terms,
     packets: Packets,
     most: u8,
-    least: u16,
 ) -> Result<Option<Made>, AllocError>
     ensures { IfOk result (λ made. IfSome made (IsMade (promises terms.promise) (region_read region.now) terms.trips terms.longest)) }
 {
@@ -149,9 +173,13 @@ fn accepted(
     if u32::from(most) >= terms.trips || interval > terms.longest {
         return Ok(None);
     }
+    if region.body.len() > MOST_INSTRUCTIONS {
+        return Ok(None);
+    }
     if !is_made(alloc, region, terms.promise, &packets, most)? {
         return Ok(None);
     }
+    let least = least_interval(alloc, region, terms.promise)?;
     Ok(Some(Made {
         pipelined: packets.pipelined,
         most,
@@ -168,7 +196,8 @@ struct Wanted<'a> {
     counter: Counter,
     graph: Graph,
     straights: Straights,
-    least: u16,
+    /// The first interval that is tried: none of a modulo schedule is shorter.
+    first: u16,
 }
 
 impl<'a> Wanted<'a> {
@@ -177,7 +206,9 @@ impl<'a> Wanted<'a> {
         alloc: Global,
         region: &'a Region,
         terms: Terms,
-    ) -> Result<Option<Wanted<'a>>, AllocError> {
+    ) -> Result<Option<Wanted<'a>>, AllocError>
+        ensures { IfOk result (λ wanted. IfSome wanted (λ wanted. (wanted.region.now ≡ region.now) × (wanted.terms ≡ terms))) }
+    {
         let Some(counter) = counter_of(region) else {
             return Ok(None);
         };
@@ -187,7 +218,7 @@ impl<'a> Wanted<'a> {
         let Some(straights) = straights_of(alloc, region)? else {
             return Ok(None);
         };
-        let Some(least) = least_interval(alloc, &graph, terms.longest)? else {
+        let Some(first) = first_interval(alloc, &graph, terms.longest)? else {
             return Ok(None);
         };
         Ok(Some(Wanted {
@@ -196,7 +227,7 @@ impl<'a> Wanted<'a> {
             counter,
             graph,
             straights,
-            least,
+            first,
         }))
     }
 
@@ -226,7 +257,10 @@ impl<'a> Wanted<'a> {
         alloc: Global,
         interval: u16,
         left: &mut u32,
-    ) -> Result<Option<Made>, AllocError> {
+    ) -> Result<Option<Made>, AllocError>
+        ensures { IfOk result (λ made. IfSome made (IsMade (promises self.now.terms.promise) (region_read self.now.region.now) self.now.terms.trips
+            self.now.terms.longest)) }
+    {
         let Some((modulo, most)) = self.modulo(alloc, interval, left)? else {
             return Ok(None);
         };
@@ -234,7 +268,7 @@ impl<'a> Wanted<'a> {
         else {
             return Ok(None);
         };
-        accepted(alloc, self.region, self.terms, packets, most, self.least)
+        accepted(alloc, self.region, self.terms, packets, most)
     }
 }
 
@@ -244,7 +278,9 @@ impl<'a> Wanted<'a> {
 /// # Errors
 ///
 /// `AllocError` where memory ran out.
-pub fn pipelined(alloc: Global, region: &Region, terms: Terms) -> Result<Option<Made>, AllocError> {
+pub fn pipelined(alloc: Global, region: &Region, terms: Terms) -> Result<Option<Made>, AllocError>
+    ensures { IfOk result (λ made. IfSome made (IsMade (promises terms.promise) (region_read region.now) terms.trips terms.longest)) }
+{
     if !is_counted_loop(region) {
         return Ok(None);
     }
@@ -252,7 +288,7 @@ pub fn pipelined(alloc: Global, region: &Region, terms: Terms) -> Result<Option<
         return Ok(None);
     };
     let mut left = MOST_PLACINGS;
-    for interval in wanted.least..=terms.longest {
+    for interval in wanted.first..=terms.longest {
         if let Some(made) = wanted.with_interval(alloc, interval, &mut left)? {
             return Ok(Some(made));
         }

@@ -141,11 +141,13 @@ impl Draft {
         Ok(all)
     }
 
-    /// Moves what stands before the loop before everything else.
+    /// Moves what stands before the loop before everything else: what it leaves in the counter has landed before that is read.
     fn put_before(&mut self, alloc: Global, before: &[Timed]) -> Result<(), AllocError> {
         let begin = first_cycle(&self.prolog(alloc)?, 0);
         let least = issue_end(before, 0).saturating_sub(begin);
         let delay = delay_behind(before, &first_ones(alloc, &self.work)?, least);
+        let delay = delay_behind(before, &self.counting.early, delay);
+        let delay = delay_behind(before, &self.counting.kernel, delay);
         self.before = all_later(alloc, before, 0i32.saturating_sub(delay))?;
         Ok(())
     }

@@ -1,6 +1,6 @@
 //! Loops, and the cycles and stages of their packets.
 
-use crate::{Made, Terms, pipelined};
+use crate::{Made, Shortness, Terms, pipelined};
 use c62_insn::Reg;
 use c62_loop_match::{Promise, Region};
 use c62_pair::RegSet;
@@ -17,8 +17,8 @@ struct Row {
     apart: &'static str,
     /// The trips that are granted.
     trips: u32,
-    /// The cycles of a trip and the stages, where packets are found.
-    found: Option<(u16, u8)>,
+    /// The cycles of a trip, the stages, and whether no trip is shorter, where packets are found.
+    found: Option<(u16, u8, Shortness)>,
 }
 
 /// The promise of registers that these words name.
@@ -85,16 +85,22 @@ const SCALE: &str = "L: LDW *A4++,A2\n MPY A2,B6,B3\n STW B3,*B4++\n SUB A1,1,A1
 /// A remainder, a bit a trip, under a counter of the other side.
 const BIT: &str = "L: CMPLT A6,0,A2\n ADD A6,A6,A6\n [A2] XOR A6,A7,A6\n SUB B0,1,B0\n [B0] B L\n";
 
+/// A sum of 64 words.
+const SET: &str = " MVK 64,A1\n ZERO A3\nL: LDW *A4++,A2\nADD A2,A3,A3\nSUB A1,1,A1\n[A1] B L\n";
+
+/// One of as many words as are in memory.
+const LOADED: &str = " LDW *A6,A1\nL: LDW *A4++,A2\nADD A2,A3,A3\nSUB A1,1,A1\n[A1] B L\n";
+
 /// A loop that counts by two.
 const BY_TWO: &str = "L: LDW *A4++,A2\n ADD A2,A3,A3\n SUB A1,2,A1\n [A1] B L\n";
 
-const ROWS: [Row; 10] = [
+const ROWS: [Row; 12] = [
     Row {
         text: SUM,
         counter: "A1",
         apart: "",
         trips: 100,
-        found: Some((1, 6)),
+        found: Some((1, 6, Shortness::Shortest)),
     },
     // Fewer trips are granted than it has stages.
     Row {
@@ -102,21 +108,21 @@ const ROWS: [Row; 10] = [
         counter: "A1",
         apart: "",
         trips: 5,
-        found: Some((2, 3)),
+        found: Some((2, 3, Shortness::Over(1))),
     },
     Row {
         text: SUM,
         counter: "A1",
         apart: "",
         trips: 2,
-        found: Some((3, 2)),
+        found: Some((3, 2, Shortness::Over(1))),
     },
     Row {
         text: SUM,
         counter: "A1",
         apart: "",
         trips: 1,
-        found: Some((6, 1)),
+        found: Some((6, 1, Shortness::Over(1))),
     },
     Row {
         text: SUM,
@@ -130,7 +136,7 @@ const ROWS: [Row; 10] = [
         counter: "A1",
         apart: "",
         trips: 100,
-        found: Some((1, 8)),
+        found: Some((1, 8, Shortness::Shortest)),
     },
     // A store may meet the loads behind it, but where that is promised not to be.
     Row {
@@ -138,21 +144,36 @@ const ROWS: [Row; 10] = [
         counter: "A1",
         apart: "",
         trips: 100,
-        found: Some((8, 1)),
+        found: Some((8, 1, Shortness::Shortest)),
     },
     Row {
         text: SCALE,
         counter: "A1",
         apart: "A4 B4",
         trips: 100,
-        found: Some((1, 8)),
+        found: Some((1, 8, Shortness::Shortest)),
     },
     Row {
         text: BIT,
         counter: "B0",
         apart: "",
         trips: 1,
-        found: Some((2, 1)),
+        found: Some((2, 1, Shortness::Shortest)),
+    },
+    // The counter is set above the label.
+    Row {
+        text: SET,
+        counter: "A1",
+        apart: "",
+        trips: 100,
+        found: Some((1, 6, Shortness::Shortest)),
+    },
+    Row {
+        text: LOADED,
+        counter: "A1",
+        apart: "",
+        trips: 100,
+        found: Some((1, 6, Shortness::Shortest)),
     },
     Row {
         text: BY_TWO,
@@ -167,11 +188,15 @@ const ROWS: [Row; 10] = [
 fn loops_are_pipelined(rt: HostRuntime) -> Result<(), Fail> {
     for row in &ROWS {
         let found = match made_of(rt.alloc(), row)? {
-            Some(made) => Some((made.interval, made.most)),
+            Some(made) => Some((made.interval, made.most, made.shortness())),
             None => None,
         };
         let expected = match row.found {
-            Some((cycles, stages)) => Some((cycles, stages.saturating_sub(1))),
+            Some((cycles, stages, shortness)) => Some((
+                cycles,
+                stages.saturating_sub(1),
+                shortness,
+            )),
             None => None,
         };
         assert_eq!(rt; found, expected, "{}", row.text);

@@ -4,4 +4,5 @@ use Rattle.c62_loop_match.proofs.counted.steps_in.Goals as goal
 
 pub loop-entry-preserved : goal.loop-entry-preserved
 loop-entry-preserved c =
-    steps_next c.args.counter c.args.entries.now c.loop-entry.entry-index c.entry-item.result c.loop-entry.steps c.in_ok-steps.steps c.loop-entry-test.true c.loop-entry.invariant (search rules)
+    steps_next c.args.counter c.args.entries.now c.loop-entry.entry-index c.entry-item.result c.loop-entry.steps
+    c.in_ok-steps.steps c.loop-entry-test.true c.loop-entry.invariant (search rules)

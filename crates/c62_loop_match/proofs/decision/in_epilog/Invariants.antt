@@ -3,4 +3,5 @@ use Rattle.std.specs.List.{flat_map}
 use Rattle.c62_loop_match.proofs.decision.in_epilog.Given as goal
 
 abbrev pub invariant-loop-stage : goal.invariant-loop-stage
-invariant-loop-stage l = l.placed.items ≡ flat_map (λ stage. stage.late.items) (take l.stage-index l.schedule.stages.items)
+invariant-loop-stage l = l.placed.items ≡ flat_map (λ stage. stage.late.items)
+    (take l.stage-index l.schedule.stages.items)

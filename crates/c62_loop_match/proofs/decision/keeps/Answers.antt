@@ -10,5 +10,7 @@ use Rattle.c62_loop_match.proofs.decision.keeps.Goals as goal
 
 pub returns-in-Kept : goal.returns-in-Kept
 returns-in-Kept c =
-    subst (λ (straights : Straights). AreFoundOfAll (promises c.args.promise) straights (schedule_of c.args.schedule.now) c.args.most Kept) c.in_ok-work.ensures
-    (subst (λ (found : Distances). AreFoundOfAll (promises c.args.promise) (straights_of c.in_ok-work.work) (schedule_of c.args.schedule.now) c.args.most found) c.in-Kept.is c.in_ok-distances_of.ensures)
+    subst (λ (straights : Straights). AreFoundOfAll (promises c.args.promise) straights
+    (schedule_of c.args.schedule.now) c.args.most Kept) c.in_ok-work.ensures
+    (subst (λ (found : Distances). AreFoundOfAll (promises c.args.promise) (straights_of c.in_ok-work.work)
+    (schedule_of c.args.schedule.now) c.args.most found) c.in-Kept.is c.in_ok-distances_of.ensures)

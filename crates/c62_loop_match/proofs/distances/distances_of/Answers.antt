@@ -8,10 +8,15 @@ use Rattle.c62_loop_match.proofs.distances.distances_of.Goals as goal
 
 pub loop-passes-preserved : goal.loop-passes-preserved
 loop-passes-preserved c =
-    let now : KeepDistances (promises c.args.promise) (straights_of c.args.work.now) (c.from.result + c.loop-passes.passes) (placed_of (schedule_of c.args.schedule.now) (c.from.result + c.loop-passes.passes) c.loop-passes.passes)
+    let now : KeepDistances (promises c.args.promise) (straights_of c.args.work.now)
+    (c.from.result + c.loop-passes.passes)
+    (placed_of (schedule_of c.args.schedule.now) (c.from.result + c.loop-passes.passes) c.loop-passes.passes)
     = search rules in
-    one_later (λ (k : ℕ). KeepDistances (promises c.args.promise) (straights_of c.args.work.now) (c.args.most + k) (placed_of (schedule_of c.args.schedule.now) (c.args.most + k) k)) c.loop-passes.passes
-    (subst (λ (n : ℕ). KeepDistances (promises c.args.promise) (straights_of c.args.work.now) (n + c.loop-passes.passes) (placed_of (schedule_of c.args.schedule.now) (n + c.loop-passes.passes) c.loop-passes.passes)) c.from.ensures now)
+    one_later (λ (k : ℕ). KeepDistances (promises c.args.promise) (straights_of c.args.work.now) (c.args.most + k)
+    (placed_of (schedule_of c.args.schedule.now) (c.args.most + k) k)) c.loop-passes.passes
+    (subst (λ (n : ℕ). KeepDistances (promises c.args.promise) (straights_of c.args.work.now) (n + c.loop-passes.passes)
+    (placed_of (schedule_of c.args.schedule.now) (n + c.loop-passes.passes) c.loop-passes.passes))
+    c.from.ensures now)
     c.loop-passes.invariant
 
 pub returns : goal.returns

@@ -6,4 +6,5 @@ use Rattle.c62_loop_match.specs.Parts.{stage_of}
 use Rattle.c62_loop_match.proofs.stands.are_stages_of.Given as goal
 
 abbrev pub invariant-loop-number : goal.invariant-loop-number
-invariant-loop-number l = (k : ℕ) (d : SerialInsn) (s : StageRead) → k < l.number → IsStageOf l.most (get_or l.entries k d) (stage_of (get_or l.stages k s))
+invariant-loop-number l = (k : ℕ) (d : SerialInsn) (s : StageRead) → k < l.number
+    → IsStageOf l.most (get_or l.entries k d) (stage_of (get_or l.stages k s))

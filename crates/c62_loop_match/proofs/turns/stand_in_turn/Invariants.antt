@@ -1,4 +1,4 @@
-use Rattle.c62_loop_match.proofs.Counting.{Standing}
+use Rattle.c62_loop_match.proofs.InTurn.{Standing}
 use Rattle.c62_loop_match.proofs.turns.stand_in_turn.Given as goal
 
 abbrev pub invariant-loop-number : goal.invariant-loop-number

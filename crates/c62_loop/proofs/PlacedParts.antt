@@ -1,0 +1,96 @@
+-- Parts of a path whose instances are placed.
+use Rattle.std.proofs.Common.{◌≡◌, ℕ, zero, suc, ◌+◌, ◌<◌, ◌≤◌, cond, ltb, List, map, length, sym, ◌∙◌, ap, ⊎_elim}
+use Rattle.std.proofs.Common.{arith}
+use Rattle.std.specs.Prelude.{slice_get}
+use Rattle.std.proofs.lemmas.Bool.{cases_lt, cond-true, cond-false, lt-ltb, le-ltb}
+use Rattle.std.proofs.lemmas.List.{length-map}
+use Rattle.c62_packet.specs.declared.placed.Placed.{Placed}
+use Rattle.c62_meaning.specs.Cut.{moved}
+use Rattle.c62_loop.specs.Stage.{Schedule, cycles_in, instance_of, round_of, rounds_from, placed_of, Straights, Places}
+use Rattle.c62_loop.proofs.Lists.{get_front, get_back}
+use Rattle.c62_loop.proofs.Parts.{rows, begin, part, part_body}
+
+abbrev pub placed_part : Schedule → ℕ → ℕ → ℕ → List Placed
+placed_part schedule trips passes zero = schedule.before
+placed_part schedule trips passes (suc t) = cond (ltb t trips) (round_of schedule passes t)
+    (map (moved (cycles_in schedule.interval passes)) schedule.behind)
+
+module _ (schedule : Schedule) where
+  pub placed_body : (trips passes t : ℕ) → t < trips
+      → placed_part schedule trips passes (suc t) ≡ round_of schedule passes t
+  placed_body trips passes t l = cond-true _ _ _ (lt-ltb t trips l)
+
+  pub placed_behind : (trips passes t : ℕ) → trips ≤ t
+      → placed_part schedule trips passes (suc t) ≡ map (moved (cycles_in schedule.interval passes)) schedule.behind
+  placed_behind trips passes t l = cond-false _ _ _ (le-ltb t trips l)
+
+module _ (straights : Straights) (schedule : Schedule) (most : ℕ) (places : Places straights schedule most) where
+  round_length : (passes t : ℕ) → length (round_of schedule passes t) ≡ length straights.body
+  round_length passes t = length-map schedule.stages (instance_of schedule.interval passes t) ∙ places.body
+
+  placed_rounds : (passes from trips t a : ℕ) (behind : List Placed) → t < trips → a < length straights.body
+      → slice_get (rounds_from schedule passes from trips behind) (rows (length straights.body) t + a) ≡ slice_get
+      (round_of schedule passes (from + t)) a
+  placed_rounds passes from zero t a behind l u = absurd (omega arith)
+  placed_rounds passes from (suc trips) zero a behind l u =
+      let n : length (round_of schedule passes from) ≡ length straights.body = round_length passes from in
+      let e : from ≡ from + 0 = omega arith in
+      let z : 0 + a ≡ a = omega arith in
+      ap (λ n. slice_get (rounds_from schedule passes from (suc trips) behind) n) z
+      ∙ get_front (round_of schedule passes from) (rounds_from schedule passes (suc from) trips behind) a (omega arith)
+      ∙ ap (λ k. slice_get (round_of schedule passes k) a) e
+  placed_rounds passes from (suc trips) (suc t) a behind l u =
+      let n : length (round_of schedule passes from) ≡ length straights.body = round_length passes from in
+      let e : suc from + t ≡ from + suc t = omega arith in
+      get_back (round_of schedule passes from) (rounds_from schedule passes (suc from) trips behind)
+      (length straights.body + rows (length straights.body) t + a) (rows (length straights.body) t + a)
+      (omega arith)
+      ∙ placed_rounds passes (suc from) trips t a behind (omega arith) u
+      ∙ ap (λ k. slice_get (round_of schedule passes k) a) e
+
+  placed_end : (passes from trips a : ℕ) (behind : List Placed)
+      → slice_get (rounds_from schedule passes from trips behind) (rows (length straights.body) trips + a) ≡
+      slice_get behind a
+  placed_end passes from zero a behind = let e : 0 + a ≡ a = omega arith in ap (λ n. slice_get behind n) e
+  placed_end passes from (suc trips) a behind =
+      let n : length (round_of schedule passes from) ≡ length straights.body = round_length passes from in
+      get_back (round_of schedule passes from) (rounds_from schedule passes (suc from) trips behind)
+      (length straights.body + rows (length straights.body) trips + a) (rows (length straights.body) trips + a)
+      (omega arith)
+      ∙ placed_end passes (suc from) trips a behind
+
+  pub placed_at : (trips passes s a : ℕ) → s ≤ suc trips → a < length (part straights trips s)
+      → slice_get (placed_of schedule trips passes) (begin straights s + a) ≡ slice_get
+      (placed_part schedule trips passes s) a
+  placed_at trips passes zero a l u =
+      let n : length schedule.before ≡ length straights.before = places.before in
+      let e : 0 + a ≡ a = omega arith in
+      ap (λ n. slice_get (placed_of schedule trips passes) n) e
+      ∙ get_front schedule.before
+      (rounds_from schedule passes 0 trips (map (moved (cycles_in schedule.interval passes)) schedule.behind)) a
+      (omega arith)
+  placed_at trips passes (suc t) a l u =
+      let n : length schedule.before ≡ length straights.before = places.before in
+      get_back schedule.before
+      (rounds_from schedule passes 0 trips (map (moved (cycles_in schedule.interval passes)) schedule.behind))
+      (length straights.before + rows (length straights.body) t + a) (rows (length straights.body) t + a)
+      (omega arith)
+      ∙ ⊎_elim {C = slice_get
+      (rounds_from schedule passes 0 trips (map (moved (cycles_in schedule.interval passes)) schedule.behind))
+      (rows (length straights.body) t + a) ≡ slice_get (placed_part schedule trips passes (suc t)) a}
+      (λ (k : t < trips).
+      let n : length (part straights trips (suc t)) ≡ length straights.body =
+      ap length (part_body straights trips t k) in
+      let z : 0 + t ≡ t = omega arith in
+      placed_rounds passes 0 trips t a (map (moved (cycles_in schedule.interval passes)) schedule.behind) k
+      (omega arith)
+      ∙ ap (λ n. slice_get (round_of schedule passes n) a) z
+      ∙ ap (λ xs. slice_get xs a) (sym (placed_body schedule trips passes t k)))
+      (λ (k : trips ≤ t).
+      let e : t ≡ trips = omega arith in
+      ap (λ n. slice_get (rounds_from schedule passes 0 trips
+      (map (moved (cycles_in schedule.interval passes)) schedule.behind))
+      (rows (length straights.body) n + a)) e
+      ∙ placed_end passes 0 trips a (map (moved (cycles_in schedule.interval passes)) schedule.behind)
+      ∙ ap (λ xs. slice_get xs a) (sym (placed_behind schedule trips passes t k)))
+      (cases_lt t trips)

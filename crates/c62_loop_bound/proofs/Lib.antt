@@ -1,0 +1,16 @@
+pub mod Sums
+pub mod Rows
+pub mod Paths
+pub mod Instances
+pub mod Once
+pub mod Walks
+pub mod Numbers
+pub mod Found
+pub mod Circles
+pub mod Greatest
+pub mod Asked
+pub mod Control
+pub mod Kernel
+pub mod OnUnits
+pub mod Taken
+pub mod Shorter

@@ -1,0 +1,4 @@
+pub mod Share
+pub mod Circle
+pub mod Least
+pub mod Steps
