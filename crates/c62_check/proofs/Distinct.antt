@@ -1,5 +1,6 @@
 -- No two instructions of a packet block are equal.
-use Rattle.std.proofs.Common.{arith, ◌≡◌, ℕ, ◌<◌, List, [], ◌∷◌, length, get_or, set, refl, sym, ap, ◌∙◌, inl, inr, ◌⊎◌, get_or-set_same, get_or-set_other, length-set}
+use Rattle.std.proofs.Common.{arith, ◌≡◌, ℕ, ◌<◌, List, [], ◌∷◌, length, get_or, set, refl, sym, ap, ◌∙◌, inl, inr, ◌⊎◌}
+use Rattle.std.proofs.Common.{get_or-set_same, get_or-set_other, length-set}
 use Rattle.std.specs.List.{swap}
 use Rattle.std.proofs.lemmas.List.{get_or_default}
 use Rattle.std.proofs.lemmas.List.Edits.{length-swap}
@@ -17,7 +18,8 @@ AreOnce xs = (i j : ℕ) (d : Placed) → i < length xs → j < length xs → ge
 
 once_by_rules : (placed : List Placed) → KeepsPacketRules (issued placed) → AreOnce placed
 once_by_rules placed rules i j d one other same =
-    one-each-unit (issued placed) rules (get_or placed i d).unit i j (issue_of (get_or placed i d)) (issue_of (get_or placed j d)) (issued_or placed i d one) (issued_or placed j d other)
+    one-each-unit (issued placed) rules (get_or placed i d).unit i j (issue_of (get_or placed i d))
+    (issue_of (get_or placed j d)) (issued_or placed i d one) (issued_or placed j d other)
     (ap (λ (p : Placed). p.cycle) same) refl (ap (λ (p : Placed). p.unit) (sym same))
 
 -- which place came to place k
@@ -30,7 +32,8 @@ pub record CameFrom (xs : List Placed) (i j k : ℕ) (d : Placed) : Type 0 where
   pub same : get_or (swap xs i j) k d ≡ get_or xs place d
   pub mate : IsMate i j k place
 
-came_from : (xs : List Placed) (i j k : ℕ) (d : Placed) → i < length xs → j < length xs → k < length xs → CameFrom xs i j k d
+came_from : (xs : List Placed) (i j k : ℕ) (d : Placed) → i < length xs → j < length xs → k < length xs
+    → CameFrom xs i j k d
 came_from [] i j k d p q lt = absurd (omega (arith, lt))
 came_from (x ∷ xs) i j k d p q lt =
     let ys = x ∷ xs in
@@ -40,14 +43,17 @@ came_from (x ∷ xs) i j k d p q lt =
       | inl e ↦ record {
         place = i;
         within = p;
-        same = ap (λ (n : ℕ). get_or (set once j (get_or ys i x)) n d) e ∙ (get_or-set_same once j (get_or ys i x) d (omega (arith, q, long)) ∙ get_or_default ys i x d p);
+        same = ap (λ (n : ℕ). get_or (set once j (get_or ys i x)) n d) e
+            ∙ (get_or-set_same once j (get_or ys i x) d (omega (arith, q, long)) ∙ get_or_default ys i x d p);
         mate = inl (e, refl);
       }
       | inr n ↦ elim (cases_eq k i) [
         | inl e ↦ record {
           place = j;
           within = q;
-          same = get_or-set_other once j k (get_or ys i x) d n ∙ (ap (λ (m : ℕ). get_or once m d) e ∙ (get_or-set_same ys i (get_or ys j x) d p ∙ get_or_default ys j x d q));
+          same = get_or-set_other once j k (get_or ys i x) d n
+              ∙ (ap (λ (m : ℕ). get_or once m d) e
+              ∙ (get_or-set_same ys i (get_or ys j x) d p ∙ get_or_default ys j x d q));
           mate = inr (inl (n, e, refl));
         }
         | inr o ↦ record {

@@ -1,5 +1,7 @@
--- Where each instruction comes late enough behind all that it depends on directly, each does behind all that it depends on.
-use Rattle.std.proofs.Common.{arith, ◌≡◌, ℕ, ◌+◌, ◌<◌, ◌≤◌, ℤ, ◌+ℤ◌, ◌≤ℤ◌, List, length, get_or, Option, Some, None, refl, sym, ap, inl, inr, subst, ◌∙◌, take}
+-- Where each instruction comes late enough behind all that it depends on directly, each does behind all that it depends
+-- on.
+use Rattle.std.proofs.Common.{arith, ◌≡◌, ℕ, ◌+◌, ◌<◌, ◌≤◌, ℤ, ◌+ℤ◌, ◌≤ℤ◌, List, length, get_or, Option, Some, None}
+use Rattle.std.proofs.Common.{refl, sym, ap, inl, inr, subst, ◌∙◌, take}
 use Rattle.std.specs.Prelude.{All, Contains, slice_get}
 use Rattle.std.proofs.lemmas.Bool.{cases_lt}
 use Rattle.std.proofs.lemmas.Option.{same_Some, slice_get_cases}
@@ -15,14 +17,15 @@ use Rattle.c62_depend.specs.Direct.Chain.{single, longer}
 use Rattle.c62_depend.specs.Plan.{IsShort}
 use Rattle.c62_depend.proofs.DirectLists.{direct_needs_are}
 use Rattle.c62_depend.proofs.Plans.{short_is}
-use Rattle.c62_depend.proofs.Relays.{direct_ones_bind}
+use Rattle.c62_depend.proofs.AllRelays.{direct_ones_bind}
 use Rattle.c62_check.specs.Early.{gap_of, KeepsAll, IsKept, KeepsNeeds}
 
 -- ---- one instruction
 
 -- the first of these links are kept
 abbrev pub AreKept : List Placed → ℕ → List Link → ℕ → Type 0
-AreKept placed j links k = (h : ℕ) (d : Link) → h < k → h < length links → IsKept placed (get_or links h d).number j (get_or links h d).latency
+AreKept placed j links k = (h : ℕ) (d : Link) → h < k → h < length links
+    → IsKept placed (get_or links h d).number j (get_or links h d).latency
 
 pub kept_more : (placed : List Placed) (j : ℕ) (links : List Link) (k : ℕ) (d : Link) → AreKept placed j links k
     → IsKept placed (get_or links k d).number j (get_or links k d).latency → AreKept placed j links (k + 1)
@@ -30,23 +33,28 @@ kept_more placed j links k d are one h e lt within = elim (cases_lt h k) [
   | inl before ↦ are h e before within
   | inr last ↦
       let same : k ≡ h = omega (arith, lt, last) in
-      let there : get_or links k d ≡ get_or links h e = ap (λ (n : ℕ). get_or links n d) same ∙ get_or_default links h d e within in
+      let there : get_or links k d ≡ get_or links h e = ap (λ (n : ℕ). get_or links n d) same
+      ∙ get_or_default links h d e within in
       subst (λ (link : Link). IsKept placed link.number j link.latency) there one
 ]
 
-module _ (block : List Insn) (placed : List Placed) (j : ℕ) (links : List Link) (is : links ≡ direct_needs block j) where
-  pub need_at : (k : ℕ) (d : Link) → k < length links → IsDirect block (get_or links k d).number j (get_or links k d).latency
-  need_at k d lt = All-get_or (λ (x : Link). IsDirect block x.number j x.latency) links k d lt (rw is (direct_needs_are block j).all)
+module _ (block : List Insn) (placed : List Placed) (j : ℕ) (links : List Link) (is : links ≡ direct_needs block j)
+  where
+    pub need_at : (k : ℕ) (d : Link) → k < length links
+        → IsDirect block (get_or links k d).number j (get_or links k d).latency
+    need_at k d lt = All-get_or (λ (x : Link). IsDirect block x.number j x.latency) links k d lt
+        (rw is (direct_needs_are block j).all)
 
-  pub need_before : (k : ℕ) (d : Link) → k < length links → (get_or links k d).number < j
-  need_before k d lt = (short_is block (get_or links k d).number j (get_or links k d).latency (need_at k d lt).is).before
+    pub need_before : (k : ℕ) (d : Link) → k < length links → (get_or links k d).number < j
+    need_before k d lt = (short_is block (get_or links k d).number j (get_or links k d).latency
+        (need_at k d lt).is).before
 
-  pub keeps_needs : (k : ℕ) → length links ≤ k → AreKept placed j links k → KeepsNeeds block placed j
-  keeps_needs k all are i needs d p q at_p at_q =
-      let link : Link = record { number = i; latency = needs } in
-      let there : Contains links link = rw is ((direct_needs_are block j).each link d) in
-      let kept : IsKept placed i j needs = rw there.2 at (are there.0 link (omega (arith, there.1, all)) there.1) in
-      kept p q at_p at_q
+    pub keeps_needs : (k : ℕ) → length links ≤ k → AreKept placed j links k → KeepsNeeds block placed j
+    keeps_needs k all are i needs d p q at_p at_q =
+        let link : Link = record { number = i; latency = needs } in
+        let there : Contains links link = rw is ((direct_needs_are block j).each link d) in
+        let kept : IsKept placed i j needs = rw there.2 at (are there.0 link (omega (arith, there.1, all)) there.1) in
+        kept p q at_p at_q
 
 -- ---- all
 
@@ -60,13 +68,15 @@ read_in placed m lt = elim (slice_get_cases placed m).1 [
 abbrev pub KeepBelow : List Insn → List Placed → ℕ → Type 0
 KeepBelow block placed k = (j : ℕ) → j < k → KeepsNeeds block placed j
 
-pub keep_more : (block : List Insn) (placed : List Placed) (k : ℕ) → KeepBelow block placed k → KeepsNeeds block placed k → KeepBelow block placed (k + 1)
+pub keep_more : (block : List Insn) (placed : List Placed) (k : ℕ) → KeepBelow block placed k
+    → KeepsNeeds block placed k → KeepBelow block placed (k + 1)
 keep_more block placed k below one j lt = elim (cases_lt j k) [
   | inl before ↦ below j before
   | inr last ↦ (let same : k ≡ j = omega (arith, lt, last) in subst (KeepsNeeds block placed) same one)
 ]
 
-module _ (block : List Insn) (placed : List Placed) (k : ℕ) (sized : length placed ≡ length block) (all : length block ≤ k) (below : KeepBelow block placed k) where
+module _ (block : List Insn) (placed : List Placed) (k : ℕ) (sized : length placed ≡ length block)
+    (all : length block ≤ k) (below : KeepBelow block placed k) where
   along : (i j : ℕ) (sum : ℤ) → Chain block i j sum → IsKept placed i j sum
   along i j _ (single _ cycles d) p q at_p at_q =
       let inside : j < length block = (short_is block i j cycles d.is).within in

@@ -1,155 +1,38 @@
--- Packets that are a schedule of a block take at least its least length.
-use Rattle.std.proofs.Common.{arith, ◌≡◌, ℕ, zero, suc, ◌+◌, ◌<◌, ◌≤◌, List, [], ◌∷◌, length, IsPermutation, Option, Some, refl, sym, ap, subst, ◌∙◌, inl, inr, Bool, true, false, cond}
+-- No packets that pass the check are shorter than the bound.
+use Rattle.std.proofs.Common.{arith, ◌≡◌, ℕ, List, length, IsPermutation, Some, refl, sym, ap, subst, ◌∙◌, true}
 use Rattle.std.specs.List.{slice_get, Contains}
-use Rattle.std.specs.Prelude.{IsTrue, IsSome, find, count_by, nat_le}
-use Rattle.std.specs.Option.{option_map_or}
+use Rattle.std.specs.Prelude.{IsTrue, nat_le}
 use Rattle.std.proofs.lemmas.Int.{ints}
-use Rattle.std.proofs.lemmas.Bool.{cases_Bool, and_parts}
-use Rattle.std.proofs.lemmas.Option.{slice_get-get_or, same_Some, none-some, slice_get_within, get_or_from_slice_get}
+use Rattle.std.proofs.lemmas.Bool.{and_parts}
+use Rattle.std.proofs.lemmas.Option.{slice_get-get_or, same_Some, slice_get_within, get_or_from_slice_get}
 use Rattle.std.proofs.lemmas.List.Elements.{All-contains}
-use Rattle.std.proofs.lemmas.List.Sums.{sum_by-cons}
 use Rattle.std.proofs.lemmas.List.Sorted.{IsPermutation-sym, Contains-permutation}
-use Rattle.c62_op.specs.declared.register.Side.{Side}
-use Rattle.c62_op.specs.declared.register.Unit.{Unit as FunctionalUnit}
-use Rattle.c62_op.specs.declared.operands.Op.{Op}
-use Rattle.c62_op.specs.declared.operands.Operands.{Operands}
-use Rattle.c62_op.specs.Shape.{delay_of, is_branch, data_path_of}
+use Rattle.c62_op.specs.Shape.{delay_of, data_path_of}
 use Rattle.c62_op.specs.Takes.{takes}
 use Rattle.c62_insn.specs.declared.insn.Insn.{Insn}
-use Rattle.c62_insn.specs.Insn.{IsSameInsn, op_of, operands_of, unit_of}
-use Rattle.c62_insn.proofs.InsnLemmas.{has_written_unit}
-use Rattle.c62_rules.specs.PacketRules.{Issue}
+use Rattle.c62_insn.specs.Insn.{op_of, operands_of, unit_of}
 use Rattle.c62_rules.proofs.Capacities.{the-rules, one-each-unit, one-each-data-path}
-use Rattle.c62_rules.specs.Length.{landing_end, last_landing_end, length_of}
-use Rattle.c62_read.specs.declared.block.SerialInsn.{SerialInsn}
 use Rattle.c62_read.specs.Block.{Serial, is_block, branch_last, operations}
 use Rattle.c62_read.specs.declared.limits.TheConstants.{MOST_INSTRUCTIONS}
 use Rattle.c62_packet.specs.declared.placed.Placed.{Placed}
-use Rattle.c62_packet.specs.Packed.{Packed, IsPacketBlock, HaveOneBranch, is_branching, issue_of, issues_of, issued}
+use Rattle.c62_packet.specs.Packed.{Packed, IsPacketBlock, issue_of, issued}
 use Rattle.c62_depend.specs.Plan.{insns_of}
 use Rattle.c62_depend.proofs.Plans.{many_insns}
 use Rattle.c62_sheet.specs.declared.entry.Spot.{Spot}
-use Rattle.c62_sheet.specs.Lawful.{IsAt, spot_at}
-use Rattle.c62_sheet.proofs.Landings.{lands_with_delay}
-use Rattle.c62_bound.specs.Bound.{taken_in, is_taken}
+use Rattle.c62_sheet.specs.Lawful.{IsAt}
+use Rattle.c62_bound.specs.Bound.{is_taken}
 use Rattle.c62_bound.specs.Laws.{IsSeated}
 use Rattle.c62_raised.specs.Room.{CrossTo}
 use Rattle.c62_raised.proofs.Bound.{raised_bound_holds}
 use Rattle.c62_raised.proofs.Seated.{uses_cross}
-use Rattle.c62_check.specs.Matched.{AreSame}
 use Rattle.c62_check.specs.Schedule.{IsSchedule}
-use Rattle.c62_check.specs.Least.{spot_of, spots_of, PacketsAreSeated, NoPacketsAreShorter, NoCheckedAreShorter}
+use Rattle.c62_check.specs.Least.{spots_of, PacketsAreSeated, NoPacketsAreShorter, NoCheckedAreShorter}
 use Rattle.c62_check.proofs.Lined.{same_length}
 use Rattle.c62_check.proofs.Distinct.{are_distinct}
-use Rattle.c62_check.proofs.Exact.{StandsIn, is_plan}
+use Rattle.c62_check.proofs.OneNumbering.{StandsIn, is_plan}
 use Rattle.c62_check.proofs.Serially.{says_same}
 use Rattle.c62_packet.proofs.Placings.{issued_at}
-
--- ---- a numbering's spots
-
--- what stands there
-record HasPlace (numbered : List Placed) (i : ℕ) (s : Spot) : Type 0 where
-  own : Placed
-  at : slice_get numbered i ≡ Some own
-  cycle : own.cycle ≡ s.cycle
-  unit : own.unit ≡ s.unit
-
-place_of : (numbered : List Placed) (i : ℕ) (s : Spot) → IsAt (spots_of numbered) i s → HasPlace numbered i s
-place_of [] i s is = absurd (none-some s is)
-place_of (p ∷ numbered) zero s is =
-    let same = same_Some (spot_of p) s is in
-    record { own = p; at = refl; cycle = ap (λ (r : Spot). r.cycle) same; unit = ap (λ (r : Spot). r.unit) same }
-place_of (p ∷ numbered) (suc i) s is =
-    let rest = place_of numbered i s is in
-    record { own = rest.own; at = rest.at; cycle = rest.cycle; unit = rest.unit }
-
-has_spot : (numbered : List Placed) (i : ℕ) → i < length numbered → IsSome (spot_at (spots_of numbered) i)
-has_spot [] i lt = absurd (omega (arith, lt))
-has_spot (p ∷ numbered) zero lt = refl
-has_spot (p ∷ numbered) (suc i) lt = has_spot numbered i (omega (arith, lt))
-
-stands_at : (insns : List SerialInsn) (numbered : List Placed) → AreSame insns numbered → (i : ℕ) (p : Placed) → slice_get numbered i ≡ Some p → StandsIn insns i p
-stands_at [] [] same i p at = absurd (none-some p at)
-stands_at [] (q ∷ numbered) same i p at = absurd same
-stands_at (e ∷ insns) [] same i p at = absurd same
-stands_at (e ∷ insns) (q ∷ numbered) same zero p at =
-    record { insn = e.insn; at = refl; same = subst (λ (r : Placed). IsSameInsn e.insn r.insn) (same_Some q p at) same.0 }
-stands_at (e ∷ insns) (q ∷ numbered) same (suc i) p at =
-    let rest = stands_at insns numbered same.1 i p at in
-    record { insn = rest.insn; at = rest.at; same = rest.same }
-
--- ---- the packets
-
--- the written unit takes the operands
-written_takes : (insn : Insn) (unit : FunctionalUnit) → unit_of insn ≡ Some unit → takes (op_of insn) (operands_of insn) unit ≡ true
-written_takes insn unit written =
-    let found = has_written_unit insn in
-    elim found.2 [
-      | inl none ↦ absurd (none-some unit (sym none ∙ written))
-      | inr one ↦ subst (λ (u : FunctionalUnit). takes (op_of insn) (operands_of insn) u ≡ true) (same_Some found.0 unit (sym one ∙ written)) found.1
-    ]
-
-taken_by : (block : List Insn) (i : ℕ) (insn other : Insn) (u v : FunctionalUnit) → slice_get block i ≡ Some insn → IsSameInsn insn other → v ≡ u
-    → takes (op_of other) (operands_of other) v ≡ true → IsTrue (is_taken block i u)
-taken_by block i insn other u v at same unit h =
-    subst (λ (o : Option Insn). taken_in o u ≡ true) (sym at)
-    (ap (λ (op : Op). takes op (operands_of insn) u) same.op
-    ∙ (ap (λ (operands : Operands). takes (op_of other) operands u) same.operands ∙ (ap (takes (op_of other) (operands_of other)) (sym unit) ∙ h)))
-
-abbrev branches : Issue → Bool
-branches p = is_branch (op_of p.insn)
-
-some_branch : (placed : List Placed) (k : ℕ) (p : Placed) → slice_get placed k ≡ Some p → is_branching p ≡ true → 1 ≤ count_by is_branching placed
-some_branch [] k p at is = absurd (none-some p at)
-some_branch (q ∷ placed) zero p at is =
-    let sum = sum_by-cons (λ (r : Placed). cond (is_branching r) 1 0) q placed in
-    let own : cond (is_branching q) 1 0 ≡ 1 = ap (λ (t : Bool). cond {A = ℕ} t 1 0) (ap is_branching (same_Some q p at) ∙ is) in
-    omega (arith, sum, own)
-some_branch (q ∷ placed) (suc k) p at is =
-    let sum = sum_by-cons (λ (r : Placed). cond (is_branching r) 1 0) q placed in
-    let rest = some_branch placed k p at is in
-    omega (arith, sum, rest)
-
--- the only branch is found
-one_found : (placed : List Placed) (k : ℕ) (p : Placed) → HaveOneBranch placed → slice_get placed k ≡ Some p → is_branching p ≡ true
-    → find branches (issues_of placed) ≡ Some (issue_of p)
-one_found [] k p few at is = absurd (none-some p at)
-one_found (q ∷ placed) k p few at is = go (λ m few there. one_found placed m p few there is) (is_branching q) refl k at
-  where
-    go : ((m : ℕ) → HaveOneBranch placed → slice_get placed m ≡ Some p → find branches (issues_of placed) ≡ Some (issue_of p)) → (t : Bool) → is_branching q ≡ t → (k : ℕ) → slice_get (q ∷ placed) k ≡ Some p → find branches (issues_of (q ∷ placed)) ≡ Some (issue_of p)
-    go later true e zero at =
-        ap (λ (t : Bool). cond {A = Option Issue} t (Some (issue_of q)) (find branches (issues_of placed))) e ∙ ap (λ (r : Placed). Some (issue_of r)) (same_Some q p at)
-    go later true e (suc k) at =
-        let sum = sum_by-cons (λ (r : Placed). cond (is_branching r) 1 0) q placed in
-        let own : cond (is_branching q) 1 0 ≡ 1 = ap (λ (t : Bool). cond {A = ℕ} t 1 0) e in
-        let rest = some_branch placed k p at is in
-        absurd (omega (arith, sum, own, rest, few))
-    go later false e zero at = absurd (cc (ap is_branching (same_Some q p at), e, is))
-    go later false e (suc k) at =
-        let sum = sum_by-cons (λ (r : Placed). cond (is_branching r) 1 0) q placed in
-        ap (λ (t : Bool). cond {A = Option Issue} t (Some (issue_of q)) (find branches (issues_of placed))) e
-        ∙ later k (omega (arith, sum, few)) at
-
-delay_most : (op : Op) → delay_of op ≤ 5
-delay_most op = grind arith
-
--- each delay ends within the length of a packet block
-delay_ends : (packed : Packed) → IsPacketBlock packed → (k : ℕ) (p : Placed) → slice_get packed.placed k ≡ Some p → p.cycle + delay_of (op_of p.insn) + 1 ≤ packed.cycles
-delay_ends packed lawful k p at = elim (cases_Bool (is_branching p)) [
-  | inl is ↦
-      (let found = one_found packed.placed k p lawful.one_branch at is in
-      let end : length_of (issues_of packed.placed) ≡ p.cycle + 6 =
-      ap (λ (o : Option Issue). option_map_or (λ (b : Issue). b.cycle + 6) o (last_landing_end (issues_of packed.placed))) found in
-      let own = lawful.own_length in
-      let short = delay_most (op_of p.insn) in
-      omega (arith, end, own, short))
-  | inr none ↦
-      (let within = slice_get_within packed.placed k p at in
-      let landed : landing_end (issue_of p) ≤ packed.cycles = All-contains (λ (q : Placed). landing_end (issue_of q) ≤ packed.cycles) packed.placed p lawful.drained
-      (k, within, get_or_from_slice_get packed.placed k p p at) in
-      let delay = lands_with_delay p.insn none in
-      omega (arith, landed, delay))
-]
+use Rattle.c62_check.proofs.PlacedSpots.{place_of, has_spot, stands_at, written_takes, taken_by, delay_ends}
 
 -- ---- a schedule
 
@@ -158,13 +41,15 @@ record IsListed (listed : List Placed) (p : Placed) : Type 0 where
   place : ℕ
   at : slice_get listed place ≡ Some p
 
-listed_at : (listed numbered : List Placed) → IsPermutation listed numbered → (i : ℕ) (p : Placed) → slice_get numbered i ≡ Some p → IsListed listed p
+listed_at : (listed numbered : List Placed) → IsPermutation listed numbered → (i : ℕ) (p : Placed)
+    → slice_get numbered i ≡ Some p → IsListed listed p
 listed_at listed numbered all i p at =
     let found : Contains listed p = Contains-permutation numbered listed p (IsPermutation-sym listed numbered all)
     (i, slice_get_within numbered i p at, get_or_from_slice_get numbered i p p at) in
     record { place = found.0; at = slice_get-get_or listed found.0 p found.1 ∙ ap (λ (q : Placed). Some q) found.2 }
 
-module _ (block : Serial) (packed : Packed) (is : IsSchedule block packed) (sound : IsTrue (is_block block.insns)) (lawful : IsPacketBlock packed) where
+module _ (block : Serial) (packed : Packed) (is : IsSchedule block packed) (sound : IsTrue (is_block block.insns))
+    (lawful : IsPacketBlock packed) where
   listed : (i : ℕ) (p : Placed) → slice_get is.numbered i ≡ Some p → IsListed packed.placed p
   listed i p at = listed_at packed.placed is.numbered is.numbering.all i p at
 
@@ -172,18 +57,23 @@ module _ (block : Serial) (packed : Packed) (is : IsSchedule block packed) (soun
   stands i p at = stands_at block.insns is.numbered is.numbering.same i p at
 
   -- numbers at one place of the packets are one
-  same_number : (i j : ℕ) (p q : Placed) (at_i : slice_get is.numbered i ≡ Some p) (at_j : slice_get is.numbered j ≡ Some q)
+  same_number : (i j : ℕ) (p q : Placed) (at_i : slice_get is.numbered i ≡ Some p)
+      (at_j : slice_get is.numbered j ≡ Some q)
       → (listed i p at_i).place ≡ (listed j q at_j).place → i ≡ j
   same_number i j p q at_i at_j e =
-      let same : p ≡ q = same_Some p q (sym (listed i p at_i).at ∙ (ap (λ (k : ℕ). slice_get packed.placed k) e ∙ (listed j q at_j).at)) in
-      are_distinct packed.placed lawful.rules is.numbered is.numbering.all i j p (slice_get_within is.numbered i p at_i) (slice_get_within is.numbered j q at_j)
+      let same : p ≡ q = same_Some p q (sym (listed i p at_i).at
+      ∙ (ap (λ (k : ℕ). slice_get packed.placed k) e ∙ (listed j q at_j).at)) in
+      are_distinct packed.placed lawful.rules is.numbered is.numbering.all i j p (slice_get_within is.numbered i p at_i)
+      (slice_get_within is.numbered j q at_j)
       (get_or_from_slice_get is.numbered i p p at_i ∙ (same ∙ sym (get_or_from_slice_get is.numbered j q p at_j)))
 
   -- its unit, which is written, takes it
-  takes_written : (i : ℕ) (p : Placed) → slice_get is.numbered i ≡ Some p → takes (op_of p.insn) (operands_of p.insn) p.unit ≡ true
+  takes_written : (i : ℕ) (p : Placed) → slice_get is.numbered i ≡ Some p
+      → takes (op_of p.insn) (operands_of p.insn) p.unit ≡ true
   takes_written i p at =
       let found = listed i p at in
-      written_takes p.insn p.unit (All-contains (λ (q : Placed). unit_of q.insn ≡ Some q.unit) packed.placed p lawful.as_written (
+      written_takes p.insn p.unit
+      (All-contains (λ (q : Placed). unit_of q.insn ≡ Some q.unit) packed.placed p lawful.as_written (
         found.place,
         slice_get_within packed.placed found.place p found.at,
         get_or_from_slice_get packed.placed found.place p p found.at,
@@ -196,23 +86,29 @@ module _ (block : Serial) (packed : Packed) (is : IsSchedule block packed) (soun
       taken_by (insns_of block) i there.insn place.own.insn s.unit place.own.unit there.at there.same place.unit
       (takes_written i place.own place.at)
 
-  each_unit : (i j : ℕ) (s t : Spot) → IsAt (spots_of is.numbered) i s → IsAt (spots_of is.numbered) j t → s.cycle ≡ t.cycle → s.unit ≡ t.unit → i ≡ j
+  each_unit : (i j : ℕ) (s t : Spot) → IsAt (spots_of is.numbered) i s → IsAt (spots_of is.numbered) j t
+      → s.cycle ≡ t.cycle → s.unit ≡ t.unit → i ≡ j
   each_unit i j s t at_i at_j cycles units =
       let one = place_of is.numbered i s at_i in
       let other = place_of is.numbered j t at_j in
       let first = listed i one.own one.at in
       let second = listed j other.own other.at in
       same_number i j one.own other.own one.at other.at
-      (one-each-unit (issued packed.placed) lawful.rules other.own.unit first.place second.place (issue_of one.own) (issue_of other.own)
+      (one-each-unit (issued packed.placed) lawful.rules other.own.unit first.place second.place (issue_of one.own)
+      (issue_of other.own)
       (issued_at packed.placed first.place one.own first.at) (issued_at packed.placed second.place other.own second.at)
       (one.cycle ∙ (cycles ∙ sym other.cycle)) (one.unit ∙ (units ∙ sym other.unit)) refl)
 
-seated : (block : Serial) (packed : Packed) (is : IsSchedule block packed) → IsTrue (is_block block.insns) → IsPacketBlock packed
+seated : (block : Serial) (packed : Packed) (is : IsSchedule block packed) → IsTrue (is_block block.insns)
+    → IsPacketBlock packed
     → IsSeated (insns_of block) (spots_of is.numbered) packed.cycles
 seated block packed is sound lawful = record {
-  complete = λ i lt. has_spot is.numbered i (let long = same_length block.insns is.numbered is.numbering.same in let many = many_insns block.insns in omega (arith, lt, long, many));
+  complete = λ i lt. has_spot is.numbered i
+      (let long = same_length block.insns is.numbered is.numbering.same in let many = many_insns block.insns in
+      omega (arith, lt, long, many));
   units = taken block packed is sound lawful;
-  each_unit = λ i j s t low small at_i at_j cycles units. each_unit block packed is sound lawful i j s t at_i at_j cycles units;
+  each_unit = λ i j s t low small at_i at_j cycles units. each_unit block packed is sound lawful i j s t at_i at_j
+      cycles units;
   each_path = λ side i j s t low small at_i at_j cycles over_i over_j. (
       let one = place_of is.numbered i s at_i in
       let other = place_of is.numbered j t at_j in
@@ -221,7 +117,8 @@ seated block packed is sound lawful = record {
       let here = stands block packed is sound lawful i one.own one.at in
       let there = stands block packed is sound lawful j other.own other.at in
       same_number block packed is sound lawful i j one.own other.own one.at other.at
-      (one-each-data-path (issued packed.placed) lawful.rules side first.place second.place (issue_of one.own) (issue_of other.own)
+      (one-each-data-path (issued packed.placed) lawful.rules side first.place second.place (issue_of one.own)
+      (issue_of other.own)
       (issued_at packed.placed first.place one.own first.at) (issued_at packed.placed second.place other.own second.at)
       (one.cycle ∙ (cycles ∙ sym other.cycle)) (ap data_path_of (sym here.same.operands) ∙ over_i here.insn here.at)
       (ap data_path_of (sym there.same.operands) ∙ over_j there.insn there.at)));
@@ -236,7 +133,8 @@ seated block packed is sound lawful = record {
       let first = listed block packed is sound lawful i place.own place.at in
       let end = delay_ends packed lawful first.place place.own first.at in
       let own : insn ≡ there.insn = same_Some insn there.insn (sym at ∙ there.at) in
-      let delay : delay_of (op_of insn) ≡ delay_of (op_of place.own.insn) = ap (λ (p : Insn). delay_of (op_of p)) own ∙ ap delay_of there.same.op in
+      let delay : delay_of (op_of insn) ≡ delay_of (op_of place.own.insn) = ap (λ (p : Insn). delay_of (op_of p)) own
+      ∙ ap delay_of there.same.op in
       omega (arith, end, delay, place.cycle));
 }
 
@@ -251,8 +149,10 @@ packets_seated block packed is sound lawful = record {
       let here = stands block packed is sound lawful i one.own one.at in
       let there = stands block packed is sound lawful j other.own other.at in
       same_number block packed is sound lawful i j one.own other.own one.at other.at
-      ((the-rules (issued packed.placed)).cross_paths.0 (λ cycle r is. lawful.rules.enough cycle r) side first.place second.place (issue_of one.own)
-      (issue_of other.own) (issued_at packed.placed first.place one.own first.at) (issued_at packed.placed second.place other.own second.at)
+      ((the-rules (issued packed.placed)).cross_paths.0 (λ cycle r is. lawful.rules.enough cycle r) side first.place
+      second.place (issue_of one.own)
+      (issue_of other.own) (issued_at packed.placed first.place one.own first.at)
+      (issued_at packed.placed second.place other.own second.at)
       (one.cycle ∙ (cycles ∙ sym other.cycle))
       (uses_cross one.own.insn one.own.unit side (takes_written block packed is sound lawful i one.own one.at)
       (subst (CrossTo side) here.same.operands (over_i here.insn here.at)))
@@ -262,17 +162,22 @@ packets_seated block packed is sound lawful = record {
 
 pub no_packets_shorter : (block : Serial) (packed : Packed) → NoPacketsAreShorter block packed
 no_packets_shorter block packed is sound lawful =
-    raised_bound_holds (insns_of block) (spots_of is.numbered) packed.cycles (is_plan block.insns sound) (packets_seated block packed is sound lawful)
+    raised_bound_holds (insns_of block) (spots_of is.numbered) packed.cycles (is_plan block.insns sound)
+    (packets_seated block packed is sound lawful)
 
-pub no_checked_shorter : (program : List Serial) (packets : List Packed) (text : List ℕ) → NoCheckedAreShorter program packets text
+pub no_checked_shorter : (program : List Serial) (packets : List Packed) (text : List ℕ)
+    → NoCheckedAreShorter program packets text
 no_checked_shorter program packets text blocks lawful checked number block packed at at_packed =
-    let sound : IsTrue (is_block block.insns) = subst (λ (b : Serial). IsTrue (is_block b.insns)) (get_or_from_slice_get program number block block at)
+    let sound : IsTrue (is_block block.insns) = subst (λ (b : Serial). IsTrue (is_block b.insns))
+    (get_or_from_slice_get program number block block at)
     (blocks number block (slice_get_within program number block at)) in
     let own : IsPacketBlock packed = subst IsPacketBlock (get_or_from_slice_get packets number packed packed at_packed)
     (lawful number packed (slice_get_within packets number packed at_packed)) in
-    let found = ((says_same program packets text true blocks lawful checked).0 refl).numbered number block packed at at_packed in
+    let found = ((says_same program packets text true blocks lawful checked).0 refl).numbered number block packed at
+    at_packed in
     let is : IsSchedule block packed = record {
-      branch_last = (and_parts (nat_le (length block.insns) MOST_INSTRUCTIONS) (branch_last (operations block.insns)) sound).1;
+      branch_last = (and_parts (nat_le (length block.insns) MOST_INSTRUCTIONS) (branch_last (operations block.insns))
+          sound).1;
       own_length = own.own_length;
       numbered = found.0;
       numbering = found.1;

@@ -4,11 +4,14 @@ pub mod Kept
 pub mod Rising
 pub mod Lined
 pub mod Distinct
+pub mod OneNumbering
 pub mod Exact
 pub mod Others
 pub mod Telling
 pub mod Serially
+pub mod PlacedSpots
 pub mod Least
 pub mod OneTaking
+pub mod MissingParts
 pub mod OneVerdict
 pub mod OneText

@@ -1,5 +1,6 @@
 -- A check tells one text.
-use Rattle.std.proofs.Common.{arith, ◌≡◌, ℕ, zero, suc, ◌<◌, ◌≤◌, ◌+◌, ◌&&◌, Bool, true, false, List, [], ◌∷◌, ◌++◌, length, Some, refl, sym, ap, subst, ◌∙◌, inl, inr}
+use Rattle.std.proofs.Common.{arith, ◌≡◌, ℕ, zero, suc, ◌<◌, ◌≤◌, ◌+◌, ◌&&◌, Bool, true, false, List, [], ◌∷◌, ◌++◌}
+use Rattle.std.proofs.Common.{length, Some, refl, sym, ap, subst, ◌∙◌, inl, inr}
 use Rattle.std.specs.Prelude.{All, IsTrue, slice_get}
 use Rattle.std.specs.List.{flat_map, list_all}
 use Rattle.std.proofs.lemmas.Bool.{cases_lt}
@@ -16,12 +17,14 @@ use Rattle.c62_check.specs.Verdict.{IsSameVerdict, is_same}
 use Rattle.c62_check.proofs.OneVerdict.{one_verdict}
 use Rattle.c62_check.proofs.Serially.{as_many, holds_at, there}
 
-same_lines : (number : ℕ) (one other : Answer) → IsSameVerdict one other → verdict_lines number one ≡ verdict_lines number other
+same_lines : (number : ℕ) (one other : Answer) → IsSameVerdict one other
+    → verdict_lines number one ≡ verdict_lines number other
 unfolding verdict_lines
 same_lines number Same Same same = refl
 same_lines number (Missing line) (Missing other) same = rw same refl
 same_lines number (Extra line) (Extra other) same = rw same refl
-same_lines number (TooEarly early) (TooEarly others) same = ap (flat_map (λ each. block_line number (early_words each))) same
+same_lines number (TooEarly early) (TooEarly others) same = ap (flat_map (λ each. block_line number (early_words each)))
+    same
 same_lines number Same (Missing other) same = absurd same
 same_lines number Same (Extra other) same = absurd same
 same_lines number Same (TooEarly others) same = absurd same
@@ -54,7 +57,8 @@ same_word (TooEarly early) (Missing other) same = absurd same
 same_word (TooEarly early) (Extra other) same = absurd same
 
 abbrev AreAlike : List Answer → List Answer → Type 0
-AreAlike ones others = (k : ℕ) (one other : Answer) → slice_get ones k ≡ Some one → slice_get others k ≡ Some other → IsSameVerdict one other
+AreAlike ones others = (k : ℕ) (one other : Answer) → slice_get ones k ≡ Some one → slice_get others k ≡ Some other
+    → IsSameVerdict one other
 
 alike : (number : ℕ) (ones others : List Answer) → length ones ≡ length others → AreAlike ones others
     → (lines_from number ones ≡ lines_from number others) × (list_all is_same ones ≡ list_all is_same others)
@@ -67,10 +71,12 @@ alike number (one ∷ ones) (other ∷ others) long are =
     (rw (same_lines number one other first, rest.0) refl, rw (same_word one other first, rest.1) refl)
 
 -- the first block that differs is one
-not_before : (program : List Serial) (packets : List Packed) (one other : ℕ) → IsFirstOther program packets one → IsFirstOther program packets other → one < other → ⊥
+not_before : (program : List Serial) (packets : List Packed) (one other : ℕ) → IsFirstOther program packets one
+    → IsFirstOther program packets other → one < other → ⊥
 not_before program packets one other a b less = a.differs (b.before one less)
 
-one_first : (program : List Serial) (packets : List Packed) (one other : ℕ) → IsFirstOther program packets one → IsFirstOther program packets other → one ≡ other
+one_first : (program : List Serial) (packets : List Packed) (one other : ℕ) → IsFirstOther program packets one
+    → IsFirstOther program packets other → one ≡ other
 one_first program packets one other a b = elim (cases_lt one other) [
   | inl lt ↦ absurd (not_before program packets one other a b lt)
   | inr ge ↦ elim (cases_lt other one) [
@@ -79,8 +85,10 @@ one_first program packets one other a b = elim (cases_lt one other) [
   ]
 ]
 
-module _ (program : List Serial) (packets : List Packed) (blocks : All (λ block. IsTrue (is_block block.insns)) program) (sound : All IsPacketBlock packets) where
-  verdicts_alike : (ones others : List Answer) → labels_of packets ≡ labels_in program → AreVerdicts program packets ones → AreVerdicts program packets others
+module _ (program : List Serial) (packets : List Packed) (blocks : All (λ block. IsTrue (is_block block.insns)) program)
+    (sound : All IsPacketBlock packets) where
+  verdicts_alike : (ones others : List Answer) → labels_of packets ≡ labels_in program
+      → AreVerdicts program packets ones → AreVerdicts program packets others
       → AreAlike ones others
   verdicts_alike ones others labels a b k one other at also =
       let inside = slice_get_within ones k one at in
@@ -88,14 +96,20 @@ module _ (program : List Serial) (packets : List Packed) (blocks : All (λ block
       let block = there program k (omega (arith, inside, a.count)) in
       let packed = there packets k (omega (arith, inside, a.count, many)) in
       one_verdict block.0 packed.0 (holds_at (λ each. IsTrue (is_block each.insns)) program k block.0 blocks block.1)
-      (holds_at IsPacketBlock packets k packed.0 sound packed.1) one other (a.each k block.0 packed.0 one block.1 packed.1 at)
+      (holds_at IsPacketBlock packets k packed.0 sound packed.1) one other
+      (a.each k block.0 packed.0 one block.1 packed.1 at)
       (b.each k block.0 packed.0 other block.1 packed.1 also)
 
-  one_text_of : (text other : List ℕ) (same also : Bool) → IsChecked program packets text same → IsChecked program packets other also
+  one_text_of : (text other : List ℕ) (same also : Bool) → IsChecked program packets text same
+      → IsChecked program packets other also
       → (text ≡ other) × (same ≡ also)
   one_text_of text other same also (OtherBlocks n first told no_same) (OtherBlocks m second words no_also) =
-      let number = one_first program packets n m first second in
-      (told ∙ (ap (λ (k : ℕ). block_line k (other_words (slice_get (labels_of packets) k) (slice_get (labels_in program) k))) number ∙ sym words), no_same ∙ sym no_also)
+      let number = one_first program packets n m first second in (
+        told ∙ (ap (λ (k : ℕ). block_line k
+            (other_words (slice_get (labels_of packets) k) (slice_get (labels_in program) k))) number
+            ∙ sym words),
+        no_same ∙ sym no_also,
+      )
   one_text_of text other same also (OtherBlocks n first told no_same) (SameBlocks labels verdicts are words is) =
       absurd (first.differs (ap (λ ls. slice_get ls n) labels))
   one_text_of text other same also (SameBlocks labels verdicts are words is) (OtherBlocks n first told no_same) =
@@ -105,4 +119,5 @@ module _ (program : List Serial) (packets : List Packed) (blocks : All (λ block
       (told ∙ (both.0 ∙ sym words), is ∙ (both.1 ∙ sym is_also))
 
 pub one_text : (program : List Serial) (packets : List Packed) → HasOneText program packets
-one_text program packets blocks sound text other same also a b = one_text_of program packets blocks sound text other same also a b
+one_text program packets blocks sound text other same also a b = one_text_of program packets blocks sound text other
+    same also a b

@@ -10,6 +10,7 @@ mod verdict;
 
 pub use checked::{Checked, check};
 pub use early::Early;
+pub use lines::{push_verdict, push_words};
 pub use verdict::{Verdict, check_block};
 
 #[cfg(test)]

@@ -130,8 +130,12 @@ fn push_line(out: &mut Vec<u8>, number: u64, word: &[u8], line: u32) -> Result<(
     out.extend_from_slice(b"\n")
 }
 
-/// The line of a block of which words are told.
-pub(crate) fn push_words(out: &mut Vec<u8>, number: u64, words: &[u8]) -> Result<(), AllocError>
+/// Appends the line of the block of this number, of which these words are told.
+///
+/// # Errors
+///
+/// `AllocError` where memory ran out; the bytes are then unspecified.
+pub fn push_words(out: &mut Vec<u8>, number: u64, words: &[u8]) -> Result<(), AllocError>
     ensures { OnOk result (out.new.items ≡ out.old.items ++ block_line number words.now) }
 {
     push_block(out, number)?;
@@ -139,13 +143,13 @@ pub(crate) fn push_words(out: &mut Vec<u8>, number: u64, words: &[u8]) -> Result
     out.extend_from_slice(b"\n")
 }
 
-/// Appends the lines of the block of this number.
+/// Appends the lines of the block of this number: one, or one for each instruction that comes too early.
+///
+/// # Errors
+///
+/// `AllocError` where memory ran out; the bytes are then unspecified.
 #[tactic(auto, unfolding(crate::specs::Lines::verdict_lines))]
-pub(crate) fn push_verdict(
-    out: &mut Vec<u8>,
-    number: u64,
-    verdict: &Verdict,
-) -> Result<(), AllocError>
+pub fn push_verdict(out: &mut Vec<u8>, number: u64, verdict: &Verdict) -> Result<(), AllocError>
     ensures { OnOk result (out.new.items ≡ out.old.items ++ verdict_lines number verdict.now) }
 {
     match verdict {

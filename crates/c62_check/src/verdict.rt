@@ -1,9 +1,10 @@
 //! Whether a block of packets is a schedule of a serial block.
 
-ghost use Rattle.std.specs.Prelude.{◌≡◌, IfOk, IsTrue};
+ghost use Rattle.std.specs.Prelude.{◌≡◌, ◌↔◌, IfOk, IsTrue};
 ghost use Rattle.c62_read.specs.Block.{branch_last, operations};
 ghost use Rattle.c62_meaning.specs.Laws.{cycles_of};
 ghost use Rattle.c62_check.specs.Matched.{AreNumbered};
+ghost use Rattle.c62_check.specs.declared.verdict.Verdict.TheVariants.{Same as SameAs};
 ghost use Rattle.c62_check.specs.Verdict.{IsVerdict, is_same};
 
 use crate::early::{Early, all_early};
@@ -28,7 +29,8 @@ pub enum Verdict {
 impl Verdict {
     /// Whether the packets are a schedule of the block.
     pub fn is_same(&self) -> bool
-        ensures { result ≡ is_same self.now }
+        ensures value { result ≡ is_same self.now }
+        ensures same { IsTrue result ↔ (self.now ≡ SameAs) }
     {
         match self {
             Verdict::Same => true,

@@ -43,18 +43,21 @@ struct Part {
     branch: Option<u64>,
 }
 
+/// Whether it is a branch to the label of this number.
+fn leads_to(placed: &Placed, label: u8) -> bool {
+    matches!(placed.insn.operands(), Operands::Block(number) if number == label)
+}
+
 impl Part {
     /// The part with an instruction more.
     fn with(self, counter: Reg, label: u8, placed: &Placed) -> Part {
-        let goes_back =
-            matches!(placed.insn.operands(), Operands::Block(number) if number == label);
         Part {
             work: if touches(counter, &entry_of(placed)) {
                 self.work
             } else {
                 self.work.saturating_add(1)
             },
-            branch: if goes_back {
+            branch: if leads_to(placed, label) {
                 Some(self.cycles)
             } else {
                 self.branch
@@ -79,13 +82,32 @@ impl Part {
         }
     }
 
-    /// Whether its branch takes effect at the end of a pass.
-    fn goes_round(self) -> bool {
-        match self.branch {
-            Some(cycle) => cycle.saturating_add(6).checked_rem(self.cycles) == Some(0),
-            None => false,
+    /// Whether its branch takes effect at the end of a pass, where the first pass is known to end behind so many cycles or isn't.
+    fn goes_round(self, pass: Option<u64>) -> bool {
+        match (self.branch, pass) {
+            (None, _) => false,
+            (Some(_), Some(cycles)) => self.cycles == cycles,
+            (Some(cycle), None) => cycle.saturating_add(6).checked_rem(self.cycles) == Some(0),
         }
     }
+}
+
+/// How many cycles these rows take.
+fn cycles_of(rows: &[Row]) -> u64 {
+    rows.iter().fold(
+        0u64,
+        |sum, row| sum.saturating_add(u64::from(row.idle)).saturating_add(1),
+    )
+}
+
+/// How many cycles the first pass takes: the first branch of the prolog ends it. `None` where the prolog has none in flight.
+fn first_pass(rows: &Rows, first: u32, kernel: u32, label: u8) -> Option<u64> {
+    let prolog = rows.rows.get(first as usize..kernel as usize)?;
+    let begun = prolog.iter().position(|row| row
+        .insns
+        .iter()
+        .any(|placed| leads_to(placed, label)))?;
+    6u64.checked_sub(cycles_of(prolog.get(begun..)?))
 }
 
 /// Whether a row holds a step of the counter or a branch that tests it.
@@ -98,7 +120,14 @@ fn has_control(row: &Row, counter: Reg) -> bool {
 /// How many rows from this one on are a kernel of so much work: the fewest that hold it, with those right behind that hold steps or
 /// branches alone, and behind them as many empty ones as let its branch take effect at the end of a pass. Where none do, it is without
 /// these.
-fn kernel_rows(rows: &Rows, first: u32, counter: Reg, label: u8, work: usize) -> Option<u32> {
+fn kernel_rows(
+    rows: &Rows,
+    first: u32,
+    counter: Reg,
+    label: u8,
+    work: usize,
+    pass: Option<u64>,
+) -> Option<u32> {
     let mut part = Part {
         rows: 0,
         cycles: 0,
@@ -108,14 +137,14 @@ fn kernel_rows(rows: &Rows, first: u32, counter: Reg, label: u8, work: usize) ->
     let mut least = None;
     for row in rows.rows.get(first as usize..)? {
         let next = part.with_row(counter, label, row);
-        if least.is_some() && (work < next.work || part.goes_round() && row.insns.is_empty()) {
+        if least.is_some() && (work < next.work || part.goes_round(pass) && row.insns.is_empty()) {
             break;
         }
         part = next;
         if work <= part.work && (least.is_none() || has_control(row, counter)) {
             least = Some(part.rows);
         }
-        if least.is_some() && part.goes_round() {
+        if least.is_some() && part.goes_round(pass) {
             least = Some(part.rows);
         }
     }
@@ -232,29 +261,21 @@ fn block_behind(blocks: &[Block], number: usize) -> usize {
     }
 }
 
-/// The kernel of a loop: its first row, the number of its label, and the row behind it.
+/// The kernel of a loop: its first row, and the number of its label.
 fn kernel_of(
     alloc: Global,
     blocks: &[Block],
     number: usize,
     read: &RowsText,
-    counter: Reg,
-    work: usize,
-) -> Result<Option<(u32, u8, u32)>, AllocError> {
+) -> Result<Option<(u32, u8)>, AllocError> {
     let Some(block) = blocks.get(number) else {
         return Ok(None);
     };
     let Some(kernel) = row_of(alloc, read, block)? else {
         return Ok(None);
     };
-    let Some(label) = label_of(&read.rows, kernel) else {
-        return Ok(None);
-    };
-    let Some(count) = kernel_rows(&read.rows, kernel, counter, label, work) else {
-        return Ok(None);
-    };
-    match kernel.checked_add(count) {
-        Some(epilog) => Ok(Some((kernel, label, epilog))),
+    match label_of(&read.rows, kernel) {
+        Some(label) => Ok(Some((kernel, label))),
         None => Ok(None),
     }
 }
@@ -274,18 +295,25 @@ pub(crate) fn extent_of(
     work: usize,
 ) -> Result<Option<Extent>, AllocError> {
     let number = usize::from(number);
-    let Some((kernel, label, epilog)) = kernel_of(alloc, blocks, number, read, counter, work)?
-    else {
+    let Some((kernel, label)) = kernel_of(alloc, blocks, number, read)? else {
         return Ok(None);
     };
-    let Some(first) = begin_of(alloc, blocks, first_block(blocks, number), read)? else {
+    let Some(begin) = begin_of(alloc, blocks, first_block(blocks, number), read)? else {
         return Ok(None);
     };
     let Some(last) = begin_of(alloc, blocks, block_behind(blocks, number), read)? else {
         return Ok(None);
     };
+    let first = begin.min(kernel);
+    let pass = first_pass(&read.rows, first, kernel, label);
+    let Some(count) = kernel_rows(&read.rows, kernel, counter, label, work, pass) else {
+        return Ok(None);
+    };
+    let Some(epilog) = kernel.checked_add(count) else {
+        return Ok(None);
+    };
     Ok(Some(Extent {
-        first: first.min(kernel),
+        first,
         kernel,
         epilog,
         last: last.max(epilog),

@@ -2,7 +2,10 @@
 
 use crate::copied::copied;
 use crate::extent::Extent;
-use crate::seats::{Lines, Seat, Seats, entry_of, seats_of, take_all, take_first, take_last};
+use crate::seats::{
+    Lines, Seat, Seats, count_free, entry_of, seats_of, take_each, take_first, take_last,
+    take_later,
+};
 use c62_insn::Reg;
 use c62_loop_match::{Control, Pipelined, Region, Schedule, Stage, touches};
 use c62_packet::Placed;
@@ -97,20 +100,17 @@ fn parts_of(
     }))
 }
 
-/// Takes what stands before the loop from the prolog. An error is the line of one that is missing.
+/// Takes what stands before the loop from the prolog, whatever it does with the counter. An error is the line of one that is missing.
 fn take_before(
     alloc: Global,
     parts: &mut Parts,
-    counter: Reg,
     entries: &[SerialInsn],
 ) -> Result<Result<Vec<Placed>, u32>, AllocError> {
     let mut before = Vec::new(alloc);
     for entry in entries {
-        if !touches(counter, entry) {
-            match take_first(&mut parts.prolog.seats, &mut parts.rows, entry, parts.lines) {
-                Some(placed) => before.push(placed)?,
-                None => return Ok(Err(entry.line)),
-            }
+        match take_first(&mut parts.prolog.seats, &mut parts.rows, entry, parts.lines) {
+            Some(placed) => before.push(placed)?,
+            None => return Ok(Err(entry.line)),
         }
     }
     Ok(Ok(before))
@@ -135,6 +135,95 @@ fn take_behind(
     Ok(Ok(behind))
 }
 
+/// Which one it is of instructions of the loop that are the same. They depend on each other, so their instances come in turn.
+#[derive(Clone, Copy)]
+struct Turn {
+    /// How many of the loop are this instruction.
+    copies: usize,
+    /// How many of these stand before it.
+    before: usize,
+    /// How many instances of all of them the prolog holds.
+    early: usize,
+}
+
+impl Turn {
+    fn of(entries: &[SerialInsn], number: usize, early: usize) -> Turn {
+        let mut turn = Turn {
+            copies: 0,
+            before: 0,
+            early,
+        };
+        let Some(own) = entries.get(number) else {
+            return turn;
+        };
+        for (other, entry) in entries.iter().enumerate() {
+            if own.insn.same_but_for_the_unit(&entry.insn) {
+                turn.copies = turn.copies.saturating_add(1);
+                if other < number {
+                    turn.before = turn.before.saturating_add(1);
+                }
+            }
+        }
+        turn
+    }
+
+    /// How many of them are left to be taken, with this one.
+    fn left(&self) -> usize {
+        self.copies.saturating_sub(self.before)
+    }
+
+    /// How many of those stand before it in the kernel. Where the prolog holds one instance more of it than of the last copy, these are
+    /// all copies of which it doesn't; else there are none.
+    fn later(&self) -> usize {
+        match self.early.checked_rem(self.copies) {
+            Some(more) if self.before < more => self.copies.saturating_sub(more),
+            _ => 0,
+        }
+    }
+}
+
+/// Takes the instances of an instruction of the loop. `None` where the kernel lacks it.
+fn take_stage(
+    alloc: Global,
+    parts: &mut Parts,
+    entry: &SerialInsn,
+    turn: Turn,
+) -> Result<Option<Stage>, AllocError> {
+    let (rows, lines) = (&mut parts.rows, parts.lines);
+    let Some(kernel) = take_later(&mut parts.kernel.seats, rows, entry, lines, turn.later()) else {
+        return Ok(None);
+    };
+    let each = turn.left();
+    let early = take_each(alloc, &mut parts.prolog.seats, rows, entry, lines, 0, each)?;
+    let late = take_each(
+        alloc,
+        &mut parts.epilog.seats,
+        rows,
+        entry,
+        lines,
+        turn.later(),
+        each,
+    )?;
+    Ok(Some(Stage {
+        early,
+        kernel,
+        late,
+    }))
+}
+
+/// How often the prolog holds each of these.
+fn early_counts(
+    alloc: Global,
+    seats: &[Seat],
+    entries: &[SerialInsn],
+) -> Result<Vec<usize>, AllocError> {
+    let mut counts = Vec::new(alloc);
+    for entry in entries {
+        counts.push(count_free(seats, entry.insn))?;
+    }
+    Ok(counts)
+}
+
 /// Takes the instances of the loop's instructions.
 fn take_stages(
     alloc: Global,
@@ -142,36 +231,15 @@ fn take_stages(
     counter: Reg,
     entries: &[SerialInsn],
 ) -> Result<Result<Vec<Stage>, u32>, AllocError> {
+    let counts = early_counts(alloc, &parts.prolog.seats, entries)?;
     let mut stages = Vec::new(alloc);
-    for entry in entries {
+    for (number, entry) in entries.iter().enumerate() {
         if !touches(counter, entry) {
-            let Some(kernel) = take_first(
-                &mut parts.kernel.seats,
-                &mut parts.rows,
-                entry,
-                parts.lines,
-            ) else {
-                return Ok(Err(entry.line));
-            };
-            let early = take_all(
-                alloc,
-                &mut parts.prolog.seats,
-                &mut parts.rows,
-                entry,
-                parts.lines,
-            )?;
-            let late = take_all(
-                alloc,
-                &mut parts.epilog.seats,
-                &mut parts.rows,
-                entry,
-                parts.lines,
-            )?;
-            stages.push(Stage {
-                early,
-                kernel,
-                late,
-            })?;
+            let early = counts.get(number).copied().unwrap_or(0);
+            match take_stage(alloc, parts, entry, Turn::of(entries, number, early))? {
+                Some(stage) => stages.push(stage)?,
+                None => return Ok(Err(entry.line)),
+            }
         }
     }
     Ok(Ok(stages))
@@ -250,7 +318,8 @@ fn gathered(
     }))
 }
 
-/// The region's instructions, found again in the rows of a loop: the first of those that are the same is that of the first iteration.
+/// The region's instructions, found again in the rows of a loop: the first of those that are the same is that of the first iteration, and
+/// those that the loop itself has more than once come in turn.
 ///
 /// # Errors
 ///
@@ -265,7 +334,7 @@ pub(crate) fn find(
     let Some(mut parts) = parts_of(alloc, rows, extent, lines)? else {
         return Ok(Found::TooLong);
     };
-    let before = match take_before(alloc, &mut parts, region.counter, &region.before)? {
+    let before = match take_before(alloc, &mut parts, &region.before)? {
         Ok(before) => before,
         Err(line) => return Ok(Found::Missing(line)),
     };

@@ -18,6 +18,10 @@ pub use verdict::{LoopVerdict, check_loop};
 #[cfg(test)]
 mod refused_tests;
 #[cfg(test)]
+mod setter_tests;
+#[cfg(test)]
 mod several_tests;
 #[cfg(test)]
 mod tests;
+#[cfg(test)]
+mod turn_tests;

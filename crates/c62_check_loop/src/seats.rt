@@ -112,17 +112,26 @@ fn take(
     Some(seat.placed)
 }
 
+/// Whether it isn't taken and is this instruction.
+fn is_free(seat: &Seat, insn: Insn) -> bool {
+    !seat.taken && insn.same_but_for_the_unit(&seat.placed.insn)
+}
+
+/// How many are free and this instruction.
+pub(crate) fn count_free(seats: &[Seat], insn: Insn) -> usize {
+    seats.iter().filter(|seat| is_free(seat, insn)).count()
+}
+
 /// The number of the first that is free and this instruction.
 fn first_free(seats: &[Seat], insn: Insn) -> Option<usize> {
-    seats.iter().position(|seat| !seat.taken && insn.same_but_for_the_unit(&seat.placed.insn))
+    seats.iter().position(|seat| is_free(seat, insn))
 }
 
 /// The number of the last.
 fn last_free(seats: &[Seat], insn: Insn) -> Option<usize> {
     let mut found = None;
     for number in 0..seats.len() {
-        let seat = &seats[number];
-        if !seat.taken && insn.same_but_for_the_unit(&seat.placed.insn) {
+        if is_free(&seats[number], insn) {
             found = Some(number);
         }
     }
@@ -151,23 +160,50 @@ pub(crate) fn take_last(
     take(seats, rows, number, entry, lines)
 }
 
-/// Takes all that are this instruction, in the order of their cycles.
+/// Takes the one that is this instruction with so many free ones before it.
+pub(crate) fn take_later(
+    seats: &mut [Seat],
+    rows: &mut Rows,
+    entry: &SerialInsn,
+    lines: Lines,
+    passed: usize,
+) -> Option<Placed> {
+    let mut left = passed;
+    for number in 0..seats.len() {
+        if is_free(&seats[number], entry.insn) {
+            if left == 0 {
+                return take(seats, rows, number, entry, lines);
+            }
+            left -= 1;
+        }
+    }
+    None
+}
+
+/// Takes those that are this instruction, in the order of their cycles: so many free ones are passed over, then each of so many is taken.
 ///
 /// # Errors
 ///
 /// `AllocError` where memory ran out.
-pub(crate) fn take_all(
+pub(crate) fn take_each(
     alloc: Global,
     seats: &mut [Seat],
     rows: &mut Rows,
     entry: &SerialInsn,
     lines: Lines,
+    passed: usize,
+    each: usize,
 ) -> Result<Vec<Placed>, AllocError> {
     let mut all = Vec::new(alloc);
-    for _seat in 0..seats.len() {
-        match take_first(seats, rows, entry, lines) {
-            Some(placed) => all.push(placed)?,
-            None => return Ok(all),
+    let mut left = passed;
+    for number in 0..seats.len() {
+        if is_free(&seats[number], entry.insn) {
+            if left > 0 {
+                left -= 1;
+            } else if let Some(placed) = take(seats, rows, number, entry, lines) {
+                all.push(placed)?;
+                left = each.saturating_sub(1);
+            }
         }
     }
     Ok(all)

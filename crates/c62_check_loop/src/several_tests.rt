@@ -8,7 +8,7 @@ const TWO: &str =
     " MVK .S1 20,A1\nL: LDW .D1 *A4++,A2\n ADD .L1 A2,A3,A3\n SUB .S1 A1,1,A1\n [A1] B .S2 L\n STW .D1 A3,*A6\nSET: MVK .S1 9,A1\nGO: ZERO .L2 B3\nM: LDW .D2 *B4++,B2\n ADD .L2 B2,B3,B3\n SUB .S1 A1,1,A1\n [A1] B .S1 M\n ADD .L1X B3,A3,A3\n";
 
 const LABELLED: [Row; 3] = [
-    // The rows of each lie between labels; that of the block with the first counter touches it.
+    // The rows of each lie between labels; the first counter is set in the loop's own region, the second in a block of its own.
     Row {
         text: TWO,
         packets: &[
@@ -38,9 +38,9 @@ const LABELLED: [Row; 3] = [
             (1, " ADD .L1X B3,A3,A3"),
         ],
         apart: "",
-        lines: "loop L counter 5\nloop M same from 6 trips cycles 1\n",
+        lines: "loop L same from 6 trips cycles 1\nloop M same from 6 trips cycles 1\n",
     },
-    // Without that block the first is the same, too.
+    // Nothing sets the first, and what stands above the last sets its own.
     Row {
         text: "L: LDW .D1 *A4++,A2\n ADD .L1 A2,A3,A3\n SUB .S1 A1,1,A1\n [A1] B .S2 L\nSET: MVK .S1 9,A1\nGO:\nM: LDW .D2 *B4++,B2\n ADD .L2 B2,B3,B3\n SUB .S1 A1,1,A1\n [A1] B .S1 M\n MV .L1 A3,A5\nLAST: MVK .S1 9,A2\nN: LDW .D1 *A4++,A7\n ADD .L1 A7,A3,A3\n SUB .S1 A2,1,A2\n [A2] B .S1 N\n",
         packets: &[
@@ -79,7 +79,7 @@ const LABELLED: [Row; 3] = [
             (5, " ADD .L1 A7,A3,A3"),
         ],
         apart: "",
-        lines: "loop L same from 6 trips cycles 1\nloop M same from 6 trips cycles 1\nloop N counter 16\n",
+        lines: "loop L same from 6 trips cycles 1\nloop M same from 6 trips cycles 1\nloop N same from 6 trips cycles 1\n",
     },
     // The packets lack a label of the text.
     Row {

@@ -202,7 +202,7 @@ fn told(
 /// while a register, its counter, isn't 0.
 ///
 /// `same` is told only where the packets do what the loop does, with the straight instructions around it, from every sound machine of
-/// which the promise holds and whose counter is at least the trips that are told.
+/// which the promise holds and which comes to the loop's label with at least the trips in its counter that are told.
 ///
 /// # Errors
 ///

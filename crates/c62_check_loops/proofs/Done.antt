@@ -1,6 +1,7 @@
--- Where all is told to be the same, each loop is done.
-use Rattle.std.proofs.Common.{arith, ◌≡◌, ℕ, zero, suc, ◌<◌, ◌+◌, true, List, [], ◌∷◌, length, Option, Some, None, refl, sym, subst, inl, inr}
-use Rattle.std.specs.Prelude.{slice_get}
+-- Where all is told to be the same, each block is done.
+use Rattle.std.proofs.Common.{arith, ◌≡◌, ℕ, zero, suc, ◌+◌, Bool, true, List, [], ◌∷◌, length, Option, ◌∙◌}
+use Rattle.std.proofs.Common.{Some, None, refl, sym, subst, inl, inr}
+use Rattle.std.specs.Prelude.{slice_get, ◌&&◌}
 use Rattle.std.proofs.lemmas.Option.{none-some, same_Some, slice_get_within}
 use Rattle.clap.proofs.WalkLemmas.{both}
 use Rattle.clap.specs.Words.{Text as Name}
@@ -13,81 +14,115 @@ use Rattle.c62_check_loop.specs.declared.verdict.LoopVerdict.{LoopVerdict}
 use Rattle.c62_check_loop.specs.declared.verdict.LoopVerdict.TheVariants as told
 use Rattle.c62_check_loop.specs.Told.{IsTold}
 use Rattle.c62_check_loop.proofs.Sames.{same_is_serial}
+use Rattle.c62_check_rest.specs.Starts.{Starts, start_at, is_row}
+use Rattle.c62_check_rest.specs.Told.{IsRest}
+use Rattle.c62_check_rest.proofs.Serials.{rest_is_serial, row_is}
+use Rattle.c62_check_loops.specs.declared.verdict.BlockVerdict.{BlockVerdict}
+use Rattle.c62_check_loops.specs.declared.verdict.BlockVerdict.TheVariants.{Loop, Within, Rest}
+use Rattle.c62_check_loops.specs.Fit.{are_fit, are_all_rows, block_behind, first_block, is_alone, is_fit, stands_there}
 use Rattle.c62_check_loops.specs.Lines.{label_in}
-use Rattle.c62_check_loops.specs.Told.{are_good, is_good, is_good_loop}
+use Rattle.c62_check_loops.specs.Verdicts.{IsBlockTold, are_good, is_good, is_good_loop}
 use Rattle.c62_check_loops.specs.Laws.{IsDone, IsLoopDone, LoopsDoTheSame}
+use Rattle.c62_check_loops.proofs.Loops.{there_at}
 
--- there is a verdict of each number below their count
-has_verdict : {X : Type 0} (xs : List X) (k : ℕ) → k < length xs → (x : X) × (slice_get xs k ≡ Some x)
-has_verdict [] k within = absurd (omega (arith, within))
-has_verdict (x ∷ xs) zero within = (x, refl)
-has_verdict (x ∷ xs) (suc k) within = has_verdict xs k (omega (arith, within))
-
--- where all are good, each is
-good_at : (trips : List (Name × ℕ)) (blocks : List Serial) (number k : ℕ) (verdicts : List (Option LoopVerdict)) (verdict : Option LoopVerdict)
-    → are_good trips blocks number verdicts ≡ true → slice_get verdicts k ≡ Some verdict → is_good trips blocks (number + k) verdict ≡ true
-good_at trips blocks number k [] verdict good at = absurd (none-some verdict at)
-good_at trips blocks number zero (v ∷ verdicts) verdict good at =
-    let parts = both (is_good trips blocks number v) (are_good trips blocks (number + 1) verdicts) good in
+-- what holds of all from a number on holds of each
+test_at : {X : Type 0} (all : ℕ → List X → Bool) (test : ℕ → X → Bool)
+    → ((n : ℕ) (x : X) (xs : List X) → all n (x ∷ xs) ≡ (test n x && all (n + 1) xs))
+    → (number k : ℕ) (xs : List X) (x : X) → all number xs ≡ true → slice_get xs k ≡ Some x
+    → test (number + k) x ≡ true
+test_at all test step number k [] x holds at = absurd (none-some x at)
+test_at {X} all test step number zero (y ∷ xs) x holds at =
+    let parts = both (test number y) (all (number + 1) xs) (sym (step number y xs) ∙ holds) in
     let place : number ≡ number + 0 = omega arith in
-    subst (λ (n : ℕ). is_good trips blocks n verdict ≡ true) place
-    (subst (λ (w : Option LoopVerdict). is_good trips blocks number w ≡ true) (same_Some v verdict at) parts.0)
-good_at trips blocks number (suc k) (v ∷ verdicts) verdict good at =
-    let parts = both (is_good trips blocks number v) (are_good trips blocks (number + 1) verdicts) good in
+    subst (λ (n : ℕ). test n x ≡ true) place (subst (λ (z : X). test number z ≡ true) (same_Some y x at) parts.0)
+test_at all test step number (suc k) (y ∷ xs) x holds at =
+    let parts = both (test number y) (all (number + 1) xs) (sym (step number y xs) ∙ holds) in
     let place : number + 1 + k ≡ number + suc k = omega arith in
-    subst (λ (n : ℕ). is_good trips blocks n verdict ≡ true) place (good_at trips blocks (number + 1) k verdicts verdict parts.1 at)
+    subst (λ (n : ℕ). test n x ≡ true) place (test_at all test step (number + 1) k xs x parts.1 at)
 
-module _ (trips : List (Name × ℕ)) (promise : Promise) (blocks : List Serial) (packets : Text) (number : ℕ) (block : Serial) where
+module _ (trips : List (Name × ℕ)) (promise : Promise) (starts : Starts) (blocks : List Serial) (packets : Text)
+    (number : ℕ) (block : Serial) where
   -- a good loop is done
-  loop_done : (label : Option Name) (verdict : LoopVerdict) → block.label ≡ label → is_good_loop trips label verdict ≡ true
-      → IsTold (promises promise) blocks number packets (Some verdict) → IsLoopDone trips promise blocks packets number block
-  loop_done (Some label) (told.Same least cycles first last) labelled good (region, found, same) = record {
-    label = label;
-    labelled = labelled;
-    region = region;
-    found = found;
-    least = least;
-    cycles = cycles;
-    first = first;
-    last = last;
-    granted = good;
-    does = same_is_serial (promises promise) region packets least cycles first last same;
-  }
-  loop_done (Some label) (told.Missing line) labelled good is = absurd cc
-  loop_done (Some label) (told.Extra line) labelled good is = absurd cc
-  loop_done (Some label) (told.Uneven line) labelled good is = absurd cc
-  loop_done (Some label) (told.Counter line) labelled good is = absurd cc
-  loop_done (Some label) (told.Early early) labelled good is = absurd cc
-  loop_done (Some label) (told.Branch line) labelled good is = absurd cc
-  loop_done (Some label) told.Outside labelled good is = absurd cc
-  loop_done None (told.Same least cycles first last) labelled good is = absurd cc
-  loop_done None (told.Missing line) labelled good is = absurd cc
-  loop_done None (told.Extra line) labelled good is = absurd cc
-  loop_done None (told.Uneven line) labelled good is = absurd cc
-  loop_done None (told.Counter line) labelled good is = absurd cc
-  loop_done None (told.Early early) labelled good is = absurd cc
-  loop_done None (told.Branch line) labelled good is = absurd cc
-  loop_done None told.Outside labelled good is = absurd cc
+  loop_done : (label : Option Name) (verdict : LoopVerdict) → block.label ≡ label
+      → is_good_loop trips label verdict ≡ true → is_fit blocks starts number (Loop verdict) ≡ true
+      → IsTold (promises promise) blocks number packets (Some verdict)
+      → IsLoopDone trips promise starts blocks packets number block
+  loop_done (Some label) (told.Same least cycles first last) labelled good fit (region, found, same) =
+      let parts = both (is_alone blocks starts number) (stands_there blocks starts number first last) fit in
+      let rows = both (is_row (start_at starts (first_block blocks number)) first)
+      (is_row (start_at starts (block_behind blocks number)) last) parts.1 in
+      record {
+        label = label;
+        labelled = labelled;
+        region = region;
+        found = found;
+        least = least;
+        cycles = cycles;
+        first = first;
+        last = last;
+        granted = good;
+        does = same_is_serial (promises promise) region packets least cycles first last same;
+        alone = parts.0;
+        begins = row_is (start_at starts (first_block blocks number)) first rows.0;
+        ends = row_is (start_at starts (block_behind blocks number)) last rows.1;
+      }
+  loop_done (Some label) (told.Missing line) labelled good fit is = absurd cc
+  loop_done (Some label) (told.Extra line) labelled good fit is = absurd cc
+  loop_done (Some label) (told.Uneven line) labelled good fit is = absurd cc
+  loop_done (Some label) (told.Counter line) labelled good fit is = absurd cc
+  loop_done (Some label) (told.Early early) labelled good fit is = absurd cc
+  loop_done (Some label) (told.Branch line) labelled good fit is = absurd cc
+  loop_done (Some label) told.Outside labelled good fit is = absurd cc
+  loop_done None (told.Same least cycles first last) labelled good fit is = absurd cc
+  loop_done None (told.Missing line) labelled good fit is = absurd cc
+  loop_done None (told.Extra line) labelled good fit is = absurd cc
+  loop_done None (told.Uneven line) labelled good fit is = absurd cc
+  loop_done None (told.Counter line) labelled good fit is = absurd cc
+  loop_done None (told.Early early) labelled good fit is = absurd cc
+  loop_done None (told.Branch line) labelled good fit is = absurd cc
+  loop_done None told.Outside labelled good fit is = absurd cc
 
-  block_done : (verdict : Option LoopVerdict) → slice_get blocks number ≡ Some block → is_good trips blocks number verdict ≡ true
-      → IsTold (promises promise) blocks number packets verdict → IsDone trips promise blocks packets number block
-  block_done None there good is = inl good
-  block_done (Some verdict) there good is =
-      inr (loop_done block.label verdict refl (subst (λ (b : Option Serial). is_good_loop trips (label_in b) verdict ≡ true) there good) is)
+  block_done : (verdict : BlockVerdict) → slice_get blocks number ≡ Some block
+      → is_good trips blocks number verdict ≡ true → is_fit blocks starts number verdict ≡ true
+      → IsBlockTold promise starts blocks packets number verdict
+      → IsDone trips promise starts blocks packets number block
+  block_done Within there good fit is = inl (record { with_loop = is; entered = fit })
+  block_done (Loop verdict) there good fit is =
+      inr (inl (loop_done block.label verdict refl
+      (subst (λ (b : Option Serial). is_good_loop trips (label_in b) verdict ≡ true) there good) fit is))
+  block_done (Rest verdict) there good fit (other, at, is) =
+      let same : other ≡ block = same_Some other block (sym at ∙ there) in
+      inr (inr (rest_is_serial starts packets number block verdict
+      (subst (λ (b : Serial). IsRest starts packets number b verdict) same is) good))
 
-pub loops_do_the_same : (trips : List (Name × ℕ)) (apart : List Reg) (blocks : List Serial) (packets : Text) (answer : List ℕ)
+pub loops_do_the_same : (trips : List (Name × ℕ)) (apart : List Reg) (blocks : List Serial) (packets : Text)
+    (answer : List ℕ)
     → LoopsDoTheSame trips apart blocks packets answer
 loops_do_the_same trips apart blocks packets answer is =
-    let good = (both _ _ (sym is.all)).0 in
+    let parts = both _ _ (sym is.all) in
+    let turn = both (are_fit blocks is.starts 0 is.verdicts)
+    (are_all_rows is.starts (length blocks) (length packets.rows)) parts.1 in
+    let rows = both (is_row (start_at is.starts 0) 0)
+    (is_row (start_at is.starts (length blocks)) (length packets.rows)) turn.1 in
     let counted = is.are.counted in
     record {
       promise = is.promise;
       promised = is.promised;
+      starts = is.starts;
+      begins = row_is (start_at is.starts 0) 0 rows.0;
+      ends = row_is (start_at is.starts (length blocks)) (length packets.rows) rows.1;
       each = λ number block there.
           (let within = slice_get_within blocks number block there in
-          let has = has_verdict is.verdicts number (omega (arith, within, counted)) in
+          let has = there_at is.verdicts number (omega (arith, within, counted)) in
           let place : 0 + number ≡ number = omega arith in
-          block_done trips is.promise blocks packets number block has.0 there
-          (subst (λ (n : ℕ). is_good trips blocks n has.0 ≡ true) place (good_at trips blocks 0 number is.verdicts has.0 good has.1))
+          let good : is_good trips blocks number has.0 ≡ true
+          = subst (λ (n : ℕ). is_good trips blocks n has.0 ≡ true) place
+          (test_at (are_good trips blocks) (is_good trips blocks) (λ n x xs. refl) 0 number is.verdicts has.0
+          parts.0 has.1) in
+          let fit : is_fit blocks is.starts number has.0 ≡ true
+          = subst (λ (n : ℕ). is_fit blocks is.starts n has.0 ≡ true) place
+          (test_at (are_fit blocks is.starts) (is_fit blocks is.starts) (λ n x xs. refl) 0 number is.verdicts
+          has.0 turn.0 has.1) in
+          block_done trips is.promise is.starts blocks packets number block has.0 there good fit
           (is.are.each number has.0 has.1));
     }

@@ -1,3 +1,4 @@
+pub mod Loops
 pub mod Telling
 pub mod Done
 pub mod Granting

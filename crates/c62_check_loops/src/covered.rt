@@ -15,7 +15,7 @@ pub(crate) fn is_loop(blocks: &[Block], number: u8) -> bool
 }
 
 /// Whether there is a block, without a branch.
-fn is_straight(block: Option<&Block>) -> bool
+pub(crate) fn is_straight(block: Option<&Block>) -> bool
     ensures { result ≡ is_straight (option_copied block.entry) }
 {
     match block {
@@ -25,7 +25,7 @@ fn is_straight(block: Option<&Block>) -> bool
 }
 
 /// Whether there is a block, with neither label nor branch.
-fn is_bare(block: Option<&Block>) -> bool
+pub(crate) fn is_bare(block: Option<&Block>) -> bool
     ensures { result ≡ is_bare (option_copied block.entry) }
 {
     match block {
@@ -45,7 +45,7 @@ fn is_empty(block: Option<&Block>) -> bool
 }
 
 /// Whether the block of this number stands before a loop, and belongs to it.
-fn leads_to_loop(blocks: &[Block], number: u8) -> bool
+pub(crate) fn leads_to_loop(blocks: &[Block], number: u8) -> bool
     requires { number < 255 }
     ensures { result ≡ leads_to_loop blocks.now number }
 {
@@ -60,7 +60,7 @@ fn stands_behind(blocks: &[Block], before: u8, number: u8) -> bool
 }
 
 /// Whether the block of this number stands behind a loop, and belongs to it.
-fn follows_loop(blocks: &[Block], number: u8) -> bool
+pub(crate) fn follows_loop(blocks: &[Block], number: u8) -> bool
     ensures { result ≡ follows_loop blocks.now number }
 {
     if number == 0 {

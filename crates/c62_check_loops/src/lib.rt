@@ -1,12 +1,14 @@
-//! Tells of all loops of a serial text whether packets do what they do, and whether anything else of both is left unchecked.
+//! Tells of all loops and other blocks of a serial text whether packets do what they do, and whether any row of these is left.
 #![tactic(auto)]
 
 mod covered;
+mod fit;
 mod granted;
 pub mod laws;
 mod lines;
 mod promised;
 mod told;
+mod verdict;
 
 pub use granted::first_loopless;
 pub use told::{LoopsChecked, check_loops};

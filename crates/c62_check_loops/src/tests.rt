@@ -126,7 +126,128 @@ struct Row {
     lines: &'static str,
 }
 
-const ROWS: [Row; 14] = [
+/// The sum between other blocks: one above, which may pass it over, and one behind, which may go back.
+const BETWEEN: &str =
+    "TOP: LDW .D2 *B4++,B5\n [!B0] B .S2 END\nGO: ZERO .L1 A3\nL: LDW .D1 *A4++,A2\n ADD .L1 A2,A3,A3\n SUB .S1 A1,1,A1\n [A1] B .S2 L\n MV .L1 A3,A5\nNEXT: SUB .D2 B0,1,B0\n [B0] B .S2 TOP\nEND: MV .L1 A5,A6\n";
+
+/// Its packets,
+const PACKETS_BETWEEN: &[(usize, &str)] = &[
+    (1, "TOP: LDW .D2 *B4++,B5 || [!B0] B .S2 END"),
+    (1, " NOP 5"),
+    (1, "GO: SUB .S1 A1,6,A1 || ZERO .L1 A3"),
+    (
+        5,
+        " [A1] SUB .S1 A1,1,A1 || [A1] B .S2 L || LDW .D1 *A4++,A2",
+    ),
+    (
+        1,
+        "L: [A1] SUB .S1 A1,1,A1 || [A1] B .S2 L || LDW .D1 *A4++,A2 || ADD .L1 A2,A3,A3",
+    ),
+    (5, " ADD .L1 A2,A3,A3"),
+    (1, " MV .L1 A3,A5"),
+    (1, "NEXT: SUB .D2 B0,1,B0"),
+    (1, " [B0] B .S2 TOP"),
+    (1, " NOP 5"),
+    (1, "END: MV .L1 A5,A6"),
+];
+
+/// with a step that comes behind its branch,
+const PACKETS_EARLY: &[(usize, &str)] = &[
+    (1, "TOP: LDW .D2 *B4++,B5 || [!B0] B .S2 END"),
+    (1, " NOP 5"),
+    (1, "GO: SUB .S1 A1,6,A1 || ZERO .L1 A3"),
+    (
+        5,
+        " [A1] SUB .S1 A1,1,A1 || [A1] B .S2 L || LDW .D1 *A4++,A2",
+    ),
+    (
+        1,
+        "L: [A1] SUB .S1 A1,1,A1 || [A1] B .S2 L || LDW .D1 *A4++,A2 || ADD .L1 A2,A3,A3",
+    ),
+    (5, " ADD .L1 A2,A3,A3"),
+    (1, " MV .L1 A3,A5"),
+    (1, "NEXT: [B0] B .S2 TOP || SUB .D2 B0,1,B0"),
+    (1, " NOP 5"),
+    (1, "END: MV .L1 A5,A6"),
+];
+
+/// with a branch to the kernel of the loop in the place of one to what stands before it,
+const PACKETS_INTO: &[(usize, &str)] = &[
+    (1, "TOP: LDW .D2 *B4++,B5 || [!B0] B .S2 END"),
+    (1, " NOP 5"),
+    (1, "GO: SUB .S1 A1,6,A1 || ZERO .L1 A3"),
+    (
+        5,
+        " [A1] SUB .S1 A1,1,A1 || [A1] B .S2 L || LDW .D1 *A4++,A2",
+    ),
+    (
+        1,
+        "L: [A1] SUB .S1 A1,1,A1 || [A1] B .S2 L || LDW .D1 *A4++,A2 || ADD .L1 A2,A3,A3",
+    ),
+    (5, " ADD .L1 A2,A3,A3"),
+    (1, " MV .L1 A3,A5"),
+    (1, "NEXT: SUB .D2 B0,1,B0"),
+    (1, " [B0] B .S2 L"),
+    (1, " NOP 5"),
+    (1, "END: MV .L1 A5,A6"),
+];
+
+/// and with a load in flight over the label of what stands before the loop.
+const PACKETS_OVER: &[(usize, &str)] = &[
+    (1, "TOP: [!B0] B .S2 END"),
+    (1, " NOP 3"),
+    (1, " LDW .D2 *B4++,B5"),
+    (1, " NOP"),
+    (1, "GO: SUB .S1 A1,6,A1 || ZERO .L1 A3"),
+    (
+        5,
+        " [A1] SUB .S1 A1,1,A1 || [A1] B .S2 L || LDW .D1 *A4++,A2",
+    ),
+    (
+        1,
+        "L: [A1] SUB .S1 A1,1,A1 || [A1] B .S2 L || LDW .D1 *A4++,A2 || ADD .L1 A2,A3,A3",
+    ),
+    (5, " ADD .L1 A2,A3,A3"),
+    (1, " MV .L1 A3,A5"),
+    (1, "NEXT: SUB .D2 B0,1,B0"),
+    (1, " [B0] B .S2 TOP"),
+    (1, " NOP 5"),
+    (1, "END: MV .L1 A5,A6"),
+];
+
+/// Two loops with a block between them that leaves in the middle.
+const TWO: &str =
+    "L: LDW .D1 *A4++,A2\n ADD .L1 A2,A3,A3\n SUB .S1 A1,1,A1\n [A1] B .S2 L\nMID: MV .L1 A3,A5\n [B0] B .S2 END\nM: LDW .D1 *A6++,A7\n ADD .L1 A7,A8,A8\n SUB .S1 A1,1,A1\n [A1] B .S2 M\nEND:\n";
+
+/// Their packets.
+const PACKETS_TWO: &[(usize, &str)] = &[
+    (1, " SUB .S1 A1,6,A1"),
+    (
+        5,
+        " [A1] SUB .S1 A1,1,A1 || [A1] B .S2 L || LDW .D1 *A4++,A2",
+    ),
+    (
+        1,
+        "L: [A1] SUB .S1 A1,1,A1 || [A1] B .S2 L || LDW .D1 *A4++,A2 || ADD .L1 A2,A3,A3",
+    ),
+    (5, " ADD .L1 A2,A3,A3"),
+    (1, "MID: [B0] B .S2 END"),
+    (1, " MV .L1 A3,A5"),
+    (1, " NOP 4"),
+    (1, " SUB .S1 A1,6,A1"),
+    (
+        5,
+        " [A1] SUB .S1 A1,1,A1 || [A1] B .S2 M || LDW .D1 *A6++,A7",
+    ),
+    (
+        1,
+        "M: [A1] SUB .S1 A1,1,A1 || [A1] B .S2 M || LDW .D1 *A6++,A7 || ADD .L1 A7,A8,A8",
+    ),
+    (5, " ADD .L1 A7,A8,A8"),
+    (1, "END:"),
+];
+
+const ROWS: [Row; 21] = [
     // Trips that are promised, more than are wanted, too few, of another loop, or none.
     Row {
         text: SUM,
@@ -182,7 +303,7 @@ const ROWS: [Row; 14] = [
         text: LABELLED,
         packets: PACKETS_BEYOND,
         trips: &["L=6"],
-        lines: "loop L same from 6 trips cycles 1\nblock 1 unchecked\nrows unchecked\nfalse",
+        lines: "loop L same from 6 trips cycles 1\nblock 1 same\ntrue",
     },
     Row {
         text: ENDED,
@@ -200,7 +321,50 @@ const ROWS: [Row; 14] = [
         text: " MV .L1 A3,A5\n",
         packets: &[(1, " MV .L1 A3,A5")],
         trips: &[],
-        lines: "block 0 unchecked\nrows unchecked\nfalse",
+        lines: "block 0 same\ntrue",
+    },
+    Row {
+        text: " MV .L1 A3,A5\n",
+        packets: &[(1, " MV .L1 A3,A6")],
+        trips: &[],
+        lines: "block 0 missing 1\nfalse",
+    },
+    // Blocks above, behind and between loops.
+    Row {
+        text: BETWEEN,
+        packets: PACKETS_BETWEEN,
+        trips: &["L=6"],
+        lines: "block 0 same\nloop L same from 6 trips cycles 1\nblock 4 same\nblock 5 same\ntrue",
+    },
+    Row {
+        text: BETWEEN,
+        packets: PACKETS_EARLY,
+        trips: &["L=6"],
+        lines: "block 0 same\nloop L same from 6 trips cycles 1\nblock 4 early 31 after 32 needs 1 has 0 reads B0\nblock 5 same\nfalse",
+    },
+    Row {
+        text: BETWEEN,
+        packets: PACKETS_INTO,
+        trips: &["L=6"],
+        lines: "block 0 same\nloop L same from 6 trips cycles 1\nblock 4 missing 10\nblock 5 same\nfalse",
+    },
+    Row {
+        text: BETWEEN,
+        packets: PACKETS_OVER,
+        trips: &["L=6"],
+        lines: "block 0 undrained\nloop L same from 6 trips cycles 1\nblock 4 same\nblock 5 same\nfalse",
+    },
+    Row {
+        text: TWO,
+        packets: PACKETS_TWO,
+        trips: &["L=6", "M=6"],
+        lines: "loop L same from 6 trips cycles 1\nblock 1 same\nloop M same from 6 trips cycles 1\ntrue",
+    },
+    Row {
+        text: TWO,
+        packets: PACKETS_TWO,
+        trips: &["L=6"],
+        lines: "loop L same from 6 trips cycles 1\nblock 1 same\nloop M same from 6 trips cycles 1\nfalse",
     },
     // Nothing is the same as nothing.
     Row {

@@ -1,4 +1,5 @@
-use Rattle.std.proofs.Common.{◌≡◌, ◌∙◌, ◌∷◌, ◌++◌, [], ◌<◌, List, length, refl, sym, ap, subst, append_assoc, append-nil, arith}
+use Rattle.std.proofs.Common.{◌≡◌, ◌∙◌, ◌∷◌, ◌++◌, [], ◌<◌, List, length, refl, sym, ap, subst, append_assoc}
+use Rattle.std.proofs.Common.{append-nil, arith}
 use Rattle.std.specs.Vec.Iter.{into_iter_items}
 use Rattle.std.proofs.lemmas.List.{length-append, nil_from_length}
 use Rattle.std.proofs.lemmas.Option.{slice_get_read}
@@ -16,13 +17,19 @@ loop-block-preserved c =
     let rest = into_iter_items c.next.new.self in
     let steps : into_iter_items at.block-iterator ≡ block ∷ rest = c.in-Some.ensures.steps.0 in
     let whole : at.yielded ++ block ∷ rest ≡ c.args.program =
-    rw (← steps) at.invariant.0 ∙ (c.into_iter-block-iterator.ensures.into_iter_gives.0 ∙ c.into_blocks-block-items.ensures.same) in
-    let labels : labels_of packets ≡ labels_in c.args.program = ap labels_of c.blocks-packets.ensures.same ∙ c.requires in
+    rw (← steps) at.invariant.0
+    ∙ (c.into_iter-block-iterator.ensures.into_iter_gives.0 ∙ c.into_blocks-block-items.ensures.same) in
+    let labels : labels_of packets ≡ labels_in c.args.program = ap labels_of c.blocks-packets.ensures.same
+    ∙ c.requires in
     let place : at.number ≡ length at.yielded = at.invariant.3 in
-    let within : at.number < length packets = has_packets c.args.program at.yielded rest block packets at.number whole labels place in (
+    let within : at.number < length packets = has_packets c.args.program at.yielded rest block packets at.number whole
+    labels place in (
       append_assoc at.yielded (block ∷ []) _ ∙ rw (← steps) at.invariant.0,
-      told_next at.yielded packets at.checked.text.items c.add.new.self.text.items at.checked.same c.add.new.self.same at.number block c.index-packets-number.result
-          c.in_ok-verdict.verdict at.invariant.1 place (slice_get_read packets (length packets) at.number c.index-packets-number.result refl within c.index-packets-number.is)
+      told_next at.yielded packets at.checked.text.items c.add.new.self.text.items at.checked.same c.add.new.self.same
+          at.number block c.index-packets-number.result
+          c.in_ok-verdict.verdict at.invariant.1 place
+          (slice_get_read packets (length packets) at.number c.index-packets-number.result refl within
+          c.index-packets-number.is)
           c.in_ok-verdict.ensures c.in_ok-add.ensures.0 c.in_ok-add.ensures.1,
       (let was = at.invariant.2 in
           let gone = c.in-Some.ensures.steps.1 in
@@ -39,13 +46,19 @@ loop-block-preserved-in_ok-add c =
     let rest = into_iter_items c.next.new.self in
     let steps : into_iter_items at.block-iterator ≡ block ∷ rest = c.in-Some.ensures.steps.0 in
     let whole : at.yielded ++ block ∷ rest ≡ c.args.program =
-    rw (← steps) at.invariant.0 ∙ (c.into_iter-block-iterator.ensures.into_iter_gives.0 ∙ c.into_blocks-block-items.ensures.same) in
-    let labels : labels_of packets ≡ labels_in c.args.program = ap labels_of c.blocks-packets.ensures.same ∙ c.requires in
+    rw (← steps) at.invariant.0
+    ∙ (c.into_iter-block-iterator.ensures.into_iter_gives.0 ∙ c.into_blocks-block-items.ensures.same) in
+    let labels : labels_of packets ≡ labels_in c.args.program = ap labels_of c.blocks-packets.ensures.same
+    ∙ c.requires in
     let place : at.number ≡ length at.yielded = at.invariant.3 in
-    let within : at.number < length packets = has_packets c.args.program at.yielded rest block packets at.number whole labels place in (
+    let within : at.number < length packets = has_packets c.args.program at.yielded rest block packets at.number whole
+    labels place in (
       append_assoc at.yielded (block ∷ []) _ ∙ rw (← steps) at.invariant.0,
-      told_next at.yielded packets at.checked.text.items c.add.new.self.text.items at.checked.same c.add.new.self.same at.number block c.index-packets-number.result
-          c.in_ok-verdict.verdict at.invariant.1 place (slice_get_read packets (length packets) at.number c.index-packets-number.result refl within c.index-packets-number.is)
+      told_next at.yielded packets at.checked.text.items c.add.new.self.text.items at.checked.same c.add.new.self.same
+          at.number block c.index-packets-number.result
+          c.in_ok-verdict.verdict at.invariant.1 place
+          (slice_get_read packets (length packets) at.number c.index-packets-number.result refl within
+          c.index-packets-number.is)
           c.in_ok-verdict.ensures c.in_ok-add.ensures.0 c.in_ok-add.ensures.1,
       (let was = at.invariant.2 in
           let gone = c.in-Some.ensures.steps.1 in
@@ -59,7 +72,11 @@ returns c =
     let at = c.loop-block in
     let none = c.in-None.ensures.steps in
     let empty : into_iter_items at.block-iterator ≡ [] = nil_from_length _ (sym at.invariant.2 ∙ none.0) in
-    let all = sym (append-nil at.yielded) ∙ (rw empty at at.invariant.0 ∙ (c.into_iter-block-iterator.ensures.into_iter_gives.0 ∙ c.into_blocks-block-items.ensures.same)) in
-    let told = subst (λ (blocks : List Serial). AreTold blocks c.blocks-packets.result.now at.checked.text.items at.checked.same) all at.invariant.1 in
+    let all = sym (append-nil at.yielded)
+    ∙ (rw empty at at.invariant.0
+    ∙ (c.into_iter-block-iterator.ensures.into_iter_gives.0 ∙ c.into_blocks-block-items.ensures.same)) in
+    let told = subst (λ (blocks : List Serial). AreTold blocks c.blocks-packets.result.now at.checked.text.items
+    at.checked.same) all at.invariant.1 in
     all_told c.args.program c.args.packets.now at.checked.text.items at.checked.same c.requires
-    (subst (λ (packets : List Packed). AreTold c.args.program packets at.checked.text.items at.checked.same) c.blocks-packets.ensures.same told)
+    (subst (λ (packets : List Packed). AreTold c.args.program packets at.checked.text.items at.checked.same)
+    c.blocks-packets.ensures.same told)

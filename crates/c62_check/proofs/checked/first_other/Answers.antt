@@ -12,10 +12,13 @@ loop-number-preserved c = λ earlier low. elim (cases_lt earlier c.loop-number.n
   | inl before ↦ c.loop-number.invariant earlier before
   | inr after ↦
       (let here : earlier ≡ c.loop-number.number = omega (arith, low, after) in
-      subst (λ (n : ℕ). slice_get (labels_of c.args.packets.now) n ≡ slice_get (labels_in c.args.blocks.now) n) (sym here)
-      (labels_at c.args.blocks.now c.args.packets.now c.loop-number.number (option_copied c.get.result) (option_copied c.get-in-loop-number.result)
+      subst (λ (n : ℕ). slice_get (labels_of c.args.packets.now) n ≡ slice_get (labels_in c.args.blocks.now) n)
+      (sym here)
+      (labels_at c.args.blocks.now c.args.packets.now c.loop-number.number (option_copied c.get.result)
+      (option_copied c.get-in-loop-number.result)
       (got_is c.args.packets.now c.loop-number.number c.get.result c.get.ensures.lookup.0 c.get.ensures.lookup.1)
-      (got_is c.args.blocks.now c.loop-number.number c.get-in-loop-number.result c.get-in-loop-number.ensures.lookup.0 c.get-in-loop-number.ensures.lookup.1)
+      (got_is c.args.blocks.now c.loop-number.number c.get-in-loop-number.result c.get-in-loop-number.ensures.lookup.0
+      c.get-in-loop-number.ensures.lookup.1)
       (c.is_same_block.ensures.0 (search rules))))
 ]
 

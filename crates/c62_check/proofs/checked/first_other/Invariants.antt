@@ -6,4 +6,5 @@ use Rattle.c62_check.proofs.checked.first_other.Given as goal
 
 -- the first blocks have the same labels
 abbrev pub invariant-loop-number : goal.invariant-loop-number
-invariant-loop-number l = (earlier : ℕ) → earlier < l.number → slice_get (labels_of l.packets) earlier ≡ slice_get (labels_in l.blocks) earlier
+invariant-loop-number l = (earlier : ℕ) → earlier < l.number
+    → slice_get (labels_of l.packets) earlier ≡ slice_get (labels_in l.blocks) earlier

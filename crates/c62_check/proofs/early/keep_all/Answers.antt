@@ -8,4 +8,5 @@ pub returns : goal.returns
 returns c =
     let many = many_insns c.args.plan.now.insns in
     let end : length c.args.plan.now.insns ≤ c.loop-number.number = search rules in
-    keep_all (insns_of c.args.plan.now) c.args.placed.now c.loop-number.number (omega (arith, many, c.requires)) (omega (arith, many, end)) c.loop-number.invariant
+    keep_all (insns_of c.args.plan.now) c.args.placed.now c.loop-number.number (omega (arith, many, c.requires))
+    (omega (arith, many, end)) c.loop-number.invariant

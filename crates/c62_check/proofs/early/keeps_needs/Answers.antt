@@ -9,11 +9,13 @@ any_link = record { number = 0; latency = pos 0 }
 
 pub is_kept-requires-clause-first : goal.is_kept-requires-clause-first
 is_kept-requires-clause-first c =
-    let before = need_before (insns_of c.args.plan.now) c.args.placed.now c.args.number c.needs-needs.result.now c.needs-needs.ensures c.loop-link.link-index any_link
+    let before = need_before (insns_of c.args.plan.now) c.args.placed.now c.args.number c.needs-needs.result.now
+    c.needs-needs.ensures c.loop-link.link-index any_link
     c.loop-link-test.true in
     omega (arith, before, c.requires.within, c.requires.placed)
 
 pub returns : goal.returns
 returns c =
-    keeps_needs (insns_of c.args.plan.now) c.args.placed.now c.args.number c.needs-needs.result.now c.needs-needs.ensures c.loop-link.link-index
+    keeps_needs (insns_of c.args.plan.now) c.args.placed.now c.args.number c.needs-needs.result.now
+    c.needs-needs.ensures c.loop-link.link-index
     c.loop-link-test.false c.loop-link.invariant

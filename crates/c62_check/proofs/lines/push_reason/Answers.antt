@@ -9,5 +9,6 @@ pub returns-in-Overwrites : goal.returns-in-Overwrites
 unfolding reason_words
 returns-in-Overwrites c =
     rw c.in-Overwrites.is
-    (on_ok_weaker c.push_register-in-Overwrites.result (λ e. e ∙ append_assoc c.args.out.now.items (codes "overwrites ") (register_name c.in-Overwrites.reg))
+    (on_ok_weaker c.push_register-in-Overwrites.result (λ e. e
+    ∙ append_assoc c.args.out.now.items (codes "overwrites ") (register_name c.in-Overwrites.reg))
     c.push_register-in-Overwrites.ensures)

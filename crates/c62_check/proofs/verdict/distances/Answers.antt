@@ -10,5 +10,6 @@ all_early-requires c = same_length c.args.plan.now.insns c.args.numbered.now c.r
 pub returns-then-is_empty : goal.returns-then-is_empty
 returns-then-is_empty c =
     let none : length c.in_ok-early.early.items ≡ 0 = search rules in
-    is_schedule c.args.plan.now c.args.packets.now c.args.numbered.now c.requires.branch_last c.requires.own_length c.requires.numbered
+    is_schedule c.args.plan.now c.args.packets.now c.args.numbered.now c.requires.branch_last c.requires.own_length
+    c.requires.numbered
     (all_keep (insns_of c.args.plan.now) c.args.numbered.now c.in_ok-early.early.items c.in_ok-early.ensures none)

@@ -1,0 +1,68 @@
+-- What is told of each block of a text (docs/CHECK.md, "All loops of a text").
+use Rattle.std.specs.Prelude.{◌≡◌, ℕ, ◌+◌, ◌&&◌, Bool, true, false, List, [], ◌∷◌, length, slice_get, Option, Some, None}
+use Rattle.clap.specs.Words.{Text as Name}
+use Rattle.c62_read.specs.Block.{Serial}
+use Rattle.c62_flight.specs.Text.{Text}
+use Rattle.c62_loop_match.specs.declared.promise.Promise.{Promise}
+use Rattle.c62_loop_match.specs.Promise.{promises}
+use Rattle.c62_check_loop.specs.declared.verdict.LoopVerdict.{LoopVerdict}
+use Rattle.c62_check_loop.specs.declared.verdict.LoopVerdict.TheVariants.{Same}
+use Rattle.c62_check_loop.specs.Told.{IsTold}
+use Rattle.c62_check_rest.specs.Starts.{Starts}
+use Rattle.c62_check_rest.specs.Told.{IsRest, is_same as is_same_rest}
+use Rattle.c62_check_loops.specs.declared.verdict.Loops.{Loops}
+use Rattle.c62_check_loops.specs.declared.verdict.BlockVerdict.{BlockVerdict}
+use Rattle.c62_check_loops.specs.declared.verdict.BlockVerdict.TheVariants.{Loop, Within, Rest}
+use Rattle.c62_check_loops.specs.Covered.{is_told_with_loop}
+use Rattle.c62_check_loops.specs.Granted.{is_granted}
+use Rattle.c62_check_loops.specs.Lines.{label_in}
+
+-- what is told of each of so many first blocks as a loop holds
+pub record AreLoopVerdicts (promise : Promise) (blocks : List Serial) (packets : Text) (count : ℕ) (verdicts : List (Option LoopVerdict)) : Type 0 where
+  pub counted : length verdicts ≡ count
+  pub each : (number : ℕ) (verdict : Option LoopVerdict) → slice_get verdicts number ≡ Some verdict → IsTold (promises promise) blocks number packets verdict
+
+abbrev pub AreLoopsOf : List Serial → Text → Loops → Type 0
+AreLoopsOf blocks packets loops = AreLoopVerdicts loops.promise blocks packets (length blocks) loops.verdicts.items
+
+-- what is told of a block as a loop, if there is such a block
+abbrev pub loop_in : Option (Option LoopVerdict) → Option LoopVerdict
+loop_in None = None
+loop_in (Some verdict) = verdict
+
+-- what is told of a block holds, where blocks are entered at these rows
+abbrev pub IsBlockTold : Promise → Starts → List Serial → Text → ℕ → BlockVerdict → Type 0
+IsBlockTold promise starts blocks packets number (Loop verdict) = IsTold (promises promise) blocks number packets (Some verdict)
+IsBlockTold promise starts blocks packets number Within = is_told_with_loop blocks number ≡ true
+IsBlockTold promise starts blocks packets number (Rest verdict) =
+    (block : Serial) × (slice_get blocks number ≡ Some block) × IsRest starts packets number block verdict
+
+-- so it is of each of so many first blocks
+pub record AreVerdicts (promise : Promise) (starts : Starts) (blocks : List Serial) (packets : Text) (count : ℕ) (verdicts : List BlockVerdict) : Type 0 where
+  pub counted : length verdicts ≡ count
+  pub each : (number : ℕ) (verdict : BlockVerdict) → slice_get verdicts number ≡ Some verdict → IsBlockTold promise starts blocks packets number verdict
+
+-- ---- the same
+
+-- it is the same, or told with a loop
+abbrev pub is_same : BlockVerdict → Bool
+is_same (Loop (Same trips cycles first last)) = true
+is_same (Loop verdict) = false
+is_same Within = true
+is_same (Rest verdict) = is_same_rest verdict
+
+-- a loop of this label is the same with the trips that are promised
+abbrev pub is_good_loop : List (Name × ℕ) → Option Name → LoopVerdict → Bool
+is_good_loop all (Some label) (Same trips cycles first last) = is_granted all label trips
+is_good_loop all label verdict = false
+
+-- the block of this number is the same, as a loop with those trips, or is told with a loop
+abbrev pub is_good : List (Name × ℕ) → List Serial → ℕ → BlockVerdict → Bool
+is_good all blocks number (Loop verdict) = is_good_loop all (label_in (slice_get blocks number)) verdict
+is_good all blocks number Within = true
+is_good all blocks number (Rest verdict) = is_same_rest verdict
+
+-- so it is of the blocks from this number on
+abbrev pub are_good : List (Name × ℕ) → List Serial → ℕ → List BlockVerdict → Bool
+are_good all blocks number [] = true
+are_good all blocks number (verdict ∷ verdicts) = is_good all blocks number verdict && are_good all blocks (number + 1) verdicts

@@ -1,0 +1,179 @@
+//! What is told of each block of a text (docs/CHECK.md, "All loops of a text").
+
+ghost use Rattle.std.specs.Prelude.{◌≡◌, ◌≤◌, ◌<◌, length, map, IfOk, slice_get};
+ghost use Rattle.std.specs.Option.{option_copied};
+ghost use Rattle.c62_rows.specs.Rows.{text_of};
+ghost use Rattle.c62_read.specs.declared.limits.TheConstants.{MOST_BLOCKS};
+ghost use Rattle.c62_command.specs.Promises.{trips_of};
+ghost use Rattle.c62_check_loops.specs.Lines.{label_in};
+ghost use Rattle.c62_check_loops.specs.Verdicts.{AreLoopVerdicts, AreLoopsOf, IsBlockTold, is_good, is_good_loop, is_same, loop_in};
+
+use crate::covered::is_told_with_loop;
+use crate::granted::is_granted;
+use c62_check_loop::{LoopVerdict, check_loop};
+use c62_check_rest::{RestVerdict, check_rest};
+use c62_command::Trips;
+use c62_loop_match::Promise;
+use c62_read::{Block, Label};
+use c62_rows::RowsText;
+use std::alloc::{AllocError, Global};
+
+/// What is told of a block of a text.
+#[derive(Drop)]
+pub(crate) enum BlockVerdict {
+    /// It is a loop under a counter, of which this is told.
+    Loop(LoopVerdict),
+    /// It is told with a loop, or has nothing in it.
+    Within,
+    /// It belongs to no loop, and this is told of it.
+    Rest(RestVerdict),
+}
+
+/// Whether a block is the same, or told with a loop.
+pub(crate) fn is_same(verdict: &BlockVerdict) -> bool
+    ensures { result ≡ is_same verdict.now }
+{
+    match verdict {
+        BlockVerdict::Loop(LoopVerdict::Same { .. }) => true,
+        BlockVerdict::Loop(_) => false,
+        BlockVerdict::Within => true,
+        BlockVerdict::Rest(verdict) => verdict.is_same(),
+    }
+}
+
+/// Whether a loop of this label is the same with the trips that are promised.
+fn is_good_loop(trips: &[Trips], label: Option<&Label>, verdict: LoopVerdict) -> bool
+    ensures { result ≡ is_good_loop (map trips_of trips.now) (option_copied label.entry) verdict }
+{
+    match (label, verdict) {
+        (Some(label), LoopVerdict::Same { trips: least, .. }) => is_granted(
+            trips,
+            label.as_bytes(),
+            u32::from(least),
+        ),
+        _ => false,
+    }
+}
+
+/// Whether the loop that the block of this number is, is the same with the trips that are promised.
+fn is_good_at(trips: &[Trips], blocks: &[Block], number: u8, verdict: LoopVerdict) -> bool
+    ensures { result ≡ is_good_loop (map trips_of trips.now) (label_in (slice_get blocks.now number)) verdict }
+{
+    match blocks.get(usize::from(number)) {
+        Some(block) => is_good_loop(trips, block.label(), verdict),
+        None => false,
+    }
+}
+
+/// Whether the block of this number is the same, as a loop with the trips that are promised, or is told with a loop.
+pub(crate) fn is_good(trips: &[Trips], blocks: &[Block], number: u8, verdict: &BlockVerdict) -> bool
+    ensures { result ≡ is_good (map trips_of trips.now) blocks.now number verdict.now }
+{
+    match verdict {
+        BlockVerdict::Loop(verdict) => is_good_at(trips, blocks, number, *verdict),
+        BlockVerdict::Within => true,
+        BlockVerdict::Rest(verdict) => verdict.is_same(),
+    }
+}
+
+/// What is told of each block that is a loop, where so much is promised.
+#[derive(Drop)]
+pub(crate) struct Loops {
+    pub promise: Promise,
+    /// Of each block, and nothing of one that is no loop.
+    pub verdicts: Vec<Option<LoopVerdict>>,
+}
+
+#[tactic(auto, using(crate::proofs::Loops::none_told, crate::proofs::Loops::told_next))]
+fn verdicts_of(
+    alloc: Global,
+    blocks: &[Block],
+    read: &RowsText,
+    promise: Promise,
+) -> Result<Vec<Option<LoopVerdict>>, AllocError>
+    requires { length blocks.now ≤ MOST_BLOCKS }
+    ensures { IfOk result (λ verdicts. AreLoopVerdicts promise blocks.now (text_of read.now.rows) (length blocks.now) verdicts.items) }
+{
+    let mut verdicts = Vec::new(alloc);
+    for number in 0..blocks.len() {
+        verdicts.push(check_loop(alloc, blocks, number as u8, read, promise)?)?;
+    }
+    Ok(verdicts)
+}
+
+/// What is told of each block that is a loop.
+///
+/// # Errors
+///
+/// `AllocError` where memory ran out.
+pub(crate) fn loops_of(
+    alloc: Global,
+    blocks: &[Block],
+    read: &RowsText,
+    promise: Promise,
+) -> Result<Loops, AllocError>
+    requires { length blocks.now ≤ MOST_BLOCKS }
+    ensures promise { IfOk result (λ loops. loops.promise ≡ promise) }
+    ensures told { IfOk result (AreLoopsOf blocks.now (text_of read.now.rows)) }
+{
+    Ok(Loops {
+        promise,
+        verdicts: verdicts_of(alloc, blocks, read, promise)?,
+    })
+}
+
+/// What is told of the block of this number, which is no loop.
+fn other_of(
+    alloc: Global,
+    blocks: &[Block],
+    number: u8,
+    starts: &[Option<usize>],
+    read: &RowsText,
+) -> Result<BlockVerdict, AllocError>
+    requires few { number < 255 }
+    requires within { number < length blocks.now }
+    ensures { (promise : Promise) → IfOk result (IsBlockTold promise starts.now blocks.now (text_of read.now.rows) number) }
+{
+    if is_told_with_loop(blocks, number) {
+        return Ok(BlockVerdict::Within);
+    }
+    let block = &blocks[usize::from(number)];
+    let verdict = check_rest(alloc, block, number, starts, &read.rows)?;
+    Ok(BlockVerdict::Rest(verdict))
+}
+
+ghost use Rattle.c62_loop_match.specs.declared.promise.Promise.{Promise};
+
+/// What is told of the block of this number as a loop.
+fn loop_at(loops: &Loops, number: u8) -> Option<LoopVerdict>
+    ensures { result ≡ loop_in (slice_get loops.now.verdicts.items number) }
+{
+    match loops.verdicts.get(usize::from(number)).copied() {
+        Some(verdict) => verdict,
+        None => None,
+    }
+}
+
+/// What is told of the block of this number.
+///
+/// # Errors
+///
+/// `AllocError` where memory ran out.
+pub(crate) fn verdict_of(
+    alloc: Global,
+    blocks: &[Block],
+    number: u8,
+    loops: &Loops,
+    starts: &[Option<usize>],
+    read: &RowsText,
+) -> Result<BlockVerdict, AllocError>
+    requires few { number < 255 }
+    requires within { number < length blocks.now }
+    requires loops { AreLoopsOf blocks.now (text_of read.now.rows) loops.now }
+    ensures { IfOk result (IsBlockTold loops.now.promise starts.now blocks.now (text_of read.now.rows) number) }
+{
+    match loop_at(loops, number) {
+        Some(verdict) => Ok(BlockVerdict::Loop(verdict)),
+        None => other_of(alloc, blocks, number, starts, read),
+    }
+}

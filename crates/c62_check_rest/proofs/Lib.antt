@@ -1,0 +1,5 @@
+pub mod Naming
+pub mod Issues
+pub mod Lining
+pub mod Standing
+pub mod Serials
