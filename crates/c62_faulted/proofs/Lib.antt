@@ -1,0 +1,4 @@
+mod FirstLemmas
+pub mod LineLemmas
+mod Noting
+mod Parting

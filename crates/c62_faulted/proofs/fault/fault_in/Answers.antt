@@ -1,0 +1,16 @@
+use Rattle.std.proofs.Common.{◌≡◌, true, sym, ◌∙◌, ap}
+use Rattle.c62_insn.specs.declared.action.Action.TheVariants.{Transfer as Transfers}
+use Rattle.c62_serial.specs.State.{word_in}
+use Rattle.c62_serial.specs.Effect.{Act, runs}
+use Rattle.c62_serial.proofs.ActionLemmas.{act_of-action}
+use Rattle.c62_faulted.specs.Faulted.{fault_by}
+use Rattle.c62_faulted.proofs.fault.fault_in.Goals as goal
+
+pub returns-in-Transfer : goal.returns-in-Transfer
+returns-in-Transfer c =
+    let running : runs (word_in c.args.state.now.machine) c.args.entry.now.insn ≡ true =
+    rw c.registers.ensures at (sym c.in_ok-transfer.ensures.runs) in
+    let did = act_of-action c.args.entry.now.insn c.args.state.now.machine c.registers.result.now
+    (Transfers c.in-Transfer.transfer) c.registers.ensures running
+    (rw c.in-Transfer.is at c.in_ok-transfer.ensures.action) in
+    c.fault_by.ensures ∙ ap (λ (act : Act). fault_by c.args.entry.now act.access) (sym did)

@@ -1,0 +1,3 @@
+pub mod Faulted
+pub mod Laws
+pub mod Sentence
