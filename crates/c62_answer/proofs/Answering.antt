@@ -27,12 +27,14 @@ use Rattle.c62_answer.specs.Message.{fault_message}
 use Rattle.c62_command.specs.CommandLine.{Adoption, Ask, FlightReport}
 use Rattle.c62_answer.specs.Schedule.{AreScheduled}
 use Rattle.c62_answer.specs.Texts.{IsNoProgram}
-use Rattle.c62_answer.specs.Run.{Gives, GivesProgram, IsAdoptFailure, IsRowsFailure, IsAnswer, IsFlightReport, IsFlown, IsPacketReport, IsRefusedText, IsSameReport, added_of, outcome_adopted}
+use Rattle.c62_answer.specs.Run.{Gives, GivesProgram, IsAdoptFailure, IsRowsFailure, IsAnswer, IsFlightReport, IsFlown}
+use Rattle.c62_answer.specs.Run.{IsPacketReport, IsRefusedText, IsSameReport, added_of, outcome_adopted}
 use Rattle.c62_answer.proofs.Schedules.{runs_serially}
 
 module _ (ask : Ask) (text : List ℕ) where
   -- where no program was read, that is the answer
-  pub no_program : ((message : List ℕ) → IsNoProgram text message → IsRefusedText ask text message) → (f : Failure) → GivesProgram text (Err f) → Gives ask text (Err f)
+  pub no_program : ((message : List ℕ) → IsNoProgram text message → IsRefusedText ask text message) → (f : Failure)
+      → GivesProgram text (Err f) → Gives ask text (Err f)
   no_program same (failures.Unread fault) gives = same (fault_message fault.line fault.cause) gives
   no_program same (failures.Unlisted fault) gives = absurd gives
   no_program same (failures.Unadopted fault) gives = absurd gives
@@ -41,6 +43,9 @@ module _ (ask : Ask) (text : List ℕ) where
   no_program same (failures.ListingPart fault) gives = absurd gives
   no_program same (failures.PacketsPart fault) gives = absurd gives
   no_program same failures.NoListing gives = absurd gives
+  no_program same (failures.RowsPart fault) gives = absurd gives
+  no_program same (failures.NoLoop k) gives = absurd gives
+  no_program same (failures.Promise bad) gives = absurd gives
   no_program same (failures.Words e) gives = absurd gives
   no_program same (failures.Setting k) gives = absurd gives
   no_program same failures.Memory gives = tt
@@ -48,23 +53,29 @@ module _ (ask : Ask) (text : List ℕ) where
   no_program same failures.Output gives = absurd gives
 
 -- the packets of a program run as it does
-pub same_report : (packing : Packing) (program : List Serial) (packets : List Packed) (settings : List Setting) (course : Course) (outcome : Outcome) (answer : List ℕ)
-    → AreScheduled packing program packets → IsPacketReport packets settings course outcome answer → IsSameReport program packets settings course outcome answer
+pub same_report : (packing : Packing) (program : List Serial) (packets : List Packed) (settings : List Setting)
+    (course : Course) (outcome : Outcome) (answer : List ℕ)
+    → AreScheduled packing program packets → IsPacketReport packets settings course outcome answer
+    → IsSameReport program packets settings course outcome answer
 same_report packing program packets settings course outcome answer all reported = record {
   reported = reported;
-  serial = runs_serially packing program packets reported.opening reported.final course.blocks reported.cycles reported.chain all reported.begin.sound reported.run;
+  serial = runs_serially packing program packets reported.opening reported.final course.blocks reported.cycles
+      reported.chain all reported.begin.sound reported.run;
 }
 
 -- ---- packets that are adopted
 
 -- where a text makes no packets, that is the answer
-pub no_adoption : (drain : Bool) (text : List ℕ) (fault : AdoptFault) (f : Failure) → IsAdoptFailure fault f → Refuses drain text fault
+pub no_adoption : (drain : Bool) (text : List ℕ) (fault : AdoptFault) (f : Failure) → IsAdoptFailure fault f
+    → Refuses drain text fault
     → Gives (Adoption drain) text (Err f)
 no_adoption drain text fault f (inl memory) refused = rw (memory.1) tt
-no_adoption drain text fault f (inr known) refused = rw (known.1) (record { fault = fault; known = known.0; refused = refused; told = refl })
+no_adoption drain text fault f (inr known) refused = rw (known.1)
+    (record { fault = fault; known = known.0; refused = refused; told = refl })
 
 -- where it does, this is
-pub adopted_text : (drain : Bool) (text answer : List ℕ) (packets : List Packed) (added : ℕ) (late : Option Late) → DrainsNothing text packets
+pub adopted_text : (drain : Bool) (text answer : List ℕ) (packets : List Packed) (added : ℕ) (late : Option Late)
+    → DrainsNothing text packets
     → IsAdopted drain text packets added → late ≡ first_late (code_cut text) → answer ≡ listing packets
     → IsAnswer (Adoption drain) (outcome_adopted drain (added_of added late)) text answer
 adopted_text true text answer packets added late lacks is first listed =
@@ -75,8 +86,10 @@ adopted_text false text answer packets added late lacks is first listed =
 -- ---- packets in flight
 
 -- where a text makes no rows, or none has the label with which a run is to begin, that is the answer
-pub no_flight : (course : FlightCourse) (from : Option Text) (settings : List Setting) (text code : List ℕ) (fault : RowsFault) (f : Failure)
-    → code_read text ≡ Ok code → IsRowsFailure fault f → RefusesFrom code from fault → Gives (FlightReport course from settings) text (Err f)
+pub no_flight : (course : FlightCourse) (from : Option Text) (settings : List Setting) (text code : List ℕ)
+    (fault : RowsFault) (f : Failure)
+    → code_read text ≡ Ok code → IsRowsFailure fault f → RefusesFrom code from fault
+    → Gives (FlightReport course from settings) text (Err f)
 no_flight course from settings text code fault f is (inl memory) refused = rw (memory.1) tt
 no_flight course from settings text code fault f is (inr known) refused =
     let same = coded_by text code is in
@@ -89,15 +102,19 @@ no_flight course from settings text code fault f is (inr known) refused =
     }))
 
 -- where it has no code
-pub uncoded_flight : (course : FlightCourse) (from : Option Text) (settings : List Setting) (text : List ℕ) (fault : AdoptFault) (f : Failure)
+pub uncoded_flight : (course : FlightCourse) (from : Option Text) (settings : List Setting) (text : List ℕ)
+    (fault : AdoptFault) (f : Failure)
     → IsAdoptFailure fault f → LacksCode text fault → Gives (FlightReport course from settings) text (Err f)
 uncoded_flight course from settings text fault f (inl memory) lacks = rw (memory.1) tt
 uncoded_flight course from settings text fault f (inr known) lacks =
     rw (known.1) (inl (record { fault = fault; known = known.0; lacks = lacks; told = refl }))
 
 -- where it does, this is
-pub flight_text : (course : FlightCourse) (named from : Option Text) (settings : List Setting) (outcome : Outcome) (text code answer : List ℕ) (begun : Begun) → named ≡ from
-    → code_read text ≡ Ok code → BeginsAs code named begun → IsFlown (text_of begun.rows) begun.labels.entries begun.first settings course outcome answer → IsFlightReport course from settings outcome text answer
+pub flight_text : (course : FlightCourse) (named from : Option Text) (settings : List Setting) (outcome : Outcome)
+    (text code answer : List ℕ) (begun : Begun) → named ≡ from
+    → code_read text ≡ Ok code → BeginsAs code named begun
+    → IsFlown (text_of begun.rows) begun.labels.entries begun.first settings course outcome answer
+    → IsFlightReport course from settings outcome text answer
 flight_text course named from settings outcome text code answer begun same is begins flown =
     let own = coded_by text code is in
     let start = subst (λ (o : Option Text). IsTextFrom code o (text_of begun.rows) begun.first) same begins.is_text in
@@ -108,12 +125,16 @@ flight_text course named from settings outcome text code answer begun same is be
       begins = subst (λ (c : List ℕ). IsTextFrom c from (text_of begun.rows) begun.first) (sym own) start;
       labels = begun.labels.entries;
       named = subst (λ (c : List ℕ). IsText c (text_of begun.rows) begun.labels.entries) (sym own)
-          (subst (λ (labels : List (Name × ℕ)). IsText code (text_of begun.rows) labels) (sym begins.named) begins.is_text.is_text);
+          (subst (λ (labels : List (Name × ℕ)). IsText code (text_of begun.rows) labels) (sym begins.named)
+          begins.is_text.is_text);
       flown = flown;
     }
 
 -- the name stands in the words
-pub no_flight_named : (course : FlightCourse) (named from : Option Text) (settings : List Setting) (text code : List ℕ) (fault : RowsFault) (f : Failure) → named ≡ from
-    → code_read text ≡ Ok code → IsRowsFailure fault f → RefusesFrom code named fault → Gives (FlightReport course from settings) text (Err f)
+pub no_flight_named : (course : FlightCourse) (named from : Option Text) (settings : List Setting) (text code : List ℕ)
+    (fault : RowsFault) (f : Failure) → named ≡ from
+    → code_read text ≡ Ok code → IsRowsFailure fault f → RefusesFrom code named fault
+    → Gives (FlightReport course from settings) text (Err f)
 no_flight_named course named from settings text code fault f same own is refused =
-    no_flight course from settings text code fault f own is (subst (λ (o : Option Text). RefusesFrom code o fault) same refused)
+    no_flight course from settings text code fault f own is
+    (subst (λ (o : Option Text). RefusesFrom code o fault) same refused)

@@ -16,12 +16,14 @@ use Rattle.c62_answer.specs.Texts.{SaysNoPackets}
 use Rattle.c62_answer.specs.Run.{Gives, GivesPackets, IsRefusedText}
 
 -- a text that is adopted as it stands lacks no cycle
-pub adopted_stands : (text : List ℕ) (packets : List Packed) (added : ℕ) → DrainsNothing text packets → IsAdopted false text packets added
+pub adopted_stands : (text : List ℕ) (packets : List Packed) (added : ℕ) → DrainsNothing text packets
+    → IsAdopted false text packets added
     → IsAdopted false text packets 0
 adopted_stands text packets added lacks is = subst (IsAdopted false text packets) (lacks added is).0 is
 
 -- where it says no packets, that is the answer
-module _ (form : Form) (ask : Ask) (text : List ℕ) (same : (message : List ℕ) → SaysNoPackets form text message → IsRefusedText ask text message) where
+module _ (form : Form) (ask : Ask) (text : List ℕ) (same : (message : List ℕ) → SaysNoPackets form text message
+    → IsRefusedText ask text message) where
   none_given : (f : Failure) → GivesPackets form text (Err f) → Gives ask text (Err f)
   none_given (failures.Unread fault) gives = absurd gives
   none_given (failures.Unlisted fault) gives = same (list_message fault) gives
@@ -31,18 +33,25 @@ module _ (form : Form) (ask : Ask) (text : List ℕ) (same : (message : List ℕ
   none_given (failures.ListingPart fault) gives = absurd gives
   none_given (failures.PacketsPart fault) gives = absurd gives
   none_given failures.NoListing gives = absurd gives
+  none_given (failures.RowsPart fault) gives = absurd gives
+  none_given (failures.NoLoop k) gives = absurd gives
+  none_given (failures.Promise bad) gives = absurd gives
   none_given (failures.Words e) gives = absurd gives
   none_given (failures.Setting k) gives = absurd gives
   none_given failures.Memory gives = tt
   none_given failures.Input gives = absurd gives
   none_given failures.Output gives = absurd gives
 
-pub no_report : (form : Form) (course : Course) (settings : List Setting) (text : List ℕ) (f : Failure) → GivesPackets form text (Err f)
+pub no_report : (form : Form) (course : Course) (settings : List Setting) (text : List ℕ) (f : Failure)
+    → GivesPackets form text (Err f)
     → Gives (StandingReport form course settings) text (Err f)
-no_report form course settings text f gives = none_given form (StandingReport form course settings) text (λ message is. is) f gives
+no_report form course settings text f gives = none_given form (StandingReport form course settings) text
+    (λ message is. is) f gives
 
-pub no_listing_picture : (showing : Showing) (text : List ℕ) (f : Failure) → GivesPackets Listed text (Err f) → Gives (ListingPicture showing) text (Err f)
+pub no_listing_picture : (showing : Showing) (text : List ℕ) (f : Failure) → GivesPackets Listed text (Err f)
+    → Gives (ListingPicture showing) text (Err f)
 no_listing_picture showing text f gives = none_given Listed (ListingPicture showing) text (λ message is. is) f gives
 
-pub no_packets_picture : (showing : Showing) (text : List ℕ) (f : Failure) → GivesPackets Written text (Err f) → Gives (PacketsPicture showing) text (Err f)
+pub no_packets_picture : (showing : Showing) (text : List ℕ) (f : Failure) → GivesPackets Written text (Err f)
+    → Gives (PacketsPicture showing) text (Err f)
 no_packets_picture showing text f gives = none_given Written (PacketsPicture showing) text (λ message is. is) f gives

@@ -5,11 +5,17 @@ pub mod Given
 pub mod Known
 pub mod FirstLine
 pub mod OneParting
+pub mod TooLong
 pub mod Checks
 pub mod Verdicts
+pub mod LoopVerdicts
+pub mod LoopChecks
+pub mod FlyingPart
 pub mod Flights
 pub mod Reached
+pub mod Fronts
 pub mod Runs
+pub mod WholeRuns
 pub mod Telling
 pub mod ReadBack
 pub mod OneBoard

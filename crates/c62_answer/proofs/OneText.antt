@@ -1,5 +1,6 @@
 -- One board has one listing.
-use Rattle.std.proofs.Common.{◌≡◌, ◌∙◌, ◌⊎◌, ℕ, zero, suc, ◌<◌, ◌≤◌, Bool, true, false, List, [], ◌∷◌, length, map, get_or, Option, Some, None, refl, sym, ap, subst, arith, inl, inr}
+use Rattle.std.proofs.Common.{◌≡◌, ◌∙◌, ◌⊎◌, ℕ, zero, suc, ◌<◌, ◌≤◌, Bool, true, false, List, [], ◌∷◌, length, map}
+use Rattle.std.proofs.Common.{get_or, Option, Some, None, refl, sym, ap, subst, arith, inl, inr}
 use Rattle.std.specs.Prelude.{Contains, slice_index_or, Result, Ok}
 use Rattle.std.specs.List.{AllPairs}
 use Rattle.std.specs.List.Sorted.{IsPermutation}
@@ -53,9 +54,11 @@ same_blocks [] (b ∷ others) e = absurd cc
 same_blocks (a ∷ program) [] e = absurd cc
 same_blocks (a ∷ program) (b ∷ others) e = grind (arith, same_block a b, same_blocks program others)
 
-one_program : (text : List ℕ) (program others : List Serial) → SaysProgram text program → SaysProgram text others → program ≡ others
+one_program : (text : List ℕ) (program others : List Serial) → SaysProgram text program → SaysProgram text others
+    → program ≡ others
 one_program text program others one other =
-    let both : ◌≡◌ {A = Result (List BlockParts) Refusal} (Ok (map block_parts program)) (Ok (map block_parts others)) = sym one ∙ other in
+    let both : ◌≡◌ {A = Result (List BlockParts) Refusal} (Ok (map block_parts program)) (Ok (map block_parts others)) =
+    sym one ∙ other in
     let same : map block_parts program ≡ map block_parts others = cc in
     same_blocks program others same
 
@@ -73,14 +76,16 @@ placed_of insn line cycle unit = record { insn = insn; line = line; cycle = cycl
 one_place : (entry : SerialInsn) (spot : Spot) (p q : Placed) → StandsAt entry spot p → StandsAt entry spot q → p ≡ q
 one_place entry spot p q one other =
     let insn : p.insn ≡ q.insn =
-    same_parts p.insn q.insn (sym one.insn.op ∙ other.insn.op) (sym one.insn.operands ∙ other.insn.operands) (sym one.insn.cond ∙ other.insn.cond)
+    same_parts p.insn q.insn (sym one.insn.op ∙ other.insn.op) (sym one.insn.operands
+    ∙ other.insn.operands) (sym one.insn.cond ∙ other.insn.cond)
     (one.written ∙ sym other.written) in
     ap (λ (i : Insn). placed_of i p.line p.cycle p.unit) insn
     ∙ ap (λ (n : ℕ). placed_of q.insn n p.cycle p.unit) (one.line ∙ sym other.line)
     ∙ ap (λ (n : ℕ). placed_of q.insn q.line n p.unit) (one.cycle ∙ sym other.cycle)
     ∙ ap (λ (u : FunctionalUnit). placed_of q.insn q.line q.cycle u) (one.unit ∙ sym other.unit)
 
-one_numbering : (insns : List SerialInsn) (spots : List Spot) (serial others : List Placed) → AreNumbered insns spots serial → AreNumbered insns spots others
+one_numbering : (insns : List SerialInsn) (spots : List Spot) (serial others : List Placed)
+    → AreNumbered insns spots serial → AreNumbered insns spots others
     → serial ≡ others
 one_numbering [] [] [] [] one other = refl
 one_numbering [] [] [] (q ∷ others) one other = absurd other
@@ -90,7 +95,8 @@ one_numbering (e ∷ insns) [] serial others one other = absurd one
 one_numbering (e ∷ insns) (s ∷ spots) [] others one other = absurd one
 one_numbering (e ∷ insns) (s ∷ spots) (p ∷ serial) [] one other = absurd other
 one_numbering (e ∷ insns) (s ∷ spots) (p ∷ serial) (q ∷ others) one other =
-    ap (λ (x : Placed). x ∷ serial) (one_place e s p q one.0 other.0) ∙ ap (λ (xs : List Placed). q ∷ xs) (one_numbering insns spots serial others one.1 other.1)
+    ap (λ (x : Placed). x ∷ serial) (one_place e s p q one.0 other.0)
+    ∙ ap (λ (xs : List Placed). q ∷ xs) (one_numbering insns spots serial others one.1 other.1)
 
 -- ---- lists with the same members whose positions rise are one
 
@@ -100,9 +106,11 @@ Rise placed = AllPairs (λ p q. listing_position p < listing_position q) placed
 rises_later : (p : Placed) (placed : List Placed) → Rise (p ∷ placed) → Rise placed
 rises_later p placed rise i j d before within = rise (suc i) (suc j) d (omega arith) (omega arith)
 
-is_later : (p q : Placed) (placed : List Placed) → Rise (p ∷ placed) → Contains placed q → listing_position p < listing_position q
+is_later : (p q : Placed) (placed : List Placed) → Rise (p ∷ placed) → Contains placed q
+    → listing_position p < listing_position q
 is_later p q placed rise among =
-    subst (λ (x : Placed). listing_position p < listing_position x) among.2 (rise 0 (suc among.0) q (omega arith) (omega (arith, among.1)))
+    subst (λ (x : Placed). listing_position p < listing_position x) among.2
+    (rise 0 (suc among.0) q (omega arith) (omega (arith, among.1)))
 
 is_here : (p q : Placed) (placed : List Placed) → Contains (p ∷ placed) q → (p ≡ q) ⊎ Contains placed q
 is_here p q placed among = at among.0 among.1 among.2
@@ -121,7 +129,8 @@ first_among p placed = (0, omega arith, refl)
 later_among : (p q : Placed) (placed : List Placed) → Contains placed q → Contains (p ∷ placed) q
 later_among p q placed among = (suc among.0, omega (arith, among.1), among.2)
 
-one_first : (p q : Placed) (placed others : List Placed) → Rise (p ∷ placed) → Rise (q ∷ others) → AreAmong (p ∷ placed) (q ∷ others)
+one_first : (p q : Placed) (placed others : List Placed) → Rise (p ∷ placed) → Rise (q ∷ others)
+    → AreAmong (p ∷ placed) (q ∷ others)
     → AreAmong (q ∷ others) (p ∷ placed) → p ≡ q
 one_first p q placed others one other into out =
     elim (is_here q p others (into p (first_among p placed))) [
@@ -135,24 +144,30 @@ one_first p q placed others one other into out =
       ]
     ]
 
-rest_among : (p q : Placed) (placed others : List Placed) → Rise (p ∷ placed) → p ≡ q → AreAmong (p ∷ placed) (q ∷ others) → AreAmong placed others
+rest_among : (p q : Placed) (placed others : List Placed) → Rise (p ∷ placed) → p ≡ q
+    → AreAmong (p ∷ placed) (q ∷ others) → AreAmong placed others
 rest_among p q placed others rise same into r among =
     elim (is_here q r others (into r (later_among p r placed among))) [
       | inl first ↦
           let after = is_later p r placed rise among in
-          let position : listing_position p ≡ listing_position r = ap (λ (x : Placed). listing_position x) (same ∙ first) in
+          let position : listing_position p ≡ listing_position r = ap (λ (x : Placed). listing_position x) (same
+          ∙ first) in
           absurd (omega (arith, after, position))
       | inr later ↦ later
     ]
 
-one_order : (placed others : List Placed) → Rise placed → Rise others → AreAmong placed others → AreAmong others placed → placed ≡ others
+one_order : (placed others : List Placed) → Rise placed → Rise others → AreAmong placed others → AreAmong others placed
+    → placed ≡ others
 one_order [] [] one other into out = refl
-one_order [] (q ∷ others) one other into out = let among : Contains [] q = out q (first_among q others) in absurd (omega (arith, among.1))
-one_order (p ∷ placed) [] one other into out = let among : Contains [] p = into p (first_among p placed) in absurd (omega (arith, among.1))
+one_order [] (q ∷ others) one other into out = let among : Contains [] q = out q (first_among q others) in absurd
+    (omega (arith, among.1))
+one_order (p ∷ placed) [] one other into out = let among : Contains [] p = into p (first_among p placed) in absurd
+    (omega (arith, among.1))
 one_order (p ∷ placed) (q ∷ others) one other into out =
     let first = one_first p q placed others one other into out in
     let rest =
-    one_order placed others (rises_later p placed one) (rises_later q others other) (rest_among p q placed others one first into)
+    one_order placed others (rises_later p placed one) (rises_later q others other)
+    (rest_among p q placed others one first into)
     (rest_among q p others placed other (sym first) out) in
     ap (λ (x : Placed). x ∷ placed) first ∙ ap (λ (xs : List Placed). q ∷ xs) rest
 
@@ -170,46 +185,61 @@ rises placed order alone i j d before within =
           let index : index_of p.unit ≡ index_of q.unit = omega (arith, same, low, high) in
           let at_first = get_or-map (λ (r : Placed). Some (issue_of r)) placed i d None (omega arith) in
           let at_last = get_or-map (λ (r : Placed). Some (issue_of r)) placed j d None within in
-          let number : i ≡ j = alone q.unit i j (issue_of p) (issue_of q) at_first at_last cycle (same_index p.unit q.unit index) refl in
+          let number : i ≡ j = alone q.unit i j (issue_of p) (issue_of q) at_first at_last cycle
+          (same_index p.unit q.unit index) refl in
           absurd (omega (arith, number, before))
       | inr differ ↦ omega (arith, ordered, differ)
     ]
 
 -- ---- the packets
 
-among_both : (serial placed others : List Placed) → IsPermutation serial placed → IsPermutation serial others → AreAmong placed others
+among_both : (serial placed others : List Placed) → IsPermutation serial placed → IsPermutation serial others
+    → AreAmong placed others
 among_both serial placed others one other p among =
-    Contains-permutation serial others p other (Contains-permutation placed serial p (IsPermutation-sym serial placed one) among)
+    Contains-permutation serial others p other
+    (Contains-permutation placed serial p (IsPermutation-sym serial placed one) among)
 
-same_packed : (one other : Packed) → one.label ≡ other.label → one.cycles ≡ other.cycles → one.placed ≡ other.placed → one ≡ other
+same_packed : (one other : Packed) → one.label ≡ other.label → one.cycles ≡ other.cycles → one.placed ≡ other.placed
+    → one ≡ other
 same_packed one other label cycles placed =
     ap (λ (l : Option (List ℕ)). packed_of l one.cycles one.placed) label
     ∙ ap (λ (n : ℕ). packed_of other.label n one.placed) cycles
     ∙ ap (λ (ps : List Placed). packed_of other.label other.cycles ps) placed
 
-packets_once : (block : Serial) (set : Spots) (one other : Packed) → ArePackets block set one → ArePackets block set other → one ≡ other
+packets_once : (block : Serial) (set : Spots) (one other : Packed) → ArePackets block set one
+    → ArePackets block set other → one ≡ other
 packets_once block set one other first last =
     let spots : last.spots ≡ first.spots = one_list last.spots first.spots (sym last.all_placed ∙ first.all_placed) in
-    let numbered : AreNumbered block.insns first.spots last.serial = subst (λ (ss : List Spot). AreNumbered block.insns ss last.serial) spots last.numbered in
-    let serial : last.serial ≡ first.serial = one_numbering block.insns first.spots last.serial first.serial numbered first.numbered in
-    let listed : IsPermutation first.serial other.placed = subst (λ (xs : List Placed). IsPermutation xs other.placed) serial last.listed in
+    let numbered : AreNumbered block.insns first.spots last.serial = subst
+    (λ (ss : List Spot). AreNumbered block.insns ss last.serial) spots last.numbered in
+    let serial : last.serial ≡ first.serial = one_numbering block.insns first.spots last.serial first.serial numbered
+    first.numbered in
+    let listed : IsPermutation first.serial other.placed = subst (λ (xs : List Placed). IsPermutation xs other.placed)
+    serial last.listed in
     let placed : one.placed ≡ other.placed =
-    one_order one.placed other.placed (rises one.placed first.sound.in_order (one-each-unit (issued one.placed) first.sound.rules))
+    one_order one.placed other.placed
+    (rises one.placed first.sound.in_order (one-each-unit (issued one.placed) first.sound.rules))
     (rises other.placed last.sound.in_order (one-each-unit (issued other.placed) last.sound.rules))
-    (among_both first.serial one.placed other.placed first.listed listed) (among_both first.serial other.placed one.placed listed first.listed) in
+    (among_both first.serial one.placed other.placed first.listed listed)
+    (among_both first.serial other.placed one.placed listed first.listed) in
     same_packed one other (first.label ∙ sym last.label) (first.cycles ∙ sym last.cycles) placed
 
 -- the spots are those of the board
-own_spots : (packing : Packing) (block : Serial) (packed : Packed) (plain : packing.shortest ≡ false) (is : IsScheduled packing block packed) → is.spots ≡ is.board.spots
-own_spots packing block packed plain is = subst (λ (shortest : Bool). MayStand shortest block is.board.spots is.spots) plain is.stand
+own_spots : (packing : Packing) (block : Serial) (packed : Packed) (plain : packing.shortest ≡ false)
+    (is : IsScheduled packing block packed) → is.spots ≡ is.board.spots
+own_spots packing block packed plain is = subst (λ (shortest : Bool). MayStand shortest block is.board.spots is.spots)
+    plain is.stand
 
-scheduled_once : (packing : Packing) (block : Serial) (one other : Packed) → packing.turns ≡ true → packing.shortest ≡ false → IsScheduled packing block one
+scheduled_once : (packing : Packing) (block : Serial) (one other : Packed) → packing.turns ≡ true
+    → packing.shortest ≡ false → IsScheduled packing block one
     → IsScheduled packing block other → one ≡ other
 scheduled_once packing block one other turns plain first last =
     let same = one_board packing block turns first.board last.board first.made last.made in
     let boards : first.board.spots ≡ last.board.spots = ap (λ (board : BoardState). board.spots) same in
-    let spots : first.spots ≡ last.spots = own_spots packing block one plain first ∙ boards ∙ sym (own_spots packing block other plain last) in
-    packets_once block last.spots one other (subst (λ (set : Spots). ArePackets block set one) spots first.packets) last.packets
+    let spots : first.spots ≡ last.spots = own_spots packing block one plain first ∙ boards
+    ∙ sym (own_spots packing block other plain last) in
+    packets_once block last.spots one other (subst (λ (set : Spots). ArePackets block set one) spots first.packets)
+    last.packets
 
 pub one_packing : (packing : Packing) (program : List Serial) → HaveOnePacking packing program
 one_packing packing [] turns plain [] [] first last = refl
@@ -224,5 +254,8 @@ one_packing packing (b ∷ program) turns plain (p ∷ packets) (q ∷ others) f
 pub one_text : (packing : Packing) (text : List ℕ) → HasOneText packing text
 one_text packing text turns plain one other first last =
     let program = one_program text first.program last.program first.says last.says in
-    let packed : AreScheduled packing last.program first.packets = subst (λ (blocks : List Serial). AreScheduled packing blocks first.packets) program first.packed in
-    first.listed ∙ ap listing (one_packing packing last.program turns plain first.packets last.packets packed last.packed) ∙ sym last.listed
+    let packed : AreScheduled packing last.program first.packets = subst
+    (λ (blocks : List Serial). AreScheduled packing blocks first.packets) program first.packed in
+    first.listed ∙ ap listing
+    (one_packing packing last.program turns plain first.packets last.packets packed last.packed)
+    ∙ sym last.listed

@@ -19,10 +19,12 @@ use Rattle.c62_command.specs.declared.command.Packing.{Packing}
 use Rattle.c62_answer.specs.Schedule.{IsScheduled, MayStand}
 use Rattle.c62_answer.specs.PackedSame.{PacksSchedules}
 
-on_either : (shortest : Bool) (block : Serial) (own spots : Spots) → IsLawful (insns_of block) own → MayStand shortest block own spots
+on_either : (shortest : Bool) (block : Serial) (own spots : Spots) → IsLawful (insns_of block) own
+    → MayStand shortest block own spots
     → IsLawfulOnEitherSide (insns_of block) spots
 on_either false block own spots lawful is =
-    subst (λ (set : Spots). IsLawfulOnEitherSide (insns_of block) set) (sym is) (on_own_side (insns_of block) own lawful)
+    subst (λ (set : Spots). IsLawfulOnEitherSide (insns_of block) set) (sym is)
+    (on_own_side (insns_of block) own lawful)
 on_either true block own spots lawful is = is.0
 
 lawful_spots : (packing : Packing) (block : Serial) (packed : Packed) (is : IsScheduled packing block packed)
@@ -33,15 +35,18 @@ lawful_spots packing block packed is =
     subst (λ (set : Spots). IsLawfulOnEitherSide (insns_of block) set) is.packets.all_placed
     (on_either packing.shortest block is.board.spots is.spots own is.stand)
 
-same_insns : (entries : List SerialInsn) (spots : List Spot) (serial : List Placed) → AreNumbered entries spots serial → AreSame entries serial
+same_insns : (entries : List SerialInsn) (spots : List Spot) (serial : List Placed) → AreNumbered entries spots serial
+    → AreSame entries serial
 same_insns [] [] [] numbered = tt
 same_insns [] [] (p ∷ serial) numbered = absurd numbered
 same_insns [] (s ∷ spots) serial numbered = absurd numbered
 same_insns (e ∷ entries) [] serial numbered = absurd numbered
 same_insns (e ∷ entries) (s ∷ spots) [] numbered = absurd numbered
-same_insns (e ∷ entries) (s ∷ spots) (p ∷ serial) numbered = (numbered.0.insn, same_insns entries spots serial numbered.1)
+same_insns (e ∷ entries) (s ∷ spots) (p ∷ serial) numbered =
+    (numbered.0.insn, same_insns entries spots serial numbered.1)
 
-schedule_of : (packing : Packing) (block : Serial) (packed : Packed) → IsScheduled packing block packed → IsSchedule block packed
+schedule_of : (packing : Packing) (block : Serial) (packed : Packed) → IsScheduled packing block packed
+    → IsSchedule block packed
 schedule_of packing block packed is =
     let packets = is.packets in
     record {
@@ -52,11 +57,13 @@ schedule_of packing block packed is =
         same = same_insns block.insns packets.spots packets.serial packets.numbered;
         all = IsPermutation-sym packets.serial packed.placed packets.listed;
         keeps =
-            apart block.insns packets.spots packets.serial packets.numbered (lawful_spots packing block packed is) is.keeps.branch_last;
+            apart block.insns packets.spots packets.serial packets.numbered (lawful_spots packing block packed is)
+            is.keeps.branch_last;
       };
     }
 
-pub packs_schedules : (packing : Packing) (program : List Serial) (packets : List Packed) → PacksSchedules packing program packets
+pub packs_schedules : (packing : Packing) (program : List Serial) (packets : List Packed)
+    → PacksSchedules packing program packets
 packs_schedules packing [] packets all number block packed e f = absurd (none-some block e)
 packs_schedules packing (b ∷ program) [] all number block packed e f = absurd (none-some packed f)
 packs_schedules packing (b ∷ program) (q ∷ packets) all zero block packed e f =

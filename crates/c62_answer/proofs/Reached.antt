@@ -18,13 +18,17 @@ module _ (ask : Ask) (name text : List ℕ) where
   not_reached (failures.ListingPart fault) gives = absurd gives
   not_reached (failures.PacketsPart fault) gives = absurd gives
   not_reached failures.NoListing gives = absurd gives
+  not_reached (failures.RowsPart fault) gives = absurd gives
+  not_reached (failures.NoLoop k) gives = absurd gives
+  not_reached (failures.Promise bad) gives = absurd gives
   not_reached (failures.Words e) gives = absurd gives
   not_reached (failures.Setting k) gives = absurd gives
   not_reached failures.Memory gives = tt
   not_reached failures.Input gives = absurd gives
   not_reached failures.Output gives = absurd gives
 
-  pub reached : (taken : List ℕ) (result : Result Reply Failure) → IsTaken name text taken → Gives ask taken result → Gives (Reaching name ask) text result
+  pub reached : (taken : List ℕ) (result : Result Reply Failure) → IsTaken name text taken → Gives ask taken result
+      → Gives (Reaching name ask) text result
   reached taken (Ok reply) is gives = (taken, is, gives)
   reached taken (Err (failures.Unread fault)) is gives = inr (taken, is, gives)
   reached taken (Err (failures.Unlisted fault)) is gives = inr (taken, is, gives)
@@ -33,7 +37,10 @@ module _ (ask : Ask) (name text : List ℕ) where
   reached taken (Err (failures.TextPart fault)) is gives = inr (taken, is, gives)
   reached taken (Err (failures.ListingPart fault)) is gives = inr (taken, is, gives)
   reached taken (Err (failures.PacketsPart fault)) is gives = inr (taken, is, gives)
+  reached taken (Err (failures.RowsPart fault)) is gives = inr (taken, is, gives)
   reached taken (Err failures.NoListing) is gives = inr (taken, is, gives)
+  reached taken (Err (failures.NoLoop k)) is gives = inr (taken, is, gives)
+  reached taken (Err (failures.Promise bad)) is gives = absurd gives
   reached taken (Err (failures.Words e)) is gives = absurd gives
   reached taken (Err (failures.Setting k)) is gives = absurd gives
   reached taken (Err failures.Memory) is gives = tt

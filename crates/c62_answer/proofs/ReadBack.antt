@@ -1,5 +1,6 @@
 -- What was packed of a text is read back, and runs as the text says.
-use Rattle.std.proofs.Common.{◌≡◌, ◌∙◌, ℕ, ◌<◌, ◌≤◌, Bool, true, false, List, [], ◌∷◌, ◌++◌, length, map, Option, Some, None, refl, sym, ap, subst, arith}
+use Rattle.std.proofs.Common.{◌≡◌, ◌∙◌, ℕ, ◌<◌, ◌≤◌, Bool, true, false, List, [], ◌∷◌, ◌++◌, length, map, Option, Some}
+use Rattle.std.proofs.Common.{None, refl, sym, ap, subst, arith}
 use Rattle.std.specs.Prelude.{IsTrue}
 use Rattle.std.specs.List.{AllByRecursion, IsDistinct, flat_map}
 use Rattle.std.specs.Option.{option_to_list}
@@ -21,7 +22,7 @@ use Rattle.c62_read.proofs.WalkLemmas.{read_back as program_back, walk_text}
 use Rattle.c62_packet.specs.Packed.{Packed, IsPacketBlock}
 use Rattle.c62_packet.specs.Alike.{AreAlike, unlined}
 use Rattle.c62_pipe.proofs.AlikeChains.{chain_alike}
-use Rattle.c62_pack.proofs.Arranging.{as_many as numbered_many}
+use Rattle.c62_pack.proofs.SpotIssues.{as_many as numbered_many}
 use Rattle.c62_listing_reader.specs.Faults.{IsRead}
 use Rattle.c62_listing_reader.specs.Laws.{AreShown, labels_given}
 use Rattle.c62_listing_reader.proofs.ReadBackLemmas.{read_back}
@@ -37,28 +38,32 @@ use Rattle.c62_answer.specs.Run.{IsStandingReport}
 use Rattle.c62_answer.specs.Texts.{SaysProgram}
 use Rattle.c62_answer.specs.ReadBack.{IsReadBack, IsReportOf}
 use Rattle.c62_answer.proofs.Schedules.{as_many, closed, runs_serially, same_labels}
+use Rattle.c62_read.specs.declared.limits.TheConstants.{MOST_BLOCKS}
 
 -- ---- what a text says
 
-few_said : (text : List ℕ) (program : List Serial) → SaysProgram text program → length program ≤ 64
+few_said : (text : List ℕ) (program : List Serial) → SaysProgram text program → length program ≤ MOST_BLOCKS
 few_said text program says =
     let read = program_back text (map block_parts program) says in
     let stands = (walk_text (lines_of text)).1 read.0 read.1 in
     let drafts = all_drafts read.0 in
-    let count : length (map block_parts program) ≡ length (map (block_in drafts) drafts) = ap (λ (blocks : List BlockParts). length blocks) read.2 in
+    let count : length (map block_parts program) ≡ length (map (block_in drafts) drafts) = ap
+    (λ (blocks : List BlockParts). length blocks) read.2 in
     omega (arith, stands.few, count, length-map program block_parts, length-map drafts (block_in drafts))
 
 lines_good : (lines : List (List ℕ)) → AllByRecursion (λ label. IsTrue (is_label label)) (labels_of lines)
 lines_good [] = tt
 lines_good (line ∷ lines) = by_field (label_field line) refl (lines_good lines)
   where
-    by_field : (field : Option Name) → label_field line ≡ field → AllByRecursion (λ label. IsTrue (is_label label)) (labels_of lines)
+    by_field : (field : Option Name) → label_field line ≡ field
+        → AllByRecursion (λ label. IsTrue (is_label label)) (labels_of lines)
         → AllByRecursion (λ label. IsTrue (is_label label)) (option_to_list field ++ labels_of lines)
     by_field None e rest = rest
     by_field (Some label) e rest = (field_good line label e, rest)
 
 -- a block without a label begins with an instruction
-has_some : (behind : Bool) (label : Option Name) (insns : List Numbered) → may_begin behind label insns ≡ true → label ≡ None → 0 < length insns
+has_some : (behind : Bool) (label : Option Name) (insns : List Numbered) → may_begin behind label insns ≡ true
+    → label ≡ None → 0 < length insns
 has_some behind (Some name) insns begins none = absurd cc
 has_some true None [] begins none = absurd cc
 has_some false None [] begins none = absurd cc
@@ -67,14 +72,16 @@ has_some behind None (entry ∷ insns) begins none = omega arith
 -- ---- the packets of its blocks
 
 module _ (packing : Packing) where
-  all_sound : (program : List Serial) (packets : List Packed) → AreScheduled packing program packets → AllByRecursion IsPacketBlock packets
+  all_sound : (program : List Serial) (packets : List Packed) → AreScheduled packing program packets
+      → AllByRecursion IsPacketBlock packets
   all_sound [] [] all = tt
   all_sound [] (q ∷ packets) all = absurd all
   all_sound (b ∷ program) [] all = absurd all
   all_sound (b ∷ program) (q ∷ packets) all = (all.0.packets.sound, all_sound program packets all.1)
 
   begun : (behind : Bool) (block : Serial) (packed : Packed) → IsScheduled packing block packed
-      → may_begin behind block.label (map numbered_of block.insns) ≡ true → packed.label ≡ None → 0 < length packed.placed
+      → may_begin behind block.label (map numbered_of block.insns) ≡ true → packed.label ≡ None
+      → 0 < length packed.placed
   begun behind block packed is begins none =
       let packets = is.packets in
       let some = has_some behind block.label (map numbered_of block.insns) begins (sym packets.label ∙ none) in
@@ -83,15 +90,20 @@ module _ (packing : Packing) where
       omega (arith, some, listed, numbered, length-map block.insns numbered_of)
 
   all_begun : (behind : Bool) (program : List Serial) (packets : List Packed) → AreScheduled packing program packets
-      → begin_well behind (map block_parts program) ≡ true → AllByRecursion (λ packed. packed.label ≡ None → 0 < length packed.placed) packets
+      → begin_well behind (map block_parts program) ≡ true
+      → AllByRecursion (λ packed. packed.label ≡ None → 0 < length packed.placed) packets
   all_begun behind [] [] all begins = tt
   all_begun behind [] (q ∷ packets) all begins = absurd all
   all_begun behind (b ∷ program) [] all begins = absurd all
   all_begun behind (b ∷ program) (q ∷ packets) all begins =
-      let parts = and_parts _ _ begins in
-      (begun behind b q all.0 parts.0, all_begun (ends_in_branch (map numbered_of b.insns)) program packets all.1 parts.1)
+      let parts = and_parts _ _ begins in (
+        begun behind b q all.0 parts.0,
+        all_begun (ends_in_branch (map numbered_of b.insns)) program packets all.1
+            parts.1,
+      )
 
-module _ (packing : Packing) (text : List ℕ) (program : List Serial) (packets : List Packed) (says : SaysProgram text program)
+module _ (packing : Packing) (text : List ℕ) (program : List Serial) (packets : List Packed)
+    (says : SaysProgram text program)
     (all : AreScheduled packing program packets) where
   given : labels_given packets ≡ labels_of (lines_of text)
   given =
@@ -112,19 +124,23 @@ module _ (packing : Packing) (text : List ℕ) (program : List Serial) (packets 
 
 -- ---- what is read back
 
-module _ (packing : Packing) (program : List Serial) (packets others : List Packed) (answer : List ℕ) (all : AreScheduled packing program packets)
+module _ (packing : Packing) (program : List Serial) (packets others : List Packed) (answer : List ℕ)
+    (all : AreScheduled packing program packets)
     (read : IsRead answer others) (alike : AreAlike packets others) where
-  report_of : (settings : List Setting) (course : Course) (outcome : Outcome) (report : List ℕ) (sim : IsStandingReport Listed settings course outcome answer report)
+  report_of : (settings : List Setting) (course : Course) (outcome : Outcome) (report : List ℕ)
+      (sim : IsStandingReport Listed settings course outcome answer report)
       → IsReportOf program packets settings course outcome answer report sim
   report_of settings course outcome report sim =
       let same : sim.packets ≡ others = one_reading answer sim.packets others sim.read read in
       let back : AreAlike sim.packets packets = ap (map unlined) same ∙ sym alike in
       let run = sim.reported in
       let sound = run.begin.sound in
-      let runs = chain_alike sim.packets packets run.opening run.opening course.blocks back refl sound run.chain run.cycles run.final run.run in
+      let runs = chain_alike sim.packets packets run.opening run.opening course.blocks back refl sound run.chain
+      run.cycles run.final run.run in
       record {
         same = runs;
-        serial = runs_serially packing program packets run.opening runs.left course.blocks run.cycles run.chain all sound runs.runs;
+        serial = runs_serially packing program packets run.opening runs.left course.blocks run.cycles run.chain all
+            sound runs.runs;
       }
 
 abbrev IsReadAs : List Packed → List ℕ → Type 0
@@ -133,7 +149,8 @@ IsReadAs packets answer = (others : List Packed) × IsRead answer others × AreA
 pub is_read_back : (packing : Packing) (text answer : List ℕ) → IsReadBack packing text answer
 is_read_back packing text answer packed =
     let whole = shown packing text packed.program packed.packets packed.says packed.packed in
-    let back : IsReadAs packed.packets answer = subst (IsReadAs packed.packets) (sym packed.listed) (read_back packed.packets whole) in
+    let back : IsReadAs packed.packets answer = subst (IsReadAs packed.packets) (sym packed.listed)
+    (read_back packed.packets whole) in
     record {
       shown = whole;
       others = back.0;

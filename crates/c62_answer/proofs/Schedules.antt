@@ -1,5 +1,6 @@
 -- The packets of a program's blocks.
-use Rattle.std.proofs.Common.{◌≡◌, ◌∙◌, ℕ, zero, suc, ◌+◌, ◌<◌, ◌≤◌, Bool, true, false, List, [], ◌∷◌, ◌++◌, length, map, Option, Some, refl, sym, ap, subst, arith}
+use Rattle.std.proofs.Common.{◌≡◌, ◌∙◌, ℕ, zero, suc, ◌+◌, ◌<◌, ◌≤◌, Bool, true, false, List, [], ◌∷◌, ◌++◌, length}
+use Rattle.std.proofs.Common.{map, Option, Some, refl, sym, ap, subst, arith}
 use Rattle.std.specs.Prelude.{slice_get, All}
 use Rattle.std.specs.List.{list_all}
 use Rattle.std.proofs.lemmas.List.{length-append}
@@ -33,54 +34,86 @@ use Rattle.c62_show.specs.Limits.{AreLimits, ArePlainLimits}
 use Rattle.c62_show.specs.Registers.{TellsLives}
 use Rattle.c62_shortest.specs.declared.searched.Shortest.{Shortest as Found}
 use Rattle.c62_shortest.specs.Shortest.{IsShortest}
-use Rattle.c62_answer.specs.Schedule.{AddsPackets, ArePacketsFrom, AreScheduled, AreShown, IsMade, IsScheduled, IsShown, IsShownOf, MayStand, TellsLimits, TellsWhys}
+use Rattle.c62_answer.specs.Schedule.{AddsPackets, ArePacketsFrom, AreScheduled, AreShown, IsMade, IsScheduled, IsShown}
+use Rattle.c62_answer.specs.Schedule.{IsShownOf, MayStand, TellsLimits, TellsWhys}
+use Rattle.c62_read.specs.declared.limits.TheConstants.{MOST_BLOCKS}
 
 -- one block more
-pub scheduled_more : (packing : Packing) (blocks : List Serial) (packets : List Packed) (block : Serial) (packed : Packed) → AreScheduled packing blocks packets
+pub scheduled_more : (packing : Packing) (blocks : List Serial) (packets : List Packed) (block : Serial)
+    (packed : Packed) → AreScheduled packing blocks packets
     → IsScheduled packing block packed → AreScheduled packing (blocks ++ block ∷ []) (packets ++ packed ∷ [])
 scheduled_more packing [] [] block packed all one = (one, tt)
 scheduled_more packing [] (q ∷ packets) block packed all one = absurd all
 scheduled_more packing (b ∷ blocks) [] block packed all one = absurd all
-scheduled_more packing (b ∷ blocks) (q ∷ packets) block packed all one = (all.0, scheduled_more packing blocks packets block packed all.1 one)
+scheduled_more packing (b ∷ blocks) (q ∷ packets) block packed all one =
+    (all.0, scheduled_more packing blocks packets block packed all.1 one)
 
 -- the packets of a board that was made for a block
-pub scheduled_one : (packing : Packing) (block : Serial) (board : BoardState) (packed : Packed) → IsMade packing block board
+pub scheduled_one : (packing : Packing) (block : Serial) (board : BoardState) (packed : Packed)
+    → IsMade packing block board
     → ArePacketsFrom packing board.plan board.spots packed → IsScheduled packing block packed
 scheduled_one packing block board packed made from =
-    let here : ArePacketsFrom packing block board.spots packed = subst (λ (plan : Serial). ArePacketsFrom packing plan board.spots packed) made.plan_is from in
-    record { board = board; made = made; spots = here.spots; stand = here.stand; packets = here.packets; serial = here.serial; keeps = here.keeps }
+    let here : ArePacketsFrom packing block board.spots packed = subst
+    (λ (plan : Serial). ArePacketsFrom packing plan board.spots packed) made.plan_is from in
+    record {
+      board = board;
+      made = made;
+      spots = here.spots;
+      stand = here.stand;
+      packets = here.packets;
+      serial =
+          here.serial;
+      keeps = here.keeps;
+    }
 
 -- the packets of one block more were appended
-pub scheduled_next : (packing : Packing) (blocks : List Serial) (packets new : List Packed) (block : Serial) (board : BoardState) → AreScheduled packing blocks packets
-    → IsMade packing block board → AddsPackets packing board.plan board.spots packets new → AreScheduled packing (blocks ++ block ∷ []) new
+pub scheduled_next : (packing : Packing) (blocks : List Serial) (packets new : List Packed) (block : Serial)
+    (board : BoardState) → AreScheduled packing blocks packets
+    → IsMade packing block board → AddsPackets packing board.plan board.spots packets new
+    → AreScheduled packing (blocks ++ block ∷ []) new
 scheduled_next packing blocks packets new block board all made pushed =
     let one = scheduled_one packing block board pushed.0 made pushed.1 in
-    subst (λ (whole : List Packed). AreScheduled packing (blocks ++ block ∷ []) whole) (sym pushed.2) (scheduled_more packing blocks packets block pushed.0 all one)
+    subst (λ (whole : List Packed). AreScheduled packing (blocks ++ block ∷ []) whole) (sym pushed.2)
+    (scheduled_more packing blocks packets block pushed.0 all one)
 
 -- what is shown of one block more
-pub shown_more : (showing : Showing) (blocks : List Serial) (shown : List Shown) (block : Serial) (one : Shown) → AreShown showing blocks shown
+pub shown_more : (showing : Showing) (blocks : List Serial) (shown : List Shown) (block : Serial) (one : Shown)
+    → AreShown showing blocks shown
     → IsShown showing block one → AreShown showing (blocks ++ block ∷ []) (shown ++ one ∷ [])
 shown_more showing [] [] block one all is = (is, tt)
 shown_more showing [] (q ∷ shown) block one all is = absurd all
 shown_more showing (b ∷ blocks) [] block one all is = absurd all
-shown_more showing (b ∷ blocks) (q ∷ shown) block one all is = (all.0, shown_more showing blocks shown block one all.1 is)
+shown_more showing (b ∷ blocks) (q ∷ shown) block one all is =
+    (all.0, shown_more showing blocks shown block one all.1 is)
 
 -- what is shown of a board that was made for a block
-pub shown_one : (showing : Showing) (block : Serial) (board : BoardState) (shown : Shown) → IsMade showing.packing block board
+pub shown_one : (showing : Showing) (block : Serial) (board : BoardState) (shown : Shown)
+    → IsMade showing.packing block board
     → IsShownOf showing board.plan board.spots shown → IsShown showing block shown
 shown_one showing block board shown made is =
-    let here : IsShownOf showing block board.spots shown = subst (λ (plan : Serial). IsShownOf showing plan board.spots shown) made.plan_is is in
+    let here : IsShownOf showing block board.spots shown = subst
+    (λ (plan : Serial). IsShownOf showing plan board.spots shown) made.plan_is is in
     let from = here.from in
     record {
       scheduled =
-          record { board = board; made = made; spots = from.spots; stand = from.stand; packets = from.packets; serial = from.serial; keeps = from.keeps };
+          record {
+            board = board;
+            made = made;
+            spots = from.spots;
+            stand = from.stand;
+            packets = from.packets;
+            serial =
+                from.serial;
+            keeps = from.keeps;
+          };
       limits = here.limits;
       whys = here.whys;
       lives = here.lives;
     }
 
 -- packets of a board's own spots
-pub own_packets : (packing : Packing) (block : Serial) (own : Spots) (packed : Packed) → packing.shortest ≡ false → ArePackets block own packed
+pub own_packets : (packing : Packing) (block : Serial) (own : Spots) (packed : Packed) → packing.shortest ≡ false
+    → ArePackets block own packed
     → AreSerial block.insns packed.placed → IsBlockPacked block packed → ArePacketsFrom packing block own packed
 own_packets packing block own packed plain packets serial keeps = record {
   spots = own;
@@ -107,9 +140,12 @@ short_packets packing block own found asked is =
     }
 
 -- what is shown of a board's own packets
-pub shown_plainly : (showing : Showing) (block : Serial) (own : Spots) (shown : Shown) (limits : Limits) → showing.packing.shortest ≡ false
-    → ArePackets block own shown.packets → AreSerial block.insns shown.packets.placed → IsBlockPacked block shown.packets → shown.limits ≡ Some limits
-    → ArePlainLimits block limits → TellsWhys showing.why block own shown.packets.cycles shown.whys.items → TellsLives showing.registers shown.packets shown.lives
+pub shown_plainly : (showing : Showing) (block : Serial) (own : Spots) (shown : Shown) (limits : Limits)
+    → showing.packing.shortest ≡ false
+    → ArePackets block own shown.packets → AreSerial block.insns shown.packets.placed
+    → IsBlockPacked block shown.packets → shown.limits ≡ Some limits
+    → ArePlainLimits block limits → TellsWhys showing.why block own shown.packets.cycles shown.whys.items
+    → TellsLives showing.registers shown.packets shown.lives
     → IsShownOf showing block own shown
 unfolding own_packets
 shown_plainly showing block own shown limits plain packets serial keeps some known whys lives = record {
@@ -120,9 +156,12 @@ shown_plainly showing block own shown limits plain packets serial keeps some kno
 }
 
 -- what is shown of a schedule that is no longer than the board
-pub shown_shortest : (showing : Showing) (block : Serial) (own : Spots) (shown : Shown) (found : Found) (limits : Limits) → showing.packing.shortest ≡ true
-    → IsShortest block (set_length (insns_of block) own) found → shown.packets ≡ found.schedule.packets → shown.limits ≡ Some limits → AreLimits block limits
-    → TellsWhys showing.why block (map Some found.schedule.spots.items) shown.packets.cycles shown.whys.items → TellsLives showing.registers shown.packets shown.lives
+pub shown_shortest : (showing : Showing) (block : Serial) (own : Spots) (shown : Shown) (found : Found)
+    (limits : Limits) → showing.packing.shortest ≡ true
+    → IsShortest block (set_length (insns_of block) own) found → shown.packets ≡ found.schedule.packets
+    → shown.limits ≡ Some limits → AreLimits block limits
+    → TellsWhys showing.why block (map Some found.schedule.spots.items) shown.packets.cycles shown.whys.items
+    → TellsLives showing.registers shown.packets shown.lives
     → IsShownOf showing block own shown
 unfolding short_packets
 shown_shortest showing block own shown found limits asked is same some known whys lives =
@@ -141,17 +180,20 @@ shown_shortest showing block own shown found limits asked is same some known why
     }
 
 -- as many blocks as before
-pub as_many : (packing : Packing) (blocks : List Serial) (packets : List Packed) → AreScheduled packing blocks packets → length packets ≡ length blocks
+pub as_many : (packing : Packing) (blocks : List Serial) (packets : List Packed) → AreScheduled packing blocks packets
+    → length packets ≡ length blocks
 as_many packing [] [] all = refl
 as_many packing [] (q ∷ packets) all = absurd all
 as_many packing (b ∷ blocks) [] all = absurd all
 as_many packing (b ∷ blocks) (q ∷ packets) all = ap (λ (n : ℕ). suc n) (as_many packing blocks packets all.1)
 
--- a block is left of at most 64
-pub few_left : (packing : Packing) (all blocks rest : List Serial) (block : Serial) (packets : List Packed) → blocks ++ block ∷ rest ≡ all → length all ≤ 64
-    → AreScheduled packing blocks packets → length packets < 64
+-- a block is left of at most MOST_BLOCKS
+pub few_left : (packing : Packing) (all blocks rest : List Serial) (block : Serial) (packets : List Packed)
+    → blocks ++ block ∷ rest ≡ all → length all ≤ MOST_BLOCKS
+    → AreScheduled packing blocks packets → length packets < MOST_BLOCKS
 few_left packing all blocks rest block packets whole few scheduled =
-    let count : length blocks + length (block ∷ rest) ≡ length all = sym (length-append blocks (block ∷ rest)) ∙ ap length whole in
+    let count : length blocks + length (block ∷ rest) ≡ length all = sym (length-append blocks (block ∷ rest))
+    ∙ ap length whole in
     omega (arith, count, few, as_many packing blocks packets scheduled)
 
 pub nothing_left : {X : Type 0} (xs : List X) → length xs ≡ 0 → xs ≡ []
@@ -164,8 +206,10 @@ stands_more : {X : Type 0} (P : X → Type 0) (x : X) (xs : List X) → P x → 
 stands_more P x xs one all zero d less = one
 stands_more P x xs one all (suc k) d less = all k d (omega arith)
 
-each_stands : (labels : List (Option (List ℕ))) (insns : List SerialInsn) (spots : List Spot) (serial : List Placed) → AreNumbered insns spots serial
-    → list_all (λ entry. target_stands labels (operands_of entry.insn)) insns ≡ true → All (λ p. target_stands labels (operands_of p.insn) ≡ true) serial
+each_stands : (labels : List (Option (List ℕ))) (insns : List SerialInsn) (spots : List Spot) (serial : List Placed)
+    → AreNumbered insns spots serial
+    → list_all (λ entry. target_stands labels (operands_of entry.insn)) insns ≡ true
+    → All (λ p. target_stands labels (operands_of p.insn) ≡ true) serial
 each_stands labels [] [] [] all stand = λ k d less. absurd (omega arith)
 each_stands labels [] [] (p ∷ serial) all stand = absurd all
 each_stands labels [] (s ∷ spots) serial all stand = absurd all
@@ -174,18 +218,22 @@ each_stands labels (e ∷ insns) (s ∷ spots) [] all stand = absurd all
 each_stands labels (e ∷ insns) (s ∷ spots) (p ∷ serial) all stand =
     let parts = both _ _ stand in
     let same : operands_of e.insn ≡ operands_of p.insn = all.0.insn.operands in
-    stands_more (λ q. target_stands labels (operands_of q.insn) ≡ true) p serial (subst (λ (o : Operands). target_stands labels o ≡ true) same parts.0)
+    stands_more (λ q. target_stands labels (operands_of q.insn) ≡ true) p serial
+    (subst (λ (o : Operands). target_stands labels o ≡ true) same parts.0)
     (each_stands labels insns spots serial all.1 parts.1)
 
-block_stands : (packing : Packing) (labels : List (Option (List ℕ))) (block : Serial) (packed : Packed) → IsScheduled packing block packed
-    → list_all (λ entry. target_stands labels (operands_of entry.insn)) block.insns ≡ true → list_all (λ p. target_stands labels (operands_of p.insn)) packed.placed ≡ true
+block_stands : (packing : Packing) (labels : List (Option (List ℕ))) (block : Serial) (packed : Packed)
+    → IsScheduled packing block packed
+    → list_all (λ entry. target_stands labels (operands_of entry.insn)) block.insns ≡ true
+    → list_all (λ p. target_stands labels (operands_of p.insn)) packed.placed ≡ true
 block_stands packing labels block packed is stand =
     let packets = is.packets in
     list_all-from_AllPass (λ p. target_stands labels (operands_of p.insn)) packed.placed
     (All-permutation (λ p. target_stands labels (operands_of p.insn) ≡ true) packets.serial packed.placed packets.listed
     (each_stands labels block.insns packets.spots packets.serial packets.numbered stand))
 
-all_stand : (packing : Packing) (labels : List (Option (List ℕ))) (blocks : List Serial) (packets : List Packed) → AreScheduled packing blocks packets
+all_stand : (packing : Packing) (labels : List (Option (List ℕ))) (blocks : List Serial) (packets : List Packed)
+    → AreScheduled packing blocks packets
     → list_all (λ block. list_all (λ entry. target_stands labels (operands_of entry.insn)) block.insns) blocks ≡ true
     → list_all (λ packed. list_all (λ p. target_stands labels (operands_of p.insn)) packed.placed) packets ≡ true
 all_stand packing labels [] [] all stand = refl
@@ -195,21 +243,26 @@ all_stand packing labels (b ∷ blocks) (q ∷ packets) all stand =
     let parts = both _ _ stand in
     rw (block_stands packing labels b q all.0 parts.0) (all_stand packing labels blocks packets all.1 parts.1)
 
-pub same_labels : (packing : Packing) (blocks : List Serial) (packets : List Packed) → AreScheduled packing blocks packets → labels_of packets ≡ labels_in blocks
+pub same_labels : (packing : Packing) (blocks : List Serial) (packets : List Packed)
+    → AreScheduled packing blocks packets → labels_of packets ≡ labels_in blocks
 same_labels packing [] [] all = refl
 same_labels packing [] (q ∷ packets) all = absurd all
 same_labels packing (b ∷ blocks) [] all = absurd all
-same_labels packing (b ∷ blocks) (q ∷ packets) all = rw (all.0.packets.label, same_labels packing blocks packets all.1) refl
+same_labels packing (b ∷ blocks) (q ∷ packets) all = rw (all.0.packets.label, same_labels packing blocks packets all.1)
+    refl
 
-pub closed : (packing : Packing) (blocks : List Serial) (packets : List Packed) → AreScheduled packing blocks packets → targets_stand blocks ≡ true → is_closed packets ≡ true
+pub closed : (packing : Packing) (blocks : List Serial) (packets : List Packed) → AreScheduled packing blocks packets
+    → targets_stand blocks ≡ true → is_closed packets ≡ true
 unfolding targets_stand
 closed packing blocks packets all stand =
-    subst (λ (labels : List (Option (List ℕ))). list_all (λ packed. list_all (λ p. target_stands labels (operands_of p.insn)) packed.placed) packets ≡ true)
+    subst (λ (labels : List (Option (List ℕ))). list_all
+    (λ packed. list_all (λ p. target_stands labels (operands_of p.insn)) packed.placed) packets ≡ true)
     (sym (same_labels packing blocks packets all)) (all_stand packing (labels_in blocks) blocks packets all stand)
 
 -- ---- the packets run as the program does
 
-each_packed : (packing : Packing) (blocks : List Serial) (packets : List Packed) → AreScheduled packing blocks packets → (number : ℕ) (block : Serial) (packed : Packed)
+each_packed : (packing : Packing) (blocks : List Serial) (packets : List Packed) → AreScheduled packing blocks packets
+    → (number : ℕ) (block : Serial) (packed : Packed)
     → slice_get blocks number ≡ Some block → slice_get packets number ≡ Some packed → IsBlockPacked block packed
 each_packed packing [] [] all number block packed e f = absurd cc
 each_packed packing [] (q ∷ packets) all number block packed e f = absurd all
@@ -218,9 +271,14 @@ each_packed packing (b ∷ blocks) (q ∷ packets) all zero block packed e f =
     let block_is : b ≡ block = cc in
     let packed_is : q ≡ packed = cc in
     rw (← block_is, ← packed_is) all.0.keeps
-each_packed packing (b ∷ blocks) (q ∷ packets) all (suc number) block packed e f = each_packed packing blocks packets all.1 number block packed e f
+each_packed packing (b ∷ blocks) (q ∷ packets) all (suc number) block packed e f = each_packed packing blocks packets
+    all.1 number block packed e f
 
-pub runs_serially : (packing : Packing) (program : List Serial) (packets : List Packed) (opening final : Machine) (limit cycles : ℕ) (chain : Chain)
-    → AreScheduled packing program packets → IsSound opening → RunsPackets packets opening limit chain cycles final → RunsProgram program opening limit chain final
+pub runs_serially : (packing : Packing) (program : List Serial) (packets : List Packed) (opening final : Machine)
+    (limit cycles : ℕ) (chain : Chain)
+    → AreScheduled packing program packets → IsSound opening → RunsPackets packets opening limit chain cycles final
+    → RunsProgram program opening limit chain final
 runs_serially packing program packets opening final limit cycles chain all sound run =
-    (run_alike program packets opening final limit chain (record { count = as_many packing program packets all; each = each_packed packing program packets all }) sound).serial cycles run
+    (run_alike program packets opening final limit chain
+    (record { count = as_many packing program packets all; each = each_packed packing program packets all })
+    sound).serial cycles run

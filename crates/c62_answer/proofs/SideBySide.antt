@@ -19,7 +19,8 @@ module _ {X Y : Type 0} (E : Type 0) (R : X → Y → Type 0) where
 
   -- where all calls were Ok, each value is what its call gave
   pub gathered : (xs asked : List X) (results : List (Result Y E)) (values ys : List Y) → asked ≡ xs
-      → AllZip (λ x (r : Result Y E). IfOk r (R x)) asked results → results ≡ map Ok ys → values ≡ ys → AllZip R xs values
+      → AllZip (λ x (r : Result Y E). IfOk r (R x)) asked results → results ≡ map Ok ys → values ≡ ys
+      → AllZip R xs values
   gathered xs asked results values ys same all oks are =
       let here : AllZip (λ x (r : Result Y E). IfOk r (R x)) xs results =
       subst (λ (l : List X). AllZip (λ x (r : Result Y E). IfOk r (R x)) l results) same all in
@@ -28,18 +29,21 @@ module _ {X Y : Type 0} (E : Type 0) (R : X → Y → Type 0) where
       subst (λ (l : List Y). AllZip R xs l) (sym are) (all_given xs ys there)
 
 -- what follows of the value of an `Ok`
-pub where_ok : {T E : Type 0} (r : Result T E) (P Q : T → Type 0) (F : E → Type 0) → MatchResult r P F → ((v : T) → P v → Q v) → IfOk r Q
+pub where_ok : {T E : Type 0} (r : Result T E) (P Q : T → Type 0) (F : E → Type 0) → MatchResult r P F
+    → ((v : T) → P v → Q v) → IfOk r Q
 where_ok (Ok v) P Q F h f = f v h
 where_ok (Err e) P Q F h f = tt
 
-pub all_scheduled : (packing : Packing) (blocks : List Serial) (packets : List Packed) → AllZip (IsScheduled packing) blocks packets
+pub all_scheduled : (packing : Packing) (blocks : List Serial) (packets : List Packed)
+    → AllZip (IsScheduled packing) blocks packets
     → AreScheduled packing blocks packets
 all_scheduled packing [] [] all = tt
 all_scheduled packing [] (q ∷ packets) all = absurd all
 all_scheduled packing (b ∷ blocks) [] all = absurd all
 all_scheduled packing (b ∷ blocks) (q ∷ packets) all = (all.0, all_scheduled packing blocks packets all.1)
 
-pub all_shown : (showing : Showing) (blocks : List Serial) (shown : List Shown) → AllZip (IsShown showing) blocks shown → AreShown showing blocks shown
+pub all_shown : (showing : Showing) (blocks : List Serial) (shown : List Shown) → AllZip (IsShown showing) blocks shown
+    → AreShown showing blocks shown
 all_shown showing [] [] all = tt
 all_shown showing [] (q ∷ shown) all = absurd all
 all_shown showing (b ∷ blocks) [] all = absurd all

@@ -12,12 +12,16 @@ use Rattle.c62_answer.specs.Check.{IsCheck, IsNoCheck}
 use Rattle.c62_answer.specs.Check.IsNoCheck.{Endless, FaultyListing, FaultyText, Unparted}
 use Rattle.c62_answer.specs.Run.{Gives, GivesPacketsPart, GivesTextPart, IsAnswer, outcome_of}
 use Rattle.c62_command.specs.CommandLine.{Verdicts}
+use Rattle.c62_read.specs.Program.{most_bytes}
 
 -- no line parts the input
-pub endless : (form : Form) (input : List ℕ) → HasNoParting input → 1048576 < length input → IsNoCheck form input (of_text (fault_message 0 TextTooLong))
-endless form input none long = Endless (record { long = long; none = λ text listing cut. absurd (none text listing cut) }) refl
+pub endless : (form : Form) (input : List ℕ) → HasNoParting input → most_bytes < length input
+    → IsNoCheck form input (of_text (fault_message 0 TextTooLong))
+endless form input none long = Endless
+    (record { long = long; none = λ text listing cut. absurd (none text listing cut) }) refl
 
-pub unparted : (form : Form) (input : List ℕ) → HasNoParting input → length input ≤ 1048576 → IsNoCheck form input no_listing
+pub unparted : (form : Form) (input : List ℕ) → HasNoParting input → length input ≤ most_bytes
+    → IsNoCheck form input no_listing
 unparted form input none short = Unparted (record { short = short; none = none }) refl
 
 module _ (form : Form) (input text listing : List ℕ) (parted : IsParted input text listing) where
@@ -39,6 +43,9 @@ module _ (form : Form) (input text listing : List ℕ) (parted : IsParted input 
   no_text (failures.ListingPart fault) gives = absurd gives
   no_text (failures.PacketsPart fault) gives = absurd gives
   no_text failures.NoListing gives = absurd gives
+  no_text (failures.RowsPart fault) gives = absurd gives
+  no_text (failures.NoLoop k) gives = absurd gives
+  no_text (failures.Promise bad) gives = absurd gives
   no_text (failures.Words e) gives = absurd gives
   no_text (failures.Setting k) gives = absurd gives
   no_text failures.Memory gives = tt
@@ -46,7 +53,8 @@ module _ (form : Form) (input text listing : List ℕ) (parted : IsParted input 
   no_text failures.Output gives = absurd gives
 
   -- a program was read, and no packets
-  pub no_packets_part : (program : List Serial) → SaysProgram text program → (f : Failure) → GivesPacketsPart form listing (Err f) → Gives (Verdicts form) input (Err f)
+  pub no_packets_part : (program : List Serial) → SaysProgram text program → (f : Failure)
+      → GivesPacketsPart form listing (Err f) → Gives (Verdicts form) input (Err f)
   no_packets_part program says (failures.Unread fault) gives = absurd gives
   no_packets_part program says (failures.Unlisted fault) gives = absurd gives
   no_packets_part program says (failures.Unadopted fault) gives = absurd gives
@@ -75,6 +83,9 @@ module _ (form : Form) (input text listing : List ℕ) (parted : IsParted input 
         told = refl;
       })
   no_packets_part program says failures.NoListing gives = absurd gives
+  no_packets_part program says (failures.RowsPart fault) gives = absurd gives
+  no_packets_part program says (failures.NoLoop k) gives = absurd gives
+  no_packets_part program says (failures.Promise bad) gives = absurd gives
   no_packets_part program says (failures.Words e) gives = absurd gives
   no_packets_part program says (failures.Setting k) gives = absurd gives
   no_packets_part program says failures.Memory gives = tt
@@ -82,6 +93,7 @@ module _ (form : Form) (input text listing : List ℕ) (parted : IsParted input 
   no_packets_part program says failures.Output gives = absurd gives
 
 -- both were read, and this is told of them
-pub told : (form : Form) (input answer : List ℕ) (same : Bool) → IsCheck form input same answer → IsAnswer (Verdicts form) (outcome_of same) input answer
+pub told : (form : Form) (input answer : List ℕ) (same : Bool) → IsCheck form input same answer
+    → IsAnswer (Verdicts form) (outcome_of same) input answer
 told form input answer true is = is
 told form input answer false is = is

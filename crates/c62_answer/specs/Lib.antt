@@ -5,6 +5,7 @@ pub mod Message
 pub mod Texts
 pub mod Parting
 pub mod Check
+pub mod LoopCheck
 pub mod Run
 pub mod ReadBack
 pub mod OneText

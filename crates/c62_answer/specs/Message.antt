@@ -11,6 +11,8 @@ use Rattle.c62_adopt.specs.declared.fault.AdoptFault.{AdoptFault}
 use Rattle.c62_adopt.specs.FaultText.{adopt_fault_text}
 use Rattle.c62_rows.specs.declared.fault.RowsFault.{RowsFault}
 use Rattle.c62_rows.specs.FaultText.{fault_text as rows_fault_text}
+use Rattle.c62_command.specs.declared.promise.BadPromise.{BadPromise}
+use Rattle.c62_command.specs.declared.promise.BadPromise.TheVariants as promise
 use Rattle.c62_answer.specs.declared.failure.Failure.{Failure}
 use Rattle.c62_answer.specs.declared.failure.Failure.TheVariants as failure
 use Rattle.c62_op.specs.Name.{register_name}
@@ -48,6 +50,17 @@ no_listing = codes "text line 0: NoListing\n"
 abbrev pub setting_message : ℕ → List ℕ
 setting_message number = codes "setting " ++ decimal number ++ codes ": bad\n"
 
+-- `trips K: bad`
+abbrev pub trips_message : (number : ℕ) → (what : List ℕ) → List ℕ
+trips_message number what = codes "trips " ++ decimal number ++ codes ": " ++ what ++ codes "\n"
+
+abbrev pub no_loop : ℕ → List ℕ
+no_loop number = trips_message number (codes "no loop")
+
+abbrev pub promise_message : BadPromise → List ℕ
+promise_message (promise.Trips number) = trips_message number (codes "bad")
+promise_message promise.Apart = codes "apart: bad\n"
+
 -- what is told of a failure; clap's own text is left open
 abbrev pub message_of : Failure → Option (List ℕ)
 message_of (failure.Unread fault) = Some (fault_message fault.line fault.cause)
@@ -57,9 +70,12 @@ message_of (failure.Unflown fault) = Some (rows_message fault)
 message_of (failure.TextPart fault) = Some (of_text (fault_message fault.line fault.cause))
 message_of (failure.ListingPart fault) = Some (of_listing (list_message fault))
 message_of (failure.PacketsPart fault) = Some (of_listing (adopt_message fault))
+message_of (failure.RowsPart fault) = Some (of_listing (rows_message fault))
 message_of failure.NoListing = Some no_listing
+message_of (failure.NoLoop number) = Some (no_loop number)
 message_of (failure.Words error) = None
 message_of (failure.Setting number) = Some (setting_message number)
+message_of (failure.Promise bad) = Some (promise_message bad)
 message_of failure.Memory = Some (codes "memory\n")
 message_of failure.Input = Some (codes "input\n")
 message_of failure.Output = Some (codes "output\n")

@@ -4,7 +4,7 @@ use Rattle.std.specs.Io.KnownBytes.{Appends, Consumes, Keeps}
 use Rattle.std.specs.Option.{IsSomeAnd}
 use Rattle.clap.specs.Words.{Text}
 use Rattle.c62_answer.specs.declared.failure.Failure.{Failure}
-use Rattle.c62_answer.specs.declared.failure.Failure.TheVariants.{Unread, Unlisted, Unadopted, Unflown, TextPart, ListingPart, PacketsPart, NoListing, Words, Setting, Memory, Input, Output}
+use Rattle.c62_answer.specs.declared.failure.Failure.TheVariants.{Unread, Unlisted, Unadopted, Unflown, TextPart, ListingPart, PacketsPart, RowsPart, NoListing, NoLoop, Words, Setting, Promise, Memory, Input, Output}
 use Rattle.c62_answer.specs.declared.outcome.Added.{Added}
 use Rattle.c62_answer.specs.declared.outcome.Outcome.{Outcome}
 use Rattle.c62_answer.specs.declared.outcome.Outcome.TheVariants.{Done, Drained, NotSame, Breached}
@@ -12,6 +12,7 @@ use Rattle.c62_answer.specs.declared.outcome.Breach.TheVariants as breach
 use Rattle.c62_answer.specs.declared.outcome.Reply.{Reply}
 use Rattle.c62_command.specs.declared.command.CommandError.{CommandError}
 use Rattle.c62_command.specs.declared.command.CommandError.TheVariants as command
+use Rattle.c62_command.specs.declared.promise.BadPromise.{BadPromise}
 use Rattle.c62_command.specs.declared.setting.Setting.{Setting as Given}
 use Rattle.c62_command.specs.declared.setting.Setting.TheVariants as given
 use Rattle.c62_command.specs.declared.command.Course.{Course}
@@ -51,6 +52,8 @@ use Rattle.c62_rows.specs.declared.fault.RowsFault.TheVariants.{Memory as NoPlac
 use Rattle.c62_rows.specs.Text.{IsText, IsTextFrom}
 use Rattle.c62_exec.specs.declared.tally.Count.{Count}
 use Rattle.c62_exec.specs.Counts.{CountsFlight}
+use Rattle.c62_rows.specs.Rows.{text_of}
+use Rattle.c62_rows.specs.declared.text.RowsText.{RowsText}
 use Rattle.c62_reach.specs.Taken.{IsTaken}
 use Rattle.c62_show.specs.declared.shown.Shown.{Shown}
 use Rattle.c62_answer.specs.Bounds.{AreBounded}
@@ -63,10 +66,11 @@ use Rattle.c62_profile.specs.declared.tally.Tally.{Tally}
 use Rattle.c62_profile.specs.Visits.{CountsPackets, CountsProgram}
 use Rattle.c62_profile.specs.Table.{packet_table, serial_table}
 use Rattle.c62_profile.specs.Flights.{flight_table}
-use Rattle.c62_command.specs.CommandLine.{Ask, Listing, Picture, ListingPicture, PacketsPicture, SerialReport, PacketReport, StandingReport, FlightReport, Adoption, Reaching, Verdicts, IsRefusal, IsUnknown, HasBadSetting, asked}
-use Rattle.c62_answer.specs.Message.{adopt_message, fault_message, list_message, rows_message, no_listing, of_listing, of_text, setting_message, IsFront, IsToldOf, Telling, Tells, TellsOf, TellsOutcome}
+use Rattle.c62_command.specs.CommandLine.{Ask, Listing, Picture, ListingPicture, PacketsPicture, SerialReport, PacketReport, StandingReport, FlightReport, Adoption, Reaching, Verdicts, LoopVerdicts, IsRefusal, IsUnknown, HasBadSetting, HasBadPromise, asked}
+use Rattle.c62_answer.specs.Message.{adopt_message, fault_message, list_message, rows_message, no_listing, no_loop, of_listing, of_text, promise_message, setting_message, IsFront, IsToldOf, Telling, Tells, TellsOf, TellsOutcome}
 use Rattle.c62_answer.specs.Texts.{SaysProgram, SaysPackets, SaysNoPackets, IsNoProgram, IsNoListing, IsNoPackets, IsNoFlight, IsUnreached}
 use Rattle.c62_answer.specs.Check.{IsCheck, IsNoCheck}
+use Rattle.c62_answer.specs.LoopCheck.{IsFlying, IsLoopCheck, IsNoLoopCheck}
 use Rattle.c62_printing.specs.Printing.{prints}
 use Rattle.c62_printing.specs.Dumping.{dumps}
 
@@ -78,9 +82,12 @@ status_of (Unflown _) = 1
 status_of (TextPart _) = 1
 status_of (ListingPart _) = 1
 status_of (PacketsPart _) = 1
+status_of (RowsPart _) = 1
 status_of NoListing = 1
+status_of (NoLoop _) = 1
 status_of (Words _) = 2
 status_of (Setting _) = 2
+status_of (Promise _) = 2
 status_of Memory = 3
 status_of Input = 4
 status_of Output = 4
@@ -139,10 +146,15 @@ IsListingFailure fault f = ((fault ≡ NoStore) × (f ≡ Memory)) ⊎ ((fault �
 abbrev pub IsPacketsFailure : AdoptFault → Failure → Type 0
 IsPacketsFailure fault f = ((fault ≡ NoRoom) × (f ≡ Memory)) ⊎ ((fault ≢ NoRoom) × (f ≡ PacketsPart fault))
 
+-- what a fault of the packets in flight of a check is
+abbrev pub IsRowsPartFailure : RowsFault → Failure → Type 0
+IsRowsPartFailure fault f = ((fault ≡ NoPlace) × (f ≡ Memory)) ⊎ ((fault ≢ NoPlace) × (f ≡ RowsPart fault))
+
 -- what an error of the command line is
 abbrev pub IsCommandFailure : CommandError → Failure → Type 0
 IsCommandFailure (command.Words error) f = f ≡ Words error
 IsCommandFailure (command.Setting k) f = f ≡ Setting k
+IsCommandFailure (command.Promise bad) f = f ≡ Promise bad
 IsCommandFailure command.Memory f = f ≡ Memory
 
 -- at most n known bytes were taken
@@ -168,6 +180,7 @@ limit_of (FlightReport course from settings) = most_packets_bytes
 limit_of (Adoption drain) = most_packets_bytes
 limit_of (Reaching name ask) = most_packets_bytes
 limit_of (Verdicts form) = most_bytes + 5 + most_of form
+limit_of (LoopVerdicts trips apart) = most_bytes + 5 + most_packets_bytes
 limit_of _ = most_bytes
 
 -- where the words ask for something, no more is taken than one byte past the limit of that
@@ -325,13 +338,13 @@ abbrev pub outcome_adopted : Bool → Added → Outcome
 outcome_adopted true added = Drained added
 outcome_adopted false added = Done
 
--- how a check ends where every block is the same, or not
+-- how a check ends where all is the same, or not
 abbrev pub outcome_of : Bool → Outcome
 outcome_of true = Done
 outcome_of false = NotSame
 
 -- What answers a text: its listing or its picture, the report of a run, or what a check tells, or such an answer to what is taken of it. A
--- text is drained only where that is asked for, only of a check some block may not be the same, and only a strict run may end otherwise than done.
+-- text is drained only where that is asked for, only of a check not all may be the same, and only a strict run may end otherwise than done.
 abbrev pub IsAnswer : Ask → Outcome → List ℕ → List ℕ → Type 0
 IsAnswer (Listing packing) Done text answer = IsPackedText packing text answer
 IsAnswer (Picture showing) Done text answer = IsShownText showing text answer
@@ -346,6 +359,8 @@ IsAnswer (Adoption true) (Drained added) text answer = IsDrainedText added text 
 IsAnswer (Reaching name ask) outcome text answer = (taken : List ℕ) × IsTaken name text taken × IsAnswer ask outcome taken answer
 IsAnswer (Verdicts form) Done text answer = IsCheck form text true answer
 IsAnswer (Verdicts form) NotSame text answer = IsCheck form text false answer
+IsAnswer (LoopVerdicts trips apart) Done text answer = IsLoopCheck trips apart text true answer
+IsAnswer (LoopVerdicts trips apart) NotSame text answer = IsLoopCheck trips apart text false answer
 IsAnswer _ _ text answer = ⊥
 
 -- ---- refusals
@@ -359,6 +374,7 @@ IsRefusedText (FlightReport course from settings) text message = IsNoFlight from
 IsRefusedText (Adoption drain) text message = IsNoPackets drain text message
 IsRefusedText (Reaching name ask) text message = IsUnreached name text message ⊎ ((taken : List ℕ) × IsTaken name text taken × IsRefusedText ask taken message)
 IsRefusedText (Verdicts form) text message = IsNoCheck form text message
+IsRefusedText (LoopVerdicts trips apart) text message = IsNoLoopCheck trips text message
 IsRefusedText _ text message = IsNoProgram text message
 
 -- ---- streams
@@ -396,9 +412,16 @@ AsksInVain asked text message = IsSomeAnd asked (λ ask. IsRefused ask text mess
 abbrev pub IsBadSetting : List Text → List ℕ → Type 0
 IsBadSetting words message = (k : ℕ) × HasBadSetting words k × (message ≡ setting_message k)
 
--- The words ask for nothing: clap doesn't take them, or a setting is bad, and that is told.
+-- a promise is bad, and the message tells which
+abbrev pub IsBadPromise : List Text → List ℕ → Type 0
+IsBadPromise words message = (bad : BadPromise) × HasBadPromise words bad × (message ≡ promise_message bad)
+
+abbrev pub IsBadWord : List Text → List ℕ → Type 0
+IsBadWord words message = IsBadSetting words message ⊎ IsBadPromise words message
+
+-- The words ask for nothing: clap doesn't take them, or a setting or a promise is bad, and that is told.
 abbrev pub AsksNothing : Telling → List Text → Option (List ℕ) → Option (List ℕ) → Type 0
-AsksNothing Told words old new = IsUnknown words ⊎ TellsOf Told (IsBadSetting words) old new
+AsksNothing Told words old new = IsUnknown words ⊎ TellsOf Told (IsBadWord words) old new
 
 -- the failure is an error of the command line that says why the words ask for nothing
 abbrev pub Blames : Failure → List Text → Type 0
@@ -434,6 +457,14 @@ GivesPacketsPart form text (Err (PacketsPart fault)) = SaysNoPackets form text (
 GivesPacketsPart form text (Err Memory) = Unit {0}
 GivesPacketsPart form text (Err _) = ⊥
 
+-- the rows of the packets that are to be checked in flight, or their fault, unless memory ran out
+abbrev pub GivesRowsPart : List ℕ → Result RowsText Failure → Type 0
+GivesRowsPart text (Ok read) = IsFlying text (text_of read.rows)
+GivesRowsPart text (Err (PacketsPart fault)) = IsNoFlight None text (adopt_message fault)
+GivesRowsPart text (Err (RowsPart fault)) = IsNoFlight None text (rows_message fault)
+GivesRowsPart text (Err Memory) = Unit {0}
+GivesRowsPart text (Err _) = ⊥
+
 -- nothing is taken of a text from the label of this name on, as no line has it, unless memory ran out
 abbrev pub TakesNothing : (name text : List ℕ) → Failure → Type 0
 TakesNothing name text (Unflown fault) = IsUnreached name text (rows_message fault)
@@ -450,7 +481,9 @@ Gives ask text (Err (Unflown fault)) = IsRefusedText ask text (rows_message faul
 Gives ask text (Err (TextPart fault)) = IsRefusedText ask text (of_text (fault_message fault.line fault.cause))
 Gives ask text (Err (ListingPart fault)) = IsRefusedText ask text (of_listing (list_message fault))
 Gives ask text (Err (PacketsPart fault)) = IsRefusedText ask text (of_listing (adopt_message fault))
+Gives ask text (Err (RowsPart fault)) = IsRefusedText ask text (of_listing (rows_message fault))
 Gives ask text (Err NoListing) = IsRefusedText ask text no_listing
+Gives ask text (Err (NoLoop number)) = IsRefusedText ask text (no_loop number)
 Gives ask text (Err Memory) = Unit {0}
 Gives ask text (Err _) = ⊥
 
@@ -463,7 +496,9 @@ Fails ask text old new (Unflown fault) = IsRefused ask text (rows_message fault)
 Fails ask text old new (TextPart fault) = IsRefused ask text (of_text (fault_message fault.line fault.cause)) × Keeps old new
 Fails ask text old new (ListingPart fault) = IsRefused ask text (of_listing (list_message fault)) × Keeps old new
 Fails ask text old new (PacketsPart fault) = IsRefused ask text (of_listing (adopt_message fault)) × Keeps old new
+Fails ask text old new (RowsPart fault) = IsRefused ask text (of_listing (rows_message fault)) × Keeps old new
 Fails ask text old new NoListing = IsRefused ask text no_listing × Keeps old new
+Fails ask text old new (NoLoop number) = IsRefused ask text (no_loop number) × Keeps old new
 Fails ask text old new Memory = Keeps old new
 Fails ask text old new Input = Keeps old new
 Fails ask text old new Output = BreaksOff ask text old new
@@ -497,12 +532,12 @@ pub record Ends (Told : Telling) (words : List Text) (old new : Streams) (status
 -- "Command line").
 pub record IsRunBy (Told : Telling) (words : List Text) (old new : Streams) (status : ℕ) : Type 0 where
   pub known : status ≤ 7
-  -- What the words ask for was written. On 5 that is what a check tells, and some block isn't the same. On 6 and 7 it is the report
+  -- What the words ask for was written. On 5 that is what a check tells, and some block or loop isn't the same. On 6 and 7 it is the report
   -- of a strict run, which ended by its limit or in which an access faulted.
   pub done : (status ≡ 0) ⊎ (5 ≤ status) → Ends Told words old new status
   -- The text is refused, and its fault is told.
   pub refused : status ≡ 1 → TellsOf Told (AsksInVain (asked words) old.input) old.errors new.errors
-  -- The words are refused. Words and settings are judged first: where they ask for nothing, nothing is read.
+  -- The words are refused. Words, settings and promises are judged first: where they ask for nothing, nothing is read.
   pub blamed : status ≡ 2 → AsksNothing Told words old.errors new.errors
   pub judged : asked words ≡ None → (status ≡ 2) ⊎ (status ≡ 3)
   pub unread : asked words ≡ None → Keeps old.input new.input
@@ -537,7 +572,7 @@ pub record IsRunOnBytes (words : List Text) (input output errors : List ℕ) (st
   pub known : status ≤ 7
   pub done : (status ≡ 0) ⊎ (5 ≤ status) → EndsOnBytes words input output errors status
   pub refused : status ≡ 1 → (message : List ℕ) × IsSomeAnd (asked words) (λ ask. IsRefusedText ask input message) × IsFront errors message
-  pub blamed : status ≡ 2 → IsUnknown words ⊎ ((k : ℕ) × HasBadSetting words k × IsFront errors (setting_message k))
+  pub blamed : status ≡ 2 → IsUnknown words ⊎ ((message : List ℕ) × IsBadWord words message × IsFront errors message)
   pub judged : asked words ≡ None → (status ≡ 2) ⊎ (status ≡ 3)
   pub memory : status ≡ 3 → IsFront errors (codes "memory\n")
   pub stream : status ≡ 4 → IsFront errors (codes "input\n") ⊎ IsFront errors (codes "output\n")

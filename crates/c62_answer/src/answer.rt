@@ -11,6 +11,7 @@ ghost use Rattle.c62_answer.specs.Run.{added_of, Gives, GivesProgram, limit_of, 
 ghost use Rattle.c62_answer.specs.declared.parting.TheConstants.{MOST_BYTES};
 
 use crate::checking::verdicts;
+use crate::checking_loops::loop_verdicts;
 use crate::failure::Failure;
 use crate::outcome::{Added, Outcome, Reply};
 use crate::packets::packets_in;
@@ -232,6 +233,7 @@ pub fn answer<H: AllocGlobal + Threads + Wait + Sync>(
         Request::Exec(start) => exec_as(rt.alloc(), text, start),
         Request::Adopt(adopting) => adopted_as(rt.alloc(), text, adopting),
         Request::Check(form) => verdicts(rt.alloc(), *form, text),
+        Request::CheckLoops(promises) => loop_verdicts(rt.alloc(), promises, text),
     }
 }
 
@@ -253,6 +255,7 @@ pub fn limit_of(request: &Request) -> usize
 {
     match request {
         Request::Check(Form::Listed) | Request::Check(Form::Written) => parting::MOST_BYTES,
+        Request::CheckLoops(_) => parting::MOST_BYTES,
         Request::Sim(form, _) => most_of(*form),
         Request::ShowListing(_) => c62_listing_reader::MOST_BYTES,
         Request::Exec(_) | Request::Adopt(_) | Request::ShowPackets(_) => c62_adopt_cut::MOST_BYTES,

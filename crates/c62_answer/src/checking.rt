@@ -1,7 +1,9 @@
 //! Holds packets, in a listing or as they are written, against a serial text (docs/CHECK.md).
 
-ghost use Rattle.std.specs.Prelude.{Err};
-ghost use Rattle.c62_command.specs.CommandLine.{Verdicts};
+ghost use Rattle.std.specs.Prelude.{Err, List, ℕ};
+ghost use Rattle.clap.specs.Words.{Text};
+ghost use Rattle.c62_op.specs.declared.register.Reg.{Reg as Register};
+ghost use Rattle.c62_command.specs.CommandLine.{Verdicts, LoopVerdicts};
 ghost use Rattle.c62_answer.specs.Parting.{HasNoParting};
 ghost use Rattle.c62_answer.specs.Run.{Gives, GivesTextPart, GivesPacketsPart};
 
@@ -18,10 +20,11 @@ use c62_read::{Cause, MOST_BYTES, Program, ReadFault, read_program};
 use std::alloc::Global;
 
 /// What is told of a check whose input has no line `---`.
-#[tactic(auto, using(crate::proofs::Verdicts::endless, crate::proofs::Verdicts::unparted))]
-fn unparted(input: &[u8]) -> Failure
+#[tactic(auto, using(crate::proofs::Verdicts::endless, crate::proofs::Verdicts::unparted, crate::proofs::LoopVerdicts::endless, crate::proofs::LoopVerdicts::unparted))]
+pub(crate) fn unparted(input: &[u8]) -> Failure
     requires { HasNoParting input.now }
-    ensures { (form : Form) → Gives (Verdicts form) input.now (Err result) }
+    ensures by_block { (form : Form) → Gives (Verdicts form) input.now (Err result) }
+    ensures by_loop { (trips : List (Text × ℕ)) (apart : List Register) → Gives (LoopVerdicts trips apart) input.now (Err result) }
 {
     if input.len() > MOST_BYTES {
         Failure::TextPart(ReadFault::at(0, Cause::TextTooLong))
@@ -31,7 +34,7 @@ fn unparted(input: &[u8]) -> Failure
 }
 
 /// The program that the text of a check says.
-fn text_part(alloc: Global, text: &[u8]) -> Result<Program, Failure>
+pub(crate) fn text_part(alloc: Global, text: &[u8]) -> Result<Program, Failure>
     ensures { GivesTextPart text.now result }
 {
     match read_program(alloc, text) {

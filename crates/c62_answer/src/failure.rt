@@ -2,11 +2,11 @@
 
 ghost use Rattle.std.specs.Prelude.{◌≡◌, ◌⊎◌};
 ghost use Rattle.c62_answer.specs.declared.failure.Failure.TheVariants.{Memory, Input};
-ghost use Rattle.c62_answer.specs.Run.{status_of, IsCommandFailure, IsReadFailure, IsListFailure, IsAdoptFailure, IsRowsFailure, IsTextFailure, IsListingFailure, IsPacketsFailure};
+ghost use Rattle.c62_answer.specs.Run.{status_of, IsCommandFailure, IsReadFailure, IsListFailure, IsAdoptFailure, IsRowsFailure, IsTextFailure, IsListingFailure, IsPacketsFailure, IsRowsPartFailure};
 
 use crate::input::InputError;
 use c62_adopt::AdoptFault;
-use c62_command::CommandError;
+use c62_command::{BadPromise, CommandError};
 use c62_listing_reader::ListFault;
 use c62_read::{Cause, ReadFault};
 use c62_rows::RowsFault;
@@ -30,12 +30,18 @@ pub enum Failure {
     ListingPart(ListFault),
     /// The packets of what is to be checked, as they are written, have a fault.
     PacketsPart(AdoptFault),
+    /// The packets in flight of what is to be checked have a fault.
+    RowsPart(RowsFault),
     /// What is to be checked has no line `---`, and so no listing.
     NoListing,
+    /// The `--trips` of this number, from 1, names a label that is no loop's.
+    NoLoop(usize),
     /// The words ask for nothing that there is.
     Words(clap::Error),
     /// The setting with this number, from 1, is none.
     Setting(usize),
+    /// This promise says nothing.
+    Promise(BadPromise),
     /// Memory ran out.
     Memory,
     /// The reader failed.
@@ -54,7 +60,8 @@ impl Failure {
             Failure::Unadopted(_) | Failure::Unflown(_) => 1,
             Failure::TextPart(_) | Failure::ListingPart(_) => 1,
             Failure::PacketsPart(_) | Failure::NoListing => 1,
-            Failure::Words(_) | Failure::Setting(_) => 2,
+            Failure::RowsPart(_) | Failure::NoLoop(_) => 1,
+            Failure::Words(_) | Failure::Setting(_) | Failure::Promise(_) => 2,
             Failure::Memory => 3,
             Failure::Input | Failure::Output => 4,
         }
@@ -87,6 +94,16 @@ impl Failure {
         match fault {
             AdoptFault::Memory => Failure::Memory,
             _ => Failure::PacketsPart(fault),
+        }
+    }
+
+    /// The failure of a check whose packets in flight have this fault.
+    pub fn of_rows(fault: RowsFault) -> Failure
+        ensures { IsRowsPartFailure fault result }
+    {
+        match fault {
+            RowsFault::Memory => Failure::Memory,
+            _ => Failure::RowsPart(fault),
         }
     }
 }
@@ -161,6 +178,7 @@ impl From<CommandError> for Failure {
         match error {
             CommandError::Words(error) => Failure::Words(error),
             CommandError::Setting(number) => Failure::Setting(number),
+            CommandError::Promise(bad) => Failure::Promise(bad),
             CommandError::Memory => Failure::Memory,
         }
     }

@@ -4,6 +4,7 @@
 
 mod answer;
 mod checking;
+mod checking_loops;
 mod exec;
 mod failure;
 mod input;
@@ -21,5 +22,6 @@ mod writing;
 
 pub use input::{InputError, read_text};
 pub use parting::{MOST_BYTES, Parts, parts_of};
+pub use run::opening;
 pub use tool::{Ran, run_on_bytes, run_tool};
 pub use writing::{Refused, show, write_pieces, write_whole};

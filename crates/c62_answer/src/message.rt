@@ -2,13 +2,14 @@
 
 ghost use Rattle.std.specs.Prelude.{◌≡◌, ◌++◌, IfSome, Some, codes, decimal};
 ghost use Rattle.c62_op.specs.Name.{file_letter};
-ghost use Rattle.c62_answer.specs.Message.{added_word, adopt_message, cycles_added, drained_message, fault_message, late_message, list_message, message_of, rows_message, setting_message, told_of, TellsOutcome};
+ghost use Rattle.c62_answer.specs.Message.{added_word, adopt_message, cycles_added, drained_message, fault_message, late_message, list_message, message_of, promise_message, rows_message, setting_message, told_of, trips_message, TellsOutcome};
 
 use crate::failure::Failure;
 use crate::outcome::{Added, Outcome};
 use crate::writing::{Refused, show, write_pieces, write_whole};
 use c62_adopt::AdoptFault;
 use c62_adopt_late::Late;
+use c62_command::BadPromise;
 use c62_listing_reader::ListFault;
 use c62_op::Side;
 use c62_read::ReadFault;
@@ -100,14 +101,14 @@ fn tell_adopt_fault<E: Write>(errors: &mut E, part: &str, fault: AdoptFault) -> 
     }
 }
 
-/// Tells the fault of a text of packets that is to run in flight.
-fn tell_rows_fault<E: Write>(errors: &mut E, fault: RowsFault) -> Result<(), Refused>
-    ensures { told_of result (E.contents errors.old) (E.contents errors.new) (rows_message fault) }
+/// Tells the fault of a text of packets in flight behind the name of a part.
+fn tell_rows_fault<E: Write>(errors: &mut E, part: &str, fault: RowsFault) -> Result<(), Refused>
+    ensures { told_of result (E.contents errors.old) (E.contents errors.new) (part.now ++ rows_message fault) }
 {
     match fault {
-        RowsFault::At(line, cause) => tell_line(errors, "", line, cause.name()),
-        RowsFault::From => write_whole(errors, b"from: UnknownTarget\n"),
-        RowsFault::Memory => write_whole(errors, b"memory\n"),
+        RowsFault::At(line, cause) => tell_line(errors, part, line, cause.name()),
+        RowsFault::From => write_pieces(errors, &[part, "from: UnknownTarget\n"]),
+        RowsFault::Memory => write_pieces(errors, &[part, "memory\n"]),
     }
 }
 
@@ -117,6 +118,24 @@ fn tell_setting<E: Write>(errors: &mut E, number: usize) -> Result<(), Refused>
 {
     let mut buffer = Buffer::new();
     write_pieces(errors, &["setting ", buffer.format(number), ": bad\n"])
+}
+
+/// Tells of a `--trips` by its number what is wrong with it.
+fn tell_trips<E: Write>(errors: &mut E, number: usize, what: &str) -> Result<(), Refused>
+    ensures { told_of result (E.contents errors.old) (E.contents errors.new) (trips_message number what.now) }
+{
+    let mut buffer = Buffer::new();
+    write_pieces(errors, &["trips ", buffer.format(number), ": ", what, "\n"])
+}
+
+/// Tells that this promise is bad.
+fn tell_promise<E: Write>(errors: &mut E, bad: BadPromise) -> Result<(), Refused>
+    ensures { told_of result (E.contents errors.old) (E.contents errors.new) (promise_message bad) }
+{
+    match bad {
+        BadPromise::Trips(number) => tell_trips(errors, number, "bad"),
+        BadPromise::Apart => write_whole(errors, b"apart: bad\n"),
+    }
 }
 
 /// Tells what failed, in one line but for clap's text.
@@ -131,13 +150,16 @@ pub fn report<E: Write>(errors: &mut E, failure: &Failure) -> Result<(), Refused
         Failure::Unread(fault) => tell_read_fault(errors, "", *fault),
         Failure::Unlisted(fault) => tell_list_fault(errors, "", *fault),
         Failure::Unadopted(fault) => tell_adopt_fault(errors, "", *fault),
-        Failure::Unflown(fault) => tell_rows_fault(errors, *fault),
+        Failure::Unflown(fault) => tell_rows_fault(errors, "", *fault),
         Failure::TextPart(fault) => tell_read_fault(errors, "text ", *fault),
         Failure::ListingPart(fault) => tell_list_fault(errors, "listing ", *fault),
         Failure::PacketsPart(fault) => tell_adopt_fault(errors, "listing ", *fault),
+        Failure::RowsPart(fault) => tell_rows_fault(errors, "listing ", *fault),
         Failure::NoListing => write_whole(errors, b"text line 0: NoListing\n"),
+        Failure::NoLoop(number) => tell_trips(errors, *number, "no loop"),
         Failure::Words(error) => show(errors, error),
         Failure::Setting(number) => tell_setting(errors, *number),
+        Failure::Promise(bad) => tell_promise(errors, *bad),
         Failure::Memory => write_whole(errors, b"memory\n"),
         Failure::Input => write_whole(errors, b"input\n"),
         Failure::Output => write_whole(errors, b"output\n"),

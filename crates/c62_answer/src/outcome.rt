@@ -25,11 +25,11 @@ pub struct Added {
 /// How a run ends that is done.
 #[derive(Clone, Copy, PartialEq, Eq, Debug)]
 pub enum Outcome {
-    /// The answer is written; where that is what a check tells, every block is the same.
+    /// The answer is written; where that is what a check tells, all is the same.
     Done,
     /// The listing of a text that was drained is written: this was added.
     Drained(Added),
-    /// What a check tells is written, and some block isn't the same.
+    /// What a check tells is written, and some block or loop isn't the same.
     NotSame,
     /// The report of a strict run is written, and it has this.
     Breached(Breach),
@@ -54,7 +54,7 @@ impl Outcome {
         }
     }
 
-    /// How a check ends where every block is the same, or not.
+    /// How a check ends where all is the same, or not.
     pub fn of_check(same: bool) -> Outcome
         ensures { result ≡ outcome_of same }
     {

@@ -47,7 +47,11 @@ fn set_all(state: &mut State, settings: &[Setting])
 }
 
 /// Zeros, and then these settings.
-pub(crate) fn opening(alloc: Global, settings: &[Setting]) -> Result<State, AllocError>
+///
+/// # Errors
+///
+/// `AllocError` where memory ran out.
+pub fn opening(alloc: Global, settings: &[Setting]) -> Result<State, AllocError>
     ensures { IfOk result (λ state. IsOpening settings.now state.machine) }
 {
     let mut state = State::new(alloc)?;

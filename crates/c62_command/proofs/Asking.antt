@@ -1,17 +1,27 @@
 -- What words ask for.
 use Rattle.std.proofs.Common.{◌≡◌, ◌≢◌, ◌∙◌, ℕ, List, [], ◌∷◌, length, map, Option, Some, None, refl, ap, arith}
 use Rattle.clap.specs.Words.{Kinds, Row, Text, fault_of, subcommand_of}
-use Rattle.c62_command.specs.CommandLine.{Ask, Listing, HasBadSetting, HasFirstBad, IsUnknown, ask_in, asked, plain_packing, setting_words, tool_app, unless_fault}
+use Rattle.c62_command.specs.declared.promise.BadPromise.{BadPromise}
+use Rattle.c62_command.specs.declared.promise.BadPromise.TheVariants as no_promise
+use Rattle.c62_command.specs.declared.command.CommandError.{CommandError}
+use Rattle.c62_command.specs.declared.command.CommandError.TheVariants as refused
+use Rattle.c62_command.specs.Promises.{IsBadPromise, all_trips, apart_of, trips_in, trips_words}
+use Rattle.c62_command.proofs.PromiseLemmas.{none_said}
+use Rattle.c62_command.specs.CommandLine.{Ask, Listing, HasBadPromise, HasBadPromiseIn, HasBadSetting, HasFirstBad}
+use Rattle.c62_command.specs.CommandLine.{IsRefusal, IsRefusalIn, IsUnknown, loops_asked, ask_in, asked, plain_packing}
+use Rattle.c62_command.specs.CommandLine.{setting_words, tool_app, unless_fault}
 use Rattle.c62_command.specs.Settings.{IsFirstBad, settings_of}
 use Rattle.c62_command.proofs.SettingLemmas.{none_of}
 
-pub asked-none : {W : Type 0} (text : W → Text) (words : List W) → length words ≡ 0 → asked (map text words) ≡ Some (Listing plain_packing)
+pub asked-none : {W : Type 0} (text : W → Text) (words : List W) → length words ≡ 0
+    → asked (map text words) ≡ Some (Listing plain_packing)
 unfolding asked
 asked-none text [] e = refl
 asked-none text (word ∷ words) e = absurd (omega arith)
 
 -- clap takes the words
-pub asked-taken : {W : Type 0} (text : W → Text) (words : List W) (ask : Ask) → length words ≢ 0 → fault_of tool_app (map text words) ≡ []
+pub asked-taken : {W : Type 0} (text : W → Text) (words : List W) (ask : Ask) → length words ≢ 0
+    → fault_of tool_app (map text words) ≡ []
     → ask_in (subcommand_of tool_app (map text words)) ≡ Some ask → asked (map text words) ≡ Some ask
 unfolding asked
 asked-taken text [] ask some taken e = absurd (some refl)
@@ -25,7 +35,8 @@ faulty (kind ∷ kinds) ask e = refl
 pub asked-unknown : (words : List Text) → IsUnknown words → asked words ≡ None
 unfolding asked
 asked-unknown [] e = absurd (omega (arith, e.0))
-asked-unknown (word ∷ words) e = faulty (fault_of tool_app (word ∷ words)) (ask_in (subcommand_of tool_app (word ∷ words))) e.1
+asked-unknown (word ∷ words) e = faulty (fault_of tool_app (word ∷ words))
+    (ask_in (subcommand_of tool_app (word ∷ words))) e.1
 
 no_settings : (rows : List Row) (k : ℕ) → IsFirstBad (setting_words rows) k → settings_of (setting_words rows) ≡ None
 no_settings rows k bad = ap settings_of bad.whole ∙ none_of bad.before bad.text bad.after bad.bad
@@ -33,6 +44,39 @@ no_settings rows k bad = ap settings_of bad.whole ∙ none_of bad.before bad.tex
 nothing_in : (found : Option (Text × List Row)) (k : ℕ) → HasFirstBad found k → ask_in found ≡ None
 nothing_in None k e = absurd e
 nothing_in (Some (name, rows)) k e = rw (e.0.0, e.0.1, e.0.2, e.0.3, no_settings rows k e.1) refl
+
+no_promises : (rows : List Row) (bad : BadPromise) → IsBadPromise rows bad
+    → loops_asked (all_trips (trips_words rows)) (apart_of rows) ≡ None
+no_promises rows (no_promise.Trips k) bad =
+    let none : all_trips (trips_words rows) ≡ None = ap all_trips bad.whole
+    ∙ none_said trips_in bad.before bad.text bad.after bad.bad in
+    rw none refl
+no_promises rows no_promise.Apart bad = rw (bad.0) (nothing (all_trips (trips_words rows)))
+  where
+    nothing : (trips : Option (List (Text × ℕ))) → loops_asked trips None ≡ None
+    nothing None = refl
+    nothing (Some trips) = refl
+
+no_loops_in : (found : Option (Text × List Row)) (bad : BadPromise) → HasBadPromiseIn found bad → ask_in found ≡ None
+no_loops_in None bad e = absurd e
+no_loops_in (Some (name, rows)) bad e = rw (e.pack, e.show, e.adopt, e.check, e.loops, no_promises rows bad e.why) refl
+
+pub asked-bad-promise : (words : List Text) (bad : BadPromise) → HasBadPromise words bad → asked words ≡ None
+unfolding asked
+asked-bad-promise [] bad e = absurd (omega (arith, e.0))
+asked-bad-promise (word ∷ words) bad e =
+    ap (λ (kinds : Kinds). unless_fault kinds (ask_in (subcommand_of tool_app (word ∷ words)))) e.1
+    ∙ no_loops_in (subcommand_of tool_app (word ∷ words)) bad e.2
+
+-- why a subcommand asks for nothing is why the words do
+pub refused_in : {W : Type 0} (text : W → Text) (words : List W) (error : CommandError) → length words ≢ 0
+    → fault_of tool_app (map text words) ≡ []
+    → IsRefusalIn (subcommand_of tool_app (map text words)) error → IsRefusal error (map text words)
+refused_in text [] error some taken is = absurd (some refl)
+refused_in text (word ∷ words) (refused.Words e) some taken is = absurd is
+refused_in text (word ∷ words) (refused.Setting k) some taken is = (omega arith, taken, is)
+refused_in text (word ∷ words) (refused.Promise bad) some taken is = (omega arith, taken, is)
+refused_in text (word ∷ words) refused.Memory some taken is = tt
 
 pub asked-bad : (words : List Text) (k : ℕ) → HasBadSetting words k → asked words ≡ None
 unfolding asked

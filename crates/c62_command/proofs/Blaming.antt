@@ -1,5 +1,5 @@
 -- The setting that a refusal blames.
-use Rattle.std.proofs.Common.{◌≡◌, ◌≢◌, ℕ, List, [], ◌∷◌, Option, None, refl}
+use Rattle.std.proofs.Common.{◌≡◌, ◌≢◌, ℕ, [], ◌∷◌, Option, None, refl}
 use Rattle.std.specs.Prelude.{slice_get}
 use Rattle.clap.specs.Words.{Kinds, Text}
 use Rattle.c62_command.specs.Blamed.{if_taken}

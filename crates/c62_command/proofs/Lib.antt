@@ -2,7 +2,9 @@ pub mod SettingLemmas
 pub mod PromiseLemmas
 pub mod ParsedNumber
 pub mod Asking
+pub mod PassedRows
 pub mod Passed
+pub mod InRange
 pub mod Limits
 pub mod Blaming
 pub mod Printing

@@ -29,7 +29,8 @@ number_read bits default text (Ok n) h =
     rw (lt-ltb 0 (length ds) h.0.0.0, digits_pass ds h.0.0.1, lt-ltb (digits_value 10 ds) (2 ^ bits) h.0.1) h.1
 number_read bits default text (Err e) h = go (is_number bits (without_leading_plus text)) refl
   where
-    go : (b : Bool) → is_number bits (without_leading_plus text) ≡ b → default ≡ unwrap_or (number_written bits text) default
+    go : (b : Bool) → is_number bits (without_leading_plus text) ≡ b
+        → default ≡ unwrap_or (number_written bits text) default
     go false t = rw t refl
     go true t =
         let outer = both _ _ t in

@@ -1,5 +1,6 @@
 -- What words print lies in memory.
-use Rattle.std.proofs.Common.{◌≡◌, ℕ, ◌+◌, ◌*◌, ◌/◌, ◌%◌, ◌≤◌, Bool, true, false, List, [], ◌∷◌, ◌++◌, take, drop, Option, Some, None, refl, subst, arith, cond}
+use Rattle.std.proofs.Common.{◌≡◌, ℕ, ◌+◌, ◌/◌, Bool, true, false, List, [], ◌∷◌, take, drop, Option, Some, None, refl}
+use Rattle.std.proofs.Common.{subst, arith, cond}
 use Rattle.std.specs.Prelude.{◌==◌, IfSome, codes, nat_eq, option_and_then, option_map}
 use Rattle.std.specs.List.{All, position, starts_with}
 use Rattle.std.specs.Str.{bytes_eq}
@@ -10,7 +11,11 @@ use Rattle.c62_command.specs.declared.setting.Setting.{Setting}
 use Rattle.c62_command.specs.declared.setting.Setting.TheVariants.{Register, Print as Prints, Dump as Dumps}
 use Rattle.c62_command.specs.declared.setting.Size.{Size}
 use Rattle.c62_command.specs.declared.setting.Size.TheVariants.{Byte, Half, Word}
-use Rattle.c62_command.specs.Settings.{AreSettings, ArePrintedOfMemory, PrintsMemory, address_in, and_setting, and_settings, bytes_in, cell, cells, dump_setting, dumped, extent_in, form_named, holds, length_in, memory_settings, named_setting, one, parts, place_in, print_as, print_parted, print_setting, printed, register_setting, set_at, settings_at, settings_in, settings_of, spans, value_of}
+use Rattle.c62_command.specs.Settings.{ArePrintedOfMemory, PrintsMemory, and_setting, and_settings, bytes_in, cell}
+use Rattle.c62_command.specs.Settings.{cells, dump_setting, dumped, extent_in, form_named, holds, memory_settings}
+use Rattle.c62_command.specs.Settings.{named_setting, one, parts, place_in, print_as, print_parted, print_setting}
+use Rattle.c62_command.specs.Settings.{printed, register_setting, set_at, settings_at, settings_in, settings_of, spans}
+use Rattle.c62_command.specs.Settings.{value_of}
 
 -- where this is something, it prints nothing but memory
 abbrev IsPrinted : Option Setting → Type 0
@@ -19,11 +24,13 @@ IsPrinted said = IfSome said PrintsMemory
 abbrev ArePrinted : Option (List Setting) → Type 0
 ArePrinted said = IfSome said (All PrintsMemory)
 
-and_then : {X Y : Type 0} (P : Y → Type 0) (f : X → Option Y) (o : Option X) → ((x : X) → IfSome (f x) P) → IfSome (option_and_then f o) P
+and_then : {X Y : Type 0} (P : Y → Type 0) (f : X → Option Y) (o : Option X) → ((x : X) → IfSome (f x) P)
+    → IfSome (option_and_then f o) P
 and_then P f None each = tt
 and_then P f (Some x) each = each x
 
-either : {Y : Type 0} (P : Y → Type 0) (b : Bool) (this that : Option Y) → IfSome this P → IfSome that P → IfSome (cond b this that) P
+either : {Y : Type 0} (P : Y → Type 0) (b : Bool) (this that : Option Y) → IfSome this P → IfSome that P
+    → IfSome (cond b this that) P
 either P true this that first second = first
 either P false this that first second = second
 
@@ -39,18 +46,22 @@ is_printed : (address length : ℕ) (size : Size) (signed : Bool) → IsPrinted 
 is_printed address length size signed = go (spans size address length) refl
   where
     go : (b : Bool) → spans size address length ≡ b
-        → IsPrinted (cond b (Some (Prints (record { address = address; count = length / bytes_in size; size = size; signed = signed }))) None)
+        → IsPrinted (cond b (Some
+        (Prints (record { address = address; count = length / bytes_in size; size = size; signed = signed })))
+        None)
     go true e = spanned address length size signed e
     go false e = tt
 
 as_printed : (text : List ℕ) (size : Size) (signed : Bool) → IsPrinted (print_as text size signed)
 as_printed text size signed =
-    and_then PrintsMemory (λ extent. printed extent.0 extent.1 size signed) (extent_in text) (λ extent. is_printed extent.0 extent.1 size signed)
+    and_then PrintsMemory (λ extent. printed extent.0 extent.1 size signed) (extent_in text)
+    (λ extent. is_printed extent.0 extent.1 size signed)
 
 parted_printed : (text : List ℕ) (colon : Option ℕ) → IsPrinted (print_parted text colon)
 parted_printed text None = as_printed text Word false
 parted_printed text (Some k) =
-    and_then PrintsMemory (λ form. print_as (take k text) form.0 form.1) (form_named (drop (k + 1) text)) (λ form. as_printed (take k text) form.0 form.1)
+    and_then PrintsMemory (λ form. print_as (take k text) form.0 form.1) (form_named (drop (k + 1) text))
+    (λ form. as_printed (take k text) form.0 form.1)
 
 setting_printed : (text : List ℕ) → IsPrinted (print_setting text)
 unfolding print_setting
@@ -61,17 +72,20 @@ setting_printed text = parted_printed text (position (λ b. b == 58) text)
 is_dumped : (address length : ℕ) → IsPrinted (dumped address length)
 is_dumped address length = go (spans Byte address length) refl
   where
-    go : (b : Bool) → spans Byte address length ≡ b → IsPrinted (cond b (Some (Dumps (record { address = address; count = length }))) None)
+    go : (b : Bool) → spans Byte address length ≡ b
+        → IsPrinted (cond b (Some (Dumps (record { address = address; count = length }))) None)
     go true e = grind (arith, nat_tests, e)
     go false e = tt
 
 setting_dumped : (text : List ℕ) → IsPrinted (dump_setting text)
-setting_dumped text = and_then PrintsMemory (λ extent. dumped extent.0 extent.1) (extent_in text) (λ extent. is_dumped extent.0 extent.1)
+setting_dumped text = and_then PrintsMemory (λ extent. dumped extent.0 extent.1) (extent_in text)
+    (λ extent. is_dumped extent.0 extent.1)
 
 -- ---- what is set
 
 register_set : (name text : List ℕ) → IsPrinted (register_setting name text)
-register_set name text = and_then PrintsMemory (λ reg. option_map (Register reg) (value_of text)) (register_of name) (λ reg. go (Register reg) (value_of text) (λ _. tt))
+register_set name text = and_then PrintsMemory (λ reg. option_map (Register reg) (value_of text)) (register_of name)
+    (λ reg. go (Register reg) (value_of text) (λ _. tt))
   where
     go : (f : ℕ → Setting) (o : Option ℕ) → ((value : ℕ) → PrintsMemory (f value)) → IsPrinted (option_map f o)
     go f None each = tt
@@ -84,9 +98,11 @@ value_set Half address (Some value) = tt
 value_set Word address (Some value) = tt
 
 cell_set : (size : Size) (address : ℕ) (text : List ℕ) → IsPrinted (cell size address text)
-cell_set size address text = either PrintsMemory (holds size address) (option_map (set_at size address) (value_of text)) None (value_set size address (value_of text)) tt
+cell_set size address text = either PrintsMemory (holds size address) (option_map (set_at size address) (value_of text))
+    None (value_set size address (value_of text)) tt
 
-with_setting : (first : Option Setting) (others : Option (List Setting)) → IsPrinted first → ArePrinted others → ArePrinted (and_setting first others)
+with_setting : (first : Option Setting) (others : Option (List Setting)) → IsPrinted first → ArePrinted others
+    → ArePrinted (and_setting first others)
 with_setting None others is are = tt
 with_setting (Some setting) None is are = tt
 with_setting (Some setting) (Some settings) is are = All-cons PrintsMemory setting settings is are
@@ -95,7 +111,8 @@ cells_set : (size : Size) (address : ℕ) (texts : List (List ℕ)) → ArePrint
 unfolding cells
 cells_set size address [] = All-nil PrintsMemory
 cells_set size address (text ∷ texts) =
-    with_setting (cell size address text) (cells size (address + bytes_in size) texts) (cell_set size address text) (cells_set size (address + bytes_in size) texts)
+    with_setting (cell size address text) (cells size (address + bytes_in size) texts) (cell_set size address text)
+    (cells_set size (address + bytes_in size) texts)
 
 -- ---- words
 
@@ -105,26 +122,31 @@ one_said (Some setting) is = All-cons PrintsMemory setting [] is (All-nil Prints
 
 memory_said : (place text : List ℕ) → ArePrinted (memory_settings place text)
 memory_said place text =
-    and_then (All PrintsMemory) (λ found. cells found.1 found.0 (parts text)) (place_in place) (λ found. cells_set found.1 found.0 (parts text))
+    and_then (All PrintsMemory) (λ found. cells found.1 found.0 (parts text)) (place_in place)
+    (λ found. cells_set found.1 found.0 (parts text))
 
 named_said : (name text : List ℕ) → IsPrinted (named_setting name text)
 named_said name text =
     let other : Option Setting = cond (bytes_eq name (codes "dump")) (dump_setting text) (register_setting name text) in
     either PrintsMemory (bytes_eq name (codes "print")) (print_setting text) other (setting_printed text)
-    (either PrintsMemory (bytes_eq name (codes "dump")) (dump_setting text) (register_setting name text) (setting_dumped text) (register_set name text))
+    (either PrintsMemory (bytes_eq name (codes "dump")) (dump_setting text) (register_setting name text)
+    (setting_dumped text) (register_set name text))
 
 said_at : (name text : List ℕ) → ArePrinted (settings_at name text)
 unfolding settings_at
 said_at name text =
-    either (All PrintsMemory) (starts_with nat_eq name (64 ∷ [])) (memory_settings (drop 1 name) text) (one (named_setting name text))
+    either (All PrintsMemory) (starts_with nat_eq name (64 ∷ [])) (memory_settings (drop 1 name) text)
+    (one (named_setting name text))
     (memory_said (drop 1 name) text) (one_said (named_setting name text) (named_said name text))
 
 said_in : (text : List ℕ) → ArePrinted (settings_in text)
 unfolding settings_in
 said_in text =
-    and_then (All PrintsMemory) (λ k. settings_at (take k text) (drop (k + 1) text)) (position (λ b. b == 61) text) (λ k. said_at (take k text) (drop (k + 1) text))
+    and_then (All PrintsMemory) (λ k. settings_at (take k text) (drop (k + 1) text)) (position (λ b. b == 61) text)
+    (λ k. said_at (take k text) (drop (k + 1) text))
 
-with_settings : (mine others : Option (List Setting)) → ArePrinted mine → ArePrinted others → ArePrinted (and_settings mine others)
+with_settings : (mine others : Option (List Setting)) → ArePrinted mine → ArePrinted others
+    → ArePrinted (and_settings mine others)
 with_settings None others is are = tt
 with_settings (Some mine) None is are = tt
 with_settings (Some mine) (Some settings) is are = All-append PrintsMemory mine settings is are

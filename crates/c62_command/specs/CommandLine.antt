@@ -1,5 +1,5 @@
 -- The command line, as clap reads it.
-use Rattle.std.specs.Prelude.{◌≡◌, ◌≢◌, ◌⊎◌, ◌<◌, ◌≤◌, ℕ, pos, ◌^◌, Bool, true, false, ◌&&◌, nat_lt, length, List, [], ◌∷◌, Option, Some, None, unwrap_or, option_map, option_and_then, codes, if◌then◌else◌}
+use Rattle.std.specs.Prelude.{◌≡◌, ◌≢◌, ◌⊎◌, ◌<◌, ◌≤◌, ℕ, pos, ◌^◌, Bool, true, false, ◌&&◌, nat_lt, length, List, [], ◌∷◌, map, Option, Some, None, unwrap_or, option_map, option_and_then, codes, if◌then◌else◌}
 use Rattle.std.specs.Str.{bytes_eq}
 use Rattle.std.specs.Str.Parse.{digits_value, signed_digits_value, without_leading_plus}
 use Rattle.std.specs.Option.{option_map_or}
@@ -11,6 +11,7 @@ use Rattle.clap.specs.declared.error.Error.{Error}
 use Rattle.clap.specs.declared.error.kind.ErrorKind.TheVariants.{OutOfMemory}
 use Rattle.clap.specs.declared.builder.action.ArgAction.TheVariants.{SetTrue, Append}
 use Rattle.clap.specs.declared.builder.value_parser.ValueParser.TheVariants.{Signed}
+use Rattle.c62_op.specs.declared.register.Reg.{Reg}
 use Rattle.c62_token.specs.Number.{are_digits}
 use Rattle.c62_command.specs.declared.setting.Setting.{Setting}
 use Rattle.c62_command.specs.declared.setting.SettingError.{SettingError}
@@ -24,8 +25,12 @@ use Rattle.c62_command.specs.declared.command.Form.TheVariants.{Listed, Written}
 use Rattle.c62_command.specs.declared.command.CommandError.{CommandError}
 use Rattle.c62_command.specs.declared.command.CommandError.TheVariants as refused
 use Rattle.c62_command.specs.declared.command.Request.{Request}
-use Rattle.c62_command.specs.declared.command.Request.TheVariants.{Pack, Show, ShowListing, ShowPackets, Run, Serial, Sim, Exec, Adopt, Check}
+use Rattle.c62_command.specs.declared.command.Request.TheVariants.{Pack, Show, ShowListing, ShowPackets, Run, Serial, Sim, Exec, Adopt, Check, CheckLoops}
 use Rattle.c62_command.specs.Settings.{settings_of, IsFirstBad}
+use Rattle.c62_command.specs.Promises.{IsBadPromise, all_trips, apart_of, trips_of, trips_words}
+use Rattle.c62_command.specs.declared.promise.BadPromise.{BadPromise}
+use Rattle.c62_command.specs.declared.promise.PromiseError.{PromiseError}
+use Rattle.c62_command.specs.declared.promise.PromiseError.TheVariants as no_promise
 
 -- ---- what clap takes
 
@@ -150,9 +155,24 @@ exec_app = with_flight (new_app (codes "exec"))
 abbrev pub adopt_app : App
 adopt_app = with_rule (with_rule (new_app (codes "adopt")) from_rule) drain_rule
 
--- `check [--packets]`
+-- `--loops`
+abbrev pub loops_rule : Rule
+loops_rule = record (new_rule (codes "loops")) { long = Some (codes "loops"); action = Some SetTrue }
+
+-- `[--trips L=N]..`
+abbrev pub trips_rule : Rule
+trips_rule = record (new_rule (codes "trips")) { long = Some (codes "trips"); value_names = 1; action = Some Append }
+
+-- `--apart REG,REG,..`
+abbrev pub apart_rule : Rule
+apart_rule = record (new_rule (codes "apart")) { long = Some (codes "apart"); value_names = 1 }
+
+abbrev pub with_loops : App → App
+with_loops app = with_rule (with_rule (with_rule app loops_rule) trips_rule) apart_rule
+
+-- `check [--packets] [--loops] [--trips L=N].. [--apart REG,REG,..]`
 abbrev pub check_app : App
-check_app = with_rule (new_app (codes "check")) packets_rule
+check_app = with_loops (with_rule (new_app (codes "check")) packets_rule)
 
 abbrev pub bare_app : App
 bare_app = let new = new_app (codes "c62") in record new { top = record new.top { no_binary_name = true; subcommand_required = true } }
@@ -199,6 +219,9 @@ pub data Ask : Type 0 where
   Reaching : (from : Text) → Ask → Ask
   -- what each block of packets in a text of this form is, held against a serial text
   Verdicts : Form → Ask
+  -- what packets are that pipeline the loops of a serial text, where these labels' loops are entered with at least so many trips, and
+  -- accesses from two of these registers never touch one byte in two iterations
+  LoopVerdicts : (trips : List (Text × ℕ)) → (apart : List Reg) → Ask
 
 -- where a label is named, what is asked of that which is taken from there on
 abbrev pub reaching : Option Text → Ask → Ask
@@ -220,6 +243,7 @@ ask_of (Sim form start) = StandingReport form start.course start.settings.items
 ask_of (Exec start) = flight_asked start.alone start.course (option_map (λ name. name.items) start.from) start.settings.items
 ask_of (Adopt adopting) = reaching (option_map (λ name. name.items) adopting.from) (Adoption adopting.drain)
 ask_of (Check form) = Verdicts form
+ask_of (CheckLoops promises) = LoopVerdicts (map trips_of promises.trips.items) promises.apart.items
 
 -- a flag was set
 abbrev pub is_set : Text → List Row → Bool
@@ -316,21 +340,33 @@ report_asked name rows settings =
     else (if bytes_eq name (codes "exec") then flight_asked (is_set (codes "alone") rows) (flight_course_of rows) (first_of (codes "from") rows) settings
     else SerialReport (course_of rows) settings))
 
--- what the subcommand's name and what was found for its arguments ask for, where the settings are good
+-- what a check of loops asks for, where the promises are some
+abbrev pub loops_asked : Option (List (Text × ℕ)) → Option (List Reg) → Option Ask
+loops_asked (Some trips) (Some apart) = Some (LoopVerdicts trips apart)
+loops_asked _ _ = None
+
+-- which check is asked for: of the loops of a text, or of its blocks
+abbrev pub check_asked : List Row → Option Ask
+check_asked rows =
+    if is_set (codes "loops") rows then loops_asked (all_trips (trips_words rows)) (apart_of rows)
+    else Some (Verdicts (form_of rows))
+
+-- what the subcommand's name and what was found for its arguments ask for, where the settings and promises are good
 abbrev pub ask_in : Option (Text × List Row) → Option Ask
 ask_in None = Some (Listing plain_packing)
 ask_in (Some (name, rows)) =
     if bytes_eq name (codes "pack") then Some (Listing (packing_of rows))
     else (if bytes_eq name (codes "show") then Some (show_asked rows)
     else (if bytes_eq name (codes "adopt") then Some (reaching (first_of (codes "from") rows) (Adoption (is_set (codes "drain") rows)))
-    else (if bytes_eq name (codes "check") then Some (Verdicts (form_of rows))
+    else (if bytes_eq name (codes "check") then check_asked rows
     else option_map (report_asked name rows) (settings_of (setting_words rows)))))
 
 abbrev pub unless_fault : Kinds → Option Ask → Option Ask
 unless_fault [] ask = ask
 unless_fault (kind ∷ kinds) ask = None
 
--- What the words ask for: no words ask for `pack --turns`. None where clap doesn't take them, or a setting is bad.
+-- What the words ask for: no words ask for `pack --turns`. None where clap doesn't take them, or a setting or a
+-- promise is bad.
 unfoldable pub asked : List Text → Option Ask
 asked [] = Some (Listing plain_packing)
 asked (word ∷ words) = unless_fault (fault_of tool_app (word ∷ words)) (ask_in (subcommand_of tool_app (word ∷ words)))
@@ -354,6 +390,23 @@ IsBadIn found error = (k : ℕ) → error ≡ Bad k → HasFirstBad found k
 abbrev pub HasBadSetting : List Text → ℕ → Type 0
 HasBadSetting words k = (0 < length words) × (fault_of tool_app words ≡ []) × HasFirstBad (subcommand_of tool_app words) k
 
+-- the subcommand is a check of loops, and one of its promises is bad
+pub record HasBadPromiseAmong (name : Text) (rows : List Row) (bad : BadPromise) : Type 0 where
+  pub pack : bytes_eq name (codes "pack") ≡ false
+  pub show : bytes_eq name (codes "show") ≡ false
+  pub adopt : bytes_eq name (codes "adopt") ≡ false
+  pub check : bytes_eq name (codes "check") ≡ true
+  pub loops : is_set (codes "loops") rows ≡ true
+  pub why : IsBadPromise rows bad
+
+abbrev pub HasBadPromiseIn : Option (Text × List Row) → BadPromise → Type 0
+HasBadPromiseIn None bad = ⊥
+HasBadPromiseIn (Some (name, rows)) bad = HasBadPromiseAmong name rows bad
+
+-- clap takes the words, and this promise is bad
+abbrev pub HasBadPromise : List Text → BadPromise → Type 0
+HasBadPromise words bad = (0 < length words) × (fault_of tool_app words ≡ []) × HasBadPromiseIn (subcommand_of tool_app words) bad
+
 -- an error of clap that is no want of memory says that clap doesn't take the words
 abbrev pub IsBlame : List Text → Error → Type 0
 IsBlame words error = kind_of error ≢ OutOfMemory → fault_of tool_app words ≢ []
@@ -362,16 +415,34 @@ IsBlame words error = kind_of error ≢ OutOfMemory → fault_of tool_app words 
 abbrev pub IsUnknown : List Text → Type 0
 IsUnknown words = (0 < length words) × (fault_of tool_app words ≢ [])
 
--- why words ask for nothing: clap doesn't take them, or a setting is bad, unless memory ran out
+-- why words ask for nothing: clap doesn't take them, or a setting or a promise is bad, unless memory ran out
 abbrev pub IsRefusal : CommandError → List Text → Type 0
 IsRefusal (refused.Words _) words = IsUnknown words
 IsRefusal (refused.Setting k) words = HasBadSetting words k
+IsRefusal (refused.Promise bad) words = HasBadPromise words bad
 IsRefusal refused.Memory words = Unit {0}
 
 -- what a parse that failed is
 abbrev pub IsWordsError : Error → CommandError → Type 0
 IsWordsError clap_error error =
     ((kind_of clap_error ≡ OutOfMemory) × (error ≡ refused.Memory)) ⊎ ((kind_of clap_error ≢ OutOfMemory) × (error ≡ refused.Words clap_error))
+
+-- the same of a subcommand by its name, with what was found for its arguments
+abbrev pub IsRefusalIn : Option (Text × List Row) → CommandError → Type 0
+IsRefusalIn found (refused.Words _) = ⊥
+IsRefusalIn found (refused.Setting k) = HasFirstBad found k
+IsRefusalIn found (refused.Promise bad) = HasBadPromiseIn found bad
+IsRefusalIn found refused.Memory = Unit {0}
+
+-- why a check asks for nothing: only one of loops has promises
+abbrev pub IsLoopsError : List Row → PromiseError → Type 0
+IsLoopsError rows no_promise.Memory = Unit {0}
+IsLoopsError rows (no_promise.Bad bad) = (is_set (codes "loops") rows ≡ true) × IsBadPromise rows bad
+
+-- what words that are no promises are
+abbrev pub IsPromiseError : PromiseError → CommandError → Type 0
+IsPromiseError no_promise.Memory error = error ≡ refused.Memory
+IsPromiseError (no_promise.Bad bad) error = error ≡ refused.Promise bad
 
 -- what words that are no settings are
 abbrev pub IsSettingError : SettingError → CommandError → Type 0

@@ -1,7 +1,9 @@
 //! What the words of the command line ask for.
 #![tactic(auto)]
 
+mod arguments;
 mod blamed;
+mod checking;
 mod command;
 mod flight;
 mod laws;
@@ -14,7 +16,7 @@ pub use command::{
 };
 pub use flight::{FlightCourse, FlightStart};
 pub use laws::{prints_are_of_memory, takes_limits};
-pub use promise::{BadPromise, PromiseError, Promises, Trips, apart_in, read_trips};
+pub use promise::{BadPromise, PromiseError, Promises, Trips, read_trips};
 pub use setting::{Dump, Print, Setting, Size, equals_sign, first_part, place_in};
 
 #[cfg(test)]

@@ -121,7 +121,7 @@ pub fn read_trips(alloc: Global, texts: &[&str]) -> Result<Vec<Trips>, PromiseEr
 /// # Errors
 ///
 /// `AllocError` where memory ran out.
-pub fn apart_in(alloc: Global, text: &[u8]) -> Result<Option<Vec<Reg>>, AllocError>
+pub(crate) fn apart_in(alloc: Global, text: &[u8]) -> Result<Option<Vec<Reg>>, AllocError>
     ensures { IfOk result (λ regs. option_map (λ regs. regs.items) regs ≡ apart_in text.now) }
 {
     let mut regs = Vec::new(alloc);

@@ -1,10 +1,10 @@
 //! What words ask for, as the README and docs/REPORT.md say.
 
 use crate::{
-    Adopting, CommandError, Dump, FlightStart, Form, Packing, Print, Request, Setting, Showing,
-    Size, Start, command_of,
+    Adopting, BadPromise, CommandError, Dump, FlightStart, Form, Packing, Print, Promises, Request,
+    Setting, Showing, Size, Start, command_of,
 };
-use c62_op::Side;
+use c62_op::{Reg, Side};
 use std::alloc::Global;
 use std::process::Abort;
 use std::test::Fail;
@@ -67,7 +67,7 @@ const LISTINGS: [(&[&str], &str); 26] = [
 ];
 
 /// The same for a run, and for what is done with packets.
-const RUNS: [(&[&str], &str); 58] = [
+const RUNS: [(&[&str], &str); 53] = [
     (&["run"], "run by workers, 0 ejections; 1000 blocks"),
     (
         &[
@@ -163,11 +163,6 @@ const RUNS: [(&[&str], &str); 58] = [
     (&["sim", "--alone"], "words"),
     (&["pack", "--from", "f"], "words"),
     (&["adopt", "--turns"], "words"),
-    (&["check"], "check"),
-    (&["check", "--packets"], "check packets"),
-    (&["check", "--packets", "--packets"], "words"),
-    (&["check", "--listing"], "words"),
-    (&["check", "A1=5"], "words"),
     (&["pack", "--packets"], "words"),
     (&["run", "--packets"], "words"),
     (&["exec", "--packets"], "words"),
@@ -175,6 +170,50 @@ const RUNS: [(&[&str], &str); 58] = [
     (&["serial", "A1=5", "x"], "setting 2"),
     (&["serial", "--blocks", "0"], "words"),
     (&["frob"], "words"),
+];
+
+/// The same for a check.
+const CHECKS: [(&[&str], &str); 17] = [
+    (&["check"], "check"),
+    (&["check", "--packets"], "check packets"),
+    (&["check", "--packets", "--packets"], "words"),
+    (&["check", "--listing"], "words"),
+    (&["check", "A1=5"], "words"),
+    (&["check", "--loops"], "check loops"),
+    (
+        &[
+            "check",
+            "--loops",
+            "--trips",
+            "L=4294967295",
+            "--trips=M1=0x10",
+            "--apart",
+            "A4,b15,A5",
+        ],
+        "check loops, L from 4294967295, M1 from 16, A4, B15, A5",
+    ),
+    (&["check", "--trips", "L=8"], "check"),
+    (
+        &["check", "--loops", "--trips", "L=1", "--trips", "L=0"],
+        "trips 2",
+    ),
+    (&["check", "--loops", "--trips", "L=4294967296"], "trips 1"),
+    (&["check", "--loops", "--trips", "L=-1"], "trips 1"),
+    (
+        &["check", "--loops", "--trips", "L", "--trips", "M"],
+        "trips 1",
+    ),
+    (&["check", "--loops", "--trips"], "words"),
+    (&["check", "--loops", "--apart", "A4,A16"], "apart"),
+    (
+        &["check", "--loops", "--apart", "A4,", "--trips", "L"],
+        "trips 1",
+    ),
+    (
+        &["check", "--loops", "--apart", "A4,B4", "--apart", "A5,B5"],
+        "words",
+    ),
+    (&["sim", "--loops"], "words"),
 ];
 
 fn packing_text(alloc: Global, packing: Packing) -> Result<String, Fail> {
@@ -193,14 +232,18 @@ fn showing_text(alloc: Global, showing: Showing) -> Result<String, Fail> {
     Ok(format!(in alloc; "{why}{registers}{summary}")?)
 }
 
+fn register_text(alloc: Global, reg: Reg) -> Result<String, Fail> {
+    let file = match reg.side {
+        Side::A => 'A',
+        Side::B => 'B',
+    };
+    Ok(format!(in alloc; "{file}{}", reg.number)?)
+}
+
 fn setting_text(alloc: Global, setting: Setting) -> Result<String, Fail> {
     Ok(match setting {
         Setting::Register(reg, value) => {
-            let file = match reg.side {
-                Side::A => 'A',
-                Side::B => 'B',
-            };
-            format!(in alloc; "{file}{} = {value}", reg.number)?
+            format!(in alloc; "{} = {value}", register_text(alloc, reg)?)?
         }
         Setting::Byte(address, value) => format!(in alloc; "@{address}:b = {value}")?,
         Setting::Half(address, value) => format!(in alloc; "@{address}:h = {value}")?,
@@ -264,6 +307,18 @@ fn adopting_text(alloc: Global, adopting: &Adopting) -> Result<String, Fail> {
     })
 }
 
+fn promises_text(alloc: Global, promises: &Promises) -> Result<String, Fail> {
+    let mut text = format!(in alloc; "check loops")?;
+    for trips in &promises.trips {
+        let label = str::from_utf8(&trips.label).unwrap_or("?");
+        text.push_str(&format!(in alloc; ", {label} from {}", trips.least)?)?;
+    }
+    for reg in &promises.apart {
+        text.push_str(&format!(in alloc; ", {}", register_text(alloc, *reg)?)?)?;
+    }
+    Ok(text)
+}
+
 fn start_text(alloc: Global, start: &Start) -> Result<String, Fail> {
     let mut text = format!(in alloc; "{} blocks", start.course.blocks)?;
     text.push_str(if start.course.profile {
@@ -301,6 +356,7 @@ fn request_text(alloc: Global, request: &Request) -> Result<String, Fail> {
         Request::Exec(start) => format!(in alloc; "exec; {}", flight_text(alloc, start)?)?,
         Request::Adopt(adopting) => adopting_text(alloc, adopting)?,
         Request::Check(form) => format!(in alloc; "check{}", form_text(*form))?,
+        Request::CheckLoops(promises) => promises_text(alloc, promises)?,
     })
 }
 
@@ -309,6 +365,10 @@ fn answer_text(alloc: Global, answer: &Result<Request, CommandError>) -> Result<
         Ok(request) => request_text(alloc, request),
         Err(CommandError::Words(_)) => Ok(format!(in alloc; "words")?),
         Err(CommandError::Setting(number)) => Ok(format!(in alloc; "setting {number}")?),
+        Err(CommandError::Promise(BadPromise::Trips(number))) => {
+            Ok(format!(in alloc; "trips {number}")?)
+        }
+        Err(CommandError::Promise(BadPromise::Apart)) => Ok(format!(in alloc; "apart")?),
         Err(CommandError::Memory) => Ok(format!(in alloc; "memory")?),
     }
 }
@@ -326,6 +386,11 @@ fn are_asked(rt: &impl Abort, alloc: Global, rows: &[(&[&str], &str)]) -> Result
 #[test]
 fn words_ask_for_listings(rt: HostRuntime) -> Result<(), Fail> {
     are_asked(&rt, rt.alloc(), &LISTINGS)
+}
+
+#[test]
+fn words_ask_for_checks(rt: HostRuntime) -> Result<(), Fail> {
+    are_asked(&rt, rt.alloc(), &CHECKS)
 }
 
 #[test]

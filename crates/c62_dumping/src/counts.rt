@@ -51,6 +51,7 @@ pub fn counts_asked(alloc: Global, request: &Request) -> Result<Vec<usize>, Allo
         | Request::ShowListing(_)
         | Request::ShowPackets(_)
         | Request::Adopt(_)
-        | Request::Check(_) => Ok(Vec::new(alloc)),
+        | Request::Check(_)
+        | Request::CheckLoops(_) => Ok(Vec::new(alloc)),
     }
 }

@@ -1,5 +1,5 @@
 -- Where the text of a call comes from, and where its answer goes to (docs/COMMANDS.md, "Files").
-use Rattle.std.specs.Prelude.{◌≡◌, ◌≢◌, ℕ, Bool, true, false, ◌&&◌, List, [], ◌∷◌, map, codes, Option, Some, None, option_map, slice_get, if◌then◌else◌}
+use Rattle.std.specs.Prelude.{◌≡◌, ℕ, Bool, ◌&&◌, List, [], ◌∷◌, map, codes, Option, Some, None, option_map, slice_get, if◌then◌else◌}
 use Rattle.std.specs.Str.{bytes_eq}
 use Rattle.c62_files.specs.Words.{Text, all_pieces, dumps, inputs, option_of, outputs, text_piece, texts, wants_more}
 use Rattle.c62_files.specs.declared.call.Source.{Source}

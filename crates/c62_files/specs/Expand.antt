@@ -1,5 +1,5 @@
 -- The words of a call with the words of its files of settings in their places (docs/COMMANDS.md, "Files").
-use Rattle.std.specs.Prelude.{◌≡◌, ℕ, ◌+◌, ◌≤◌, Bool, true, false, List, [], ◌∷◌, ◌++◌, ◌⊎◌, length, map, take, codes, slice_get, Option, Some, IfSome}
+use Rattle.std.specs.Prelude.{◌≡◌, ℕ, ◌+◌, ◌≤◌, Bool, true, false, List, [], ◌∷◌, ◌++◌, ◌⊎◌, length, map, take, codes, slice_get, Some, IfSome}
 use Rattle.std.specs.List.{count_by}
 use Rattle.std.specs.Str.Lossy.{utf8_lossy}
 use Rattle.c62_files.specs.Words.{Text, Word, Plain, InputName, OutputName, SettingsName, Loads, Prints, Dumps, extent_of}

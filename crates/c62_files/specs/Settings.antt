@@ -1,5 +1,5 @@
 -- The words of a file of settings (docs/COMMANDS.md, "Files").
-use Rattle.std.specs.Prelude.{◌≡◌, ℕ, ◌==◌, ◌||◌, Bool, true, false, not, List, [], ◌∷◌, ◌++◌, map, if◌then◌else◌}
+use Rattle.std.specs.Prelude.{ℕ, ◌==◌, ◌||◌, Bool, false, not, List, [], ◌∷◌, ◌++◌, map, if◌then◌else◌}
 use Rattle.c62_files.specs.declared.settings.Place.{Place as Standing}
 use Rattle.c62_files.specs.declared.settings.Place.TheVariants.{Start, Within, Comment}
 use Rattle.c62_files.specs.declared.settings.Reading.{Reading}

@@ -21,6 +21,7 @@ abbrev pub takes_value : Text → Bool
 takes_value word =
     bytes_eq word (codes "--eject") || bytes_eq word (codes "--search") || bytes_eq word (codes "--blocks") || bytes_eq word (codes "--cycles")
     || bytes_eq word (codes "--from") || bytes_eq word (codes "--most") || bytes_eq word (codes "--as")
+    || bytes_eq word (codes "--trips") || bytes_eq word (codes "--apart")
 
 -- what a word wants of the one behind it
 abbrev pub wanted_by : Text → Wanted

@@ -26,6 +26,12 @@ AreBegun before [] after = after ≡ before
 AreBegun before (file ∷ files) after =
     (after ≡ before) ⊎ ((between : Holding) × IsReplaced before file.0 file.1 between × AreBegun between files after)
 
+-- the files before the one of this name are written, and that one and those behind it are what they were
+unfoldable pub StopsAt : (before : Holding) → List (Text × List ℕ) → (name : Text) → (after : Holding) → Type 0
+StopsAt before [] name after = ⊥
+StopsAt before (file ∷ files) name after = ((after ≡ before) × (name ≡ file.0))
+    ⊎ ((between : Holding) × IsReplaced before file.0 file.1 between × StopsAt between files name after)
+
 -- one of the files has this name
 abbrev pub IsNameIn : Text → List (Text × List ℕ) → Type 0
 IsNameIn name [] = ⊥

@@ -59,6 +59,8 @@ impl Wanted {
             || word == "--from"
             || word == "--most"
             || word == "--as"
+            || word == "--trips"
+            || word == "--apart"
         {
             Wanted::Value
         } else {

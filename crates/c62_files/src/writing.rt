@@ -1,7 +1,7 @@
 //! Files that are written one after the other.
 
 ghost use Rattle.std.specs.Prelude.{◌≡◌, IfErr, OnOk, OnErr, map};
-ghost use Rattle.c62_files.specs.Writing.{AreBegun, AreWritten, IsNameIn, text_output};
+ghost use Rattle.c62_files.specs.Writing.{AreBegun, AreWritten, IsNameIn, StopsAt, text_output};
 
 use crate::folder::{FileError, Folder};
 use std::alloc::Global;
@@ -25,7 +25,8 @@ pub struct Unwritten<'a> {
 ///
 /// # Errors
 ///
-/// Where one of them can't be written, or memory ran out. Those before it are written, and the others are what they were.
+/// `Unwritten` with the name of the first that can't be written, or at which memory ran out. Those before it are written, and it and the
+/// others are what they were.
 pub fn write_files<'a, F: Folder>(
     alloc: Global,
     folder: &mut F,
@@ -33,6 +34,7 @@ pub fn write_files<'a, F: Folder>(
 ) -> Result<(), Unwritten<'a>>
     ensures ok { OnOk result (AreWritten (F.holds folder.old) (map text_output files.now) (F.holds folder.new)) }
     ensures begun { OnErr result (AreBegun (F.holds folder.old) (map text_output files.now) (F.holds folder.new)) }
+    ensures stops { IfErr result (λ unwritten. StopsAt (F.holds folder.old) (map text_output files.now) unwritten.name.now (F.holds folder.new)) }
     ensures name { IfErr result (λ unwritten. IsNameIn unwritten.name.now (map text_output files.now)) }
 {
     for file in files {

@@ -6,7 +6,8 @@ use Rattle.std.specs.Str.{bytes_eq}
 use Rattle.c62_token.specs.Number.{number_of}
 use Rattle.c62_teach.specs.declared.words.Kind.{Kind}
 use Rattle.c62_teach.specs.declared.words.Linting.{Linting}
-use Rattle.c62_teach.specs.Words.{Text, behind_first, changed, default, kind_of, linting_by, linting_of, most_by, most_of, with_kind, with_most}
+use Rattle.c62_teach.specs.Words.{Text, behind_first, changed, default, kind_of, linting_by, linting_of, most_by}
+use Rattle.c62_teach.specs.Words.{most_of, with_kind, with_most}
 
 most_some : (z : ℤ) → IfSome (most_by z) (λ most. 1 ≤ most)
 most_some (pos zero) = tt
@@ -17,16 +18,20 @@ most_of_some : (o : Option ℤ) → IfSome (option_and_then most_by o) (λ most.
 most_of_some None = tt
 most_of_some (Some z) = most_some z
 
-most_changed : (linting : Linting) (o : Option ℕ) → IfSome o (λ most. 1 ≤ most) → IfSome (option_map (with_most linting) o) (λ so. 1 ≤ so.most)
+most_changed : (linting : Linting) (o : Option ℕ) → IfSome o (λ most. 1 ≤ most)
+    → IfSome (option_map (with_most linting) o) (λ so. 1 ≤ so.most)
 most_changed linting None some = tt
 most_changed linting (Some most) some = some
 
-kind_changed : (linting : Linting) (o : Option Kind) → 1 ≤ linting.most → IfSome (option_map (with_kind linting) o) (λ so. 1 ≤ so.most)
+kind_changed : (linting : Linting) (o : Option Kind) → 1 ≤ linting.most
+    → IfSome (option_map (with_kind linting) o) (λ so. 1 ≤ so.most)
 kind_changed linting None some = tt
 kind_changed linting (Some kind) some = some
 
-changed_some : (linting : Linting) (option value : Text) → 1 ≤ linting.most → IfSome (changed linting option value) (λ so. 1 ≤ so.most)
-changed_some linting option value some = go (bytes_eq option (codes "--most")) refl (bytes_eq option (codes "--as")) refl
+changed_some : (linting : Linting) (option value : Text) → 1 ≤ linting.most
+    → IfSome (changed linting option value) (λ so. 1 ≤ so.most)
+changed_some linting option value some = go (bytes_eq option (codes "--most")) refl (bytes_eq option (codes "--as"))
+    refl
   where
     go : (most : Bool) → bytes_eq option (codes "--most") ≡ most → (kind : Bool) → bytes_eq option (codes "--as") ≡ kind
         → IfSome (changed linting option value) (λ so. 1 ≤ so.most)
@@ -34,7 +39,8 @@ changed_some linting option value some = go (bytes_eq option (codes "--most")) r
     go false e true is = rw (e, is) (kind_changed linting (kind_of value) some)
     go false e false is = rw (e, is) tt
 
-behind_some : (linting : Linting) (words : List Text) → 1 ≤ linting.most → IfSome (behind_first linting words) (λ so. 1 ≤ so.most)
+behind_some : (linting : Linting) (words : List Text) → 1 ≤ linting.most
+    → IfSome (behind_first linting words) (λ so. 1 ≤ so.most)
 behind_some linting [] some = some
 behind_some linting (option ∷ []) some = tt
 behind_some linting (option ∷ value ∷ []) some = changed_some linting option value some
@@ -46,7 +52,8 @@ by_some [] = omega arith
 by_some (option ∷ []) = tt
 by_some (option ∷ value ∷ words) = go (changed default option value) (changed_some default option value (omega arith))
   where
-    go : (o : Option Linting) → IfSome o (λ so. 1 ≤ so.most) → IfSome (option_and_then (λ linting. behind_first linting words) o) (λ so. 1 ≤ so.most)
+    go : (o : Option Linting) → IfSome o (λ so. 1 ≤ so.most)
+        → IfSome (option_and_then (λ linting. behind_first linting words) o) (λ so. 1 ≤ so.most)
     go None none = tt
     go (Some so) some = behind_some so words some
 

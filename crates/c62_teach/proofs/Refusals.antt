@@ -1,5 +1,6 @@
 -- The first line that `lint` answers, and what is explained, are of the fault that the text is refused for.
-use Rattle.std.proofs.Common.{◌≡◌, ◌≢◌, ◌∙◌, ◌⊎◌, inl, inr, ℕ, zero, suc, ◌≤◌, Bool, List, [], ◌∷◌, ◌++◌, length, map, take, Option, Some, None, Result, Ok, Err, refl, sym, ap, ◌+◌, arith}
+use Rattle.std.proofs.Common.{◌≡◌, ◌≢◌, ◌∙◌, ◌⊎◌, inl, inr, ℕ, zero, suc, ◌≤◌, Bool, List, [], ◌∷◌, ◌++◌, length, map}
+use Rattle.std.proofs.Common.{take, Option, Some, None, Result, Ok, Err, refl, sym, ap, ◌+◌, arith}
 use Rattle.std.proofs.lemmas.Bool.Decides.{nat_tests}
 use Rattle.std.specs.Result.{result_err}
 use Rattle.std.specs.Prelude.{not, ◌==◌, is_err, IfErr, codes, min, true}
@@ -21,8 +22,10 @@ use Rattle.c62_teach.specs.Taught.{ExplainsRefusal, TeachesSerial}
 -- a line isn't empty
 some_line : (name : List ℕ) (fault : ReadFault) (place : Place) → 1 ≤ length (lint_line name fault place)
 some_line name fault place =
-    let front = position name fault.line place ++ codes ": error: " ++ cause_name fault.cause ++ codes ": " ++ sentence fault.cause in
-    let whole : length (lint_line name fault place) ≡ length front + length (codes "\n") = length-append front (codes "\n") in
+    let front = position name fault.line place ++ codes ": error: " ++ cause_name fault.cause ++ codes ": " ++ sentence
+    fault.cause in
+    let whole : length (lint_line name fault place) ≡ length front + length (codes "\n") = length-append front
+    (codes "\n") in
     let one : length (codes "\n") ≡ 1 = refl in
     omega (arith, whole, one)
 
@@ -36,8 +39,10 @@ pub record IsTold (name text lines : List ℕ) {T : Type 0} (r : Result T Refusa
   pub refused : not (length lines == 0) ≡ is_err r
   pub first : IfErr r (λ refusal. BeginsWith name text refusal lines)
 
-told_by : (name text lines : List ℕ) (faults : List ReadFault) (refusals : List Refusal) (n : ℕ) {T : Type 0} (r : Result T Refusal)
-    → 1 ≤ n → map refusal_of faults ≡ take n refusals → Lints name text faults lines → first_among refusals ≡ result_err r
+told_by : (name text lines : List ℕ) (faults : List ReadFault) (refusals : List Refusal) (n : ℕ) {T : Type 0}
+    (r : Result T Refusal)
+    → 1 ≤ n → map refusal_of faults ≡ take n refusals → Lints name text faults lines
+    → first_among refusals ≡ result_err r
     → IsTold name text lines r
 told_by name text lines faults refusals zero r some are says first = absurd (omega arith)
 told_by name text lines [] [] (suc n) (Ok x) some are says first = rw says (record { refused = refl; first = tt })
@@ -45,20 +50,23 @@ told_by name text lines [] [] (suc n) (Err e) some are says first = absurd cc
 told_by name text lines [] (refusal ∷ refusals) (suc n) r some are says first = absurd cc
 told_by name text lines (fault ∷ faults) [] (suc n) r some are says first = absurd cc
 told_by name text lines (fault ∷ faults) (refusal ∷ refusals) (suc n) (Ok x) some are says first = absurd cc
-told_by name text lines (fault ∷ faults) (refusal ∷ refusals) (suc n) (Err e) some are (line, others, whole, one, more) first = record {
-  refused = some_lines line others lines whole (rw (one.says) (some_line name fault one.place));
-  first = record { fault = fault; same = cc; first = line; others = others; whole = whole; told = one };
-}
+told_by name text lines (fault ∷ faults) (refusal ∷ refusals) (suc n) (Err e) some are (line, others, whole, one, more)
+    first = record {
+      refused = some_lines line others lines whole (rw (one.says) (some_line name fault one.place));
+      first = record { fault = fault; same = cc; first = line; others = others; whole = whole; told = one };
+    }
 
 pub linted_by : (most : ℕ) (name text lines : List ℕ) → 1 ≤ most → LintsText name text most lines
     → IsLintedSerial most name text lines (not (length lines == 0))
 linted_by most name text lines some says =
     let least : 1 ≤ few most = omega (arith, some) in
-    let told = told_by name text lines says.faults (faults_in text) (few most) (program_in text) least says.all says.says (first_refusal text) in
+    let told = told_by name text lines says.faults (faults_in text) (few most) (program_in text) least says.all
+    says.says (first_refusal text) in
     record { all = says; refused = told.refused; first = told.first }
 
 -- help may stand behind an explanation
-more_explained : (name text out more : List ℕ) (fault : ReadFault) → fault.line ≢ 0 → Explains name text fault out → AddsHelp fault.line out more
+more_explained : (name text out more : List ℕ) (fault : ReadFault) → fault.line ≢ 0 → Explains name text fault out
+    → AddsHelp fault.line out more
     → Explains name text fault more
 more_explained name text out more fault some (inl none) added = absurd (some none.0)
 more_explained name text out more fault some (inr pictured) (hint, is, helps) = inr (record {
@@ -69,12 +77,15 @@ more_explained name text out more fault some (inr pictured) (hint, is, helps) = 
   says = is ∙ ap (λ (front : List ℕ). front ++ hint) pictured.says ∙ append_assoc _ pictured.help hint;
 })
 
-pub taught_by : (name text more : List ℕ) (fault : ReadFault) → fault.cause ≢ Memory → Fails fault (program_in text) → Explains name text fault more
+pub taught_by : (name text more : List ℕ) (fault : ReadFault) → fault.cause ≢ Memory → Fails fault (program_in text)
+    → Explains name text fault more
     → TeachesSerial name text more
 taught_by name text more fault known (inl memory) explains = absurd (known (ap (λ (f : ReadFault). f.cause) memory))
-taught_by name text more fault known (inr is) explains = rw is (record { fault = fault; same = refl; explains = explains })
+taught_by name text more fault known (inr is) explains = rw is
+    (record { fault = fault; same = refl; explains = explains })
 
-pub taught_more : (name text out more : List ℕ) (fault : ReadFault) → fault.cause ≢ Memory → fault.line ≢ 0 → Fails fault (program_in text)
+pub taught_more : (name text out more : List ℕ) (fault : ReadFault) → fault.cause ≢ Memory → fault.line ≢ 0
+    → Fails fault (program_in text)
     → Explains name text fault out → AddsHelp fault.line out more → TeachesSerial name text more
 taught_more name text out more fault known some fails explains added =
     taught_by name text more fault known fails (more_explained name text out more fault some explains added)

@@ -142,6 +142,17 @@ pub(crate) fn form_taught(
     }
 }
 
+/// What explains the fault of the serial text of a check; nothing where it has none.
+fn text_taught(alloc: Global, name: &[u8], text: &[u8]) -> Result<Option<Vec<u8>>, AllocError> {
+    match read_program(alloc, text) {
+        Ok(_) => Ok(None),
+        Err(fault) => match fault.cause {
+            Cause::Memory => Err(AllocError),
+            _ => Ok(Some(explain_serial(alloc, name, text, fault)?)),
+        },
+    }
+}
+
 /// What explains the fault of what is to be checked: of its text, or else of its packets of this form.
 pub(crate) fn check_taught(
     alloc: Global,
@@ -152,11 +163,23 @@ pub(crate) fn check_taught(
     let Some(parts) = parts_of(input) else {
         return Ok(Vec::new(alloc));
     };
-    match read_program(alloc, parts.text) {
-        Ok(_) => form_taught(alloc, form, names.listing.as_bytes(), parts.listing),
-        Err(fault) => match fault.cause {
-            Cause::Memory => Err(AllocError),
-            _ => explain_serial(alloc, names.text.as_bytes(), parts.text, fault),
-        },
+    match text_taught(alloc, names.text.as_bytes(), parts.text)? {
+        Some(more) => Ok(more),
+        None => form_taught(alloc, form, names.listing.as_bytes(), parts.listing),
+    }
+}
+
+/// The same of what is to be checked against loops, whose packets fly.
+pub(crate) fn loops_taught(
+    alloc: Global,
+    names: Names<'_>,
+    input: &[u8],
+) -> Result<Vec<u8>, AllocError> {
+    let Some(parts) = parts_of(input) else {
+        return Ok(Vec::new(alloc));
+    };
+    match text_taught(alloc, names.text.as_bytes(), parts.text)? {
+        Some(more) => Ok(more),
+        None => exec_taught(alloc, names.listing.as_bytes(), parts.listing, None),
     }
 }

@@ -5,7 +5,7 @@ ghost use Rattle.c62_command.specs.CommandLine.{ask_of};
 ghost use Rattle.c62_teach.specs.Taught.{Teaches, TeachesSerial};
 
 use crate::other::push_serial_hint;
-use crate::packets::{adopting_taught, check_taught, flight_taught, form_taught};
+use crate::packets::{adopting_taught, check_taught, flight_taught, form_taught, loops_taught};
 use c62_command::{Form, Request};
 use c62_explain::explain;
 use c62_line::Cause;
@@ -64,5 +64,6 @@ pub fn taught(
         Request::Adopt(adopting) => adopting_taught(alloc, name, text, adopting),
         Request::ShowPackets(_) => form_taught(alloc, Form::Written, name, text),
         Request::Check(form) => check_taught(alloc, *form, names, text),
+        Request::CheckLoops(_) => loops_taught(alloc, names, text),
     }
 }

@@ -1,5 +1,6 @@
 -- What a call does, from what each step of it did.
-use Rattle.std.proofs.Common.{◌≡◌, ℕ, ◌≤◌, Bool, true, false, List, [], ◌∷◌, length, Option, Some, None, refl, sym, subst, inl, inr, arith}
+use Rattle.std.proofs.Common.{◌≡◌, ℕ, ◌≤◌, Bool, true, false, List, [], ◌∷◌, length, Option, Some, None, refl, sym}
+use Rattle.std.proofs.Common.{subst, inl, inr, arith}
 use Rattle.std.specs.Prelude.{map}
 use Rattle.std.specs.Borrow.{Bor}
 use Rattle.std.proofs.KnownBytes.{Keeps-refl}
@@ -10,9 +11,12 @@ use Rattle.c62_files.specs.Expand.{Expands, Holding}
 use Rattle.c62_files.specs.Words.{text_piece}
 use Rattle.c62_files.specs.declared.call.Call.{Call}
 use Rattle.c62_tool.specs.declared.trouble.Trouble.{Trouble}
-use Rattle.c62_tool.specs.declared.trouble.Trouble.TheVariants.{NoCall, NoLoad, Unread, Unwritten, LooseDump, Input, Memory}
-use Rattle.c62_tool.specs.Trouble.{HasCallTrouble, IsCountTrouble, IsTroubleWithCall, IsTroubleWithRun, IsTroubleWithSource, IsTroubleWriting, Loose, Running, is_early}
-use Rattle.c62_tool.specs.Program.{AreCountsFor, RunsCall, RunsDumping, RunsNaming, RunsTarget, RunsTo, RunsWords, is_made}
+use Rattle.c62_tool.specs.declared.trouble.Trouble.TheVariants.{NoCall, NoLoad, Unread, Unwritten, LooseDump, Input}
+use Rattle.c62_tool.specs.declared.trouble.Trouble.TheVariants.{Memory}
+use Rattle.c62_tool.specs.Trouble.{HasCallTrouble, IsCountTrouble, IsTroubleWithCall, IsTroubleWithRun}
+use Rattle.c62_tool.specs.Trouble.{IsTroubleWithSource, IsTroubleWriting, Loose, Running, is_early}
+use Rattle.c62_tool.specs.Program.{AreCountsFor, RunsCall, RunsDumping, RunsNaming, RunsTarget, RunsTo, RunsWords}
+use Rattle.c62_tool.specs.Program.{is_made}
 use Rattle.c62_files.specs.Writing.{IsReplaced}
 use Rattle.c62_teach.specs.Words.{plain_words}
 use Rattle.c62_tool.proofs.Failing.{memory_with}
@@ -22,8 +26,10 @@ not_both b is_false is_true = cc
 
 -- ---- an answer that goes to a file
 
-pub made_none : (holds : Holding) (words : List Text) (source : From) (target : Text) (input left errors told : Option (List ℕ)) (answer : List ℕ) (status : ℕ)
-    → is_made words status ≡ false → RunsWords holds words source (streams input (Some []) errors) (streams left (Some answer) told) status
+pub made_none : (holds : Holding) (words : List Text) (source : From) (target : Text)
+    (input left errors told : Option (List ℕ)) (answer : List ℕ) (status : ℕ)
+    → is_made words status ≡ false
+    → RunsWords holds words source (streams input (Some []) errors) (streams left (Some answer) told) status
     → RunsTo holds holds words source target (streams input None errors) (streams left None told) status
 made_none holds words source target input left errors told answer status is_false run = record {
   answer = answer;
@@ -32,7 +38,8 @@ made_none holds words source target input left errors told answer status is_fals
   kept = λ e. refl;
 }
 
-pub made_one : (before after : Holding) (words : List Text) (source : From) (target : Text) (input left errors told : Option (List ℕ)) (answer : List ℕ) (status : ℕ)
+pub made_one : (before after : Holding) (words : List Text) (source : From) (target : Text)
+    (input left errors told : Option (List ℕ)) (answer : List ℕ) (status : ℕ)
     → is_made words status ≡ true → IsReplaced before target answer after
     → RunsWords before words source (streams input (Some []) errors) (streams left (Some answer) told) status
     → RunsTo before after words source target (streams input None errors) (streams left None told) status
@@ -54,7 +61,8 @@ is_late name Memory with is = cc
 
 -- ---- where an answer goes
 
-pub target_to : (before after : Holding) (words : List Text) (source : From) (target : Bor Text) (input left output errors told : Option (List ℕ)) (status : ℕ)
+pub target_to : (before after : Holding) (words : List Text) (source : From) (target : Bor Text)
+    (input left output errors told : Option (List ℕ)) (status : ℕ)
     → RunsTo before after words source target.now (streams input None errors) (streams left None told) status
     → RunsTarget before after words source (Some target) (streams input output errors) (streams left output told) status
 target_to before after words source target input left output errors told status run =
@@ -63,8 +71,10 @@ target_to before after words source target input left output errors told status 
 -- ---- a call
 
 -- no file is named that memory goes to
-pub called_plain : (before after : Holding) (call : Call) (words : List Text) (old new : Streams) (status : ℕ) → Expands before (map text_piece call.words.items) words
-    → call.dumps.items ≡ [] → RunsTarget before after words (text_source call.source) call.target old new status → RunsCall before after call old new status
+pub called_plain : (before after : Holding) (call : Call) (words : List Text) (old new : Streams) (status : ℕ)
+    → Expands before (map text_piece call.words.items) words
+    → call.dumps.items ≡ [] → RunsTarget before after words (text_source call.source) call.target old new status
+    → RunsCall before after call old new status
 called_plain before after call words old new status are none run = record {
   words = words;
   expanded = are;
@@ -72,14 +82,17 @@ called_plain before after call words old new status are none run = record {
 }
 
 -- some are
-named_runs : (names : List (Bor Text)) (before after : Holding) (words : List Text) (call : Call) (counts : List ℕ) (old new : Streams) (status : ℕ) → 1 ≤ length names
+named_runs : (names : List (Bor Text)) (before after : Holding) (words : List Text) (call : Call) (counts : List ℕ)
+    (old new : Streams) (status : ℕ) → 1 ≤ length names
     → AreCountsFor (length names) (plain_words words) counts → RunsDumping before after words call counts old new status
     → RunsNaming names before after words call old new status
 named_runs [] before after words call counts old new status many counted run = absurd (omega (arith, many))
 named_runs (name ∷ names) before after words call counts old new status many counted run = (counts, counted, run)
 
-pub called_dumping : (before after : Holding) (call : Call) (words : List Text) (counts : List ℕ) (old new : Streams) (status : ℕ)
-    → Expands before (map text_piece call.words.items) words → 1 ≤ length call.dumps.items → AreCountsFor (length call.dumps.items) (plain_words words) counts
+pub called_dumping : (before after : Holding) (call : Call) (words : List Text) (counts : List ℕ) (old new : Streams)
+    (status : ℕ)
+    → Expands before (map text_piece call.words.items) words → 1 ≤ length call.dumps.items
+    → AreCountsFor (length call.dumps.items) (plain_words words) counts
     → RunsDumping before after words call counts old new status → RunsCall before after call old new status
 called_dumping before after call words counts old new status are many counted run = record {
   words = words;
@@ -89,23 +102,24 @@ called_dumping before after call words counts old new status are many counted ru
 
 -- ---- trouble
 
-pub run_memory : (source : From) (target : Option (Bor Text)) (trouble : Trouble) → trouble ≡ Memory → IsTroubleWithRun source target trouble
+pub run_memory : (source : From) (target : Option (Bor Text)) (trouble : Trouble) → trouble ≡ Memory
+    → IsTroubleWithRun source target trouble
 run_memory source None trouble is = memory_with source trouble is
 run_memory source (Some target) trouble is = inl (memory_with source trouble is)
 
-pub source_run : (source : From) (target : Option (Bor Text)) (trouble : Trouble) → IsTroubleWithSource source trouble → IsTroubleWithRun source target trouble
+pub source_run : (source : From) (target : Option (Bor Text)) (trouble : Trouble) → IsTroubleWithSource source trouble
+    → IsTroubleWithRun source target trouble
 source_run source None trouble with = with
 source_run source (Some target) trouble with = inl with
 
-pub count_trouble : (holds : Holding) (call : Call) (words : List Text) (trouble : Trouble) → Expands holds (map text_piece call.words.items) words
+pub count_trouble : (holds : Holding) (call : Call) (words : List Text) (trouble : Trouble)
+    → Expands holds (map text_piece call.words.items) words
     → IsCountTrouble (length call.dumps.items) (plain_words words) trouble → HasCallTrouble holds call trouble
 count_trouble holds call words LooseDump are loose = Loose words are loose refl
-count_trouble holds call words Memory are any = Running (inl (run_memory (text_source call.source) call.target Memory refl))
-count_trouble holds call words (NoCall error) are none = absurd none
-count_trouble holds call words (NoLoad number misfit) are none = absurd none
-count_trouble holds call words (Unread unread error) are none = absurd none
-count_trouble holds call words (Unwritten unwritten error) are none = absurd none
-count_trouble holds call words Input are none = absurd none
+count_trouble holds call words Memory are any = Running
+    (inl (run_memory (text_source call.source) call.target Memory refl))
+count_trouble holds call words _ are none = absurd none
 
-pub run_trouble : (holds : Holding) (call : Call) (trouble : Trouble) → IsTroubleWithRun (text_source call.source) call.target trouble → HasCallTrouble holds call trouble
+pub run_trouble : (holds : Holding) (call : Call) (trouble : Trouble)
+    → IsTroubleWithRun (text_source call.source) call.target trouble → HasCallTrouble holds call trouble
 run_trouble holds call trouble with = Running (inl with)

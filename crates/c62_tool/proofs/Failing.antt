@@ -6,7 +6,7 @@ use Rattle.std.proofs.KnownBytes.{Keeps-refl}
 use Rattle.clap.specs.Words.{Text}
 use Rattle.c62_answer.specs.Message.{Tells, told_of}
 use Rattle.c62_answer.specs.Run.{Streams, streams}
-use Rattle.c62_answer.proofs.Runs.{told_tells}
+use Rattle.c62_answer.proofs.WholeRuns.{told_tells}
 use Rattle.c62_files.specs.Call.{From, IsCall, IsMistake, Standard, File, Parts, text_source}
 use Rattle.c62_files.specs.Expand.{Holding}
 use Rattle.c62_files.specs.declared.expand.Unexpanded.{Unexpanded}
@@ -19,8 +19,11 @@ use Rattle.c62_files.specs.declared.call.CallError.{CallError}
 use Rattle.c62_files.specs.declared.folder.FileError.{FileError}
 use Rattle.c62_files.specs.declared.folder.FileError.TheVariants as failure
 use Rattle.c62_tool.specs.declared.trouble.Trouble.{Trouble}
-use Rattle.c62_tool.specs.declared.trouble.Trouble.TheVariants.{NoCall, NoLoad, Unread, Unwritten, LooseDump, Input, Memory}
-use Rattle.c62_tool.specs.Trouble.{Called, Expanding, HasCallTrouble, IsSaid, IsTroubleDumping, IsTroubleWithRun, IsTroubleWithSource, Loose, Mistaken, Running, Says, call_message, is_early, load_message, loose_message, of_reading, of_words, status_of}
+use Rattle.c62_tool.specs.declared.trouble.Trouble.TheVariants.{NoCall, NoLoad, Unread, Unwritten, LooseDump, Input}
+use Rattle.c62_tool.specs.declared.trouble.Trouble.TheVariants.{Memory}
+use Rattle.c62_tool.specs.Trouble.{Called, Expanding, HasCallTrouble, IsSaid, IsTroubleDumping, IsTroubleWithRun}
+use Rattle.c62_tool.specs.Trouble.{IsTroubleWithSource, Loose, Mistaken, Running, Says, call_message, is_early}
+use Rattle.c62_tool.specs.Trouble.{load_message, loose_message, of_reading, of_words, status_of}
 use Rattle.c62_tool.specs.Program.{HasBegun, IsFailure}
 
 -- ---- memory
@@ -32,7 +35,8 @@ memory_with (Parts text listing) trouble is = inl (rw is tt)
 
 -- ---- what is said
 
-pub says_told : {E : Type 0} (result : Result (Unit {0}) E) (trouble : Trouble) (old new : Option (List ℕ)) → Says (told_of result) trouble old new
+pub says_told : {E : Type 0} (result : Result (Unit {0}) E) (trouble : Trouble) (old new : Option (List ℕ))
+    → Says (told_of result) trouble old new
     → Says Tells trouble old new
 says_told result (NoCall error) old new said = told_tells result old new (call_message error) said
 says_told result (NoLoad number misfit) old new said = told_tells result old new (load_message number misfit) said
@@ -67,7 +71,8 @@ not_source (File name) error with = with
 not_source (Parts text listing) error (inl with) = with
 not_source (Parts text listing) error (inr with) = with
 
-not_run : (source : From) (target : Option (Bor Text)) (error : CallError) → IsTroubleWithRun source target (NoCall error) → ⊥
+not_run : (source : From) (target : Option (Bor Text)) (error : CallError)
+    → IsTroubleWithRun source target (NoCall error) → ⊥
 not_run source None error with = not_source source error with
 not_run source (Some target) error (inl with) = not_source source error with
 not_run source (Some target) error (inr with) = with
@@ -78,7 +83,8 @@ no_mistake holds call error (Loose words are loose same) = cc
 no_mistake holds call error (Running (inl with)) = not_run (text_source call.source) call.target error with
 no_mistake holds call error (Running (inr with)) = with
 
-is_said : (holds : Holding) (call : Call) (trouble : Trouble) (old told new : Option (List ℕ)) → HasCallTrouble holds call trouble
+is_said : (holds : Holding) (call : Call) (trouble : Trouble) (old told new : Option (List ℕ))
+    → HasCallTrouble holds call trouble
     → (is_early trouble ≡ true → Keeps old told) → Says Tells trouble told new → IsSaid trouble old new
 is_said holds call (NoCall error) old told new has silent says = absurd (no_mistake holds call error has)
 is_said holds call (NoLoad number misfit) old told new has silent says = tells_behind old told new _ (silent refl) says
@@ -94,7 +100,8 @@ is_said holds call Memory old told new has silent says = tt
 pub not_begun : (before after : Holding) (names : List Text) → after ≡ before → HasBegun before after names
 not_begun before after names kept = rw kept ([], [], none_begun before (files_of names [] []))
 
-pub mistaken : (before : Holding) (words : List Text) (error : CallError) (input output old new : Option (List ℕ)) (status : ℕ) → IsMistake words error
+pub mistaken : (before : Holding) (words : List Text) (error : CallError) (input output old new : Option (List ℕ))
+    (status : ℕ) → IsMistake words error
     → status ≡ status_of (NoCall error) → Says Tells (NoCall error) old new
     → IsFailure before before words (streams input output old) (streams input output new) status
 mistaken before words error input output old new status is ends says = record {
@@ -106,9 +113,12 @@ mistaken before words error input output old new status is ends says = record {
   kept = not_begun before before (dumps words) refl;
 }
 
-pub called : (before after : Holding) (words : List Text) (call : Call) (trouble : Trouble) (old new : Streams) (told : Option (List ℕ)) (status : ℕ)
-    → IsCall words call → HasCallTrouble before call trouble → status ≡ status_of trouble → (is_early trouble ≡ true → Keeps old.errors told) → Says Tells trouble told new.errors
-    → Keeps old.output new.output → HasBegun before after (texts call.dumps.items) → IsFailure before after words old new status
+pub called : (before after : Holding) (words : List Text) (call : Call) (trouble : Trouble) (old new : Streams)
+    (told : Option (List ℕ)) (status : ℕ)
+    → IsCall words call → HasCallTrouble before call trouble → status ≡ status_of trouble
+    → (is_early trouble ≡ true → Keeps old.errors told) → Says Tells trouble told new.errors
+    → Keeps old.output new.output → HasBegun before after (texts call.dumps.items)
+    → IsFailure before after words old new status
 called before after words call trouble old new told status is has ends silent says unwritten kept = record {
   trouble = trouble;
   why = Called call is has;

@@ -82,7 +82,7 @@ pub data RunsLint (holds : Holding) (words : List Text) (source : From) (old new
       → (lines : List ℕ) (faulty : Bool) → IsLinted linting (text_name source) bytes lines faulty
       → IsLintRun lines faulty old.output new.output old.errors new.errors status → RunsLint holds words source old new status
 
--- what explains why words ask for nothing: of a setting that is none the reason, and of other words nothing
+-- what explains why words ask for nothing: of a setting that is none the reason, and of promises and other words nothing
 abbrev pub refusal_taught : List Text → CommandError → List ℕ
 refusal_taught words (Setting k) = setting_taught (setting_at words k)
 refusal_taught words error = []

@@ -101,6 +101,86 @@ const UNCHECKED: [(&[u8], &str); 14] = [
     ),
 ];
 
+/// A sum of words, and its packets of a cycle a word.
+const SUM: &[u8] =
+    b"L: LDW .D1 *A4++,A2\n ADD .L1 A2,A3,A3\n SUB .S1 A1,1,A1\n [A1] B .S2 L\n---\n SUB .S1 A1,6,A1\n [A1] SUB .S1 A1,1,A1\n|| [A1] B .S2 L\n|| LDW .D1 *A4++,A2\n [A1] SUB .S1 A1,1,A1\n|| [A1] B .S2 L\n|| LDW .D1 *A4++,A2\n [A1] SUB .S1 A1,1,A1\n|| [A1] B .S2 L\n|| LDW .D1 *A4++,A2\n [A1] SUB .S1 A1,1,A1\n|| [A1] B .S2 L\n|| LDW .D1 *A4++,A2\n [A1] SUB .S1 A1,1,A1\n|| [A1] B .S2 L\n|| LDW .D1 *A4++,A2\nL: [A1] SUB .S1 A1,1,A1\n|| [A1] B .S2 L\n|| LDW .D1 *A4++,A2\n|| ADD .L1 A2,A3,A3\n ADD .L1 A2,A3,A3\n ADD .L1 A2,A3,A3\n ADD .L1 A2,A3,A3\n ADD .L1 A2,A3,A3\n ADD .L1 A2,A3,A3\n";
+
+/// Words of a check of loops, an input, the status, and what is written.
+const LOOPS: [(&[&str], &[u8], u8, &str); 6] = [
+    (
+        &["check", "--loops", "--trips", "L=6"],
+        SUM,
+        0,
+        "loop L same from 6 trips cycles 1\n",
+    ),
+    (
+        &["check", "--loops", "--trips", "L=5"],
+        SUM,
+        5,
+        "loop L same from 6 trips cycles 1\n",
+    ),
+    (
+        &["check", "--loops"],
+        SUM,
+        5,
+        "loop L same from 6 trips cycles 1\n",
+    ),
+    (&["check", "--loops"], b"---", 0, ""),
+    (
+        &["check", "--loops"],
+        b" MV .L1 A3,A5\n---\n MV .L1 A3,A5\n",
+        0,
+        "block 0 same\n",
+    ),
+    (
+        &["check", "--loops"],
+        b" MV .L1 A3,A5\n---\n NOP\n",
+        5,
+        "block 0 missing 1\n",
+    ),
+];
+
+/// The same of what is refused, and what is told of it.
+const LOOPLESS: [(&[&str], &[u8], u8, &str); 7] = [
+    (
+        &["check", "--loops", "--trips", "L=6", "--trips", "M=6"],
+        SUM,
+        1,
+        "trips 2: no loop\n",
+    ),
+    (
+        &["check", "--loops", "--trips", "M=6"],
+        b"FOO\n---\nBAR\n",
+        1,
+        "text line 1: UnknownMnemonic\n",
+    ),
+    (
+        &["check", "--loops"],
+        b"\n---\n\n B .S1 M\n",
+        1,
+        "listing line 2: UnknownTarget\n",
+    ),
+    (
+        &["check", "--loops"],
+        b"FOO\n",
+        1,
+        "text line 0: NoListing\n",
+    ),
+    (
+        &["check", "--loops", "--trips", "L=6", "--trips", "M"],
+        SUM,
+        2,
+        "trips 2: bad\n",
+    ),
+    (
+        &["check", "--loops", "--apart", "A4,A99"],
+        SUM,
+        2,
+        "apart: bad\n",
+    ),
+    (&["check", "--loops", "--apart", ""], SUM, 2, "apart: bad\n"),
+];
+
 /// A line of 64 bytes that says nothing, and how often it stands in the longest text.
 const COMMENT: &[u8] = b";;;;;;;;;;;;;;;;;;;;;;;;;;;;;;;;;;;;;;;;;;;;;;;;;;;;;;;;;;;;;;;\n";
 
@@ -135,6 +215,23 @@ fn checked_texts(rt: HostRuntime) -> Result<(), Fail> {
     }
     for (input, expected) in &NOT_SAME {
         checks(&rt, input, 5, expected);
+    }
+    Ok(())
+}
+
+#[test]
+fn checked_loops(rt: HostRuntime) -> Result<(), Fail> {
+    for (words, input, status, expected) in &LOOPS {
+        let ran = run_on_bytes(&rt, words, input);
+        assert_eq!(rt; ran.output.as_slice(), expected.as_bytes());
+        assert!(rt; ran.errors.is_empty());
+        assert_eq!(rt; ran.status, *status);
+    }
+    for (words, input, status, expected) in &LOOPLESS {
+        let ran = run_on_bytes(&rt, words, input);
+        assert_eq!(rt; ran.errors.as_slice(), expected.as_bytes());
+        assert!(rt; ran.output.is_empty());
+        assert_eq!(rt; ran.status, *status);
     }
     Ok(())
 }

@@ -96,7 +96,7 @@ enum Asked {
 }
 
 /// What words ask for; where they ask for nothing, they are refused.
-#[tactic(auto, using(crate::proofs::Taught::refused_setting, crate::proofs::Taught::refused_words))]
+#[tactic(auto, using(crate::proofs::Taught::refused_setting, crate::proofs::Taught::refused_promise, crate::proofs::Taught::refused_words))]
 fn asked_of(alloc: Global, words: &[&str]) -> Result<Asked, AllocError>
     ensures { IfOk result (IsAsked (map (λ word. word.now) words.now)) }
 {
@@ -106,6 +106,7 @@ fn asked_of(alloc: Global, words: &[&str]) -> Result<Asked, AllocError>
         Err(CommandError::Setting(number)) => Ok(Asked::Unknown(setting_taught(
             alloc, words, number,
         )?)),
+        Err(CommandError::Promise(_)) => Ok(Asked::Unknown(Vec::new(alloc))),
         Err(CommandError::Words(_)) => Ok(Asked::Unknown(Vec::new(alloc))),
     }
 }

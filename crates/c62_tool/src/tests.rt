@@ -304,10 +304,14 @@ Options:
 
 Usage: c62 check [--packets] [-o <FILE>] <TEXT> <LISTING>
        c62 check [--packets] [-o <FILE>] [FILE]  (both in one, with a line `---` between them)
+       c62 check --loops [--trips <L=N>]... [--apart <REG,REG,..>] [-o <FILE>] <TEXT> <PACKETS>
 
 Options:
-      --packets  Reads packets as they are written in place of a listing
-  -h, --help     Print help
+      --packets             Reads packets as they are written in place of a listing
+      --loops               Reads packets in flight, and tells whether they do what the text's loops do
+      --trips <L=N>         With --loops: the loop of label L is entered with at least N trips
+      --apart <REG,REG,..>  With --loops: accesses from two of these registers never touch one byte in two iterations
+  -h, --help                Print help
 ",
         "c62 check kernel.s hand.lst",
     ),

@@ -10,5 +10,7 @@ returns c =
       says = c.in_ok-program.ensures;
       packets = c.in_ok-packets.packets;
       packed = c.in_ok-packets.ensures.packed;
-      reported = same_report packing c.in_ok-program.program c.in_ok-packets.packets start.settings.items start.course c.in_ok-packet_run.field-0.outcome c.in_ok-packet_run.field-0.text.items c.in_ok-packets.ensures.packed c.in_ok-packet_run.ensures;
+      reported = same_report packing c.in_ok-program.program c.in_ok-packets.packets start.settings.items start.course
+          c.in_ok-packet_run.field-0.outcome c.in_ok-packet_run.field-0.text.items c.in_ok-packets.ensures.packed
+          c.in_ok-packet_run.ensures;
     }

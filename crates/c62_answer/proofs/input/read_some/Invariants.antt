@@ -4,4 +4,5 @@ use Rattle.c62_answer.proofs.input.read_some.Given as goal
 
 -- reads that were interrupted took nothing
 abbrev pub invariant-loop : goal.invariant-loop
-invariant-loop g l = (length l.buf ≡ length l.initial.buf) × Keeps (g.R.Read.remaining l.initial.reader) (g.R.Read.remaining l.reader)
+invariant-loop g l = (length l.buf ≡ length l.initial.buf)
+    × Keeps (g.R.Read.remaining l.initial.reader) (g.R.Read.remaining l.reader)

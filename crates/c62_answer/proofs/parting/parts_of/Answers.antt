@@ -16,7 +16,8 @@ loop-begin-preserved c =
     let input = c.args.input.now in
     let begin = c.loop-begin.begin in
     let none : NoneBegun (drop begin input) = rw (take_rest input begin) at c.in_default.ensures in
-    searched_on input begin c.in-Some-memchr.end c.loop-begin.invariant none (rw (c.in-Some-memchr.is, take_rest input begin) at c.memchr.ensures)
+    searched_on input begin c.in-Some-memchr.end c.loop-begin.invariant none
+    (rw (c.in-Some-memchr.is, take_rest input begin) at c.memchr.ensures)
 
 pub returns-in-None : goal.returns-in-None
 returns-in-None c =

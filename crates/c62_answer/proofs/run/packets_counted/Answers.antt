@@ -6,5 +6,6 @@ pub returns-clause-told : goal.returns-clause-told
 returns-clause-told c = (
   c.in_ok-chain.tally,
   c.in_ok-chain.ensures.counts,
-  c.in_ok-packet_table.ensures ∙ ap (λ xs. xs ++ packet_table c.args.packets.now c.in_ok-chain.tally) c.new-table.ensures.items,
+  c.in_ok-packet_table.ensures
+      ∙ ap (λ xs. xs ++ packet_table c.args.packets.now c.in_ok-chain.tally) c.new-table.ensures.items,
 )

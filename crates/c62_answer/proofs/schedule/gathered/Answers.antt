@@ -1,4 +1,5 @@
-use Rattle.std.proofs.Common.{◌≡◌, ◌∙◌, ◌∷◌, [], ◌++◌, ◌+◌, ◌≤◌, List, length, sym, ap, subst, append_assoc, append-nil, arith}
+use Rattle.std.proofs.Common.{◌≡◌, ◌∙◌, ◌∷◌, [], ◌++◌, ◌+◌, ◌≤◌, List, length, sym, ap, subst, append_assoc, append-nil}
+use Rattle.std.proofs.Common.{arith}
 use Rattle.std.proofs.lemmas.List.{length-append}
 use Rattle.std.specs.Vec.Iter.{into_iter_items}
 use Rattle.c62_packet.specs.Packed.{Packed}
@@ -20,8 +21,10 @@ pub loop-block-preserved : goal.loop-block-preserved
 loop-block-preserved c =
     let at = c.loop-block in
     let block = c.in-Some.block in
-    let steps : into_iter_items at.block-iterator ≡ block ∷ into_iter_items c.next.new.self = c.in-Some.ensures.steps.0 in (
-      ap (λ (front : List Packed). front ++ into_iter_items c.next.new.self) c.in-Ok.ensures ∙ append_assoc at.packets (block ∷ []) _ ∙ rw (← steps) at.invariant.0,
+    let steps : into_iter_items at.block-iterator ≡ block ∷ into_iter_items c.next.new.self = c.in-Some.ensures.steps.0
+    in (
+      ap (λ (front : List Packed). front ++ into_iter_items c.next.new.self) c.in-Ok.ensures
+          ∙ append_assoc at.packets (block ∷ []) _ ∙ rw (← steps) at.invariant.0,
       let was = at.invariant.1 in
           let gone = c.in-Some.ensures.steps.1 in
           let short = ap length steps in

@@ -16,7 +16,8 @@ returns-clause-packed g c =
     let same = c.into_blocks-blocks.ensures.same in
     let gathered = c.in_ok-gathered.ensures in
     subst (λ (packets : List Packed). AreScheduled c.args.packing c.args.program packets) (sym gathered)
-    (subst (λ (blocks : List Serial). AreScheduled c.args.packing blocks c.in_ok-made.made.items) same c.in_ok-made.ensures)
+    (subst (λ (blocks : List Serial). AreScheduled c.args.packing blocks c.in_ok-made.made.items) same
+    c.in_ok-made.ensures)
 
 pub returns-clause-closed : goal.returns-clause-closed
 returns-clause-closed g c =

@@ -11,8 +11,12 @@ returns c =
     let board = c.args.board.now in
     let limits = c.in_ok-limits_of.field-0 in
     let packets = c.in_ok-packets in
-    let shown : Shown = record { limits = Some limits; packets = packets.packets; whys = c.in_ok-whys.whys; lives = c.in_ok-lives.lives } in
-    shown_plainly c.args.showing board.plan board.spots shown limits c.requires.plain packets.ensures.packets packets.ensures.serial packets.ensures.block refl
+    let shown : Shown = record
+    { limits = Some limits; packets = packets.packets; whys = c.in_ok-whys.whys; lives = c.in_ok-lives.lives }
+    in
+    shown_plainly c.args.showing board.plan board.spots shown limits c.requires.plain packets.ensures.packets
+    packets.ensures.serial packets.ensures.block refl
     (subst (λ (plan : Serial). ArePlainLimits plan limits) c.plan.ensures.plan c.in_ok-limits_of.ensures)
-    (subst (λ (cycles : ℕ). TellsWhys c.args.showing.why board.plan board.spots cycles c.in_ok-whys.whys.items) c.length.ensures.same c.in_ok-whys.ensures)
+    (subst (λ (cycles : ℕ). TellsWhys c.args.showing.why board.plan board.spots cycles c.in_ok-whys.whys.items)
+    c.length.ensures.same c.in_ok-whys.ensures)
     c.in_ok-lives.ensures

@@ -8,5 +8,6 @@ returns g c =
     let came = c.in_ok-collect.ensures in
     let calls = rw (c.map.ensures.base, c.map.ensures.f, c.with_min_len.ensures.base) at came.1 in
     where_ok c.in_ok-collect.field-0 _ _ _ came.2 (λ v made.
-    let each = gathered _ (IsShown c.args.showing) c.args.blocks.items calls.0 came.0 v.items made.0 (calls.1 ∙ c.into_par_iter.ensures) calls.2 made.1 made.2 in
+    let each = gathered _ (IsShown c.args.showing) c.args.blocks.items calls.0 came.0 v.items made.0 (calls.1
+    ∙ c.into_par_iter.ensures) calls.2 made.1 made.2 in
     all_shown c.args.showing c.args.blocks.items v.items each)

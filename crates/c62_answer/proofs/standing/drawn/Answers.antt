@@ -7,6 +7,7 @@ use Rattle.c62_answer.proofs.standing.drawn.Goals as goal
 pub returns : goal.returns
 returns c = record {
   shown = c.in_ok-shown.shown.items;
-  standing = subst (λ (details : Details). AllZip (IsStanding details) c.args.packets.now c.in_ok-shown.shown.items) c.details_of.ensures c.in_ok-shown.ensures;
+  standing = subst (λ (details : Details). AllZip (IsStanding details) c.args.packets.now c.in_ok-shown.shown.items)
+      c.details_of.ensures c.in_ok-shown.ensures;
   drawn = rw c.deref.ensures.value at c.in_ok-text.ensures;
 }

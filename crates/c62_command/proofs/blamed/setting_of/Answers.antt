@@ -7,7 +7,8 @@ use Rattle.c62_command.proofs.blamed.setting_of.Goals as goal
 
 pub returns-in-Some : goal.returns-in-Some
 returns-in-Some c =
-    let value : Some (map (λ text. text.now) c.in-Some.words.now) ≡ all_of (codes "settings") (rows_of (found_of c.args.found.now))
+    let value : Some (map (λ text. text.now) c.in-Some.words.now) ≡ all_of (codes "settings")
+    (rows_of (found_of c.args.found.now))
     = c.in-Some.ensures ∙ raw_values-rows (found_of c.args.found.now) (codes "settings") in
     rw (← value) (search (rules, c.word_at.ensures, c.saturating_sub.ensures))
 

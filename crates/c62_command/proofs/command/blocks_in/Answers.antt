@@ -7,10 +7,12 @@ use Rattle.c62_command.proofs.command.blocks_in.Goals as goal
 
 pub returns-in-Some : goal.returns-in-Some
 returns-in-Some c =
-    let value : Some c.in-Some.text.now ≡ first_of (codes "blocks") (rows_of (found_of c.args.matches.now)) = c.in-Some.ensures ∙ first_value-rows (found_of c.args.matches.now) (codes "blocks") in
+    let value : Some c.in-Some.text.now ≡ first_of (codes "blocks") (rows_of (found_of c.args.matches.now)) =
+    c.in-Some.ensures ∙ first_value-rows (found_of c.args.matches.now) (codes "blocks") in
     rw (← value) (c.unwrap_or.ensures ∙ number_read 32 1000 c.in-Some.text.now c.parse.result c.parse.ensures.value.0)
 
 pub returns-in-None : goal.returns-in-None
 returns-in-None c =
-    let none : None ≡ first_of (codes "blocks") (rows_of (found_of c.args.matches.now)) = c.in-None.ensures ∙ first_value-rows (found_of c.args.matches.now) (codes "blocks") in
+    let none : None ≡ first_of (codes "blocks") (rows_of (found_of c.args.matches.now)) = c.in-None.ensures
+    ∙ first_value-rows (found_of c.args.matches.now) (codes "blocks") in
     rw (← none) refl

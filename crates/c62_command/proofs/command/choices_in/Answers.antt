@@ -7,10 +7,12 @@ use Rattle.c62_command.proofs.command.choices_in.Goals as goal
 
 pub returns-in-Some : goal.returns-in-Some
 returns-in-Some c =
-    let value : Some c.in-Some.text.now ≡ first_of (codes "search") (rows_of (found_of c.args.matches.now)) = c.in-Some.ensures ∙ first_value-rows (found_of c.args.matches.now) (codes "search") in
+    let value : Some c.in-Some.text.now ≡ first_of (codes "search") (rows_of (found_of c.args.matches.now)) =
+    c.in-Some.ensures ∙ first_value-rows (found_of c.args.matches.now) (codes "search") in
     rw (← value) (c.unwrap_or.ensures ∙ number_read 16 0 c.in-Some.text.now c.parse.result c.parse.ensures.value.0)
 
 pub returns-in-None : goal.returns-in-None
 returns-in-None c =
-    let none : None ≡ first_of (codes "search") (rows_of (found_of c.args.matches.now)) = c.in-None.ensures ∙ first_value-rows (found_of c.args.matches.now) (codes "search") in
+    let none : None ≡ first_of (codes "search") (rows_of (found_of c.args.matches.now)) = c.in-None.ensures
+    ∙ first_value-rows (found_of c.args.matches.now) (codes "search") in
     rw (← none) refl

@@ -6,15 +6,20 @@ use Rattle.c62_command.proofs.command.settings_in.Goals as goal
 
 pub returns-in-Some-clause-ok : goal.returns-in-Some-clause-ok
 returns-in-Some-clause-ok c =
-    let value : Some (map (λ text. text.now) c.in-Some.texts.now) ≡ all_of (codes "settings") (rows_of (found_of c.args.matches.now)) = c.in-Some.ensures ∙ raw_values-rows (found_of c.args.matches.now) (codes "settings") in
+    let value : Some (map (λ text. text.now) c.in-Some.texts.now) ≡ all_of (codes "settings")
+    (rows_of (found_of c.args.matches.now)) = c.in-Some.ensures
+    ∙ raw_values-rows (found_of c.args.matches.now) (codes "settings") in
     rw (← value) c.read_settings.ensures.ok
 
 pub returns-in-Some-clause-err : goal.returns-in-Some-clause-err
 returns-in-Some-clause-err c =
-    let value : Some (map (λ text. text.now) c.in-Some.texts.now) ≡ all_of (codes "settings") (rows_of (found_of c.args.matches.now)) = c.in-Some.ensures ∙ raw_values-rows (found_of c.args.matches.now) (codes "settings") in
+    let value : Some (map (λ text. text.now) c.in-Some.texts.now) ≡ all_of (codes "settings")
+    (rows_of (found_of c.args.matches.now)) = c.in-Some.ensures
+    ∙ raw_values-rows (found_of c.args.matches.now) (codes "settings") in
     rw (← value) c.read_settings.ensures.err
 
 pub returns-in-None-clause-ok : goal.returns-in-None-clause-ok
 returns-in-None-clause-ok c =
-    let none : None ≡ all_of (codes "settings") (rows_of (found_of c.args.matches.now)) = c.in-None.ensures ∙ raw_values-rows (found_of c.args.matches.now) (codes "settings") in
+    let none : None ≡ all_of (codes "settings") (rows_of (found_of c.args.matches.now)) = c.in-None.ensures
+    ∙ raw_values-rows (found_of c.args.matches.now) (codes "settings") in
     rw (← none) (ap Some (sym c.new.ensures.items))

@@ -4,4 +4,5 @@ use Rattle.c62_command.proofs.promise.read_trips.Given as goal
 
 abbrev pub invariant-loop-text : goal.invariant-loop-text
 invariant-loop-text l =
-    (all_trips (take l.text-index (map (λ text. text.now) l.texts)) ≡ Some (map trips_of l.all.items)) × (l.number ≡ l.text-index)
+    (all_trips (take l.text-index (map (λ text. text.now) l.texts)) ≡ Some (map trips_of l.all.items))
+    × (l.number ≡ l.text-index)

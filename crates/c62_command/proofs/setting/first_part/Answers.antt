@@ -7,8 +7,11 @@ use Rattle.c62_command.proofs.setting.first_part.Goals as goal
 
 pub returns-in-Some : goal.returns-in-Some
 returns-in-Some c =
-    let found : position (λ b. b == 44) c.args.text.now ≡ Some c.in-Some.comma = sym c.comma.ensures ∙ c.in-Some.is in
-    (rw (take_rest c.args.text.now (c.in-Some.comma + 1)) (more_parts c.args.text.now c.in-Some.comma found), search rules)
+    let found : position (λ b. b == 44) c.args.text.now ≡ Some c.in-Some.comma = sym c.comma.ensures ∙ c.in-Some.is in (
+      rw (take_rest c.args.text.now (c.in-Some.comma + 1)) (more_parts c.args.text.now c.in-Some.comma found),
+      search
+          rules,
+    )
 
 pub returns-in-None : goal.returns-in-None
 returns-in-None c =

@@ -4,4 +4,5 @@ use Rattle.c62_command.proofs.setting.read_settings.Given as goal
 
 abbrev pub invariant-loop-text : goal.invariant-loop-text
 invariant-loop-text l =
-    (settings_of (take l.text-index (map (λ text. text.now) l.texts)) ≡ Some l.settings.items) × (l.number ≡ l.text-index)
+    (settings_of (take l.text-index (map (λ text. text.now) l.texts)) ≡ Some l.settings.items)
+    × (l.number ≡ l.text-index)

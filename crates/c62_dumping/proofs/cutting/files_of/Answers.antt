@@ -9,10 +9,12 @@ returns-in_default c = no_file_more _ _ _ _ _ c.in_default.ensures c.loop-name.i
 
 pub loop-name-preserved : goal.loop-name-preserved
 loop-name-preserved c =
-    one_file_more c.args.names.now c.loop-name.name-index _ _ _ _ _ _ _ _ _ _ _ _ (search rules) refl c.in-Some.ensures c.first_of.ensures.first c.first_of.ensures.behind
+    one_file_more c.args.names.now c.loop-name.name-index _ _ _ _ _ _ _ _ _ _ _ _ (search rules) refl c.in-Some.ensures
+    c.first_of.ensures.first c.first_of.ensures.behind
     refl c.in_ok-push.ensures.items c.loop-name.invariant
 
 pub returns : goal.returns
 returns c =
-    let none : texts (drop c.loop-name.name-index c.args.names.now) ≡ [] = ap texts (drop_all c.loop-name.name-index c.args.names.now (search rules)) in
+    let none : texts (drop c.loop-name.name-index c.args.names.now) ≡ [] = ap texts
+    (drop_all c.loop-name.name-index c.args.names.now (search rules)) in
     no_name_more _ _ _ _ _ none c.loop-name.invariant

@@ -1,7 +1,8 @@
-use Rattle.std.proofs.Common.{◌≡◌, ◌++◌, ◌∷◌, [], map, take}
+use Rattle.std.proofs.Common.{◌≡◌, ◌++◌, map, take}
 use Rattle.std.specs.List.{flat_map}
 use Rattle.c62_files.specs.Words.{output_in, text_piece, texts}
 use Rattle.c62_files.proofs.call.outputs_in.Given as goal
 
 abbrev pub invariant-loop-piece : goal.invariant-loop-piece
-invariant-loop-piece l = texts l.names.items ≡ texts l.initial.names.items ++ flat_map output_in (map text_piece (take l.piece-index l.pieces))
+invariant-loop-piece l = texts l.names.items ≡ texts l.initial.names.items ++ flat_map output_in
+    (map text_piece (take l.piece-index l.pieces))

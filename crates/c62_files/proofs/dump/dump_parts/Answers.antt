@@ -5,4 +5,5 @@ use Rattle.c62_files.proofs.dump.dump_parts.Goals as goal
 
 pub returns : goal.returns
 returns c =
-    parted c.args.word.now c.split_once.result (split_once_first 61 c.args.word.now c.split_once.result c.split_once.ensures.cases (omega arith))
+    parted c.args.word.now c.split_once.result
+    (split_once_first 61 c.args.word.now c.split_once.result c.split_once.ensures.cases (omega arith))

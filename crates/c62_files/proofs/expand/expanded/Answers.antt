@@ -13,15 +13,18 @@ returns-clause-ok g c =
 pub returns-in-Err-clause-err : goal.returns-in-Err-clause-err
 returns-in-Err-clause-err g c =
     rw (c.numbered.ensures)
-    (stopped_at (g.F.Folder.holds c.args.folder.now) c.args.pieces.now c.loop-piece.piece-index c.loop-piece.loads _ _ _ (search rules) refl
+    (stopped_at (g.F.Folder.holds c.args.folder.now) c.args.pieces.now c.loop-piece.piece-index c.loop-piece.loads _ _ _
+    (search rules) refl
     c.loop-piece.invariant.1 c.in-Err.ensures.stopped)
 
 pub loop-piece-preserved : goal.loop-piece-preserved
 loop-piece-preserved g c =
     let given = c.in_default.ensures.ok in
     let now = c.loop-piece.invariant in (
-      grown_more (g.F.Folder.holds c.args.folder.now) (map text_piece c.args.pieces.now) c.args.pieces.now c.loop-piece.piece-index _ _ _ given.0 _ (search rules)
+      grown_more (g.F.Folder.holds c.args.folder.now) (map text_piece c.args.pieces.now) c.args.pieces.now
+          c.loop-piece.piece-index _ _ _ given.0 _ (search rules)
           refl given.1 given.2 now.0,
-      rw c.loads_with-loads.ensures (loads_more c.args.pieces.now c.loop-piece.piece-index _ _ c.loop-piece.loads (search rules) refl now.1),
+      rw c.loads_with-loads.ensures
+          (loads_more c.args.pieces.now c.loop-piece.piece-index _ _ c.loop-piece.loads (search rules) refl now.1),
       rw c.loads_with-loads.ensures (loads_few c.loop-piece.loads c.loop-piece.piece-index _ now.2),
     )

@@ -5,4 +5,5 @@ use Rattle.c62_files.proofs.expand.settings_in.Goals as goal
 
 pub returns-clause-held : goal.returns-clause-held
 returns-clause-held g c =
-    whole_if_short (g.F.Folder.holds c.args.folder.now c.args.name.now) c.in_ok-bytes.bytes.items MOST_SETTINGS (search rules) c.in_ok-bytes.ensures
+    whole_if_short (g.F.Folder.holds c.args.folder.now c.args.name.now) c.in_ok-bytes.bytes.items MOST_SETTINGS
+    (search rules) c.in_ok-bytes.ensures

@@ -5,5 +5,6 @@ use Rattle.c62_files.proofs.settings.settings_words.Goals as goal
 
 pub returns : goal.returns
 returns c =
-    let none : drop c.loop-byte.byte-index c.args.bytes.now ≡ [] = drop_all c.loop-byte.byte-index c.args.bytes.now (search rules) in
+    let none : drop c.loop-byte.byte-index c.args.bytes.now ≡ [] = drop_all c.loop-byte.byte-index c.args.bytes.now
+    (search rules) in
     c.in_ok-end_word.ensures.words ∙ all_read c.loop-byte.reading _ _ none c.loop-byte.invariant

@@ -7,4 +7,5 @@ returns-then-is_empty c = adds_none c.args.line c.args.more.now.items
 
 pub returns : goal.returns
 returns c =
-    adds_one_on c.push_hint.result c.args.line (c.deref.result.now ∷ []) c.args.more.now.items c.push_hint.new.out.items c.push_hint.ensures
+    adds_one_on c.push_hint.result c.args.line (c.deref.result.now ∷ []) c.args.more.now.items c.push_hint.new.out.items
+    c.push_hint.ensures

@@ -5,4 +5,5 @@ use Rattle.c62_teach.proofs.Listed.{any_mapped}
 use Rattle.c62_teach.proofs.words.explains.Goals as goal
 
 pub returns : goal.returns
-returns c = c.has_explain.ensures ∙ any_mapped (λ text. bytes_eq text (codes "--explain")) (string_bytes {Z = Global}) c.args.words.now
+returns c = c.has_explain.ensures
+    ∙ any_mapped (λ text. bytes_eq text (codes "--explain")) (string_bytes {Z = Global}) c.args.words.now

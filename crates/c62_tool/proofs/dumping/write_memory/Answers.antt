@@ -7,4 +7,5 @@ returns-in_err-files-clause-begun g c = on_err c.from_residual.result (none_begu
 
 pub returns-clause-why : goal.returns-clause-why
 returns-clause-why g c =
-    dump_trouble _ _ _ _ _ _ c.in_ok-files.ensures (rw c.deref.ensures.value at c.in-Err.ensures.name) c.of_writing.ensures
+    dump_trouble _ _ _ _ _ _ c.in_ok-files.ensures (rw c.deref.ensures.value at c.in-Err.ensures.name)
+    c.of_writing.ensures

@@ -18,7 +18,8 @@ returns-in-Err g c =
     let words = map g.S.AsStr.text c.args.words.now in
     let none : page_asked words ≡ None = search rules in
     let other : is_topic words ≡ false = search rules in
-    Fails none other (mistaken _ words c.in-Err.error _ _ _ _ _ c.in-Err.ensures.err c.give_up.ensures.status c.give_up.ensures.said)
+    Fails none other (mistaken _ words c.in-Err.error _ _ _ _ _ c.in-Err.ensures.err c.give_up.ensures.status
+    c.give_up.ensures.said)
 
 pub returns-in-Ok-run_call : goal.returns-in-Ok-run_call
 returns-in-Ok-run_call g c =
@@ -33,5 +34,6 @@ returns g c =
     let none : page_asked words ≡ None = search rules in
     let other : is_topic words ≡ false = search rules in
     let failed = c.in-Err-run_call.ensures in
-    Fails none other (called _ _ words c.in-Ok.call c.in-Err-run_call.trouble _ _ _ _ c.in-Ok.ensures.ok failed.why c.give_up-in-Err-run_call.ensures.status
+    Fails none other (called _ _ words c.in-Ok.call c.in-Err-run_call.trouble _ _ _ _ c.in-Ok.ensures.ok failed.why
+    c.give_up-in-Err-run_call.ensures.status
     failed.silent c.give_up-in-Err-run_call.ensures.said failed.err failed.kept)

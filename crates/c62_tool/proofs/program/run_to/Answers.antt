@@ -12,7 +12,8 @@ returns-then-not-is_made-clause-ok g c =
 pub returns-in-Ok-clause-ok : goal.returns-in-Ok-clause-ok
 returns-in-Ok-clause-ok g c =
     let one : is_made (map string_bytes c.args.words.now) c.in_ok-status.status ≡ true = search rules in
-    made_one _ _ _ _ _ _ _ _ _ _ _ one (rw c.deref.ensures.value at c.in-Ok.ensures.ok) (rw c.new-answer.ensures.items at c.in_ok-status.ensures.ok)
+    made_one _ _ _ _ _ _ _ _ _ _ _ one (rw c.deref.ensures.value at c.in-Ok.ensures.ok)
+    (rw c.new-answer.ensures.items at c.in_ok-status.ensures.ok)
 
 pub returns-clause-silent : goal.returns-clause-silent
 returns-clause-silent g c = λ is. absurd (is_late _ _ c.of_writing.ensures is)

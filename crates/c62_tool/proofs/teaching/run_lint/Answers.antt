@@ -12,5 +12,7 @@ returns-in_default-clause-ok g c =
 pub returns-clause-ok : goal.returns-clause-ok
 returns-clause-ok g c =
     let found = c.in_ok-found.found in
-    lint_found _ _ _ _ _ _ c.in-Some.linting c.in_ok-bytes.bytes.items found.lines.items found.faulty c.names_of.result.text.now c.names_of.ensures.text
-    (sym c.in-Some.ensures.is) c.in_ok-bytes.ensures.ok (rw c.as_bytes-2.ensures.value at (rw c.deref.ensures.value at c.in_ok-found.ensures)) c.print_lines.ensures
+    lint_found _ _ _ _ _ _ c.in-Some.linting c.in_ok-bytes.bytes.items found.lines.items found.faulty
+    c.names_of.result.text.now c.names_of.ensures.text
+    (sym c.in-Some.ensures.is) c.in_ok-bytes.ensures.ok
+    (rw c.as_bytes-2.ensures.value at (rw c.deref.ensures.value at c.in_ok-found.ensures)) c.print_lines.ensures

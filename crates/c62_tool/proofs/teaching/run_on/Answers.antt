@@ -3,4 +3,8 @@ use Rattle.c62_tool.proofs.Taught.{ran_more}
 use Rattle.c62_tool.proofs.teaching.run_on.Goals as goal
 
 pub returns : goal.returns
-returns g c = (Some c.run_tool-status.new.reader.now, ran_more 1 _ c.args.more.now _ _ _ _ _ _ c.run_tool-status.ensures c.tell_more.ensures)
+returns g c = (
+  Some c.run_tool-status.new.reader.now,
+  ran_more 1 _ c.args.more.now _ _ _ _ _ _ c.run_tool-status.ensures
+      c.tell_more.ensures,
+)

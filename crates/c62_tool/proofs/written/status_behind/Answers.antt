@@ -1,5 +1,5 @@
 use Rattle.std.proofs.Common.{refl}
-use Rattle.c62_answer.proofs.Runs.{told_tells}
+use Rattle.c62_answer.proofs.WholeRuns.{told_tells}
 use Rattle.c62_tool.proofs.written.status_behind.Goals as goal
 
 pub returns-in-Err : goal.returns-in-Err
