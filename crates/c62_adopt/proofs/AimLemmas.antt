@@ -1,5 +1,6 @@
 -- The branches of what is adopted go to blocks that are there and have labels.
-use Rattle.std.proofs.Common.{arith, ◌≡◌, ℕ, ◌<◌, Bool, true, false, List, [], ◌∷◌, ◌++◌, length, map, refl, ap, ◌∙◌, inl, inr, Option, Some, None}
+use Rattle.std.proofs.Common.{arith, ◌≡◌, ℕ, ◌<◌, Bool, true, false, List, [], ◌∷◌, ◌++◌, length, map, refl, ap, ◌∙◌}
+use Rattle.std.proofs.Common.{inl, inr, Option, Some, None}
 use Rattle.std.specs.Prelude.{All, slice_get}
 use Rattle.std.specs.List.{AllByRecursion, AllZip, list_any, list_all, position_or_len}
 use Rattle.std.specs.Option.{option_to_list}
@@ -8,7 +9,8 @@ use Rattle.std.proofs.lemmas.Bool.Decides.{nat_tests}
 use Rattle.std.proofs.lemmas.List.Elements.{All-nil, All-cons, All-head, All-tail}
 use Rattle.std.proofs.lemmas.List.Sorted.{All-permutation}
 use Rattle.c62_op.specs.declared.operands.Operands.{Operands}
-use Rattle.c62_op.specs.declared.operands.Operands.TheVariants.{Three, ConstantFirst, ConstantSecond, Two, Field, Constant, Access, Block, Register}
+use Rattle.c62_op.specs.declared.operands.Operands.TheVariants.{Three, ConstantFirst, ConstantSecond, Two, Field}
+use Rattle.c62_op.specs.declared.operands.Operands.TheVariants.{Constant, Access, Block, Register}
 use Rattle.c62_insn.specs.Insn.{operands_of, aimed_operands}
 use Rattle.c62_line.specs.Line.{Says, Nothing, Pause, Does, Jumps}
 use Rattle.c62_read.specs.Program.{Name, label_is}
@@ -21,7 +23,8 @@ use Rattle.c62_adopt_line.specs.Line.{Line}
 use Rattle.c62_adopt_line.specs.Laws.{HasTarget, IsWhole, names_block}
 use Rattle.c62_adopt_cut.specs.declared.clock.Stand.{Stand}
 use Rattle.c62_adopt_cut.specs.Cut.{stand_of}
-use Rattle.c62_adopt_cut.specs.Blocks.{Issue, Draft, Drafts, add_issue, all_drafts, begins_at, issue_at, new_draft, opened, with_issue, with_label, with_line, with_says}
+use Rattle.c62_adopt_cut.specs.Blocks.{Issue, Draft, Drafts, add_issue, all_drafts, begins_at, issue_at, new_draft}
+use Rattle.c62_adopt_cut.specs.Blocks.{opened, with_issue, with_label, with_line, with_says}
 use Rattle.c62_adopt_cut.specs.Text.{text_cut}
 use Rattle.c62_adopt_cut.specs.Flight.{is_lost}
 use Rattle.c62_adopt_cut.specs.Laws.{AreOver}
@@ -48,7 +51,8 @@ all_behind : (xs ys : List Draft) → AreAimed (xs ++ ys) → AreAimed ys
 all_behind [] ys all = all
 all_behind (x ∷ xs) ys all = all_behind xs ys all.1
 
-add_aimed : (issue : Issue) (done : List Draft) (current : Option Draft) → AreAimed (done ++ option_to_list current) → IsAimed issue
+add_aimed : (issue : Issue) (done : List Draft) (current : Option Draft) → AreAimed (done ++ option_to_list current)
+    → IsAimed issue
     → AreAimed (all_drafts (add_issue issue (record { done = done; current = current })))
 add_aimed issue done None aimed is = aimed
 add_aimed issue done (Some draft) aimed is =
@@ -56,24 +60,31 @@ add_aimed issue done (Some draft) aimed is =
     all_more IsAimedIn done (with_issue issue draft ∷ []) (all_front done (draft ∷ []) aimed)
     (all_more IsAimed draft.issues (issue ∷ []) last.0 (is, tt), tt)
 
-new_aimed : (drafts : List Draft) (label : Option Name) (start : ℕ) → AreAimed drafts → AreAimed (drafts ++ new_draft label start ∷ [])
+new_aimed : (drafts : List Draft) (label : Option Name) (start : ℕ) → AreAimed drafts
+    → AreAimed (drafts ++ new_draft label start ∷ [])
 new_aimed drafts label start aimed = all_more IsAimedIn drafts (new_draft label start ∷ []) aimed (tt, tt)
 
 opened_aimed : (issue : Issue) (start : ℕ) (drafts : Drafts) → AreAimed (all_drafts drafts) → IsAimed issue
     → AreAimed (all_drafts (add_issue issue (opened start drafts)))
 opened_aimed issue start drafts aimed is = elim (cases_Bool (begins_at start drafts.current)) [
   | inl begins ↦ rw begins (add_aimed issue drafts.done drafts.current aimed is)
-  | inr other ↦ rw other (add_aimed issue (all_drafts drafts) (Some (new_draft None start)) (new_aimed (all_drafts drafts) None start aimed) is)
+  | inr other ↦ rw other
+      (add_aimed issue (all_drafts drafts) (Some (new_draft None start))
+      (new_aimed (all_drafts drafts) None start aimed) is)
 ]
 
-says_aimed : (number : ℕ) (stand : Stand) (says : Says) (drafts : Drafts) → AreAimed (all_drafts drafts) → HasTarget says
+says_aimed : (number : ℕ) (stand : Stand) (says : Says) (drafts : Drafts) → AreAimed (all_drafts drafts)
+    → HasTarget says
     → AreAimed (all_drafts (with_says number stand says drafts))
 says_aimed number stand Nothing drafts aimed target = aimed
 says_aimed number stand (Pause n) drafts aimed target = aimed
-says_aimed number stand (Does parts) drafts aimed target = opened_aimed (issue_at stand number parts None) stand.start drafts aimed (λ none. target)
-says_aimed number stand (Jumps parts label) drafts aimed target = opened_aimed (issue_at stand number parts (Some label)) stand.start drafts aimed (λ none. absurd cc)
+says_aimed number stand (Does parts) drafts aimed target = opened_aimed (issue_at stand number parts None) stand.start
+    drafts aimed (λ none. target)
+says_aimed number stand (Jumps parts label) drafts aimed target = opened_aimed
+    (issue_at stand number parts (Some label)) stand.start drafts aimed (λ none. absurd cc)
 
-label_aimed : (label : Option Name) (start : ℕ) (drafts : Drafts) → AreAimed (all_drafts drafts) → AreAimed (all_drafts (with_label label start drafts))
+label_aimed : (label : Option Name) (start : ℕ) (drafts : Drafts) → AreAimed (all_drafts drafts)
+    → AreAimed (all_drafts (with_label label start drafts))
 label_aimed None start drafts aimed = aimed
 label_aimed (Some label) start drafts aimed = new_aimed (all_drafts drafts) (Some label) start aimed
 
@@ -81,7 +92,8 @@ line_aimed : (above : List Line) (number : ℕ) (drafts : Drafts) (line : Line) 
     → AreAimed (all_drafts drafts) → AreAimed (all_drafts (with_line number (stand_of above line) line drafts))
 line_aimed above number drafts line whole free aimed =
     let stand = stand_of above line in
-    says_aimed number stand line.says (with_label line.label stand.cycle drafts) (label_aimed line.label stand.cycle drafts aimed) whole.target
+    says_aimed number stand line.says (with_label line.label stand.cycle drafts)
+    (label_aimed line.label stand.cycle drafts aimed) whole.target
 
 pub blocks_are_aimed : (text : List ℕ) → AreAimed (text_cut text).drafts
 blocks_are_aimed = text_kept (λ above number drafts. AreAimed (all_drafts drafts)) AreAimed (record {
@@ -99,7 +111,8 @@ module _ (label : Name) where
   abbrev first_with : List Draft → ℕ
   first_with drafts = position_or_len (λ draft. label_is label draft.label) drafts
 
-  first_there : (drafts : List Draft) → list_any (λ draft. label_is label draft.label) drafts ≡ true → first_with drafts < length drafts
+  first_there : (drafts : List Draft) → list_any (λ draft. label_is label draft.label) drafts ≡ true
+      → first_with drafts < length drafts
   first_there [] has = absurd cc
   first_there (draft ∷ drafts) has = grind (arith, nat_tests, first_there drafts)
 
@@ -115,8 +128,10 @@ module _ (label : Name) where
       let labelled = first_labelled drafts has in
       grind (arith, nat_tests)
 
-aimed_stands : (drafts : List Draft) (target : Option Name) (operands : Operands) → (target ≡ None → names_block operands ≡ false)
-    → is_lost drafts target ≡ false → target_stands (labels_in drafts) (aimed_operands (target_number drafts target) operands) ≡ true
+aimed_stands : (drafts : List Draft) (target : Option Name) (operands : Operands)
+    → (target ≡ None → names_block operands ≡ false)
+    → is_lost drafts target ≡ false
+    → target_stands (labels_in drafts) (aimed_operands (target_number drafts target) operands) ≡ true
 aimed_stands drafts target (Three a b d) aimed found = refl
 aimed_stands drafts target (ConstantFirst k a d) aimed found = refl
 aimed_stands drafts target (ConstantSecond a k d) aimed found = refl
@@ -133,16 +148,20 @@ aimed_stands drafts (Some label) (Block old) aimed found = number_labelled label
 abbrev Stands : List (Option Name) → Placed → Type 0
 Stands labels p = target_stands labels (operands_of p.insn) ≡ true
 
-placed_stand : (drafts : List Draft) (issues : List Issue) (placed : List Placed) → map part_of placed ≡ map (part_in drafts) issues
-    → AllByRecursion IsAimed issues → AllByRecursion (λ issue. is_lost drafts issue.target ≡ false) issues → All (Stands (labels_in drafts)) placed
+placed_stand : (drafts : List Draft) (issues : List Issue) (placed : List Placed)
+    → map part_of placed ≡ map (part_in drafts) issues
+    → AllByRecursion IsAimed issues → AllByRecursion (λ issue. is_lost drafts issue.target ≡ false) issues
+    → All (Stands (labels_in drafts)) placed
 placed_stand drafts issues [] is aimed found = All-nil (Stands (labels_in drafts))
 placed_stand drafts [] (p ∷ placed) is aimed found = absurd cc
 placed_stand drafts (issue ∷ issues) (p ∷ placed) is aimed found =
     let part : part_of p ≡ part_in drafts issue = cc in
     let others : map part_of placed ≡ map (part_in drafts) issues = cc in
-    let operands : operands_of p.insn ≡ aimed_operands (target_number drafts issue.target) issue.parts.operands = ap (λ (q : Part). q.parts.operands) part in
+    let operands : operands_of p.insn ≡ aimed_operands (target_number drafts issue.target) issue.parts.operands = ap
+    (λ (q : Part). q.parts.operands) part in
     All-cons (Stands (labels_in drafts)) p placed
-    (ap (target_stands (labels_in drafts)) operands ∙ aimed_stands drafts issue.target issue.parts.operands aimed.0 found.0)
+    (ap (target_stands (labels_in drafts)) operands
+    ∙ aimed_stands drafts issue.target issue.parts.operands aimed.0 found.0)
     (placed_stand drafts issues placed others aimed.1 found.1)
 
 all_pass : (test : Placed → Bool) (placed : List Placed) → All (λ p. test p ≡ true) placed → list_all test placed ≡ true
@@ -160,7 +179,8 @@ block_stands drafts draft block is aimed found =
     all_pass (λ (p : Placed). target_stands (labels_in drafts) (operands_of p.insn)) block.placed
     (All-permutation (Stands (labels_in drafts)) is.placed block.placed is.listed own)
 
-pub same_labels : (whole drafts : List Draft) (packets : List Packed) → AllZip (IsBlockOf whole) drafts packets → labels_of packets ≡ labels_in drafts
+pub same_labels : (whole drafts : List Draft) (packets : List Packed) → AllZip (IsBlockOf whole) drafts packets
+    → labels_of packets ≡ labels_in drafts
 same_labels whole [] [] zip = refl
 same_labels whole [] (block ∷ packets) zip = absurd zip
 same_labels whole (draft ∷ drafts) [] zip = absurd zip
@@ -169,9 +189,11 @@ same_labels whole (draft ∷ drafts) (block ∷ packets) zip =
     let rest = same_labels whole drafts packets zip.1 in
     cc
 
-all_stand : (drain : Bool) (whole : List Draft) (end : ℕ) (drafts : List Draft) (packets : List Packed) → AllZip (IsBlockOf whole) drafts packets
+all_stand : (drain : Bool) (whole : List Draft) (end : ℕ) (drafts : List Draft) (packets : List Packed)
+    → AllZip (IsBlockOf whole) drafts packets
     → AreAimed drafts → AreOver drain whole end drafts
-    → list_all (λ block. list_all (λ p. target_stands (labels_in whole) (operands_of p.insn)) block.placed) packets ≡ true
+    → list_all (λ block. list_all (λ p. target_stands (labels_in whole) (operands_of p.insn)) block.placed) packets ≡
+    true
 all_stand drain whole end [] [] zip aimed over = refl
 all_stand drain whole end [] (block ∷ packets) zip aimed over = absurd zip
 all_stand drain whole end (draft ∷ drafts) [] zip aimed over = absurd zip
@@ -180,7 +202,8 @@ all_stand drain whole end (draft ∷ drafts) (block ∷ packets) zip aimed over 
     let rest = all_stand drain whole end drafts packets zip.1 aimed.1 over.1 in
     grind (arith, nat_tests)
 
-pub packets_closed : (drain : Bool) (drafts : List Draft) (end : ℕ) (packets : List Packed) → AllZip (IsBlockOf drafts) drafts packets → AreAimed drafts
+pub packets_closed : (drain : Bool) (drafts : List Draft) (end : ℕ) (packets : List Packed)
+    → AllZip (IsBlockOf drafts) drafts packets → AreAimed drafts
     → AreOver drain drafts end drafts → is_closed packets ≡ true
 packets_closed drain drafts end packets zip aimed over =
     rw (same_labels drafts drafts packets zip) (all_stand drain drafts end drafts packets zip aimed over)

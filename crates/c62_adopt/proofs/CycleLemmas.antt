@@ -1,5 +1,6 @@
 -- The cycles of a text and those of its listing.
-use Rattle.std.proofs.Common.{arith, ◌≡◌, ℕ, suc, ◌≤◌, ◌+◌, ◌-◌, ◌∙◌, sym, ap, Bool, true, false, cond, List, [], ◌∷◌, refl}
+use Rattle.std.proofs.Common.{arith, ◌≡◌, ℕ, suc, ◌≤◌, ◌+◌, ◌-◌, ◌∙◌, sym, ap, Bool, true, false, cond, List, [], ◌∷◌}
+use Rattle.std.proofs.Common.{refl}
 use Rattle.std.specs.Prelude.{All, None}
 use Rattle.std.specs.List.{AllByRecursion, AllZip}
 use Rattle.std.specs.List.Sorted.{IsNonDecreasing}
@@ -22,13 +23,16 @@ use Rattle.c62_adopt.proofs.BlockLemmas.{end_at, ends_by, length_within}
 -- ---- a block
 
 -- a block's packets are over where it is, or before
-block_fits : (whole : List Draft) (draft : Draft) (block : Packed) (next : ℕ) → IsBlockOf whole draft block → IsOver whole next draft → draft.start ≤ next
+block_fits : (whole : List Draft) (draft : Draft) (block : Packed) (next : ℕ) → IsBlockOf whole draft block
+    → IsOver whole next draft → draft.start ≤ next
     → draft.start + block.cycles ≤ next
 block_fits whole draft block next is over from =
     let most : ℕ = next - draft.start in
     let ends : All (λ p. end_at p ≤ most) is.placed =
-    ends_by whole draft.start (over_in next draft) most draft.issues is.placed is.stand.parts (let before = over_before next draft in omega (arith, before, from)) over.drained in
-    let listed : All (λ p. end_at p ≤ most) block.placed = All-permutation (λ (p : Placed). end_at p ≤ most) is.placed block.placed is.listed ends in
+    ends_by whole draft.start (over_in next draft) most draft.issues is.placed is.stand.parts
+    (let before = over_before next draft in omega (arith, before, from)) over.drained in
+    let listed : All (λ p. end_at p ≤ most) block.placed = All-permutation (λ (p : Placed). end_at p ≤ most) is.placed
+    block.placed is.listed ends in
     let short = length_within most block.placed listed in
     let own = is.is_block.own_length in
     omega (arith, own, short, from)
@@ -42,7 +46,8 @@ begins_before end draft [] rising early = early.0
 begins_before end draft (other ∷ drafts) rising early = rising 0 1 0 (omega arith) (omega arith)
 
 behind_rises : (start : ℕ) (starts : List ℕ) → IsNonDecreasing (start ∷ starts) → IsNonDecreasing starts
-behind_rises start starts rising = λ i j d low below. rising (suc i) (suc j) d (omega (arith, low)) (omega (arith, below))
+behind_rises start starts rising = λ i j d low below. rising (suc i) (suc j) d (omega (arith, low))
+    (omega (arith, below))
 
 -- the cycles that lack, where a text is drained
 abbrev added_to : Bool → ℕ → List Draft → ℕ
@@ -56,14 +61,18 @@ one_sum : (drain : Bool) (end cycles listed left : ℕ) (draft : Draft) (drafts 
     → draft.start + cycles ≤ next_drained drain (next_start end drafts) draft
     → end + added_to drain end drafts ≡ next_start end drafts + (listed + left)
     → end + added_to drain end (draft ∷ drafts)
-    ≡ draft.start + ((cycles + listed) + ((next_drained drain (next_start end drafts) draft - draft.start - cycles) + left))
+    ≡ draft.start + ((cycles + listed) +
+    ((next_drained drain (next_start end drafts) draft - draft.start - cycles) + left))
 one_sum true end cycles listed left draft drafts fits rest = omega (arith, fits, rest)
 one_sum false end cycles listed left draft drafts fits rest = omega (arith, fits, rest)
 
 module _ (drain : Bool) (whole : List Draft) (end : ℕ) where
-  accounts : (drafts : List Draft) (packets : List Packed) → AllZip (IsBlockOf whole) drafts packets → AreOver drain whole end drafts
+  accounts : (drafts : List Draft) (packets : List Packed) → AllZip (IsBlockOf whole) drafts packets
+      → AreOver drain whole end drafts
       → IsNonDecreasing (starts_of drafts) → AllByRecursion (λ start. start ≤ end) (starts_of drafts)
-      → HaveRoom drain end drafts packets × (end + added_to drain end drafts ≡ next_start end drafts + (cycles_listed packets + left_out drain end drafts packets))
+      → HaveRoom drain end drafts packets
+      × (end + added_to drain end drafts ≡ next_start end drafts +
+      (cycles_listed packets + left_out drain end drafts packets))
   accounts [] [] zip over rising early = (tt, none drain)
     where
       none : (drain : Bool) → end + added_to drain end [] ≡ end + (0 + 0)
@@ -75,13 +84,18 @@ module _ (drain : Bool) (whole : List Draft) (end : ℕ) where
       let next = next_start end drafts in
       let later = drained_later drain next draft in
       let before = begins_before end draft drafts rising early in
-      let fits = block_fits whole draft block (next_drained drain next draft) zip.0 over.0 (omega (arith, later, before)) in
-      let rest = accounts drafts packets zip.1 over.1 (behind_rises draft.start (starts_of drafts) rising) early.1 in
-      ((fits, rest.0), one_sum drain end block.cycles (cycles_listed packets) (left_out drain end drafts packets) draft drafts fits rest.1)
+      let fits = block_fits whole draft block (next_drained drain next draft) zip.0 over.0
+      (omega (arith, later, before)) in
+      let rest = accounts drafts packets zip.1 over.1 (behind_rises draft.start (starts_of drafts) rising) early.1 in (
+        (fits, rest.0),
+        one_sum drain end block.cycles (cycles_listed packets) (left_out drain end drafts packets) draft
+            drafts fits rest.1,
+      )
 
 -- ---- a text
 
-added_is : (drain : Bool) (cut : Cut) (added : ℕ) → first_in_flight drain cut ≡ None → added ≡ cycles_lacking cut → added_to drain cut.cycles cut.drafts ≡ added
+added_is : (drain : Bool) (cut : Cut) (added : ℕ) → first_in_flight drain cut ≡ None → added ≡ cycles_lacking cut
+    → added_to drain cut.cycles cut.drafts ≡ added
 added_is true cut added over is = sym is
 added_is false cut added over is = sym (is ∙ ((lacks_none_where_over cut).0 over).1)
 
@@ -90,5 +104,10 @@ accounts_for_cycles drain text packets added is =
     let cut = code_cut text in
     let lines = blocks_are_of_lines (code_in (code_read text)) in
     let early = rw (← lines.read.cycles) at lines.blocks.early in
-    let all = accounts drain cut.drafts cut.cycles cut.drafts packets is.read.cut.blocks (blocks_are_over drain cut is.read.cut.over) lines.blocks.rising early in
-    record { room = all.0; sum = ap (λ (more : ℕ). cut.cycles + more) (sym (added_is drain cut added is.read.cut.over is.read.lacking)) ∙ all.1 }
+    let all = accounts drain cut.drafts cut.cycles cut.drafts packets is.read.cut.blocks
+    (blocks_are_over drain cut is.read.cut.over) lines.blocks.rising early in
+    record {
+      room = all.0;
+      sum = ap (λ (more : ℕ). cut.cycles + more)
+          (sym (added_is drain cut added is.read.cut.over is.read.lacking)) ∙ all.1;
+    }

@@ -13,20 +13,28 @@ use Rattle.c62_packet.specs.Packed.{issue_of, issued}
 use Rattle.c62_packet.specs.Rules.{IsKept}
 use Rattle.c62_packet.specs.Fault.{IsFirstBroken}
 
-issued_same : (placed others : List Placed) → IsPermutation placed others → IsPermutation (issued placed) (issued others)
+issued_same : (placed others : List Placed) → IsPermutation placed others
+    → IsPermutation (issued placed) (issued others)
 issued_same placed others same = IsPermutation-map (λ (p : Placed). Some (issue_of p)) placed others same
 
 part_of_same : (placed others : List Placed) → IsPermutation placed others → IsPart (issued others) (issued placed)
 part_of_same placed others same = part-permuted (issued placed) (issued others) (issued_same placed others same)
 
-pub rules_same : (placed others : List Placed) → IsPermutation placed others → KeepsPacketRules (issued placed) → KeepsPacketRules (issued others)
+pub rules_same : (placed others : List Placed) → IsPermutation placed others → KeepsPacketRules (issued placed)
+    → KeepsPacketRules (issued others)
 rules_same placed others same = part-keeps (issued others) (issued placed) (part_of_same placed others same)
 
 -- a rule that is kept in a cycle is kept in any other order
-kept_same : (placed others : List Placed) → IsPermutation placed others → (rule : PacketRule) (cycle : ℕ) → IsKept rule cycle (issued placed)
+kept_same : (placed others : List Placed) → IsPermutation placed others → (rule : PacketRule) (cycle : ℕ)
+    → IsKept rule cycle (issued placed)
     → IsKept rule cycle (issued others)
 kept_same placed others same (InCycle rule) cycle kept = λ r is.
-    omega (arith, kept r is, sum_by-IsPermutation (uses_in cycle r) (issued placed) (issued others) (issued_same placed others same))
+    omega (
+      arith,
+      kept r is,
+      sum_by-IsPermutation (uses_in cycle r) (issued placed) (issued others)
+          (issued_same placed others same),
+    )
 kept_same placed others same P5 cycle kept = λ i j p q reg at_i at_j land_p land_q.
     let part = part_of_same placed others same in
     elim (kept (part.number i) (part.number j) p q reg (part.issued i p at_i) (part.issued j q at_j) land_p land_q) [
@@ -35,7 +43,8 @@ kept_same placed others same P5 cycle kept = λ i j p q reg at_i at_j land_p lan
     ]
 
 -- so is the first that is broken
-pub broken_same : (placed others : List Placed) → IsPermutation placed others → (cycle : ℕ) (rule : PacketRule) → IsFirstBroken cycle rule placed
+pub broken_same : (placed others : List Placed) → IsPermutation placed others → (cycle : ℕ) (rule : PacketRule)
+    → IsFirstBroken cycle rule placed
     → IsFirstBroken cycle rule others
 broken_same placed others same cycle rule is = record {
   broken = λ kept. is.broken (kept_same others placed (IsPermutation-sym placed others same) rule cycle kept);

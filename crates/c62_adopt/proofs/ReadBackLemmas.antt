@@ -6,6 +6,7 @@ use Rattle.std.specs.Option.{option_to_list}
 use Rattle.std.specs.Str.{bytes_eq}
 use Rattle.std.proofs.lemmas.List.Elements.{All-nil, All-cons}
 use Rattle.std.proofs.lemmas.List.Sorted.{length_permutation}
+use Rattle.std.proofs.lemmas.Slice.Zip.{AllZip-long}
 use Rattle.c62_token.specs.Number.{is_label}
 use Rattle.c62_read.specs.Program.{Name}
 use Rattle.c62_packet.specs.Packed.{Packed, IsPacketBlock}
@@ -21,19 +22,21 @@ use Rattle.c62_adopt.specs.Blocks.{IsBlockOf}
 use Rattle.c62_adopt.specs.Answer.{IsAdopted, code_cut, code_in, code_read}
 use Rattle.c62_adopt.specs.Laws.{AdoptsListings}
 use Rattle.c62_adopt.proofs.Placing.{as_many}
-use Rattle.c62_adopt.proofs.PacketsLemmas.{zip_long}
 use Rattle.c62_adopt.proofs.AimLemmas.{blocks_are_aimed, packets_closed, same_labels}
 
-all_blocks : (whole drafts : List Draft) (packets : List Packed) → AllZip (IsBlockOf whole) drafts packets → All IsPacketBlock packets
+all_blocks : (whole drafts : List Draft) (packets : List Packed) → AllZip (IsBlockOf whole) drafts packets
+    → All IsPacketBlock packets
 all_blocks whole [] [] zip = All-nil IsPacketBlock
 all_blocks whole [] (block ∷ packets) zip = absurd zip
 all_blocks whole (draft ∷ drafts) [] zip = absurd zip
-all_blocks whole (draft ∷ drafts) (block ∷ packets) zip = All-cons IsPacketBlock block packets zip.0.is_block (all_blocks whole drafts packets zip.1)
+all_blocks whole (draft ∷ drafts) (block ∷ packets) zip = All-cons IsPacketBlock block packets zip.0.is_block
+    (all_blocks whole drafts packets zip.1)
 
 abbrev HasBegun : Packed → Type 0
 HasBegun block = block.label ≡ None → 0 < length block.placed
 
-block_begun : (whole : List Draft) (draft : Draft) (block : Packed) → IsBlockOf whole draft block → (draft.label ≡ None → 0 < length draft.issues)
+block_begun : (whole : List Draft) (draft : Draft) (block : Packed) → IsBlockOf whole draft block
+    → (draft.label ≡ None → 0 < length draft.issues)
     → HasBegun block
 block_begun whole draft block is begun none =
     let some = begun (sym is.label ∙ none) in
@@ -49,17 +52,20 @@ all_begun whole (draft ∷ drafts) [] zip begun = absurd zip
 all_begun whole (draft ∷ drafts) (block ∷ packets) zip begun =
     (block_begun whole draft block zip.0 begun.0, all_begun whole drafts packets zip.1 begun.1)
 
-pub adopted_shown : (drain : Bool) (text : List ℕ) (packets : List Packed) (added : ℕ) → IsAdopted drain text packets added → AreShown packets
+pub adopted_shown : (drain : Bool) (text : List ℕ) (packets : List Packed) (added : ℕ)
+    → IsAdopted drain text packets added → AreShown packets
 adopted_shown drain text packets added is =
     let drafts : List Draft = (code_cut text).drafts in
     let zip = is.read.cut.blocks in
     let few = (blocks_are_fine (code_in (code_read text))).few in
     let named = blocks_are_named (code_in (code_read text)) in
-    let same : labels_listed packets ≡ labels_given drafts = ap (flat_map option_to_list) (same_labels drafts drafts packets zip) in
+    let same : labels_listed packets ≡ labels_given drafts = ap (flat_map option_to_list)
+    (same_labels drafts drafts packets zip) in
     record {
-      few = omega (arith, few, zip_long (IsBlockOf drafts) drafts packets zip);
+      few = omega (arith, few, AllZip-long (IsBlockOf drafts) drafts packets zip);
       are_blocks = all_blocks drafts drafts packets zip;
-      closed = packets_closed drain drafts (code_cut text).cycles packets zip (blocks_are_aimed (code_in (code_read text))) (blocks_are_over drain (code_cut text) is.read.cut.over);
+      closed = packets_closed drain drafts (code_cut text).cycles packets zip
+          (blocks_are_aimed (code_in (code_read text))) (blocks_are_over drain (code_cut text) is.read.cut.over);
       labels = subst (AllByRecursion (λ (label : Name). IsTrue (is_label label))) (sym same) named.labels;
       distinct = subst (IsDistinct bytes_eq) (sym same) named.distinct;
       begun = all_begun drafts drafts packets zip named.begun;

@@ -3,7 +3,7 @@ use Rattle.std.proofs.Common.{arith, ◌≡◌, ℕ, ◌≤◌, Bool, List, [], 
 use Rattle.std.specs.Prelude.{All, IsTrue}
 use Rattle.std.specs.List.{AllByRecursion, AllZip}
 use Rattle.std.proofs.lemmas.List.{length-map}
-use Rattle.std.proofs.lemmas.List.Elements.{All-nil, All-cons, All-head, All-tail}
+use Rattle.std.proofs.lemmas.List.Elements.{All-nil, All-cons}
 use Rattle.c62_packet.specs.Packed.{Packed}
 use Rattle.c62_packet.specs.Packets.{is_closed}
 use Rattle.c62_adopt_cut.specs.declared.draft.Draft.{Draft as DraftRead}
@@ -16,24 +16,23 @@ use Rattle.c62_adopt_cut.specs.Laws.{IsFine, AreFine, AreOver}
 use Rattle.c62_adopt_cut.proofs.FineLemmas.{blocks_are_fine}
 use Rattle.c62_adopt_cut.proofs.OverLemmas.{blocks_are_over}
 use Rattle.c62_adopt.specs.Blocks.{IsBlockOf}
-use Rattle.c62_adopt.specs.Breach.{KeepsRules}
 use Rattle.c62_adopt.specs.Packing.{IsSound}
 use Rattle.c62_adopt.proofs.AimLemmas.{AreAimed, blocks_are_aimed, packets_closed}
 use Rattle.c62_read.specs.declared.limits.TheConstants.{MOST_BLOCKS}
 
-all_fine : (drafts : List DraftRead) → AllByRecursion IsFine (map draft_of drafts) → All (λ draft. IsFine (draft_of draft)) drafts
+all_fine : (drafts : List DraftRead) → AllByRecursion IsFine (map draft_of drafts)
+    → All (λ draft. IsFine (draft_of draft)) drafts
 all_fine [] fine = All-nil (λ (draft : DraftRead). IsFine (draft_of draft))
-all_fine (draft ∷ drafts) fine = All-cons (λ (other : DraftRead). IsFine (draft_of other)) draft drafts fine.0 (all_fine drafts fine.1)
+all_fine (draft ∷ drafts) fine = All-cons (λ (other : DraftRead). IsFine (draft_of other)) draft drafts fine.0
+    (all_fine drafts fine.1)
 
-sound_by : (drain : Bool) (whole : List Draft) (end : ℕ) (drafts : List DraftRead) → AllByRecursion IsFine (map draft_of drafts)
-    → All (KeepsRules whole) (map draft_of drafts) → AreOver drain whole end (map draft_of drafts) → All (λ draft. IsSound whole (draft_of draft)) drafts
-sound_by drain whole end [] fine kept over = All-nil (λ (draft : DraftRead). IsSound whole (draft_of draft))
-sound_by drain whole end (draft ∷ drafts) fine kept over =
-    let first : KeepsRules whole (draft_of draft) = All-head (KeepsRules whole) (draft_of draft) (map draft_of drafts) kept in
-    let rest : All (KeepsRules whole) (map draft_of drafts) = All-tail (KeepsRules whole) (draft_of draft) (map draft_of drafts) kept in
+sound_by : (drain : Bool) (whole : List Draft) (end : ℕ) (drafts : List DraftRead)
+    → AllByRecursion IsFine (map draft_of drafts)
+    → AreOver drain whole end (map draft_of drafts) → All (λ draft. IsSound whole (draft_of draft)) drafts
+sound_by drain whole end [] fine over = All-nil (λ (draft : DraftRead). IsSound whole (draft_of draft))
+sound_by drain whole end (draft ∷ drafts) fine over =
     All-cons (λ (other : DraftRead). IsSound whole (draft_of other)) draft drafts
-    (record { fine = fine.0; kept = first; next = _; over = over.0 })
-    (sound_by drain whole end drafts fine.1 rest over.1)
+    (record { fine = fine.0; next = _; over = over.0 }) (sound_by drain whole end drafts fine.1 over.1)
 
 module _ (text : List ℕ) (cut : CutRead) (read : cut_of cut ≡ text_cut text) where
   are_fine : AreFine (map draft_of cut.drafts.items)
@@ -45,13 +44,16 @@ module _ (text : List ℕ) (cut : CutRead) (read : cut_of cut ≡ text_cut text)
   pub cut_fine : All (λ draft. IsFine (draft_of draft)) cut.drafts.items
   cut_fine = all_fine cut.drafts.items are_fine.fine
 
-  pub cut_sound : (drain : Bool) → All (KeepsRules (map draft_of cut.drafts.items)) (map draft_of cut.drafts.items)
-      → first_in_flight drain (cut_of cut) ≡ None → All (λ draft. IsSound (map draft_of cut.drafts.items) (draft_of draft)) cut.drafts.items
-  cut_sound drain kept none =
-      sound_by drain (map draft_of cut.drafts.items) cut.cycles cut.drafts.items are_fine.fine kept (blocks_are_over drain (cut_of cut) none)
+  pub cut_sound : (drain : Bool) → first_in_flight drain (cut_of cut) ≡ None
+      → All (λ draft. IsSound (map draft_of cut.drafts.items) (draft_of draft)) cut.drafts.items
+  cut_sound drain none =
+      sound_by drain (map draft_of cut.drafts.items) cut.cycles cut.drafts.items are_fine.fine
+      (blocks_are_over drain (cut_of cut) none)
 
-  pub cut_closed : (drain : Bool) (packets : List Packed) → AllZip (IsBlockOf (map draft_of cut.drafts.items)) (map draft_of cut.drafts.items) packets
+  pub cut_closed : (drain : Bool) (packets : List Packed)
+      → AllZip (IsBlockOf (map draft_of cut.drafts.items)) (map draft_of cut.drafts.items) packets
       → first_in_flight drain (cut_of cut) ≡ None → IsTrue (is_closed packets)
   cut_closed drain packets zip none =
       packets_closed drain (map draft_of cut.drafts.items) cut.cycles packets zip
-      (subst (λ (c : Cut). AreAimed c.drafts) (sym read) (blocks_are_aimed text)) (blocks_are_over drain (cut_of cut) none)
+      (subst (λ (c : Cut). AreAimed c.drafts) (sym read) (blocks_are_aimed text))
+      (blocks_are_over drain (cut_of cut) none)

@@ -10,16 +10,16 @@ ghost use Rattle.c62_adopt_cut.specs.Flight.{first_in_flight, or_behind};
 ghost use Rattle.c62_adopt.specs.Answer.{IsAdopted, IsAdoptedFrom, LacksCode, Refuses, RefusesCut, code_cut, code_read};
 ghost use Rattle.c62_adopt_late.specs.Late.{first_late};
 ghost use Rattle.c62_adopt.specs.Blocks.{IsBlockOf};
+ghost use Rattle.c62_adopt.specs.Judged.{AreLawful};
 ghost use Rattle.c62_adopt.specs.Packing.{IsSound};
 
-use crate::breach::first_breach;
+use crate::breach::lists_of;
 use crate::fault::AdoptFault;
-use crate::listed::listed;
 use c62_adopt_code::code_of;
 use c62_adopt_cut::{Cut, Draft, MOST_BYTES, TextFault, cycles_lacking, first_in_flight, read_cut};
 use c62_adopt_late::{Late, first_late};
 use c62_line::copied_label;
-use c62_packet::{PacketBlock, Packets};
+use c62_packet::{PacketBlock, Packets, Placed};
 use std::alloc::{AllocError, Global};
 
 /// What a text is adopted as.
@@ -32,16 +32,6 @@ pub struct Adopted {
     pub late: Option<Late>,
 }
 
-/// The packet block of a block of a text.
-fn packet_block(alloc: Global, drafts: &[Draft], draft: &Draft) -> Result<PacketBlock, AllocError>
-    requires few { length drafts.now ≤ MOST_BLOCKS }
-    requires sound { IsSound (map draft_of drafts.now) (draft_of draft.now) }
-    ensures { IfOk result (IsBlockOf (map draft_of drafts.now) (draft_of draft.now)) }
-{
-    let placed = listed(alloc, drafts, &draft.issues)?;
-    Ok(PacketBlock::of_lawful(copied_label(&draft.label), placed))
-}
-
 fn put(packets: &mut Packets, block: PacketBlock) -> Result<(), AllocError>
     requires { length packets.old < MOST_BLOCKS }
     ensures { OnOk result (packets.new ≡ packets.old ++ block ∷ []) }
@@ -52,15 +42,26 @@ fn put(packets: &mut Packets, block: PacketBlock) -> Result<(), AllocError>
     }
 }
 
-/// The packet blocks of the blocks of a text.
-fn packets_of(alloc: Global, drafts: &[Draft]) -> Result<Packets, AllocError>
+/// The packet blocks of the blocks of a text, whose instructions these lists have.
+fn packets_of(
+    alloc: Global,
+    drafts: &[Draft],
+    lists: Vec<Vec<Placed>>,
+) -> Result<Packets, AllocError>
     requires few { length drafts.now ≤ MOST_BLOCKS }
     requires sound { All (λ draft. IsSound (map draft_of drafts.now) (draft_of draft)) drafts.now }
+    requires lawful { AllZip (λ draft list. AreLawful (map draft_of drafts.now) (draft_of draft).issues list.items)
+        drafts.now lists.items }
     ensures { IfOk result (AllZip (IsBlockOf (map draft_of drafts.now)) (map draft_of drafts.now)) }
 {
     let mut packets = Packets::new(alloc);
+    let mut rest = lists.into_iter();
     for draft in drafts {
-        put(&mut packets, packet_block(alloc, drafts, draft)?)?;
+        let Some(list) = rest.next() else {
+            unreachable!()
+        };
+        let block = PacketBlock::of_lawful(copied_label(&draft.label), list);
+        put(&mut packets, block)?;
     }
     Ok(packets)
 }
@@ -82,13 +83,14 @@ fn adopt_code(alloc: Global, code: &[u8], drain: bool) -> Result<Adopted, AdoptF
     ensures closed { IfOk result (λ adopted. IsTrue (is_closed adopted.packets)) }
 {
     let cut = read_cut(alloc, code)?;
-    if let Some((line, rule)) = first_breach(alloc, &cut.drafts)? {
-        return Err(AdoptFault::Rule(line, rule));
-    }
+    let lists = match lists_of(alloc, &cut.drafts)? {
+        Ok(lists) => lists,
+        Err((line, rule)) => return Err(AdoptFault::Rule(line, rule)),
+    };
     if let Some(fault) = fault_of(&cut, drain) {
         return Err(AdoptFault::Text(fault));
     }
-    let packets = packets_of(alloc, &cut.drafts)?;
+    let packets = packets_of(alloc, &cut.drafts, lists)?;
     Ok(Adopted {
         packets,
         added: cycles_lacking(&cut),

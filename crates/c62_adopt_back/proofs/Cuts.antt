@@ -1,5 +1,6 @@
 -- The cuts of a text above a line.
-use Rattle.c62_adopt_back.proofs.Common.{nat_tests, arith, ◌≡◌, ℕ, ◌+◌, ◌<◌, ◌≤◌, List, [], ◌∷◌, Bool, false, nat_le, nat_lt, if◌then◌else◌}
+use Rattle.c62_adopt_back.proofs.Common.{nat_tests, arith, ◌≡◌, ℕ, ◌+◌, ◌<◌, ◌≤◌, List, [], ◌∷◌, Bool, false, nat_le}
+use Rattle.c62_adopt_back.proofs.Common.{nat_lt, if◌then◌else◌}
 use Rattle.c62_adopt_back.proofs.Common.{is_cut_behind, start_of}
 use Rattle.c62_adopt_cut.specs.Cut.{with_cut}
 
@@ -20,7 +21,8 @@ cut_by_label start last cycle cuts are low late = record {
 }
 
 -- a branch cuts behind its delay slots, where none above it did
-pub cut_by_branch : (start cycle : ℕ) (cuts : List ℕ) → AreCuts start start cuts → start ≤ cycle → AreCuts start (cycle + 6) (with_cut cycle cuts)
+pub cut_by_branch : (start cycle : ℕ) (cuts : List ℕ) → AreCuts start start cuts → start ≤ cycle
+    → AreCuts start (cycle + 6) (with_cut cycle cuts)
 cut_by_branch start cycle cuts are low =
     let free : is_cut_behind cycle cuts ≡ false = grind (arith, nat_tests, are.behind cycle) in
     rw free (record {
@@ -33,6 +35,7 @@ abbrev pub last_cut : Bool → ℕ → ℕ → ℕ
 last_cut branched start cycles = if branched then start + cycles else start
 
 -- in the block's cycles it begins where it does
-pub starts_here : (branched : Bool) (start cycles next : ℕ) (cuts : List ℕ) → AreCuts start (last_cut branched start cycles) cuts → next < cycles
+pub starts_here : (branched : Bool) (start cycles next : ℕ) (cuts : List ℕ)
+    → AreCuts start (last_cut branched start cycles) cuts → next < cycles
     → start_of (start + next) cuts ≡ start
 starts_here branched start cycles next cuts are below = grind (arith, nat_tests, are.starts (start + next))

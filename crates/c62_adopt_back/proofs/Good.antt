@@ -1,6 +1,8 @@
 -- The blocks that a listing shows whole are good to read.
-use Rattle.c62_adopt_back.proofs.Common.{nat_tests, arith, ◌≡◌, ℕ, ◌+◌, ◌≤◌, List, [], ◌∷◌, ◌++◌, Bool, true, false, None, refl, sym, ◌∙◌, subst}
-use Rattle.c62_adopt_back.proofs.Common.{append_assoc, ◌||◌, if◌then◌else◌, All, All-tail, AllByRecursion, Name, op_of, Placed, Packed, IsPacketBlock}
+use Rattle.c62_adopt_back.proofs.Common.{nat_tests, arith, ◌≡◌, ℕ, ◌+◌, ◌≤◌, List, [], ◌∷◌, ◌++◌, Bool, true, false}
+use Rattle.c62_adopt_back.proofs.Common.{None, refl, sym, ◌∙◌, subst}
+use Rattle.c62_adopt_back.proofs.Common.{append_assoc, ◌||◌, if◌then◌else◌, All, All-tail, AllByRecursion, Name, op_of}
+use Rattle.c62_adopt_back.proofs.Common.{Placed, Packed, IsPacketBlock}
 use Rattle.c62_adopt_back.proofs.Common.{is_branch, is_branching_placed, issue_of, name_in, IsWritable}
 use Rattle.std.specs.Prelude.{count_by}
 use Rattle.std.specs.List.{IsDistinct, find}
@@ -24,7 +26,8 @@ use Rattle.c62_adopt_back.proofs.Walk.{AllGood}
 abbrev counted : Bool → ℕ
 counted b = if b then 1 else 0
 
-once_by : (branched : Bool) (placed : List Placed) → counted branched + count_by is_branching_placed placed ≤ 1 → BranchOnce branched placed
+once_by : (branched : Bool) (placed : List Placed) → counted branched + count_by is_branching_placed placed ≤ 1
+    → BranchOnce branched placed
 unfolding BranchOnce
 once_by branched [] few = tt
 once_by branched (p ∷ placed) few =
@@ -43,7 +46,8 @@ branched_by branched (p ∷ placed) some =
 
 -- where a block is over, whose branch is the first of these, if one is, or else in this cycle
 abbrev over_behind : ℕ → List Placed → ℕ
-over_behind end placed = option_map_or (λ branch. branch.cycle + 6) (find (λ (p : Issue). is_branch (op_of p.insn)) (issues_of placed)) end
+over_behind end placed = option_map_or (λ branch. branch.cycle + 6)
+    (find (λ (p : Issue). is_branch (op_of p.insn)) (issues_of placed)) end
 
 no_more : (cycles : ℕ) (placed : List Placed) → BranchOnce true placed
     → AllByRecursion (λ p. is_branching_placed p ≡ true → cycles ≡ p.cycle + 6) placed
@@ -51,12 +55,15 @@ unfolding BranchOnce
 no_more cycles [] once = tt
 no_more cycles (p ∷ placed) once = (λ here. absurd (true≢false (once.0 here)), no_more cycles placed once.1)
 
-last_or : (b : Bool) (cycles end : ℕ) (p : Placed) (placed : List Placed) → is_branching_placed p ≡ b → cycles ≡ over_behind end (p ∷ placed)
+last_or : (b : Bool) (cycles end : ℕ) (p : Placed) (placed : List Placed) → is_branching_placed p ≡ b
+    → cycles ≡ over_behind end (p ∷ placed)
     → BranchOnce b placed
-    → (cycles ≡ over_behind end placed → BranchOnce false placed → AllByRecursion (λ q. is_branching_placed q ≡ true → cycles ≡ q.cycle + 6) placed)
+    → (cycles ≡ over_behind end placed → BranchOnce false placed
+    → AllByRecursion (λ q. is_branching_placed q ≡ true → cycles ≡ q.cycle + 6) placed)
     → AllByRecursion (λ q. is_branching_placed q ≡ true → cycles ≡ q.cycle + 6) (p ∷ placed)
 last_or true cycles end p placed here is once others = (λ _. rw here at is, no_more cycles placed once)
-last_or false cycles end p placed here is once others = (λ other. absurd (true≢false (sym other ∙ here)), others (rw here at is) once)
+last_or false cycles end p placed here is once others =
+    (λ other. absurd (true≢false (sym other ∙ here)), others (rw here at is) once)
 
 lasts : (cycles end : ℕ) (placed : List Placed) → cycles ≡ over_behind end placed → BranchOnce false placed
     → AllByRecursion (λ p. is_branching_placed p ≡ true → cycles ≡ p.cycle + 6) placed
@@ -67,7 +74,8 @@ lasts cycles end (p ∷ placed) is once =
 
 -- ---- a block
 
-listed_by : (name : ℕ → Name) (cycles : ℕ) (placed : List Placed) → All (IsWritable name) placed → AreDrained cycles placed
+listed_by : (name : ℕ → Name) (cycles : ℕ) (placed : List Placed) → All (IsWritable name) placed
+    → AreDrained cycles placed
     → AllByRecursion (λ p. is_branching_placed p ≡ true → cycles ≡ p.cycle + 6) placed
     → AllByRecursion (IsListed name cycles) placed
 listed_by name cycles [] writable drained last = tt
@@ -93,14 +101,17 @@ AreCutBehind : Bool → List Packed → Type 0
 AreCutBehind cut [] = Unit {0}
 AreCutBehind cut (block ∷ blocks) = (block.label ≡ None → cut ≡ true) × ArePartedBehind block blocks
 
-cut_behind : (block : Packed) (blocks : List Packed) → ArePartedBehind block blocks → AreCutBehind (branched_behind false block.placed) blocks
+cut_behind : (block : Packed) (blocks : List Packed) → ArePartedBehind block blocks
+    → AreCutBehind (branched_behind false block.placed) blocks
 unfolding AreCutBehind
 cut_behind block [] parted = tt
-cut_behind block (next ∷ blocks) parted = (λ none. branched_by false block.placed (omega (arith, parted.0 none)), parted.1)
+cut_behind block (next ∷ blocks) parted =
+    (λ none. branched_by false block.placed (omega (arith, parted.0 none)), parted.1)
 
 module _ (packets : List Packed) (shown : AreShown packets) where
   good : (passed blocks : List Packed) (cut : Bool) → IsDistinct bytes_eq (given (labels_of (passed ++ blocks)))
-      → AllByRecursion (IsFit packets shown) blocks → AreCutBehind cut blocks → AllGood (name_in packets) passed cut blocks
+      → AllByRecursion (IsFit packets shown) blocks → AreCutBehind cut blocks
+      → AllGood (name_in packets) passed cut blocks
   unfolding AllGood AreCutBehind
   good passed [] cut distinct fits parted = tt
   good passed (block ∷ blocks) cut distinct fits parted =
@@ -117,7 +128,8 @@ module _ (packets : List Packed) (shown : AreShown packets) where
           short = fit.is.short;
         },
         good (passed ++ block ∷ []) blocks (branched_behind false block.placed)
-            (subst (λ (bs : List Packed). IsDistinct bytes_eq (given (labels_of bs))) (sym (append_assoc passed (block ∷ []) blocks)) distinct)
+            (subst (λ (bs : List Packed). IsDistinct bytes_eq (given (labels_of bs)))
+            (sym (append_assoc passed (block ∷ []) blocks)) distinct)
             fits.1 (cut_behind block blocks parted.1),
       )
 
@@ -126,5 +138,6 @@ module _ (packets : List Packed) (shown : AreShown packets) where
   start_cut [] parted = tt
   start_cut (block ∷ blocks) parted = (λ none. refl, parted)
 
-  pub all_good : AllByRecursion (IsFit packets shown) packets → AreParted packets → AllGood (name_in packets) [] true packets
+  pub all_good : AllByRecursion (IsFit packets shown) packets → AreParted packets
+      → AllGood (name_in packets) [] true packets
   all_good fits parted = good [] packets true shown.distinct fits (start_cut packets parted)

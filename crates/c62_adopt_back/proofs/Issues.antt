@@ -1,7 +1,10 @@
 -- The line of an instruction in its block.
-use Rattle.c62_adopt_back.proofs.Common.{nat_tests, arith, ◌≡◌, ℕ, ◌+◌, ◌<◌, ◌≤◌, List, [], ◌∷◌, ◌++◌, length, Bool, true, false, Some, None, refl}
-use Rattle.c62_adopt_back.proofs.Common.{sym, ap, subst, is_none, ◌&&◌, ◌||◌, if◌then◌else◌, Says, Placed, is_branching_placed, issue_of, Line}
-use Rattle.c62_adopt_back.proofs.Common.{line_said, Stand, cuts_of, last_packet, stand_of, Draft, Drafts, Issue, begins_at, opened, with_line}
+use Rattle.c62_adopt_back.proofs.Common.{nat_tests, arith, ◌≡◌, ℕ, ◌+◌, ◌<◌, ◌≤◌, List, [], ◌∷◌, ◌++◌, length, Bool}
+use Rattle.c62_adopt_back.proofs.Common.{true, false, Some, None, refl}
+use Rattle.c62_adopt_back.proofs.Common.{sym, ap, subst, is_none, ◌&&◌, ◌||◌, if◌then◌else◌, Says, Placed}
+use Rattle.c62_adopt_back.proofs.Common.{is_branching_placed, issue_of, Line}
+use Rattle.c62_adopt_back.proofs.Common.{line_said, Stand, cuts_of, last_packet, stand_of, Draft, Drafts, Issue}
+use Rattle.c62_adopt_back.proofs.Common.{begins_at, opened, with_line}
 use Rattle.std.proofs.lemmas.Bool.{cases_Bool, true≢false}
 use Rattle.std.proofs.Common.{inl, inr}
 use Rattle.std.proofs.lemmas.Slice.Zip.{AllZip-long}
@@ -29,7 +32,7 @@ no_more says stand drafts done draft beside opens few = elim (cases_Bool (begins
 no_more_blocks : (says : Says) (stand : Stand) (drafts : Drafts) (done : List Draft) (draft : Draft) (beside : Bool)
     → opened stand.start drafts ≡ record { done = done; current = Some draft } → length done < MOST_BLOCKS
     → begins_one_more stand (line_said beside None says) drafts ≡ false
-no_more_blocks says stand drafts done draft beside opens few = elim (cases_Bool (begins_at stand.start drafts.current)) [
+no_more_blocks says stand drafts done draft on opens few = elim (cases_Bool (begins_at stand.start drafts.current)) [
   | inl begun ↦ grind (arith, nat_tests)
   | inr none ↦ let same = not_opened stand.start drafts done draft opens none in grind (arith, nat_tests)
 ]
@@ -48,7 +51,8 @@ module _ (above : List Line) (drafts : Drafts) (beside : Bool) (says : Says) whe
   line = line_said beside None says
 
   free : (beside && is_none (last_packet above)) ≡ false → is_too_late (stand_of above line) says ≡ false
-      → is_one_more (stand_of above line) line drafts ≡ false → begins_one_more (stand_of above line) line drafts ≡ false
+      → is_one_more (stand_of above line) line drafts ≡ false
+      → begins_one_more (stand_of above line) line drafts ≡ false
       → hindrance above drafts line ≡ None
   unfolding hindrance
   free placed early room few = rw (placed, early, room, few) refl
@@ -61,18 +65,22 @@ pub record Stands (site : Site) (next : ℕ) (p : Placed) (above : List Line) (b
   pub below : (beside && is_none (last_packet above)) ≡ false
   pub time : next + (if beside then 0 else 1) ≡ p.cycle + 1
 
-more_cuts : (branched branching : Bool) (start cycles cycle : ℕ) (cuts : List ℕ) → AreCuts start (last_cut branched start cycles) cuts
+more_cuts : (branched branching : Bool) (start cycles cycle : ℕ) (cuts : List ℕ)
+    → AreCuts start (last_cut branched start cycles) cuts
     → (branching ≡ true → branched ≡ false) → (branching ≡ true → cycles ≡ cycle + 6)
-    → AreCuts start (last_cut (branched || branching) start cycles) (if branching then with_cut (start + cycle) cuts else cuts)
+    → AreCuts start (last_cut (branched || branching) start cycles)
+    (if branching then with_cut (start + cycle) cuts else cuts)
 more_cuts true true start cycles cycle cuts are one last = absurd (true≢false (one refl))
 more_cuts false true start cycles cycle cuts are one last =
     let end : (start + cycle) + 6 ≡ start + cycles = omega (arith, last refl) in
-    subst (λ (n : ℕ). AreCuts start n (with_cut (start + cycle) cuts)) end (cut_by_branch start (start + cycle) cuts are (omega arith))
+    subst (λ (n : ℕ). AreCuts start n (with_cut (start + cycle) cuts)) end
+    (cut_by_branch start (start + cycle) cuts are (omega arith))
 more_cuts true false start cycles cycle cuts are one last = are
 more_cuts false false start cycles cycle cuts are one last = are
 
 module _ (site : Site) (next : ℕ) (branched : Bool) (placed : List Placed) (above : List Line) (drafts : Drafts)
-    (is : IsAt site next branched placed above drafts) (p : Placed) (beside : Bool) (says : Says) (said : IsSaid (parts_written p) (target_written site.name p) says)
+    (is : IsAt site next branched placed above drafts) (p : Placed) (beside : Bool) (says : Says)
+    (said : IsSaid (parts_written p) (target_written site.name p) says)
     (stands : Stands site next p above beside (line_said beside None says)) where
   abbrev here : Line
   here = line_said beside None says
@@ -89,7 +97,8 @@ module _ (site : Site) (next : ℕ) (branched : Bool) (placed : List Placed) (ab
   with_here : (number : ℕ) → with_line number (stand_of above here) here drafts ≡ grown number
   with_here number = rw (stands.stand, said.adds number stand drafts, is.opens) refl
 
-  grown_draft : (number : ℕ) → IsDraftOf site.name site.label site.start (placed ++ p ∷ []) (with_issue (new_issue number) is.draft)
+  grown_draft : (number : ℕ)
+      → IsDraftOf site.name site.label site.start (placed ++ p ∷ []) (with_issue (new_issue number) is.draft)
   grown_draft number = record {
     label_is = is.is.label_is;
     starts = is.is.starts;
@@ -98,7 +107,8 @@ module _ (site : Site) (next : ℕ) (branched : Bool) (placed : List Placed) (ab
   }
 
   cuts_below : (is_branching_placed p ≡ true → branched ≡ false) → Fits site.cycles p
-      → AreCuts site.start (last_cut (branched || is_branching_placed p) site.start site.cycles) (cuts_of (here ∷ above))
+      → AreCuts site.start (last_cut (branched || is_branching_placed p) site.start site.cycles)
+      (cuts_of (here ∷ above))
   cuts_below one fits =
       rw (said.branching, ap (λ (s : Stand). s.cycle) stands.stand)
       (more_cuts branched (is_branching_placed p) site.start site.cycles p.cycle (cuts_of above) is.cuts one fits.last)
@@ -115,9 +125,11 @@ module _ (site : Site) (next : ℕ) (branched : Bool) (placed : List Placed) (ab
     begun = λ some. grind (arith, nat_tests, is.is.starts);
   })
 
-  pub nothing_against : length site.done < MOST_BLOCKS → length placed < MOST_INSTRUCTIONS → site.cycles ≤ MOST_CYCLES → Fits site.cycles p → hindrance above drafts here ≡ None
+  pub nothing_against : length site.done < MOST_BLOCKS → length placed < MOST_INSTRUCTIONS → site.cycles ≤ MOST_CYCLES
+      → Fits site.cycles p → hindrance above drafts here ≡ None
   nothing_against blocks few short fits =
-      let count : length placed ≡ length is.draft.issues = AllZip-long (IsIssueOf site.name) is.draft.issues placed is.is.issues in
+      let count : length placed ≡ length is.draft.issues = AllZip-long (IsIssueOf site.name) is.draft.issues placed
+      is.is.issues in
       free above drafts beside says stands.below
       (rw (stands.stand, said.late stand) (in_time p site.start site.cycles fits short))
       (subst (λ (s : Stand). is_one_more s here drafts ≡ false) (sym stands.stand)

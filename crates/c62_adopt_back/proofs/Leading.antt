@@ -1,21 +1,26 @@
 -- Lines below others that are read without a fault.
-use Rattle.c62_adopt_back.proofs.Common.{◌≡◌, ℕ, ◌+◌, List, [], ◌∷◌, ◌++◌, None, Ok, refl, ◌∙◌, append_assoc, Line, line_says, Drafts, stand_of}
+use Rattle.c62_adopt_back.proofs.Common.{◌≡◌, ℕ, ◌+◌, List, [], ◌∷◌, ◌++◌, None, Ok, refl, ◌∙◌, append_assoc, Line}
+use Rattle.c62_adopt_back.proofs.Common.{line_says, Drafts, stand_of}
 use Rattle.c62_adopt_back.proofs.Common.{with_line}
 use Rattle.c62_adopt_cut.specs.Text.{hindrance, read_below}
 
 -- reading these lines leads to lines and blocks that are such
-pub record Leads (above : List Line) (drafts : Drafts) (number : ℕ) (lines : List (List ℕ)) (Is : List Line → Drafts → Type 0) : Type 0 where
+pub record Leads (above : List Line) (drafts : Drafts) (number : ℕ) (lines : List (List ℕ)) (Is : List Line → Drafts
+    → Type 0) : Type 0 where
   pub end : ℕ
   pub passed : List Line
   pub final : Drafts
-  pub reads : (below : List (List ℕ)) → read_below above drafts number (lines ++ below) ≡ read_below passed final end below
+  pub reads : (below : List (List ℕ))
+      → read_below above drafts number (lines ++ below) ≡ read_below passed final end below
   pub is : Is passed final
 
 pub no_lines : (above : List Line) (drafts : Drafts) (number : ℕ) (Is : List Line → Drafts → Type 0) → Is above drafts
     → Leads above drafts number [] Is
-no_lines above drafts number Is is = record { end = number; passed = above; final = drafts; reads = λ below. refl; is = is }
+no_lines above drafts number Is is = record
+    { end = number; passed = above; final = drafts; reads = λ below. refl; is = is }
 
-pub then_lines : (above : List Line) (drafts : Drafts) (number : ℕ) (lines more : List (List ℕ)) (Is To : List Line → Drafts → Type 0)
+pub then_lines : (above : List Line) (drafts : Drafts) (number : ℕ) (lines more : List (List ℕ)) (Is To : List Line
+    → Drafts → Type 0)
     → Leads above drafts number lines Is → ((a : List Line) (d : Drafts) (n : ℕ) → Is a d → Leads a d n more To)
     → Leads above drafts number (lines ++ more) To
 then_lines above drafts number lines more Is To first next =
@@ -35,7 +40,8 @@ reads_line : (above : List Line) (drafts : Drafts) (number : ℕ) (bytes : List 
 unfolding read_below
 reads_line above drafts number bytes below line says free = rw (says, free) refl
 
-pub one_line : (above : List Line) (drafts : Drafts) (number : ℕ) (bytes : List ℕ) (line : Line) (Is : List Line → Drafts → Type 0)
+pub one_line : (above : List Line) (drafts : Drafts) (number : ℕ) (bytes : List ℕ) (line : Line) (Is : List Line
+    → Drafts → Type 0)
     → line_says bytes ≡ Ok line → hindrance above drafts line ≡ None
     → Is (line ∷ above) (with_line number (stand_of above line) line drafts)
     → Leads above drafts number (bytes ∷ []) Is
@@ -47,7 +53,16 @@ one_line above drafts number bytes line Is says free is = record {
   is = is;
 }
 
-pub so_leads : (above : List Line) (drafts : Drafts) (number : ℕ) (lines : List (List ℕ)) (Is To : List Line → Drafts → Type 0)
-    → Leads above drafts number lines Is → ((a : List Line) (d : Drafts) → Is a d → To a d) → Leads above drafts number lines To
+pub so_leads : (above : List Line) (drafts : Drafts) (number : ℕ) (lines : List (List ℕ)) (Is To : List Line → Drafts
+    → Type 0)
+    → Leads above drafts number lines Is → ((a : List Line) (d : Drafts) → Is a d → To a d)
+    → Leads above drafts number lines To
 so_leads above drafts number lines Is To lead then_is =
-    record { end = lead.end; passed = lead.passed; final = lead.final; reads = lead.reads; is = then_is lead.passed lead.final lead.is }
+    record {
+      end = lead.end;
+      passed = lead.passed;
+      final = lead.final;
+      reads = lead.reads;
+      is = then_is lead.passed
+          lead.final lead.is;
+    }

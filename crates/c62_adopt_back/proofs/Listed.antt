@@ -1,7 +1,10 @@
 -- A listing is adopted as itself.
-use Rattle.c62_adopt_back.proofs.Common.{nat_tests, arith, ◌≡◌, ℕ, ◌+◌, ◌≤◌, List, [], ◌∷◌, ◌++◌, length, map, Bool, true, false, None, refl, sym, ap, ◌∙◌}
-use Rattle.c62_adopt_back.proofs.Common.{subst, append_assoc, append-nil, codes, nat_lt, All, All-tail, AllByRecursion, list_all, Name, operands_of}
-use Rattle.c62_adopt_back.proofs.Common.{Packed, all_lines, listing, name_in, Line, cycles_of, Draft, Drafts, all_drafts, no_drafts, cut_at}
+use Rattle.c62_adopt_back.proofs.Common.{nat_tests, arith, ◌≡◌, ℕ, ◌+◌, ◌≤◌, List, [], ◌∷◌, ◌++◌, length, map, Bool}
+use Rattle.c62_adopt_back.proofs.Common.{true, false, None, refl, sym, ap, ◌∙◌}
+use Rattle.c62_adopt_back.proofs.Common.{subst, append_assoc, append-nil, codes, nat_lt, All, All-tail, AllByRecursion}
+use Rattle.c62_adopt_back.proofs.Common.{list_all, Name, operands_of}
+use Rattle.c62_adopt_back.proofs.Common.{Packed, all_lines, listing, name_in, Line, cycles_of, Draft, Drafts}
+use Rattle.c62_adopt_back.proofs.Common.{all_drafts, no_drafts, cut_at}
 use Rattle.std.proofs.lemmas.Bool.{and_parts, le-ltb}
 use Rattle.std.proofs.lemmas.List.{take_all}
 use Rattle.std.proofs.Common.{Ok}
@@ -10,8 +13,10 @@ use Rattle.c62_packet.specs.Packets.{labels_of}
 use Rattle.c62_listing.specs.Listing.{text_of}
 use Rattle.c62_listing_reader.specs.Laws.{AreShown}
 use Rattle.c62_listing_reader.proofs.BlocksLemmas.{HasLines, IsSmall}
-use Rattle.c62_listing_reader.proofs.LinesLemmas.{all_allowed, all_length}
-use Rattle.c62_listing_reader.proofs.ReadBackLemmas.{IsFit, all_placed, all_writable, each, fit, lines_of as has_lines, small}
+use Rattle.c62_listing_reader.proofs.LinesLemmas.{all_allowed}
+use Rattle.c62_listing_reader.proofs.TextLengths.{all_length}
+use Rattle.c62_listing_reader.proofs.ReadBackLemmas.{IsFit, all_placed, all_writable, each, fit, lines_of as has_lines}
+use Rattle.c62_listing_reader.proofs.ReadBackLemmas.{small}
 use Rattle.c62_listing_reader.proofs.UntoldLemmas.{are_allowed}
 use Rattle.c62_adopt_cut.specs.Flight.{cycles_lacking}
 use Rattle.c62_adopt_cut.specs.Text.{Cut, most_bytes, read_below, text_cut}
@@ -33,6 +38,7 @@ use Rattle.c62_adopt_back.proofs.Own.{all_plain, all_stay}
 use Rattle.c62_adopt_back.proofs.Over.{IsFound, IsSettled, none_in_flight, none_lacking}
 use Rattle.c62_adopt_back.proofs.Targets.{all_aimed, labels_so}
 use Rattle.c62_adopt_back.proofs.Walk.{AreAllPassed, all_lead}
+use Rattle.c62_adopt_cut.specs.declared.text.TheConstants.{MOST_BYTES}
 
 -- ---- the lines of a text that is made of lines
 
@@ -44,11 +50,17 @@ lines_back : (lines : List (List ℕ)) → list_all are_allowed lines ≡ true �
 lines_back [] all = refl
 lines_back (line ∷ lines) all =
     let parts = and_parts (are_allowed line) (list_all are_allowed lines) all in
-    rw (append_assoc line (codes "\n") (text_of lines), before_feed line (text_of lines) parts.0, lines_back lines parts.1) refl
+    rw (
+      append_assoc line (codes "\n") (text_of lines),
+      before_feed line (text_of lines) parts.0,
+      lines_back lines
+          parts.1,
+    ) refl
 
 -- what is read of such a text, where its lines lead to these lines and blocks
-cut_by : (lines : List (List ℕ)) (Is : List Line → Drafts → Type 0) (lead : Leads [] no_drafts 1 lines Is) → list_all are_allowed lines ≡ true
-    → length (text_of lines) ≤ 8388608
+cut_by : (lines : List (List ℕ)) (Is : List Line → Drafts → Type 0) (lead : Leads [] no_drafts 1 lines Is)
+    → list_all are_allowed lines ≡ true
+    → length (text_of lines) ≤ MOST_BYTES
     → text_cut (text_of lines) ≡ cut_at lead.passed lead.final None
 unfolding read_below text_cut
 cut_by lines Is lead allowed short =
@@ -61,11 +73,13 @@ recursive : {X : Type 0} (P : X → Type 0) (xs : List X) → All P xs → AllBy
 recursive P [] all = tt
 recursive P (x ∷ xs) all = (all 0 x (omega arith), recursive P xs (All-tail P x xs all))
 
-both : {X : Type 0} (P Q R : X → Type 0) (xs : List X) → ((x : X) → P x → Q x → R x) → AllByRecursion P xs → AllByRecursion Q xs → AllByRecursion R xs
+both : {X : Type 0} (P Q R : X → Type 0) (xs : List X) → ((x : X) → P x → Q x → R x) → AllByRecursion P xs
+    → AllByRecursion Q xs → AllByRecursion R xs
 both P Q R [] give one other = tt
 both P Q R (x ∷ xs) give one other = (give x one.0 other.0, both P Q R xs give one.1 other.1)
 
-module _ (packets : List Packed) (shown : AreShown packets) (drafts : List Draft) (same : map (λ draft. draft.label) drafts ≡ labels_of packets) where
+module _ (packets : List Packed) (shown : AreShown packets) (drafts : List Draft)
+    (same : map (λ draft. draft.label) drafts ≡ labels_of packets) where
   abbrev name : ℕ → Name
   name = name_in packets
 
@@ -73,7 +87,8 @@ module _ (packets : List Packed) (shown : AreShown packets) (drafts : List Draft
   placed_in block is =
       recursive (IsPlacedIn name drafts) block.placed
       (all_placed packets shown (IsPlacedIn name drafts)
-      (λ p written stands. record { written = written; aimed = all_aimed packets drafts same shown.distinct (operands_of p.insn) stands })
+      (λ p written stands. record
+      { written = written; aimed = all_aimed packets drafts same shown.distinct (operands_of p.insn) stands })
       block.placed is.is.as_written is.stand)
 
   settled : (block : Packed) → IsFit packets shown block → IsSettled name drafts block
@@ -86,49 +101,60 @@ module _ (packets : List Packed) (shown : AreShown packets) (drafts : List Draft
 
 -- ---- the text
 
-adopted_by : (drain : Bool) (text : List ℕ) (cut : Cut) (packets : List Packed) → code_read text ≡ Ok text → text_cut text ≡ cut
+adopted_by : (drain : Bool) (text : List ℕ) (cut : Cut) (packets : List Packed) → code_read text ≡ Ok text
+    → text_cut text ≡ cut
     → IsAdoptedCut drain cut packets → cycles_lacking cut ≡ 0 → IsAdopted drain text packets 0
 adopted_by drain text cut packets own is adopted none = adopted_as drain text text packets 0 own (record {
   cut = subst (λ (c : Cut). IsAdoptedCut drain c packets) (sym is) adopted;
   lacking = sym (ap cycles_lacking is ∙ none);
 })
 
-spelled_by : (lines : List (List ℕ)) → list_all are_allowed lines ≡ true → list_all stays lines ≡ true → spelled_text (text_of lines) ≡ text_of lines
+spelled_by : (lines : List (List ℕ)) → list_all are_allowed lines ≡ true → list_all stays lines ≡ true
+    → spelled_text (text_of lines) ≡ text_of lines
 unfolding spelled_text
 spelled_by lines allowed stay = rw (lines_back lines allowed, stay_so lines stay) refl
 
-plain_by : (lines : List (List ℕ)) → list_all are_allowed lines ≡ true → list_all is_plain lines ≡ true → length (text_of lines) ≤ 8388608
+plain_by : (lines : List (List ℕ)) → list_all are_allowed lines ≡ true → list_all is_plain lines ≡ true
+    → length (text_of lines) ≤ MOST_BYTES
     → plain_code (text_of lines) ≡ Ok (text_of lines)
 unfolding plain_code
-plain_by lines allowed plain short = rw (lines_back lines allowed, own_code lines plain) (ap Ok (take_all 8388608 (text_of lines) short))
+plain_by lines allowed plain short = rw (lines_back lines allowed, own_code lines plain)
+    (ap Ok (take_all MOST_BYTES (text_of lines) short))
 
 -- lines that say something without directives and comments are the code of their text
-coded_by : (lines : List (List ℕ)) → list_all are_allowed lines ≡ true → list_all is_plain lines ≡ true → list_all stays lines ≡ true
-    → length (text_of lines) ≤ 8388608 → code_read (text_of lines) ≡ Ok (text_of lines)
+coded_by : (lines : List (List ℕ)) → list_all are_allowed lines ≡ true → list_all is_plain lines ≡ true
+    → list_all stays lines ≡ true
+    → length (text_of lines) ≤ MOST_BYTES → code_read (text_of lines) ≡ Ok (text_of lines)
 unfolding code_of
 coded_by lines allowed plain stay short =
-    let fits : nat_lt (most_bytes + 1) (length (text_of lines)) ≡ false = le-ltb (most_bytes + 1) (length (text_of lines)) (omega (arith, short)) in
+    let fits : nat_lt (most_bytes + 1) (length (text_of lines)) ≡ false = le-ltb (most_bytes + 1)
+    (length (text_of lines)) (omega (arith, short)) in
     short_read (text_of lines) short ∙ rw (spelled_by lines allowed stay, fits) (plain_by lines allowed plain short)
 
 module _ (drain : Bool) (packets : List Packed) (shown : AreShown packets) (parted : AreParted packets) where
   adopted : IsAdoptedAsItself drain packets
   adopted =
       let name : ℕ → Name = name_in packets in
-      let fits : AllByRecursion (IsFit packets shown) packets = fit packets shown packets shown.are_blocks shown.closed shown.labels shown.begun in
+      let fits : AllByRecursion (IsFit packets shown) packets = fit packets shown packets shown.are_blocks shown.closed
+      shown.labels shown.begun in
       let lines : List (List ℕ) = all_lines name packets in
-      let allowed = all_allowed name packets (each packets shown (HasLines name) (has_lines packets shown) packets fits) in
-      let short = all_length name packets shown.few (each packets shown (IsSmall name) (small packets shown) packets fits) in
+      let allowed = all_allowed name packets (each packets shown (HasLines name) (has_lines packets shown) packets fits)
+      in
+      let short = all_length name packets shown.few
+      (each packets shown (IsSmall name) (small packets shown) packets fits) in
       let lead = all_lead name packets shown.few (all_good packets shown fits parted) in
       let drafts : List Draft = all_drafts lead.final in
       let end : ℕ = cycles_of lead.passed in
-      let cut : text_cut (listing packets) ≡ cut_at lead.passed lead.final None = cut_by lines (AreAllPassed name packets) lead allowed short in
+      let cut : text_cut (listing packets) ≡ cut_at lead.passed lead.final None = cut_by lines
+      (AreAllPassed name packets) lead allowed short in
       let plain = all_plain name packets (each packets shown (IsSmall name) (small packets shown) packets fits) in
       let stay = all_stay name packets (each packets shown (IsSmall name) (small packets shown) packets fits) in
       let own : code_read (listing packets) ≡ Ok (listing packets) = coded_by lines allowed plain stay short in
       let same = labels_so name 0 end drafts packets lead.is.read in
       let settle = each packets shown (IsSettled name drafts) (settled packets shown drafts same) packets fits in
       let of = taken name drafts 0 end drafts packets lead.is.read
-      (each packets shown (ArePlacedIn name drafts) (placed_in packets shown drafts same) packets fits) shown.are_blocks in
+      (each packets shown (ArePlacedIn name drafts) (placed_in packets shown drafts same) packets fits) shown.are_blocks
+      in
       record {
         others = of.others;
         adopted = adopted_by drain (listing packets) (cut_at lead.passed lead.final None) of.others own cut (record {

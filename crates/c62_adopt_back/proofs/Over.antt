@@ -1,13 +1,16 @@
 -- Nothing of a listing is in flight where its blocks are over.
-use Rattle.c62_adopt_back.proofs.Common.{nat_tests, arith, ◌≡◌, ℕ, ◌+◌, ◌≤◌, List, [], ◌∷◌, Bool, true, false, None, refl, sym, ap, subst, ◌&&◌, ◌||◌}
-use Rattle.c62_adopt_back.proofs.Common.{AllByRecursion, AllZip, list_any, is_branch, Name, Parts, Placed, Packed, is_branching_placed, Draft, Issue}
+use Rattle.c62_adopt_back.proofs.Common.{nat_tests, arith, ◌≡◌, ℕ, ◌+◌, ◌≤◌, List, [], ◌∷◌, Bool, true, false, None}
+use Rattle.c62_adopt_back.proofs.Common.{refl, sym, ap, subst, ◌&&◌, ◌||◌}
+use Rattle.c62_adopt_back.proofs.Common.{AllByRecursion, AllZip, list_any, is_branch, Name, Parts, Placed, Packed}
+use Rattle.c62_adopt_back.proofs.Common.{is_branching_placed, Draft, Issue}
 use Rattle.c62_adopt_back.proofs.Common.{end_of}
 use Rattle.std.specs.Prelude.{min}
 use Rattle.std.proofs.Common.{inl, inr}
 use Rattle.std.proofs.lemmas.Bool.{cases_Bool, or_right}
 use Rattle.std.specs.List.{find}
 use Rattle.std.specs.Option.{option_map_or}
-use Rattle.c62_adopt_cut.specs.Flight.{all_lacking, branches, faulty_among, faulty_in, first_faulty, is_lost, issue_fault, lacking, landed}
+use Rattle.c62_adopt_cut.specs.Flight.{all_lacking, branches, faulty_among, faulty_in, first_faulty, is_lost}
+use Rattle.c62_adopt_cut.specs.Flight.{issue_fault, lacking, landed}
 use Rattle.c62_adopt_cut.specs.Flight.{next_drained, next_start, over_in}
 use Rattle.c62_adopt_back.proofs.Blocks.{IsDraftOf, IsIssueOf}
 use Rattle.c62_adopt_back.proofs.Cycles.{BranchOnce, IsListed}
@@ -16,12 +19,15 @@ use Rattle.c62_adopt_back.proofs.Walk.{AreRead}
 
 -- ---- an instruction
 
-branches_so : (name : ℕ → Name) (issue : Issue) (p : Placed) → IsIssueOf name issue p → branches issue ≡ is_branching_placed p
+branches_so : (name : ℕ → Name) (issue : Issue) (p : Placed) → IsIssueOf name issue p
+    → branches issue ≡ is_branching_placed p
 branches_so name issue p is = ap (λ (parts : Parts). is_branch parts.op) is.parts
 
-ends_so : (name : ℕ → Name) (start cycles : ℕ) (issue : Issue) (p : Placed) → IsIssueOf name issue p → IsListed name cycles p
+ends_so : (name : ℕ → Name) (start cycles : ℕ) (issue : Issue) (p : Placed) → IsIssueOf name issue p
+    → IsListed name cycles p
     → end_of issue.parts (start + issue.cycle) ≤ start + cycles
-ends_so name start cycles issue p is listed = rw (is.parts, is.cycle) (grind (arith, nat_tests, lands_at p start, listed.fits.ends, listed.fits.last))
+ends_so name start cycles issue p is listed = rw (is.parts, is.cycle)
+    (grind (arith, nat_tests, lands_at p start, listed.fits.ends, listed.fits.last))
 
 -- the same, and its branch goes to a label that a block has
 pub record IsFound (name : ℕ → Name) (whole : List Draft) (cycles : ℕ) (p : Placed) : Type 0 where
@@ -30,7 +36,8 @@ pub record IsFound (name : ℕ → Name) (whole : List Draft) (cycles : ℕ) (p 
 
 -- ---- the instructions of a block
 
-none_behind : (name : ℕ → Name) (issues : List Issue) (placed : List Placed) → AllZip (IsIssueOf name) issues placed → BranchOnce true placed
+none_behind : (name : ℕ → Name) (issues : List Issue) (placed : List Placed) → AllZip (IsIssueOf name) issues placed
+    → BranchOnce true placed
     → list_any branches issues ≡ false
 unfolding BranchOnce
 none_behind name [] placed are once = refl
@@ -39,7 +46,8 @@ none_behind name (issue ∷ issues) (p ∷ placed) are once =
     grind (arith, nat_tests, branches_so name issue p are.0, once.0, none_behind name issues placed are.1)
 
 module _ (name : ℕ → Name) (whole : List Draft) (start cycles : ℕ) where
-  no_fault : (over : ℕ) (issue : Issue) (p : Placed) (others : List Issue) (placed : List Placed) (branched : Bool) → over ≡ start + cycles
+  no_fault : (over : ℕ) (issue : Issue) (p : Placed) (others : List Issue) (placed : List Placed) (branched : Bool)
+      → over ≡ start + cycles
       → IsIssueOf name issue p → IsFound name whole cycles p → AllZip (IsIssueOf name) others placed
       → BranchOnce (branched || is_branching_placed p) placed
       → issue_fault whole start over issue others ≡ None
@@ -47,14 +55,16 @@ module _ (name : ℕ → Name) (whole : List Draft) (start cycles : ℕ) where
       let goes : is_lost whole issue.target ≡ false = rw is.target found.found in
       let alone : (branches issue && list_any branches others) ≡ false = elim (cases_Bool (is_branching_placed p)) [
         | inl here ↦
-            let all : BranchOnce true placed = subst (λ (b : Bool). BranchOnce b placed) (or_right branched (is_branching_placed p) here) once in
+            let all : BranchOnce true placed = subst (λ (b : Bool). BranchOnce b placed)
+            (or_right branched (is_branching_placed p) here) once in
             rw (branches_so name issue p is, here) (none_behind name others placed are all)
         | inr other ↦ rw (branches_so name issue p is, other) refl
       ] in
       grind (arith, nat_tests, goes, alone, ends_so name start cycles issue p is found.listed)
 
   none_faulty : (over : ℕ) (issues : List Issue) (placed : List Placed) (branched : Bool) → over ≡ start + cycles
-      → AllZip (IsIssueOf name) issues placed → AllByRecursion (IsFound name whole cycles) placed → BranchOnce branched placed
+      → AllZip (IsIssueOf name) issues placed → AllByRecursion (IsFound name whole cycles) placed
+      → BranchOnce branched placed
       → first_faulty whole start over issues ≡ None
   unfolding BranchOnce
   none_faulty over [] placed branched over_is are found once = refl
@@ -73,11 +83,19 @@ module _ (name : ℕ → Name) (whole : List Draft) (start cycles : ℕ) where
   -- a branch takes effect where its block is over
   over_by : (issues : List Issue) (placed : List Placed) → AllZip (IsIssueOf name) issues placed
       → AllByRecursion (IsFound name whole cycles) placed
-      → option_map_or (λ issue. min (start + cycles) (start + issue.cycle + 6)) (find branches issues) (start + cycles) ≡ start + cycles
+      → option_map_or (λ issue. min (start + cycles) (start + issue.cycle + 6)) (find branches issues) (start + cycles)
+      ≡ start + cycles
   over_by [] placed are found = refl
   over_by (issue ∷ issues) [] are found = absurd are
   over_by (issue ∷ issues) (p ∷ placed) are found =
-      grind (arith, nat_tests, branches_so name issue p are.0, found.0.listed.fits.last, over_by issues placed are.1 found.1)
+      grind (
+        arith,
+        nat_tests,
+        branches_so name issue p are.0,
+        found.0.listed.fits.last,
+        over_by issues placed are.1
+            found.1,
+      )
 
 -- ---- a block
 
@@ -102,11 +120,13 @@ module _ (name : ℕ → Name) (whole : List Draft) (start : ℕ) (draft : Draft
   unfolding faulty_in
   none_in drain =
       rw (drained_here drain, over_here, is.starts)
-      (none_faulty name whole start block.cycles (start + block.cycles) draft.issues block.placed false refl is.issues settled.found settled.once)
+      (none_faulty name whole start block.cycles (start + block.cycles) draft.issues block.placed false refl is.issues
+      settled.found settled.once)
 
 -- ---- all blocks
 
-next_is : (name : ℕ → Name) (start end : ℕ) (drafts : List Draft) (blocks : List Packed) → AreRead name start end drafts blocks
+next_is : (name : ℕ → Name) (start end : ℕ) (drafts : List Draft) (blocks : List Packed)
+    → AreRead name start end drafts blocks
     → next_start end drafts ≡ start
 unfolding AreRead
 next_is name start end [] [] are = sym are
@@ -114,14 +134,19 @@ next_is name start end [] (block ∷ blocks) are = absurd are
 next_is name start end (draft ∷ drafts) [] are = absurd are
 next_is name start end (draft ∷ drafts) (block ∷ blocks) are = are.0.starts
 
-pub none_in_flight : (name : ℕ → Name) (whole : List Draft) (drain : Bool) (start end : ℕ) (drafts : List Draft) (blocks : List Packed)
+pub none_in_flight : (name : ℕ
+    → Name) (whole : List Draft) (drain : Bool) (start end : ℕ) (drafts : List Draft) (blocks : List Packed)
     → AreRead name start end drafts blocks → AllByRecursion (IsSettled name whole) blocks
     → faulty_among drain whole end drafts ≡ None
 unfolding AreRead
 none_in_flight name whole drain start end [] blocks are settled = refl
 none_in_flight name whole drain start end (draft ∷ drafts) [] are settled = absurd are
 none_in_flight name whole drain start end (draft ∷ drafts) (block ∷ blocks) are settled =
-    rw (next_is name (start + block.cycles) end drafts blocks are.1, none_in name whole start draft block are.0 settled.0 drain)
+    rw (
+      next_is name (start + block.cycles) end drafts blocks are.1,
+      none_in name whole start draft block are.0
+          settled.0 drain,
+    )
     (none_in_flight name whole drain (start + block.cycles) end drafts blocks are.1 settled.1)
 
 pub none_lacking : (name : ℕ → Name) (whole : List Draft) (start end : ℕ) (drafts : List Draft) (blocks : List Packed)
@@ -132,4 +157,9 @@ none_lacking name whole start end [] blocks are settled = refl
 none_lacking name whole start end (draft ∷ drafts) [] are settled = absurd are
 none_lacking name whole start end (draft ∷ drafts) (block ∷ blocks) are settled =
     let others = none_lacking name whole (start + block.cycles) end drafts blocks are.1 settled.1 in
-    rw (next_is name (start + block.cycles) end drafts blocks are.1, lacks_none name whole start draft block are.0 settled.0, others) (omega arith)
+    rw (
+      next_is name (start + block.cycles) end drafts blocks are.1,
+      lacks_none name whole start draft block are.0
+          settled.0,
+      others,
+    ) (omega arith)

@@ -1,7 +1,10 @@
 -- A listing is its own code.
-use Rattle.c62_adopt_back.proofs.Common.{nat_tests, arith, ◌≡◌, ℕ, zero, suc, ◌+◌, ◌-◌, ◌/◌, ◌%◌, ◌<◌, ◌≤◌, List, [], ◌∷◌, ◌++◌, length, Bool, true, false, Option, Some, None, refl, ap, ◌∙◌}
-use Rattle.c62_adopt_back.proofs.Common.{codes, nat_lt, replicate, if◌then◌else◌, All, All-tail, AllByRecursion, list_all, Name, Placed, Packed, IsWritable}
-use Rattle.c62_adopt_back.proofs.Common.{op_of, operands_of, spelling, all_lines, block_lines, cycle_lines, idle_lines, label_lines, parted_lines, pause_line, Nothing, Operands, Parts, Pause}
+use Rattle.c62_adopt_back.proofs.Common.{nat_tests, arith, ◌≡◌, ℕ, zero, suc, ◌+◌, ◌-◌, ◌/◌, ◌%◌, ◌<◌, ◌≤◌, List, []}
+use Rattle.c62_adopt_back.proofs.Common.{◌∷◌, ◌++◌, length, Bool, true, false, Option, Some, None, refl, ap, ◌∙◌}
+use Rattle.c62_adopt_back.proofs.Common.{codes, nat_lt, replicate, if◌then◌else◌, All, All-tail, AllByRecursion}
+use Rattle.c62_adopt_back.proofs.Common.{list_all, Name, Placed, Packed, IsWritable}
+use Rattle.c62_adopt_back.proofs.Common.{op_of, operands_of, spelling, all_lines, block_lines, cycle_lines, idle_lines}
+use Rattle.c62_adopt_back.proofs.Common.{label_lines, parted_lines, pause_line, Nothing, Operands, Parts, Pause}
 use Rattle.std.specs.Prelude.{decimal}
 use Rattle.std.specs.Fmt.{digits}
 use Rattle.std.proofs.Common.{Ok, ◌&&◌}
@@ -22,7 +25,7 @@ use Rattle.c62_line.specs.Line.{Says, is_star, label_field, label_front}
 use Rattle.c62_line.specs.Laws.{parts_on, says_on, says_with}
 use Rattle.c62_line.proofs.SpelledOperands.{label_parts}
 use Rattle.c62_listing.specs.Listing.{placed_lines}
-use Rattle.c62_listing_reader.proofs.ListedLemmas.{rest_line}
+use Rattle.c62_listing_reader.proofs.DraftLines.{rest_line}
 use Rattle.c62_adopt_line.specs.Line.{behind_colon, line_said, line_says}
 use Rattle.c62_adopt_line.proofs.ListedLines.{instruction_reads, label_reads, pause_reads}
 use Rattle.c62_adopt_spell.specs.Laws.{stays}
@@ -45,15 +48,18 @@ acts_own bytes is stay = rw (ap is_plain_role is, stay) refl
 silent_own : (bytes : List ℕ) → role_of bytes ≡ Silent → stays bytes ≡ true → is_own bytes ≡ true
 silent_own bytes is stay = rw (ap is_plain_role is, stay) refl
 
-said_stays : (b : ℕ) (bytes : List ℕ) (beside : Bool) (says : Says) → line_says (b ∷ bytes) ≡ Ok (line_said beside None says) → is_nothing says ≡ false
+said_stays : (b : ℕ) (bytes : List ℕ) (beside : Bool) (says : Says)
+    → line_says (b ∷ bytes) ≡ Ok (line_said beside None says) → is_nothing says ≡ false
     → stays (b ∷ bytes) ≡ true
 said_stays b bytes beside says is some = rw (is, some) refl
 
-label_stays : (bytes : List ℕ) (label : Name) → line_says bytes ≡ Ok (line_said false (Some label) Nothing) → stays bytes ≡ true
+label_stays : (bytes : List ℕ) (label : Name) → line_says bytes ≡ Ok (line_said false (Some label) Nothing)
+    → stays bytes ≡ true
 label_stays [] label is = refl
 label_stays (b ∷ bytes) label is = rw is refl
 
-is_something : (name : ℕ → Name) (parts : Parts) (operands : Operands) → is_nothing (says_with name parts operands) ≡ false
+is_something : (name : ℕ → Name) (parts : Parts) (operands : Operands)
+    → is_nothing (says_with name parts operands) ≡ false
 is_something name parts (Block number) = refl
 is_something name parts (Three a b d) = refl
 is_something name parts _ = refl
@@ -64,33 +70,41 @@ says_something name parts (Three a b d) is = absurd cc
 says_something name parts _ is = absurd cc
 
 -- what an instruction begins with is no comment's beginning
-named_first : (op : Op) (unit operands : List ℕ) → is_remark (codes "   " ++ (mnemonic_of op ++ codes " " ++ unit ++ codes " " ++ operands)) ≡ false
+named_first : (op : Op) (unit operands : List ℕ)
+    → is_remark (codes "   " ++ (mnemonic_of op ++ codes " " ++ unit ++ codes " " ++ operands)) ≡ false
 named_first Add unit operands = refl
 named_first _ unit operands = refl
 
 spelled_first : (condition : Option Condition) (op : Op) (unit operands : List ℕ)
-    → is_remark (codes "   " ++ (condition_spelling condition ++ mnemonic_of op ++ codes " " ++ unit ++ codes " " ++ operands)) ≡ false
+    → is_remark (codes "   " ++
+    (condition_spelling condition ++ mnemonic_of op ++ codes " " ++ unit ++ codes " " ++ operands)) ≡ false
 spelled_first None op unit operands = named_first op unit operands
 spelled_first (Some c) op unit operands = refl
 
-first_own : (name : ℕ → Name) (p : Placed) → IsWritable name p → is_own (codes "   " ++ spelling name p.insn p.unit) ≡ true
+first_own : (name : ℕ → Name) (p : Placed) → IsWritable name p
+    → is_own (codes "   " ++ spelling name p.insn p.unit) ≡ true
 first_own name p is =
     acts_own (codes "   " ++ spelling name p.insn p.unit)
     (acts_by (codes "   " ++ spelling name p.insn p.unit) (says_on name p.insn p.unit)
     (spelled_first (cond_of p.insn) (op_of p.insn)
-    (unit_spelling (operands_of p.insn) p.unit) (operands_spelling name (op_of p.insn) p.unit.letter (operands_of p.insn))) refl (instruction_reads name p.insn p.unit is.taking is.names).0
+    (unit_spelling (operands_of p.insn) p.unit)
+    (operands_spelling name (op_of p.insn) p.unit.letter (operands_of p.insn))) refl
+    (instruction_reads name p.insn p.unit is.taking is.names).0
     (says_something name (parts_on p.insn p.unit) (operands_of p.insn)))
     (said_stays 32 (codes "  " ++ spelling name p.insn p.unit) false (says_on name p.insn p.unit)
-    (instruction_reads name p.insn p.unit is.taking is.names).0 (is_something name (parts_on p.insn p.unit) (operands_of p.insn)))
+    (instruction_reads name p.insn p.unit is.taking is.names).0
+    (is_something name (parts_on p.insn p.unit) (operands_of p.insn)))
 
 beside_plain : (text : List ℕ) → is_plain (codes "|| " ++ text) ≡ true
 unfolding role_of
 beside_plain text = refl
 
-beside_own : (name : ℕ → Name) (p : Placed) → IsWritable name p → is_own (codes "|| " ++ spelling name p.insn p.unit) ≡ true
+beside_own : (name : ℕ → Name) (p : Placed) → IsWritable name p
+    → is_own (codes "|| " ++ spelling name p.insn p.unit) ≡ true
 beside_own name p is =
     let stay = said_stays 124 (codes "| " ++ spelling name p.insn p.unit) true (says_on name p.insn p.unit)
-    (instruction_reads name p.insn p.unit is.taking is.names).1 (is_something name (parts_on p.insn p.unit) (operands_of p.insn)) in
+    (instruction_reads name p.insn p.unit is.taking is.names).1
+    (is_something name (parts_on p.insn p.unit) (operands_of p.insn)) in
     rw (beside_plain (spelling name p.insn p.unit), stay) refl
 
 pause_first : (n : ℕ) → is_remark (codes "   NOP " ++ decimal n) ≡ false
@@ -98,7 +112,8 @@ pause_first n = refl
 
 pause_own : (n : ℕ) → 1 ≤ n → n ≤ 9 → is_own (pause_line n) ≡ true
 pause_own n some few =
-    acts_own (pause_line n) (acts_by (pause_line n) (Pause n) (pause_first n) refl (pause_reads n some few) (λ none. absurd cc))
+    acts_own (pause_line n)
+    (acts_by (pause_line n) (Pause n) (pause_first n) refl (pause_reads n some few) (λ none. absurd cc))
     (said_stays 32 (codes "  NOP " ++ decimal n) false (Pause n) (pause_reads n some few) refl)
 
 empty_plain : is_plain [] ≡ true
@@ -124,7 +139,8 @@ label_own : (label : Name) → is_label label ≡ true → is_own (label ++ code
 label_own label is =
     let words = (label_parts label is).1 in
     silent_own (label ++ codes ":")
-    (silent_by (label ++ codes ":") label (no_remark label words) (no_star label words) (label_reads label is) (behind_word label words))
+    (silent_by (label ++ codes ":") label (no_remark label words) (no_star label words) (label_reads label is)
+    (behind_word label words))
     (label_stays (label ++ codes ":") label (label_reads label is))
 
 -- ---- the lines of a block
@@ -138,13 +154,16 @@ rest_own rest small = grind (arith, nat_tests, λ (some : 1 ≤ rest). pause_own
 
 idle_own : (idle : ℕ) → list_all is_own (idle_lines idle) ≡ true
 idle_own idle =
-    list_all-append is_own (replicate (idle / 9) (pause_line 9)) (rest_line (idle % 9)) ∙ rw (nines_own (idle / 9), rest_own (idle % 9) (omega arith)) refl
+    list_all-append is_own (replicate (idle / 9) (pause_line 9)) (rest_line (idle % 9))
+    ∙ rw (nines_own (idle / 9), rest_own (idle % 9) (omega arith)) refl
 
 placed_own : (name : ℕ → Name) (b : Bool) (idle : ℕ) (p : Placed) → IsWritable name p → list_all is_own
-    (if b then (codes "|| " ++ spelling name p.insn p.unit) ∷ [] else idle_lines idle ++ (codes "   " ++ spelling name p.insn p.unit) ∷ []) ≡ true
+    (if b then (codes "|| " ++ spelling name p.insn p.unit) ∷ [] else idle_lines idle ++
+    (codes "   " ++ spelling name p.insn p.unit) ∷ []) ≡ true
 placed_own name true idle p is = rw (beside_own name p is) refl
 placed_own name false idle p is =
-    list_all-append is_own (idle_lines idle) ((codes "   " ++ spelling name p.insn p.unit) ∷ []) ∙ rw (idle_own idle, first_own name p is) refl
+    list_all-append is_own (idle_lines idle) ((codes "   " ++ spelling name p.insn p.unit) ∷ [])
+    ∙ rw (idle_own idle, first_own name p is) refl
 
 cycles_own : (name : ℕ → Name) (next cycles : ℕ) (placed : List Placed) → All (IsWritable name) placed
     → list_all is_own (cycle_lines name next cycles placed) ≡ true
@@ -154,7 +173,8 @@ cycles_own name next cycles (p ∷ placed) are =
     let rest = cycles_own name (p.cycle + 1) cycles placed (All-tail (IsWritable name) p placed are) in
     rw (list_all-append is_own (placed_lines name next p) (cycle_lines name (p.cycle + 1) cycles placed), here) rest
 
-labels_own : (label : Option Name) → ((l : Name) → label ≡ Some l → is_label l ≡ true) → list_all is_own (label_lines label) ≡ true
+labels_own : (label : Option Name) → ((l : Name) → label ≡ Some l → is_label l ≡ true)
+    → list_all is_own (label_lines label) ≡ true
 labels_own None is = refl
 labels_own (Some label) is = rw (label_own label (is label refl)) refl
 
@@ -165,13 +185,15 @@ block_own name block is =
     list_all-append is_own (label_lines block.label) (cycle_lines name 0 block.cycles block.placed)
     ∙ rw (labels_own block.label is.label, cycles_own name 0 block.cycles block.placed is.writable) refl
 
-parted_own : (name : ℕ → Name) (blocks : List Packed) → AllByRecursion (IsSmall name) blocks → list_all is_own (parted_lines name blocks) ≡ true
+parted_own : (name : ℕ → Name) (blocks : List Packed) → AllByRecursion (IsSmall name) blocks
+    → list_all is_own (parted_lines name blocks) ≡ true
 parted_own name [] are = refl
 parted_own name (block ∷ blocks) are =
     rw (empty_own) (list_all-append is_own (block_lines name block) (parted_lines name blocks)
     ∙ rw (block_own name block are.0, parted_own name blocks are.1) refl)
 
-all_own : (name : ℕ → Name) (packets : List Packed) → AllByRecursion (IsSmall name) packets → list_all is_own (all_lines name packets) ≡ true
+all_own : (name : ℕ → Name) (packets : List Packed) → AllByRecursion (IsSmall name) packets
+    → list_all is_own (all_lines name packets) ≡ true
 all_own name [] are = refl
 all_own name (block ∷ packets) are =
     list_all-append is_own (block_lines name block) (parted_lines name packets)
@@ -179,7 +201,8 @@ all_own name (block ∷ packets) are =
 
 -- ---- both parts
 
-both_own : (lines : List (List ℕ)) → list_all is_own lines ≡ true → (list_all is_plain lines ≡ true) × (list_all stays lines ≡ true)
+both_own : (lines : List (List ℕ)) → list_all is_own lines ≡ true → (list_all is_plain lines ≡ true)
+    × (list_all stays lines ≡ true)
 both_own [] all = (refl, refl)
 both_own (line ∷ lines) all =
     let parts = and_parts (is_own line) (list_all is_own lines) all in
@@ -187,8 +210,10 @@ both_own (line ∷ lines) all =
     let rest = both_own lines parts.1 in
     (rw (here.0, rest.0) refl, rw (here.1, rest.1) refl)
 
-pub all_plain : (name : ℕ → Name) (packets : List Packed) → AllByRecursion (IsSmall name) packets → list_all is_plain (all_lines name packets) ≡ true
+pub all_plain : (name : ℕ → Name) (packets : List Packed) → AllByRecursion (IsSmall name) packets
+    → list_all is_plain (all_lines name packets) ≡ true
 all_plain name packets are = (both_own (all_lines name packets) (all_own name packets are)).0
 
-pub all_stay : (name : ℕ → Name) (packets : List Packed) → AllByRecursion (IsSmall name) packets → list_all stays (all_lines name packets) ≡ true
+pub all_stay : (name : ℕ → Name) (packets : List Packed) → AllByRecursion (IsSmall name) packets
+    → list_all stays (all_lines name packets) ≡ true
 all_stay name packets are = (both_own (all_lines name packets) (all_own name packets are)).1

@@ -1,9 +1,10 @@
 -- The lines of a block's cycles without instructions.
-use Rattle.c62_adopt_back.proofs.Common.{arith, ◌≡◌, ℕ, zero, suc, ◌+◌, ◌*◌, ◌/◌, ◌%◌, ◌<◌, ◌≤◌, List, [], ◌∷◌, Bool, false, None, refl, subst}
+use Rattle.c62_adopt_back.proofs.Common.{arith, ◌≡◌, ℕ, zero, suc, ◌+◌, ◌*◌, ◌/◌, ◌%◌, ◌<◌, ◌≤◌, List, [], ◌∷◌, Bool}
+use Rattle.c62_adopt_back.proofs.Common.{false, None, refl, subst}
 use Rattle.c62_adopt_back.proofs.Common.{replicate, Pause, Placed, pause_line, idle_lines, Line, line_said, Drafts}
 use Rattle.c62_adopt_line.proofs.ListedLines.{pause_reads}
 use Rattle.c62_adopt_cut.specs.Text.{hindrance}
-use Rattle.c62_listing_reader.proofs.ListedLemmas.{rest_is, rest_line}
+use Rattle.c62_listing_reader.proofs.DraftLines.{rest_is, rest_line}
 use Rattle.c62_adopt_back.proofs.Blocks.{IsAt, Site}
 use Rattle.c62_adopt_back.proofs.Leading.{Leads, no_lines, one_line, then_lines}
 
@@ -18,7 +19,8 @@ module _ (site : Site) (branched : Bool) (placed : List Placed) where
   abbrev At : ℕ → List Line → Drafts → Type 0
   At next = IsAt site next branched placed
 
-  pause_below : (n next : ℕ) (above : List Line) (drafts : Drafts) → At next above drafts → At (next + n) (pausing n ∷ above) drafts
+  pause_below : (n next : ℕ) (above : List Line) (drafts : Drafts) → At next above drafts
+      → At (next + n) (pausing n ∷ above) drafts
   pause_below n next above drafts is = record {
     passed = omega (arith, is.passed);
     cuts = is.cuts;
@@ -31,7 +33,8 @@ module _ (site : Site) (branched : Bool) (placed : List Placed) where
   pause_leads : (n next number : ℕ) (above : List Line) (drafts : Drafts) → At next above drafts → 1 ≤ n → n ≤ 9
       → Leads above drafts number (pause_line n ∷ []) (At (next + n))
   pause_leads n next number above drafts is some small =
-      one_line above drafts number (pause_line n) (pausing n) (At (next + n)) (pause_reads n some small) (pause_free above drafts n)
+      one_line above drafts number (pause_line n) (pausing n) (At (next + n)) (pause_reads n some small)
+      (pause_free above drafts n)
       (pause_below n next above drafts is)
 
   nines_lead : (nines next number : ℕ) (above : List Line) (drafts : Drafts) → At next above drafts
@@ -41,7 +44,8 @@ module _ (site : Site) (branched : Bool) (placed : List Placed) where
       rw same (no_lines above drafts number (At next) is)
   nines_lead (suc nines) next number above drafts is =
       let same : next + 9 * suc nines ≡ (next + 9) + 9 * nines = omega arith in
-      then_lines above drafts number (pause_line 9 ∷ []) (replicate nines (pause_line 9)) (At (next + 9)) (At (next + 9 * suc nines))
+      then_lines above drafts number (pause_line 9 ∷ []) (replicate nines (pause_line 9)) (At (next + 9))
+      (At (next + 9 * suc nines))
       (pause_leads 9 next number above drafts is (omega arith) (omega arith))
       (λ a d n at. rw same (nines_lead nines (next + 9) n a d at))
 
@@ -60,6 +64,8 @@ module _ (site : Site) (branched : Bool) (placed : List Placed) where
       let nines : ℕ = idle / 9 in
       let rest : ℕ = idle % 9 in
       let all : (next + 9 * nines) + rest ≡ next + idle = omega arith in
-      then_lines above drafts number (replicate nines (pause_line 9)) (rest_line rest) (At (next + 9 * nines)) (At (next + idle))
+      then_lines above drafts number (replicate nines (pause_line 9)) (rest_line rest) (At (next + 9 * nines))
+      (At (next + idle))
       (nines_lead nines next number above drafts is)
-      (λ a d n at. subst (λ (c : ℕ). Leads a d n (rest_line rest) (At c)) all (rest_leads rest (next + 9 * nines) n a d at (omega arith)))
+      (λ a d n at. subst (λ (c : ℕ). Leads a d n (rest_line rest) (At c)) all
+      (rest_leads rest (next + 9 * nines) n a d at (omega arith)))

@@ -1,6 +1,8 @@
 -- What the line of a listing's instruction says.
-use Rattle.c62_adopt_back.proofs.Common.{nat_tests, arith, ◌≡◌, ℕ, ◌+◌, Option, Some, None, true, refl, is_branch, Operands, op_of, operands_of}
-use Rattle.c62_adopt_back.proofs.Common.{says_on, Does, Jumps, Parts, Says, Name, Placed, is_branching_placed, issue_of, Stand, Drafts, opened}
+use Rattle.c62_adopt_back.proofs.Common.{nat_tests, arith, ◌≡◌, ℕ, ◌+◌, Option, Some, None, true, refl, is_branch}
+use Rattle.c62_adopt_back.proofs.Common.{Operands, op_of, operands_of}
+use Rattle.c62_adopt_back.proofs.Common.{says_on, Does, Jumps, Parts, Says, Name, Placed, is_branching_placed, issue_of}
+use Rattle.c62_adopt_back.proofs.Common.{Stand, Drafts, opened}
 use Rattle.c62_adopt_back.proofs.Common.{end_of, if◌then◌else◌}
 use Rattle.c62_op.specs.declared.operands.Operands.TheVariants.{Block}
 use Rattle.c62_op.specs.Shape.{writes_of}
@@ -68,12 +70,14 @@ with_is : (name : ℕ → Name) (p : Placed) (operands : Operands) → operands_
     ≡ said_with (record (parts_on p.insn p.unit) { operands = unaimed operands }) (target_with name operands)
 with_is name p operands is = grind arith
 
-pub says_is : (name : ℕ → Name) (p : Placed) → says_on name p.insn p.unit ≡ said_with (parts_written p) (target_written name p)
+pub says_is : (name : ℕ → Name) (p : Placed)
+    → says_on name p.insn p.unit ≡ said_with (parts_written p) (target_written name p)
 says_is name p = with_is name p (operands_of p.insn) refl
 
 -- ---- when it has landed
 
-unaimed_end : (p : Placed) (operands : Operands) → operands_of p.insn ≡ operands → writes_of (op_of p.insn) (unaimed operands)
+unaimed_end : (p : Placed) (operands : Operands) → operands_of p.insn ≡ operands
+    → writes_of (op_of p.insn) (unaimed operands)
     ≡ writes_of (op_of p.insn) operands
 unaimed_end p operands is = grind arith
 

@@ -1,6 +1,8 @@
 -- Where a block begins behind others.
-use Rattle.c62_adopt_back.proofs.Common.{nat_tests, arith, ◌≡◌, ℕ, ◌<◌, ◌≤◌, List, [], ◌∷◌, ◌++◌, length, Bool, true, false, Option, Some, None, refl}
-use Rattle.c62_adopt_back.proofs.Common.{list_any, codes, label_lines, Nothing, Name, label_is, Line, line_said, cuts_of, cycles_of, stand_of, Drafts}
+use Rattle.c62_adopt_back.proofs.Common.{nat_tests, arith, ◌≡◌, ℕ, ◌<◌, ◌≤◌, List, [], ◌∷◌, ◌++◌, length, Bool, true}
+use Rattle.c62_adopt_back.proofs.Common.{false, Option, Some, None, refl}
+use Rattle.c62_adopt_back.proofs.Common.{list_any, codes, label_lines, Nothing, Name, label_is, Line, line_said}
+use Rattle.c62_adopt_back.proofs.Common.{cuts_of, cycles_of, stand_of, Drafts}
 use Rattle.c62_adopt_back.proofs.Common.{all_drafts, begins_at, with_line}
 use Rattle.c62_token.specs.Number.{is_label}
 use Rattle.c62_adopt_line.proofs.ListedLines.{empty_reads, label_reads}
@@ -26,18 +28,21 @@ pub record AreOver (start : ℕ) (cut : Bool) (above : List Line) (drafts : Draf
 labelling : Name → Line
 labelling label = line_said false (Some label) Nothing
 
-label_free : (above : List Line) (drafts : Drafts) (label : Name) → list_any (λ draft. label_is label draft.label) (all_drafts drafts) ≡ false
+label_free : (above : List Line) (drafts : Drafts) (label : Name)
+    → list_any (λ draft. label_is label draft.label) (all_drafts drafts) ≡ false
     → length (all_drafts drafts) < MOST_BLOCKS
     → hindrance above drafts (labelling label) ≡ None
 unfolding hindrance labelling
 label_free above drafts label free few = grind (arith, nat_tests)
 
-module _ (name : ℕ → List ℕ) (start cycles : ℕ) (cut : Bool) (above : List Line) (drafts : Drafts) (is : AreOver start cut above drafts) where
+module _ (name : ℕ → List ℕ) (start cycles : ℕ) (cut : Bool) (above : List Line) (drafts : Drafts)
+    (is : AreOver start cut above drafts) where
   abbrev site : Option Name → Site
   site label = record { name = name; done = all_drafts drafts; label = label; start = start; cycles = cycles }
 
   labelled : (label : Name) (number : ℕ)
-      → IsAt (site (Some label)) 0 false [] (labelling label ∷ above) (with_line number (stand_of above (labelling label)) (labelling label) drafts)
+      → IsAt (site (Some label)) 0 false [] (labelling label ∷ above)
+      (with_line number (stand_of above (labelling label)) (labelling label) drafts)
   unfolding labelling
   labelled label number = record {
     passed = omega (arith, is.passed);
@@ -53,7 +58,11 @@ module _ (name : ℕ → List ℕ) (start cycles : ℕ) (cut : Bool) (above : Li
       let at = is.parted parted in
       record {
         passed = omega (arith, is.passed);
-        cuts = record { starts = λ c le. grind (arith, nat_tests, is.cuts.starts c, is.low, at.0); behind = rw (← at.0) is.cuts.behind };
+        cuts = record {
+          starts = λ c le. grind (arith, nat_tests, is.cuts.starts c, is.low, at.0);
+          behind = rw (← at.0)
+              is.cuts.behind;
+        };
         draft = new_draft None start;
         opens = rw at.1 refl;
         is = record { label_is = refl; starts = refl; issues = tt };
@@ -65,10 +74,12 @@ module _ (name : ℕ → List ℕ) (start cycles : ℕ) (cut : Bool) (above : Li
       → (label ≡ None → cut ≡ true) → length (all_drafts drafts) < MOST_BLOCKS
       → Leads above drafts number (label_lines label) (IsAt (site label) 0 false [])
   unfolding labelling
-  label_leads None number good free parted few = no_lines above drafts number (IsAt (site None) 0 false []) (unlabelled (parted refl))
+  label_leads None number good free parted few = no_lines above drafts number (IsAt (site None) 0 false [])
+      (unlabelled (parted refl))
   label_leads (Some label) number good free parted few =
       one_line above drafts number (label ++ codes ":") (labelling label) (IsAt (site (Some label)) 0 false [])
-      (label_reads label (good label refl)) (label_free above drafts label (free label refl) few) (labelled label number)
+      (label_reads label (good label refl)) (label_free above drafts label (free label refl) few)
+      (labelled label number)
 
 -- ---- an empty line
 
@@ -76,7 +87,8 @@ gap_free : (above : List Line) (drafts : Drafts) → hindrance above drafts (lin
 unfolding hindrance
 gap_free above drafts = refl
 
-pub gap_leads : (start : ℕ) (cut : Bool) (above : List Line) (drafts : Drafts) (number : ℕ) (Is : List Line → Drafts → Type 0)
+pub gap_leads : (start : ℕ) (cut : Bool) (above : List Line) (drafts : Drafts) (number : ℕ) (Is : List Line → Drafts
+    → Type 0)
     → AreOver start cut above drafts → ((a : List Line) → AreOver start cut a drafts → Is a drafts)
     → Leads above drafts number ([] ∷ []) Is
 gap_leads start cut above drafts number Is are then_is =

@@ -1,6 +1,8 @@
 -- What the branches of a listing go to.
-use Rattle.c62_adopt_back.proofs.Common.{nat_tests, arith, ◌≡◌, ℕ, zero, suc, ◌+◌, ◌<◌, List, [], ◌∷◌, length, map, true, false, Option, Some, None}
-use Rattle.c62_adopt_back.proofs.Common.{refl, sym, ap, ◌∙◌, list_any, slice_get, Name, label_is, Operands, Packed, Draft}
+use Rattle.c62_adopt_back.proofs.Common.{nat_tests, arith, ◌≡◌, ℕ, zero, suc, ◌+◌, ◌<◌, List, [], ◌∷◌, length, map}
+use Rattle.c62_adopt_back.proofs.Common.{true, false, Option, Some, None}
+use Rattle.c62_adopt_back.proofs.Common.{refl, sym, ap, ◌∙◌, list_any, slice_get, Name, label_is, Operands, Packed}
+use Rattle.c62_adopt_back.proofs.Common.{Draft}
 use Rattle.std.specs.List.{IsDistinct, position_or_len}
 use Rattle.std.specs.Str.{bytes_eq}
 use Rattle.std.proofs.lemmas.Bool.{lt-ltb}
@@ -23,7 +25,8 @@ use Rattle.c62_adopt_back.proofs.Walk.{AreRead}
 -- ---- the number of a label
 
 -- of labels that differ, one has its own number
-number_at : (labels : List (Option Name)) (k : ℕ) (label : Name) → IsDistinct bytes_eq (given labels) → slice_get labels k ≡ Some (Some label)
+number_at : (labels : List (Option Name)) (k : ℕ) (label : Name) → IsDistinct bytes_eq (given labels)
+    → slice_get labels k ≡ Some (Some label)
     → position_or_len (label_is label) labels ≡ k
 unfolding IsDistinct
 number_at [] k label distinct at = absurd (none-some (Some label) at)
@@ -34,10 +37,12 @@ number_at (Some other ∷ labels) zero label distinct at =
     rw equal refl
 number_at (None ∷ labels) (suc k) label distinct at = omega (arith, number_at labels k label distinct at)
 number_at (Some other ∷ labels) (suc k) label distinct at =
-    let apart : bytes_eq other label ≡ false = member_at (λ (y : Name). bytes_eq other y ≡ false) labels k label at distinct.0 in
+    let apart : bytes_eq other label ≡ false = member_at (λ (y : Name). bytes_eq other y ≡ false) labels k label at
+    distinct.0 in
     rw apart (omega (arith, number_at labels k label distinct.1 at))
 
-known_at : (labels : List (Option Name)) (k : ℕ) (label : Name) → slice_get labels k ≡ Some (Some label) → list_any (label_is label) labels ≡ true
+known_at : (labels : List (Option Name)) (k : ℕ) (label : Name) → slice_get labels k ≡ Some (Some label)
+    → list_any (label_is label) labels ≡ true
 known_at [] k label at = absurd (none-some (Some label) at)
 known_at (None ∷ labels) zero label at = absurd cc
 known_at (Some other ∷ labels) zero label at =
@@ -48,7 +53,8 @@ known_at (Some other ∷ labels) (suc k) label at = grind (arith, nat_tests, kno
 
 -- ---- the labels of the blocks that are read
 
-pub labels_so : (name : ℕ → Name) (start end : ℕ) (drafts : List Draft) (blocks : List Packed) → AreRead name start end drafts blocks
+pub labels_so : (name : ℕ → Name) (start end : ℕ) (drafts : List Draft) (blocks : List Packed)
+    → AreRead name start end drafts blocks
     → map (λ draft. draft.label) drafts ≡ labels_of blocks
 unfolding AreRead
 labels_so name start end [] [] are = refl
@@ -68,7 +74,8 @@ pub record IsAimed (name : ℕ → Name) (whole : List Draft) (operands : Operan
   pub aimed : aimed_operands (target_number whole (target_with name operands)) (unaimed operands) ≡ operands
 
 aimed_by : (name : ℕ → Name) (whole : List Draft) (operands : Operands)
-    → ((k : ℕ) → operands ≡ Block k → (is_lost whole (Some (name k)) ≡ false) × (target_number whole (Some (name k)) ≡ k))
+    → ((k : ℕ) → operands ≡ Block k → (is_lost whole (Some (name k)) ≡ false)
+    × (target_number whole (Some (name k)) ≡ k))
     → IsAimed name whole operands
 aimed_by name whole operands goes = record { found = grind (arith, goes); aimed = grind (arith, goes) }
 
@@ -93,6 +100,8 @@ module _ (packets : List Packed) (drafts : List Draft) (same : map (λ draft. dr
       ) in
       rw (named, known, number, lt-ltb k (length drafts) within) (refl, refl)
 
-  pub all_aimed : (operands : Operands) → target_stands (labels_of packets) operands ≡ true → IsAimed (name_in packets) drafts operands
+  pub all_aimed : (operands : Operands) → target_stands (labels_of packets) operands ≡ true
+      → IsAimed (name_in packets) drafts operands
   all_aimed operands stands =
-      aimed_by (name_in packets) drafts operands (λ k is. goes_to k (has_target (labels_of packets) operands k stands is))
+      aimed_by (name_in packets) drafts operands
+      (λ k is. goes_to k (has_target (labels_of packets) operands k stands is))

@@ -1,7 +1,10 @@
 -- The lines of a listing are read as its blocks.
-use Rattle.c62_adopt_back.proofs.Common.{nat_tests, arith, ◌≡◌, ℕ, ◌+◌, ◌<◌, ◌≤◌, List, [], ◌∷◌, ◌++◌, length, Bool, true, false, Option, Some, None}
-use Rattle.c62_adopt_back.proofs.Common.{refl, sym, ap, ◌∙◌, subst, append_assoc, append-nil, length-append, ◌||◌, AllByRecursion, list_any, Name}
-use Rattle.c62_adopt_back.proofs.Common.{label_is, Placed, Packed, is_branching_placed, Line, cycles_of, Draft, Drafts, all_drafts, no_drafts}
+use Rattle.c62_adopt_back.proofs.Common.{nat_tests, arith, ◌≡◌, ℕ, ◌+◌, ◌<◌, ◌≤◌, List, [], ◌∷◌, ◌++◌, length, Bool}
+use Rattle.c62_adopt_back.proofs.Common.{true, false, Option, Some, None}
+use Rattle.c62_adopt_back.proofs.Common.{refl, sym, ap, ◌∙◌, subst, append_assoc, append-nil, length-append, ◌||◌}
+use Rattle.c62_adopt_back.proofs.Common.{AllByRecursion, list_any, Name}
+use Rattle.c62_adopt_back.proofs.Common.{label_is, Placed, Packed, is_branching_placed, Line, cycles_of, Draft, Drafts}
+use Rattle.c62_adopt_back.proofs.Common.{all_drafts, no_drafts}
 use Rattle.c62_adopt_back.proofs.Common.{all_lines, block_lines, cycle_lines, label_lines, parted_lines}
 use Rattle.std.proofs.Common.{suc}
 use Rattle.std.proofs.lemmas.Bool.{false≢true}
@@ -24,7 +27,8 @@ AreRead name start end (draft ∷ drafts) (block ∷ blocks) =
     IsDraftOf name block.label start block.placed draft × AreRead name (start + block.cycles) end drafts blocks
 AreRead name start end _ _ = ⊥
 
-read_more : (name : ℕ → Name) (start end : ℕ) (drafts : List Draft) (blocks : List Packed) (draft : Draft) (block : Packed)
+read_more : (name : ℕ
+    → Name) (start end : ℕ) (drafts : List Draft) (blocks : List Packed) (draft : Draft) (block : Packed)
     → AreRead name start end drafts blocks → IsDraftOf name block.label end block.placed draft
     → AreRead name start (end + block.cycles) (drafts ++ draft ∷ []) (blocks ++ block ∷ [])
 unfolding AreRead
@@ -34,15 +38,18 @@ read_more name start end (d ∷ drafts) [] draft block are is = absurd are
 read_more name start end (d ∷ drafts) (b ∷ blocks) draft block are is =
     (are.0, read_more name (start + b.cycles) end drafts blocks draft block are.1 is)
 
-read_length : (name : ℕ → Name) (start end : ℕ) (drafts : List Draft) (blocks : List Packed) → AreRead name start end drafts blocks
+read_length : (name : ℕ → Name) (start end : ℕ) (drafts : List Draft) (blocks : List Packed)
+    → AreRead name start end drafts blocks
     → length drafts ≡ length blocks
 unfolding AreRead
 read_length name start end [] [] are = refl
 read_length name start end [] (b ∷ blocks) are = absurd are
 read_length name start end (d ∷ drafts) [] are = absurd are
-read_length name start end (d ∷ drafts) (b ∷ blocks) are = ap suc (read_length name (start + b.cycles) end drafts blocks are.1)
+read_length name start end (d ∷ drafts) (b ∷ blocks) are = ap suc
+    (read_length name (start + b.cycles) end drafts blocks are.1)
 
-read_taken : (name : ℕ → Name) (start end : ℕ) (label : Name) (drafts : List Draft) (blocks : List Packed) → AreRead name start end drafts blocks
+read_taken : (name : ℕ → Name) (start end : ℕ) (label : Name) (drafts : List Draft) (blocks : List Packed)
+    → AreRead name start end drafts blocks
     → list_any (λ draft. label_is label draft.label) drafts ≡ list_any (λ block. label_is label block.label) blocks
 unfolding AreRead
 read_taken name start end label [] [] are = refl
@@ -66,7 +73,8 @@ pub record IsGood (name : ℕ → Name) (passed : List Packed) (cut : Bool) (blo
   pub short : block.cycles ≤ MOST_CYCLES
 
 -- these are read, and over
-pub record ArePassed (name : ℕ → Name) (passed : List Packed) (cut : Bool) (above : List Line) (drafts : Drafts) : Type 0 where
+pub record ArePassed (name : ℕ
+    → Name) (passed : List Packed) (cut : Bool) (above : List Line) (drafts : Drafts) : Type 0 where
   pub end : ℕ
   pub read : AreRead name 0 end (all_drafts drafts) passed
   pub over : AreOver end cut above drafts
@@ -78,13 +86,16 @@ some_cycles : (name : ℕ → Name) (cycles : ℕ) (branched : Bool) (placed : L
 unfolding branched_behind
 some_cycles name cycles branched [] some listed is = some is
 some_cycles name cycles branched (p ∷ placed) some listed is =
-    some_cycles name cycles (branched || is_branching_placed p) placed (λ here. omega (arith, listed.0.fits.ends)) listed.1 is
+    some_cycles name cycles (branched || is_branching_placed p) placed (λ here. omega (arith, listed.0.fits.ends))
+    listed.1 is
 
 -- a block that is read to its end
-block_passed : (site : Site) (passed : List Packed) (block : Packed) (branched : Bool) (above : List Line) (drafts : Drafts)
+block_passed : (site : Site) (passed : List Packed) (block : Packed) (branched : Bool) (above : List Line)
+    (drafts : Drafts)
     → AreRead site.name 0 site.start site.done passed → site.label ≡ block.label → site.cycles ≡ block.cycles
     → (block.label ≡ None → 0 < length block.placed) → (branched ≡ true → 0 < block.cycles)
-    → IsAt site site.cycles branched block.placed above drafts → ArePassed site.name (passed ++ block ∷ []) branched above drafts
+    → IsAt site site.cycles branched block.placed above drafts
+    → ArePassed site.name (passed ++ block ∷ []) branched above drafts
 block_passed site passed block branched above drafts read label cycles begun some is =
     let same : drafts ≡ record { done = site.done; current = Some is.draft } =
     as_opened site.start drafts _ is.opens (is.begun (λ none. begun (sym label ∙ none))) in
@@ -104,19 +115,27 @@ block_passed site passed block branched above drafts read label cycles begun som
     }
 
 module _ (name : ℕ → Name) where
-  block_leads : (passed : List Packed) (block : Packed) (cut : Bool) (number : ℕ) (above : List Line) (drafts : Drafts) → length passed < MOST_BLOCKS
+  block_leads : (passed : List Packed) (block : Packed) (cut : Bool) (number : ℕ) (above : List Line) (drafts : Drafts)
+      → length passed < MOST_BLOCKS
       → ArePassed name passed cut above drafts → IsGood name passed cut block
-      → Leads above drafts number (block_lines name block) (ArePassed name (passed ++ block ∷ []) (branched_behind false block.placed))
+      → Leads above drafts number (block_lines name block)
+      (ArePassed name (passed ++ block ∷ []) (branched_behind false block.placed))
   block_leads passed block cut number above drafts few are good =
-      let site : Site = record { name = name; done = all_drafts drafts; label = block.label; start = are.end; cycles = block.cycles } in
+      let site : Site = record
+      { name = name; done = all_drafts drafts; label = block.label; start = are.end; cycles = block.cycles } in
       let branched : Bool = branched_behind false block.placed in
-      let some : length (all_drafts drafts) < MOST_BLOCKS = omega (arith, few, read_length name 0 are.end (all_drafts drafts) passed are.read) in
-      let free : (l : Name) → block.label ≡ Some l → list_any (λ draft. label_is l draft.label) (all_drafts drafts) ≡ false =
+      let some : length (all_drafts drafts) < MOST_BLOCKS = omega
+      (arith, few, read_length name 0 are.end (all_drafts drafts) passed are.read) in
+      let free : (l : Name) → block.label ≡ Some l
+      → list_any (λ draft. label_is l draft.label) (all_drafts drafts) ≡ false =
       λ l is. read_taken name 0 are.end l (all_drafts drafts) passed are.read ∙ good.free l is in
-      then_lines above drafts number (label_lines block.label) (cycle_lines name 0 block.cycles block.placed) (IsAt site 0 false [])
+      then_lines above drafts number (label_lines block.label) (cycle_lines name 0 block.cycles block.placed)
+      (IsAt site 0 false [])
       (ArePassed name (passed ++ block ∷ []) branched)
-      (label_leads name are.end block.cycles cut above drafts are.over block.label number good.label free good.parted some)
-      (λ a d n at. so_leads a d n (cycle_lines name 0 block.cycles block.placed) (IsAt site block.cycles branched block.placed)
+      (label_leads name are.end block.cycles cut above drafts are.over block.label number good.label free good.parted
+      some)
+      (λ a d n at. so_leads a d n (cycle_lines name 0 block.cycles block.placed)
+      (IsAt site block.cycles branched block.placed)
       (ArePassed name (passed ++ block ∷ []) branched)
       (cycles_lead site some good.short block.placed n a d at good.listed good.order good.once good.few)
       (λ a2 d2 at_end. block_passed site passed block branched a2 d2 are.read refl refl good.begun
@@ -135,25 +154,30 @@ pub record AreAllPassed (name : ℕ → Name) (packets : List Packed) (above : L
   pub read : AreRead name 0 (cycles_of above) (all_drafts drafts) packets
 
 module _ (name : ℕ → Name) where
-  all_passed : (packets : List Packed) (cut : Bool) (above : List Line) (drafts : Drafts) → ArePassed name packets cut above drafts
+  all_passed : (packets : List Packed) (cut : Bool) (above : List Line) (drafts : Drafts)
+      → ArePassed name packets cut above drafts
       → AreAllPassed name packets above drafts
   all_passed packets cut above drafts are = record { read = rw are.over.passed are.read }
 
   parted_lead : (passed blocks : List Packed) (cut : Bool) (number : ℕ) (above : List Line) (drafts : Drafts)
-      → length passed + length blocks ≤ MOST_BLOCKS → ArePassed name passed cut above drafts → AllGood name passed cut blocks
+      → length passed + length blocks ≤ MOST_BLOCKS → ArePassed name passed cut above drafts
+      → AllGood name passed cut blocks
       → Leads above drafts number (parted_lines name blocks) (AreAllPassed name (passed ++ blocks))
   unfolding AllGood
   parted_lead passed [] cut number above drafts few are good =
-      rw (append-nil passed) (no_lines above drafts number (AreAllPassed name passed) (all_passed passed cut above drafts are))
+      rw (append-nil passed)
+      (no_lines above drafts number (AreAllPassed name passed) (all_passed passed cut above drafts are))
   parted_lead passed (block ∷ blocks) cut number above drafts few are good =
       let count : length (passed ++ block ∷ []) ≡ length passed + 1 = length-append passed (block ∷ []) in
       let next : Bool = branched_behind false block.placed in
       rw (← append_assoc passed (block ∷ []) blocks)
-      (then_lines above drafts number ([] ∷ []) (block_lines name block ++ parted_lines name blocks) (ArePassed name passed cut)
+      (then_lines above drafts number ([] ∷ []) (block_lines name block ++ parted_lines name blocks)
+      (ArePassed name passed cut)
       (AreAllPassed name ((passed ++ block ∷ []) ++ blocks))
       (gap_leads are.end cut above drafts number (ArePassed name passed cut) are.over
       (λ a over. record { end = are.end; read = are.read; over = over }))
-      (λ a d n at. then_lines a d n (block_lines name block) (parted_lines name blocks) (ArePassed name (passed ++ block ∷ []) next)
+      (λ a d n at. then_lines a d n (block_lines name block) (parted_lines name blocks)
+      (ArePassed name (passed ++ block ∷ []) next)
       (AreAllPassed name ((passed ++ block ∷ []) ++ blocks))
       (block_leads name passed block cut n a d (omega (arith, few)) at good.0)
       (λ a2 d2 n2 at2. parted_lead (passed ++ block ∷ []) blocks next n2 a2 d2 (omega (arith, few, count)) at2 good.1)))
@@ -163,7 +187,16 @@ module _ (name : ℕ → Name) where
   start_passed = record {
     end = 0;
     read = refl;
-    over = record { passed = refl; first = 0; last = 0; cuts = no_cuts; low = omega arith; late = omega arith; parted = λ cut. (refl, refl) };
+    over = record {
+      passed = refl;
+      first = 0;
+      last = 0;
+      cuts = no_cuts;
+      low = omega arith;
+      late = omega arith;
+      parted =
+          λ cut. (refl, refl);
+    };
   }
 
   -- the lines of a listing are read as its blocks
@@ -174,5 +207,6 @@ module _ (name : ℕ → Name) where
   all_lead (block ∷ blocks) few good =
       let next : Bool = branched_behind false block.placed in
       then_lines [] no_drafts 1 (block_lines name block) (parted_lines name blocks) (ArePassed name (block ∷ []) next)
-      (AreAllPassed name (block ∷ blocks)) (block_leads name [] block true 1 [] no_drafts (omega arith) start_passed good.0)
+      (AreAllPassed name (block ∷ blocks))
+      (block_leads name [] block true 1 [] no_drafts (omega arith) start_passed good.0)
       (λ a d n at. parted_lead (block ∷ []) blocks next n a d (omega (arith, few)) at good.1)

@@ -1,5 +1,6 @@
 -- A text's code is taken line by line.
-use Rattle.std.proofs.Common.{◌≡◌, ◌≤◌, ◌<◌, ◌+◌, ◌∙◌, ◌++◌, ap, sym, refl, ℕ, List, ◌∷◌, [], length, Ok, Err, Bool, Result, arith, append_assoc, append-nil, take}
+use Rattle.std.proofs.Common.{◌≡◌, ◌≤◌, ◌<◌, ◌+◌, ◌∙◌, ◌++◌, ap, sym, refl, ℕ, List, ◌∷◌, [], length, Ok, Err, Bool}
+use Rattle.std.proofs.Common.{Result, arith, append_assoc, append-nil, take}
 use Rattle.std.specs.Str.{bytes_eq}
 use Rattle.c62_read.specs.Text.{lines_of}
 use Rattle.c62_adopt_line.specs.Line.{line_says}
@@ -9,7 +10,8 @@ use Rattle.c62_adopt_code.specs.declared.fault.CodeFault.{CodeFault}
 use Rattle.c62_adopt_code.specs.declared.fault.CodeFault.TheVariants.{At, Memory}
 use Rattle.c62_adopt_code.specs.declared.fault.CodeCause.{CodeCause}
 use Rattle.c62_adopt_code.specs.Role.{role_of}
-use Rattle.c62_adopt_code.specs.Code.{Refusal, below, code_below, code_line, lines_coded, line_taken, plain_code, section_behind, shortened, text_of, way_behind, with_first}
+use Rattle.c62_adopt_code.specs.Code.{Refusal, below, code_below, code_line, lines_coded, line_taken, plain_code}
+use Rattle.c62_adopt_code.specs.Code.{section_behind, shortened, text_of, way_behind, with_first}
 use Rattle.c62_adopt_code.specs.Told.{FailsWith, RefusesLine, TakesLine, comes_to}
 
 below_more : (front line : List ℕ) (read : Result (List (List ℕ)) Refusal)
@@ -20,13 +22,17 @@ below_more front line (Ok lines) = simp (append_assoc, append-nil) refl
 pub taken_so : (home section : List ℕ) (way : _) (number : ℕ) (line front : List ℕ) (is : Bool) (lines : List (List ℕ))
     → line_taken (bytes_eq home section) line section way ≡ Ok is
     → below (front ++ text_of (code_line is line ∷ []))
-    (code_below home (section_behind (role_of line) section) (way_behind (line_says (code_line is line)) way) (number + 1) lines)
+    (code_below home (section_behind (role_of line) section) (way_behind (line_says (code_line is line)) way)
+    (number + 1) lines)
     ≡ below front (code_below home section way number (line ∷ lines))
 unfolding code_below
 taken_so home section way number line front is lines taking =
-    rw taking (below_more front (code_line is line) (code_below home (section_behind (role_of line) section) (way_behind (line_says (code_line is line)) way) (number + 1) lines))
+    rw taking (below_more front (code_line is line)
+    (code_below home (section_behind (role_of line) section) (way_behind (line_says (code_line is line)) way)
+    (number + 1) lines))
 
-pub refused_so : (home section : List ℕ) (way : _) (number : ℕ) (line : List ℕ) (cause : CodeCause) (lines : List (List ℕ))
+pub refused_so : (home section : List ℕ) (way : _) (number : ℕ) (line : List ℕ) (cause : CodeCause)
+    (lines : List (List ℕ))
     → line_taken (bytes_eq home section) line section way ≡ Err cause
     → code_below home section way number (line ∷ lines) ≡ Err (number, cause)
 unfolding code_below
@@ -40,7 +46,8 @@ pub record IsCodedSoFar (site : Site) (number : ℕ) (rest code text : List ℕ)
   pub so_far : comes_to site code number (lines_of rest) ≡ below [] (lines_coded (lines_of text))
   pub counted : number + length rest ≤ length text + 1
 
-pub one_more : (old new : Site) (number : ℕ) (line rest after front more text : List ℕ) → IsCodedSoFar old number rest front text
+pub one_more : (old new : Site) (number : ℕ) (line rest after front more text : List ℕ)
+    → IsCodedSoFar old number rest front text
     → lines_of rest ≡ line ∷ lines_of after → length after < length rest → TakesLine number line old front more new
     → IsCodedSoFar new (number + 1) after more text
 one_more old new number line rest after front more text far first shorter takes = record {
@@ -49,20 +56,25 @@ one_more old new number line rest after front more text far first shorter takes 
   counted = omega (arith, far.counted);
 }
 
-pub all_taken : (site : Site) (number : ℕ) (rest code text : List ℕ) → IsCodedSoFar site number rest code text → lines_of rest ≡ []
+pub all_taken : (site : Site) (number : ℕ) (rest code text : List ℕ) → IsCodedSoFar site number rest code text
+    → lines_of rest ≡ []
     → plain_code text ≡ Ok (take most_bytes code)
 unfolding plain_code code_below
 all_taken site number rest code text far none =
     ap shortened (sym far.so_far ∙ ap (comes_to site code number) none ∙ ap Ok (append-nil code))
 
-refused_below : (front : List ℕ) (read : Result (List (List ℕ)) Refusal) (refusal : Refusal) (whole : Result (List ℕ) Refusal)
+refused_below : (front : List ℕ) (read : Result (List (List ℕ)) Refusal) (refusal : Refusal)
+    (whole : Result (List ℕ) Refusal)
     → below front read ≡ whole → read ≡ Err refusal → shortened whole ≡ Err refusal
-refused_below front read refusal whole same is = ap shortened (sym same) ∙ ap (λ (r : Result (List (List ℕ)) Refusal). shortened (below front r)) is
+refused_below front read refusal whole same is = ap shortened (sym same)
+    ∙ ap (λ (r : Result (List (List ℕ)) Refusal). shortened (below front r)) is
 
-pub refused_there : (site : Site) (number : ℕ) (line rest after code text : List ℕ) (fault : CodeFault) → IsCodedSoFar site number rest code text
+pub refused_there : (site : Site) (number : ℕ) (line rest after code text : List ℕ) (fault : CodeFault)
+    → IsCodedSoFar site number rest code text
     → lines_of rest ≡ line ∷ lines_of after → RefusesLine number line site fault → FailsWith fault (plain_code text)
 unfolding plain_code
 refused_there site number line rest after code text (At n cause) far first refuses =
-    refused_below code (code_below site.home.now site.section.now site.way number (line ∷ lines_of after)) (n, cause) (below [] (lines_coded (lines_of text)))
+    refused_below code (code_below site.home.now site.section.now site.way number (line ∷ lines_of after)) (n, cause)
+    (below [] (lines_coded (lines_of text)))
     (ap (comes_to site code number) (sym first) ∙ far.so_far) (refuses (lines_of after))
 refused_there site number line rest after code text Memory far first refuses = tt

@@ -8,7 +8,8 @@ use Rattle.c62_adopt_line.specs.Line.{line_says}
 use Rattle.c62_adopt_code.specs.declared.way.Way.{Way}
 use Rattle.c62_adopt_code.specs.Statement.{is_readable}
 use Rattle.c62_adopt_code.specs.Role.{Role, Remark, Silent, Acts, Begins, Pads, Tells, Unknown, Refused, role_of}
-use Rattle.c62_adopt_code.specs.Code.{Refusal, and_taken, code_below, code_line, home_of, home_or, lines_coded, section_behind, taken, text_section, way_behind, with_first}
+use Rattle.c62_adopt_code.specs.Code.{Refusal, and_taken, code_below, code_line, home_of, home_or, lines_coded}
+use Rattle.c62_adopt_code.specs.Code.{section_behind, taken, text_section, way_behind, with_first}
 use Rattle.c62_adopt_code.specs.Way.{first_way}
 use Rattle.c62_adopt_code.specs.Laws.{AreOwnCode, is_plain, is_plain_role}
 
@@ -34,7 +35,8 @@ module _ (line : List ℕ) (lines : List (List ℕ)) (way : Way) (number : ℕ) 
       → ((next : Way) (behind : ℕ) → code_below text_section text_section next behind lines ≡ Ok lines)
       → and_taken number (if unread then Ok true else taken (bytes_eq text_section text_section) text_section way role)
       (λ is. with_first (code_line is line)
-      (code_below text_section (section_behind role text_section) (way_behind (line_says (code_line is line)) way) (number + 1) lines))
+      (code_below text_section (section_behind role text_section) (way_behind (line_says (code_line is line)) way)
+      (number + 1) lines))
       ≡ Ok (line ∷ lines)
   code_role true Silent plain later = ap (with_first line) (later (way_behind (line_says line) way) (number + 1))
   code_role false Silent plain later = ap (with_first line) (later (way_behind (line_says line) way) (number + 1))
@@ -53,7 +55,8 @@ unfolding code_below
 below_own [] way number all = refl
 below_own (line ∷ lines) way number all =
     let parts = and_parts (is_plain line) (list_all is_plain lines) all in
-    code_role line lines way number (not (is_readable line)) (role_of line) parts.0 (λ next behind. below_own lines next behind parts.1)
+    code_role line lines way number (not (is_readable line)) (role_of line) parts.0
+    (λ next behind. below_own lines next behind parts.1)
 
 pub own_code : (lines : List (List ℕ)) → AreOwnCode lines
 own_code lines all = rw (home_own lines all) (below_own lines first_way 1 all)

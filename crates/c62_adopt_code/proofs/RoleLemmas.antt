@@ -1,5 +1,6 @@
 -- What lines are for of which is known what they say.
-use Rattle.std.proofs.Common.{◌≡◌, ◌≤◌, ℕ, Bool, true, false, cond, not, List, [], ◌∷◌, ◌++◌, Option, Some, None, length, refl, sym, ap, ◌∙◌, subst, Ok, Err, Result, ltb, inl, inr, arith, take}
+use Rattle.std.proofs.Common.{◌≡◌, ◌≤◌, ℕ, Bool, true, false, cond, not, List, [], ◌∷◌, ◌++◌, Option, Some, None}
+use Rattle.std.proofs.Common.{length, refl, sym, ap, ◌∙◌, subst, Ok, Err, Result, ltb, inl, inr, arith, take}
 use Rattle.std.specs.Prelude.{is_some}
 use Rattle.std.specs.List.{list_all, list_any}
 use Rattle.std.proofs.lemmas.Bool.{cases_Bool}
@@ -14,18 +15,21 @@ use Rattle.c62_line.specs.Unit.{is_dot}
 use Rattle.c62_adopt_line.specs.declared.fault.LineFault.{LineFault}
 use Rattle.c62_adopt_line.specs.declared.fault.LineFault.TheVariants.{Read}
 use Rattle.c62_adopt_line.specs.Directive.{lays_nothing}
-use Rattle.c62_adopt_line.specs.Line.{Line, behind_bars, behind_colon, line_said, line_says, statement_says, with_bars, with_front, with_label, words_say}
+use Rattle.c62_adopt_line.specs.Line.{Line, behind_bars, behind_colon, line_said, line_says, statement_says, with_bars}
+use Rattle.c62_adopt_line.specs.Line.{with_front, with_label, words_say}
 use Rattle.c62_adopt_line.specs.Plain.{undotted}
 use Rattle.c62_adopt_code.specs.Statement.{behind_label, front_of, is_remark, label_of}
 use Rattle.c62_adopt_code.specs.Role.{Role, Remark, Silent, Acts, role_of, statement_role, unbarred}
 
 -- ---- a line that says something and has neither bars nor a label
 
-dot_says : (lays : Bool) (says : Says) → cond lays (Ok Nothing) (Err (Read Directive)) ≡ Ok says → (says ≡ Nothing → ⊥) → ⊥
+dot_says : (lays : Bool) (says : Says) → cond lays (Ok Nothing) (Err (Read Directive)) ≡ Ok says → (says ≡ Nothing → ⊥)
+    → ⊥
 dot_says true says is some = some (grind arith)
 dot_says false says is some = absurd cc
 
-words_act : (line : List ℕ) (words : List Word) (says : Says) → words_say false line words ≡ Ok says → (says ≡ Nothing → ⊥)
+words_act : (line : List ℕ) (words : List Word) (says : Says) → words_say false line words ≡ Ok says
+    → (says ≡ Nothing → ⊥)
     → statement_role false line words ≡ Acts
 unfolding statement_role
 words_act line [] says is some = absurd (some (grind arith))
@@ -34,24 +38,30 @@ words_act line (word ∷ words) says is some = elim (cases_Bool (begins is_dot w
   | inr plain ↦ rw plain refl
 ]
 
-front_says : (read : Result Says LineFault) (label : Option Word) (says : Says) → with_front false label read ≡ Ok (line_said false None says)
+front_says : (read : Result Says LineFault) (label : Option Word) (says : Says)
+    → with_front false label read ≡ Ok (line_said false None says)
     → (label ≡ None) × (read ≡ Ok says)
 front_says (Err fault) label says is = absurd cc
 front_says (Ok other) label says is = grind arith
 
-label_none : (line : List ℕ) (field : Option Word) (says : Says) → with_label line field ≡ Ok (line_said false None says)
+label_none : (line : List ℕ) (field : Option Word) (says : Says)
+    → with_label line field ≡ Ok (line_said false None says)
     → (field ≡ None) × (statement_says false line ≡ Ok says)
 label_none line None says is = (refl, (front_says (statement_says false line) None says is).1)
-label_none line (Some label) says is = let found = (front_says (statement_says false (behind_colon line)) (Some label) says is).0 in absurd cc
+label_none line (Some label) says is = let found =
+    (front_says (statement_says false (behind_colon line)) (Some label) says is).0 in absurd cc
 
-beside_says : (read : Result Says LineFault) (says : Says) (label : Option Word) → with_front true None read ≡ Ok (line_said false label says) → ⊥
+beside_says : (read : Result Says LineFault) (says : Says) (label : Option Word)
+    → with_front true None read ≡ Ok (line_said false label says) → ⊥
 beside_says (Err fault) says label is = cc
 beside_says (Ok other) says label is = grind arith
 
-bars_none : (line : List ℕ) (bars : Option (List ℕ)) (says : Says) → with_bars line bars ≡ Ok (line_said false None says)
+bars_none : (line : List ℕ) (bars : Option (List ℕ)) (says : Says)
+    → with_bars line bars ≡ Ok (line_said false None says)
     → (bars ≡ None) × (label_field (undotted true line) ≡ None) × (statement_says false line ≡ Ok says)
 bars_none line (Some rest) says is = absurd (beside_says (statement_says true rest) says None is)
-bars_none line None says is = let found = label_none line (label_field (undotted true line)) says is in (refl, found.0, found.1)
+bars_none line None says is = let found = label_none line (label_field (undotted true line)) says is in
+    (refl, found.0, found.1)
 
 -- what a line by itself says in these cases
 record AreSteps (long : Bool) (rest : Result Line LineFault) (line : Line) : Type 0 where
@@ -59,7 +69,8 @@ record AreSteps (long : Bool) (rest : Result Line LineFault) (line : Line) : Typ
   says : rest ≡ Ok line
 
 steps_of : (allowed long star : Bool) (rest : Result Line LineFault) (line : Line) → (star ≡ false)
-    → cond (not allowed) (Err (Read NotAscii)) (cond long (Err (Read LineTooLong)) (cond star (Ok (line_said false None Nothing)) rest)) ≡ Ok line
+    → cond (not allowed) (Err (Read NotAscii))
+    (cond long (Err (Read LineTooLong)) (cond star (Ok (line_said false None Nothing)) rest)) ≡ Ok line
     → AreSteps long rest line
 steps_of false long star rest line other is = absurd cc
 steps_of true true star rest line other is = absurd cc
@@ -70,7 +81,8 @@ line_steps : (bytes : List ℕ) (line : Line) → begins is_star bytes ≡ false
     → AreSteps (ltb MOST_LINE (length bytes)) (with_bars bytes (behind_bars bytes)) line
 unfolding line_says
 line_steps bytes line other is =
-    steps_of (list_all is_allowed bytes) (ltb MOST_LINE (length bytes)) (begins is_star bytes) (with_bars bytes (behind_bars bytes)) line other is
+    steps_of (list_all is_allowed bytes) (ltb MOST_LINE (length bytes)) (begins is_star bytes)
+    (with_bars bytes (behind_bars bytes)) line other is
 
 front_whole : (bytes : List ℕ) → ltb MOST_LINE (length bytes) ≡ false → front_of bytes ≡ bytes
 front_whole bytes short = take_all MOST_LINE bytes (grind (arith, nat_tests))
@@ -86,11 +98,13 @@ acts_by bytes says plain other is some =
     let steps = line_steps bytes (line_said false None says) other is in
     let parts = bars_none bytes (behind_bars bytes) says steps.says in
     let label : label_of (front_of bytes) ≡ None = ap label_of (front_whole bytes steps.short) ∙ parts.1 in
-    rw (plain, parts.0) (acts_so bytes (label_of (front_of bytes)) label (words_act bytes (tokens bytes) says parts.2 some))
+    rw (plain, parts.0) (acts_so bytes (label_of (front_of bytes)) label
+    (words_act bytes (tokens bytes) says parts.2 some))
 
 -- ---- a line that is a label
 
-label_some : (line : List ℕ) (field : Option Word) (label : Word) (says : Says) → with_label line field ≡ Ok (line_said false (Some label) says)
+label_some : (line : List ℕ) (field : Option Word) (label : Word) (says : Says)
+    → with_label line field ≡ Ok (line_said false (Some label) says)
     → field ≡ Some label
 label_some line None label says is = absurd (no_label (statement_says false line) is)
   where
@@ -99,11 +113,13 @@ label_some line None label says is = absurd (no_label (statement_says false line
     no_label (Ok other) is = grind arith
 label_some line (Some other) label says is = so (statement_says false (behind_colon line)) is
   where
-    so : (read : Result Says LineFault) → with_front false (Some other) read ≡ Ok (line_said false (Some label) says) → Some other ≡ Some label
+    so : (read : Result Says LineFault) → with_front false (Some other) read ≡ Ok (line_said false (Some label) says)
+        → Some other ≡ Some label
     so (Err fault) is = absurd cc
     so (Ok said) is = grind arith
 
-bars_label : (line : List ℕ) (bars : Option (List ℕ)) (label : Word) (says : Says) → with_bars line bars ≡ Ok (line_said false (Some label) says)
+bars_label : (line : List ℕ) (bars : Option (List ℕ)) (label : Word) (says : Says)
+    → with_bars line bars ≡ Ok (line_said false (Some label) says)
     → (bars ≡ None) × (label_field (undotted true line) ≡ Some label)
 bars_label line (Some rest) label says is = absurd (beside_says (statement_says true rest) says (Some label) is)
 bars_label line None label says is = (refl, label_some line (label_field (undotted true line)) label says is)

@@ -11,17 +11,20 @@ use Rattle.c62_adopt_cut.specs.Drafted.{draft_of, issue_of}
 use Rattle.c62_adopt_cut.specs.Flight.{branches, over_in}
 
 pub any_draft : (label : Name) (drafts : List DraftRead)
-    → list_any (λ (draft : Draft). label_is label draft.label) (map draft_of drafts) ≡ list_any (λ (draft : DraftRead). label_is label draft.label) drafts
+    → list_any (λ (draft : Draft). label_is label draft.label) (map draft_of drafts) ≡ list_any
+    (λ (draft : DraftRead). label_is label draft.label) drafts
 any_draft label [] = refl
 any_draft label (draft ∷ drafts) = ap (λ (others : Bool). label_is label draft.label || others) (any_draft label drafts)
 
 module _ (test : Issue → Bool) where
-  pub any_issue : (issues : List IssueRead) → list_any test (map issue_of issues) ≡ list_any (λ (issue : IssueRead). test (issue_of issue)) issues
+  pub any_issue : (issues : List IssueRead)
+      → list_any test (map issue_of issues) ≡ list_any (λ (issue : IssueRead). test (issue_of issue)) issues
   any_issue [] = refl
   any_issue (issue ∷ issues) = ap (λ (others : Bool). test (issue_of issue) || others) (any_issue issues)
 
   pub find_issue : (issues : List IssueRead)
-      → find test (map issue_of issues) ≡ option_map issue_of (find (λ (issue : IssueRead). test (issue_of issue)) issues)
+      → find test (map issue_of issues) ≡ option_map issue_of
+      (find (λ (issue : IssueRead). test (issue_of issue)) issues)
   find_issue [] = refl
   find_issue (issue ∷ issues) = elim (cases_Bool (test (issue_of issue))) [
     | inl here ↦ rw here refl

@@ -1,5 +1,6 @@
 -- Blocks of a text keep the limits as lines are added.
-use Rattle.std.proofs.Common.{◌≡◌, ◌≤◌, ◌<◌, ◌+◌, ◌-◌, refl, true, false, ltb, ℕ, Bool, List, ◌∷◌, [], length, Option, Some, None}
+use Rattle.std.proofs.Common.{◌≡◌, ◌≤◌, ◌<◌, ◌+◌, ◌-◌, refl, true, false, ltb, ℕ, Bool, List, ◌∷◌, [], length, Option}
+use Rattle.std.proofs.Common.{Some, None}
 use Rattle.std.proofs.Common.{arith, inl, inr, length-append}
 use Rattle.std.specs.Prelude.{is_some, IfSome}
 use Rattle.std.specs.List.{AllByRecursion}
@@ -13,7 +14,8 @@ use Rattle.c62_adopt_line.specs.Line.{Line, line_said}
 use Rattle.c62_adopt_line.specs.Laws.{HasUnit, IsWhole}
 use Rattle.c62_adopt_cut.specs.declared.clock.Stand.{Stand}
 use Rattle.c62_adopt_cut.specs.Cut.{stand_of}
-use Rattle.c62_adopt_cut.specs.Blocks.{Issue, Draft, Drafts, add_issue, all_drafts, begins_at, issue_at, new_draft, no_drafts, opened, with_block, with_issue, with_line, with_says}
+use Rattle.c62_adopt_cut.specs.Blocks.{Issue, Draft, Drafts, add_issue, all_drafts, begins_at, issue_at, new_draft}
+use Rattle.c62_adopt_cut.specs.Blocks.{no_drafts, opened, with_block, with_issue, with_line, with_says}
 use Rattle.c62_adopt_cut.specs.Text.{begins_one_more, end_of, is_full, is_one_more, is_too_late}
 use Rattle.c62_adopt_cut.specs.Laws.{IsPlaced, IsFine, AreFine, BlocksAreFine}
 use Rattle.c62_adopt_cut.proofs.KeptLemmas.{IsFree, text_kept}
@@ -34,7 +36,8 @@ current_listed None fine = tt
 current_listed (Some draft) fine = (fine, tt)
 
 pub all_fine : (drafts : Drafts) → AreFineSoFar drafts → AllByRecursion IsFine (all_drafts drafts)
-all_fine drafts fine = all_more IsFine drafts.done (option_to_list drafts.current) fine.done (current_listed drafts.current fine.current)
+all_fine drafts fine = all_more IsFine drafts.done (option_to_list drafts.current) fine.done
+    (current_listed drafts.current fine.current)
 
 pub none_fine : AreFineSoFar no_drafts
 none_fine = record { done = tt; current = tt; few = omega arith }
@@ -42,7 +45,8 @@ none_fine = record { done = tt; current = tt; few = omega arith }
 new_fine : (label : Option Name) (start : ℕ) → IsFine (new_draft label start)
 new_fine label start = record { few = omega arith; placed = tt }
 
-block_fine : (label : Option Name) (start : ℕ) (drafts : Drafts) → AreFineSoFar drafts → length (all_drafts drafts) < MOST_BLOCKS
+block_fine : (label : Option Name) (start : ℕ) (drafts : Drafts) → AreFineSoFar drafts
+    → length (all_drafts drafts) < MOST_BLOCKS
     → AreFineSoFar (with_block label start drafts)
 block_fine label start drafts fine less =
     record {
@@ -52,14 +56,16 @@ block_fine label start drafts fine less =
     }
 
 -- an instruction goes into a block that has room
-issue_fine : (issue : Issue) (draft : Draft) → IsFine draft → length draft.issues < MOST_INSTRUCTIONS → IsPlaced draft.start issue → IsFine (with_issue issue draft)
+issue_fine : (issue : Issue) (draft : Draft) → IsFine draft → length draft.issues < MOST_INSTRUCTIONS
+    → IsPlaced draft.start issue → IsFine (with_issue issue draft)
 issue_fine issue draft fine less placed =
     record {
       few = omega (arith, length-append draft.issues (issue ∷ []));
       placed = all_more (IsPlaced draft.start) draft.issues (issue ∷ []) fine.placed (placed, tt);
     }
 
-add_fine : (issue : Issue) (start : ℕ) (done : List Draft) (current : Option Draft) → AreFineSoFar (record { done = done; current = current })
+add_fine : (issue : Issue) (start : ℕ) (done : List Draft) (current : Option Draft)
+    → AreFineSoFar (record { done = done; current = current })
     → begins_at start current ≡ true → is_full current ≡ false → IsPlaced start issue
     → AreFineSoFar (add_issue issue (record { done = done; current = current }))
 add_fine issue start done None fine begins room placed = absurd cc
@@ -74,8 +80,10 @@ add_fine issue start done (Some draft) fine begins room placed =
 
 -- ---- a line
 
-placed_at : (stand : Stand) (number : ℕ) (parts : Parts) (target : Option Name) → stand.start ≤ stand.cycle → is_some parts.unit ≡ true
-    → ltb (stand.start + MOST_CYCLES) (end_of parts stand.cycle) ≡ false → IsPlaced stand.start (issue_at stand number parts target)
+placed_at : (stand : Stand) (number : ℕ) (parts : Parts) (target : Option Name) → stand.start ≤ stand.cycle
+    → is_some parts.unit ≡ true
+    → ltb (stand.start + MOST_CYCLES) (end_of parts stand.cycle) ≡ false
+    → IsPlaced stand.start (issue_at stand number parts target)
 placed_at stand number parts target low unit late =
     let same : stand.start + (stand.cycle - stand.start) ≡ stand.cycle = omega arith in
     record { unit = unit; in_time = rw same (grind (arith, nat_tests)) }
@@ -83,18 +91,22 @@ placed_at stand number parts target low unit late =
 -- an instruction, where blocks may be begun or the open one has room
 opened_fine : (issue : Issue) (start : ℕ) (drafts : Drafts) → AreFineSoFar drafts → IsPlaced start issue
     → (begins_at start drafts.current ≡ true → is_full drafts.current ≡ false)
-    → (begins_at start drafts.current ≡ false → length (all_drafts drafts) < MOST_BLOCKS) → AreFineSoFar (add_issue issue (opened start drafts))
+    → (begins_at start drafts.current ≡ false → length (all_drafts drafts) < MOST_BLOCKS)
+    → AreFineSoFar (add_issue issue (opened start drafts))
 opened_fine issue start drafts fine placed room less = elim (cases_Bool (begins_at start drafts.current)) [
   | inl begins ↦ rw begins (add_fine issue start drafts.done drafts.current fine begins (room begins) placed)
   | inr other ↦
-      rw other (add_fine issue start (all_drafts drafts) (Some (new_draft None start)) (block_fine None start drafts fine (less other))
+      rw other (add_fine issue start (all_drafts drafts) (Some (new_draft None start))
+      (block_fine None start drafts fine (less other))
       (grind (arith, nat_tests)) refl placed)
 ]
 
-says_fine : (number : ℕ) (stand : Stand) (says : Says) (drafts : Drafts) → AreFineSoFar drafts → stand.start ≤ stand.cycle → HasUnit says
+says_fine : (number : ℕ) (stand : Stand) (says : Says) (drafts : Drafts) → AreFineSoFar drafts
+    → stand.start ≤ stand.cycle → HasUnit says
     → is_too_late stand says ≡ false
     → (is_instruction says ≡ true → begins_at stand.start drafts.current ≡ true → is_full drafts.current ≡ false)
-    → (is_instruction says ≡ true → begins_at stand.start drafts.current ≡ false → length (all_drafts drafts) < MOST_BLOCKS)
+    → (is_instruction says ≡ true → begins_at stand.start drafts.current ≡ false
+    → length (all_drafts drafts) < MOST_BLOCKS)
     → AreFineSoFar (with_says number stand says drafts)
 says_fine number stand Nothing drafts fine low unit late room less = fine
 says_fine number stand (Pause n) drafts fine low unit late room less = fine
@@ -105,17 +117,21 @@ says_fine number stand (Jumps parts target) drafts fine low unit late room less 
     opened_fine (issue_at stand number parts (Some target)) stand.start drafts fine
     (placed_at stand number parts (Some target) low unit late) (room refl) (less refl)
 
-labelled_fine : (number : ℕ) (stand : Stand) (beside : Bool) (label : Option Name) (says : Says) (drafts : Drafts) → AreFineSoFar drafts
-    → stand.start ≤ stand.cycle → HasUnit says → is_too_late stand says ≡ false → is_one_more stand (line_said beside label says) drafts ≡ false
+labelled_fine : (number : ℕ) (stand : Stand) (beside : Bool) (label : Option Name) (says : Says) (drafts : Drafts)
+    → AreFineSoFar drafts
+    → stand.start ≤ stand.cycle → HasUnit says → is_too_late stand says ≡ false
+    → is_one_more stand (line_said beside label says) drafts ≡ false
     → begins_one_more stand (line_said beside label says) drafts ≡ false
-    → (is_some label ≡ true → stand.start ≡ stand.cycle) → AreFineSoFar (with_line number stand (line_said beside label says) drafts)
+    → (is_some label ≡ true → stand.start ≡ stand.cycle)
+    → AreFineSoFar (with_line number stand (line_said beside label says) drafts)
 labelled_fine number stand beside None says drafts fine low unit late more blocks labelled =
     says_fine number stand says drafts fine low unit late (λ instruction begins. grind (arith, nat_tests))
     (λ instruction begins. grind (arith, nat_tests))
 labelled_fine number stand beside (Some label) says drafts fine low unit late more blocks labelled =
     let same = labelled refl in
     let less : length (all_drafts drafts) < MOST_BLOCKS = grind (arith, nat_tests) in
-    says_fine number stand says (with_block (Some label) stand.cycle drafts) (block_fine (Some label) stand.cycle drafts fine less) low unit late
+    says_fine number stand says (with_block (Some label) stand.cycle drafts)
+    (block_fine (Some label) stand.cycle drafts fine less) low unit late
     (λ instruction begins. grind (arith, nat_tests)) (λ instruction begins. absurd (grind (arith, nat_tests)))
 
 -- ---- a text
@@ -123,7 +139,8 @@ labelled_fine number stand beside (Some label) says drafts fine low unit late mo
 line_fine : (above : List Line) (number : ℕ) (drafts : Drafts) (line : Line) → IsWhole line → IsFree above drafts line
     → AreFineSoFar drafts → AreFineSoFar (with_line number (stand_of above line) line drafts)
 line_fine above number drafts line whole free fine =
-    labelled_fine number (stand_of above line) line.beside line.label line.says drafts fine (stand_low above line) whole.unit free.late free.more
+    labelled_fine number (stand_of above line) line.beside line.label line.says drafts fine (stand_low above line)
+    whole.unit free.late free.more
     free.blocks (λ labelled. labelled_stand above line labelled (alone line.beside line.label labelled whole.beside))
 
 pub blocks_are_fine : (text : List ℕ) → BlocksAreFine text

@@ -10,5 +10,6 @@ pub mod DrainLemmas
 pub mod OrderLemmas
 pub mod StartLemmas
 pub mod CutLemmas
+pub mod OpenHomes
 pub mod HomeLemmas
 pub mod TextHomes

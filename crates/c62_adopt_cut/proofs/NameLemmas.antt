@@ -1,5 +1,6 @@
 -- Blocks of a text have labels that differ, or instructions.
-use Rattle.std.proofs.Common.{◌≡◌, ◌<◌, ◌++◌, ◌∙◌, ap, sym, refl, true, false, ℕ, Bool, List, ◌∷◌, [], length, Option, Some, None}
+use Rattle.std.proofs.Common.{◌≡◌, ◌<◌, ◌++◌, ◌∙◌, ap, sym, refl, true, false, ℕ, Bool, List, ◌∷◌, [], length, Option}
+use Rattle.std.proofs.Common.{Some, None}
 use Rattle.std.proofs.Common.{arith, inl, inr, append-nil, length-append}
 use Rattle.std.specs.Prelude.{map, IfSome, IsTrue}
 use Rattle.std.specs.List.{AllByRecursion, IsDistinct, flat_map, list_any}
@@ -19,7 +20,8 @@ use Rattle.c62_adopt_line.specs.Line.{Line}
 use Rattle.c62_adopt_line.specs.Laws.{IsWhole}
 use Rattle.c62_adopt_cut.specs.declared.clock.Stand.{Stand}
 use Rattle.c62_adopt_cut.specs.Cut.{stand_of}
-use Rattle.c62_adopt_cut.specs.Blocks.{Issue, Draft, Drafts, add_issue, all_drafts, begins_at, issue_at, new_draft, opened, with_issue, with_label, with_line, with_says}
+use Rattle.c62_adopt_cut.specs.Blocks.{Issue, Draft, Drafts, add_issue, all_drafts, begins_at, issue_at, new_draft}
+use Rattle.c62_adopt_cut.specs.Blocks.{opened, with_issue, with_label, with_line, with_says}
 use Rattle.c62_adopt_cut.specs.Text.{is_taken}
 use Rattle.c62_adopt_cut.specs.Laws.{AreNamed, BlocksAreNamed, labels_given}
 use Rattle.c62_adopt_cut.proofs.KeptLemmas.{IsFree, text_kept}
@@ -32,19 +34,26 @@ append_given xs ys =
     ap (flat_map option_to_list) (map-append (λ (draft : Draft). draft.label) xs ys)
     ∙ flat_map-append option_to_list (map (λ (draft : Draft). draft.label) xs) (map (λ (draft : Draft). draft.label) ys)
 
-pub last_given : (drafts : List Draft) (last : Draft) → labels_given (drafts ++ last ∷ []) ≡ labels_given drafts ++ option_to_list last.label
+pub last_given : (drafts : List Draft) (last : Draft)
+    → labels_given (drafts ++ last ∷ []) ≡ labels_given drafts ++ option_to_list last.label
 last_given drafts last =
-    append_given drafts (last ∷ []) ∙ ap (λ (labels : List Name). labels_given drafts ++ labels) (append-nil (option_to_list last.label))
+    append_given drafts (last ∷ [])
+    ∙ ap (λ (labels : List Name). labels_given drafts ++ labels) (append-nil (option_to_list last.label))
 
-taken_by : (label : Name) (drafts : List Draft) → list_any (λ draft. label_is label draft.label) drafts ≡ list_any (λ other. bytes_eq other label) (labels_given drafts)
+taken_by : (label : Name) (drafts : List Draft)
+    → list_any (λ draft. label_is label draft.label) drafts ≡ list_any (λ other. bytes_eq other label)
+    (labels_given drafts)
 taken_by label [] = refl
 taken_by label (draft ∷ drafts) = grind (arith, nat_tests, taken_by label drafts)
 
 distinct_more : (drafts : List Draft) (label : Name) → IsDistinct bytes_eq (labels_given drafts)
-    → list_any (λ draft. label_is label draft.label) drafts ≡ false → IsDistinct bytes_eq (labels_given drafts ++ label ∷ [])
+    → list_any (λ draft. label_is label draft.label) drafts ≡ false
+    → IsDistinct bytes_eq (labels_given drafts ++ label ∷ [])
 distinct_more drafts label distinct free =
-    let flipped = ap (λ (test : Name → Bool). list_any test (labels_given drafts)) (fun_ext (nat_list_eq_equiv.symm label)) in
-    IsDistinct-push nat_list_eq_equiv (labels_given drafts) label distinct (flipped ∙ sym (taken_by label drafts) ∙ free)
+    let flipped = ap (λ (test : Name → Bool). list_any test (labels_given drafts))
+    (fun_ext (nat_list_eq_equiv.symm label)) in
+    IsDistinct-push nat_list_eq_equiv (labels_given drafts) label distinct (flipped ∙ sym (taken_by label drafts)
+    ∙ free)
 
 -- ---- blocks
 
@@ -70,17 +79,24 @@ add_labelled issue done draft begun = record {
   begun = all_more HasBegun done (with_issue issue draft ∷ []) begun (issue_begun issue draft, tt);
 }
 
-go_on_labelled : (issue : Issue) (start : ℕ) (done : List Draft) (current : Option Draft) → begins_at start current ≡ true
+go_on_labelled : (issue : Issue) (start : ℕ) (done : List Draft) (current : Option Draft)
+    → begins_at start current ≡ true
     → AllByRecursion HasBegun (done ++ option_to_list current)
-    → AreLabelled (labels_given (done ++ option_to_list current)) (all_drafts (add_issue issue (record { done = done; current = current })))
+    → AreLabelled (labels_given (done ++ option_to_list current))
+    (all_drafts (add_issue issue (record { done = done; current = current })))
 go_on_labelled issue start done None begins begun = absurd cc
-go_on_labelled issue start done (Some draft) begins begun = add_labelled issue done draft (begun_parts done (draft ∷ []) begun)
+go_on_labelled issue start done (Some draft) begins begun = add_labelled issue done draft
+    (begun_parts done (draft ∷ []) begun)
 
 new_labelled : (issue : Issue) (start : ℕ) (drafts : List Draft) → AllByRecursion HasBegun drafts
     → AreLabelled (labels_given drafts) (drafts ++ with_issue issue (new_draft None start) ∷ [])
 new_labelled issue start drafts begun =
     let added = add_labelled issue drafts (new_draft None start) begun in
-    record { same = added.same ∙ last_given drafts (new_draft None start) ∙ append-nil (labels_given drafts); begun = added.begun }
+    record {
+      same = added.same ∙ last_given drafts (new_draft None start)
+          ∙ append-nil (labels_given drafts);
+      begun = added.begun;
+    }
 
 opened_labelled : (issue : Issue) (start : ℕ) (drafts : Drafts) → AllByRecursion HasBegun (all_drafts drafts)
     → AreLabelled (labels_given (all_drafts drafts)) (all_drafts (add_issue issue (opened start drafts)))
@@ -89,32 +105,42 @@ opened_labelled issue start drafts begun = elim (cases_Bool (begins_at start dra
   | inr other ↦ rw other (new_labelled issue start (all_drafts drafts) begun)
 ]
 
-says_labelled : (number : ℕ) (stand : Stand) (says : Says) (drafts : Drafts) → AllByRecursion HasBegun (all_drafts drafts)
+says_labelled : (number : ℕ) (stand : Stand) (says : Says) (drafts : Drafts)
+    → AllByRecursion HasBegun (all_drafts drafts)
     → AreLabelled (labels_given (all_drafts drafts)) (all_drafts (with_says number stand says drafts))
 says_labelled number stand Nothing drafts begun = record { same = refl; begun = begun }
 says_labelled number stand (Pause n) drafts begun = record { same = refl; begun = begun }
-says_labelled number stand (Does parts) drafts begun = opened_labelled (issue_at stand number parts None) stand.start drafts begun
-says_labelled number stand (Jumps parts target) drafts begun = opened_labelled (issue_at stand number parts (Some target)) stand.start drafts begun
+says_labelled number stand (Does parts) drafts begun = opened_labelled (issue_at stand number parts None) stand.start
+    drafts begun
+says_labelled number stand (Jumps parts target) drafts begun = opened_labelled
+    (issue_at stand number parts (Some target)) stand.start drafts begun
 
 -- ---- a line
 
-label_named : (label : Option Name) (start : ℕ) (drafts : Drafts) → IfSome label (λ word. IsTrue (is_label word)) → is_taken label drafts ≡ false
+label_named : (label : Option Name) (start : ℕ) (drafts : Drafts) → IfSome label (λ word. IsTrue (is_label word))
+    → is_taken label drafts ≡ false
     → AreNamed (all_drafts drafts) → AreNamed (all_drafts (with_label label start drafts))
 label_named None start drafts labelled free named = named
 label_named (Some label) start drafts labelled free named =
     let last = last_given (all_drafts drafts) (new_draft (Some label) start) in
     record {
       labels =
-          rw last (all_more (λ (word : Name). IsTrue (is_label word)) (labels_given (all_drafts drafts)) (label ∷ []) named.labels (labelled, tt));
+          rw last (all_more (λ (word : Name). IsTrue (is_label word)) (labels_given (all_drafts drafts)) (label ∷ [])
+          named.labels (labelled, tt));
       distinct = rw last (distinct_more (all_drafts drafts) label named.distinct free);
-      begun = all_more HasBegun (all_drafts drafts) (new_draft (Some label) start ∷ []) named.begun ((λ none. absurd cc), tt);
+      begun = all_more HasBegun (all_drafts drafts) (new_draft (Some label) start ∷ []) named.begun
+          ((λ none. absurd cc), tt);
     }
 
 says_named : (number : ℕ) (stand : Stand) (says : Says) (drafts : Drafts) → AreNamed (all_drafts drafts)
     → AreNamed (all_drafts (with_says number stand says drafts))
 says_named number stand says drafts named =
     let labelled = says_labelled number stand says drafts named.begun in
-    record { labels = rw labelled.same named.labels; distinct = rw labelled.same named.distinct; begun = labelled.begun }
+    record {
+      labels = rw labelled.same named.labels;
+      distinct = rw labelled.same named.distinct;
+      begun = labelled.begun;
+    }
 
 line_named : (above : List Line) (number : ℕ) (drafts : Drafts) (line : Line) → IsWhole line → IsFree above drafts line
     → AreNamed (all_drafts drafts) → AreNamed (all_drafts (with_line number (stand_of above line) line drafts))

@@ -14,12 +14,15 @@ use Rattle.c62_adopt_cut.specs.Added.{AddsLine, RefusesLine}
 pub record IsReadSoFar (reader : Reader) (number : ℕ) (rest text : List ℕ) : Type 0 where
   pub above : List Line
   pub clock : IsClockOf reader.clock above
-  pub so_far : read_below above (drafts_of reader.drafts) number (lines_of rest) ≡ read_below [] no_drafts 1 (lines_of text)
+  pub so_far : read_below above (drafts_of reader.drafts) number (lines_of rest) ≡ read_below [] no_drafts 1
+      (lines_of text)
   pub counted : length above + length rest ≤ length text
   pub numbered : number ≡ length above + 1
 
-read_more : (above : List Line) (old new : Reader) (number : ℕ) (bytes : List ℕ) (lines : List (List ℕ)) (adds : AddsLine above number bytes old new)
-    → read_below (adds.line ∷ above) (drafts_of new.drafts) (number + 1) lines ≡ read_below above (drafts_of old.drafts) number (bytes ∷ lines)
+read_more : (above : List Line) (old new : Reader) (number : ℕ) (bytes : List ℕ) (lines : List (List ℕ))
+    (adds : AddsLine above number bytes old new)
+    → read_below (adds.line ∷ above) (drafts_of new.drafts) (number + 1) lines ≡ read_below above (drafts_of old.drafts)
+    number (bytes ∷ lines)
 unfolding read_below
 read_more above old new number bytes lines adds = rw (adds.judged, adds.drafts) refl
 
@@ -36,12 +39,15 @@ one_more old new number bytes rest after text far first shorter adds =
       numbered = omega (arith, far.numbered);
     }
 
-refused_here : (above : List Line) (drafts : Drafts) (number : ℕ) (bytes : List ℕ) (lines : List (List ℕ)) (cause : TextCause)
-    → line_judged above drafts bytes ≡ Err cause → read_below above drafts number (bytes ∷ lines) ≡ cut_at above drafts (Some (number, cause))
+refused_here : (above : List Line) (drafts : Drafts) (number : ℕ) (bytes : List ℕ) (lines : List (List ℕ))
+    (cause : TextCause)
+    → line_judged above drafts bytes ≡ Err cause
+    → read_below above drafts number (bytes ∷ lines) ≡ cut_at above drafts (Some (number, cause))
 unfolding read_below
 refused_here above drafts number bytes lines cause is = rw is refl
 
-pub refused_at : (old new : Reader) (number : ℕ) (bytes rest after text : List ℕ) (cause : TextCause) (far : IsReadSoFar old number rest text)
+pub refused_at : (old new : Reader) (number : ℕ) (bytes rest after text : List ℕ) (cause : TextCause)
+    (far : IsReadSoFar old number rest text)
     → lines_of rest ≡ bytes ∷ lines_of after → RefusesLine far.above bytes old new cause
     → cut_at far.above (drafts_of new.drafts) (Some (number, cause)) ≡ read_below [] no_drafts 1 (lines_of text)
 refused_at old new number bytes rest after text cause far first refuses =
@@ -49,11 +55,14 @@ refused_at old new number bytes rest after text cause far first refuses =
     ∙ sym (refused_here far.above (drafts_of old.drafts) number bytes (lines_of after) cause refuses.judged)
     ∙ ap (read_below far.above (drafts_of old.drafts) number) (sym first) ∙ far.so_far
 
-done_here : (above : List Line) (drafts : Drafts) (number : ℕ) → cut_at above drafts None ≡ read_below above drafts number []
+done_here : (above : List Line) (drafts : Drafts) (number : ℕ)
+    → cut_at above drafts None ≡ read_below above drafts number []
 unfolding read_below
 done_here above drafts number = refl
 
-pub all_read : (reader : Reader) (number : ℕ) (rest text : List ℕ) (far : IsReadSoFar reader number rest text) → lines_of rest ≡ []
+pub all_read : (reader : Reader) (number : ℕ) (rest text : List ℕ) (far : IsReadSoFar reader number rest text)
+    → lines_of rest ≡ []
     → cut_at far.above (drafts_of reader.drafts) None ≡ read_below [] no_drafts 1 (lines_of text)
 all_read reader number rest text far none =
-    done_here far.above (drafts_of reader.drafts) number ∙ ap (read_below far.above (drafts_of reader.drafts) number) (sym none) ∙ far.so_far
+    done_here far.above (drafts_of reader.drafts) number
+    ∙ ap (read_below far.above (drafts_of reader.drafts) number) (sym none) ∙ far.so_far

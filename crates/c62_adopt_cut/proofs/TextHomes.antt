@@ -1,5 +1,6 @@
 -- The blocks that are read of a text are those of its lines.
-use Rattle.std.proofs.Common.{◌≡◌, ◌⊎◌, ◌≤◌, ◌+◌, ◌∙◌, ap, sym, refl, true, false, ltb, ℕ, zero, suc, Bool, List, ◌∷◌, [], length, drop, Option, Some, None, Ok, Err}
+use Rattle.std.proofs.Common.{◌≡◌, ◌⊎◌, ◌≤◌, ◌+◌, ◌∙◌, ap, sym, refl, true, false, ltb, ℕ, zero, suc, Bool, List, ◌∷◌}
+use Rattle.std.proofs.Common.{[], length, drop, Option, Some, None, Ok, Err}
 use Rattle.std.proofs.Common.{arith, inl, inr}
 use Rattle.std.specs.Prelude.{Result, option_map, slice_get}
 use Rattle.std.proofs.lemmas.Bool.{cases_Bool}
@@ -13,10 +14,12 @@ use Rattle.c62_adopt_line.proofs.WholeLines.{line_whole}
 use Rattle.c62_adopt_cut.specs.declared.fault.TextCause.{TextCause}
 use Rattle.c62_adopt_cut.specs.Cut.{cycles_of, stand_of}
 use Rattle.c62_adopt_cut.specs.Blocks.{Drafts, all_drafts, no_drafts, with_line}
-use Rattle.c62_adopt_cut.specs.Text.{Cut, Refusal, and_line, cut_at, hindrance, judged, read_below, text_cut, too_long, unless_hindered}
+use Rattle.c62_adopt_cut.specs.Text.{Cut, Refusal, and_line, cut_at, hindrance, judged, read_below, text_cut, too_long}
+use Rattle.c62_adopt_cut.specs.Text.{unless_hindered}
 use Rattle.c62_adopt_cut.specs.Home.{AreOfLines, AreSaid, BlocksAreOfLines, IsReadTo}
 use Rattle.c62_adopt_cut.proofs.KeptLemmas.{IsFree, unhindered}
 use Rattle.c62_adopt_cut.proofs.HomeLemmas.{AreHome, are_of_lines, line_home, none_home}
+use Rattle.c62_adopt_cut.specs.declared.text.TheConstants.{MOST_BYTES}
 
 -- the next of the lines
 next_line : (all : List (List ℕ)) (k : ℕ) (bytes : List ℕ) (rest : List (List ℕ)) → drop k all ≡ bytes ∷ rest
@@ -36,14 +39,17 @@ record AreRead (all : List (List ℕ)) (cut : Cut) : Type 0 where
   blocks : AreOfLines lines cut.drafts
 
 -- lines that are read, and those below them
-record IsAt (all : List (List ℕ)) (above : List Line) (number : ℕ) (drafts : Drafts) (rest : List (List ℕ)) : Type 0 where
-  said : AreSaid all above
-  left : drop (length above) all ≡ rest
-  counted : length above + length rest ≡ length all
-  home : AreHome above number drafts
+record IsAt (all : List (List ℕ)) (above : List Line) (number : ℕ) (drafts : Drafts) (rest : List (List ℕ)) : Type 0
+  where
+    said : AreSaid all above
+    left : drop (length above) all ≡ rest
+    counted : length above + length rest ≡ length all
+    home : AreHome above number drafts
 
-ends_at : (all : List (List ℕ)) (above : List Line) (number : ℕ) (drafts : Drafts) (rest : List (List ℕ)) (fault : Option Refusal) → IsAt all above number drafts rest
-    → (fault ≡ None → rest ≡ []) → ((refusal : Refusal) → fault ≡ Some refusal → refusal.0 ≡ number) → AreRead all (cut_at above drafts fault)
+ends_at : (all : List (List ℕ)) (above : List Line) (number : ℕ) (drafts : Drafts) (rest : List (List ℕ))
+    (fault : Option Refusal) → IsAt all above number drafts rest
+    → (fault ≡ None → rest ≡ []) → ((refusal : Refusal) → fault ≡ Some refusal → refusal.0 ≡ number)
+    → AreRead all (cut_at above drafts fault)
 ends_at all above number drafts rest fault at whole faulty = record {
   lines = above;
   said = at.said;
@@ -53,7 +59,8 @@ ends_at all above number drafts rest fault at whole faulty = record {
   blocks = are_of_lines above number drafts at.home;
 }
 
-goes_on : (all : List (List ℕ)) (above : List Line) (number : ℕ) (drafts : Drafts) (bytes : List ℕ) (rest : List (List ℕ)) (line : Line)
+goes_on : (all : List (List ℕ)) (above : List Line) (number : ℕ) (drafts : Drafts) (bytes : List ℕ)
+    (rest : List (List ℕ)) (line : Line)
     → IsAt all above number drafts (bytes ∷ rest) → line_says bytes ≡ Ok line → IsFree above drafts line
     → IsAt all (line ∷ above) (number + 1) (with_line number (stand_of above line) line drafts) rest
 goes_on all above number drafts bytes rest line at says free =
@@ -66,61 +73,86 @@ goes_on all above number drafts bytes rest line at says free =
       home = line_home above number drafts line (line_whole bytes line says) free at.home;
     }
 
-at_number : (number : ℕ) (cause : TextCause) (refusal : Refusal) → Some (number, cause) ≡ Some refusal → refusal.0 ≡ number
+at_number : (number : ℕ) (cause : TextCause) (refusal : Refusal) → Some (number, cause) ≡ Some refusal
+    → refusal.0 ≡ number
 at_number number cause refusal is = ap (λ (other : Refusal). other.0) (sym (same_Some (number, cause) refusal is))
 
 module _ (all : List (List ℕ)) where
-  module _ (above : List Line) (number : ℕ) (drafts : Drafts) (bytes : List ℕ) (rest : List (List ℕ)) (at : IsAt all above number drafts (bytes ∷ rest))
-      (read : Line → Cut) (behind : (line : Line) → IsAt all (line ∷ above) (number + 1) (with_line number (stand_of above line) line drafts) rest → AreRead all (read line)) where
+  module _ (above : List Line) (number : ℕ) (drafts : Drafts) (bytes : List ℕ) (rest : List (List ℕ))
+      (at : IsAt all above number drafts (bytes ∷ rest))
+      (read : Line → Cut) (behind : (line : Line)
+      → IsAt all (line ∷ above) (number + 1) (with_line number (stand_of above line) line drafts) rest
+      → AreRead all (read line)) where
     stops : (cause : TextCause) → AreRead all (cut_at above drafts (Some (number, cause)))
-    stops cause = ends_at all above number drafts (bytes ∷ rest) (Some (number, cause)) at (λ none. absurd cc) (at_number number cause)
+    stops cause = ends_at all above number drafts (bytes ∷ rest) (Some (number, cause)) at (λ none. absurd cc)
+        (at_number number cause)
 
-    hindered_read : (line : Line) → line_says bytes ≡ Ok line → (found : Option TextCause) → (found ≡ None → IsFree above drafts line)
+    hindered_read : (line : Line) → line_says bytes ≡ Ok line → (found : Option TextCause)
+        → (found ≡ None → IsFree above drafts line)
         → AreRead all (and_line above drafts number (unless_hindered found line) read)
     hindered_read line says (Some cause) free = stops cause
-    hindered_read line says None free = behind line (goes_on all above number drafts bytes rest line at says (free refl))
+    hindered_read line says None free = behind line
+        (goes_on all above number drafts bytes rest line at says (free refl))
 
-    said_read : (said : Result Line LineFault) → line_says bytes ≡ said → AreRead all (and_line above drafts number (judged above drafts said) read)
+    said_read : (said : Result Line LineFault) → line_says bytes ≡ said
+        → AreRead all (and_line above drafts number (judged above drafts said) read)
     said_read (Err fault) is = stops _
     said_read (Ok line) is = hindered_read line is (hindrance above drafts line) (unhindered above drafts line)
 
-  read_all : (above : List Line) (number : ℕ) (drafts : Drafts) (rest : List (List ℕ)) → IsAt all above number drafts rest
+  read_all : (above : List Line) (number : ℕ) (drafts : Drafts) (rest : List (List ℕ))
+      → IsAt all above number drafts rest
       → AreRead all (read_below above drafts number rest)
   unfolding read_below
-  read_all above number drafts [] at = ends_at all above number drafts [] None at (λ none. refl) (λ refusal is. absurd cc)
+  read_all above number drafts [] at = ends_at all above number drafts [] None at (λ none. refl)
+      (λ refusal is. absurd cc)
   read_all above number drafts (bytes ∷ rest) at =
       said_read above number drafts bytes rest at
       (λ line. read_below (line ∷ above) (with_line number (stand_of above line) line drafts) (number + 1) rest)
-      (λ line next. read_all (line ∷ above) (number + 1) (with_line number (stand_of above line) line drafts) rest next) (line_says bytes) refl
+      (λ line next. read_all (line ∷ above) (number + 1) (with_line number (stand_of above line) line drafts) rest next)
+      (line_says bytes) refl
 
 -- ---- a text
 
 reads_to : (text : List ℕ) (cut : Cut) → text_cut text ≡ cut → AreRead (lines_of text) cut → BlocksAreOfLines text
 reads_to text cut is are = record {
   lines = are.lines;
-  read = rw is (record { said = are.said; cycles = are.cycles; whole = are.whole; faulty = λ fault some. inl (are.faulty fault some) });
+  read = rw is (record {
+    said = are.said;
+    cycles = are.cycles;
+    whole = are.whole;
+    faulty = λ fault some. inl
+        (are.faulty fault some);
+  });
   blocks = rw is are.blocks;
 }
 
 reads_nothing : (text : List ℕ) → text_cut text ≡ too_long → BlocksAreOfLines text
 reads_nothing text is = record {
   lines = [];
-  read = rw is (record { said = tt; cycles = refl; whole = λ none. absurd cc; faulty = λ fault some. inr (at_number 0 _ fault some) });
+  read = rw is (record {
+    said = tt;
+    cycles = refl;
+    whole = λ none. absurd cc;
+    faulty = λ fault some. inr
+        (at_number 0 _ fault some);
+  });
   blocks = rw is (are_of_lines [] 1 no_drafts none_home);
 }
 
-short_text : (text : List ℕ) → ltb 8388608 (length text) ≡ false → text_cut text ≡ read_below [] no_drafts 1 (lines_of text)
+short_text : (text : List ℕ) → ltb MOST_BYTES (length text) ≡ false
+    → text_cut text ≡ read_below [] no_drafts 1 (lines_of text)
 unfolding text_cut
 short_text text short = rw short refl
 
-long_text : (text : List ℕ) → ltb 8388608 (length text) ≡ true → text_cut text ≡ too_long
+long_text : (text : List ℕ) → ltb MOST_BYTES (length text) ≡ true → text_cut text ≡ too_long
 unfolding text_cut
 long_text text long = rw long refl
 
 pub blocks_are_of_lines : (text : List ℕ) → BlocksAreOfLines text
-blocks_are_of_lines text = elim (cases_Bool (ltb 8388608 (length text))) [
+blocks_are_of_lines text = elim (cases_Bool (ltb MOST_BYTES (length text))) [
   | inl long ↦ reads_nothing text (long_text text long)
   | inr short ↦
       reads_to text (read_below [] no_drafts 1 (lines_of text)) (short_text text short)
-      (read_all (lines_of text) [] 1 no_drafts (lines_of text) (record { said = tt; left = refl; counted = omega arith; home = none_home }))
+      (read_all (lines_of text) [] 1 no_drafts (lines_of text)
+      (record { said = tt; left = refl; counted = omega arith; home = none_home }))
 ]

@@ -7,6 +7,7 @@ use Rattle.c62_adopt_cut.specs.Blocks.{Draft}
 use Rattle.c62_adopt_cut.specs.Drafted.{draft_of}
 
 module _ (test : Draft → Bool) where
-  pub any_draft : (drafts : List DraftRead) → list_any test (map draft_of drafts) ≡ list_any (λ (draft : DraftRead). test (draft_of draft)) drafts
+  pub any_draft : (drafts : List DraftRead)
+      → list_any test (map draft_of drafts) ≡ list_any (λ (draft : DraftRead). test (draft_of draft)) drafts
   any_draft [] = refl
   any_draft (draft ∷ drafts) = ap (λ (others : Bool). test (draft_of draft) || others) (any_draft drafts)

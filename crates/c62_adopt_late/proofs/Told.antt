@@ -1,5 +1,6 @@
 -- What is told of a text, as a relation.
-use Rattle.std.proofs.Common.{◌≡◌, ℕ, zero, suc, ◌+◌, ◌<◌, ◌≤◌, Bool, true, false, ◌&&◌, leb, List, [], ◌∷◌, ◌++◌, length, Option, Some, None, refl, sym, ◌∙◌, ap, subst, ◌⊎◌, inl, inr, arith}
+use Rattle.std.proofs.Common.{◌≡◌, ℕ, zero, suc, ◌+◌, ◌<◌, ◌≤◌, Bool, true, false, ◌&&◌, leb, List, [], ◌∷◌, ◌++◌}
+use Rattle.std.proofs.Common.{length, Option, Some, None, refl, sym, ◌∙◌, ap, subst, ◌⊎◌, inl, inr, arith}
 use Rattle.std.specs.Prelude.{Contains}
 use Rattle.std.specs.List.{list_any}
 use Rattle.std.specs.Option.{option_or}
@@ -31,7 +32,8 @@ contained x [] h = absurd h
 contained x (y ∷ ys) (inl e) = (0, omega arith, e)
 contained x (y ∷ ys) (inr h) = let r = contained x ys h in let l : r.0 < length ys = r.1 in (suc r.0, omega arith, r.2)
 
-or_some : {X : Type 0} (first second : Option X) (x : X) → option_or first second ≡ Some x → (first ≡ Some x) ⊎ (second ≡ Some x)
+or_some : {X : Type 0} (first second : Option X) (x : X) → option_or first second ≡ Some x → (first ≡ Some x)
+    ⊎ (second ≡ Some x)
 or_some None second x e = inr e
 or_some (Some y) second x e = inl e
 
@@ -53,7 +55,8 @@ module _ (drafts : List Draft) (next line cycle : ℕ) where
     | inr other ↦ (let r = write_some writes told (rw other at e) in (r.0, inr r.1, r.2, r.3))
   ]
 
-  write_none : (writes : List (Reg × ℕ)) → late_write drafts next line cycle writes ≡ None → (write : Reg × ℕ) → In write writes → Test drafts next cycle write ≡ true → ⊥
+  write_none : (writes : List (Reg × ℕ)) → late_write drafts next line cycle writes ≡ None → (write : Reg × ℕ)
+      → In write writes → Test drafts next cycle write ≡ true → ⊥
   write_none [] e write h t = h
   write_none (first ∷ writes) e write h t = elim (cases_Bool (Test drafts next cycle first)) [
     | inl here ↦ absurd (let no = rw here at e in cc)
@@ -61,8 +64,10 @@ module _ (drafts : List Draft) (next line cycle : ℕ) where
   ]
     where
       by : late_write drafts next line cycle writes ≡ None → Test drafts next cycle first ≡ false
-          → (late_write drafts next line cycle writes ≡ None → (w : Reg × ℕ) → In w writes → Test drafts next cycle w ≡ true → ⊥) → In write (first ∷ writes) → ⊥
-      by none other rest (inl same) = false≢true (sym other ∙ subst (λ (w : Reg × ℕ). Test drafts next cycle w ≡ true) (sym same) t)
+          → (late_write drafts next line cycle writes ≡ None → (w : Reg × ℕ) → In w writes
+          → Test drafts next cycle w ≡ true → ⊥) → In write (first ∷ writes) → ⊥
+      by none other rest (inl same) = false≢true (sym other
+          ∙ subst (λ (w : Reg × ℕ). Test drafts next cycle w ≡ true) (sym same) t)
       by none other rest (inr later) = rest none write later t
 
 -- ---- the instructions of a block
@@ -82,37 +87,54 @@ module _ (drafts : List Draft) (next start : ℕ) where
 
   issue_some : (issues : List Issue) (told : Late) → late_issue drafts next start issues ≡ Some told → IsOne issues told
   issue_some [] told e = absurd cc
-  issue_some (issue ∷ issues) told e = elim (or_some (late_write drafts next issue.line (cycle_at start issue) (Writes issue)) (late_issue drafts next start issues) told e) [
-    | inl here ↦
-        let w = write_some drafts next issue.line (cycle_at start issue) (Writes issue) told here in
-        record { issue = issue; inside = inl refl; write = w.0; writes = w.1; test = w.2; is = w.3 }
-    | inr later ↦
-        let r = issue_some issues told later in
-        record { issue = r.issue; inside = inr r.inside; write = r.write; writes = r.writes; test = r.test; is = r.is }
-  ]
+  issue_some (issue ∷ issues) told e = elim
+      (or_some (late_write drafts next issue.line (cycle_at start issue) (Writes issue))
+      (late_issue drafts next start issues) told e) [
+        | inl here ↦
+            let w = write_some drafts next issue.line (cycle_at start issue) (Writes issue) told here in
+            record { issue = issue; inside = inl refl; write = w.0; writes = w.1; test = w.2; is = w.3 }
+        | inr later ↦
+            let r = issue_some issues told later in
+            record {
+              issue = r.issue;
+              inside = inr r.inside;
+              write = r.write;
+              writes = r.writes;
+              test = r.test;
+              is = r.is;
+            }
+      ]
 
-  issue_none : (issues : List Issue) → late_issue drafts next start issues ≡ None → (issue : Issue) (write : Reg × ℕ) → In issue issues → In write (Writes issue)
+  issue_none : (issues : List Issue) → late_issue drafts next start issues ≡ None → (issue : Issue) (write : Reg × ℕ)
+      → In issue issues → In write (Writes issue)
       → Test drafts next (cycle_at start issue) write ≡ true → ⊥
   issue_none [] e issue write h w t = h
   issue_none (first ∷ issues) e issue write (inl same) w t =
-      let both = or_none (late_write drafts next first.line (cycle_at start first) (Writes first)) (late_issue drafts next start issues) e in
-      write_none drafts next first.line (cycle_at start first) (Writes first) both.0 write (subst (λ (i : Issue). In write (Writes i)) (sym same) w)
+      let both = or_none (late_write drafts next first.line (cycle_at start first) (Writes first))
+      (late_issue drafts next start issues) e in
+      write_none drafts next first.line (cycle_at start first) (Writes first) both.0 write
+      (subst (λ (i : Issue). In write (Writes i)) (sym same) w)
       (subst (λ (i : Issue). Test drafts next (cycle_at start i) write ≡ true) (sym same) t)
   issue_none (first ∷ issues) e issue write (inr h) w t =
-      let both = or_none (late_write drafts next first.line (cycle_at start first) (Writes first)) (late_issue drafts next start issues) e in
+      let both = or_none (late_write drafts next first.line (cycle_at start first) (Writes first))
+      (late_issue drafts next start issues) e in
       issue_none issues both.1 issue write h w t
 
 -- ---- the blocks
 
 module _ (end : ℕ) where
-  block_some : (draft : Draft) (behind : List Draft) (told : Late) → late_in end behind draft ≡ Some told → IsLate end (draft ∷ behind) told
+  block_some : (draft : Draft) (behind : List Draft) (told : Late) → late_in end behind draft ≡ Some told
+      → IsLate end (draft ∷ behind) told
   block_some draft behind told e = elim (cases_Bool (list_any branches draft.issues)) [
     | inl branch ↦ absurd (let no = rw branch at e in cc)
     | inr alone ↦
         let r = issue_some behind (next_start end behind) draft.start draft.issues told (rw alone at e) in
-        let both : (leb (next_start end behind) (cycle_at draft.start r.issue + r.write.1) ≡ true) × (is_read_old r.write.0 (cycle_at draft.start r.issue + r.write.1) behind ≡ true)
-        = and_parts (leb (next_start end behind) (cycle_at draft.start r.issue + r.write.1)) (is_read_old r.write.0 (cycle_at draft.start r.issue + r.write.1) behind) r.test in
-        let flies : next_start end behind ≤ cycle_at draft.start r.issue + r.write.1 = grind (arith, nat_tests, both.0) in
+        let both : (leb (next_start end behind) (cycle_at draft.start r.issue + r.write.1) ≡ true)
+        × (is_read_old r.write.0 (cycle_at draft.start r.issue + r.write.1) behind ≡ true)
+        = and_parts (leb (next_start end behind) (cycle_at draft.start r.issue + r.write.1))
+        (is_read_old r.write.0 (cycle_at draft.start r.issue + r.write.1) behind) r.test in
+        let flies : next_start end behind ≤ cycle_at draft.start r.issue + r.write.1 = grind (arith, nat_tests, both.0)
+        in
         record {
           front = [];
           draft = draft;
@@ -153,19 +175,28 @@ module _ (end : ℕ) where
         }
   ]
 
-  none_there : (front : List Draft) (draft : Draft) (behind : List Draft) → late_among end (front ++ draft ∷ behind) ≡ None → late_in end behind draft ≡ None
+  none_there : (front : List Draft) (draft : Draft) (behind : List Draft)
+      → late_among end (front ++ draft ∷ behind) ≡ None → late_in end behind draft ≡ None
   none_there [] draft behind e = (or_none (late_in end behind draft) (late_among end behind) e).0
   none_there (first ∷ front) draft behind e =
-      none_there front draft behind (or_none (late_in end (front ++ draft ∷ behind) first) (late_among end (front ++ draft ∷ behind)) e).1
+      none_there front draft behind
+      (or_none (late_in end (front ++ draft ∷ behind) first) (late_among end (front ++ draft ∷ behind)) e).1
 
   none_late : (drafts : List Draft) → late_among end drafts ≡ None → (told : Late) → IsLate end drafts told → ⊥
   none_late drafts e told is =
       let none = none_there is.front is.draft is.behind (ap (late_among end) (sym is.whole) ∙ e) in
       let flies = is.flies in
-      let early : leb (next_start end is.behind) (cycle_at is.draft.start is.issue + is.write.1) ≡ true = grind (arith, nat_tests, flies) in
+      let early : leb (next_start end is.behind) (cycle_at is.draft.start is.issue + is.write.1) ≡ true = grind
+      (arith, nat_tests, flies) in
       let read = is.read in
-      issue_none is.behind (next_start end is.behind) is.draft.start is.draft.issues (rw is.alone at none) is.issue is.write
-      (in_list is.issue is.draft.issues is.inside) (in_list is.write (Writes is.issue) is.writes) (rw (early, read) refl)
+      issue_none is.behind (next_start end is.behind) is.draft.start is.draft.issues (rw is.alone at none) is.issue
+      is.write
+      (in_list is.issue is.draft.issues is.inside) (in_list is.write (Writes is.issue) is.writes)
+      (rw (early, read) refl)
 
 pub late_is_told : (cut : Cut) → LateIsTold cut
-late_is_told cut = record { some = λ told e. some_late cut.cycles cut.drafts told e; none = λ e told is. none_late cut.cycles cut.drafts e told is }
+late_is_told cut = record {
+  some = λ told e. some_late cut.cycles cut.drafts told e;
+  none = λ e told is. none_late cut.cycles cut.drafts e
+      told is;
+}

@@ -1,5 +1,6 @@
 -- What several proofs of this crate use of the standard library and of the definitions.
-pub use Rattle.std.proofs.Common.{◌≡◌, arith, ◌∙◌, ap, length, sym, ℕ, List, [], refl, true, ◌∷◌, false, None, ◌≤◌, Bool, Option, ◌+◌, ◌++◌, Some}
+pub use Rattle.std.proofs.Common.{◌≡◌, arith, ◌∙◌, ap, length, sym, ℕ, List, [], refl, true, ◌∷◌, false, None, ◌≤◌}
+pub use Rattle.std.proofs.Common.{Bool, Option, ◌+◌, ◌++◌, Some}
 pub use Rattle.std.proofs.Common.{◌<◌, subst, cond, eqb, ◌&&◌, not, ◌||◌, append_assoc, ◌/◌, inl, inr}
 pub use Rattle.std.proofs.lemmas.Bool.{cases_Bool}
 pub use Rattle.std.proofs.lemmas.Bool.Decides.{nat_tests}

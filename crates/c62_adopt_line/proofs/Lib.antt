@@ -3,6 +3,9 @@ pub mod Labels
 pub mod SpacedWords
 pub mod WholeLines
 pub mod SerialLines
+pub mod PlainOperands
+pub mod PlainInsns
+pub mod FrontWords
 pub mod ListedLines
 pub mod Comments
 pub mod Offsets

@@ -1,5 +1,6 @@
 -- Offsets in bytes.
-use Rattle.std.proofs.Common.{◌≡◌, ◌⊎◌, arith, refl, sym, ap, subst, ℕ, ◌*◌, ◌/◌, ◌%◌, ℤ, pos, negsuc, Bool, true, false, cond, eqb, inl, inr, ◌∙◌}
+use Rattle.std.proofs.Common.{◌≡◌, ◌⊎◌, arith, refl, sym, ap, subst, ℕ, ◌*◌, ◌/◌, ◌%◌, ℤ, pos, negsuc, Bool, true}
+use Rattle.std.proofs.Common.{false, cond, eqb, inl, inr, ◌∙◌}
 use Rattle.std.specs.Prelude.{◌↔◌}
 use Rattle.std.proofs.lemmas.Bool.Decides.{nat_tests}
 use Rattle.c62_line.specs.Mnemonic.{operation_named}
@@ -53,6 +54,9 @@ by_four n count = (
 
 pub counts_bytes : (size count : ℕ) (offset : ℤ) → CountsBytes size count offset
 counts_bytes size count (negsuc n) known = (λ e. absurd cc, λ e. absurd cc)
-counts_bytes size count (pos n) (inl is) = subst (λ (s : ℕ). (accesses_in s (pos n) ≡ pos count) ↔ (pos n ≡ pos (s * count))) (sym is) (by_one n count)
-counts_bytes size count (pos n) (inr (inl is)) = subst (λ (s : ℕ). (accesses_in s (pos n) ≡ pos count) ↔ (pos n ≡ pos (s * count))) (sym is) (by_two n count)
-counts_bytes size count (pos n) (inr (inr is)) = subst (λ (s : ℕ). (accesses_in s (pos n) ≡ pos count) ↔ (pos n ≡ pos (s * count))) (sym is) (by_four n count)
+counts_bytes size count (pos n) (inl is) = subst
+    (λ (s : ℕ). (accesses_in s (pos n) ≡ pos count) ↔ (pos n ≡ pos (s * count))) (sym is) (by_one n count)
+counts_bytes size count (pos n) (inr (inl is)) = subst
+    (λ (s : ℕ). (accesses_in s (pos n) ≡ pos count) ↔ (pos n ≡ pos (s * count))) (sym is) (by_two n count)
+counts_bytes size count (pos n) (inr (inr is)) = subst
+    (λ (s : ℕ). (accesses_in s (pos n) ≡ pos count) ↔ (pos n ≡ pos (s * count))) (sym is) (by_four n count)

@@ -1,6 +1,8 @@
 -- Lines of serial text that read the same here.
-use Rattle.c62_adopt_line.proofs.Common.{◌≡◌, ℕ, ◌≤◌, true, false, Bool, cond, not, eqb, List, [], ◌∷◌, ◌++◌, Option, Some, None, refl, sym, ap, ◌∙◌, arith}
-use Rattle.c62_adopt_line.proofs.Common.{nat_tests, cases_Bool, inl, inr, Word, spells, tokens, begins, is_blank, grow, length, codes}
+use Rattle.c62_adopt_line.proofs.Common.{◌≡◌, ℕ, ◌≤◌, true, false, Bool, cond, not, eqb, List, [], ◌∷◌, ◌++◌, Option}
+use Rattle.c62_adopt_line.proofs.Common.{Some, None, refl, sym, ap, ◌∙◌, arith}
+use Rattle.c62_adopt_line.proofs.Common.{nat_tests, cases_Bool, inl, inr, Word, spells, tokens, begins, is_blank, grow}
+use Rattle.c62_adopt_line.proofs.Common.{length, codes}
 use Rattle.std.proofs.Common.{Ok, Err, Result, ltb}
 use Rattle.std.proofs.lemmas.Bool.{both_ways, not-true}
 use Rattle.std.specs.Prelude.{nat_eq}
@@ -11,11 +13,13 @@ use Rattle.c62_token.specs.Token.{is_allowed}
 use Rattle.c62_token.proofs.TokenLemmas.{either, on_test, tokens_blank}
 use Rattle.c62_line.specs.declared.fault.Cause.{Cause}
 use Rattle.c62_line.specs.declared.fault.Cause.TheVariants.{NotAscii, LineTooLong, ParallelBar}
-use Rattle.c62_line.specs.Line.{Says, Nothing, Pause, Does, Jumps, head_of, is_bars, is_star, label_front, line_of, rest_says, with_head, with_rest, without_colon}
+use Rattle.c62_line.specs.Line.{Says, Nothing, Pause, Does, Jumps, head_of, is_bars, is_star, label_front, line_of}
+use Rattle.c62_line.specs.Line.{rest_says, with_head, with_rest, without_colon}
 use Rattle.c62_line.specs.Unit.{is_dot}
 use Rattle.c62_line.proofs.HeadLemmas.{no_colon_at_all, no_label}
 use Rattle.c62_adopt_line.specs.Plain.{in_accesses, names_branch, operands_behind, plain_words, bytes_named, undotted}
-use Rattle.c62_adopt_line.specs.Line.{behind_bars, from_solid, has_colon, instruction_says, line_said, line_says, statement_says, with_unit, words_say}
+use Rattle.c62_adopt_line.specs.Line.{behind_bars, from_solid, has_colon, instruction_says, line_said, line_says}
+use Rattle.c62_adopt_line.specs.Line.{statement_says, with_unit, words_say}
 use Rattle.c62_adopt_line.specs.Laws.{HasUnit, IsPlain, ReadsAsSerial, has_one_dot, has_return}
 use Rattle.c62_adopt_line.proofs.Labels.{no_colon_no_label}
 use Rattle.c62_line.specs.declared.limits.TheConstants.{MOST_LINE}
@@ -42,16 +46,26 @@ round_grown : (b : ℕ) (words : List Word) → eqb b 40 ≡ false → list_any 
 round_grown b words other none = grind (arith, nat_tests)
 
 -- a line without round brackets has no word that is one
-no_round_at_all : (line : List ℕ) → list_any (λ b. eqb b 40) line ≡ false → list_any (λ word. spells (codes "(") word) (tokens line) ≡ false
+no_round_at_all : (line : List ℕ) → list_any (λ b. eqb b 40) line ≡ false
+    → list_any (λ word. spells (codes "(") word) (tokens line) ≡ false
 no_round_at_all (b ∷ c ∷ rest) none =
     let other : eqb b 40 ≡ false = grind (arith, nat_tests) in
     let small : eqb (to_ascii_lowercase b) 40 ≡ false = grind (arith, nat_tests) in
     let later = no_round_at_all (c ∷ rest) (grind (arith, nat_tests)) in
     let last = no_round_at_all rest (grind (arith, nat_tests)) in
-    simp (on_test (list_any (λ (word : Word). spells (codes "(") word)), small, later, round_grown b (tokens (c ∷ rest)) other later, last, either)
+    simp (
+      on_test (list_any (λ (word : Word). spells (codes "(") word)),
+      small,
+      later,
+      round_grown b (tokens (c ∷ rest))
+          other later,
+      last,
+      either,
+    )
 no_round_at_all line none = grind (arith, nat_tests)
 
-accesses_same : (size : ℕ) (words : List Word) → list_any (λ word. spells (codes "(") word) words ≡ false → in_accesses size words ≡ words
+accesses_same : (size : ℕ) (words : List Word) → list_any (λ word. spells (codes "(") word) words ≡ false
+    → in_accesses size words ≡ words
 accesses_same size (opening ∷ number ∷ closing ∷ words) none =
     let first : spells (codes "(") opening ≡ false = grind (arith, nat_tests) in
     let later = accesses_same size (number ∷ closing ∷ words) (grind (arith, nat_tests)) in
@@ -60,11 +74,13 @@ accesses_same size [] none = refl
 accesses_same size (one ∷ []) none = refl
 accesses_same size (one ∷ other ∷ []) none = refl
 
-operands_same : (size : Option ℕ) (words : List Word) → list_any (λ word. spells (codes "(") word) words ≡ false → operands_behind size words ≡ words
+operands_same : (size : Option ℕ) (words : List Word) → list_any (λ word. spells (codes "(") word) words ≡ false
+    → operands_behind size words ≡ words
 operands_same None words none = refl
 operands_same (Some size) words none = accesses_same size words none
 
-plain_same : (last : Word) (words : List Word) → has_return words ≡ false → list_any (λ word. spells (codes "(") word) words ≡ false
+plain_same : (last : Word) (words : List Word) → has_return words ≡ false
+    → list_any (λ word. spells (codes "(") word) words ≡ false
     → plain_words last words ≡ words
 plain_same last [] ret round = refl
 plain_same last (word ∷ words) ret round =
@@ -79,7 +95,8 @@ plain_same last (word ∷ words) ret round =
 
 -- ---- heads
 
-head_is : (line : List ℕ) → list_any (λ b. eqb b 58) line ≡ false → without_colon (label_front (tokens line)) ≡ Ok (None, tokens line)
+head_is : (line : List ℕ) → list_any (λ b. eqb b 58) line ≡ false
+    → without_colon (label_front (tokens line)) ≡ Ok (None, tokens line)
 head_is line none = let colons = no_colon_at_all line none in rw (no_label (tokens line) colons, colons) refl
 
 -- what a line by itself says in these cases, of which the last is what stands behind its head
@@ -94,7 +111,8 @@ with_rest_is (Ok other) says is = grind arith
 with_rest_is (Err cause) says is = absurd cc
 
 steps_of : (allowed long star bars : Bool) (line : List ℕ) (says : Says)
-    → with_head (cond (not allowed) (Err NotAscii) (cond long (Err LineTooLong) (cond star (Ok (None, [])) (cond bars (Err ParallelBar)
+    → with_head (cond (not allowed) (Err NotAscii)
+    (cond long (Err LineTooLong) (cond star (Ok (None, [])) (cond bars (Err ParallelBar)
     (Ok (None, tokens line)))))) ≡ Ok (None, says) → HasSteps allowed long star bars line says
 unfolding rest_says
 steps_of false long star bars line says is = absurd cc
@@ -103,20 +121,29 @@ steps_of true false true bars line says is =
     record { all_allowed = refl; is_short = refl; rest = λ other. absurd cc; comment = λ here. grind arith }
 steps_of true false false true line says is = absurd cc
 steps_of true false false false line says is =
-    record { all_allowed = refl; is_short = refl; rest = λ other. (refl, with_rest_is (rest_says (tokens line)) says is); comment = λ here. absurd cc }
+    record {
+      all_allowed = refl;
+      is_short = refl;
+      rest = λ other.
+          (refl, with_rest_is (rest_says (tokens line)) says is);
+      comment = λ here. absurd cc;
+    }
 
 pub line_steps : (line : List ℕ) (says : Says) → list_any (λ b. eqb b 58) line ≡ false → line_of line ≡ Ok (None, says)
-    → HasSteps (list_all is_allowed line) (ltb MOST_LINE (length line)) (begins is_star line) (is_bars (tokens line)) line says
+    → HasSteps (list_all is_allowed line) (ltb MOST_LINE (length line)) (begins is_star line) (is_bars (tokens line))
+    line says
 unfolding line_of head_of
 line_steps line says none is =
-    steps_of (list_all is_allowed line) (ltb MOST_LINE (length line)) (begins is_star line) (is_bars (tokens line)) line says (rw (head_is line none) at is)
+    steps_of (list_all is_allowed line) (ltb MOST_LINE (length line)) (begins is_star line) (is_bars (tokens line)) line
+    says (rw (head_is line none) at is)
 
 -- ---- bars
 
 solid_tokens : (line : List ℕ) → tokens (from_solid line) ≡ tokens line
 solid_tokens [] = refl
 solid_tokens (b ∷ line) = elim (cases_Bool (is_blank b)) [
-  | inl blank ↦ let text : eqb b 59 ≡ false = grind (arith, nat_tests) in rw blank (solid_tokens line ∙ sym (tokens_blank b line text blank))
+  | inl blank ↦ let text : eqb b 59 ≡ false = grind (arith, nat_tests) in rw blank (solid_tokens line
+      ∙ sym (tokens_blank b line text blank))
   | inr other ↦ rw other refl
 ]
 
@@ -130,7 +157,8 @@ bars_front (b ∷ c ∷ line) starts =
 
 pub no_bars : (line : List ℕ) → is_bars (tokens line) ≡ false → behind_bars line ≡ None
 no_bars line none = elim (cases_Bool (starts_with nat_eq (from_solid line) (codes "||"))) [
-  | inl bars ↦ let found = bars_front (from_solid line) bars in absurd (both_ways _ none (ap is_bars (sym (solid_tokens line)) ∙ found))
+  | inl bars ↦ let found = bars_front (from_solid line) bars in absurd
+      (both_ways _ none (ap is_bars (sym (solid_tokens line)) ∙ found))
   | inr other ↦ rw other refl
 ]
 
@@ -138,7 +166,8 @@ no_bars line none = elim (cases_Bool (starts_with nat_eq (from_solid line) (code
 
 no_colon_before : (line : List ℕ) → list_any (λ b. eqb b 58) line ≡ false → has_colon line ≡ false
 no_colon_before [] none = refl
-no_colon_before (b ∷ line) none = rw (take_while-cons (λ (x : ℕ). not (eqb x 59)) b line) (grind (arith, nat_tests, no_colon_before line))
+no_colon_before (b ∷ line) none = rw (take_while-cons (λ (x : ℕ). not (eqb x 59)) b line)
+    (grind (arith, nat_tests, no_colon_before line))
 
 with_unit_is : (says : Says) → HasUnit says → with_unit (Ok says) ≡ Ok says
 with_unit_is Nothing unit = refl
@@ -150,7 +179,8 @@ abbrev begins_dotless : List Word → Bool
 begins_dotless [] = false
 begins_dotless (word ∷ words) = not (begins is_dot word)
 
-words_same : (line : List ℕ) (beside : Bool) (words : List Word) (says : Says) → rest_says words ≡ Ok says → (beside ≡ true → says ≡ Nothing → ⊥)
+words_same : (line : List ℕ) (beside : Bool) (words : List Word) (says : Says) → rest_says words ≡ Ok says
+    → (beside ≡ true → says ≡ Nothing → ⊥)
     → (begins_dotless words ≡ true → instruction_says line ≡ Ok says) → words_say beside line words ≡ Ok says
 unfolding rest_says
 words_same line true [] says is filled instruction = absurd (filled refl (grind arith))
@@ -160,7 +190,8 @@ words_same line beside (word ∷ words) says is filled instruction = elim (cases
   | inr plain ↦ rw plain (instruction (rw plain refl))
 ]
 
-instruction_same : (line : List ℕ) (says : Says) → IsPlain line → rest_says (tokens line) ≡ Ok says → HasUnit says → instruction_says line ≡ Ok says
+instruction_same : (line : List ℕ) (says : Says) → IsPlain line → rest_says (tokens line) ≡ Ok says → HasUnit says
+    → instruction_says line ≡ Ok says
 unfolding instruction_says
 instruction_same line says plain is unit =
     let colon = no_colon_before line plain.no_colon in
@@ -168,7 +199,8 @@ instruction_same line says plain is unit =
     let words = plain_same [] (tokens line) plain.no_return (no_round_at_all line plain.no_round) in
     rw (colon, dots, words, is) (with_unit_is says unit)
 
-statement_same : (line : List ℕ) (beside : Bool) (says : Says) → IsPlain line → rest_says (tokens line) ≡ Ok says → HasUnit says
+statement_same : (line : List ℕ) (beside : Bool) (says : Says) → IsPlain line → rest_says (tokens line) ≡ Ok says
+    → HasUnit says
     → (beside ≡ true → says ≡ Nothing → ⊥) → statement_says beside line ≡ Ok says
 unfolding statement_says
 statement_same line beside says plain is unit filled =
@@ -197,7 +229,8 @@ alone_same line plain says is unit =
           ) refl
     ])
 
-beside_same : (line : List ℕ) → IsPlain line → (says : Says) → line_of line ≡ Ok (None, says) → HasUnit says → (says ≡ Nothing → ⊥)
+beside_same : (line : List ℕ) → IsPlain line → (says : Says) → line_of line ≡ Ok (None, says) → HasUnit says
+    → (says ≡ Nothing → ⊥)
     → length line ≤ 253 → line_says (codes "||" ++ line) ≡ Ok (line_said true None says)
 unfolding line_says
 beside_same line plain says is unit filled short =

@@ -1,5 +1,6 @@
 -- What a line says is whole.
-use Rattle.c62_adopt_line.proofs.Common.{◌≡◌, ℕ, true, false, Bool, cond, not, ◌&&◌, List, [], ◌∷◌, Option, Some, None, refl, arith, nat_tests, cases_Bool, inl, inr, Word}
+use Rattle.c62_adopt_line.proofs.Common.{◌≡◌, ℕ, true, false, Bool, cond, not, ◌&&◌, List, [], ◌∷◌, Option, Some, None}
+use Rattle.c62_adopt_line.proofs.Common.{refl, arith, nat_tests, cases_Bool, inl, inr, Word}
 use Rattle.std.proofs.Common.{Ok, Err, Result, length, ltb, subst}
 use Rattle.std.specs.List.{list_all}
 use Rattle.std.specs.Prelude.{is_none, is_some, IfSome, IsTrue}
@@ -9,7 +10,8 @@ use Rattle.c62_token.specs.Number.{is_label}
 use Rattle.c62_token.specs.Token.{begins, is_allowed, tokens}
 use Rattle.c62_token.specs.declared.kind.Kind.{Kind}
 use Rattle.c62_line.specs.declared.fault.Cause.{Cause}
-use Rattle.c62_line.specs.Line.{Says, Nothing, Pause, Does, Jumps, behind_unit, instruction_of, is_star, jumps_or_does, label_alone, label_field, pause_of, rest_says, target_of}
+use Rattle.c62_line.specs.Line.{Says, Nothing, Pause, Does, Jumps, behind_unit, instruction_of, is_star, jumps_or_does}
+use Rattle.c62_line.specs.Line.{label_alone, label_field, pause_of, rest_says, target_of}
 use Rattle.c62_line.specs.Unit.{is_dot}
 use Rattle.c62_line.specs.declared.fault.Cause.TheVariants.{BadLabel, Directive, NotAscii, LineTooLong}
 use Rattle.c62_line.proofs.SaysLemmas.{IsProper, proper}
@@ -17,7 +19,8 @@ use Rattle.c62_adopt_line.specs.declared.fault.LineFault.{LineFault}
 use Rattle.c62_adopt_line.specs.declared.fault.LineFault.TheVariants.{Read}
 use Rattle.c62_adopt_line.specs.Directive.{lays_nothing}
 use Rattle.c62_adopt_line.specs.Plain.{plain_words, undotted}
-use Rattle.c62_adopt_line.specs.Line.{Line, behind_bars, behind_colon, has_colon, instruction_says, lacks_unit, line_said, line_says}
+use Rattle.c62_adopt_line.specs.Line.{Line, behind_bars, behind_colon, has_colon, instruction_says, lacks_unit}
+use Rattle.c62_adopt_line.specs.Line.{line_said, line_says}
 use Rattle.c62_adopt_line.specs.Line.{statement_says, with_bars, with_front, with_label, with_unit, words_say}
 use Rattle.c62_adopt_line.specs.Laws.{HasTarget, HasUnit, IsWhole, names_block}
 use Rattle.c62_adopt_line.proofs.Labels.{field_has_label}
@@ -42,11 +45,13 @@ alone_is_label [] label is = absurd cc
 alone_is_label (word ∷ []) label is = grind (arith, nat_tests)
 alone_is_label (word ∷ other ∷ words) label is = absurd cc
 
-target_is_label : (mnemonic : _) (words : List Word) (label : Word) → target_of mnemonic words ≡ Some label → is_label label ≡ true
+target_is_label : (mnemonic : _) (words : List Word) (label : Word) → target_of mnemonic words ≡ Some label
+    → is_label label ≡ true
 target_is_label mnemonic words label is = grind (arith, nat_tests, alone_is_label)
 
 aimed_target : (aim : Option Word) (mnemonic : _) (condition : Option Condition) (written : _) (words : List Word)
-    → ((label : Word) → aim ≡ Some label → is_label label ≡ true) → OkLabel (jumps_or_does aim mnemonic condition written words)
+    → ((label : Word) → aim ≡ Some label → is_label label ≡ true)
+    → OkLabel (jumps_or_does aim mnemonic condition written words)
 aimed_target (Some label) mnemonic condition written words aims = let named = aims label refl in grind arith
 aimed_target None mnemonic condition written words aims = grind arith
 
@@ -54,10 +59,12 @@ pause_target : (condition : Option Condition) (kinds : List Kind) → OkLabel (p
 unfolding pause_of
 pause_target condition kinds = grind arith
 
-unit_target : (mnemonic : _) (condition : Option Condition) (written : _) (words : List Word) → OkLabel (behind_unit mnemonic condition written words)
+unit_target : (mnemonic : _) (condition : Option Condition) (written : _) (words : List Word)
+    → OkLabel (behind_unit mnemonic condition written words)
 unfolding behind_unit
 unit_target mnemonic condition written words =
-    let aimed = aimed_target (target_of mnemonic words) mnemonic condition written words (target_is_label mnemonic words) in
+    let aimed = aimed_target (target_of mnemonic words) mnemonic condition written words
+    (target_is_label mnemonic words) in
     let paused = pause_target condition (kinds_of words) in
     grind arith
 
@@ -107,22 +114,26 @@ instruction_whole bytes says is =
       | inr none ↦ unit_whole (rest_says words) says (rest_target words) (rw none at is)
     ]
 
-directive_whole : (beside lays : Bool) (says : Says) → cond (not beside && lays) (Ok Nothing) (Err (Read Directive)) ≡ Ok says
+directive_whole : (beside lays : Bool) (says : Says)
+    → cond (not beside && lays) (Ok Nothing) (Err (Read Directive)) ≡ Ok says
     → is_whole says ≡ true
 directive_whole beside lays says is = grind (arith, nat_tests)
 
-words_whole : (beside : Bool) (bytes : List ℕ) (words : List Word) (says : Says) → words_say beside bytes words ≡ Ok says → is_whole says ≡ true
+words_whole : (beside : Bool) (bytes : List ℕ) (words : List Word) (says : Says)
+    → words_say beside bytes words ≡ Ok says → is_whole says ≡ true
 words_whole beside bytes [] says is = grind (arith, nat_tests)
 words_whole beside bytes (word ∷ words) says is = elim (cases_Bool (begins is_dot word)) [
   | inl dot ↦ directive_whole beside (lays_nothing (word ∷ words)) says (rw dot at is)
   | inr plain ↦ instruction_whole bytes says (rw plain at is)
 ]
 
-statement_whole : (beside : Bool) (bytes : List ℕ) (says : Says) → statement_says beside bytes ≡ Ok says → is_whole says ≡ true
+statement_whole : (beside : Bool) (bytes : List ℕ) (says : Says) → statement_says beside bytes ≡ Ok says
+    → is_whole says ≡ true
 unfolding statement_says
 statement_whole beside bytes says is = words_whole beside bytes (tokens bytes) says is
 
-front_whole : (beside : Bool) (label : Option Word) (read : Result Says LineFault) (line : Line) → (beside ≡ true → label ≡ None)
+front_whole : (beside : Bool) (label : Option Word) (read : Result Says LineFault) (line : Line)
+    → (beside ≡ true → label ≡ None)
     → IfSome label (λ word. IsTrue (is_label word))
     → ((says : Says) → read ≡ Ok says → is_whole says ≡ true) → with_front beside label read ≡ Ok line → IsWhole line
 front_whole beside label (Err fault) line alone labelled whole is = absurd cc
@@ -131,18 +142,24 @@ front_whole beside label (Ok says) line alone labelled whole is =
     let both = whole_said says (whole says refl) in
     subst IsWhole same (record { unit = both.0; target = both.1; label = labelled; beside = alone })
 
-label_whole : (bytes : List ℕ) (label : Option Word) (line : Line) → IfSome label (λ word. IsTrue (is_label word)) → with_label bytes label ≡ Ok line → IsWhole line
+label_whole : (bytes : List ℕ) (label : Option Word) (line : Line) → IfSome label (λ word. IsTrue (is_label word))
+    → with_label bytes label ≡ Ok line → IsWhole line
 label_whole bytes (Some label) line labelled is =
     front_whole false (Some label) (statement_says false (behind_colon bytes)) line (λ beside. absurd cc) labelled
     (statement_whole false (behind_colon bytes)) is
-label_whole bytes None line labelled is = front_whole false None (statement_says false bytes) line (λ beside. refl) tt (statement_whole false bytes) is
+label_whole bytes None line labelled is = front_whole false None (statement_says false bytes) line (λ beside. refl) tt
+    (statement_whole false bytes) is
 
 bars_whole : (bytes : List ℕ) (behind : Option (List ℕ)) (line : Line) → with_bars bytes behind ≡ Ok line → IsWhole line
-bars_whole bytes (Some rest) line is = front_whole true None (statement_says true rest) line (λ beside. refl) tt (statement_whole true rest) is
-bars_whole bytes None line is = label_whole bytes (label_field (undotted true bytes)) line (field_has_label (undotted true bytes)) is
+bars_whole bytes (Some rest) line is = front_whole true None (statement_says true rest) line (λ beside. refl) tt
+    (statement_whole true rest) is
+bars_whole bytes None line is = label_whole bytes (label_field (undotted true bytes)) line
+    (field_has_label (undotted true bytes)) is
 
-steps_whole : (allowed long star : Bool) (rest : Result Line LineFault) (line : Line) → ((other : Line) → rest ≡ Ok other → IsWhole other)
-    → cond (not allowed) (Err (Read NotAscii)) (cond long (Err (Read LineTooLong)) (cond star (Ok (line_said false None Nothing)) rest)) ≡ Ok line
+steps_whole : (allowed long star : Bool) (rest : Result Line LineFault) (line : Line)
+    → ((other : Line) → rest ≡ Ok other → IsWhole other)
+    → cond (not allowed) (Err (Read NotAscii))
+    (cond long (Err (Read LineTooLong)) (cond star (Ok (line_said false None Nothing)) rest)) ≡ Ok line
     → IsWhole line
 steps_whole false long star rest line whole is = absurd cc
 steps_whole true true star rest line whole is = absurd cc
@@ -154,5 +171,6 @@ steps_whole true false false rest line whole is = whole line is
 pub line_whole : (bytes : List ℕ) (line : Line) → line_says bytes ≡ Ok line → IsWhole line
 unfolding line_says
 line_whole bytes line is =
-    steps_whole (list_all is_allowed bytes) (ltb MOST_LINE (length bytes)) (begins is_star bytes) (with_bars bytes (behind_bars bytes)) line
+    steps_whole (list_all is_allowed bytes) (ltb MOST_LINE (length bytes)) (begins is_star bytes)
+    (with_bars bytes (behind_bars bytes)) line
     (bars_whole bytes (behind_bars bytes)) is

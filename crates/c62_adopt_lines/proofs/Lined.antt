@@ -1,5 +1,6 @@
 -- Packets that are adopted have the lines of their text's code.
-use Rattle.std.proofs.Common.{◌≡◌, ◌∙◌, ap, refl, sym, ℕ, ◌+◌, Bool, List, [], ◌∷◌, ◌++◌, length, map, Option, Some, None, Ok, subst}
+use Rattle.std.proofs.Common.{◌≡◌, ◌∙◌, ap, refl, sym, ℕ, ◌+◌, Bool, List, [], ◌∷◌, ◌++◌, length, map, Option, Some}
+use Rattle.std.proofs.Common.{None, Ok, subst}
 use Rattle.std.specs.Prelude.{option_map, slice_get}
 use Rattle.std.specs.List.{All, AllByRecursion, AllZip, flat_map}
 use Rattle.std.proofs.lemmas.List.Elements.{All-from_recursion}
@@ -41,22 +42,34 @@ module _ (texts : List (List ℕ)) where
   home_has above line is = go line.says refl
     where
       go : (says : Says) → line.says ≡ says
-          → AllByRecursion (λ h. HasLine texts h.issue) (home_said (length above + 1) (stand_of above line) (label_in (stand_of above line).start (line ∷ above)) says)
+          → AllByRecursion (λ h. HasLine texts h.issue)
+          (home_said (length above + 1) (stand_of above line)
+          (label_in (stand_of above line).start (line ∷ above)) says)
       go Nothing e = tt
       go (Pause n) e = tt
-      go (Does parts) e = (record { above = length above; number = refl; line = line; is_line = is; issued = rw e (refl, refl) }, tt)
-      go (Jumps parts label) e = (record { above = length above; number = refl; line = line; is_line = is; issued = rw e (refl, refl) }, tt)
+      go (Does parts) e = (
+        record
+            { above = length above; number = refl; line = line; is_line = is; issued = rw e (refl, refl) },
+        tt,
+      )
+      go (Jumps parts label) e = (
+        record { above = length above; number = refl; line = line; is_line = is; issued = rw e (refl, refl) },
+        tt,
+      )
 
   homes_have : (lines : List Line) → AreSaid texts lines → AllByRecursion (λ h. HasLine texts h.issue) (homes_in lines)
   homes_have [] said = tt
   homes_have (line ∷ above) said =
-      all_more (λ (h : Home). HasLine texts h.issue) (homes_in above) (home_in above line) (homes_have above said.1) (home_has above line said.0)
+      all_more (λ (h : Home). HasLine texts h.issue) (homes_in above) (home_in above line) (homes_have above said.1)
+      (home_has above line said.0)
 
-  parted : {X : Type 0} (P : X → Type 0) (xs ys : List X) → AllByRecursion P (xs ++ ys) → AllByRecursion P xs × AllByRecursion P ys
+  parted : {X : Type 0} (P : X → Type 0) (xs ys : List X) → AllByRecursion P (xs ++ ys) → AllByRecursion P xs
+      × AllByRecursion P ys
   parted P [] ys all = (tt, all)
   parted P (x ∷ xs) ys all = let rest = parted P xs ys all.1 in ((all.0, rest.0), rest.1)
 
-  issues_have : (label : Option Name) (start : ℕ) (issues : List Issue) → AllByRecursion (λ h. HasLine texts h.issue) (map (home label start) issues)
+  issues_have : (label : Option Name) (start : ℕ) (issues : List Issue)
+      → AllByRecursion (λ h. HasLine texts h.issue) (map (home label start) issues)
       → AllByRecursion (HasLine texts) issues
   issues_have label start [] all = tt
   issues_have label start (issue ∷ issues) all = (all.0, issues_have label start issues all.1)
@@ -71,7 +84,9 @@ module _ (texts : List (List ℕ)) where
 -- ---- what they are placed as
 
 module _ (code : List ℕ) where
-  said_so : (says : Says) (issue : Issue) → IsIssued says issue → IsSaid (text_cut code).drafts says (aimed_parts (target_number (text_cut code).drafts issue.target) issue.parts)
+  said_so : (says : Says) (issue : Issue) → IsIssued says issue
+      → IsSaid (text_cut code).drafts says
+      (aimed_parts (target_number (text_cut code).drafts issue.target) issue.parts)
   said_so Nothing issue is = absurd is
   said_so (Pause n) issue is = absurd is
   said_so (Does parts) issue is =
@@ -81,9 +96,11 @@ module _ (code : List ℕ) where
       ap (λ (target : Option Name). aimed_parts (target_number (text_cut code).drafts target) issue.parts) is.1
       ∙ ap (aimed_parts (target_number (text_cut code).drafts (Some label))) is.0
 
-  placed_has : (issue : Issue) (p : Placed) → part_of p ≡ part_in (text_cut code).drafts issue → HasLine (lines_of code) issue → IsOfLine code p
+  placed_has : (issue : Issue) (p : Placed) → part_of p ≡ part_in (text_cut code).drafts issue
+      → HasLine (lines_of code) issue → IsOfLine code p
   placed_has issue p same has =
-      let parts : parts_of p.insn ≡ aimed_parts (target_number (text_cut code).drafts issue.target) issue.parts = ap (λ (part : Part). part.parts) same in
+      let parts : parts_of p.insn ≡ aimed_parts (target_number (text_cut code).drafts issue.target) issue.parts = ap
+      (λ (part : Part). part.parts) same in
       record {
         above = has.above;
         number = ap (λ (part : Part). part.line) same ∙ has.number;
@@ -92,7 +109,8 @@ module _ (code : List ℕ) where
         said = rw parts (said_so has.line.says issue has.issued);
       }
 
-  all_placed : (issues : List Issue) (placed : List Placed) → map part_of placed ≡ map (part_in (text_cut code).drafts) issues
+  all_placed : (issues : List Issue) (placed : List Placed)
+      → map part_of placed ≡ map (part_in (text_cut code).drafts) issues
       → AllByRecursion (HasLine (lines_of code)) issues → AllByRecursion (IsOfLine code) placed
   all_placed issues [] same all = tt
   all_placed [] (p ∷ placed) same all = absurd cc
@@ -102,13 +120,15 @@ module _ (code : List ℕ) where
       (placed_has issue p first all.0, all_placed issues placed rest all.1)
 
   all_blocks : (drafts : List Draft) (packets : List Packed) → AllZip (IsBlockOf (text_cut code).drafts) drafts packets
-      → AllByRecursion (λ draft. AllByRecursion (HasLine (lines_of code)) draft.issues) drafts → AllByRecursion (λ block. All (IsOfLine code) block.placed) packets
+      → AllByRecursion (λ draft. AllByRecursion (HasLine (lines_of code)) draft.issues) drafts
+      → AllByRecursion (λ block. All (IsOfLine code) block.placed) packets
   all_blocks [] [] zip all = tt
   all_blocks [] (block ∷ packets) zip all = absurd zip
   all_blocks (draft ∷ drafts) [] zip all = absurd zip
   all_blocks (draft ∷ drafts) (block ∷ packets) zip all =
       let is = zip.0 in
-      let placed = All-from_recursion (IsOfLine code) is.placed (all_placed draft.issues is.placed is.stand.parts all.0) in
+      let placed = All-from_recursion (IsOfLine code) is.placed (all_placed draft.issues is.placed is.stand.parts all.0)
+      in
       (All-permutation (IsOfLine code) is.placed block.placed is.listed placed, all_blocks drafts packets zip.1 all.1)
 
 pub have_their_lines : (drain : Bool) (text : List ℕ) → HaveTheirLines drain text
@@ -116,6 +136,8 @@ have_their_lines drain text packets added is =
     let code = code_in (code_read text) in
     let lines = blocks_are_of_lines code in
     let homes = homes_have (lines_of code) lines.lines lines.read.said in
-    let issues = subst (AllByRecursion (λ (h : Home). HasLine (lines_of code) h.issue)) (sym lines.blocks.instructions) homes in
+    let issues = subst (AllByRecursion (λ (h : Home). HasLine (lines_of code) h.issue)) (sym lines.blocks.instructions)
+    homes in
     All-from_recursion (λ (block : Packed). All (IsOfLine code) block.placed) packets
-    (all_blocks code (text_cut code).drafts packets is.read.cut.blocks (drafts_have (lines_of code) (text_cut code).drafts issues))
+    (all_blocks code (text_cut code).drafts packets is.read.cut.blocks
+    (drafts_have (lines_of code) (text_cut code).drafts issues))

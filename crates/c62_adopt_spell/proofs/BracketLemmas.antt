@@ -1,5 +1,6 @@
 -- One word more, or a number in brackets, is written.
-use Rattle.std.proofs.Common.{◌≡◌, ◌<◌, ◌∙◌, ap, sym, refl, ℕ, ℤ, List, [], ◌∷◌, ◌++◌, Bool, true, false, Option, Some, None, length, append_assoc, append-nil, arith}
+use Rattle.std.proofs.Common.{◌≡◌, ◌<◌, ◌∙◌, ap, sym, refl, ℕ, ℤ, List, [], ◌∷◌, ◌++◌, Bool, true, false, Option, Some}
+use Rattle.std.proofs.Common.{None, length, append_assoc, append-nil, arith}
 use Rattle.std.specs.Prelude.{codes}
 use Rattle.std.specs.Fmt.{signed_decimal}
 use Rattle.std.proofs.lemmas.Bool.Decides.{nat_tests}
@@ -28,16 +29,27 @@ on : (old new : List ℕ) (word : Word) (all others : List Word) → new ≡ old
     → new ++ spaced others ≡ old ++ spaced all
 on old new word all others written is = rw (written, is) (simp (append_assoc, append-nil) refl)
 
-pub number_next : (base : Bool) (old new : List ℕ) (words behind : List Word) (k : ℤ) → (base ≡ false) × IsRound words (Some k) behind
+pub number_next : (base : Bool) (old new : List ℕ) (words behind : List Word) (k : ℤ) → (base ≡ false)
+    × IsRound words (Some k) behind
     → new ≡ old ++ spaced (signed_decimal k ∷ [])
-    → (new ++ spaced (unbracketed false behind) ≡ old ++ spaced (unbracketed base words)) × (length behind < length words)
+    → (new ++ spaced (unbracketed false behind) ≡ old ++ spaced (unbracketed base words))
+    × (length behind < length words)
 number_next base old new words behind k (loose, is) written =
     let first = number_first words behind k is in
-    rw loose (on old new (signed_decimal k) (unbracketed false words) (unbracketed false behind) written first.0, first.1)
+    rw loose (
+      on old new (signed_decimal k) (unbracketed false words) (unbracketed false behind) written first.0,
+      first.1,
+    )
 
-pub word_next : (base : Bool) (old new : List ℕ) (all words : List Word) (word : Word) → (base ≡ false → IsRound all None []) → all ≡ word ∷ words
+pub word_next : (base : Bool) (old new : List ℕ) (all words : List Word) (word : Word)
+    → (base ≡ false → IsRound all None []) → all ≡ word ∷ words
     → new ≡ old ++ spaced (word ∷ [])
-    → (new ++ spaced (unbracketed (is_base word) words) ≡ old ++ spaced (unbracketed base all)) × (length words < length all)
+    → (new ++ spaced (unbracketed (is_base word) words) ≡ old ++ spaced (unbracketed base all))
+    × (length words < length all)
 word_next base old new all words word loose is written =
     let given : base ≡ false → IsRound (word ∷ words) None [] = rw is at loose in
-    rw is (on old new word (unbracketed base (word ∷ words)) (unbracketed (is_base word) words) written (word_first base word words given), omega arith)
+    rw is (
+      on old new word (unbracketed base (word ∷ words)) (unbracketed (is_base word) words) written
+          (word_first base word words given),
+      omega arith,
+    )

@@ -1,5 +1,6 @@
 -- How many numbers are placed, and how early they stand.
-use Rattle.std.proofs.Common.{◌≡◌, ℕ, suc, ◌+◌, ◌*◌, ◌<◌, ◌≤◌, cond, List, [], ◌∷◌, length, Option, Some, None, inl, inr, refl, sym, ap, ◌∙◌, arith, subst, length-set, mul-one}
+use Rattle.std.proofs.Common.{◌≡◌, ℕ, suc, ◌+◌, ◌*◌, ◌<◌, ◌≤◌, cond, List, [], ◌∷◌, length, Option, Some, None, inl}
+use Rattle.std.proofs.Common.{inr, refl, sym, ap, ◌∙◌, arith, subst, length-set, mul-one}
 use Rattle.std.specs.Prelude.{count_by, is_none}
 use Rattle.std.proofs.lemmas.List.Sums.{sum_by-set, count_by-le-length}
 use Rattle.std.proofs.lemmas.List.Folds.{sum_by-replicate}
@@ -25,10 +26,12 @@ use Rattle.c62_board.specs.Laws.{HasOnlyPlaces}
 abbrev pub unplaced : Spots → ℕ
 unplaced set = count_by is_none set
 
-pub unplaced-placed : (set : Spots) (i : ℕ) (s : Spot) → i < length set → spot_at set i ≡ None → unplaced (placed set i s) + 1 ≡ unplaced set
+pub unplaced-placed : (set : Spots) (i : ℕ) (s : Spot) → i < length set → spot_at set i ≡ None
+    → unplaced (placed set i s) + 1 ≡ unplaced set
 unplaced-placed set i s lt free =
     let changed = sum_by-set (λ (o : Option Spot). cond {A = ℕ} (is_none o) 1 0) set i (Some s) None lt in
-    let was : cond {A = ℕ} (is_none (spot_at set i)) 1 0 ≡ 1 = ap (λ (o : Option Spot). cond {A = ℕ} (is_none o) 1 0) free in
+    let was : cond {A = ℕ} (is_none (spot_at set i)) 1 0 ≡ 1 = ap (λ (o : Option Spot). cond {A = ℕ} (is_none o) 1 0)
+    free in
     omega (arith, changed, was)
 
 pub unplaced-le : (set : Spots) → unplaced set ≤ length set
@@ -49,9 +52,11 @@ pub record HasPlaced (block : List Insn) (set : Spots) (k : ℕ) : Type 0 where
   pub behind : IsBehind set k
   pub many : unplaced set + k ≡ length block
 
-pub placings : (block : List Insn) (set : Spots) (k : ℕ) (es : List Entry) → IsPlan block → IsLegal block set es → HasOnlyPlaces es → HasPlaced block set k
+pub placings : (block : List Insn) (set : Spots) (k : ℕ) (es : List Entry) → IsPlan block → IsLegal block set es
+    → HasOnlyPlaces es → HasPlaced block set k
     → HasPlaced block (replayed set es) (k + length es)
-placings block set k [] known legal only at = (let same : k ≡ k + 0 = omega arith in subst (λ (n : ℕ). HasPlaced block set n) same at)
+placings block set k [] known legal only at =
+    (let same : k ≡ k + 0 = omega arith in subst (λ (n : ℕ). HasPlaced block set n) same at)
 placings block set k (Withdraw i who ∷ es) known legal only at = absurd only
 placings block set k (Place i s who ∷ es) known legal only at =
     let may = legal.0 in
@@ -68,7 +73,8 @@ placings block set k (Place i s who ∷ es) known legal only at =
       many = omega (arith, less, at.many);
     } in
     let later : (k + 1) + length es ≡ k + suc (length es) = omega arith in
-    subst (λ (n : ℕ). HasPlaced block (replayed (placed set i s) es) n) later (placings block (placed set i s) (k + 1) es known legal.1 only next)
+    subst (λ (n : ℕ). HasPlaced block (replayed (placed set i s) es) n) later
+    (placings block (placed set i s) (k + 1) es known legal.1 only next)
 
 pub none_placed : (n : ℕ) → unplaced (nothing_placed n) ≡ n
 none_placed n = sum_by-replicate (λ (o : Option Spot). cond {A = ℕ} (is_none o) 1 0) n None ∙ mul-one n
@@ -91,6 +97,9 @@ room_left board i sound only ready =
     subst (λ (n : ℕ). HasPlaced block board.spots n) same
     (subst (λ (set : Spots). HasPlaced block set (0 + length board.journal)) sound.replays placed_so)) in
     let in_set : i < length board.spots = (let w = ready.within in omega (arith, sound.lawful.sized, w)) in
-    let some : unplaced (placed board.spots i (record { cycle = 0; unit = (sound.plan.stands i ready.within).0 })) + 1 ≡ unplaced board.spots =
-    unplaced-placed board.spots i (record { cycle = 0; unit = (sound.plan.stands i ready.within).0 }) in_set ready.ready.free in
-    finds_room block board.spots i (length board.journal) sound.plan sound.lawful ready.ready ready.within (omega (arith, some, now.many)) now.behind
+    let some : unplaced (placed board.spots i (record { cycle = 0; unit = (sound.plan.stands i ready.within).0 })) + 1 ≡
+    unplaced board.spots =
+    unplaced-placed board.spots i (record { cycle = 0; unit = (sound.plan.stands i ready.within).0 }) in_set
+    ready.ready.free in
+    finds_room block board.spots i (length board.journal) sound.plan sound.lawful ready.ready ready.within
+    (omega (arith, some, now.many)) now.behind

@@ -1,5 +1,6 @@
 -- Journals that go on.
-use Rattle.std.proofs.Common.{◌≡◌, ℕ, List, [], ◌∷◌, ◌++◌, sym, ap, refl, ◌∙◌, subst, arith, append_assoc, length-append}
+use Rattle.std.proofs.Common.{◌≡◌, ℕ, List, [], ◌∷◌, ◌++◌, sym, ap, refl, ◌∙◌, subst, arith, append_assoc}
+use Rattle.std.proofs.Common.{length-append}
 use Rattle.c62_insn.specs.declared.insn.Insn.{Insn}
 use Rattle.c62_read.specs.Block.{Serial}
 use Rattle.c62_depend.specs.Plan.{IsPlan, insns_of}
@@ -16,32 +17,40 @@ pub replayed-append : (set : Spots) (xs ys : List Entry) → replayed set (xs ++
 replayed-append set [] ys = refl
 replayed-append set (e ∷ es) ys = replayed-append (after set e) es ys
 
-pub IsLegal-append : (block : List Insn) (set : Spots) (xs ys : List Entry) → IsLegal block set xs → IsLegal block (replayed set xs) ys → IsLegal block set (xs ++ ys)
+pub IsLegal-append : (block : List Insn) (set : Spots) (xs ys : List Entry) → IsLegal block set xs
+    → IsLegal block (replayed set xs) ys → IsLegal block set (xs ++ ys)
 IsLegal-append block set [] ys h g = g
 IsLegal-append block set (e ∷ es) ys h g = (h.0, IsLegal-append block (after set e) es ys h.1 g)
 
 -- a legal entry keeps a set lawful
-pub lawful_after : (block : List Insn) (set : Spots) (e : Entry) → IsLawful block set → Permits block set e → IsLawful block (after set e)
+pub lawful_after : (block : List Insn) (set : Spots) (e : Entry) → IsLawful block set → Permits block set e
+    → IsLawful block (after set e)
 lawful_after block set (Place i s who) lawful may = may.least.lawful
 lawful_after block set (Withdraw i who) lawful may = lawful_withdrawn block set i lawful may.within may.last
 
 -- legal entries keep a set lawful
-pub lawful_replayed : (block : List Insn) (set : Spots) (es : List Entry) → IsLawful block set → IsLegal block set es → IsLawful block (replayed set es)
+pub lawful_replayed : (block : List Insn) (set : Spots) (es : List Entry) → IsLawful block set → IsLegal block set es
+    → IsLawful block (replayed set es)
 lawful_replayed block set [] lawful legal = lawful
-lawful_replayed block set (e ∷ es) lawful legal = lawful_replayed block (after set e) es (lawful_after block set e lawful legal.0) legal.1
+lawful_replayed block set (e ∷ es) lawful legal = lawful_replayed block (after set e) es
+    (lawful_after block set e lawful legal.0) legal.1
 
 -- a board to which legal entries are added is sound
-pub sound_after : (old new : BoardState) (es : List Entry) → IsSound old → IsLegal (insns_of old.plan) old.spots es → Adds old es new → IsSound new
+pub sound_after : (old new : BoardState) (es : List Entry) → IsSound old → IsLegal (insns_of old.plan) old.spots es
+    → Adds old es new → IsSound new
 sound_after old new es sound legal adds = record {
   plan = rw adds.plan sound.plan;
   lawful = rw (adds.plan, adds.spots) (lawful_replayed (insns_of old.plan) old.spots es sound.lawful legal);
-  legal = rw (adds.plan, adds.journal) (IsLegal-append (insns_of old.plan) (nothing_of old.plan) old.journal es sound.legal
+  legal = rw (adds.plan, adds.journal)
+      (IsLegal-append (insns_of old.plan) (nothing_of old.plan) old.journal es sound.legal
       (rw sound.replays legal));
-  replays = rw (adds.plan, adds.journal, adds.spots) (replayed-append (nothing_of old.plan) old.journal es ∙ ap (λ (set : Spots). replayed set es) sound.replays);
+  replays = rw (adds.plan, adds.journal, adds.spots) (replayed-append (nothing_of old.plan) old.journal es
+      ∙ ap (λ (set : Spots). replayed set es) sound.replays);
 }
 
 -- entries that are added in two parts
-pub adds_both : (old mid new : BoardState) (xs ys : List Entry) → Adds old xs mid → Adds mid ys new → Adds old (xs ++ ys) new
+pub adds_both : (old mid new : BoardState) (xs ys : List Entry) → Adds old xs mid → Adds mid ys new
+    → Adds old (xs ++ ys) new
 adds_both old mid new xs ys first second = record {
   plan = second.plan ∙ first.plan;
   spots = second.spots ∙ ap (λ (set : Spots). replayed set ys) first.spots ∙ sym (replayed-append old.spots xs ys);
@@ -51,7 +60,8 @@ adds_both old mid new xs ys first second = record {
 }
 
 -- one more entry
-pub replayed_more : (set now : Spots) (es : List Entry) (e : Entry) → now ≡ replayed set es → replayed set (es ++ e ∷ []) ≡ after now e
+pub replayed_more : (set now : Spots) (es : List Entry) (e : Entry) → now ≡ replayed set es
+    → replayed set (es ++ e ∷ []) ≡ after now e
 replayed_more set now es e is = replayed-append set es (e ∷ []) ∙ ap (λ (s : Spots). after s e) (sym is)
 
 pub legal_more : (block : List Insn) (set now : Spots) (es : List Entry) (e : Entry) → now ≡ replayed set es
@@ -60,7 +70,8 @@ legal_more block set now es e is legal may =
     IsLegal-append block set es (e ∷ []) legal (subst (λ (s : Spots). Permits block s e) is may, tt)
 
 -- entries that are added once there is room
-pub gains_adds : (old mid new : BoardState) (n : ℕ) (es : List Entry) → GainsRoom old n mid → Adds mid es new → Adds old es new
+pub gains_adds : (old mid new : BoardState) (n : ℕ) (es : List Entry) → GainsRoom old n mid → Adds mid es new
+    → Adds old es new
 gains_adds old mid new n es gains adds = record {
   plan = adds.plan ∙ ap (λ (b : BoardState). b.plan) gains.same;
   spots = adds.spots ∙ ap (λ (b : BoardState). replayed b.spots es) gains.same;
@@ -70,7 +81,8 @@ gains_adds old mid new n es gains adds = record {
 }
 
 -- an empty board
-pub sound_empty : (board : BoardState) → IsPlan (insns_of board.plan) → board.spots ≡ nothing_of board.plan → board.journal ≡ [] → IsSound board
+pub sound_empty : (board : BoardState) → IsPlan (insns_of board.plan) → board.spots ≡ nothing_of board.plan
+    → board.journal ≡ [] → IsSound board
 sound_empty board known spots journal = record {
   plan = known;
   lawful = rw (spots, ← many_insns board.plan.insns) (lawful_empty (insns_of board.plan));
@@ -79,7 +91,8 @@ sound_empty board known spots journal = record {
 }
 
 -- a board of replayed entries
-pub sound_replayed : (board : BoardState) → IsPlan (insns_of board.plan) → board.spots ≡ replayed (nothing_of board.plan) board.journal
+pub sound_replayed : (board : BoardState) → IsPlan (insns_of board.plan)
+    → board.spots ≡ replayed (nothing_of board.plan) board.journal
     → IsLegal (insns_of board.plan) (nothing_of board.plan) board.journal → IsSound board
 sound_replayed board known spots legal = record {
   plan = known;
@@ -90,8 +103,10 @@ sound_replayed board known spots legal = record {
 }
 
 -- a board on which entries were played from nothing
-pub sound_played : (board : BoardState) (plan : Serial) (from : Spots) (entries : List Entry) → IsPlan (insns_of board.plan) → board.plan ≡ plan → from ≡ nothing_of plan
-    → board.spots ≡ replayed from entries → board.journal ≡ entries → IsLegal (insns_of plan) from entries → IsSound board
+pub sound_played : (board : BoardState) (plan : Serial) (from : Spots) (entries : List Entry)
+    → IsPlan (insns_of board.plan) → board.plan ≡ plan → from ≡ nothing_of plan
+    → board.spots ≡ replayed from entries → board.journal ≡ entries → IsLegal (insns_of plan) from entries
+    → IsSound board
 sound_played board plan from entries known same nothing spots journal legal =
     sound_replayed board known
     (rw (same, journal, ← nothing) spots)

@@ -1,6 +1,8 @@
 pub mod Placements
 pub mod Journals
+pub mod TakingOut
 pub mod Withdrawals
+pub mod LeftSpots
 pub mod Parts
 pub mod Victims
 pub mod Turns

@@ -16,17 +16,21 @@ none_issued : (block : List Insn) (k : ℕ) (p : Issue) → IsIssued (issues blo
 none_issued [] k p e = none-some p e
 none_issued (insn ∷ block) k p e = none-some p e
 
-issued_part : (block : List Insn) (part whole : Spots) (k : ℕ) (p : Issue) → IsPart part whole → IsIssued (issues block part) k p → IsIssued (issues block whole) k p
+issued_part : (block : List Insn) (part whole : Spots) (k : ℕ) (p : Issue) → IsPart part whole
+    → IsIssued (issues block part) k p → IsIssued (issues block whole) k p
 issued_part [] part whole k p sub is = absurd (none-some p is)
 issued_part (insn ∷ block) [] whole k p sub is = absurd (none-some p is)
 issued_part (insn ∷ block) (None ∷ part) whole zero p sub is = absurd (none-some p is)
 issued_part (insn ∷ block) (Some s ∷ part) [] zero p sub is = absurd (none-some s (sub 0 s refl))
-issued_part (insn ∷ block) (Some s ∷ part) (o ∷ whole) zero p sub is = ap (option_map (issue_at insn)) (sub 0 s refl) ∙ is
+issued_part (insn ∷ block) (Some s ∷ part) (o ∷ whole) zero p sub is = ap (option_map (issue_at insn)) (sub 0 s refl)
+    ∙ is
 issued_part (insn ∷ block) (o ∷ part) [] (suc k) p sub is =
     absurd (none_issued block k p (issued_part block part [] k p (λ j t at. sub (suc j) t at) is))
-issued_part (insn ∷ block) (o ∷ part) (q ∷ whole) (suc k) p sub is = issued_part block part whole k p (λ j t at. sub (suc j) t at) is
+issued_part (insn ∷ block) (o ∷ part) (q ∷ whole) (suc k) p sub is = issued_part block part whole k p
+    (λ j t at. sub (suc j) t at) is
 
-pub rules_part : (block : List Insn) (part whole : Spots) → IsPart part whole → KeepsPacketRules (issues block whole) → KeepsPacketRules (issues block part)
+pub rules_part : (block : List Insn) (part whole : Spots) → IsPart part whole → KeepsPacketRules (issues block whole)
+    → KeepsPacketRules (issues block part)
 rules_part block part whole sub = part-keeps (issues block part) (issues block whole) (record {
   number = λ k. k;
   issued = λ k p is. issued_part block part whole k p sub is;

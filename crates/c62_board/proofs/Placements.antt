@@ -10,8 +10,10 @@ use Rattle.c62_sheet.proofs.Used.{insn_at}
 use Rattle.c62_sheet.proofs.Placing.{lawful_from_fits}
 
 -- a ready number may stand where its delays are over and the packet rules are kept
-pub lawful_placed : (block : List Insn) (set : Spots) (i : ℕ) (s : Spot) → IsLawful block set → i < length block → IsReady block set i
-    → IsTrue (stands_on block i s.unit) → s.cycle < 5 * length block → IsAfter block set i s.cycle → KeepsPacketRules (issues block (placed set i s))
+pub lawful_placed : (block : List Insn) (set : Spots) (i : ℕ) (s : Spot) → IsLawful block set → i < length block
+    → IsReady block set i
+    → IsTrue (stands_on block i s.unit) → s.cycle < 5 * length block → IsAfter block set i s.cycle
+    → KeepsPacketRules (issues block (placed set i s))
     → IsLawful block (placed set i s)
 lawful_placed block set i s lawful within ready stands low after rules =
     let insn = insn_at block i within in

@@ -1,6 +1,7 @@
 //! What a side's step does, and what may be proposed to a board.
 
 ghost use Rattle.std.specs.Prelude.{◌≡◌};
+ghost use Rattle.c62_op.specs.declared.register.Side.{Side as SideOf};
 ghost use Rattle.c62_board.specs.Who.{who_of};
 
 use c62_insn::Side;
@@ -49,9 +50,10 @@ pub struct Proposal {
     pub seen: usize,
 }
 
-/// Who makes the entries of a side's step.
+/// Who makes the entries of a side's step. No other side's entries are by them.
 pub fn who_of(side: Side) -> Who
-    ensures { result ≡ who_of side }
+    ensures who { result ≡ who_of side }
+    ensures own { (other : SideOf) → who_of other ≡ result → other ≡ side }
 {
     match side {
         Side::A => Who::A,

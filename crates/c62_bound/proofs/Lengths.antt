@@ -13,7 +13,8 @@ no_fewer a b p = grind (arith, p)
 -- with an instruction
 pub least_with : (block : List Insn) (path : ℕ) (need : Need) → IsPathLength block path → IsGreatestNeed block need
     → IsLeastLength block (max path (cycles_of need))
-least_with block path need is_path is_need = record { covers = λ fewer needed. below fewer needed; attained = λ some. reached some }
+least_with block path need is_path is_need = record
+    { covers = λ fewer needed. below fewer needed; attained = λ some. reached some }
   where
     below : (fewer : ℕ) → IsNeeded block fewer → fewer ≤ max path (cycles_of need)
     below fewer needed = elim needed [
@@ -32,10 +33,12 @@ least_with block path need is_path is_need = record { covers = λ fewer needed. 
 
 -- and without one
 pub least_without : (block : List Insn) (path : ℕ) → block ≡ [] → IsPathLength block path → IsLeastLength block path
-least_without block path none is_path = record { covers = λ fewer needed. below fewer needed; attained = λ some. inl (is_path.attained some) }
+least_without block path none is_path = record
+    { covers = λ fewer needed. below fewer needed; attained = λ some. inl (is_path.attained some) }
   where
     below : (fewer : ℕ) → IsNeeded block fewer → fewer ≤ path
     below fewer needed = elim needed [
       | inl w ↦ (let low = is_path.covers w.0 w.1 in omega (arith, low, w.2))
-      | inr w ↦ (let within = w.1.within in let empty : length block ≡ 0 = rw none refl in absurd (omega (arith, within, empty)))
+      | inr w ↦ (let within = w.1.within in let empty : length block ≡ 0 = rw none refl in absurd
+          (omega (arith, within, empty)))
     ]

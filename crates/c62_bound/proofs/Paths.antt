@@ -1,5 +1,6 @@
 -- No schedule is shorter than a height and the cycle of its instruction.
-use Rattle.std.proofs.Common.{arith, ◌≡◌, ℕ, zero, suc, ◌+◌, ◌<◌, ◌≤◌, List, length, Option, Some, None, refl, ap, subst, inl, inr}
+use Rattle.std.proofs.Common.{arith, ◌≡◌, ℕ, zero, suc, ◌+◌, ◌<◌, ◌≤◌, List, length, Option, Some, None, refl, ap}
+use Rattle.std.proofs.Common.{subst, inl, inr}
 use Rattle.std.specs.Prelude.{IsSome, ℤ}
 use Rattle.std.proofs.lemmas.Int.{ints}
 use Rattle.std.proofs.lemmas.Option.{none-some, same_Some}
@@ -22,13 +23,15 @@ pub spot_of : (o : Option Spot) → IsSome o → (s : Spot) × (o ≡ Some s)
 spot_of None is = cc
 spot_of (Some s) is = (s, refl)
 
-pub bound_of : (block : List Insn) (i j : ℕ) (o : Option ℤ) (cycles : ℤ) → IsLatency block i j o → o ≡ Some cycles → Bounds block i j cycles
+pub bound_of : (block : List Insn) (i j : ℕ) (o : Option ℤ) (cycles : ℤ) → IsLatency block i j o → o ≡ Some cycles
+    → Bounds block i j cycles
 bound_of block i j None cycles is e = absurd (none-some cycles e)
 bound_of block i j (Some l) cycles is e = subst (λ x. Bounds block i j x) (same_Some l cycles e) is.applies
 
 module _ (block : List Insn) (set : Spots) (most : ℕ) (plan : IsPlan block) (seated : IsSeated block set most) where
   -- by the delay of i
-  own_delay : (i : ℕ) (s : Spot) → i < length block → IsAt set i s → height block i ≡ delay_at block i → s.cycle + height block i + 1 ≤ most
+  own_delay : (i : ℕ) (s : Spot) → i < length block → IsAt set i s → height block i ≡ delay_at block i
+      → s.cycle + height block i + 1 ≤ most
   own_delay i s within is e =
       let w = insn_at block i within in
       let ends = seated.ends i w.0 s w.1 is in
@@ -36,7 +39,8 @@ module _ (block : List Insn) (set : Spots) (most : ℕ) (plan : IsPlan block) (s
       omega (arith, ends, own, e)
 
   -- the height of each number ends within the length, from the last numbers up
-  rises : (steps i : ℕ) (s : Spot) → i < length block → length block ≤ i + steps → IsAt set i s → s.cycle + height block i + 1 ≤ most
+  rises : (steps i : ℕ) (s : Spot) → i < length block → length block ≤ i + steps → IsAt set i s
+      → s.cycle + height block i + 1 ≤ most
   rises zero i s within few is = absurd (omega (arith, within, few))
   rises (suc steps) i s within few is =
       let h : IsHeight block i (height block i) = height_is block i within in
@@ -49,7 +53,8 @@ module _ (block : List Insn) (set : Spots) (most : ℕ) (plan : IsPlan block) (s
             let before : i < j = short.before in
             let inside : j < length block = short.within in
             let t = spot_of (spot_at set j) (seated.complete j inside) in
-            let kept = seated.delays i j cycles s t.0 (bound_of block i j (latency block i j) cycles (latency-is block i j) w.2) is t.1 in
+            let kept = seated.delays i j cycles s t.0
+            (bound_of block i j (latency block i j) cycles (latency-is block i j) w.2) is t.1 in
             let behind = rises steps j t.0 inside (omega (arith, before, few)) t.1 in
             omega (arith, ints, kept, behind, w.3))
       ]

@@ -1,5 +1,6 @@
 -- All but a branch to a block waits for a room, so the greatest need is no shorter than a path that begins with it.
-use Rattle.std.proofs.Common.{arith, ◌≡◌, ℕ, zero, suc, ◌+◌, ◌*◌, ◌<◌, ◌≤◌, List, length, Option, Some, refl, ap, subst, ◌⊎◌, inl, inr, Bool, true, false}
+use Rattle.std.proofs.Common.{arith, ◌≡◌, ℕ, zero, suc, ◌+◌, ◌*◌, ◌<◌, ◌≤◌, List, length, Option, Some, refl, ap, subst}
+use Rattle.std.proofs.Common.{◌⊎◌, inl, inr, Bool, true, false}
 use Rattle.std.specs.Prelude.{slice_get, IsTrue}
 use Rattle.std.specs.Int.{div_ceil}
 use Rattle.std.proofs.lemmas.Bool.{cases_Bool, cases_eq, cases_lt}
@@ -13,7 +14,7 @@ use Rattle.c62_op.specs.declared.register.Unit.{Unit as FunctionalUnit}
 use Rattle.c62_op.specs.declared.operands.Op.{Op}
 use Rattle.c62_op.specs.Takes.{takes, has_letter as stands_on_letter}
 use Rattle.c62_op.specs.Shape.{side_of}
-use Rattle.c62_op.proofs.FormLemmas.{taken_letter}
+use Rattle.c62_op.proofs.TakenTests.{taken_letter}
 use Rattle.c62_op.proofs.SideLemmas.{takes_on_side}
 use Rattle.c62_insn.specs.declared.insn.Insn.{Insn}
 use Rattle.c62_insn.specs.Insn.{op_of, operands_of}
@@ -28,13 +29,16 @@ use Rattle.c62_bound.proofs.Seats.{some_width}
 use Rattle.c62_bound.proofs.Lengths.{no_fewer}
 
 -- what has a form on .M has none elsewhere
-multiplies : (op : Op) (letter : Letter) → stands_on_letter op M ≡ true → stands_on_letter op letter ≡ true → has_letter OnM letter ≡ true
+multiplies : (op : Op) (letter : Letter) → stands_on_letter op M ≡ true → stands_on_letter op letter ≡ true
+    → has_letter OnM letter ≡ true
 multiplies op letter on h = grind (arith, on, h)
 
-others : (op : Op) (letter : Letter) → stands_on_letter op M ≡ false → stands_on_letter op letter ≡ true → has_letter Lsd letter ≡ true
+others : (op : Op) (letter : Letter) → stands_on_letter op M ≡ false → stands_on_letter op letter ≡ true
+    → has_letter Lsd letter ≡ true
 others op letter off h = grind (arith, off, h)
 
-taken_there : (block : List Insn) (i : ℕ) (insn : Insn) (unit : FunctionalUnit) → slice_get block i ≡ Some insn → IsTrue (is_taken block i unit)
+taken_there : (block : List Insn) (i : ℕ) (insn : Insn) (unit : FunctionalUnit) → slice_get block i ≡ Some insn
+    → IsTrue (is_taken block i unit)
     → takes (op_of insn) (operands_of insn) unit ≡ true
 taken_there block i insn unit at is = subst (λ (o : Option Insn). taken_in o unit ≡ true) at is
 
@@ -59,10 +63,11 @@ tell_sides P tell = elim (both (P A) (P B) (tell A) (tell B)) [
     each_side a b B = b
 
 tell_letters : (P : Letter → Type 0) → ((l : Letter) → CanTell (P l)) → CanTell ((l : Letter) → P l)
-tell_letters P tell = elim (both (P L × P S) (P M × P D) (both (P L) (P S) (tell L) (tell S)) (both (P M) (P D) (tell M) (tell D))) [
-  | inl w ↦ inl (each_letter w.0.0 w.0.1 w.1.0 w.1.1)
-  | inr none ↦ inr (λ all. none ((all L, all S), (all M, all D)))
-]
+tell_letters P tell = elim (both (P L × P S) (P M
+    × P D) (both (P L) (P S) (tell L) (tell S)) (both (P M) (P D) (tell M) (tell D))) [
+      | inl w ↦ inl (each_letter w.0.0 w.0.1 w.1.0 w.1.1)
+      | inr none ↦ inr (λ all. none ((all L, all S), (all M, all D)))
+    ]
   where
     each_letter : P L → P S → P M → P D → (l : Letter) → P l
     each_letter a b c d L = a
@@ -70,11 +75,14 @@ tell_letters P tell = elim (both (P L × P S) (P M × P D) (both (P L) (P S) (te
     each_letter a b c d M = c
     each_letter a b c d D = d
 
-tell_units : (P : FunctionalUnit → Type 0) → ((u : FunctionalUnit) → CanTell (P u)) → CanTell ((u : FunctionalUnit) → P u)
-tell_units P tell = elim (tell_letters (λ l. (s : Side) → P (record { letter = l; side = s })) (λ l. tell_sides (λ s. P (record { letter = l; side = s })) (λ s. tell (record { letter = l; side = s })))) [
-  | inl all ↦ inl (λ u. all u.letter u.side)
-  | inr none ↦ inr (λ all. none (λ l s. all (record { letter = l; side = s })))
-]
+tell_units : (P : FunctionalUnit → Type 0) → ((u : FunctionalUnit) → CanTell (P u))
+    → CanTell ((u : FunctionalUnit) → P u)
+tell_units P tell = elim (tell_letters (λ l. (s : Side)
+    → P (record { letter = l; side = s }))
+    (λ l. tell_sides (λ s. P (record { letter = l; side = s })) (λ s. tell (record { letter = l; side = s })))) [
+      | inl all ↦ inl (λ u. all u.letter u.side)
+      | inr none ↦ inr (λ all. none (λ l s. all (record { letter = l; side = s })))
+    ]
 
 pub tell_true : (t : Bool) → CanTell (IsTrue t)
 tell_true true = inl refl
@@ -94,7 +102,8 @@ tell_if P Q (inl p) (inr none) = inr (λ f. none (f p))
 pub tell_only : (block : List Insn) (kind : Kind) (s : Side) (j : ℕ) → CanTell (StandsOnlyOn block kind s j)
 tell_only block kind s j =
     tell_units (λ u. IsTrue (is_taken block j u) → (u.side ≡ s) × IsTrue (has_letter kind u.letter))
-    (λ u. tell_if (IsTrue (is_taken block j u)) ((u.side ≡ s) × IsTrue (has_letter kind u.letter)) (tell_true (is_taken block j u))
+    (λ u. tell_if (IsTrue (is_taken block j u)) ((u.side ≡ s)
+    × IsTrue (has_letter kind u.letter)) (tell_true (is_taken block j u))
     (both (u.side ≡ s) (IsTrue (has_letter kind u.letter)) (tell_side u.side s) (tell_true (has_letter kind u.letter))))
 
 -- a room of a side for which number i waits
@@ -103,13 +112,15 @@ record HasRoom (block : List Insn) (s : Side) (i : ℕ) : Type 0 where
   waits : WaitsFor block kind s i
   tell : (j : ℕ) → CanTell (WaitsFor block kind s j)
 
-room_of : (block : List Insn) (i : ℕ) (insn : Insn) (s : Side) → slice_get block i ≡ Some insn → side_of (operands_of insn) ≡ Some s → HasRoom block s i
+room_of : (block : List Insn) (i : ℕ) (insn : Insn) (s : Side) → slice_get block i ≡ Some insn
+    → side_of (operands_of insn) ≡ Some s → HasRoom block s i
 room_of block i insn s at decided = elim (cases_Bool (stands_on_letter (op_of insn) M)) [
   | inl on ↦ record {
     kind = OnM;
     waits = λ unit is. (
       takes_on_side (op_of insn) (operands_of insn) unit s decided (taken_there block i insn unit at is),
-      multiplies (op_of insn) unit.letter on (taken_letter (op_of insn) (operands_of insn) unit (taken_there block i insn unit at is)),
+      multiplies (op_of insn) unit.letter on
+          (taken_letter (op_of insn) (operands_of insn) unit (taken_there block i insn unit at is)),
     );
     tell = tell_only block OnM s;
   }
@@ -117,13 +128,15 @@ room_of block i insn s at decided = elim (cases_Bool (stands_on_letter (op_of in
     kind = Lsd;
     waits = λ unit is. (
       takes_on_side (op_of insn) (operands_of insn) unit s decided (taken_there block i insn unit at is),
-      others (op_of insn) unit.letter off (taken_letter (op_of insn) (operands_of insn) unit (taken_there block i insn unit at is)),
+      others (op_of insn) unit.letter off
+          (taken_letter (op_of insn) (operands_of insn) unit (taken_there block i insn unit at is)),
     );
     tell = tell_only block Lsd s;
   }
 ]
 
-tell_confined : (block : List Insn) (kind : Kind) (s : Side) (tail j : ℕ) → CanTell (WaitsFor block kind s j) → CanTell (IsConfined block kind s tail j)
+tell_confined : (block : List Insn) (kind : Kind) (s : Side) (tail j : ℕ) → CanTell (WaitsFor block kind s j)
+    → CanTell (IsConfined block kind s tail j)
 tell_confined block kind s tail j tell = elim (cases_lt (height block j) tail) [
   | inl low ↦ inr (λ is. (let tall = is.tall in omega (arith, tall, low)))
   | inr tall ↦ elim tell [
@@ -169,8 +182,14 @@ reaches_paths block need greatest i insn s at decided =
     let Is : ℕ → Type 0 = IsConfined block room.kind s (height block i) in
     let count = count_of Is (λ j. tell_confined block room.kind s (height block i) j (room.tell j)) (length block) in
     let own : Need = record { kind = room.kind; side = s; count = count.0; tail = height block i } in
-    let is : IsNeed block own = record { last = i; within = within; of = record { is_kind = refl; is_side = refl; is_tail = refl; counted = count.1 } } in
-    let some = some_counted Is (length block) count.0 i count.1 within (record { tall = omega arith; waits = room.waits }) in
+    let is : IsNeed block own = record {
+      last = i;
+      within = within;
+      of = record
+          { is_kind = refl; is_side = refl; is_tail = refl; counted = count.1 };
+    } in
+    let some = some_counted Is (length block) count.0 i count.1 within
+    (record { tall = omega arith; waits = room.waits }) in
     let round = one_round count.0 (width room.kind) some (some_width room.kind) in
     let above = no_fewer need own (greatest.first own is) in
     omega (arith, round, above)

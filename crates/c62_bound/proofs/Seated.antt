@@ -19,7 +19,8 @@ use Rattle.c62_bound.specs.Laws.{SchedulesAreSeated, NoScheduleIsShorter}
 use Rattle.c62_bound.proofs.Needs.{no_seating_shorter}
 
 -- a unit of a number's side that it may stand on takes it
-taken_there : (block : List Insn) (i : ℕ) (unit : FunctionalUnit) → IsTrue (stands_on block i unit) → IsTrue (is_taken block i unit)
+taken_there : (block : List Insn) (i : ℕ) (unit : FunctionalUnit) → IsTrue (stands_on block i unit)
+    → IsTrue (is_taken block i unit)
 unfolding stands_on
 taken_there block i unit is = by_insn (slice_get block i) is
   where
@@ -37,17 +38,20 @@ schedules_seated block set plan lawful complete = record {
       let first = insn_at block i low in
       let second = insn_at block j small in
       one-each-unit (issues block set) lawful.rules t.unit i j (issue_at first.0 s) (issue_at second.0 t)
-      (placement-issued block set i first.0 s lawful.sized first.1 is_i) (placement-issued block set j second.0 t lawful.sized second.1 is_j)
+      (placement-issued block set i first.0 s lawful.sized first.1 is_i)
+      (placement-issued block set j second.0 t lawful.sized second.1 is_j)
       cycles units refl);
   each_path = λ side i j s t low small is_i is_j cycles over_i over_j. (
       let first = insn_at block i low in
       let second = insn_at block j small in
       one-each-data-path (issues block set) lawful.rules side i j (issue_at first.0 s) (issue_at second.0 t)
-      (placement-issued block set i first.0 s lawful.sized first.1 is_i) (placement-issued block set j second.0 t lawful.sized second.1 is_j)
+      (placement-issued block set i first.0 s lawful.sized first.1 is_i)
+      (placement-issued block set j second.0 t lawful.sized second.1 is_j)
       cycles (over_i first.0 first.1) (over_j second.0 second.1));
   delays = λ i j bound s t bounds is_i is_j. lawful.delays i j bound s t bounds is_i is_j;
   ends = λ i insn s at is. delay_ends block set plan lawful i insn s at is;
 }
 
 pub no_shorter : (block : List Insn) → NoScheduleIsShorter block
-no_shorter block set plan lawful complete = no_seating_shorter block set (set_length block set) plan (schedules_seated block set plan lawful complete)
+no_shorter block set plan lawful complete = no_seating_shorter block set (set_length block set) plan
+    (schedules_seated block set plan lawful complete)

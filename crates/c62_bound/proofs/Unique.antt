@@ -25,7 +25,8 @@ same_room k l B A e = absurd (omega (arith, e, index_small l))
 same_room k l B B e = (same_kind k l (omega (arith, e)), refl)
 
 -- what comes before each other is the same
-same_place : (a b : Need) → ComesFirst a b → ComesFirst b a → (cycles_of a ≡ cycles_of b) × (a.count ≡ b.count) × (place a.kind a.side ≡ place b.kind b.side)
+same_place : (a b : Need) → ComesFirst a b → ComesFirst b a → (cycles_of a ≡ cycles_of b) × (a.count ≡ b.count)
+    × (place a.kind a.side ≡ place b.kind b.side)
 same_place a b p q = grind (arith, p, q)
 
 same_tail : (a b : Need) → cycles_of a ≡ cycles_of b → a.count ≡ b.count → a.kind ≡ b.kind → a.tail ≡ b.tail

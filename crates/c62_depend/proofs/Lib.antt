@@ -13,9 +13,14 @@ pub mod Lists
 pub mod WrittenLemmas
 pub mod ConditionNumbers
 pub mod Relays
+pub mod RegisterRelays
+pub mod MemoryRelays
+pub mod BranchRelays
+pub mod AllRelays
 pub mod NumberSets
 pub mod SetLoops
 pub mod OpenSets
+pub mod OpenMeetings
 pub mod SinceLemmas
 pub mod Walks
 pub mod Orders

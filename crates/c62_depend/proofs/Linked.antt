@@ -1,7 +1,11 @@
 -- The lists of direct dependences, one instruction more at a time.
-use Rattle.c62_depend.proofs.Common.{◌≡◌, ◌≢◌, ℕ, zero, suc, ◌+◌, ◌-◌, ◌<◌, ◌≤◌, Bool, true, false, List, [], ◌∷◌, ◌++◌, Option, Some, None, refl, sym, ap, ◌∙◌, arith, inl, inr, subst}
-use Rattle.c62_depend.proofs.Common.{◌&&◌, nat_lt, nat_tests, if◌then◌else◌, get_or, set, length, length-map, map, cases_eq, cases_lt, flat_map, range_with_len, Insn, Link, Uses, insns_in, latency, linked}
-use Rattle.c62_depend.proofs.Common.{links_of, AreLists, get_or-set_at, get_or-set_other, fill_by_all, both_ways, and_parts, lt-ltb, ltb-true, ℤ, false_from_ne_true}
+use Rattle.c62_depend.proofs.Common.{◌≡◌, ◌≢◌, ℕ, zero, suc, ◌+◌, ◌-◌, ◌<◌, ◌≤◌, Bool, true, false, List, [], ◌∷◌, ◌++◌}
+use Rattle.c62_depend.proofs.Common.{Option, Some, None, refl, sym, ap, ◌∙◌, arith, inl, inr, subst}
+use Rattle.c62_depend.proofs.Common.{◌&&◌, nat_lt, nat_tests, if◌then◌else◌, get_or, set, length, length-map, map}
+use Rattle.c62_depend.proofs.Common.{cases_eq, cases_lt, flat_map, range_with_len, Insn, Link, Uses, insns_in, latency}
+use Rattle.c62_depend.proofs.Common.{linked}
+use Rattle.c62_depend.proofs.Common.{links_of, AreLists, get_or-set_at, get_or-set_other, fill_by_all, both_ways}
+use Rattle.c62_depend.proofs.Common.{and_parts, lt-ltb, ltb-true, ℤ, false_from_ne_true}
 use Rattle.std.proofs.lemmas.List.{append-nil, get_or-map, get_or_default}
 use Rattle.std.proofs.Math.ListN.{length-set}
 use Rattle.smallvec.specs.SmallVec.{SmallVec}
@@ -19,12 +23,13 @@ use Rattle.c62_depend.proofs.Latencies.{latency_late, many_uses, insn_at}
 use Rattle.c62_depend.proofs.Common.{le-ltb, list_any, take, pos, ◌+ℤ◌, delay_at}
 use Rattle.std.specs.Prelude.{int_le}
 use Rattle.std.proofs.lemmas.List.Elements.{All-get_or}
-use Rattle.c62_depend.proofs.Relays.{IsLinkBefore, links_before}
+use Rattle.c62_depend.proofs.BranchRelays.{IsLinkBefore, links_before}
 use Rattle.c62_depend.proofs.Lists.{lists_long, list_is}
 use Rattle.c62_depend.proofs.Ranges.{pieces_more}
 
 -- how far the walk is
-pub record AreWalked (uses : List Uses) (j : ℕ) (known : RegisterUsers) (memory : NumberSet) (sets : List NumberSet) (earlier later : List (SmallVec Link)) : Type 0 where
+pub record AreWalked (uses : List Uses) (j : ℕ) (known : RegisterUsers) (memory : NumberSet) (sets : List NumberSet)
+    (earlier later : List (SmallVec Link)) : Type 0 where
   pub users : IsOpenAt uses j known
   pub accesses : AreAccesses uses j memory
   pub orders : AreOrders uses j sets
@@ -38,23 +43,28 @@ linked_to block j at i = if nat_lt i at then direct_before block i (suc j) else 
 -- number j is linked with those before a place
 pub record AreLinkedTo (uses : List Uses) (j at : ℕ) (earlier : List Link) (later : List (SmallVec Link)) : Type 0 where
   pub within : at ≤ j
-  pub needs : earlier ≡ flat_map (λ i. linked_if (is_direct (insns_in uses) i j) i (latency (insns_in uses) i j)) (range_with_len 0 at)
+  pub needs : earlier ≡ flat_map (λ i. linked_if (is_direct (insns_in uses) i j) i (latency (insns_in uses) i j))
+      (range_with_len 0 at)
   pub followers : AreLists (linked_to (insns_in uses) j at) (length uses) later
 
 -- numbers more that give nothing
-pieces_skip : {A : Type 0} (f : ℕ → List A) (a n m : ℕ) (xs : List A) → n ≤ m → ((k : ℕ) → a + n ≤ k → k < a + m → f k ≡ [])
+pieces_skip : {A : Type 0} (f : ℕ → List A) (a n m : ℕ) (xs : List A) → n ≤ m
+    → ((k : ℕ) → a + n ≤ k → k < a + m → f k ≡ [])
     → xs ≡ flat_map f (range_with_len a n) → xs ≡ flat_map f (range_with_len a m)
-pieces_skip f a n zero xs le none are = let same : n ≡ zero = omega arith in subst (λ k. xs ≡ flat_map f (range_with_len a k)) same are
+pieces_skip f a n zero xs le none are = let same : n ≡ zero = omega arith in subst
+    (λ k. xs ≡ flat_map f (range_with_len a k)) same are
 pieces_skip {A} f a n (suc m) xs le none are = elim (cases_eq n (suc m)) [
   | inl same ↦ subst (λ k. xs ≡ flat_map f (range_with_len a k)) same are
   | inr other ↦
       let before = pieces_skip f a n m xs (omega arith) (λ k low high. none k low (omega arith)) are in
       let nothing : f (a + m) ≡ [] = none (a + m) (omega arith) (omega arith) in
-      pieces_more f a m (suc m) (a + m) xs xs refl (omega arith) before (sym (ap (λ (ys : List A). xs ++ ys) nothing ∙ append-nil xs))
+      pieces_more f a m (suc m) (a + m) xs xs refl (omega arith) before (sym (ap (λ (ys : List A). xs ++ ys) nothing
+      ∙ append-nil xs))
 ]
 
 -- lists that are the same number by number
-pub lists_by : (f g : ℕ → List Link) (count : ℕ) (lists : List (SmallVec Link)) → AreLists f count lists → ((i : ℕ) → i < count → f i ≡ g i)
+pub lists_by : (f g : ℕ → List Link) (count : ℕ) (lists : List (SmallVec Link)) → AreLists f count lists
+    → ((i : ℕ) → i < count → f i ≡ g i)
     → AreLists g count lists
 lists_by f g count lists are same = are ∙ same_map count 0 (λ i low. same i (omega (arith, low)))
   where
@@ -63,7 +73,8 @@ lists_by f g count lists are same = are ∙ same_map count 0 (λ i low. same i (
     same_map (suc n) a each = rw (each a (omega arith), same_map n (a + 1) (λ i low. each i (omega arith))) refl
 
 -- one list is set
-pub lists_set : (f g : ℕ → List Link) (count at : ℕ) (lists : List (SmallVec Link)) (list : SmallVec Link) → AreLists f count lists → at < count
+pub lists_set : (f g : ℕ → List Link) (count at : ℕ) (lists : List (SmallVec Link)) (list : SmallVec Link)
+    → AreLists f count lists → at < count
     → list.items ≡ g at → ((i : ℕ) → i < count → i ≢ at → f i ≡ g i) → AreLists g count (set lists at list)
 lists_set f g count at lists list are within is others =
     fill_by_all g (links_of (set lists at list)) count [] long each
@@ -76,12 +87,15 @@ lists_set f g count at lists list are within is others =
 
     each : (k : ℕ) → k < count → get_or (links_of (set lists at list)) k [] ≡ g k
     each k inside =
-        get_or-map (λ (l : SmallVec Link). l.items) (set lists at list) k list [] (omega (arith, inside, many, length-set lists at list))
+        get_or-map (λ (l : SmallVec Link). l.items) (set lists at list) k list []
+        (omega (arith, inside, many, length-set lists at list))
         ∙ elim (cases_eq k at) [
-          | inl same ↦ ap (λ (l : SmallVec Link). l.items) (get_or-set_at lists at k list list same (omega (arith, many, within))) ∙ is ∙ ap g (sym same)
+          | inl same ↦ ap (λ (l : SmallVec Link). l.items)
+              (get_or-set_at lists at k list list same (omega (arith, many, within))) ∙ is ∙ ap g (sym same)
           | inr other ↦
               ap (λ (l : SmallVec Link). l.items) (get_or-set_other lists at k list list other)
-              ∙ list_is f count k lists (get_or lists k list) are inside (sym (get_or_default lists k (get_or lists k list) list (omega (arith, many, inside))))
+              ∙ list_is f count k lists (get_or lists k list) are inside
+              (sym (get_or_default lists k (get_or lists k list) list (omega (arith, many, inside))))
               ∙ others k inside other
         ]
 
@@ -89,7 +103,9 @@ lists_set f g count at lists list are within is others =
 
 module _ (block : List Insn) (j : ℕ) where
   -- what depends on number i directly, with number j
-  pub linked_one : (i : ℕ) → direct_before block i (suc j) ≡ (direct_before block i j ++ linked_if (is_direct block i j) j (latency block i j))
+  pub linked_one : (i : ℕ)
+      → direct_before block i (suc j) ≡
+      (direct_before block i j ++ linked_if (is_direct block i j) j (latency block i j))
   unfolding is_direct
   linked_one i = refl
 
@@ -99,7 +115,8 @@ module _ (block : List Insn) (j : ℕ) where
 
   pub unlinked_late : (i : ℕ) → j ≤ i → direct_before block i j ≡ direct_before block i (suc j)
   unlinked_late i behind =
-      sym (linked_one i ∙ ap (λ (o : Option ℤ). direct_before block i j ++ linked_if (is_direct block i j) j o) (sym (latency_late block i j behind))
+      sym (linked_one i ∙ ap (λ (o : Option ℤ). direct_before block i j ++ linked_if (is_direct block i j) j o)
+      (sym (latency_late block i j behind))
       ∙ nothing (is_direct block i j))
     where
       nothing : (t : Bool) → (direct_before block i j ++ linked_if t j None) ≡ direct_before block i j
@@ -107,7 +124,8 @@ module _ (block : List Insn) (j : ℕ) where
       nothing false = append-nil (direct_before block i j)
 
   -- a place further, over numbers that j doesn't depend on directly
-  further : (at end i : ℕ) → at ≤ end → ((k : ℕ) → at ≤ k → k < end → is_direct block k j ≡ false) → linked_to block j at i ≡ linked_to block j end i
+  further : (at end i : ℕ) → at ≤ end → ((k : ℕ) → at ≤ k → k < end → is_direct block k j ≡ false)
+      → linked_to block j at i ≡ linked_to block j end i
   further at end i order none = elim (cases_lt i at) [
     | inl before ↦ rw (lt-ltb i at before, lt-ltb i end (omega arith)) refl
     | inr behind ↦ elim (cases_lt i end) [
@@ -116,7 +134,8 @@ module _ (block : List Insn) (j : ℕ) where
     ]
   ]
 
-pub linked_first : (uses : List Uses) (j : ℕ) (earlier : List Link) (later : List (SmallVec Link)) → earlier ≡ [] → AreLinkedBefore uses j later
+pub linked_first : (uses : List Uses) (j : ℕ) (earlier : List Link) (later : List (SmallVec Link)) → earlier ≡ []
+    → AreLinkedBefore uses j later
     → AreLinkedTo uses j 0 earlier later
 linked_first uses j earlier later none are = record {
   within = omega arith;
@@ -126,21 +145,26 @@ linked_first uses j earlier later none are = record {
 }
 
 -- the next number that j depends on directly
-pub linked_next : (uses : List Uses) (j at i : ℕ) (direct : NumberSet) (earlier more : List Link) (later : List (SmallVec Link)) (d list : SmallVec Link)
+pub linked_next : (uses : List Uses) (j at i : ℕ) (direct : NumberSet) (earlier more : List Link)
+    (later : List (SmallVec Link)) (d list : SmallVec Link)
     → j < length uses → AreDirect uses j direct → IsLeastFrom direct at i → AreLinkedTo uses j at earlier later
-    → more ≡ earlier ++ linked i (latency (insns_in uses) i j) → list.items ≡ (get_or later i d).items ++ linked j (latency (insns_in uses) i j)
+    → more ≡ earlier ++ linked i (latency (insns_in uses) i j)
+    → list.items ≡ (get_or later i d).items ++ linked j (latency (insns_in uses) i j)
     → AreLinkedTo uses j (i + 1) more (set later i list)
 linked_next uses j at i direct earlier more later d list within are least are_linked added listed = record {
   within = omega (arith, inside);
   needs =
       pieces_more piece 0 i (i + 1) i earlier more (omega arith) (omega arith)
-      (pieces_skip piece 0 at i earlier least.behind (λ k low high. rw (none k (omega (arith, low)) (omega (arith, high))) refl) are_linked.needs)
+      (pieces_skip piece 0 at i earlier least.behind
+      (λ k low high. rw (none k (omega (arith, low)) (omega (arith, high))) refl) are_linked.needs)
       (added ∙ rw is refl);
   followers =
-      lists_set (linked_to block j at) (linked_to block j (i + 1)) (length uses) i later list are_linked.followers (omega (arith, inside, within))
+      lists_set (linked_to block j at) (linked_to block j (i + 1)) (length uses) i later list are_linked.followers
+      (omega (arith, inside, within))
       (listed ∙ ap (λ (links : List Link). links ++ linked j (latency block i j)) before ∙ one_more)
       (λ k low other. elim (cases_lt k i) [
-        | inl before ↦ further block j at i k least.behind none ∙ rw (lt-ltb k i before, lt-ltb k (i + 1) (omega arith)) refl
+        | inl before ↦ further block j at i k least.behind none
+            ∙ rw (lt-ltb k i before, lt-ltb k (i + 1) (omega arith)) refl
         | inr behind ↦ rw (le-ltb k at (let low = least.behind in omega arith), le-ltb k (i + 1) (omega arith)) refl
       ]);
 }
@@ -152,7 +176,8 @@ linked_next uses j at i direct earlier more later d list within are least are_li
     piece k = linked_if (is_direct (insns_in uses) k j) k (latency (insns_in uses) k j)
 
     told : (number_in direct i ≡ true) → (i < j) × (is_direct (insns_in uses) i j ≡ true)
-    told h = (let parts = and_parts (nat_lt i j) (is_direct (insns_in uses) i j) (sym (are i) ∙ h) in (ltb-true i j parts.0, parts.1))
+    told h = (let parts = and_parts (nat_lt i j) (is_direct (insns_in uses) i j) (sym (are i)
+        ∙ h) in (ltb-true i j parts.0, parts.1))
 
     inside : i < j
     inside = (told least.is_in).0
@@ -162,27 +187,35 @@ linked_next uses j at i direct earlier more later d list within are least are_li
 
     before : (get_or later i d).items ≡ direct_before (insns_in uses) i j
     before =
-        list_is (linked_to (insns_in uses) j at) (length uses) i later (get_or later i d) are_linked.followers (omega (arith, inside, within))
-        (sym (get_or_default later i (get_or later i d) d (omega (arith, lists_long _ _ later are_linked.followers, inside, within))))
+        list_is (linked_to (insns_in uses) j at) (length uses) i later (get_or later i d) are_linked.followers
+        (omega (arith, inside, within))
+        (sym (get_or_default later i (get_or later i d) d
+        (omega (arith, lists_long _ _ later are_linked.followers, inside, within))))
         ∙ rw (le-ltb i at least.behind) refl
 
-    one_more : (direct_before (insns_in uses) i j ++ linked j (latency (insns_in uses) i j)) ≡ linked_to (insns_in uses) j (i + 1) i
+    one_more : (direct_before (insns_in uses) i j ++ linked j (latency (insns_in uses) i j)) ≡ linked_to (insns_in uses)
+        j (i + 1) i
     one_more = rw (lt-ltb i (i + 1) (omega arith)) (sym (linked_one (insns_in uses) j i ∙ rw is refl))
 
     none : (k : ℕ) → at ≤ k → k < i → is_direct (insns_in uses) k j ≡ false
     none k low high = false_from_ne_true (is_direct (insns_in uses) k j)
-        (λ h. both_ways (number_in direct k) (least.none k low high) (are k ∙ rw (lt-ltb k j (omega (arith, high, inside)), h) refl))
+        (λ h. both_ways (number_in direct k) (least.none k low high) (are k
+        ∙ rw (lt-ltb k j (omega (arith, high, inside)), h) refl))
 
 -- all are linked
-pub linked_all : (uses : List Uses) (j at : ℕ) (direct : NumberSet) (earlier : List Link) (later : List (SmallVec Link)) → AreDirect uses j direct
+pub linked_all : (uses : List Uses) (j at : ℕ) (direct : NumberSet) (earlier : List Link) (later : List (SmallVec Link))
+    → AreDirect uses j direct
     → ((k : ℕ) → at ≤ k → number_in direct k ≡ false) → AreLinkedTo uses j at earlier later
     → (earlier ≡ direct_needs (insns_in uses) j) × AreLinkedBefore uses (j + 1) later
 unfolding direct_needs
 linked_all uses j at direct earlier later are end are_linked = (
-  pieces_skip (λ k. linked_if (is_direct (insns_in uses) k j) k (latency (insns_in uses) k j)) 0 at j earlier are_linked.within
+  pieces_skip (λ k. linked_if (is_direct (insns_in uses) k j) k (latency (insns_in uses) k j)) 0 at j earlier
+      are_linked.within
       (λ k low high. rw (none k (omega (arith, low)) (omega (arith, high))) refl) are_linked.needs,
-  lists_by (linked_to (insns_in uses) j at) (λ i. direct_before (insns_in uses) i (j + 1)) (length uses) later are_linked.followers
-      (λ i low. further (insns_in uses) j at j i are_linked.within none ∙ last i ∙ ap (direct_before (insns_in uses) i) next),
+  lists_by (linked_to (insns_in uses) j at) (λ i. direct_before (insns_in uses) i (j + 1)) (length uses) later
+      are_linked.followers
+      (λ i low. further (insns_in uses) j at j i are_linked.within none ∙ last i
+      ∙ ap (direct_before (insns_in uses) i) next),
 )
   where
     next : suc j ≡ j + 1
@@ -203,45 +236,57 @@ pub linked_in : (uses : List Uses) (later : List (SmallVec Link)) → AreLinkedB
     → AreLists (direct_followers (insns_in uses)) (length uses) later
 unfolding direct_followers
 linked_in uses later are =
-    lists_by (λ i. direct_before (insns_in uses) i (length uses)) (λ i. direct_before (insns_in uses) i (length (insns_in uses))) (length uses) later are
+    lists_by (λ i. direct_before (insns_in uses) i (length uses))
+    (λ i. direct_before (insns_in uses) i (length (insns_in uses))) (length uses) later are
     (λ i low. ap (direct_before (insns_in uses) i) (sym (many_uses uses)))
 
 -- ---- what has landed behind
 
 -- the first of these links lead to later numbers of the block, and nothing lands behind them
 pub record AreShort (block : List Insn) (i : ℕ) (links : List Link) (count : ℕ) : Type 0 where
-  pub none : list_any (λ link. int_le (pos (delay_at block i)) (link.latency +ℤ pos (delay_at block link.number))) (take count links) ≡ false
+  pub none : list_any (λ link. int_le (pos (delay_at block i)) (link.latency +ℤ pos (delay_at block link.number)))
+      (take count links) ≡ false
 
 -- the link at a place
-pub link_at : (block : List Insn) (i j k : ℕ) (links : List Link) (d : Link) → links ≡ direct_before block i j → k < length links
+pub link_at : (block : List Insn) (i j k : ℕ) (links : List Link) (d : Link) → links ≡ direct_before block i j
+    → k < length links
     → IsLinkBefore block i j (get_or links k d)
 link_at block i j k links d is low = All-get_or (IsLinkBefore block i j) links k d low (rw is (links_before block i j))
 
 -- the delay of an instruction
-pub delay_is : (uses : List Uses) (i : ℕ) (u : Uses) → i < length uses → u ≡ get_or uses i u → delay_at (insns_in uses) i ≡ u.delay
+pub delay_is : (uses : List Uses) (i : ℕ) (u : Uses) → i < length uses → u ≡ get_or uses i u
+    → delay_at (insns_in uses) i ≡ u.delay
 delay_is uses i u within at = ap delay_in (insn_at uses i u within at) ∙ sym u.delay_is
 
 -- one link more, behind which nothing lands
-pub short_more : (uses : List Uses) (i k : ℕ) (links : List Link) (u : Uses) (d : Link) (t : Bool) → i < length uses → u ≡ get_or uses i u → k < length links
-    → t ≡ int_le (pos u.delay) ((get_or links k d).latency +ℤ pos (delay_at (insns_in uses) (get_or links k d).number)) → t ≡ false
+pub short_more : (uses : List Uses) (i k : ℕ) (links : List Link) (u : Uses) (d : Link) (t : Bool) → i < length uses
+    → u ≡ get_or uses i u → k < length links
+    → t ≡ int_le (pos u.delay) ((get_or links k d).latency +ℤ pos (delay_at (insns_in uses) (get_or links k d).number))
+    → t ≡ false
     → AreShort (insns_in uses) i links k → AreShort (insns_in uses) i links (k + 1)
 short_more uses i k links u d t within at low is told short = record {
   none =
-      list_any_more (λ (link : Link). int_le (pos (delay_at (insns_in uses) i)) (link.latency +ℤ pos (delay_at (insns_in uses) link.number))) links k d low
+      list_any_more (λ (link : Link). int_le (pos (delay_at (insns_in uses) i))
+      (link.latency +ℤ pos (delay_at (insns_in uses) link.number))) links k d low
       ∙ rw (short.none, delay_is uses i u within at, ← is, told) refl;
 }
 
 -- one behind which it does
-pub land_found : (uses : List Uses) (i k : ℕ) (links : List Link) (u : Uses) (d : Link) (t : Bool) → i < length uses → u ≡ get_or uses i u → k < length links
-    → t ≡ int_le (pos u.delay) ((get_or links k d).latency +ℤ pos (delay_at (insns_in uses) (get_or links k d).number)) → t ≡ true
+pub land_found : (uses : List Uses) (i k : ℕ) (links : List Link) (u : Uses) (d : Link) (t : Bool) → i < length uses
+    → u ≡ get_or uses i u → k < length links
+    → t ≡ int_le (pos u.delay) ((get_or links k d).latency +ℤ pos (delay_at (insns_in uses) (get_or links k d).number))
+    → t ≡ true
     → true ≡ land_behind (insns_in uses) i links
 land_found uses i k links u d t within at low is told =
-    sym (list_any_at (λ (link : Link). int_le (pos (delay_at (insns_in uses) i)) (link.latency +ℤ pos (delay_at (insns_in uses) link.number))) links k d low
+    sym (list_any_at (λ (link : Link). int_le (pos (delay_at (insns_in uses) i))
+    (link.latency +ℤ pos (delay_at (insns_in uses) link.number))) links k d low
     (rw (delay_is uses i u within at, ← is, told) refl))
 
 -- the next number that j depends on comes before j
-pub inside_of : (uses : List Uses) (j at i : ℕ) (direct : NumberSet) → AreDirect uses j direct → IsLeastFrom direct at i → i < j
-inside_of uses j at i direct are least = ltb-true i j (and_parts (nat_lt i j) (is_direct (insns_in uses) i j) (sym (are i) ∙ least.is_in)).0
+pub inside_of : (uses : List Uses) (j at i : ℕ) (direct : NumberSet) → AreDirect uses j direct → IsLeastFrom direct at i
+    → i < j
+inside_of uses j at i direct are least = ltb-true i j
+    (and_parts (nat_lt i j) (is_direct (insns_in uses) i j) (sym (are i) ∙ least.is_in)).0
 
 -- what is written back to a list
 pub written_back : {A : Type 0} (xs ys : List A) (n : ℕ) → n ≡ length xs → take n (xs ++ ys) ≡ xs

@@ -1,7 +1,9 @@
 -- The lists of dependences.
-use Rattle.c62_depend.proofs.Common.{◌≡◌, ℕ, ◌+◌, ◌-◌, ◌*◌, ◌<◌, ◌≤◌, List, [], ◌∷◌, ◌++◌, length, drop, set, get_or, refl, sym, ap}
+use Rattle.c62_depend.proofs.Common.{◌≡◌, ℕ, ◌+◌, ◌-◌, ◌*◌, ◌<◌, ◌≤◌, List, [], ◌∷◌, ◌++◌, length, drop, set, get_or}
+use Rattle.c62_depend.proofs.Common.{refl, sym, ap}
 use Rattle.c62_depend.proofs.Common.{◌∙◌, arith, inl, inr, slice_index, slice_range, cases_eq, cases_lt}
-use Rattle.c62_depend.proofs.Common.{length-append, length-map, get_or-set_other, get_or-append_right, get_or-take, get_or-drop, length-take-le, length-drop}
+use Rattle.c62_depend.proofs.Common.{length-append, length-map, get_or-set_other, get_or-append_right, get_or-take}
+use Rattle.c62_depend.proofs.Common.{get_or-drop, length-take-le, length-drop}
 use Rattle.c62_depend.proofs.Common.{get_or-set_at, map-range_with_len_more, length-map-range_with_len, Insn, Link}
 use Rattle.c62_depend.proofs.Common.{latency, as_bound, links_of, AreLists, Uses, insns_in}
 use Rattle.std.proofs.lemmas.List.{get_or-map, map_push}
@@ -17,19 +19,30 @@ pub lists_none : (f : ℕ → List Link) (lists : List (SmallVec Link)) → list
 lists_none f lists none = rw none refl
 
 -- a list more
-pub lists_more : (f : ℕ → List Link) (count : ℕ) (old new : List (SmallVec Link)) (list : SmallVec Link) → AreLists f count old → list.items ≡ f count
+pub lists_more : (f : ℕ → List Link) (count : ℕ) (old new : List (SmallVec Link)) (list : SmallVec Link)
+    → AreLists f count old → list.items ≡ f count
     → new ≡ old ++ list ∷ [] → AreLists f (count + 1) new
 lists_more f count old new list are is more =
-    rw (more, map_push (λ (l : SmallVec Link). l.items) old list, are, is, map-range_with_len_more f 0 count count (omega arith)) refl
+    rw (
+      more,
+      map_push (λ (l : SmallVec Link). l.items) old list,
+      are,
+      is,
+      map-range_with_len_more f 0 count count
+          (omega arith),
+    ) refl
 
-pub lists_long : (f : ℕ → List Link) (count : ℕ) (lists : List (SmallVec Link)) → AreLists f count lists → length lists ≡ count
+pub lists_long : (f : ℕ → List Link) (count : ℕ) (lists : List (SmallVec Link)) → AreLists f count lists
+    → length lists ≡ count
 lists_long f count lists are =
     sym (length-map lists (λ (l : SmallVec Link). l.items)) ∙ ap length are ∙ length-map-range_with_len f 0 count
 
 -- the list of number i
-pub list_is : (f : ℕ → List Link) (count i : ℕ) (lists : List (SmallVec Link)) (list : SmallVec Link) → AreLists f count lists → i < count
+pub list_is : (f : ℕ → List Link) (count i : ℕ) (lists : List (SmallVec Link)) (list : SmallVec Link)
+    → AreLists f count lists → i < count
     → list ≡ get_or lists i list → list.items ≡ f i
 list_is f count i lists list are within at =
     list_at f count i (links_of lists) list.items are within
     (ap (λ (l : SmallVec Link). l.items) at
-    ∙ sym (get_or-map (λ (l : SmallVec Link). l.items) lists i list list.items (rw (lists_long f count lists are) within)))
+    ∙ sym (get_or-map (λ (l : SmallVec Link). l.items) lists i list list.items
+    (rw (lists_long f count lists are) within)))

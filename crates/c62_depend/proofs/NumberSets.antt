@@ -1,6 +1,8 @@
 -- Sets of numbers, by their words.
-use Rattle.c62_depend.proofs.Common.{◌≡◌, ◌≢◌, ℕ, zero, suc, ◌+◌, ◌-◌, ◌*◌, ◌^◌, ◌%◌, ◌<◌, ◌≤◌, Bool, true, false, List, [], ◌∷◌, length, set}
-use Rattle.c62_depend.proofs.Common.{refl, sym, ap, ◌∙◌, arith, inl, inr, nat_tests, ◌==◌, ◌||◌, bit_or, bit_at, slice_index, get_or, cases_eq, cases_lt}
+use Rattle.c62_depend.proofs.Common.{◌≡◌, ◌≢◌, ℕ, zero, suc, ◌+◌, ◌-◌, ◌*◌, ◌^◌, ◌%◌, ◌<◌, ◌≤◌, Bool, true, false, List}
+use Rattle.c62_depend.proofs.Common.{[], ◌∷◌, length, set}
+use Rattle.c62_depend.proofs.Common.{refl, sym, ap, ◌∙◌, arith, inl, inr, nat_tests, ◌==◌, ◌||◌, bit_or, bit_at}
+use Rattle.c62_depend.proofs.Common.{slice_index, get_or, cases_eq, cases_lt}
 use Rattle.c62_depend.proofs.Common.{get_or-set_at, get_or-set_other, Option, Some, None}
 use Rattle.std.proofs.Common.{◌/◌, w64}
 use Rattle.std.specs.Prelude.{replicate}
@@ -8,6 +10,7 @@ use Rattle.std.proofs.lemmas.Nat.Bits.{bit_at-zero, bit_at_set_same, bit_at_set_
 use Rattle.c62_depend.proofs.Words.{IsLowest, lowest_of_64, bit_within, no_more}
 use Rattle.std.proofs.Math.Nat.{div-le_self}
 use Rattle.c62_depend.proofs.Common.{trailing_zeros}
+use Rattle.c62_read.specs.declared.limits.TheConstants.{MOST_INSTRUCTIONS}
 
 -- the bit of a number
 abbrev pub bit_of : List ℕ → ℕ → Bool
@@ -23,21 +26,28 @@ none_in count k = rw (zeros_at count (k / 64), bit_at-zero (k % 64)) refl
 
 -- a number more
 pub with_number : (words : List ℕ) (k other : ℕ) → k / 64 < length words
-    → bit_of (set words (k / 64) (bit_or (slice_index words (k / 64)) (1 * 2 ^ (k % 64) % 2 ^ 64))) other ≡ (bit_of words other || (other == k))
+    → bit_of (set words (k / 64) (bit_or (slice_index words (k / 64)) (1 * 2 ^ (k % 64) % 2 ^ 64))) other ≡
+    (bit_of words other || (other == k))
 with_number words k other within = elim (cases_eq (other / 64) (k / 64)) [
   | inl same ↦
-      rw (get_or-set_at words (k / 64) (other / 64) (bit_or (slice_index words (k / 64)) (1 * 2 ^ (k % 64) % 2 ^ 64)) 0 same within, same)
+      rw (
+        get_or-set_at words (k / 64) (other / 64) (bit_or (slice_index words (k / 64)) (1 * 2 ^ (k % 64) % 2 ^ 64)) 0
+            same within,
+        same,
+      )
       (elim (cases_eq (other % 64) (k % 64)) [
         | inl bit ↦
             let here : other ≡ k = omega arith in
             rw (bit, bit_at_set_same w64 (slice_index words (k / 64)) (k % 64) (omega arith)) (grind (arith, nat_tests))
         | inr apart ↦
             let there : other ≢ k = λ e. apart (ap (λ n. n % 64) e) in
-            rw (bit_at_set_other w64 (slice_index words (k / 64)) (k % 64) (omega arith) (other % 64) apart) (grind (arith, nat_tests))
+            rw (bit_at_set_other w64 (slice_index words (k / 64)) (k % 64) (omega arith) (other % 64) apart)
+            (grind (arith, nat_tests))
       ])
   | inr apart ↦
       let there : other ≢ k = λ e. apart (ap (λ n. n / 64) e) in
-      rw (get_or-set_other words (k / 64) (other / 64) (bit_or (slice_index words (k / 64)) (1 * 2 ^ (k % 64) % 2 ^ 64)) 0 apart) (grind (arith, nat_tests))
+      rw (get_or-set_other words (k / 64) (other / 64) (bit_or (slice_index words (k / 64)) (1 * 2 ^ (k % 64) % 2 ^ 64))
+      0 apart) (grind (arith, nat_tests))
 ]
 
 -- the numbers of two sets
@@ -55,15 +65,21 @@ pub joined_numbers : (xs ys : List ℕ) (k : ℕ) → length xs ≡ 4 → length
     ≡ (bit_of xs k || bit_of ys k)
 joined_numbers xs ys k long wide = at (k / 64) (k % 64)
   where
-    at : (index n : ℕ) → (bit_at (slice_index (bit_or (slice_index xs 0) (slice_index ys 0) ∷ bit_or (slice_index xs 1) (slice_index ys 1)
-        ∷ bit_or (slice_index xs 2) (slice_index ys 2) ∷ bit_or (slice_index xs 3) (slice_index ys 3) ∷ []) index) n == 1)
+    at : (index n : ℕ) → (bit_at
+        (slice_index (bit_or (slice_index xs 0) (slice_index ys 0) ∷ bit_or (slice_index xs 1) (slice_index ys 1)
+        ∷ bit_or (slice_index xs 2) (slice_index ys 2) ∷ bit_or (slice_index xs 3) (slice_index ys 3) ∷ []) index) n ==
+        1)
         ≡ ((bit_at (slice_index xs index) n == 1) || (bit_at (slice_index ys index) n == 1))
     at zero n = either_bit (slice_index xs 0) (slice_index ys 0) n
     at (suc zero) n = either_bit (slice_index xs 1) (slice_index ys 1) n
     at (suc (suc zero)) n = either_bit (slice_index xs 2) (slice_index ys 2) n
     at (suc (suc (suc zero))) n = either_bit (slice_index xs 3) (slice_index ys 3) n
     at (suc (suc (suc (suc index)))) n =
-        rw (past xs (suc (suc (suc (suc index)))) (omega arith), past ys (suc (suc (suc (suc index)))) (omega arith), bit_at-zero n) refl
+        rw (
+          past xs (suc (suc (suc (suc index)))) (omega arith),
+          past ys (suc (suc (suc (suc index)))) (omega arith),
+          bit_at-zero n,
+        ) refl
 
 -- ---- the next number
 
@@ -80,17 +96,21 @@ pub record IsSearched (words : List ℕ) (from at : ℕ) : Type 0 where
   pub none : AreNone words from at
 
 -- the lowest bit from a place on
-pub lowest_from : (word at : ℕ) → word < 2 ^ 64 → 0 < word / 2 ^ at → IsLowest word at (word / 2 ^ at) (trailing_zeros w64 (word / 2 ^ at))
+pub lowest_from : (word at : ℕ) → word < 2 ^ 64 → 0 < word / 2 ^ at
+    → IsLowest word at (word / 2 ^ at) (trailing_zeros w64 (word / 2 ^ at))
 lowest_from word at fits some =
-    let small : word / 2 ^ at ≤ word = div-le_self word (2 ^ at) in lowest_of_64 word at (word / 2 ^ at) (omega arith) refl some
+    let small : word / 2 ^ at ≤ word = div-le_self word (2 ^ at) in lowest_of_64 word at (word / 2 ^ at) (omega arith)
+    refl some
 
 module _ (words : List ℕ) (from at : ℕ) where
-  pub place_within : (skipped : ℕ) → slice_index words (at / 64) < 2 ^ 64 → IsLowest (slice_index words (at / 64)) (at % 64) (slice_index words (at / 64) / 2 ^ (at % 64)) skipped
+  pub place_within : (skipped : ℕ) → slice_index words (at / 64) < 2 ^ 64
+      → IsLowest (slice_index words (at / 64)) (at % 64) (slice_index words (at / 64) / 2 ^ (at % 64)) skipped
       → at % 64 + skipped < 64
   place_within skipped fits low = bit_within (slice_index words (at / 64)) 64 (at % 64 + skipped) fits low.set
 
   pub next_is : (skipped : ℕ) → slice_index words (at / 64) < 2 ^ 64
-      → IsLowest (slice_index words (at / 64)) (at % 64) (slice_index words (at / 64) / 2 ^ (at % 64)) skipped → bit_of words (at + skipped) ≡ true
+      → IsLowest (slice_index words (at / 64)) (at % 64) (slice_index words (at / 64) / 2 ^ (at % 64)) skipped
+      → bit_of words (at + skipped) ≡ true
   next_is skipped fits low =
       let within = place_within skipped fits low in
       let word : (at + skipped) / 64 ≡ at / 64 = omega arith in
@@ -98,7 +118,8 @@ module _ (words : List ℕ) (from at : ℕ) where
       rw (word, bit, low.set) refl
 
   pub none_to : (skipped : ℕ) → AreNone words from at → slice_index words (at / 64) < 2 ^ 64
-      → IsLowest (slice_index words (at / 64)) (at % 64) (slice_index words (at / 64) / 2 ^ (at % 64)) skipped → AreNone words from (at + skipped)
+      → IsLowest (slice_index words (at / 64)) (at % 64) (slice_index words (at / 64) / 2 ^ (at % 64)) skipped
+      → AreNone words from (at + skipped)
   none_to skipped before fits low k behind below = elim (cases_lt k at) [
     | inl earlier ↦ before k behind earlier
     | inr later ↦
@@ -107,15 +128,19 @@ module _ (words : List ℕ) (from at : ℕ) where
         rw word (no_bit (bit_at (slice_index words (at / 64)) (k % 64)) (low.none (k % 64) (omega arith) (omega arith)))
   ]
 
-  pub none_further : AreNone words from at → 0 ≡ slice_index words (at / 64) / 2 ^ (at % 64) → AreNone words from ((at / 64 + 1) * 64)
+  pub none_further : AreNone words from at → 0 ≡ slice_index words (at / 64) / 2 ^ (at % 64)
+      → AreNone words from ((at / 64 + 1) * 64)
   none_further before none k behind below = elim (cases_lt k at) [
     | inl earlier ↦ before k behind earlier
     | inr later ↦
         let word : k / 64 ≡ at / 64 = omega arith in
-        rw word (no_bit (bit_at (slice_index words (at / 64)) (k % 64)) (no_more (slice_index words (at / 64)) (at % 64) (k % 64) none (omega arith)))
+        rw word (no_bit (bit_at (slice_index words (at / 64)) (k % 64))
+        (no_more (slice_index words (at / 64)) (at % 64) (k % 64) none (omega arith)))
   ]
 
-pub none_behind : (words : List ℕ) (from at : ℕ) → length words ≡ 4 → AreNone words from at → 256 ≤ at → (k : ℕ) → from ≤ k → bit_of words k ≡ false
+pub none_behind : (words : List ℕ) (from at : ℕ) → length words ≡ 4 → AreNone words from at
+    → MOST_INSTRUCTIONS ≤ at
+    → (k : ℕ) → from ≤ k → bit_of words k ≡ false
 none_behind words from at long before end k behind = elim (cases_lt k at) [
   | inl earlier ↦ before k behind earlier
   | inr later ↦

@@ -1,9 +1,13 @@
 -- The numbers that the bounds are counted as.
-use Rattle.c62_depend.proofs.Common.{◌≡◌, ℕ, ◌+◌, ◌<◌, ◌≤◌, max, ℤ, pos, ◌-ℤ◌, Bool, true, false, Option, Some, refl, ◌∙◌, arith, ◌&&◌, ◌||◌}
-use Rattle.c62_depend.proofs.Common.{not, ints, clamps, delay_of, is_load, is_store, is_branch, op_of, Uses, shares, as_bound, number_if}
-use Rattle.c62_depend.proofs.Common.{number_awaited, number_spared, number_after_result, number_after_at_once, number_overwritten}
+use Rattle.c62_depend.proofs.Common.{◌≡◌, ℕ, ◌+◌, ◌<◌, ◌≤◌, max, ℤ, pos, ◌-ℤ◌, Bool, true, false, Option, Some, refl}
+use Rattle.c62_depend.proofs.Common.{◌∙◌, arith, ◌&&◌, ◌||◌}
+use Rattle.c62_depend.proofs.Common.{not, ints, clamps, delay_of, is_load, is_store, is_branch, op_of, Uses, shares}
+use Rattle.c62_depend.proofs.Common.{as_bound, number_if}
+use Rattle.c62_depend.proofs.Common.{number_awaited, number_spared, number_after_result, number_after_at_once}
+use Rattle.c62_depend.proofs.Common.{number_overwritten}
 use Rattle.c62_depend.proofs.Common.{number_of_registers, number_of_order, greater, by_order, latency_of, nat_tests}
-use Rattle.c62_depend.proofs.Bounds.{bound_if, told_awaited, told_spared, told_after_result, told_after_at_once, told_overwritten, told, told_is}
+use Rattle.c62_depend.proofs.Bounds.{bound_if, told_awaited, told_spared, told_after_result, told_after_at_once}
+use Rattle.c62_depend.proofs.Bounds.{told_overwritten, told, told_is}
 
 -- the bound of a number above 0
 pub some_number : (n : ℕ) → 0 < n → as_bound n ≡ Some (pos n -ℤ pos 6)
@@ -39,7 +43,8 @@ module _ (p q : Uses) where
   pub order_is : (disjoint : Bool) → as_bound (number_of_order disjoint p.insn q.insn) ≡ by_order disjoint p.insn q.insn
   order_is disjoint =
       of_three (not disjoint && (is_store (op_of p.insn) && (is_load (op_of q.insn) || is_store (op_of q.insn))))
-      (not disjoint && (is_load (op_of p.insn) && is_store (op_of q.insn))) (is_branch (op_of q.insn)) (delay_of (op_of p.insn))
+      (not disjoint && (is_load (op_of p.insn) && is_store (op_of q.insn))) (is_branch (op_of q.insn))
+      (delay_of (op_of p.insn))
     where
       of_three : (access store branch : Bool) (delay : ℕ)
           → as_bound (max (number_if access 7) (max (number_if store 6) (number_if branch (delay + 1))))
@@ -48,5 +53,6 @@ module _ (p q : Uses) where
 
   -- the greatest number of all cases is that of the latency
   pub all_is : (exclusive disjoint : Bool)
-      → as_bound (max (number_of_registers exclusive p q) (number_of_order disjoint p.insn q.insn)) ≡ latency_of exclusive disjoint p.insn q.insn
+      → as_bound (max (number_of_registers exclusive p q) (number_of_order disjoint p.insn q.insn)) ≡ latency_of
+      exclusive disjoint p.insn q.insn
   all_is exclusive disjoint = rw (← told_is p q exclusive) (both _ _ _ _ (registers exclusive) (order_is disjoint))

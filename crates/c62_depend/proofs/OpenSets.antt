@@ -1,37 +1,38 @@
--- The numbers that are open at each register, one instruction more at a time.
-use Rattle.c62_depend.proofs.Common.{◌≡◌, ℕ, suc, ◌+◌, ◌-◌, ◌<◌, ◌≤◌, Bool, true, false, List, Option, Some, None, refl, sym, ap, ◌∙◌, arith, inl, inr}
-use Rattle.c62_depend.proofs.Common.{◌&&◌, ◌||◌, not, ◌==◌, if◌then◌else◌, nat_lt, nat_tests, get_or, length, slice_get, cases_eq, cases_lt, Reg, Insn, Uses, RegSet, reg_in, insns_in}
-use Rattle.c62_depend.proofs.Common.{both_ways, or_cases, or_left, or_right, and_parts, lt-ltb, ltb-true, is_some, list_any, register_writes, reads_register, cond_of, Contains}
+-- The instructions that are open at a register, and how the tables of them grow.
+use Rattle.c62_depend.proofs.Common.{◌≡◌, ℕ, suc, ◌+◌, ◌-◌, ◌<◌, Bool, true, false, List, Option, Some, refl, sym, ap}
+use Rattle.c62_depend.proofs.Common.{◌∙◌, arith, inl, inr, ◌&&◌, ◌||◌, not, ◌==◌, if◌then◌else◌, nat_lt, nat_tests}
+use Rattle.c62_depend.proofs.Common.{get_or, length, slice_get, cases_eq, cases_lt, Reg, Insn, Uses, RegSet, reg_in}
+use Rattle.c62_depend.proofs.Common.{insns_in, or_left, or_right, reads_register, cond_of, zero}
 use Rattle.std.specs.Prelude.{is_none, replicate}
-use Rattle.c62_op.specs.declared.register.Cond.{Cond as Condition}
-use Rattle.c62_depend.proofs.Common.{zero}
 use Rattle.c62_op.specs.Register.{register_index}
 use Rattle.c62_depend.proofs.NumberSets.{none_in}
-use Rattle.std.proofs.lemmas.List.Folds.{list_any_at, Any-from_list_any}
 use Rattle.c62_rules.specs.Dependence.{writes_in}
-use Rattle.c62_depend.specs.Direct.{always_writes, is_settled_by, is_open, uses_register, meet_in, meet_openly}
-use Rattle.c62_depend.specs.Open.{uses_in, is_openly, IsOpenAt, AreOpenly}
+use Rattle.c62_depend.specs.Direct.{always_writes, is_settled_by, is_open}
+use Rattle.c62_depend.specs.Open.{uses_in, is_openly, IsOpenAt, at_register, no_numbers}
 use Rattle.c62_depend.specs.declared.register_users.RegisterUsers.{RegisterUsers}
 use Rattle.c62_depend.proofs.Latencies.{insn_at}
-use Rattle.c62_depend.proofs.WrittenLemmas.{writes_are, same_tests, a_write, some_write}
+use Rattle.c62_depend.proofs.WrittenLemmas.{writes_are}
 use Rattle.c62_depend.specs.declared.number_set.NumberSet.{NumberSet}
 use Rattle.c62_depend.specs.NumberSet.{number_in}
-use Rattle.c62_depend.specs.Open.{at_register, no_numbers}
 use Rattle.c62_depend.proofs.SetLoops.{AreChanged, changed_in, changed_not}
 
 -- number k is added, to what stays
 abbrev pub IsNoted : ℕ → Bool → NumberSet → NumberSet → Type 0
 IsNoted k clears old new = (other : ℕ) → number_in new other ≡ ((not clears && number_in old other) || (other == k))
 
-pub noted_at : (old new : List NumberSet) (set : RegSet) (at rest k : ℕ) (clears : Bool) → 0 ≡ rest → AreChanged (IsNoted k clears) old new no_numbers set.bits at rest
+pub noted_at : (old new : List NumberSet) (set : RegSet) (at rest k : ℕ) (clears : Bool) → 0 ≡ rest
+    → AreChanged (IsNoted k clears) old new no_numbers set.bits at rest
     → (reg : Reg) (other : ℕ) → number_in (at_register new reg) other
-    ≡ (if reg_in set reg then (not clears && number_in (at_register old reg) other) || (other == k) else number_in (at_register old reg) other)
+    ≡ (if reg_in set reg then (not clears && number_in (at_register old reg) other) || (other == k) else number_in
+    (at_register old reg) other)
 noted_at old new set at rest k clears none are reg other = by_test (reg_in set reg) refl
   where
     by_test : (t : Bool) → reg_in set reg ≡ t → number_in (at_register new reg) other
-        ≡ (if t then (not clears && number_in (at_register old reg) other) || (other == k) else number_in (at_register old reg) other)
+        ≡ (if t then (not clears && number_in (at_register old reg) other) || (other == k) else number_in
+        (at_register old reg) other)
     by_test true is = changed_in (IsNoted k clears) old new no_numbers set at rest reg none are is other
-    by_test false is = ap (λ (s : NumberSet). number_in s other) (changed_not (IsNoted k clears) old new no_numbers set at rest reg none are is)
+    by_test false is = ap (λ (s : NumberSet). number_in s other)
+        (changed_not (IsNoted k clears) old new no_numbers set at rest reg none are is)
 
 -- ---- an instruction more
 
@@ -54,7 +55,8 @@ open_last block j reg = let none : j + 1 - (j + 1) ≡ 0 = omega arith in rw non
 module _ (so : Reg → Option Insn → Bool) (block : List Insn) (j k : ℕ) (reg : Reg) (always old new : Bool) where
   -- j uses the register so
   pub noted_more : so reg (slice_get block j) ≡ true → always_writes reg (slice_get block j) ≡ always
-      → old ≡ is_openly so block j reg k → new ≡ ((not always && old) || (k == j)) → new ≡ is_openly so block (j + 1) reg k
+      → old ≡ is_openly so block j reg k → new ≡ ((not always && old) || (k == j))
+      → new ≡ is_openly so block (j + 1) reg k
   noted_more uses writes was is = elim (cases_lt k j) [
     | inl before ↦ rw (is, was, open_more block k j reg before, writes)
         (below (so reg (slice_get block k)) (is_open block k j reg) always before)
@@ -64,15 +66,18 @@ module _ (so : Reg → Option Insn → Bool) (block : List Insn) (j k : ℕ) (re
     ]
   ]
     where
-      below : (u o a : Bool) → k < j → ((not a && (nat_lt k j && (u && o))) || (k == j)) ≡ (nat_lt k (j + 1) && (u && (o && not a)))
+      below : (u o a : Bool) → k < j
+          → ((not a && (nat_lt k j && (u && o))) || (k == j)) ≡ (nat_lt k (j + 1) && (u && (o && not a)))
       below u o true before = grind (arith, nat_tests)
       below u o false before = grind (arith, nat_tests)
 
   -- it doesn't
-  pub unnoted_more : so reg (slice_get block j) ≡ false → always_writes reg (slice_get block j) ≡ false → old ≡ is_openly so block j reg k
+  pub unnoted_more : so reg (slice_get block j) ≡ false → always_writes reg (slice_get block j) ≡ false
+      → old ≡ is_openly so block j reg k
       → new ≡ old → new ≡ is_openly so block (j + 1) reg k
   unnoted_more unused unwritten was is = elim (cases_lt k j) [
-    | inl before ↦ rw (is, was, open_more block k j reg before, unwritten) (below (so reg (slice_get block k)) (is_open block k j reg) before)
+    | inl before ↦ rw (is, was, open_more block k j reg before, unwritten)
+        (below (so reg (slice_get block k)) (is_open block k j reg) before)
     | inr behind ↦ elim (cases_eq k j) [
       | inl here ↦ rw (is, was, here, unused) (grind (arith, nat_tests))
       | inr past ↦ rw (is, was) (grind (arith, nat_tests))
@@ -84,10 +89,12 @@ module _ (so : Reg → Option Insn → Bool) (block : List Insn) (j k : ℕ) (re
 
 -- ---- both tables
 
-added_writers : (uses : List Uses) (j : ℕ) (u : Uses) (always : Bool) (old new : List NumberSet) → j < length uses → u ≡ get_or uses j u
+added_writers : (uses : List Uses) (j : ℕ) (u : Uses) (always : Bool) (old new : List NumberSet) → j < length uses
+    → u ≡ get_or uses j u
     → always ≡ is_none (cond_of u.insn)
     → ((reg : Reg) (k : ℕ) → number_in (at_register new reg) k
-    ≡ (if reg_in u.written reg then (not always && number_in (at_register old reg) k) || (k == j) else number_in (at_register old reg) k))
+    ≡ (if reg_in u.written reg then (not always && number_in (at_register old reg) k) || (k == j) else number_in
+    (at_register old reg) k))
     → ((reg : Reg) (k : ℕ) → number_in (at_register old reg) k ≡ is_openly writes_in (insns_in uses) j reg k)
     → (reg : Reg) (k : ℕ) → number_in (at_register new reg) k ≡ is_openly writes_in (insns_in uses) (j + 1) reg k
 added_writers uses j u always old new within at free noted were reg k = by_test (reg_in u.written reg) refl
@@ -95,27 +102,36 @@ added_writers uses j u always old new within at free noted were reg k = by_test 
     here : slice_get (insns_in uses) j ≡ Some u.insn
     here = insn_at uses j u within at
 
-    by_test : (t : Bool) → reg_in u.written reg ≡ t → number_in (at_register new reg) k ≡ is_openly writes_in (insns_in uses) (j + 1) reg k
+    by_test : (t : Bool) → reg_in u.written reg ≡ t
+        → number_in (at_register new reg) k ≡ is_openly writes_in (insns_in uses) (j + 1) reg k
     by_test true is =
         let writes : writes_in reg (Some u.insn) ≡ true = sym (writes_are u reg) ∙ is in
-        noted_more writes_in (insns_in uses) j k reg always (number_in (at_register old reg) k) (number_in (at_register new reg) k)
-        (ap (writes_in reg) here ∙ writes) (ap (always_writes reg) here ∙ rw (writes, ← free) (grind (arith, nat_tests))) (were reg k)
+        noted_more writes_in (insns_in uses) j k reg always (number_in (at_register old reg) k)
+        (number_in (at_register new reg) k)
+        (ap (writes_in reg) here ∙ writes) (ap (always_writes reg) here
+        ∙ rw (writes, ← free) (grind (arith, nat_tests))) (were reg k)
         (noted reg k ∙ rw is refl)
     by_test false is =
         let writes : writes_in reg (Some u.insn) ≡ false = sym (writes_are u reg) ∙ is in
-        unnoted_more writes_in (insns_in uses) j k reg always (number_in (at_register old reg) k) (number_in (at_register new reg) k)
-        (ap (writes_in reg) here ∙ writes) (ap (always_writes reg) here ∙ rw (writes, ← free) (grind (arith, nat_tests))) (were reg k)
+        unnoted_more writes_in (insns_in uses) j k reg always (number_in (at_register old reg) k)
+        (number_in (at_register new reg) k)
+        (ap (writes_in reg) here ∙ writes) (ap (always_writes reg) here
+        ∙ rw (writes, ← free) (grind (arith, nat_tests))) (were reg k)
         (noted reg k ∙ rw is refl)
 
-added_users : (uses : List Uses) (j : ℕ) (u : Uses) (always : Bool) (old half new : List NumberSet) → j < length uses → u ≡ get_or uses j u
+added_users : (uses : List Uses) (j : ℕ) (u : Uses) (always : Bool) (old half new : List NumberSet) → j < length uses
+    → u ≡ get_or uses j u
     → always ≡ is_none (cond_of u.insn)
     → ((reg : Reg) (k : ℕ) → number_in (at_register half reg) k
-    ≡ (if reg_in u.written reg then (not always && number_in (at_register old reg) k) || (k == j) else number_in (at_register old reg) k))
+    ≡ (if reg_in u.written reg then (not always && number_in (at_register old reg) k) || (k == j) else number_in
+    (at_register old reg) k))
     → ((reg : Reg) (k : ℕ) → number_in (at_register new reg) k
-    ≡ (if reg_in u.reads reg then (not false && number_in (at_register half reg) k) || (k == j) else number_in (at_register half reg) k))
+    ≡ (if reg_in u.reads reg then (not false && number_in (at_register half reg) k) || (k == j) else number_in
+    (at_register half reg) k))
     → ((reg : Reg) (k : ℕ) → number_in (at_register old reg) k ≡ is_openly uses_in (insns_in uses) j reg k)
     → (reg : Reg) (k : ℕ) → number_in (at_register new reg) k ≡ is_openly uses_in (insns_in uses) (j + 1) reg k
-added_users uses j u always old half new within at free written read were reg k = by_test (reg_in u.written reg) (reg_in u.reads reg) refl refl
+added_users uses j u always old half new within at free written read were reg k = by_test (reg_in u.written reg)
+    (reg_in u.reads reg) refl refl
   where
     here : slice_get (insns_in uses) j ≡ Some u.insn
     here = insn_at uses j u within at
@@ -137,7 +153,8 @@ added_users uses j u always old half new within at free written read were reg k 
     by_test false true is reads =
         let writes : writes_in reg (Some u.insn) ≡ false = sym (writes_are u reg) ∙ is in
         noted_more uses_in (insns_in uses) j k reg false before (number_in (at_register new reg) k)
-        (ap (uses_in reg) here ∙ or_left (reads_register u.insn reg) (writes_in reg (Some u.insn)) (sym (u.reads_are reg) ∙ reads))
+        (ap (uses_in reg) here
+        ∙ or_left (reads_register u.insn reg) (writes_in reg (Some u.insn)) (sym (u.reads_are reg) ∙ reads))
         (ap (always_writes reg) here ∙ rw writes (grind (arith, nat_tests))) (were reg k)
         (read reg k ∙ rw (reads, written reg k, is) refl)
     by_test false false is reads =
@@ -147,14 +164,18 @@ added_users uses j u always old half new within at free written read were reg k 
         (ap (always_writes reg) here ∙ rw writes (grind (arith, nat_tests))) (were reg k)
         (read reg k ∙ rw (reads, written reg k, is) refl)
 
-pub users_more : (uses : List Uses) (j : ℕ) (u : Uses) (always : Bool) (old new : RegisterUsers) (half : List NumberSet) → j < length uses
+pub users_more : (uses : List Uses) (j : ℕ) (u : Uses) (always : Bool) (old new : RegisterUsers) (half : List NumberSet)
+    → j < length uses
     → u ≡ get_or uses j u → always ≡ is_none (cond_of u.insn)
     → ((reg : Reg) (k : ℕ) → number_in (at_register new.writers reg) k
-    ≡ (if reg_in u.written reg then (not always && number_in (at_register old.writers reg) k) || (k == j) else number_in (at_register old.writers reg) k))
+    ≡ (if reg_in u.written reg then (not always && number_in (at_register old.writers reg) k) || (k == j) else number_in
+    (at_register old.writers reg) k))
     → ((reg : Reg) (k : ℕ) → number_in (at_register half reg) k
-    ≡ (if reg_in u.written reg then (not always && number_in (at_register old.users reg) k) || (k == j) else number_in (at_register old.users reg) k))
+    ≡ (if reg_in u.written reg then (not always && number_in (at_register old.users reg) k) || (k == j) else number_in
+    (at_register old.users reg) k))
     → ((reg : Reg) (k : ℕ) → number_in (at_register new.users reg) k
-    ≡ (if reg_in u.reads reg then (not false && number_in (at_register half reg) k) || (k == j) else number_in (at_register half reg) k))
+    ≡ (if reg_in u.reads reg then (not false && number_in (at_register half reg) k) || (k == j) else number_in
+    (at_register half reg) k))
     → IsOpenAt uses j old → IsOpenAt uses (j + 1) new
 users_more uses j u always old new half within at free writers written read are = record {
   writers = added_writers uses j u always old.writers new.writers within at free writers are.writers;
@@ -162,7 +183,8 @@ users_more uses j u always old new half within at free writers written read are 
 }
 
 -- before the first instruction
-pub users_none : (uses : List Uses) (one other : NumberSet) → ((k : ℕ) → number_in one k ≡ false) → ((k : ℕ) → number_in other k ≡ false)
+pub users_none : (uses : List Uses) (one other : NumberSet) → ((k : ℕ) → number_in one k ≡ false)
+    → ((k : ℕ) → number_in other k ≡ false)
     → IsOpenAt uses 0 (record { writers = replicate 32 one; users = replicate 32 other })
 users_none uses one other first second = record {
   writers = λ reg k. none_at 32 (register_index reg) one k (first k) ∙ none_before k _;
@@ -172,128 +194,8 @@ users_none uses one other first second = record {
     none_before : (k : ℕ) (b : Bool) → false ≡ (nat_lt k 0 && b)
     none_before k b = grind (arith, nat_tests)
 
-    none_at : (n index : ℕ) (set : NumberSet) (k : ℕ) → number_in set k ≡ false → number_in (get_or (replicate n set) index no_numbers) k ≡ false
+    none_at : (n index : ℕ) (set : NumberSet) (k : ℕ) → number_in set k ≡ false
+        → number_in (get_or (replicate n set) index no_numbers) k ≡ false
     none_at zero index set k none = none_in 4 k
     none_at (suc n) zero set k none = none
     none_at (suc n) (suc index) set k none = none_at n index set k none
-
--- ---- those that meet an instruction openly
-
-pub openly_meet : (uses : List Uses) (j : ℕ) (q : Uses) (known : RegisterUsers) (first second all : NumberSet) → j < length uses → q ≡ get_or uses j q
-    → IsOpenAt uses j known
-    → ((k : ℕ) → number_in first k ≡ true → (reg : Reg) × (reg_in q.used reg ≡ true) × (number_in (at_register known.writers reg) k ≡ true))
-    → ((k : ℕ) → ((reg : Reg) × (reg_in q.used reg ≡ true) × (number_in (at_register known.writers reg) k ≡ true)) → number_in first k ≡ true)
-    → ((k : ℕ) → number_in second k ≡ true → (reg : Reg) × (reg_in q.written reg ≡ true) × (number_in (at_register known.users reg) k ≡ true))
-    → ((k : ℕ) → ((reg : Reg) × (reg_in q.written reg ≡ true) × (number_in (at_register known.users reg) k ≡ true)) → number_in second k ≡ true)
-    → ((k : ℕ) → number_in all k ≡ (number_in first k || number_in second k)) → AreOpenly uses j all
-openly_meet uses j q known first second all within at are from_first to_first from_second to_second joined k =
-    same_tests (number_in all k) (nat_lt k j && meet_openly block k j (slice_get block k) (slice_get block j)) (λ h. joins (sym (joined k) ∙ h)) apart
-  where
-    block : List Insn
-    block = insns_in uses
-
-    here : slice_get block j ≡ Some q.insn
-    here = insn_at uses j q within at
-
-    -- a register that p uses so, and q
-    meets : (p : Insn) (reg : Reg) → slice_get block k ≡ Some p → k < j → is_open block k j reg ≡ true
-        → ((writes_in reg (Some p) && uses_register q.insn reg) || (uses_register p reg && writes_in reg (Some q.insn))) ≡ true
-        → (nat_lt k j && meet_openly block k j (slice_get block k) (slice_get block j)) ≡ true
-    meets p reg at_k before opened h = rw (at_k, here, lt-ltb k j before) (elim (or_cases _ _ h) [
-      | inl writes ↦
-          let parts = and_parts (writes_in reg (Some p)) (uses_register q.insn reg) writes in
-          let w = a_write reg (register_writes p) parts.0 in
-          or_left _ _ (list_any_at (λ (write : Reg × ℕ). is_open block k j write.0 && uses_register q.insn write.0) (register_writes p)
-          w.1.0 (reg, w.0) w.1.1 (rw (w.1.2, opened, parts.1) refl))
-      | inr uses_it ↦
-          let parts = and_parts (uses_register p reg) (writes_in reg (Some q.insn)) uses_it in
-          let w = a_write reg (register_writes q.insn) parts.1 in
-          elim (or_cases (reads_register p reg) (writes_in reg (Some p)) parts.0) [
-            | inl reads ↦
-                or_right _ _ (list_any_at (λ (write : Reg × ℕ). is_open block k j write.0 && reads_register p write.0) (register_writes q.insn)
-                w.1.0 (reg, w.0) w.1.1 (rw (w.1.2, opened, reads) refl))
-            | inr writes ↦
-                let v = a_write reg (register_writes p) writes in
-                or_left _ _ (list_any_at (λ (write : Reg × ℕ). is_open block k j write.0 && uses_register q.insn write.0) (register_writes p)
-                v.1.0 (reg, v.0) v.1.1 (rw (v.1.2, opened, or_right (reads_register q.insn reg) _ parts.1) refl))
-          ]
-    ])
-
-    -- number k is at a register
-    at_k : (so : Reg → Option Insn → Bool) (reg : Reg) → is_openly so block j reg k ≡ true → ((o : Option Insn) → so reg o ≡ true → is_some o ≡ true)
-        → (k < j) × ((p : Insn) × (slice_get block k ≡ Some p) × (so reg (Some p) ≡ true)) × (is_open block k j reg ≡ true)
-    at_k so reg h some =
-        let parts = and_parts (nat_lt k j) (so reg (slice_get block k) && is_open block k j reg) h in
-        let rest = and_parts (so reg (slice_get block k)) (is_open block k j reg) parts.1 in
-        (ltb-true k j parts.0, by_insn (slice_get block k) refl rest.0, rest.1)
-      where
-        by_insn : (o : Option Insn) → slice_get block k ≡ o → so reg o ≡ true → (p : Insn) × (slice_get block k ≡ Some p) × (so reg (Some p) ≡ true)
-        by_insn None e is = (let clash : false ≡ true = some None is in cc)
-        by_insn (Some p) e is = (p, e, is)
-
-    written_some : (reg : Reg) (o : Option Insn) → writes_in reg o ≡ true → is_some o ≡ true
-    written_some reg None h = h
-    written_some reg (Some p) h = refl
-
-    used_some : (reg : Reg) (o : Option Insn) → uses_in reg o ≡ true → is_some o ≡ true
-    used_some reg None h = h
-    used_some reg (Some p) h = refl
-
-    used_is : (reg : Reg) → reg_in q.used reg ≡ uses_register q.insn reg
-    used_is reg = q.used_are reg ∙ rw (q.reads_are reg, writes_are q reg) refl
-
-    joins : (number_in first k || number_in second k) ≡ true → (nat_lt k j && meet_openly block k j (slice_get block k) (slice_get block j)) ≡ true
-    joins h = elim (or_cases (number_in first k) (number_in second k) h) [
-      | inl one ↦
-          let w = from_first k one in
-          let m = at_k writes_in w.0 (sym (are.writers w.0 k) ∙ w.2) (written_some w.0) in
-          meets m.1.0 w.0 m.1.1 m.0 m.2 (or_left _ _ (both_true m.1.2 (sym (used_is w.0) ∙ w.1)))
-      | inr other ↦
-          let w = from_second k other in
-          let m = at_k uses_in w.0 (sym (are.users w.0 k) ∙ w.2) (used_some w.0) in
-          meets m.1.0 w.0 m.1.1 m.0 m.2 (or_right _ _ (both_true m.1.2 (sym (writes_are q w.0) ∙ w.1)))
-    ]
-      where
-        both_true : {a b : Bool} → a ≡ true → b ≡ true → (a && b) ≡ true
-        both_true one other = rw (one, other) refl
-
-    apart : (nat_lt k j && meet_openly block k j (slice_get block k) (slice_get block j)) ≡ true → number_in all k ≡ true
-    apart h =
-        let parts = and_parts (nat_lt k j) (meet_openly block k j (slice_get block k) (slice_get block j)) h in
-        by_insn (slice_get block k) refl (ltb-true k j parts.0)
-        (ap (meet_openly block k j (slice_get block k)) (sym here) ∙ parts.1)
-      where
-        by_insn : (o : Option Insn) → slice_get block k ≡ o → k < j → meet_openly block k j (slice_get block k) (Some q.insn) ≡ true
-            → number_in all k ≡ true
-        by_insn None e before is = (let clash : false ≡ true = ap (λ (x : Option Insn). meet_openly block k j x (Some q.insn)) (sym e) ∙ is in cc)
-        by_insn (Some p) e before is =
-            let met : meet_in (is_open block k j) p q.insn ≡ true = ap (λ (x : Option Insn). meet_openly block k j x (Some q.insn)) (sym e) ∙ is in
-            joined k ∙ elim (or_cases _ _ met) [
-              | inl writes ↦
-                  let w = Any-from_list_any (λ (write : Reg × ℕ). is_open block k j write.0 && uses_register q.insn write.0) (register_writes p) writes in
-                  let tests = and_parts (is_open block k j w.1.0) (uses_register q.insn w.1.0) w.4 in
-                  let it = some_write w.1.0 w.1.1 (register_writes p) (w.0, w.2, w.3) in
-                  or_left (number_in first k) (number_in second k)
-                  (to_first k (w.1.0, used_is w.1.0 ∙ tests.1, are.writers w.1.0 k ∙ rw (lt-ltb k j before, e, it, tests.0) refl))
-              | inr reads ↦
-                  let w = Any-from_list_any (λ (write : Reg × ℕ). is_open block k j write.0 && reads_register p write.0) (register_writes q.insn) reads in
-                  let tests = and_parts (is_open block k j w.1.0) (reads_register p w.1.0) w.4 in
-                  let it = some_write w.1.0 w.1.1 (register_writes q.insn) (w.0, w.2, w.3) in
-                  or_right (number_in first k) (number_in second k)
-                  (to_second k (
-                    w.1.0,
-                    writes_are q w.1.0 ∙ it,
-                    are.users w.1.0 k
-                        ∙ rw (lt-ltb k j before, e, or_left (reads_register p w.1.0) (writes_in w.1.0 (Some p)) tests.1, tests.0) refl,
-                  ))
-            ]
-
--- whether an instruction has no condition
-pub none_told : (o r : Option Condition) (t : Bool) → r ≡ o → is_some r ≡ not t → t ≡ is_none o
-none_told o r t same e = rw (← same) (of_option r t e)
-  where
-    of_option : (r : Option Condition) (t : Bool) → is_some r ≡ not t → t ≡ is_none r
-    of_option None true e = refl
-    of_option None false e = cc
-    of_option (Some cond) true e = cc
-    of_option (Some cond) false e = refl

@@ -1,7 +1,10 @@
 -- The lists of dependences and the heights are what their rules say.
-use Rattle.c62_depend.proofs.Common.{◌≡◌, ℕ, zero, suc, ◌+◌, ◌-◌, ◌<◌, ◌≤◌, max, ℤ, pos, ◌+ℤ◌, ◌≤ℤ◌, List, [], ◌∷◌, ◌++◌, length, map, Option, Some}
-use Rattle.c62_depend.proofs.Common.{None, refl, sym, subst, arith, inl, inr, ◌⊎◌, All, Contains, flat_map, range_with_len, ints, cases_lt, All-nil}
-use Rattle.c62_depend.proofs.Common.{All-cons, All-contains, Contains-append_left, Contains-append_right, Insn, Link, latency, linked}
+use Rattle.c62_depend.proofs.Common.{◌≡◌, ℕ, zero, suc, ◌+◌, ◌-◌, ◌<◌, ◌≤◌, max, ℤ, pos, ◌+ℤ◌, ◌≤ℤ◌, List, [], ◌∷◌}
+use Rattle.c62_depend.proofs.Common.{◌++◌, length, map, Option, Some}
+use Rattle.c62_depend.proofs.Common.{None, refl, sym, subst, arith, inl, inr, ◌⊎◌, All, Contains, flat_map}
+use Rattle.c62_depend.proofs.Common.{range_with_len, ints, cases_lt, All-nil}
+use Rattle.c62_depend.proofs.Common.{All-cons, All-contains, Contains-append_left, Contains-append_right, Insn, Link}
+use Rattle.c62_depend.proofs.Common.{latency, linked}
 use Rattle.c62_depend.proofs.Common.{followers, raised, delay_at, longest, height, IsHeight, ◌∙◌}
 use Rattle.std.specs.List.Sorted.{IsStrictlyIncreasing}
 use Rattle.c62_depend.specs.Laws.{AreLinks}
@@ -17,16 +20,19 @@ later_in : {A : Type 0} (y x : A) (xs : List A) → Contains xs x → Contains (
 later_in y x xs w = (suc w.0, (let low : w.0 < length xs = w.1 in omega arith), w.2)
 
 -- a piece is part of the whole
-piece_in : {A : Type 0} (f : ℕ → List A) (a n j : ℕ) (x : A) → a ≤ j → j < a + n → Contains (f j) x → Contains (flat_map f (range_with_len a n)) x
+piece_in : {A : Type 0} (f : ℕ → List A) (a n j : ℕ) (x : A) → a ≤ j → j < a + n → Contains (f j) x
+    → Contains (flat_map f (range_with_len a n)) x
 piece_in f a zero j x low high is = absurd (omega arith)
 piece_in {A} f a (suc n) j x low high is = elim (cases_lt a j) [
-  | inl after ↦ Contains-append_right (f a) (flat_map f (range_with_len (a + 1) n)) x (piece_in f (a + 1) n j x (omega arith) (omega arith) is)
+  | inl after ↦ Contains-append_right (f a) (flat_map f (range_with_len (a + 1) n)) x
+      (piece_in f (a + 1) n j x (omega arith) (omega arith) is)
   | inr first ↦
       let same : a ≡ j = omega arith in
       Contains-append_left (f a) (flat_map f (range_with_len (a + 1) n)) x (rw same is)
 ]
 
-link_in : (number : ℕ) (o : Option ℤ) (l : ℤ) → o ≡ Some l → Contains (linked number o) (record { number = number; latency = l })
+link_in : (number : ℕ) (o : Option ℤ) (l : ℤ) → o ≡ Some l
+    → Contains (linked number o) (record { number = number; latency = l })
 link_in number o l e = rw e (first_in (record { number = number; latency = l }) [])
 
 -- the numbers rise, from this one on
@@ -42,13 +48,15 @@ rises_lower low least (link ∷ links) h r = ((let above : low ≤ link.number =
 pieces_rise : (o : ℕ → Option ℤ) (a n : ℕ) → Rises a (flat_map (λ j. linked j (o j)) (range_with_len a n))
 unfolding Rises
 pieces_rise o a zero = tt
-pieces_rise o a (suc n) = one_more (o a) (flat_map (λ j. linked j (o j)) (range_with_len (a + 1) n)) (pieces_rise o (a + 1) n)
+pieces_rise o a (suc n) = one_more (o a) (flat_map (λ j. linked j (o j)) (range_with_len (a + 1) n))
+    (pieces_rise o (a + 1) n)
   where
     one_more : (p : Option ℤ) (links : List Link) → Rises (a + 1) links → Rises a (linked a p ++ links)
     one_more None links r = rises_lower (a + 1) a links (omega arith) r
     one_more (Some l) links r = (omega arith, r)
 
-increasing_from : (low : ℕ) (links : List Link) → Rises low links → IsStrictlyIncreasing (map (λ link. link.number) links)
+increasing_from : (low : ℕ) (links : List Link) → Rises low links
+    → IsStrictlyIncreasing (map (λ link. link.number) links)
 unfolding Rises
 increasing_from low [] r k within = absurd (omega arith)
 increasing_from low (x ∷ []) r k within = absurd (omega arith)
@@ -68,22 +76,27 @@ pieces_are o a n within = record {
   all = pieces-all (Tells o) (λ k. linked k (o k)) a n (λ k low high. linked-all (Tells o) k (o k) (λ l e. e));
   each = λ link e.
       let inside = within link.number link.latency e in
-      piece_in (λ k. linked k (o k)) a n link.number link inside.0 inside.1 (link_in link.number (o link.number) link.latency e);
+      piece_in (λ k. linked k (o k)) a n link.number link inside.0 inside.1
+      (link_in link.number (o link.number) link.latency e);
   rising = increasing_from a (flat_map (λ k. linked k (o k)) (range_with_len a n)) (pieces_rise o a n);
 }
 
-pub followers_are : (block : List Insn) (i : ℕ) → AreLinks (λ link. latency block i link.number ≡ Some link.latency) (followers block i)
+pub followers_are : (block : List Insn) (i : ℕ)
+    → AreLinks (λ link. latency block i link.number ≡ Some link.latency) (followers block i)
 unfolding followers
 followers_are block i = pieces_are (latency block i) (i + 1) (length block - (i + 1))
-    (λ j l e. let short = short_is block i j l e in (omega (arith, short.before), omega (arith, short.before, short.within)))
+    (λ j l e. let short = short_is block i j l e in
+    (omega (arith, short.before), omega (arith, short.before, short.within)))
 
 -- ---- heights
 
 pub longest-least : (f : ℕ → ℕ) (least : ℕ) (links : List Link) → least ≤ longest f least links
 longest-least f least [] = omega arith
-longest-least f least (link ∷ links) = grind (arith, longest-least f (max least (raised link.latency (f link.number))) links)
+longest-least f least (link ∷ links) = grind
+    (arith, longest-least f (max least (raised link.latency (f link.number))) links)
 
-pub longest-each : (f : ℕ → ℕ) (least : ℕ) (links : List Link) → All (λ link. raised link.latency (f link.number) ≤ longest f least links) links
+pub longest-each : (f : ℕ → ℕ) (least : ℕ) (links : List Link)
+    → All (λ link. raised link.latency (f link.number) ≤ longest f least links) links
 longest-each f least [] = All-nil (λ (link : Link). raised link.latency (f link.number) ≤ longest f least [])
 longest-each f least (link ∷ links) =
     All-cons (λ (one : Link). raised one.latency (f one.number) ≤ longest f least (link ∷ links)) link links
@@ -91,7 +104,8 @@ longest-each f least (link ∷ links) =
     (longest-each f (max least (raised link.latency (f link.number))) links)
 
 abbrev pub Reaches : (ℕ → ℕ) → ℕ → ℕ → List Link → Type 0
-Reaches f least most links = (most ≡ least) ⊎ ((link : Link) × Contains links link × (most ≡ raised link.latency (f link.number)))
+Reaches f least most links = (most ≡ least)
+    ⊎ ((link : Link) × Contains links link × (most ≡ raised link.latency (f link.number)))
 
 pub longest-reached : (f : ℕ → ℕ) (least : ℕ) (links : List Link) → Reaches f least (longest f least links) links
 longest-reached f least [] = inl refl
@@ -118,16 +132,21 @@ height_is block i within = subst (IsHeight block i) (sym (height-step block i wi
   above = λ j cycles e.
       let is_in = (followers_are block i).each (record { number = j; latency = cycles }) e in
       let below : raised cycles (height block j) ≤ longest (height block) (delay_at block i) (followers block i) =
-      All-contains (λ (link : Link). raised link.latency (height block link.number) ≤ longest (height block) (delay_at block i) (followers block i))
-      (followers block i) (record { number = j; latency = cycles }) (longest-each (height block) (delay_at block i) (followers block i)) is_in in
+      All-contains (λ (link : Link). raised link.latency (height block link.number) ≤ longest (height block)
+      (delay_at block i) (followers block i))
+      (followers block i) (record { number = j; latency = cycles })
+      (longest-each (height block) (delay_at block i) (followers block i)) is_in in
       omega (arith, ints, below, raised-above cycles (height block j));
   attained =
-      reached (longest (height block) (delay_at block i) (followers block i)) (longest-least (height block) (delay_at block i) (followers block i))
+      reached (longest (height block) (delay_at block i) (followers block i))
+      (longest-least (height block) (delay_at block i) (followers block i))
       (longest-reached (height block) (delay_at block i) (followers block i));
 })
   where
     reached : (most : ℕ) → delay_at block i ≤ most → Reaches (height block) (delay_at block i) most (followers block i)
-        → (most ≡ delay_at block i) ⊎ ((j : ℕ) × (cycles : ℤ) × (latency block i j ≡ Some cycles) × (cycles +ℤ pos (height block j) ≡ pos most))
+        → (most ≡ delay_at block i)
+        ⊎ ((j : ℕ) × (cycles : ℤ) × (latency block i j ≡ Some cycles)
+        × (cycles +ℤ pos (height block j) ≡ pos most))
     reached most low (inl e) = inl e
     reached most low (inr w) =
         let is = All-contains (IsFollower block i) (followers block i) w.0 (followers-are block i) w.1 in

@@ -1,6 +1,8 @@
 -- Elements at the registers of a set, gone over from the lowest.
-use Rattle.c62_depend.proofs.Common.{◌≡◌, ℕ, ◌+◌, ◌*◌, ◌^◌, ◌<◌, ◌≤◌, Bool, true, false, List, length, set, get_or, refl, sym, ap, ◌∙◌, arith, inl, inr, ◌⊎◌}
-use Rattle.c62_depend.proofs.Common.{bit_at, cases_eq, cases_lt, get_or-set_at, get_or-set_other, ◌==◌, Reg, RegSet, reg_in, eqb-true, nat_tests, both_ways, ◌||◌, or_cases, or_left, or_right}
+use Rattle.c62_depend.proofs.Common.{◌≡◌, ℕ, ◌+◌, ◌*◌, ◌^◌, ◌<◌, ◌≤◌, Bool, true, false, List, length, set, get_or}
+use Rattle.c62_depend.proofs.Common.{refl, sym, ap, ◌∙◌, arith, inl, inr, ◌⊎◌}
+use Rattle.c62_depend.proofs.Common.{bit_at, cases_eq, cases_lt, get_or-set_at, get_or-set_other, ◌==◌, Reg, RegSet}
+use Rattle.c62_depend.proofs.Common.{reg_in, eqb-true, nat_tests, both_ways, ◌||◌, or_cases, or_left, or_right}
 use Rattle.std.proofs.Common.{◌/◌}
 use Rattle.std.proofs.Math.ListN.{length-set}
 use Rattle.std.proofs.lemmas.Nat.Bits.{bit_at-lt}
@@ -20,7 +22,8 @@ pub record AreChanged {X : Type 0} (So : X → X → Type 0) (old new : List X) 
   pub kept : (index : ℕ) → index < at → bit_at word index ≡ 0 → get_or new index d ≡ get_or old index d
   pub ahead : (index : ℕ) → at ≤ index → get_or new index d ≡ get_or old index d
 
-pub changed_none : {X : Type 0} (So : X → X → Type 0) (old : List X) (d : X) (word : ℕ) → AreChanged So old old d word 0 word
+pub changed_none : {X : Type 0} (So : X → X → Type 0) (old : List X) (d : X) (word : ℕ)
+    → AreChanged So old old d word 0 word
 changed_none So old d word = record {
   left = omega arith;
   long = refl;
@@ -30,7 +33,8 @@ changed_none So old d word = record {
 }
 
 pub changed_more : {X : Type 0} (So : X → X → Type 0) (old new next : List X) (d after : X) (word at rest skipped : ℕ)
-    → AreChanged So old new d word at rest → IsLowest word at rest skipped → at + skipped < length old → next ≡ set new (at + skipped) after
+    → AreChanged So old new d word at rest → IsLowest word at rest skipped → at + skipped < length old
+    → next ≡ set new (at + skipped) after
     → So (get_or new (at + skipped) d) after → AreChanged So old next d word (at + skipped + 1) (rest / 2 ^ skipped / 2)
 changed_more {X} So old new next d after word at rest skipped are low within is so = rw is (record {
   left = low.next;
@@ -59,38 +63,49 @@ changed_more {X} So old new next d after word at rest skipped are low within is 
 
 -- in the end those at the registers of the set are
 pub changed_in : {X : Type 0} (So : X → X → Type 0) (old new : List X) (d : X) (set : RegSet) (at rest : ℕ) (reg : Reg)
-    → 0 ≡ rest → AreChanged So old new d set.bits at rest → reg_in set reg ≡ true → So (get_or old (register_index reg) d) (get_or new (register_index reg) d)
-changed_in So old new d set at rest reg none are is = (let before = reg_before set at reg (none ∙ are.left) is in are.changed (register_index reg) before.0 before.1)
+    → 0 ≡ rest → AreChanged So old new d set.bits at rest → reg_in set reg ≡ true
+    → So (get_or old (register_index reg) d) (get_or new (register_index reg) d)
+changed_in So old new d set at rest reg none are is = (let before = reg_before set at reg (none
+    ∙ are.left) is in are.changed (register_index reg) before.0 before.1)
 
 pub changed_not : {X : Type 0} (So : X → X → Type 0) (old new : List X) (d : X) (set : RegSet) (at rest : ℕ) (reg : Reg)
-    → 0 ≡ rest → AreChanged So old new d set.bits at rest → reg_in set reg ≡ false → get_or new (register_index reg) d ≡ get_or old (register_index reg) d
+    → 0 ≡ rest → AreChanged So old new d set.bits at rest → reg_in set reg ≡ false
+    → get_or new (register_index reg) d ≡ get_or old (register_index reg) d
 changed_not So old new d set at rest reg none are is =
-    let bit : bit_at set.bits (register_index reg) ≡ 0 = grind (arith, nat_tests, is, bit_at-lt set.bits (register_index reg)) in
-    elim (cases_lt (register_index reg) at) [ inl low ↦ are.kept (register_index reg) low bit | inr high ↦ are.ahead (register_index reg) high ]
+    let bit : bit_at set.bits (register_index reg) ≡ 0 = grind
+    (arith, nat_tests, is, bit_at-lt set.bits (register_index reg)) in
+    elim (cases_lt (register_index reg) at)
+    [ inl low ↦ are.kept (register_index reg) low bit | inr high ↦ are.ahead (register_index reg) high ]
 
 -- ---- the numbers at the registers of a set
 
 -- the set has the numbers of those at the bits before a place
 pub record AreGathered (all : NumberSet) (sets : List NumberSet) (word at rest : ℕ) : Type 0 where
   pub left : rest ≡ word / 2 ^ at
-  pub has : (index k : ℕ) → index < at → bit_at word index ≡ 1 → number_in (get_or sets index no_numbers) k ≡ true → number_in all k ≡ true
-  pub from : (k : ℕ) → number_in all k ≡ true → (index : ℕ) × (index < at) × (bit_at word index ≡ 1) × (number_in (get_or sets index no_numbers) k ≡ true)
+  pub has : (index k : ℕ) → index < at → bit_at word index ≡ 1 → number_in (get_or sets index no_numbers) k ≡ true
+      → number_in all k ≡ true
+  pub from : (k : ℕ) → number_in all k ≡ true → (index : ℕ) × (index < at) × (bit_at word index ≡ 1)
+      × (number_in (get_or sets index no_numbers) k ≡ true)
 
-pub gathered_none : (all : NumberSet) (sets : List NumberSet) (word : ℕ) → ((k : ℕ) → number_in all k ≡ false) → AreGathered all sets word 0 word
+pub gathered_none : (all : NumberSet) (sets : List NumberSet) (word : ℕ) → ((k : ℕ) → number_in all k ≡ false)
+    → AreGathered all sets word 0 word
 gathered_none all sets word none = record {
   left = omega arith;
   has = λ index k low. absurd (omega (arith, low));
   from = λ k is. absurd (both_ways (number_in all k) (none k) is);
 }
 
-pub gathered_more : (all more one : NumberSet) (sets : List NumberSet) (word at rest skipped : ℕ) → AreGathered all sets word at rest
+pub gathered_more : (all more one : NumberSet) (sets : List NumberSet) (word at rest skipped : ℕ)
+    → AreGathered all sets word at rest
     → IsLowest word at rest skipped → one ≡ get_or sets (at + skipped) no_numbers
-    → ((k : ℕ) → number_in more k ≡ (number_in all k || number_in one k)) → AreGathered more sets word (at + skipped + 1) (rest / 2 ^ skipped / 2)
+    → ((k : ℕ) → number_in more k ≡ (number_in all k || number_in one k))
+    → AreGathered more sets word (at + skipped + 1) (rest / 2 ^ skipped / 2)
 gathered_more all more one sets word at rest skipped are low is joined = record {
   left = low.next;
   has = λ index k below bit is_in. joined k ∙ (elim (cases_eq index (at + skipped)) [
     | inl same ↦
-        or_right (number_in all k) (number_in one k) (ap (λ (s : NumberSet). number_in s k) (is ∙ ap (λ n. get_or sets n no_numbers) (sym same)) ∙ is_in)
+        or_right (number_in all k) (number_in one k) (ap (λ (s : NumberSet). number_in s k) (is
+        ∙ ap (λ n. get_or sets n no_numbers) (sym same)) ∙ is_in)
     | inr other ↦ elim (cases_lt index at) [
       | inl earlier ↦ or_left (number_in all k) (number_in one k) (are.has index k earlier bit is_in)
       | inr later ↦ absurd (omega (arith, bit, low.none index later (omega arith)))
@@ -102,11 +117,14 @@ gathered_more all more one sets word at rest skipped are low is joined = record 
   ];
 }
 
-pub gathered_of : (all : NumberSet) (sets : List NumberSet) (set : RegSet) (at rest : ℕ) → 0 ≡ rest → AreGathered all sets set.bits at rest → (k : ℕ)
+pub gathered_of : (all : NumberSet) (sets : List NumberSet) (set : RegSet) (at rest : ℕ) → 0 ≡ rest
+    → AreGathered all sets set.bits at rest → (k : ℕ)
     → (((reg : Reg) × (reg_in set reg ≡ true) × (number_in (at_register sets reg) k ≡ true)) → number_in all k ≡ true)
-gathered_of all sets set at rest none are k (reg, is, is_in) = (let before = reg_before set at reg (none ∙ are.left) is in are.has (register_index reg) k before.0 before.1 is_in)
+gathered_of all sets set at rest none are k (reg, is, is_in) = (let before = reg_before set at reg (none
+    ∙ are.left) is in are.has (register_index reg) k before.0 before.1 is_in)
 
-pub gathered_from : (all : NumberSet) (sets : List NumberSet) (set : RegSet) (at rest : ℕ) → 0 ≡ rest → AreGathered all sets set.bits at rest → (k : ℕ)
+pub gathered_from : (all : NumberSet) (sets : List NumberSet) (set : RegSet) (at rest : ℕ) → 0 ≡ rest
+    → AreGathered all sets set.bits at rest → (k : ℕ)
     → number_in all k ≡ true → (reg : Reg) × (reg_in set reg ≡ true) × (number_in (at_register sets reg) k ≡ true)
 gathered_from all sets set at rest none are k is_in =
     let w = are.from k is_in in

@@ -1,10 +1,13 @@
 -- The bits of a word, one after the other from the lowest.
-use Rattle.c62_depend.proofs.Common.{◌≡◌, ℕ, zero, ◌+◌, ◌-◌, ◌*◌, ◌^◌, ◌%◌, ◌<◌, ◌≤◌, List, length, set, get_or, refl, sym, ap, ◌∙◌, arith, inl, inr, bit_or}
-use Rattle.c62_depend.proofs.Common.{slice_index, bit_at, trailing_zeros, cases_lt, cases_eq, get_or-set_other, get_or-set_at}
+use Rattle.c62_depend.proofs.Common.{◌≡◌, ℕ, zero, ◌+◌, ◌-◌, ◌*◌, ◌^◌, ◌%◌, ◌<◌, ◌≤◌, List, length, set, get_or, refl}
+use Rattle.c62_depend.proofs.Common.{sym, ap, ◌∙◌, arith, inl, inr, bit_or}
+use Rattle.c62_depend.proofs.Common.{slice_index, bit_at, trailing_zeros, cases_lt, cases_eq, get_or-set_other}
+use Rattle.c62_depend.proofs.Common.{get_or-set_at}
 use Rattle.std.proofs.Common.{◌/◌, w32, w64}
 use Rattle.std.proofs.Math.Nat.{div-le_self}
 use Rattle.std.proofs.lemmas.Nat.{shr-shr}
-use Rattle.std.proofs.lemmas.Nat.Bits.{bit_at-trailing_zeros, bit_at-zero, bit_at_above, bit_at_set_same, bit_at_set_other, bit_at_or, bit_at-lt}
+use Rattle.std.proofs.lemmas.Nat.Bits.{bit_at-trailing_zeros, bit_at-zero, bit_at_above, bit_at_set_same}
+use Rattle.std.proofs.lemmas.Nat.Bits.{bit_at_set_other, bit_at_or, bit_at-lt}
 use Rattle.c62_depend.proofs.Common.{true, eqb-true, Reg, RegSet, reg_in}
 use Rattle.c62_op.specs.Register.{register_index}
 
@@ -18,7 +21,8 @@ pub record IsLowest (word at rest skipped : ℕ) : Type 0 where
 moved : (word at rest bit : ℕ) → rest ≡ word / 2 ^ at → bit_at rest bit ≡ bit_at word (at + bit)
 moved word at rest bit is = rw is (ap (λ x. x % 2) (shr-shr word at bit))
 
-lowest_is : (word at rest skipped : ℕ) → rest ≡ word / 2 ^ at → 0 < rest → bit_at rest skipped ≡ 1 → ((bit : ℕ) → bit < skipped → bit_at rest bit ≡ 0)
+lowest_is : (word at rest skipped : ℕ) → rest ≡ word / 2 ^ at → 0 < rest → bit_at rest skipped ≡ 1
+    → ((bit : ℕ) → bit < skipped → bit_at rest bit ≡ 0)
     → IsLowest word at rest skipped
 lowest_is word at rest skipped is some one none = record {
   set = sym (moved word at rest skipped is) ∙ one;
@@ -29,13 +33,15 @@ lowest_is word at rest skipped is some one none = record {
   less = (let low : rest / 2 ^ skipped ≤ rest = div-le_self rest (2 ^ skipped) in omega arith);
 }
 
-pub lowest_of_32 : (word at rest : ℕ) → word < 2 ^ 32 → rest ≡ word / 2 ^ at → 0 < rest → IsLowest word at rest (trailing_zeros w32 rest)
+pub lowest_of_32 : (word at rest : ℕ) → word < 2 ^ 32 → rest ≡ word / 2 ^ at → 0 < rest
+    → IsLowest word at rest (trailing_zeros w32 rest)
 lowest_of_32 word at rest fits is some =
     let small : rest ≤ word = rw is (div-le_self word (2 ^ at)) in
     let found = bit_at-trailing_zeros w32 rest some (omega arith) in
     lowest_is word at rest (trailing_zeros w32 rest) is some found.1 found.2
 
-pub lowest_of_64 : (word at rest : ℕ) → rest < 2 ^ 64 → rest ≡ word / 2 ^ at → 0 < rest → IsLowest word at rest (trailing_zeros w64 rest)
+pub lowest_of_64 : (word at rest : ℕ) → rest < 2 ^ 64 → rest ≡ word / 2 ^ at → 0 < rest
+    → IsLowest word at rest (trailing_zeros w64 rest)
 lowest_of_64 word at rest fits is some =
     let found = bit_at-trailing_zeros w64 rest some fits in
     lowest_is word at rest (trailing_zeros w64 rest) is some found.1 found.2
@@ -54,7 +60,8 @@ bit_within word size bit fits is = elim (cases_lt bit size) [
 
 -- ---- the registers of a set
 
-pub first_of_set : (set : RegSet) (at rest : ℕ) → rest ≡ set.bits / 2 ^ at → 0 < rest → IsLowest set.bits at rest (trailing_zeros w32 rest)
+pub first_of_set : (set : RegSet) (at rest : ℕ) → rest ≡ set.bits / 2 ^ at → 0 < rest
+    → IsLowest set.bits at rest (trailing_zeros w32 rest)
 first_of_set set at rest is some = lowest_of_32 set.bits at rest set.within is some
 
 pub first_below : (set : RegSet) (at rest : ℕ) → rest ≡ set.bits / 2 ^ at → 0 < rest → at + trailing_zeros w32 rest < 32

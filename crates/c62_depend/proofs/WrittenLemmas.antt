@@ -1,6 +1,9 @@
 -- The registers that instructions of a block write, one after the other.
-use Rattle.c62_depend.proofs.Common.{◌≡◌, ℕ, suc, zero, ◌+◌, ◌-◌, ◌<◌, ◌≤◌, Bool, true, false, List, [], ◌∷◌, Option, Some, None, refl, sym, ap, ◌∙◌, subst, arith, length, get_or}
-use Rattle.c62_depend.proofs.Common.{◌||◌, list_any, Contains, slice_get, Reg, Insn, same_reg, same_reg-refl, same_reg-is, register_writes, RegSet, reg_in, Uses, insns_in, both_ways, or_cases, or_left, or_right}
+use Rattle.c62_depend.proofs.Common.{◌≡◌, ℕ, suc, zero, ◌+◌, ◌-◌, ◌<◌, ◌≤◌, Bool, true, false, List, [], ◌∷◌, Option}
+use Rattle.c62_depend.proofs.Common.{Some, None, refl, sym, ap, ◌∙◌, subst, arith, length, get_or}
+use Rattle.c62_depend.proofs.Common.{◌||◌, list_any, Contains, slice_get, Reg, Insn, same_reg, same_reg-refl}
+use Rattle.c62_depend.proofs.Common.{same_reg-is, register_writes, RegSet, reg_in, Uses, insns_in, both_ways, or_cases}
+use Rattle.c62_depend.proofs.Common.{or_left, or_right}
 use Rattle.c62_depend.proofs.Common.{false_from_ne_true, inl, inr}
 use Rattle.c62_depend.proofs.Common.{not, ◌&&◌}
 use Rattle.c62_op.specs.declared.register.Cond.{Cond as Condition}
@@ -12,18 +15,24 @@ use Rattle.c62_depend.proofs.Common.{nat_tests}
 use Rattle.c62_depend.proofs.Bounds.{write_of, set_of, is_written}
 use Rattle.c62_depend.proofs.Latencies.{insn_at}
 
-pub some_write : (reg : Reg) (delay : ℕ) (writes : List (Reg × ℕ)) → Contains writes (reg, delay) → list_any (λ (write : Reg × ℕ). same_reg write.0 reg) writes ≡ true
+pub some_write : (reg : Reg) (delay : ℕ) (writes : List (Reg × ℕ)) → Contains writes (reg, delay)
+    → list_any (λ (write : Reg × ℕ). same_reg write.0 reg) writes ≡ true
 some_write reg delay [] (k, l, e) = absurd (omega (arith, l))
 some_write reg delay (w ∷ writes) (zero, l, e) =
     or_left (same_reg w.0 reg) _ (ap (λ (x : Reg × ℕ). same_reg x.0 reg) e ∙ same_reg-refl reg)
-some_write reg delay (w ∷ writes) (suc k, l, e) = or_right (same_reg w.0 reg) _ (some_write reg delay writes (k, omega (arith, l), e))
+some_write reg delay (w ∷ writes) (suc k, l, e) = or_right (same_reg w.0 reg) _
+    (some_write reg delay writes (k, omega (arith, l), e))
 
-pub a_write : (reg : Reg) (writes : List (Reg × ℕ)) → list_any (λ (write : Reg × ℕ). same_reg write.0 reg) writes ≡ true → (delay : ℕ) × Contains writes (reg, delay)
+pub a_write : (reg : Reg) (writes : List (Reg × ℕ)) → list_any (λ (write : Reg × ℕ). same_reg write.0 reg) writes ≡ true
+    → (delay : ℕ) × Contains writes (reg, delay)
 a_write reg [] h = cc
-a_write reg (w ∷ writes) h = elim (or_cases (same_reg w.0 reg) (list_any (λ (write : Reg × ℕ). same_reg write.0 reg) writes) h) [
-  | inl first ↦ (let same : w.0 ≡ reg = same_reg-is w.0 reg first in (w.1, (0, omega arith, ap (λ (r : Reg). (r, w.1)) same)))
-  | inr later ↦ (let found = a_write reg writes later in (found.0, (suc found.1.0, omega (arith, found.1.1), found.1.2)))
-]
+a_write reg (w ∷ writes) h = elim
+    (or_cases (same_reg w.0 reg) (list_any (λ (write : Reg × ℕ). same_reg write.0 reg) writes) h) [
+      | inl first ↦ (let same : w.0 ≡ reg = same_reg-is w.0 reg first in
+          (w.1, (0, omega arith, ap (λ (r : Reg). (r, w.1)) same)))
+      | inr later ↦ (let found = a_write reg writes later in
+          (found.0, (suc found.1.0, omega (arith, found.1.1), found.1.2)))
+    ]
 
 pub same_tests : (a b : Bool) → (a ≡ true → b ≡ true) → (b ≡ true → a ≡ true) → a ≡ b
 same_tests true b to from = sym (to refl)

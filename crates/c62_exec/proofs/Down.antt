@@ -1,5 +1,6 @@
 -- A run comes down: what is in flight lands.
-use Rattle.std.proofs.Common.{◌≡◌, ℕ, zero, suc, ◌+◌, ◌-◌, ◌*◌, ◌<◌, ◌≤◌, List, [], ◌∷◌, length, take, Option, Some, None, refl, sym, ◌∙◌, ap, subst, ⊎_elim, inl, inr, arith}
+use Rattle.std.proofs.Common.{◌≡◌, ℕ, zero, suc, ◌+◌, ◌-◌, ◌*◌, ◌<◌, ◌≤◌, List, [], ◌∷◌, length, take, Option, Some}
+use Rattle.std.proofs.Common.{None, refl, sym, ◌∙◌, ap, subst, ⊎_elim, inl, inr, arith}
 use Rattle.std.specs.Prelude.{◌↔◌, ◌⊎◌, Contains, option_map, is_some}
 use Rattle.std.specs.Option.{option_or}
 use Rattle.std.proofs.lemmas.Bool.{cases_lt, cases_order}
@@ -18,7 +19,7 @@ use Rattle.c62_flight.specs.declared.stop.Stop.{Stop}
 use Rattle.c62_flight.specs.Issued.{Issued}
 use Rattle.c62_flight.specs.Broken.{broken, IsWholeBefore}
 use Rattle.c62_flight.proofs.Fronts.{Early}
-use Rattle.c62_flight.proofs.Flying.{quiet}
+use Rattle.c62_flight.proofs.Stops.{quiet}
 use Rattle.c62_exec.specs.Step.{Way, clash_in, clash_from, ended_cycle, settled}
 use Rattle.c62_exec.proofs.Extended.{alone}
 use Rattle.c62_exec.proofs.InRow.{ends, broken_in_slot}
@@ -26,25 +27,35 @@ use Rattle.c62_exec.proofs.InRow.{ends, broken_in_slot}
 module _ (block : List Placed) (opening : Machine) (ascends : Ascends block) where
   -- so many cycles end
   pub lands : (count cycle upto : ℕ) (way : Way) → Flying block opening cycle (length block) upto way.flight way.machine
-      → (last : ℕ) × Flying block opening (cycle + count) (length block) last (settled count cycle way).flight (settled count cycle way).machine
-  lands zero cycle upto way h = (upto, subst (λ n. Flying block opening n (length block) upto way.flight way.machine) (let e : cycle ≡ cycle + 0 = omega arith in e) h)
+      → (last : ℕ) × Flying block opening (cycle + count) (length block) last (settled count cycle way).flight
+      (settled count cycle way).machine
+  lands zero cycle upto way h = (
+    upto,
+    subst (λ n. Flying block opening n (length block) upto way.flight way.machine)
+        (let e : cycle ≡ cycle + 0 = omega arith in e) h,
+  )
   lands (suc count) cycle upto way h =
-      let r = lands count (cycle + 1) (8 * (cycle + 1)) (ended_cycle cycle way) (ends block opening ascends cycle upto way.flight way.machine h) in (
+      let r = lands count (cycle + 1) (8 * (cycle + 1)) (ended_cycle cycle way)
+      (ends block opening ascends cycle upto way.flight way.machine h) in (
         r.0,
-        subst (λ n. Flying block opening n (length block) r.0 (settled count (cycle + 1) (ended_cycle cycle way)).flight (settled count (cycle + 1) (ended_cycle cycle way)).machine)
+        subst (λ n. Flying block opening n (length block) r.0 (settled count (cycle + 1) (ended_cycle cycle way)).flight
+            (settled count (cycle + 1) (ended_cycle cycle way)).machine)
             (let e : cycle + 1 + count ≡ cycle + suc count = omega arith in e) r.1,
       )
 
   -- what is left then
-  pub leaves : (cycle upto : ℕ) (flight : Flight) (machine : Machine) → Flying block opening cycle (length block) upto flight machine
+  pub leaves : (cycle upto : ℕ) (flight : Flight) (machine : Machine)
+      → Flying block opening cycle (length block) upto flight machine
       → LeavesState block cycle opening (the_run block opening) machine
   leaves cycle upto flight machine h = record {
     sound = h.sound;
     words = h.words;
     bytes = λ a _. h.bytes a;
     faults = λ line.
-        subst (λ lines. Contains lines line ↔ (Contains opening.faults line ⊎ HasFaulted block (the_run block opening) line))
-        (sym (h.lines ∙ ap (λ ps. lines_after (the_run block opening) opening.faults ps) (take_all (length block) block (omega arith))))
+        subst (λ lines. Contains lines line ↔ (Contains opening.faults line
+        ⊎ HasFaulted block (the_run block opening) line))
+        (sym (h.lines ∙ ap (λ ps. lines_after (the_run block opening) opening.faults ps)
+        (take_all (length block) block (omega arith))))
         (lines_hold (the_run block opening) opening.faults block line);
   }
 
@@ -62,7 +73,8 @@ module _ (block : List Placed) (opening : Machine) (ascends : Ascends block) whe
     | inr (inr l) ↦ absurd (omega arith)
   ]
 
-  finds_by : (count cycle : ℕ) (first : Option Stop) (rest : Option (ℕ × Stop)) → broken (alone opening block) cycle ≡ first → Finds count (cycle + 1) rest
+  finds_by : (count cycle : ℕ) (first : Option Stop) (rest : Option (ℕ × Stop))
+      → broken (alone opening block) cycle ≡ first → Finds count (cycle + 1) rest
       → Finds (suc count) cycle (option_or (option_map (λ stop. (cycle, stop)) first) rest)
   finds_by count cycle (Some stop) rest e f = (omega arith, omega arith, e, λ t a b. absurd (omega arith))
   finds_by count cycle None None e f = λ t a b. elim (between cycle count t a b) [
@@ -82,16 +94,19 @@ module _ (block : List Placed) (opening : Machine) (ascends : Ascends block) whe
       )
 
   -- behind the last issue the slots tell
-  pub finds : (count cycle start upto : ℕ) (flight : Flight) (machine : Machine) → Flying block opening start (length block) upto flight machine → Early start block
+  pub finds : (count cycle start upto : ℕ) (flight : Flight) (machine : Machine)
+      → Flying block opening start (length block) upto flight machine → Early start block
       → start ≤ cycle → cycle + count ≤ start + 5 → Finds count cycle (clash_from count cycle flight.slots)
   finds zero cycle start upto flight machine h early from to = λ t a b. absurd (omega arith)
   finds (suc count) cycle start upto flight machine h early from to =
       finds_by count cycle (clash_in (due flight.slots cycle)) (clash_from count (cycle + 1) flight.slots)
-      (sym (broken_in_slot block opening ascends start upto cycle flight machine h (λ p k. let u : p.cycle < start = early p k in omega arith) from (omega arith)))
+      (sym (broken_in_slot block opening ascends start upto cycle flight machine h
+      (λ p k. let u : p.cycle < start = early p k in omega arith) from (omega arith)))
       (finds count (cycle + 1) start upto flight machine h early (omega arith) (omega arith))
 
   -- where nothing clashes in four cycles more, nothing does
-  pub all_quiet : (end : ℕ) → Early end block → IsWholeBefore (alone opening block) end → Finds 4 end None → (c : ℕ) → broken (alone opening block) c ≡ None
+  pub all_quiet : (end : ℕ) → Early end block → IsWholeBefore (alone opening block) end → Finds 4 end None → (c : ℕ)
+      → broken (alone opening block) c ≡ None
   all_quiet end early whole none c =
       ⊎_elim {C = broken (alone opening block) c ≡ None} (λ l. whole c l)
       (λ g. ⊎_elim {C = broken (alone opening block) c ≡ None} (λ l. none c g l)

@@ -1,5 +1,7 @@
 -- Whether a branch is in flight.
-use Rattle.std.proofs.Common.{◌≡◌, ℕ, zero, suc, ◌+◌, ◌-◌, ◌*◌, ◌%◌, ◌<◌, ◌≤◌, Bool, true, false, ◌&&◌, ◌||◌, ltb, List, [], ◌∷◌, length, get_or, Option, Some, None, refl, sym, ◌∙◌, ap, subst, ⊎_elim, inl, inr, arith}
+use Rattle.std.proofs.Common.{◌≡◌, ℕ, zero, suc, ◌+◌, ◌-◌, ◌*◌, ◌%◌, ◌<◌, ◌≤◌, Bool, true, false, ◌&&◌, ◌||◌, ltb, List}
+use Rattle.std.proofs.Common.{[], ◌∷◌, length, get_or, Option, Some, None, refl, sym, ◌∙◌, ap, subst, ⊎_elim, inl, inr}
+use Rattle.std.proofs.Common.{arith}
 use Rattle.std.specs.Prelude.{is_some, nat_le, nat_lt, cond}
 use Rattle.std.specs.List.{list_any}
 use Rattle.std.proofs.lemmas.Bool.{and_from, and_parts, cases_Bool, lt-ltb, ltb-true}
@@ -23,12 +25,14 @@ same_tests true false f g = sym (f refl)
 same_tests false true f g = g refl
 same_tests false false f g = refl
 
-any_at : (turns : List (Option Target)) → list_any is_some turns ≡ true → (k : ℕ) × (target : Target) × (k < length turns) × (get_or turns k None ≡ Some target)
+any_at : (turns : List (Option Target)) → list_any is_some turns ≡ true → (k : ℕ) × (target : Target)
+    × (k < length turns) × (get_or turns k None ≡ Some target)
 any_at [] e = absurd cc
 any_at (Some target ∷ turns) e = (0, target, omega arith, refl)
 any_at (None ∷ turns) e = let r = any_at turns e in (suc r.0, r.1, omega (arith, r.2), r.3)
 
-at_any : (turns : List (Option Target)) (k : ℕ) (target : Target) → get_or turns k None ≡ Some target → list_any is_some turns ≡ true
+at_any : (turns : List (Option Target)) (k : ℕ) (target : Target) → get_or turns k None ≡ Some target
+    → list_any is_some turns ≡ true
 at_any [] k target e = absurd cc
 at_any (Some other ∷ turns) k target e = refl
 at_any (None ∷ turns) zero target e = absurd cc
@@ -47,7 +51,8 @@ any_in : (f : Placed → Bool) (ps : List Placed) → list_any f ps ≡ true →
 any_in f [] e = absurd cc
 any_in f (q ∷ ps) e = by_test (λ k. any_in f ps k) (f q) refl e
   where
-    by_test : (list_any f ps ≡ true → (p : Placed) × In p ps × (f p ≡ true)) → (b : Bool) → f q ≡ b → (b || list_any f ps) ≡ true
+    by_test : (list_any f ps ≡ true → (p : Placed) × In p ps × (f p ≡ true)) → (b : Bool) → f q ≡ b
+        → (b || list_any f ps) ≡ true
         → (p : Placed) × In p (q ∷ ps) × (f p ≡ true)
     by_test others true t k = (q, inl refl, t)
     by_test others false t k = let r = others k in (r.0, inr r.1, r.2)
@@ -56,40 +61,50 @@ has_some : (o : Option Target) → is_some o ≡ true → (target : Target) × (
 has_some None e = absurd cc
 has_some (Some target) e = (target, refl)
 
-module _ (block : List Placed) (opening : Machine) (cycle : ℕ) (way : Way) (standing : Standing block opening cycle way) where
-  placed_turn : (k : ℕ) (target : Target) → k < 6 → get_or way.turns k None ≡ Some target → list_any (is_in_flight (the_run block opening) cycle) block ≡ true
-  placed_turn k target l e =
-      let t : ℕ = cycle + 1 + (k + 5 - cycle % 6) % 6 in
-      let from : cycle < t = omega arith in
-      let to : t ≤ cycle + 6 = omega arith in
-      let place : t % 6 ≡ k = omega arith in
-      let turns : turn (alone opening block) t ≡ Some target = sym (standing.row.turns t from to) ∙ ap (λ n. get_or way.turns n None) place ∙ e in
-      let told = (turn_told (alone opening block) t).some target turns in
-      let inside : In told.placed block = In_from_Contains told.placed block told.inside in
-      let early : told.placed.cycle < cycle = standing.early told.placed inside in
-      let when : told.placed.cycle + 6 ≡ t = told.when in
-      in_any (is_in_flight (the_run block opening) cycle) told.placed block inside
-      (and_from _ _ (ap is_some told.ran) (and_from _ _ (lt-ltb _ _ early) (lt-ltb _ _ (let l : cycle < told.placed.cycle + 6 = omega arith in l))))
+module _ (block : List Placed) (opening : Machine) (cycle : ℕ) (way : Way) (standing : Standing block opening cycle way)
+  where
+    placed_turn : (k : ℕ) (target : Target) → k < 6 → get_or way.turns k None ≡ Some target
+        → list_any (is_in_flight (the_run block opening) cycle) block ≡ true
+    placed_turn k target l e =
+        let t : ℕ = cycle + 1 + (k + 5 - cycle % 6) % 6 in
+        let from : cycle < t = omega arith in
+        let to : t ≤ cycle + 6 = omega arith in
+        let place : t % 6 ≡ k = omega arith in
+        let turns : turn (alone opening block) t ≡ Some target = sym (standing.row.turns t from to)
+        ∙ ap (λ n. get_or way.turns n None) place ∙ e in
+        let told = (turn_told (alone opening block) t).some target turns in
+        let inside : In told.placed block = In_from_Contains told.placed block told.inside in
+        let early : told.placed.cycle < cycle = standing.early told.placed inside in
+        let when : told.placed.cycle + 6 ≡ t = told.when in
+        in_any (is_in_flight (the_run block opening) cycle) told.placed block inside
+        (and_from _ _ (ap is_some told.ran)
+        (and_from _ _ (lt-ltb _ _ early) (lt-ltb _ _ (let l : cycle < told.placed.cycle + 6 = omega arith in l))))
 
-  flying_turn : list_any (is_in_flight (the_run block opening) cycle) block ≡ true → list_any is_some way.turns ≡ true
-  flying_turn e =
-      let p = any_in (is_in_flight (the_run block opening) cycle) block e in
-      let parts = and_parts (is_some (the_run block opening p.0).target) (nat_lt p.0.cycle cycle && nat_lt cycle (p.0.cycle + 6)) p.2 in
-      let times = and_parts (nat_lt p.0.cycle cycle) (nat_lt cycle (p.0.cycle + 6)) parts.1 in
-      let target = has_some (the_run block opening p.0).target parts.0 in
-      let early : p.0.cycle < cycle = ltb-true _ _ times.0 in
-      let late : cycle < p.0.cycle + 6 = ltb-true _ _ times.1 in
-      let at : get_or way.turns ((p.0.cycle + 6) % 6) None ≡ turn (alone opening block) (p.0.cycle + 6) = standing.row.turns (p.0.cycle + 6) late (omega arith) in
-      by_turn p.0 target.0 (turn (alone opening block) (p.0.cycle + 6)) refl p.1 target.1 at
-    where
-      by_turn : (p : Placed) (target : Target) (o : Option Target) → turn (alone opening block) (p.cycle + 6) ≡ o → In p block → (the_run block opening p).target ≡ Some target
-          → get_or way.turns ((p.cycle + 6) % 6) None ≡ turn (alone opening block) (p.cycle + 6) → list_any is_some way.turns ≡ true
-      by_turn p target None e h ran at =
-          absurd ((turn_told (alone opening block) (p.cycle + 6)).none e target (record { placed = p; inside = Contains_from_In p block h; ran = ran; when = refl }))
-      by_turn p target (Some other) e h ran at = at_any way.turns ((p.cycle + 6) % 6) other (at ∙ e)
+    flying_turn : list_any (is_in_flight (the_run block opening) cycle) block ≡ true → list_any is_some way.turns ≡ true
+    flying_turn e =
+        let p = any_in (is_in_flight (the_run block opening) cycle) block e in
+        let parts = and_parts (is_some (the_run block opening p.0).target)
+        (nat_lt p.0.cycle cycle && nat_lt cycle (p.0.cycle + 6)) p.2 in
+        let times = and_parts (nat_lt p.0.cycle cycle) (nat_lt cycle (p.0.cycle + 6)) parts.1 in
+        let target = has_some (the_run block opening p.0).target parts.0 in
+        let early : p.0.cycle < cycle = ltb-true _ _ times.0 in
+        let late : cycle < p.0.cycle + 6 = ltb-true _ _ times.1 in
+        let at : get_or way.turns ((p.0.cycle + 6) % 6) None ≡ turn (alone opening block) (p.0.cycle + 6) =
+        standing.row.turns (p.0.cycle + 6) late (omega arith) in
+        by_turn p.0 target.0 (turn (alone opening block) (p.0.cycle + 6)) refl p.1 target.1 at
+      where
+        by_turn : (p : Placed) (target : Target) (o : Option Target) → turn (alone opening block) (p.cycle + 6) ≡ o
+            → In p block → (the_run block opening p).target ≡ Some target
+            → get_or way.turns ((p.cycle + 6) % 6) None ≡ turn (alone opening block) (p.cycle + 6)
+            → list_any is_some way.turns ≡ true
+        by_turn p target None e h ran at =
+            absurd ((turn_told (alone opening block) (p.cycle + 6)).none e target
+            (record { placed = p; inside = Contains_from_In p block h; ran = ran; when = refl }))
+        by_turn p target (Some other) e h ran at = at_any way.turns ((p.cycle + 6) % 6) other (at ∙ e)
 
-  -- the places tell it
-  pub in_flight : list_any is_some way.turns ≡ list_any (is_in_flight (the_run block opening) cycle) block
-  in_flight =
-      same_tests (list_any is_some way.turns) (list_any (is_in_flight (the_run block opening) cycle) block)
-      (λ e. let r = any_at way.turns e in let size : length way.turns ≡ 6 = standing.row.size in placed_turn r.0 r.1 (omega (arith, r.2)) r.3) flying_turn
+    -- the places tell it
+    pub in_flight : list_any is_some way.turns ≡ list_any (is_in_flight (the_run block opening) cycle) block
+    in_flight =
+        same_tests (list_any is_some way.turns) (list_any (is_in_flight (the_run block opening) cycle) block)
+        (λ e. let r = any_at way.turns e in let size : length way.turns ≡ 6 = standing.row.size in placed_turn r.0 r.1
+        (omega (arith, r.2)) r.3) flying_turn

@@ -1,5 +1,6 @@
 -- The cycles in which the rows of a text begin, where each is over before the next begins.
-use Rattle.std.proofs.Common.{◌≡◌, ℕ, zero, suc, ◌+◌, ◌-◌, ◌<◌, ◌≤◌, List, [], ◌∷◌, ◌++◌, length, refl, sym, ◌∙◌, ap, subst, ◌⊎◌, inl, inr, arith}
+use Rattle.std.proofs.Common.{◌≡◌, ℕ, zero, suc, ◌+◌, ◌-◌, ◌<◌, ◌≤◌, List, [], ◌∷◌, ◌++◌, length, refl, sym, ◌∙◌, ap}
+use Rattle.std.proofs.Common.{subst, ◌⊎◌, inl, inr, arith}
 use Rattle.std.proofs.lemmas.Bool.{cases_lt}
 use Rattle.std.specs.Prelude.{slice_index_or}
 use Rattle.c62_meaning.proofs.Lookup.{In}
@@ -34,16 +35,19 @@ pub begins_end : (rows : List Row) → begins rows (length rows) ≡ span rows
 begins_end [] = refl
 begins_end (row ∷ rows) = ap (λ n. row.idle + 1 + n) (begins_end rows)
 
-pub begins_next : (rows : List Row) (number : ℕ) → number < length rows → begins rows (suc number) ≡ begins rows number + (slice_index_or rows number no_row).idle + 1
+pub begins_next : (rows : List Row) (number : ℕ) → number < length rows
+    → begins rows (suc number) ≡ begins rows number + (slice_index_or rows number no_row).idle + 1
 begins_next [] number l = absurd (omega arith)
 begins_next (row ∷ rows) zero l = let first = begins_first rows in omega (arith, first)
 begins_next (row ∷ rows) (suc number) l = let rest = begins_next rows number (omega arith) in omega (arith, rest)
 
-pub begins_rises : (rows : List Row) (number next : ℕ) → number < next → next ≤ length rows → begins rows number < begins rows next
+pub begins_rises : (rows : List Row) (number next : ℕ) → number < next → next ≤ length rows
+    → begins rows number < begins rows next
 begins_rises [] number next l inside = absurd (omega arith)
 begins_rises (row ∷ rows) number zero l inside = absurd (omega arith)
 begins_rises (row ∷ rows) zero (suc next) l inside = omega arith
-begins_rises (row ∷ rows) (suc number) (suc next) l inside = let rest = begins_rises rows number next (omega arith) (omega arith) in omega (arith, rest)
+begins_rises (row ∷ rows) (suc number) (suc next) l inside = let rest = begins_rises rows number next (omega arith)
+    (omega arith) in omega (arith, rest)
 
 pub begins_front : (xs ys : List Row) (number : ℕ) → number ≤ length xs → begins (xs ++ ys) number ≡ begins xs number
 begins_front [] ys number l = let e : number ≡ 0 = omega arith in ap (begins ys) e ∙ begins_first ys
@@ -70,14 +74,17 @@ pub before_from : (rows : List Row) (number cycle : ℕ) → number < row_from r
 before_from [] number cycle l = absurd (omega arith)
 before_from (row ∷ rows) number zero l = absurd (omega arith)
 before_from (row ∷ rows) zero (suc cycle) l = omega arith
-before_from (row ∷ rows) (suc number) (suc cycle) l = let rest = before_from rows number (cycle - row.idle) (omega arith) in omega (arith, rest)
+before_from (row ∷ rows) (suc number) (suc cycle) l = let rest = before_from rows number (cycle - row.idle)
+    (omega arith) in omega (arith, rest)
 
-pub behind_from : (rows : List Row) (number cycle : ℕ) → number ≤ length rows → cycle ≤ span rows → row_from rows cycle ≤ number → cycle ≤ begins rows number
+pub behind_from : (rows : List Row) (number cycle : ℕ) → number ≤ length rows → cycle ≤ span rows
+    → row_from rows cycle ≤ number → cycle ≤ begins rows number
 behind_from [] number cycle inside early l = early
 behind_from (row ∷ rows) number zero inside early l = omega arith
 behind_from (row ∷ rows) zero (suc cycle) inside early l = absurd (omega arith)
 behind_from (row ∷ rows) (suc number) (suc cycle) inside early l =
-    let rest = behind_from rows number (cycle - row.idle) (omega arith) (omega arith) (omega arith) in omega (arith, rest)
+    let rest = behind_from rows number (cycle - row.idle) (omega arith) (omega arith) (omega arith) in omega
+    (arith, rest)
 
 pub from_begins : (rows : List Row) (number : ℕ) → number ≤ length rows → row_from rows (begins rows number) ≡ number
 from_begins [] number l = omega arith
@@ -91,7 +98,8 @@ pub from_rises : (rows : List Row) (cycle later : ℕ) → cycle ≤ later → r
 from_rises [] cycle later l = omega arith
 from_rises (row ∷ rows) zero later l = omega arith
 from_rises (row ∷ rows) (suc cycle) zero l = absurd (omega arith)
-from_rises (row ∷ rows) (suc cycle) (suc later) l = let rest = from_rises rows (cycle - row.idle) (later - row.idle) (omega arith) in omega (arith, rest)
+from_rises (row ∷ rows) (suc cycle) (suc later) l = let rest = from_rises rows (cycle - row.idle) (later - row.idle)
+    (omega arith) in omega (arith, rest)
 
 pub from_end : (rows : List Row) → row_from rows (span rows) ≡ length rows
 from_end rows = ap (row_from rows) (sym (begins_end rows)) ∙ from_begins rows (length rows) (omega arith)
@@ -105,8 +113,10 @@ first_or_later row number l = elim (cases_lt row number) [
 ]
 
 module _ (text : Text) where
-  pub straight_begins : (row start count : ℕ) → row + count ≤ length text.rows → straight_end text row start count + begins text.rows row ≡ start + begins text.rows (row + count)
-  straight_begins row start zero inside = let e : row + 0 ≡ row = omega arith in let f = ap (begins text.rows) e in omega (arith, f)
+  pub straight_begins : (row start count : ℕ) → row + count ≤ length text.rows
+      → straight_end text row start count + begins text.rows row ≡ start + begins text.rows (row + count)
+  straight_begins row start zero inside = let e : row + 0 ≡ row = omega arith in let f = ap (begins text.rows) e in
+      omega (arith, f)
   straight_begins row start (suc count) inside =
       let next = begins_next text.rows row (omega arith) in
       let one : row + 1 ≡ suc row = omega arith in
@@ -122,9 +132,11 @@ module _ (text : Text) where
     pub above : visit.row < row + count
     pub when : visit.start + begins text.rows row ≡ start + begins text.rows visit.row
 
-  pub is_visit : (row start count : ℕ) (visit : Visit) → row + count ≤ length text.rows → In visit (straight text row start count) → IsVisit row start count visit
+  pub is_visit : (row start count : ℕ) (visit : Visit) → row + count ≤ length text.rows
+      → In visit (straight text row start count) → IsVisit row start count visit
   is_visit row start zero visit inside h = absurd h
-  is_visit row start (suc count) visit inside (inl e) = subst (IsVisit row start (suc count)) e (record { below = omega arith; above = omega arith; when = refl })
+  is_visit row start (suc count) visit inside (inl e) = subst (IsVisit row start (suc count)) e
+      (record { below = omega arith; above = omega arith; when = refl })
   is_visit row start (suc count) visit inside (inr h) =
       let next = begins_next text.rows row (omega arith) in
       let one : row + 1 ≡ suc row = omega arith in
@@ -140,5 +152,6 @@ module _ (text : Text) where
   has_visit row start zero number inside low high = absurd (omega arith)
   has_visit row start (suc count) number inside low high = elim (first_or_later row number low) [
     | inl e ↦ (record { row = row; start = start }, inl refl, sym e)
-    | inr l ↦ (let r = has_visit (row + 1) (start + (row_of text row).idle + 1) count number (omega arith) l (omega arith) in (r.0, inr r.1, r.2))
+    | inr l ↦ (let r = has_visit (row + 1) (start + (row_of text row).idle + 1) count number (omega arith) l
+        (omega arith) in (r.0, inr r.1, r.2))
   ]

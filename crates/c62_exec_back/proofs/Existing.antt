@@ -1,18 +1,13 @@
--- What is adopted as it stands is read in flight.
-use Rattle.std.proofs.Common.{◌≡◌, ℕ, zero, suc, ◌+◌, ◌<◌, true, false, List, [], ◌∷◌, Option, Some, None, refl, sym, ◌∙◌, ap, subst, inl, inr, arith}
-use Rattle.std.specs.Prelude.{slice_get}
-use Rattle.std.specs.List.{AllByRecursion, list_any}
-use Rattle.std.proofs.lemmas.Bool.{cases_Bool, false≢true}
+-- The instruction of a line is one of a row, beside those of its cycle.
+use Rattle.std.proofs.Common.{◌≡◌, ℕ, ◌+◌, ◌<◌, true, false, List, [], ◌∷◌, Option, Some, None, refl, sym, ◌∙◌, ap}
+use Rattle.std.proofs.Common.{subst, inl, inr, arith}
+use Rattle.std.specs.List.{list_any}
+use Rattle.std.proofs.lemmas.Bool.{cases_Bool}
 use Rattle.std.proofs.lemmas.Option.{same_Some}
-use Rattle.std.proofs.lemmas.List.Elements.{All-contains}
 use Rattle.c62_op.specs.declared.operands.Operands.{Operands}
-use Rattle.c62_op.specs.declared.operands.Operands.TheVariants.{Three, ConstantFirst, ConstantSecond, Two, Field, Constant, Access, Block as ToBlock, Register}
 use Rattle.c62_op.specs.Units.{index_of}
 use Rattle.c62_op.specs.Shape.{is_branch}
-use Rattle.c62_insn.specs.declared.insn.Insn.{Insn}
-use Rattle.c62_insn.specs.Fault.{form_fault}
-use Rattle.c62_insn.specs.Insn.{op_of, operands_of, cond_of, unit_of, aimed_operands}
-use Rattle.c62_insn.proofs.AimLemmas.{aimed}
+use Rattle.c62_insn.specs.Insn.{op_of, unit_of, aimed_operands}
 use Rattle.c62_rules.specs.Resource.{taken_by}
 use Rattle.c62_line.specs.Line.{Parts, parts_of}
 use Rattle.c62_read.specs.Program.{Name}
@@ -25,42 +20,20 @@ use Rattle.c62_adopt_cut.specs.Blocks.{Draft, Issue}
 use Rattle.c62_adopt_cut.specs.Flight.{branches}
 use Rattle.c62_adopt_cut.specs.Home.{Home, homes_in}
 use Rattle.c62_adopt.specs.Blocks.{target_number}
-use Rattle.c62_meaning.proofs.Lookup.{In, Contains_from_In}
+use Rattle.c62_meaning.proofs.Lookup.{In}
 use Rattle.c62_rows.specs.Rows.{MayJoin, are_two_branches}
 use Rattle.c62_exec_back.proofs.Joining.{AreApart, AreLike, IsLike, enough_in_row, same_taken}
-use Rattle.c62_exec_back.proofs.Pairs.{AreAdopted, IsPair, found_branch, of_home, one_block, pair_cycle}
+use Rattle.c62_exec_back.proofs.Pairs.{AreAdopted, IsPair, of_home, one_block, pair_cycle, unit_written, plain_issue}
+use Rattle.c62_exec_back.proofs.BlockStarts.{found_branch}
 use Rattle.c62_exec_back.proofs.Rising.{UnitsRise}
-use Rattle.c62_exec_back.proofs.RowLines.{IsOf, IsPartsOf}
+use Rattle.c62_exec_back.proofs.ReadRows.{IsOf, IsPartsOf}
 use Rattle.c62_exec_back.proofs.Stood.{Stood}
-
--- ---- an instruction with its target by another number
-
-aimed_fine : (operands : Operands) (insn : Insn) (number other : ℕ) → operands_of insn ≡ aimed_operands number operands
-    → form_fault (op_of insn) (aimed_operands other operands) (cond_of insn) (unit_of insn) ≡ None
-aimed_fine (ToBlock old) insn number other e = aimed insn number other e
-aimed_fine (Three a b d) insn number other e = subst (λ (o : Operands). form_fault (op_of insn) o (cond_of insn) (unit_of insn) ≡ None) e insn.well_formed
-aimed_fine (ConstantFirst k a d) insn number other e = subst (λ (o : Operands). form_fault (op_of insn) o (cond_of insn) (unit_of insn) ≡ None) e insn.well_formed
-aimed_fine (ConstantSecond a k d) insn number other e = subst (λ (o : Operands). form_fault (op_of insn) o (cond_of insn) (unit_of insn) ≡ None) e insn.well_formed
-aimed_fine (Two a d) insn number other e = subst (λ (o : Operands). form_fault (op_of insn) o (cond_of insn) (unit_of insn) ≡ None) e insn.well_formed
-aimed_fine (Field source left right destination) insn number other e = subst (λ (o : Operands). form_fault (op_of insn) o (cond_of insn) (unit_of insn) ≡ None) e insn.well_formed
-aimed_fine (Constant k d) insn number other e = subst (λ (o : Operands). form_fault (op_of insn) o (cond_of insn) (unit_of insn) ≡ None) e insn.well_formed
-aimed_fine (Access register base form offset) insn number other e = subst (λ (o : Operands). form_fault (op_of insn) o (cond_of insn) (unit_of insn) ≡ None) e insn.well_formed
-aimed_fine (Register a) insn number other e = subst (λ (o : Operands). form_fault (op_of insn) o (cond_of insn) (unit_of insn) ≡ None) e insn.well_formed
-
-pub unaimed : (operands : Operands) (number : ℕ) → names_block operands ≡ false → aimed_operands number operands ≡ operands
-unaimed (ToBlock old) number plain = absurd (false≢true (sym plain))
-unaimed (Three a b d) number plain = refl
-unaimed (ConstantFirst k a d) number plain = refl
-unaimed (ConstantSecond a k d) number plain = refl
-unaimed (Two a d) number plain = refl
-unaimed (Field source left right destination) number plain = refl
-unaimed (Constant k d) number plain = refl
-unaimed (Access register base form offset) number plain = refl
-unaimed (Register a) number plain = refl
+use Rattle.c62_exec_back.proofs.AimedInsns.{aimed_fine, unaimed}
 
 -- ---- a row's instructions in their block
 
-module _ (lines : List Line) (end : ℕ) (drafts : List Draft) (packets : List Packed) (are : AreAdopted lines end drafts packets) where
+module _ (lines : List Line) (end : ℕ) (drafts : List Draft) (packets : List Packed)
+    (are : AreAdopted lines end drafts packets) where
   -- the instruction of a line with its target by this number
   pub record IsMade (h : Home) (number : ℕ) (p : Placed) : Type 0 where
     pub parts : parts_of p.insn ≡ aimed_parts number h.issue.parts
@@ -68,18 +41,22 @@ module _ (lines : List Line) (end : ℕ) (drafts : List Draft) (packets : List P
     pub cycle : p.cycle ≡ 0
     pub unit : unit_of p.insn ≡ Some p.unit
 
-  written : (number : ℕ) (h : Home) (q : Placed) → IsPair drafts end packets number h q → unit_of q.insn ≡ Some q.unit
-  written number h q pair =
-      All-contains (λ (r : Placed). unit_of r.insn ≡ Some r.unit) pair.block.placed q pair.is.is.is_block.as_written (Contains_from_In q pair.block.placed pair.inside)
-
   pub made : (h : Home) (other : ℕ) → In h (homes_in lines) → (p : Placed) × IsMade h other p
   made h other there =
       let r = of_home lines end drafts packets are h there in
       let q : Placed = r.1 in
-      let parts : parts_of q.insn ≡ aimed_parts (target_number drafts h.issue.target) h.issue.parts = ap (λ (part : Part). part.parts) r.2.parts in
-      let fine = aimed_fine h.issue.parts.operands q.insn (target_number drafts h.issue.target) other (ap (λ (x : Parts). x.operands) parts) in (
+      let parts : parts_of q.insn ≡ aimed_parts (target_number drafts h.issue.target) h.issue.parts = ap
+      (λ (part : Part). part.parts) r.2.parts in
+      let fine = aimed_fine h.issue.parts.operands q.insn (target_number drafts h.issue.target) other
+      (ap (λ (x : Parts). x.operands) parts) in (
         record {
-          insn = record { op = q.insn.op; operands = aimed_operands other h.issue.parts.operands; cond = q.insn.cond; unit = q.insn.unit; well_formed = fine };
+          insn = record {
+            op = q.insn.op;
+            operands = aimed_operands other h.issue.parts.operands;
+            cond = q.insn.cond;
+            unit = q.insn.unit;
+            well_formed = fine;
+          };
           line = h.issue.line;
           cycle = 0;
           unit = q.unit;
@@ -88,19 +65,24 @@ module _ (lines : List Line) (end : ℕ) (drafts : List Draft) (packets : List P
           parts = grind (arith, parts);
           line = refl;
           cycle = refl;
-          unit = written r.0 h q r.2;
+          unit = unit_written drafts end packets r.0 h q r.2;
         },
       )
 
   -- an instruction of a row: what it is in its block
-  like : (h : Home) (other number : ℕ) (p q : Placed) → parts_of p.insn ≡ aimed_parts other h.issue.parts → p.line ≡ h.issue.line → p.cycle ≡ 0 → unit_of p.insn ≡ Some p.unit
+  like : (h : Home) (other number : ℕ) (p q : Placed) → parts_of p.insn ≡ aimed_parts other h.issue.parts
+      → p.line ≡ h.issue.line → p.cycle ≡ 0 → unit_of p.insn ≡ Some p.unit
       → IsPair drafts end packets number h q → IsLike h.issue.cycle p q
   like h other number p q parts line cycle unit pair =
-      let its : parts_of q.insn ≡ aimed_parts (target_number drafts h.issue.target) h.issue.parts = ap (λ (part : Part). part.parts) pair.parts in
-      let units : unit_of p.insn ≡ unit_of q.insn = ap (λ (x : Parts). x.unit) parts ∙ sym (ap (λ (x : Parts). x.unit) its) in
-      let same : p.unit ≡ q.unit = same_Some p.unit q.unit (sym unit ∙ units ∙ written number h q pair) in
+      let its : parts_of q.insn ≡ aimed_parts (target_number drafts h.issue.target) h.issue.parts = ap
+      (λ (part : Part). part.parts) pair.parts in
+      let units : unit_of p.insn ≡ unit_of q.insn = ap (λ (x : Parts). x.unit) parts
+      ∙ sym (ap (λ (x : Parts). x.unit) its) in
+      let same : p.unit ≡ q.unit = same_Some p.unit q.unit (sym unit ∙ units
+      ∙ unit_written drafts end packets number h q pair) in
       let op : op_of p.insn ≡ op_of q.insn = ap (λ (x : Parts). x.op) parts ∙ sym (ap (λ (x : Parts). x.op) its) in
-      let taken = same_taken h.issue.parts.operands p.insn q.insn other (target_number drafts h.issue.target) p.unit op (ap (λ (x : Parts). x.operands) parts) (ap (λ (x : Parts). x.operands) its) in
+      let taken = same_taken h.issue.parts.operands p.insn q.insn other (target_number drafts h.issue.target) p.unit op
+      (ap (λ (x : Parts). x.operands) parts) (ap (λ (x : Parts). x.operands) its) in
       record {
         here = cycle;
         there = ap (λ (part : Part). part.cycle) pair.parts;
@@ -111,29 +93,15 @@ module _ (lines : List Line) (end : ℕ) (drafts : List Draft) (packets : List P
       }
 
   -- with the target by whatever number
-  aimed_somehow : (targets : List (Name × ℕ)) (target : Option Name) (parts other : Parts) → (target ≡ None → names_block parts.operands ≡ false) → IsPartsOf targets target parts other
+  aimed_somehow : (targets : List (Name × ℕ)) (target : Option Name) (parts other : Parts)
+      → (target ≡ None → names_block parts.operands ≡ false) → IsPartsOf targets target parts other
       → (number : ℕ) × (other ≡ aimed_parts number parts)
   aimed_somehow targets None parts other plain is = (0, is ∙ sym (whole parts (unaimed parts.operands 0 (plain refl))))
     where
       whole : (parts : Parts) → aimed_operands 0 parts.operands ≡ parts.operands → aimed_parts 0 parts ≡ parts
-      whole parts e = ap (λ (o : Operands). record { op = parts.op; operands = o; cond = parts.cond; unit = parts.unit }) e
+      whole parts e = ap (λ (o : Operands). record
+          { op = parts.op; operands = o; cond = parts.cond; unit = parts.unit }) e
   aimed_somehow targets (Some target) parts other plain is = (is.0, is.3)
-
-  all_in : {X : Type 0} (P : X → Type 0) (xs : List X) (x : X) → AllByRecursion P xs → In x xs → P x
-  all_in P [] x all h = absurd h
-  all_in P (y ∷ xs) x all (inl e) = subst P e all.0
-  all_in P (y ∷ xs) x all (inr h) = all_in P xs x all.1 h
-
-  in_get : {X : Type 0} (xs : List X) (number : ℕ) (x : X) → slice_get xs number ≡ Some x → In x xs
-  in_get [] number x e = absurd cc
-  in_get (y ∷ xs) zero x e = inl (same_Some y x e)
-  in_get (y ∷ xs) (suc number) x e = inr (in_get xs number x e)
-
-  plain_issue : (number : ℕ) (h : Home) (q : Placed) → IsPair drafts end packets number h q → h.issue.target ≡ None → names_block h.issue.parts.operands ≡ false
-  plain_issue number h q pair none =
-      all_in (λ (issue : Issue). issue.target ≡ None → names_block issue.parts.operands ≡ false) pair.draft.issues h.issue
-      (all_in (λ (d : Draft). AllByRecursion (λ (issue : Issue). issue.target ≡ None → names_block issue.parts.operands ≡ false) d.issues) drafts pair.draft are.aimed
-      (in_get drafts number pair.draft pair.is.there)) pair.issue none
 
   -- in the block of another instruction of its cycle
   pub record IsNear (number : ℕ) (block : Packed) (cycle : ℕ) (p : Placed) : Type 0 where
@@ -144,8 +112,10 @@ module _ (lines : List Line) (end : ℕ) (drafts : List Draft) (packets : List P
     pub is_block : pair.block ≡ block
     pub is : IsLike cycle p q
 
-  module _ (h0 : Home) (there0 : In h0 (homes_in lines)) (number : ℕ) (q0 : Placed) (pair0 : IsPair drafts end packets number h0 q0) where
-    pub near : (targets : List (Name × ℕ)) (h : Home) (x : Stood) → In h (homes_in lines) → IsOf targets h x → x.placed.cycle ≡ 0 → x.cycle ≡ h0.start + h0.issue.cycle
+  module _ (h0 : Home) (there0 : In h0 (homes_in lines)) (number : ℕ) (q0 : Placed)
+      (pair0 : IsPair drafts end packets number h0 q0) where
+    pub near : (targets : List (Name × ℕ)) (h : Home) (x : Stood) → In h (homes_in lines) → IsOf targets h x
+        → x.placed.cycle ≡ 0 → x.cycle ≡ h0.start + h0.issue.cycle
         → IsNear number pair0.block h0.issue.cycle x.placed
     near targets h x there is cycle when =
         let r = of_home lines end drafts packets are h there in
@@ -153,18 +123,23 @@ module _ (lines : List Line) (end : ℕ) (drafts : List Draft) (packets : List P
         let its = pair_cycle lines end drafts packets are r.0 h r.1 r.2 in
         let same_time = is.when in
         let low = mine.0 in let high = mine.1 in let begun = its.0 in let ended = its.1 in
-        let same : number ≡ r.0 = one_block lines end drafts packets are number r.0 (h0.start + h0.issue.cycle) pair0.draft r.2.draft pair0.is.there r.2.is.there low high
+        let same : number ≡ r.0 = one_block lines end drafts packets are number r.0 (h0.start + h0.issue.cycle)
+        pair0.draft r.2.draft pair0.is.there r.2.is.there low high
         (omega (arith, begun, same_time, when)) (omega (arith, ended, same_time, when)) in
-        let pair : IsPair drafts end packets number h r.1 = subst (λ n. IsPair drafts end packets n h r.1) (sym same) r.2 in
-        let parts = aimed_somehow targets h.issue.target h.issue.parts (parts_of x.placed.insn) (plain_issue number h r.1 pair) is.parts in
-        let in_block : h.issue.cycle ≡ h0.issue.cycle = (let from = pair.start in let own = pair0.start in omega (arith, same_time, when, from, own)) in
+        let pair : IsPair drafts end packets number h r.1 = subst (λ n. IsPair drafts end packets n h r.1) (sym same)
+        r.2 in
+        let parts = aimed_somehow targets h.issue.target h.issue.parts (parts_of x.placed.insn)
+        (plain_issue lines end drafts packets are number h r.1 pair) is.parts in
+        let in_block : h.issue.cycle ≡ h0.issue.cycle =
+        (let from = pair.start in let own = pair0.start in omega (arith, same_time, when, from, own)) in
         record {
           q = r.1;
           h = h;
           there = there;
           pair = pair;
           is_block = same_Some pair.block pair0.block (sym pair.there ∙ pair0.there);
-          is = subst (λ n. IsLike n x.placed r.1) in_block (like h parts.0 number x.placed r.1 parts.1 is.line cycle is.unit pair);
+          is = subst (λ n. IsLike n x.placed r.1) in_block
+              (like h parts.0 number x.placed r.1 parts.1 is.line cycle is.unit pair);
         }
 
   -- ---- the row that a line's instruction joins
@@ -176,26 +151,37 @@ module _ (lines : List Line) (end : ℕ) (drafts : List Draft) (packets : List P
     inside : (q : Placed) → In q qs → In q block
     from : (q : Placed) → In q qs → (p : Placed) × In p ps × IsLike cycle p q
 
-  partners : (number : ℕ) (block : Packed) (cycle : ℕ) (ps : List Placed) → ((p : Placed) → In p ps → IsNear number block cycle p) → ArePartners cycle block.placed ps
-  partners number block cycle [] all = record { qs = []; like_them = tt; inside = λ q h. absurd h; from = λ q h. absurd h }
+  partners : (number : ℕ) (block : Packed) (cycle : ℕ) (ps : List Placed)
+      → ((p : Placed) → In p ps → IsNear number block cycle p) → ArePartners cycle block.placed ps
+  partners number block cycle [] all = record
+      { qs = []; like_them = tt; inside = λ q h. absurd h; from = λ q h. absurd h }
   partners number block cycle (p ∷ ps) all =
       let one = all p (inl refl) in
       let rest = partners number block cycle ps (λ r h. all r (inr h)) in
       let there : In one.q block.placed = subst (λ (b : Packed). In one.q b.placed) one.is_block one.pair.inside in
-      record { qs = one.q ∷ rest.qs; like_them = (one.is, rest.like_them); inside = inside one.q there rest; from = from one.q one.is rest }
+      record {
+        qs = one.q ∷ rest.qs;
+        like_them = (one.is, rest.like_them);
+        inside = inside one.q there rest;
+        from = from
+            one.q one.is rest;
+      }
     where
-      inside : (first : Placed) → In first block.placed → (rest : ArePartners cycle block.placed ps) → (q : Placed) → In q (first ∷ rest.qs) → In q block.placed
+      inside : (first : Placed) → In first block.placed → (rest : ArePartners cycle block.placed ps) → (q : Placed)
+          → In q (first ∷ rest.qs) → In q block.placed
       inside first there rest q (inl e) = subst (λ (r : Placed). In r block.placed) e there
       inside first there rest q (inr h) = rest.inside q h
 
-      from : (first : Placed) → IsLike cycle p first → (rest : ArePartners cycle block.placed ps) → (q : Placed) → In q (first ∷ rest.qs) → (r : Placed) × In r (p ∷ ps) × IsLike cycle r q
+      from : (first : Placed) → IsLike cycle p first → (rest : ArePartners cycle block.placed ps) → (q : Placed)
+          → In q (first ∷ rest.qs) → (r : Placed) × In r (p ∷ ps) × IsLike cycle r q
       from first is rest q (inl e) = (p, inl refl, subst (IsLike cycle p) e is)
       from first is rest q (inr h) = let r = rest.from q h in (r.0, inr r.1, r.2)
 
   parted : (cycle : ℕ) (block ps : List Placed) (a : ArePartners cycle block ps) → UnitsRise ps → AreApart a.qs
   parted cycle block ps a up = by ps a.qs a.like_them up
     where
-      origin : (ps qs : List Placed) → AreLike cycle ps qs → (q : Placed) → In q qs → (p : Placed) × In p ps × IsLike cycle p q
+      origin : (ps qs : List Placed) → AreLike cycle ps qs → (q : Placed) → In q qs → (p : Placed) × In p ps
+          × IsLike cycle p q
       origin [] [] are q h = absurd h
       origin [] (r ∷ qs) are q h = absurd are
       origin (p ∷ ps) [] are q h = absurd h
@@ -214,8 +200,10 @@ module _ (lines : List Line) (end : ℕ) (drafts : List Draft) (packets : List P
         by ps qs are.1 up.1,
       )
 
-  module _ (h0 : Home) (there0 : In h0 (homes_in lines)) (other : ℕ) (p : Placed) (is : IsMade h0 other p) (above : List Placed)
-      (near_all : (number : ℕ) (q0 : Placed) (pair0 : IsPair drafts end packets number h0 q0) (x : Placed) → In x above → IsNear number pair0.block h0.issue.cycle x)
+  module _ (h0 : Home) (there0 : In h0 (homes_in lines)) (other : ℕ) (p : Placed) (is : IsMade h0 other p)
+      (above : List Placed)
+      (near_all : (number : ℕ) (q0 : Placed) (pair0 : IsPair drafts end packets number h0 q0) (x : Placed) → In x above
+      → IsNear number pair0.block h0.issue.cycle x)
       (up : UnitsRise above) (earlier : (x : Placed) → In x above → x.line < h0.issue.line) where
     number0 : ℕ
     number0 = (of_home lines end drafts packets are h0 there0).0
@@ -232,11 +220,13 @@ module _ (lines : List Line) (end : ℕ) (drafts : List Draft) (packets : List P
     packet : IsPacketBlock its_block
     packet = pair0.is.is.is_block
 
-    its_near : (x : Placed) → In x above → IsNear (of_home lines end drafts packets are h0 there0).0 its_block h0.issue.cycle x
+    its_near : (x : Placed) → In x above
+        → IsNear (of_home lines end drafts packets are h0 there0).0 its_block h0.issue.cycle x
     its_near x h = near_all (of_home lines end drafts packets are h0 there0).0 q0 pair0 x h
 
     like0 : IsLike h0.issue.cycle p q0
-    like0 = like h0 other (of_home lines end drafts packets are h0 there0).0 p q0 is.parts is.line is.cycle is.unit pair0
+    like0 = like h0 other (of_home lines end drafts packets are h0 there0).0 p q0 is.parts is.line is.cycle is.unit
+        pair0
 
     others : ArePartners h0.issue.cycle its_block.placed above
     others = partners (of_home lines end drafts packets are h0 there0).0 its_block h0.issue.cycle above its_near
@@ -266,10 +256,14 @@ module _ (lines : List Line) (end : ℕ) (drafts : List Draft) (packets : List P
         two : is_branching p ≡ true → is_branching x ≡ true → ⊥
         two branch also =
             let n = its_near x h in
-            let draft_is : n.pair.draft ≡ pair0.draft = same_Some n.pair.draft pair0.draft (sym n.pair.is.there ∙ pair0.is.there) in
-            let issue : In n.h.issue pair0.draft.issues = subst (λ (d : Draft). In n.h.issue d.issues) draft_is n.pair.issue in
-            let first : branches h0.issue ≡ true = ap (λ (part : Part). is_branch part.parts.op) (sym pair0.parts) ∙ sym like0.branching ∙ branch in
-            let second : branches n.h.issue ≡ true = ap (λ (part : Part). is_branch part.parts.op) (sym n.pair.parts) ∙ sym n.is.branching ∙ also in
+            let draft_is : n.pair.draft ≡ pair0.draft = same_Some n.pair.draft pair0.draft (sym n.pair.is.there
+            ∙ pair0.is.there) in
+            let issue : In n.h.issue pair0.draft.issues = subst (λ (d : Draft). In n.h.issue d.issues) draft_is
+            n.pair.issue in
+            let first : branches h0.issue ≡ true = ap (λ (part : Part). is_branch part.parts.op) (sym pair0.parts)
+            ∙ sym like0.branching ∙ branch in
+            let second : branches n.h.issue ≡ true = ap (λ (part : Part). is_branch part.parts.op) (sym n.pair.parts)
+            ∙ sym n.is.branching ∙ also in
             let one = found_branch pair0.draft.issues h0.issue pair0.issue first pair0.is.over.one_branch in
             let two = found_branch pair0.draft.issues n.h.issue issue second pair0.is.over.one_branch in
             let same : h0.issue ≡ n.h.issue = same_Some h0.issue n.h.issue (sym one ∙ two) in
@@ -278,12 +272,15 @@ module _ (lines : List Line) (end : ℕ) (drafts : List Draft) (packets : List P
             let same_line = ap (λ (i : Issue). i.line) same in
             omega (arith, line, less, same_line)
 
-    none_other : (xs : List Placed) → ((x : Placed) → In x xs → are_two_branches p x ≡ false) → list_any (are_two_branches p) xs ≡ false
+    none_other : (xs : List Placed) → ((x : Placed) → In x xs → are_two_branches p x ≡ false)
+        → list_any (are_two_branches p) xs ≡ false
     none_other [] all = refl
-    none_other (x ∷ xs) all = let first = all x (inl refl) in let rest = none_other xs (λ y k. all y (inr k)) in rw (first, rest) refl
+    none_other (x ∷ xs) all = let first = all x (inl refl) in let rest = none_other xs (λ y k. all y (inr k)) in rw
+        (first, rest) refl
 
     pub may_join : MayJoin above p
     may_join = record {
-      enough = enough_in_row h0.issue.cycle (p ∷ above) (q0 ∷ others.qs) its_block.placed (like0, others.like_them) apart0 all_inside (packet.rules.enough h0.issue.cycle);
+      enough = enough_in_row h0.issue.cycle (p ∷ above) (q0 ∷ others.qs) its_block.placed (like0, others.like_them)
+          apart0 all_inside (packet.rules.enough h0.issue.cycle);
       branches = none_other above one_branch;
     }

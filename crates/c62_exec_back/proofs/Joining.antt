@@ -4,7 +4,8 @@ use Rattle.std.specs.Prelude.{map, sum_by}
 use Rattle.std.proofs.lemmas.Bool.{eq-eqb}
 use Rattle.std.proofs.lemmas.List.Sums.{sum_by-cons}
 use Rattle.c62_op.specs.declared.operands.Operands.{Operands}
-use Rattle.c62_op.specs.declared.operands.Operands.TheVariants.{Three, ConstantFirst, ConstantSecond, Two, Field, Constant, Access, Block as ToBlock, Register}
+use Rattle.c62_op.specs.declared.operands.Operands.TheVariants.{Three, ConstantFirst, ConstantSecond, Two, Field}
+use Rattle.c62_op.specs.declared.operands.Operands.TheVariants.{Constant, Access, Block as ToBlock, Register}
 use Rattle.c62_op.specs.declared.register.Unit.{Unit as FunctionalUnit}
 use Rattle.c62_insn.specs.declared.insn.Insn.{Insn}
 use Rattle.c62_insn.specs.Insn.{op_of, operands_of, aimed_operands}
@@ -58,7 +59,8 @@ without f x (y ∷ xs) (inr h) =
     later r z (inr k) other = inr (r.kept z k other)
 
 -- what is apart and among others comes to no more than these
-pub total_within : {X : Type 0} (f : X → ℕ) (xs ys : List X) → AreApart xs → ((x : X) → In x xs → In x ys) → total f xs ≤ total f ys
+pub total_within : {X : Type 0} (f : X → ℕ) (xs ys : List X) → AreApart xs → ((x : X) → In x xs → In x ys)
+    → total f xs ≤ total f ys
 total_within f [] ys apart inside = omega arith
 total_within f (x ∷ xs) ys apart inside =
     let r = without f x ys (inside x (inl refl)) in
@@ -74,7 +76,8 @@ total_ones (x ∷ xs) = let rest = total_ones xs in omega (arith, rest)
 abbrev taken : ℕ → Resource → Placed → ℕ
 taken cycle r p = uses_in cycle r (Some (issue_of p))
 
-total_used : (cycle : ℕ) (r : Resource) (placed : List Placed) → sum_by (uses_in cycle r) (issued placed) ≡ total (taken cycle r) placed
+total_used : (cycle : ℕ) (r : Resource) (placed : List Placed)
+    → sum_by (uses_in cycle r) (issued placed) ≡ total (taken cycle r) placed
 total_used cycle r [] = refl
 total_used cycle r (p ∷ placed) =
     let one = sum_by-cons (uses_in cycle r) (Some (issue_of p)) (issued placed) in
@@ -83,10 +86,12 @@ total_used cycle r (p ∷ placed) =
 -- what an operation with these operands takes on a unit
 abbrev taken_of : Op → FunctionalUnit → Operands → List Resource
 taken_of op unit operands =
-    (OnUnit unit ∷ [] ++ cross_path_taken unit.side (crosses_to unit.side operands) ++ data_path_taken (data_path_of operands)) ++ map ReadsOf (reads_of op operands)
+    (OnUnit unit ∷ [] ++ cross_path_taken unit.side (crosses_to unit.side operands) ++ data_path_taken
+    (data_path_of operands)) ++ map ReadsOf (reads_of op operands)
 
 -- the number of a label takes nothing
-number_takes : (operands : Operands) (op : Op) (unit : FunctionalUnit) (number other : ℕ) → taken_of op unit (aimed_operands number operands) ≡ taken_of op unit (aimed_operands other operands)
+number_takes : (operands : Operands) (op : Op) (unit : FunctionalUnit) (number other : ℕ)
+    → taken_of op unit (aimed_operands number operands) ≡ taken_of op unit (aimed_operands other operands)
 number_takes (Three x y d) op unit number other = refl
 number_takes (ConstantFirst k x d) op unit number other = refl
 number_takes (ConstantSecond x k d) op unit number other = refl
@@ -97,10 +102,12 @@ number_takes (Access register base form offset) op unit number other = refl
 number_takes (ToBlock old) op unit number other = refl
 number_takes (Register x) op unit number other = refl
 
-pub same_taken : (operands : Operands) (a b : Insn) (number other : ℕ) (unit : FunctionalUnit) → op_of a ≡ op_of b → operands_of a ≡ aimed_operands number operands → operands_of b ≡ aimed_operands other operands
+pub same_taken : (operands : Operands) (a b : Insn) (number other : ℕ) (unit : FunctionalUnit) → op_of a ≡ op_of b
+    → operands_of a ≡ aimed_operands number operands → operands_of b ≡ aimed_operands other operands
     → taken_by a unit ≡ taken_by b unit
 same_taken operands a b number other unit op e f =
-    ap (taken_of (op_of a) unit) e ∙ number_takes operands (op_of a) unit number other ∙ ap (λ (o : Op). taken_of o unit (aimed_operands other operands)) op
+    ap (taken_of (op_of a) unit) e ∙ number_takes operands (op_of a) unit number other
+    ∙ ap (λ (o : Op). taken_of o unit (aimed_operands other operands)) op
     ∙ sym (ap (taken_of (op_of b) unit) f)
 
 -- two instructions of a line, one in its row and one in its block
@@ -120,7 +127,8 @@ AreLike cycle [] [] = Unit {0}
 AreLike cycle (p ∷ ps) (q ∷ qs) = IsLike cycle p q × AreLike cycle ps qs
 AreLike cycle _ _ = ⊥
 
-like_total : (cycle : ℕ) (r : Resource) (ps qs : List Placed) → AreLike cycle ps qs → total (taken 0 r) ps ≡ total (taken cycle r) qs
+like_total : (cycle : ℕ) (r : Resource) (ps qs : List Placed) → AreLike cycle ps qs
+    → total (taken 0 r) ps ≡ total (taken cycle r) qs
 like_total cycle r [] [] are = refl
 like_total cycle r [] (q ∷ qs) are = absurd are
 like_total cycle r (p ∷ ps) [] are = absurd are
@@ -128,7 +136,8 @@ like_total cycle r (p ∷ ps) (q ∷ qs) are =
     let one = like_taken cycle r p q are.0 in let rest = like_total cycle r ps qs are.1 in omega (arith, one, rest)
 
 -- in a row there is enough of what there is enough of in the block
-pub enough_in_row : (cycle : ℕ) (ps qs block : List Placed) → AreLike cycle ps qs → AreApart qs → ((q : Placed) → In q qs → In q block) → AreEnough cycle (issued block) → AreEnough 0 (issued ps)
+pub enough_in_row : (cycle : ℕ) (ps qs block : List Placed) → AreLike cycle ps qs → AreApart qs
+    → ((q : Placed) → In q qs → In q block) → AreEnough cycle (issued block) → AreEnough 0 (issued ps)
 enough_in_row cycle ps qs block like apart inside enough r =
     let mine = total_used 0 r ps in
     let same = like_total cycle r ps qs like in

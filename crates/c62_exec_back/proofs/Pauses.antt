@@ -1,5 +1,6 @@
 -- A NOP takes a cycle at least.
-use Rattle.std.proofs.Common.{◌≡◌, ℕ, Bool, true, false, cond, leb, ltb, ◌&&◌, not, List, [], ◌∷◌, length, Option, Some, None, Result, Ok, Err, refl, arith, pos, inl, inr, subst}
+use Rattle.std.proofs.Common.{◌≡◌, ℕ, Bool, true, false, cond, leb, ltb, ◌&&◌, not, List, [], ◌∷◌, length, Option, Some}
+use Rattle.std.proofs.Common.{None, Result, Ok, Err, refl, arith, pos, inl, inr, subst}
 use Rattle.std.proofs.lemmas.Bool.{cases_Bool, cond_both}
 use Rattle.std.proofs.lemmas.Bool.Decides.{nat_tests}
 use Rattle.std.specs.List.{list_all}
@@ -11,13 +12,15 @@ use Rattle.c62_token.specs.declared.kind.Kind.TheVariants.{Number}
 use Rattle.c62_line.specs.declared.fault.Cause.{Cause}
 use Rattle.c62_line.specs.declared.fault.Cause.TheVariants.{BadLabel, BadOperand, Directive, NotAscii, LineTooLong}
 use Rattle.c62_line.specs.declared.limits.TheConstants.{MOST_LINE}
-use Rattle.c62_line.specs.Line.{Says, Nothing, Pause, behind_unit, cycles_of, instruction_of, is_star, jumps_or_does, label_field, pause_of, rest_says, target_of}
+use Rattle.c62_line.specs.Line.{Says, Nothing, Pause, behind_unit, cycles_of, instruction_of, is_star, jumps_or_does}
+use Rattle.c62_line.specs.Line.{label_field, pause_of, rest_says, target_of}
 use Rattle.c62_line.specs.Unit.{is_dot}
 use Rattle.c62_adopt_line.specs.declared.fault.LineFault.{LineFault}
 use Rattle.c62_adopt_line.specs.declared.fault.LineFault.TheVariants.{Read}
 use Rattle.c62_adopt_line.specs.Directive.{lays_nothing}
 use Rattle.c62_adopt_line.specs.Plain.{plain_words, undotted}
-use Rattle.c62_adopt_line.specs.Line.{Line, behind_bars, behind_colon, has_colon, instruction_says, line_said, line_says}
+use Rattle.c62_adopt_line.specs.Line.{Line, behind_bars, behind_colon, has_colon, instruction_says, line_said}
+use Rattle.c62_adopt_line.specs.Line.{line_says}
 use Rattle.c62_adopt_line.specs.Line.{statement_says, with_bars, with_front, with_label, with_unit, words_say}
 
 abbrev pub lasts : Says → Bool
@@ -29,7 +32,8 @@ OkLasts (Ok says) = lasts says ≡ true
 OkLasts (Err cause) = Unit {0}
 
 cycles_last : (kind : Kind) → OkLasts (cycles_of kind)
-cycles_last (Number (pos n)) = cond_both (leb 1 n && leb n 9) (Ok (Pause n)) (Err BadOperand) OkLasts (λ is. grind (arith, nat_tests)) (λ _. tt)
+cycles_last (Number (pos n)) = cond_both (leb 1 n && leb n 9) (Ok (Pause n)) (Err BadOperand) OkLasts
+    (λ is. grind (arith, nat_tests)) (λ _. tt)
 cycles_last _ = tt
 
 pause_lasts : (condition : Option Condition) (kinds : List Kind) → OkLasts (pause_of condition kinds)
@@ -39,11 +43,13 @@ pause_lasts None (kind ∷ []) = cycles_last kind
 pause_lasts None (kind ∷ next ∷ kinds) = tt
 pause_lasts (Some condition) kinds = tt
 
-does_last : (aim : Option Word) (mnemonic : _) (condition : Option Condition) (written : _) (words : List Word) → OkLasts (jumps_or_does aim mnemonic condition written words)
+does_last : (aim : Option Word) (mnemonic : _) (condition : Option Condition) (written : _) (words : List Word)
+    → OkLasts (jumps_or_does aim mnemonic condition written words)
 does_last (Some label) mnemonic condition written words = grind arith
 does_last None mnemonic condition written words = grind arith
 
-unit_lasts : (mnemonic : _) (condition : Option Condition) (written : _) (words : List Word) → OkLasts (behind_unit mnemonic condition written words)
+unit_lasts : (mnemonic : _) (condition : Option Condition) (written : _) (words : List Word)
+    → OkLasts (behind_unit mnemonic condition written words)
 unfolding behind_unit
 unit_lasts mnemonic condition written words =
     let does = does_last (target_of mnemonic words) mnemonic condition written words in
@@ -59,7 +65,8 @@ rest_lasts words says is = grind (arith, unit_lasts)
 no_fault : (fault : LineFault) (says : Says) → Err fault ≡ Ok says → ⊥
 no_fault fault says is = cc
 
-unit_kept : (read : Result Says Cause) (says : Says) → ((other : Says) → read ≡ Ok other → lasts other ≡ true) → with_unit read ≡ Ok says → lasts says ≡ true
+unit_kept : (read : Result Says Cause) (says : Says) → ((other : Says) → read ≡ Ok other → lasts other ≡ true)
+    → with_unit read ≡ Ok says → lasts says ≡ true
 unit_kept (Err cause) says target is = absurd cc
 unit_kept (Ok read) says target is = let aims = target read refl in grind (arith, nat_tests)
 
@@ -72,37 +79,48 @@ instruction_lasts bytes says is =
       | inr none ↦ unit_kept (rest_says words) says (rest_lasts words) (rw none at is)
     ]
 
-directive_lasts : (beside lays : Bool) (says : Says) → cond (not beside && lays) (Ok Nothing) (Err (Read Directive)) ≡ Ok says → lasts says ≡ true
+directive_lasts : (beside lays : Bool) (says : Says)
+    → cond (not beside && lays) (Ok Nothing) (Err (Read Directive)) ≡ Ok says → lasts says ≡ true
 directive_lasts beside lays says is = grind (arith, nat_tests)
 
-words_last : (beside : Bool) (bytes : List ℕ) (words : List Word) (says : Says) → words_say beside bytes words ≡ Ok says → lasts says ≡ true
+words_last : (beside : Bool) (bytes : List ℕ) (words : List Word) (says : Says) → words_say beside bytes words ≡ Ok says
+    → lasts says ≡ true
 words_last beside bytes [] says is = grind (arith, nat_tests)
 words_last beside bytes (word ∷ words) says is = elim (cases_Bool (begins is_dot word)) [
   | inl dot ↦ directive_lasts beside (lays_nothing (word ∷ words)) says (rw dot at is)
   | inr plain ↦ instruction_lasts bytes says (rw plain at is)
 ]
 
-statement_lasts : (beside : Bool) (bytes : List ℕ) (says : Says) → statement_says beside bytes ≡ Ok says → lasts says ≡ true
+statement_lasts : (beside : Bool) (bytes : List ℕ) (says : Says) → statement_says beside bytes ≡ Ok says
+    → lasts says ≡ true
 unfolding statement_says
 statement_lasts beside bytes says is = words_last beside bytes (tokens bytes) says is
 
-front_lasts : (beside : Bool) (label : Option Word) (read : Result Says LineFault) (line : Line) → ((says : Says) → read ≡ Ok says → lasts says ≡ true)
+front_lasts : (beside : Bool) (label : Option Word) (read : Result Says LineFault) (line : Line)
+    → ((says : Says) → read ≡ Ok says → lasts says ≡ true)
     → with_front beside label read ≡ Ok line → lasts line.says ≡ true
 front_lasts beside label (Err fault) line whole is = absurd cc
 front_lasts beside label (Ok says) line whole is =
     let same : line_said beside label says ≡ line = grind arith in
     subst (λ (other : Line). lasts other.says ≡ true) same (whole says refl)
 
-label_lasts : (bytes : List ℕ) (label : Option Word) (line : Line) → with_label bytes label ≡ Ok line → lasts line.says ≡ true
-label_lasts bytes (Some label) line is = front_lasts false (Some label) (statement_says false (behind_colon bytes)) line (statement_lasts false (behind_colon bytes)) is
-label_lasts bytes None line is = front_lasts false None (statement_says false bytes) line (statement_lasts false bytes) is
+label_lasts : (bytes : List ℕ) (label : Option Word) (line : Line) → with_label bytes label ≡ Ok line
+    → lasts line.says ≡ true
+label_lasts bytes (Some label) line is = front_lasts false (Some label) (statement_says false (behind_colon bytes)) line
+    (statement_lasts false (behind_colon bytes)) is
+label_lasts bytes None line is = front_lasts false None (statement_says false bytes) line (statement_lasts false bytes)
+    is
 
-bars_last : (bytes : List ℕ) (behind : Option (List ℕ)) (line : Line) → with_bars bytes behind ≡ Ok line → lasts line.says ≡ true
-bars_last bytes (Some rest) line is = front_lasts true None (statement_says true rest) line (statement_lasts true rest) is
+bars_last : (bytes : List ℕ) (behind : Option (List ℕ)) (line : Line) → with_bars bytes behind ≡ Ok line
+    → lasts line.says ≡ true
+bars_last bytes (Some rest) line is = front_lasts true None (statement_says true rest) line (statement_lasts true rest)
+    is
 bars_last bytes None line is = label_lasts bytes (label_field (undotted true bytes)) line is
 
-steps_last : (allowed long star : Bool) (rest : Result Line LineFault) (line : Line) → ((other : Line) → rest ≡ Ok other → lasts other.says ≡ true)
-    → cond (not allowed) (Err (Read NotAscii)) (cond long (Err (Read LineTooLong)) (cond star (Ok (line_said false None Nothing)) rest)) ≡ Ok line
+steps_last : (allowed long star : Bool) (rest : Result Line LineFault) (line : Line)
+    → ((other : Line) → rest ≡ Ok other → lasts other.says ≡ true)
+    → cond (not allowed) (Err (Read NotAscii))
+    (cond long (Err (Read LineTooLong)) (cond star (Ok (line_said false None Nothing)) rest)) ≡ Ok line
     → lasts line.says ≡ true
 steps_last false long star rest line whole is = absurd cc
 steps_last true true star rest line whole is = absurd cc
@@ -114,5 +132,6 @@ steps_last true false false rest line whole is = whole line is
 pub line_lasts : (bytes : List ℕ) (line : Line) → line_says bytes ≡ Ok line → lasts line.says ≡ true
 unfolding line_says
 line_lasts bytes line is =
-    steps_last (list_all is_allowed bytes) (ltb MOST_LINE (length bytes)) (begins is_star bytes) (with_bars bytes (behind_bars bytes)) line
+    steps_last (list_all is_allowed bytes) (ltb MOST_LINE (length bytes)) (begins is_star bytes)
+    (with_bars bytes (behind_bars bytes)) line
     (bars_last bytes (behind_bars bytes)) is

@@ -1,118 +1,34 @@
--- Every text has a flight.
-use Rattle.std.proofs.Common.{◌≡◌, ℕ, zero, suc, ◌+◌, ◌<◌, ◌≤◌, Bool, true, false, cond, List, [], ◌∷◌, ◌++◌, Option, Some, None, refl, sym, ◌∙◌, ap, subst, ◌⊎◌, inl, inr, ⊎_elim, arith}
-use Rattle.std.specs.Prelude.{is_some, nat_le, Contains}
-use Rattle.std.specs.Option.{option_or}
-use Rattle.std.proofs.lemmas.Bool.{cases_Bool, cases_order, cond-true, cond-false, and_left, ne_eqb, leb-false}
+-- Each text has a flight.
+use Rattle.std.proofs.Common.{◌≡◌, ℕ, zero, suc, ◌+◌, ◌<◌, ◌≤◌, Bool, true, false, cond, List, [], ◌∷◌, ◌++◌, Option}
+use Rattle.std.proofs.Common.{Some, None, refl, sym, ◌∙◌, ap, subst, ◌⊎◌, inl, inr, ⊎_elim, arith}
+use Rattle.std.specs.Prelude.{nat_le}
+use Rattle.std.proofs.lemmas.Bool.{cases_Bool, cond-true, leb-false}
 use Rattle.std.proofs.lemmas.Option.{none-some}
 use Rattle.std.proofs.lemmas.List.{append-nil, append_assoc}
-use Rattle.c62_op.specs.declared.register.Reg.{Reg}
-use Rattle.c62_insn.specs.Insn.{register_writes}
-use Rattle.c62_insn.proofs.InsnLemmas.{writes_delay}
 use Rattle.c62_serial.specs.State.{Machine, IsSound}
-use Rattle.c62_serial.specs.Effect.{Act, act_of}
 use Rattle.c62_packet.specs.declared.placed.Placed.{Placed}
-use Rattle.c62_meaning.specs.Packet.{Did, word_before, byte_before, IsRun}
+use Rattle.c62_meaning.specs.Packet.{IsRun}
 use Rattle.c62_meaning.specs.Meaning.{LeavesState}
-use Rattle.c62_meaning.proofs.Lookup.{In, In-append_cases, Contains_from_In}
-use Rattle.c62_meaning.proofs.Landings.{act_writes}
+use Rattle.c62_meaning.proofs.Lookup.{In-append_cases}
 use Rattle.c62_meaning.proofs.Runs.{the_run, the_run_runs}
-use Rattle.c62_meaning.proofs.Cuts.{runs_to}
+use Rattle.c62_meaning.proofs.JoinedRuns.{runs_to}
 use Rattle.c62_flight.specs.declared.stop.Stop.{Stop}
 use Rattle.c62_flight.specs.declared.stop.Stop.TheVariants.{End, Limit}
 use Rattle.c62_flight.specs.Text.{Text, Position, At, Outside, row_of, position_after}
 use Rattle.c62_flight.specs.Issued.{Visit, Issued, issued_in, issued_on, turn, over_of, goes_on}
-use Rattle.c62_flight.specs.Broken.{has_branched, two_branches, met_by, clash, broken, IsWholeBefore}
+use Rattle.c62_flight.specs.Broken.{IsWholeBefore}
 use Rattle.c62_flight.specs.Flight.{ended, Leads, Stops, Flies}
 use Rattle.c62_flight.specs.Laws.{Outcome, FliesTo, HasOneFlight}
-use Rattle.c62_flight.proofs.Lists.{first_of-none, filter-none}
-use Rattle.c62_flight.proofs.Fronts.{Late, Early, AreSameUntil, same_until, turn_same, over_later, over_same, broken_same, ended_same}
-use Rattle.c62_flight.proofs.OneFlight.{Goes, early_after, path_late, in_visit, one_flight}
-
--- ---- the first cycle that is broken
-
--- a cycle below n is broken, and none before it
-record BreaksBelow (issued : Issued) (n : ℕ) : Type 0 where
-  pub cycle : ℕ
-  pub below : cycle < n
-  pub whole : IsWholeBefore issued cycle
-  pub stop : Stop
-  pub breaks : broken issued cycle ≡ Some stop
-
-first_broken : (issued : Issued) (n : ℕ) → IsWholeBefore issued n ⊎ BreaksBelow issued n
-first_broken issued zero = inl (λ c l. absurd (omega arith))
-first_broken issued (suc n) = behind (first_broken issued n) (broken issued n) refl
-  where
-    behind : IsWholeBefore issued n ⊎ BreaksBelow issued n → (o : Option Stop) → broken issued n ≡ o → IsWholeBefore issued (suc n) ⊎ BreaksBelow issued (suc n)
-    behind (inr b) o e = inr (let l : b.cycle < n = b.below in record { cycle = b.cycle; below = omega arith; whole = b.whole; stop = b.stop; breaks = b.breaks })
-    behind (inl whole) (Some stop) e = inr (record { cycle = n; below = omega arith; whole = whole; stop = stop; breaks = e })
-    behind (inl whole) None e =
-        inl (λ c l. elim (cases_order c n) [
-          | inl s ↦ ap (λ k. broken issued k) s ∙ e
-          | inr (inl u) ↦ whole c u
-          | inr (inr u) ↦ absurd (omega arith)
-        ])
-
--- ---- behind the last landing nothing is broken
-
--- what an instruction of a run writes lands in four cycles
-pub lands_soon : (s : Machine) (issued : Issued) → IsRun issued.placed s issued.did → (p : Placed) → In p issued.placed → (write : (Reg × ℕ) × ℕ) → In write (issued.did p).writes → write.0.1 ≤ 4
-lands_soon s issued run p h write k =
-    let k' : In write (act_of p.insn (word_before issued.placed s issued.did p.cycle) (byte_before issued.placed s issued.did p.cycle)).writes
-    = subst (λ (a : Act). In write a.writes) (run p (Contains_from_In p issued.placed h)) k in
-    let w : In write.0 (register_writes p.insn) = act_writes p.insn (word_before issued.placed s issued.did p.cycle) (byte_before issued.placed s issued.did p.cycle) write k' in
-    let c : Contains (register_writes p.insn) (write.0.0, write.0.1) = Contains_from_In write.0 (register_writes p.insn) w in
-    writes_delay p.insn write.0.0 write.0.1 c
-
-clash_none : (did : Did) (c : ℕ) (ps : List Placed) → ((p : Placed) → In p ps → (write : (Reg × ℕ) × ℕ) → In write (did p).writes → p.cycle + write.0.1 < c) → clash did c ps ≡ None
-clash_none did c [] h = refl
-clash_none did c (p ∷ ps) h =
-    ap (λ o. option_or o (clash did c ps))
-    (first_of-none (met_by did c p ps) (did p).writes
-    (λ write k. cond-false _ _ _ (ne_eqb _ _ (λ (e : p.cycle + write.0.1 ≡ c). let l : p.cycle + write.0.1 < c = h p (inl refl) write k in omega arith))))
-    ∙ clash_none did c ps (λ q k. h q (inr k))
-
-pub quiet : (s : Machine) (issued : Issued) (cycle c : ℕ) → IsRun issued.placed s issued.did → Early cycle issued.placed → cycle + 4 ≤ c → broken issued c ≡ None
-quiet s issued cycle c run early l =
-    ap (λ fs. option_or (two_branches fs) (clash issued.did c issued.placed))
-    (filter-none (has_branched issued.did c) issued.placed
-    (λ p k. and_left _ _ (ne_eqb _ _ (λ (e : p.cycle ≡ c). let u : p.cycle < cycle = early p k in omega arith))))
-    ∙ clash_none issued.did c issued.placed
-    (λ p k write w. (let u : p.cycle < cycle = early p k in let d : write.0.1 ≤ 4 = lands_soon s issued run p k write w in omega arith))
-
--- ---- a stop
-
-record Stopped (text : Text) (limit : ℕ) (issued : Issued) (last : Position) (end : ℕ) : Type 0 where
-  pub stop : Stop
-  pub cycles : ℕ
-  pub stops : Stops text limit issued last end stop cycles
-
--- a run that ends where it stands is stopped
-stopped_at : (text : Text) (limit : ℕ) (s : Machine) (issued : Issued) (last : Position) (end : ℕ) (stop : Stop) → IsRun issued.placed s issued.did → Early end issued.placed
-    → ended text limit issued last end ≡ Some stop → Stopped text limit issued last end
-stopped_at text limit s issued last end stop run early ends = by_first (first_broken issued (end + 4))
-  where
-    by_first : IsWholeBefore issued (end + 4) ⊎ BreaksBelow issued (end + 4) → Stopped text limit issued last end
-    by_first (inr b) = record {
-      stop = b.stop;
-      cycles = b.cycle + 1;
-      stops = inl (record { cycle = b.cycle; whole = b.whole; breaks = b.breaks; seen = inr (ap is_some ends); told = refl });
-    }
-    by_first (inl whole) = record {
-      stop = stop;
-      cycles = end;
-      stops = inr (record {
-        whole = λ c. ⊎_elim {C = broken issued c ≡ None} (λ l. whole c l) (λ l. quiet s issued end c run early l) (cases_below c (end + 4));
-        ends = ends;
-        told = refl;
-      });
-    }
-      where
-        cases_below : (m n : ℕ) → (m < n) ⊎ (n ≤ m)
-        cases_below m n = grind arith
+use Rattle.c62_flight.proofs.Fronts.{Late, Early, AreSameUntil, same_until, turn_same, over_later, over_same}
+use Rattle.c62_flight.proofs.Fronts.{broken_same, ended_same}
+use Rattle.c62_flight.proofs.PathTimes.{Goes, path_late, in_visit}
+use Rattle.c62_flight.proofs.OneFlight.{early_after, one_flight}
+use Rattle.c62_flight.proofs.Stops.{BreaksBelow, first_broken, Stopped, stopped_at}
 
 -- ---- a run from some cycle on
 
-record Found (text : Text) (limit : ℕ) (opening : Machine) (front : List Placed) (position : Position) (cycle : ℕ) : Type 0 where
+record Found (text : Text) (limit : ℕ) (opening : Machine) (front : List Placed) (position : Position) (cycle : ℕ) :
+    Type 0 where
   pub path : List Visit
   pub stop : Stop
   pub cycles : ℕ
@@ -123,7 +39,8 @@ module _ (text : Text) (limit : ℕ) (opening : Machine) where
   abbrev alone : List Placed → Issued
   alone front = record { placed = front; did = the_run front opening }
 
-  no_more : (front : List Placed) (position : Position) (cycle : ℕ) → Stopped text limit (alone front) position cycle → Found text limit opening front position cycle
+  no_more : (front : List Placed) (position : Position) (cycle : ℕ) → Stopped text limit (alone front) position cycle
+      → Found text limit opening front position cycle
   no_more front position cycle s = record {
     path = [];
     stop = s.stop;
@@ -149,10 +66,13 @@ module _ (text : Text) (limit : ℕ) (opening : Machine) where
   abbrev then_at : List Placed → Visit → Position
   then_at front visit = position_after text visit.row (turn (alone (more front visit)) (over_then front visit))
 
-  module _ (front : List Placed) (visit : Visit) (early : Early visit.start front) (on : ended text limit (alone front) (At visit.row) visit.start ≡ None)
-      (whole : IsWholeBefore (alone front) visit.start) (f : Found text limit opening (more front visit) (then_at front visit) (over_then front visit)) where
+  module _ (front : List Placed) (visit : Visit) (early : Early visit.start front)
+      (on : ended text limit (alone front) (At visit.row) visit.start ≡ None)
+      (whole : IsWholeBefore (alone front) visit.start)
+      (f : Found text limit opening (more front visit) (then_at front visit) (over_then front visit)) where
     late : Late (over_then front visit) (issued_on text f.path)
-    late = path_late text limit f.goes.issued (then_at front visit) (over_then front visit) f.path f.goes.last f.goes.end f.goes.leads
+    late = path_late text limit f.goes.issued (then_at front visit) (over_then front visit) f.path f.goes.last
+        f.goes.end f.goes.leads
 
     later : visit.start < over_then front visit
     later = over_later (alone (more front visit)) visit.start (row_of text visit.row).idle
@@ -161,19 +81,26 @@ module _ (text : Text) (limit : ℕ) (opening : Machine) where
     late_all p h =
         elim (In-append_cases p (issued_in text visit) (issued_on text f.path) h) [
           | inl k ↦ (let e : p.cycle ≡ visit.start = in_visit text visit p k in omega arith)
-          | inr k ↦ (let l : over_then front visit ≤ p.cycle = late p k in let u : visit.start < over_then front visit = later in omega arith)
+          | inr k ↦ (let l : over_then front visit ≤ p.cycle = late p k in let u : visit.start < over_then front visit =
+              later in omega arith)
         ]
 
     until_start : AreSameUntil visit.start (alone front) f.goes.issued
     until_start =
-        same_until opening visit.start visit.start front [] (issued_in text visit ++ issued_on text f.path) (alone front) f.goes.issued early (λ p k. absurd k) late_all (λ p k. absurd k) late_all
-        (sym (append-nil front)) (f.goes.is ∙ append_assoc front (issued_in text visit) (issued_on text f.path)) (the_run_runs front opening) f.goes.run
+        same_until opening visit.start visit.start front [] (issued_in text visit ++ issued_on text f.path)
+        (alone front) f.goes.issued early (λ p k. absurd k) late_all (λ p k. absurd k) late_all
+        (sym (append-nil front)) (f.goes.is
+        ∙ append_assoc front (issued_in text visit) (issued_on text f.path)) (the_run_runs front opening)
+        f.goes.run
 
     until_over : (c : ℕ) → c ≤ over_then front visit → AreSameUntil c (alone (more front visit)) f.goes.issued
     until_over c l =
-        same_until opening c (suc visit.start) (more front visit) [] (issued_on text f.path) (alone (more front visit)) f.goes.issued
-        (early_after text limit opening front visit visit.start (suc visit.start) early refl (omega arith)) (λ p k. absurd k)
-        (λ p k. (let a : over_then front visit ≤ p.cycle = late p k in let u : visit.start < over_then front visit = later in omega arith)) (λ p k. absurd k)
+        same_until opening c (suc visit.start) (more front visit) [] (issued_on text f.path) (alone (more front visit))
+        f.goes.issued
+        (early_after text limit opening front visit visit.start (suc visit.start) early refl (omega arith))
+        (λ p k. absurd k)
+        (λ p k. (let a : over_then front visit ≤ p.cycle = late p k in let u : visit.start < over_then front visit =
+        later in omega arith)) (λ p k. absurd k)
         (λ p k. let a : over_then front visit ≤ p.cycle = late p k in omega arith)
         (sym (append-nil (more front visit))) f.goes.is (the_run_runs (more front visit) opening) f.goes.run
 
@@ -182,9 +109,11 @@ module _ (text : Text) (limit : ℕ) (opening : Machine) where
         over_same (alone (more front visit)) f.goes.issued visit.start (row_of text visit.row).idle
         (λ c l u. turn_same c c (alone (more front visit)) f.goes.issued (until_over c l) (omega arith))
 
-    turn_one : turn (alone (more front visit)) (over_then front visit) ≡ turn f.goes.issued (over_of text f.goes.issued visit)
+    turn_one : turn (alone (more front visit)) (over_then front visit) ≡ turn f.goes.issued
+        (over_of text f.goes.issued visit)
     turn_one =
-        turn_same (over_then front visit) (over_then front visit) (alone (more front visit)) f.goes.issued (until_over (over_then front visit) (omega arith)) (omega arith)
+        turn_same (over_then front visit) (over_then front visit) (alone (more front visit)) f.goes.issued
+        (until_over (over_then front visit) (omega arith)) (omega arith)
         ∙ ap (λ c. turn f.goes.issued c) over_one
 
     -- a row that is begun, and what is found from when it is over
@@ -203,52 +132,71 @@ module _ (text : Text) (limit : ℕ) (opening : Machine) where
           record {
             there = refl;
             when = refl;
-            on = sym (ended_same text limit visit.start visit.start (alone front) f.goes.issued (At visit.row) until_start (omega arith)) ∙ on;
+            on = sym (ended_same text limit visit.start visit.start (alone front) f.goes.issued (At visit.row)
+                until_start (omega arith)) ∙ on;
             whole = λ c l. sym (broken_same visit.start c (alone front) f.goes.issued until_start l) ∙ whole c l;
           },
-          subst (λ c. Leads text limit f.goes.issued (position_after text visit.row (turn f.goes.issued (over_of text f.goes.issued visit))) c f.path f.goes.last f.goes.end) over_one
-              (subst (λ o. Leads text limit f.goes.issued (position_after text visit.row o) (over_then front visit) f.path f.goes.last f.goes.end) turn_one f.goes.leads),
+          subst (λ c. Leads text limit f.goes.issued
+              (position_after text visit.row (turn f.goes.issued (over_of text f.goes.issued visit))) c f.path
+              f.goes.last f.goes.end) over_one
+              (subst (λ o. Leads text limit f.goes.issued (position_after text visit.row o) (over_then front visit)
+              f.path f.goes.last f.goes.end) turn_one f.goes.leads),
         );
         stops = f.goes.stops;
       };
     }
 
   -- a run that is not ended stands before a row, and below the limit
-  before_row : (issued : Issued) (position : Position) (cycle : ℕ) → ended text limit issued position cycle ≡ None → (row : ℕ) × (position ≡ At row)
+  before_row : (issued : Issued) (position : Position) (cycle : ℕ) → ended text limit issued position cycle ≡ None
+      → (row : ℕ) × (position ≡ At row)
   before_row issued (At row) cycle e = (row, refl)
   before_row issued (Outside word) cycle e = absurd (none-some _ (sym e))
 
-  below_limit : (goes : Bool) (cycle : ℕ) → cond goes (cond (nat_le limit cycle) (Some Limit) None) (Some End) ≡ None → cycle < limit
+  below_limit : (goes : Bool) (cycle : ℕ) → cond goes (cond (nat_le limit cycle) (Some Limit) None) (Some End) ≡ None
+      → cycle < limit
   below_limit false cycle e = absurd (none-some _ (sym e))
   below_limit true cycle e =
-      ⊎_elim {C = cycle < limit} (λ t. absurd (none-some _ (sym e ∙ cond-true _ _ _ t))) (λ t. leb-false limit cycle t) (cases_Bool (nat_le limit cycle))
+      ⊎_elim {C = cycle < limit} (λ t. absurd (none-some _ (sym e ∙ cond-true _ _ _ t))) (λ t. leb-false limit cycle t)
+      (cases_Bool (nat_le limit cycle))
 
   -- a run is stopped where it stands, or begins a row
   decide : (front : List Placed) (position : Position) (cycle : ℕ) → Early cycle front
-      → ((row : ℕ) → position ≡ At row → ended text limit (alone front) (At row) cycle ≡ None → IsWholeBefore (alone front) cycle → Found text limit opening front position cycle)
+      → ((row : ℕ) → position ≡ At row → ended text limit (alone front) (At row) cycle ≡ None
+      → IsWholeBefore (alone front) cycle → Found text limit opening front position cycle)
       → Found text limit opening front position cycle
   decide front position cycle early next = by_broken (first_broken (alone front) cycle)
     where
-      by_end : IsWholeBefore (alone front) cycle → (o : Option Stop) → ended text limit (alone front) position cycle ≡ o → Found text limit opening front position cycle
-      by_end whole (Some stop) e = no_more front position cycle (stopped_at text limit opening (alone front) position cycle stop (the_run_runs front opening) early e)
+      by_end : IsWholeBefore (alone front) cycle → (o : Option Stop) → ended text limit (alone front) position cycle ≡ o
+          → Found text limit opening front position cycle
+      by_end whole (Some stop) e = no_more front position cycle
+          (stopped_at text limit opening (alone front) position cycle stop (the_run_runs front opening) early e)
       by_end whole None e =
           let r = before_row (alone front) position cycle e in
           next r.0 r.1 (subst (λ p. ended text limit (alone front) p cycle ≡ None) r.1 e) whole
 
-      by_broken : IsWholeBefore (alone front) cycle ⊎ BreaksBelow (alone front) cycle → Found text limit opening front position cycle
+      by_broken : IsWholeBefore (alone front) cycle ⊎ BreaksBelow (alone front) cycle
+          → Found text limit opening front position cycle
       by_broken (inr b) =
           no_more front position cycle (record {
             stop = b.stop;
             cycles = b.cycle + 1;
-            stops = inl (record { cycle = b.cycle; whole = b.whole; breaks = b.breaks; seen = inl b.below; told = refl });
+            stops = inl (record {
+              cycle = b.cycle;
+              whole = b.whole;
+              breaks = b.breaks;
+              seen = inl b.below;
+              told = refl;
+            });
           })
       by_broken (inl whole) = by_end whole (ended text limit (alone front) position cycle) refl
 
   -- so much of the limit being left
-  find_from : (fuel : ℕ) (front : List Placed) (position : Position) (cycle : ℕ) → limit ≤ cycle + fuel → Early cycle front → Found text limit opening front position cycle
+  find_from : (fuel : ℕ) (front : List Placed) (position : Position) (cycle : ℕ) → limit ≤ cycle + fuel
+      → Early cycle front → Found text limit opening front position cycle
   find_from zero front position cycle l early =
       decide front position cycle early
-      (λ row e on whole. (let u : cycle < limit = below_limit (goes_on text (alone front) row cycle) cycle on in absurd (omega arith)))
+      (λ row e on whole. (let u : cycle < limit = below_limit (goes_on text (alone front) row cycle) cycle on in absurd
+      (omega arith)))
   find_from (suc fuel) front position cycle l early =
       decide front position cycle early
       (λ row e on whole.
@@ -262,11 +210,14 @@ module _ (text : Text) (limit : ℕ) (opening : Machine) where
 -- ---- the flight
 
 -- what a run from a row on leaves
-pub flies_from : (text : Text) (first limit : ℕ) (opening : Machine) (path : List Visit) (stop : Stop) (cycles : ℕ) → IsSound opening
+pub flies_from : (text : Text) (first limit : ℕ) (opening : Machine) (path : List Visit) (stop : Stop) (cycles : ℕ)
+    → IsSound opening
     → (g : Goes text limit opening [] (At first) 0 path stop cycles)
-    → (final : Machine) × Flies text first limit opening stop cycles final × LeavesState (issued_on text path) (cycles + 4) opening g.issued.did final
+    → (final : Machine) × Flies text first limit opening stop cycles final
+    × LeavesState (issued_on text path) (cycles + 4) opening g.issued.did final
 flies_from text first limit opening path stop cycles sound g =
-    let run : IsRun (issued_on text path) opening g.issued.did = subst (λ ps. IsRun ps opening g.issued.did) g.is g.run in
+    let run : IsRun (issued_on text path) opening g.issued.did = subst (λ ps. IsRun ps opening g.issued.did) g.is g.run
+    in
     let r = runs_to (issued_on text path) (cycles + 4) opening g.issued.did sound run in (
       r.0,
       record {
@@ -275,19 +226,25 @@ flies_from text first limit opening path stop cycles sound g =
         runs = r.1;
         last = g.last;
         end = g.end;
-        leads = subst (λ ps. Leads text limit (record { placed = ps; did = g.issued.did }) (At first) 0 path g.last g.end) g.is g.leads;
-        stops = subst (λ ps. Stops text limit (record { placed = ps; did = g.issued.did }) g.last g.end stop cycles) g.is g.stops;
+        leads = subst (λ ps. Leads text limit (record { placed = ps; did = g.issued.did }) (At first) 0 path g.last
+            g.end) g.is g.leads;
+        stops = subst (λ ps. Stops text limit (record { placed = ps; did = g.issued.did }) g.last g.end stop cycles)
+            g.is g.stops;
       },
       r.1.leaves,
     )
 
-has_flight : (text : Text) (first limit : ℕ) (opening : Machine) → IsSound opening → (outcome : Outcome) × FliesTo text first limit opening outcome
+has_flight : (text : Text) (first limit : ℕ) (opening : Machine) → IsSound opening → (outcome : Outcome)
+    × FliesTo text first limit opening outcome
 has_flight text first limit opening sound =
-    let f : Found text limit opening [] (At first) 0 = find_from text limit opening limit [] (At first) 0 (omega arith) (λ p k. absurd k) in
+    let f : Found text limit opening [] (At first) 0 = find_from text limit opening limit [] (At first) 0 (omega arith)
+    (λ p k. absurd k) in
     let r = flies_from text first limit opening f.path f.stop f.cycles sound f.goes in
     (record { stop = f.stop; cycles = f.cycles; final = r.0 }, r.1)
 
-pub has_one_flight : (text : Text) (first limit : ℕ) (opening : Machine) → IsSound opening → HasOneFlight text first limit opening
+pub has_one_flight : (text : Text) (first limit : ℕ) (opening : Machine) → IsSound opening
+    → HasOneFlight text first limit opening
 has_one_flight text first limit opening sound =
-    let f : (outcome : Outcome) × FliesTo text first limit opening outcome = has_flight text first limit opening sound in
+    let f : (outcome : Outcome)
+    × FliesTo text first limit opening outcome = has_flight text first limit opening sound in
     record { outcome = f.0; is = f.1; only = λ other g. one_flight text first limit opening f.0 other f.1 g }

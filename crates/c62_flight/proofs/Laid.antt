@@ -1,60 +1,40 @@
 -- Blocks that are laid out fly as their chain.
-use Rattle.std.proofs.Common.{◌≡◌, ℕ, ◌+◌, ◌<◌, ◌≤◌, Bool, false, ◌||◌, cond, List, [], ◌∷◌, length, Some, None, refl, sym, ◌∙◌, ap, subst, ◌⊎◌, inl, inr, ⊎_elim, arith, ◌-◌}
-use Rattle.std.specs.Prelude.{All, nat_lt, nat_le, slice_get}
-use Rattle.std.proofs.lemmas.Bool.{cases_lt, cond-false, cond_both, lt-ltb, le-ltb, ltb-true, ltb-false}
+use Rattle.std.proofs.Common.{◌≡◌, ℕ, ◌+◌, ◌<◌, ◌≤◌, List, [], ◌∷◌, length, Some, None, refl}
+use Rattle.std.proofs.Common.{sym, ◌∙◌, ap, subst, ◌⊎◌, inl, inr, ⊎_elim, arith, ◌-◌}
+use Rattle.std.specs.Prelude.{All, nat_lt, slice_get}
+use Rattle.std.proofs.lemmas.Bool.{cases_lt, cond-false, cond_both, ltb-true, ltb-false}
 use Rattle.std.proofs.lemmas.Option.{slice_get-get_or}
 use Rattle.std.proofs.lemmas.List.Sums.{sum_by-cons}
 use Rattle.c62_insn.specs.declared.effect.Target.{Target}
 use Rattle.c62_insn.specs.declared.effect.Target.TheVariants.{Block as ToBlock, Register as ToRegister}
 use Rattle.c62_serial.specs.declared.chain.End.TheVariants.{End as FellThrough, Register as LeftBy, Limit as Stopped}
 use Rattle.c62_serial.specs.State.{Machine, IsSound}
-use Rattle.c62_serial.specs.Effect.{no_act}
 use Rattle.c62_serial.specs.Serial.{Ran}
-use Rattle.c62_serial.specs.Chain.{Position as ChainPosition, At as AtBlock, Ended, Leads as ChainLeads, position_at, position_after as chain_after}
+use Rattle.c62_serial.specs.Chain.{Position as ChainPosition, At as AtBlock, Ended, Leads as ChainLeads, position_at}
+use Rattle.c62_serial.specs.Chain.{position_after as chain_after}
 use Rattle.c62_packet.specs.declared.placed.Placed.{Placed}
 use Rattle.c62_packet.specs.Packed.{Packed, IsPacketBlock}
 use Rattle.c62_meaning.specs.Meaning.{IsMeaning}
 use Rattle.c62_meaning.specs.Cut.{moved, since}
 use Rattle.c62_meaning.proofs.Lookup.{In}
-use Rattle.c62_meaning.proofs.Cuts.{runs_nothing}
-use Rattle.c62_flight.specs.declared.stop.Stop.{Stop}
 use Rattle.c62_flight.specs.declared.stop.Stop.TheVariants.{End, Register, Limit}
-use Rattle.c62_flight.specs.Text.{Text, At, aim_of}
+use Rattle.c62_flight.specs.Text.{Text, aim_of}
 use Rattle.c62_flight.specs.Issued.{issued_on}
-use Rattle.c62_flight.specs.Flight.{ended, Flies}
+use Rattle.c62_flight.specs.Flight.{Flies}
 use Rattle.c62_flight.specs.Cut.{IsCut}
-use Rattle.c62_flight.specs.Laid.{straight, straight_end, IsLaid, AreLaid, no_block, block_of, packet_blocks, FliesAs, IsOutside, LaidFlies, cycles_taken}
+use Rattle.c62_flight.specs.Laid.{straight, straight_end, IsLaid, AreLaid, no_block, block_of, packet_blocks, FliesAs}
+use Rattle.c62_flight.specs.Laid.{IsOutside, LaidFlies, cycles_taken}
 use Rattle.c62_flight.proofs.Joined.{flies_on}
-use Rattle.c62_flight.proofs.LaidBlock.{takes, names, in_placed, exit_plain, cut_plain, exit_turned, cut_turned, flies_out, any_branch}
-
--- ---- a flight that is over where it begins
-
-stays : (text : Text) (row limit : ℕ) (machine : Machine) (stop : Stop) → IsSound machine → ended text limit (record { placed = []; did = λ _. no_act }) (At row) 0 ≡ Some stop
-    → Flies text row limit machine stop 0 machine
-stays text row limit machine stop sound e = record {
-  path = [];
-  did = λ _. no_act;
-  runs = runs_nothing 4 machine (λ _. no_act) sound;
-  last = At row;
-  end = 0;
-  leads = (refl, refl);
-  stops = inr (record { whole = λ c. refl; ends = e; told = refl });
-}
-
-stays_behind : (text : Text) (row limit : ℕ) (machine : Machine) → IsSound machine → length text.rows ≤ row → Flies text row limit machine End 0 machine
-stays_behind text row limit machine sound l =
-    stays text row limit machine End sound
-    (ap (λ (b : Bool). cond (b || false) (cond (nat_le limit 0) (Some Limit) None) (Some End)) (le-ltb row (length text.rows) l))
-
-stays_limited : (text : Text) (row : ℕ) (machine : Machine) → IsSound machine → row < length text.rows → Flies text row 0 machine Limit 0 machine
-stays_limited text row machine sound l =
-    stays text row 0 machine Limit sound
-    (ap (λ (b : Bool). cond (b || false) (cond (nat_le 0 0) (Some Limit) None) (Some End)) (lt-ltb row (length text.rows) l))
+use Rattle.c62_flight.proofs.LaidBlock.{takes, names, in_placed, exit_plain, cut_plain, exit_turned, cut_turned}
+use Rattle.c62_flight.proofs.LaidBlock.{flies_out, any_branch}
+use Rattle.c62_flight.proofs.Stays.{stays_behind, stays_limited}
 
 -- ---- a flight with a part before it
 
-joined : (text : Text) (row next cycle : ℕ) (machine middle : Machine) (last : ChainPosition) (final : Machine) (least rest : ℕ) → ((more : ℕ) → IsCut text row (cycle + more) machine next cycle middle)
-    → ((t : ℕ) → rest ≤ t → least ≤ cycle + t) → FliesAs text next middle last final rest → FliesAs text row machine last final least
+joined : (text : Text) (row next cycle : ℕ) (machine middle : Machine) (last : ChainPosition) (final : Machine)
+    (least rest : ℕ) → ((more : ℕ) → IsCut text row (cycle + more) machine next cycle middle)
+    → ((t : ℕ) → rest ≤ t → least ≤ cycle + t) → FliesAs text next middle last final rest
+    → FliesAs text row machine last final least
 joined text row next cycle machine middle last final least rest cut longer f = record {
   stop = f.stop;
   taken = cycle + f.taken;
@@ -63,7 +43,8 @@ joined text row next cycle machine middle last final least rest cut longer f = r
   flies = λ more h.
       let e : cycle + (f.taken + more) ≡ cycle + f.taken + more = omega arith in
       subst (λ n. Flies text row n machine f.stop (cycle + f.taken) final) e
-      (flies_on text row (f.taken + more) machine next cycle middle (cut (f.taken + more)) f.stop f.taken final (f.flies more h));
+      (flies_on text row (f.taken + more) machine next cycle middle (cut (f.taken + more)) f.stop f.taken final
+      (f.flies more h));
 }
 
 -- ---- the chain
@@ -76,10 +57,13 @@ module _ (text : Text) (packets : List Packed) (laid : AreLaid text packets) (bl
   StandsAt (Ended (LeftBy word)) row = ⊥
   StandsAt (Ended Stopped) row = ⊥
 
-  stands_at : (number row : ℕ) → (number < length packets → row ≡ laid.row number) → (length packets ≤ number → row ≡ length text.rows) → StandsAt (position_at (length packets) number) row
+  stands_at : (number row : ℕ) → (number < length packets → row ≡ laid.row number)
+      → (length packets ≤ number → row ≡ length text.rows) → StandsAt (position_at (length packets) number) row
   stands_at number row inside outside =
-      cond_both (nat_lt number (length packets)) (AtBlock number) (Ended FellThrough) (λ position. StandsAt position row)
-      (λ t. (ltb-true number (length packets) t, inside (ltb-true number (length packets) t))) (λ t. outside (ltb-false number (length packets) t))
+      cond_both (nat_lt number (length packets)) (AtBlock number) (Ended FellThrough)
+      (λ position. StandsAt position row)
+      (λ t. (ltb-true number (length packets) t, inside (ltb-true number (length packets) t)))
+      (λ t. outside (ltb-false number (length packets) t))
 
   -- by how many cycles the block there leads its row
   abbrev lead_at : ChainPosition → ℕ
@@ -87,13 +71,17 @@ module _ (text : Text) (packets : List Packed) (laid : AreLaid text packets) (bl
   lead_at (Ended stop) = 0
 
   lead_within : (number : ℕ) → lead_at (position_at (length packets) number) ≤ laid.lead number
-  lead_within number = cond_both (nat_lt number (length packets)) (AtBlock number) (Ended FellThrough) (λ position. lead_at position ≤ laid.lead number) (λ t. omega arith) (λ t. omega arith)
+  lead_within number = cond_both (nat_lt number (length packets)) (AtBlock number) (Ended FellThrough)
+      (λ position. lead_at position ≤ laid.lead number) (λ t. omega arith) (λ t. omega arith)
 
-  no_lead : (number : ℕ) → (number < length packets → laid.lead number ≡ 0) → lead_at (position_at (length packets) number) ≡ 0
+  no_lead : (number : ℕ) → (number < length packets → laid.lead number ≡ 0)
+      → lead_at (position_at (length packets) number) ≡ 0
   no_lead number none =
-      cond_both (nat_lt number (length packets)) (AtBlock number) (Ended FellThrough) (λ position. lead_at position ≡ 0) (λ t. none (ltb-true number (length packets) t)) (λ t. refl)
+      cond_both (nat_lt number (length packets)) (AtBlock number) (Ended FellThrough) (λ position. lead_at position ≡ 0)
+      (λ t. none (ltb-true number (length packets) t)) (λ t. refl)
 
-  at_end : (position : ChainPosition) (row : ℕ) (machine : Machine) → StandsAt position row → IsSound machine → FliesAs text row machine position machine (0 - lead_at position)
+  at_end : (position : ChainPosition) (row : ℕ) (machine : Machine) → StandsAt position row → IsSound machine
+      → FliesAs text row machine position machine (0 - lead_at position)
   at_end (AtBlock number) row machine stands sound =
       ⊎_elim {C = FliesAs text row machine (AtBlock number) machine (0 - laid.lead number)}
       (λ l. record {
@@ -104,31 +92,54 @@ module _ (text : Text) (packets : List Packed) (laid : AreLaid text packets) (bl
         flies = λ more h. (let e : 0 ≡ 0 + more = (let z : more ≡ 0 = h refl in omega arith) in
             subst (λ n. Flies text row n machine Limit 0 machine) e (stays_limited text row machine sound l));
       })
-      (λ l. record { stop = End; taken = 0; long = omega arith; told = inr refl; flies = λ more h. stays_behind text row (0 + more) machine sound l })
+      (λ l. record {
+        stop = End;
+        taken = 0;
+        long = omega arith;
+        told = inr refl;
+        flies = λ more h. stays_behind text row
+            (0 + more) machine sound l;
+      })
       (cases_lt row (length text.rows))
   at_end (Ended FellThrough) row machine stands sound =
-      record { stop = End; taken = 0; long = omega arith; told = refl; flies = λ more h. stays_behind text row (0 + more) machine sound (let e : row ≡ length text.rows = stands in omega arith) }
+      record {
+        stop = End;
+        taken = 0;
+        long = omega arith;
+        told = refl;
+        flies = λ more h. stays_behind text row
+            (0 + more) machine sound (let e : row ≡ length text.rows = stands in omega arith);
+      }
   at_end (Ended (LeftBy word)) row machine stands sound = absurd stands
   at_end (Ended Stopped) row machine stands sound = absurd stands
 
   abbrev Behind : List ℕ → Type 0
-  Behind numbers = (machine : Machine) (position : ChainPosition) (row : ℕ) (final : Machine) (last : ChainPosition) → StandsAt position row → IsSound machine
-      → ChainLeads (length packets) (packet_blocks packets) machine position numbers final last → IsOutside text last → FliesAs text row machine last final (cycles_taken packets numbers - lead_at position)
+  Behind numbers = (machine : Machine) (position : ChainPosition) (row : ℕ) (final : Machine) (last : ChainPosition)
+      → StandsAt position row → IsSound machine
+      → ChainLeads (length packets) (packet_blocks packets) machine position numbers final last → IsOutside text last
+      → FliesAs text row machine last final (cycles_taken packets numbers - lead_at position)
 
   -- a branch to a register is the last
-  left : (numbers : List ℕ) (machine : Machine) (word : ℕ) (final : Machine) (last : ChainPosition) → ChainLeads (length packets) (packet_blocks packets) machine (Ended (LeftBy word)) numbers final last
+  left : (numbers : List ℕ) (machine : Machine) (word : ℕ) (final : Machine) (last : ChainPosition)
+      → ChainLeads (length packets) (packet_blocks packets) machine (Ended (LeftBy word)) numbers final last
       → (final ≡ machine) × (last ≡ Ended (LeftBy word)) × (numbers ≡ [])
   unfolding ChainLeads
   left [] machine word final last leads = (leads.0, leads.1, refl)
-  left (number ∷ numbers) machine word final last leads = let e : Ended (LeftBy word) ≡ AtBlock number = leads.0 in absurd cc
+  left (number ∷ numbers) machine word final last leads = let e : Ended (LeftBy word) ≡ AtBlock number = leads.0 in
+      absurd cc
 
-  one_block : (number row : ℕ) (numbers : List ℕ) (machine : Machine) (final : Machine) (last : ChainPosition) (ran : Ran) → number < length packets → row ≡ laid.row number → IsSound machine
+  one_block : (number row : ℕ) (numbers : List ℕ) (machine : Machine) (final : Machine) (last : ChainPosition)
+      (ran : Ran) → number < length packets → row ≡ laid.row number → IsSound machine
       → IsMeaning (block_of packets number).placed (block_of packets number).cycles machine ran
-      → ChainLeads (length packets) (packet_blocks packets) ran.machine (chain_after (length packets) number ran.exit) numbers final last
-      → IsOutside text last → Behind numbers → FliesAs text row machine last final (cycles_taken packets (number ∷ numbers) - laid.lead number)
+      → ChainLeads (length packets) (packet_blocks packets) ran.machine (chain_after (length packets) number ran.exit)
+      numbers final last
+      → IsOutside text last → Behind numbers
+      → FliesAs text row machine last final (cycles_taken packets (number ∷ numbers) - laid.lead number)
   one_block number row numbers machine final last ran inside is sound m leads out behind =
-      subst (λ r. FliesAs text r machine last final (cycles_taken packets (number ∷ numbers) - laid.lead number)) (sym is)
-      (by_branch (any_branch text (block_of packets number) (laid.row number) (laid.count number) (laid.lead number) it packet machine ran sound m))
+      subst (λ r. FliesAs text r machine last final (cycles_taken packets (number ∷ numbers) - laid.lead number))
+      (sym is)
+      (by_branch (any_branch text (block_of packets number) (laid.row number) (laid.count number) (laid.lead number) it
+      packet machine ran sound m))
     where
       is_there : slice_get packets number ≡ Some (block_of packets number)
       is_there = slice_get-get_or packets number no_block inside
@@ -142,77 +153,119 @@ module _ (text : Text) (packets : List Packed) (laid : AreLaid text packets) (bl
       whole : cycles_taken packets (number ∷ numbers) ≡ (block_of packets number).cycles + cycles_taken packets numbers
       whole = sum_by-cons (λ n. (block_of packets n).cycles) number numbers
 
-      by_target : (p : Placed) (target : Target) → In p (issued_on text (straight text (laid.row number) 0 (laid.count number))) → (since (laid.lead number) m.did p).target ≡ Some target
-          → FliesAs text (laid.row number) machine last final (cycles_taken packets (number ∷ numbers) - laid.lead number)
+      by_target : (p : Placed) (target : Target)
+          → In p (issued_on text (straight text (laid.row number) 0 (laid.count number)))
+          → (since (laid.lead number) m.did p).target ≡ Some target
+          → FliesAs text (laid.row number) machine last final
+          (cycles_taken packets (number ∷ numbers) - laid.lead number)
       by_target p (ToBlock other) h e =
           let long : (block_of packets number).cycles ≡ laid.lead number + (p.cycle + 6)
-          = takes text (block_of packets number) (laid.row number) (laid.count number) (laid.lead number) it packet machine ran sound m p (ToBlock other) h e in
+          = takes text (block_of packets number) (laid.row number) (laid.count number) (laid.lead number) it packet
+          machine ran sound m p (ToBlock other) h e in
           let none : lead_at (position_at (length packets) other) ≡ 0
           = no_lead other (laid.targets number other (block_of packets number) (moved (laid.lead number) p) is_there
-          (in_placed text (block_of packets number) (laid.row number) (laid.count number) (laid.lead number) it packet machine ran sound m p (ToBlock other) h e)
-          (names text (block_of packets number) (laid.row number) (laid.count number) (laid.lead number) it packet machine ran sound m p (ToBlock other) h e other refl)) in
-          let all : cycles_taken packets (number ∷ numbers) ≡ (block_of packets number).cycles + cycles_taken packets numbers = whole in
+          (in_placed text (block_of packets number) (laid.row number) (laid.count number) (laid.lead number) it packet
+          machine ran sound m p (ToBlock other) h e)
+          (names text (block_of packets number) (laid.row number) (laid.count number) (laid.lead number) it packet
+          machine ran sound m p (ToBlock other) h e other refl)) in
+          let all : cycles_taken packets (number ∷ numbers) ≡ (block_of packets number).cycles + cycles_taken packets
+          numbers = whole in
           joined text (laid.row number) (aim_of text other) (p.cycle + 6) machine ran.machine last final
-          (cycles_taken packets (number ∷ numbers) - laid.lead number) (cycles_taken packets numbers - lead_at (position_at (length packets) other))
-          (cut_turned text (block_of packets number) (laid.row number) (laid.count number) (laid.lead number) it packet machine ran sound m p (ToBlock other) h e (aim_of text other) refl)
+          (cycles_taken packets (number ∷ numbers) - laid.lead number)
+          (cycles_taken packets numbers - lead_at (position_at (length packets) other))
+          (cut_turned text (block_of packets number) (laid.row number) (laid.count number) (laid.lead number) it packet
+          machine ran sound m p (ToBlock other) h e (aim_of text other) refl)
           (λ t l. omega arith)
           (behind ran.machine (position_at (length packets) other) (aim_of text other) final last
           (stands_at other (aim_of text other) (laid.aims other) (laid.outside other)) m.leaves.state.sound
-          (subst (λ exit. ChainLeads (length packets) (packet_blocks packets) ran.machine (chain_after (length packets) number exit) numbers final last)
-          (exit_turned text (block_of packets number) (laid.row number) (laid.count number) (laid.lead number) it packet machine ran sound m p (ToBlock other) h e) leads) out)
+          (subst (λ exit. ChainLeads (length packets) (packet_blocks packets) ran.machine
+          (chain_after (length packets) number exit) numbers final last)
+          (exit_turned text (block_of packets number) (laid.row number) (laid.count number) (laid.lead number) it packet
+          machine ran sound m p (ToBlock other) h e) leads) out)
       by_target p (ToRegister word) h e =
           let r : (final ≡ ran.machine) × (last ≡ Ended (LeftBy word)) × (numbers ≡ [])
           = left numbers ran.machine word final last
-          (subst (λ exit. ChainLeads (length packets) (packet_blocks packets) ran.machine (chain_after (length packets) number exit) numbers final last)
-          (exit_turned text (block_of packets number) (laid.row number) (laid.count number) (laid.lead number) it packet machine ran sound m p (ToRegister word) h e) leads) in
+          (subst (λ exit. ChainLeads (length packets) (packet_blocks packets) ran.machine
+          (chain_after (length packets) number exit) numbers final last)
+          (exit_turned text (block_of packets number) (laid.row number) (laid.count number) (laid.lead number) it packet
+          machine ran sound m p (ToRegister word) h e) leads) in
           let long : (block_of packets number).cycles ≡ laid.lead number + (p.cycle + 6)
-          = takes text (block_of packets number) (laid.row number) (laid.count number) (laid.lead number) it packet machine ran sound m p (ToRegister word) h e in
-          let all : cycles_taken packets (number ∷ numbers) ≡ (block_of packets number).cycles + cycles_taken packets numbers = whole in
+          = takes text (block_of packets number) (laid.row number) (laid.count number) (laid.lead number) it packet
+          machine ran sound m p (ToRegister word) h e in
+          let all : cycles_taken packets (number ∷ numbers) ≡ (block_of packets number).cycles + cycles_taken packets
+          numbers = whole in
           let rest : cycles_taken packets numbers ≡ 0 = ap (cycles_taken packets) r.2 in
-          subst (λ l. FliesAs text (laid.row number) machine l final (cycles_taken packets (number ∷ numbers) - laid.lead number)) (sym r.1)
-          (subst (λ f. FliesAs text (laid.row number) machine (Ended (LeftBy word)) f (cycles_taken packets (number ∷ numbers) - laid.lead number)) (sym r.0) (record {
+          subst (λ l. FliesAs text (laid.row number) machine l final
+          (cycles_taken packets (number ∷ numbers) - laid.lead number)) (sym r.1)
+          (subst (λ f. FliesAs text (laid.row number) machine (Ended (LeftBy word)) f
+          (cycles_taken packets (number ∷ numbers) - laid.lead number)) (sym r.0) (record {
             stop = Register word;
             taken = p.cycle + 6;
             long = omega arith;
             told = refl;
-            flies = λ more _. flies_out text (block_of packets number) (laid.row number) (laid.count number) (laid.lead number) it packet machine ran sound m p (ToRegister word) h e word (cond-false _ _ _ (subst (IsOutside text) r.1 out)) more;
+            flies = λ more _. flies_out text (block_of packets number) (laid.row number) (laid.count number)
+                (laid.lead number) it packet machine ran sound m p (ToRegister word) h e word
+                (cond-false _ _ _ (subst (IsOutside text) r.1 out)) more;
           }))
 
-      by_branch : ((p : Placed) → In p (issued_on text (straight text (laid.row number) 0 (laid.count number))) → (since (laid.lead number) m.did p).target ≡ None)
-          ⊎ ((p : Placed) × (target : Target) × In p (issued_on text (straight text (laid.row number) 0 (laid.count number))) × ((since (laid.lead number) m.did p).target ≡ Some target))
-          → FliesAs text (laid.row number) machine last final (cycles_taken packets (number ∷ numbers) - laid.lead number)
+      by_branch : ((p : Placed) → In p (issued_on text (straight text (laid.row number) 0 (laid.count number)))
+          → (since (laid.lead number) m.did p).target ≡ None)
+          ⊎ ((p : Placed) × (target : Target)
+          × In p (issued_on text (straight text (laid.row number) 0 (laid.count number)))
+          × ((since (laid.lead number) m.did p).target ≡ Some target))
+          → FliesAs text (laid.row number) machine last final
+          (cycles_taken packets (number ∷ numbers) - laid.lead number)
       by_branch (inr b) = by_target b.0 b.1 b.2 b.3
       by_branch (inl none) =
-          let gap : (block_of packets number).cycles + laid.lead (number + 1) ≤ laid.lead number + straight_end text (laid.row number) 0 (laid.count number)
+          let gap : (block_of packets number).cycles + laid.lead (number + 1) ≤ laid.lead number + straight_end text
+          (laid.row number) 0 (laid.count number)
           = laid.gaps number (block_of packets number) is_there in
-          let within : lead_at (position_at (length packets) (number + 1)) ≤ laid.lead (number + 1) = lead_within (number + 1) in
-          let all : cycles_taken packets (number ∷ numbers) ≡ (block_of packets number).cycles + cycles_taken packets numbers = whole in
-          joined text (laid.row number) (laid.row number + laid.count number) (straight_end text (laid.row number) 0 (laid.count number)) machine ran.machine last final
-          (cycles_taken packets (number ∷ numbers) - laid.lead number) (cycles_taken packets numbers - lead_at (position_at (length packets) (number + 1)))
-          (cut_plain text (block_of packets number) (laid.row number) (laid.count number) (laid.lead number) it packet machine ran sound m none)
+          let within : lead_at (position_at (length packets) (number + 1)) ≤ laid.lead (number + 1) = lead_within
+          (number + 1) in
+          let all : cycles_taken packets (number ∷ numbers) ≡ (block_of packets number).cycles + cycles_taken packets
+          numbers = whole in
+          joined text (laid.row number) (laid.row number + laid.count number)
+          (straight_end text (laid.row number) 0 (laid.count number)) machine ran.machine last final
+          (cycles_taken packets (number ∷ numbers) - laid.lead number)
+          (cycles_taken packets numbers - lead_at (position_at (length packets) (number + 1)))
+          (cut_plain text (block_of packets number) (laid.row number) (laid.count number) (laid.lead number) it packet
+          machine ran sound m none)
           (λ t l. omega arith)
-          (behind ran.machine (position_at (length packets) (number + 1)) (laid.row number + laid.count number) final last
+          (behind ran.machine (position_at (length packets) (number + 1)) (laid.row number + laid.count number) final
+          last
           (stands_at (number + 1) (laid.row number + laid.count number) (λ l. sym (laid.next number inside))
-          (λ l. (let e : number + 1 ≡ length packets = omega arith in sym (laid.next number inside) ∙ ap (λ n. laid.row n) e ∙ laid.last)))
+          (λ l. (let e : number + 1 ≡ length packets = omega arith in sym (laid.next number inside)
+          ∙ ap (λ n. laid.row n) e ∙ laid.last)))
           m.leaves.state.sound
-          (subst (λ exit. ChainLeads (length packets) (packet_blocks packets) ran.machine (chain_after (length packets) number exit) numbers final last)
-          (exit_plain text (block_of packets number) (laid.row number) (laid.count number) (laid.lead number) it packet machine ran sound m none) leads) out)
+          (subst (λ exit. ChainLeads (length packets) (packet_blocks packets) ran.machine
+          (chain_after (length packets) number exit) numbers final last)
+          (exit_plain text (block_of packets number) (laid.row number) (laid.count number) (laid.lead number) it packet
+          machine ran sound m none) leads) out)
 
   chain_flies : (numbers : List ℕ) → Behind numbers
   unfolding ChainLeads
   chain_flies [] machine position row final last stands sound leads out =
       subst (λ l. FliesAs text row machine l final (0 - lead_at position)) (sym leads.1)
-      (subst (λ f. FliesAs text row machine position f (0 - lead_at position)) (sym leads.0) (at_end position row machine stands sound))
+      (subst (λ f. FliesAs text row machine position f (0 - lead_at position)) (sym leads.0)
+      (at_end position row machine stands sound))
   chain_flies (number ∷ numbers) machine position row final last stands sound leads out =
       let there : (number < length packets) × (row ≡ laid.row number) = subst (λ p. StandsAt p row) leads.0 stands in
-      subst (λ p. FliesAs text row machine last final (cycles_taken packets (number ∷ numbers) - lead_at p)) (sym leads.0)
-      (one_block number row numbers machine final last leads.1 there.0 there.1 sound leads.2 leads.3 out (chain_flies numbers))
+      subst (λ p. FliesAs text row machine last final (cycles_taken packets (number ∷ numbers) - lead_at p))
+      (sym leads.0)
+      (one_block number row numbers machine final last leads.1 there.0 there.1 sound leads.2 leads.3 out
+      (chain_flies numbers))
 
 pub laid_flies : (text : Text) (packets : List Packed) → LaidFlies text packets
 laid_flies text packets laid blocks opening limit standing sound chain out =
-    let f : FliesAs text 0 opening standing.position standing.machine (cycles_taken packets standing.numbers - lead_at text packets laid blocks (position_at (length packets) 0))
-    = chain_flies text packets laid blocks standing.numbers opening (position_at (length packets) 0) 0 standing.machine standing.position
-    (stands_at text packets laid blocks 0 0 (λ l. sym laid.first) (λ l. (let e : 0 ≡ length packets = omega arith in sym laid.first ∙ ap (λ n. laid.row n) e ∙ laid.last))) sound chain.stands out in
-    let none : lead_at text packets laid blocks (position_at (length packets) 0) ≡ 0 = no_lead text packets laid blocks 0 (λ l. laid.begun) in
-    let long : cycles_taken packets standing.numbers - lead_at text packets laid blocks (position_at (length packets) 0) ≤ f.taken = f.long in
+    let f : FliesAs text 0 opening standing.position standing.machine
+    (cycles_taken packets standing.numbers - lead_at text packets laid blocks (position_at (length packets) 0))
+    = chain_flies text packets laid blocks standing.numbers opening (position_at (length packets) 0) 0 standing.machine
+    standing.position
+    (stands_at text packets laid blocks 0 0 (λ l. sym laid.first)
+    (λ l. (let e : 0 ≡ length packets = omega arith in sym laid.first ∙ ap (λ n. laid.row n) e ∙ laid.last)))
+    sound chain.stands out in
+    let none : lead_at text packets laid blocks (position_at (length packets) 0) ≡ 0 = no_lead text packets laid blocks
+    0 (λ l. laid.begun) in
+    let long : cycles_taken packets standing.numbers - lead_at text packets laid blocks (position_at (length packets) 0)
+    ≤ f.taken = f.long in
     record { stop = f.stop; taken = f.taken; long = omega arith; told = f.told; flies = f.flies }

@@ -1,118 +1,23 @@
--- A text has no two flights.
-use Rattle.std.proofs.Common.{◌≡◌, ℕ, suc, ◌+◌, ◌<◌, ◌≤◌, List, [], ◌∷◌, ◌++◌, map, Some, None, refl, sym, ◌∙◌, ap, subst, inl, inr, arith}
-use Rattle.std.specs.Prelude.{is_some, IsTrue, Option}
-use Rattle.std.proofs.lemmas.Bool.{cases_order, false≢true}
-use Rattle.std.proofs.lemmas.Option.{none-some, same_Some}
+-- A text has one flight.
+use Rattle.std.proofs.Common.{◌≡◌, ℕ, suc, ◌+◌, ◌<◌, ◌≤◌, List, [], ◌∷◌, ◌++◌, refl, sym, ◌∙◌, ap, subst, inl, inr}
+use Rattle.std.proofs.Common.{arith}
 use Rattle.std.proofs.lemmas.List.{append_assoc}
 use Rattle.c62_serial.specs.State.{Machine}
 use Rattle.c62_packet.specs.declared.placed.Placed.{Placed}
-use Rattle.c62_meaning.specs.Packet.{Did, IsRun}
+use Rattle.c62_meaning.specs.Packet.{Did}
 use Rattle.c62_meaning.specs.Cut.{RunsTo}
-use Rattle.c62_meaning.proofs.Lookup.{In, In-append_cases}
+use Rattle.c62_meaning.proofs.Lookup.{In-append_cases}
 use Rattle.c62_meaning.proofs.Runs.{one_run}
 use Rattle.c62_meaning.proofs.SerialPackets.{state_one}
-use Rattle.c62_meaning.proofs.Cuts.{runs_alike}
+use Rattle.c62_meaning.proofs.JoinedRuns.{runs_alike}
 use Rattle.c62_flight.specs.declared.stop.Stop.{Stop}
 use Rattle.c62_flight.specs.Text.{Text, Position, At, row_of, position_after}
-use Rattle.c62_flight.specs.Issued.{Visit, Issued, issue_in, issued_in, issued_on, turn, over, over_of}
-use Rattle.c62_flight.specs.Broken.{broken}
-use Rattle.c62_flight.specs.Flight.{ended, Begins, Leads, Stops, Flies}
+use Rattle.c62_flight.specs.Issued.{Visit, issued_in, issued_on, turn, over, over_of}
+use Rattle.c62_flight.specs.Flight.{Stops, Flies}
 use Rattle.c62_flight.specs.Laws.{Outcome, FliesTo}
-use Rattle.c62_flight.proofs.Fronts.{Late, Early, AreSameUntil, same_until, turn_same, over_later, over_same, broken_same, ended_same}
-
--- ---- when what is issued on a path is issued
-
-in_map : (cycle : ℕ) (ps : List Placed) (p : Placed) → In p (map (issue_in cycle) ps) → p.cycle ≡ cycle
-in_map cycle [] p h = absurd h
-in_map cycle (q ∷ ps) p (inl e) = ap (λ (r : Placed). r.cycle) (sym e)
-in_map cycle (q ∷ ps) p (inr h) = in_map cycle ps p h
-
-pub in_visit : (text : Text) (visit : Visit) (p : Placed) → In p (issued_in text visit) → p.cycle ≡ visit.start
-in_visit text visit p h = in_map visit.start (row_of text visit.row).insns p h
-
-pub path_late : (text : Text) (limit : ℕ) (issued : Issued) (position : Position) (cycle : ℕ) (path : List Visit) (last : Position) (end : ℕ)
-    → Leads text limit issued position cycle path last end → Late cycle (issued_on text path)
-path_late text limit issued position cycle [] last end leads p h = absurd h
-path_late text limit issued position cycle (visit ∷ path) last end leads p h =
-    let when : cycle ≡ visit.start = leads.0.when in
-    elim (In-append_cases p (issued_in text visit) (issued_on text path) h) [
-      | inl k ↦ (let e : p.cycle ≡ visit.start = in_visit text visit p k in omega arith)
-      | inr k ↦ (let l : over_of text issued visit ≤ p.cycle
-          = path_late text limit issued (position_after text visit.row (turn issued (over_of text issued visit))) (over_of text issued visit) path last end leads.1 p k in
-          let u : visit.start < over_of text issued visit = over_later issued visit.start (row_of text visit.row).idle in omega arith)
-    ]
-
-pub end_late : (text : Text) (limit : ℕ) (issued : Issued) (position : Position) (cycle : ℕ) (path : List Visit) (last : Position) (end : ℕ)
-    → Leads text limit issued position cycle path last end → cycle ≤ end
-end_late text limit issued position cycle [] last end leads = let e : end ≡ cycle = leads.1 in omega arith
-end_late text limit issued position cycle (visit ∷ path) last end leads =
-    let when : cycle ≡ visit.start = leads.0.when in
-    let l : over_of text issued visit ≤ end
-    = end_late text limit issued (position_after text visit.row (turn issued (over_of text issued visit))) (over_of text issued visit) path last end leads.1 in
-    let u : visit.start < over_of text issued visit = over_later issued visit.start (row_of text visit.row).idle in omega arith
-
--- ---- a run from some cycle on
-
--- from a position in a cycle, this having been issued before, a run goes on so
-pub record Goes (text : Text) (limit : ℕ) (opening : Machine) (front : List Placed) (position : Position) (cycle : ℕ) (path : List Visit) (stop : Stop) (cycles : ℕ) : Type 0 where
-  pub issued : Issued
-  pub is : issued.placed ≡ front ++ issued_on text path
-  pub run : IsRun issued.placed opening issued.did
-  pub last : Position
-  pub end : ℕ
-  pub leads : Leads text limit issued position cycle path last end
-  pub stops : Stops text limit issued last end stop cycles
-
--- the same run, from when its first row is over
-pub after : (text : Text) (limit : ℕ) (opening : Machine) (front : List Placed) (position : Position) (cycle : ℕ) (visit : Visit) (path : List Visit) (stop : Stop) (cycles : ℕ)
-    (g : Goes text limit opening front position cycle (visit ∷ path) stop cycles)
-    → Goes text limit opening (front ++ issued_in text visit) (position_after text visit.row (turn g.issued (over_of text g.issued visit))) (over_of text g.issued visit) path stop cycles
-after text limit opening front position cycle visit path stop cycles g = record {
-  issued = g.issued;
-  is = g.is ∙ sym (append_assoc front (issued_in text visit) (issued_on text path));
-  run = g.run;
-  last = g.last;
-  end = g.end;
-  leads = g.leads.1;
-  stops = g.stops;
-}
-
--- ---- one stop
-
--- runs that stand in one place are stopped in one way, where the same cycles are broken
-stops_one : (text : Text) (limit : ℕ) (one other : Issued) (last : Position) (end : ℕ) (stop stop' : Stop) (cycles cycles' : ℕ)
-    → ((c : ℕ) → broken one c ≡ broken other c) → ended text limit one last end ≡ ended text limit other last end
-    → Stops text limit one last end stop cycles → Stops text limit other last end stop' cycles' → (stop ≡ stop') × (cycles ≡ cycles')
-stops_one text limit one other last end stop stop' cycles cycles' same ends (inl a) (inl b) =
-    elim (cases_order a.cycle b.cycle) [
-      | inl e ↦ (
-        same_Some stop stop' (sym a.breaks ∙ same a.cycle ∙ ap (λ c. broken other c) e ∙ b.breaks),
-        a.told ∙ ap (λ c. c + 1) e ∙ sym b.told,
-      )
-      | inr (inl l) ↦ absurd (none-some stop (sym (b.whole a.cycle l) ∙ sym (same a.cycle) ∙ a.breaks))
-      | inr (inr l) ↦ absurd (none-some stop' (sym (a.whole b.cycle l) ∙ same b.cycle ∙ b.breaks))
-    ]
-stops_one text limit one other last end stop stop' cycles cycles' same ends (inl a) (inr b) =
-    absurd (none-some stop (sym (b.whole a.cycle) ∙ sym (same a.cycle) ∙ a.breaks))
-stops_one text limit one other last end stop stop' cycles cycles' same ends (inr a) (inl b) =
-    absurd (none-some stop' (sym (a.whole b.cycle) ∙ same b.cycle ∙ b.breaks))
-stops_one text limit one other last end stop stop' cycles cycles' same ends (inr a) (inr b) =
-    (same_Some stop stop' (sym a.ends ∙ ends ∙ b.ends), a.told ∙ sym b.told)
-
--- a run that goes on is not stopped there
-goes_on_past : (text : Text) (limit : ℕ) (one other : Issued) (position : Position) (cycle : ℕ) (visit : Visit) (stop : Stop) (cycles : ℕ)
-    → AreSameUntil cycle one other → Begins text limit one position cycle visit → Stops text limit other position cycle stop cycles → ⊥
-goes_on_past text limit one other position cycle visit stop cycles same begins (inl b) =
-    elim b.seen [
-      | inl l ↦ none-some stop (sym (begins.whole b.cycle l) ∙ broken_same cycle b.cycle one other same l ∙ b.breaks)
-      | inr ends ↦ not_ended (ended text limit other position cycle) (sym begins.on ∙ ended_same text limit cycle cycle one other position same (omega arith)) ends
-    ]
-  where
-    not_ended : (o : Option Stop) → None ≡ o → IsTrue (is_some o) → ⊥
-    not_ended None e t = false≢true t
-    not_ended (Some stop) e t = none-some stop e
-goes_on_past text limit one other position cycle visit stop cycles same begins (inr e) =
-    none-some stop (sym begins.on ∙ ended_same text limit cycle cycle one other position same (omega arith) ∙ e.ends)
+use Rattle.c62_flight.proofs.Fronts.{Late, Early, AreSameUntil, same_until, turn_same, over_later, over_same}
+use Rattle.c62_flight.proofs.Fronts.{broken_same, ended_same}
+use Rattle.c62_flight.proofs.PathTimes.{in_visit, path_late, Goes, after, stops_one, goes_on_past}
 
 -- ---- one path
 
@@ -122,15 +27,19 @@ pub record AreOne (path path' : List Visit) (stop stop' : Stop) (cycles cycles' 
   pub times : cycles ≡ cycles'
 
 module _ (text : Text) (limit : ℕ) (opening : Machine) where
-  alike : (t : ℕ) (front : List Placed) (position : Position) (cycle : ℕ) (path path' : List Visit) (stop stop' : Stop) (cycles cycles' : ℕ) → Early cycle front
-      → (g : Goes text limit opening front position cycle path stop cycles) (h : Goes text limit opening front position cycle path' stop' cycles')
+  alike : (t : ℕ) (front : List Placed) (position : Position) (cycle : ℕ) (path path' : List Visit) (stop stop' : Stop)
+      (cycles cycles' : ℕ) → Early cycle front
+      → (g : Goes text limit opening front position cycle path stop cycles)
+      (h : Goes text limit opening front position cycle path' stop' cycles')
       → Late t (issued_on text path) → Late t (issued_on text path') → AreSameUntil t g.issued h.issued
   alike t front position cycle path path' stop stop' cycles cycles' early g h late late' =
       same_until opening t cycle front (issued_on text path) (issued_on text path') g.issued h.issued early
-      (path_late text limit g.issued position cycle path g.last g.end g.leads) (path_late text limit h.issued position cycle path' h.last h.end h.leads)
+      (path_late text limit g.issued position cycle path g.last g.end g.leads)
+      (path_late text limit h.issued position cycle path' h.last h.end h.leads)
       late late' g.is h.is g.run h.run
 
-  pub early_after : (front : List Placed) (visit : Visit) (cycle over : ℕ) → Early cycle front → cycle ≡ visit.start → visit.start < over
+  pub early_after : (front : List Placed) (visit : Visit) (cycle over : ℕ) → Early cycle front → cycle ≡ visit.start
+      → visit.start < over
       → Early over (front ++ issued_in text visit)
   early_after front visit cycle over early when l p h =
       elim (In-append_cases p front (issued_in text visit) h) [
@@ -142,24 +51,36 @@ module _ (text : Text) (limit : ℕ) (opening : Machine) where
   one_row row row' position e e' = cc
 
   one_visit : (visit visit' : Visit) → visit'.row ≡ visit.row → visit'.start ≡ visit.start → visit' ≡ visit
-  one_visit visit visit' e e' = ap (λ row. record { row = row; start = visit'.start }) e ∙ ap (λ start. record { row = visit.row; start = start }) e'
+  one_visit visit visit' e e' = ap (λ row. record { row = row; start = visit'.start }) e
+      ∙ ap (λ start. record { row = visit.row; start = start }) e'
 
   -- what is issued behind a first row is issued when it is over, or later
-  rest_late : (front : List Placed) (position : Position) (cycle : ℕ) (visit : Visit) (path : List Visit) (stop : Stop) (cycles : ℕ)
-      (g : Goes text limit opening front position cycle (visit ∷ path) stop cycles) → Late (over_of text g.issued visit) (issued_on text path)
+  rest_late : (front : List Placed) (position : Position) (cycle : ℕ) (visit : Visit) (path : List Visit) (stop : Stop)
+      (cycles : ℕ)
+      (g : Goes text limit opening front position cycle (visit ∷ path) stop cycles)
+      → Late (over_of text g.issued visit) (issued_on text path)
   rest_late front position cycle visit path stop cycles g =
-      path_late text limit g.issued (position_after text visit.row (turn g.issued (over_of text g.issued visit))) (over_of text g.issued visit) path g.last g.end g.leads.1
+      path_late text limit g.issued (position_after text visit.row (turn g.issued (over_of text g.issued visit)))
+      (over_of text g.issued visit) path g.last g.end g.leads.1
 
   -- runs that begin with one row
-  module _ (front : List Placed) (position : Position) (cycle : ℕ) (visit : Visit) (path path' : List Visit) (stop stop' : Stop) (cycles cycles' : ℕ) (early : Early cycle front)
-      (g : Goes text limit opening front position cycle (visit ∷ path) stop cycles) (h : Goes text limit opening front position cycle (visit ∷ path') stop' cycles') where
-    alike_behind : (c : ℕ) → c ≤ over_of text g.issued visit → c ≤ over_of text h.issued visit → AreSameUntil c g.issued h.issued
+  module _ (front : List Placed) (position : Position) (cycle : ℕ) (visit : Visit) (path path' : List Visit)
+      (stop stop' : Stop) (cycles cycles' : ℕ) (early : Early cycle front)
+      (g : Goes text limit opening front position cycle (visit ∷ path) stop cycles)
+      (h : Goes text limit opening front position cycle (visit ∷ path') stop' cycles') where
+    alike_behind : (c : ℕ) → c ≤ over_of text g.issued visit → c ≤ over_of text h.issued visit
+        → AreSameUntil c g.issued h.issued
     alike_behind c l u =
-        let late : Late (over_of text g.issued visit) (issued_on text path) = rest_late front position cycle visit path stop cycles g in
-        let late' : Late (over_of text h.issued visit) (issued_on text path') = rest_late front position cycle visit path' stop' cycles' h in
-        let more : visit.start < over_of text g.issued visit = over_later g.issued visit.start (row_of text visit.row).idle in
-        let more' : visit.start < over_of text h.issued visit = over_later h.issued visit.start (row_of text visit.row).idle in
-        same_until opening c (suc visit.start) (front ++ issued_in text visit) (issued_on text path) (issued_on text path') g.issued h.issued
+        let late : Late (over_of text g.issued visit) (issued_on text path) = rest_late front position cycle visit path
+        stop cycles g in
+        let late' : Late (over_of text h.issued visit) (issued_on text path') = rest_late front position cycle visit
+        path' stop' cycles' h in
+        let more : visit.start < over_of text g.issued visit = over_later g.issued visit.start
+        (row_of text visit.row).idle in
+        let more' : visit.start < over_of text h.issued visit = over_later h.issued visit.start
+        (row_of text visit.row).idle in
+        same_until opening c (suc visit.start) (front ++ issued_in text visit) (issued_on text path)
+        (issued_on text path') g.issued h.issued
         (early_after front visit cycle (suc visit.start) early g.leads.0.when (omega arith))
         (λ p k. let a : over_of text g.issued visit ≤ p.cycle = late p k in omega arith)
         (λ p k. let a : over_of text h.issued visit ≤ p.cycle = late' p k in omega arith)
@@ -177,31 +98,42 @@ module _ (text : Text) (limit : ℕ) (opening : Machine) where
     turn_one : turn g.issued (over_of text g.issued visit) ≡ turn h.issued (over_of text h.issued visit)
     turn_one =
         turn_same (over_of text g.issued visit) (over_of text g.issued visit) g.issued h.issued
-        (alike_behind (over_of text g.issued visit) (omega arith) (subst (λ c. over_of text g.issued visit ≤ c) over_one (omega arith))) (omega arith)
+        (alike_behind (over_of text g.issued visit) (omega arith)
+        (subst (λ c. over_of text g.issued visit ≤ c) over_one (omega arith))) (omega arith)
         ∙ ap (λ c. turn h.issued c) over_one
 
     -- the second goes on where and when the first does
-    second_after : Goes text limit opening (front ++ issued_in text visit) (position_after text visit.row (turn g.issued (over_of text g.issued visit)))
+    second_after : Goes text limit opening (front ++ issued_in text visit)
+        (position_after text visit.row (turn g.issued (over_of text g.issued visit)))
         (over_of text g.issued visit) path' stop' cycles'
     second_after =
-        subst (λ c. Goes text limit opening (front ++ issued_in text visit) (position_after text visit.row (turn g.issued (over_of text g.issued visit))) c path' stop' cycles') (sym over_one)
-        (subst (λ o. Goes text limit opening (front ++ issued_in text visit) (position_after text visit.row o) (over_of text h.issued visit) path' stop' cycles') (sym turn_one)
+        subst (λ c. Goes text limit opening (front ++ issued_in text visit)
+        (position_after text visit.row (turn g.issued (over_of text g.issued visit))) c path' stop' cycles')
+        (sym over_one)
+        (subst (λ o. Goes text limit opening (front ++ issued_in text visit) (position_after text visit.row o)
+        (over_of text h.issued visit) path' stop' cycles') (sym turn_one)
         (after text limit opening front position cycle visit path' stop' cycles' h))
 
   -- where the run stands that has no row more
-  stops_there : (front : List Placed) (position : Position) (cycle : ℕ) (stop : Stop) (cycles : ℕ) (g : Goes text limit opening front position cycle [] stop cycles)
+  stops_there : (front : List Placed) (position : Position) (cycle : ℕ) (stop : Stop) (cycles : ℕ)
+      (g : Goes text limit opening front position cycle [] stop cycles)
       → Stops text limit g.issued position cycle stop cycles
   stops_there front position cycle stop cycles g =
-      subst (λ e. Stops text limit g.issued position e stop cycles) g.leads.1 (subst (λ l. Stops text limit g.issued l g.end stop cycles) g.leads.0 g.stops)
+      subst (λ e. Stops text limit g.issued position e stop cycles) g.leads.1
+      (subst (λ l. Stops text limit g.issued l g.end stop cycles) g.leads.0 g.stops)
 
-  pub one_path : (path path' : List Visit) (front : List Placed) (position : Position) (cycle : ℕ) (stop stop' : Stop) (cycles cycles' : ℕ) → Early cycle front
-      → Goes text limit opening front position cycle path stop cycles → Goes text limit opening front position cycle path' stop' cycles'
+  pub one_path : (path path' : List Visit) (front : List Placed) (position : Position) (cycle : ℕ) (stop stop' : Stop)
+      (cycles cycles' : ℕ) → Early cycle front
+      → Goes text limit opening front position cycle path stop cycles
+      → Goes text limit opening front position cycle path' stop' cycles'
       → AreOne path path' stop stop' cycles cycles'
   one_path [] [] front position cycle stop stop' cycles cycles' early g h =
       let same : (t : ℕ) → AreSameUntil t g.issued h.issued
-      = λ t. alike t front position cycle [] [] stop stop' cycles cycles' early g h (λ p k. absurd k) (λ p k. absurd k) in
+      = λ t. alike t front position cycle [] [] stop stop' cycles cycles' early g h (λ p k. absurd k) (λ p k. absurd k)
+      in
       let r : (stop ≡ stop') × (cycles ≡ cycles')
-      = stops_one text limit g.issued h.issued position cycle stop stop' cycles cycles' (λ c. broken_same (suc c) c g.issued h.issued (same (suc c)) (omega arith))
+      = stops_one text limit g.issued h.issued position cycle stop stop' cycles cycles'
+      (λ c. broken_same (suc c) c g.issued h.issued (same (suc c)) (omega arith))
       (ended_same text limit cycle cycle g.issued h.issued position (same cycle) (omega arith))
       (stops_there front position cycle stop cycles g) (stops_there front position cycle stop' cycles' h) in
       record { paths = refl; stops = r.0; times = r.1 }
@@ -217,19 +149,24 @@ module _ (text : Text) (limit : ℕ) (opening : Machine) where
       h.leads.0 (stops_there front position cycle stop cycles g))
   one_path (visit ∷ path) (visit' ∷ path') front position cycle stop stop' cycles cycles' early g h =
       let e : visit' ≡ visit
-      = one_visit visit visit' (one_row visit.row visit'.row position g.leads.0.there h.leads.0.there) (sym h.leads.0.when ∙ g.leads.0.when) in
+      = one_visit visit visit' (one_row visit.row visit'.row position g.leads.0.there h.leads.0.there)
+      (sym h.leads.0.when ∙ g.leads.0.when) in
       let h' : Goes text limit opening front position cycle (visit ∷ path') stop' cycles'
       = subst (λ v. Goes text limit opening front position cycle (v ∷ path') stop' cycles') e h in
       let r : AreOne path path' stop stop' cycles cycles'
-      = one_path path path' (front ++ issued_in text visit) (position_after text visit.row (turn g.issued (over_of text g.issued visit))) (over_of text g.issued visit) stop stop' cycles cycles'
-      (early_after front visit cycle (over_of text g.issued visit) early g.leads.0.when (over_later g.issued visit.start (row_of text visit.row).idle))
+      = one_path path path' (front ++ issued_in text visit)
+      (position_after text visit.row (turn g.issued (over_of text g.issued visit)))
+      (over_of text g.issued visit) stop stop' cycles cycles'
+      (early_after front visit cycle (over_of text g.issued visit) early g.leads.0.when
+      (over_later g.issued visit.start (row_of text visit.row).idle))
       (after text limit opening front position cycle visit path stop cycles g)
       (second_after front position cycle visit path path' stop stop' cycles cycles' early g h') in
       record { paths = ap (λ v. v ∷ path) (sym e) ∙ ap (λ ps. visit' ∷ ps) r.paths; stops = r.stops; times = r.times }
 
 -- ---- one machine
 
-whole_flight : (text : Text) (first limit : ℕ) (opening : Machine) (stop : Stop) (cycles : ℕ) (final : Machine) (f : Flies text first limit opening stop cycles final)
+whole_flight : (text : Text) (first limit : ℕ) (opening : Machine) (stop : Stop) (cycles : ℕ) (final : Machine)
+    (f : Flies text first limit opening stop cycles final)
     → Goes text limit opening [] (At first) 0 f.path stop cycles
 whole_flight text first limit opening stop cycles final f = record {
   issued = record { placed = issued_on text f.path; did = f.did };
@@ -242,16 +179,21 @@ whole_flight text first limit opening stop cycles final f = record {
 }
 
 -- two runs of the same leave the same
-one_left : (ps : List Placed) (cycles : ℕ) (opening : Machine) (did did' : Did) (final final' : Machine) → RunsTo ps cycles opening did final → RunsTo ps cycles opening did' final' → final' ≡ final
+one_left : (ps : List Placed) (cycles : ℕ) (opening : Machine) (did did' : Did) (final final' : Machine)
+    → RunsTo ps cycles opening did final → RunsTo ps cycles opening did' final' → final' ≡ final
 one_left ps cycles opening did did' final final' r r' =
     state_one ps cycles opening did final' final
-    (runs_alike ps cycles opening did' did final' (λ p h. one_run ps opening did' did r'.run r.run (suc p.cycle) p h (omega arith)) r').leaves r.leaves
+    (runs_alike ps cycles opening did' did final'
+    (λ p h. one_run ps opening did' did r'.run r.run (suc p.cycle) p h (omega arith)) r').leaves r.leaves
 
-pub one_flight : (text : Text) (first limit : ℕ) (opening : Machine) (one other : Outcome) → FliesTo text first limit opening one → FliesTo text first limit opening other → other ≡ one
+pub one_flight : (text : Text) (first limit : ℕ) (opening : Machine) (one other : Outcome)
+    → FliesTo text first limit opening one → FliesTo text first limit opening other → other ≡ one
 one_flight text first limit opening one other f g =
     let r : AreOne f.path g.path one.stop other.stop one.cycles other.cycles
-    = one_path text limit opening f.path g.path [] (At first) 0 one.stop other.stop one.cycles other.cycles (λ p k. absurd k)
-    (whole_flight text first limit opening one.stop one.cycles one.final f) (whole_flight text first limit opening other.stop other.cycles other.final g) in
+    = one_path text limit opening f.path g.path [] (At first) 0 one.stop other.stop one.cycles other.cycles
+    (λ p k. absurd k)
+    (whole_flight text first limit opening one.stop one.cycles one.final f)
+    (whole_flight text first limit opening other.stop other.cycles other.final g) in
     let final : other.final ≡ one.final
     = one_left (issued_on text f.path) (one.cycles + 4) opening f.did g.did one.final other.final f.runs
     (subst (λ c. RunsTo (issued_on text f.path) (c + 4) opening g.did other.final) (sym r.times)

@@ -1,5 +1,6 @@
 -- Paths of rows one behind the other.
-use Rattle.std.proofs.Common.{◌≡◌, ℕ, zero, suc, ◌+◌, ◌<◌, ◌≤◌, ltb, length, Some, None, refl, sym, ◌∙◌, ap, subst, inl, inr, arith}
+use Rattle.std.proofs.Common.{◌≡◌, ℕ, zero, suc, ◌+◌, ◌<◌, ◌≤◌, ltb, length, Some, None, refl, sym, ◌∙◌, ap, subst, inl}
+use Rattle.std.proofs.Common.{inr, arith}
 use Rattle.std.specs.List.{list_any}
 use Rattle.std.proofs.lemmas.Bool.{cond-true, cond-false, lt-ltb, lt-leb, or_left}
 use Rattle.c62_insn.specs.declared.effect.Target.{Target}
@@ -19,21 +20,27 @@ end_later text row start (suc count) =
     = end_later text (row + 1) (start + (row_of text row).idle + 1) count in omega arith
 
 module _ (text : Text) (limit : ℕ) (issued : Issued) (quiet : (c : ℕ) → broken issued c ≡ None) where
-  begins_at : (row start : ℕ) → row < length text.rows → start < limit → Begins text limit issued (At row) start (record { row = row; start = start })
+  begins_at : (row start : ℕ) → row < length text.rows → start < limit
+      → Begins text limit issued (At row) start (record { row = row; start = start })
   begins_at row start inside below = record {
     there = refl;
     when = refl;
-    on = cond-true _ _ (Some End) (or_left (ltb row (length text.rows)) (list_any (is_in_flight issued.did start) issued.placed) (lt-ltb row (length text.rows) inside))
+    on = cond-true _ _ (Some End)
+        (or_left (ltb row (length text.rows)) (list_any (is_in_flight issued.did start) issued.placed)
+        (lt-ltb row (length text.rows) inside))
         ∙ cond-false _ (Some Limit) None (lt-leb limit start below);
     whole = λ c _. quiet c;
   }
 
   -- where no branch takes effect
-  pub leads_plain : ((c : ℕ) → turn issued c ≡ None) → (row start count : ℕ) → row + count ≤ length text.rows → straight_end text row start count ≤ limit
-      → Leads text limit issued (At row) start (straight text row start count) (At (row + count)) (straight_end text row start count)
+  pub leads_plain : ((c : ℕ) → turn issued c ≡ None) → (row start count : ℕ) → row + count ≤ length text.rows
+      → straight_end text row start count ≤ limit
+      → Leads text limit issued (At row) start (straight text row start count) (At (row + count))
+      (straight_end text row start count)
   leads_plain none row start zero rows l = (let e : row + 0 ≡ row = omega arith in ap At e, refl)
   leads_plain none row start (suc count) rows l =
-      let u : start + (row_of text row).idle + 1 ≤ straight_end text (row + 1) (start + (row_of text row).idle + 1) count
+      let u : start + (row_of text row).idle + 1 ≤ straight_end text (row + 1) (start + (row_of text row).idle + 1)
+      count
       = end_later text (row + 1) (start + (row_of text row).idle + 1) count in
       let over_is : start + (row_of text row).idle + 1 ≡ over issued start (row_of text row).idle
       = (over_told issued start (row_of text row).idle (start + (row_of text row).idle + 1)).0 (record {
@@ -42,23 +49,34 @@ module _ (text : Text) (limit : ℕ) (issued : Issued) (quiet : (c : ℕ) → br
         straight = λ c t _ _ h. (turn_told issued c).none (none c) t h;
         reached = inl refl;
       }) in
-      let turns : None ≡ turn issued (over issued start (row_of text row).idle) = sym (none (over issued start (row_of text row).idle)) in
+      let turns : None ≡ turn issued (over issued start (row_of text row).idle) = sym
+      (none (over issued start (row_of text row).idle)) in
       let e : row + 1 + count ≡ row + suc count = omega arith in
-      let rest : Leads text limit issued (At (row + 1)) (start + (row_of text row).idle + 1) (straight text (row + 1) (start + (row_of text row).idle + 1) count) (At (row + suc count))
+      let rest : Leads text limit issued (At (row + 1)) (start + (row_of text row).idle + 1)
+      (straight text (row + 1) (start + (row_of text row).idle + 1) count) (At (row + suc count))
       (straight_end text (row + 1) (start + (row_of text row).idle + 1) count)
-      = subst (λ n. Leads text limit issued (At (row + 1)) (start + (row_of text row).idle + 1) (straight text (row + 1) (start + (row_of text row).idle + 1) count) (At n)
-      (straight_end text (row + 1) (start + (row_of text row).idle + 1) count)) e (leads_plain none (row + 1) (start + (row_of text row).idle + 1) count (omega arith) l) in (
+      = subst (λ n. Leads text limit issued (At (row + 1)) (start + (row_of text row).idle + 1)
+      (straight text (row + 1) (start + (row_of text row).idle + 1) count) (At n)
+      (straight_end text (row + 1) (start + (row_of text row).idle + 1) count)) e
+      (leads_plain none (row + 1) (start + (row_of text row).idle + 1) count (omega arith) l) in (
         begins_at row start (omega arith) (omega arith),
-        subst (λ c. Leads text limit issued (position_after text row (turn issued (over issued start (row_of text row).idle))) c (straight text (row + 1) (start + (row_of text row).idle + 1) count)
+        subst (λ c. Leads text limit issued
+            (position_after text row (turn issued (over issued start (row_of text row).idle))) c
+            (straight text (row + 1) (start + (row_of text row).idle + 1) count)
             (At (row + suc count)) (straight_end text (row + 1) (start + (row_of text row).idle + 1) count)) over_is
-            (subst (λ o. Leads text limit issued (position_after text row o) (start + (row_of text row).idle + 1) (straight text (row + 1) (start + (row_of text row).idle + 1) count)
-            (At (row + suc count)) (straight_end text (row + 1) (start + (row_of text row).idle + 1) count)) turns rest),
+            (subst (λ o. Leads text limit issued (position_after text row o) (start + (row_of text row).idle + 1)
+            (straight text (row + 1) (start + (row_of text row).idle + 1) count)
+            (At (row + suc count)) (straight_end text (row + 1) (start + (row_of text row).idle + 1) count)) turns
+            rest),
       )
 
   -- where a branch takes effect in the last of them, or when it is over
-  pub leads_turning : (e : ℕ) (target : Target) → ((c : ℕ) → (c ≡ e → ⊥) → turn issued c ≡ None) → turn issued e ≡ Some target → e ≤ limit
-      → (row start count : ℕ) → row + suc count ≤ length text.rows → ((visit : Visit) → In visit (straight text row start (suc count)) → visit.start < e)
-      → e ≤ straight_end text row start (suc count) → Leads text limit issued (At row) start (straight text row start (suc count)) (leads_to text target) e
+  pub leads_turning : (e : ℕ) (target : Target) → ((c : ℕ) → (c ≡ e → ⊥) → turn issued c ≡ None)
+      → turn issued e ≡ Some target → e ≤ limit
+      → (row start count : ℕ) → row + suc count ≤ length text.rows
+      → ((visit : Visit) → In visit (straight text row start (suc count)) → visit.start < e)
+      → e ≤ straight_end text row start (suc count)
+      → Leads text limit issued (At row) start (straight text row start (suc count)) (leads_to text target) e
   leads_turning e target none turns below row start zero rows starts l =
       let early : start < e = starts (record { row = row; start = start }) (inl refl) in
       let over_is : e ≡ over issued start (row_of text row).idle
@@ -72,7 +90,8 @@ module _ (text : Text) (limit : ℕ) (issued : Issued) (quiet : (c : ℕ) → br
         (ap (λ o. position_after text row o) (sym turns ∙ ap (λ c. turn issued c) over_is), over_is),
       )
   leads_turning e target none turns below row start (suc count) rows starts l =
-      let second : start + (row_of text row).idle + 1 < e = starts (record { row = row + 1; start = start + (row_of text row).idle + 1 }) (inr (inl refl)) in
+      let second : start + (row_of text row).idle + 1 < e = starts
+      (record { row = row + 1; start = start + (row_of text row).idle + 1 }) (inr (inl refl)) in
       let over_is : start + (row_of text row).idle + 1 ≡ over issued start (row_of text row).idle
       = (over_told issued start (row_of text row).idle (start + (row_of text row).idle + 1)).0 (record {
         later = omega arith;
@@ -82,11 +101,15 @@ module _ (text : Text) (limit : ℕ) (issued : Issued) (quiet : (c : ℕ) → br
       }) in
       let straight_on : None ≡ turn issued (over issued start (row_of text row).idle)
       = sym (none (start + (row_of text row).idle + 1) (λ s. omega arith)) ∙ ap (λ c. turn issued c) over_is in
-      let rest : Leads text limit issued (At (row + 1)) (start + (row_of text row).idle + 1) (straight text (row + 1) (start + (row_of text row).idle + 1) (suc count)) (leads_to text target) e
-      = leads_turning e target none turns below (row + 1) (start + (row_of text row).idle + 1) count (omega arith) (λ visit h. starts visit (inr h)) l in (
+      let rest : Leads text limit issued (At (row + 1)) (start + (row_of text row).idle + 1)
+      (straight text (row + 1) (start + (row_of text row).idle + 1) (suc count)) (leads_to text target) e
+      = leads_turning e target none turns below (row + 1) (start + (row_of text row).idle + 1) count (omega arith)
+      (λ visit h. starts visit (inr h)) l in (
         begins_at row start (omega arith) (omega arith),
-        subst (λ c. Leads text limit issued (position_after text row (turn issued (over issued start (row_of text row).idle))) c
+        subst (λ c. Leads text limit issued
+            (position_after text row (turn issued (over issued start (row_of text row).idle))) c
             (straight text (row + 1) (start + (row_of text row).idle + 1) (suc count)) (leads_to text target) e) over_is
             (subst (λ o. Leads text limit issued (position_after text row o) (start + (row_of text row).idle + 1)
-            (straight text (row + 1) (start + (row_of text row).idle + 1) (suc count)) (leads_to text target) e) straight_on rest),
+            (straight text (row + 1) (start + (row_of text row).idle + 1) (suc count)) (leads_to text target) e)
+            straight_on rest),
       )

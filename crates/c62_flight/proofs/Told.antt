@@ -1,10 +1,12 @@
 -- What takes effect, when a row is over, what clashes and where words lead.
-use Rattle.std.proofs.Common.{◌≡◌, ℕ, zero, suc, ◌+◌, ◌<◌, ◌≤◌, Bool, true, false, ◌&&◌, eqb, length, List, [], ◌∷◌, Option, Some, None, refl, sym, ◌∙◌, ap, subst, ◌⊎◌, inl, inr, ⊎_elim, arith}
+use Rattle.std.proofs.Common.{◌≡◌, ℕ, zero, suc, ◌+◌, ◌<◌, ◌≤◌, Bool, true, false, ◌&&◌, eqb, length, List, [], ◌∷◌}
+use Rattle.std.proofs.Common.{Option, Some, None, refl, sym, ◌∙◌, ap, subst, ◌⊎◌, inl, inr, ⊎_elim, arith}
 use Rattle.std.specs.Prelude.{◌==◌, nat_le, Contains, slice_get, is_some, find, option_map}
 use Rattle.std.specs.List.{list_any}
 use Rattle.std.specs.Option.{option_or}
 use Rattle.std.proofs.lemmas.Bool.Decides.{nat_tests}
-use Rattle.std.proofs.lemmas.Bool.{cases_Bool, cases_eq, cases_order, cond-true, cond-false, and_parts, and_from, or_left, or_right, or_cases, eq-eqb, eqb-true, leb-true, false≢true}
+use Rattle.std.proofs.lemmas.Bool.{cases_Bool, cases_eq, cases_order, cond-true, cond-false, and_parts, and_from}
+use Rattle.std.proofs.lemmas.Bool.{or_left, or_right, or_cases, eq-eqb, eqb-true, leb-true, false≢true}
 use Rattle.std.proofs.lemmas.Option.{none-some, same_Some}
 use Rattle.c62_op.specs.declared.register.Reg.{Reg}
 use Rattle.c62_op.specs.Takes.{same_reg}
@@ -33,7 +35,8 @@ none_parts : {Y : Type 0} (o rest : Option Y) → option_or o rest ≡ None → 
 none_parts None rest e = (refl, e)
 none_parts (Some z) rest e = absurd (none-some z (sym e))
 
-first_some : {X Y : Type 0} (f : X → Option Y) (xs : List X) (y : Y) → first_of f xs ≡ Some y → (x : X) × In x xs × (f x ≡ Some y)
+first_some : {X Y : Type 0} (f : X → Option Y) (xs : List X) (y : Y) → first_of f xs ≡ Some y → (x : X) × In x xs
+    × (f x ≡ Some y)
 first_some f [] y e = absurd (none-some y e)
 first_some f (x ∷ xs) y e =
     elim (some_head (f x) (first_of f xs) y e) [
@@ -48,7 +51,8 @@ first_none f (y ∷ xs) e x (inr h) = first_none f xs (none_parts (f y) (first_o
 
 -- ---- what turns
 
-goes_when : (did : Did) (cycle : ℕ) (p : Placed) (target : Target) → goes_in did cycle p ≡ Some target → (p.cycle + 6 ≡ cycle) × ((did p).target ≡ Some target)
+goes_when : (did : Did) (cycle : ℕ) (p : Placed) (target : Target) → goes_in did cycle p ≡ Some target
+    → (p.cycle + 6 ≡ cycle) × ((did p).target ≡ Some target)
 goes_when did cycle p target e =
     ⊎_elim {C = (p.cycle + 6 ≡ cycle) × ((did p).target ≡ Some target)}
     (λ t. (eqb-true (p.cycle + 6) cycle t, sym (cond-true _ _ _ t) ∙ e))
@@ -62,7 +66,9 @@ turn_told issued cycle = record {
       let w = goes_when issued.did cycle r.0 target r.2 in
       record { placed = r.0; inside = Contains_from_In r.0 issued.placed r.1; ran = w.1; when = w.0 };
   none = λ e target h.
-      none-some target (sym (first_none (goes_in issued.did cycle) issued.placed e h.placed (In_from_Contains h.placed issued.placed h.inside))
+      none-some target (sym
+      (first_none (goes_in issued.did cycle) issued.placed e h.placed
+      (In_from_Contains h.placed issued.placed h.inside))
       ∙ cond-true _ _ _ (eq-eqb (h.placed.cycle + 6) cycle h.when) ∙ h.ran);
 }
 
@@ -77,7 +83,8 @@ over_is issued start zero = record {
 }
 over_is issued start (suc idle) = by_turn (turn issued (start + 1)) refl (over_is issued (start + 1) idle)
   where
-    by_turn : (o : Option Target) → turn issued (start + 1) ≡ o → IsOverIn issued (start + 1) idle (over issued (start + 1) idle)
+    by_turn : (o : Option Target) → turn issued (start + 1) ≡ o
+        → IsOverIn issued (start + 1) idle (over issued (start + 1) idle)
         → IsOverIn issued start (suc idle) (over issued start (suc idle))
     by_turn (Some target) e rest =
         let a : over issued start (suc idle) ≡ start + 1 = cond-true _ _ _ (ap is_some e) in
@@ -89,9 +96,11 @@ over_is issued start (suc idle) = by_turn (turn issued (start + 1)) refl (over_i
         })
     by_turn None e rest =
         let a : over issued start (suc idle) ≡ over issued (start + 1) idle = cond-false _ _ _ (ap is_some e) in
-        subst (λ end. IsOverIn issued start (suc idle) end) (sym a) (longer start idle (over issued (start + 1) idle) e rest)
+        subst (λ end. IsOverIn issued start (suc idle) end) (sym a)
+        (longer start idle (over issued (start + 1) idle) e rest)
       where
-        longer : (start idle end : ℕ) → turn issued (start + 1) ≡ None → IsOverIn issued (start + 1) idle end → IsOverIn issued start (suc idle) end
+        longer : (start idle end : ℕ) → turn issued (start + 1) ≡ None → IsOverIn issued (start + 1) idle end
+            → IsOverIn issued start (suc idle) end
         longer start idle end e rest = record {
           later = (let l : start + 1 < end = rest.later in omega arith);
           within = (let l : end ≤ start + 1 + idle + 1 = rest.within in omega arith);
@@ -105,7 +114,8 @@ over_is issued start (suc idle) = by_turn (turn issued (start + 1)) refl (over_i
           ];
         }
 
-over_alone : (issued : Issued) (start idle end end' : ℕ) → IsOverIn issued start idle end → IsOverIn issued start idle end' → end < end' → ⊥
+over_alone : (issued : Issued) (start idle end end' : ℕ) → IsOverIn issued start idle end
+    → IsOverIn issued start idle end' → end < end' → ⊥
 over_alone issued start idle end end' h h' l =
     elim h.reached [
       | inl e ↦ (let u : end' ≤ start + idle + 1 = h'.within in absurd (omega arith))
@@ -137,12 +147,15 @@ from_any f (x ∷ xs) e =
       | inr h ↦ (let r = from_any f xs h in (r.0, inr r.1, r.2))
     ]
 
-lands_from : (did : Did) (p : Placed) (reg : Reg) (cycle : ℕ) → HasLanded did p reg cycle → lands_in did reg cycle p ≡ true
+lands_from : (did : Did) (p : Placed) (reg : Reg) (cycle : ℕ) → HasLanded did p reg cycle
+    → lands_in did reg cycle p ≡ true
 lands_from did p reg cycle h =
-    any_from (λ (write : (Reg × ℕ) × ℕ). is_landing p.cycle reg cycle write.0) (did p).writes ((reg, h.delay), h.value) (In_from_Contains ((reg, h.delay), h.value) (did p).writes h.writes)
+    any_from (λ (write : (Reg × ℕ) × ℕ). is_landing p.cycle reg cycle write.0) (did p).writes ((reg, h.delay), h.value)
+    (In_from_Contains ((reg, h.delay), h.value) (did p).writes h.writes)
     (and_from _ _ (same_reg-refl reg) (eq-eqb _ _ h.lands))
 
-landed_by : (did : Did) (p : Placed) (reg : Reg) (cycle : ℕ) → lands_in did reg cycle p ≡ true → HasLanded did p reg cycle
+landed_by : (did : Did) (p : Placed) (reg : Reg) (cycle : ℕ) → lands_in did reg cycle p ≡ true
+    → HasLanded did p reg cycle
 landed_by did p reg cycle e =
     let r = from_any (λ (write : (Reg × ℕ) × ℕ). is_landing p.cycle reg cycle write.0) (did p).writes e in
     let b = and_parts (same_reg r.0.0.0 reg) (eqb (p.cycle + r.0.0.1) cycle) r.2 in
@@ -150,11 +163,13 @@ landed_by did p reg cycle e =
     record {
       delay = r.0.0.1;
       value = r.0.1;
-      writes = subst (λ (g : Reg). Contains (did p).writes ((g, r.0.0.1), r.0.1)) same (Contains_from_In r.0 (did p).writes r.1);
+      writes = subst (λ (g : Reg). Contains (did p).writes ((g, r.0.0.1), r.0.1)) same
+          (Contains_from_In r.0 (did p).writes r.1);
       lands = eqb-true _ _ b.1;
     }
 
-find_parts : {X : Type 0} (f : X → Bool) (x : X) (xs : List X) → find f (x ∷ xs) ≡ None → (f x ≡ false) × (find f xs ≡ None)
+find_parts : {X : Type 0} (f : X → Bool) (x : X) (xs : List X) → find f (x ∷ xs) ≡ None → (f x ≡ false)
+    × (find f xs ≡ None)
 find_parts f x xs e =
     ⊎_elim {C = (f x ≡ false) × (find f xs ≡ None)}
     (λ t. absurd (none-some x (sym e ∙ cond-true _ _ _ t))) (λ t. (t, sym (cond-false _ _ _ t) ∙ e)) (cases_Bool (f x))
@@ -183,33 +198,42 @@ place_of (y ∷ xs) x (inl s) = (0, ap Some s)
 place_of (y ∷ xs) x (inr h) = let r = place_of xs x h in (suc r.0, r.1)
 
 -- where the first of these is met by none
-none_met : (did : Did) (cycle : ℕ) (p : Placed) (others : List Placed) (reg : Reg) (q : Placed) → first_of (met_by did cycle p others) (did p).writes ≡ None
+none_met : (did : Did) (cycle : ℕ) (p : Placed) (others : List Placed) (reg : Reg) (q : Placed)
+    → first_of (met_by did cycle p others) (did p).writes ≡ None
     → HasLanded did p reg cycle → In q others → HasLanded did q reg cycle → ⊥
 none_met did cycle p others reg q e first h second =
     let write : (Reg × ℕ) × ℕ = ((reg, first.delay), first.value) in
-    let none : met_by did cycle p others write ≡ None = first_none (met_by did cycle p others) (did p).writes e write (In_from_Contains write (did p).writes first.writes) in
-    let found : option_map (λ (q : Placed). Clash reg p.line q.line) (find (lands_in did reg cycle) others) ≡ None = sym (cond-true _ _ _ (eq-eqb _ _ first.lands)) ∙ none in
-    false≢true (sym (find_none (lands_in did reg cycle) others (unmapped (find (lands_in did reg cycle) others) found) q h) ∙ lands_from did q reg cycle second)
+    let none : met_by did cycle p others write ≡ None = first_none (met_by did cycle p others) (did p).writes e write
+    (In_from_Contains write (did p).writes first.writes) in
+    let found : option_map (λ (q : Placed). Clash reg p.line q.line) (find (lands_in did reg cycle) others) ≡ None = sym
+    (cond-true _ _ _ (eq-eqb _ _ first.lands)) ∙ none in
+    false≢true (sym (find_none (lands_in did reg cycle) others (unmapped (find (lands_in did reg cycle) others) found) q
+    h) ∙ lands_from did q reg cycle second)
   where
     unmapped : (o : Option Placed) → option_map (λ (q : Placed). Clash reg p.line q.line) o ≡ None → o ≡ None
     unmapped None e = refl
     unmapped (Some q) e = absurd (none-some _ (sym e))
 
-no_pair : (did : Did) (cycle : ℕ) (placed : List Placed) (i j : ℕ) (p q : Placed) (reg : Reg) → clash did cycle placed ≡ None → i < j → slice_get placed i ≡ Some p → slice_get placed j ≡ Some q
+no_pair : (did : Did) (cycle : ℕ) (placed : List Placed) (i j : ℕ) (p q : Placed) (reg : Reg)
+    → clash did cycle placed ≡ None → i < j → slice_get placed i ≡ Some p → slice_get placed j ≡ Some q
     → HasLanded did p reg cycle → HasLanded did q reg cycle → ⊥
 no_pair did cycle [] i j p q reg e l at_i at_j first second = none-some p at_i
 no_pair did cycle (x ∷ xs) i zero p q reg e l at_i at_j first second = absurd (omega arith)
 no_pair did cycle (x ∷ xs) zero (suc j) p q reg e l at_i at_j first second =
-    none_met did cycle x xs reg q (none_parts (first_of (met_by did cycle x xs) (did x).writes) (clash did cycle xs) e).0
+    none_met did cycle x xs reg q
+    (none_parts (first_of (met_by did cycle x xs) (did x).writes) (clash did cycle xs) e).0
     (subst (λ z. HasLanded did z reg cycle) (sym (same_Some x p at_i)) first) (at_place xs j q at_j) second
 no_pair did cycle (x ∷ xs) (suc i) (suc j) p q reg e l at_i at_j first second =
-    no_pair did cycle xs i j p q reg (none_parts (first_of (met_by did cycle x xs) (did x).writes) (clash did cycle xs) e).1 (omega arith) at_i at_j first second
+    no_pair did cycle xs i j p q reg
+    (none_parts (first_of (met_by did cycle x xs) (did x).writes) (clash did cycle xs) e).1 (omega arith) at_i
+    at_j first second
 
 unmet : (did : Did) (placed : List Placed) → LandOneByOne placed did → (cycle : ℕ) → clash did cycle placed ≡ None
 unmet did [] alone cycle = refl
 unmet did (p ∷ others) alone cycle =
     ap (λ o. option_or o (clash did cycle others)) (first_of-none (met_by did cycle p others) (did p).writes met)
-    ∙ unmet did others (λ i j a b reg c at_i at_j first second. suc_one i j (alone (suc i) (suc j) a b reg c at_i at_j first second)) cycle
+    ∙ unmet did others (λ i j a b reg c at_i at_j first second. suc_one i j
+    (alone (suc i) (suc j) a b reg c at_i at_j first second)) cycle
   where
     suc_one : (i j : ℕ) → suc i ≡ suc j → i ≡ j
     suc_one i j e = omega arith
@@ -217,15 +241,25 @@ unmet did (p ∷ others) alone cycle =
     met : (write : (Reg × ℕ) × ℕ) → In write (did p).writes → met_by did cycle p others write ≡ None
     met write h =
         ⊎_elim {C = met_by did cycle p others write ≡ None}
-        (λ t. cond-true _ _ _ t ∙ found (find (lands_in did write.0.0 cycle) others) refl (eqb-true _ _ t)) (λ t. cond-false _ _ _ t) (cases_Bool (eqb (p.cycle + write.0.1) cycle))
+        (λ t. cond-true _ _ _ t
+        ∙ found (find (lands_in did write.0.0 cycle) others) refl (eqb-true _ _ t)) (λ t. cond-false _ _ _ t)
+        (cases_Bool (eqb (p.cycle + write.0.1) cycle))
       where
-        found : (o : Option Placed) → find (lands_in did write.0.0 cycle) others ≡ o → p.cycle + write.0.1 ≡ cycle → option_map (λ (q : Placed). Clash write.0.0 p.line q.line) o ≡ None
+        found : (o : Option Placed) → find (lands_in did write.0.0 cycle) others ≡ o → p.cycle + write.0.1 ≡ cycle
+            → option_map (λ (q : Placed). Clash write.0.0 p.line q.line) o ≡ None
         found None e lands = refl
         found (Some q) e lands =
             let r = find_some (lands_in did write.0.0 cycle) others q e in
             let place = place_of others q r.0 in
-            let first : HasLanded did p write.0.0 cycle = record { delay = write.0.1; value = write.1; writes = Contains_from_In write (did p).writes h; lands = lands } in
-            let one : 0 ≡ suc place.0 = alone 0 (suc place.0) p q write.0.0 cycle refl place.1 first (landed_by did q write.0.0 cycle r.1) in
+            let first : HasLanded did p write.0.0 cycle = record {
+              delay = write.0.1;
+              value = write.1;
+              writes = Contains_from_In write (did p).writes h;
+              lands =
+                  lands;
+            } in
+            let one : 0 ≡ suc place.0 = alone 0 (suc place.0) p q write.0.0 cycle refl place.1 first
+            (landed_by did q write.0.0 cycle r.1) in
             absurd (omega arith)
 
 pub clash_told : (placed : List Placed) (did : Did) → ClashIsTold placed did
@@ -248,7 +282,8 @@ words_told text = record {
   rows = λ row l.
       let within : nat_le row (length text.rows) ≡ true = grind (arith, nat_tests) in
       let is : is_address text (address_of row) ≡ true
-      = ap (λ n. (address_of n == address_of row) && nat_le n (length text.rows)) (row_of_address row) ∙ and_from _ _ (eq-eqb _ _ refl) within in
+      = ap (λ n. (address_of n == address_of row) && nat_le n (length text.rows)) (row_of_address row)
+      ∙ and_from _ _ (eq-eqb _ _ refl) within in
       cond-true _ _ _ is ∙ ap At (row_of_address row);
   others = λ word none.
       ⊎_elim {C = leads_to text (ToRegister word) ≡ Outside word}

@@ -10,9 +10,9 @@ use Rattle.c62_flight.specs.Text.{Text, Position, At, position_after}
 use Rattle.c62_flight.specs.Issued.{Visit, Issued, issued_in, issued_on, turn, over_of}
 use Rattle.c62_flight.specs.Flight.{Begins, Leads, Stops, Flies}
 use Rattle.c62_flight.proofs.Fronts.{Late, AreSameUntil, same_until, broken_same, ended_same}
-use Rattle.c62_flight.proofs.OneFlight.{in_visit}
+use Rattle.c62_flight.proofs.PathTimes.{in_visit}
 use Rattle.c62_flight.proofs.Flying.{flies_from}
-use Rattle.c62_flight.proofs.Joined.{path_early, leads_front, leads_on}
+use Rattle.c62_flight.proofs.LaterPaths.{path_early, leads_front, leads_on}
 
 -- what the instructions of a path do when nothing else is issued
 abbrev pub on_path : Text → Machine → List Visit → Issued
@@ -20,7 +20,8 @@ on_path text opening path = record { placed = issued_on text path; did = the_run
 
 -- a run has come so far
 abbrev pub IsUnderway : Text → ℕ → ℕ → Machine → List Visit → Position → ℕ → Type 0
-IsUnderway text first limit opening path position cycle = Leads text limit (on_path text opening path) (At first) 0 path position cycle
+IsUnderway text first limit opening path position cycle = Leads text limit (on_path text opening path) (At first) 0 path
+    position cycle
 
 module _ (text : Text) (first limit : ℕ) (opening : Machine) where
   pub begun : IsUnderway text first limit opening [] (At first) 0
@@ -33,39 +34,55 @@ module _ (text : Text) (first limit : ℕ) (opening : Machine) where
   one_visit visit = append-nil (issued_in text visit)
 
   -- until a row begins, what is issued in it says nothing
-  alike : (path : List Visit) (position : Position) (visit : Visit) → IsUnderway text first limit opening path position visit.start
+  alike : (path : List Visit) (position : Position) (visit : Visit)
+      → IsUnderway text first limit opening path position visit.start
       → AreSameUntil visit.start (on_path text opening path) (on_path text opening (path ++ visit ∷ []))
   alike path position visit under =
-      same_until opening visit.start visit.start (issued_on text path) [] (issued_in text visit) (on_path text opening path) (on_path text opening (path ++ visit ∷ []))
-      (path_early text limit (on_path text opening path) (At first) 0 path position visit.start under) (λ p h. absurd h) (visit_late visit) (λ p h. absurd h) (visit_late visit)
-      (sym (append-nil (issued_on text path))) (flat_map-append (issued_in text) path (visit ∷ []) ∙ ap (λ ps. issued_on text path ++ ps) (one_visit visit))
+      same_until opening visit.start visit.start (issued_on text path) [] (issued_in text visit)
+      (on_path text opening path) (on_path text opening (path ++ visit ∷ []))
+      (path_early text limit (on_path text opening path) (At first) 0 path position visit.start under) (λ p h. absurd h)
+      (visit_late visit) (λ p h. absurd h) (visit_late visit)
+      (sym (append-nil (issued_on text path))) (flat_map-append (issued_in text) path (visit ∷ [])
+      ∙ ap (λ ps. issued_on text path ++ ps) (one_visit visit))
       (the_run_runs (issued_on text path) opening) (the_run_runs (issued_on text (path ++ visit ∷ [])) opening)
 
   -- a row begins, and the run comes to where it stands when that is over
-  pub goes_further : (path : List Visit) (position : Position) (visit : Visit) → IsUnderway text first limit opening path position visit.start
+  pub goes_further : (path : List Visit) (position : Position) (visit : Visit)
+      → IsUnderway text first limit opening path position visit.start
       → Begins text limit (on_path text opening path) position visit.start visit
       → IsUnderway text first limit opening (path ++ visit ∷ [])
-      (position_after text visit.row (turn (on_path text opening (path ++ visit ∷ [])) (over_of text (on_path text opening (path ++ visit ∷ [])) visit)))
+      (position_after text visit.row
+      (turn (on_path text opening (path ++ visit ∷ []))
+      (over_of text (on_path text opening (path ++ visit ∷ [])) visit)))
       (over_of text (on_path text opening (path ++ visit ∷ [])) visit)
   goes_further path position visit under begins =
-      let same : AreSameUntil visit.start (on_path text opening path) (on_path text opening (path ++ visit ∷ [])) = alike path position visit under in
-      leads_on text limit (on_path text opening (path ++ visit ∷ [])) (At first) position 0 visit.start path (visit ∷ [])
-      (position_after text visit.row (turn (on_path text opening (path ++ visit ∷ [])) (over_of text (on_path text opening (path ++ visit ∷ [])) visit)))
+      let same : AreSameUntil visit.start (on_path text opening path) (on_path text opening (path ++ visit ∷ [])) =
+      alike path position visit under in
+      leads_on text limit (on_path text opening (path ++ visit ∷ [])) (At first) position 0 visit.start path
+      (visit ∷ [])
+      (position_after text visit.row
+      (turn (on_path text opening (path ++ visit ∷ []))
+      (over_of text (on_path text opening (path ++ visit ∷ [])) visit)))
       (over_of text (on_path text opening (path ++ visit ∷ [])) visit)
-      (leads_front text limit (on_path text opening path) (on_path text opening (path ++ visit ∷ [])) (At first) 0 path position visit.start same under) (
+      (leads_front text limit (on_path text opening path) (on_path text opening (path ++ visit ∷ [])) (At first) 0 path
+      position visit.start same under) (
         record {
           there = begins.there;
           when = refl;
-          on = sym (ended_same text limit visit.start visit.start (on_path text opening path) (on_path text opening (path ++ visit ∷ [])) position same (omega arith)) ∙ begins.on;
-          whole = λ c l. sym (broken_same visit.start c (on_path text opening path) (on_path text opening (path ++ visit ∷ [])) same l) ∙ begins.whole c l;
+          on = sym (ended_same text limit visit.start visit.start (on_path text opening path)
+              (on_path text opening (path ++ visit ∷ [])) position same (omega arith)) ∙ begins.on;
+          whole = λ c l. sym (broken_same visit.start c (on_path text opening path)
+              (on_path text opening (path ++ visit ∷ [])) same l) ∙ begins.whole c l;
         },
         (refl, refl),
       )
 
   -- the run is stopped
-  pub comes_down : (path : List Visit) (last : Position) (end : ℕ) (stop : Stop) (cycles : ℕ) → IsSound opening → IsUnderway text first limit opening path last end
+  pub comes_down : (path : List Visit) (last : Position) (end : ℕ) (stop : Stop) (cycles : ℕ) → IsSound opening
+      → IsUnderway text first limit opening path last end
       → Stops text limit (on_path text opening path) last end stop cycles
-      → (final : Machine) × Flies text first limit opening stop cycles final × LeavesState (issued_on text path) (cycles + 4) opening (the_run (issued_on text path) opening) final
+      → (final : Machine) × Flies text first limit opening stop cycles final
+      × LeavesState (issued_on text path) (cycles + 4) opening (the_run (issued_on text path) opening) final
   comes_down path last end stop cycles sound under stops =
       flies_from text first limit opening path stop cycles sound (record {
         issued = on_path text opening path;

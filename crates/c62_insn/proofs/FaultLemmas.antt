@@ -7,21 +7,24 @@ use Rattle.c62_op.specs.declared.register.Cond.{Cond as Condition}
 use Rattle.c62_op.specs.declared.register.Unit.{Unit as FunctionalUnit}
 use Rattle.c62_op.specs.declared.operands.Op.{Op}
 use Rattle.c62_op.specs.declared.operands.Operands.{Operands}
-use Rattle.c62_insn.specs.declared.fault.FormFault.TheVariants.{NoUnit, ConstantRange, TwoCrossed, BadSide, BadCondition}
+use Rattle.c62_insn.specs.declared.fault.FormFault.TheVariants.{NoUnit, ConstantRange, TwoCrossed, BadSide}
+use Rattle.c62_insn.specs.declared.fault.FormFault.TheVariants.{BadCondition}
 use Rattle.c62_op.specs.Takes.{takes}
 use Rattle.c62_insn.specs.Fault.{form_fault, bad_condition, constant_out_of_range, two_crossed, bad_side, no_unit}
 use Rattle.c62_op.specs.Units.{all_units}
 
 -- none of the five tests holds
-pub record IsFaultless (op : Op) (operands : Operands) (cond : Option Condition) (unit : Option FunctionalUnit) : Type 0 where
-  pub condition : bad_condition cond ≡ false
-  pub constants : constant_out_of_range op operands ≡ false
-  pub crossing : two_crossed op operands ≡ false
-  pub sides : bad_side op operands unit ≡ false
-  pub taken : no_unit op operands unit ≡ false
+pub record IsFaultless (op : Op) (operands : Operands) (cond : Option Condition) (unit : Option FunctionalUnit) : Type 0
+  where
+    pub condition : bad_condition cond ≡ false
+    pub constants : constant_out_of_range op operands ≡ false
+    pub crossing : two_crossed op operands ≡ false
+    pub sides : bad_side op operands unit ≡ false
+    pub taken : no_unit op operands unit ≡ false
 
 all_false : (a b c d e : Bool)
-    → (if a then Some BadCondition else if b then Some ConstantRange else if c then Some TwoCrossed else if d then Some BadSide else if e then Some NoUnit else None) ≡ None
+    → (if a then Some BadCondition else if b then Some ConstantRange else if c then Some TwoCrossed else if d then Some
+    BadSide else if e then Some NoUnit else None) ≡ None
     → (a ≡ false) × (b ≡ false) × (c ≡ false) × (d ≡ false) × (e ≡ false)
 all_false true b c d e h = cc
 all_false false true c d e h = cc
@@ -33,7 +36,8 @@ all_false false false false false false h = (refl, refl, refl, refl, refl)
 pub faultless : (op : Op) (operands : Operands) (cond : Option Condition) (unit : Option FunctionalUnit)
     → form_fault op operands cond unit ≡ None → IsFaultless op operands cond unit
 faultless op operands cond unit h =
-    let f = all_false (bad_condition cond) (constant_out_of_range op operands) (two_crossed op operands) (bad_side op operands unit) (no_unit op operands unit) h in
+    let f = all_false (bad_condition cond) (constant_out_of_range op operands) (two_crossed op operands)
+    (bad_side op operands unit) (no_unit op operands unit) h in
     record { condition = f.0; constants = f.1; crossing = f.2; sides = f.3; taken = f.4 }
 
 one_of : (test : FunctionalUnit → Bool) (units : List FunctionalUnit) → list_any test units ≡ true

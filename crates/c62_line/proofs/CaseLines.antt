@@ -1,5 +1,7 @@
--- A line in small letters, but for an `X` behind a 0, says the same but for the case of labels. So do two lines that differ in case only.
-use Rattle.c62_line.proofs.Common.{◌≡◌, ℕ, false, cond, eqb, List, [], ◌∷◌, Option, refl, arith, is_ascii_digit, nat_tests, Side}
+-- A line in small letters, but for an `X` behind a 0, says the same but for the case of labels. So do two lines that
+-- differ in case only.
+use Rattle.c62_line.proofs.Common.{◌≡◌, ℕ, false, cond, eqb, List, [], ◌∷◌, Option, refl, arith, is_ascii_digit}
+use Rattle.c62_line.proofs.Common.{nat_tests, Side}
 use Rattle.c62_line.proofs.Common.{Some, Result, Ok, Err, option_map, codes, Letter, Cause, Mnemonic}
 use Rattle.c62_line.proofs.Common.{WrittenUnit, is_allowed, Word, is_dot, Says, has_colon, is_star, with_head}
 use Rattle.c62_line.specs.Laws.{IsRecased, CaseSaysNothing, small_labels, small_says, target_in}
@@ -9,14 +11,17 @@ use Rattle.c62_line.specs.Mnemonic.{mnemonic_named, operation_named, pseudo_name
 use Rattle.c62_line.specs.Unit.{is_t, is_x, letter_of, mark_of, side_numbered, unit_front, unit_of, unit_split}
 use Rattle.c62_line.specs.Line.{label_field, fault_in}
 use Rattle.c62_line.proofs.LabelFields.{field_is}
-use Rattle.c62_line.specs.Line.{behind_unit, condition_front, head_of, instruction_of, label_front, line_of, rest_says, with_rest}
+use Rattle.c62_line.specs.Line.{behind_unit, condition_front, head_of, instruction_of, label_front, line_of, rest_says}
+use Rattle.c62_line.specs.Line.{with_rest}
 use Rattle.c62_token.proofs.TokenLemmas.{on_test}
-use Rattle.c62_token.proofs.CaseTokens.{low_byte, byte_low, test_low, lowered, low, small_low, spells_low, length_low, all_low, begins_low, label_low}
+use Rattle.c62_token.proofs.CaseTokens.{low_byte, byte_low, test_low, lowered, low, small_low, spells_low, length_low}
+use Rattle.c62_token.proofs.CaseTokens.{all_low, begins_low, label_low}
 use Rattle.c62_token.proofs.CaseTokens.{lows, tokens_low, kinds_low}
 
 -- ---- lines that are the same but for case
 
-same_low : (before : ℕ) (line other : List ℕ) → IsRecased before line other → lowered (eqb before 48) line ≡ lowered (eqb before 48) other
+same_low : (before : ℕ) (line other : List ℕ) → IsRecased before line other
+    → lowered (eqb before 48) line ≡ lowered (eqb before 48) other
 unfolding low_byte
 same_low before [] [] same = refl
 same_low before (b ∷ line) (c ∷ other) same =
@@ -42,14 +47,17 @@ abbrev left_low : WrittenUnit × Word → WrittenUnit × Word
 left_low (unit, left) = (unit, low left)
 
 marked_low : (letter : Letter) (side : Side) (w : Word)
-    → unit_of (Some letter) (Some side) (mark_of (low w)) ≡ option_map left_low (unit_of (Some letter) (Some side) (mark_of w))
+    → unit_of (Some letter) (Some side) (mark_of (low w)) ≡ option_map left_low
+    (unit_of (Some letter) (Some side) (mark_of w))
 unfolding mark_of side_numbered low_byte
-marked_low letter side (b ∷ c ∷ w) = simp (test_low is_x refl, test_low is_t refl, test_low is_ascii_digit refl) (grind (arith, nat_tests))
+marked_low letter side (b ∷ c ∷ w) = simp (test_low is_x refl, test_low is_t refl, test_low is_ascii_digit refl)
+    (grind (arith, nat_tests))
 marked_low letter side w = grind (arith, nat_tests)
 
 split_low : (w : Word) → unit_split (low w) ≡ option_map left_low (unit_split w)
 unfolding unit_split letter_of side_numbered low_byte
-split_low (b ∷ l ∷ n ∷ w) = rw (byte_low letter_of (λ b high less. grind (arith, nat_tests)) (eqb b 48) l) (grind (arith, nat_tests, marked_low))
+split_low (b ∷ l ∷ n ∷ w) = rw (byte_low letter_of (λ b high less. grind (arith, nat_tests)) (eqb b 48) l)
+    (grind (arith, nat_tests, marked_low))
 split_low w = refl
 
 unit_low : (ws : List Word) → unit_front (lows ws) ≡ option_map behind_low (unit_front ws)
@@ -106,7 +114,8 @@ head_is_low line =
 -- ---- the line
 
 rest_small : (label : Option Word) (ws : List Word)
-    → small_labels (with_rest (option_map low label) (rest_says (lows ws))) ≡ small_labels (with_rest label (rest_says ws))
+    → small_labels (with_rest (option_map low label) (rest_says (lows ws))) ≡ small_labels
+    (with_rest label (rest_says ws))
 rest_small label ws = grind (arith, rest_low ws, small_low false)
 
 line_low : (line : List ℕ) → small_labels (line_of (low line)) ≡ small_labels (line_of line)
@@ -124,14 +133,17 @@ case_nothing line other same = grind (arith, line_same line other same)
 said_same : (line other : List ℕ) (head front : Head) → head_of line ≡ head → head_of other ≡ front
     → small_labels (with_head head) ≡ small_labels (with_head front) → label_field line ≡ label_field other
     → target_in (with_head head) ≡ target_in (with_head front) → with_head head ≡ with_head front
-said_same line other (Ok (label, ws)) (Ok (name, vs)) e f small field targets = grind (arith, field_is line label ws e, field_is other name vs f)
+said_same line other (Ok (label, ws)) (Ok (name, vs)) e f small field targets = grind
+    (arith, field_is line label ws e, field_is other name vs f)
 said_same line other head front e f small field targets = grind arith
 
--- lines that differ in case only have the same fault before what is said, and say the same where they have the same labels
+-- lines that differ in case only have the same fault before what is said, and say the same where they have the same
+-- labels
 pub head_same : (line other : List ℕ) → IsRecased 32 line other → fault_in (head_of line) ≡ fault_in (head_of other)
 head_same line other same = grind (arith, head_is_low line, head_is_low other, same_low 32 line other same)
 
 pub line_as_other : (line other : List ℕ) → IsRecased 32 line other → label_field line ≡ label_field other
     → target_in (line_of line) ≡ target_in (line_of other) → line_of line ≡ line_of other
 unfolding line_of
-line_as_other line other same field targets = said_same line other (head_of line) (head_of other) refl refl (line_same line other same) field targets
+line_as_other line other same field targets = said_same line other (head_of line) (head_of other) refl refl
+    (line_same line other same) field targets

@@ -1,5 +1,6 @@
 -- A comment changes no line.
-use Rattle.c62_line.proofs.Common.{◌≡◌, ℕ, true, List, [], ◌∷◌, ◌++◌, None, Ok, refl, ap, arith, length-append, nat_tests, list_all-append, begins}
+use Rattle.c62_line.proofs.Common.{◌≡◌, ℕ, true, List, [], ◌∷◌, ◌++◌, None, Ok, refl, ap, arith, length-append}
+use Rattle.c62_line.proofs.Common.{nat_tests, list_all-append, begins}
 use Rattle.c62_line.proofs.Common.{is_allowed, Word, is_star, with_head}
 use Rattle.std.specs.Prelude.{IsTrue}
 use Rattle.c62_line.specs.Line.{head_of, label_front, line_of, rest_says, label_field}
@@ -20,13 +21,18 @@ star_nothing line readable star = (rw (star_head line readable star) refl, star_
 -- ---- behind a semicolon
 
 front_readable : (line rest : List ℕ) → IsReadable (line ++ 59 ∷ rest) → IsReadable line
-front_readable line rest readable = grind (arith, nat_tests, list_all-append is_allowed line (59 ∷ rest), length-append line (59 ∷ rest))
+front_readable line rest readable = grind
+    (arith, nat_tests, list_all-append is_allowed line (59 ∷ rest), length-append line (59 ∷ rest))
 
 pub comment_head : (line rest : List ℕ) → IsReadable (line ++ 59 ∷ rest) → head_of (line ++ 59 ∷ rest) ≡ head_of line
 unfolding head_of
-comment_head line rest readable = grind (arith, nat_tests, front_readable line rest readable, tokens_before_comment line rest)
+comment_head line rest readable = grind
+    (arith, nat_tests, front_readable line rest readable, tokens_before_comment line rest)
 
 pub comment_nothing : (line rest : List ℕ) → IsReadable (line ++ 59 ∷ rest) → CommentSaysNothing line rest
 unfolding line_of label_field
-comment_nothing line rest readable =
-    (ap with_head (comment_head line rest readable), ap (λ (words : List Word). (label_front words).0) (tokens_before_comment line rest))
+comment_nothing line rest readable = (
+  ap with_head (comment_head line rest readable),
+  ap (λ (words : List Word). (label_front words).0)
+      (tokens_before_comment line rest),
+)

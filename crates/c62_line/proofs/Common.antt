@@ -16,8 +16,10 @@ pub use Rattle.c62_op.specs.declared.register.Letter.TheVariants.{L}
 pub use Rattle.c62_op.specs.declared.register.Reg.{Reg}
 pub use Rattle.c62_op.specs.declared.register.Side.{Side}
 pub use Rattle.c62_op.specs.declared.register.Side.TheVariants.{A, B}
-pub use Rattle.c62_line.specs.Line.{Says, Does, Jumps, Nothing, Pause, is_star, has_colon, is_bars, target_of, and_read, or_fault}
-pub use Rattle.c62_line.specs.Line.{parts_read, unit_behind, without_colon, cycles_of, is_storing, jumps_or_does, with_head}
+pub use Rattle.c62_line.specs.Line.{Says, Does, Jumps, Nothing, Pause, is_star, has_colon, is_bars, target_of, and_read}
+pub use Rattle.c62_line.specs.Line.{or_fault}
+pub use Rattle.c62_line.specs.Line.{parts_read, unit_behind, without_colon, cycles_of, is_storing, jumps_or_does}
+pub use Rattle.c62_line.specs.Line.{with_head}
 pub use Rattle.c62_line.specs.Mnemonic.{exchanged, constant_to_front}
 pub use Rattle.c62_line.specs.Unit.{is_dot}
 pub use Rattle.c62_line.specs.declared.fault.Cause.{Cause}
@@ -33,8 +35,10 @@ pub use Rattle.c62_token.specs.Number.{spells}
 pub use Rattle.c62_token.specs.Token.{tokens, begins, is_word_byte, is_allowed, is_blank, grow, words_left, put_back}
 pub use Rattle.c62_token.specs.declared.kind.Kind.{Kind}
 pub use Rattle.c62_token.specs.declared.kind.Kind.TheVariants.{Number, Comma, Close, Open, Star}
-pub use Rattle.std.proofs.Common.{◌≡◌, arith, ◌∙◌, ap, length, sym, ℕ, List, [], refl, true, ◌∷◌, false, None, ◌≤◌, Bool, Option, ◌+◌, ◌++◌, Some}
-pub use Rattle.std.proofs.Common.{◌<◌, cond, eqb, ◌&&◌, not, get_or, ◌||◌, leb, length-append, append_assoc, Ok, Err, subst, Result, ◌%◌}
+pub use Rattle.std.proofs.Common.{◌≡◌, arith, ◌∙◌, ap, length, sym, ℕ, List, [], refl, true, ◌∷◌, false, None, ◌≤◌}
+pub use Rattle.std.proofs.Common.{Bool, Option, ◌+◌, ◌++◌, Some}
+pub use Rattle.std.proofs.Common.{◌<◌, cond, eqb, ◌&&◌, not, get_or, ◌||◌, leb, length-append, append_assoc, Ok, Err}
+pub use Rattle.std.proofs.Common.{subst, Result, ◌%◌}
 pub use Rattle.std.proofs.lemmas.Bool.{and_parts, eqb-true, leb-true, le-leb, cond_both, le-ltb, and_right}
 pub use Rattle.std.proofs.lemmas.Bool.Decides.{nat_tests}
 pub use Rattle.std.proofs.lemmas.Fmt.{decimal_digit}

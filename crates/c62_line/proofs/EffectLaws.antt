@@ -1,5 +1,6 @@
 -- What the reader puts for what was written does the same.
-use Rattle.c62_line.proofs.Common.{◌≡◌, ℕ, Bool, cond, Option, Some, None, refl, ap, subst, arith, nat_tests, Op, exchanged}
+use Rattle.c62_line.proofs.Common.{◌≡◌, ℕ, Bool, cond, Option, Some, None, refl, ap, subst, arith, nat_tests, Op}
+use Rattle.c62_line.proofs.Common.{exchanged}
 use Rattle.std.proofs.Math.IntN.{*ℤ_comm}
 use Rattle.std.proofs.Math.Nat.{mul_comm}
 use Rattle.std.proofs.lemmas.Nat.{and_comm, or_comm, xor_comm}
@@ -19,4 +20,5 @@ pub exchanged_keeps : (op turned : Op) → KeepsEffect op turned
 exchanged_keeps op turned is a b = subst (λ (t : Option Op). Keeps t op a b) is (keeps op a b)
 
 pub pseudo_keeps : KeepEffects
-pseudo_keeps = record { moves = λ a small. omega (arith, small); clears = λ a small. omega (arith, small); zero = λ a. refl }
+pseudo_keeps = record
+    { moves = λ a small. omega (arith, small); clears = λ a small. omega (arith, small); zero = λ a. refl }

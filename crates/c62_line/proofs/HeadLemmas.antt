@@ -1,6 +1,8 @@
 -- Lines without a label, and lines without a colon, which have none.
-use Rattle.c62_line.proofs.Common.{◌≡◌, ℕ, true, false, eqb, List, [], ◌∷◌, refl, ap, arith, to_ascii_lowercase, list_any, nat_tests, grow}
-use Rattle.c62_line.proofs.Common.{tokens, has_colon, ◌≤◌, length, Option, None, Ok, list_all, le-ltb, begins, is_allowed, Word, Says}
+use Rattle.c62_line.proofs.Common.{◌≡◌, ℕ, true, false, eqb, List, [], ◌∷◌, refl, ap, arith, to_ascii_lowercase}
+use Rattle.c62_line.proofs.Common.{list_any, nat_tests, grow}
+use Rattle.c62_line.proofs.Common.{tokens, has_colon, ◌≤◌, length, Option, None, Ok, list_all, le-ltb, begins}
+use Rattle.c62_line.proofs.Common.{is_allowed, Word, Says}
 use Rattle.c62_line.proofs.Common.{is_bars, is_star}
 use Rattle.c62_token.proofs.TokenLemmas.{either, on_test}
 use Rattle.c62_line.specs.declared.limits.TheConstants.{MOST_LINE}
@@ -9,7 +11,8 @@ use Rattle.c62_token.proofs.SpelledTokens.{is_text}
 
 -- ---- lines without a colon
 
-no_colon_grown : (b : ℕ) (words : List (List ℕ)) → eqb b 58 ≡ false → has_colon words ≡ false → has_colon (grow b words) ≡ false
+no_colon_grown : (b : ℕ) (words : List (List ℕ)) → eqb b 58 ≡ false → has_colon words ≡ false
+    → has_colon (grow b words) ≡ false
 no_colon_grown b words other none = grind (arith, nat_tests)
 
 -- a line without colons has no token that is one
@@ -35,17 +38,20 @@ unfolding label_front
 no_label words none = grind arith
 
 -- the head of a line without a label
-pub head_plain : (line : List ℕ) → list_all is_allowed line ≡ true → length line ≤ MOST_LINE → begins is_star line ≡ false → is_bars (tokens line) ≡ false
+pub head_plain : (line : List ℕ) → list_all is_allowed line ≡ true → length line ≤ MOST_LINE
+    → begins is_star line ≡ false → is_bars (tokens line) ≡ false
     → has_colon (tokens line) ≡ false → head_of line ≡ Ok (None, tokens line)
 unfolding head_of
 head_plain line allowed short no_star no_bars none =
     rw (allowed, le-ltb MOST_LINE (length line) short, no_star, no_bars, no_label (tokens line) none, none) refl
 
-pub line_by_head : (line : List ℕ) (label : Option Word) (words : List Word) (says : Says) → head_of line ≡ Ok (label, words)
+pub line_by_head : (line : List ℕ) (label : Option Word) (words : List Word) (says : Says)
+    → head_of line ≡ Ok (label, words)
     → rest_says words ≡ Ok says → line_of line ≡ Ok (label, says)
 unfolding line_of
 line_by_head line label words says head rest = rw (head, rest) refl
 
 pub plain_field : (line : List ℕ) → list_any (λ b. eqb b 58) line ≡ false → label_field line ≡ None
 unfolding label_field
-plain_field line none = ap (λ (front : Option Word × List Word). front.0) (no_label (tokens line) (no_colon_at_all line none))
+plain_field line none = ap (λ (front : Option Word × List Word). front.0)
+    (no_label (tokens line) (no_colon_at_all line none))

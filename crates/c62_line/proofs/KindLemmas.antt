@@ -1,5 +1,6 @@
 -- More than eight tokens are no operands, and a condition begins with a bracket.
-use Rattle.c62_line.proofs.Common.{◌≡◌, ℕ, ◌+◌, ◌≤◌, ◌<◌, Bool, false, List, length, Option, Some, None, Err, cond, arith, length-map}
+use Rattle.c62_line.proofs.Common.{◌≡◌, ℕ, ◌+◌, ◌≤◌, ◌<◌, Bool, false, List, length, Option, Some, None, Err, cond}
+use Rattle.c62_line.proofs.Common.{arith, length-map}
 use Rattle.c62_line.proofs.Common.{BadOperand, Kind, Address, Mnemonic, WrittenUnit, Word, kinds_of, target_of}
 use Rattle.c62_op.specs.declared.register.Cond.{Cond as Condition}
 use Rattle.c62_line.specs.Operand.{address_front, operands_of, with_offset}

@@ -1,5 +1,6 @@
 pub mod Common
 pub mod LabelFields
+pub mod SpelledAddresses
 pub mod SpelledOperands
 pub mod HeadLemmas
 pub mod NameLemmas

@@ -1,6 +1,8 @@
 -- NOP says from one to nine cycles without an instruction.
-use Rattle.c62_line.proofs.Common.{◌≡◌, ◌≤◌, leb, ◌&&◌, List, [], ◌∷◌, None, Result, Ok, Err, refl, arith, pos, codes, cond_both, nat_tests, Cause}
-use Rattle.c62_line.proofs.Common.{BadOperand, BadUnit, Kind, Number, Word, kinds_of, Nop, Says, Pause, and_read, cycles_of, or_fault, unit_behind}
+use Rattle.c62_line.proofs.Common.{◌≡◌, ◌≤◌, leb, ◌&&◌, List, [], ◌∷◌, None, Result, Ok, Err, refl, arith, pos, codes}
+use Rattle.c62_line.proofs.Common.{cond_both, nat_tests, Cause}
+use Rattle.c62_line.proofs.Common.{BadOperand, BadUnit, Kind, Number, Word, kinds_of, Nop, Says, Pause, and_read}
+use Rattle.c62_line.proofs.Common.{cycles_of, or_fault, unit_behind}
 use Rattle.c62_token.specs.declared.kind.Kind.TheVariants.{Name}
 use Rattle.c62_token.specs.Number.{decimal_of, magnitude_of, number_of, register_of, signed_of}
 use Rattle.c62_token.specs.Kind.{kind_of, mark_of}
@@ -30,7 +32,8 @@ pause_short [] = (omega arith, omega arith)
 pause_short (word ∷ []) = cycles_short (kind_of word)
 pause_short (word ∷ next ∷ words) = tt
 
-step_short : {T : Type 0} (read : Result T Cause) (next : T → Result Says Cause) → ((found : T) → OkShort (next found)) → OkShort (and_read read next)
+step_short : {T : Type 0} (read : Result T Cause) (next : T → Result Says Cause) → ((found : T) → OkShort (next found))
+    → OkShort (and_read read next)
 step_short (Ok found) next short = short found
 step_short (Err cause) next short = tt
 

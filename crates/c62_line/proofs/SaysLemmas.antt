@@ -1,14 +1,17 @@
 -- What lines may say: no instruction but a jump has a block for its operand.
-use Rattle.c62_line.proofs.Common.{◌≡◌, Bool, true, false, cond, List, Option, Some, None, Result, Ok, Err, arith, Op, Operands, Block, Insn, Cause}
-use Rattle.c62_line.proofs.Common.{Mnemonic, Nop, WrittenUnit, Kind, Word, kinds_of, Says, Does, Jumps, is_storing, jumps_or_does, parts_read}
+use Rattle.c62_line.proofs.Common.{◌≡◌, Bool, true, false, cond, List, Option, Some, None, Result, Ok, Err, arith, Op}
+use Rattle.c62_line.proofs.Common.{Operands, Block, Insn, Cause}
+use Rattle.c62_line.proofs.Common.{Mnemonic, Nop, WrittenUnit, Kind, Word, kinds_of, Says, Does, Jumps, is_storing}
+use Rattle.c62_line.proofs.Common.{jumps_or_does, parts_read}
 use Rattle.c62_line.proofs.Common.{target_of}
 use Rattle.c62_op.specs.declared.register.Cond.{Cond as Condition}
 use Rattle.c62_op.specs.declared.operands.Op.TheVariants.{B as Branch}
-use Rattle.c62_op.proofs.FormLemmas.{taken_kind}
+use Rattle.c62_op.proofs.TakenTests.{taken_kind}
 use Rattle.c62_insn.proofs.InsnLemmas.{has_unit}
 use Rattle.c62_line.specs.Operand.{operands_of}
 use Rattle.c62_line.specs.Mnemonic.{in_order, stands_for, with_kind}
-use Rattle.c62_line.specs.Line.{parts_of, behind_unit, does, instruction_of, operands_written, pause_of, rest_says, text_fault}
+use Rattle.c62_line.specs.Line.{parts_of, behind_unit, does, instruction_of, operands_written, pause_of, rest_says}
+use Rattle.c62_line.specs.Line.{text_fault}
 
 abbrev pub has_no_block : Operands → Bool
 has_no_block (Block number) = false
@@ -37,9 +40,11 @@ abbrev OkProper : Result Says Cause → Type 0
 OkProper (Ok says) = IsProper says
 OkProper (Err cause) = Unit {0}
 
-behind_proper : (aim : Option Word) (mnemonic : Mnemonic) (cond : Option Condition) (written : Option WrittenUnit) (words : List Word)
+behind_proper : (aim : Option Word) (mnemonic : Mnemonic) (cond : Option Condition) (written : Option WrittenUnit)
+    (words : List Word)
     → OkProper (jumps_or_does aim mnemonic cond written words)
-behind_proper aim mnemonic cond written words = grind (arith, made_free (is_storing mnemonic) mnemonic written (kinds_of words))
+behind_proper aim mnemonic cond written words = grind
+    (arith, made_free (is_storing mnemonic) mnemonic written (kinds_of words))
 
 unit_proper : (mnemonic : Mnemonic) (cond : Option Condition) (written : Option WrittenUnit) (words : List Word)
     → OkProper (behind_unit mnemonic cond written words)

@@ -1,7 +1,10 @@
 -- The line that spells an instruction reads as it.
-use Rattle.c62_line.proofs.Common.{◌≡◌, ℕ, ◌≤◌, Bool, true, false, cond, List, [], ◌∷◌, ◌++◌, length, Option, Some, None, Ok, refl, ap, ◌∙◌}
-use Rattle.c62_line.proofs.Common.{append_assoc, arith, codes, list_all, nat_tests, Side, A, B, Letter, L, Reg, Op, Add, Operands, Access, Insn}
-use Rattle.c62_line.proofs.Common.{op_of, mnemonic_of, register_name, begins, is_blank, is_word_byte, tokens, Kind, Open, Close, Mark, Plain, Cross}
+use Rattle.c62_line.proofs.Common.{◌≡◌, ℕ, ◌≤◌, Bool, true, false, cond, List, [], ◌∷◌, ◌++◌, length, Option, Some}
+use Rattle.c62_line.proofs.Common.{None, Ok, refl, ap, ◌∙◌}
+use Rattle.c62_line.proofs.Common.{append_assoc, arith, codes, list_all, nat_tests, Side, A, B, Letter, L, Reg, Op, Add}
+use Rattle.c62_line.proofs.Common.{Operands, Access, Insn}
+use Rattle.c62_line.proofs.Common.{op_of, mnemonic_of, register_name, begins, is_blank, is_word_byte, tokens, Kind}
+use Rattle.c62_line.proofs.Common.{Open, Close, Mark, Plain, Cross}
 use Rattle.c62_line.proofs.Common.{Path, Word, is_dot, Says, is_bars, is_star}
 use Rattle.c62_op.specs.declared.register.Cond.{Cond as Condition}
 use Rattle.c62_op.specs.declared.register.Unit.{Unit as FunctionalUnit}
@@ -17,7 +20,8 @@ use Rattle.c62_line.specs.Line.{condition_front, condition_of, instruction_of, l
 use Rattle.c62_line.specs.Laws.{LineReadsBack, says_on}
 use Rattle.c62_token.proofs.SpelledTokens.{all_weaker, allowed_text}
 use Rattle.c62_line.proofs.HeadLemmas.{head_plain, line_by_head, no_colon}
-use Rattle.c62_token.proofs.SpelledTokens.{IsToken, IsPiece, any_end, blank_piece, both, is_text, led_token, mark_piece, no_piece, tokens_are}
+use Rattle.c62_token.proofs.SpelledTokens.{IsToken, IsPiece, any_end, blank_piece, both, is_text, led_token, mark_piece}
+use Rattle.c62_token.proofs.SpelledTokens.{no_piece, tokens_are}
 use Rattle.c62_token.proofs.SpelledTokens.{tokens_behind, word_end, word_piece, word_token}
 use Rattle.c62_token.proofs.SpelledNumbers.{register_kind, register_piece}
 use Rattle.c62_line.proofs.NameLemmas.{named}
@@ -34,26 +38,35 @@ pub record BeginsPlainly (w : Word) : Type 0 where
 pub word_plain : (w : Word) → 1 ≤ length w → list_all is_word_byte w ≡ true → BeginsPlainly w
 word_plain [] some words = absurd (omega arith)
 word_plain (b ∷ w) some words =
-    record { star = λ rest. grind (arith, nat_tests); bars = λ rest. grind (arith, nat_tests); dot = grind (arith, nat_tests) }
+    record {
+      star = λ rest. grind (arith, nat_tests);
+      bars = λ rest. grind (arith, nat_tests);
+      dot = grind
+          (arith, nat_tests);
+    }
 
-blanks_piece : (blanks : List ℕ) → list_all is_blank blanks ≡ true → length blanks ≤ 100 → IsPiece any_end blanks [] [] 100
+blanks_piece : (blanks : List ℕ) → list_all is_blank blanks ≡ true → length blanks ≤ 100
+    → IsPiece any_end blanks [] [] 100
 blanks_piece blanks blank few =
     let plain = all_weaker is_blank is_text blanks (λ b here. grind (arith, nat_tests)) blank in
     record { splits = λ rest end. tokens_behind blanks rest blank; plain = plain; told = refl; short = few }
 
-blanks_no_star : (blanks rest : List ℕ) → list_all is_blank blanks ≡ true → begins is_star rest ≡ false → begins is_star (blanks ++ rest) ≡ false
+blanks_no_star : (blanks rest : List ℕ) → list_all is_blank blanks ≡ true → begins is_star rest ≡ false
+    → begins is_star (blanks ++ rest) ≡ false
 blanks_no_star [] rest blank other = other
 blanks_no_star (b ∷ blanks) rest blank other = grind (arith, nat_tests)
 
 -- a line of blanks and a piece says what the tokens of the piece do
 pub piece_says : (blanks : List ℕ) {text : List ℕ} {words : List Word} {kinds : List Kind} {most : ℕ} (says : Says)
-    → IsPiece word_end text words kinds most → most ≤ 155 → list_all is_blank blanks ≡ true → length blanks ≤ 100 → begins is_star text ≡ false
+    → IsPiece word_end text words kinds most → most ≤ 155 → list_all is_blank blanks ≡ true → length blanks ≤ 100
+    → begins is_star text ≡ false
     → is_bars words ≡ false → rest_says words ≡ Ok says → line_of (blanks ++ text) ≡ Ok (None, says)
 piece_says blanks {text = text} {words = words} says piece few blank blanks_few star bars read =
     let line = both (blanks_piece blanks blank blanks_few) piece (λ rest end. tt) in
     let words_are = tokens_are line in
     line_by_head (blanks ++ text) None (tokens (blanks ++ text)) says
-    (head_plain (blanks ++ text) (allowed_text (blanks ++ text) line.plain) (omega (arith, line.short)) (blanks_no_star blanks text blank star)
+    (head_plain (blanks ++ text) (allowed_text (blanks ++ text) line.plain) (omega (arith, line.short))
+    (blanks_no_star blanks text blank star)
     (ap is_bars words_are ∙ bars) (no_colon (blanks ++ text) line.plain)) (ap rest_says words_are ∙ read)
 
 -- ---- mnemonics
@@ -66,8 +79,20 @@ record IsMnemonic (w : Word) : Type 0 where
 
 mnemonic_is : (op : Op) → IsMnemonic (mnemonic_of op)
 unfolding kind_of mark_of single_mark register_of number_of signed_of magnitude_of decimal_of
-mnemonic_is Add = record { plain = word_plain _ (omega arith) refl; kind = refl; token = word_token _ (omega arith) refl; few = omega arith }
-mnemonic_is _ = record { plain = word_plain _ (omega arith) refl; kind = refl; token = word_token _ (omega arith) refl; few = omega arith }
+mnemonic_is Add = record {
+  plain = word_plain _ (omega arith) refl;
+  kind = refl;
+  token = word_token _ (omega arith) refl;
+  few = omega
+      arith;
+}
+mnemonic_is _ = record {
+  plain = word_plain _ (omega arith) refl;
+  kind = refl;
+  token = word_token _ (omega arith) refl;
+  few = omega
+      arith;
+}
 
 -- ---- units
 
@@ -89,26 +114,36 @@ record IsUnit (letter : Letter) (side : Side) (mark : Mark) (w : List ℕ) : Typ
 unit_is : (letter : Letter) (side : Side) (mark : Mark)
     → IsUnit letter side mark (codes "." ++ unit_letter letter ++ side_digit side ++ mark_text mark)
 unfolding unit_front unit_split letter_of side_numbered written_mark
-unit_is L A (Path A) = record { read = λ words. refl; piece = word_piece _ _ 5 (led_token 46 _ _ refl refl refl refl) refl (omega arith) }
-unit_is _ A (Path A) = record { read = λ words. refl; piece = word_piece _ _ 5 (led_token 46 _ _ refl refl refl refl) refl (omega arith) }
-unit_is _ B (Path A) = record { read = λ words. refl; piece = word_piece _ _ 5 (led_token 46 _ _ refl refl refl refl) refl (omega arith) }
-unit_is _ _ _ = record { read = λ words. refl; piece = word_piece _ _ 5 (led_token 46 _ _ refl refl refl refl) refl (omega arith) }
+unit_is L A (Path A) = record
+    { read = λ words. refl; piece = word_piece _ _ 5 (led_token 46 _ _ refl refl refl refl) refl (omega arith) }
+unit_is _ A (Path A) = record
+    { read = λ words. refl; piece = word_piece _ _ 5 (led_token 46 _ _ refl refl refl refl) refl (omega arith) }
+unit_is _ B (Path A) = record
+    { read = λ words. refl; piece = word_piece _ _ 5 (led_token 46 _ _ refl refl refl refl) refl (omega arith) }
+unit_is _ _ _ = record
+    { read = λ words. refl; piece = word_piece _ _ 5 (led_token 46 _ _ refl refl refl refl) refl (omega arith) }
 
-spelled_unit : (operands : Operands) (unit : FunctionalUnit) → IsUnit unit.letter unit.side (mark_on unit.side operands) (unit_spelling operands unit)
-spelled_unit operands unit = rw (path_is unit.side operands) (unit_is unit.letter unit.side (mark_on unit.side operands))
+spelled_unit : (operands : Operands) (unit : FunctionalUnit)
+    → IsUnit unit.letter unit.side (mark_on unit.side operands) (unit_spelling operands unit)
+spelled_unit operands unit = rw (path_is unit.side operands)
+    (unit_is unit.letter unit.side (mark_on unit.side operands))
 
 -- ---- the condition
 
 abbrev condition_words : Option Condition → List Word
 condition_words None = []
-condition_words (Some c) = (codes "[" ∷ []) ++ cond c.negated (codes "!" ∷ []) [] ++ (register_name c.reg ∷ []) ++ (codes "]" ∷ [])
+condition_words (Some c) = (codes "[" ∷ []) ++ cond c.negated (codes "!" ∷ []) [] ++ (register_name c.reg ∷ []) ++
+    (codes "]" ∷ [])
 
-bang_piece : (negated : Bool) → IsPiece any_end (cond negated (codes "!") []) (cond negated (codes "!" ∷ []) []) (cond negated (Not ∷ []) []) 1
+bang_piece : (negated : Bool)
+    → IsPiece any_end (cond negated (codes "!") []) (cond negated (codes "!" ∷ []) []) (cond negated (Not ∷ []) [])
+    1
 unfolding kind_of mark_of single_mark
 bang_piece true = mark_piece 33 Not refl refl refl
 bang_piece false = no_piece any_end 1
 
-condition_piece : (cond : Option Condition) → (kinds : List Kind) × IsPiece any_end (condition_spelling cond) (condition_words cond) kinds 15
+condition_piece : (cond : Option Condition) → (kinds : List Kind)
+    × IsPiece any_end (condition_spelling cond) (condition_words cond) kinds 15
 unfolding kind_of mark_of single_mark
 condition_piece None = (_, no_piece any_end 15)
 condition_piece (Some c) =
@@ -135,16 +170,20 @@ front_back (Some c) op words = front_by c.reg c.negated (mnemonic_of op ∷ word
 plain_first : (cond : Option Condition) (op : Op) (words : List Word) (rest : List ℕ)
     → (begins is_star (condition_spelling cond ++ (mnemonic_of op ++ rest)) ≡ false)
     × (is_bars (condition_words cond ++ (mnemonic_of op ∷ words)) ≡ false)
-    × (rest_says (condition_words cond ++ (mnemonic_of op ∷ words)) ≡ instruction_of (condition_words cond ++ (mnemonic_of op ∷ words)))
+    × (rest_says (condition_words cond ++ (mnemonic_of op ∷ words)) ≡ instruction_of
+    (condition_words cond ++ (mnemonic_of op ∷ words)))
 unfolding rest_says
-plain_first None op words rest = let plain = (mnemonic_is op).plain in (plain.star rest, plain.bars words, rw plain.dot refl)
+plain_first None op words rest = let plain = (mnemonic_is op).plain in
+    (plain.star rest, plain.bars words, rw plain.dot refl)
 plain_first (Some c) op words rest = (refl, refl, refl)
 
-regrouped : (c m u o : List ℕ) → c ++ m ++ codes " " ++ u ++ codes " " ++ o ≡ c ++ (m ++ (codes " " ++ (u ++ (codes " " ++ o))))
+regrouped : (c m u o : List ℕ)
+    → c ++ m ++ codes " " ++ u ++ codes " " ++ o ≡ c ++ (m ++ (codes " " ++ (u ++ (codes " " ++ o))))
 regrouped c m u o = simp append_assoc refl
 
 -- the line that spells an instruction reads as it
-pub spelled_back : (name : ℕ → List ℕ) (insn : Insn) (unit : FunctionalUnit) (blanks : List ℕ) → LineReadsBack name insn unit blanks
+pub spelled_back : (name : ℕ → List ℕ) (insn : Insn) (unit : FunctionalUnit) (blanks : List ℕ)
+    → LineReadsBack name insn unit blanks
 unfolding instruction_of mnemonic_named
 spelled_back name insn unit blanks taking names blank few =
     let op : Op = op_of insn in
@@ -153,9 +192,12 @@ spelled_back name insn unit blanks taking names blank few =
     let here = behind name op operands cond unit taking names (faultless_on insn unit taking) in
     let words : List Word = unit_spelling operands unit ∷ here.words in
     let plain = plain_first cond op words _ in
-    let unit_on = both (spelled_unit operands unit).piece (both blank_piece here.piece (λ rest end. tt)) (λ rest end. refl) in
-    let mnemonic = word_piece (mnemonic_of op) Name 6 (mnemonic_is op).token (mnemonic_is op).kind (mnemonic_is op).few in
-    let line = both (condition_piece cond).1 (both mnemonic (both blank_piece unit_on (λ rest end. tt)) (λ rest end. refl)) (λ rest end. tt) in
+    let unit_on = both (spelled_unit operands unit).piece (both blank_piece here.piece (λ rest end. tt))
+    (λ rest end. refl) in
+    let mnemonic = word_piece (mnemonic_of op) Name 6 (mnemonic_is op).token (mnemonic_is op).kind (mnemonic_is op).few
+    in
+    let line = both (condition_piece cond).1
+    (both mnemonic (both blank_piece unit_on (λ rest end. tt)) (λ rest end. refl)) (λ rest end. tt) in
     let fits = unit_written_fits op operands unit taking in
     rw regrouped (piece_says blanks (says_on name insn unit) line (omega arith) blank few plain.0 plain.1
     (plain.2 ∙ rw (front_back cond op words, named op, (spelled_unit operands unit).read here.words, fits) here.read))

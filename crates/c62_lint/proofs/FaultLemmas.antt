@@ -1,6 +1,8 @@
 -- The walk finds the faults, and the first of them is the text's refusal.
-use Rattle.c62_read.proofs.Common.{◌≡◌, ◌∙◌, refl, sym, arith, nat_tests, ℕ, ◌+◌, Bool, true, false, List, [], ◌∷◌, ◌++◌, length, Option, Some, None}
-use Rattle.c62_read.proofs.Common.{Result, Ok, Err, Cause, Drafts, Refusal, lines_of, labels_of, length-append, length-map, append_assoc, append-nil}
+use Rattle.c62_read.proofs.Common.{◌≡◌, ◌∙◌, refl, sym, arith, nat_tests, ℕ, ◌+◌, Bool, true, false, List, [], ◌∷◌}
+use Rattle.c62_read.proofs.Common.{◌++◌, length, Option, Some, None}
+use Rattle.c62_read.proofs.Common.{Result, Ok, Err, Cause, Drafts, Refusal, lines_of, labels_of, length-append}
+use Rattle.c62_read.proofs.Common.{length-map, append_assoc, append-nil}
 use Rattle.c62_read.proofs.Common.{◌≤◌, ◌<◌, ap, map, take, suc, le-ltb, lt-ltb, TextTooLong}
 use Rattle.std.proofs.Common.{zero}
 use Rattle.c62_line.specs.declared.fault.ReadFault.{ReadFault}
@@ -12,6 +14,7 @@ use Rattle.c62_read.proofs.WalkLemmas.{Stands, goes, more, none_stand}
 use Rattle.c62_lint.specs.Faults.{at_number, faults_from, faults_in, refusal_of, unless_faulty}
 use Rattle.c62_lint.specs.Walk.{kept_or, step_drafts, step_fault, walked_faults}
 use Rattle.c62_lint.specs.Laws.{FirstIsTheRefusal, first_among}
+use Rattle.c62_read.specs.declared.limits.TheConstants.{MOST_BYTES}
 
 -- a label field has a label
 pub field_is_label : (line word : List ℕ) → label_field line ≡ Some word → is_label word ≡ true
@@ -21,22 +24,26 @@ field_is_label line word is = grind arith
 -- ---- one line
 
 -- an empty line leaves the blocks as they are
-empty_stands : (labels : List Name) (before : List (List ℕ)) (old : Drafts) → Stands labels before old → Stands labels (more before []) old
+empty_stands : (labels : List Name) (before : List (List ℕ)) (old : Drafts) → Stands labels before old
+    → Stands labels (more before []) old
 unfolding head_of label_front is_taken rest_says hindrance with_says
 empty_stands labels before old stands = (goes labels before [] old stands (head_of []) refl).1 refl old refl
 
-module _ (labels : List Name) (before : List (List ℕ)) (line : List ℕ) (lines : List (List ℕ)) (old : Drafts) (number : ℕ)
+module _ (labels : List Name) (before : List (List ℕ)) (line : List ℕ) (lines : List (List ℕ)) (old : Drafts)
+    (number : ℕ)
     (stands : Stands labels before old) where
   -- behind this line, by whether it branches to no label and what is wrong with it
   line_walked : ((seen : List ℕ) (new : Drafts) → Stands labels (more before seen) new
       → walked_faults labels (number + 1) lines new ≡ faults_from labels (more before seen) lines)
       → (step : Step) → fault_of labels before line ≡ step_fault labels step
-      → (is_unknown labels step.says ≡ false → (new : Drafts) → step.drafts ≡ Ok new → Stands labels (more before line) new)
+      → (is_unknown labels step.says ≡ false → (new : Drafts) → step.drafts ≡ Ok new
+      → Stands labels (more before line) new)
       → (unknown : Bool) → is_unknown labels step.says ≡ unknown → (made : Result Drafts Cause) → step.drafts ≡ made
       → walked_faults labels (number + 1) lines (kept_or old unknown made)
       ≡ faults_from labels (before ++ unless_faulty (fault_of labels before line) line ∷ []) lines
   line_walked later step fault next true u made e = rw (fault, u) (later [] old (empty_stands labels before old stands))
-  line_walked later step fault next false u (Err cause) e = rw (fault, u, e) (later [] old (empty_stands labels before old stands))
+  line_walked later step fault next false u (Err cause) e = rw (fault, u, e)
+      (later [] old (empty_stands labels before old stands))
   line_walked later step fault next false u (Ok new) e = rw (fault, u, e) (later line new (next u new e))
 
 -- ---- all lines
@@ -48,7 +55,8 @@ walked labels [] before old number is stands = refl
 walked labels (line ∷ lines) before old number is stands =
     let gone = goes labels before line old stands (head_of line) refl in
     let later = line_walked labels before line lines old number stands
-    (λ seen new there. walked labels lines (more before seen) new (number + 1) (omega (arith, is, length-append before (seen ∷ []))) there) in
+    (λ seen new there. walked labels lines (more before seen) new (number + 1)
+    (omega (arith, is, length-append before (seen ∷ []))) there) in
     rw is (rw (sym gone.0) (rw (rw is at (later _ gone.0 gone.1 _ refl _ refl)) refl))
 
 pub walked_text : (text : List ℕ) (labels : List Name)
@@ -57,10 +65,12 @@ walked_text text labels = walked labels (lines_of text) [] no_drafts 1 refl (non
 
 -- ---- the first fault
 
-first_from : (labels : List Name) (lines before : List (List ℕ)) → first_among (faults_from labels before lines) ≡ first_fault labels before lines
+first_from : (labels : List Name) (lines before : List (List ℕ))
+    → first_among (faults_from labels before lines) ≡ first_fault labels before lines
 unfolding faults_from first_fault
 first_from labels [] before = refl
-first_from labels (line ∷ lines) before = by_fault (fault_of labels before line) refl (first_from labels lines (before ++ line ∷ []))
+first_from labels (line ∷ lines) before = by_fault (fault_of labels before line) refl
+    (first_from labels lines (before ++ line ∷ []))
   where
     by_fault : (fault : Option Cause) → fault_of labels before line ≡ fault
         → first_among (faults_from labels (before ++ line ∷ []) lines) ≡ first_fault labels (before ++ line ∷ []) lines
@@ -75,19 +85,29 @@ first_refusal text = grind (arith, nat_tests, first_from)
 -- ---- what is told so far
 
 pub faults_more : (labels : List Name) (number : ℕ) (line : List ℕ) (lines all : List (List ℕ)) (old new : Drafts)
-    (told now : List Refusal) (fault : Option Cause) → all ≡ line ∷ lines → fault ≡ step_fault labels (add_line number line old)
+    (told now : List Refusal) (fault : Option Cause) → all ≡ line ∷ lines
+    → fault ≡ step_fault labels (add_line number line old)
     → new ≡ step_drafts labels (add_line number line old) old → now ≡ told ++ at_number number fault
     → now ++ walked_faults labels (number + 1) lines new ≡ told ++ walked_faults labels number all old
 unfolding walked_faults
-faults_more labels number line lines all old new told now fault first is made kept = rw (kept, first, made, is, append_assoc) refl
+faults_more labels number line lines all old new told now fault first is made kept = rw
+    (kept, first, made, is, append_assoc) refl
 
-one_more : (old : List Refusal) (number : ℕ) (fault : Option Cause) → length (old ++ at_number number fault) ≤ length old + 1
+one_more : (old : List Refusal) (number : ℕ) (fault : Option Cause)
+    → length (old ++ at_number number fault) ≤ length old + 1
 one_more old number fault = grind (arith, length-append {A = Refusal})
 
 pub few_more : (old new : List ReadFault) (number : ℕ) (fault : Option Cause)
     → map refusal_of new ≡ map refusal_of old ++ at_number number fault → length new ≤ length old + 1
 few_more old new number fault kept =
-    omega (arith, length-map new refusal_of, length-map old refusal_of, ap length kept, one_more (map refusal_of old) number fault)
+    omega (
+      arith,
+      length-map new refusal_of,
+      length-map old refusal_of,
+      ap length kept,
+      one_more (map refusal_of old)
+          number fault,
+    )
 
 take_within : {A : Type 0} (n : ℕ) (xs : List A) → length xs ≤ n → take n xs ≡ xs
 take_within zero [] within = refl
@@ -103,11 +123,13 @@ all_told faults most all more few none told =
 
 -- ---- the faults of a text
 
-pub faults_are : (text : List ℕ) (labels : List Name) → length text ≤ 1048576 → labels ≡ labels_of (lines_of text)
+pub faults_are : (text : List ℕ) (labels : List Name) → length text ≤ MOST_BYTES → labels ≡ labels_of (lines_of text)
     → walked_faults labels 1 (lines_of text) no_drafts ≡ faults_in text
 unfolding faults_in
-faults_are text labels short are = rw (le-ltb 1048576 (length text) short, are) (walked_text text (labels_of (lines_of text)))
+faults_are text labels short are = rw (le-ltb MOST_BYTES (length text) short, are)
+    (walked_text text (labels_of (lines_of text)))
 
-pub too_long : (text : List ℕ) (most : ℕ) → 1048576 < length text → 1 ≤ most → take most (faults_in text) ≡ (0, TextTooLong) ∷ []
+pub too_long : (text : List ℕ) (most : ℕ) → MOST_BYTES < length text → 1 ≤ most
+    → take most (faults_in text) ≡ (0, TextTooLong) ∷ []
 unfolding faults_in
-too_long text most long some = rw (lt-ltb 1048576 (length text) long) (take_within most ((0, TextTooLong) ∷ []) some)
+too_long text most long some = rw (lt-ltb MOST_BYTES (length text) long) (take_within most ((0, TextTooLong) ∷ []) some)

@@ -24,7 +24,9 @@ all_ascii (b ∷ bytes) h =
 pub label-utf8 : (word : List ℕ) → is_label word ≡ true → IsUtf8 word
 unfolding is_label
 label-utf8 word h =
-    let one = and_parts (begins (λ b. not (is_ascii_digit b)) word && list_all is_word_byte word && nat_le (length word) 32) (not (is_some (register_of word))) h in
-    let two = and_parts (begins (λ b. not (is_ascii_digit b)) word && list_all is_word_byte word) (nat_le (length word) 32) one.0 in
+    let one = and_parts (begins (λ b. not (is_ascii_digit b)) word && list_all is_word_byte word && nat_le (length word)
+    32) (not (is_some (register_of word))) h in
+    let two = and_parts (begins (λ b. not (is_ascii_digit b)) word && list_all is_word_byte word)
+    (nat_le (length word) 32) one.0 in
     let three = and_parts (begins (λ b. not (is_ascii_digit b)) word) (list_all is_word_byte word) two.0 in
     IsUtf8-from_ascii word (IsAscii-from_all word (all_ascii word three.1))

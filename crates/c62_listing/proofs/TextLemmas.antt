@@ -8,9 +8,11 @@ use Rattle.c62_packet.specs.declared.placed.Placed.{Placed}
 use Rattle.c62_listing.specs.Listing.{idle_lines, whole_line, placed_lines, text_of}
 
 -- a line behind others
-pub text_of-last : (lines : List (List ℕ)) (line : List ℕ) → text_of (lines ++ line ∷ []) ≡ text_of lines ++ (line ++ codes "\n")
+pub text_of-last : (lines : List (List ℕ)) (line : List ℕ)
+    → text_of (lines ++ line ∷ []) ≡ text_of lines ++ (line ++ codes "\n")
 text_of-last lines line =
-    flat_map-append (λ (one : List ℕ). one ++ codes "\n") lines (line ∷ []) ∙ ap (λ (rest : List ℕ). text_of lines ++ rest) (append-nil (line ++ codes "\n"))
+    flat_map-append (λ (one : List ℕ). one ++ codes "\n") lines (line ∷ [])
+    ∙ ap (λ (rest : List ℕ). text_of lines ++ rest) (append-nil (line ++ codes "\n"))
 
 pub beside_text : (name : ℕ → List ℕ) (next : ℕ) (p : Placed) → p.cycle < next
     → text_of (placed_lines name next p) ≡ whole_line name (codes "|| ") p

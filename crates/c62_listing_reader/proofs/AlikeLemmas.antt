@@ -1,7 +1,10 @@
 -- Packets with other lines.
-use Rattle.c62_listing_reader.proofs.Common.{arith, ◌≡◌, ℕ, ◌+◌, ◌*◌, ◌≤◌, List, [], ◌∷◌, length, get_or, map, Option, Some, refl, sym, ap, ◌∙◌}
-use Rattle.c62_listing_reader.proofs.Common.{subst, All, get_or-map, length-map, All-cons, All-nil, All-tail, op_of, unit_of, landing_end, index_of}
-use Rattle.c62_listing_reader.proofs.Common.{Placed, Packed, IsInListingOrder, IsPacketBlock, issue_of, listing_position, Part, part_of, Draft}
+use Rattle.c62_listing_reader.proofs.Common.{arith, ◌≡◌, ℕ, ◌+◌, ◌*◌, ◌≤◌, List, [], ◌∷◌, length, get_or, map, Option}
+use Rattle.c62_listing_reader.proofs.Common.{Some, refl, sym, ap, ◌∙◌}
+use Rattle.c62_listing_reader.proofs.Common.{subst, All, get_or-map, length-map, All-cons, All-nil, All-tail, op_of}
+use Rattle.c62_listing_reader.proofs.Common.{unit_of, landing_end, index_of}
+use Rattle.c62_listing_reader.proofs.Common.{Placed, Packed, IsInListingOrder, IsPacketBlock, issue_of}
+use Rattle.c62_listing_reader.proofs.Common.{listing_position, Part, part_of, Draft}
 use Rattle.c62_listing_reader.proofs.Common.{draft_of, AreAlike}
 use Rattle.std.specs.Prelude.{cond, count_by}
 use Rattle.std.proofs.lemmas.Simd.{map-map}
@@ -11,7 +14,7 @@ use Rattle.c62_rules.specs.Length.{length_of}
 use Rattle.c62_rules.specs.PacketRules.{Issue, KeepsPacketRules}
 use Rattle.c62_op.specs.Shape.{is_branch}
 use Rattle.c62_packet.specs.Packed.{is_branching, issued, issues_of}
-use Rattle.c62_listing_reader.proofs.BackLemmas.{key_of, unlined}
+use Rattle.c62_listing_reader.proofs.LeadingLines.{key_of, unlined}
 use Rattle.c62_listing_reader.proofs.BlocksLemmas.{AllLike, IsLike}
 
 abbrev with_line : Placed → ℕ → Placed
@@ -23,14 +26,16 @@ lined [] parts = []
 lined (p ∷ placed) [] = []
 lined (p ∷ placed) (part ∷ parts) = with_line p part.line ∷ lined placed parts
 
-lined_parts : (placed : List Placed) (parts : List Part) → map unlined parts ≡ map key_of placed → map part_of (lined placed parts) ≡ parts
+lined_parts : (placed : List Placed) (parts : List Part) → map unlined parts ≡ map key_of placed
+    → map part_of (lined placed parts) ≡ parts
 unfolding lined
 lined_parts [] [] same = refl
 lined_parts [] (part ∷ parts) same = absurd cc
 lined_parts (p ∷ placed) [] same = absurd cc
 lined_parts (p ∷ placed) (part ∷ parts) same = grind (arith, lined_parts placed parts)
 
-lined_issues : (placed : List Placed) (parts : List Part) → map unlined parts ≡ map key_of placed → issues_of (lined placed parts) ≡ issues_of placed
+lined_issues : (placed : List Placed) (parts : List Part) → map unlined parts ≡ map key_of placed
+    → issues_of (lined placed parts) ≡ issues_of placed
 unfolding lined
 lined_issues [] parts same = refl
 lined_issues (p ∷ placed) [] same = absurd cc
@@ -44,9 +49,11 @@ length_by placed other same = sym (length-map other issue_of) ∙ ap length same
 issue_at : (placed other : List Placed) (i : ℕ) (d : Placed) → issues_of other ≡ issues_of placed
     → issue_of (get_or placed i d) ≡ issue_of (get_or other i d)
 issue_at placed other i d same =
-    sym (get_or-map issue_of placed i d) ∙ ap (λ (issues : List Issue). get_or issues i (issue_of d)) (sym same) ∙ get_or-map issue_of other i d
+    sym (get_or-map issue_of placed i d) ∙ ap (λ (issues : List Issue). get_or issues i (issue_of d)) (sym same)
+    ∙ get_or-map issue_of other i d
 
-all_by : (P : Issue → Type 0) (placed other : List Placed) → issues_of other ≡ issues_of placed → All (λ p. P (issue_of p)) placed
+all_by : (P : Issue → Type 0) (placed other : List Placed) → issues_of other ≡ issues_of placed
+    → All (λ p. P (issue_of p)) placed
     → All (λ p. P (issue_of p)) other
 all_by P placed other same all i d within =
     subst P (issue_at placed other i d same) (all i d (omega (arith, length_by placed other same, within)))
@@ -59,7 +66,8 @@ issued_by placed other same =
 abbrev one_branch : Issue → ℕ
 one_branch issue = cond (is_branch (op_of issue.insn)) 1 0
 
-branches_by : (placed other : List Placed) → issues_of other ≡ issues_of placed → count_by is_branching placed ≡ count_by is_branching other
+branches_by : (placed other : List Placed) → issues_of other ≡ issues_of placed
+    → count_by is_branching placed ≡ count_by is_branching other
 branches_by [] [] same = refl
 branches_by [] (q ∷ other) same = absurd cc
 branches_by (p ∷ placed) [] same = absurd cc
@@ -75,11 +83,18 @@ branches_by (p ∷ placed) (q ∷ other) same =
 abbrev issue_position : Issue → ℕ
 issue_position issue = 8 * issue.cycle + index_of issue.unit
 
-order_by : (placed other : List Placed) → issues_of other ≡ issues_of placed → IsInListingOrder placed → IsInListingOrder other
+order_by : (placed other : List Placed) → issues_of other ≡ issues_of placed → IsInListingOrder placed
+    → IsInListingOrder other
 order_by placed other same up i j d le within =
     let rises : listing_position (get_or placed i d) ≤ listing_position (get_or placed j d) =
     up i j d le (omega (arith, length_by placed other same, within)) in
-    omega (arith, rises, ap issue_position (issue_at placed other i d same), ap issue_position (issue_at placed other j d same))
+    omega (
+      arith,
+      rises,
+      ap issue_position (issue_at placed other i d same),
+      ap issue_position
+          (issue_at placed other j d same),
+    )
 
 block_by : (block : Packed) (other : List Placed) → issues_of other ≡ issues_of block.placed → IsPacketBlock block
     → IsPacketBlock (record { label = block.label; cycles = block.cycles; placed = other })
@@ -106,14 +121,16 @@ draft_by : (draft : Draft) (block : Packed) → IsLike draft block
     → draft_of (record { label = block.label; cycles = block.cycles; placed = lined block.placed draft.placed }) ≡ draft
 draft_by draft block like = grind (arith, like.label, like.cycles, lined_parts block.placed draft.placed like.placed)
 
-pub made : (drafts : List Draft) (packets : List Packed) → AllLike drafts packets → All IsPacketBlock packets → AreMade drafts packets
+pub made : (drafts : List Draft) (packets : List Packed) → AllLike drafts packets → All IsPacketBlock packets
+    → AreMade drafts packets
 unfolding AllLike
 made [] [] like are = record { others = []; same = refl; are_blocks = All-nil IsPacketBlock; alike = refl }
 made [] (block ∷ packets) like are = absurd like
 made (draft ∷ drafts) [] like are = absurd like
 made (draft ∷ drafts) (block ∷ packets) like are =
     let rest = made drafts packets like.1 (All-tail IsPacketBlock block packets are) in
-    let other : Packed = record { label = block.label; cycles = block.cycles; placed = lined block.placed draft.placed } in
+    let other : Packed = record { label = block.label; cycles = block.cycles; placed = lined block.placed draft.placed }
+    in
     let same = lined_issues block.placed draft.placed like.0.placed in
     record {
       others = other ∷ rest.others;

@@ -1,202 +1,23 @@
--- The lines of a block are read as the block.
-use Rattle.c62_listing_reader.proofs.Common.{arith, ◌≡◌, ℕ, zero, suc, ◌+◌, ◌-◌, ◌*◌, ◌/◌, ◌%◌, ◌<◌, ◌≤◌, List, [], ◌∷◌, ◌++◌, length, map, Option}
-use Rattle.c62_listing_reader.proofs.Common.{Some, None, Bool, true, false, not, refl, sym, ap, ◌∙◌, subst, append_assoc, length-append, ◌&&◌, nat_le}
-use Rattle.c62_listing_reader.proofs.Common.{nat_lt, if◌then◌else◌, is_some, is_none, All, Ok, codes, replicate, le-ltb, lt-leb, ltb-false, nat_tests}
-use Rattle.c62_listing_reader.proofs.Common.{length-map, map-append, All-tail, FunctionalUnit, Operands, Block, op_of, operands_of, unit_of, spelling}
-use Rattle.c62_listing_reader.proofs.Common.{takes, index_of, Parts, parts_of, Says, Pause, Name, is_among, NamesTarget, parts_on, says_with, says_on}
-use Rattle.c62_listing_reader.proofs.Common.{is_instruction, is_unknown, Placed, listing_position, pause_line, idle_lines, cycle_lines, Front, First}
-use Rattle.c62_listing_reader.proofs.Common.{Beside, Above, PauseAbove, Issue, Line, content, front_of, is_beside, is_gap, rest_of, Said, Part, Draft}
-use Rattle.c62_listing_reader.proofs.Common.{Drafts, opened, with_part, with_says, with_said, above_of, above_next, is_filled, is_issue, is_misplaced}
-use Rattle.c62_listing_reader.proofs.Common.{unit_said, unit_above, precedes, goes_on, cycles_added, rest_says, read_lines, index_of-below}
-use Rattle.std.proofs.lemmas.Bool.{and_left, and_right, ltb-true}
-use Rattle.c62_listing_reader.proofs.ListedLemmas.{rest_is, rest_line}
-use Rattle.c62_listing_reader.proofs.ReadLemmas.{goes_on as reads_on}
+-- The instructions of a listed block are read back, and its cycles.
+use Rattle.c62_listing_reader.proofs.Common.{arith, ◌≡◌, ℕ, ◌+◌, ◌-◌, ◌<◌, ◌≤◌, List, [], ◌∷◌, ◌++◌, length, map}
+use Rattle.c62_listing_reader.proofs.Common.{Option, Some, None, Bool, true, false, not, refl, sym, ap, ◌∙◌, subst}
+use Rattle.c62_listing_reader.proofs.Common.{append_assoc, length-append, ◌&&◌, nat_le, nat_lt, if◌then◌else◌, All}
+use Rattle.c62_listing_reader.proofs.Common.{codes, le-ltb, ltb-false, nat_tests, length-map, map-append, All-tail}
+use Rattle.c62_listing_reader.proofs.Common.{FunctionalUnit, Operands, Block, op_of, operands_of, unit_of, spelling}
+use Rattle.c62_listing_reader.proofs.Common.{takes, index_of, parts_of, Says, Name, is_among, NamesTarget, parts_on}
+use Rattle.c62_listing_reader.proofs.Common.{says_with, says_on, is_instruction, is_unknown, Placed, listing_position}
+use Rattle.c62_listing_reader.proofs.Common.{idle_lines, cycle_lines, Front, First, Beside, Above, Issue, Line}
+use Rattle.c62_listing_reader.proofs.Common.{is_beside, is_gap, Draft, Drafts, opened, with_part, with_says, with_said}
+use Rattle.c62_listing_reader.proofs.Common.{above_of, above_next, is_filled, is_issue, is_misplaced, unit_said}
+use Rattle.c62_listing_reader.proofs.Common.{unit_above, precedes, goes_on, cycles_added, index_of-below}
+use Rattle.std.proofs.lemmas.Bool.{ltb-true}
 use Rattle.c62_listing_reader.proofs.TextLemmas.{fed}
-use Rattle.c62_listing_reader.proofs.UntoldLemmas.{IsPlain, beside_plain, fed_content, fed_ended, first_plain, line_read, pause_plain, untold}
+use Rattle.c62_listing_reader.proofs.UntoldLemmas.{IsPlain, beside_plain, first_plain}
 use Rattle.c62_listing_reader.specs.Said.{front_spelling}
-use Rattle.c62_listing_reader.specs.Faults.{line_says}
 use Rattle.c62_read.specs.declared.limits.TheConstants.{MOST_BLOCKS, MOST_INSTRUCTIONS}
 use Rattle.c62_packet.specs.declared.limits.TheConstants.{MOST_CYCLES}
-
--- ---- lines that lead on
-
--- reading these lines leads to blocks and a last line that are such
-pub record Leads (labels : List Name) (aim : Name → ℕ) (number : ℕ) (drafts : Drafts) (above : Above) (lines : List (List ℕ)) (below : List Line)
-    (Is : Drafts → Above → Type 0) : Type 0 where
-  pub end : ℕ
-  pub final : Drafts
-  pub last : Above
-  pub reads : read_lines labels aim number drafts above (map fed lines ++ below) ≡ read_lines labels aim end final last below
-  pub is : Is final last
-
-pub no_lines : (labels : List Name) (aim : Name → ℕ) (number : ℕ) (drafts : Drafts) (above : Above) (below : List Line) (Is : Drafts → Above → Type 0)
-    → Is drafts above
-    → Leads labels aim number drafts above [] below Is
-no_lines labels aim number drafts above below Is is = record { end = number; final = drafts; last = above; reads = refl; is = is }
-
-pub then_lines : (labels : List Name) (aim : Name → ℕ) (number : ℕ) (drafts : Drafts) (above : Above) (lines more : List (List ℕ)) (below : List Line)
-    (Is To : Drafts → Above → Type 0) → Leads labels aim number drafts above lines (map fed more ++ below) Is
-    → ((n : ℕ) (d : Drafts) (a : Above) → Is d a → Leads labels aim n d a more below To)
-    → Leads labels aim number drafts above (lines ++ more) below To
-then_lines labels aim number drafts above lines more below Is To first next =
-    let second = next first.end first.final first.last first.is in
-    let reads : read_lines labels aim number drafts above (map fed (lines ++ more) ++ below)
-    ≡ read_lines labels aim second.end second.final second.last below =
-    rw (map-append fed lines more, append_assoc (map fed lines) (map fed more) below) (first.reads ∙ second.reads) in
-    record { end = second.end; final = second.final; last = second.last; reads = reads; is = second.is }
-
-pub one_line : (labels : List Name) (aim : Name → ℕ) (number : ℕ) (drafts : Drafts) (above : Above) (bytes : List ℕ) (below : List Line) (said : Said)
-    (Is : Drafts → Above → Type 0)
-    → line_says labels drafts above (fed bytes) below ≡ Ok said → Is (with_said aim number said drafts) (above_next said.front said.says)
-    → Leads labels aim number drafts above (bytes ∷ []) below Is
-one_line labels aim number drafts above bytes below said Is says is = record {
-  end = number + 1;
-  final = with_said aim number said drafts;
-  last = above_next said.front said.says;
-  reads = sym (reads_on labels aim number (fed bytes) below (fed bytes ∷ below) drafts above said refl says);
-  is = is;
-}
-
--- ---- a line of a block but its label
-
-pub record IsWelcome (labels : List Name) (drafts : Drafts) (above : Above) (front : Front) (says : Says) : Type 0 where
-  pub placed : is_misplaced front above ≡ false
-  pub known : is_unknown labels says ≡ false
-  pub few : (is_instruction says && nat_le MOST_INSTRUCTIONS (length (opened drafts.current).placed)) ≡ false
-  pub blocks : length drafts.done < MOST_BLOCKS
-  pub order : (is_beside front && precedes (unit_said says) (unit_above above)) ≡ false
-  pub pauses : goes_on says above ≡ false
-  pub gap : is_gap front ≡ false
-  pub short : (opened drafts.current).cycles + cycles_added (is_beside front) says ≤ MOST_CYCLES
-
-plain_said : (labels : List Name) (drafts : Drafts) (above : Above) (bytes : List ℕ) (front : Front) (says : Says) (below : List Line)
-    → IsPlain bytes front says → IsWelcome labels drafts above front says
-    → line_says labels drafts above (fed bytes) below ≡ Ok (record { front = front; label = None; says = says })
-plain_said labels drafts above bytes front says below plain welcome =
-    let same : bytes ≡ content (fed bytes) = sym (fed_content bytes plain.allowed) in
-    let field = line_read (rest_of front bytes) None says plain.line in
-    let read : rest_says drafts (rest_of front bytes) ≡ Ok (None, says) = rw (plain.line, field.field) refl in
-    untold labels drafts above (fed bytes) below (record { front = front; label = None; says = says }) (record {
-      front = plain.begins ∙ ap front_of same;
-      allowed = rw (← same) plain.allowed;
-      fits = rw (← same) plain.fits;
-      placed = welcome.placed;
-      read = rw (← same) read;
-      known = welcome.known;
-      few = welcome.few;
-      begins = and_right (not (is_gap front) && is_none drafts.current) _ (lt-leb MOST_BLOCKS (length drafts.done) welcome.blocks);
-      spelled = rw (← same) plain.spelled;
-      ended = fed_ended bytes plain.allowed;
-      order = welcome.order;
-      pauses = welcome.pauses;
-      between = and_left (is_gap front) _ welcome.gap;
-      outside = refl;
-      short = welcome.short;
-    })
-
-pub plain_line : (labels : List Name) (aim : Name → ℕ) (number : ℕ) (drafts : Drafts) (above : Above) (bytes : List ℕ) (front : Front) (says : Says)
-    (below : List Line) (Is : Drafts → Above → Type 0) → IsPlain bytes front says → IsWelcome labels drafts above front says
-    → Is (with_said aim number (record { front = front; label = None; says = says }) drafts) (above_next front says)
-    → Leads labels aim number drafts above (bytes ∷ []) below Is
-plain_line labels aim number drafts above bytes front says below Is plain welcome is =
-    one_line labels aim number drafts above bytes below (record { front = front; label = None; says = says }) Is
-    (plain_said labels drafts above bytes front says below plain welcome) is
-
--- ---- a block that is being read
-
-abbrev pub Key : Type 0
-Key = Parts × ℕ
-
-abbrev pub unlined : Part → Key
-unlined part = (part.parts, part.cycle)
-
-abbrev pub key_of : Placed → Key
-key_of p = (parts_of p.insn, p.cycle)
-
--- the blocks that are over, and the label, the cycles and the instructions of the one that is open
-pub record IsAt (done : List Draft) (label : Option Name) (cycles : ℕ) (placed : List Placed) (drafts : Drafts) : Type 0 where
-  pub same : drafts.done ≡ done
-  pub named : (opened drafts.current).label ≡ label
-  pub written : (opened drafts.current).cycles ≡ cycles
-  pub parts : map unlined (opened drafts.current).placed ≡ map key_of placed
-
--- no pause goes on from the line above
-abbrev pub is_calm : Above → Bool
-is_calm (PauseAbove n) = nat_le 9 n
-is_calm _ = true
-
-calm_pause : (n : ℕ) (above : Above) → is_calm above ≡ true → goes_on (Pause n) above ≡ false
-calm_pause n above calm = grind (arith, nat_tests)
-
--- where the open block is, with the line above
-pub record IsIn (done : List Draft) (label : Option Name) (cycles : ℕ) (placed : List Placed) (drafts : Drafts) (above : Above) : Type 0 where
-  pub at : IsAt done label cycles placed drafts
-  pub filled : is_filled above ≡ is_some drafts.current
-
--- the same behind whole nines
-pub record IsCalm (done : List Draft) (label : Option Name) (cycles : ℕ) (placed : List Placed) (drafts : Drafts) (above : Above) : Type 0 where
-  pub is : IsIn done label cycles placed drafts above
-  pub calm : is_calm above ≡ true
-
-module _ (labels : List Name) (aim : Name → ℕ) (done : List Draft) (few : length done < MOST_BLOCKS) (label : Option Name) (placed : List Placed) where
-  pause_leads : (n cycles number : ℕ) (drafts : Drafts) (above : Above) (below : List Line) (Is : Drafts → Above → Type 0)
-      → IsCalm done label cycles placed drafts above → 1 ≤ n → n ≤ 9 → cycles + n ≤ MOST_CYCLES
-      → ((d : Drafts) → IsIn done label (cycles + n) placed d (PauseAbove n) → Is d (PauseAbove n))
-      → Leads labels aim number drafts above (pause_line n ∷ []) below Is
-  pause_leads n cycles number drafts above below Is is some small short then_is =
-      let at = is.is.at in
-      plain_line labels aim number drafts above (pause_line n) First (Pause n) below Is (pause_plain n some small) (record {
-        placed = refl;
-        known = refl;
-        few = refl;
-        blocks = subst (λ (ds : List Draft). length ds < MOST_BLOCKS) (sym at.same) few;
-        order = refl;
-        pauses = calm_pause n above is.calm;
-        gap = refl;
-        short = omega (arith, at.written, short);
-      }) (then_is _ (record {
-        at = record { same = at.same; named = at.named; written = ap (λ (c : ℕ). c + n) at.written; parts = at.parts };
-        filled = refl;
-      }))
-
-  nines_lead : (nines cycles number : ℕ) (drafts : Drafts) (above : Above) (below : List Line) → IsCalm done label cycles placed drafts above
-      → cycles + 9 * nines ≤ MOST_CYCLES
-      → Leads labels aim number drafts above (replicate nines (pause_line 9)) below (IsCalm done label (cycles + 9 * nines) placed)
-  nines_lead zero cycles number drafts above below is short =
-      let same : cycles + 9 * 0 ≡ cycles = omega arith in
-      rw same (no_lines labels aim number drafts above below (IsCalm done label cycles placed) is)
-  nines_lead (suc nines) cycles number drafts above below is short =
-      let same : cycles + 9 * suc nines ≡ (cycles + 9) + 9 * nines = omega arith in
-      then_lines labels aim number drafts above (pause_line 9 ∷ []) (replicate nines (pause_line 9)) below (IsCalm done label (cycles + 9) placed)
-      (IsCalm done label (cycles + 9 * suc nines) placed)
-      (pause_leads 9 cycles number drafts above (map fed (replicate nines (pause_line 9)) ++ below) (IsCalm done label (cycles + 9) placed) is
-      (omega arith) (omega arith) (omega (arith, short)) (λ d at. record { is = at; calm = refl }))
-      (λ n d a at. rw same (nines_lead nines (cycles + 9) n d a below at (omega (arith, short))))
-
-  rest_leads : (rest cycles number : ℕ) (drafts : Drafts) (above : Above) (below : List Line) → IsCalm done label cycles placed drafts above
-      → rest < 9 → cycles + rest ≤ MOST_CYCLES
-      → Leads labels aim number drafts above (rest_line rest) below (IsIn done label (cycles + rest) placed)
-  rest_leads zero cycles number drafts above below is small short =
-      let same : cycles + 0 ≡ cycles = omega arith in
-      rw same (no_lines labels aim number drafts above below (IsIn done label cycles placed) is.is)
-  rest_leads (suc rest) cycles number drafts above below is small short =
-      let some : 1 ≤ suc rest = omega arith in
-      rw (rest_is (suc rest) some) (pause_leads (suc rest) cycles number drafts above below (IsIn done label (cycles + suc rest) placed) is
-      some (omega (arith, small)) short (λ d at. at))
-
-  -- cycles without instructions
-  idle_leads : (idle cycles number : ℕ) (drafts : Drafts) (above : Above) (below : List Line) → IsCalm done label cycles placed drafts above
-      → cycles + idle ≤ MOST_CYCLES
-      → Leads labels aim number drafts above (idle_lines idle) below (IsIn done label (cycles + idle) placed)
-  idle_leads idle cycles number drafts above below is short =
-      let nines : ℕ = idle / 9 in
-      let rest : ℕ = idle % 9 in
-      let all : (cycles + 9 * nines) + rest ≡ cycles + idle = omega arith in
-      then_lines labels aim number drafts above (replicate nines (pause_line 9)) (rest_line rest) below
-      (IsCalm done label (cycles + 9 * nines) placed) (IsIn done label (cycles + idle) placed)
-      (nines_lead nines cycles number drafts above (map fed (rest_line rest) ++ below) is (omega (arith, short)))
-      (λ n d a at. subst (λ (c : ℕ). Leads labels aim n d a (rest_line rest) below (IsIn done label c placed)) all
-      (rest_leads rest (cycles + 9 * nines) n d a below at (omega arith) (omega (arith, all, short))))
+use Rattle.c62_listing_reader.proofs.LeadingLines.{Leads, then_lines, plain_line, unlined, key_of, IsAt, is_calm, IsIn}
+use Rattle.c62_listing_reader.proofs.LeadingLines.{IsCalm, idle_leads}
 
 -- ---- an instruction
 
@@ -217,10 +38,12 @@ record IsSaying (labels : List Name) (aim : Name → ℕ) (p : Placed) (says : S
   pub unit : unit_said says ≡ Some p.unit
   pub pauses : (above : Above) → goes_on says above ≡ false
   pub added : (beside : Bool) → cycles_added beside says ≡ (if beside then 0 else 1)
-  pub part : (beside : Bool) (line : ℕ) (draft : Draft) → with_says aim beside line says draft ≡ with_part beside (parts_of p.insn) line draft
+  pub part : (beside : Bool) (line : ℕ) (draft : Draft)
+      → with_says aim beside line says draft ≡ with_part beside (parts_of p.insn) line draft
   pub above : above_of says ≡ Issue (Some p.unit)
 
-saying_by : (name : ℕ → List ℕ) (labels : List Name) (aim : Name → ℕ) (p : Placed) (operands : Operands) → IsSayable name labels aim p
+saying_by : (name : ℕ → List ℕ) (labels : List Name) (aim : Name → ℕ) (p : Placed) (operands : Operands)
+    → IsSayable name labels aim p
     → operands_of p.insn ≡ operands
     → IsSaying labels aim p (says_with name (parts_on p.insn p.unit) operands)
 saying_by name labels aim p operands is to = record {
@@ -236,13 +59,15 @@ saying : (name : ℕ → List ℕ) (labels : List Name) (aim : Name → ℕ) (p 
     → IsSaying labels aim p (says_on name p.insn p.unit)
 saying name labels aim p is = saying_by name labels aim p (operands_of p.insn) is refl
 
-module _ (name : ℕ → List ℕ) (labels : List Name) (aim : Name → ℕ) (done : List Draft) (few : length done < MOST_BLOCKS) (label : Option Name) where
+module _ (name : ℕ → List ℕ) (labels : List Name) (aim : Name
+    → ℕ) (done : List Draft) (few : length done < MOST_BLOCKS) (label : Option Name) where
   -- an instruction stands in the line above, behind others
   pub record IsOver (placed : List Placed) (p : Placed) (drafts : Drafts) (above : Above) : Type 0 where
     pub is : IsIn done label (p.cycle + 1) (placed ++ p ∷ []) drafts above
     pub last : above ≡ Issue (Some p.unit)
 
-  room_is : (placed : List Placed) (cycles : ℕ) (drafts : Drafts) (says : Says) → IsAt done label cycles placed drafts → length placed < MOST_INSTRUCTIONS
+  room_is : (placed : List Placed) (cycles : ℕ) (drafts : Drafts) (says : Says) → IsAt done label cycles placed drafts
+      → length placed < MOST_INSTRUCTIONS
       → (is_instruction says && nat_le MOST_INSTRUCTIONS (length (opened drafts.current).placed)) ≡ false
   room_is placed cycles drafts says is room =
       let count : length (opened drafts.current).placed ≡ length placed =
@@ -250,9 +75,11 @@ module _ (name : ℕ → List ℕ) (labels : List Name) (aim : Name → ℕ) (do
       grind (arith, nat_tests, count)
 
   -- what an instruction does to the block that is open
-  issue_in : (front : Front) (placed : List Placed) (p : Placed) (number : ℕ) (drafts : Drafts) (says : Says) → is_gap front ≡ false
+  issue_in : (front : Front) (placed : List Placed) (p : Placed) (number : ℕ) (drafts : Drafts) (says : Says)
+      → is_gap front ≡ false
       → IsSaying labels aim p says → IsAt done label (p.cycle + (if is_beside front then 1 else 0)) placed drafts
-      → IsOver placed p (with_said aim number (record { front = front; label = None; says = says }) drafts) (above_next front says)
+      → IsOver placed p (with_said aim number (record { front = front; label = None; says = says }) drafts)
+      (above_next front says)
   issue_in front placed p number drafts says gap saying is =
       let draft : Draft = opened drafts.current in
       rw (gap, saying.part (is_beside front) number draft) (record {
@@ -261,18 +88,31 @@ module _ (name : ℕ → List ℕ) (labels : List Name) (aim : Name → ℕ) (do
             same = is.same;
             named = grind (arith, nat_tests, is.named);
             written = grind (arith, nat_tests, is.written);
-            parts = grind (arith, nat_tests, is.parts, is.written, map-append unlined draft.placed, map-append key_of placed);
+            parts = grind (
+              arith,
+              nat_tests,
+              is.parts,
+              is.written,
+              map-append unlined draft.placed,
+              map-append key_of
+                  placed,
+            );
           };
           filled = ap is_filled saying.above;
         };
         last = saying.above;
       })
 
-  issue_leads : (front : Front) (placed : List Placed) (p : Placed) (number : ℕ) (drafts : Drafts) (above : Above) (below : List Line)
-      → is_gap front ≡ false → is_misplaced front above ≡ false → (is_beside front && precedes (Some p.unit) (unit_above above)) ≡ false
-      → IsPlain (front_spelling front ++ spelling name p.insn p.unit) front (says_on name p.insn p.unit) → IsSayable name labels aim p
-      → IsIn done label (p.cycle + (if is_beside front then 1 else 0)) placed drafts above → length placed < MOST_INSTRUCTIONS → p.cycle + 1 ≤ MOST_CYCLES
-      → Leads labels aim number drafts above ((front_spelling front ++ spelling name p.insn p.unit) ∷ []) below (IsOver placed p)
+  issue_leads : (front : Front) (placed : List Placed) (p : Placed) (number : ℕ) (drafts : Drafts) (above : Above)
+      (below : List Line)
+      → is_gap front ≡ false → is_misplaced front above ≡ false
+      → (is_beside front && precedes (Some p.unit) (unit_above above)) ≡ false
+      → IsPlain (front_spelling front ++ spelling name p.insn p.unit) front (says_on name p.insn p.unit)
+      → IsSayable name labels aim p
+      → IsIn done label (p.cycle + (if is_beside front then 1 else 0)) placed drafts above
+      → length placed < MOST_INSTRUCTIONS → p.cycle + 1 ≤ MOST_CYCLES
+      → Leads labels aim number drafts above ((front_spelling front ++ spelling name p.insn p.unit) ∷ []) below
+      (IsOver placed p)
   issue_leads front placed p number drafts above below gap well order plain sayable is room short =
       let says : Says = says_on name p.insn p.unit in
       let of = saying name labels aim p sayable in
@@ -295,7 +135,8 @@ unfoldable pub AreBehind : Placed → List Placed → Type 0
 AreBehind q [] = Unit {0}
 AreBehind q (p ∷ placed) = (listing_position q ≤ listing_position p) × AreBehind p placed
 
-module _ (name : ℕ → List ℕ) (labels : List Name) (aim : Name → ℕ) (done : List Draft) (few : length done < MOST_BLOCKS) (label : Option Name) where
+module _ (name : ℕ → List ℕ) (labels : List Name) (aim : Name
+    → ℕ) (done : List Draft) (few : length done < MOST_BLOCKS) (label : Option Name) where
   abbrev In : ℕ → List Placed → Drafts → Above → Type 0
   In cycles placed = IsIn done label cycles placed
 
@@ -303,26 +144,32 @@ module _ (name : ℕ → List ℕ) (labels : List Name) (aim : Name → ℕ) (do
   Over placed p = IsOver name labels aim done few label placed p
 
   -- an instruction, with the cycles before it
-  placed_by : (b : Bool) (cycles : ℕ) (placed : List Placed) (p : Placed) (number : ℕ) (drafts : Drafts) (above : Above) (below : List Line)
+  placed_by : (b : Bool) (cycles : ℕ) (placed : List Placed) (p : Placed) (number : ℕ) (drafts : Drafts) (above : Above)
+      (below : List Line)
       → nat_lt p.cycle cycles ≡ b → IsSayable name labels aim p → IsCalm done label cycles placed drafts above
-      → (b ≡ true → (unit : FunctionalUnit) × (cycles ≡ p.cycle + 1) × (above ≡ Issue (Some unit)) × (index_of unit ≤ index_of p.unit))
+      → (b ≡ true → (unit : FunctionalUnit) × (cycles ≡ p.cycle + 1) × (above ≡ Issue (Some unit))
+      × (index_of unit ≤ index_of p.unit))
       → length placed < MOST_INSTRUCTIONS → p.cycle + 1 ≤ MOST_CYCLES → Leads labels aim number drafts above
       (if b then (codes "|| " ++ spelling name p.insn p.unit) ∷ [] else idle_lines (p.cycle - cycles) ++
       (codes "   " ++ spelling name p.insn p.unit) ∷ []) below (Over placed p)
   placed_by true cycles placed p number drafts above below less sayable is over room short =
       let unit = over refl in
       let order : precedes (Some p.unit) (unit_above above) ≡ false =
-      ap (λ (a : Above). precedes (Some p.unit) (unit_above a)) unit.2 ∙ le-ltb (index_of p.unit) (index_of unit.0) unit.3 in
-      issue_leads name labels aim done few label Beside placed p number drafts above below refl (ap not (ap is_issue unit.2)) order
+      ap (λ (a : Above). precedes (Some p.unit) (unit_above a)) unit.2
+      ∙ le-ltb (index_of p.unit) (index_of unit.0) unit.3 in
+      issue_leads name labels aim done few label Beside placed p number drafts above below refl
+      (ap not (ap is_issue unit.2)) order
       (beside_plain name p.insn p.unit sayable.writable.taking sayable.writable.names) sayable
       (subst (λ (c : ℕ). In c placed drafts above) unit.1 is.is) room short
   placed_by false cycles placed p number drafts above below less sayable is over room short =
       let low : cycles ≤ p.cycle = ltb-false p.cycle cycles less in
       let at : cycles + (p.cycle - cycles) ≡ p.cycle + 0 = omega (arith, low) in
       let line : List (List ℕ) = (codes "   " ++ spelling name p.insn p.unit) ∷ [] in
-      then_lines labels aim number drafts above (idle_lines (p.cycle - cycles)) line below (In (cycles + (p.cycle - cycles)) placed)
+      then_lines labels aim number drafts above (idle_lines (p.cycle - cycles)) line below
+      (In (cycles + (p.cycle - cycles)) placed)
       (Over placed p)
-      (idle_leads labels aim done few label placed (p.cycle - cycles) cycles number drafts above (map fed line ++ below) is
+      (idle_leads labels aim done few label placed (p.cycle - cycles) cycles number drafts above (map fed line ++ below)
+      is
       (omega (arith, at, short)))
       (λ n d a is_in. issue_leads name labels aim done few label First placed p n d a below refl refl refl
       (first_plain name p.insn p.unit sayable.writable.taking sayable.writable.names) sayable
@@ -336,15 +183,20 @@ module _ (name : ℕ → List ℕ) (labels : List Name) (aim : Name → ℕ) (do
   }
 
   -- behind an instruction
-  cycles_lead : (rest before : List Placed) (q : Placed) (cycles number : ℕ) (drafts : Drafts) (above : Above) (below : List Line)
-      → All (IsSayable name labels aim) rest → AreBehind q rest → All (λ p. p.cycle + 1 ≤ cycles) rest → length before + 1 + length rest ≤ MOST_INSTRUCTIONS
+  cycles_lead : (rest before : List Placed) (q : Placed) (cycles number : ℕ) (drafts : Drafts) (above : Above)
+      (below : List Line)
+      → All (IsSayable name labels aim) rest → AreBehind q rest → All (λ p. p.cycle + 1 ≤ cycles) rest
+      → length before + 1 + length rest ≤ MOST_INSTRUCTIONS
       → cycles ≤ MOST_CYCLES → q.cycle + 1 ≤ cycles → Over before q drafts above
-      → Leads labels aim number drafts above (cycle_lines name (q.cycle + 1) cycles rest) below (In cycles (before ++ q ∷ rest))
+      → Leads labels aim number drafts above (cycle_lines name (q.cycle + 1) cycles rest) below
+      (In cycles (before ++ q ∷ rest))
   unfolding AreBehind
   cycles_lead [] before q cycles number drafts above below sayable order within room short low over =
       let at : (q.cycle + 1) + (cycles - (q.cycle + 1)) ≡ cycles = omega (arith, low) in
-      subst (λ (c : ℕ). Leads labels aim number drafts above (idle_lines (cycles - (q.cycle + 1))) below (In c (before ++ q ∷ []))) at
-      (idle_leads labels aim done few label (before ++ q ∷ []) (cycles - (q.cycle + 1)) (q.cycle + 1) number drafts above below
+      subst (λ (c : ℕ). Leads labels aim number drafts above (idle_lines (cycles - (q.cycle + 1))) below
+      (In c (before ++ q ∷ []))) at
+      (idle_leads labels aim done few label (before ++ q ∷ []) (cycles - (q.cycle + 1)) (q.cycle + 1) number drafts
+      above below
       (over_calm before q drafts above over) (omega (arith, at, short)))
   cycles_lead (p ∷ rest) before q cycles number drafts above below sayable order within room short low over =
       let so_far : List Placed = before ++ q ∷ [] in
@@ -357,20 +209,25 @@ module _ (name : ℕ → List ℕ) (labels : List Name) (aim : Name → ℕ) (do
       let first = placed_by (nat_lt p.cycle (q.cycle + 1)) (q.cycle + 1) so_far p number drafts above
       (map fed (cycle_lines name (p.cycle + 1) cycles rest) ++ below) refl
       (sayable 0 p (omega arith)) (over_calm before q drafts above over)
-      (λ less. (q.unit, omega (arith, same_cycle less), over.last, omega (arith, same_cycle less, order.0))) (omega (arith, one, room))
+      (λ less. (q.unit, omega (arith, same_cycle less), over.last, omega (arith, same_cycle less, order.0)))
+      (omega (arith, one, room))
       (omega (arith, here, short)) in
-      subst (λ (placed : List Placed). Leads labels aim number drafts above (cycle_lines name (q.cycle + 1) cycles (p ∷ rest)) below
+      subst (λ (placed : List Placed). Leads labels aim number drafts above
+      (cycle_lines name (q.cycle + 1) cycles (p ∷ rest)) below
       (In cycles placed)) (append_assoc before (q ∷ []) (p ∷ rest))
       (then_lines labels aim number drafts above _ (cycle_lines name (p.cycle + 1) cycles rest) below (Over so_far p)
       (In cycles (so_far ++ p ∷ rest)) first
-      (λ n d a next. cycles_lead rest so_far p cycles n d a below (All-tail (IsSayable name labels aim) p rest sayable) order.1
+      (λ n d a next. cycles_lead rest so_far p cycles n d a below (All-tail (IsSayable name labels aim) p rest sayable)
+      order.1
       (All-tail (λ (r : Placed). r.cycle + 1 ≤ cycles) p rest within)
       (omega (arith, one, room)) short here next))
 
   -- from the first cycle
   pub start_leads : (placed : List Placed) (cycles number : ℕ) (drafts : Drafts) (above : Above) (below : List Line)
-      → All (IsSayable name labels aim) placed → ((p : Placed) (rest : List Placed) → placed ≡ p ∷ rest → AreBehind p rest)
-      → All (λ p. p.cycle + 1 ≤ cycles) placed → length placed ≤ MOST_INSTRUCTIONS → cycles ≤ MOST_CYCLES → IsCalm done label 0 [] drafts above
+      → All (IsSayable name labels aim) placed
+      → ((p : Placed) (rest : List Placed) → placed ≡ p ∷ rest → AreBehind p rest)
+      → All (λ p. p.cycle + 1 ≤ cycles) placed → length placed ≤ MOST_INSTRUCTIONS → cycles ≤ MOST_CYCLES
+      → IsCalm done label 0 [] drafts above
       → Leads labels aim number drafts above (cycle_lines name 0 cycles placed) below (In cycles placed)
   start_leads [] cycles number drafts above below sayable order within room short is =
       let at : 0 + (cycles - 0) ≡ cycles = omega arith in
@@ -378,11 +235,14 @@ module _ (name : ℕ → List ℕ) (labels : List Name) (aim : Name → ℕ) (do
       (idle_leads labels aim done few label [] (cycles - 0) 0 number drafts above below is (omega (arith, short)))
   start_leads (p ∷ rest) cycles number drafts above below sayable order within room short is =
       let here : p.cycle + 1 ≤ cycles = within 0 p (omega arith) in
-      let first = placed_by (nat_lt p.cycle 0) 0 [] p number drafts above (map fed (cycle_lines name (p.cycle + 1) cycles rest) ++ below) refl
-      (sayable 0 p (omega arith)) is (λ less. (let lt = ltb-true p.cycle 0 less in absurd (omega (arith, lt)))) (omega arith)
+      let first = placed_by (nat_lt p.cycle 0) 0 [] p number drafts above
+      (map fed (cycle_lines name (p.cycle + 1) cycles rest) ++ below) refl
+      (sayable 0 p (omega arith)) is (λ less. (let lt = ltb-true p.cycle 0 less in absurd (omega (arith, lt))))
+      (omega arith)
       (omega (arith, here, short)) in
       then_lines labels aim number drafts above _ (cycle_lines name (p.cycle + 1) cycles rest) below (Over [] p)
       (In cycles (p ∷ rest)) first
-      (λ n d a next. cycles_lead rest [] p cycles n d a below (All-tail (IsSayable name labels aim) p rest sayable) (order p rest refl)
+      (λ n d a next. cycles_lead rest [] p cycles n d a below (All-tail (IsSayable name labels aim) p rest sayable)
+      (order p rest refl)
       (All-tail (λ (r : Placed). r.cycle + 1 ≤ cycles) p rest within)
       (omega (arith, room)) short here next)

@@ -1,9 +1,14 @@
 -- The lines of blocks are read as the blocks.
-use Rattle.c62_listing_reader.proofs.Common.{arith, ◌≡◌, ℕ, suc, ◌+◌, ◌<◌, ◌≤◌, List, [], ◌∷◌, ◌++◌, length, map, Option, Some, None, Bool, true}
-use Rattle.c62_listing_reader.proofs.Common.{false, not, refl, sym, ap, ◌∙◌, append_assoc, append-nil, length-append, ◌&&◌, ◌==◌, is_some, All, Ok}
-use Rattle.c62_listing_reader.proofs.Common.{codes, AllByRecursion, list_all, list_any, nat_tests, length-map, is_label, Nothing, Name, label_is}
-use Rattle.c62_listing_reader.proofs.Common.{label_parts, label_back, Placed, Packed, block_lines, cycle_lines, label_lines, parted_lines, all_lines}
-use Rattle.c62_listing_reader.proofs.Common.{Empty, Above, Start, Line, is_empty, begin_filled, front_of, has_colon, Draft, Drafts, no_drafts}
+use Rattle.c62_listing_reader.proofs.Common.{arith, ◌≡◌, ℕ, suc, ◌+◌, ◌<◌, ◌≤◌, List, [], ◌∷◌, ◌++◌, length, map}
+use Rattle.c62_listing_reader.proofs.Common.{Option, Some, None, Bool, true}
+use Rattle.c62_listing_reader.proofs.Common.{false, not, refl, sym, ap, ◌∙◌, append_assoc, append-nil, length-append}
+use Rattle.c62_listing_reader.proofs.Common.{◌&&◌, ◌==◌, is_some, All, Ok}
+use Rattle.c62_listing_reader.proofs.Common.{codes, AllByRecursion, list_all, list_any, nat_tests, length-map, is_label}
+use Rattle.c62_listing_reader.proofs.Common.{Nothing, Name, label_is}
+use Rattle.c62_listing_reader.proofs.Common.{label_parts, label_back, Placed, Packed, block_lines, cycle_lines}
+use Rattle.c62_listing_reader.proofs.Common.{label_lines, parted_lines, all_lines}
+use Rattle.c62_listing_reader.proofs.Common.{Empty, Above, Start, Line, is_empty, begin_filled, front_of, has_colon}
+use Rattle.c62_listing_reader.proofs.Common.{Draft, Drafts, no_drafts}
 use Rattle.c62_listing_reader.proofs.Common.{all_drafts, opened, is_filled, is_taken}
 use Rattle.std.proofs.lemmas.List.Sums.{take_while-cons}
 use Rattle.c62_token.specs.Token.{is_word_byte}
@@ -11,10 +16,12 @@ use Rattle.c62_line.specs.Line.{head_of, label_front, line_of, rest_says as word
 use Rattle.c62_line.proofs.SpelledOperands.{label_some}
 use Rattle.c62_listing_reader.specs.declared.line.Front.TheVariants.{Label}
 use Rattle.c62_listing_reader.proofs.TextLemmas.{fed}
-use Rattle.c62_listing_reader.proofs.ToldLemmas.{empty_field}
+use Rattle.c62_listing_reader.proofs.ToldLines.{empty_field}
 use Rattle.c62_listing_reader.proofs.UntoldLemmas.{are_allowed, fed_content, fed_ended, line_read, same_bytes}
-use Rattle.c62_listing_reader.proofs.BackLemmas.{AreBehind, IsCalm, IsIn, IsSayable, Leads, key_of, no_lines, one_line, start_leads, then_lines}
-use Rattle.c62_listing_reader.proofs.BackLemmas.{unlined, IsWritable}
+use Rattle.c62_listing_reader.proofs.BackLemmas.{AreBehind, IsSayable}
+use Rattle.c62_listing_reader.proofs.LeadingLines.{IsCalm, IsIn, Leads, key_of, no_lines, one_line, then_lines, unlined}
+use Rattle.c62_listing_reader.proofs.BackLemmas.{start_leads}
+use Rattle.c62_listing_reader.proofs.BackLemmas.{IsWritable}
 use Rattle.c62_listing_reader.specs.Faults.{line_says}
 use Rattle.c62_read.specs.declared.limits.TheConstants.{MOST_BLOCKS, MOST_INSTRUCTIONS}
 use Rattle.c62_packet.specs.declared.limits.TheConstants.{MOST_CYCLES}
@@ -23,13 +30,16 @@ use Rattle.c62_packet.specs.declared.limits.TheConstants.{MOST_CYCLES}
 
 colon_at_end : (w : List ℕ) → list_all is_word_byte w ≡ true → has_colon (w ++ 58 ∷ []) ≡ true
 colon_at_end [] words = refl
-colon_at_end (b ∷ w) words = grind (arith, nat_tests, take_while-cons (λ (x : ℕ). not (x == 59)) b (w ++ 58 ∷ []), colon_at_end w)
+colon_at_end (b ∷ w) words = grind
+    (arith, nat_tests, take_while-cons (λ (x : ℕ). not (x == 59)) b (w ++ 58 ∷ []), colon_at_end w)
 
-label_front_is : (label : Name) → 1 ≤ length label → list_all is_word_byte label ≡ true → front_of (label ++ 58 ∷ []) ≡ Label
+label_front_is : (label : Name) → 1 ≤ length label → list_all is_word_byte label ≡ true
+    → front_of (label ++ 58 ∷ []) ≡ Label
 label_front_is [] some words = absurd (omega arith)
 label_front_is (b ∷ label) some words = grind (arith, nat_tests, colon_at_end (b ∷ label))
 
-label_said : (labels : List Name) (done : List Draft) (label : Name) (below : List Line) → is_label label ≡ true → length done < MOST_BLOCKS
+label_said : (labels : List Name) (done : List Draft) (label : Name) (below : List Line) → is_label label ≡ true
+    → length done < MOST_BLOCKS
     → is_taken (Some label) (record { done = done; current = None }) ≡ false
     → line_says labels (record { done = done; current = None }) Start (fed (label ++ codes ":")) below ≡ Ok
     (record { front = Label; label = Some label; says = Nothing })
@@ -56,7 +66,8 @@ gap_line : line_of [] ≡ Ok (None, Nothing)
 unfolding line_of head_of label_front words_say
 gap_line = refl
 
-gap_said : (labels : List Name) (drafts : Drafts) (above : Above) (below : List Line) → is_filled above ≡ true → begin_filled below ≡ true
+gap_said : (labels : List Name) (drafts : Drafts) (above : Above) (below : List Line) → is_filled above ≡ true
+    → begin_filled below ≡ true
     → (opened drafts.current).cycles ≤ MOST_CYCLES
     → line_says labels drafts above (fed []) below ≡ Ok (record { front = Empty; label = None; says = Nothing })
 unfolding line_says
@@ -74,7 +85,8 @@ AllLike [] [] = Unit {0}
 AllLike (draft ∷ drafts) (block ∷ blocks) = IsLike draft block × AllLike drafts blocks
 AllLike _ _ = ⊥
 
-like_more : (drafts : List Draft) (blocks : List Packed) (draft : Draft) (block : Packed) → AllLike drafts blocks → IsLike draft block
+like_more : (drafts : List Draft) (blocks : List Packed) (draft : Draft) (block : Packed) → AllLike drafts blocks
+    → IsLike draft block
     → AllLike (drafts ++ draft ∷ []) (blocks ++ block ∷ [])
 unfolding AllLike
 like_more [] [] draft block all like = (like, tt)
@@ -109,7 +121,8 @@ pub record IsSmall (name : ℕ → List ℕ) (block : Packed) : Type 0 where
   pub short : block.cycles ≤ MOST_CYCLES
 
 -- what is asked of a block behind these
-pub record IsGood (name : ℕ → List ℕ) (labels : List Name) (aim : Name → ℕ) (passed : List Packed) (block : Packed) : Type 0 where
+pub record IsGood (name : ℕ → List ℕ) (labels : List Name) (aim : Name
+    → ℕ) (passed : List Packed) (block : Packed) : Type 0 where
   pub small : IsSmall name block
   pub free : (label : Name) → block.label ≡ Some label → list_any (λ other. label_is label other.label) passed ≡ false
   pub begun : block.label ≡ None → 0 < length block.placed
@@ -122,12 +135,14 @@ pub record AreRead (passed : List Packed) (drafts : Drafts) (above : Above) : Ty
   pub some : is_some drafts.current ≡ true
   pub short : (opened drafts.current).cycles ≤ MOST_CYCLES
 
-open_by : (done : List Draft) (current : Option Draft) (passed : List Packed) (block : Packed) (above : Above) → AllLike done passed
+open_by : (done : List Draft) (current : Option Draft) (passed : List Packed) (block : Packed) (above : Above)
+    → AllLike done passed
     → (block.label ≡ None → 0 < length block.placed) → block.cycles ≤ MOST_CYCLES
     → IsIn done block.label block.cycles block.placed (record { done = done; current = current }) above
     → AreRead (passed ++ block ∷ []) (record { done = done; current = current }) above
 open_by done (Some draft) passed block above like begun short is = record {
-  like = like_more done passed draft block like (record { label = is.at.named; cycles = is.at.written; placed = is.at.parts });
+  like = like_more done passed draft block like
+      (record { label = is.at.named; cycles = is.at.written; placed = is.at.parts });
   filled = is.filled;
   some = refl;
   short = rw is.at.written short;
@@ -137,7 +152,8 @@ open_by done None passed block above like begun short is =
     let some = begun (sym is.at.named) in
     absurd (omega (arith, none, some))
 
-is_read : (done : List Draft) (drafts : Drafts) (passed : List Packed) (block : Packed) (above : Above) → AllLike done passed
+is_read : (done : List Draft) (drafts : Drafts) (passed : List Packed) (block : Packed) (above : Above)
+    → AllLike done passed
     → (block.label ≡ None → 0 < length block.placed) → block.cycles ≤ MOST_CYCLES
     → IsIn done block.label block.cycles block.placed drafts above → AreRead (passed ++ block ∷ []) drafts above
 is_read done drafts passed block above like begun short is =
@@ -147,30 +163,43 @@ is_read done drafts passed block above like begun short is =
     })
 
 calm_start : (done : List Draft) → IsCalm done None 0 [] (record { done = done; current = None }) Start
-calm_start done = record { is = record { at = record { same = refl; named = refl; written = refl; parts = refl }; filled = refl }; calm = refl }
+calm_start done = record {
+  is = record { at = record { same = refl; named = refl; written = refl; parts = refl }; filled = refl };
+  calm =
+      refl;
+}
 
 module _ (name : ℕ → List ℕ) (labels : List Name) (aim : Name → ℕ) where
   label_leads : (done : List Draft) (label : Option Name) (number : ℕ) (below : List Line) → length done < MOST_BLOCKS
       → ((l : Name) → label ≡ Some l → is_label l ≡ true)
       → ((l : Name) → label ≡ Some l → is_taken (Some l) (record { done = done; current = None }) ≡ false)
-      → Leads labels aim number (record { done = done; current = None }) Start (label_lines label) below (IsCalm done label 0 [])
+      → Leads labels aim number (record { done = done; current = None }) Start (label_lines label) below
+      (IsCalm done label 0 [])
   label_leads done None number below few is free =
-      no_lines labels aim number (record { done = done; current = None }) Start below (IsCalm done None 0 []) (calm_start done)
+      no_lines labels aim number (record { done = done; current = None }) Start below (IsCalm done None 0 [])
+      (calm_start done)
   label_leads done (Some label) number below few is free =
       one_line labels aim number (record { done = done; current = None }) Start (label ++ codes ":") below
       (record { front = Label; label = Some label; says = Nothing }) (IsCalm done (Some label) 0 [])
       (label_said labels done label below (is label refl) few (free label refl))
-      (record { is = record { at = record { same = refl; named = refl; written = refl; parts = refl }; filled = refl }; calm = refl })
+      (record {
+        is = record { at = record { same = refl; named = refl; written = refl; parts = refl }; filled = refl };
+        calm = refl;
+      })
 
-  block_leads : (done : List Draft) (passed : List Packed) (block : Packed) (number : ℕ) (below : List Line) → length done < MOST_BLOCKS → AllLike done passed
+  block_leads : (done : List Draft) (passed : List Packed) (block : Packed) (number : ℕ) (below : List Line)
+      → length done < MOST_BLOCKS → AllLike done passed
       → IsGood name labels aim passed block
-      → Leads labels aim number (record { done = done; current = None }) Start (block_lines name block) below (AreRead (passed ++ block ∷ []))
+      → Leads labels aim number (record { done = done; current = None }) Start (block_lines name block) below
+      (AreRead (passed ++ block ∷ []))
   block_leads done passed block number below few like good =
       let start : Drafts = record { done = done; current = None } in
       let free : (l : Name) → block.label ≡ Some l → is_taken (Some l) start ≡ false =
-      λ l is. ap (list_any (λ (d : Draft). label_is l d.label)) (append-nil done) ∙ like_taken l done passed like ∙ good.free l is in
+      λ l is. ap (list_any (λ (d : Draft). label_is l d.label)) (append-nil done) ∙ like_taken l done passed like
+      ∙ good.free l is in
       let cycles : List (List ℕ) = cycle_lines name 0 block.cycles block.placed in
-      let read = then_lines labels aim number start Start (label_lines block.label) cycles below (IsCalm done block.label 0 [])
+      let read = then_lines labels aim number start Start (label_lines block.label) cycles below
+      (IsCalm done block.label 0 [])
       (IsIn done block.label block.cycles block.placed)
       (label_leads done block.label number (map fed cycles ++ below) few good.small.label free)
       (λ n d a calm. start_leads name labels aim done few block.label block.placed block.cycles n d a below
@@ -183,9 +212,11 @@ module _ (name : ℕ → List ℕ) (labels : List Name) (aim : Name → ℕ) whe
         is = is_read done read.final passed block read.last like good.begun good.small.short read.is;
       }
 
-  gap_leads : (passed : List Packed) (number : ℕ) (drafts : Drafts) (above : Above) (below : List Line) → AreRead passed drafts above
+  gap_leads : (passed : List Packed) (number : ℕ) (drafts : Drafts) (above : Above) (below : List Line)
+      → AreRead passed drafts above
       → begin_filled below ≡ true
-      → Leads labels aim number drafts above ([] ∷ []) below (λ d a. (d ≡ record { done = all_drafts drafts; current = None }) × (a ≡ Start))
+      → Leads labels aim number drafts above ([] ∷ []) below
+      (λ d a. (d ≡ record { done = all_drafts drafts; current = None }) × (a ≡ Start))
   gap_leads passed number drafts above below is begins =
       one_line labels aim number drafts above [] below (record { front = Empty; label = None; says = Nothing })
       (λ (d : Drafts) (a : Above). (d ≡ record { done = all_drafts drafts; current = None }) × (a ≡ Start))
@@ -196,7 +227,8 @@ module _ (name : ℕ → List ℕ) (labels : List Name) (aim : Name → ℕ) whe
 -- each of these blocks is good behind those before it
 unfoldable pub AllGood : (ℕ → List ℕ) → List Name → (Name → ℕ) → List Packed → List Packed → Type 0
 AllGood name labels aim passed [] = Unit {0}
-AllGood name labels aim passed (block ∷ blocks) = IsGood name labels aim passed block × AllGood name labels aim (passed ++ block ∷ []) blocks
+AllGood name labels aim passed (block ∷ blocks) = IsGood name labels aim passed block
+    × AllGood name labels aim (passed ++ block ∷ []) blocks
 
 -- a line of a block
 abbrev pub is_line : List ℕ → Bool
@@ -213,19 +245,25 @@ pub record HasLines (name : ℕ → List ℕ) (block : Packed) : Type 0 where
   pub lines : list_all is_line (block_lines name block) ≡ true
 
 module _ (name : ℕ → List ℕ) (labels : List Name) (aim : Name → ℕ) where
-  behind_leads : (passed : List Packed) (block : Packed) (number : ℕ) (drafts : Drafts) (above : Above) (below : List Line) → length passed < MOST_BLOCKS
+  behind_leads : (passed : List Packed) (block : Packed) (number : ℕ) (drafts : Drafts) (above : Above)
+      (below : List Line) → length passed < MOST_BLOCKS
       → AreRead passed drafts above → IsGood name labels aim passed block → HasLines name block
       → Leads labels aim number drafts above ([] ∷ block_lines name block) below (AreRead (passed ++ block ∷ []))
   behind_leads passed block number drafts above below few is good has =
       let lines : List (List ℕ) = block_lines name block in
       let start : Drafts = record { done = all_drafts drafts; current = None } in
-      let done : length (all_drafts drafts) < MOST_BLOCKS = omega (arith, few, like_length (all_drafts drafts) passed is.like) in
-      then_lines labels aim number drafts above ([] ∷ []) lines below (λ (d : Drafts) (a : Above). (d ≡ start) × (a ≡ Start))
+      let done : length (all_drafts drafts) < MOST_BLOCKS = omega
+      (arith, few, like_length (all_drafts drafts) passed is.like) in
+      then_lines labels aim number drafts above ([] ∷ []) lines below (λ (d : Drafts) (a : Above). (d ≡ start)
+      × (a ≡ Start))
       (AreRead (passed ++ block ∷ []))
-      (gap_leads name labels aim passed number drafts above (map fed lines ++ below) is (filled_lines lines below has.some has.lines))
-      (λ n d a at. rw (at.0, at.1) (block_leads name labels aim (all_drafts drafts) passed block n below done is.like good))
+      (gap_leads name labels aim passed number drafts above (map fed lines ++ below) is
+      (filled_lines lines below has.some has.lines))
+      (λ n d a at. rw (at.0, at.1)
+      (block_leads name labels aim (all_drafts drafts) passed block n below done is.like good))
 
-  parted_leads : (passed blocks : List Packed) (number : ℕ) (drafts : Drafts) (above : Above) (below : List Line) → length passed + length blocks ≤ MOST_BLOCKS
+  parted_leads : (passed blocks : List Packed) (number : ℕ) (drafts : Drafts) (above : Above) (below : List Line)
+      → length passed + length blocks ≤ MOST_BLOCKS
       → AreRead passed drafts above → AllGood name labels aim passed blocks → AllByRecursion (HasLines name) blocks
       → Leads labels aim number drafts above (parted_lines name blocks) below (AreRead (passed ++ blocks))
   unfolding AllGood
@@ -234,20 +272,27 @@ module _ (name : ℕ → List ℕ) (labels : List Name) (aim : Name → ℕ) whe
   parted_leads passed (block ∷ blocks) number drafts above below few is good has =
       let count : length (passed ++ block ∷ []) ≡ length passed + 1 = length-append passed (block ∷ []) in
       rw (← append_assoc passed (block ∷ []) blocks)
-      (then_lines labels aim number drafts above ([] ∷ block_lines name block) (parted_lines name blocks) below (AreRead (passed ++ block ∷ []))
+      (then_lines labels aim number drafts above ([] ∷ block_lines name block) (parted_lines name blocks) below
+      (AreRead (passed ++ block ∷ []))
       (AreRead ((passed ++ block ∷ []) ++ blocks))
-      (behind_leads passed block number drafts above (map fed (parted_lines name blocks) ++ below) (omega (arith, few)) is good.0 has.0)
-      (λ n d a read. parted_leads (passed ++ block ∷ []) blocks n d a below (omega (arith, few, count)) read good.1 has.1))
+      (behind_leads passed block number drafts above (map fed (parted_lines name blocks) ++ below) (omega (arith, few))
+      is good.0 has.0)
+      (λ n d a read. parted_leads (passed ++ block ∷ []) blocks n d a below (omega (arith, few, count)) read good.1
+      has.1))
 
   -- the lines of packets are read as blocks like them
-  pub all_lead : (packets : List Packed) (number : ℕ) (below : List Line) → length packets ≤ MOST_BLOCKS → AllGood name labels aim [] packets
+  pub all_lead : (packets : List Packed) (number : ℕ) (below : List Line) → length packets ≤ MOST_BLOCKS
+      → AllGood name labels aim [] packets
       → AllByRecursion (HasLines name) packets
       → Leads labels aim number no_drafts Start (all_lines name packets) below (λ d a. AllLike (all_drafts d) packets)
   unfolding AllGood AllLike
-  all_lead [] number below few good has = no_lines labels aim number no_drafts Start below (λ (d : Drafts) (a : Above). AllLike (all_drafts d) []) tt
+  all_lead [] number below few good has = no_lines labels aim number no_drafts Start below
+      (λ (d : Drafts) (a : Above). AllLike (all_drafts d) []) tt
   all_lead (block ∷ blocks) number below few good has =
-      let read = then_lines labels aim number no_drafts Start (block_lines name block) (parted_lines name blocks) below (AreRead ([] ++ block ∷ []))
+      let read = then_lines labels aim number no_drafts Start (block_lines name block) (parted_lines name blocks) below
+      (AreRead ([] ++ block ∷ []))
       (AreRead (block ∷ blocks))
-      (block_leads name labels aim [] [] block number (map fed (parted_lines name blocks) ++ below) (omega arith) tt good.0)
+      (block_leads name labels aim [] [] block number (map fed (parted_lines name blocks) ++ below) (omega arith) tt
+      good.0)
       (λ n d a read. parted_leads (block ∷ []) blocks n d a below (omega (arith, few)) read good.1 has.1) in
       record { end = read.end; final = read.final; last = read.last; reads = read.reads; is = read.is.like }

@@ -1,25 +1,24 @@
--- The lines of a listing: what stands in them, their labels and their bytes.
-use Rattle.c62_listing_reader.proofs.Common.{nat_tests, arith, ◌≡◌, ℕ, zero, suc, ◌+◌, ◌-◌, ◌*◌, ◌/◌, ◌%◌, ◌<◌, ◌≤◌, List, [], ◌∷◌, ◌++◌, length}
-use Rattle.c62_listing_reader.proofs.Common.{Option, Some, None, Bool, true, false, refl, ap, ◌∙◌, subst, append_assoc, append-nil, length-append}
-use Rattle.c62_listing_reader.proofs.Common.{◌&&◌, nat_lt, if◌then◌else◌, is_none, All, codes, replicate, AllByRecursion, flat_map, list_all}
-use Rattle.c62_listing_reader.proofs.Common.{list_any, slice_get, option_to_list, bytes_eq, All-tail, list_all-append, none-some, spelling, Says}
-use Rattle.c62_listing_reader.proofs.Common.{Nothing, Pause, is_label, label_field, Name, is_among, label_is, label_parts, label_back, Placed, Packed}
-use Rattle.c62_listing_reader.proofs.Common.{packet_labels, pause_line, idle_lines, cycle_lines, label_lines, block_lines, parted_lines, all_lines}
-use Rattle.c62_listing_reader.proofs.Common.{text_of, Front, First, Beside, is_empty, named, names_in, labels_of, number_of, index_of-below}
+-- The lines of a listed block, and their labels.
+use Rattle.c62_listing_reader.proofs.Common.{nat_tests, arith, ◌≡◌, ℕ, zero, suc, ◌+◌, ◌-◌, ◌/◌, ◌%◌, ◌<◌, ◌≤◌, List}
+use Rattle.c62_listing_reader.proofs.Common.{[], ◌∷◌, ◌++◌, length, Option, Some, None, Bool, true, false, refl, subst}
+use Rattle.c62_listing_reader.proofs.Common.{append_assoc, length-append, ◌&&◌, nat_lt, if◌then◌else◌, is_none, All}
+use Rattle.c62_listing_reader.proofs.Common.{codes, replicate, AllByRecursion, flat_map, list_all, list_any, slice_get}
+use Rattle.c62_listing_reader.proofs.Common.{option_to_list, bytes_eq, All-tail, list_all-append, none-some, spelling}
+use Rattle.c62_listing_reader.proofs.Common.{Says, Nothing, Pause, is_label, label_field, Name, is_among, label_is}
+use Rattle.c62_listing_reader.proofs.Common.{label_back, Placed, Packed, packet_labels, pause_line, idle_lines}
+use Rattle.c62_listing_reader.proofs.Common.{cycle_lines, label_lines, block_lines, parted_lines, all_lines, Front}
+use Rattle.c62_listing_reader.proofs.Common.{First, Beside, is_empty, named, names_in, labels_of, number_of}
 use Rattle.c62_listing_reader.proofs.Common.{bytes_eq-Decides}
 use Rattle.std.specs.List.{IsDistinct}
-use Rattle.std.proofs.lemmas.Bool.{leb-true}
-use Rattle.std.proofs.lemmas.Fmt.{decimal_digit}
-use Rattle.std.proofs.lemmas.Grind.{flat_map-append}
 use Rattle.c62_listing.specs.Listing.{placed_lines}
-use Rattle.c62_listing_reader.proofs.ListedLemmas.{rest_line}
-use Rattle.c62_listing_reader.proofs.ToldLemmas.{empty_field}
-use Rattle.c62_listing_reader.proofs.UntoldLemmas.{IsPlain, are_allowed, beside_plain, first_plain, line_read, pause_plain}
-use Rattle.c62_listing_reader.proofs.BackLemmas.{AreBehind, IsWritable}
+use Rattle.c62_listing_reader.proofs.DraftLines.{rest_line}
+use Rattle.c62_listing_reader.proofs.ToldLines.{empty_field}
+use Rattle.c62_listing_reader.proofs.UntoldLemmas.{IsPlain, are_allowed, beside_plain, first_plain, line_read}
+use Rattle.c62_listing_reader.proofs.UntoldLemmas.{pause_plain}
+use Rattle.c62_listing_reader.proofs.BackLemmas.{IsWritable}
 use Rattle.c62_listing_reader.proofs.BlocksLemmas.{HasLines, is_line, IsSmall}
 use Rattle.c62_line.specs.Laws.{says_on}
 use Rattle.c62_listing_reader.proofs.NamedLemmas.{at_seam}
-use Rattle.c62_read.specs.declared.limits.TheConstants.{MOST_BLOCKS}
 
 -- ---- the lines of a block but its label
 
@@ -31,25 +30,40 @@ plain_by bytes front says is = grind (arith, nat_tests)
 
 nines_plain : (nines : ℕ) → list_all is_plain (replicate nines (pause_line 9)) ≡ true
 nines_plain zero = refl
-nines_plain (suc nines) = grind (arith, plain_by (pause_line 9) First (Pause 9) (pause_plain 9 (omega arith) (omega arith)), nines_plain nines)
+nines_plain (suc nines) = grind
+    (arith, plain_by (pause_line 9) First (Pause 9) (pause_plain 9 (omega arith) (omega arith)), nines_plain nines)
 
 rest_plain : (rest : ℕ) → rest < 9 → list_all is_plain (rest_line rest) ≡ true
 rest_plain rest small =
-    grind (arith, nat_tests, λ (some : 1 ≤ rest). plain_by (pause_line rest) First (Pause rest) (pause_plain rest some (omega (arith, small))))
+    grind (
+      arith,
+      nat_tests,
+      λ (some : 1 ≤ rest). plain_by (pause_line rest) First (Pause rest)
+          (pause_plain rest some (omega (arith, small))),
+    )
 
 idle_plain : (idle : ℕ) → list_all is_plain (idle_lines idle) ≡ true
-idle_plain idle = grind (arith, list_all-append is_plain (replicate (idle / 9) (pause_line 9)), nines_plain (idle / 9), rest_plain (idle % 9))
+idle_plain idle = grind (
+  arith,
+  list_all-append is_plain (replicate (idle / 9) (pause_line 9)),
+  nines_plain (idle / 9),
+  rest_plain
+      (idle % 9),
+)
 
 placed_by : (name : ℕ → List ℕ) (b : Bool) (idle : ℕ) (p : Placed) → IsWritable name p → list_all is_plain
-    (if b then (codes "|| " ++ spelling name p.insn p.unit) ∷ [] else idle_lines idle ++ (codes "   " ++ spelling name p.insn p.unit) ∷ []) ≡ true
+    (if b then (codes "|| " ++ spelling name p.insn p.unit) ∷ [] else idle_lines idle ++
+    (codes "   " ++ spelling name p.insn p.unit) ∷ []) ≡ true
 placed_by name b idle p is =
     grind (
       arith,
       nat_tests,
       list_all-append is_plain (idle_lines idle),
       idle_plain idle,
-      plain_by (codes "|| " ++ spelling name p.insn p.unit) Beside (says_on name p.insn p.unit) (beside_plain name p.insn p.unit is.taking is.names),
-      plain_by (codes "   " ++ spelling name p.insn p.unit) First (says_on name p.insn p.unit) (first_plain name p.insn p.unit is.taking is.names),
+      plain_by (codes "|| " ++ spelling name p.insn p.unit) Beside (says_on name p.insn p.unit)
+          (beside_plain name p.insn p.unit is.taking is.names),
+      plain_by (codes "   " ++ spelling name p.insn p.unit) First (says_on name p.insn p.unit)
+          (first_plain name p.insn p.unit is.taking is.names),
     )
 
 cycles_plain : (name : ℕ → List ℕ) (next cycles : ℕ) (placed : List Placed) → All (IsWritable name) placed
@@ -75,7 +89,8 @@ label_line label is =
     let read = line_read (label ++ codes ":") (Some label) Nothing (label_back label is).0 in
     grind (arith, nat_tests, read.allowed, filled_label label)
 
-some_cycles : (name : ℕ → List ℕ) (cycles : ℕ) (placed : List Placed) → 0 < length placed → 0 < length (cycle_lines name 0 cycles placed)
+some_cycles : (name : ℕ → List ℕ) (cycles : ℕ) (placed : List Placed) → 0 < length placed
+    → 0 < length (cycle_lines name 0 cycles placed)
 some_cycles name cycles [] some = absurd (omega (arith, some))
 some_cycles name cycles (p ∷ placed) some = grind (arith, nat_tests, length-append {A = List ℕ})
 
@@ -98,20 +113,33 @@ pub all_allowed : (name : ℕ → List ℕ) (packets : List Packed) → AllByRec
     → list_all are_allowed (all_lines name packets) ≡ true
 all_allowed name [] has = refl
 all_allowed name (block ∷ packets) has =
-    grind (arith, list_all-append are_allowed (block_lines name block), allowed (block_lines name block) has.0.lines, parted packets has.1)
+    grind (
+      arith,
+      list_all-append are_allowed (block_lines name block),
+      allowed (block_lines name block) has.0.lines,
+      parted packets has.1,
+    )
   where
     allowed : (lines : List (List ℕ)) → list_all is_line lines ≡ true → list_all are_allowed lines ≡ true
     allowed [] all = refl
     allowed (bytes ∷ lines) all = grind (arith, nat_tests, allowed lines)
 
-    parted : (blocks : List Packed) → AllByRecursion (HasLines name) blocks → list_all are_allowed (parted_lines name blocks) ≡ true
+    parted : (blocks : List Packed) → AllByRecursion (HasLines name) blocks
+        → list_all are_allowed (parted_lines name blocks) ≡ true
     parted [] has = refl
     parted (b ∷ blocks) has =
-        grind (arith, list_all-append are_allowed (block_lines name b), allowed (block_lines name b) has.0.lines, parted blocks has.1)
+        grind (
+          arith,
+          list_all-append are_allowed (block_lines name b),
+          allowed (block_lines name b) has.0.lines,
+          parted
+              blocks has.1,
+        )
 
 -- ---- their labels
 
-plain_names : (number : ℕ) (lines more : List (List ℕ)) → list_all is_plain lines ≡ true → names_in number (lines ++ more) ≡ names_in number more
+plain_names : (number : ℕ) (lines more : List (List ℕ)) → list_all is_plain lines ≡ true
+    → names_in number (lines ++ more) ≡ names_in number more
 plain_names number [] more all = refl
 plain_names number (bytes ∷ lines) more all = grind (arith, nat_tests, plain_names number lines more)
 
@@ -120,7 +148,8 @@ pub names_from : ℕ → List (Option Name) → List (Name × ℕ)
 names_from number [] = []
 names_from number (label ∷ labels) = named label number ++ names_from (number + 1) labels
 
-label_names : (number : ℕ) (label : Option Name) (more : List (List ℕ)) → ((l : Name) → label ≡ Some l → is_label l ≡ true)
+label_names : (number : ℕ) (label : Option Name) (more : List (List ℕ))
+    → ((l : Name) → label ≡ Some l → is_label l ≡ true)
     → names_in number (label_lines label ++ more) ≡ named label number ++ names_in number more
 label_names number None more is = refl
 label_names number (Some label) more is = rw ((label_back label (is label refl)).1, filled_label label) refl
@@ -140,20 +169,27 @@ parted_names : (name : ℕ → List ℕ) (number : ℕ) (blocks : List Packed) �
 unfolding names_from
 parted_names name number [] are = refl
 parted_names name number (block ∷ blocks) are =
-    rw (empty_field, block_names name (number + 1) block (parted_lines name blocks) are.0, parted_names name (number + 1) blocks are.1) refl
+    rw (
+      empty_field,
+      block_names name (number + 1) block (parted_lines name blocks) are.0,
+      parted_names name
+          (number + 1) blocks are.1,
+    ) refl
 
 pub all_names : (name : ℕ → List ℕ) (packets : List Packed) → AllByRecursion (IsSmall name) packets
     → names_in 0 (all_lines name packets) ≡ names_from 0 (packet_labels packets)
 unfolding names_from
 all_names name [] are = refl
-all_names name (block ∷ packets) are = rw (block_names name 0 block (parted_lines name packets) are.0, parted_names name 0 packets are.1) refl
+all_names name (block ∷ packets) are = rw
+    (block_names name 0 block (parted_lines name packets) are.0, parted_names name 0 packets are.1) refl
 
 -- ---- the number of a label
 
 abbrev pub given : List (Option Name) → List Name
 given labels = flat_map option_to_list labels
 
-pub member_at : (P : Name → Type 0) (labels : List (Option Name)) (k : ℕ) (label : Name) → slice_get labels k ≡ Some (Some label)
+pub member_at : (P : Name → Type 0) (labels : List (Option Name)) (k : ℕ) (label : Name)
+    → slice_get labels k ≡ Some (Some label)
     → AllByRecursion P (given labels) → P label
 member_at P [] k label at all = absurd (none-some (Some label) at)
 member_at P (None ∷ labels) zero label at all = absurd cc
@@ -179,12 +215,14 @@ numbered (None ∷ labels) start (suc k) label distinct at =
     let others = numbered labels (start + 1) k label distinct at in
     record { known = others.known; number = grind (arith, others.number) }
 numbered (Some other ∷ labels) start (suc k) label distinct at =
-    let apart : bytes_eq other label ≡ false = member_at (λ (y : Name). bytes_eq other y ≡ false) labels k label at distinct.0 in
+    let apart : bytes_eq other label ≡ false = member_at (λ (y : Name). bytes_eq other y ≡ false) labels k label at
+    distinct.0 in
     let others = numbered labels (start + 1) k label distinct.1 at in
     record { known = grind (arith, nat_tests, others.known); number = grind (arith, nat_tests, others.number) }
 
 -- a label is none of those before it
-pub before_free : (labels more : List (Option Name)) (label : Name) → IsDistinct bytes_eq (given (labels ++ Some label ∷ more))
+pub before_free : (labels more : List (Option Name)) (label : Name)
+    → IsDistinct bytes_eq (given (labels ++ Some label ∷ more))
     → list_any (label_is label) labels ≡ false
 unfolding IsDistinct
 before_free [] more label distinct = refl
@@ -194,124 +232,3 @@ before_free (Some other ∷ labels) more label distinct =
     member_at (λ (y : Name). bytes_eq other y ≡ false) (labels ++ Some label ∷ more) (length labels) label
     (at_seam labels (Some label) more) distinct.0 in
     grind (arith, nat_tests, apart, before_free labels more label distinct.1)
-
--- ---- their bytes
-
-abbrev text_length : List (List ℕ) → ℕ
-text_length lines = length (text_of lines)
-
-text_both : (lines more : List (List ℕ)) → text_length (lines ++ more) ≡ text_length lines + text_length more
-text_both lines more =
-    ap length (flat_map-append (λ (line : List ℕ). line ++ codes "\n") lines more) ∙ length-append (text_of lines) (text_of more)
-
-text_one : (bytes : List ℕ) → text_length (bytes ∷ []) ≡ length bytes + 1
-text_one bytes = ap length (append-nil (bytes ++ codes "\n")) ∙ length-append bytes (codes "\n")
-
-text_first : (bytes : List ℕ) (lines : List (List ℕ)) → text_length (bytes ∷ lines) ≡ length bytes + 1 + text_length lines
-text_first bytes lines = omega (arith, text_both (bytes ∷ []) lines, text_one bytes)
-
-pause_length : (n : ℕ) → n < 10 → length (pause_line n) ≡ 8
-pause_length n small = ap (λ (digits : List ℕ). length (codes "   NOP " ++ digits)) (decimal_digit n small)
-
-nines_length : (nines : ℕ) → text_length (replicate nines (pause_line 9)) ≤ 9 * nines
-nines_length zero = omega arith
-nines_length (suc nines) =
-    omega (arith, text_first (pause_line 9) (replicate nines (pause_line 9)), pause_length 9 (omega arith), nines_length nines)
-
-rest_length : (rest : ℕ) → rest < 9 → text_length (rest_line rest) ≤ 9 * rest
-rest_length rest small = grind (arith, nat_tests, text_one (pause_line rest), pause_length rest)
-
-idle_length : (idle : ℕ) → text_length (idle_lines idle) ≤ 9 * idle
-idle_length idle =
-    omega (
-      arith,
-      text_both (replicate (idle / 9) (pause_line 9)) (rest_line (idle % 9)),
-      nines_length (idle / 9),
-      rest_length (idle % 9) (omega arith),
-    )
-
-insn_length : (name : ℕ → List ℕ) (p : Placed) → IsWritable name p → length (spelling name p.insn p.unit) ≤ 252
-insn_length name p is =
-    let first = first_plain name p.insn p.unit is.taking is.names in
-    omega (arith, first.fits, length-append (codes "   ") (spelling name p.insn p.unit))
-
-placed_length : (name : ℕ → List ℕ) (b : Bool) (idle : ℕ) (p : Placed) → IsWritable name p → text_length
-    (if b then (codes "|| " ++ spelling name p.insn p.unit) ∷ [] else idle_lines idle ++ (codes "   " ++ spelling name p.insn p.unit) ∷ []) ≤ 256 +
-    (if b then 0 else 9 * idle)
-placed_length name b idle p is =
-    let line : List ℕ → List ℕ = λ start. start ++ spelling name p.insn p.unit in
-    grind (
-      arith,
-      nat_tests,
-      text_both (idle_lines idle),
-      idle_length idle,
-      text_one,
-      length-append (codes "|| "),
-      length-append (codes "   "),
-      insn_length name p is,
-    )
-
-cycles_length : (name : ℕ → List ℕ) (q : Placed) (cycles : ℕ) (placed : List Placed) → All (IsWritable name) placed → AreBehind q placed
-    → All (λ p. p.cycle + 1 ≤ cycles) placed
-    → q.cycle + 1 ≤ cycles → text_length (cycle_lines name (q.cycle + 1) cycles placed) ≤ 256 * length placed + 9 * (cycles - (q.cycle + 1))
-unfolding AreBehind
-cycles_length name q cycles [] are order within low = omega (arith, idle_length (cycles - (q.cycle + 1)))
-cycles_length name q cycles (p ∷ placed) are order within low =
-    let here : p.cycle + 1 ≤ cycles = within 0 p (omega arith) in
-    let rest = cycles_length name p cycles placed (All-tail (IsWritable name) p placed are) order.1
-    (All-tail (λ (r : Placed). r.cycle + 1 ≤ cycles) p placed within) here in
-    let both = text_both (placed_lines name (q.cycle + 1) p) (cycle_lines name (p.cycle + 1) cycles placed) in
-    let rises : q.cycle ≤ p.cycle = omega (arith, order.0, index_of-below q.unit, index_of-below p.unit) in
-    let first = placed_length name (nat_lt p.cycle (q.cycle + 1)) (p.cycle - (q.cycle + 1)) p (are 0 p (omega arith)) in
-    grind (arith, nat_tests, first, rest, both)
-
-start_length : (name : ℕ → List ℕ) (cycles : ℕ) (placed : List Placed) → All (IsWritable name) placed
-    → ((p : Placed) (rest : List Placed) → placed ≡ p ∷ rest → AreBehind p rest)
-    → All (λ p. p.cycle + 1 ≤ cycles) placed → text_length (cycle_lines name 0 cycles placed) ≤ 256 * length placed + 9 * cycles
-start_length name cycles [] are order within = omega (arith, idle_length (cycles - 0))
-start_length name cycles (p ∷ placed) are order within =
-    let here : p.cycle + 1 ≤ cycles = within 0 p (omega arith) in
-    let rest = cycles_length name p cycles placed (All-tail (IsWritable name) p placed are) (order p placed refl)
-    (All-tail (λ (r : Placed). r.cycle + 1 ≤ cycles) p placed within) here in
-    grind (
-      arith,
-      nat_tests,
-      placed_length name (nat_lt p.cycle 0) (p.cycle - 0) p (are 0 p (omega arith)),
-      rest,
-      text_both (placed_lines name 0 p) (cycle_lines name (p.cycle + 1) cycles placed),
-    )
-
-label_length : (label : Option Name) → ((l : Name) → label ≡ Some l → is_label l ≡ true) → text_length (label_lines label) ≤ 34
-label_length None is = omega arith
-label_length (Some label) is =
-    omega (arith, text_one (label ++ codes ":"), length-append label (codes ":"), leb-true (length label) 32 (label_parts label (is label refl)).2)
-
-block_length : (name : ℕ → List ℕ) (block : Packed) → IsSmall name block → text_length (block_lines name block) ≤ 84002
-block_length name block is =
-    let label = label_length block.label is.label in
-    let start = start_length name block.cycles block.placed is.writable is.order is.within in
-    omega (arith, text_both (label_lines block.label) (cycle_lines name 0 block.cycles block.placed), label, start, is.few, is.short)
-
-parted_length : (name : ℕ → List ℕ) (blocks : List Packed) → AllByRecursion (IsSmall name) blocks
-    → text_length (parted_lines name blocks) ≤ 84003 * length blocks
-parted_length name [] are = omega arith
-parted_length name (block ∷ blocks) are =
-    omega (
-      arith,
-      text_first [] (block_lines name block ++ parted_lines name blocks),
-      text_both (block_lines name block) (parted_lines name blocks),
-      block_length name block are.0,
-      parted_length name blocks are.1,
-    )
-
-pub all_length : (name : ℕ → List ℕ) (packets : List Packed) → length packets ≤ MOST_BLOCKS → AllByRecursion (IsSmall name) packets
-    → length (text_of (all_lines name packets)) ≤ 8388608
-all_length name [] few are = omega arith
-all_length name (block ∷ packets) few are =
-    omega (
-      arith,
-      text_both (block_lines name block) (parted_lines name packets),
-      block_length name block are.0,
-      parted_length name packets are.1,
-      few,
-    )

@@ -1,11 +1,18 @@
 -- A listing is read back.
-use Rattle.c62_listing_reader.proofs.Common.{arith, ◌≡◌, ℕ, suc, ◌+◌, ◌<◌, ◌≤◌, List, [], ◌∷◌, ◌++◌, length, map, Option, Some, None, true, false}
-use Rattle.c62_listing_reader.proofs.Common.{refl, sym, ap, ◌∙◌, subst, append_assoc, append-nil, nat_lt, All, IsTrue, Ok, AllByRecursion, IsDistinct}
-use Rattle.c62_listing_reader.proofs.Common.{list_all, list_any, slice_get, IsNonDecreasingBy, bytes_eq, and_parts, false≢true, le-ltb, length-map}
-use Rattle.c62_listing_reader.proofs.Common.{map-append, All-cons, All-nil, All-tail, none-some, slice_get_within, Operands, Block, op_of}
-use Rattle.c62_listing_reader.proofs.Common.{operands_of, unit_of, landing_end, takes, is_labelled, target_stands, is_label, Name, is_among, label_is}
-use Rattle.c62_listing_reader.proofs.Common.{Placed, Packed, IsPacketBlock, issue_of, listing_position, packet_labels, all_lines, label_text, listing}
-use Rattle.c62_listing_reader.proofs.Common.{name_in, Start, Line, content, lines_in, aim_by, all_drafts, labels_of, names_in, no_drafts, number_of}
+use Rattle.c62_listing_reader.proofs.Common.{arith, ◌≡◌, ℕ, suc, ◌+◌, ◌<◌, ◌≤◌, List, [], ◌∷◌, ◌++◌, length, map}
+use Rattle.c62_listing_reader.proofs.Common.{Option, Some, None, true, false}
+use Rattle.c62_listing_reader.proofs.Common.{refl, sym, ap, ◌∙◌, subst, append_assoc, append-nil, nat_lt, All, IsTrue}
+use Rattle.c62_listing_reader.proofs.Common.{Ok, AllByRecursion, IsDistinct}
+use Rattle.c62_listing_reader.proofs.Common.{list_all, list_any, slice_get, IsNonDecreasingBy, bytes_eq, and_parts}
+use Rattle.c62_listing_reader.proofs.Common.{false≢true, le-ltb, length-map}
+use Rattle.c62_listing_reader.proofs.Common.{map-append, All-cons, All-nil, All-tail, none-some, slice_get_within}
+use Rattle.c62_listing_reader.proofs.Common.{Operands, Block, op_of}
+use Rattle.c62_listing_reader.proofs.Common.{operands_of, unit_of, landing_end, takes, is_labelled, target_stands}
+use Rattle.c62_listing_reader.proofs.Common.{is_label, Name, is_among, label_is}
+use Rattle.c62_listing_reader.proofs.Common.{Placed, Packed, IsPacketBlock, issue_of, listing_position, packet_labels}
+use Rattle.c62_listing_reader.proofs.Common.{all_lines, label_text, listing}
+use Rattle.c62_listing_reader.proofs.Common.{name_in, Start, Line, content, lines_in, aim_by, all_drafts, labels_of}
+use Rattle.c62_listing_reader.proofs.Common.{names_in, no_drafts, number_of}
 use Rattle.c62_listing_reader.proofs.Common.{contents, drafts_in, IsRead, most_bytes, read_lines, AreAlike}
 use Rattle.std.proofs.lemmas.Bool.{not-false}
 use Rattle.c62_insn.specs.Fault.{no_unit}
@@ -14,7 +21,9 @@ use Rattle.c62_listing_reader.specs.Laws.{AreShown, IsReadBack}
 use Rattle.c62_listing_reader.proofs.AlikeLemmas.{made}
 use Rattle.c62_listing_reader.proofs.BackLemmas.{AreBehind, IsSayable, IsWritable}
 use Rattle.c62_listing_reader.proofs.BlocksLemmas.{AllGood, HasLines, all_lead, IsSmall}
-use Rattle.c62_listing_reader.proofs.LinesLemmas.{IsNumbered, all_allowed, all_length, all_names, before_free, given, has_lines, member_at}
+use Rattle.c62_listing_reader.proofs.LinesLemmas.{IsNumbered, all_allowed, all_names, before_free, given}
+use Rattle.c62_listing_reader.proofs.TextLengths.{all_length}
+use Rattle.c62_listing_reader.proofs.LinesLemmas.{has_lines, member_at}
 use Rattle.c62_listing_reader.proofs.LinesLemmas.{names_from, numbered}
 use Rattle.c62_listing_reader.proofs.ReadLemmas.{is_done}
 use Rattle.c62_listing_reader.proofs.TextLemmas.{fed}
@@ -27,22 +36,26 @@ unit_taking : (p : Placed) → unit_of p.insn ≡ Some p.unit → takes (op_of p
 unit_taking p written =
     let none : no_unit (op_of p.insn) (operands_of p.insn) (unit_of p.insn) ≡ false =
     (faultless p.insn.op p.insn.operands p.insn.cond p.insn.unit p.insn.well_formed).taken in
-    not-false (takes (op_of p.insn) (operands_of p.insn) p.unit) (ap (no_unit (op_of p.insn) (operands_of p.insn)) (sym written) ∙ none)
+    not-false (takes (op_of p.insn) (operands_of p.insn) p.unit)
+    (ap (no_unit (op_of p.insn) (operands_of p.insn)) (sym written) ∙ none)
 
 -- a branch goes to a block with a label
 pub record HasTarget (labels : List (Option Name)) (number : ℕ) : Type 0 where
   pub label : Name
   pub at : slice_get labels number ≡ Some (Some label)
 
-target_by : (labels : List (Option Name)) (number : ℕ) (found : Option (Option Name)) → slice_get labels number ≡ found → is_labelled found ≡ true
+target_by : (labels : List (Option Name)) (number : ℕ) (found : Option (Option Name)) → slice_get labels number ≡ found
+    → is_labelled found ≡ true
     → HasTarget labels number
 target_by labels number None at is = absurd (false≢true is)
 target_by labels number (Some None) at is = absurd (false≢true is)
 target_by labels number (Some (Some label)) at is = record { label = label; at = at }
 
-pub has_target : (labels : List (Option Name)) (operands : Operands) (number : ℕ) → target_stands labels operands ≡ true → operands ≡ Block number
+pub has_target : (labels : List (Option Name)) (operands : Operands) (number : ℕ) → target_stands labels operands ≡ true
+    → operands ≡ Block number
     → HasTarget labels number
-has_target labels operands number stands is = target_by labels number (slice_get labels number) refl (ap (target_stands labels) (sym is) ∙ stands)
+has_target labels operands number stands is = target_by labels number (slice_get labels number) refl
+    (ap (target_stands labels) (sym is) ∙ stands)
 
 module _ (packets : List Packed) (shown : AreShown packets) where
   abbrev labels : List (Option Name)
@@ -59,7 +72,8 @@ module _ (packets : List Packed) (shown : AreShown packets) where
 
   good_name : (number : ℕ) → HasTarget labels number → is_label (name number) ≡ true
   good_name number target =
-      ap is_label (named_so number target) ∙ member_at (λ (label : Name). IsTrue (is_label label)) labels number target.label target.at shown.labels
+      ap is_label (named_so number target)
+      ∙ member_at (λ (label : Name). IsTrue (is_label label)) labels number target.label target.at shown.labels
 
   numbered_so : (number : ℕ) (target : HasTarget labels number) → IsNumbered names target.label (0 + number)
   numbered_so number target = numbered labels 0 number target.label shown.distinct target.at
@@ -69,12 +83,14 @@ module _ (packets : List Packed) (shown : AreShown packets) where
 
   aimed_so : (number : ℕ) → HasTarget labels number → aim_by names (name number) ≡ number
   aimed_so number target =
-      let found : number_of names (name number) ≡ 0 + number = ap (number_of names) (named_so number target) ∙ (numbered_so number target).number in
+      let found : number_of names (name number) ≡ 0 + number = ap (number_of names) (named_so number target)
+      ∙ (numbered_so number target).number in
       let near : number < length labels = slice_get_within labels number (Some target.label) target.at in
       let few = shown.few in
       omega (arith, found, near, few, length-map packets (λ (block : Packed). block.label))
 
-  writable : (p : Placed) → unit_of p.insn ≡ Some p.unit → target_stands labels (operands_of p.insn) ≡ true → IsWritable name p
+  writable : (p : Placed) → unit_of p.insn ≡ Some p.unit → target_stands labels (operands_of p.insn) ≡ true
+      → IsWritable name p
   writable p written stands = record {
     taking = unit_taking p written;
     names = λ number is. good_name number (has_target labels (operands_of p.insn) number stands is);
@@ -89,13 +105,16 @@ module _ (packets : List Packed) (shown : AreShown packets) where
     aimed = λ number is. aimed_so number (has_target labels (operands_of p.insn) number stands is);
   }
 
-  pub all_placed : (P : Placed → Type 0) → ((p : Placed) → unit_of p.insn ≡ Some p.unit → target_stands labels (operands_of p.insn) ≡ true → P p)
+  pub all_placed : (P : Placed → Type 0)
+      → ((p : Placed) → unit_of p.insn ≡ Some p.unit → target_stands labels (operands_of p.insn) ≡ true → P p)
       → (placed : List Placed)
-      → All (λ p. unit_of p.insn ≡ Some p.unit) placed → list_all (λ p. target_stands labels (operands_of p.insn)) placed ≡ true → All P placed
+      → All (λ p. unit_of p.insn ≡ Some p.unit) placed
+      → list_all (λ p. target_stands labels (operands_of p.insn)) placed ≡ true → All P placed
   all_placed P each [] written stand = All-nil P
   all_placed P each (p ∷ placed) written stand =
       let parts =
-      and_parts (target_stands labels (operands_of p.insn)) (list_all (λ (q : Placed). target_stands labels (operands_of q.insn)) placed) stand in
+      and_parts (target_stands labels (operands_of p.insn))
+      (list_all (λ (q : Placed). target_stands labels (operands_of q.insn)) placed) stand in
       let here : unit_of p.insn ≡ Some p.unit = written 0 p (omega arith) in
       All-cons P p placed (each p here parts.0)
       (all_placed P each placed (All-tail (λ (q : Placed). unit_of q.insn ≡ Some q.unit) p placed written) parts.1)
@@ -107,7 +126,8 @@ module _ (packets : List Packed) (shown : AreShown packets) where
     pub label : (l : Name) → block.label ≡ Some l → is_label l ≡ true
     pub begun : block.label ≡ None → 0 < length block.placed
 
-  label_by : (label : Option Name) (more : List (Option Name)) → AllByRecursion (λ l. IsTrue (is_label l)) (given (label ∷ more))
+  label_by : (label : Option Name) (more : List (Option Name))
+      → AllByRecursion (λ l. IsTrue (is_label l)) (given (label ∷ more))
       → ((l : Name) → label ≡ Some l → is_label l ≡ true) × AllByRecursion (λ l. IsTrue (is_label l)) (given more)
   label_by None more all = (λ l is. absurd (none-some l is), all)
   label_by (Some label) more all = (λ l is. grind (arith, all.0), all.1)
@@ -119,13 +139,15 @@ module _ (packets : List Packed) (shown : AreShown packets) where
       → AllByRecursion IsFit blocks
   fit [] are stand good begun = tt
   fit (block ∷ blocks) are stand good begun =
-      let parts = and_parts (list_all (λ (p : Placed). target_stands labels (operands_of p.insn)) block.placed) _ stand in
+      let parts = and_parts (list_all (λ (p : Placed). target_stands labels (operands_of p.insn)) block.placed) _ stand
+      in
       let both = label_by block.label (packet_labels blocks) good in (
         record { is = are 0 block (omega arith); stand = parts.0; label = both.0; begun = begun.0 },
         fit blocks (All-tail IsPacketBlock block blocks are) parts.1 both.1 begun.1,
       )
 
-  pub each : (P : Packed → Type 0) → ((block : Packed) → IsFit block → P block) → (blocks : List Packed) → AllByRecursion IsFit blocks
+  pub each : (P : Packed → Type 0) → ((block : Packed) → IsFit block → P block) → (blocks : List Packed)
+      → AllByRecursion IsFit blocks
       → AllByRecursion P blocks
   each P all [] are = tt
   each P all (block ∷ blocks) are = (all block are.0, each P all blocks are.1)
@@ -137,12 +159,15 @@ module _ (packets : List Packed) (shown : AreShown packets) where
       let first : listing_position q ≤ listing_position p = up 0 1 q (omega arith) (omega arith) in
       (first, behind_by p placed (λ i j d le within. up (suc i) (suc j) d (omega (arith, le)) (omega (arith, within))))
 
-  pub order_by : (all : List Placed) → IsNonDecreasingBy listing_position all → (p : Placed) (rest : List Placed) → all ≡ p ∷ rest → AreBehind p rest
+  pub order_by : (all : List Placed) → IsNonDecreasingBy listing_position all → (p : Placed) (rest : List Placed)
+      → all ≡ p ∷ rest → AreBehind p rest
   order_by all up p rest is = behind_by p rest (rw is at up)
 
-  within_by : (cycles : ℕ) (placed : List Placed) → All (λ p. landing_end (issue_of p) ≤ cycles) placed → All (λ p. p.cycle + 1 ≤ cycles) placed
+  within_by : (cycles : ℕ) (placed : List Placed) → All (λ p. landing_end (issue_of p) ≤ cycles) placed
+      → All (λ p. p.cycle + 1 ≤ cycles) placed
   within_by cycles placed all =
-      All-weaker (λ (p : Placed). landing_end (issue_of p) ≤ cycles) (λ (p : Placed). p.cycle + 1 ≤ cycles) (λ p le. omega (arith, le)) placed all
+      All-weaker (λ (p : Placed). landing_end (issue_of p) ≤ cycles) (λ (p : Placed). p.cycle + 1 ≤ cycles)
+      (λ p le. omega (arith, le)) placed all
 
   pub all_writable : (block : Packed) → IsFit block → All (IsWritable name) block.placed
   all_writable block is = all_placed (IsWritable name) writable block.placed is.is.as_written is.stand
@@ -165,17 +190,20 @@ module _ (packets : List Packed) (shown : AreShown packets) where
   any_label label [] = refl
   any_label label (block ∷ passed) = grind (arith, any_label label passed)
 
-  pub free_by : (passed rest : List Packed) (block : Packed) (label : Name) → IsDistinct bytes_eq (given (packet_labels (passed ++ block ∷ rest)))
+  pub free_by : (passed rest : List Packed) (block : Packed) (label : Name)
+      → IsDistinct bytes_eq (given (packet_labels (passed ++ block ∷ rest)))
       → block.label ≡ Some label
       → list_any (λ other. label_is label other.label) passed ≡ false
   free_by passed rest block label distinct is =
       let all : packet_labels (passed ++ block ∷ rest) ≡ packet_labels passed ++ Some label ∷ packet_labels rest =
-      map-append (λ (b : Packed). b.label) passed (block ∷ rest) ∙ ap (λ (l : Option Name). packet_labels passed ++ l ∷ packet_labels rest) is in
+      map-append (λ (b : Packed). b.label) passed (block ∷ rest)
+      ∙ ap (λ (l : Option Name). packet_labels passed ++ l ∷ packet_labels rest) is in
       any_label label passed
       ∙ before_free (packet_labels passed) (packet_labels rest) label
       (subst (λ (ls : List (Option Name)). IsDistinct bytes_eq (given ls)) all distinct)
 
-  good : (passed blocks : List Packed) → IsDistinct bytes_eq (given (packet_labels (passed ++ blocks))) → AllByRecursion IsFit blocks
+  good : (passed blocks : List Packed) → IsDistinct bytes_eq (given (packet_labels (passed ++ blocks)))
+      → AllByRecursion IsFit blocks
       → AllGood name (labels_of names) (aim_by names) passed blocks
   unfolding AllGood
   good passed [] distinct are = tt
@@ -184,10 +212,12 @@ module _ (packets : List Packed) (shown : AreShown packets) where
       small = small block are.0;
       free = λ label is. free_by passed blocks block label distinct is;
       begun = are.0.begun;
-      sayable = all_placed (IsSayable name (labels_of names) (aim_by names)) sayable block.placed are.0.is.as_written are.0.stand;
+      sayable = all_placed (IsSayable name (labels_of names) (aim_by names)) sayable block.placed are.0.is.as_written
+          are.0.stand;
     },
     good (passed ++ block ∷ []) blocks
-        (subst (λ (bs : List Packed). IsDistinct bytes_eq (given (packet_labels bs))) (sym (append_assoc passed (block ∷ []) blocks)) distinct) are.1,
+        (subst (λ (bs : List Packed). IsDistinct bytes_eq (given (packet_labels bs)))
+        (sym (append_assoc passed (block ∷ []) blocks)) distinct) are.1,
   )
 
   back : (others : List Packed) × IsRead (listing packets) others × AreAlike packets others
@@ -199,18 +229,26 @@ module _ (packets : List Packed) (shown : AreShown packets) where
       let allowed = all_allowed name packets has in
       let cut : lines_in text ≡ map fed lines = lines_back lines allowed in
       let same : contents text ≡ lines = ap (map content) cut ∙ contents_back lines allowed in
-      let told : names_in 0 (contents text) ≡ names = ap (names_in 0) same ∙ all_names name packets (each (IsSmall name) small packets fits) in
+      let told : names_in 0 (contents text) ≡ names = ap (names_in 0) same
+      ∙ all_names name packets (each (IsSmall name) small packets fits) in
       let short : nat_lt most_bytes (length text) ≡ false =
       le-ltb most_bytes (length text) (all_length name packets shown.few (each (IsSmall name) small packets fits)) in
-      let lead = all_lead name (labels_of names) (aim_by names) packets 1 [] shown.few (good [] packets shown.distinct fits) has in
+      let lead = all_lead name (labels_of names) (aim_by names) packets 1 [] shown.few
+      (good [] packets shown.distinct fits) has in
       let read : read_lines (labels_of names) (aim_by names) 1 no_drafts Start (map fed lines) ≡ Ok lead.final =
       ap (read_lines (labels_of names) (aim_by names) 1 no_drafts Start) (sym (append-nil (map fed lines))) ∙ lead.reads
       ∙ is_done (labels_of names) (aim_by names) lead.end [] lead.final lead.last refl in
       let said : drafts_in text ≡ Ok lead.final =
-      rw short (subst (λ (ns : List (Name × ℕ)). read_lines (labels_of ns) (aim_by ns) 1 no_drafts Start (lines_in text) ≡ Ok lead.final) (sym told)
-      (subst (λ (ls : List Line). read_lines (labels_of names) (aim_by names) 1 no_drafts Start ls ≡ Ok lead.final) (sym cut) read)) in
-      let made_of = made (all_drafts lead.final) packets lead.is shown.are_blocks in
-      (made_of.others, record { drafts = lead.final; said = said; blocks = made_of.same; are_blocks = made_of.are_blocks }, made_of.alike)
+      rw short (subst (λ (ns : List (Name × ℕ)). read_lines (labels_of ns) (aim_by ns) 1 no_drafts Start (lines_in text)
+      ≡ Ok lead.final) (sym told)
+      (subst (λ (ls : List Line). read_lines (labels_of names) (aim_by names) 1 no_drafts Start ls ≡ Ok lead.final)
+      (sym cut) read)) in
+      let made_of = made (all_drafts lead.final) packets lead.is shown.are_blocks in (
+        made_of.others,
+        record
+            { drafts = lead.final; said = said; blocks = made_of.same; are_blocks = made_of.are_blocks },
+        made_of.alike,
+      )
 
 pub read_back : (packets : List Packed) → IsReadBack packets
 read_back packets shown = back packets shown

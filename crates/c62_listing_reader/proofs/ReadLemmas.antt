@@ -1,39 +1,49 @@
 -- Reading line by line, and what it says of a text.
-use Rattle.c62_listing_reader.proofs.Common.{refl, arith, ◌≡◌, ℕ, ◌+◌, ◌≤◌, List, [], ◌∷◌, length, false, ◌∙◌, subst, nat_lt, Result, Ok, Err}
-use Rattle.c62_listing_reader.proofs.Common.{MatchResult, All, map, nat_tests, Name, Packed, IsPacketBlock, Above, Start, LineFault, ListFault, Line}
-use Rattle.c62_listing_reader.proofs.Common.{lines_in, Said, Draft, Drafts, no_drafts, all_drafts, with_said, above_next, names_in, labels_of, aim_by}
+use Rattle.c62_listing_reader.proofs.Common.{refl, arith, ◌≡◌, ℕ, ◌+◌, ◌≤◌, List, [], ◌∷◌, length, false, ◌∙◌, subst}
+use Rattle.c62_listing_reader.proofs.Common.{nat_lt, Result, Ok, Err}
+use Rattle.c62_listing_reader.proofs.Common.{MatchResult, All, map, nat_tests, Name, Packed, IsPacketBlock, Above}
+use Rattle.c62_listing_reader.proofs.Common.{Start, LineFault, ListFault, Line}
+use Rattle.c62_listing_reader.proofs.Common.{lines_in, Said, Draft, Drafts, no_drafts, all_drafts, with_said}
+use Rattle.c62_listing_reader.proofs.Common.{above_next, names_in, labels_of, aim_by}
 use Rattle.c62_listing_reader.proofs.Common.{Refusal, line_says, contents, drafts_in, draft_of, IsRead, Refuses}
-use Rattle.c62_listing_reader.specs.declared.fault.ListFault.TheVariants.{Read, Unlawful, NotDrained, TwoBranches, Shape, Memory}
+use Rattle.c62_listing_reader.specs.declared.fault.ListFault.TheVariants.{Read, Unlawful, NotDrained, TwoBranches}
+use Rattle.c62_listing_reader.specs.declared.fault.ListFault.TheVariants.{Shape, Memory}
 use Rattle.c62_listing_reader.specs.Faults.{read_lines}
 use Rattle.c62_listing_reader.specs.Reading.{RefusesBlocks}
+use Rattle.c62_listing_reader.specs.declared.reader.TheConstants.{MOST_BYTES}
 
-pub goes_on : (labels : List Name) (aim : Name → ℕ) (number : ℕ) (line : Line) (below lines : List Line) (drafts : Drafts) (above : Above)
+pub goes_on : (labels : List Name) (aim : Name
+    → ℕ) (number : ℕ) (line : Line) (below lines : List Line) (drafts : Drafts) (above : Above)
     (said : Said) → lines ≡ line ∷ below → line_says labels drafts above line below ≡ Ok said
     → read_lines labels aim (number + 1) (with_said aim number said drafts) (above_next said.front said.says) below
     ≡ read_lines labels aim number drafts above lines
 unfolding read_lines
 goes_on labels aim number line below lines drafts above said e says = rw (e, says) refl
 
-pub stops : (labels : List Name) (aim : Name → ℕ) (number : ℕ) (line : Line) (below lines : List Line) (drafts : Drafts) (above : Above)
+pub stops : (labels : List Name) (aim : Name
+    → ℕ) (number : ℕ) (line : Line) (below lines : List Line) (drafts : Drafts) (above : Above)
     (fault : LineFault) → lines ≡ line ∷ below → line_says labels drafts above line below ≡ Err fault
     → read_lines labels aim number drafts above lines ≡ Err (number, fault)
 unfolding read_lines
 stops labels aim number line below lines drafts above fault e says = rw (e, says) refl
 
-pub is_done : (labels : List Name) (aim : Name → ℕ) (number : ℕ) (lines : List Line) (drafts : Drafts) (above : Above) → lines ≡ []
+pub is_done : (labels : List Name) (aim : Name → ℕ) (number : ℕ) (lines : List Line) (drafts : Drafts) (above : Above)
+    → lines ≡ []
     → read_lines labels aim number drafts above lines ≡ Ok drafts
 unfolding read_lines
 is_done labels aim number lines drafts above e = rw e refl
 
 -- the answer for a text that is not too long is that of its lines
-pub of_lines : (text : List ℕ) (says : Result Drafts Refusal) → length text ≤ 8388608
-    → read_lines (labels_of (names_in 0 (contents text))) (aim_by (names_in 0 (contents text))) 1 no_drafts Start (lines_in text) ≡ says
+pub of_lines : (text : List ℕ) (says : Result Drafts Refusal) → length text ≤ MOST_BYTES
+    → read_lines (labels_of (names_in 0 (contents text))) (aim_by (names_in 0 (contents text))) 1 no_drafts Start
+    (lines_in text) ≡ says
     → drafts_in text ≡ says
 of_lines text says short read =
-    let test : nat_lt 8388608 (length text) ≡ false = grind (arith, nat_tests) in
+    let test : nat_lt MOST_BYTES (length text) ≡ false = grind (arith, nat_tests) in
     rw test read
 
-pub blocks_refused : (text : List ℕ) (drafts : Drafts) (fault : ListFault) → drafts_in text ≡ Ok drafts → RefusesBlocks (all_drafts drafts) fault
+pub blocks_refused : (text : List ℕ) (drafts : Drafts) (fault : ListFault) → drafts_in text ≡ Ok drafts
+    → RefusesBlocks (all_drafts drafts) fault
     → Refuses text fault
 blocks_refused text drafts (Read fault) said h = absurd h
 blocks_refused text drafts (Shape line) said h = absurd h
@@ -43,9 +53,18 @@ blocks_refused text drafts (NotDrained number) said h = record { drafts = drafts
 blocks_refused text drafts (TwoBranches number) said h = record { drafts = drafts; said = said; block = h }
 
 -- the answer for a text whose lines have no fault is that of its blocks
-pub of_blocks : (text : List ℕ) (drafts : Drafts) (done : List Draft) (r : Result (List Packed) ListFault) → drafts_in text ≡ Ok drafts
+pub of_blocks : (text : List ℕ) (drafts : Drafts) (done : List Draft) (r : Result (List Packed) ListFault)
+    → drafts_in text ≡ Ok drafts
     → done ≡ all_drafts drafts
-    → MatchResult r (λ packets. (map draft_of packets ≡ done) × All IsPacketBlock packets) (λ fault. RefusesBlocks done fault)
+    → MatchResult r (λ packets. (map draft_of packets ≡ done)
+    × All IsPacketBlock packets) (λ fault. RefusesBlocks done fault)
     → MatchResult r (λ packets. IsRead text packets) (λ fault. Refuses text fault)
-of_blocks text drafts done (Ok packets) said e h = record { drafts = drafts; said = said; blocks = h.0 ∙ e; are_blocks = h.1 }
-of_blocks text drafts done (Err fault) said e h = blocks_refused text drafts fault said (subst (λ (ds : List Draft). RefusesBlocks ds fault) e h)
+of_blocks text drafts done (Ok packets) said e h = record {
+  drafts = drafts;
+  said = said;
+  blocks = h.0
+      ∙ e;
+  are_blocks = h.1;
+}
+of_blocks text drafts done (Err fault) said e h = blocks_refused text drafts fault said
+    (subst (λ (ds : List Draft). RefusesBlocks ds fault) e h)

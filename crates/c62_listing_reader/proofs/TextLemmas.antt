@@ -1,6 +1,8 @@
 -- The first line of a text.
-use Rattle.c62_listing_reader.proofs.Common.{nat_tests, ◌≡◌, ◌<◌, ℕ, ◌+◌, true, false, not, List, [], ◌∷◌, ◌++◌, length, take, Some, None, refl, ap}
-use Rattle.c62_listing_reader.proofs.Common.{◌∙◌, arith, ◌&&◌, ◌||◌, list_any, is_line_feed, Line, lines_in, ends_in_return, begin_filled}
+use Rattle.c62_listing_reader.proofs.Common.{nat_tests, ◌≡◌, ◌<◌, ℕ, ◌+◌, true, false, not, List, [], ◌∷◌, ◌++◌, length}
+use Rattle.c62_listing_reader.proofs.Common.{take, Some, None, refl, ap}
+use Rattle.c62_listing_reader.proofs.Common.{◌∙◌, arith, ◌&&◌, ◌||◌, list_any, is_line_feed, Line, lines_in}
+use Rattle.c62_listing_reader.proofs.Common.{ends_in_return, begin_filled}
 use Rattle.std.proofs.Common.{eqb, drop}
 use Rattle.memchr.specs.Find.{IsFirstByte, is_byte}
 use Rattle.c62_read.proofs.FirstByte.{fed_at, not_fed}
@@ -23,7 +25,8 @@ before_feed [] rest none = refl
 before_feed (b ∷ line) rest none = grind (arith, nat_tests, before_feed line rest)
 
 -- at the end of the text they are the last line
-at_end : (b : ℕ) (line : List ℕ) → list_any is_line_feed (b ∷ line) ≡ false → lines_in (b ∷ line) ≡ record { bytes = b ∷ line; fed = false } ∷ []
+at_end : (b : ℕ) (line : List ℕ) → list_any is_line_feed (b ∷ line) ≡ false
+    → lines_in (b ∷ line) ≡ record { bytes = b ∷ line; fed = false } ∷ []
 at_end b [] none = grind (arith, nat_tests)
 at_end b (c ∷ line) none = grind (arith, nat_tests, at_end c line)
 
@@ -35,7 +38,8 @@ first_is text k found =
     let fed = fed_at text k found in
     ap lines_in fed.split ∙ before_feed (take k text) (drop (k + 1) text) fed.none
 
-pub only_is : (text : List ℕ) → 0 < length text → IsFirstByte (is_byte 10) text None → lines_in text ≡ record { bytes = text; fed = false } ∷ []
+pub only_is : (text : List ℕ) → 0 < length text → IsFirstByte (is_byte 10) text None
+    → lines_in text ≡ record { bytes = text; fed = false } ∷ []
 only_is [] some none = absurd (omega (arith, some))
 only_is (b ∷ text) some none = at_end b text (not_fed (b ∷ text) none)
 
@@ -44,5 +48,6 @@ only_is (b ∷ text) some none = at_end b text (not_fed (b ∷ text) none)
 pub begin_one : (b : ℕ) → begin_filled (lines_in (b ∷ [])) ≡ not (eqb b 10)
 begin_one b = grind (arith, nat_tests)
 
-pub begin_two : (b c : ℕ) (rest : List ℕ) → begin_filled (lines_in (b ∷ c ∷ rest)) ≡ (not (eqb b 10) && (not (eqb b 13) || not (eqb c 10)))
+pub begin_two : (b c : ℕ) (rest : List ℕ)
+    → begin_filled (lines_in (b ∷ c ∷ rest)) ≡ (not (eqb b 10) && (not (eqb b 13) || not (eqb c 10)))
 begin_two b c rest = grind (arith, nat_tests)

@@ -1,17 +1,25 @@
 -- Lines that are spelled as a listing spells them have no fault.
-use Rattle.c62_listing_reader.proofs.Common.{arith, ◌≡◌, ℕ, ◌≤◌, List, [], ◌∷◌, ◌++◌, length, map, Option, Some, None, Bool, true, false, not}
-use Rattle.c62_listing_reader.proofs.Common.{refl, ap, append_assoc, Ok, codes, list_all, list_any, and_parts, ltb-false, nat_tests, bytes_eq-Decides}
-use Rattle.c62_listing_reader.proofs.Common.{bytes_eq, FunctionalUnit, Insn, Operands, op_of, operands_of, spelling, takes, is_allowed}
-use Rattle.c62_listing_reader.proofs.Common.{is_line_feed, Says, Pause, line_of, label_field, Name, NamesTarget, parts_on, says_with, says_on}
-use Rattle.c62_listing_reader.proofs.Common.{field_is, head_read, pause_line, text_of, Front, First, Beside, Above, Line, lines_in, content}
-use Rattle.c62_listing_reader.proofs.Common.{ends_in_return, is_empty, is_ended, front_of, rest_of, Said, Drafts, parts_spelling, front_spelling}
+use Rattle.c62_listing_reader.proofs.Common.{arith, ◌≡◌, ℕ, ◌≤◌, List, [], ◌∷◌, ◌++◌, length, map, Option, Some, None}
+use Rattle.c62_listing_reader.proofs.Common.{Bool, true, false, not}
+use Rattle.c62_listing_reader.proofs.Common.{refl, ap, append_assoc, Ok, codes, list_all, list_any, and_parts}
+use Rattle.c62_listing_reader.proofs.Common.{ltb-false, nat_tests, bytes_eq-Decides}
+use Rattle.c62_listing_reader.proofs.Common.{bytes_eq, FunctionalUnit, Insn, Operands, op_of, operands_of, spelling}
+use Rattle.c62_listing_reader.proofs.Common.{takes, is_allowed}
+use Rattle.c62_listing_reader.proofs.Common.{is_line_feed, Says, Pause, line_of, label_field, Name, NamesTarget}
+use Rattle.c62_listing_reader.proofs.Common.{parts_on, says_with, says_on}
+use Rattle.c62_listing_reader.proofs.Common.{field_is, head_read, pause_line, text_of, Front, First, Beside, Above}
+use Rattle.c62_listing_reader.proofs.Common.{Line, lines_in, content}
+use Rattle.c62_listing_reader.proofs.Common.{ends_in_return, is_empty, is_ended, front_of, rest_of, Said, Drafts}
+use Rattle.c62_listing_reader.proofs.Common.{parts_spelling, front_spelling}
 use Rattle.c62_listing_reader.proofs.Common.{spelled_line, is_text}
 use Rattle.c62_line.proofs.SpelledLine.{spelled_back}
 use Rattle.c62_line.proofs.WrittenLines.{pause_back}
 use Rattle.c62_listing_reader.specs.Faults.{line_says}
-use Rattle.c62_listing_reader.proofs.ListedLemmas.{does_text, unreturned}
+use Rattle.c62_listing_reader.proofs.DraftLines.{does_text}
+use Rattle.c62_listing_reader.proofs.ListedLemmas.{unreturned}
 use Rattle.c62_listing_reader.proofs.TextLemmas.{before_feed, fed}
-use Rattle.c62_listing_reader.proofs.ToldLemmas.{IsTold, bars_field, line_parts}
+use Rattle.c62_listing_reader.proofs.ToldLemmas.{IsTold}
+use Rattle.c62_listing_reader.proofs.ToldLines.{bars_field, line_parts}
 use Rattle.c62_line.specs.declared.limits.TheConstants.{MOST_LINE}
 
 -- ---- the lines of a text that is made of lines
@@ -38,7 +46,11 @@ pub lines_back : (lines : List (List ℕ)) → list_all are_allowed lines ≡ tr
 lines_back [] all = refl
 lines_back (line ∷ lines) all =
     let parts = and_parts (are_allowed line) (list_all are_allowed lines) all in
-    rw (append_assoc line (codes "\n") (text_of lines), before_feed line (text_of lines) (no_feed line parts.0), lines_back lines parts.1) refl
+    rw (
+      append_assoc line (codes "\n") (text_of lines),
+      before_feed line (text_of lines) (no_feed line parts.0),
+      lines_back lines parts.1,
+    ) refl
 
 pub contents_back : (lines : List (List ℕ)) → list_all are_allowed lines ≡ true → map content (map fed lines) ≡ lines
 contents_back [] all = refl
@@ -60,11 +72,17 @@ pub record IsRead (line : List ℕ) (label : Option Name) : Type 0 where
   pub fits : length line ≤ MOST_LINE
   pub field : label_field line ≡ label
 
-pub line_read : (line : List ℕ) (label : Option Name) (says : Says) → line_of line ≡ Ok (label, says) → IsRead line label
+pub line_read : (line : List ℕ) (label : Option Name) (says : Says) → line_of line ≡ Ok (label, says)
+    → IsRead line label
 line_read line label says h =
     let parts = line_parts line label says h in
     let read = head_read line label parts.words parts.head in
-    record { allowed = read.allowed; fits = ltb-false MOST_LINE (length line) read.short; field = field_is line label parts.words parts.head }
+    record {
+      allowed = read.allowed;
+      fits = ltb-false MOST_LINE (length line) read.short;
+      field = field_is line label
+          parts.words parts.head;
+    }
 
 -- ---- the lines of a block but its label
 
@@ -94,23 +112,28 @@ pause_plain n some few =
       filled = refl;
     }
 
-says_spelled : (name : ℕ → List ℕ) (front : Front) (insn : Insn) (unit : FunctionalUnit) (operands : Operands) → operands_of insn ≡ operands
+says_spelled : (name : ℕ → List ℕ) (front : Front) (insn : Insn) (unit : FunctionalUnit) (operands : Operands)
+    → operands_of insn ≡ operands
     → spelled_line front None (says_with name (parts_on insn unit) operands) ≡ Some
     (front_spelling front ++ parts_spelling name (parts_on insn unit) unit)
 says_spelled name front insn unit operands is =
     grind (arith, nat_tests, does_text (λ _. []) name (parts_on insn unit) unit)
 
 line_spelled : (name : ℕ → List ℕ) (front : Front) (insn : Insn) (unit : FunctionalUnit)
-    → is_text (front_spelling front ++ spelling name insn unit) (spelled_line front None (says_on name insn unit)) ≡ true
+    → is_text (front_spelling front ++ spelling name insn unit) (spelled_line front None (says_on name insn unit)) ≡
+    true
 line_spelled name front insn unit =
-    rw (says_spelled name front insn unit (operands_of insn) refl) (same_bytes (front_spelling front ++ spelling name insn unit))
+    rw (says_spelled name front insn unit (operands_of insn) refl)
+    (same_bytes (front_spelling front ++ spelling name insn unit))
 
-pub first_plain : (name : ℕ → List ℕ) (insn : Insn) (unit : FunctionalUnit) → takes (op_of insn) (operands_of insn) unit ≡ true
+pub first_plain : (name : ℕ → List ℕ) (insn : Insn) (unit : FunctionalUnit)
+    → takes (op_of insn) (operands_of insn) unit ≡ true
     → NamesTarget name (operands_of insn)
     → IsPlain (codes "   " ++ spelling name insn unit) First (says_on name insn unit)
 first_plain name insn unit taking names =
     let bytes : List ℕ = codes "   " ++ spelling name insn unit in
-    let line : line_of bytes ≡ Ok (None, says_on name insn unit) = spelled_back name insn unit (codes "   ") taking names refl (omega arith) in
+    let line : line_of bytes ≡ Ok (None, says_on name insn unit) = spelled_back name insn unit (codes "   ") taking
+    names refl (omega arith) in
     let read = line_read bytes None (says_on name insn unit) line in
     record {
       allowed = read.allowed;
@@ -122,7 +145,8 @@ first_plain name insn unit taking names =
       filled = refl;
     }
 
-pub beside_plain : (name : ℕ → List ℕ) (insn : Insn) (unit : FunctionalUnit) → takes (op_of insn) (operands_of insn) unit ≡ true
+pub beside_plain : (name : ℕ → List ℕ) (insn : Insn) (unit : FunctionalUnit)
+    → takes (op_of insn) (operands_of insn) unit ≡ true
     → NamesTarget name (operands_of insn)
     → IsPlain (codes "|| " ++ spelling name insn unit) Beside (says_on name insn unit)
 beside_plain name insn unit taking names =

@@ -1,5 +1,7 @@
--- Blocks with the same instructions in the same places, from whatever lines, do the same and leave the same but for faults.
-use Rattle.std.proofs.Common.{◌≡◌, ℕ, zero, suc, ◌*◌, List, [], ◌∷◌, ◌++◌, map, get_or, refl, sym, ◌∙◌, ap, inl, inr, arith}
+-- Blocks with the same instructions in the same places, from whatever lines, do the same and leave the same but for
+-- faults.
+use Rattle.std.proofs.Common.{◌≡◌, ℕ, zero, suc, ◌*◌, List, [], ◌∷◌, ◌++◌, map, get_or, refl, sym, ◌∙◌, ap, inl, inr}
+use Rattle.std.proofs.Common.{arith}
 use Rattle.std.specs.Prelude.{fold}
 use Rattle.std.specs.List.{flat_map}
 use Rattle.c62_op.specs.declared.register.Reg.{Reg}
@@ -26,7 +28,8 @@ use Rattle.c62_meaning.proofs.SerialPackets.{meaning_leaves}
 first_alike : (p q : Placed) (ps qs : List Placed) → issues_of (p ∷ ps) ≡ issues_of (q ∷ qs) → issue_of p ≡ issue_of q
 first_alike p q ps qs alike = ap (λ (issues : List Issue). get_or issues 0 (issue_of p)) alike
 
-rest_alike : (p q : Placed) (ps qs : List Placed) → issues_of (p ∷ ps) ≡ issues_of (q ∷ qs) → issues_of ps ≡ issues_of qs
+rest_alike : (p q : Placed) (ps qs : List Placed) → issues_of (p ∷ ps) ≡ issues_of (q ∷ qs)
+    → issues_of ps ≡ issues_of qs
 rest_alike p q ps qs alike = cc
 
 -- what depends on the issue alone
@@ -42,7 +45,8 @@ landings_alike f g (p ∷ ps) (q ∷ qs) alike same =
     ap (λ (ls : List Landing). ls ++ flat_map f ps) (same p q (first_alike p q ps qs alike))
     ∙ ap (λ (ls : List Landing). g q ++ ls) (landings_alike f g ps qs (rest_alike p q ps qs alike) same)
 
-acts_listed : (did did' : Did) (block others : List Placed) → issues_of block ≡ issues_of others → DoAlike did did' → map did block ≡ map did' others
+acts_listed : (did did' : Did) (block others : List Placed) → issues_of block ≡ issues_of others → DoAlike did did'
+    → map did block ≡ map did' others
 acts_listed did did' [] [] alike same = refl
 acts_listed did did' [] (q ∷ qs) alike same = absurd cc
 acts_listed did did' (p ∷ ps) [] alike same = absurd cc
@@ -58,15 +62,19 @@ record FindAlike (block others : List Placed) (s s' : Machine) (did did' : Did) 
   pub same : AreSameButFaults s s'
   pub acts : DoAlike did did'
 
-words_alike : (block others : List Placed) (s s' : Machine) (did did' : Did) (t : ℕ) (reg : Reg) → FindAlike block others s s' did did'
+words_alike : (block others : List Placed) (s s' : Machine) (did did' : Did) (t : ℕ) (reg : Reg)
+    → FindAlike block others s s' did did'
     → word_before block s did t reg ≡ word_before others s' did' t reg
 words_alike block others s s' did did' t reg h =
     ap (λ (landings : List Landing). value_before (index_of reg) t landings (get_or s.registers (index_of reg) 0))
     (landings_alike (register_landings did) (register_landings did') block others h.alike
-    (λ p q e. (let act = h.acts p q e in let cycle : p.cycle ≡ q.cycle = ap (λ (i : Issue). i.cycle) e in rw (act, cycle) refl)))
-    ∙ ap (λ (m : Machine). value_before (index_of reg) t (flat_map (register_landings did') others) (get_or m.registers (index_of reg) 0)) h.same
+    (λ p q e. (let act = h.acts p q e in let cycle : p.cycle ≡ q.cycle = ap (λ (i : Issue). i.cycle) e in rw
+    (act, cycle) refl)))
+    ∙ ap (λ (m : Machine). value_before (index_of reg) t (flat_map (register_landings did') others)
+    (get_or m.registers (index_of reg) 0)) h.same
 
-bytes_alike : (block others : List Placed) (s s' : Machine) (did did' : Did) (t a : ℕ) → FindAlike block others s s' did did'
+bytes_alike : (block others : List Placed) (s s' : Machine) (did did' : Did) (t a : ℕ)
+    → FindAlike block others s s' did did'
     → byte_before block s did t a ≡ byte_before others s' did' t a
 bytes_alike block others s s' did did' t a h =
     ap (λ (landings : List Landing). value_before a (8 * t) landings (get_or s.memory a 0))
@@ -77,50 +85,67 @@ bytes_alike block others s s' did did' t a h =
 
 -- ---- what they do
 
-acts_alike : (block others : List Placed) (s s' : Machine) (k : ℕ) → issues_of block ≡ issues_of others → AreSameButFaults s s'
+acts_alike : (block others : List Placed) (s s' : Machine) (k : ℕ) → issues_of block ≡ issues_of others
+    → AreSameButFaults s s'
     → DoAlike (acts_to block s k) (acts_to others s' k)
 unfolding acts_to
 acts_alike block others s s' zero alike same p q e = refl
 acts_alike block others s s' (suc k) alike same p q e =
     let h : FindAlike block others s s' (acts_to block s k) (acts_to others s' k)
     = record { alike = alike; same = same; acts = acts_alike block others s s' k alike same } in
-    act_same p.insn (word_before block s (acts_to block s k) p.cycle) (word_before others s' (acts_to others s' k) p.cycle)
+    act_same p.insn (word_before block s (acts_to block s k) p.cycle)
+    (word_before others s' (acts_to others s' k) p.cycle)
     (byte_before block s (acts_to block s k) p.cycle) (byte_before others s' (acts_to others s' k) p.cycle)
     (λ reg _. words_alike block others s s' (acts_to block s k) (acts_to others s' k) p.cycle reg h)
     (λ a _. bytes_alike block others s s' (acts_to block s k) (acts_to others s' k) p.cycle a h)
-    ∙ ap (λ (i : Issue). act_of i.insn (word_before others s' (acts_to others s' k) i.cycle) (byte_before others s' (acts_to others s' k) i.cycle)) e
+    ∙ ap (λ (i : Issue). act_of i.insn (word_before others s' (acts_to others s' k) i.cycle)
+    (byte_before others s' (acts_to others s' k) i.cycle)) e
 
-runs_alike : (block others : List Placed) (s s' : Machine) → issues_of block ≡ issues_of others → AreSameButFaults s s' → DoAlike (the_run block s) (the_run others s')
+runs_alike : (block others : List Placed) (s s' : Machine) → issues_of block ≡ issues_of others → AreSameButFaults s s'
+    → DoAlike (the_run block s) (the_run others s')
 unfolding the_run
 runs_alike block others s s' alike same p q e =
-    acts_alike block others s s' (suc p.cycle) alike same p q e ∙ ap (λ (i : Issue). acts_to others s' (suc i.cycle) q) e
+    acts_alike block others s s' (suc p.cycle) alike same p q e
+    ∙ ap (λ (i : Issue). acts_to others s' (suc i.cycle) q) e
 
 listed_in : (did did' : Did) (ps : List Placed) → ((p : Placed) → In p ps → did p ≡ did' p) → map did ps ≡ map did' ps
 listed_in did did' [] same = refl
 listed_in did did' (p ∷ ps) same =
-    ap (λ (act : Act). act ∷ map did ps) (same p (inl refl)) ∙ ap (λ (acts : List Act). did' p ∷ acts) (listed_in did did' ps (λ q h. same q (inr h)))
+    ap (λ (act : Act). act ∷ map did ps) (same p (inl refl))
+    ∙ ap (λ (acts : List Act). did' p ∷ acts) (listed_in did did' ps (λ q h. same q (inr h)))
 
 -- a run is the run of its block
-run_listed : (block : List Placed) (s : Machine) (did : Did) → IsRun block s did → map did block ≡ map (the_run block s) block
+run_listed : (block : List Placed) (s : Machine) (did : Did) → IsRun block s did
+    → map did block ≡ map (the_run block s) block
 run_listed block s did run =
-    listed_in did (the_run block s) block (λ p h. one_run block s did (the_run block s) run (the_run_runs block s) (suc p.cycle) p h (omega arith))
+    listed_in did (the_run block s) block
+    (λ p h. one_run block s did (the_run block s) run (the_run_runs block s) (suc p.cycle) p h (omega arith))
 
 -- ---- what they leave
 
 bare_is_sound : (machine : Machine) → IsSound machine → IsSound (without_faults machine)
-bare_is_sound machine sound = record { registers = sound.registers; memory = sound.memory; rising = λ i l. absurd (omega arith) }
+bare_is_sound machine sound = record
+    { registers = sound.registers; memory = sound.memory; rising = λ i l. absurd (omega arith) }
 
-same_left : (block others : List Placed) (cycles : ℕ) (opening opening' final final' : Machine) → FindAlike block others opening opening' (the_run block opening) (the_run others opening')
-    → LeavesState block cycles opening (the_run block opening) final → LeavesState others cycles opening' (the_run others opening') final' → AreSameButFaults final final'
+same_left : (block others : List Placed) (cycles : ℕ) (opening opening' final final' : Machine)
+    → FindAlike block others opening opening' (the_run block opening) (the_run others opening')
+    → LeavesState block cycles opening (the_run block opening) final
+    → LeavesState others cycles opening' (the_run others opening') final' → AreSameButFaults final final'
 same_left block others cycles opening opening' final final' h p q =
-    same_machine (without_faults final) (without_faults final') (bare_is_sound final p.sound) (bare_is_sound final' q.sound) (record {
-      words = λ reg. p.words reg ∙ words_alike block others opening opening' (the_run block opening) (the_run others opening') cycles reg h ∙ sym (q.words reg);
-      bytes = λ a l. p.bytes a l ∙ bytes_alike block others opening opening' (the_run block opening) (the_run others opening') cycles a h ∙ sym (q.bytes a l);
+    same_machine (without_faults final) (without_faults final') (bare_is_sound final p.sound)
+    (bare_is_sound final' q.sound) (record {
+      words = λ reg. p.words reg
+          ∙ words_alike block others opening opening' (the_run block opening) (the_run others opening') cycles reg h
+          ∙ sym (q.words reg);
+      bytes = λ a l. p.bytes a l
+          ∙ bytes_alike block others opening opening' (the_run block opening) (the_run others opening') cycles a h
+          ∙ sym (q.bytes a l);
       faults = λ line. ((λ c. c), (λ c. c));
     })
 
 exit_listed : (did : Did) (ps : List Placed) (exit : Exit)
-    → fold (λ exit p. exit_after exit (did p).target) exit ps ≡ fold (λ exit (act : Act). exit_after exit act.target) exit (map did ps)
+    → fold (λ exit p. exit_after exit (did p).target) exit ps ≡ fold (λ exit (act : Act). exit_after exit act.target)
+    exit (map did ps)
 exit_listed did [] exit = refl
 exit_listed did (p ∷ ps) exit = exit_listed did ps (exit_after exit (did p).target)
 
@@ -129,13 +154,16 @@ mean_alike block others cycles alike opening opening' ran ran' same one other =
     let h : FindAlike block others opening opening' (the_run block opening) (the_run others opening')
     = record { alike = alike; same = same; acts = runs_alike block others opening opening' alike same } in
     let acts : map one.did block ≡ map other.did others
-    = run_listed block opening one.did one.run ∙ acts_listed (the_run block opening) (the_run others opening') block others alike h.acts
+    = run_listed block opening one.did one.run
+    ∙ acts_listed (the_run block opening) (the_run others opening') block others alike h.acts
     ∙ sym (run_listed others opening' other.did other.run) in
     record {
       acts = acts;
       machine = same_left block others cycles opening opening' ran.machine ran'.machine h
           (meaning_leaves block cycles opening ran (the_run block opening) (the_run_runs block opening) one).state
-          (meaning_leaves others cycles opening' ran' (the_run others opening') (the_run_runs others opening') other).state;
-      exit = one.leaves.exit ∙ exit_listed one.did block Next ∙ ap (λ (acts : List Act). fold (λ exit (act : Act). exit_after exit act.target) Next acts) acts
+          (meaning_leaves others cycles opening' ran' (the_run others opening') (the_run_runs others opening')
+          other).state;
+      exit = one.leaves.exit ∙ exit_listed one.did block Next
+          ∙ ap (λ (acts : List Act). fold (λ exit (act : Act). exit_after exit act.target) Next acts) acts
           ∙ sym (exit_listed other.did others Next) ∙ sym other.leaves.exit;
     }

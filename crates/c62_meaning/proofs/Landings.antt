@@ -1,5 +1,7 @@
 -- The landings of an instruction are of what it writes and stores, and those of one cell come in the order of time.
-use Rattle.std.proofs.Common.{◌≡◌, ℕ, zero, suc, ◌+◌, ◌-◌, ◌<◌, ◌≤◌, Bool, true, false, List, [], ◌∷◌, ◌++◌, length, map, get_or, set, cond, eqb, Option, Some, None, refl, sym, ◌∙◌, ap, subst, ◌⊎◌, inl, inr, ⊎_elim, arith}
+use Rattle.std.proofs.Common.{◌≡◌, ℕ, zero, suc, ◌+◌, ◌-◌, ◌<◌, ◌≤◌, Bool, true, false, List, [], ◌∷◌, ◌++◌, length}
+use Rattle.std.proofs.Common.{map, get_or, set, cond, eqb, Option, Some, None, refl, sym, ◌∙◌, ap, subst, ◌⊎◌, inl, inr}
+use Rattle.std.proofs.Common.{⊎_elim, arith}
 use Rattle.std.specs.Prelude.{fold, if◌then◌else◌}
 use Rattle.std.specs.List.{zip}
 use Rattle.std.proofs.lemmas.Bool.{cases_Bool, cases_eq, cases_lt, cond-true, cond-false, cond_both, eq-eqb, ne_eqb}
@@ -9,7 +11,8 @@ use Rattle.c62_op.specs.declared.register.Reg.{Reg}
 use Rattle.c62_op.specs.declared.operands.Op.{Op}
 use Rattle.c62_op.specs.declared.operands.Op.TheVariants.{Ldb, Ldbu, Ldh, Ldhu, Ldw}
 use Rattle.c62_op.specs.declared.operands.Operands.{Operands}
-use Rattle.c62_op.specs.declared.operands.Operands.TheVariants.{Three, ConstantFirst, ConstantSecond, Two, Field, Constant, Access, Block, Register}
+use Rattle.c62_op.specs.declared.operands.Operands.TheVariants.{Three, ConstantFirst, ConstantSecond, Two, Field}
+use Rattle.c62_op.specs.declared.operands.Operands.TheVariants.{Constant, Access, Block, Register}
 use Rattle.c62_insn.specs.declared.effect.Access.{Access as MemoryAccess}
 use Rattle.c62_insn.specs.declared.insn.Insn.{Insn}
 use Rattle.c62_op.specs.Shape.{delay_of, is_load, is_store, changes_base, writes_of}
@@ -32,19 +35,22 @@ pub writes-last : (cycle k : ℕ) (ws : List ((Reg × ℕ) × ℕ)) (rs : List �
 writes-last cycle k [] rs l = refl
 writes-last cycle k (w ∷ ws) rs l =
     let l' : k < length (set rs (index_of w.0.0) w.1) = rw length-set l in
-    writes-last cycle k ws (set rs (index_of w.0.0) w.1) l' ∙ ap (λ v. last_value k (map (write_landing cycle) ws) v) one
+    writes-last cycle k ws (set rs (index_of w.0.0) w.1) l'
+    ∙ ap (λ v. last_value k (map (write_landing cycle) ws) v) one
   where
     one : get_or (set rs (index_of w.0.0) w.1) k 0 ≡ cond (eqb (index_of w.0.0) k) w.1 (get_or rs k 0)
     one =
         ⊎_elim {C = get_or (set rs (index_of w.0.0) w.1) k 0 ≡ cond (eqb (index_of w.0.0) k) w.1 (get_or rs k 0)}
-        (λ e. get_or-set_at rs (index_of w.0.0) k w.1 0 (sym e) (subst (λ i. i < length rs) (sym e) l) ∙ sym (cond-true _ _ _ (eq-eqb _ _ e)))
+        (λ e. get_or-set_at rs (index_of w.0.0) k w.1 0 (sym e) (subst (λ i. i < length rs) (sym e) l)
+        ∙ sym (cond-true _ _ _ (eq-eqb _ _ e)))
         (λ ne. get_or-set_other rs (index_of w.0.0) k w.1 0 (λ e. ne (sym e)) ∙ sym (cond-false _ _ _ (ne_eqb _ _ ne)))
         (cases_eq (index_of w.0.0) k)
 
 pub from_In-writes : (cycle : ℕ) (ws : List ((Reg × ℕ) × ℕ)) (l : Landing) → In l (map (write_landing cycle) ws)
     → (w : (Reg × ℕ) × ℕ) × In w ws × (l.cell ≡ index_of w.0.0) × (l.time ≡ cycle + w.0.1)
 from_In-writes cycle [] l h = absurd h
-from_In-writes cycle (w ∷ ws) l (inl e) = (w, inl refl, ap (λ (u : Landing). u.cell) (sym e), ap (λ (u : Landing). u.time) (sym e))
+from_In-writes cycle (w ∷ ws) l (inl e) =
+    (w, inl refl, ap (λ (u : Landing). u.cell) (sym e), ap (λ (u : Landing). u.time) (sym e))
 from_In-writes cycle (w ∷ ws) l (inr h) = let r = from_In-writes cycle ws l h in (r.0, inr r.1, r.2, r.3)
 
 -- what is zipped has its keys from the first
@@ -55,10 +61,12 @@ In-zip (k ∷ ks) (v ∷ vs) w (inl e) = inl (ap (λ (u : (Reg × ℕ) × ℕ). 
 In-zip (k ∷ ks) (v ∷ vs) w (inr h) = inr (In-zip ks vs w h)
 
 -- what an instruction writes is among its writes
-pub act_writes : (insn : Insn) (word : Reg → ℕ) (byte : ℕ → ℕ) (w : (Reg × ℕ) × ℕ) → In w (act_of insn word byte).writes → In w.0 (register_writes insn)
+pub act_writes : (insn : Insn) (word : Reg → ℕ) (byte : ℕ → ℕ) (w : (Reg × ℕ) × ℕ) → In w (act_of insn word byte).writes
+    → In w.0 (register_writes insn)
 act_writes insn word byte w =
     let P : Act → Type 0 = λ a. In w a.writes → In w.0 (register_writes insn) in
-    cond_both (runs word insn) (act_on insn (operand_values word insn) byte) no_act P (λ t h. In-zip (register_writes insn) _ w h) (λ t h. absurd h)
+    cond_both (runs word insn) (act_on insn (operand_values word insn) byte) no_act P
+    (λ t h. In-zip (register_writes insn) _ w h) (λ t h. absurd h)
 
 -- the writes of an instruction come in the order of their delays
 abbrev pub Rising : List (Reg × ℕ) → Type 0
@@ -73,8 +81,12 @@ load_is_later Ldhu h = omega arith
 load_is_later Ldw h = omega arith
 load_is_later _ h = cc
 
-rising_access : (c l : Bool) (x y : Reg × ℕ) → (l ≡ true → x.1 < y.1) → Rising ((if c then x ∷ [] else []) ++ (if l then y ∷ [] else []))
-rising_access true true x y h = ((λ v k. ⊎_elim {C = x.1 < v.1} (λ e. subst (λ (u : Reg × ℕ). x.1 < u.1) e (h refl)) (λ k'. absurd k') k), ((λ v k. absurd k), tt))
+rising_access : (c l : Bool) (x y : Reg × ℕ) → (l ≡ true → x.1 < y.1)
+    → Rising ((if c then x ∷ [] else []) ++ (if l then y ∷ [] else []))
+rising_access true true x y h = (
+  (λ v k. ⊎_elim {C = x.1 < v.1} (λ e. subst (λ (u : Reg × ℕ). x.1 < u.1) e (h refl)) (λ k'. absurd k') k),
+  ((λ v k. absurd k), tt),
+)
 rising_access true false x y h = ((λ v k. absurd k), tt)
 rising_access false true x y h = ((λ v k. absurd k), tt)
 rising_access false false x y h = tt
@@ -86,11 +98,13 @@ rising_writes op (ConstantSecond a k d) = ((λ v k. absurd k), tt)
 rising_writes op (Two a d) = ((λ v k. absurd k), tt)
 rising_writes op (Field a k m d) = ((λ v k. absurd k), tt)
 rising_writes op (Constant k d) = ((λ v k. absurd k), tt)
-rising_writes op (Access reg base form offset) = rising_access (changes_base form) (is_load op) (base, 0) (reg, delay_of op) (load_is_later op)
+rising_writes op (Access reg base form offset) = rising_access (changes_base form) (is_load op) (base, 0)
+    (reg, delay_of op) (load_is_later op)
 rising_writes op (Block number) = tt
 rising_writes op (Register target) = tt
 
-InOrder-zip : (cell cycle : ℕ) (ks : List (Reg × ℕ)) (vs : List ℕ) → Rising ks → InOrder cell (map (write_landing cycle) (zip ks vs))
+InOrder-zip : (cell cycle : ℕ) (ks : List (Reg × ℕ)) (vs : List ℕ) → Rising ks
+    → InOrder cell (map (write_landing cycle) (zip ks vs))
 InOrder-zip cell cycle [] vs h = tt
 InOrder-zip cell cycle (k ∷ ks) [] h = tt
 InOrder-zip cell cycle (k ∷ ks) (v ∷ vs) h = (
@@ -101,7 +115,8 @@ InOrder-zip cell cycle (k ∷ ks) (v ∷ vs) h = (
   InOrder-zip cell cycle ks vs h.1,
 )
 
-pub InOrder-act : (cell cycle : ℕ) (insn : Insn) (word : Reg → ℕ) (byte : ℕ → ℕ) → InOrder cell (map (write_landing cycle) (act_of insn word byte).writes)
+pub InOrder-act : (cell cycle : ℕ) (insn : Insn) (word : Reg → ℕ) (byte : ℕ → ℕ)
+    → InOrder cell (map (write_landing cycle) (act_of insn word byte).writes)
 InOrder-act cell cycle insn word byte =
     let P : Act → Type 0 = λ a. InOrder cell (map (write_landing cycle) a.writes) in
     cond_both (runs word insn) (act_on insn (operand_values word insn) byte) no_act P
@@ -109,47 +124,65 @@ InOrder-act cell cycle insn word byte =
 
 -- ---- memory
 
-bytes-outside : (time address : ℕ) (bytes : List ℕ) (a old : ℕ) → (a < address) ⊎ (address + length bytes ≤ a) → last_value a (byte_landings time address bytes) old ≡ old
+bytes-outside : (time address : ℕ) (bytes : List ℕ) (a old : ℕ) → (a < address) ⊎ (address + length bytes ≤ a)
+    → last_value a (byte_landings time address bytes) old ≡ old
 bytes-outside time address [] a old o = refl
 bytes-outside time address (b ∷ bs) a old (inl l) =
-    bytes-outside time (address + 1) bs a (cond (eqb address a) b old) (inl (omega arith)) ∙ cond-false _ _ _ (ne_eqb _ _ (λ (e : address ≡ a). omega arith))
+    bytes-outside time (address + 1) bs a (cond (eqb address a) b old) (inl (omega arith))
+    ∙ cond-false _ _ _ (ne_eqb _ _ (λ (e : address ≡ a). omega arith))
 bytes-outside time address (b ∷ bs) a old (inr g) =
-    bytes-outside time (address + 1) bs a (cond (eqb address a) b old) (inr (omega arith)) ∙ cond-false _ _ _ (ne_eqb _ _ (λ (e : address ≡ a). omega arith))
+    bytes-outside time (address + 1) bs a (cond (eqb address a) b old) (inr (omega arith))
+    ∙ cond-false _ _ _ (ne_eqb _ _ (λ (e : address ≡ a). omega arith))
 
-bytes-inside : (time address : ℕ) (bytes : List ℕ) (k old a : ℕ) → k < length bytes → address + k ≡ a → last_value a (byte_landings time address bytes) old ≡ get_or bytes k 0
+bytes-inside : (time address : ℕ) (bytes : List ℕ) (k old a : ℕ) → k < length bytes → address + k ≡ a
+    → last_value a (byte_landings time address bytes) old ≡ get_or bytes k 0
 bytes-inside time address [] k old a l e = absurd (omega arith)
 bytes-inside time address (b ∷ bs) zero old a l e =
-    bytes-outside time (address + 1) bs a (cond (eqb address a) b old) (inl (omega arith)) ∙ cond-true _ _ _ (eq-eqb address a (omega arith))
-bytes-inside time address (b ∷ bs) (suc k) old a l e = bytes-inside time (address + 1) bs k (cond (eqb address a) b old) a (omega arith) (omega arith)
+    bytes-outside time (address + 1) bs a (cond (eqb address a) b old) (inl (omega arith))
+    ∙ cond-true _ _ _ (eq-eqb address a (omega arith))
+bytes-inside time address (b ∷ bs) (suc k) old a l e = bytes-inside time (address + 1) bs k (cond (eqb address a) b old)
+    a (omega arith) (omega arith)
 
 store-last : (time address size : ℕ) (value : Option ℕ) (memory : List ℕ) (a : ℕ) → length memory ≡ 65536
-    → get_or (after_store memory value address size) a 0 ≡ last_value a (stored_landings time address size value) (get_or memory a 0)
+    → get_or (after_store memory value address size) a 0 ≡ last_value a (stored_landings time address size value)
+    (get_or memory a 0)
 store-last time address size None memory a sound = refl
 store-last time address size (Some value) memory a sound =
-    ⊎_elim {C = get_or (written address size value memory) a 0 ≡ last_value a (stored_landings time address size (Some value)) (get_or memory a 0)}
+    ⊎_elim {C = get_or (written address size value memory) a 0 ≡ last_value a
+    (stored_landings time address size (Some value)) (get_or memory a 0)}
     (λ good. inside good ∙ sym (ap (λ ls. last_value a ls (get_or memory a 0)) (cond-true _ _ _ good)))
-    (λ bad. ap (λ m. get_or m a 0) (cond-false _ _ _ bad) ∙ sym (ap (λ ls. last_value a ls (get_or memory a 0)) (cond-false _ _ _ bad)))
+    (λ bad. ap (λ m. get_or m a 0) (cond-false _ _ _ bad)
+    ∙ sym (ap (λ ls. last_value a ls (get_or memory a 0)) (cond-false _ _ _ bad)))
     (cases_Bool (is_good address size))
   where
-    out : is_good address size ≡ true → (a < address) ⊎ (address + length (bytes_of size value) ≤ a) → (a < address) ⊎ (address + size ≤ a)
-        → get_or (written address size value memory) a 0 ≡ last_value a (byte_landings time address (bytes_of size value)) (get_or memory a 0)
-    out good o o' = (stores memory address size value sound good).outside a o' ∙ sym (bytes-outside time address (bytes_of size value) a (get_or memory a 0) o)
+    out : is_good address size ≡ true → (a < address) ⊎ (address + length (bytes_of size value) ≤ a) → (a < address)
+        ⊎ (address + size ≤ a)
+        → get_or (written address size value memory) a 0 ≡ last_value a
+        (byte_landings time address (bytes_of size value)) (get_or memory a 0)
+    out good o o' = (stores memory address size value sound good).outside a o'
+        ∙ sym (bytes-outside time address (bytes_of size value) a (get_or memory a 0) o)
 
     within : is_good address size ≡ true → (k : ℕ) → k < size → address + k ≡ a
-        → get_or (written address size value memory) a 0 ≡ last_value a (byte_landings time address (bytes_of size value)) (get_or memory a 0)
+        → get_or (written address size value memory) a 0 ≡ last_value a
+        (byte_landings time address (bytes_of size value)) (get_or memory a 0)
     within good k l e =
         let n : length (bytes_of size value) ≡ size = length-bytes_of size value in
         subst (λ z. get_or (written address size value memory) z 0 ≡ get_or (bytes_of size value) k 0) e
         ((stores memory address size value sound good).inside k l ∙ sym (byte_of size value k l))
         ∙ sym (bytes-inside time address (bytes_of size value) k (get_or memory a 0) a (omega arith) e)
 
-    inside : is_good address size ≡ true → get_or (written address size value memory) a 0 ≡ last_value a (byte_landings time address (bytes_of size value)) (get_or memory a 0)
+    inside : is_good address size ≡ true
+        → get_or (written address size value memory) a 0 ≡ last_value a
+        (byte_landings time address (bytes_of size value)) (get_or memory a 0)
     inside good =
         let n : length (bytes_of size value) ≡ size = length-bytes_of size value in
-        ⊎_elim {C = get_or (written address size value memory) a 0 ≡ last_value a (byte_landings time address (bytes_of size value)) (get_or memory a 0)}
+        ⊎_elim {C = get_or (written address size value memory) a 0 ≡ last_value a
+        (byte_landings time address (bytes_of size value)) (get_or memory a 0)}
         (λ l. out good (inl l) (inl l))
-        (λ g. ⊎_elim {C = get_or (written address size value memory) a 0 ≡ last_value a (byte_landings time address (bytes_of size value)) (get_or memory a 0)}
-        (λ l. within good (a - address) (omega arith) (omega arith)) (λ h. out good (inr (omega arith)) (inr h)) (cases_lt a (address + size)))
+        (λ g. ⊎_elim {C = get_or (written address size value memory) a 0 ≡ last_value a
+        (byte_landings time address (bytes_of size value)) (get_or memory a 0)}
+        (λ l. within good (a - address) (omega arith) (omega arith)) (λ h. out good (inr (omega arith)) (inr h))
+        (cases_lt a (address + size)))
         (cases_lt a address)
 
 -- memory after an access holds the bytes that it stored
@@ -181,20 +214,33 @@ from_In-bytes time address (b ∷ bs) l (inr h) =
     let high : l.cell < address + 1 + length bs = r.1 in
     (omega arith, omega arith, r.2)
 
-pub from_In-access : (time : ℕ) (o : Option MemoryAccess) (l : Landing) → In l (access_landings time o) → IsStoredBy time o l
+pub from_In-access : (time : ℕ) (o : Option MemoryAccess) (l : Landing) → In l (access_landings time o)
+    → IsStoredBy time o l
 from_In-access time None l h = absurd h
 from_In-access time (Some access) l h = of_value access.value refl h
   where
-    of_value : (value : Option ℕ) → access.value ≡ value → In l (stored_landings time access.address access.size value) → IsStoredBy time (Some access) l
+    of_value : (value : Option ℕ) → access.value ≡ value → In l (stored_landings time access.address access.size value)
+        → IsStoredBy time (Some access) l
     of_value None e k = absurd k
     of_value (Some value) e h =
         let P : List Landing → Type 0 = λ ls. In l ls → IsStoredBy time (Some access) l in
         let n : length (bytes_of access.size value) ≡ access.size = length-bytes_of access.size value in
-        cond_both (is_good access.address access.size) (byte_landings time access.address (bytes_of access.size value)) [] P
+        cond_both (is_good access.address access.size) (byte_landings time access.address (bytes_of access.size value))
+        [] P
         (λ good k.
         let r = from_In-bytes time access.address (bytes_of access.size value) l k in
         let high : l.cell < access.address + length (bytes_of access.size value) = r.1 in
-        record { access = access; value = value; accesses = refl; stores = e; good = good; low = r.0; high = omega arith; at = r.2 })
+        record {
+          access = access;
+          value = value;
+          accesses = refl;
+          stores = e;
+          good = good;
+          low = r.0;
+          high = omega
+              arith;
+          at = r.2;
+        })
         (λ bad k. absurd k) h
 
 InOrder-bytes : (cell time address : ℕ) (bytes : List ℕ) → InOrder cell (byte_landings time address bytes)
@@ -215,16 +261,21 @@ InOrder-access cell time (Some access) = of_value access.value
     of_value None = tt
     of_value (Some value) =
         let P : List Landing → Type 0 = λ ls. InOrder cell ls in
-        cond_both (is_good access.address access.size) (byte_landings time access.address (bytes_of access.size value)) [] P
+        cond_both (is_good access.address access.size) (byte_landings time access.address (bytes_of access.size value))
+        [] P
         (λ good. InOrder-bytes cell time access.address (bytes_of access.size value)) (λ bad. tt)
 
 -- the access of an act is that of its instruction, which runs
-pub act_accesses : (insn : Insn) (word : Reg → ℕ) (byte : ℕ → ℕ) (access : MemoryAccess) → (act_of insn word byte).access ≡ Some access
+pub act_accesses : (insn : Insn) (word : Reg → ℕ) (byte : ℕ → ℕ) (access : MemoryAccess)
+    → (act_of insn word byte).access ≡ Some access
     → (runs word insn ≡ true) × (access_at insn word ≡ Some access)
 act_accesses insn word byte access =
-    let P : Act → Type 0 = λ a. a.access ≡ Some access → (runs word insn ≡ true) × (access_at insn word ≡ Some access) in
+    let P : Act → Type 0 = λ a. a.access ≡ Some access → (runs word insn ≡ true)
+    × (access_at insn word ≡ Some access) in
     cond_both (runs word insn) (act_on insn (operand_values word insn) byte) no_act P (λ t h. (t, h)) (λ t h. cc)
 
 -- what stores a byte is a store
-pub stores_byte : (insn : Insn) (word : Reg → ℕ) (byte : ℕ → ℕ) (time : ℕ) (l : Landing) → IsStoredBy time (act_of insn word byte).access l → is_store (op_of insn) ≡ true
-stores_byte insn word byte time l s = is_stores insn word s.access s.value (act_accesses insn word byte s.access s.accesses).1 s.stores
+pub stores_byte : (insn : Insn) (word : Reg → ℕ) (byte : ℕ → ℕ) (time : ℕ) (l : Landing)
+    → IsStoredBy time (act_of insn word byte).access l → is_store (op_of insn) ≡ true
+stores_byte insn word byte time l s = is_stores insn word s.access s.value
+    (act_accesses insn word byte s.access s.accesses).1 s.stores

@@ -13,6 +13,8 @@ pub mod SerialPackets
 pub mod OneByOne
 pub mod AlikeRuns
 pub mod MovedLandings
+pub mod CutWords
 pub mod Cuts
+pub mod JoinedRuns
 pub mod CutLandings
 pub mod Parts

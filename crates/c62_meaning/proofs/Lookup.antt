@@ -1,6 +1,8 @@
 -- Lookups: the last write in a list, and the one of greatest time, are one where the list is in the order of time.
-use Rattle.std.proofs.Common.{◌≡◌, ℕ, zero, suc, length, ◌<◌, ◌≤◌, cond, eqb, ltb, ◌&&◌, List, [], ◌∷◌, ◌++◌, Some, None, refl, sym, ◌∙◌, ap, subst, ◌⊎◌, inl, inr, ⊎_elim, arith}
-use Rattle.std.proofs.lemmas.Bool.{cases_Bool, and_parts, eqb-true, ltb-true, eq-eqb, lt-ltb, le-ltb, cases_lt, cases_eq, cond-true, cond-false, and_from, ne_eqb, false≢true, and_right}
+use Rattle.std.proofs.Common.{◌≡◌, ℕ, zero, suc, length, ◌<◌, ◌≤◌, cond, eqb, ltb, ◌&&◌, List, [], ◌∷◌, ◌++◌, Some}
+use Rattle.std.proofs.Common.{None, refl, sym, ◌∙◌, ap, subst, ◌⊎◌, inl, inr, ⊎_elim, arith}
+use Rattle.std.proofs.lemmas.Bool.{cases_Bool, and_parts, eqb-true, ltb-true, eq-eqb, lt-ltb, le-ltb, cases_lt}
+use Rattle.std.proofs.lemmas.Bool.{cases_eq, cond-true, cond-false, and_from, ne_eqb, false≢true, and_right}
 use Rattle.std.specs.List.{flat_map, Contains}
 use Rattle.c62_meaning.specs.Landing.{Landing, later, latest, value_or}
 
@@ -16,7 +18,8 @@ In_from_Contains x (y ∷ ys) (suc k, l, e) = inr (In_from_Contains x ys (k, ome
 pub Contains_from_In : {X : Type 0} → (x : X) (xs : List X) → In x xs → Contains xs x
 Contains_from_In x [] h = absurd h
 Contains_from_In x (y ∷ ys) (inl e) = (0, omega arith, e)
-Contains_from_In x (y ∷ ys) (inr h) = let r = Contains_from_In x ys h in let l : r.0 < length ys = r.1 in (suc r.0, omega arith, r.2)
+Contains_from_In x (y ∷ ys) (inr h) = let r = Contains_from_In x ys h in let l : r.0 < length ys = r.1 in
+    (suc r.0, omega arith, r.2)
 
 pub In-append_left : {X : Type 0} → (x : X) (xs ys : List X) → In x xs → In x (xs ++ ys)
 In-append_left x [] ys h = absurd h
@@ -32,15 +35,18 @@ In-append_cases x [] ys h = inr h
 In-append_cases x (y ∷ xs) ys (inl e) = inl (inl e)
 In-append_cases x (y ∷ xs) ys (inr h) = ⊎_elim (λ a. inl (inr a)) (λ b. inr b) (In-append_cases x xs ys h)
 
-pub In-flat_map : {X Y : Type 0} → (f : X → List Y) (y : Y) (x : X) (xs : List X) → In x xs → In y (f x) → In y (flat_map f xs)
+pub In-flat_map : {X Y : Type 0} → (f : X → List Y) (y : Y) (x : X) (xs : List X) → In x xs → In y (f x)
+    → In y (flat_map f xs)
 In-flat_map f y x [] h k = absurd h
 In-flat_map f y x (z ∷ xs) (inl e) k = In-append_left y (f z) (flat_map f xs) (subst (λ v. In y (f v)) (sym e) k)
 In-flat_map f y x (z ∷ xs) (inr h) k = In-append_right y (f z) (flat_map f xs) (In-flat_map f y x xs h k)
 
-pub from_In-flat_map : {X Y : Type 0} → (f : X → List Y) (y : Y) (xs : List X) → In y (flat_map f xs) → (x : X) × In x xs × In y (f x)
+pub from_In-flat_map : {X Y : Type 0} → (f : X → List Y) (y : Y) (xs : List X) → In y (flat_map f xs) → (x : X)
+    × In x xs × In y (f x)
 from_In-flat_map f y [] h = absurd h
 from_In-flat_map f y (z ∷ xs) h =
-    ⊎_elim (λ a. (z, inl refl, a)) (λ b. let r = from_In-flat_map f y xs b in (r.0, inr r.1, r.2)) (In-append_cases y (f z) (flat_map f xs) h)
+    ⊎_elim (λ a. (z, inl refl, a)) (λ b. let r = from_In-flat_map f y xs b in (r.0, inr r.1, r.2))
+    (In-append_cases y (f z) (flat_map f xs) h)
 
 -- w is the landing at this cell before t of the greatest time
 pub record IsLatest (cell t : ℕ) (ls : List Landing) (w : Landing) : Type 0 where
@@ -53,11 +59,17 @@ abbrev pub NoneBefore : ℕ → ℕ → List Landing → Type 0
 NoneBefore cell t ls = (v : Landing) → In v ls → v.cell ≡ cell → v.time < t → ⊥
 
 abbrev pub LatestCases : ℕ → ℕ → List Landing → Type 0
-LatestCases cell t ls = (NoneBefore cell t ls × (latest cell t ls ≡ None)) ⊎ ((w : Landing) × IsLatest cell t ls w × (latest cell t ls ≡ Some w))
+LatestCases cell t ls = (NoneBefore cell t ls × (latest cell t ls ≡ None))
+    ⊎ ((w : Landing) × IsLatest cell t ls w × (latest cell t ls ≡ Some w))
 
-latest_skip : (cell t : ℕ) (x : Landing) (xs : List Landing) → (x.cell ≡ cell → x.time < t → ⊥) → latest cell t (x ∷ xs) ≡ latest cell t xs → LatestCases cell t xs → LatestCases cell t (x ∷ xs)
+latest_skip : (cell t : ℕ) (x : Landing) (xs : List Landing) → (x.cell ≡ cell → x.time < t → ⊥)
+    → latest cell t (x ∷ xs) ≡ latest cell t xs → LatestCases cell t xs → LatestCases cell t (x ∷ xs)
 latest_skip cell t x xs out same (inl (none, e)) =
-    inl ((λ v h p l. ⊎_elim (λ q. out (ap (λ (u : Landing). u.cell) q ∙ p) (subst (λ (u : Landing). u.time < t) (sym q) l)) (λ k. none v k p l) h), same ∙ e)
+    inl (
+      (λ v h p l. ⊎_elim (λ q. out (ap (λ (u : Landing). u.cell) q
+          ∙ p) (subst (λ (u : Landing). u.time < t) (sym q) l)) (λ k. none v k p l) h),
+      same ∙ e,
+    )
 latest_skip cell t x xs out same (inr (w, i, e)) =
     inr (
       w,
@@ -65,12 +77,16 @@ latest_skip cell t x xs out same (inr (w, i, e)) =
         inside = inr i.inside;
         here = i.here;
         early = i.early;
-        last = λ v h p l. ⊎_elim (λ q. absurd (out (ap (λ (u : Landing). u.cell) q ∙ p) (subst (λ (u : Landing). u.time < t) (sym q) l))) (λ k. i.last v k p l) h;
+        last = λ v h p l. ⊎_elim
+            (λ q. absurd (out (ap (λ (u : Landing). u.cell) q ∙ p) (subst (λ (u : Landing). u.time < t) (sym q) l)))
+            (λ k. i.last v k p l) h;
       },
       same ∙ e,
     )
 
-latest_take : (cell t : ℕ) (x : Landing) (xs : List Landing) → x.cell ≡ cell → x.time < t → latest cell t (x ∷ xs) ≡ Some (later x (latest cell t xs)) → LatestCases cell t xs → LatestCases cell t (x ∷ xs)
+latest_take : (cell t : ℕ) (x : Landing) (xs : List Landing) → x.cell ≡ cell → x.time < t
+    → latest cell t (x ∷ xs) ≡ Some (later x (latest cell t xs)) → LatestCases cell t xs
+    → LatestCases cell t (x ∷ xs)
 latest_take cell t x xs here early same (inl (none, e)) =
     inr (
       x,
@@ -78,7 +94,8 @@ latest_take cell t x xs here early same (inl (none, e)) =
         inside = inl refl;
         here = here;
         early = early;
-        last = λ v h p l. ⊎_elim (λ q. subst (λ (u : Landing). u.time ≤ x.time) q (omega arith)) (λ k. absurd (none v k p l)) h;
+        last = λ v h p l. ⊎_elim (λ q. subst (λ (u : Landing). u.time ≤ x.time) q (omega arith))
+            (λ k. absurd (none v k p l)) h;
       },
       same ∙ ap (λ o. Some (later x o)) e,
     )
@@ -90,7 +107,8 @@ latest_take cell t x xs here early same (inr (w, i, e)) =
         inside = inl refl;
         here = here;
         early = early;
-        last = λ v h p l. ⊎_elim (λ q. subst (λ (u : Landing). u.time ≤ x.time) q (omega arith)) (λ k. let m = i.last v k p l in omega arith) h;
+        last = λ v h p l. ⊎_elim (λ q. subst (λ (u : Landing). u.time ≤ x.time) q (omega arith))
+            (λ k. let m = i.last v k p l in omega arith) h;
       },
       same ∙ ap (λ o. Some (later x o)) e ∙ ap Some (cond-true _ x w (lt-ltb _ _ lt)),
     ))
@@ -110,8 +128,10 @@ pub latest_cases : (cell t : ℕ) (ls : List Landing) → LatestCases cell t ls
 latest_cases cell t [] = inl ((λ v h p l. h), refl)
 latest_cases cell t (x ∷ xs) =
     ⊎_elim
-    (λ e. let b = and_parts _ _ e in latest_take cell t x xs (eqb-true _ _ b.0) (ltb-true _ _ b.1) (cond-true _ _ _ e) (latest_cases cell t xs))
-    (λ e. latest_skip cell t x xs (λ p l. false≢true (sym e ∙ and_from _ _ (eq-eqb _ _ p) (lt-ltb _ _ l))) (cond-false _ _ _ e) (latest_cases cell t xs))
+    (λ e. let b = and_parts _ _ e in latest_take cell t x xs (eqb-true _ _ b.0) (ltb-true _ _ b.1) (cond-true _ _ _ e)
+    (latest_cases cell t xs))
+    (λ e. latest_skip cell t x xs (λ p l. false≢true (sym e ∙ and_from _ _ (eq-eqb _ _ p) (lt-ltb _ _ l)))
+    (cond-false _ _ _ e) (latest_cases cell t xs))
     (cases_Bool (eqb x.cell cell && ltb x.time t))
 
 -- the value that the writes leave at a cell
@@ -130,7 +150,8 @@ pub record IsLast (cell : ℕ) (ls : List Landing) (w : Landing) : Type 0 where
   pub last : (v : Landing) → In v ls → v.cell ≡ cell → (v.time < w.time) ⊎ (v ≡ w)
 
 abbrev pub LastCases : ℕ → List Landing → ℕ → Type 0
-LastCases cell ls old = (((v : Landing) → In v ls → v.cell ≡ cell → ⊥) × (last_value cell ls old ≡ old)) ⊎ ((w : Landing) × IsLast cell ls w × (last_value cell ls old ≡ w.value))
+LastCases cell ls old = (((v : Landing) → In v ls → v.cell ≡ cell → ⊥) × (last_value cell ls old ≡ old))
+    ⊎ ((w : Landing) × IsLast cell ls w × (last_value cell ls old ≡ w.value))
 
 last_cases : (cell : ℕ) (ls : List Landing) (old : ℕ) → InOrder cell ls → LastCases cell ls old
 last_cases cell [] old o = inl ((λ v h p. h), refl)
@@ -140,7 +161,8 @@ last_cases cell (x ∷ xs) old o =
     (λ p. last_skip cell x xs old p (last_cases cell xs old o.1))
     (cases_eq x.cell cell)
   where
-    last_take : (cell : ℕ) (x : Landing) (xs : List Landing) (old : ℕ) → x.cell ≡ cell → InOrder cell (x ∷ xs) → LastCases cell xs x.value → LastCases cell (x ∷ xs) old
+    last_take : (cell : ℕ) (x : Landing) (xs : List Landing) (old : ℕ) → x.cell ≡ cell → InOrder cell (x ∷ xs)
+        → LastCases cell xs x.value → LastCases cell (x ∷ xs) old
     last_take cell x xs old here o (inl (none, e)) =
         inr (
           x,
@@ -157,14 +179,20 @@ last_cases cell (x ∷ xs) old o =
           record {
             inside = inr i.inside;
             here = i.here;
-            last = λ v h p. ⊎_elim (λ q. inl (subst (λ (u : Landing). u.time < w.time) q (o.0 w i.inside here i.here))) (λ k. i.last v k p) h;
+            last = λ v h p. ⊎_elim (λ q. inl (subst (λ (u : Landing). u.time < w.time) q (o.0 w i.inside here i.here)))
+                (λ k. i.last v k p) h;
           },
           ap (λ u. last_value cell xs u) (cond-true _ _ _ (eq-eqb _ _ here)) ∙ e,
         )
 
-    last_skip : (cell : ℕ) (x : Landing) (xs : List Landing) (old : ℕ) → (x.cell ≡ cell → ⊥) → LastCases cell xs old → LastCases cell (x ∷ xs) old
+    last_skip : (cell : ℕ) (x : Landing) (xs : List Landing) (old : ℕ) → (x.cell ≡ cell → ⊥) → LastCases cell xs old
+        → LastCases cell (x ∷ xs) old
     last_skip cell x xs old out (inl (none, e)) =
-        inl ((λ v h p. ⊎_elim (λ q. out (ap (λ (u : Landing). u.cell) q ∙ p)) (λ k. none v k p) h), ap (λ u. last_value cell xs u) (cond-false _ _ _ (ne_eqb _ _ out)) ∙ e)
+        inl (
+          (λ v h p. ⊎_elim (λ q. out (ap (λ (u : Landing). u.cell) q ∙ p)) (λ k. none v k p) h),
+          ap
+              (λ u. last_value cell xs u) (cond-false _ _ _ (ne_eqb _ _ out)) ∙ e,
+        )
     last_skip cell x xs old out (inr (w, i, e)) =
         inr (
           w,
@@ -176,14 +204,16 @@ last_cases cell (x ∷ xs) old o =
           ap (λ u. last_value cell xs u) (cond-false _ _ _ (ne_eqb _ _ out)) ∙ e,
         )
 
--- Of writes `ls` in serial order, and landings `ms` of which those before t are the same ones, the greatest is the last.
+-- Of writes `ls` in serial order, and landings `ms` of which those before t are the same ones, the greatest is the
+-- last.
 pub record IsSeen (cell t : ℕ) (ls ms : List Landing) : Type 0 where
   pub in_order : InOrder cell ls
   pub in_time : (w : Landing) → In w ls → w.cell ≡ cell → w.time < t
   pub landed : (w : Landing) → In w ls → w.cell ≡ cell → w.time < t → In w ms
   pub no_other : (w : Landing) → In w ms → w.cell ≡ cell → w.time < t → In w ls
 
-pub latest_is_last : (cell t : ℕ) (ls ms : List Landing) (old : ℕ) → IsSeen cell t ls ms → value_or (latest cell t ms) old ≡ last_value cell ls old
+pub latest_is_last : (cell t : ℕ) (ls ms : List Landing) (old : ℕ) → IsSeen cell t ls ms
+    → value_or (latest cell t ms) old ≡ last_value cell ls old
 latest_is_last cell t ls ms old s = go (latest_cases cell t ms) (last_cases cell ls old s.in_order)
   where
     go : LatestCases cell t ms → LastCases cell ls old → value_or (latest cell t ms) old ≡ last_value cell ls old
@@ -194,14 +224,18 @@ latest_is_last cell t ls ms old s = go (latest_cases cell t ms) (last_cases cell
     go (inr (v, j, e)) (inr (w, i, e')) =
         let early : w.time < t = s.in_time w i.inside i.here in
         let top : w.time ≤ v.time = j.last w (s.landed w i.inside i.here early) i.here early in
-        let same : v ≡ w = ⊎_elim {C = v ≡ w} (λ lt. absurd (omega arith)) (λ q. q) (i.last v (s.no_other v j.inside j.here j.early) j.here) in
+        let same : v ≡ w = ⊎_elim {C = v ≡ w} (λ lt. absurd (omega arith)) (λ q. q)
+        (i.last v (s.no_other v j.inside j.here j.early) j.here) in
         rw e (ap (λ (u : Landing). u.value) same ∙ sym e')
 
-pub last_value-append : (cell : ℕ) (ls ms : List Landing) (old : ℕ) → last_value cell (ls ++ ms) old ≡ last_value cell ms (last_value cell ls old)
+pub last_value-append : (cell : ℕ) (ls ms : List Landing) (old : ℕ)
+    → last_value cell (ls ++ ms) old ≡ last_value cell ms (last_value cell ls old)
 last_value-append cell [] ms old = refl
 last_value-append cell (x ∷ xs) ms old = last_value-append cell xs ms (cond (eqb x.cell cell) x.value old)
 
-pub InOrder-append : (cell : ℕ) (ls ms : List Landing) → InOrder cell ls → InOrder cell ms → ((v w : Landing) → In v ls → In w ms → v.cell ≡ cell → w.cell ≡ cell → v.time < w.time) → InOrder cell (ls ++ ms)
+pub InOrder-append : (cell : ℕ) (ls ms : List Landing) → InOrder cell ls → InOrder cell ms
+    → ((v w : Landing) → In v ls → In w ms → v.cell ≡ cell → w.cell ≡ cell → v.time < w.time)
+    → InOrder cell (ls ++ ms)
 InOrder-append cell [] ms o p h = p
 InOrder-append cell (x ∷ xs) ms o p h = (
   (λ v k a b. ⊎_elim (λ c. o.0 v c a b) (λ c. h x v (inl refl) c a b) (In-append_cases v xs ms k)),
@@ -209,12 +243,14 @@ InOrder-append cell (x ∷ xs) ms o p h = (
 )
 
 -- A lookup sees only the landings before t.
-pub latest-append : (cell t : ℕ) (ls ms ns : List Landing) → latest cell t ms ≡ latest cell t ns → latest cell t (ls ++ ms) ≡ latest cell t (ls ++ ns)
+pub latest-append : (cell t : ℕ) (ls ms ns : List Landing) → latest cell t ms ≡ latest cell t ns
+    → latest cell t (ls ++ ms) ≡ latest cell t (ls ++ ns)
 latest-append cell t [] ms ns e = e
 latest-append cell t (x ∷ xs) ms ns e =
     ap (λ o. cond (eqb x.cell cell && ltb x.time t) (Some (later x o)) o) (latest-append cell t xs ms ns e)
 
-pub latest-late : (cell t : ℕ) (ls ms : List Landing) → ((w : Landing) → In w ls → t ≤ w.time) → latest cell t (ls ++ ms) ≡ latest cell t ms
+pub latest-late : (cell t : ℕ) (ls ms : List Landing) → ((w : Landing) → In w ls → t ≤ w.time)
+    → latest cell t (ls ++ ms) ≡ latest cell t ms
 latest-late cell t [] ms h = refl
 latest-late cell t (x ∷ xs) ms h =
     cond-false _ _ _ (and_right _ _ (le-ltb _ _ (h x (inl refl)))) ∙ latest-late cell t xs ms (λ w k. h w (inr k))

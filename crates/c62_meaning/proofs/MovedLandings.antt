@@ -1,5 +1,6 @@
 -- Landings moved, and landings behind others.
-use Rattle.std.proofs.Common.{◌≡◌, ℕ, ◌+◌, ◌*◌, ◌<◌, ◌≤◌, Bool, true, false, cond, eqb, ltb, ◌&&◌, List, [], ◌∷◌, ◌++◌, map, Option, Some, None, refl, sym, ◌∙◌, ap, subst, inl, inr, ⊎_elim, arith}
+use Rattle.std.proofs.Common.{◌≡◌, ℕ, ◌+◌, ◌*◌, ◌<◌, ◌≤◌, Bool, true, false, cond, eqb, ltb, ◌&&◌, List, [], ◌∷◌, ◌++◌}
+use Rattle.std.proofs.Common.{map, Option, Some, None, refl, sym, ◌∙◌, ap, subst, inl, inr, ⊎_elim, arith}
 use Rattle.std.specs.Prelude.{option_map, if◌then◌else◌}
 use Rattle.std.specs.List.{flat_map}
 use Rattle.std.specs.Option.{option_or}
@@ -10,7 +11,8 @@ use Rattle.c62_insn.specs.declared.effect.Access.{Access as MemoryAccess}
 use Rattle.c62_serial.specs.Memory.{is_good, bytes_of}
 use Rattle.c62_packet.specs.declared.placed.Placed.{Placed}
 use Rattle.c62_meaning.specs.Landing.{Landing, later, latest, value_or, value_before}
-use Rattle.c62_meaning.specs.Packet.{Did, write_landing, byte_landings, stored_landings, access_landings, access_time, register_landings, memory_landings}
+use Rattle.c62_meaning.specs.Packet.{Did, write_landing, byte_landings, stored_landings, access_landings, access_time}
+use Rattle.c62_meaning.specs.Packet.{register_landings, memory_landings}
 use Rattle.c62_meaning.specs.Cut.{moved, since}
 use Rattle.c62_meaning.proofs.Lookup.{In, latest-append, latest-late}
 
@@ -26,7 +28,8 @@ ltb_moved t a b =
     (λ g. le-ltb (t + a) (t + b) (omega arith) ∙ sym (le-ltb a b g))
     (cases_lt a b)
 
-later_moved : (t : ℕ) (x : Landing) (o : Option Landing) → later (moved_landing t x) (option_map (moved_landing t) o) ≡ moved_landing t (later x o)
+later_moved : (t : ℕ) (x : Landing) (o : Option Landing)
+    → later (moved_landing t x) (option_map (moved_landing t) o) ≡ moved_landing t (later x o)
 later_moved t x None = refl
 later_moved t x (Some y) = rw (ltb_moved t y.time x.time) (either (ltb y.time x.time))
   where
@@ -34,19 +37,23 @@ later_moved t x (Some y) = rw (ltb_moved t y.time x.time) (either (ltb y.time x.
     either true = refl
     either false = refl
 
-latest_moved : (cell t u : ℕ) (ls : List Landing) → latest cell (t + u) (map (moved_landing t) ls) ≡ option_map (moved_landing t) (latest cell u ls)
+latest_moved : (cell t u : ℕ) (ls : List Landing)
+    → latest cell (t + u) (map (moved_landing t) ls) ≡ option_map (moved_landing t) (latest cell u ls)
 latest_moved cell t u [] = refl
 latest_moved cell t u (x ∷ xs) =
-    rw (ltb_moved t x.time u, latest_moved cell t u xs, later_moved t x (latest cell u xs)) (either (eqb x.cell cell && ltb x.time u) (latest cell u xs))
+    rw (ltb_moved t x.time u, latest_moved cell t u xs, later_moved t x (latest cell u xs))
+    (either (eqb x.cell cell && ltb x.time u) (latest cell u xs))
   where
     either : (b : Bool) (o : Option Landing)
-        → cond b (Some (moved_landing t (later x o))) (option_map (moved_landing t) o) ≡ option_map (moved_landing t) (cond b (Some (later x o)) o)
+        → cond b (Some (moved_landing t (later x o))) (option_map (moved_landing t) o) ≡ option_map (moved_landing t)
+        (cond b (Some (later x o)) o)
     either true o = refl
     either false o = refl
 
 -- what lands behind is seen first
 latest_behind : (cell t u : ℕ) (es ls : List Landing) → ((w : Landing) → In w es → w.time < t)
-    → latest cell (t + u) (es ++ map (moved_landing t) ls) ≡ option_or (option_map (moved_landing t) (latest cell u ls)) (latest cell t es)
+    → latest cell (t + u) (es ++ map (moved_landing t) ls) ≡ option_or (option_map (moved_landing t) (latest cell u ls))
+    (latest cell t es)
 latest_behind cell t u [] ls h = latest_moved cell t u ls ∙ none (option_map (moved_landing t) (latest cell u ls))
   where
     none : (o : Option Landing) → o ≡ option_or o None
@@ -56,27 +63,35 @@ latest_behind cell t u (e ∷ es) ls h =
     let l : e.time < t = h e (inl refl) in
     let a : ltb e.time t ≡ true = lt-ltb e.time t l in
     let b : ltb e.time (t + u) ≡ true = lt-ltb e.time (t + u) (omega arith) in
-    rw (a, b, latest_behind cell t u es ls (λ w k. h w (inr k))) (either l (eqb e.cell cell) (latest cell u ls) (latest cell t es))
+    rw (a, b, latest_behind cell t u es ls (λ w k. h w (inr k)))
+    (either l (eqb e.cell cell) (latest cell u ls) (latest cell t es))
   where
     either : e.time < t → (b : Bool) (o early : Option Landing)
-        → cond (b && true) (Some (later e (option_or (option_map (moved_landing t) o) early))) (option_or (option_map (moved_landing t) o) early)
+        → cond (b && true) (Some (later e (option_or (option_map (moved_landing t) o) early)))
+        (option_or (option_map (moved_landing t) o) early)
         ≡ option_or (option_map (moved_landing t) o) (cond (b && true) (Some (later e early)) early)
     either l true None early = refl
-    either l true (Some w) early = ap Some (cond-false _ e (moved_landing t w) (le-ltb (t + w.time) e.time (omega arith)))
+    either l true (Some w) early = ap Some
+        (cond-false _ e (moved_landing t w) (le-ltb (t + w.time) e.time (omega arith)))
     either l false o early = refl
 
 pub value_behind : (cell t u : ℕ) (es ls : List Landing) (old : ℕ) → ((w : Landing) → In w es → w.time < t)
-    → value_before cell (t + u) (es ++ map (moved_landing t) ls) old ≡ value_before cell u ls (value_before cell t es old)
-value_behind cell t u es ls old h = ap (λ o. value_or o old) (latest_behind cell t u es ls h) ∙ either (latest cell u ls) (latest cell t es)
+    → value_before cell (t + u) (es ++ map (moved_landing t) ls) old ≡ value_before cell u ls
+    (value_before cell t es old)
+value_behind cell t u es ls old h = ap (λ o. value_or o old) (latest_behind cell t u es ls h)
+    ∙ either (latest cell u ls) (latest cell t es)
   where
-    either : (o early : Option Landing) → value_or (option_or (option_map (moved_landing t) o) early) old ≡ value_or o (value_or early old)
+    either : (o early : Option Landing)
+        → value_or (option_or (option_map (moved_landing t) o) early) old ≡ value_or o (value_or early old)
     either None early = refl
     either (Some w) early = refl
 
 -- up to the cut nothing that lands behind is seen
-pub value_ahead : (cell t u : ℕ) (es ls : List Landing) (old : ℕ) → u ≤ t → value_before cell u (es ++ map (moved_landing t) ls) old ≡ value_before cell u es old
+pub value_ahead : (cell t u : ℕ) (es ls : List Landing) (old : ℕ) → u ≤ t
+    → value_before cell u (es ++ map (moved_landing t) ls) old ≡ value_before cell u es old
 value_ahead cell t u es ls old l =
-    ap (λ o. value_or o old) (latest-append cell u es (map (moved_landing t) ls) [] none ∙ ap (λ xs. latest cell u xs) (append-nil es))
+    ap (λ o. value_or o old) (latest-append cell u es (map (moved_landing t) ls) [] none
+    ∙ ap (λ xs. latest cell u xs) (append-nil es))
   where
     after : (ls : List Landing) (w : Landing) → In w (map (moved_landing t) ls) → u ≤ w.time
     after [] w h = absurd h
@@ -90,36 +105,49 @@ value_ahead cell t u es ls old l =
 
 -- ---- the landings of instructions moved
 
-writes_moved : (t cycle : ℕ) (ws : List ((Reg × ℕ) × ℕ)) → map (write_landing (t + cycle)) ws ≡ map (moved_landing t) (map (write_landing cycle) ws)
+writes_moved : (t cycle : ℕ) (ws : List ((Reg × ℕ) × ℕ))
+    → map (write_landing (t + cycle)) ws ≡ map (moved_landing t) (map (write_landing cycle) ws)
 writes_moved t cycle [] = refl
 writes_moved t cycle (w ∷ ws) =
     let e : (t + cycle) + w.0.1 ≡ t + (cycle + w.0.1) = omega arith in rw (e, writes_moved t cycle ws) refl
 
-pub registers_moved : (t : ℕ) (did : Did) (ps : List Placed) → flat_map (register_landings did) (map (moved t) ps) ≡ map (moved_landing t) (flat_map (register_landings (since t did)) ps)
+pub registers_moved : (t : ℕ) (did : Did) (ps : List Placed)
+    → flat_map (register_landings did) (map (moved t) ps) ≡ map (moved_landing t)
+    (flat_map (register_landings (since t did)) ps)
 registers_moved t did [] = refl
 registers_moved t did (p ∷ ps) =
     rw (writes_moved t p.cycle (did (moved t p)).writes, registers_moved t did ps)
-    (sym (map-append (moved_landing t) (register_landings (since t did) p) (flat_map (register_landings (since t did)) ps)))
+    (sym (map-append (moved_landing t) (register_landings (since t did) p)
+    (flat_map (register_landings (since t did)) ps)))
 
-bytes_moved : (t time address : ℕ) (bytes : List ℕ) → byte_landings (t + time) address bytes ≡ map (moved_landing t) (byte_landings time address bytes)
+bytes_moved : (t time address : ℕ) (bytes : List ℕ)
+    → byte_landings (t + time) address bytes ≡ map (moved_landing t) (byte_landings time address bytes)
 bytes_moved t time address [] = refl
 bytes_moved t time address (b ∷ bs) = rw (bytes_moved t time (address + 1) bs) refl
 
-access_moved : (t time : ℕ) (o : Option MemoryAccess) → access_landings (t + time) o ≡ map (moved_landing t) (access_landings time o)
+access_moved : (t time : ℕ) (o : Option MemoryAccess)
+    → access_landings (t + time) o ≡ map (moved_landing t) (access_landings time o)
 access_moved t time None = refl
 access_moved t time (Some access) = of_value access.value
   where
-    either : (b : Bool) (bytes : List ℕ) → (if b then byte_landings (t + time) access.address bytes else []) ≡ map (moved_landing t) (if b then byte_landings time access.address bytes else [])
+    either : (b : Bool) (bytes : List ℕ)
+        → (if b then byte_landings (t + time) access.address bytes else []) ≡ map (moved_landing t)
+        (if b then byte_landings time access.address bytes else [])
     either true bytes = bytes_moved t time access.address bytes
     either false bytes = refl
 
-    of_value : (value : Option ℕ) → stored_landings (t + time) access.address access.size value ≡ map (moved_landing t) (stored_landings time access.address access.size value)
+    of_value : (value : Option ℕ)
+        → stored_landings (t + time) access.address access.size value ≡ map (moved_landing t)
+        (stored_landings time access.address access.size value)
     of_value None = refl
     of_value (Some value) = either (is_good access.address access.size) (bytes_of access.size value)
 
-pub memory_moved : (t : ℕ) (did : Did) (ps : List Placed) → flat_map (memory_landings did) (map (moved t) ps) ≡ map (moved_landing (8 * t)) (flat_map (memory_landings (since t did)) ps)
+pub memory_moved : (t : ℕ) (did : Did) (ps : List Placed)
+    → flat_map (memory_landings did) (map (moved t) ps) ≡ map (moved_landing (8 * t))
+    (flat_map (memory_landings (since t did)) ps)
 memory_moved t did [] = refl
 memory_moved t did (p ∷ ps) =
     let e : access_time (moved t p) ≡ 8 * t + access_time p = omega arith in
     rw (e, access_moved (8 * t) (access_time p) (did (moved t p)).access, memory_moved t did ps)
-    (sym (map-append (moved_landing (8 * t)) (memory_landings (since t did) p) (flat_map (memory_landings (since t did)) ps)))
+    (sym (map-append (moved_landing (8 * t)) (memory_landings (since t did) p)
+    (flat_map (memory_landings (since t did)) ps)))

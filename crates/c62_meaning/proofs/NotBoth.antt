@@ -1,5 +1,6 @@
 -- Of instructions under opposite conditions on a register that keeps its word at most one runs.
-use Rattle.std.proofs.Common.{◌≡◌, ◌≢◌, ℕ, zero, suc, ◌<◌, ◌≤◌, Bool, true, false, not, cond, eqb, List, [], ◌∷◌, get_or, set, Option, Some, refl, sym, ◌∙◌, ap, subst, inl, inr, ⊎_elim, arith}
+use Rattle.std.proofs.Common.{◌≡◌, ◌≢◌, ℕ, zero, suc, ◌<◌, ◌≤◌, Bool, true, false, not, cond, eqb, List, [], ◌∷◌}
+use Rattle.std.proofs.Common.{get_or, set, Option, Some, refl, sym, ◌∙◌, ap, subst, inl, inr, ⊎_elim, arith}
 use Rattle.std.specs.Prelude.{Contains, fold, option_map}
 use Rattle.std.proofs.lemmas.Bool.{cases_lt, false≢true, cond_both}
 use Rattle.std.proofs.lemmas.List.{get_or-set_other}
@@ -17,7 +18,8 @@ use Rattle.c62_meaning.proofs.Landings.{act_writes}
 use Rattle.c62_meaning.proofs.SameRuns.{Numbered, machine_at, serial_act}
 
 -- what writes runs
-pub writes_runs : (insn : Insn) (word : Reg → ℕ) (byte : ℕ → ℕ) (w : (Reg × ℕ) × ℕ) → In w (act_of insn word byte).writes → runs word insn ≡ true
+pub writes_runs : (insn : Insn) (word : Reg → ℕ) (byte : ℕ → ℕ) (w : (Reg × ℕ) × ℕ)
+    → In w (act_of insn word byte).writes → runs word insn ≡ true
 writes_runs insn word byte w =
     let P : Act → Type 0 = λ a. In w a.writes → runs word insn ≡ true in
     cond_both (runs word insn) (act_on insn (operand_values word insn) byte) no_act P (λ t h. t) (λ t h. absurd h)
@@ -31,7 +33,8 @@ opposite_tests false true false ne e f = false≢true f
 opposite_tests false false t ne e f = ne refl
 
 -- writes elsewhere leave a register as it was
-writes_elsewhere : (k : ℕ) (ws : List ((Reg × ℕ) × ℕ)) (rs : List ℕ) → ((w : (Reg × ℕ) × ℕ) → In w ws → index_of w.0.0 ≡ k → ⊥)
+writes_elsewhere : (k : ℕ) (ws : List ((Reg × ℕ) × ℕ)) (rs : List ℕ)
+    → ((w : (Reg × ℕ) × ℕ) → In w ws → index_of w.0.0 ≡ k → ⊥)
     → get_or (fold after_write rs ws) k 0 ≡ get_or rs k 0
 writes_elsewhere k [] rs h = refl
 writes_elsewhere k (w ∷ ws) rs h =
@@ -40,28 +43,35 @@ writes_elsewhere k (w ∷ ws) rs h =
 
 -- a register that no instruction from i on and before j writes
 abbrev pub IsUnwritten : Numbered → ℕ → ℕ → Reg → Type 0
-IsUnwritten b i j reg = (k : ℕ) (w : Reg × ℕ) → i ≤ k → k < j → Contains (register_writes (b.entry k).insn) w → index_of w.0 ≡ index_of reg → ⊥
+IsUnwritten b i j reg = (k : ℕ) (w : Reg × ℕ) → i ≤ k → k < j → Contains (register_writes (b.entry k).insn) w
+    → index_of w.0 ≡ index_of reg → ⊥
 
 -- it holds the same before both
-pub word_kept : (b : Numbered) (i j : ℕ) (reg : Reg) → i ≤ j → IsUnwritten b i j reg → word_in (machine_at b j) reg ≡ word_in (machine_at b i) reg
+pub word_kept : (b : Numbered) (i j : ℕ) (reg : Reg) → i ≤ j → IsUnwritten b i j reg
+    → word_in (machine_at b j) reg ≡ word_in (machine_at b i) reg
 word_kept b i zero reg l h = let e : zero ≡ i = omega (arith, l) in ap (λ (k : ℕ). word_in (machine_at b k) reg) e
 word_kept b i (suc j) reg l h =
     ⊎_elim {C = word_in (machine_at b (suc j)) reg ≡ word_in (machine_at b i) reg}
     (λ lt. writes_elsewhere (index_of reg) (serial_act b j).writes (machine_at b j).registers
     (λ w m e. h j w.0 (omega (arith, lt)) (omega arith)
-    (Contains_from_In w.0 (register_writes (b.entry j).insn) (act_writes (b.entry j).insn (word_in (machine_at b j)) (byte_in (machine_at b j)) w m)) e)
+    (Contains_from_In w.0 (register_writes (b.entry j).insn)
+    (act_writes (b.entry j).insn (word_in (machine_at b j)) (byte_in (machine_at b j)) w m)) e)
     ∙ word_kept b i j reg (omega (arith, lt)) (λ k w low high. h k w low (omega (arith, high))))
     (λ ge. let e : suc j ≡ i = omega (arith, ge, l) in ap (λ (k : ℕ). word_in (machine_at b k) reg) e)
     (cases_lt i (suc j))
 
 -- exclusive instructions do not both run
-pub not_both : (b : Numbered) (block : List Insn) (i j : ℕ) → i ≤ j → (x : IsExclusive block i j (b.entry i).insn (b.entry j).insn) → IsUnwritten b i j x.one.reg
-    → runs (word_in (machine_at b i)) (b.entry i).insn ≡ true → runs (word_in (machine_at b j)) (b.entry j).insn ≡ true → ⊥
+pub not_both : (b : Numbered) (block : List Insn) (i j : ℕ) → i ≤ j
+    → (x : IsExclusive block i j (b.entry i).insn (b.entry j).insn) → IsUnwritten b i j x.one.reg
+    → runs (word_in (machine_at b i)) (b.entry i).insn ≡ true → runs (word_in (machine_at b j)) (b.entry j).insn ≡ true
+    → ⊥
 not_both b block i j l x unwritten first second =
     let one : runs_of (Some x.one) (Some (word_in (machine_at b i) x.one.reg)) ≡ true
-    = subst (λ (c : Option Condition). runs_of c (option_map (λ (test : Condition). word_in (machine_at b i) test.reg) c) ≡ true) x.is_one first in
+    = subst (λ (c : Option Condition). runs_of c
+    (option_map (λ (test : Condition). word_in (machine_at b i) test.reg) c) ≡ true) x.is_one first in
     let other : runs_of (Some x.other) (Some (word_in (machine_at b j) x.other.reg)) ≡ true
-    = subst (λ (c : Option Condition). runs_of c (option_map (λ (test : Condition). word_in (machine_at b j) test.reg) c) ≡ true) x.is_other second in
+    = subst (λ (c : Option Condition). runs_of c
+    (option_map (λ (test : Condition). word_in (machine_at b j) test.reg) c) ≡ true) x.is_other second in
     let e : word_in (machine_at b j) x.other.reg ≡ word_in (machine_at b i) x.one.reg
     = ap (λ (r : Reg). word_in (machine_at b j) r) (sym x.same) ∙ word_kept b i j x.one.reg l unwritten in
     opposite_tests x.one.negated x.other.negated (eqb (word_in (machine_at b i) x.one.reg) 0) x.opposite one

@@ -2,7 +2,7 @@
 use Rattle.std.proofs.Common.{◌≡◌, Bool, true, false, not, ◌&&◌, ◌||◌, List, [], ◌∷◌, refl, subst, arith, inl, inr}
 use Rattle.std.specs.Prelude.{ℤ, pos, negsuc, int_le}
 use Rattle.std.specs.List.{list_all, list_any}
-use Rattle.std.proofs.lemmas.Bool.{and_from, and_parts, both_ways, le-leb, leb-true, or_cases, or_from, or_left, or_right, not_from_true}
+use Rattle.std.proofs.lemmas.Bool.{and_from, and_parts, both_ways, le-leb, leb-true, or_cases, or_from, not_from_true}
 use Rattle.c62_op.specs.declared.register.Side.{Side}
 use Rattle.c62_op.specs.declared.register.Side.TheVariants.{A, B}
 use Rattle.c62_op.specs.declared.register.Reg.{Reg}
@@ -15,15 +15,17 @@ use Rattle.c62_op.specs.declared.operands.AddressForm.{AddressForm}
 use Rattle.c62_op.specs.declared.operands.Offset.{Offset}
 use Rattle.c62_op.specs.declared.operands.Offset.TheVariants.{Constant as ByConstant, Register as ByRegister}
 use Rattle.c62_op.specs.declared.operands.Operands.{Operands}
-use Rattle.c62_op.specs.declared.operands.Operands.TheVariants.{Three, ConstantFirst, ConstantSecond, Two, Field, Constant, Access, Block, Register}
+use Rattle.c62_op.specs.declared.operands.Operands.TheVariants.{Three, ConstantFirst, ConstantSecond, Two, Field}
+use Rattle.c62_op.specs.declared.operands.Operands.TheVariants.{Constant, Access, Block, Register}
 use Rattle.c62_op.specs.declared.form.Reach.{Reach}
 use Rattle.c62_op.specs.declared.form.Reach.TheVariants.{Own, Crossing}
 use Rattle.c62_op.specs.declared.form.Range.{Range}
 use Rattle.c62_op.specs.declared.form.Pattern.{Pattern}
-use Rattle.c62_op.specs.declared.form.Pattern.TheVariants.{TwoSources, ConstantSource, SourceConstant, OneSource, SourceField, ConstantAlone, Address, ToBlock, ToRegister}
+use Rattle.c62_op.specs.declared.form.Pattern.TheVariants.{TwoSources, ConstantSource, SourceConstant, OneSource}
+use Rattle.c62_op.specs.declared.form.Pattern.TheVariants.{SourceField, ConstantAlone, Address, ToBlock, ToRegister}
 use Rattle.c62_op.specs.declared.form.Form.{Form}
 use Rattle.c62_op.specs.Table.{forms_of}
-use Rattle.c62_op.specs.Takes.{same_side, same_letter, may_lie, in_range, in_some_range, same_kind, holds_constants, registers_fit, takes, has_letter, has_kind}
+use Rattle.c62_op.specs.Takes.{same_side, same_letter, may_lie, in_range, holds_constants, registers_fit, takes}
 use Rattle.c62_op.specs.Shape.{crosses_to}
 use Rattle.c62_op.proofs.Registers.{same_letter-is}
 
@@ -54,8 +56,10 @@ is_within range = int_le (negsuc 32767) range.low && int_le range.high (pos 6553
 
 -- what each form keeps: on .D nothing crosses, and only ADD has a constant first
 abbrev keeps : Op → Letter → Pattern → Bool
-keeps op letter (TwoSources first second) = (is_own first || lets_first_cross op) && (not (same_letter letter D) || is_own first && is_own second)
-keeps op letter (ConstantSource range reach) = is_within range && (not (same_letter letter D) || is_own reach && is_add op)
+keeps op letter (TwoSources first second) = (is_own first || lets_first_cross op) &&
+    (not (same_letter letter D) || is_own first && is_own second)
+keeps op letter (ConstantSource range reach) = is_within range &&
+    (not (same_letter letter D) || is_own reach && is_add op)
 keeps op letter (SourceConstant reach range) = is_within range && (not (same_letter letter D) || is_own reach)
 keeps op letter (OneSource reach) = not (same_letter letter D) || is_own reach
 keeps op letter (SourceField range) = is_within range
@@ -78,25 +82,30 @@ pub record IsTaken (keep : Letter → Pattern → Bool) (operands : Operands) (u
   pub kept : keep unit.letter pattern ≡ true
 
 pub one_form : (keep : Letter → Pattern → Bool) (operands : Operands) (unit : FunctionalUnit) (forms : List Form)
-    → list_any (λ form. holds_constants form.pattern operands && same_letter form.letter unit.letter && registers_fit form.pattern unit.side operands) forms ≡ true
+    → list_any (λ form. holds_constants form.pattern operands && same_letter form.letter unit.letter && registers_fit
+    form.pattern unit.side operands) forms ≡ true
     → list_all (λ form. keep form.letter form.pattern) forms ≡ true → IsTaken keep operands unit
 one_form keep operands unit [] any all = absurd cc
 one_form keep operands unit (form ∷ forms) any all =
     let kept = and_parts (keep form.letter form.pattern) (list_all (λ (f : Form). keep f.letter f.pattern) forms) all in
-    elim (or_cases (holds_constants form.pattern operands && same_letter form.letter unit.letter && registers_fit form.pattern unit.side operands) _ any) [
+    elim (or_cases (holds_constants form.pattern operands && same_letter form.letter unit.letter && registers_fit
+    form.pattern unit.side operands) _ any) [
       | inl here ↦
-          let first = and_parts (holds_constants form.pattern operands && same_letter form.letter unit.letter) (registers_fit form.pattern unit.side operands) here in
+          let first = and_parts (holds_constants form.pattern operands && same_letter form.letter unit.letter)
+          (registers_fit form.pattern unit.side operands) here in
           let both = and_parts (holds_constants form.pattern operands) (same_letter form.letter unit.letter) first.0 in
           record {
             pattern = form.pattern;
             holds = both.0;
             lies = first.1;
-            kept = subst (λ (letter : Letter). keep letter form.pattern ≡ true) (same_letter-is form.letter unit.letter both.1) kept.0;
+            kept = subst (λ (letter : Letter). keep letter form.pattern ≡ true)
+                (same_letter-is form.letter unit.letter both.1) kept.0;
           }
       | inr later ↦ one_form keep operands unit forms later kept.1
     ]
 
-taken : (op : Op) (operands : Operands) (unit : FunctionalUnit) → takes op operands unit ≡ true → IsTaken (keeps op) operands unit
+taken : (op : Op) (operands : Operands) (unit : FunctionalUnit) → takes op operands unit ≡ true
+    → IsTaken (keeps op) operands unit
 taken op operands unit any = one_form (keeps op) operands unit (forms_of op) any (all_keep op)
 
 -- ---- where registers lie
@@ -110,43 +119,55 @@ one_side B A A h e = cc
 one_side B A B h e = cc
 
 own_first : (op : Op) (pattern : Pattern) (unit : FunctionalUnit) (a b d : Reg)
-    → holds_constants pattern (Three a b d) ≡ true → registers_fit pattern unit.side (Three a b d) ≡ true → keeps op unit.letter pattern ≡ true → lets_first_cross op ≡ false
+    → holds_constants pattern (Three a b d) ≡ true → registers_fit pattern unit.side (Three a b d) ≡ true
+    → keeps op unit.letter pattern ≡ true → lets_first_cross op ≡ false
     → same_side a.side d.side ≡ true
 own_first op (TwoSources Own second) unit a b d holds lies kept fixed =
-    let parts = and_parts (same_side a.side unit.side && may_lie second unit.side b) (same_side d.side unit.side) lies in
-    one_side a.side d.side unit.side (and_parts (same_side a.side unit.side) (may_lie second unit.side b) parts.0).0 parts.1
+    let parts = and_parts (same_side a.side unit.side && may_lie second unit.side b) (same_side d.side unit.side) lies
+    in
+    one_side a.side d.side unit.side (and_parts (same_side a.side unit.side) (may_lie second unit.side b) parts.0).0
+    parts.1
 own_first op (TwoSources Crossing second) unit a b d holds lies kept fixed =
     absurd (both_ways (lets_first_cross op) fixed (and_parts (lets_first_cross op) _ kept).0)
 own_first op _ unit a b d holds lies kept fixed = absurd cc
 
 -- the first source of three registers lies in the destination's file, but with SUB and the shifts
-pub first_in_file : (op : Op) (unit : FunctionalUnit) (a b d : Reg) → takes op (Three a b d) unit ≡ true → lets_first_cross op ≡ false → same_side a.side d.side ≡ true
+pub first_in_file : (op : Op) (unit : FunctionalUnit) (a b d : Reg) → takes op (Three a b d) unit ≡ true
+    → lets_first_cross op ≡ false → same_side a.side d.side ≡ true
 first_in_file op unit a b d taking fixed =
     let t = taken op (Three a b d) unit taking in own_first op t.pattern unit a b d t.holds t.lies t.kept fixed
 
 at_d : (letter : Letter) (x : Bool) → same_letter letter D ≡ true → (not (same_letter letter D) || x) ≡ true → x ≡ true
 at_d letter x is_d or = rw is_d at or
 
-own_reach : (reach : Reach) (side : Side) (reg : Reg) → is_own reach ≡ true → may_lie reach side reg ≡ true → not (same_side reg.side side) ≡ false
+own_reach : (reach : Reach) (side : Side) (reg : Reg) → is_own reach ≡ true → may_lie reach side reg ≡ true
+    → not (same_side reg.side side) ≡ false
 own_reach Own side reg own lies = not_from_true (same_side reg.side side) lies
 own_reach Crossing side reg own lies = absurd cc
 
 none_crosses : (op : Op) (pattern : Pattern) (unit : FunctionalUnit) (operands : Operands)
-    → holds_constants pattern operands ≡ true → registers_fit pattern unit.side operands ≡ true → keeps op unit.letter pattern ≡ true → same_letter unit.letter D ≡ true
+    → holds_constants pattern operands ≡ true → registers_fit pattern unit.side operands ≡ true
+    → keeps op unit.letter pattern ≡ true → same_letter unit.letter D ≡ true
     → crosses_to unit.side operands ≡ false
 none_crosses op (TwoSources first second) unit (Three a b d) holds lies kept is_d =
-    let owns = at_d unit.letter (is_own first && is_own second) is_d (and_parts (is_own first || lets_first_cross op) _ kept).1 in
+    let owns = at_d unit.letter (is_own first && is_own second) is_d
+    (and_parts (is_own first || lets_first_cross op) _ kept).1 in
     let own = and_parts (is_own first) (is_own second) owns in
-    let both = and_parts (may_lie first unit.side a) (may_lie second unit.side b) (and_parts (may_lie first unit.side a && may_lie second unit.side b) (same_side d.side unit.side) lies).0 in
+    let both = and_parts (may_lie first unit.side a) (may_lie second unit.side b)
+    (and_parts (may_lie first unit.side a && may_lie second unit.side b) (same_side d.side unit.side) lies).0 in
     or_from _ _ (own_reach first unit.side a own.0 both.0) (own_reach second unit.side b own.1 both.1)
 none_crosses op (ConstantSource range reach) unit (ConstantFirst k a d) holds lies kept is_d =
     let owns = at_d unit.letter (is_own reach && is_add op) is_d (and_parts (is_within range) _ kept).1 in
-    own_reach reach unit.side a (and_parts (is_own reach) (is_add op) owns).0 (and_parts (may_lie reach unit.side a) (same_side d.side unit.side) lies).0
+    own_reach reach unit.side a (and_parts (is_own reach) (is_add op) owns).0
+    (and_parts (may_lie reach unit.side a) (same_side d.side unit.side) lies).0
 none_crosses op (SourceConstant reach range) unit (ConstantSecond a k d) holds lies kept is_d =
-    own_reach reach unit.side a (at_d unit.letter (is_own reach) is_d (and_parts (is_within range) _ kept).1) (and_parts (may_lie reach unit.side a) (same_side d.side unit.side) lies).0
+    own_reach reach unit.side a (at_d unit.letter (is_own reach) is_d (and_parts (is_within range) _ kept).1)
+    (and_parts (may_lie reach unit.side a) (same_side d.side unit.side) lies).0
 none_crosses op (OneSource reach) unit (Two a d) holds lies kept is_d =
-    own_reach reach unit.side a (at_d unit.letter (is_own reach) is_d kept) (and_parts (may_lie reach unit.side a) (same_side d.side unit.side) lies).0
-none_crosses op (SourceField range) unit (Field a k m d) holds lies kept is_d = not_from_true _ (and_parts (same_side a.side unit.side) (same_side d.side unit.side) lies).0
+    own_reach reach unit.side a (at_d unit.letter (is_own reach) is_d kept)
+    (and_parts (may_lie reach unit.side a) (same_side d.side unit.side) lies).0
+none_crosses op (SourceField range) unit (Field a k m d) holds lies kept is_d = not_from_true _
+    (and_parts (same_side a.side unit.side) (same_side d.side unit.side) lies).0
 none_crosses op (ConstantAlone range) unit (Constant k d) holds lies kept is_d = refl
 none_crosses op (Address range) unit (Access reg base form offset) holds lies kept is_d = refl
 none_crosses op ToBlock unit (Block number) holds lies kept is_d = refl
@@ -154,30 +175,38 @@ none_crosses op ToRegister unit (Register target) holds lies kept is_d = refl
 none_crosses op _ unit _ holds lies kept is_d = absurd cc
 
 -- nothing crosses to .D
-pub uncrossed_on_d : (op : Op) (operands : Operands) (unit : FunctionalUnit) → takes op operands unit ≡ true → same_letter unit.letter D ≡ true → crosses_to unit.side operands ≡ false
+pub uncrossed_on_d : (op : Op) (operands : Operands) (unit : FunctionalUnit) → takes op operands unit ≡ true
+    → same_letter unit.letter D ≡ true → crosses_to unit.side operands ≡ false
 uncrossed_on_d op operands unit taking is_d =
     let t = taken op operands unit taking in none_crosses op t.pattern unit operands t.holds t.lies t.kept is_d
 
 add_alone : (op : Op) (pattern : Pattern) (letter : Letter) (k : ℤ) (a d : Reg)
-    → holds_constants pattern (ConstantFirst k a d) ≡ true → keeps op letter pattern ≡ true → same_letter letter D ≡ true → is_add op ≡ true
+    → holds_constants pattern (ConstantFirst k a d) ≡ true → keeps op letter pattern ≡ true
+    → same_letter letter D ≡ true → is_add op ≡ true
 add_alone op (ConstantSource range reach) letter k a d holds kept is_d =
-    (and_parts (is_own reach) (is_add op) (at_d letter (is_own reach && is_add op) is_d (and_parts (is_within range) _ kept).1)).1
+    (and_parts (is_own reach) (is_add op)
+    (at_d letter (is_own reach && is_add op) is_d (and_parts (is_within range) _ kept).1)).1
 add_alone op _ letter k a d holds kept is_d = absurd cc
 
 -- on .D only ADD has a constant first
-pub constant_on_d : (op : Op) (unit : FunctionalUnit) (k : ℤ) (a d : Reg) → takes op (ConstantFirst k a d) unit ≡ true → same_letter unit.letter D ≡ true → is_add op ≡ true
+pub constant_on_d : (op : Op) (unit : FunctionalUnit) (k : ℤ) (a d : Reg) → takes op (ConstantFirst k a d) unit ≡ true
+    → same_letter unit.letter D ≡ true → is_add op ≡ true
 constant_on_d op unit k a d taking is_d =
     let t = taken op (ConstantFirst k a d) unit taking in add_alone op t.pattern unit.letter k a d t.holds t.kept is_d
 
 access_letter : (op : Op) (pattern : Pattern) (letter : Letter) (reg base : Reg) (form : AddressForm) (offset : Offset)
-    → holds_constants pattern (Access reg base form offset) ≡ true → keeps op letter pattern ≡ true → same_letter letter D ≡ true
-access_letter op (Address range) letter reg base form offset holds kept = (and_parts (same_letter letter D) (is_within range) kept).0
+    → holds_constants pattern (Access reg base form offset) ≡ true → keeps op letter pattern ≡ true
+    → same_letter letter D ≡ true
+access_letter op (Address range) letter reg base form offset holds kept =
+    (and_parts (same_letter letter D) (is_within range) kept).0
 access_letter op _ letter reg base form offset holds kept = absurd cc
 
 -- loads and stores stand on .D
-pub access_on_d : (op : Op) (unit : FunctionalUnit) (reg base : Reg) (form : AddressForm) (offset : Offset) → takes op (Access reg base form offset) unit ≡ true → same_letter unit.letter D ≡ true
+pub access_on_d : (op : Op) (unit : FunctionalUnit) (reg base : Reg) (form : AddressForm) (offset : Offset)
+    → takes op (Access reg base form offset) unit ≡ true → same_letter unit.letter D ≡ true
 access_on_d op unit reg base form offset taking =
-    let t = taken op (Access reg base form offset) unit taking in access_letter op t.pattern unit.letter reg base form offset t.holds t.kept
+    let t = taken op (Access reg base form offset) unit taking in access_letter op t.pattern unit.letter reg base form
+    offset t.holds t.kept
 
 -- ---- constants
 
@@ -193,11 +222,8 @@ narrow_in : (range : Range) (k : ℤ) → is_within range ≡ true → in_range 
 narrow_in range k within inside =
     let ends = and_parts (int_le (negsuc 32767) range.low) (int_le range.high (pos 65535)) within in
     let here = and_parts (int_le range.low k) (int_le k range.high) inside in
-    and_from (int_le (negsuc 32767) k) (int_le k (pos 65535)) (int_le-trans (negsuc 32767) range.low k ends.0 here.0) (int_le-trans k range.high (pos 65535) here.1 ends.1)
-
-abbrev offset_constants : Offset → List ℤ
-offset_constants (ByConstant k) = k ∷ []
-offset_constants (ByRegister reg) = []
+    and_from (int_le (negsuc 32767) k) (int_le k (pos 65535)) (int_le-trans (negsuc 32767) range.low k ends.0 here.0)
+    (int_le-trans k range.high (pos 65535) here.1 ends.1)
 
 -- the constants among operands
 abbrev pub constants_of : Operands → List ℤ
@@ -208,18 +234,24 @@ constants_of (Constant k d) = k ∷ []
 constants_of (Access reg base form (ByConstant k)) = k ∷ []
 constants_of _ = []
 
-narrow_one : (range : Range) (k : ℤ) → is_within range ≡ true → in_range range k ≡ true → list_all is_narrow (k ∷ []) ≡ true
+narrow_one : (range : Range) (k : ℤ) → is_within range ≡ true → in_range range k ≡ true
+    → list_all is_narrow (k ∷ []) ≡ true
 narrow_one range k within inside = and_from (is_narrow k) true (narrow_in range k within inside) refl
 
 all_narrow : (op : Op) (pattern : Pattern) (letter : Letter) (operands : Operands)
-    → holds_constants pattern operands ≡ true → keeps op letter pattern ≡ true → list_all is_narrow (constants_of operands) ≡ true
-all_narrow op (ConstantSource range reach) letter (ConstantFirst k a d) holds kept = narrow_one range k (and_parts (is_within range) _ kept).0 holds
-all_narrow op (SourceConstant reach range) letter (ConstantSecond a k d) holds kept = narrow_one range k (and_parts (is_within range) _ kept).0 holds
+    → holds_constants pattern operands ≡ true → keeps op letter pattern ≡ true
+    → list_all is_narrow (constants_of operands) ≡ true
+all_narrow op (ConstantSource range reach) letter (ConstantFirst k a d) holds kept = narrow_one range k
+    (and_parts (is_within range) _ kept).0 holds
+all_narrow op (SourceConstant reach range) letter (ConstantSecond a k d) holds kept = narrow_one range k
+    (and_parts (is_within range) _ kept).0 holds
 all_narrow op (SourceField range) letter (Field a k m d) holds kept =
     let both = and_parts (in_range range k) (in_range range m) holds in
-    and_from (is_narrow k) (list_all is_narrow (m ∷ [])) (narrow_in range k kept both.0) (narrow_one range m kept both.1)
+    and_from (is_narrow k) (list_all is_narrow (m ∷ [])) (narrow_in range k kept both.0)
+    (narrow_one range m kept both.1)
 all_narrow op (ConstantAlone range) letter (Constant k d) holds kept = narrow_one range k kept holds
-all_narrow op (Address range) letter (Access reg base form (ByConstant k)) holds kept = narrow_one range k (and_parts (same_letter letter D) (is_within range) kept).1 holds
+all_narrow op (Address range) letter (Access reg base form (ByConstant k)) holds kept = narrow_one range k
+    (and_parts (same_letter letter D) (is_within range) kept).1 holds
 all_narrow op pattern letter (Access reg base form (ByRegister offset)) holds kept = refl
 all_narrow op pattern letter (Three a b d) holds kept = refl
 all_narrow op pattern letter (Two a d) holds kept = refl
@@ -228,45 +260,7 @@ all_narrow op pattern letter (Register target) holds kept = refl
 all_narrow op _ letter _ holds kept = absurd cc
 
 -- the constants of an instruction lie between -32768 and 65535
-pub narrow_constants : (op : Op) (operands : Operands) (unit : FunctionalUnit) → takes op operands unit ≡ true → list_all is_narrow (constants_of operands) ≡ true
+pub narrow_constants : (op : Op) (operands : Operands) (unit : FunctionalUnit) → takes op operands unit ≡ true
+    → list_all is_narrow (constants_of operands) ≡ true
 narrow_constants op operands unit taking =
     let t = taken op operands unit taking in all_narrow op t.pattern unit.letter operands t.holds t.kept
-
--- ---- weaker tests
-
-any_weaker : (p q : Form → Bool) (forms : List Form) → ((form : Form) → p form ≡ true → q form ≡ true) → list_any p forms ≡ true → list_any q forms ≡ true
-any_weaker p q [] weaker any = absurd cc
-any_weaker p q (form ∷ forms) weaker any =
-    elim (or_cases (p form) (list_any p forms) any) [
-      | inl here ↦ or_left (q form) (list_any q forms) (weaker form here)
-      | inr later ↦ or_right (q form) (list_any q forms) (any_weaker p q forms weaker later)
-    ]
-
-pub taken_letter : (op : Op) (operands : Operands) (unit : FunctionalUnit) → takes op operands unit ≡ true → has_letter op unit.letter ≡ true
-taken_letter op operands unit taking =
-    any_weaker (λ form. holds_constants form.pattern operands && same_letter form.letter unit.letter && registers_fit form.pattern unit.side operands)
-    (λ form. same_letter form.letter unit.letter) (forms_of op)
-    (λ form here. (and_parts (holds_constants form.pattern operands) (same_letter form.letter unit.letter)
-    (and_parts (holds_constants form.pattern operands && same_letter form.letter unit.letter) (registers_fit form.pattern unit.side operands) here).0).1) taking
-
-kind_held : (pattern : Pattern) (operands : Operands) → holds_constants pattern operands ≡ true → same_kind pattern operands ≡ true
-kind_held (ConstantSource range reach) (ConstantFirst k a d) holds = refl
-kind_held (SourceConstant reach range) (ConstantSecond a k d) holds = refl
-kind_held (SourceField range) (Field a k m d) holds = refl
-kind_held (ConstantAlone range) (Constant k d) holds = refl
-kind_held (Address range) (Access reg base form offset) holds = refl
-kind_held pattern operands holds = holds
-
-pub taken_kind : (op : Op) (operands : Operands) (unit : FunctionalUnit) → takes op operands unit ≡ true → has_kind op operands ≡ true
-taken_kind op operands unit taking =
-    any_weaker (λ form. holds_constants form.pattern operands && same_letter form.letter unit.letter && registers_fit form.pattern unit.side operands)
-    (λ form. same_kind form.pattern operands) (forms_of op)
-    (λ form here. kind_held form.pattern operands (and_parts (holds_constants form.pattern operands) (same_letter form.letter unit.letter)
-    (and_parts (holds_constants form.pattern operands && same_letter form.letter unit.letter) (registers_fit form.pattern unit.side operands) here).0).0) taking
-
-pub taken_in_range : (op : Op) (operands : Operands) (unit : FunctionalUnit) → takes op operands unit ≡ true → in_some_range op operands ≡ true
-taken_in_range op operands unit taking =
-    any_weaker (λ form. holds_constants form.pattern operands && same_letter form.letter unit.letter && registers_fit form.pattern unit.side operands)
-    (λ form. holds_constants form.pattern operands) (forms_of op)
-    (λ form here. (and_parts (holds_constants form.pattern operands) (same_letter form.letter unit.letter)
-    (and_parts (holds_constants form.pattern operands && same_letter form.letter unit.letter) (registers_fit form.pattern unit.side operands) here).0).0) taking

@@ -10,7 +10,8 @@ use Rattle.c62_op.specs.declared.register.Unit.{Unit as FunctionalUnit}
 use Rattle.c62_op.specs.declared.operands.Op.{Op}
 use Rattle.c62_op.specs.declared.operands.Op.TheVariants.{Add}
 use Rattle.c62_op.specs.declared.operands.Operands.{Operands}
-use Rattle.c62_op.specs.declared.operands.Operands.TheVariants.{Three, ConstantFirst, ConstantSecond, Two, Field, Constant, Access, Block, Register}
+use Rattle.c62_op.specs.declared.operands.Operands.TheVariants.{Three, ConstantFirst, ConstantSecond, Two, Field}
+use Rattle.c62_op.specs.declared.operands.Operands.TheVariants.{Constant, Access, Block, Register}
 use Rattle.c62_op.specs.Takes.{takes}
 use Rattle.c62_op.specs.Shape.{delay_of, is_load, changes_base, writes_of}
 use Rattle.c62_op.specs.Word.{word, sg_half, lo, hi, sum, difference}
@@ -26,26 +27,37 @@ delay-of-kind _ = record { multiply = refl; load = refl; branch = refl; other = 
 IsOn : Side → Reg × ℕ → Type 0
 IsOn side write = write.0.side ≡ side
 
-one-write : (op : Op) (operands : Operands) (unit : FunctionalUnit) (d : Reg) (delay : ℕ) → unit.side ≡ d.side → All (IsOn unit.side) ((d, delay) ∷ [])
+one-write : (op : Op) (operands : Operands) (unit : FunctionalUnit) (d : Reg) (delay : ℕ) → unit.side ≡ d.side
+    → All (IsOn unit.side) ((d, delay) ∷ [])
 unfolding IsOn
 one-write op operands unit d delay e = All-cons (IsOn unit.side) (d, delay) [] (sym e) (All-nil (IsOn unit.side))
 
-own-writes : (op : Op) (operands : Operands) (unit : FunctionalUnit) → takes op operands unit ≡ true → is_load op ≡ false → All (IsOn unit.side) (writes_of op operands)
-own-writes op (Three a b d) unit h unloaded = one-write op (Three a b d) unit d (delay_of op) (takes_on_side op (Three a b d) unit d.side refl h)
-own-writes op (ConstantFirst k a d) unit h unloaded = one-write op (ConstantFirst k a d) unit d (delay_of op) (takes_on_side op (ConstantFirst k a d) unit d.side refl h)
-own-writes op (ConstantSecond a k d) unit h unloaded = one-write op (ConstantSecond a k d) unit d (delay_of op) (takes_on_side op (ConstantSecond a k d) unit d.side refl h)
-own-writes op (Two a d) unit h unloaded = one-write op (Two a d) unit d (delay_of op) (takes_on_side op (Two a d) unit d.side refl h)
-own-writes op (Field a k m d) unit h unloaded = one-write op (Field a k m d) unit d (delay_of op) (takes_on_side op (Field a k m d) unit d.side refl h)
-own-writes op (Constant k d) unit h unloaded = one-write op (Constant k d) unit d (delay_of op) (takes_on_side op (Constant k d) unit d.side refl h)
+own-writes : (op : Op) (operands : Operands) (unit : FunctionalUnit) → takes op operands unit ≡ true
+    → is_load op ≡ false → All (IsOn unit.side) (writes_of op operands)
+own-writes op (Three a b d) unit h unloaded = one-write op (Three a b d) unit d (delay_of op)
+    (takes_on_side op (Three a b d) unit d.side refl h)
+own-writes op (ConstantFirst k a d) unit h unloaded = one-write op (ConstantFirst k a d) unit d (delay_of op)
+    (takes_on_side op (ConstantFirst k a d) unit d.side refl h)
+own-writes op (ConstantSecond a k d) unit h unloaded = one-write op (ConstantSecond a k d) unit d (delay_of op)
+    (takes_on_side op (ConstantSecond a k d) unit d.side refl h)
+own-writes op (Two a d) unit h unloaded = one-write op (Two a d) unit d (delay_of op)
+    (takes_on_side op (Two a d) unit d.side refl h)
+own-writes op (Field a k m d) unit h unloaded = one-write op (Field a k m d) unit d (delay_of op)
+    (takes_on_side op (Field a k m d) unit d.side refl h)
+own-writes op (Constant k d) unit h unloaded = one-write op (Constant k d) unit d (delay_of op)
+    (takes_on_side op (Constant k d) unit d.side refl h)
 own-writes op (Access reg base form offset) unit h unloaded =
     All-append (IsOn unit.side) _ _
     (cond_both (changes_base form) ((base, 0) ∷ []) [] (All (IsOn unit.side))
-    (λ _. one-write op (Access reg base form offset) unit base 0 (takes_on_side op (Access reg base form offset) unit base.side refl h)) (λ _. All-nil (IsOn unit.side)))
-    (cond_both (is_load op) ((reg, delay_of op) ∷ []) [] (All (IsOn unit.side)) (λ yes. absurd (both_ways (is_load op) unloaded yes)) (λ _. All-nil (IsOn unit.side)))
+    (λ _. one-write op (Access reg base form offset) unit base 0
+    (takes_on_side op (Access reg base form offset) unit base.side refl h)) (λ _. All-nil (IsOn unit.side)))
+    (cond_both (is_load op) ((reg, delay_of op) ∷ []) [] (All (IsOn unit.side))
+    (λ yes. absurd (both_ways (is_load op) unloaded yes)) (λ _. All-nil (IsOn unit.side)))
 own-writes op (Block number) unit h unloaded = All-nil (IsOn unit.side)
 own-writes op (Register target) unit h unloaded = All-nil (IsOn unit.side)
 
-pub writes-own : (op : Op) (operands : Operands) (unit : FunctionalUnit) → takes op operands unit ≡ true → is_load op ≡ false
+pub writes-own : (op : Op) (operands : Operands) (unit : FunctionalUnit) → takes op operands unit ≡ true
+    → is_load op ≡ false
     → All (λ (write : Reg × ℕ). write.0.side ≡ unit.side) (writes_of op operands)
 unfolding IsOn
 writes-own op operands unit h unloaded = own-writes op operands unit h unloaded

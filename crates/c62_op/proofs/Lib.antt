@@ -3,6 +3,8 @@ pub mod Registers
 pub mod SideLemmas
 pub mod UnitOrder
 pub mod FormLemmas
+pub mod TakenTests
+pub mod Chains
 pub mod SomewhereLemmas
 pub mod TakerLemmas
 pub mod SourceLemmas

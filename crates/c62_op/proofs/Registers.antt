@@ -63,13 +63,15 @@ same_unit-is a b h =
     let parts = and_parts (same_letter a.letter b.letter) (same_side a.side b.side) h in
     let letter : a.letter ≡ b.letter = same_letter-is a.letter b.letter parts.0 in
     let side : a.side ≡ b.side = same_side-is a.side b.side parts.1 in
-    ap (λ (l : Letter). record { letter = l; side = a.side }) letter ∙ ap (λ (s : Side). record { letter = b.letter; side = s }) side
+    ap (λ (l : Letter). record { letter = l; side = a.side }) letter
+    ∙ ap (λ (s : Side). record { letter = b.letter; side = s }) side
 
 pub same_unit-refl : (a : FunctionalUnit) → same_unit a a ≡ true
 same_unit-refl a = rw (same_letter-refl a.letter, same_side-refl a.side) refl
 
 -- each register has an index of its own
-pub same_parts : (s t : Side) (m n : ℕ) → m < 16 → n < 16 → first_of s + m ≡ first_of t + n → (same_side s t && (m == n)) ≡ true
+pub same_parts : (s t : Side) (m n : ℕ) → m < 16 → n < 16 → first_of s + m ≡ first_of t + n
+    → (same_side s t && (m == n)) ≡ true
 same_parts s t m n low below e = grind (arith, nat_tests)
 
 pub same_register : (a b : Reg) → register_index a ≡ register_index b → a ≡ b

@@ -17,7 +17,8 @@ on_side a b A = a
 on_side a b B = b
 
 by_letter : (letter : Letter) (holds a b : Bool)
-    → list_any (λ unit. holds && same_letter letter unit.letter && on_side a b unit.side) all_units ≡ (holds && (a || b))
+    → list_any (λ unit. holds && same_letter letter unit.letter && on_side a b unit.side) all_units ≡
+    (holds && (a || b))
 by_letter letter false a b = refl
 by_letter L true true b = refl
 by_letter _ true true b = refl
@@ -26,9 +27,11 @@ by_letter _ true false true = refl
 by_letter L true false false = refl
 by_letter _ true false false = refl
 
-one_form : (form : Form) (operands : Operands) → list_any (takes_by form operands) all_units ≡ takes_somewhere form operands
+one_form : (form : Form) (operands : Operands)
+    → list_any (takes_by form operands) all_units ≡ takes_somewhere form operands
 one_form form operands =
-    by_letter form.letter (holds_constants form.pattern operands) (registers_fit form.pattern A operands) (registers_fit form.pattern B operands)
+    by_letter form.letter (holds_constants form.pattern operands) (registers_fit form.pattern A operands)
+    (registers_fit form.pattern B operands)
 
 regrouped : (a b c d : Bool) → ((a || b) || (c || d)) ≡ ((a || c) || (b || d))
 regrouped true b c d = refl
@@ -38,14 +41,17 @@ regrouped false false c d = refl
 
 any_or : {X : Type 0} (f g : X → Bool) (xs : List X) → list_any (λ x. f x || g x) xs ≡ (list_any f xs || list_any g xs)
 any_or f g [] = refl
-any_or f g (x ∷ xs) = ap (λ (later : Bool). (f x || g x) || later) (any_or f g xs) ∙ regrouped (f x) (g x) (list_any f xs) (list_any g xs)
+any_or f g (x ∷ xs) = ap (λ (later : Bool). (f x || g x) || later) (any_or f g xs)
+    ∙ regrouped (f x) (g x) (list_any f xs) (list_any g xs)
 
 by_forms : (operands : Operands) (forms : List Form)
-    → list_any (λ unit. list_any (λ form. takes_by form operands unit) forms) all_units ≡ list_any (λ form. takes_somewhere form operands) forms
+    → list_any (λ unit. list_any (λ form. takes_by form operands unit) forms) all_units ≡ list_any
+    (λ form. takes_somewhere form operands) forms
 by_forms operands [] = refl
 by_forms operands (form ∷ forms) =
     any_or (takes_by form operands) (λ unit. list_any (λ f. takes_by f operands unit) forms) all_units
-    ∙ ap (λ (first : Bool). first || list_any (λ unit. list_any (λ f. takes_by f operands unit) forms) all_units) (one_form form operands)
+    ∙ ap (λ (first : Bool). first || list_any (λ unit. list_any (λ f. takes_by f operands unit) forms) all_units)
+    (one_form form operands)
     ∙ ap (λ (later : Bool). takes_somewhere form operands || later) (by_forms operands forms)
 
 pub somewhere : (op : Op) (operands : Operands)

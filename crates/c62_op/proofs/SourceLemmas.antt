@@ -12,11 +12,13 @@ use Rattle.c62_op.specs.declared.operands.Op.TheVariants.{Add}
 use Rattle.c62_op.specs.declared.operands.AddressForm.{AddressForm}
 use Rattle.c62_op.specs.declared.operands.Offset.{Offset}
 use Rattle.c62_op.specs.declared.operands.Operands.{Operands}
-use Rattle.c62_op.specs.declared.operands.Operands.TheVariants.{Three, ConstantFirst, ConstantSecond, Two, Field, Constant, Access, Block, Register}
+use Rattle.c62_op.specs.declared.operands.Operands.TheVariants.{Three, ConstantFirst, ConstantSecond, Two, Field}
+use Rattle.c62_op.specs.declared.operands.Operands.TheVariants.{Constant, Access, Block, Register}
 use Rattle.c62_op.specs.declared.form.Reach.{Reach}
 use Rattle.c62_op.specs.declared.form.Reach.TheVariants.{Own, Crossing}
 use Rattle.c62_op.specs.declared.form.Pattern.{Pattern}
-use Rattle.c62_op.specs.declared.form.Pattern.TheVariants.{TwoSources, ConstantSource, SourceConstant, OneSource, SourceField, Address, ToRegister}
+use Rattle.c62_op.specs.declared.form.Pattern.TheVariants.{TwoSources, ConstantSource, SourceConstant, OneSource}
+use Rattle.c62_op.specs.declared.form.Pattern.TheVariants.{SourceField, Address, ToRegister}
 use Rattle.c62_op.specs.Table.{forms_of}
 use Rattle.c62_op.specs.Takes.{same_side, may_lie, offset_on, holds_constants, registers_fit, takes}
 use Rattle.c62_op.specs.Shape.{side_of}
@@ -26,7 +28,8 @@ use Rattle.c62_op.proofs.FormLemmas.{IsTaken, one_form, is_own}
 
 -- which sources each form lets cross: at most one, and none that the operation has fixed
 abbrev stays : Op → Pattern → Bool
-stays op (TwoSources first second) = (is_own first || is_own second) && (not (is_first_fixed op) || is_own first) && (not (is_second_fixed op) || is_own second)
+stays op (TwoSources first second) = (is_own first || is_own second) && (not (is_first_fixed op) || is_own first) &&
+    (not (is_second_fixed op) || is_own second)
 stays op (ConstantSource range reach) = not (is_second_fixed op) || is_own reach
 stays op (SourceConstant reach range) = not (is_first_fixed op) || is_own reach
 stays op (OneSource reach) = not (is_first_fixed op) || is_own reach
@@ -36,7 +39,8 @@ all_stay : (op : Op) → list_all (λ form. stays op form.pattern) (forms_of op)
 all_stay Add = refl
 all_stay _ = refl
 
-taken : (op : Op) (operands : Operands) (unit : FunctionalUnit) → takes op operands unit ≡ true → IsTaken (λ letter. stays op) operands unit
+taken : (op : Op) (operands : Operands) (unit : FunctionalUnit) → takes op operands unit ≡ true
+    → IsTaken (λ letter. stays op) operands unit
 taken op operands unit any = one_form (λ letter. stays op) operands unit (forms_of op) any (all_stay op)
 
 -- ---- tests
@@ -48,7 +52,8 @@ one_of false true false y any f g = refl
 one_of false true true y any f g = g refl
 one_of false false x y any f g = absurd cc
 
-unless_fixed : (fixed own across : Bool) → (not fixed || own) ≡ true → (own ≡ true → across ≡ false) → (fixed && across) ≡ false
+unless_fixed : (fixed own across : Bool) → (not fixed || own) ≡ true → (own ≡ true → across ≡ false)
+    → (fixed && across) ≡ false
 unless_fixed true own across kept f = f kept
 unless_fixed false own across kept f = refl
 
@@ -58,7 +63,8 @@ not_second false = refl
 
 -- ---- where registers lie
 
-in_file : (reach : Reach) (side : Side) (a d : Reg) → may_lie reach side a ≡ true → same_side d.side side ≡ true → is_own reach ≡ true
+in_file : (reach : Reach) (side : Side) (a d : Reg) → may_lie reach side a ≡ true → same_side d.side side ≡ true
+    → is_own reach ≡ true
     → not (same_side a.side d.side) ≡ false
 in_file Own side a d lies on own =
     rw (same_side-is a.side side lies, same_side-is d.side side on, same_side-refl side) refl
@@ -66,19 +72,23 @@ in_file Crossing side a d lies on own = absurd cc
 
 -- what two sources keep: they do not both lie across, and a fixed one does not
 pub record KeepsSources (op : Op) (operands : Operands) : Type 0 where
-  pub one : (lies_across (side_of operands) (first_source operands) && lies_across (side_of operands) (second_source operands)) ≡ false
+  pub one : (lies_across (side_of operands) (first_source operands) && lies_across (side_of operands)
+      (second_source operands)) ≡ false
   pub first : (is_first_fixed op && lies_across (side_of operands) (first_source operands)) ≡ false
   pub second : (is_second_fixed op && lies_across (side_of operands) (second_source operands)) ≡ false
 
 keeps_sources : (op : Op) (pattern : Pattern) (side : Side) (operands : Operands)
-    → holds_constants pattern operands ≡ true → registers_fit pattern side operands ≡ true → stays op pattern ≡ true → KeepsSources op operands
+    → holds_constants pattern operands ≡ true → registers_fit pattern side operands ≡ true → stays op pattern ≡ true
+    → KeepsSources op operands
 keeps_sources op (TwoSources first second) side (Three a b d) holds lies kept =
     let on = and_parts (may_lie first side a && may_lie second side b) (same_side d.side side) lies in
     let both = and_parts (may_lie first side a) (may_lie second side b) on.0 in
-    let fixed = and_parts ((is_own first || is_own second) && (not (is_first_fixed op) || is_own first)) (not (is_second_fixed op) || is_own second) kept in
+    let fixed = and_parts ((is_own first || is_own second) && (not (is_first_fixed op) || is_own first))
+    (not (is_second_fixed op) || is_own second) kept in
     let own = and_parts (is_own first || is_own second) (not (is_first_fixed op) || is_own first) fixed.0 in
     record {
-      one = one_of (is_own first) (is_own second) _ _ own.0 (in_file first side a d both.0 on.1) (in_file second side b d both.1 on.1);
+      one = one_of (is_own first) (is_own second) _ _ own.0 (in_file first side a d both.0 on.1)
+          (in_file second side b d both.1 on.1);
       first = unless_fixed (is_first_fixed op) (is_own first) _ own.1 (in_file first side a d both.0 on.1);
       second = unless_fixed (is_second_fixed op) (is_own second) _ fixed.1 (in_file second side b d both.1 on.1);
     }
@@ -110,17 +120,23 @@ keeps_sources op (SourceField range) side (Field a k m d) holds lies kept =
       first = rw (in_file Own side a d on.0 on.1 refl) (not_second (is_first_fixed op));
       second = not_second (is_second_fixed op);
     }
-keeps_sources op pattern side (Constant k d) holds lies kept = record { one = refl; first = not_second (is_first_fixed op); second = not_second (is_second_fixed op) }
+keeps_sources op pattern side (Constant k d) holds lies kept = record
+    { one = refl; first = not_second (is_first_fixed op); second = not_second (is_second_fixed op) }
 keeps_sources op pattern side (Access reg base form offset) holds lies kept =
     record { one = refl; first = not_second (is_first_fixed op); second = not_second (is_second_fixed op) }
-keeps_sources op pattern side (Block number) holds lies kept = record { one = refl; first = not_second (is_first_fixed op); second = not_second (is_second_fixed op) }
-keeps_sources op pattern side (Register target) holds lies kept = record { one = refl; first = not_second (is_first_fixed op); second = not_second (is_second_fixed op) }
+keeps_sources op pattern side (Block number) holds lies kept = record
+    { one = refl; first = not_second (is_first_fixed op); second = not_second (is_second_fixed op) }
+keeps_sources op pattern side (Register target) holds lies kept = record
+    { one = refl; first = not_second (is_first_fixed op); second = not_second (is_second_fixed op) }
 keeps_sources op _ side _ holds lies kept = absurd cc
 
-pub taken_sources : (op : Op) (operands : Operands) (unit : FunctionalUnit) → takes op operands unit ≡ true → KeepsSources op operands
-taken_sources op operands unit taking = let t = taken op operands unit taking in keeps_sources op t.pattern unit.side operands t.holds t.lies t.kept
+pub taken_sources : (op : Op) (operands : Operands) (unit : FunctionalUnit) → takes op operands unit ≡ true
+    → KeepsSources op operands
+taken_sources op operands unit taking = let t = taken op operands unit taking in keeps_sources op t.pattern unit.side
+    operands t.holds t.lies t.kept
 
-offset_of : (pattern : Pattern) (side : Side) (reg base : Reg) (form : AddressForm) (offset : Offset) → registers_fit pattern side (Access reg base form offset) ≡ true
+offset_of : (pattern : Pattern) (side : Side) (reg base : Reg) (form : AddressForm) (offset : Offset)
+    → registers_fit pattern side (Access reg base form offset) ≡ true
     → offset_on base.side offset ≡ true
 offset_of (Address range) side reg base form offset lies =
     let on = and_parts (same_side base.side side) (offset_on side offset) lies in
@@ -128,16 +144,21 @@ offset_of (Address range) side reg base form offset lies =
 offset_of _ side reg base form offset lies = absurd cc
 
 -- an offset register lies on its base's side
-pub taken_offset : (op : Op) (unit : FunctionalUnit) (reg base : Reg) (form : AddressForm) (offset : Offset) → takes op (Access reg base form offset) unit ≡ true
+pub taken_offset : (op : Op) (unit : FunctionalUnit) (reg base : Reg) (form : AddressForm) (offset : Offset)
+    → takes op (Access reg base form offset) unit ≡ true
     → offset_on base.side offset ≡ true
 taken_offset op unit reg base form offset taking =
-    let t = taken op (Access reg base form offset) unit taking in offset_of t.pattern unit.side reg base form offset t.lies
+    let t = taken op (Access reg base form offset) unit taking in offset_of t.pattern unit.side reg base form offset
+    t.lies
 
-target_of : (pattern : Pattern) (side : Side) (target : Reg) → registers_fit pattern side (Register target) ≡ true → same_side target.side A ≡ false
+target_of : (pattern : Pattern) (side : Side) (target : Reg) → registers_fit pattern side (Register target) ≡ true
+    → same_side target.side A ≡ false
 target_of ToRegister side target lies =
     rw (same_side-is target.side B (and_parts (same_side side B) (same_side target.side B) lies).1) refl
 target_of _ side target lies = absurd cc
 
 -- a branch's register lies in file B
-pub taken_target : (op : Op) (unit : FunctionalUnit) (target : Reg) → takes op (Register target) unit ≡ true → same_side target.side A ≡ false
-taken_target op unit target taking = let t = taken op (Register target) unit taking in target_of t.pattern unit.side target t.lies
+pub taken_target : (op : Op) (unit : FunctionalUnit) (target : Reg) → takes op (Register target) unit ≡ true
+    → same_side target.side A ≡ false
+taken_target op unit target taking = let t = taken op (Register target) unit taking in target_of t.pattern unit.side
+    target t.lies

@@ -1,5 +1,6 @@
 -- The bits of the units that take operands.
-use Rattle.std.proofs.Common.{◌≡◌, ◌∙◌, ℕ, ◌+◌, ◌*◌, ◌^◌, ◌%◌, ◌<◌, max, bit_or, Bool, true, false, List, length, take, get_or, refl, sym, arith}
+use Rattle.std.proofs.Common.{◌≡◌, ◌∙◌, ℕ, ◌+◌, ◌*◌, ◌^◌, ◌%◌, ◌<◌, max, bit_or, Bool, true, false, List, length, take}
+use Rattle.std.proofs.Common.{get_or, refl, sym, arith}
 use Rattle.std.specs.Prelude.{◌==◌, ◌&&◌, ◌||◌, if◌then◌else◌}
 use Rattle.std.specs.List.{list_any}
 use Rattle.std.specs.Int.{bit_at}
@@ -22,7 +23,8 @@ one_if b = if b then 1 else 0
 
 -- the bit of each unit, of one letter on the sides that are told
 bits : (letter : Letter) (a b : Bool) (other : Letter) (side : Side)
-    → (bit_at ((one_if a + 16 * one_if b) * 2 ^ index_on letter A % 256) (index_on other side) == 1) ≡ (same_letter letter other && on_side a b side)
+    → (bit_at ((one_if a + 16 * one_if b) * 2 ^ index_on letter A % 256) (index_on other side) == 1) ≡
+    (same_letter letter other && on_side a b side)
 bits L true true L A = refl
 bits _ true true L A = refl
 bits _ true true _ A = refl
@@ -58,15 +60,20 @@ lettered true true fits same = refl
 lettered false true fits same = refl
 lettered holds false fits same = absurd cc
 
-fits_on : (form : Form) (operands : Operands) (side : Side) → on_side (holds_constants form.pattern operands && registers_fit form.pattern A operands) (holds_constants form.pattern operands && registers_fit form.pattern B operands) side ≡ (holds_constants form.pattern operands && registers_fit form.pattern side operands)
+fits_on : (form : Form) (operands : Operands) (side : Side)
+    → on_side (holds_constants form.pattern operands && registers_fit form.pattern A operands)
+    (holds_constants form.pattern operands && registers_fit form.pattern B operands) side ≡
+    (holds_constants form.pattern operands && registers_fit form.pattern side operands)
 fits_on form operands A = refl
 fits_on form operands B = refl
 
 -- a form whose letter is the unit's
-pub taken_by : (form : Form) (operands : Operands) (unit : FunctionalUnit) (side : Side) → same_letter form.letter unit.letter ≡ true → unit.side ≡ side
+pub taken_by : (form : Form) (operands : Operands) (unit : FunctionalUnit) (side : Side)
+    → same_letter form.letter unit.letter ≡ true → unit.side ≡ side
     → (holds_constants form.pattern operands && registers_fit form.pattern side operands) ≡ takes_by form operands unit
 taken_by form operands unit side same is =
-    rw is (lettered (holds_constants form.pattern operands) (same_letter form.letter unit.letter) (registers_fit form.pattern side operands) same)
+    rw is (lettered (holds_constants form.pattern operands) (same_letter form.letter unit.letter)
+    (registers_fit form.pattern side operands) same)
 
 pub takers_of : (form : Form) (operands : Operands) (a b : Bool) (x k : ℕ) (unit : FunctionalUnit)
     → a ≡ (holds_constants form.pattern operands && registers_fit form.pattern A operands)
@@ -76,11 +83,14 @@ pub takers_of : (form : Form) (operands : Operands) (a b : Bool) (x k : ℕ) (un
 takers_of form operands a b x k unit on_a on_b x_is k_is =
     rw (x_is, k_is)
     (bits form.letter a b unit.letter unit.side
-    ∙ rw (on_a, on_b, fits_on form operands unit.side) (moved (holds_constants form.pattern operands) (same_letter form.letter unit.letter) (registers_fit form.pattern unit.side operands)))
+    ∙ rw (on_a, on_b, fits_on form operands unit.side)
+    (moved (holds_constants form.pattern operands) (same_letter form.letter unit.letter)
+    (registers_fit form.pattern unit.side operands)))
 
 -- a field's registers lie on a side where its destination does, and its source with it
 pub field_on : (holds : Bool) (source destination side : Side)
-    → (same_side destination side && (holds && same_side source destination)) ≡ (holds && (same_side source side && same_side destination side))
+    → (same_side destination side && (holds && same_side source destination)) ≡
+    (holds && (same_side source side && same_side destination side))
 field_on true A A A = refl
 field_on true A A B = refl
 field_on true A B A = refl
@@ -98,11 +108,14 @@ either_bit : (a b : ℕ) → a < 2 → b < 2 → (max a b == 1) ≡ ((a == 1) ||
 either_bit a b low below = grind (arith, nat_tests)
 
 -- the bits of one more form
-pub takers_more : (forms : List Form) (i : ℕ) (d : Form) (operands : Operands) (units more : ℕ) (unit : FunctionalUnit) → i < length forms
+pub takers_more : (forms : List Form) (i : ℕ) (d : Form) (operands : Operands) (units more : ℕ) (unit : FunctionalUnit)
+    → i < length forms
     → (bit_at units (index_of unit) == 1) ≡ list_any (λ form. takes_by form operands unit) (take i forms)
     → (bit_at more (index_of unit) == 1) ≡ takes_by (get_or forms i d) operands unit
-    → (bit_at (bit_or units more) (index_of unit) == 1) ≡ list_any (λ form. takes_by form operands unit) (take (i + 1) forms)
+    → (bit_at (bit_or units more) (index_of unit) == 1) ≡ list_any (λ form. takes_by form operands unit)
+    (take (i + 1) forms)
 takers_more forms i d operands units more unit within before one =
     rw (bit_at_or units more (index_of unit))
-    (either_bit (bit_at units (index_of unit)) (bit_at more (index_of unit)) (bit_at-lt units (index_of unit)) (bit_at-lt more (index_of unit))
+    (either_bit (bit_at units (index_of unit)) (bit_at more (index_of unit)) (bit_at-lt units (index_of unit))
+    (bit_at-lt more (index_of unit))
     ∙ rw (before, one) (sym (list_any_more (λ form. takes_by form operands unit) forms i d within)))

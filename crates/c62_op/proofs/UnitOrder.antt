@@ -13,7 +13,8 @@ unit_of_parts letter side = record { letter = letter; side = side }
 unit_at : ℕ → FunctionalUnit → FunctionalUnit
 unit_at k d = get_or all_units k d
 
-unit_at-index_on : (letter : Letter) (side : Side) (d : FunctionalUnit) → unit_at (index_on letter side) d ≡ unit_of_parts letter side
+unit_at-index_on : (letter : Letter) (side : Side) (d : FunctionalUnit)
+    → unit_at (index_on letter side) d ≡ unit_of_parts letter side
 unfolding unit_at unit_of_parts
 unit_at-index_on L A d = refl
 unit_at-index_on S A d = refl

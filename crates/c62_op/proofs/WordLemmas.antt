@@ -1,5 +1,6 @@
 -- Lemmas on words.
-use Rattle.std.proofs.Common.{rules, refl, ◌≡◌, ℕ, ◌+◌, ◌-◌, ◌*◌, ◌/◌, ◌%◌, ◌^◌, ◌<◌, ◌≤◌, arith, ◌∙◌, ap, sym, ℤ, pos, negsuc, FitsSigned, w32}
+use Rattle.std.proofs.Common.{rules, refl, ◌≡◌, ℕ, ◌+◌, ◌-◌, ◌*◌, ◌/◌, ◌%◌, ◌^◌, ◌<◌, ◌≤◌, arith, ◌∙◌, ap, sym, ℤ, pos}
+use Rattle.std.proofs.Common.{negsuc, FitsSigned, w32}
 use Rattle.std.specs.Prelude.{nat_lt, if◌then◌else◌}
 use Rattle.std.specs.Int.{int_shr, cast_signed}
 use Rattle.std.proofs.lemmas.Nat.{pow-add, pow_pos, shr-shr}
@@ -41,7 +42,8 @@ shr_far (negsuc n) k l f =
     ap negsuc (shr_gone_by n 31 k h m ∙ sym (div-eq_of_lt h))
 
 -- and so zeros or ones
-sign_of : (v : ℕ) (z : ℤ) → z ≡ cast_signed w32 v → v < 2 ^ 32 → word (int_shr z 31) ≡ (if nat_lt v (2 ^ 31) then 0 else 2 ^ 32 - 1)
+sign_of : (v : ℕ) (z : ℤ) → z ≡ cast_signed w32 v → v < 2 ^ 32
+    → word (int_shr z 31) ≡ (if nat_lt v (2 ^ 31) then 0 else 2 ^ 32 - 1)
 sign_of v (pos n) e f =
     let small : n < 2 ^ 31 = omega (arith, ints) in
     let none : n / 2 ^ 31 ≡ 0 = div-eq_of_lt small in grind (arith, nat_tests, ints)

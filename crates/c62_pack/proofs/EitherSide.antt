@@ -10,11 +10,13 @@ use Rattle.c62_depend.specs.Side.{side_in, stands_on, suits_at}
 use Rattle.c62_sheet.specs.Lawful.{Spots, IsLawful}
 use Rattle.c62_pack.specs.EitherSide.{may_stand_at, IsLawfulOnEitherSide}
 
-suits_may : (block : List Insn) (o : Option Insn) (unit : FunctionalUnit) → IsTrue (suits_at block o unit) → IsTrue (may_stand_at o unit)
+suits_may : (block : List Insn) (o : Option Insn) (unit : FunctionalUnit) → IsTrue (suits_at block o unit)
+    → IsTrue (may_stand_at o unit)
 suits_may block None unit h = h
 suits_may block (Some insn) unit h = (and_parts (same_side unit.side (side_in block insn)) (may_stand insn unit) h).1
 
-pub stands_may : (block : List Insn) (i : ℕ) (unit : FunctionalUnit) → IsTrue (stands_on block i unit) → IsTrue (may_stand_at (slice_get block i) unit)
+pub stands_may : (block : List Insn) (i : ℕ) (unit : FunctionalUnit) → IsTrue (stands_on block i unit)
+    → IsTrue (may_stand_at (slice_get block i) unit)
 unfolding stands_on
 stands_may block i unit h = suits_may block (slice_get block i) unit h
 

@@ -21,13 +21,16 @@ negated false h = refl
 
 -- a branch stands only as the last
 last_from : (entries : List SerialInsn)
-    → ((i : ℕ) (insn : Insn) → slice_get (unnumbered entries) i ≡ Some insn → is_branch (op_of insn) ≡ true → i + 1 ≡ length (unnumbered entries))
+    → ((i : ℕ) (insn : Insn) → slice_get (unnumbered entries) i ≡ Some insn → is_branch (op_of insn) ≡ true
+    → i + 1 ≡ length (unnumbered entries))
     → branch_last (operations entries) ≡ true
 last_from [] h = refl
 last_from (e ∷ []) h = refl
 last_from (e ∷ n ∷ rest) h =
     and_from (not (is_branch (op_of e.insn))) (branch_last (operations (n ∷ rest)))
-    (negated (is_branch (op_of e.insn)) (false_from_ne_true (is_branch (op_of e.insn)) (λ b. (let one = h 0 e.insn refl b in absurd (omega (arith, one))))))
+    (negated (is_branch (op_of e.insn))
+    (false_from_ne_true (is_branch (op_of e.insn))
+    (λ b. (let one = h 0 e.insn refl b in absurd (omega (arith, one))))))
     (last_from (n ∷ rest) (λ i insn at b. (let more = h (suc i) insn at b in omega (arith, more))))
 
 pub headline : (board : BoardState) → Headline board
@@ -40,5 +43,6 @@ headline board sound = record {
       let last = last_from board.plan.insns sound.plan.branch in
       let lawful = subst (λ (set : Spots). IsLawful (insns_of board.plan) set) packets.all_placed sound.lawful in
       are_serial board.plan.insns block.placed last
-      (packed_sorted board.plan.insns packets.spots packets.serial packets.numbered (on_own_side (insns_of board.plan) (map Some packets.spots) lawful) last block.placed packets.listed);
+      (packed_sorted board.plan.insns packets.spots packets.serial packets.numbered
+      (on_own_side (insns_of board.plan) (map Some packets.spots) lawful) last block.placed packets.listed);
 }

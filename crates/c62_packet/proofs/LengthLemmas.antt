@@ -9,4 +9,5 @@ use Rattle.c62_rules.specs.Length.{last_landing_end}
 
 -- the length of a block of which these instructions are left, the others being no branches that have landed below `end`
 abbrev pub length_after : ℕ → List Issue → ℕ
-length_after end issues = option_map_or (λ branch. branch.cycle + 6) (find (λ p. is_branch (op_of p.insn)) issues) (max end (last_landing_end issues))
+length_after end issues = option_map_or (λ branch. branch.cycle + 6) (find (λ p. is_branch (op_of p.insn)) issues)
+    (max end (last_landing_end issues))

@@ -1,9 +1,13 @@
 pub mod LengthLemmas
 pub mod PacketsLemmas
+pub mod PlacedLists
 pub mod RuleLemmas
+pub mod FirstFaults
+pub mod OwnFaults
 pub mod Broken
 pub mod ListingOrder
 pub mod Placings
 pub mod OneFault
 pub mod LandingSets
 pub mod TakenLemmas
+pub mod Targets

@@ -13,7 +13,8 @@ use Rattle.c62_packet.proofs.Broken.{kept-each}
 pub no-fault : (block : Packed) → HasNoFault block
 no-fault block packed TwoBranches fault = fault packed.one_branch
 no-fault block packed NotDrained fault = fault.1 (record { own_length = packed.own_length; drained = packed.drained })
-no-fault block packed (Unlawful cycle rule) fault = fault.2.broken ((kept-each (issued block.placed)).each packed.rules rule cycle)
+no-fault block packed (Unlawful cycle rule) fault = fault.2.broken
+    ((kept-each (issued block.placed)).each packed.rules rule cycle)
 
 same_rule : (rule other : PacketRule) → rank_of rule ≡ rank_of other → rule ≡ other
 same_rule (InCycle rule) (InCycle other) e = ap InCycle (same-rank rule other e)
@@ -21,7 +22,8 @@ same_rule (InCycle rule) P5 e = absurd (omega (arith, e, rank-few rule))
 same_rule P5 (InCycle other) e = absurd (omega (arith, e, rank-few other))
 same_rule P5 P5 e = refl
 
-pub same_break : (placed : List Placed) (cycle other : ℕ) (rule next : PacketRule) → IsFirstBroken cycle rule placed → IsFirstBroken other next placed
+pub same_break : (placed : List Placed) (cycle other : ℕ) (rule next : PacketRule) → IsFirstBroken cycle rule placed
+    → IsFirstBroken other next placed
     → (cycle ≡ other) × (rule ≡ next)
 same_break placed cycle other rule next one two = elim (cases_lt cycle other) [
   | inl lower ↦ absurd (one.broken (two.first cycle rule (inl lower)))
@@ -33,7 +35,11 @@ same_break placed cycle other rule next one two = elim (cases_lt cycle other) [
           | inl lower ↦ absurd (one.broken (two.first cycle rule (inr (same, lower))))
           | inr higher ↦ elim (cases_lt (rank_of next) (rank_of rule)) [
             | inl lower ↦ absurd (two.broken (one.first other next (inr (sym same, lower))))
-            | inr least ↦ (same, same_rule rule next (let e : rank_of rule ≡ rank_of next = omega (arith, higher, least) in e))
+            | inr least ↦ (
+              same,
+              same_rule rule next
+                  (let e : rank_of rule ≡ rank_of next = omega (arith, higher, least) in e),
+            )
           ]
         ]
   ]

@@ -1,116 +1,27 @@
--- The fifth packet rule, with one more instruction before the others: what it asks of the others, and that it does not clash.
-use Rattle.std.proofs.Common.{arith, ◌≡◌, ℕ, zero, suc, ◌+◌, ◌≢◌, ◌<◌, ◌≤◌, min, max, List, [], ◌∷◌, length, Option, Some, None, Bool, true, false, refl, sym, ap, ◌∙◌, subst, inl, inr}
-use Rattle.std.specs.Prelude.{◌==◌, ◌&&◌, not, nat_le, nat_lt, if◌then◌else◌, sum_by, Contains, All}
+-- The fifth rule, told of a list of placed instructions.
+use Rattle.std.proofs.Common.{arith, ◌≡◌, ℕ, zero, suc, ◌+◌, ◌≢◌, ◌<◌, ◌≤◌, min, max, List, [], ◌∷◌, length, Option}
+use Rattle.std.proofs.Common.{Some, None, Bool, true, false, refl, sym, ap, subst, inl, inr}
+use Rattle.std.specs.Prelude.{◌==◌, ◌&&◌, not, nat_le, nat_lt, if◌then◌else◌, Contains, All}
 use Rattle.std.specs.List.{list_any}
-use Rattle.std.proofs.lemmas.Bool.{cases_eq, cases_lt, lt-ltb, ltb-true, le-leb, leb-true, and_parts, or_parts, both_ways, false≢true, false_from_ne_true}
-use Rattle.std.proofs.lemmas.Bool.Decides.{nat_tests}
-use Rattle.std.proofs.lemmas.List.Sums.{sum_by-cons}
-use Rattle.std.proofs.lemmas.List.Elements.{All-nil, All-cons, All-contains, All-tail}
-use Rattle.std.proofs.lemmas.Option.{same_Some, none-some}
+use Rattle.std.proofs.lemmas.Bool.{cases_lt, lt-ltb, ltb-true, le-leb, leb-true, and_parts, both_ways, false≢true}
+use Rattle.std.proofs.lemmas.List.Elements.{All-nil, All-cons, All-contains}
+use Rattle.std.proofs.lemmas.Option.{same_Some}
 use Rattle.c62_op.specs.declared.register.Reg.{Reg}
 use Rattle.c62_op.specs.declared.register.Cond.{Cond as Condition}
 use Rattle.c62_op.specs.Takes.{same_reg}
-use Rattle.c62_op.specs.declared.operands.Op.{Op}
-use Rattle.c62_op.specs.Shape.{delay_of}
-use Rattle.c62_insn.specs.Insn.{op_of, cond_of, operand_reads, register_writes, reads_count}
-use Rattle.c62_rules.proofs.Exclusive.{not_opposite, none_of, may-swapped}
+use Rattle.c62_insn.specs.Insn.{cond_of, register_writes}
+use Rattle.c62_rules.proofs.Exclusive.{not_opposite, none_of}
+use Rattle.c62_rules.proofs.OneLanding.{may-swapped}
 use Rattle.c62_rules.specs.Dependence.{are_opposite}
-use Rattle.c62_insn.proofs.InsnLemmas.{timely_writes}
 use Rattle.c62_rules.specs.PacketRules.{Issue, IsIssued, LandsIn, MayLandTogether}
 use Rattle.c62_op.proofs.Registers.{same_reg-is, same_reg-refl}
 use Rattle.c62_packet.specs.declared.placed.Placed.{Placed}
 use Rattle.c62_packet.specs.Packed.{issue_of, issued}
 use Rattle.c62_packet.specs.Rules.{HasOneLandingIn}
-use Rattle.c62_packet.specs.Clash.{is_landing, lands, is_between, lands_between, excused_under, are_excused, clashes, is_met}
-
--- ---- lists of placed instructions
-
-both : (a b : Bool) → a ≡ true → b ≡ true → (a && b) ≡ true
-both a b x y = rw (x, y) refl
-
-same_number : (a b : ℕ) → a ≡ b → (a == b) ≡ true
-same_number a b e = grind (arith, nat_tests)
-
-number_same : (a b : ℕ) → (a == b) ≡ true → a ≡ b
-number_same a b h = grind (arith, nat_tests)
-
--- what is issued is a placed instruction, and passes no test that none of them passes
-pub record IsOneOf (xs : List Placed) (j : ℕ) (q : Issue) : Type 0 where
-  pub one : Placed
-  pub is : q ≡ issue_of one
-  pub there : Contains xs one
-  pub fails : (test : Placed → Bool) → list_any test xs ≡ false → test one ≡ false
-
-pub issued-one : (xs : List Placed) (j : ℕ) (q : Issue) → IsIssued (issued xs) j q → IsOneOf xs j q
-issued-one [] j q at = absurd (none-some q at)
-issued-one (x ∷ xs) zero q at = record {
-  one = x;
-  is = sym (same_Some (issue_of x) q at);
-  there = (0, omega arith, refl);
-  fails = λ test h. (or_parts (test x) (list_any test xs) h).0;
-}
-issued-one (x ∷ xs) (suc j) q at =
-    let rest : IsOneOf xs j q = issued-one xs j q at in
-    let there : Contains (x ∷ xs) rest.one = (suc rest.there.0, (let low : rest.there.0 < length xs = rest.there.1 in omega arith), rest.there.2) in
-    record { one = rest.one; is = rest.is; there = there; fails = λ test h. rest.fails test (or_parts (test x) (list_any test xs) h).1 }
-
--- where no issued one passes, none does
-pub none-issued : (test : Placed → Bool) (xs : List Placed) → ((j : ℕ) (s : Placed) → IsIssued (issued xs) j (issue_of s) → test s ≡ true → ⊥)
-    → list_any test xs ≡ false
-none-issued test [] none = refl
-none-issued test (x ∷ xs) none =
-    let here : test x ≡ false = false_from_ne_true (test x) (none 0 x refl) in
-    rw here (none-issued test xs (λ j s at. none (suc j) s at))
-
--- a write doesn't land before it is issued
-and-false : (a b : Bool) → b ≡ false → (a && b) ≡ false
-and-false true b e = e
-and-false false b e = refl
-
-none-lands : (from cycle : ℕ) (reg : Reg) (writes : List (Reg × ℕ)) → cycle < from → list_any (is_landing from reg cycle) writes ≡ false
-none-lands from cycle reg [] late = refl
-none-lands from cycle reg (write ∷ writes) late =
-    let other : (from + write.1 == cycle) ≡ false = grind (arith, nat_tests) in
-    let here : is_landing from reg cycle write ≡ false = and-false (same_reg write.0 reg) (from + write.1 == cycle) other in
-    rw (here, none-lands from cycle reg writes late) refl
-
-pub lands-late : (reg : Reg) (cycle : ℕ) (q : Placed) → cycle < q.cycle → lands reg cycle q ≡ false
-lands-late reg cycle q late = none-lands q.cycle cycle reg (register_writes q.insn) late
-
--- nor later than the delay slots of its instruction last
-none-timely : (op : Op) (from cycle : ℕ) (reg : Reg) (writes : List (Reg × ℕ)) → All (λ write. write.1 ≤ delay_of op) writes → from + delay_of op < cycle
-    → list_any (is_landing from reg cycle) writes ≡ false
-none-timely op from cycle reg [] timely early = refl
-none-timely op from cycle reg (write ∷ writes) timely early =
-    let within : write.1 ≤ delay_of op = timely 0 write (omega arith) in
-    let other : (from + write.1 == cycle) ≡ false = grind (arith, nat_tests) in
-    let here : is_landing from reg cycle write ≡ false = and-false (same_reg write.0 reg) (from + write.1 == cycle) other in
-    rw (here, none-timely op from cycle reg writes (All-tail (λ w. w.1 ≤ delay_of op) write writes timely) early) refl
-
-pub lands-early : (reg : Reg) (cycle : ℕ) (q : Placed) → q.cycle + delay_of (op_of q.insn) < cycle → lands reg cycle q ≡ false
-lands-early reg cycle q early =
-    none-timely (op_of q.insn) q.cycle cycle reg (register_writes q.insn) (λ k d within. (timely_writes q.insn k d within).1) early
-
-pub all-fail : {X : Type 0} (test : X → Bool) (xs : List X) → list_any test xs ≡ false → All (λ y. test y ≡ false) xs
-all-fail test [] h = All-nil (λ y. test y ≡ false)
-all-fail test (y ∷ xs) h =
-    let parts = or_parts (test y) (list_any test xs) h in
-    All-cons (λ z. test z ≡ false) y xs parts.0 (all-fail test xs parts.1)
-
--- a test that one passes
-pub any-contained : {X : Type 0} (test : X → Bool) (xs : List X) (x : X) → Contains xs x → test x ≡ true → list_any test xs ≡ false → ⊥
-any-contained test xs x is passes fails = false≢true (sym (All-contains (λ y. test y ≡ false) xs x (all-fail test xs fails) is) ∙ passes)
-
-pub some-contained : {X : Type 0} (test : X → Bool) (xs : List X) → list_any test xs ≡ true → (x : X) × Contains xs x × (test x ≡ true)
-some-contained test [] h = absurd (false≢true h)
-some-contained {X} test (x ∷ xs) h = by_head (test x) refl (λ rest. some-contained test xs rest)
-  where
-    by_head : (b : Bool) → test x ≡ b → (list_any test xs ≡ true → (y : X) × Contains xs y × (test y ≡ true))
-        → (y : X) × Contains (x ∷ xs) y × (test y ≡ true)
-    by_head true e later = (x, (0, omega arith, refl), e)
-    by_head false e later =
-        let rest = later (rw e at h) in
-        (rest.0, (suc rest.1.0, (let low : rest.1.0 < length xs = rest.1.1 in omega arith), rest.1.2), rest.2)
+use Rattle.c62_packet.specs.Clash.{is_landing, lands, is_between, lands_between, excused_under, are_excused, clashes}
+use Rattle.c62_packet.specs.Clash.{is_met}
+use Rattle.c62_packet.proofs.PlacedLists.{both, same_number, number_same, IsOneOf, issued-one, none-issued}
+use Rattle.c62_packet.proofs.PlacedLists.{any-contained, some-contained}
 
 -- ---- the fifth rule
 
@@ -121,8 +32,12 @@ pub lands-is : (reg : Reg) (c : ℕ) (s : Placed) → lands reg c s ≡ true →
 lands-is reg c s h =
     let found = some-contained (is_landing s.cycle reg c) (register_writes s.insn) h in
     let parts = and_parts (same_reg found.0.0 reg) (s.cycle + found.0.1 == c) found.2 in
-    let same : found.0.0 ≡ reg = same_reg-is found.0.0 reg parts.0 in
-    (found.0.1, subst (λ (r : Reg). Contains (register_writes s.insn) (r, found.0.1)) same found.1, number_same (s.cycle + found.0.1) c parts.1)
+    let same : found.0.0 ≡ reg = same_reg-is found.0.0 reg parts.0 in (
+      found.0.1,
+      subst (λ (r : Reg). Contains (register_writes s.insn) (r, found.0.1)) same found.1,
+      number_same
+          (s.cycle + found.0.1) c parts.1,
+    )
 
 pub landing-contradicts : (reg : Reg) (c : ℕ) (s : Placed) → LandsIn (issue_of s) reg c → lands reg c s ≡ false → ⊥
 landing-contradicts reg c s l h =
@@ -131,15 +46,18 @@ landing-contradicts reg c s l h =
 
 -- the test of an excuse tells whether there is one
 excuse-under : (whole : List Placed) (p q : Placed) (c d : Option Condition) → cond_of p.insn ≡ c → cond_of q.insn ≡ d
-    → excused_under whole (min p.cycle q.cycle) (max p.cycle q.cycle) c d ≡ true → MayLandTogether (issued whole) (issue_of p) (issue_of q)
+    → excused_under whole (min p.cycle q.cycle) (max p.cycle q.cycle) c d ≡ true
+    → MayLandTogether (issued whole) (issue_of p) (issue_of q)
 excuse-under whole p q None d e f h = absurd (false≢true h)
 excuse-under whole p q (Some one) None e f h = absurd (false≢true h)
 excuse-under whole p q (Some one) (Some other) e f h =
     let from = min p.cycle q.cycle in
     let to = max p.cycle q.cycle in
     let parts = and_parts (are_opposite one other) (not (list_any (lands_between from to one.reg) whole)) h in
-    let tests = and_parts (same_reg one.reg other.reg) (if one.negated then not other.negated else other.negated) parts.0 in
-    let none : list_any (lands_between from to one.reg) whole ≡ false = none_of (list_any (lands_between from to one.reg) whole) parts.1 in
+    let tests = and_parts (same_reg one.reg other.reg) (if one.negated then not other.negated else other.negated)
+    parts.0 in
+    let none : list_any (lands_between from to one.reg) whole ≡ false = none_of
+    (list_any (lands_between from to one.reg) whole) parts.1 in
     record {
       one = one;
       other = other;
@@ -151,24 +69,33 @@ excuse-under whole p q (Some one) (Some other) e f h =
           let s : IsOneOf whole k r = issued-one whole k r at in
           let mine : LandsIn (issue_of s.one) one.reg t = subst (λ (x : Issue). LandsIn x one.reg t) s.is lands in
           let fails : lands_between from to one.reg s.one ≡ false = s.fails (lands_between from to one.reg) none in
-          let out : (from ≤ t) → to ≤ t = λ low. outside s.one one.reg from to t mine low fails in
-          ((λ le. (let far : to ≤ t = out (omega (arith, le)) in omega (arith, far))), (λ le. (let far : to ≤ t = out (omega (arith, le)) in omega (arith, far))));
+          let out : (from ≤ t) → to ≤ t = λ low. outside s.one one.reg from to t mine low fails in (
+            (λ le. (let far : to ≤ t = out (omega (arith, le)) in omega (arith, far))),
+            (λ le. (let far : to ≤ t = out (omega (arith, le)) in omega (arith, far))),
+          );
     }
   where
-    outside : (s : Placed) (reg : Reg) (from to t : ℕ) → LandsIn (issue_of s) reg t → from ≤ t → lands_between from to reg s ≡ false → to ≤ t
+    outside : (s : Placed) (reg : Reg) (from to t : ℕ) → LandsIn (issue_of s) reg t → from ≤ t
+        → lands_between from to reg s ≡ false → to ≤ t
     outside s reg from to t (delay, is, time) low fails = elim (cases_lt t to) [
       | inl lt ↦ absurd (any-contained (is_between from to reg s.cycle) (register_writes s.insn) (reg, delay) is
           (both (same_reg reg reg) (nat_le from (s.cycle + delay) && nat_lt (s.cycle + delay) to) (same_reg-refl reg)
-          (both (nat_le from (s.cycle + delay)) (nat_lt (s.cycle + delay) to) (at_least from (s.cycle + delay) (omega (arith, low, time))) (lt-ltb (s.cycle + delay) to (omega (arith, lt, time))))) fails)
+          (both (nat_le from (s.cycle + delay)) (nat_lt (s.cycle + delay) to)
+          (at_least from (s.cycle + delay) (omega (arith, low, time)))
+          (lt-ltb (s.cycle + delay) to (omega (arith, lt, time))))) fails)
       | inr ge ↦ ge
     ]
 
-pub excuse-is : (whole : List Placed) (p q : Placed) → are_excused whole p q ≡ true → MayLandTogether (issued whole) (issue_of p) (issue_of q)
+pub excuse-is : (whole : List Placed) (p q : Placed) → are_excused whole p q ≡ true
+    → MayLandTogether (issued whole) (issue_of p) (issue_of q)
 excuse-is whole p q h = excuse-under whole p q (cond_of p.insn) (cond_of q.insn) refl refl h
 
-pub excuse-told : (whole : List Placed) (p q : Placed) → MayLandTogether (issued whole) (issue_of p) (issue_of q) → are_excused whole p q ≡ true
+pub excuse-told : (whole : List Placed) (p q : Placed) → MayLandTogether (issued whole) (issue_of p) (issue_of q)
+    → are_excused whole p q ≡ true
 excuse-told whole p q may =
-    rw (may.is_one, may.is_other) (both (are_opposite may.one may.other) (not (list_any (lands_between from to may.one.reg) whole)) opposite (rw none refl))
+    rw (may.is_one, may.is_other)
+    (both (are_opposite may.one may.other) (not (list_any (lands_between from to may.one.reg) whole)) opposite
+    (rw none refl))
   where
     from : ℕ
     from = min p.cycle q.cycle
@@ -183,29 +110,37 @@ excuse-told whole p q may =
     negated false false ne = absurd (ne refl)
 
     opposite : are_opposite may.one may.other ≡ true
-    opposite = both (same_reg may.one.reg may.other.reg) (if may.one.negated then not may.other.negated else may.other.negated)
-        (subst (λ (r : Reg). same_reg may.one.reg r ≡ true) may.same (same_reg-refl may.one.reg)) (negated may.one.negated may.other.negated may.opposite)
+    opposite = both (same_reg may.one.reg may.other.reg)
+        (if may.one.negated then not may.other.negated else may.other.negated)
+        (subst (λ (r : Reg). same_reg may.one.reg r ≡ true) may.same (same_reg-refl may.one.reg))
+        (negated may.one.negated may.other.negated may.opposite)
 
     none : list_any (lands_between from to may.one.reg) whole ≡ false
     none = none-issued (lands_between from to may.one.reg) whole (λ k s at lands.
         let found = some-contained (is_between from to may.one.reg s.cycle) (register_writes s.insn) lands in
-        let parts = and_parts (same_reg found.0.0 may.one.reg) (nat_le from (s.cycle + found.0.1) && nat_lt (s.cycle + found.0.1) to) found.2 in
+        let parts = and_parts (same_reg found.0.0 may.one.reg)
+        (nat_le from (s.cycle + found.0.1) && nat_lt (s.cycle + found.0.1) to) found.2 in
         let times = and_parts (nat_le from (s.cycle + found.0.1)) (nat_lt (s.cycle + found.0.1) to) parts.1 in
         let same : found.0.0 ≡ may.one.reg = same_reg-is found.0.0 may.one.reg parts.0 in
-        let is : Contains (register_writes s.insn) (may.one.reg, found.0.1) = subst (λ (r : Reg). Contains (register_writes s.insn) (r, found.0.1)) same found.1 in
+        let is : Contains (register_writes s.insn) (may.one.reg, found.0.1) = subst
+        (λ (r : Reg). Contains (register_writes s.insn) (r, found.0.1)) same found.1 in
         let around = may.stays k (issue_of s) (s.cycle + found.0.1) at (found.0.1, is, refl) in
         let low : from ≤ s.cycle + found.0.1 = leb-true from (s.cycle + found.0.1) times.0 in
         let high : s.cycle + found.0.1 < to = ltb-true (s.cycle + found.0.1) to times.1 in
         elim (cases_lt (s.cycle + found.0.1) p.cycle) [
-          | inl lt ↦ (let back : p.cycle ≤ s.cycle + found.0.1 = around.1 (omega (arith, lt, low)) in omega (arith, back, lt))
+          | inl lt ↦ (let back : p.cycle ≤ s.cycle + found.0.1 = around.1 (omega (arith, lt, low)) in omega
+              (arith, back, lt))
           | inr ge ↦ (let on : q.cycle ≤ s.cycle + found.0.1 = around.0 ge in omega (arith, on, ge, high))
         ])
 
-pub landing-cons : (whole : List Placed) (c : ℕ) (p : Placed) (xs : List Placed) → HasOneLandingIn (issued whole) c (issued xs)
-    → All (λ write. p.cycle + write.1 ≡ c → is_met whole p xs write ≡ false) (register_writes p.insn) → HasOneLandingIn (issued whole) c (issued (p ∷ xs))
+pub landing-cons : (whole : List Placed) (c : ℕ) (p : Placed) (xs : List Placed)
+    → HasOneLandingIn (issued whole) c (issued xs)
+    → All (λ write. p.cycle + write.1 ≡ c → is_met whole p xs write ≡ false) (register_writes p.insn)
+    → HasOneLandingIn (issued whole) c (issued (p ∷ xs))
 landing-cons whole c p xs old own = with_first
   where
-    clash : (j : ℕ) (a b : Issue) (reg : Reg) → Some (issue_of p) ≡ Some a → IsIssued (issued xs) j b → LandsIn a reg c → LandsIn b reg c
+    clash : (j : ℕ) (a b : Issue) (reg : Reg) → Some (issue_of p) ≡ Some a → IsIssued (issued xs) j b → LandsIn a reg c
+        → LandsIn b reg c
         → MayLandTogether (issued whole) a b
     clash j a b reg first at la lb =
         let e : issue_of p ≡ a = same_Some (issue_of p) a first in
@@ -213,13 +148,17 @@ landing-cons whole c p xs old own = with_first
         let one : IsOneOf xs j b = issued-one xs j b at in
         let other : LandsIn (issue_of one.one) reg c = subst (λ (x : Issue). LandsIn x reg c) one.is lb in
         let alone : is_met whole p xs (reg, mine.0) ≡ false
-        = All-contains (λ write. p.cycle + write.1 ≡ c → is_met whole p xs write ≡ false) (register_writes p.insn) (reg, mine.0) own mine.1 mine.2 in
-        let fails : clashes whole p reg (p.cycle + mine.0) one.one ≡ false = one.fails (clashes whole p reg (p.cycle + mine.0)) alone in
+        = All-contains (λ write. p.cycle + write.1 ≡ c
+        → is_met whole p xs write ≡ false) (register_writes p.insn) (reg, mine.0) own mine.1 mine.2 in
+        let fails : clashes whole p reg (p.cycle + mine.0) one.one ≡ false = one.fails
+        (clashes whole p reg (p.cycle + mine.0)) alone in
         let excused : are_excused whole p one.one ≡ true
         = by_test (lands reg (p.cycle + mine.0) one.one) (are_excused whole p one.one) fails
-        (λ fail. landing-contradicts reg c one.one other (subst (λ (x : ℕ). lands reg x one.one ≡ false) mine.2 fail)) in
+        (λ fail. landing-contradicts reg c one.one other (subst (λ (x : ℕ). lands reg x one.one ≡ false) mine.2 fail))
+        in
         let may : MayLandTogether (issued whole) (issue_of p) (issue_of one.one) = excuse-is whole p one.one excused in
-        subst (λ (x : Issue). MayLandTogether (issued whole) x b) e (subst (λ (y : Issue). MayLandTogether (issued whole) (issue_of p) y) (sym one.is) may)
+        subst (λ (x : Issue). MayLandTogether (issued whole) x b) e
+        (subst (λ (y : Issue). MayLandTogether (issued whole) (issue_of p) y) (sym one.is) may)
       where
         by_test : (x y : Bool) → (x && not y) ≡ false → (x ≡ false → ⊥) → y ≡ true
         by_test true true h never = refl
@@ -235,28 +174,34 @@ landing-cons whole c p xs old own = with_first
       | inr h ↦ inr h
     ]
 
-pub landing-rest : (whole : List Placed) (c : ℕ) (p : Placed) (xs : List Placed) → HasOneLandingIn (issued whole) c (issued (p ∷ xs)) → HasOneLandingIn (issued whole) c (issued xs)
+pub landing-rest : (whole : List Placed) (c : ℕ) (p : Placed) (xs : List Placed)
+    → HasOneLandingIn (issued whole) c (issued (p ∷ xs)) → HasOneLandingIn (issued whole) c (issued xs)
 landing-rest whole c p xs all i j a b reg ai bj la lb = elim (all (suc i) (suc j) a b reg ai bj la lb) [
   | inl e ↦ inl (let f : suc i ≡ suc j = e in omega arith)
   | inr h ↦ inr h
 ]
 
-pub landing-own : (whole : List Placed) (c : ℕ) (p : Placed) (xs : List Placed) → HasOneLandingIn (issued whole) c (issued (p ∷ xs))
+pub landing-own : (whole : List Placed) (c : ℕ) (p : Placed) (xs : List Placed)
+    → HasOneLandingIn (issued whole) c (issued (p ∷ xs))
     → All (λ write. p.cycle + write.1 ≡ c → is_met whole p xs write ≡ false) (register_writes p.insn)
 landing-own whole c p xs all = each (register_writes p.insn) (λ write is. is)
   where
-    alone : (write : Reg × ℕ) → Contains (register_writes p.insn) write → p.cycle + write.1 ≡ c → is_met whole p xs write ≡ false
+    alone : (write : Reg × ℕ) → Contains (register_writes p.insn) write → p.cycle + write.1 ≡ c
+        → is_met whole p xs write ≡ false
     alone write is here = none-issued (clashes whole p write.0 (p.cycle + write.1)) xs (λ j s at met.
         let parts = and_parts (lands write.0 (p.cycle + write.1) s) (not (are_excused whole p s)) met in
-        let other : LandsIn (issue_of s) write.0 c = subst (λ (x : ℕ). LandsIn (issue_of s) write.0 x) here (lands-is write.0 (p.cycle + write.1) s parts.0) in
+        let other : LandsIn (issue_of s) write.0 c = subst (λ (x : ℕ). LandsIn (issue_of s) write.0 x) here
+        (lands-is write.0 (p.cycle + write.1) s parts.0) in
         elim (all 0 (suc j) (issue_of p) (issue_of s) write.0 refl at (write.1, is, here) other) [
           | inl e ↦ (let f : 0 ≡ suc j = e in omega arith)
           | inr h ↦ both_ways _ (none_of (are_excused whole p s) parts.1) (excuse-told whole p s h)
         ])
 
-    each : (writes : List (Reg × ℕ)) → ((write : Reg × ℕ) → Contains writes write → Contains (register_writes p.insn) write)
+    each : (writes : List (Reg × ℕ))
+        → ((write : Reg × ℕ) → Contains writes write → Contains (register_writes p.insn) write)
         → All (λ write. p.cycle + write.1 ≡ c → is_met whole p xs write ≡ false) writes
     each [] within = All-nil (λ write. p.cycle + write.1 ≡ c → is_met whole p xs write ≡ false)
     each (write ∷ writes) within =
-        All-cons (λ w. p.cycle + w.1 ≡ c → is_met whole p xs w ≡ false) write writes (alone write (within write (0, omega arith, refl)))
+        All-cons (λ w. p.cycle + w.1 ≡ c
+        → is_met whole p xs w ≡ false) write writes (alone write (within write (0, omega arith, refl)))
         (each writes (λ w is. within w (suc is.0, (let low : is.0 < length writes = is.1 in omega arith), is.2)))

@@ -1,6 +1,7 @@
 //! Why instructions and cycles make no packet block.
 
 ghost use Rattle.std.specs.Prelude.{◌≡◌, Some};
+ghost use Rattle.c62_packet.specs.declared.fault.PacketRule.{PacketRule as RuleOf};
 ghost use Rattle.c62_packet.specs.FaultText.{rule_name, block_fault_text};
 
 use c62_rules::CycleRule;
@@ -17,9 +18,10 @@ pub enum PacketRule {
 }
 
 impl PacketRule {
-    /// Its name.
+    /// Its name, which no other rule has.
     pub fn name(self) -> &'static str
-        ensures { result.now ≡ rule_name self }
+        ensures name { result.now ≡ rule_name self }
+        ensures own { (other : RuleOf) → rule_name other ≡ result.now → other ≡ self }
     {
         match self {
             PacketRule::InCycle(rule) => rule.name(),

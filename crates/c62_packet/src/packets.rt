@@ -1,12 +1,12 @@
 //! Lists of packet blocks.
 
-ghost use Rattle.std.specs.Prelude.{◌≡◌, ◌<◌, ◌≤◌, ◌++◌, ◌∷◌, [], List, All, length, MatchResult, OnOk};
+ghost use Rattle.std.specs.Prelude.{◌≡◌, ◌↔◌, ◌<◌, ◌≤◌, ◌++◌, ◌∷◌, [], List, All, length, IsTrue, MatchResult, OnOk};
 ghost use Rattle.std.specs.List.{list_all};
 ghost use Rattle.c62_insn.specs.Insn.{operands_of};
 ghost use Rattle.c62_read.specs.Block.{target_stands};
 ghost use Rattle.c62_read.specs.declared.limits.TheConstants.{MOST_BLOCKS};
 ghost use Rattle.c62_packet.specs.Packed.{Packed, IsPacketBlock};
-ghost use Rattle.c62_packet.specs.Packets.{labels_of, is_closed};
+ghost use Rattle.c62_packet.specs.Packets.{labels_of, is_closed, HaveTargets};
 
 use crate::block::PacketBlock;
 use crate::placed::Placed;
@@ -75,11 +75,18 @@ impl Packets {
 
     /// Whether every branch to a block goes to one that is there and has a label.
     pub fn closed(&self) -> bool
-        ensures { result ≡ is_closed self.now }
+        ensures closed { result ≡ is_closed self.now }
+        ensures targets { IsTrue result ↔ HaveTargets self.now }
     {
-        let blocks = self.blocks();
-        blocks.iter().all(|block| is_closed_among(blocks, block))
+        are_closed(self.blocks())
     }
+}
+
+/// Whether the branches of all these blocks go to blocks that are there and have labels.
+fn are_closed(blocks: &[PacketBlock]) -> bool
+    ensures { result ≡ is_closed blocks.now }
+{
+    blocks.iter().all(|block| is_closed_among(blocks, block))
 }
 
 /// Whether the branches of a block go to blocks that are there and have labels.

@@ -10,7 +10,8 @@ pub use Rattle.c62_op.specs.declared.operands.Operands.{Operands}
 pub use Rattle.c62_op.specs.declared.operands.Operands.TheVariants.{Access}
 pub use Rattle.c62_op.specs.declared.register.Reg.{Reg}
 pub use Rattle.c62_op.specs.declared.register.Side.{Side}
-pub use Rattle.std.proofs.Common.{◌≡◌, ◌≢◌, ℕ, ◌+◌, ◌-◌, ◌*◌, ◌^◌, ◌%◌, ◌<◌, ◌≤◌, ℤ, min, Bool, true, false, refl, sym, ap, ◌∙◌, arith, inl, inr, w32, bit_or}
+pub use Rattle.std.proofs.Common.{◌≡◌, ◌≢◌, ℕ, ◌+◌, ◌-◌, ◌*◌, ◌^◌, ◌%◌, ◌<◌, ◌≤◌, ℤ, min, Bool, true, false, refl, sym}
+pub use Rattle.std.proofs.Common.{ap, ◌∙◌, arith, inl, inr, w32, bit_or}
 pub use Rattle.std.proofs.Common.{bit_and, take}
 pub use Rattle.std.proofs.lemmas.Bool.{both_ways, false_from_ne_true, cases_lt}
 pub use Rattle.std.proofs.lemmas.Bool.Decides.{nat_tests}

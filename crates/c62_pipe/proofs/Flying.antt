@@ -1,56 +1,55 @@
--- Instructions in flight from one cycle to the next.
-use Rattle.std.proofs.Common.{◌≡◌, ℕ, suc, ◌+◌, ◌-◌, ◌*◌, ◌%◌, ◌<◌, ◌≤◌, List, [], ◌∷◌, ◌++◌, length, length-append, get_or, take, drop, Option, Some, None, refl, sym, ◌∙◌, ap, subst, ◌⊎◌, inl, inr, ⊎_elim, arith}
-use Rattle.std.specs.Prelude.{◌↔◌, Contains, fold, slice_set}
+-- What is in flight while a pipe runs, at its start and where an instruction is issued.
+use Rattle.std.proofs.Common.{◌≡◌, ℕ, ◌+◌, ◌*◌, ◌<◌, ◌≤◌, List, [], ◌∷◌, ◌++◌, length, length-append, get_or, take}
+use Rattle.std.proofs.Common.{drop, Option, Some, None, refl, sym, ◌∙◌, ap, subst, inl, inr, ⊎_elim, arith}
+use Rattle.std.specs.Prelude.{fold}
 use Rattle.std.specs.List.{flat_map}
 use Rattle.std.specs.List.Sorted.{IsStrictlyIncreasing}
-use Rattle.std.proofs.lemmas.Bool.{cases_eq, cases_Bool, cond-false, cond_both, and_right, le-ltb}
-use Rattle.std.proofs.Math.ListN.{drop_of_length-le}
-use Rattle.std.proofs.lemmas.List.{length-set, take_more, drop_more, take_all, take-append-drop, append-nil}
+use Rattle.std.proofs.lemmas.Bool.{cases_Bool, cond-false, cond_both, and_right, le-ltb}
+use Rattle.std.proofs.lemmas.List.{take_more, drop_more, take-append-drop, append-nil}
 use Rattle.std.proofs.lemmas.List.Sums.{fold-append}
-use Rattle.std.proofs.lemmas.List.Elements.{All-contains}
 use Rattle.std.proofs.lemmas.Grind.{flat_map-append}
 use Rattle.c62_op.specs.declared.register.Reg.{Reg}
 use Rattle.c62_insn.specs.declared.effect.Access.{Access as MemoryAccess}
-use Rattle.c62_insn.specs.declared.effect.Target.{Target}
-use Rattle.c62_insn.specs.Insn.{register_writes, greatest_delay}
-use Rattle.c62_rules.specs.Length.{landing_end}
 use Rattle.c62_op.specs.Units.{index_of as unit_index}
 use Rattle.c62_op.proofs.UnitOrder.{index_of-below}
-use Rattle.c62_serial.specs.declared.serial.Exit.{Exit}
-use Rattle.c62_serial.specs.declared.serial.Exit.TheVariants.{Next}
-use Rattle.c62_serial.specs.State.{Machine, Contents, IsSound, index_of, word_in, byte_in}
+use Rattle.c62_serial.specs.State.{Machine, IsSound, index_of, word_in, byte_in}
 use Rattle.c62_serial.specs.Memory.{is_good}
 use Rattle.c62_serial.specs.Faults.{after_fault, with_fault_if}
-use Rattle.c62_serial.specs.Effect.{Act, act_of, is_fault}
-use Rattle.c62_serial.specs.Serial.{after_store, after_access, exit_after}
+use Rattle.c62_serial.specs.Effect.{Act, is_fault}
+use Rattle.c62_serial.specs.Serial.{after_store, after_access}
 use Rattle.c62_serial.proofs.FaultLemmas.{joined_rises}
 use Rattle.c62_serial.proofs.MemoryLemmas.{stores}
-use Rattle.c62_serial.proofs.RegisterLemmas.{index_within}
 use Rattle.c62_packet.specs.declared.placed.Placed.{Placed}
-use Rattle.c62_packet.specs.Packed.{Packed, IsPacketBlock, issue_of, listing_position}
+use Rattle.c62_packet.specs.Packed.{listing_position}
 use Rattle.c62_meaning.specs.Landing.{Landing, latest, value_or}
-use Rattle.c62_meaning.specs.Packet.{register_landings, memory_landings, access_landings, access_time, word_before, byte_before}
-use Rattle.c62_meaning.specs.Meaning.{HasFaulted, exit_by, IsMeaning}
-use Rattle.c62_meaning.proofs.Lookup.{In, Contains_from_In, In-append_right, In-append_cases, last_value, last_value-append}
+use Rattle.c62_meaning.specs.Packet.{register_landings, memory_landings, access_landings, access_time, word_before}
+use Rattle.c62_meaning.specs.Packet.{byte_before}
+use Rattle.c62_meaning.proofs.Lookup.{In, Contains_from_In, In-append_right, In-append_cases, last_value}
+use Rattle.c62_meaning.proofs.Lookup.{last_value-append}
 use Rattle.c62_meaning.proofs.Acting.{act_same}
-use Rattle.c62_meaning.proofs.Landings.{access-last, act_writes}
+use Rattle.c62_meaning.proofs.Landings.{access-last}
 use Rattle.c62_meaning.proofs.Runs.{the_run, the_run_runs}
-use Rattle.c62_meaning.proofs.Faulted.{lines_after, lines_hold}
-use Rattle.c62_pipe.specs.Flight.{Slot, Store, Flight, IsIdle, due, with_writes, FitsSlots, stores_at, stores_of, act_at, issued, landed, stored, at_end, after_end}
-use Rattle.c62_pipe.proofs.Order.{Ascends, ascends, parts_at, In-take}
-use Rattle.c62_pipe.proofs.Slots.{due_of, due_in, due-set_same, due-set_other, length-writes, due_writes, act_soon, due_none, few_due, fits}
-use Rattle.c62_pipe.proofs.Landed.{last_pair, landed-last, word-next, byte-next}
+use Rattle.c62_meaning.proofs.Faulted.{lines_after}
+use Rattle.c62_pipe.specs.Flight.{Store, Flight, due, with_writes, FitsSlots, stores_at, stores_of, act_at, issued}
+use Rattle.c62_pipe.specs.Flight.{stored}
+use Rattle.c62_pipe.proofs.Order.{Ascends, ascends, parts_at}
+use Rattle.c62_pipe.proofs.Slots.{due_of, due_in, length-writes, due_writes, act_soon, few_due, fits}
 
--- Before a cycle, or within it after some instructions of its packet: what the first of these instructions have done. All
+-- Before a cycle, or within it after some instructions of its packet: what the first of these instructions have done.
+-- All
 -- positions below `upto` are over.
-pub record Flying (block : List Placed) (opening : Machine) (cycle next upto : ℕ) (flight : Flight) (machine : Machine) : Type 0 where
+pub record Flying (block : List Placed) (opening : Machine) (cycle next upto : ℕ) (flight : Flight)
+    (machine : Machine) : Type 0 where
   pub within : next ≤ length block
   pub sound : IsSound machine
   pub words : (reg : Reg) → word_in machine reg ≡ word_before block opening (the_run block opening) cycle reg
   pub bytes : (a : ℕ) → byte_in machine a ≡ byte_before block opening (the_run block opening) cycle a
-  pub pending : (a : ℕ) → get_or (fold stored machine.memory flight.stores) a 0 ≡ last_value a (flat_map (memory_landings (the_run block opening)) (take next block)) (byte_in opening a)
+  pub pending : (a : ℕ)
+      → get_or (fold stored machine.memory flight.stores) a 0 ≡ last_value a
+      (flat_map (memory_landings (the_run block opening)) (take next block)) (byte_in opening a)
   pub slots : length flight.slots ≡ 5
-  pub flying : (t : ℕ) → cycle ≤ t → t < cycle + 5 → due flight.slots t ≡ due_in (the_run block opening) t (take next block)
+  pub flying : (t : ℕ) → cycle ≤ t → t < cycle + 5
+      → due flight.slots t ≡ due_in (the_run block opening) t (take next block)
   pub space : (t : ℕ) → cycle ≤ t → t < cycle + 5 → 8 * t + length (due flight.slots t) ≤ upto + 32
   pub few : 8 * cycle + length flight.stores ≤ upto
   pub low : upto ≤ 8 * cycle + 8
@@ -67,13 +66,16 @@ nothing_before : (cell : ℕ) (ls : List Landing) → latest cell 0 ls ≡ None
 nothing_before cell [] = refl
 nothing_before cell (x ∷ xs) = cond-false _ _ _ (and_right _ _ (le-ltb x.time 0 (omega arith))) ∙ nothing_before cell xs
 
-pub start : (block : List Placed) (opening : Machine) (flight : Flight) → IsSound opening → length flight.slots ≡ 5 → ((t : ℕ) → due flight.slots t ≡ [])
+pub start : (block : List Placed) (opening : Machine) (flight : Flight) → IsSound opening → length flight.slots ≡ 5
+    → ((t : ℕ) → due flight.slots t ≡ [])
     → flight.stores ≡ [] → Flying block opening 0 0 0 flight opening
 start block opening flight sound size none empty = record {
   within = omega arith;
   sound = sound;
-  words = λ reg. sym (ap (λ o. value_or o (word_in opening reg)) (nothing_before (index_of reg) (flat_map (register_landings (the_run block opening)) block)));
-  bytes = λ a. sym (ap (λ o. value_or o (byte_in opening a)) (nothing_before a (flat_map (memory_landings (the_run block opening)) block)));
+  words = λ reg. sym (ap (λ o. value_or o (word_in opening reg))
+      (nothing_before (index_of reg) (flat_map (register_landings (the_run block opening)) block)));
+  bytes = λ a. sym (ap (λ o. value_or o (byte_in opening a))
+      (nothing_before a (flat_map (memory_landings (the_run block opening)) block)));
   pending = λ a. ap (λ ss. get_or (fold stored opening.memory ss) a 0) empty;
   slots = size;
   flying = λ t a b. none t;
@@ -87,17 +89,22 @@ start block opening flight sound size none empty = record {
 
 -- ---- an instruction is issued
 
-flat_more : {X : Type 0} → (f : Placed → List X) (ps : List Placed) (p : Placed) → flat_map f (ps ++ p ∷ []) ≡ flat_map f ps ++ f p
+flat_more : {X : Type 0} → (f : Placed → List X) (ps : List Placed) (p : Placed)
+    → flat_map f (ps ++ p ∷ []) ≡ flat_map f ps ++ f p
 flat_more f ps p = flat_map-append f ps (p ∷ []) ∙ ap (λ ys. flat_map f ps ++ ys) (append-nil (f p))
 
 pub In-drop : (block : List Placed) (n : ℕ) (p : Placed) → In p (drop n block) → In p block
-In-drop block n p h = subst (λ ps. In p ps) (take-append-drop n block) (In-append_right p (take n block) (drop n block) h)
+In-drop block n p h = subst (λ ps. In p ps) (take-append-drop n block)
+    (In-append_right p (take n block) (drop n block) h)
 
 -- what the next instruction does
-pub does : (block : List Placed) (opening : Machine) (cycle next upto : ℕ) (flight : Flight) (machine : Machine) (p : Placed)
-    → Flying block opening cycle next upto flight machine → In p block → p.cycle ≡ cycle → act_at p machine ≡ the_run block opening p
+pub does : (block : List Placed) (opening : Machine) (cycle next upto : ℕ) (flight : Flight) (machine : Machine)
+    (p : Placed)
+    → Flying block opening cycle next upto flight machine → In p block → p.cycle ≡ cycle
+    → act_at p machine ≡ the_run block opening p
 does block opening cycle next upto flight machine p h i e =
-    act_same p.insn (word_in machine) (word_before block opening (the_run block opening) p.cycle) (byte_in machine) (byte_before block opening (the_run block opening) p.cycle)
+    act_same p.insn (word_in machine) (word_before block opening (the_run block opening) p.cycle) (byte_in machine)
+    (byte_before block opening (the_run block opening) p.cycle)
     (λ reg r. h.words reg ∙ ap (λ c. word_before block opening (the_run block opening) c reg) (sym e))
     (λ a r. h.bytes a ∙ ap (λ c. byte_before block opening (the_run block opening) c a) (sym e))
     ∙ sym (the_run_runs block opening p (Contains_from_In p block i))
@@ -117,7 +124,9 @@ stored_access : (memory : List ℕ) (o : Option MemoryAccess) → fold stored me
 stored_access memory None = refl
 stored_access memory (Some access) = of_value access.value
   where
-    of_value : (value : Option ℕ) → fold stored memory (stores_at access.address access.size value) ≡ after_store memory value access.address access.size
+    of_value : (value : Option ℕ)
+        → fold stored memory (stores_at access.address access.size value) ≡ after_store memory value access.address
+        access.size
     of_value None = refl
     of_value (Some value) = refl
 
@@ -134,73 +143,101 @@ pub record IsReady (cycle : ℕ) (p : Placed) (machine : Machine) (flight : Flig
   pub few : length flight.stores < 8
   pub fits : FitsSlots (with_writes cycle p.line (act_at p machine).writes flight.slots)
 
-pub is_ready : (block : List Placed) (opening : Machine) (cycle next upto : ℕ) (flight : Flight) (machine : Machine) (p : Placed)
-    → Flying block opening cycle next upto flight machine → In p (drop next block) → p.cycle ≡ cycle → IsReady cycle p machine flight
+pub is_ready : (block : List Placed) (opening : Machine) (cycle next upto : ℕ) (flight : Flight) (machine : Machine)
+    (p : Placed)
+    → Flying block opening cycle next upto flight machine → In p (drop next block) → p.cycle ≡ cycle
+    → IsReady cycle p machine flight
 is_ready block opening cycle next upto flight machine p h i e =
     let at = position_of p in
     let after : upto ≤ listing_position p = h.ahead p i in
     let below : listing_position p < 8 * p.cycle + 8 = at.1 in
     record {
       few = (let r : 8 * cycle + length flight.stores ≤ upto = h.few in omega arith);
-      fits = fits cycle p.line (act_at p machine).writes flight.slots h.slots (act_soon p.insn (word_in machine) (byte_in machine))
+      fits = fits cycle p.line (act_at p machine).writes flight.slots h.slots
+          (act_soon p.insn (word_in machine) (byte_in machine))
           (λ t. few_due t cycle p.line p.insn (word_in machine) (byte_in machine))
           (λ t from soon. let r : 8 * t + length (due flight.slots t) ≤ upto + 32 = h.space t from soon in omega arith);
     }
 
-pub issue_step : (block : List Placed) (opening : Machine) (cycle next upto : ℕ) (flight : Flight) (machine : Machine) (p : Placed) → Ascends block
-    → Flying block opening cycle next upto flight machine → next < length block → get_or block next p ≡ p → p.cycle ≡ cycle
-    → Flying block opening cycle (next + 1) (listing_position p + 1) (issued cycle p.line (act_at p machine) flight) (with_fault_if p.line (is_fault (act_at p machine).access) machine)
+pub issue_step : (block : List Placed) (opening : Machine) (cycle next upto : ℕ) (flight : Flight) (machine : Machine)
+    (p : Placed) → Ascends block
+    → Flying block opening cycle next upto flight machine → next < length block → get_or block next p ≡ p
+    → p.cycle ≡ cycle
+    → Flying block opening cycle (next + 1) (listing_position p + 1) (issued cycle p.line (act_at p machine) flight)
+    (with_fault_if p.line (is_fault (act_at p machine).access) machine)
 issue_step block opening cycle next upto flight machine p ascends h l found e =
     let did = the_run block opening in
-    let more : take (next + 1) block ≡ take next block ++ p ∷ [] = take_more block next p l ∙ ap (λ z. take next block ++ z ∷ []) found in
-    let rest : drop next block ≡ p ∷ drop (next + 1) block = drop_more block next p l ∙ ap (λ z. z ∷ drop (next + 1) block) found in
+    let more : take (next + 1) block ≡ take next block ++ p ∷ [] = take_more block next p l
+    ∙ ap (λ z. take next block ++ z ∷ []) found in
+    let rest : drop next block ≡ p ∷ drop (next + 1) block = drop_more block next p l
+    ∙ ap (λ z. z ∷ drop (next + 1) block) found in
     let inside : In p (drop next block) = subst (λ ps. In p ps) (sym rest) (inl refl) in
     let whole : In p block = In-drop block next p inside in
-    let same : act_at p machine ≡ the_run block opening p = does block opening cycle next upto flight machine p h whole e in
-    let later : (q : Placed) → In q (drop (next + 1) block) → listing_position p < listing_position q = λ q k. (subst Ascends rest (parts_at block next ascends).back).0 q k in
-    let back : (q : Placed) → In q (drop (next + 1) block) → In q (drop next block) = λ q k. subst (λ ps. In q ps) (sym rest) (inr k) in
+    let same : act_at p machine ≡ the_run block opening p = does block opening cycle next upto flight machine p h whole
+    e in
+    let later : (q : Placed) → In q (drop (next + 1) block)
+    → listing_position p < listing_position q = λ q k. (subst Ascends rest (parts_at block next ascends).back).0
+    q k in
+    let back : (q : Placed) → In q (drop (next + 1) block)
+    → In q (drop next block) = λ q k. subst (λ ps. In q ps) (sym rest) (inr k) in
     record {
       within = omega arith;
       sound = record {
         registers = h.sound.registers;
         memory = h.sound.memory;
-        rising = cond_both (is_fault (act_at p machine).access) _ machine.faults IsStrictlyIncreasing (λ _. joined_rises p.line machine.faults h.sound.rising) (λ _. h.sound.rising);
+        rising = cond_both (is_fault (act_at p machine).access) _ machine.faults IsStrictlyIncreasing
+            (λ _. joined_rises p.line machine.faults h.sound.rising) (λ _. h.sound.rising);
       };
       words = h.words;
       bytes = h.bytes;
       pending = λ a.
-          ap (λ m. get_or m a 0) (fold-append stored machine.memory flight.stores (stores_of (act_at p machine).access) ∙ stored_access (fold stored machine.memory flight.stores) (act_at p machine).access)
-          ∙ access-last (access_time p) (act_at p machine).access (fold stored machine.memory flight.stores) a (length-stored machine.memory flight.stores h.sound.memory)
-          ∙ ap (λ (x : Act). last_value a (access_landings (access_time p) x.access) (get_or (fold stored machine.memory flight.stores) a 0)) same
+          ap (λ m. get_or m a 0) (fold-append stored machine.memory flight.stores (stores_of (act_at p machine).access)
+          ∙ stored_access (fold stored machine.memory flight.stores) (act_at p machine).access)
+          ∙ access-last (access_time p) (act_at p machine).access (fold stored machine.memory flight.stores) a
+          (length-stored machine.memory flight.stores h.sound.memory)
+          ∙ ap (λ (x : Act). last_value a (access_landings (access_time p) x.access)
+          (get_or (fold stored machine.memory flight.stores) a 0)) same
           ∙ ap (λ v. last_value a (memory_landings (the_run block opening) p) v) (h.pending a)
-          ∙ sym (last_value-append a (flat_map (memory_landings (the_run block opening)) (take next block)) (memory_landings (the_run block opening) p) (byte_in opening a))
-          ∙ ap (λ ls. last_value a ls (byte_in opening a)) (sym (flat_more (memory_landings (the_run block opening)) (take next block) p) ∙ ap (λ ps. flat_map (memory_landings (the_run block opening)) ps) (sym more));
+          ∙ sym (last_value-append a (flat_map (memory_landings (the_run block opening)) (take next block))
+          (memory_landings (the_run block opening) p) (byte_in opening a))
+          ∙ ap (λ ls. last_value a ls (byte_in opening a))
+          (sym (flat_more (memory_landings (the_run block opening)) (take next block) p)
+          ∙ ap (λ ps. flat_map (memory_landings (the_run block opening)) ps) (sym more));
       slots = length-writes cycle p.line (act_at p machine).writes flight.slots ∙ h.slots;
       flying = λ t from below.
-          due_writes cycle p.line t (act_at p machine).writes flight.slots h.slots from below (act_soon p.insn (word_in machine) (byte_in machine))
+          due_writes cycle p.line t (act_at p machine).writes flight.slots h.slots from below
+          (act_soon p.insn (word_in machine) (byte_in machine))
           ∙ ap (λ slot. slot ++ due_of t cycle p.line (act_at p machine).writes) (h.flying t from below)
           ∙ ap (λ (x : Act). due_in (the_run block opening) t (take next block) ++ due_of t cycle p.line x.writes) same
-          ∙ ap (λ c. due_in (the_run block opening) t (take next block) ++ due_of t c p.line (the_run block opening p).writes) (sym e)
+          ∙ ap (λ c. due_in (the_run block opening) t (take next block) ++ due_of t c p.line
+          (the_run block opening p).writes) (sym e)
           ∙ sym (flat_more (λ z. due_of t z.cycle z.line (the_run block opening z).writes) (take next block) p)
           ∙ ap (λ ps. due_in (the_run block opening) t ps) (sym more);
       space = λ t from below.
-          let grown : due (with_writes cycle p.line (act_at p machine).writes flight.slots) t ≡ due flight.slots t ++ due_of t cycle p.line (act_at p machine).writes
-          = due_writes cycle p.line t (act_at p machine).writes flight.slots h.slots from below (act_soon p.insn (word_in machine) (byte_in machine)) in
-          let size : length (due (with_writes cycle p.line (act_at p machine).writes flight.slots) t) ≡ length (due flight.slots t) + length (due_of t cycle p.line (act_at p machine).writes)
+          let grown : due (with_writes cycle p.line (act_at p machine).writes flight.slots) t ≡ due flight.slots t ++
+          due_of t cycle p.line (act_at p machine).writes
+          = due_writes cycle p.line t (act_at p machine).writes flight.slots h.slots from below
+          (act_soon p.insn (word_in machine) (byte_in machine)) in
+          let size : length (due (with_writes cycle p.line (act_at p machine).writes flight.slots) t) ≡ length
+          (due flight.slots t) + length (due_of t cycle p.line (act_at p machine).writes)
           = ap length grown ∙ length-append (due flight.slots t) (due_of t cycle p.line (act_at p machine).writes) in
-          let one : length (due_of t cycle p.line (act_at p machine).writes) ≤ 1 = few_due t cycle p.line p.insn (word_in machine) (byte_in machine) in
+          let one : length (due_of t cycle p.line (act_at p machine).writes) ≤ 1 = few_due t cycle p.line p.insn
+          (word_in machine) (byte_in machine) in
           let was : 8 * t + length (due flight.slots t) ≤ upto + 32 = h.space t from below in
           let after : upto ≤ listing_position p = h.ahead p inside in
           omega arith;
       few =
-          let size : length (flight.stores ++ stores_of (act_at p machine).access) ≡ length flight.stores + length (stores_of (act_at p machine).access) = length-append flight.stores (stores_of (act_at p machine).access) in
+          let size : length (flight.stores ++ stores_of (act_at p machine).access) ≡ length flight.stores + length
+          (stores_of (act_at p machine).access) = length-append flight.stores
+          (stores_of (act_at p machine).access) in
           let one : length (stores_of (act_at p machine).access) ≤ 1 = few_stores (act_at p machine).access in
           let was : 8 * cycle + length flight.stores ≤ upto = h.few in
           let after : upto ≤ listing_position p = h.ahead p inside in
           omega arith;
       low = (let below : listing_position p < 8 * p.cycle + 8 = (position_of p).1 in omega arith);
       ahead = λ q k. (let less : listing_position p < listing_position q = later q k in omega arith);
-      early = λ q k. ⊎_elim {C = q.cycle ≤ cycle} (λ a. h.early q a) (λ a. last_early q a) (In-append_cases q (take next block) (p ∷ []) (subst (λ ps. In q ps) more k));
+      early = λ q k. ⊎_elim {C = q.cycle ≤ cycle} (λ a. h.early q a) (λ a. last_early q a)
+          (In-append_cases q (take next block) (p ∷ []) (subst (λ ps. In q ps) more k));
       lines =
           ap (λ b. after_fault machine.faults p.line b) (ap (λ (x : Act). is_fault x.access) same)
           ∙ ap (λ ls. after_fault ls p.line (is_fault (the_run block opening p).access)) h.lines
@@ -211,69 +248,3 @@ issue_step block opening cycle next upto flight machine p ascends h l found e =
     last_early : (q : Placed) → In q (p ∷ []) → q.cycle ≤ cycle
     last_early q (inl s) = let f : p.cycle ≡ q.cycle = ap (λ (z : Placed). z.cycle) s in omega arith
     last_early q (inr k) = absurd k
-
--- ---- a cycle ends
-
-pub length-landing : (slot : Slot) (registers : List ℕ) → length (fold landed registers slot) ≡ length registers
-length-landing [] registers = refl
-length-landing (x ∷ xs) registers = length-landing xs (landed registers x) ∙ length-set registers (index_of x.reg) x.word
-
--- nothing that was issued lands five cycles later
-none_in : (block : List Placed) (opening : Machine) (cycle t : ℕ) (ps : List Placed) → t ≡ cycle + 5 → ((p : Placed) → In p ps → p.cycle ≤ cycle) → ((p : Placed) → In p ps → In p block)
-    → due_in (the_run block opening) t ps ≡ []
-none_in block opening cycle t [] e early sub = refl
-none_in block opening cycle t (p ∷ ps) e early sub =
-    let a : p.cycle ≤ cycle = early p (inl refl) in
-    let same = the_run_runs block opening p (Contains_from_In p block (sub p (inl refl))) in
-    let here : due_of t p.cycle p.line (the_run block opening p).writes ≡ []
-    = ap (λ (x : Act). due_of t p.cycle p.line x.writes) same
-    ∙ due_none t p.cycle p.line (act_of p.insn (word_before block opening (the_run block opening) p.cycle) (byte_before block opening (the_run block opening) p.cycle)).writes
-    (λ w k f. let d : w.0.1 ≤ 4 = act_soon p.insn (word_before block opening (the_run block opening) p.cycle) (byte_before block opening (the_run block opening) p.cycle) w k in omega arith) in
-    ap (λ slot. slot ++ due_in (the_run block opening) t ps) here ∙ none_in block opening cycle t ps e (λ q k. early q (inr k)) (λ q k. sub q (inr k))
-
-pub end_step : (block : List Placed) (opening : Machine) (cycle next upto : ℕ) (flight : Flight) (machine : Machine) → Ascends block
-    → Flying block opening cycle next upto flight machine → ((p : Placed) → In p (drop next block) → cycle < p.cycle)
-    → Flying block opening (cycle + 1) next (8 * (cycle + 1)) (after_end cycle flight) (at_end cycle flight machine)
-end_step block opening cycle next upto flight machine ascends h late =
-    let e : suc cycle ≡ cycle + 1 = omega arith in
-    record {
-      within = h.within;
-      sound = record {
-        registers = length-landing (due flight.slots cycle) machine.registers ∙ h.sound.registers;
-        memory = length-stored machine.memory flight.stores h.sound.memory;
-        rising = h.sound.rising;
-      };
-      words = λ reg.
-          let n : length machine.registers ≡ 32 = h.sound.registers in
-          let r : index_of reg < 32 = index_within reg in
-          landed-last (index_of reg) (due flight.slots cycle) machine.registers (omega arith)
-          ∙ ap (λ slot. last_pair (index_of reg) slot (word_in machine reg)) (h.flying cycle (omega arith) (omega arith))
-          ∙ ap (λ v. last_pair (index_of reg) (due_in (the_run block opening) cycle (take next block)) v) (h.words reg)
-          ∙ sym (word-next block opening (the_run block opening) cycle next reg late)
-          ∙ ap (λ c. word_before block opening (the_run block opening) c reg) e;
-      bytes = λ a.
-          h.pending a ∙ sym (byte-next block opening (the_run block opening) cycle next a ascends h.early late)
-          ∙ ap (λ c. byte_before block opening (the_run block opening) c a) e;
-      pending = h.pending;
-      slots = length-set flight.slots (cycle % 5) [] ∙ h.slots;
-      flying = λ t from below. flown t from below (cases_eq t (cycle + 5));
-      space = λ t from below. ⊎_elim {C = 8 * t + length (due (slice_set flight.slots (cycle % 5) []) t) ≤ 8 * (cycle + 1) + 32}
-          (λ s. let z : length (due (slice_set flight.slots (cycle % 5) []) t) ≡ 0 = ap length (due-set_same flight.slots t cycle [] h.slots (omega arith)) in omega arith)
-          (λ ne.
-          let z : length (due (slice_set flight.slots (cycle % 5) []) t) ≡ length (due flight.slots t) = ap length (due-set_other flight.slots t cycle [] (λ f. ne (omega arith))) in
-          let was : 8 * t + length (due flight.slots t) ≤ upto + 32 = h.space t (omega arith) (omega arith) in
-          let low : upto ≤ 8 * cycle + 8 = h.low in omega arith)
-          (cases_eq t (cycle + 5));
-      few = omega arith;
-      low = omega arith;
-      ahead = λ p k. let a : cycle < p.cycle = late p k in let b : 8 * p.cycle ≤ listing_position p = (position_of p).0 in omega arith;
-      early = λ p k. let a : p.cycle ≤ cycle = h.early p k in omega arith;
-      lines = h.lines;
-    }
-  where
-    none_yet : (t : ℕ) (ps : List Placed) → ((p : Placed) → In p ps → In p (take next block)) → t ≡ cycle + 5 → due_in (the_run block opening) t ps ≡ []
-    none_yet t ps sub s = none_in block opening cycle t ps s (λ p k. h.early p (sub p k)) (λ p k. In-take block next p (sub p k))
-
-    flown : (t : ℕ) → cycle + 1 ≤ t → t < cycle + 1 + 5 → (t ≡ cycle + 5) ⊎ (t ≡ cycle + 5 → ⊥) → due (slice_set flight.slots (cycle % 5) []) t ≡ due_in (the_run block opening) t (take next block)
-    flown t from below (inl s) = due-set_same flight.slots t cycle [] h.slots (omega arith) ∙ sym (none_yet t (take next block) (λ p k. k) s)
-    flown t from below (inr ne) = due-set_other flight.slots t cycle [] (λ f. ne (omega arith)) ∙ h.flying t (omega arith) (omega arith)

@@ -1,5 +1,6 @@
 -- The instructions of a packet block stand in rising positions, of which each is one cycle and unit.
-use Rattle.std.proofs.Common.{◌≡◌, ℕ, suc, ◌+◌, ◌*◌, ◌<◌, ◌≤◌, List, [], ◌∷◌, ◌++◌, length, take, drop, get_or, Some, None, refl, sym, subst, ◌⊎◌, ⊎_elim, arith}
+use Rattle.std.proofs.Common.{◌≡◌, ℕ, suc, ◌+◌, ◌*◌, ◌<◌, ◌≤◌, List, [], ◌∷◌, ◌++◌, length, take, drop, get_or, Some}
+use Rattle.std.proofs.Common.{None, refl, sym, subst, ◌⊎◌, ⊎_elim, arith}
 use Rattle.std.specs.List.{AllPairs}
 use Rattle.std.proofs.lemmas.Bool.{cases_lt}
 use Rattle.std.proofs.lemmas.List.{take-append-drop, get_or-map}
@@ -19,7 +20,9 @@ Ascends (p ∷ ps) = ((q : Placed) → In q ps → listing_position p < listing_
 ascends_from : (ps : List Placed) → AllPairs (λ p q. listing_position p < listing_position q) ps → Ascends ps
 ascends_from [] h = tt
 ascends_from (p ∷ ps) h = (
-  (λ q k. let c = Contains_from_In q ps k in let P : Placed → Type 0 = λ z. listing_position p < listing_position z in subst P c.2 (h 0 (suc c.0) q (omega arith) (omega (arith, c.1)))),
+  (λ q k. let c = Contains_from_In q ps k in let P : Placed
+      → Type 0 = λ z. listing_position p < listing_position z in subst P c.2
+      (h 0 (suc c.0) q (omega arith) (omega (arith, c.1)))),
   ascends_from ps (λ i j d l u. h (suc i) (suc j) d (omega arith) (omega arith)),
 )
 
@@ -34,16 +37,20 @@ positions_differ block h i j d l u e =
     let e' : 8 * p.cycle + unit_index p.unit ≡ 8 * q.cycle + unit_index q.unit = e in
     let cycle : p.cycle ≡ q.cycle = omega arith in
     let unit : p.unit ≡ q.unit = same_index p.unit q.unit (omega arith) in
-    let at_i : IsIssued (issued block.placed) i (issue_of p) = get_or-map (λ (z : Placed). Some (issue_of z)) block.placed i d None (omega arith) in
-    let at_j : IsIssued (issued block.placed) j (issue_of q) = get_or-map (λ (z : Placed). Some (issue_of z)) block.placed j d None u in
-    let same : i ≡ j = one-each-unit (issued block.placed) h.rules q.unit i j (issue_of p) (issue_of q) at_i at_j cycle unit refl in
+    let at_i : IsIssued (issued block.placed) i (issue_of p) = get_or-map (λ (z : Placed). Some (issue_of z))
+    block.placed i d None (omega arith) in
+    let at_j : IsIssued (issued block.placed) j (issue_of q) = get_or-map (λ (z : Placed). Some (issue_of z))
+    block.placed j d None u in
+    let same : i ≡ j = one-each-unit (issued block.placed) h.rules q.unit i j (issue_of p) (issue_of q) at_i at_j cycle
+    unit refl in
     omega arith
 
 pub ascends : (block : Packed) → IsPacketBlock block → Ascends block.placed
 ascends block h = ascends_from block.placed (λ i j d l u.
     ⊎_elim {C = listing_position (get_or block.placed i d) < listing_position (get_or block.placed j d)}
     (λ lt. lt)
-    (λ ge. let le : listing_position (get_or block.placed i d) ≤ listing_position (get_or block.placed j d) = h.in_order i j d (omega arith) u in
+    (λ ge. let le : listing_position (get_or block.placed i d) ≤ listing_position (get_or block.placed j d) = h.in_order
+    i j d (omega arith) u in
     absurd (positions_differ block h i j d l u (omega arith)))
     (cases_lt (listing_position (get_or block.placed i d)) (listing_position (get_or block.placed j d))))
 
@@ -61,7 +68,8 @@ parts (x ∷ xs) ys h =
       back = r.back;
       across = λ p q a b.
           ⊎_elim {C = listing_position p < listing_position q}
-          (λ e. let P : Placed → Type 0 = λ z. listing_position z < listing_position q in subst P e (h.0 q (In-append_right q xs ys b)))
+          (λ e. let P : Placed → Type 0 = λ z. listing_position z < listing_position q in subst P e
+          (h.0 q (In-append_right q xs ys b)))
           (λ k. r.across p q k b) a;
     }
 
@@ -71,7 +79,9 @@ pub parts_at : (block : List Placed) (n : ℕ) → Ascends block → AreParts (t
 parts_at block n h = parts (take n block) (drop n block) (subst Ascends (sym (take-append-drop n block)) h)
 
 pub In-take : (block : List Placed) (n : ℕ) (p : Placed) → In p (take n block) → In p block
-In-take block n p h = subst (λ ps. In p ps) (take-append-drop n block) (In-append_left p (take n block) (drop n block) h)
+In-take block n p h = subst (λ ps. In p ps) (take-append-drop n block)
+    (In-append_left p (take n block) (drop n block) h)
 
 pub In-parts : (block : List Placed) (n : ℕ) (p : Placed) → In p block → In p (take n block) ⊎ In p (drop n block)
-In-parts block n p h = In-append_cases p (take n block) (drop n block) (subst (λ ps. In p ps) (sym (take-append-drop n block)) h)
+In-parts block n p h = In-append_cases p (take n block) (drop n block)
+    (subst (λ ps. In p ps) (sym (take-append-drop n block)) h)

@@ -1,5 +1,6 @@
 -- Where tokens stand in their line.
-use Rattle.c62_token.proofs.Common.{◌≡◌, ℕ, zero, suc, ◌+◌, ◌-◌, ◌<◌, ◌≤◌, Bool, true, false, eqb, List, [], ◌∷◌, length, get_or, take, drop, refl, sym, ap, ◌∙◌}
+use Rattle.c62_token.proofs.Common.{◌≡◌, ℕ, zero, suc, ◌+◌, ◌-◌, ◌<◌, ◌≤◌, Bool, true, false, eqb, List, [], ◌∷◌}
+use Rattle.c62_token.proofs.Common.{length, get_or, take, drop, refl, sym, ap, ◌∙◌}
 use Rattle.c62_token.proofs.Common.{arith, nat_tests, begins, is_blank, is_solid, tokens, inl, inr, cases_Bool}
 use Rattle.std.proofs.Math.Seq.{drop-cons}
 use Rattle.std.proofs.lemmas.List.{drop-drop, length-drop, length-take-le, nil_from_length}
@@ -14,7 +15,8 @@ no_comment : (b : ℕ) → is_blank b ≡ true → eqb b 59 ≡ false
 no_comment b blank = grind (arith, nat_tests)
 
 -- a blank is passed over
-pub blank_past : (line : List ℕ) (i : ℕ) → i < length line → is_blank (get_or line i 0) ≡ true → tokens (drop (i + 1) line) ≡ tokens (drop i line)
+pub blank_past : (line : List ℕ) (i : ℕ) → i < length line → is_blank (get_or line i 0) ≡ true
+    → tokens (drop (i + 1) line) ≡ tokens (drop i line)
 blank_past line i within blank =
     let next : suc i ≡ i + 1 = omega arith in
     let here : drop i line ≡ get_or line i 0 ∷ drop (i + 1) line = rw next at (drop-cons line i 0 within) in
@@ -23,7 +25,8 @@ blank_past line i within blank =
 -- ---- the first token
 
 pub first_is : (line word : List ℕ) (words : List (List ℕ)) → begins is_blank line ≡ false → tokens line ≡ word ∷ words
-    → (length word ≤ length line) × (tokens line ≡ take (length word) line ∷ tokens (drop (length word) line)) × (0 < length word)
+    → (length word ≤ length line) × (tokens line ≡ take (length word) line ∷ tokens (drop (length word) line))
+    × (0 < length word)
 first_is [] word words plain is = absurd cc
 first_is (b ∷ line) word words plain is = elim (cases_Bool (eqb b 59)) [
   | inl comment ↦ let none = tokens_comment b line comment in absurd cc
@@ -42,7 +45,8 @@ first_is (b ∷ line) word words plain is = elim (cases_Bool (eqb b 59)) [
     by_count zero bytes fits = absurd cc
     by_count (suc n) bytes fits = omega arith
 
-pub first_place : (line word : List ℕ) (words : List (List ℕ)) (start : ℕ) → start ≤ length line → tokens (drop start line) ≡ tokens line
+pub first_place : (line word : List ℕ) (words : List (List ℕ)) (start : ℕ) → start ≤ length line
+    → tokens (drop start line) ≡ tokens line
     → begins is_blank (drop start line) ≡ false → tokens (drop start line) ≡ word ∷ words
     → IsFirstToken line (Some (record { start = start; len = length word }))
 first_place line word words start within same plain is =
@@ -66,7 +70,8 @@ module _ (line : List ℕ) (before start : ℕ) (place : Place) (within : start 
   pub token_found : tokens (drop start line) ≡ drop before (tokens line)
       → IsToken line before (record { start = start + place.start; len = place.len })
   token_found there =
-      let at : drop place.start (drop start line) ≡ drop (start + place.start) line = drop-drop place.start start line in
+      let at : drop place.start (drop start line) ≡ drop (start + place.start) line = drop-drop place.start start line
+      in
       let here = sym there ∙ first.1 in
       record {
         within = omega (arith, within, first.0, length-drop start line);
@@ -79,11 +84,14 @@ module _ (line : List ℕ) (before start : ℕ) (place : Place) (within : start 
       → tokens (drop (start + (place.start + place.len)) line) ≡ drop (passed + 1) (tokens line)
   token_next passed there =
       let here = sym there ∙ first.1 in
-      let next : drop 1 (drop passed (tokens line)) ≡ drop (passed + 1) (tokens line) = drop-drop 1 passed (tokens line) in
-      let tail : tokens (drop (place.start + place.len) (drop start line)) ≡ drop 1 (drop passed (tokens line)) = rw here refl in
+      let next : drop 1 (drop passed (tokens line)) ≡ drop (passed + 1) (tokens line) = drop-drop 1 passed (tokens line)
+      in
+      let tail : tokens (drop (place.start + place.len) (drop start line)) ≡ drop 1 (drop passed (tokens line)) = rw
+      here refl in
       rw (drop-drop (place.start + place.len) start line) at (tail ∙ next)
 
-pub token_none : (line : List ℕ) (before passed start : ℕ) → passed ≤ before → start ≤ length line → tokens (drop start line) ≡ []
+pub token_none : (line : List ℕ) (before passed start : ℕ) → passed ≤ before → start ≤ length line
+    → tokens (drop start line) ≡ []
     → tokens (drop start line) ≡ drop passed (tokens line) → IsToken line before (record { start = start; len = 0 })
 token_none line before passed start few within none there =
     let all = none_left passed (tokens line) (sym there ∙ none) in

@@ -9,7 +9,8 @@ use Rattle.c62_pipe.specs.Chain.{RunsPackets}
 use Rattle.c62_profile.specs.declared.tally.Tally.{Tally}
 use Rattle.c62_profile.specs.Visits.{CountsPackets, CountsProgram}
 
-pub runs_program : (program : List Serial) (opening : Machine) (limit : ℕ) (chain : Chain) (final : Machine) (tally : Tally)
+pub runs_program : (program : List Serial) (opening : Machine) (limit : ℕ) (chain : Chain) (final : Machine)
+    (tally : Tally)
     → CountsProgram program opening limit chain final tally → RunsProgram program opening limit chain final
 runs_program program opening limit chain final tally counts = record {
   standing = counts.standing;
@@ -18,7 +19,8 @@ runs_program program opening limit chain final tally counts = record {
   left = counts.left;
 }
 
-pub runs_packets : (packets : List Packed) (opening : Machine) (limit : ℕ) (chain : Chain) (final : Machine) (tally : Tally)
+pub runs_packets : (packets : List Packed) (opening : Machine) (limit : ℕ) (chain : Chain) (final : Machine)
+    (tally : Tally)
     → CountsPackets packets opening limit chain final tally → RunsPackets packets opening limit chain tally.taken final
 runs_packets packets opening limit chain final tally counts = record {
   standing = counts.standing;

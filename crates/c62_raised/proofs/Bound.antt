@@ -1,5 +1,6 @@
 -- No schedule is shorter than the raised bound.
-use Rattle.std.proofs.Common.{arith, ◌≡◌, ℕ, zero, suc, ◌+◌, ◌-◌, ◌*◌, ◌<◌, ◌≤◌, List, [], ◌∷◌, length, Option, Some, None, refl, sym, ap, subst, inl, inr}
+use Rattle.std.proofs.Common.{arith, ◌≡◌, ℕ, zero, suc, ◌+◌, ◌-◌, ◌*◌, ◌<◌, ◌≤◌, List, [], ◌∷◌, length, Option, Some}
+use Rattle.std.proofs.Common.{None, refl, sym, ap, subst, inl, inr}
 use Rattle.std.specs.Prelude.{ℤ, pos, negsuc, ◌+ℤ◌, ◌≤ℤ◌, IsSome}
 use Rattle.std.specs.Int.{div_ceil}
 use Rattle.std.proofs.lemmas.Int.{ints}
@@ -35,12 +36,14 @@ some_width_of (Of kind side) = some_width kind
 some_width_of (Cross side) = omega arith
 
 -- how many cycles follow behind cycle c, by one that comes behind
-raised_fits : (before : ℤ) (c h d most : ℕ) → c + 1 ≤ most → (pos c +ℤ before) ≤ℤ pos d → d + h + 1 ≤ most → c + raised before h + 1 ≤ most
+raised_fits : (before : ℤ) (c h d most : ℕ) → c + 1 ≤ most → (pos c +ℤ before) ≤ℤ pos d → d + h + 1 ≤ most
+    → c + raised before h + 1 ≤ most
 raised_fits (pos l) c h d most own kept ends = omega (arith, ints, own, kept, ends)
 raised_fits (negsuc l) c h d most own kept ends = omega (arith, ints, own, kept, ends)
 
 -- and by a crowd, of which the first comes in cycle c and the lead, or later
-crowd_fits : (lead : ℤ) (c rounds tail most : ℕ) → c + 1 ≤ most → raised lead c + tail + 1 ≤ most → rounds ≤ most - tail - raised lead c
+crowd_fits : (lead : ℤ) (c rounds tail most : ℕ) → c + 1 ≤ most → raised lead c + tail + 1 ≤ most
+    → rounds ≤ most - tail - raised lead c
     → c + raised lead (rounds - 1 + tail) + 1 ≤ most
 crowd_fits (pos l) c rounds tail most own some fits = omega (arith, own, some, fits)
 crowd_fits (negsuc l) c rounds tail most own some fits = omega (arith, own, some, fits)
@@ -55,22 +58,28 @@ some_of (Some x) is = (x, refl)
 
 module _ (block : List Insn) (set : Spots) (most : ℕ) (plan : IsPlan block) (is : IsSeatedAcross block set most) where
   few_in : (room : Room) (Is : ℕ → Type 0) (first cycles : ℕ)
-      → ((j : ℕ) (s : Spot) → j < length block → Is j → IsAt set j s → WaitsIn block room j × (first ≤ s.cycle) × (s.cycle < first + cycles))
+      → ((j : ℕ) (s : Spot) → j < length block → Is j → IsAt set j s → WaitsIn block room j × (first ≤ s.cycle)
+      × (s.cycle < first + cycles))
       → (count : ℕ) → HasCount Is (length block) count → count ≤ width_of room * cycles
   few_in (Of kind side) Is first cycles within = few_wait block set most is.seated kind side Is first cycles within
   few_in (Cross side) Is first cycles within =
-      find_room set (length block) 1 (λ s. 0) Is first cycles is.seated.complete (λ s. omega arith) (λ j s small p at. (let w = within j s small p at in (w.1, w.2)))
-      (λ i j s t small less p q is_i is_j same alike. is.each_cross side i j s t small less is_i is_j same (within i s small p is_i).0 (within j t less q is_j).0)
+      find_room set (length block) 1 (λ s. 0) Is first cycles is.seated.complete (λ s. omega arith)
+      (λ j s small p at. (let w = within j s small p at in (w.1, w.2)))
+      (λ i j s t small less p q is_i is_j same alike. is.each_cross side i j s t small less is_i is_j same
+      (within i s small p is_i).0 (within j t less q is_j).0)
 
   -- a chain keeps its cycles
-  follows : (i j : ℕ) (cycles : ℤ) (s t : Spot) → Chain block i j cycles → IsAt set i s → IsAt set j t → (pos s.cycle +ℤ cycles) ≤ℤ pos t.cycle
+  follows : (i j : ℕ) (cycles : ℤ) (s t : Spot) → Chain block i j cycles → IsAt set i s → IsAt set j t
+      → (pos s.cycle +ℤ cycles) ≤ℤ pos t.cycle
   follows i j cycles s t (single _ _ by) is_i is_j =
-      is.seated.delays i j cycles s t (bound_of block i j (latency block i j) cycles (latency-is block i j) by) is_i is_j
+      is.seated.delays i j cycles s t (bound_of block i j (latency block i j) cycles (latency-is block i j) by) is_i
+      is_j
   follows i j cycles s t (longer k _ sum last before by) is_i is_j =
       let inside = (chain_after block i k sum before).1 in
       let r = spot_of (spot_at set k) (is.seated.complete k inside) in
       let first = follows i k sum s r.0 before is_i r.1 in
-      let second = is.seated.delays k j last r.0 t (bound_of block k j (latency block k j) last (latency-is block k j) by) r.1 is_j in
+      let second = is.seated.delays k j last r.0 t
+      (bound_of block k j (latency block k j) last (latency-is block k j) by) r.1 is_j in
       omega (arith, ints, first, second)
 
   -- numbers that come behind cycle c as far as the leads say, and behind which their heights end
@@ -79,8 +88,10 @@ module _ (block : List Insn) (set : Spots) (most : ℕ) (plan : IsPlan block) (i
     behind : (t : Spot) → IsAt set j t → (pos c +ℤ before) ≤ℤ pos t.cycle
     ends : (t : Spot) → IsAt set j t → t.cycle + height j + 1 ≤ most
 
-  module _ (height : ℕ → ℕ) (lead : ℕ → Option ℤ) (c : ℕ) (come : (j : ℕ) (before : ℤ) → lead j ≡ Some before → ComesBehind height lead c j before) (own : c + 1 ≤ most) where
-    crowd_ends : (room : Room) (last : ℕ) (crowd : CrowdOf) → IsCrowdOf block height lead room last crowd → c + cycles_of crowd + 1 ≤ most
+  module _ (height : ℕ → ℕ) (lead : ℕ → Option ℤ) (c : ℕ) (come : (j : ℕ) (before : ℤ) → lead j ≡ Some before
+      → ComesBehind height lead c j before) (own : c + 1 ≤ most) where
+    crowd_ends : (room : Room) (last : ℕ) (crowd : CrowdOf) → IsCrowdOf block height lead room last crowd
+        → c + cycles_of crowd + 1 ≤ most
     crowd_ends room last crowd w =
         let first : ℕ = raised crowd.lead c in
         let first_one = w.first in
@@ -109,7 +120,8 @@ module _ (block : List Insn) (set : Spots) (most : ℕ) (plan : IsPlan block) (i
         | inl one ↦
             (let here = come one.0 one.1 one.2 in
             let t = spot_of (spot_at set one.0) (is.seated.complete one.0 here.inside) in
-            let fits = raised_fits one.1 c (height one.0) t.0.cycle most own (here.behind t.0 t.1) (here.ends t.0 t.1) in
+            let fits = raised_fits one.1 c (height one.0) t.0.cycle most own (here.behind t.0 t.1) (here.ends t.0 t.1)
+            in
             omega (arith, fits, one.3))
         | inr many ↦
             (let fits = crowd_ends many.0 many.1 many.2 many.3 in
@@ -126,7 +138,8 @@ module _ (block : List Insn) (set : Spots) (most : ℕ) (plan : IsPlan block) (i
 
   module _ (height : ℕ → ℕ) (heights : AreRaised block height) where
     -- the raised height of each number ends within the length, from the last numbers up
-    rises : (steps i : ℕ) (s : Spot) → i < length block → length block ≤ i + steps → IsAt set i s → s.cycle + height i + 1 ≤ most
+    rises : (steps i : ℕ) (s : Spot) → i < length block → length block ≤ i + steps → IsAt set i s
+        → s.cycle + height i + 1 ≤ most
     rises zero i s within few at = absurd (omega (arith, within, few))
     rises (suc steps) i s within few at =
         let w = heights i within in
@@ -143,31 +156,37 @@ module _ (block : List Insn) (set : Spots) (most : ℕ) (plan : IsPlan block) (i
     pub height_ends : (i : ℕ) (s : Spot) → i < length block → IsAt set i s → s.cycle + height i + 1 ≤ most
     height_ends i s within at = rises (length block) i s within (omega arith) at
 
-pub with_first_below : (block : List Insn) (behind most : ℕ) → (0 < length block → behind + 1 ≤ most) → with_first block behind ≤ most
+pub with_first_below : (block : List Insn) (behind most : ℕ) → (0 < length block → behind + 1 ≤ most)
+    → with_first block behind ≤ most
 with_first_below [] behind most fits = omega arith
 with_first_below (insn ∷ block) behind most fits = fits (omega arith)
 
 at_once_some : (o : Option ℤ) (before : ℤ) → o ≡ Some before → o ≡ Some (pos 0) → before ≡ pos 0
 at_once_some o before e f = cc
 
-inside : (block : List Insn) (lead : ℕ → Option ℤ) (j : ℕ) (before : ℤ) → AreAtOnce block lead → lead j ≡ Some before → j < length block
+inside : (block : List Insn) (lead : ℕ → Option ℤ) (j : ℕ) (before : ℤ) → AreAtOnce block lead → lead j ≡ Some before
+    → j < length block
 inside block lead j before at_once e = elim (cases_lt j (length block)) [
   | inl low ↦ low
   | inr high ↦ (let none = at_once.others j high in cc)
 ]
 
-raised_below : (block : List Insn) (set : Spots) (cycles least : ℕ) → IsPlan block → IsSeatedAcross block set cycles → IsRaisedLength block least
+raised_below : (block : List Insn) (set : Spots) (cycles least : ℕ) → IsPlan block → IsSeatedAcross block set cycles
+    → IsRaisedLength block least
     → least ≤ cycles
 raised_below block set cycles least plan is raised =
-    let fits = with_first_below block raised.behind cycles (λ some. (let s = spot_of (spot_at set 0) (is.seated.complete 0 some) in
+    let fits = with_first_below block raised.behind cycles
+    (λ some. (let s = spot_of (spot_at set 0) (is.seated.complete 0 some) in
     let first = own_delay block set cycles plan is 0 s.0 some s.1 in
-    let ends = reached_ends block set cycles plan is raised.height raised.lead 0 (λ j before e. come j before e) (omega (arith, first)) 0 raised.behind
+    let ends = reached_ends block set cycles plan is raised.height raised.lead 0 (λ j before e. come j before e)
+    (omega (arith, first)) 0 raised.behind
     (omega (arith, first)) raised.is.attained in
     omega (arith, ends))) in
     let whole = raised.whole in
     omega (arith, fits, whole)
   where
-    come : (j : ℕ) (before : ℤ) → raised.lead j ≡ Some before → ComesBehind block set cycles plan is raised.height raised.lead 0 j before
+    come : (j : ℕ) (before : ℤ) → raised.lead j ≡ Some before
+        → ComesBehind block set cycles plan is raised.height raised.lead 0 j before
     come j before e =
         let low = inside block raised.lead j before raised.at_once e in
         let now : before ≡ pos 0 = at_once_some (raised.lead j) before e (raised.at_once.each j low) in

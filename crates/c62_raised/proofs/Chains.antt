@@ -8,6 +8,7 @@ use Rattle.c62_depend.proofs.Plans.{short_is}
 use Rattle.c62_raised.specs.Chain.{Chain, IsLongest}
 use Rattle.c62_raised.specs.Chain.Chain.{single, longer}
 use Rattle.c62_raised.specs.Steps.{IsSmall}
+use Rattle.c62_read.specs.declared.limits.TheConstants.{MOST_INSTRUCTIONS}
 
 pub chain_after : (block : List Insn) (i j : ℕ) (cycles : ℤ) → Chain block i j cycles → (i < j) × (j < length block)
 chain_after block i j cycles (single _ _ is) = let short = short_is block i j cycles is in (short.before, short.within)
@@ -18,7 +19,8 @@ chain_after block i j cycles (longer k _ sum last before is) =
     (omega (arith, rest.0, behind), short.within)
 
 -- a chain has at most five cycles for each number before its end
-pub chain_small : (block : List Insn) (i j : ℕ) (cycles : ℤ) → Chain block i j cycles → (cycles ≤ℤ pos (5 * j)) × (pos 0 ≤ℤ (cycles +ℤ pos (5 * j)))
+pub chain_small : (block : List Insn) (i j : ℕ) (cycles : ℤ) → Chain block i j cycles → (cycles ≤ℤ pos (5 * j))
+    × (pos 0 ≤ℤ (cycles +ℤ pos (5 * j)))
 chain_small block i j cycles (single _ _ is) =
     let short = short_is block i j cycles is in
     let before = short.before in
@@ -33,7 +35,8 @@ chain_small block i j cycles (longer k _ sum last before is) =
     let most = short.most in
     (omega (arith, ints, behind, most, rest.0), omega (arith, ints, behind, least, rest.1))
 
-pub small_lead : (block : List Insn) (i j : ℕ) (o : Option ℤ) → length block ≤ 256 → IsLongest block i j o → IsSmall o
+pub small_lead : (block : List Insn) (i j : ℕ) (o : Option ℤ) → length block ≤ MOST_INSTRUCTIONS
+    → IsLongest block i j o → IsSmall o
 small_lead block i j None few is = tt
 small_lead block i j (Some cycles) few is =
     let after = chain_after block i j cycles is.0 in
@@ -45,9 +48,11 @@ pub one_longest : (block : List Insn) (i j : ℕ) (a b : Option ℤ) → IsLonge
 one_longest block i j None None p q = refl
 one_longest block i j None (Some y) p q = absurd (p y q.0)
 one_longest block i j (Some x) None p q = absurd (q x p.0)
-one_longest block i j (Some x) (Some y) p q = (let same : x ≡ y = omega (arith, ints, q.1 x p.0, p.1 y q.0) in ap Some same)
+one_longest block i j (Some x) (Some y) p q =
+    (let same : x ≡ y = omega (arith, ints, q.1 x p.0, p.1 y q.0) in ap Some same)
 
 -- where a longest one is told, there is a chain
-pub chain_of : (block : List Insn) (i j : ℕ) (o : Option ℤ) (cycles : ℤ) → IsLongest block i j o → o ≡ Some cycles → Chain block i j cycles
+pub chain_of : (block : List Insn) (i j : ℕ) (o : Option ℤ) (cycles : ℤ) → IsLongest block i j o → o ≡ Some cycles
+    → Chain block i j cycles
 chain_of block i j None cycles is e = absurd (none-some cycles e)
 chain_of block i j (Some most) cycles is e = subst (Chain block i j) (same_Some most cycles e) is.0

@@ -29,8 +29,18 @@ first_more : (block : List Insn) (behind : ℕ) → 0 < length block → behind 
 first_more [] behind some = absurd (omega (arith, some))
 first_more (insn ∷ block) behind some = refl
 
-pub some_length : (block : List Insn) (height : ℕ → ℕ) (lead : ℕ → Option ℤ) (behind cycles : ℕ) → 0 < length block → AreRaised block height
+pub some_length : (block : List Insn) (height : ℕ → ℕ) (lead : ℕ → Option ℤ) (behind cycles : ℕ) → 0 < length block
+    → AreRaised block height
     → AreAtOnce block lead
     → IsRaised block height lead 0 behind → cycles ≡ behind + 1 → IsRaisedLength block cycles
 some_length block height lead behind cycles some heights at_once is e =
-    record { height = height; heights = heights; lead = lead; at_once = at_once; behind = behind; is = is; whole = e ∙ first_more block behind some }
+    record {
+      height = height;
+      heights = heights;
+      lead = lead;
+      at_once = at_once;
+      behind = behind;
+      is = is;
+      whole = e
+          ∙ first_more block behind some;
+    }

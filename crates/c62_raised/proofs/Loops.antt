@@ -1,5 +1,6 @@
 -- Lists, item by item.
-use Rattle.std.proofs.Common.{arith, ◌≡◌, ℕ, zero, suc, ◌+◌, ◌<◌, ◌≤◌, List, [], ◌∷◌, ◌++◌, length, get_or, drop, Option, Some, None, refl, sym, ap, ◌∙◌, subst, inl, inr}
+use Rattle.std.proofs.Common.{arith, ◌≡◌, ℕ, zero, suc, ◌+◌, ◌<◌, ◌≤◌, List, [], ◌∷◌, ◌++◌, length, get_or, drop}
+use Rattle.std.proofs.Common.{Option, Some, None, refl, sym, ap, ◌∙◌, subst, inl, inr}
 use Rattle.std.specs.Prelude.{ℤ, pos, fold}
 use Rattle.std.proofs.Math.Seq.{get_or-append_seam}
 use Rattle.std.proofs.lemmas.Bool.{cases_eq, cases_lt}
@@ -10,6 +11,7 @@ use Rattle.c62_raised.specs.Chain.{IsLongest, AreLongest, lead_in}
 use Rattle.c62_raised.specs.Raised.{AreAtOnce}
 use Rattle.c62_raised.specs.Steps.{IsOwn, AreLongestBelow, IsSmall, AreSmall}
 use Rattle.c62_raised.proofs.Chains.{chain_after, small_lead}
+use Rattle.c62_read.specs.declared.limits.TheConstants.{MOST_INSTRUCTIONS}
 
 fold_step : {A B : Type 0} (f : B → A → B) (a : B) (xs : List A) (k : ℕ) (d : A) → k < length xs
     → fold f a (drop k xs) ≡ fold f (f a (get_or xs k d)) (drop (suc k) xs)
@@ -32,13 +34,18 @@ fold_end f a (x ∷ xs) (suc k) high = fold_end f a xs k (omega (arith, high))
 -- ---- leads
 
 -- what is pushed stands at its place, and the others where they stood
-pub pushed_at : (old new : List (Option ℤ)) (x : Option ℤ) (n : ℕ) → new ≡ old ++ x ∷ [] → length old ≡ n → lead_in new n ≡ x
-pushed_at old new x n e long = ap (λ (xs : List (Option ℤ)). lead_in xs n) e ∙ ap (lead_in (old ++ x ∷ [])) (sym long) ∙ get_or-append_seam old x [] None
+pub pushed_at : (old new : List (Option ℤ)) (x : Option ℤ) (n : ℕ) → new ≡ old ++ x ∷ [] → length old ≡ n
+    → lead_in new n ≡ x
+pushed_at old new x n e long = ap (λ (xs : List (Option ℤ)). lead_in xs n) e ∙ ap (lead_in (old ++ x ∷ [])) (sym long)
+    ∙ get_or-append_seam old x [] None
 
-pub pushed_old : (old new : List (Option ℤ)) (x : Option ℤ) (k n : ℕ) → new ≡ old ++ x ∷ [] → length old ≡ n → k < n → lead_in new k ≡ lead_in old k
-pushed_old old new x k n e long low = ap (λ (xs : List (Option ℤ)). lead_in xs k) e ∙ get_or_append_left old (x ∷ []) None k (omega (arith, long, low))
+pub pushed_old : (old new : List (Option ℤ)) (x : Option ℤ) (k n : ℕ) → new ≡ old ++ x ∷ [] → length old ≡ n → k < n
+    → lead_in new k ≡ lead_in old k
+pushed_old old new x k n e long low = ap (λ (xs : List (Option ℤ)). lead_in xs k) e
+    ∙ get_or_append_left old (x ∷ []) None k (omega (arith, long, low))
 
-pub own_more : (block : List Insn) (room : Room) (lead : ℕ → Option ℤ) (old new : List (Option ℤ)) (x : Option ℤ) (n : ℕ) → new ≡ old ++ x ∷ []
+pub own_more : (block : List Insn) (room : Room) (lead : ℕ
+    → Option ℤ) (old new : List (Option ℤ)) (x : Option ℤ) (n : ℕ) → new ≡ old ++ x ∷ []
     → length old ≡ n
     → ((k : ℕ) → k < n → IsOwn block room k (lead k) (lead_in old k)) → IsOwn block room n (lead n) x
     → (k : ℕ) → k < n + 1 → IsOwn block room k (lead k) (lead_in new k)
@@ -54,7 +61,8 @@ own_more block room lead old new x n e long before own k low = elim (cases_eq k 
 pub none_past : (leads : List (Option ℤ)) (j : ℕ) → length leads ≤ j → lead_in leads j ≡ None
 none_past leads j high = get_or_past leads j None high
 
-pub all_longest : (block : List Insn) (i n : ℕ) (leads : List (Option ℤ)) → length leads ≡ n → length block ≤ n → AreLongestBelow block i n leads
+pub all_longest : (block : List Insn) (i n : ℕ) (leads : List (Option ℤ)) → length leads ≡ n → length block ≤ n
+    → AreLongestBelow block i n leads
     → AreLongest block i (lead_in leads)
 all_longest block i n leads long all below j = elim (cases_lt j n) [
   | inl low ↦ below j low
@@ -71,7 +79,8 @@ at_once_all block n leads long all each = record {
   others = λ j high. none_past leads j (omega (arith, long, all, high));
 }
 
-pub small_longest : (block : List Insn) (i : ℕ) (leads : List (Option ℤ)) → length block ≤ 256 → AreLongest block i (lead_in leads) → AreSmall leads
+pub small_longest : (block : List Insn) (i : ℕ) (leads : List (Option ℤ)) → length block ≤ MOST_INSTRUCTIONS
+    → AreLongest block i (lead_in leads) → AreSmall leads
 small_longest block i leads few longest j = small_lead block i j (lead_in leads j) few (longest j)
 
 pub small_at_once : (block : List Insn) (leads : List (Option ℤ)) → AreAtOnce block (lead_in leads) → AreSmall leads

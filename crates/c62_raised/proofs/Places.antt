@@ -1,5 +1,6 @@
 -- The rooms in their order.
-use Rattle.std.proofs.Common.{arith, ◌≡◌, ℕ, zero, suc, ◌+◌, ◌<◌, ◌≤◌, List, get_or, Option, refl, sym, ap, ◌∙◌, subst, inl, inr}
+use Rattle.std.proofs.Common.{arith, ◌≡◌, ℕ, zero, suc, ◌+◌, ◌<◌, ◌≤◌, List, get_or, Option, refl, sym, ap, ◌∙◌, subst}
+use Rattle.std.proofs.Common.{inl, inr}
 use Rattle.std.specs.Prelude.{ℤ}
 use Rattle.std.proofs.lemmas.Bool.{cases_eq}
 use Rattle.c62_op.specs.declared.register.Side.TheVariants.{A, B}
@@ -53,10 +54,12 @@ room_at (suc (suc (suc (suc (suc (suc (suc (suc (suc (suc (suc (suc zero))))))))
 room_at (suc (suc (suc (suc (suc (suc (suc (suc (suc (suc (suc (suc (suc zero))))))))))))) d low = refl
 room_at (suc (suc (suc (suc (suc (suc (suc (suc (suc (suc (suc (suc (suc (suc zero)))))))))))))) d low = refl
 room_at (suc (suc (suc (suc (suc (suc (suc (suc (suc (suc (suc (suc (suc (suc (suc zero))))))))))))))) d low = refl
-room_at (suc (suc (suc (suc (suc (suc (suc (suc (suc (suc (suc (suc (suc (suc (suc (suc k)))))))))))))))) d low = absurd (omega (arith, low))
+room_at (suc (suc (suc (suc (suc (suc (suc (suc (suc (suc (suc (suc (suc (suc (suc (suc k)))))))))))))))) d low = absurd
+    (omega (arith, low))
 
 -- what covers a room and those before it covers one more
-pub one_more_room : (block : List Insn) (height : ℕ → ℕ) (lead : ℕ → Option ℤ) (k old new : ℕ) (room : Room) → room_index room ≡ k → old ≤ new
+pub one_more_room : (block : List Insn) (height : ℕ → ℕ) (lead : ℕ → Option ℤ) (k old new : ℕ) (room : Room)
+    → room_index room ≡ k → old ≤ new
     → CoversCrowds block height lead room new → ((r : Room) → room_index r < k → CoversCrowds block height lead r old)
     → (r : Room) → room_index r < k + 1 → CoversCrowds block height lead r new
 one_more_room block height lead k old new room at up own before r low = elim (cases_eq (room_index r) k) [

@@ -16,7 +16,8 @@ use Rattle.c62_bound.specs.Bound.{taken_in, is_taken}
 use Rattle.c62_bound.proofs.Seated.{schedules_seated}
 use Rattle.c62_raised.specs.Laws.{SchedulesAreSeatedAcross}
 
-taken_at : (block : List Insn) (i : ℕ) (insn : Insn) (unit : FunctionalUnit) → slice_get block i ≡ Some insn → IsTrue (is_taken block i unit)
+taken_at : (block : List Insn) (i : ℕ) (insn : Insn) (unit : FunctionalUnit) → slice_get block i ≡ Some insn
+    → IsTrue (is_taken block i unit)
     → takes (op_of insn) (operands_of insn) unit ≡ true
 taken_at block i insn unit at is = subst (λ (o : Option Insn). taken_in o unit ≡ true) at is
 
@@ -36,8 +37,12 @@ schedules_across block set plan lawful complete =
       each_cross = λ side i j s t low small is_i is_j cycles over_i over_j. (
           let first = insn_at block i low in
           let second = insn_at block j small in
-          (the-rules (issues block set)).cross_paths.0 (λ cycle r is. lawful.rules.enough cycle r) side i j (issue_at first.0 s) (issue_at second.0 t)
-          (placement-issued block set i first.0 s lawful.sized first.1 is_i) (placement-issued block set j second.0 t lawful.sized second.1 is_j)
-          cycles (uses_cross first.0 s.unit side (taken_at block i first.0 s.unit first.1 (seated.units i s is_i)) (over_i first.0 first.1))
-          (uses_cross second.0 t.unit side (taken_at block j second.0 t.unit second.1 (seated.units j t is_j)) (over_j second.0 second.1)));
+          (the-rules (issues block set)).cross_paths.0 (λ cycle r is. lawful.rules.enough cycle r) side i j
+          (issue_at first.0 s) (issue_at second.0 t)
+          (placement-issued block set i first.0 s lawful.sized first.1 is_i)
+          (placement-issued block set j second.0 t lawful.sized second.1 is_j)
+          cycles (uses_cross first.0 s.unit side (taken_at block i first.0 s.unit first.1 (seated.units i s is_i))
+          (over_i first.0 first.1))
+          (uses_cross second.0 t.unit side (taken_at block j second.0 t.unit second.1 (seated.units j t is_j))
+          (over_j second.0 second.1)));
     }

@@ -1,5 +1,6 @@
 -- The raised bound is at least the least length.
-use Rattle.std.proofs.Common.{arith, ◌≡◌, ℕ, zero, suc, ◌+◌, ◌*◌, ◌<◌, ◌≤◌, List, [], ◌∷◌, length, Option, Some, None, refl, sym, ap, ◌∙◌, subst, inl, inr}
+use Rattle.std.proofs.Common.{arith, ◌≡◌, ℕ, zero, suc, ◌+◌, ◌*◌, ◌<◌, ◌≤◌, List, [], ◌∷◌, length, Option, Some, None}
+use Rattle.std.proofs.Common.{refl, sym, ap, ◌∙◌, subst, inl, inr}
 use Rattle.std.specs.Prelude.{ℤ, pos, negsuc, ◌+ℤ◌, ◌≤ℤ◌, slice_get}
 use Rattle.std.specs.Int.{div_ceil}
 use Rattle.std.proofs.lemmas.Int.{ints}
@@ -33,16 +34,19 @@ use Rattle.c62_raised.proofs.Crowds.{is_some, the_one}
 
 -- ---- raised heights are no lower
 
-raised_above : (least before : ℤ) (low h own : ℕ) → (least +ℤ pos low) ≡ pos own → least ≤ℤ before → low ≤ h → own ≤ raised before h
+raised_above : (least before : ℤ) (low h own : ℕ) → (least +ℤ pos low) ≡ pos own → least ≤ℤ before → low ≤ h
+    → own ≤ raised before h
 raised_above least (pos l) low h own whole up high = omega (arith, ints, whole, up, high)
 raised_above least (negsuc l) low h own whole up high = omega (arith, ints, whole, up, high)
 
-longest_above : (block : List Insn) (i j : ℕ) (o : Option ℤ) (cycles : ℤ) → IsLongest block i j o → Chain block i j cycles
+longest_above : (block : List Insn) (i j : ℕ) (o : Option ℤ) (cycles : ℤ) → IsLongest block i j o
+    → Chain block i j cycles
     → (most : ℤ) × (o ≡ Some most) × (cycles ≤ℤ most)
 longest_above block i j None cycles is chain = absurd (is cycles chain)
 longest_above block i j (Some most) cycles is chain = (most, refl, is.1 cycles chain)
 
-no_lower : (block : List Insn) (height : ℕ → ℕ) → AreRaised block height → (steps i : ℕ) → i < length block → length block ≤ i + steps
+no_lower : (block : List Insn) (height : ℕ → ℕ) → AreRaised block height → (steps i : ℕ) → i < length block
+    → length block ≤ i + steps
     → own_height block i ≤ height i
 no_lower block height are zero i within few = absurd (omega (arith, within, few))
 no_lower block height are (suc steps) i within few =
@@ -73,7 +77,8 @@ least_member Is height (suc n) count has some = elim has [
         rest.0,
         (let low = rest.1 in omega (arith, low)),
         rest.2,
-        λ j low is. elim (cases_eq j n) [ inl e ↦ absurd (w.0 (subst Is e is)) | inr ne ↦ rest.3 j (omega (arith, low, ne)) is ],
+        λ j low is. elim (cases_eq j n)
+            [ inl e ↦ absurd (w.0 (subst Is e is)) | inr ne ↦ rest.3 j (omega (arith, low, ne)) is ],
       ))
   | inl w ↦ elim (cases_lt 0 w.1.0) [
     | inr none ↦ (
@@ -82,7 +87,8 @@ least_member Is height (suc n) count has some = elim has [
       w.0,
       λ j low is. elim (cases_eq j n) [
         | inl e ↦ (let same = ap height e in omega (arith, same))
-        | inr ne ↦ (let more = some_counted Is n w.1.0 j w.1.2 (omega (arith, low, ne)) is in absurd (omega (arith, more, none)))
+        | inr ne ↦ (let more = some_counted Is n w.1.0 j w.1.2 (omega (arith, low, ne)) is in absurd
+            (omega (arith, more, none)))
       ],
     )
     | inl more ↦
@@ -138,7 +144,8 @@ more_rounds count most by some few =
 
 tell_path : (o : Option Side) (side : Side) → CanTell (o ≡ Some side)
 tell_path None side = inr (λ e. none-some side e)
-tell_path (Some own) side = elim (tell_side own side) [ inl e ↦ inl (ap Some e) | inr ne ↦ inr (λ e. ne (same_Some own side e)) ]
+tell_path (Some own) side = elim (tell_side own side)
+    [ inl e ↦ inl (ap Some e) | inr ne ↦ inr (λ e. ne (same_Some own side e)) ]
 
 tell_over : (block : List Insn) (side : Side) (j : ℕ) → CanTell (GoesOver block side j)
 tell_over block side j = by_insn (slice_get block j) refl
@@ -146,7 +153,8 @@ tell_over block side j = by_insn (slice_get block j) refl
     by_insn : (o : Option Insn) → slice_get block j ≡ o → CanTell (GoesOver block side j)
     by_insn None e = inl (λ insn at. absurd (none-some insn (sym e ∙ at)))
     by_insn (Some insn) e = elim (tell_path (data_path_of (operands_of insn)) side) [
-      | inl over ↦ inl (λ other at. subst (λ (x : Insn). data_path_of (operands_of x) ≡ Some side) (same_Some insn other (sym e ∙ at)) over)
+      | inl over ↦ inl (λ other at. subst (λ (x : Insn). data_path_of (operands_of x) ≡ Some side)
+          (same_Some insn other (sym e ∙ at)) over)
       | inr not ↦ inr (λ all. not (all insn e))
     ]
 
@@ -159,7 +167,8 @@ tell_waits block Ls side j = tell_only block Ls side j
 tell_waits block Lsd side j = tell_only block Lsd side j
 tell_waits block Path side j = tell_over block side j
 
-module _ (block : List Insn) (height : ℕ → ℕ) (lead : ℕ → Option ℤ) (at_once : AreAtOnce block lead) (behind : ℕ) (is : IsRaised block height lead 0 behind)
+module _ (block : List Insn) (height : ℕ → ℕ) (lead : ℕ
+    → Option ℤ) (at_once : AreAtOnce block lead) (behind : ℕ) (is : IsRaised block height lead 0 behind)
     (higher : (i : ℕ) → i < length block → own_height block i ≤ height i) where
   height_below : (i : ℕ) → i < length block → height i ≤ behind
   height_below i low = let one = is.ones i (pos 0) (at_once.each i low) in omega (arith, one)
@@ -176,19 +185,22 @@ module _ (block : List Insn) (height : ℕ → ℕ) (lead : ℕ → Option ℤ) 
       by_lead : WaitsFor block kind side j → tail ≤ height j → (o : Option ℤ) → lead j ≡ o
           → CanTell (IsInCrowd block height lead (Of kind side) tail j)
       by_lead waits tall None e = inr (λ w. (let v = the_one (lead j) w.behind in none-some v.0 (sym e ∙ v.1)))
-      by_lead waits tall (Some before) e = inl (record { waits = waits; behind = is_some (lead j) before e; tall = tall })
+      by_lead waits tall (Some before) e = inl
+          (record { waits = waits; behind = is_some (lead j) before e; tall = tall })
 
   no_lead : (j : ℕ) (before : ℤ) → j < length block → lead j ≡ Some before → before ≡ pos 0
   no_lead j before low e = same_Some before (pos 0) (sym e ∙ at_once.each j low)
 
   crowd_below : (kind : Kind) (side : Side) (tail count m : ℕ) → m < length block → IsConfined block kind side tail m
       → ((j : ℕ) → j < length block → IsConfined block kind side tail j → height m ≤ height j)
-      → HasCount (IsConfined block kind side tail) (length block) count → div_ceil count (width kind) + tail ≤ behind + 1
+      → HasCount (IsConfined block kind side tail) (length block) count
+      → div_ceil count (width kind) + tail ≤ behind + 1
   crowd_below kind side tail count m within member least has =
       let Is : ℕ → Type 0 = IsInCrowd block height lead (Of kind side) (height m) in
       let all = count_of Is (λ j. tell_in kind side (height m) j) (length block) in
       let own : CrowdOf = record { room = Of kind side; lead = pos 0; count = all.0; tail = height m } in
-      let own_in : Is m = record { waits = member.waits; behind = is_some (lead m) (pos 0) (at_once.each m within); tall = omega arith } in
+      let own_in : Is m = record
+      { waits = member.waits; behind = is_some (lead m) (pos 0) (at_once.each m within); tall = omega arith } in
       let crowd : IsCrowdOf block height lead (Of kind side) m own = record {
         is_room = refl;
         is_tail = refl;
@@ -200,9 +212,14 @@ module _ (block : List Insn) (height : ℕ → ℕ) (lead : ℕ → Option ℤ) 
       } in
       let fits = is.crowds (Of kind side) m own crowd in
       let more = count_more (IsConfined block kind side tail) Is (length block) count all.0
-      (λ j low w. record { waits = w.waits; behind = is_some (lead j) (pos 0) (at_once.each j low); tall = least j low w }) has all.1 in
+      (λ j low w. record {
+        waits = w.waits;
+        behind = is_some (lead j) (pos 0) (at_once.each j low);
+        tall = least j low w;
+      }) has all.1 in
       let rounds = more_rounds count all.0 (width kind) (some_width kind) more in
-      let some = one_round all.0 (width kind) (some_counted Is (length block) all.0 m all.1 within own_in) (some_width kind) in
+      let some = one_round all.0 (width kind) (some_counted Is (length block) all.0 m all.1 within own_in)
+      (some_width kind) in
       let tall = member.tall in
       let high = higher m within in
       omega (arith, fits, rounds, some, tall, high)
@@ -210,7 +227,8 @@ module _ (block : List Insn) (height : ℕ → ℕ) (lead : ℕ → Option ℤ) 
   need_below : (need : Need) → IsNeed block need → need_cycles need ≤ behind + 1
   need_below need w = elim (cases_lt 0 need.count) [
     | inl some ↦
-        (let m = least_member (IsConfined block need.kind need.side need.tail) height (length block) need.count w.of.counted some in
+        (let m = least_member (IsConfined block need.kind need.side need.tail) height (length block) need.count
+        w.of.counted some in
         crowd_below need.kind need.side need.tail need.count m.0 m.1 m.2 m.3 w.of.counted)
     | inr none ↦
         (let rounds = few_rounds need.count (width need.kind) 0 (some_width need.kind) (omega (arith, none)) in
@@ -222,11 +240,13 @@ module _ (block : List Insn) (height : ℕ → ℕ) (lead : ℕ → Option ℤ) 
 
   needed_below : (cycles : ℕ) → IsNeeded block cycles → cycles ≤ behind + 1
   needed_below cycles needed = elim needed [
-    | inl path ↦ (let high = higher path.0 path.1 in let low = height_below path.0 path.1 in omega (arith, high, low, path.2))
+    | inl path ↦ (let high = higher path.0 path.1 in let low = height_below path.0 path.1 in omega
+        (arith, high, low, path.2))
     | inr need ↦ (let below = need_below need.0 need.1 in omega (arith, below, need.2))
   ]
 
-some_needed : (block : List Insn) (cycles behind : ℕ) → IsNeeded block cycles → cycles ≤ behind + 1 → cycles ≤ with_first block behind
+some_needed : (block : List Insn) (cycles behind : ℕ) → IsNeeded block cycles → cycles ≤ behind + 1
+    → cycles ≤ with_first block behind
 some_needed [] cycles behind needed low = elim needed [
   | inl path ↦ absurd (omega (arith, path.1))
   | inr need ↦ (let within = need.1.within in absurd (omega (arith, within)))

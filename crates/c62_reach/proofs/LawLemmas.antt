@@ -1,5 +1,6 @@
 -- The laws of parts that are taken.
-use Rattle.std.proofs.Common.{◌≡◌, ◌<◌, ◌≤◌, ◌∙◌, ℕ, Bool, true, false, List, Some, length, get_or, refl, sym, ap, subst, inl, inr, arith, true≢false}
+use Rattle.std.proofs.Common.{◌≡◌, ◌<◌, ◌≤◌, ◌∙◌, ℕ, Bool, true, false, List, Some, length, get_or, refl, sym, ap}
+use Rattle.std.proofs.Common.{subst, inl, inr, arith, true≢false}
 use Rattle.std.proofs.lemmas.List.{get_or_default, same_lists}
 use Rattle.std.proofs.lemmas.Option.{same_Some}
 use Rattle.c62_reach.specs.Ended.{ended_lines}
@@ -13,14 +14,16 @@ pub are_whole : (parts : List Part) (first : ℕ) (marks : List Bool) → AreWho
 are_whole parts first marks is j k there marked leads inside =
     (is.reached k inside).1 (more j k ((is.reached j there).0 marked) leads)
 
-least : (parts : List Part) (first : ℕ) (others : List Bool) → IsMarked others first → IsClosed parts others → (k : ℕ) → IsReached parts first k → k < length parts
+least : (parts : List Part) (first : ℕ) (others : List Bool) → IsMarked others first → IsClosed parts others → (k : ℕ)
+    → IsReached parts first k → k < length parts
     → IsMarked others k
 least parts first others begins closed k start inside = begins
 least parts first others begins closed k (more j _ reached leads) inside =
     closed j k (least parts first others begins closed j reached (leads_inside parts j k leads)) leads inside
 
 pub are_least : (parts : List Part) (first : ℕ) (marks others : List Bool) → AreLeast parts first marks others
-are_least parts first marks others is begins closed k inside marked = least parts first others begins closed k ((is.reached k inside).0 marked) inside
+are_least parts first marks others is begins closed k inside marked = least parts first others begins closed k
+    ((is.reached k inside).0 marked) inside
 
 -- marks that say the same are the same
 same_bits : (a b : Bool) → (a ≡ true → b ≡ true) → (b ≡ true → a ≡ true) → a ≡ b
@@ -28,7 +31,8 @@ same_bits true b to back = sym (to refl)
 same_bits false true to back = back refl
 same_bits false false to back = refl
 
-same_marks : (parts : List Part) (first : ℕ) (one other : List Bool) → Marks parts first one → Marks parts first other → one ≡ other
+same_marks : (parts : List Part) (first : ℕ) (one other : List Bool) → Marks parts first one → Marks parts first other
+    → one ≡ other
 same_marks parts first one other a b =
     same_lists one other (a.len ∙ sym b.len) (λ k d inside.
     let there : k < length parts = subst (λ (n : ℕ). k < n) a.len inside in
@@ -40,7 +44,8 @@ same_marks parts first one other a b =
 
 from_one : (name text one other : List ℕ) → IsTakenFrom name text one → IsTakenFrom name text other → one ≡ other
 from_one name text one other a b =
-    let first : a.reached.first ≡ b.reached.first = same_Some a.reached.first b.reached.first (sym a.reached.named ∙ b.reached.named) in
+    let first : a.reached.first ≡ b.reached.first = same_Some a.reached.first b.reached.first (sym a.reached.named
+    ∙ b.reached.named) in
     let marks : a.marks ≡ b.marks =
     same_marks (parts_in text) a.reached.first a.marks b.marks a.reached.reached
     (subst (λ (n : ℕ). Marks (parts_in text) n b.marks) (sym first) b.reached.reached) in

@@ -1,5 +1,6 @@
 -- Each line of what is taken is that of the text, or empty.
-use Rattle.std.proofs.Common.{◌≡◌, ◌⊎◌, ◌∙◌, ℕ, Bool, true, false, List, [], ◌∷◌, ◌++◌, refl, sym, ap, subst, inl, inr, arith, append_assoc, append-nil, cond, eqb, ◌||◌, drop}
+use Rattle.std.proofs.Common.{◌≡◌, ◌⊎◌, ◌∙◌, ℕ, Bool, true, false, List, [], ◌∷◌, ◌++◌, refl, sym, ap, subst, inl, inr}
+use Rattle.std.proofs.Common.{arith, append_assoc, append-nil, cond, eqb, ◌||◌, drop}
 use Rattle.std.specs.Prelude.{codes, slice_index_or}
 use Rattle.std.specs.List.{list_any}
 use Rattle.std.proofs.lemmas.Bool.Decides.{nat_tests}
@@ -35,7 +36,12 @@ feed : IsFed (10 ∷ [])
 feed = record { front = []; none = refl; split = refl }
 
 fed_more : (b : ℕ) (line : List ℕ) → eqb b 10 ≡ false → IsFed line → IsFed (b ∷ line)
-fed_more b line other is = record { front = b ∷ is.front; none = grind (arith, nat_tests, other, is.none); split = ap (λ (l : List ℕ). b ∷ l) is.split }
+fed_more b line other is = record {
+  front = b ∷ is.front;
+  none = grind (arith, nat_tests, other, is.none);
+  split = ap (λ (l : List ℕ). b ∷ l)
+      is.split;
+}
 
 with_feed : (lines : List (List ℕ)) → AreEnded lines → AreEnded ((10 ∷ []) ∷ lines)
 with_feed [] are = inl feed
@@ -48,8 +54,10 @@ with_byte b (line ∷ []) other (inr last) =
     inr (record { first = b; rest = line; none = rw (last.split, other) last.none; split = refl })
 with_byte b (line ∷ next ∷ lines) other are = (fed_more b line other are.0, are.1)
 
-one_more : (b : ℕ) (lines : List (List ℕ)) (same : Bool) → eqb b 10 ≡ same → AreEnded lines → AreEnded (cond same ((b ∷ []) ∷ lines) (grow b lines))
-one_more b lines true same are = subst (λ (c : ℕ). AreEnded ((c ∷ []) ∷ lines)) (sym (eqb-true b 10 same)) (with_feed lines are)
+one_more : (b : ℕ) (lines : List (List ℕ)) (same : Bool) → eqb b 10 ≡ same → AreEnded lines
+    → AreEnded (cond same ((b ∷ []) ∷ lines) (grow b lines))
+one_more b lines true same are = subst (λ (c : ℕ). AreEnded ((c ∷ []) ∷ lines)) (sym (eqb-true b 10 same))
+    (with_feed lines are)
 one_more b lines false other are = with_byte b lines other are
 
 are_ended : (text : List ℕ) → AreEnded (ended_lines text)
@@ -64,10 +72,12 @@ fed_first line rest is =
 
 last_first : (line : List ℕ) → IsFed line ⊎ IsOpenEnded line → ended_lines (line ++ []) ≡ line ∷ []
 last_first line (inl fed) = fed_first line [] fed
-last_first line (inr last) = rw last.split (ap ended_lines (append-nil (last.first ∷ last.rest)) ∙ at_end last.first last.rest last.none)
+last_first line (inr last) = rw last.split (ap ended_lines (append-nil (last.first ∷ last.rest))
+    ∙ at_end last.first last.rest last.none)
 
 -- whichever stands there
-one_stands : (here : Bool) (spelled line rest : List ℕ) (others : List (List ℕ)) → ended_lines (line ++ rest) ≡ line ∷ ended_lines rest
+one_stands : (here : Bool) (spelled line rest : List ℕ) (others : List (List ℕ))
+    → ended_lines (line ++ rest) ≡ line ∷ ended_lines rest
     → StandFor others (ended_lines rest) → StandFor (line ∷ others) (ended_lines (line_taken here spelled line ++ rest))
 one_stands here spelled line rest others first stand = at (here || stays spelled)
   where
@@ -75,15 +85,19 @@ one_stands here spelled line rest others first stand = at (here || stays spelled
     at true = subst (StandFor (line ∷ others)) (sym first) (inl refl, stand)
     at false = (inr refl, stand)
 
-all_stand : (here : Bool) (below : List Bool) (lines spelled : List (List ℕ)) → AreEnded lines → StandFor lines (ended_lines (taken_below here below lines spelled))
+all_stand : (here : Bool) (below : List Bool) (lines spelled : List (List ℕ)) → AreEnded lines
+    → StandFor lines (ended_lines (taken_below here below lines spelled))
 unfolding taken_below
 all_stand here below [] spelled are = tt
 all_stand here below (line ∷ []) spelled are =
     one_stands (here_at (first_of spelled) here below) (first_of spelled) line [] [] (last_first line are) tt
 all_stand here below (line ∷ other ∷ lines) spelled are =
-    let rest = taken_below (here_at (first_of spelled) here below) (below_at (first_of spelled) below) (other ∷ lines) (behind_first spelled) in
-    one_stands (here_at (first_of spelled) here below) (first_of spelled) line rest (other ∷ lines) (fed_first line rest are.0)
-    (all_stand (here_at (first_of spelled) here below) (below_at (first_of spelled) below) (other ∷ lines) (behind_first spelled) are.1)
+    let rest = taken_below (here_at (first_of spelled) here below) (below_at (first_of spelled) below) (other ∷ lines)
+    (behind_first spelled) in
+    one_stands (here_at (first_of spelled) here below) (first_of spelled) line rest (other ∷ lines)
+    (fed_first line rest are.0)
+    (all_stand (here_at (first_of spelled) here below) (below_at (first_of spelled) below) (other ∷ lines)
+    (behind_first spelled) are.1)
 
 pub keeps_lines : (name text other : List ℕ) → KeepsLines name text other
 keeps_lines name text other is =

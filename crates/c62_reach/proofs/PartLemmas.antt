@@ -1,5 +1,6 @@
 -- Parts, line by line.
-use Rattle.std.proofs.Common.{◌≡◌, ◌<◌, ◌+◌, ◌∙◌, ℕ, length, take, get_or, true, false, List, [], ◌∷◌, ◌++◌, Option, Some, None, is_some, is_none, map, ap, sym, refl, append_assoc}
+use Rattle.std.proofs.Common.{◌≡◌, ◌<◌, ◌+◌, ◌∙◌, ℕ, length, take, get_or, true, false, List, [], ◌∷◌, ◌++◌, Option}
+use Rattle.std.proofs.Common.{Some, None, is_some, is_none, map, ap, sym, refl, append_assoc}
 use Rattle.std.specs.List.{cons_option, filter_map}
 use Rattle.std.specs.Option.{option_to_list}
 use Rattle.std.proofs.lemmas.List.{map-append, take_more}
@@ -19,19 +20,24 @@ some_is None e = absurd cc
 some_is (Some label) e = refl
 
 -- a line without a label belongs to the part
-pub goes_on : (label : Option Name) (parts : List Part) (last : Growing) (line : List ℕ) (lines : List (List ℕ)) → is_none label ≡ true → label ≡ label_at line
+pub goes_on : (label : Option Name) (parts : List Part) (last : Growing) (line : List ℕ) (lines : List (List ℕ))
+    → is_none label ≡ true → label ≡ label_at line
     → parts ++ parts_below (with_line line last) lines ≡ parts ++ parts_below last (line ∷ lines)
 unfolding parts_below
 goes_on label parts last line lines none same = rw (sym same ∙ none_is label none) refl
 
 -- one with a label begins another
-pub begins : (label : Option Name) (done : List PartRead) (part : PartRead) (last : Growing) (line : List ℕ) (lines : List (List ℕ)) → is_none label ≡ false
+pub begins : (label : Option Name) (done : List PartRead) (part : PartRead) (last : Growing) (line : List ℕ)
+    (lines : List (List ℕ)) → is_none label ≡ false
     → part_read part ≡ closed last → label ≡ label_at line
-    → map part_read (done ++ part ∷ []) ++ parts_below (with_line line (new_part label)) lines ≡ map part_read done ++ parts_below last (line ∷ lines)
+    → map part_read (done ++ part ∷ []) ++ parts_below (with_line line (new_part label)) lines ≡ map part_read done ++
+    parts_below last (line ∷ lines)
 unfolding parts_below
 begins label done part last line lines some same is =
     let labelled : is_some (label_at line) ≡ true = ap is_some (sym is) ∙ some_is label some in
-    rw (labelled, ← is, ← same) (ap (λ (parts : List Part). parts ++ parts_below (with_line line (new_part label)) lines) (map-append part_read done (part ∷ []))
+    rw (labelled, ← is, ← same)
+    (ap (λ (parts : List Part). parts ++ parts_below (with_line line (new_part label)) lines)
+    (map-append part_read done (part ∷ []))
     ∙ append_assoc (map part_read done) (part_read part ∷ []) (parts_below (with_line line (new_part label)) lines))
 
 -- where no line is left, it is the last one
@@ -47,14 +53,20 @@ option_alone : {X : Type 0} (found : Option X) → cons_option found [] ≡ opti
 option_alone None = refl
 option_alone (Some x) = refl
 
-pub named_more : (parts : List Part) (names : List Name) (i : ℕ) (name : Name) (start old new : List ℕ) (named : Option ℕ) → i < length names → name ≡ get_or names i name
-    → old ≡ start ++ filter_map (λ n. part_named n parts) (take i names) → named ≡ part_named name parts → new ≡ old ++ option_to_list named
+pub named_more : (parts : List Part) (names : List Name) (i : ℕ) (name : Name) (start old new : List ℕ)
+    (named : Option ℕ) → i < length names → name ≡ get_or names i name
+    → old ≡ start ++ filter_map (λ n. part_named n parts) (take i names) → named ≡ part_named name parts
+    → new ≡ old ++ option_to_list named
     → new ≡ start ++ filter_map (λ n. part_named n parts) (take (i + 1) names)
 named_more parts names i name start old new named inside is so_far found added =
     let f : Name → Option ℕ = λ n. part_named n parts in
-    let one : filter_map f (name ∷ []) ≡ option_to_list named = option_alone (part_named name parts) ∙ ap option_to_list (sym found) in
-    let list : take (i + 1) names ≡ take i names ++ name ∷ [] = take_more names i name inside ∙ ap (λ (n : Name). take i names ++ n ∷ []) (sym is) in
+    let one : filter_map f (name ∷ []) ≡ option_to_list named = option_alone (part_named name parts)
+    ∙ ap option_to_list (sym found) in
+    let list : take (i + 1) names ≡ take i names ++ name ∷ [] = take_more names i name inside
+    ∙ ap (λ (n : Name). take i names ++ n ∷ []) (sym is) in
     let all : filter_map f (take (i + 1) names) ≡ filter_map f (take i names) ++ option_to_list named =
-    ap (filter_map f) list ∙ filter_map-append f (take i names) (name ∷ []) ∙ ap (λ (l : List ℕ). filter_map f (take i names) ++ l) one in
-    added ∙ ap (λ (l : List ℕ). l ++ option_to_list named) so_far ∙ append_assoc start (filter_map f (take i names)) (option_to_list named)
+    ap (filter_map f) list ∙ filter_map-append f (take i names) (name ∷ [])
+    ∙ ap (λ (l : List ℕ). filter_map f (take i names) ++ l) one in
+    added ∙ ap (λ (l : List ℕ). l ++ option_to_list named) so_far
+    ∙ append_assoc start (filter_map f (take i names)) (option_to_list named)
     ∙ ap (λ (l : List ℕ). start ++ l) (sym all)

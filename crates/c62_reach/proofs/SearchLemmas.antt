@@ -1,13 +1,17 @@
 -- The search marks the parts that are reached, and no others.
-use Rattle.std.proofs.Common.{◌≡◌, ◌⊎◌, ◌<◌, ◌≤◌, ◌+◌, ◌*◌, ◌∙◌, ℕ, Bool, true, false, List, [], ◌∷◌, ◌++◌, length, map, get_or, replicate, refl, sym, ap, subst, inl, inr, ⊎_elim, arith, length-append, true≢false}
+use Rattle.std.proofs.Common.{◌≡◌, ◌⊎◌, ◌<◌, ◌≤◌, ◌+◌, ◌*◌, ◌∙◌, ℕ, Bool, true, false, List, [], ◌∷◌, ◌++◌, length, map}
+use Rattle.std.proofs.Common.{get_or, replicate, refl, sym, ap, subst, inl, inr, ⊎_elim, arith, length-append}
+use Rattle.std.proofs.Common.{true≢false}
 use Rattle.std.proofs.lemmas.Bool.{cases_lt}
 use Rattle.std.proofs.lemmas.List.{get_or_past, get_or-replicate, length-map, length-replicate}
 use Rattle.c62_reach.specs.declared.part.Part.{Part as PartRead}
 use Rattle.c62_reach.specs.Part.{Part}
 use Rattle.c62_reach.specs.PartRead.{part_read}
-use Rattle.c62_reach.specs.Reach.{IsAmong, IsMarked, IsReached, start, more, Leads, Marks, leads_from, leads_of, no_part}
+use Rattle.c62_reach.specs.Reach.{IsAmong, IsMarked, IsReached, start, more, Leads, Marks, leads_from, leads_of}
+use Rattle.c62_reach.specs.Reach.{no_part}
 use Rattle.c62_reach.specs.Search.{Found, marked, all_marked, none_found}
-use Rattle.c62_reach.proofs.Graph.{Grows, unmarked, grown_marked, is_marked, grown_all, all_are, among_front, among_last, among_pushed}
+use Rattle.c62_reach.proofs.Graph.{Grows, unmarked, grown_marked, is_marked, grown_all, all_are, among_front}
+use Rattle.c62_reach.proofs.Graph.{among_last, among_pushed}
 
 abbrev pub IsClosed : List Part → List Bool → ℕ → Type 0
 IsClosed parts marks j = (k : ℕ) → Leads parts j k → k < length parts → IsMarked marks k
@@ -25,10 +29,12 @@ pub record IsSearch (parts : List Part) (first : ℕ) (found : Found) : Type 0 w
 none_marked : (n k : ℕ) → IsMarked (replicate n false) k → ⊥
 none_marked n k h = ⊎_elim
     (λ (inside : k < n). true≢false (sym h ∙ get_or-replicate n k false false inside))
-    (λ (past : n ≤ k). true≢false (sym h ∙ get_or_past (replicate n false) k false (subst (λ (m : ℕ). m ≤ k) (sym (length-replicate n false)) past)))
+    (λ (past : n ≤ k). true≢false (sym h
+    ∙ get_or_past (replicate n false) k false (subst (λ (m : ℕ). m ≤ k) (sym (length-replicate n false)) past)))
     (cases_lt k n)
 
-pub search_begins : (parts : List Part) (first : ℕ) → first < length parts → IsSearch parts first (marked first (none_found (length parts)))
+pub search_begins : (parts : List Part) (first : ℕ) → first < length parts
+    → IsSearch parts first (marked first (none_found (length parts)))
 search_begins parts first inside =
     let n = length parts in
     let grows = grown_marked first (none_found n) in
@@ -42,13 +48,15 @@ search_begins parts first inside =
       closed = λ k h. ⊎_elim (λ old. absurd (none_marked n k old)) (λ new. inl new.1) (grows.only k h);
     }
 
-pub search_begun : (parts : List PartRead) (first : ℕ) (old new : Found) → first < length parts → old ≡ none_found (length parts) → new ≡ marked first old
+pub search_begun : (parts : List PartRead) (first : ℕ) (old new : Found) → first < length parts
+    → old ≡ none_found (length parts) → new ≡ marked first old
     → IsSearch (map part_read parts) first new
 search_begun parts first old new inside none is =
     let len : length (map part_read parts) ≡ length parts = length-map parts part_read in
     let found : new ≡ marked first (none_found (length (map part_read parts))) =
     is ∙ ap (marked first) (none ∙ ap none_found (sym len)) in
-    subst (IsSearch (map part_read parts) first) (sym found) (search_begins (map part_read parts) first (subst (λ (n : ℕ). first < n) (sym len) inside))
+    subst (IsSearch (map part_read parts) first) (sym found)
+    (search_begins (map part_read parts) first (subst (λ (n : ℕ). first < n) (sym len) inside))
 
 -- ---- a step
 
@@ -56,7 +64,8 @@ search_begun parts first old new inside none is =
 abbrev pub taken_out : List ℕ → Found → Found
 taken_out rest found = record { marks = found.marks; waiting = rest }
 
-pub search_goes_on : (parts : List Part) (first j : ℕ) (rest : List ℕ) (found : Found) → IsSearch parts first found → found.waiting ≡ rest ++ j ∷ []
+pub search_goes_on : (parts : List Part) (first j : ℕ) (rest : List ℕ) (found : Found) → IsSearch parts first found
+    → found.waiting ≡ rest ++ j ∷ []
     → IsSearch parts first (all_marked (leads_from parts j) (taken_out rest found))
 search_goes_on parts first j rest found is last =
     let old = taken_out rest found in
@@ -66,7 +75,9 @@ search_goes_on parts first j rest found is last =
     record {
       len = grows.len ∙ is.len;
       sound = λ k h. ⊎_elim (is.sound k) (λ led. more j k there led.0) (grows.only k h);
-      reached = λ k h. ⊎_elim (λ waited. is.reached k (subst (IsAmong k) (sym last) (among_front k rest (j ∷ []) waited))) (λ led. more j k there led) (grows.so k h);
+      reached = λ k h. ⊎_elim
+          (λ waited. is.reached k (subst (IsAmong k) (sym last) (among_front k rest (j ∷ []) waited)))
+          (λ led. more j k there led) (grows.so k h);
       begun = grows.kept first is.begun;
       closed = λ k h. ⊎_elim
           (λ marked_before. ⊎_elim
@@ -81,7 +92,8 @@ search_goes_on parts first j rest found is last =
     }
 
 pub less_left : (parts : List Part) (j : ℕ) (rest : List ℕ) (found : Found) → found.waiting ≡ rest ++ j ∷ []
-    → 2 * unmarked (all_marked (leads_from parts j) (taken_out rest found)).marks + length (all_marked (leads_from parts j) (taken_out rest found)).waiting
+    → 2 * unmarked (all_marked (leads_from parts j) (taken_out rest found)).marks + length
+    (all_marked (leads_from parts j) (taken_out rest found)).waiting
     < 2 * unmarked found.marks + length found.waiting
 less_left parts j rest found last =
     let len : length found.waiting ≡ length rest + 1 = ap length last ∙ length-append rest (j ∷ []) in
@@ -92,10 +104,12 @@ less_left parts j rest found last =
 -- no part is there that leads to none
 pub leads_inside : (parts : List Part) (j k : ℕ) → Leads parts j k → j < length parts
 leads_inside parts j k leads = ⊎_elim (λ (inside : j < length parts). inside)
-    (λ (past : length parts ≤ j). absurd (subst (λ (part : Part). IsAmong k (leads_of parts j part)) (get_or_past parts j no_part past) leads))
+    (λ (past : length parts ≤ j). absurd
+    (subst (λ (part : Part). IsAmong k (leads_of parts j part)) (get_or_past parts j no_part past) leads))
     (cases_lt j (length parts))
 
-complete : (parts : List Part) (first : ℕ) (found : Found) → IsSearch parts first found → found.waiting ≡ [] → (k : ℕ) → IsReached parts first k → k < length parts
+complete : (parts : List Part) (first : ℕ) (found : Found) → IsSearch parts first found → found.waiting ≡ [] → (k : ℕ)
+    → IsReached parts first k → k < length parts
     → IsMarked found.marks k
 complete parts first found is none k start inside = is.begun
 complete parts first found is none k (more j _ reached leads) inside = ⊎_elim
@@ -103,7 +117,8 @@ complete parts first found is none k (more j _ reached leads) inside = ⊎_elim
     (λ (closed : IsClosed parts found.marks j). closed k leads inside)
     (is.closed j (complete parts first found is none j reached (leads_inside parts j k leads)))
 
-pub search_ends : (parts : List Part) (first : ℕ) (found : Found) → IsSearch parts first found → found.waiting ≡ [] → Marks parts first found.marks
+pub search_ends : (parts : List Part) (first : ℕ) (found : Found) → IsSearch parts first found → found.waiting ≡ []
+    → Marks parts first found.marks
 search_ends parts first found is none = record {
   len = is.len;
   reached = λ k inside. (is.sound k, λ reached. complete parts first found is none k reached inside);

@@ -9,7 +9,8 @@ use Rattle.c62_line.proofs.CommentLines.{comment_head, comment_nothing, star_hea
 
 -- ---- lines without their comments
 
-by_head : (line other : List ℕ) → head_of line ≡ head_of other → label_field line ≡ label_field other → IsAlike line other
+by_head : (line other : List ℕ) → head_of line ≡ head_of other → label_field line ≡ label_field other
+    → IsAlike line other
 unfolding line_of
 by_head line other head field = record { head = ap fault_in head; field = field; said = ap with_head head }
 
@@ -19,7 +20,8 @@ alike line other (Same e) = by_head line other (cc) (cc)
 alike line other (Behind rest e readable) =
     let there : IsReadable (other ++ 59 ∷ rest) = rw e at readable in
     by_head line other (cc (comment_head other rest there)) (cc ((comment_nothing other rest there).1))
-alike line other (Whole rest e f readable) = rw f (by_head line [] (star_head line readable (rw e refl)) (star_field line (rw e refl)))
+alike line other (Whole rest e f readable) = rw f
+    (by_head line [] (star_head line readable (rw e refl)) (star_field line (rw e refl)))
 
 all_alike : (lines others : List (List ℕ)) → AreUncommented lines others → AreAlike lines others
 all_alike [] [] same = End

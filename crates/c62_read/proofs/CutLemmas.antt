@@ -1,7 +1,10 @@
 -- The blocks that are cut from labels and instructions.
-use Rattle.c62_read.proofs.Common.{◌≡◌, ℕ, Bool, true, false, cond, ◌||◌, List, [], ◌∷◌, ◌++◌, Some, None, refl, arith, is_some, map, flat_map}
-use Rattle.c62_read.proofs.Common.{list_all, list_any, or_left, or_right, nat_tests, branch_last, cond_both, Begins, Draft, Item, Numbered, Runs}
-use Rattle.c62_read.proofs.Common.{aimed, cut, glue, is_overfull, joined, piece_of, block_in, is_whole, settled, target_number, Says, Nothing, Does}
+use Rattle.c62_read.proofs.Common.{◌≡◌, ℕ, Bool, true, false, cond, ◌||◌, List, [], ◌∷◌, ◌++◌, Some, None, refl, arith}
+use Rattle.c62_read.proofs.Common.{is_some, map, flat_map}
+use Rattle.c62_read.proofs.Common.{list_all, list_any, or_left, or_right, nat_tests, branch_last, cond_both, Begins}
+use Rattle.c62_read.proofs.Common.{Draft, Item, Numbered, Runs}
+use Rattle.c62_read.proofs.Common.{aimed, cut, glue, is_overfull, joined, piece_of, block_in, is_whole, settled}
+use Rattle.c62_read.proofs.Common.{target_number, Says, Nothing, Does}
 use Rattle.c62_read.proofs.Common.{Jumps}
 use Rattle.std.specs.List.{AllByRecursion}
 use Rattle.c62_read.specs.Program.{Name, ends_block}
@@ -25,7 +28,8 @@ said_by (Runs entry (Some target)) = Jumps entry.parts target
 abbrev pub AllProper : List Item → Type 0
 AllProper items = AllByRecursion (λ item. IsProper (said_by item)) items
 
-pub all_more : {X : Type 0} (P : X → Type 0) (xs ys : List X) → AllByRecursion P xs → AllByRecursion P ys → AllByRecursion P (xs ++ ys)
+pub all_more : {X : Type 0} (P : X → Type 0) (xs ys : List X) → AllByRecursion P xs → AllByRecursion P ys
+    → AllByRecursion P (xs ++ ys)
 all_more P [] ys all more = more
 all_more P (x ∷ xs) ys all more = (all.0, all_more P xs ys all.1 more)
 
@@ -37,13 +41,16 @@ parted ends [] = true
 parted ends (draft ∷ drafts) = ends || is_some draft.label
 
 module _ (P : List Item → List Draft → Type 0) (none : P [] [])
-    (apart : (item : Item) (items : List Item) (drafts : List Draft) → parted (ends_block item) drafts ≡ true → P items drafts
+    (apart : (item : Item) (items : List Item) (drafts : List Draft) → parted (ends_block item) drafts ≡ true
+    → P items drafts
     → P (item ∷ items) (piece_of item ∷ drafts))
-    (joins : (item : Item) (items : List Item) (draft : Draft) (drafts : List Draft) → ends_block item ≡ false → draft.label ≡ None
+    (joins : (item : Item) (items : List Item) (draft : Draft) (drafts : List Draft) → ends_block item ≡ false
+    → draft.label ≡ None
     → P items (draft ∷ drafts) → P (item ∷ items) (joined (piece_of item) draft ∷ drafts)) where
   one_more : (item : Item) (items : List Item) (drafts : List Draft) → P items drafts
       → P (item ∷ items) (cond (ends_block item) (piece_of item ∷ drafts) (glue (piece_of item) drafts))
-  one_more item items [] p = cond_both (ends_block item) _ _ (P (item ∷ items)) (λ _. apart item items [] refl p) (λ _. apart item items [] refl p)
+  one_more item items [] p = cond_both (ends_block item) _ _ (P (item ∷ items)) (λ _. apart item items [] refl p)
+      (λ _. apart item items [] refl p)
   one_more item items (draft ∷ drafts) p =
       cond_both (ends_block item) _ _ (P (item ∷ items))
       (λ ends. apart item items (draft ∷ drafts) (or_left (ends_block item) (is_some draft.label) ends) p)
@@ -76,12 +83,21 @@ module _ (all : List Draft) where
   pub cut_is : (items : List Item) → IsCutOf items (cut items)
   cut_is items =
       cut_all IsCutOf (λ fit. refl, refl, refl)
-      (λ item others drafts parts have.
-      (λ fit. grind (arith, have.0 fit.1, free_entry), grind (arith, nat_tests, have.1), grind (arith, nat_tests, have.2)))
-      (λ item others draft drafts goes none have.
-      (λ fit. grind (arith, nat_tests, have.0 fit.1, free_entry), grind (arith, nat_tests, have.1), grind (arith, nat_tests, have.2))) items
+      (λ item others drafts parts have. (
+        λ fit. grind (arith, have.0 fit.1, free_entry),
+        grind (arith, nat_tests, have.1),
+        grind
+            (arith, nat_tests, have.2),
+      ))
+      (λ item others draft drafts goes none have. (
+        λ fit. grind (arith, nat_tests, have.0 fit.1, free_entry),
+        grind (arith, nat_tests, have.1),
+        grind
+            (arith, nat_tests, have.2),
+      )) items
 
 -- blocks that are not overfull, and end so, are whole
-pub all_whole : (drafts : List Draft) → list_any is_overfull drafts ≡ false → list_all ends_last drafts ≡ true → list_all is_whole drafts ≡ true
+pub all_whole : (drafts : List Draft) → list_any is_overfull drafts ≡ false → list_all ends_last drafts ≡ true
+    → list_all is_whole drafts ≡ true
 all_whole [] small last = refl
 all_whole (draft ∷ drafts) small last = grind (arith, nat_tests, all_whole drafts)

@@ -1,5 +1,6 @@
 -- The first byte of a text that passes a test, and its first line feed.
-use Rattle.c62_read.proofs.Common.{◌≡◌, ◌<◌, ◌≤◌, ℕ, ◌+◌, Bool, false, List, ◌∷◌, ◌++◌, length, take, drop, get_or, Option, Some, None, arith}
+use Rattle.c62_read.proofs.Common.{◌≡◌, ◌<◌, ◌≤◌, ℕ, ◌+◌, Bool, false, List, ◌∷◌, ◌++◌, length, take, drop, get_or}
+use Rattle.c62_read.proofs.Common.{Option, Some, None, arith}
 use Rattle.c62_read.proofs.Common.{list_any, eqb-true, take-append-drop, is_line_feed}
 use Rattle.std.proofs.Math.Seq.{drop-cons}
 use Rattle.std.specs.Prelude.{unwrap_or}
@@ -8,13 +9,15 @@ use Rattle.std.proofs.lemmas.List.Folds.{list_any_none}
 use Rattle.memchr.specs.Find.{IsFirstByte, is_byte}
 
 module _ (test : ℕ → Bool) (text : List ℕ) where
-  none_below : (n : ℕ) → n ≤ length text → ((k : ℕ) → k < n → test (get_or text k 0) ≡ false) → list_any test (take n text) ≡ false
+  none_below : (n : ℕ) → n ≤ length text → ((k : ℕ) → k < n → test (get_or text k 0) ≡ false)
+      → list_any test (take n text) ≡ false
   none_below n within none = list_any_none test (take n text) (λ k d less.
       grind (arith, length-take-le n text within, get_or-take n text k d, get_or_default text k d 0, none k))
 
   -- before what was found, which is the end where nothing was, no byte passes
   pub none_before : (found : Option ℕ) → IsFirstByte test text found
-      → (unwrap_or found (length text) ≤ length text) × (list_any test (take (unwrap_or found (length text)) text) ≡ false)
+      → (unwrap_or found (length text) ≤ length text)
+      × (list_any test (take (unwrap_or found (length text)) text) ≡ false)
   none_before found first = grind (arith, none_below (unwrap_or found (length text)))
 
 -- ---- the first line feed

@@ -2,6 +2,7 @@ pub mod Common
 pub mod LineLemmas
 pub mod BlockLemmas
 pub mod MissedLemmas
+pub mod LineSteps
 pub mod WalkLemmas
 pub mod FirstByte
 pub mod AlikeLaws

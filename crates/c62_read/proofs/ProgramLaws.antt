@@ -1,21 +1,28 @@
 -- Laws of programs: their instructions, their blocks, their labels and their targets are those of their lines.
-use Rattle.c62_read.proofs.Common.{◌≡◌, ℕ, suc, ◌+◌, ◌≤◌, ◌<◌, Bool, true, List, [], ◌∷◌, ◌++◌, Option, Some, None, Result, Ok, refl, sym}
-use Rattle.c62_read.proofs.Common.{ap, subst, ◌∙◌, arith, inl, inr, map, slice_get, All, flat_map, list_all, position_or_len, option_to_list}
-use Rattle.c62_read.proofs.Common.{nat_tests, length-map, map-append, flat_map-append, list_all-append, map-map, Operands, Cause, lines_of, Says}
-use Rattle.c62_read.proofs.Common.{Does, Jumps, Begins, BlockParts, Draft, Item, Numbered, Runs, block_in, block_parts, blocks_from, is_among}
-use Rattle.c62_read.proofs.Common.{items_from, label_is, label_items, bytes_eq, labels_of, line_items, settled, own_labels}
+use Rattle.c62_read.proofs.Common.{◌≡◌, ℕ, suc, ◌+◌, ◌≤◌, ◌<◌, Bool, true, List, [], ◌∷◌, ◌++◌, Option, Some, None}
+use Rattle.c62_read.proofs.Common.{Result, Ok, refl, sym}
+use Rattle.c62_read.proofs.Common.{ap, subst, ◌∙◌, arith, inl, inr, map, slice_get, All, flat_map, list_all}
+use Rattle.c62_read.proofs.Common.{position_or_len, option_to_list}
+use Rattle.c62_read.proofs.Common.{nat_tests, length-map, map-append, flat_map-append, list_all-append, map-map}
+use Rattle.c62_read.proofs.Common.{Operands, Cause, lines_of, Says}
+use Rattle.c62_read.proofs.Common.{Does, Jumps, Begins, BlockParts, Draft, Item, Numbered, Runs, block_in, block_parts}
+use Rattle.c62_read.proofs.Common.{blocks_from, is_among}
+use Rattle.c62_read.proofs.Common.{items_from, label_is, label_items, bytes_eq, labels_of, line_items, settled}
+use Rattle.c62_read.proofs.Common.{own_labels}
 use mathlib.Core.Path.{fun_ext}
 use Rattle.c62_read.specs.Block.{Serial, is_labelled, labels_in, target_stands, targets_stand}
 use Rattle.std.specs.Prelude.{position, Contains}
 use Rattle.std.specs.List.{AllByRecursion, AllPairs, IsDistinct}
 use Rattle.std.proofs.lemmas.Bool.{not-false}
-use Rattle.std.proofs.lemmas.List.Elements.{All-from_recursion, All-contains, All-cons, All-weaker, Contains-append_cases}
+use Rattle.std.proofs.lemmas.List.Elements.{All-from_recursion, All-contains, All-cons, All-weaker}
+use Rattle.std.proofs.lemmas.List.Elements.{Contains-append_cases}
 use Rattle.std.proofs.lemmas.List.Kept.{AllPairs-cons}
 use Rattle.std.proofs.lemmas.List.Folds.{flat_map-map, list_all-map}
 use Rattle.std.proofs.lemmas.Option.{slice_get_past}
 use Rattle.c62_line.specs.Line.{line_of}
 use Rattle.c62_read.specs.Program.{Name, program_in}
-use Rattle.c62_read.specs.Laws.{HasCutBlocks, HasItsLabels, HasRisingLines, HasTargets, IsItsLines, ReadsAsItsLine, block_named}
+use Rattle.c62_read.specs.Laws.{HasCutBlocks, HasItsLabels, HasRisingLines, HasTargets, IsItsLines, ReadsAsItsLine}
+use Rattle.c62_read.specs.Laws.{block_named}
 use Rattle.c62_read.specs.Laws.{instruction_at, instructions_in, instructions_of, items_of}
 use Rattle.c62_read.proofs.BlockLemmas.{position_map}
 use Rattle.c62_read.proofs.CutLemmas.{AllProper, aim_in, all_more, cut_is}
@@ -41,8 +48,11 @@ program_is_cut text blocks e =
 pub has_its_labels : (text : List ℕ) → HasItsLabels text
 has_its_labels text blocks e =
     let program = program_is_cut text blocks e in
-    let drafts = blocks_from (lines_of text) in
-    (rw program.is (flat_map-map (λ (block : BlockParts). option_to_list block.label) (block_in drafts) drafts ∙ program.own), program.distinct)
+    let drafts = blocks_from (lines_of text) in (
+      rw program.is (flat_map-map (λ (block : BlockParts). option_to_list block.label) (block_in drafts) drafts
+          ∙ program.own),
+      program.distinct,
+    )
 
 -- the first block with a label
 module _ (label : Name) where
@@ -60,13 +70,23 @@ module _ (label : Name) where
   found blocks has =
       let labels : List (Option Name) = map (λ (block : BlockParts). block.label) blocks in
       let first = position_map (label_is label) (λ (block : BlockParts). block.label) blocks in
-      let there = ap (λ (k : ℕ). is_labelled (slice_get labels k)) (sym first) ∙ labelled labels (rw flat_map-map has) in
-      (there, grind (arith, nat_tests, slice_get_past labels (found_at blocks), length-map blocks (λ (block : BlockParts). block.label)))
+      let there = ap (λ (k : ℕ). is_labelled (slice_get labels k)) (sym first)
+      ∙ labelled labels (rw flat_map-map has) in (
+        there,
+        grind (
+          arith,
+          nat_tests,
+          slice_get_past labels (found_at blocks),
+          length-map blocks
+              (λ (block : BlockParts). block.label),
+        ),
+      )
 
 pub has_targets : (text : List ℕ) → HasTargets text
 has_targets text blocks line label parts target e among jumps =
     let labels = labels_of (lines_of text) in
-    let fits = All-from_recursion (λ line. OkFits labels (line_of line)) (lines_of text) (program_is_cut text blocks e).fits in
+    let fits = All-from_recursion (λ line. OkFits labels (line_of line)) (lines_of text)
+    (program_is_cut text blocks e).fits in
     let fit = rw jumps at (All-contains (λ line. OkFits labels (line_of line)) (lines_of text) line fits among) in
     let known = ap (is_among target) (has_its_labels text blocks e).0 ∙ not-false (is_among target labels) fit.1 in
     (found_at target blocks, (found target blocks known).1)
@@ -76,13 +96,19 @@ has_targets text blocks line label parts target e among jumps =
 named : (drafts : List Draft) → aim_in drafts ≡ block_named (map (block_in drafts) drafts)
 named drafts =
     fun_ext (λ label.
-    rw (position_map (λ (block : BlockParts). label_is label block.label) (block_in drafts) drafts, length-map drafts (block_in drafts)) refl)
+    rw (
+      position_map (λ (block : BlockParts). label_is label block.label) (block_in drafts) drafts,
+      length-map drafts
+          (block_in drafts),
+    ) refl)
 
-items_proper : (labels : List Name) (number : ℕ) (lines : List (List ℕ)) → AllByRecursion (λ line. OkFits labels (line_of line)) lines
+items_proper : (labels : List Name) (number : ℕ) (lines : List (List ℕ))
+    → AllByRecursion (λ line. OkFits labels (line_of line)) lines
     → AllProper (items_from number lines)
 items_proper labels number [] fits = tt
 items_proper labels number (line ∷ lines) fits =
-    all_more _ (line_items number (line_of line)) _ (go (line_of line) fits.0) (items_proper labels (number + 1) lines fits.1)
+    all_more _ (line_items number (line_of line)) _ (go (line_of line) fits.0)
+    (items_proper labels (number + 1) lines fits.1)
   where
     go : (found : Result (Option Name × Says) Cause) → OkFits labels found → AllProper (line_items number found)
     go found fit = grind arith
@@ -91,7 +117,8 @@ program_items : (text : List ℕ) (blocks : List BlockParts) → IsProgram text 
     → flat_map items_of blocks ≡ map (settled (block_named blocks)) (items_from 1 (lines_of text))
 program_items text blocks program =
     rw (program.is, ← named (blocks_from (lines_of text)))
-    ((cut_is _ (items_from 1 (lines_of text))).0 (items_proper (labels_of (lines_of text)) 1 (lines_of text) program.fits))
+    ((cut_is _ (items_from 1 (lines_of text))).0
+    (items_proper (labels_of (lines_of text)) 1 (lines_of text) program.fits))
 
 -- ---- instructions
 
@@ -108,16 +135,19 @@ runs_block label (entry ∷ insns) = grind (arith, runs_block label insns)
 runs_blocks : (blocks : List BlockParts) → flat_map run_in (flat_map items_of blocks) ≡ instructions_of blocks
 runs_blocks [] = refl
 runs_blocks (block ∷ blocks) =
-    flat_map-append run_in (items_of block) (flat_map items_of blocks) ∙ rw (runs_block block.label block.insns, runs_blocks blocks) refl
+    flat_map-append run_in (items_of block) (flat_map items_of blocks)
+    ∙ rw (runs_block block.label block.insns, runs_blocks blocks) refl
 
 module _ (aim : Name → ℕ) where
   runs_line : (number : ℕ) (said : Result (Option Name × Says) Cause)
       → flat_map run_in (map (settled aim) (line_items number said)) ≡ instruction_at aim number said
   runs_line number said = grind arith
 
-  runs_lines : (number : ℕ) (lines : List (List ℕ)) → flat_map run_in (map (settled aim) (items_from number lines)) ≡ instructions_in aim number lines
+  runs_lines : (number : ℕ) (lines : List (List ℕ))
+      → flat_map run_in (map (settled aim) (items_from number lines)) ≡ instructions_in aim number lines
   runs_lines number [] = refl
-  runs_lines number (line ∷ lines) = simp (map-append, flat_map-append, runs_line number (line_of line), runs_lines (number + 1) lines)
+  runs_lines number (line ∷ lines) = simp
+      (map-append, flat_map-append, runs_line number (line_of line), runs_lines (number + 1) lines)
 
 pub is_its_lines : (text : List ℕ) → IsItsLines text
 is_its_lines text blocks e =
@@ -139,10 +169,12 @@ rise_before n xs rise = (All-weaker (λ x. n + 1 ≤ x) (λ x. n ≤ x) (λ x af
 rise_from : (n : ℕ) (xs : List ℕ) → Rise (n + 1) xs → Rise n (n ∷ xs)
 rise_from n xs rise = (
   All-cons (λ x. n ≤ x) n xs (omega arith) (rise_before n xs rise).0,
-  AllPairs-cons (λ x y. x < y) n xs (All-weaker (λ x. n + 1 ≤ x) (λ x. n < x) (λ x after. omega arith) xs rise.0) rise.1,
+  AllPairs-cons (λ x y. x < y) n xs (All-weaker (λ x. n + 1 ≤ x) (λ x. n < x) (λ x after. omega arith) xs rise.0)
+      rise.1,
 )
 
-first_rises : (aim : Name → ℕ) (n : ℕ) (said : Result (Option Name × Says) Cause) (others : List Numbered) → Rise (n + 1) (numbers others)
+first_rises : (aim : Name → ℕ) (n : ℕ) (said : Result (Option Name × Says) Cause) (others : List Numbered)
+    → Rise (n + 1) (numbers others)
     → Rise n (numbers (instruction_at aim n said ++ others))
 first_rises aim n (Ok (label, Does parts)) others rise = rise_from n (numbers others) rise
 first_rises aim n (Ok (label, Jumps parts target)) others rise = rise_from n (numbers others) rise
@@ -150,7 +182,8 @@ first_rises aim n said others rise = rise_before n (numbers others) rise
 
 all_rise : (aim : Name → ℕ) (n : ℕ) (lines : List (List ℕ)) → Rise n (numbers (instructions_in aim n lines))
 all_rise aim n [] = (λ k d inside. absurd (omega arith), λ i j d below inside. absurd (omega arith))
-all_rise aim n (line ∷ lines) = first_rises aim n (line_of line) (instructions_in aim (n + 1) lines) (all_rise aim (n + 1) lines)
+all_rise aim n (line ∷ lines) = first_rises aim n (line_of line) (instructions_in aim (n + 1) lines)
+    (all_rise aim (n + 1) lines)
 
 pub has_rising_lines : (text : List ℕ) → HasRisingLines text
 has_rising_lines text blocks e =
@@ -159,11 +192,13 @@ has_rising_lines text blocks e =
 
 -- ---- each reads as its line
 
-said_here : (aim : Name → ℕ) (n : ℕ) (said : Result (Option Name × Says) Cause) (entry : Numbered) → Contains (instruction_at aim n said) entry
+said_here : (aim : Name → ℕ) (n : ℕ) (said : Result (Option Name × Says) Cause) (entry : Numbered)
+    → Contains (instruction_at aim n said) entry
     → (entry.line ≡ n) × (instruction_at aim n said ≡ entry ∷ [])
 said_here aim n said entry among = grind arith
 
-read_at : (aim : Name → ℕ) (n : ℕ) (lines : List (List ℕ)) (entry : Numbered) → Contains (instructions_in aim n lines) entry
+read_at : (aim : Name → ℕ) (n : ℕ) (lines : List (List ℕ)) (entry : Numbered)
+    → Contains (instructions_in aim n lines) entry
     → (index : ℕ) × (line : List ℕ) × (entry.line ≡ index + n) × (slice_get lines index ≡ Some line)
     × (instruction_at aim entry.line (line_of line) ≡ entry ∷ [])
 read_at aim n [] entry among = absurd (omega (arith, among.1))
@@ -221,7 +256,8 @@ module _ (labels : List (Option Name)) where
   blocks_stand [] = refl
   blocks_stand (block ∷ blocks) = rw (list_all-append, blocks_stand blocks) refl
 
-pub targets_read : (text : List ℕ) (blocks : List Serial) → program_in text ≡ Ok (map block_parts blocks) → targets_stand blocks ≡ true
+pub targets_read : (text : List ℕ) (blocks : List Serial) → program_in text ≡ Ok (map block_parts blocks)
+    → targets_stand blocks ≡ true
 unfolding targets_stand
 targets_read text blocks e =
     let parts : List BlockParts = map block_parts blocks in

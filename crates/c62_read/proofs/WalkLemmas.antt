@@ -1,20 +1,21 @@
--- The reader's walk over the lines of a text answers what the text says.
-use Rattle.c62_read.proofs.Common.{◌≡◌, ◌≤◌, ℕ, ◌+◌, Bool, true, false, cond, ltb, ◌&&◌, List, [], ◌∷◌, ◌++◌, length, Option, Some, None, Result, Ok}
-use Rattle.c62_read.proofs.Common.{Err, refl, sym, ap, ◌∙◌, arith, append_assoc, append-nil, length-append, inl, inr, map, list_any, list_all}
-use Rattle.c62_read.proofs.Common.{option_to_list, bytes_eq, or_parts, le-ltb, nat_tests, flat_map-append, list_any-append, Cause, UnknownTarget}
-use Rattle.c62_read.proofs.Common.{TextTooLong, Says, Numbered, Item, Draft, Refusal, blocks_from, cut, fault_in, glue, is_among, is_overfull}
-use Rattle.c62_read.proofs.Common.{items_from, joined, label_is, label_items, labels_of, line_items, says_items, BlockParts, block_in, Drafts}
-use Rattle.c62_read.proofs.Common.{all_drafts, is_unknown, no_drafts, own_labels, Asked, asked_in, first_line, missed, unless_missed, is_whole}
-use Rattle.c62_read.proofs.Common.{lines_of}
+-- The walk over the lines of a text.
+use Rattle.c62_read.proofs.Common.{◌≡◌, ◌≤◌, ℕ, ◌+◌, Bool, true, false, cond, ltb, List, [], ◌∷◌, ◌++◌, length, Option}
+use Rattle.c62_read.proofs.Common.{Some, None, Result, Ok, Err, refl, sym, ap, ◌∙◌, arith, append_assoc, append-nil}
+use Rattle.c62_read.proofs.Common.{length-append, inl, inr, map, list_any, list_all, option_to_list, bytes_eq, or_parts}
+use Rattle.c62_read.proofs.Common.{le-ltb, nat_tests, Cause, UnknownTarget, TextTooLong, Says, Item, Draft, Refusal}
+use Rattle.c62_read.proofs.Common.{blocks_from, cut, fault_in, is_among, is_overfull, items_from, label_is, label_items}
+use Rattle.c62_read.proofs.Common.{labels_of, line_items, says_items, BlockParts, block_in, Drafts, all_drafts}
+use Rattle.c62_read.proofs.Common.{is_unknown, no_drafts, own_labels, Asked, asked_in, first_line, missed}
+use Rattle.c62_read.proofs.Common.{unless_missed, is_whole, lines_of}
 use Rattle.c62_line.specs.Line.{label_field, Nothing, head_of, label_front, line_of, rest_says}
-use Rattle.c62_read.specs.Program.{and_then, Name, fault_if, fault_of, first_fault, first_of, repeats_label, Fails, drafts_in, program_in}
-use Rattle.std.specs.Prelude.{is_none}
+use Rattle.c62_read.specs.Program.{and_then, Name, fault_if, fault_of, first_fault, first_of, repeats_label, Fails}
+use Rattle.c62_read.specs.Program.{drafts_in, program_in}
 use Rattle.std.specs.List.{AllByRecursion, IsDistinct}
 use Rattle.std.specs.Result.{result_err}
 use Rattle.c62_read.specs.Reading.{aimed_blocks, text_read}
 use Rattle.c62_line.specs.declared.fault.Cause.TheVariants.{DuplicateLabel}
-use Rattle.c62_read.specs.Walk.{add_head, add_line, add_lines, add_says, at_line, begins_block, hindrance, is_full}
-use Rattle.c62_read.specs.Walk.{is_instruction, is_taken, refused, Step, with_label, with_says}
+use Rattle.c62_read.specs.Walk.{add_head, add_line, add_lines, add_says, at_line, hindrance, is_taken, refused, Step}
+use Rattle.c62_read.specs.Walk.{with_label, with_says}
 use mathlib.Core.Path.{fun_ext}
 use Rattle.std.proofs.lemmas.Cmp.{nat_list_eq_equiv}
 use Rattle.std.proofs.lemmas.Map.Keys.{IsDistinct-push}
@@ -24,61 +25,15 @@ use Rattle.c62_line.proofs.SaysLemmas.{IsProper, proper}
 use Rattle.c62_line.specs.declared.fault.ReadFault.{ReadFault}
 use Rattle.c62_read.proofs.CutLemmas.{all_more, all_whole, cut_is}
 use Rattle.c62_read.proofs.MissedLemmas.{missed_then}
+use Rattle.c62_read.proofs.LineSteps.{ahead, line_ahead, line_own, added_own, line_over, line_count}
+use Rattle.c62_read.specs.declared.limits.TheConstants.{MOST_BYTES}
+use Rattle.c62_read.specs.declared.limits.TheConstants.{MOST_BLOCKS}
 
 -- an empty line says nothing
 pub empty_line : (number : ℕ) (line : List ℕ) (drafts : Drafts) → line ≡ []
     → add_line number line drafts ≡ record { says = Nothing; drafts = Ok drafts }
 unfolding add_line hindrance is_taken with_says head_of label_front rest_says
 empty_line number line drafts none = rw none refl
-
--- ---- the open block in front of blocks
-
-abbrev glued : Option Draft → List Draft → List Draft
-glued None drafts = drafts
-glued (Some piece) drafts = glue piece drafts
-
--- the whole blocks, and the open one in front of what these items make
-abbrev ahead : Drafts → List Item → List Draft
-ahead drafts items = drafts.done ++ glued drafts.current (cut items)
-
--- one piece behind another
-glue_twice : (piece next : Draft) (drafts : List Draft) → next.label ≡ None → glue piece (glue next drafts) ≡ glue (joined piece next) drafts
-glue_twice piece next drafts none = grind (arith, nat_tests, append_assoc piece.insns next.insns)
-
--- ---- what a line does to the blocks
-
-last_over : (done : List Draft) (current : Option Draft) (draft : Draft) → list_any is_overfull (done ++ option_to_list current) ≡ false
-    → list_any is_overfull (done ++ draft ∷ []) ≡ is_overfull draft
-last_over done current draft small = grind (arith, nat_tests, list_any-append is_overfull done)
-
--- a line's label and instruction become part of the blocks
-line_ahead : (number : ℕ) (label : Option Name) (says : Says) (old : Drafts) (items : List Item)
-    → ahead old (label_items label ++ (says_items number says ++ items)) ≡ ahead (with_says number says (with_label label old)) items
-unfolding with_says
-line_ahead number label says old items = grind (arith, nat_tests, append_assoc {A = Draft}, glue_twice)
-
-line_own : (number : ℕ) (label : Option Name) (says : Says) (old : Drafts)
-    → own_labels (all_drafts (with_says number says (with_label label old))) ≡ own_labels (all_drafts old) ++ option_to_list label
-unfolding with_says
-line_own number label says old = grind (arith, nat_tests, append-nil, flat_map-append (λ (draft : Draft). option_to_list draft.label))
-
-added_own : (number : ℕ) (line : List ℕ) (old new : Drafts) (front : Result (Option Name × List (List ℕ)) Cause) → head_of line ≡ front
-    → (add_head number old front).drafts ≡ Ok new → own_labels (all_drafts new) ≡ own_labels (all_drafts old) ++ option_to_list (label_field line)
-added_own number line old new (Err cause) head added = absurd cc
-added_own number line old new (Ok (label, words)) head added = rw (field_is line label words head) (grind (arith, nat_tests, line_own))
-
--- behind a label nothing is too much
-line_over : (number : ℕ) (label : Option Name) (says : Says) (old : Drafts) → list_any is_overfull (all_drafts old) ≡ false
-    → list_any is_overfull (all_drafts (with_says number says (with_label label old)))
-    ≡ (is_instruction says && is_none label && is_full old.current)
-unfolding with_says
-line_over number label says old small =
-    grind (arith, nat_tests, last_over old.done old.current, last_over (all_drafts old) None, append-nil, length-append {A = Numbered})
-
-line_count : (number : ℕ) (label : Option Name) (says : Says) (old : Drafts)
-    → length (all_drafts (with_says number says (with_label label old))) ≡ length (all_drafts old) + cond (begins_block label says old) 1 0
-unfolding with_says
-line_count number label says old = grind (arith, nat_tests, length-append {A = Draft})
 
 -- ---- one line more
 
@@ -88,9 +43,11 @@ more before line = before ++ line ∷ []
 items_more : (number n : ℕ) (before : List (List ℕ)) (line : List ℕ) → n ≡ length before + number
     → items_from number (more before line) ≡ items_from number before ++ line_items n (line_of line)
 items_more number n [] line e = let same : n ≡ number = omega arith in rw (same, append-nil) refl
-items_more number n (first ∷ before) line e = rw (items_more (number + 1) n before line (omega arith), append_assoc) refl
+items_more number n (first ∷ before) line e = rw (items_more (number + 1) n before line (omega arith), append_assoc)
+    refl
 
-labels_more : (before : List (List ℕ)) (line : List ℕ) → labels_of (more before line) ≡ labels_of before ++ option_to_list (label_field line)
+labels_more : (before : List (List ℕ)) (line : List ℕ)
+    → labels_of (more before line) ≡ labels_of before ++ option_to_list (label_field line)
 labels_more [] line = append-nil (option_to_list (label_field line))
 labels_more (first ∷ before) line = rw (labels_more before line, append_assoc) refl
 
@@ -115,39 +72,46 @@ OkFits labels (Err cause) = Unit {0}
 -- the reader has the blocks of these lines, and the text has these labels
 pub record Stands (labels : List Name) (before : List (List ℕ)) (drafts : Drafts) : Type 0 where
   pub cuts : (items : List Item) → cut (items_from 1 before ++ items) ≡ ahead drafts items
-  pub few : length (all_drafts drafts) ≤ 64
+  pub few : length (all_drafts drafts) ≤ MOST_BLOCKS
   pub small : list_any is_overfull (all_drafts drafts) ≡ false
   pub own : own_labels (all_drafts drafts) ≡ labels_of before
   pub fits : AllByRecursion (λ line. OkFits labels (line_of line)) before
   pub distinct : IsDistinct bytes_eq (labels_of before)
 
-pub blocks_are : (before : List (List ℕ)) (drafts : Drafts) → ((items : List Item) → cut (items_from 1 before ++ items) ≡ ahead drafts items)
+pub blocks_are : (before : List (List ℕ)) (drafts : Drafts)
+    → ((items : List Item) → cut (items_from 1 before ++ items) ≡ ahead drafts items)
     → blocks_from before ≡ all_drafts drafts
 blocks_are before drafts cuts = (rw append-nil at (cuts [])) ∙ grind arith
 
 -- a walk from these lines over others has their first fault, and where it comes to the end the blocks with them
 abbrev pub Walked : List Name → List (List ℕ) → List (List ℕ) → Result Drafts Refusal → Type 0
 Walked labels before lines read =
-    (result_err read ≡ first_fault labels before lines) × ((new : Drafts) → read ≡ Ok new → Stands labels (before ++ lines) new)
+    (result_err read ≡ first_fault labels before lines)
+    × ((new : Drafts) → read ≡ Ok new → Stands labels (before ++ lines) new)
 
-module _ (labels : List Name) (before : List (List ℕ)) (line : List ℕ) (old : Drafts) (stands : Stands labels before old) where
+module _ (labels : List Name) (before : List (List ℕ)) (line : List ℕ) (old : Drafts)
+    (stands : Stands labels before old) where
   abbrev pub here : ℕ
   here = length before + 1
 
   -- what the step tells of the line: its fault, and where it has none the blocks with it
   abbrev pub Goes : Step → Type 0
   Goes step =
-      (fault_of labels before line ≡ first_of (fault_if (is_unknown labels step.says) UnknownTarget ∷ fault_in step.drafts ∷ []))
-      × (is_unknown labels step.says ≡ false → (new : Drafts) → step.drafts ≡ Ok new → Stands labels (more before line) new)
+      (fault_of labels before line ≡ first_of
+      (fault_if (is_unknown labels step.says) UnknownTarget ∷ fault_in step.drafts ∷ []))
+      × (is_unknown labels step.says ≡ false → (new : Drafts) → step.drafts ≡ Ok new
+      → Stands labels (more before line) new)
 
   -- the line's label is an earlier one's where the reader has it
   repeats_is : (label : Option Name) (words : List (List ℕ)) → head_of line ≡ Ok (label, words)
       → repeats_label (labels_of before) line ≡ is_taken label old
   unfolding is_taken
   repeats_is label words head =
-      rw (field_is line label words head, ← stands.own) (grind (arith, nat_tests, λ (name : Name). has_own name (all_drafts old)))
+      rw (field_is line label words head, ← stands.own)
+      (grind (arith, nat_tests, λ (name : Name). has_own name (all_drafts old)))
 
-  adds : (label : Option Name) (words : List (List ℕ)) (says : Says) → head_of line ≡ Ok (label, words) → rest_says words ≡ Ok says
+  adds : (label : Option Name) (words : List (List ℕ)) (says : Says) → head_of line ≡ Ok (label, words)
+      → rest_says words ≡ Ok says
       → is_taken label old ≡ false → Goes (add_says here label old (Ok says))
   unfolding fault_of hindrance
   adds label words says head rest free =
@@ -160,20 +124,24 @@ module _ (labels : List Name) (before : List (List ℕ)) (line : List ℕ) (old 
       let over = line_over here label says old stands.small in
       let count = line_count here label says old in
       let fresh = repeats_is label words head ∙ free in (
-        rw (head, fresh, said, blocks_are (more before line) new cuts, over) (grind (arith, nat_tests, count, stands.few)),
+        rw (head, fresh, said, blocks_are (more before line) new cuts, over)
+            (grind (arith, nat_tests, count, stands.few)),
         λ known made is.
             let same : new ≡ made = grind (arith, nat_tests) in
             rw (← same) record {
               cuts = cuts;
               few = grind (arith, nat_tests, count, stands.few);
               small = over ∙ grind (arith, nat_tests);
-              own = line_own here label says old ∙ rw (stands.own, labels_more before line, field_is line label words head) refl;
+              own = line_own here label says old
+                  ∙ rw (stands.own, labels_more before line, field_is line label words head) refl;
               fits = all_more _ before (line ∷ []) stands.fits (rw said (proper words says rest, known), tt);
-              distinct = rw (labels_more before line) (distinct_more (labels_of before) (label_field line) stands.distinct fresh);
+              distinct = rw (labels_more before line)
+                  (distinct_more (labels_of before) (label_field line) stands.distinct fresh);
             },
       )
 
-  pub goes : (front : Result (Option Name × List (List ℕ)) Cause) → head_of line ≡ front → Goes (add_head here old front)
+  pub goes : (front : Result (Option Name × List (List ℕ)) Cause) → head_of line ≡ front
+      → Goes (add_head here old front)
   unfolding fault_of line_of
   goes (Err cause) head = (rw head refl, λ known new made. absurd cc)
   goes (Ok (label, words)) head = by_rest (is_taken label old) refl (rest_says words) refl
@@ -181,16 +149,26 @@ module _ (labels : List Name) (before : List (List ℕ)) (line : List ℕ) (old 
       by_rest : (taken : Bool) → is_taken label old ≡ taken → (said : Result Says Cause) → rest_says words ≡ said
           → Goes (cond taken (refused DuplicateLabel) (add_says here label old said))
       by_rest true e said rest = (rw (head, repeats_is label words head ∙ e) refl, λ known new made. absurd cc)
-      by_rest false e (Err cause) rest = (rw (head, repeats_is label words head ∙ e, rest) refl, λ known new made. absurd cc)
+      by_rest false e (Err cause) rest = (
+        rw (
+          head,
+          repeats_is label words head
+              ∙ e,
+          rest,
+        ) refl,
+        λ known new made. absurd cc,
+      )
       by_rest false e (Ok says) rest = adds label words says head rest e
 
   -- the walk over this line and others, by whether it branches to no label and what is wrong with it
   walk_line : (lines : List (List ℕ))
       → ((new : Drafts) → Stands labels (more before line) new
       → Walked labels (more before line) lines (add_lines labels (length (more before line) + 1) lines new))
-      → (step : Step) → Goes step → (unknown : Bool) → is_unknown labels step.says ≡ unknown → (made : Result Drafts Cause) → step.drafts ≡ made
+      → (step : Step) → Goes step → (unknown : Bool) → is_unknown labels step.says ≡ unknown
+      → (made : Result Drafts Cause) → step.drafts ≡ made
       → Walked labels before (line ∷ lines)
-      (cond unknown (Err (here, UnknownTarget)) (and_then (at_line here made) (λ drafts. add_lines labels (here + 1) lines drafts)))
+      (cond unknown (Err (here, UnknownTarget))
+      (and_then (at_line here made) (λ drafts. add_lines labels (here + 1) lines drafts)))
   unfolding first_fault
   walk_line lines later step goes true u made e = (rw (goes.0, u) refl, λ new is. absurd cc)
   walk_line lines later step goes false u (Err cause) e = (rw (goes.0, u, e) refl, λ new is. absurd cc)
@@ -212,20 +190,25 @@ walk labels (line ∷ lines) before old stands =
 -- the reader has no blocks before any line
 pub none_stand : (labels : List Name) → Stands labels [] no_drafts
 unfolding IsDistinct
-none_stand labels = record { cuts = λ items. refl; few = omega arith; small = refl; own = refl; fits = tt; distinct = tt }
+none_stand labels = record
+    { cuts = λ items. refl; few = omega arith; small = refl; own = refl; fits = tt; distinct = tt }
 
 -- the walk over all lines of a text
-pub walk_text : (lines : List (List ℕ)) → Walked (labels_of lines) [] lines (add_lines (labels_of lines) 1 lines no_drafts)
+pub walk_text : (lines : List (List ℕ))
+    → Walked (labels_of lines) [] lines (add_lines (labels_of lines) 1 lines no_drafts)
 walk_text lines = walk _ lines [] no_drafts (none_stand (labels_of lines))
 
 module _ (number : ℕ) (line : List ℕ) (lines all : List (List ℕ)) (old : Drafts) (first : all ≡ line ∷ lines) where
   -- the answer behind this line, but for the branches that are kept
-  pub stepped : (labels : List Name) (asked now : List Asked) → now ≡ asked ++ asked_in number (add_line number line old).says
+  pub stepped : (labels : List Name) (asked now : List Asked)
+      → now ≡ asked ++ asked_in number (add_line number line old).says
       → (result : Result Drafts Cause) → (add_line number line old).drafts ≡ result
-      → unless_missed (first_line (missed labels now)) (and_then (at_line number result) (λ more. add_lines labels (number + 1) lines more))
+      → unless_missed (first_line (missed labels now))
+      (and_then (at_line number result) (λ more. add_lines labels (number + 1) lines more))
       ≡ unless_missed (first_line (missed labels asked)) (add_lines labels number all old)
   unfolding add_lines
-  stepped labels asked now kept result is = rw (first, kept, ← is) (sym (missed_then labels asked number (add_line number line old).says _))
+  stepped labels asked now kept result is = rw (first, kept, ← is)
+      (sym (missed_then labels asked number (add_line number line old).says _))
 
   -- the labels that the blocks have and those of the lines that are left
   pub labels_stay : (new : Drafts) → (add_line number line old).drafts ≡ Ok new
@@ -236,7 +219,8 @@ module _ (number : ℕ) (line : List ℕ) (lines all : List (List ℕ)) (old : D
 -- ---- the whole text
 
 pub program_by : (text : List ℕ) → program_in text
-    ≡ cond (ltb 1048576 (length text)) (Err (0, TextTooLong)) (and_then (text_read text) (λ drafts. Ok (aimed_blocks (all_drafts drafts))))
+    ≡ cond (ltb MOST_BYTES (length text)) (Err (0, TextTooLong))
+    (and_then (text_read text) (λ drafts. Ok (aimed_blocks (all_drafts drafts))))
 unfolding program_in drafts_in
 program_by text =
     let walked = walk_text (lines_of text) in
@@ -251,13 +235,18 @@ read_back text blocks e = let by = sym (program_by text) ∙ e in grind (arith, 
 pub whole_blocks : (labels : List Name) (before : List (List ℕ)) (drafts : Drafts) → Stands labels before drafts
     → list_all is_whole (all_drafts drafts) ≡ true
 whole_blocks labels before drafts stands =
-    all_whole (all_drafts drafts) stands.small (rw (blocks_are before drafts stands.cuts) at (cut_is [] (items_from 1 before)).2)
+    all_whole (all_drafts drafts) stands.small
+    (rw (blocks_are before drafts stands.cuts) at (cut_is [] (items_from 1 before)).2)
 
 -- these blocks are the text's, which are made of what was read
-pub program_read : (text : List ℕ) → length text ≤ 1048576 → (drafts : Drafts) → text_read text ≡ Ok drafts
-    → (done : List Draft) → done ≡ all_drafts drafts → (blocks : List BlockParts) → blocks ≡ map (block_in done) done → program_in text ≡ Ok blocks
-program_read text short drafts read done all blocks made = rw (program_by text, le-ltb 1048576 (length text) short, read, made, all) refl
+pub program_read : (text : List ℕ) → length text ≤ MOST_BYTES → (drafts : Drafts) → text_read text ≡ Ok drafts
+    → (done : List Draft) → done ≡ all_drafts drafts → (blocks : List BlockParts) → blocks ≡ map (block_in done) done
+    → program_in text ≡ Ok blocks
+program_read text short drafts read done all blocks made = rw
+    (program_by text, le-ltb MOST_BYTES (length text) short, read, made, all) refl
 
-pub program_refused : (text : List ℕ) → length text ≤ 1048576 → (fault : ReadFault) → Fails fault (text_read text) → Fails fault (program_in text)
+pub program_refused : (text : List ℕ) → length text ≤ MOST_BYTES → (fault : ReadFault) → Fails fault (text_read text)
+    → Fails fault (program_in text)
 program_refused text short fault (inl memory) = inl memory
-program_refused text short fault (inr refused) = inr (rw (program_by text, le-ltb 1048576 (length text) short, refused) refl)
+program_refused text short fault (inr refused) = inr
+    (rw (program_by text, le-ltb MOST_BYTES (length text) short, refused) refl)

@@ -10,7 +10,8 @@ abbrev pub AreNot : (Reg × ℕ → Type 0) → List (Reg × ℕ) → ℕ → Ty
 AreNot Is writes count = (k : ℕ) (d : Reg × ℕ) → k < count → Is (get_or writes k d) → ⊥
 
 module _ (Is : Reg × ℕ → Type 0) (writes : List (Reg × ℕ)) (count : ℕ) where
-  pub not_next : (write : Reg × ℕ) → AreNot Is writes count → count < length writes → write ≡ get_or writes count write → (Is write → ⊥) → AreNot Is writes (count + 1)
+  pub not_next : (write : Reg × ℕ) → AreNot Is writes count → count < length writes → write ≡ get_or writes count write
+      → (Is write → ⊥) → AreNot Is writes (count + 1)
   not_next write are within at never k d low is = elim (cases_lt k count) [
     | inl before ↦ are k d before is
     | inr after ↦

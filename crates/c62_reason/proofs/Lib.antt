@@ -1,2 +1,4 @@
 pub mod GoneOver
+pub mod InsnWrites
+pub mod AskingReasons
 pub mod Reasons

@@ -4,7 +4,8 @@ use Rattle.c62_read.specs.Block.{Serial}
 use Rattle.c62_packet.specs.Packed.{Packed}
 use Rattle.c62_refusals.specs.Given.{IsPackedByTurns, ArePackedByTurns}
 
-pub packed_more : (blocks : List Serial) (packets : List Packed) (block : Serial) (packed : Packed) → ArePackedByTurns blocks packets
+pub packed_more : (blocks : List Serial) (packets : List Packed) (block : Serial) (packed : Packed)
+    → ArePackedByTurns blocks packets
     → IsPackedByTurns block packed → ArePackedByTurns (blocks ++ block ∷ []) (packets ++ packed ∷ [])
 packed_more [] [] block packed all one = (one, tt)
 packed_more [] (q ∷ packets) block packed all one = absurd all

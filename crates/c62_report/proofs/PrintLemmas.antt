@@ -3,7 +3,8 @@ use Rattle.std.proofs.Common.{◌≡◌, ℕ, zero, suc, ◌+◌, ◌-◌, ◌%�
 use Rattle.c62_serial.specs.State.{Machine}
 use Rattle.c62_report.specs.Print.{print_line, print_lines}
 
-pub no_lines : (machine : Machine) (size : ℕ) (signed : Bool) (left address : ℕ) → left ≡ 0 → print_lines machine size signed left address ≡ []
+pub no_lines : (machine : Machine) (size : ℕ) (signed : Bool) (left address : ℕ) → left ≡ 0
+    → print_lines machine size signed left address ≡ []
 unfolding print_lines
 no_lines machine size signed zero address none = refl
 no_lines machine size signed (suc left) address none = absurd (omega (arith, none))

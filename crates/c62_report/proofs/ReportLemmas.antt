@@ -1,5 +1,6 @@
 -- The lines of a report, one more.
-use Rattle.std.proofs.Common.{◌≡◌, ◌≢◌, ◌∙◌, ℕ, zero, suc, ◌+◌, ◌-◌, ◌*◌, ◌/◌, ◌%◌, Bool, true, false, List, [], ◌∷◌, ◌++◌, Some, None, refl, sym, ap, arith, append_assoc, add-one, cond}
+use Rattle.std.proofs.Common.{◌≡◌, ◌≢◌, ◌∙◌, ℕ, zero, suc, ◌+◌, ◌-◌, ◌*◌, ◌/◌, ◌%◌, Bool, true, false, List, [], ◌∷◌}
+use Rattle.std.proofs.Common.{◌++◌, Some, None, refl, sym, ap, arith, append_assoc, add-one, cond}
 use Rattle.std.specs.List.{flat_map, range_with_len}
 use Rattle.std.proofs.lemmas.List.{append-nil}
 use Rattle.std.proofs.lemmas.Option.{same_Some}
@@ -9,19 +10,22 @@ use Rattle.c62_op.specs.declared.register.Side.{Side}
 use Rattle.c62_report.specs.Report.{file_lines, hex, hex_digit, register_line, word_line, word_lines}
 
 -- the last of the numbers from a on
-more_from : {X : Type 0} (f : ℕ → List X) (a n : ℕ) → flat_map f (range_with_len a (suc n)) ≡ flat_map f (range_with_len a n) ++ f (a + n)
+more_from : {X : Type 0} (f : ℕ → List X) (a n : ℕ)
+    → flat_map f (range_with_len a (suc n)) ≡ flat_map f (range_with_len a n) ++ f (a + n)
 more_from f a zero = append-nil (f a) ∙ ap f (let e : a ≡ a + 0 = omega arith in e)
 more_from f a (suc n) =
     let next : a + 1 + n ≡ a + suc n = omega arith in
     ap (λ rest. f a ++ rest) (more_from f (a + 1) n ∙ ap (λ k. flat_map f (range_with_len (a + 1) n) ++ f k) next)
     ∙ sym (append_assoc (f a) (flat_map f (range_with_len (a + 1) n)) (f (a + suc n)))
 
-pub flat_map-more : {X : Type 0} (f : ℕ → List X) (n : ℕ) → flat_map f (range_with_len 0 (n + 1)) ≡ flat_map f (range_with_len 0 n) ++ f n
+pub flat_map-more : {X : Type 0} (f : ℕ → List X) (n : ℕ)
+    → flat_map f (range_with_len 0 (n + 1)) ≡ flat_map f (range_with_len 0 n) ++ f n
 flat_map-more f n =
     let start : 0 + n ≡ n = omega arith in
     rw add-one (more_from f 0 n ∙ ap (λ k. flat_map f (range_with_len 0 n) ++ f k) start)
 
-pub hex-last : (digits value : ℕ) → digits ≢ 0 → hex digits value ≡ hex (digits - 1) (value / 16) ++ hex_digit (value % 16) ∷ []
+pub hex-last : (digits value : ℕ) → digits ≢ 0
+    → hex digits value ≡ hex (digits - 1) (value / 16) ++ hex_digit (value % 16) ∷ []
 unfolding hex
 hex-last zero value some = absurd (some refl)
 hex-last (suc digits) value some =
@@ -41,9 +45,11 @@ found true value number e = same_Some value number e
 found false value number e = absurd cc
 
 -- what a load reads of a word, where it reads
-pub word_read : (machine : Machine) (k value : ℕ) → Some value ≡ read (byte_in machine) (4 * k) 4 → value ≡ number_of (bytes_from (byte_in machine) (4 * k) 4)
+pub word_read : (machine : Machine) (k value : ℕ) → Some value ≡ read (byte_in machine) (4 * k) 4
+    → value ≡ number_of (bytes_from (byte_in machine) (4 * k) 4)
 word_read machine k value e = found (is_good (4 * k) 4) value (number_of (bytes_from (byte_in machine) (4 * k) 4)) e
 
-pub whole_file : (machine : Machine) (side : Side) → flat_map (register_line machine side) (range_with_len 0 16) ≡ file_lines machine side
+pub whole_file : (machine : Machine) (side : Side)
+    → flat_map (register_line machine side) (range_with_len 0 16) ≡ file_lines machine side
 unfolding file_lines
 whole_file machine side = refl

@@ -1,16 +1,9 @@
 -- Counts of four bits in one number.
-use Rattle.std.proofs.Common.{arith, ◌≡◌, ◌≢◌, ℕ, zero, ◌+◌, ◌-◌, ◌*◌, ◌/◌, ◌%◌, ◌^◌, ◌<◌, ◌≤◌, min, [], ◌∷◌, Bool, true, false, refl, sym, ap, ◌∙◌, inl, inr}
-use Rattle.std.proofs.Math.Nat.{div-div-eq-div-mul, add-mul-div_left, add-div_right, div-lt_iff_lt-mul, div-eq_of_lt, mul_comm}
-use Rattle.std.proofs.lemmas.Nat.{pow_pos, pow-add, one_shl}
-use Rattle.std.proofs.lemmas.Bool.{cases_lt, false≢true}
-use Rattle.std.proofs.lemmas.Bool.Decides.{nat_tests}
-use Rattle.std.specs.Prelude.{if◌then◌else◌}
-use Rattle.c62_op.specs.declared.register.Side.{Side}
-use Rattle.c62_op.specs.declared.register.Side.TheVariants.{A, B}
-use Rattle.c62_op.specs.declared.register.Reg.{Reg}
-use Rattle.c62_op.specs.Register.{register_index}
-use Rattle.c62_op.specs.Takes.{same_reg}
-use Rattle.c62_op.proofs.Registers.{same_reg-is, same_reg-refl}
+use Rattle.std.proofs.Common.{arith, ◌≡◌, ◌≢◌, ℕ, ◌+◌, ◌-◌, ◌*◌, ◌/◌, ◌^◌, ◌<◌}
+use Rattle.std.proofs.Common.{refl, sym, ap, ◌∙◌, inl, inr}
+use Rattle.std.proofs.Math.Nat.{div-div-eq-div-mul, add-mul-div_left, add-div_right}
+use Rattle.std.proofs.lemmas.Nat.{pow_pos, pow-add}
+use Rattle.std.proofs.lemmas.Bool.{cases_lt}
 use Rattle.c62_row.specs.Fields.{count_at}
 
 -- a place further up is so many counts further
@@ -28,13 +21,15 @@ same_more n k low =
 below_stays : (n j d : ℕ) → count_at (n + 2 ^ (4 * (j + 1 + d))) j ≡ count_at n j
 below_stays n j d =
     let m = 2 ^ (4 * d) in
-    let more : (n + 2 ^ (4 * j) * (16 * m)) / 2 ^ (4 * j) ≡ n / 2 ^ (4 * j) + 16 * m = add-mul-div_left n (16 * m) (pow_pos (4 * j)) in
+    let more : (n + 2 ^ (4 * j) * (16 * m)) / 2 ^ (4 * j) ≡ n / 2 ^ (4 * j) + 16 * m = add-mul-div_left n (16 * m)
+    (pow_pos (4 * j)) in
     let whole : (n + 2 ^ (4 * (j + 1 + d))) / 2 ^ (4 * j) ≡ n / 2 ^ (4 * j) + 16 * m = rw (far j d) more in
     omega (arith, whole)
 
 -- what stands above place k
 above : (n k d : ℕ) → n / 2 ^ (4 * (k + 1 + d)) ≡ n / 2 ^ (4 * k) / 16 / 2 ^ (4 * d)
-above n k d = rw (far k d) (sym (div-div-eq-div-mul n (2 ^ (4 * k)) (16 * 2 ^ (4 * d))) ∙ sym (div-div-eq-div-mul (n / 2 ^ (4 * k)) 16 (2 ^ (4 * d))))
+above n k d = rw (far k d) (sym (div-div-eq-div-mul n (2 ^ (4 * k)) (16 * 2 ^ (4 * d)))
+    ∙ sym (div-div-eq-div-mul (n / 2 ^ (4 * k)) 16 (2 ^ (4 * d))))
 
 above_stays : (n k d : ℕ) → count_at n k < 15 → count_at (n + 2 ^ (4 * k)) (k + 1 + d) ≡ count_at n (k + 1 + d)
 above_stays n k d low =

@@ -1,11 +1,13 @@
 -- Words of sixteen fields of four bits: their sums, differences, and the highest bit of each field.
-use Rattle.std.proofs.Common.{arith, ◌≡◌, ◌≢◌, ℕ, zero, suc, ◌+◌, ◌-◌, ◌*◌, ◌/◌, ◌%◌, ◌^◌, ◌<◌, ◌≤◌, min, max, w64, bit_and, bit_or, Bool, true, false, refl, sym, ap, ◌∙◌, inl, inr, zero-add}
+use Rattle.std.proofs.Common.{arith, ◌≡◌, ◌≢◌, ℕ, zero, suc, ◌+◌, ◌-◌, ◌*◌, ◌/◌, ◌%◌, ◌^◌, ◌<◌, ◌≤◌, min, max, w64}
+use Rattle.std.proofs.Common.{bit_and, bit_or, true, refl, sym, ap, ◌∙◌, inl, inr, zero-add}
 use Rattle.std.specs.Prelude.{◌==◌, ◌↔◌, if◌then◌else◌}
 use Rattle.std.specs.Int.{bit_at, trailing_zeros}
 use Rattle.std.proofs.Math.Nat.{div-div-eq-div-mul}
 use Rattle.std.proofs.Math.Nat.{zero-div}
-use Rattle.std.proofs.lemmas.Nat.{pow-add, pow_pos, and_le_r, and_shr, and_mod, one_shl}
-use Rattle.std.proofs.lemmas.Nat.Bits.{bit_at_and, bit_at_or, bit_at-lt, bit_at-zero, bit_at_above, same_from_bits, bit_at-trailing_zeros, and_pow}
+use Rattle.std.proofs.lemmas.Nat.{pow-add, and_le_r, and_shr, and_mod, one_shl}
+use Rattle.std.proofs.lemmas.Nat.Bits.{bit_at_and, bit_at_or, bit_at-lt, bit_at-zero, bit_at_above, same_from_bits}
+use Rattle.std.proofs.lemmas.Nat.Bits.{bit_at-trailing_zeros, and_pow}
 use Rattle.std.proofs.lemmas.Bool.{cases_eq, cases_lt, agree_below_at}
 use Rattle.std.proofs.lemmas.Bool.Decides.{nat_tests}
 use Rattle.c62_row.specs.Fields.{count_at}
@@ -31,12 +33,14 @@ added a b (suc k) low =
     let whole : above (a + b) k ≡ above a k + above b k = added a b k (λ j lt. low j (omega (arith, lt))) in
     omega (arith, whole, low k (omega arith), next (a + b) k, next a k, next b k)
 
-pub count-sum : (a b k : ℕ) → ((j : ℕ) → j ≤ k → count_at a j + count_at b j < 16) → count_at (a + b) k ≡ count_at a k + count_at b k
+pub count-sum : (a b k : ℕ) → ((j : ℕ) → j ≤ k → count_at a j + count_at b j < 16)
+    → count_at (a + b) k ≡ count_at a k + count_at b k
 count-sum a b k low =
     let whole : above (a + b) k ≡ above a k + above b k = added a b k (λ j lt. low j (omega (arith, lt))) in
     omega (arith, whole, low k (omega arith))
 
-pub sum-fits : (a b : ℕ) → a < 2 ^ 64 → b < 2 ^ 64 → ((j : ℕ) → j < 16 → count_at a j + count_at b j < 16) → a + b < 2 ^ 64
+pub sum-fits : (a b : ℕ) → a < 2 ^ 64 → b < 2 ^ 64 → ((j : ℕ) → j < 16 → count_at a j + count_at b j < 16)
+    → a + b < 2 ^ 64
 sum-fits a b a_fits b_fits low =
     let whole : (a + b) / 2 ^ 64 ≡ a / 2 ^ 64 + b / 2 ^ 64 = added a b 16 low in
     omega (arith, whole, a_fits, b_fits)
@@ -44,7 +48,8 @@ sum-fits a b a_fits b_fits low =
 -- ---- differences
 
 -- what stands above the fields is no more, where no field is more
-no-more : (a b m k : ℕ) → k + m ≡ 16 → b < 2 ^ 64 → ((j : ℕ) → j < 16 → count_at b j ≤ count_at a j) → above b k ≤ above a k
+no-more : (a b m k : ℕ) → k + m ≡ 16 → b < 2 ^ 64 → ((j : ℕ) → j < 16 → count_at b j ≤ count_at a j)
+    → above b k ≤ above a k
 no-more a b zero k top fits less =
     let last : k ≡ 16 = omega (arith, top) in
     let none : above b k ≡ 0 = ap (above b) last ∙ omega (arith, fits) in
@@ -54,16 +59,19 @@ no-more a b (suc m) k top fits less =
     omega (arith, up, next b k, next a k, less k (omega (arith, top)))
 
 pub no-greater : (a b : ℕ) → b < 2 ^ 64 → ((j : ℕ) → j < 16 → count_at b j ≤ count_at a j) → b ≤ a
-no-greater a b fits less = (let le : above b 0 ≤ above a 0 = no-more a b 16 0 (omega arith) fits less in omega (arith, le))
+no-greater a b fits less =
+    (let le : above b 0 ≤ above a 0 = no-more a b 16 0 (omega arith) fits less in omega (arith, le))
 
-taken-off : (a b k : ℕ) → k ≤ 16 → b < 2 ^ 64 → ((j : ℕ) → j < 16 → count_at b j ≤ count_at a j) → above (a - b) k ≡ above a k - above b k
+taken-off : (a b k : ℕ) → k ≤ 16 → b < 2 ^ 64 → ((j : ℕ) → j < 16 → count_at b j ≤ count_at a j)
+    → above (a - b) k ≡ above a k - above b k
 taken-off a b zero low fits less = omega arith
 taken-off a b (suc k) low fits less =
     let whole : above (a - b) k ≡ above a k - above b k = taken-off a b k (omega (arith, low)) fits less in
     let le : above b k ≤ above a k = no-more a b (16 - k) k (omega (arith, low)) fits less in
     omega (arith, whole, le, less k (omega (arith, low)), next (a - b) k, next a k, next b k)
 
-pub count-difference : (a b k : ℕ) → k < 16 → b < 2 ^ 64 → ((j : ℕ) → j < 16 → count_at b j ≤ count_at a j) → count_at (a - b) k ≡ count_at a k - count_at b k
+pub count-difference : (a b k : ℕ) → k < 16 → b < 2 ^ 64 → ((j : ℕ) → j < 16 → count_at b j ≤ count_at a j)
+    → count_at (a - b) k ≡ count_at a k - count_at b k
 count-difference a b k low fits less =
     let whole : above (a - b) k ≡ above a k - above b k = taken-off a b k (omega (arith, low)) fits less in
     let le : above b k ≤ above a k = no-more a b (16 - k) k (omega (arith, low)) fits less in
@@ -78,7 +86,8 @@ guards = 0x8888_8888_8888_8888
 high-bit : (n k : ℕ) → bit_at n (4 * k + 3) ≡ count_at n k / 8
 high-bit n k =
     let power : 2 ^ (4 * k + 3) ≡ 2 ^ (4 * k) * 8 = pow-add 2 (4 * k) 3 in
-    let part : n / 2 ^ (4 * k + 3) ≡ above n k / 8 = ap (λ (d : ℕ). n / d) power ∙ sym (div-div-eq-div-mul n (2 ^ (4 * k)) 8) in
+    let part : n / 2 ^ (4 * k + 3) ≡ above n k / 8 = ap (λ (d : ℕ). n / d) power
+    ∙ sym (div-div-eq-div-mul n (2 ^ (4 * k)) 8) in
     omega (arith, part)
 
 -- the bits of the guards, all 64 of them
@@ -96,7 +105,8 @@ guard-past i past = bit_at_above guards 64 i (omega arith) past
 
 pub all-clear : (n : ℕ) → bit_and n guards ≡ 0 → (k : ℕ) → k < 16 → count_at n k < 8
 all-clear n none k low =
-    let is : bit_at (bit_and n guards) (4 * k + 3) ≡ 0 = ap (λ (x : ℕ). bit_at x (4 * k + 3)) none ∙ bit_at-zero (4 * k + 3) in
+    let is : bit_at (bit_and n guards) (4 * k + 3) ≡ 0 = ap (λ (x : ℕ). bit_at x (4 * k + 3)) none
+    ∙ bit_at-zero (4 * k + 3) in
     omega (arith, is, bit_at_and n guards (4 * k + 3), guard-high k low, high-bit n k)
 
 pub clear-all : (n : ℕ) → ((k : ℕ) → k < 16 → count_at n k < 8) → bit_and n guards ≡ 0
@@ -116,8 +126,12 @@ clear-all n few = same_from_bits (bit_and n guards) 0 (λ i. both i ∙ sym (bit
 
 or-clear : (a b : ℕ) → IsClear (bit_or a b) ↔ (IsClear a × IsClear b)
 or-clear a b = (
-  (λ clear. ((λ j low. omega (arith, clear j low, joined j, high-bit a j, high-bit (bit_or a b) j)), (λ j low. omega (arith, clear j low, joined j, high-bit b j, high-bit (bit_or a b) j)))),
-  (λ clear j low. omega (arith, clear.0 j low, clear.1 j low, joined j, high-bit a j, high-bit b j, high-bit (bit_or a b) j)),
+  (λ clear. (
+    (λ j low. omega (arith, clear j low, joined j, high-bit a j, high-bit (bit_or a b) j)),
+    (λ j low. omega (arith, clear j low, joined j, high-bit b j, high-bit (bit_or a b) j)),
+  )),
+  (λ clear j low. omega
+      (arith, clear.0 j low, clear.1 j low, joined j, high-bit a j, high-bit b j, high-bit (bit_or a b) j)),
 )
   where
     joined : (j : ℕ) → bit_at (bit_or a b) (4 * j + 3) ≡ max (bit_at a (4 * j + 3)) (bit_at b (4 * j + 3))
@@ -125,8 +139,10 @@ or-clear a b = (
 
 pub three-clear : (a b c : ℕ) → (bit_and (bit_or (bit_or a b) c) guards ≡ 0) ↔ (IsClear a × IsClear b × IsClear c)
 three-clear a b c = (
-  (λ none. (let both = (or-clear (bit_or a b) c).0 (all-clear (bit_or (bit_or a b) c) none) in let two = (or-clear a b).0 both.0 in (two.0, two.1, both.1))),
-  (λ clear. clear-all (bit_or (bit_or a b) c) ((or-clear (bit_or a b) c).1 ((or-clear a b).1 (clear.0, clear.1), clear.2))),
+  (λ none. (let both = (or-clear (bit_or a b) c).0 (all-clear (bit_or (bit_or a b) c) none) in let two =
+      (or-clear a b).0 both.0 in (two.0, two.1, both.1))),
+  (λ clear. clear-all (bit_or (bit_or a b) c)
+      ((or-clear (bit_or a b) c).1 ((or-clear a b).1 (clear.0, clear.1), clear.2))),
 )
 
 -- the lowest of them that is set tells the first such field
@@ -136,7 +152,14 @@ first-high n some = record {
   high = omega (arith, set, high-bit n place, bit_at-lt n (4 * place + 3));
   first = λ j lt.
       let clear : bit_at (bit_and n guards) (4 * j + 3) ≡ 0 = lowest.2 (4 * j + 3) (omega (arith, lt, at)) in
-      omega (arith, clear, bit_at_and n guards (4 * j + 3), guard-high j (omega (arith, lt, at, lowest.0)), high-bit n j);
+      omega (
+        arith,
+        clear,
+        bit_at_and n guards (4 * j + 3),
+        guard-high j (omega (arith, lt, at, lowest.0)),
+        high-bit n
+            j,
+      );
 }
   where
     bit : ℕ
@@ -169,12 +192,14 @@ one-in : (k j : ℕ) → count_at (2 ^ (4 * k)) j ≡ (if k == j then 1 else 0)
 one-in k j = elim (cases_eq j k) [
   | inl same ↦
       let here : count_at (0 + 2 ^ (4 * k)) k ≡ count_at 0 k + 1 = same_more 0 k (omega (arith, none-in k)) in
-      let bare : count_at (0 + 2 ^ (4 * k)) k ≡ count_at (2 ^ (4 * k)) k = ap (λ (n : ℕ). count_at n k) (zero-add (2 ^ (4 * k))) in
+      let bare : count_at (0 + 2 ^ (4 * k)) k ≡ count_at (2 ^ (4 * k)) k = ap (λ (n : ℕ). count_at n k)
+      (zero-add (2 ^ (4 * k))) in
       let whole : count_at (2 ^ (4 * k)) k ≡ 1 = omega (arith, here, bare, none-in k) in
       rw same (grind (arith, nat_tests))
   | inr apart ↦
       let there : count_at (0 + 2 ^ (4 * k)) j ≡ count_at 0 j = other_stays 0 k j (omega (arith, none-in k)) apart in
-      let bare : count_at (0 + 2 ^ (4 * k)) j ≡ count_at (2 ^ (4 * k)) j = ap (λ (n : ℕ). count_at n j) (zero-add (2 ^ (4 * k))) in
+      let bare : count_at (0 + 2 ^ (4 * k)) j ≡ count_at (2 ^ (4 * k)) j = ap (λ (n : ℕ). count_at n j)
+      (zero-add (2 ^ (4 * k))) in
       let whole : count_at (2 ^ (4 * k)) j ≡ 0 = omega (arith, there, bare, none-in j) in
       grind (arith, nat_tests)
 ]
@@ -192,17 +217,21 @@ field-and : (a b j : ℕ) → count_at (bit_and a b) j ≡ bit_and (count_at a j
 field-and a b j = ap (λ (n : ℕ). n % 16) (and_shr a b (4 * j)) ∙ and_mod (above a j) (above b j) 4
 
 guard-field : (j : ℕ) → j < 16 → count_at guards j ≡ 8
-guard-field j low = (let is = agree_below_at (λ k. count_at guards k == 8) (λ k. true) 16 j refl low in grind (arith, nat_tests))
+guard-field j low = (let is = agree_below_at (λ k. count_at guards k == 8) (λ k. true) 16 j refl low in grind
+    (arith, nat_tests))
 
 full-field : (j : ℕ) → j < 16 → count_at 0xffff_ffff_ffff_ffff j ≡ 15
-full-field j low = (let is = agree_below_at (λ k. count_at 0xffff_ffff_ffff_ffff k == 15) (λ k. true) 16 j refl low in grind (arith, nat_tests))
+full-field j low = (let is = agree_below_at (λ k. count_at 0xffff_ffff_ffff_ffff k == 15) (λ k. true) 16 j refl low in
+    grind (arith, nat_tests))
 
 masked : (x : ℕ) → x < 16 → bit_and x (15 - 7 * (x / 8)) ≡ min 8 x
-masked x low = (let is = agree_below_at (λ k. bit_and k (15 - 7 * (k / 8)) == min 8 k) (λ k. true) 16 x refl low in grind (arith, nat_tests))
+masked x low = (let is = agree_below_at (λ k. bit_and k (15 - 7 * (k / 8)) == min 8 k) (λ k. true) 16 x refl low in
+    grind (arith, nat_tests))
 
 high-field : (n j : ℕ) → j < 16 → count_at (bit_and n guards) j ≡ 8 * (count_at n j / 8)
 high-field n j low =
-    let at : count_at (bit_and n guards) j ≡ bit_and (count_at n j) 8 = field-and n guards j ∙ ap (bit_and (count_at n j)) (guard-field j low) in
+    let at : count_at (bit_and n guards) j ≡ bit_and (count_at n j) 8 = field-and n guards j
+    ∙ ap (bit_and (count_at n j)) (guard-field j low) in
     omega (arith, at, and_pow (count_at n j) 3)
 
 module _ (n : ℕ) where
@@ -225,7 +254,8 @@ module _ (n : ℕ) where
   shifted-field : (j : ℕ) → j < 16 → count_at (high / 8) j ≡ count_at n j / 8
   shifted-field j low =
       let turned : high / 8 / 2 ^ (4 * j) ≡ above high j / 8 =
-      div-div-eq-div-mul high 8 (2 ^ (4 * j)) ∙ ap (λ (d : ℕ). high / d) (omega arith) ∙ sym (div-div-eq-div-mul high (2 ^ (4 * j)) 8) in
+      div-div-eq-div-mul high 8 (2 ^ (4 * j)) ∙ ap (λ (d : ℕ). high / d) (omega arith)
+      ∙ sym (div-div-eq-div-mul high (2 ^ (4 * j)) 8) in
       omega (arith, turned, high-field n j low, up-even j low, next high j)
 
   abbrev mask : ℕ
@@ -233,14 +263,19 @@ module _ (n : ℕ) where
 
   mask-field : (j : ℕ) → j < 16 → count_at mask j ≡ 7 * (count_at n j / 8)
   mask-field j low =
-      let is : count_at mask j ≡ count_at high j - count_at (high / 8) j = count-difference high (high / 8) j low (omega (arith, high-fits)) (λ k few. omega (arith, high-field n k few, shifted-field k few)) in
+      let is : count_at mask j ≡ count_at high j - count_at (high / 8) j = count-difference high (high / 8) j low
+      (omega (arith, high-fits)) (λ k few. omega (arith, high-field n k few, shifted-field k few)) in
       omega (arith, is, high-field n j low, shifted-field j low)
 
   rest-field : (j : ℕ) → j < 16 → count_at (0xffff_ffff_ffff_ffff - mask) j ≡ 15 - 7 * (count_at n j / 8)
   rest-field j low =
       let is : count_at (0xffff_ffff_ffff_ffff - mask) j ≡ count_at 0xffff_ffff_ffff_ffff j - count_at mask j =
-      count-difference 0xffff_ffff_ffff_ffff mask j low (omega (arith, high-fits)) (λ k few. omega (arith, full-field k few, mask-field k few)) in
+      count-difference 0xffff_ffff_ffff_ffff mask j low (omega (arith, high-fits))
+      (λ k few. omega (arith, full-field k few, mask-field k few)) in
       omega (arith, is, full-field j low, mask-field j low)
 
-  pub capped-field : (j : ℕ) → j < 16 → count_at (bit_and n (0xffff_ffff_ffff_ffff - (bit_and n guards - bit_and n guards / 8))) j ≡ min 8 (count_at n j)
-  capped-field j low = field-and n (0xffff_ffff_ffff_ffff - mask) j ∙ ap (bit_and (count_at n j)) (rest-field j low) ∙ masked (count_at n j) (omega arith)
+  pub capped-field : (j : ℕ) → j < 16
+      → count_at (bit_and n (0xffff_ffff_ffff_ffff - (bit_and n guards - bit_and n guards / 8))) j ≡ min 8
+      (count_at n j)
+  capped-field j low = field-and n (0xffff_ffff_ffff_ffff - mask) j ∙ ap (bit_and (count_at n j)) (rest-field j low)
+      ∙ masked (count_at n j) (omega arith)

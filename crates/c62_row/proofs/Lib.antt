@@ -1,4 +1,5 @@
 mod Digits
 mod Fields
 mod Words
+pub mod Taken
 pub mod Deciding

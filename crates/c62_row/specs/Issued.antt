@@ -7,7 +7,7 @@ use Rattle.c62_rules.specs.Capacity.{AreEnough, IsFirstBroken}
 use Rattle.c62_row.specs.declared.row.Uses.{Uses}
 use Rattle.c62_row.specs.declared.row.Row.{Row}
 use Rattle.c62_row.specs.Fields.{EachPlace, times_at}
-use Rattle.c62_row.specs.Row.{row_at, start_at, AreUses, Fits, Tells, IsUnused, IsWith, IsWithout, IsWithin}
+use Rattle.c62_row.specs.Row.{row_at, start_at, AreUses, Tells, IsUnused, IsWith, IsWithout, IsWithin}
 
 -- number i can be issued: it is one of these, and not issued
 abbrev pub IsFree : Issues → ℕ → Type 0

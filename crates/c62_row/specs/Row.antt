@@ -1,10 +1,9 @@
 -- How much is taken of each resource: a field of four bits for each place of a resource, sixteen fields in a word.
-use Rattle.std.specs.Prelude.{◌≡◌, ℕ, ◌+◌, ◌-◌, ◌/◌, ◌%◌, ◌<◌, ◌≤◌, ◌==◌, min, if◌then◌else◌, List, slice_index, Option, MatchOption, count_by}
+use Rattle.std.specs.Prelude.{◌≡◌, ℕ, ◌+◌, ◌-◌, ◌<◌, ◌≤◌, min, Option, MatchOption}
 use Rattle.c62_op.specs.declared.register.Unit.{Unit as FunctionalUnit}
 use Rattle.c62_insn.specs.declared.insn.Insn.{Insn}
 use Rattle.c62_rules.specs.declared.resource.CycleRule.{CycleRule}
-use Rattle.c62_rules.specs.declared.resource.Resource.{Resource}
-use Rattle.c62_rules.specs.Resource.{place_of, rule_at, capacity_at, taken_by}
+use Rattle.c62_rules.specs.Resource.{rule_at, capacity_at, taken_by}
 use Rattle.c62_row.specs.declared.row.Uses.{Uses}
 use Rattle.c62_row.specs.declared.row.Row.{Row}
 use Rattle.c62_row.specs.Fields.{field_at, EachPlace, times_at}

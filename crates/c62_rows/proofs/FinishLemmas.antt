@@ -15,8 +15,10 @@ use Rattle.c62_rows.specs.Told.{names_of, LosesTarget, BeginsAs, ReadsAs}
 use Rattle.c62_rows.specs.Sound.{IsSound}
 use Rattle.c62_rows.proofs.SoundLemmas.{rows_are}
 use Rattle.c62_rows.proofs.Worded.{rows_worded, same_count}
+use Rattle.c62_adopt_cut.specs.declared.text.TheConstants.{MOST_BYTES}
 
-pub finished_as : (text : List ℕ) (old new : Reading) (read : RowsText) → IsReading text old → IsSound old → length (all_rows old) ≤ 8388608
+pub finished_as : (text : List ℕ) (old new : Reading) (read : RowsText) → IsReading text old → IsSound old
+    → length (all_rows old) ≤ MOST_BYTES
     → new ≡ closed old → Collects new read → ReadsAs text read
 finished_as text old new read reads sound few is collects =
     record {
@@ -28,14 +30,21 @@ finished_as text old new read reads sound few is collects =
         named = there.names;
       };
       rows = record {
-        each = rows_worded old.words old.labels (all_rows old) (map row_read read.rows.rows.items) there.rows (rows_are old sound);
+        each = rows_worded old.words old.labels (all_rows old) (map row_read read.rows.rows.items) there.rows
+            (rows_are old sound);
         few = omega (
           arith,
           few,
           same_count old.words old.labels (all_rows old) (map row_read read.rows.rows.items) there.rows,
           length-map read.rows.rows.items row_read,
         );
-        aims = omega (arith, sound.targets, ap length there.aims_are, length-map old.targets (λ target. unwrap_or (row_named target.0 old.labels) 0));
+        aims = omega (
+          arith,
+          sound.targets,
+          ap length there.aims_are,
+          length-map old.targets
+              (λ target. unwrap_or (row_named target.0 old.labels) 0),
+        );
       };
     }
   where
@@ -43,16 +52,23 @@ finished_as text old new read reads sound few is collects =
     there = subst (λ (r : Reading). Collects r read) is collects
 
 -- where a label isn't found, that is the fault
-pub loses : (text : List ℕ) (old new : Reading) (fault : RowsFault) → IsReading text old → new ≡ closed old → LosesTarget new.targets new.labels fault
+pub loses : (text : List ℕ) (old new : Reading) (fault : RowsFault) → IsReading text old → new ≡ closed old
+    → LosesTarget new.targets new.labels fault
     → Refuses text fault
 loses text old new (At line cause) reads is lost =
-    inr (inr (record { reading = old; reads = reads; lost = subst (λ (r : Reading). LosesTarget r.targets r.labels (At line cause)) is lost }))
+    inr (inr (record {
+      reading = old;
+      reads = reads;
+      lost = subst
+          (λ (r : Reading). LosesTarget r.targets r.labels (At line cause)) is lost;
+    }))
 loses text old new From reads is lost = absurd lost
 loses text old new Memory reads is lost = tt
 
 -- ---- where a run begins
 
-pub begins_as : (text : List ℕ) (from : Option Name) (read : RowsText) (row : Option ℕ) (first : ℕ) → ReadsAs text read → row ≡ first_row from (names_of read)
+pub begins_as : (text : List ℕ) (from : Option Name) (read : RowsText) (row : Option ℕ) (first : ℕ) → ReadsAs text read
+    → row ≡ first_row from (names_of read)
     → row ≡ Some first → BeginsAs text from (record { rows = read.rows; first = first; labels = read.labels })
 begins_as text from read row first reads is some = record {
   is_text = record { labels = names_of read; is_text = reads.is_text; begins = sym is ∙ some };
@@ -60,12 +76,14 @@ begins_as text from read row first reads is some = record {
   rows = reads.rows;
 }
 
-pub lacks_start : (text : List ℕ) (from : Option Name) (read : RowsText) (row : Option ℕ) → ReadsAs text read → row ≡ first_row from (names_of read)
+pub lacks_start : (text : List ℕ) (from : Option Name) (read : RowsText) (row : Option ℕ) → ReadsAs text read
+    → row ≡ first_row from (names_of read)
     → row ≡ None → LacksStart text from
 lacks_start text from read row reads is none =
     record { flying = text_of read.rows; labels = names_of read; is_text = reads.is_text; lacks = sym is ∙ none }
 
-pub refuses_first : (text : List ℕ) (from : Option Name) (fault : RowsFault) → Refuses text fault → RefusesFrom text from fault
+pub refuses_first : (text : List ℕ) (from : Option Name) (fault : RowsFault) → Refuses text fault
+    → RefusesFrom text from fault
 refuses_first text from (At line cause) is = is
 refuses_first text from From is = absurd is
 refuses_first text from Memory is = tt

@@ -7,7 +7,8 @@ use Rattle.c62_op.specs.declared.register.Unit.{Unit as FunctionalUnit}
 use Rattle.c62_op.specs.declared.operands.Op.{Op}
 use Rattle.c62_op.specs.declared.operands.Op.TheVariants.{Mvk, Mvklh}
 use Rattle.c62_op.specs.declared.operands.Operands.{Operands}
-use Rattle.c62_op.specs.declared.operands.Operands.TheVariants.{Three, ConstantFirst, ConstantSecond, Two, Field, Constant, Access, Block, Register}
+use Rattle.c62_op.specs.declared.operands.Operands.TheVariants.{Three, ConstantFirst, ConstantSecond, Two, Field}
+use Rattle.c62_op.specs.declared.operands.Operands.TheVariants.{Constant, Access, Block, Register}
 use Rattle.c62_op.specs.Shape.{reads_of, crosses_to, data_path_of}
 use Rattle.c62_insn.specs.declared.insn.Insn.{Insn}
 use Rattle.c62_insn.specs.Insn.{op_of, operands_of, cond_of, unit_of}
@@ -16,7 +17,8 @@ use Rattle.c62_rules.specs.declared.resource.Resource.TheVariants.{OnUnit, Reads
 use Rattle.c62_rules.specs.Resource.{taken_by, paths_taken, cross_path_taken, data_path_taken}
 use Rattle.c62_rows.specs.Word.{half_of, half_operands}
 
-formed : (op : Op) (word k : ℤ) (d : Reg) (cond : Option Condition) (unit : Option FunctionalUnit) → form_fault op (Constant k d) cond unit ≡ None
+formed : (op : Op) (word k : ℤ) (d : Reg) (cond : Option Condition) (unit : Option FunctionalUnit)
+    → form_fault op (Constant k d) cond unit ≡ None
     → form_fault op (Constant (half_of op word k) d) cond unit ≡ None
 formed Mvk word k d cond unit is = grind (arith, nat_tests, is)
 formed Mvklh word k d cond unit is = grind (arith, nat_tests, is)
@@ -26,11 +28,13 @@ pub half_formed : (insn : Insn) (k word : ℤ) (d : Reg) → operands_of insn �
     → form_fault (op_of insn) (Constant (half_of (op_of insn) word k) d) (cond_of insn) (unit_of insn) ≡ None
 half_formed insn k word d is =
     formed (op_of insn) word k d (cond_of insn) (unit_of insn)
-    (subst (λ (operands : Operands). form_fault (op_of insn) operands (cond_of insn) (unit_of insn) ≡ None) is insn.well_formed)
+    (subst (λ (operands : Operands). form_fault (op_of insn) operands (cond_of insn) (unit_of insn) ≡ None) is
+    insn.well_formed)
 
 -- ---- such a constant takes nothing of a cycle
 
-same_reads : (op : Op) (word : ℤ) (operands : Operands) → reads_of op (half_operands op word operands) ≡ reads_of op operands
+same_reads : (op : Op) (word : ℤ) (operands : Operands)
+    → reads_of op (half_operands op word operands) ≡ reads_of op operands
 same_reads op word (Three a b d) = refl
 same_reads op word (ConstantFirst k a d) = refl
 same_reads op word (ConstantSecond a k d) = refl
@@ -41,7 +45,8 @@ same_reads op word (Access register base form offset) = refl
 same_reads op word (Block number) = refl
 same_reads op word (Register target) = refl
 
-same_crossing : (op : Op) (word : ℤ) (unit : FunctionalUnit) (operands : Operands) → crosses_to unit.side (half_operands op word operands) ≡ crosses_to unit.side operands
+same_crossing : (op : Op) (word : ℤ) (unit : FunctionalUnit) (operands : Operands)
+    → crosses_to unit.side (half_operands op word operands) ≡ crosses_to unit.side operands
 same_crossing op word unit (Three a b d) = refl
 same_crossing op word unit (ConstantFirst k a d) = refl
 same_crossing op word unit (ConstantSecond a k d) = refl
@@ -52,7 +57,8 @@ same_crossing op word unit (Access register base form offset) = refl
 same_crossing op word unit (Block number) = refl
 same_crossing op word unit (Register target) = refl
 
-same_path : (op : Op) (word : ℤ) (operands : Operands) → data_path_of (half_operands op word operands) ≡ data_path_of operands
+same_path : (op : Op) (word : ℤ) (operands : Operands)
+    → data_path_of (half_operands op word operands) ≡ data_path_of operands
 same_path op word (Three a b d) = refl
 same_path op word (ConstantFirst k a d) = refl
 same_path op word (ConstantSecond a k d) = refl

@@ -3,6 +3,7 @@ mod Tables
 mod Halves
 mod Worded
 pub mod SoundLemmas
+pub mod SmallLemmas
 mod ReadLemmas
 mod FinishLemmas
 mod AddLemmas

@@ -16,34 +16,45 @@ use Rattle.c62_rows.proofs.OneLine.{same_insn, one_line, line_not_refused, one_l
 
 -- ---- all lines
 
-one_reading : (number : ℕ) (old : Reading) (lines : List (List ℕ)) (new other : Reading) → LeadsTo number old lines new → LeadsTo number old lines other
+one_reading : (number : ℕ) (old : Reading) (lines : List (List ℕ)) (new other : Reading) → LeadsTo number old lines new
+    → LeadsTo number old lines other
     → new ≡ other
 one_reading number old [] new other a b = a ∙ sym b
 one_reading number old (bytes ∷ lines) new other (next, adds, a) (then, adds_too, b) =
     let same : then ≡ next = one_line number bytes old then next adds_too adds in
     one_reading (number + 1) next lines new other a (subst (λ (r : Reading). LeadsTo (number + 1) r lines other) same b)
 
-read_not_refused : (number : ℕ) (old : Reading) (lines : List (List ℕ)) (new : Reading) (line : ℕ) (cause : RowsCause) → LeadsTo number old lines new
+read_not_refused : (number : ℕ) (old : Reading) (lines : List (List ℕ)) (new : Reading) (line : ℕ) (cause : RowsCause)
+    → LeadsTo number old lines new
     → RefusesAmong number old lines line cause → ⊥
 read_not_refused number old [] new line cause leads refused = refused
 read_not_refused number old (bytes ∷ lines) new line cause (next, adds, leads) (inl refused) =
     line_not_refused number bytes old next cause adds refused.1
 read_not_refused number old (bytes ∷ lines) new line cause (next, adds, leads) (inr (then, adds_too, refused)) =
     let same : then ≡ next = one_line number bytes old then next adds_too adds in
-    read_not_refused (number + 1) next lines new line cause leads (subst (λ (r : Reading). RefusesAmong (number + 1) r lines line cause) same refused)
+    read_not_refused (number + 1) next lines new line cause leads
+    (subst (λ (r : Reading). RefusesAmong (number + 1) r lines line cause) same refused)
 
 abbrev AreSame : ℕ → RowsCause → ℕ → RowsCause → Type 0
 AreSame line cause other then = (line ≡ other) × (cause ≡ then)
 
-one_among : (number : ℕ) (old : Reading) (lines : List (List ℕ)) (line other : ℕ) (cause then : RowsCause) → RefusesAmong number old lines line cause
+one_among : (number : ℕ) (old : Reading) (lines : List (List ℕ)) (line other : ℕ) (cause then : RowsCause)
+    → RefusesAmong number old lines line cause
     → RefusesAmong number old lines other then → AreSame line cause other then
 one_among number old [] line other cause then a b = absurd a
-one_among number old (bytes ∷ lines) line other cause then (inl a) (inl b) = (a.0 ∙ sym b.0, one_line_refusal number bytes old cause then a.1 b.1)
-one_among number old (bytes ∷ lines) line other cause then (inl a) (inr (next, adds, b)) = absurd (line_not_refused number bytes old next cause adds a.1)
-one_among number old (bytes ∷ lines) line other cause then (inr (next, adds, a)) (inl b) = absurd (line_not_refused number bytes old next then adds b.1)
+one_among number old (bytes ∷ lines) line other cause then (inl a) (inl b) = (
+  a.0
+      ∙ sym b.0,
+  one_line_refusal number bytes old cause then a.1 b.1,
+)
+one_among number old (bytes ∷ lines) line other cause then (inl a) (inr (next, adds, b)) = absurd
+    (line_not_refused number bytes old next cause adds a.1)
+one_among number old (bytes ∷ lines) line other cause then (inr (next, adds, a)) (inl b) = absurd
+    (line_not_refused number bytes old next then adds b.1)
 one_among number old (bytes ∷ lines) line other cause then (inr (next, adds, a)) (inr (after, adds_too, b)) =
     let same : after ≡ next = one_line number bytes old after next adds_too adds in
-    one_among (number + 1) next lines line other cause then a (subst (λ (r : Reading). RefusesAmong (number + 1) r lines other then) same b)
+    one_among (number + 1) next lines line other cause then a
+    (subst (λ (r : Reading). RefusesAmong (number + 1) r lines other then) same b)
 
 -- ---- rows with words
 
@@ -53,9 +64,11 @@ module _ (words : List (ℕ × Name)) (labels : List (Name × ℕ)) where
       let insn : one.insn ≡ other.insn = same_insn one.insn other.insn (a.parts ∙ sym b.parts) in
       grind (arith, insn, a.line, b.line, a.cycle, b.cycle, a.unit, b.unit)
 
-  one_insns : (placed one other : List Placed) → AreInsnsWorded words labels placed one → AreInsnsWorded words labels placed other → one ≡ other
+  one_insns : (placed one other : List Placed) → AreInsnsWorded words labels placed one
+      → AreInsnsWorded words labels placed other → one ≡ other
   one_insns [] [] [] a b = refl
-  one_insns (p ∷ placed) (q ∷ one) (r ∷ other) a b = rw (one_worded p q r a.0 b.0, one_insns placed one other a.1 b.1) refl
+  one_insns (p ∷ placed) (q ∷ one) (r ∷ other) a b = rw (one_worded p q r a.0 b.0, one_insns placed one other a.1 b.1)
+      refl
   one_insns [] (q ∷ one) other a b = absurd a
   one_insns [] [] (r ∷ other) a b = absurd b
   one_insns (p ∷ placed) [] other a b = absurd a
@@ -66,7 +79,8 @@ module _ (words : List (ℕ × Name)) (labels : List (Name × ℕ)) where
       let insns : one.insns ≡ other.insns = one_insns row.insns one.insns other.insns a.insns b.insns in
       grind (arith, insns, a.idle, b.idle)
 
-  one_rows : (rows one other : List Row) → AreWorded words labels rows one → AreWorded words labels rows other → one ≡ other
+  one_rows : (rows one other : List Row) → AreWorded words labels rows one → AreWorded words labels rows other
+      → one ≡ other
   one_rows [] [] [] a b = refl
   one_rows (p ∷ rows) (q ∷ one) (r ∷ other) a b = rw (one_row p q r a.0 b.0, one_rows rows one other a.1 b.1) refl
   one_rows [] (q ∷ one) other a b = absurd a
@@ -76,7 +90,8 @@ module _ (words : List (ℕ × Name)) (labels : List (Name × ℕ)) where
 
 one_flight : (reading : Reading) (flying other : Text) → FliesOf reading flying → FliesOf reading other → flying ≡ other
 one_flight reading flying other a b =
-    let rows : flying.rows ≡ other.rows = one_rows reading.words reading.labels (all_rows reading) flying.rows other.rows a.rows b.rows in
+    let rows : flying.rows ≡ other.rows = one_rows reading.words reading.labels (all_rows reading) flying.rows
+    other.rows a.rows b.rows in
     let aims : flying.aims ≡ other.aims = a.aims ∙ sym b.aims in
     grind (arith, rows, aims)
 
@@ -98,42 +113,50 @@ one_start text from flying other first next a b =
     let row : first_row from a.labels ≡ first_row from b.labels = ap (first_row from) same.1 in
     (same.0, grind (arith, a.begins, b.begins, row))
 
-not_refused : (text : List ℕ) (flying : Text) (labels : List (Name × ℕ)) (line : ℕ) (cause : RowsCause) → IsText text flying labels
+not_refused : (text : List ℕ) (flying : Text) (labels : List (Name × ℕ)) (line : ℕ) (cause : RowsCause)
+    → IsText text flying labels
     → Refuses text (At line cause) → ⊥
 not_refused text flying labels line cause is (inl long) = absurd (omega (arith, is.reads.short, long.long))
 not_refused text flying labels line cause is (inr (inl first)) =
     read_not_refused 1 no_reading (lines_of text) is.reading line cause is.reads.leads first.among
 not_refused text flying labels line cause is (inr (inr lost)) =
     let same : lost.reading ≡ is.reading = same_reading text is.reading lost.reading is.reads lost.reads in
-    let found : lost_among lost.reading.targets lost.reading.labels ≡ None = ap (λ (r : Reading). lost_among r.targets r.labels) same ∙ is.found in
+    let found : lost_among lost.reading.targets lost.reading.labels ≡ None = ap
+    (λ (r : Reading). lost_among r.targets r.labels) same ∙ is.found in
     absurd (grind (arith, found, lost.lost.lost))
 
-one_lost : (targets labels : List (Name × ℕ)) (line other : ℕ) (cause then : RowsCause) → IsLost targets labels line cause → IsLost targets labels other then
+one_lost : (targets labels : List (Name × ℕ)) (line other : ℕ) (cause then : RowsCause)
+    → IsLost targets labels line cause → IsLost targets labels other then
     → AreSame line cause other then
 one_lost targets labels line other cause then a b =
     let line_is : line ≡ other = grind (arith, a.lost, b.lost) in
     (line_is, a.told ∙ sym b.told)
 
-one_fault : (text : List ℕ) (line other : ℕ) (cause then : RowsCause) → Refuses text (At line cause) → Refuses text (At other then)
+one_fault : (text : List ℕ) (line other : ℕ) (cause then : RowsCause) → Refuses text (At line cause)
+    → Refuses text (At other then)
     → AreSame line cause other then
 one_fault text line other cause then (inl a) (inl b) = (a.none ∙ sym b.none, a.told ∙ sym b.told)
 one_fault text line other cause then (inl a) (inr (inl b)) = absurd (omega (arith, a.long, b.short))
 one_fault text line other cause then (inl a) (inr (inr b)) = absurd (omega (arith, a.long, b.reads.short))
 one_fault text line other cause then (inr (inl a)) (inl b) = absurd (omega (arith, b.long, a.short))
 one_fault text line other cause then (inr (inr a)) (inl b) = absurd (omega (arith, b.long, a.reads.short))
-one_fault text line other cause then (inr (inl a)) (inr (inl b)) = one_among 1 no_reading (lines_of text) line other cause then a.among b.among
+one_fault text line other cause then (inr (inl a)) (inr (inl b)) = one_among 1 no_reading (lines_of text) line other
+    cause then a.among b.among
 one_fault text line other cause then (inr (inl a)) (inr (inr b)) =
     absurd (read_not_refused 1 no_reading (lines_of text) b.reading line cause b.reads.leads a.among)
 one_fault text line other cause then (inr (inr a)) (inr (inl b)) =
     absurd (read_not_refused 1 no_reading (lines_of text) a.reading other then a.reads.leads b.among)
 one_fault text line other cause then (inr (inr a)) (inr (inr b)) =
     let same : b.reading ≡ a.reading = same_reading text a.reading b.reading a.reads b.reads in
-    one_lost a.reading.targets a.reading.labels line other cause then a.lost (subst (λ (r : Reading). IsLost r.targets r.labels other then) same b.lost)
+    one_lost a.reading.targets a.reading.labels line other cause then a.lost
+    (subst (λ (r : Reading). IsLost r.targets r.labels other then) same b.lost)
 
-starts_not_refused : (text : List ℕ) (from : Option Name) (flying : Text) (first : ℕ) (fault : RowsFault) → IsTextFrom text from flying first
+starts_not_refused : (text : List ℕ) (from : Option Name) (flying : Text) (first : ℕ) (fault : RowsFault)
+    → IsTextFrom text from flying first
     → RefusesFrom text from fault → fault ≡ Memory
 starts_not_refused text from flying first Memory is refused = refl
-starts_not_refused text from flying first (At line cause) is refused = absurd (not_refused text flying is.labels line cause is.is_text refused)
+starts_not_refused text from flying first (At line cause) is refused = absurd
+    (not_refused text flying is.labels line cause is.is_text refused)
 starts_not_refused text from flying first From is refused =
     let same = one_text text flying refused.flying is.labels refused.labels is.is_text refused.is_text in
     let row : first_row from is.labels ≡ first_row from refused.labels = ap (first_row from) same.1 in

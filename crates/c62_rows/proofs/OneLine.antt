@@ -1,5 +1,6 @@
 -- A line is read in one way, or refused in one way.
-use Rattle.std.proofs.Common.{arith, ◌≡◌, ◌⊎◌, inl, inr, ℕ, List, ◌∷◌, Option, Some, None, Ok, Err, refl, sym, ap, ◌∙◌, subst}
+use Rattle.std.proofs.Common.{arith, ◌≡◌, ◌⊎◌, inl, inr, ℕ, List, ◌∷◌, Option, Some, None, Ok, Err, refl, sym, ap, ◌∙◌}
+use Rattle.std.proofs.Common.{subst}
 use Rattle.std.proofs.lemmas.Bool.{cases_lt, false≢true}
 use Rattle.c62_insn.specs.declared.insn.Insn.{Insn}
 use Rattle.c62_insn.proofs.SameLemmas.{same_parts}
@@ -16,7 +17,8 @@ use Rattle.c62_rows.specs.declared.fault.RowsCause.{RowsCause}
 use Rattle.c62_rows.specs.declared.fault.RowsCause.TheVariants.{Line as OfLine, TooManyTargets, Rule, TwoBranches}
 use Rattle.c62_rows.specs.Rows.{with_insn, MayJoin, IsBreach}
 use Rattle.c62_rows.specs.Word.{Said, row_says}
-use Rattle.c62_rows.specs.Reading.{Reading, insns_above, on_current, with_named, with_target, number_of, numbered, hindrance, at_line}
+use Rattle.c62_rows.specs.Reading.{Reading, insns_above, on_current, with_named, with_target, number_of, numbered}
+use Rattle.c62_rows.specs.Reading.{hindrance, at_line}
 use Rattle.c62_rows.specs.Reading.{IsPlaced, AddsInsn, Breaks, AddsSays, SaysBreach, AddsLine, RefusesLine}
 
 -- ---- an instruction
@@ -29,13 +31,16 @@ same_placed entry p q one other =
     let insn : p.insn ≡ q.insn = same_insn p.insn q.insn (one.parts ∙ sym other.parts) in
     grind (arith, insn, one.line, other.line, one.cycle, other.cycle, one.unit, other.unit)
 
-pub one_insn : (entry : Numbered) (old new other : Reading) → AddsInsn entry old new → AddsInsn entry old other → new ≡ other
+pub one_insn : (entry : Numbered) (old new other : Reading) → AddsInsn entry old new → AddsInsn entry old other
+    → new ≡ other
 one_insn entry old new other a b =
-    a.adds ∙ ap (λ (p : Placed). on_current (with_insn p) old) (same_placed entry a.placed b.placed a.is b.is) ∙ sym b.adds
+    a.adds ∙ ap (λ (p : Placed). on_current (with_insn p) old) (same_placed entry a.placed b.placed a.is b.is)
+    ∙ sym b.adds
 
 -- ---- what stands against one
 
-first_rule : (rule next : CycleRule) (issues : Issues) → IsFirstBroken rule 0 issues → IsFirstBroken next 0 issues → rank_of rule ≡ rank_of next
+first_rule : (rule next : CycleRule) (issues : Issues) → IsFirstBroken rule 0 issues → IsFirstBroken next 0 issues
+    → rank_of rule ≡ rank_of next
 first_rule rule next issues one two = elim (cases_lt (rank_of rule) (rank_of next)) [
   | inl lower ↦ absurd (omega (arith, two.first rule lower one.broken.resource one.broken.of_rule, one.broken.over))
   | inr higher ↦ elim (cases_lt (rank_of next) (rank_of rule)) [
@@ -53,8 +58,10 @@ may_not_break above p TwoBranches joins breach = false≢true (sym joins.branche
 may_not_break above p (OfLine fault) joins breach = breach
 may_not_break above p TooManyTargets joins breach = breach
 
-one_breach : (above : List Placed) (p : Placed) (cause other : RowsCause) → IsBreach above p cause → IsBreach above p other → cause ≡ other
-one_breach above p (Rule rule) (Rule next) a b = ap Rule (same-rank rule next (first_rule rule next (issued (p ∷ above)) a b))
+one_breach : (above : List Placed) (p : Placed) (cause other : RowsCause) → IsBreach above p cause
+    → IsBreach above p other → cause ≡ other
+one_breach above p (Rule rule) (Rule next) a b = ap Rule
+    (same-rank rule next (first_rule rule next (issued (p ∷ above)) a b))
 one_breach above p (Rule rule) TwoBranches a b = absurd (broken_not_enough rule (issued (p ∷ above)) a b.0)
 one_breach above p TwoBranches (Rule next) a b = absurd (broken_not_enough next (issued (p ∷ above)) b a.0)
 one_breach above p TwoBranches TwoBranches a b = refl
@@ -65,15 +72,19 @@ one_breach above p (Rule rule) TooManyTargets a b = absurd b
 one_breach above p TwoBranches (OfLine fault) a b = absurd b
 one_breach above p TwoBranches TooManyTargets a b = absurd b
 
-insn_not_broken : (entry : Numbered) (old new : Reading) (cause : RowsCause) → AddsInsn entry old new → Breaks entry old cause → ⊥
+insn_not_broken : (entry : Numbered) (old new : Reading) (cause : RowsCause) → AddsInsn entry old new
+    → Breaks entry old cause → ⊥
 insn_not_broken entry old new cause adds breaks =
     may_not_break (insns_above old) adds.placed cause adds.joins
-    (subst (λ (p : Placed). IsBreach (insns_above old) p cause) (same_placed entry breaks.placed adds.placed breaks.is adds.is) breaks.breach)
+    (subst (λ (p : Placed). IsBreach (insns_above old) p cause)
+    (same_placed entry breaks.placed adds.placed breaks.is adds.is) breaks.breach)
 
-one_break : (entry : Numbered) (old : Reading) (cause other : RowsCause) → Breaks entry old cause → Breaks entry old other → cause ≡ other
+one_break : (entry : Numbered) (old : Reading) (cause other : RowsCause) → Breaks entry old cause
+    → Breaks entry old other → cause ≡ other
 one_break entry old cause other a b =
     one_breach (insns_above old) b.placed cause other
-    (subst (λ (p : Placed). IsBreach (insns_above old) p cause) (same_placed entry a.placed b.placed a.is b.is) a.breach) b.breach
+    (subst (λ (p : Placed). IsBreach (insns_above old) p cause) (same_placed entry a.placed b.placed a.is b.is)
+    a.breach) b.breach
 
 -- ---- what is said
 
@@ -81,24 +92,29 @@ one_says : (number : ℕ) (word : Option Name) (says : Says) (old new other : Re
     → AddsSays number word says old other → new ≡ other
 one_says number word Nothing old new other a b = a ∙ sym b
 one_says number word (Pause n) old new other a b = a ∙ sym b
-one_says number word (Does parts) old new other a b = one_insn (numbered number parts) (with_named word number old) new other a b
+one_says number word (Does parts) old new other a b = one_insn (numbered number parts) (with_named word number old) new
+    other a b
 one_says number word (Jumps parts target) old new other a b =
     one_insn (aimed (number_of target old) (numbered number parts)) (with_target target number old) new other a b
 
-says_not_broken : (number : ℕ) (word : Option Name) (says : Says) (old new : Reading) (cause : RowsCause) → AddsSays number word says old new
+says_not_broken : (number : ℕ) (word : Option Name) (says : Says) (old new : Reading) (cause : RowsCause)
+    → AddsSays number word says old new
     → SaysBreach number word says old cause → ⊥
 says_not_broken number word Nothing old new cause adds breach = breach
 says_not_broken number word (Pause n) old new cause adds breach = breach
 says_not_broken number word (Does parts) old new cause adds breach =
     insn_not_broken (numbered number parts) (with_named word number old) new cause adds breach
 says_not_broken number word (Jumps parts target) old new cause adds breach =
-    insn_not_broken (aimed (number_of target old) (numbered number parts)) (with_target target number old) new cause adds breach
+    insn_not_broken (aimed (number_of target old) (numbered number parts)) (with_target target number old) new cause
+    adds breach
 
-one_says_breach : (number : ℕ) (word : Option Name) (says : Says) (old : Reading) (cause other : RowsCause) → SaysBreach number word says old cause
+one_says_breach : (number : ℕ) (word : Option Name) (says : Says) (old : Reading) (cause other : RowsCause)
+    → SaysBreach number word says old cause
     → SaysBreach number word says old other → cause ≡ other
 one_says_breach number word Nothing old cause other a b = absurd a
 one_says_breach number word (Pause n) old cause other a b = absurd a
-one_says_breach number word (Does parts) old cause other a b = one_break (numbered number parts) (with_named word number old) cause other a b
+one_says_breach number word (Does parts) old cause other a b = one_break (numbered number parts)
+    (with_named word number old) cause other a b
 one_says_breach number word (Jumps parts target) old cause other a b =
     one_break (aimed (number_of target old) (numbered number parts)) (with_target target number old) cause other a b
 
@@ -107,10 +123,12 @@ one_says_breach number word (Jumps parts target) old cause other a b =
 same_said : (bytes : List ℕ) (said other : Said) → row_says bytes ≡ Ok said → row_says bytes ≡ Ok other → said ≡ other
 same_said bytes said other a b = grind (arith, a, b)
 
-not_both : (bytes : List ℕ) (said : Said) (fault : LineFault) → row_says bytes ≡ Ok said → row_says bytes ≡ Err fault → ⊥
+not_both : (bytes : List ℕ) (said : Said) (fault : LineFault) → row_says bytes ≡ Ok said → row_says bytes ≡ Err fault
+    → ⊥
 not_both bytes said fault a b = absurd (grind (arith, a, b))
 
-pub one_line : (number : ℕ) (bytes : List ℕ) (old new other : Reading) → AddsLine number bytes old new → AddsLine number bytes old other → new ≡ other
+pub one_line : (number : ℕ) (bytes : List ℕ) (old new other : Reading) → AddsLine number bytes old new
+    → AddsLine number bytes old other → new ≡ other
 one_line number bytes old new other a b =
     let same : b.said ≡ a.said = same_said bytes b.said a.said b.says a.says in
     let adds : AddsSays number a.said.word a.said.line.says (at_line a.said.line old) other =
@@ -119,7 +137,8 @@ one_line number bytes old new other a b =
 
 abbrev Hinders : ℕ → Said → Reading → RowsCause → Type 0
 Hinders number said old cause =
-    (hindrance said old ≡ Some cause) ⊎ ((hindrance said old ≡ None) × SaysBreach number said.word said.line.says (at_line said.line old) cause)
+    (hindrance said old ≡ Some cause)
+    ⊎ ((hindrance said old ≡ None) × SaysBreach number said.word said.line.says (at_line said.line old) cause)
 
 said_not_hindered : (number : ℕ) (said : Said) (old new : Reading) (cause : RowsCause) → hindrance said old ≡ None
     → AddsSays number said.word said.line.says (at_line said.line old) new → Hinders number said old cause → ⊥
@@ -127,14 +146,18 @@ said_not_hindered number said old new cause free adds (inl hindered) = absurd (g
 said_not_hindered number said old new cause free adds (inr breach) =
     says_not_broken number said.word said.line.says (at_line said.line old) new cause adds breach.1
 
-pub line_not_refused : (number : ℕ) (bytes : List ℕ) (old new : Reading) (cause : RowsCause) → AddsLine number bytes old new
+pub line_not_refused : (number : ℕ) (bytes : List ℕ) (old new : Reading) (cause : RowsCause)
+    → AddsLine number bytes old new
     → RefusesLine number bytes old cause → ⊥
-line_not_refused number bytes old new cause adds (inl faulty) = not_both bytes adds.said faulty.fault adds.says faulty.says
+line_not_refused number bytes old new cause adds (inl faulty) = not_both bytes adds.said faulty.fault adds.says
+    faulty.says
 line_not_refused number bytes old new cause adds (inr hindered) =
     let same : hindered.said ≡ adds.said = same_said bytes hindered.said adds.said hindered.says adds.says in
-    said_not_hindered number adds.said old new cause adds.free adds.adds (subst (λ (s : Said). Hinders number s old cause) same hindered.hindered)
+    said_not_hindered number adds.said old new cause adds.free adds.adds
+    (subst (λ (s : Said). Hinders number s old cause) same hindered.hindered)
 
-one_hindrance : (number : ℕ) (said : Said) (old : Reading) (cause other : RowsCause) → Hinders number said old cause → Hinders number said old other
+one_hindrance : (number : ℕ) (said : Said) (old : Reading) (cause other : RowsCause) → Hinders number said old cause
+    → Hinders number said old other
     → cause ≡ other
 one_hindrance number said old cause other (inl a) (inl b) = grind (arith, a, b)
 one_hindrance number said old cause other (inl a) (inr b) = absurd (grind (arith, a, b.0))
@@ -142,7 +165,8 @@ one_hindrance number said old cause other (inr a) (inl b) = absurd (grind (arith
 one_hindrance number said old cause other (inr a) (inr b) =
     one_says_breach number said.word said.line.says (at_line said.line old) cause other a.1 b.1
 
-pub one_line_refusal : (number : ℕ) (bytes : List ℕ) (old : Reading) (cause other : RowsCause) → RefusesLine number bytes old cause
+pub one_line_refusal : (number : ℕ) (bytes : List ℕ) (old : Reading) (cause other : RowsCause)
+    → RefusesLine number bytes old cause
     → RefusesLine number bytes old other → cause ≡ other
 one_line_refusal number bytes old cause other (inl a) (inl b) =
     let same : a.fault ≡ b.fault = grind (arith, a.says, b.says) in
@@ -151,4 +175,5 @@ one_line_refusal number bytes old cause other (inl a) (inr b) = absurd (not_both
 one_line_refusal number bytes old cause other (inr a) (inl b) = absurd (not_both bytes a.said b.fault a.says b.says)
 one_line_refusal number bytes old cause other (inr a) (inr b) =
     let same : b.said ≡ a.said = same_said bytes b.said a.said b.says a.says in
-    one_hindrance number a.said old cause other a.hindered (subst (λ (s : Said). Hinders number s old other) same b.hindered)
+    one_hindrance number a.said old cause other a.hindered
+    (subst (λ (s : Said). Hinders number s old other) same b.hindered)

@@ -1,5 +1,6 @@
 -- What the instructions of a packet take of their cycle.
-use Rattle.std.proofs.Common.{arith, ◌≡◌, ℕ, zero, suc, ◌+◌, ◌<◌, ◌≤◌, List, [], ◌∷◌, ◌++◌, length, map, Some, true, false, refl, sym, ap, ◌∙◌, subst, inl, inr}
+use Rattle.std.proofs.Common.{arith, ◌≡◌, ℕ, zero, suc, ◌+◌, ◌<◌, ◌≤◌, List, [], ◌∷◌, ◌++◌, length, map, Some, true}
+use Rattle.std.proofs.Common.{false, refl, sym, ap, ◌∙◌, subst, inl, inr}
 use Rattle.std.specs.Prelude.{nat_lt, slice_index, sum_by, All}
 use Rattle.std.proofs.lemmas.Bool.{cases_eq, cases_lt, lt-ltb}
 use Rattle.std.proofs.lemmas.Bool.Decides.{nat_tests}
@@ -24,10 +25,12 @@ use Rattle.c62_packet.specs.declared.placed.Placed.{Placed}
 use Rattle.c62_packet.specs.Packed.{issue_of, issued}
 use Rattle.c62_rows.specs.Rows.{stands_behind}
 
-taken-here : (p : Placed) (place : ℕ) → p.cycle ≡ 0 → taken_at 0 place (Some (issue_of p)) ≡ times_at place (taken_by p.insn p.unit)
+taken-here : (p : Placed) (place : ℕ) → p.cycle ≡ 0
+    → taken_at 0 place (Some (issue_of p)) ≡ times_at place (taken_by p.insn p.unit)
 taken-here p place here = grind (arith, nat_tests)
 
-pub row_of_push : (old new : Taken) (own : Uses) (p : Placed) (insns : List Placed) → p.cycle ≡ 0 → IsRowOf old 0 (issued insns)
+pub row_of_push : (old new : Taken) (own : Uses) (p : Placed) (insns : List Placed) → p.cycle ≡ 0
+    → IsRowOf old 0 (issued insns)
     → AreUses own p.insn p.unit → IsWith old new own → IsRowOf new 0 (issued (insns ++ p ∷ []))
 row_of_push old new own p insns here is are more place low =
     omega (
@@ -71,7 +74,8 @@ few-up-to f (suc n) few =
     let rest = few-up-to f n (λ k low. few k (omega (arith, low))) in
     omega (arith, rest, few n (omega arith))
 
-on-units : (placed : List Placed) → All (λ p. p.cycle ≡ 0) placed → length placed ≤ up-to (λ place. sum_by (taken_at 0 place) (issued placed)) 8
+on-units : (placed : List Placed) → All (λ p. p.cycle ≡ 0) placed
+    → length placed ≤ up-to (λ place. sum_by (taken_at 0 place) (issued placed)) 8
 on-units [] none = omega arith
 on-units (p ∷ placed) here =
     let own : 1 ≤ up-to (λ place. taken_at 0 place (Some (issue_of p))) 8 = omega (
@@ -84,7 +88,8 @@ on-units (p ∷ placed) here =
       arith,
       own,
       on-units placed (All-tail (λ (q : Placed). q.cycle ≡ 0) p placed here),
-      both-up-to (λ place. sum_by (taken_at 0 place) (issued (p ∷ placed))) (λ place. taken_at 0 place (Some (issue_of p)))
+      both-up-to (λ place. sum_by (taken_at 0 place) (issued (p ∷ placed)))
+          (λ place. taken_at 0 place (Some (issue_of p)))
           (λ place. sum_by (taken_at 0 place) (issued placed)) 8
           (λ place. sum_by-cons (taken_at 0 place) (Some (issue_of p)) (issued placed)),
     )
@@ -92,7 +97,8 @@ on-units (p ∷ placed) here =
 one-unit : (place : ℕ) → place < 8 → capacity_at place ≡ 1
 one-unit place low = grind (arith, nat_tests)
 
-pub eight_at_most : (placed : List Placed) → All (λ p. p.cycle ≡ 0) placed → AreEnough 0 (issued placed) → length placed ≤ 8
+pub eight_at_most : (placed : List Placed) → All (λ p. p.cycle ≡ 0) placed → AreEnough 0 (issued placed)
+    → length placed ≤ 8
 eight_at_most placed here enough =
     omega (
       arith,
@@ -108,10 +114,12 @@ abbrev pub NoneOn : ℕ → List Placed → Type 0
 NoneOn place [] = Unit {0}
 NoneOn place (p ∷ placed) = (index_of p.unit ≡ place → ⊥) × NoneOn place placed
 
-none-taken : (place : ℕ) (placed : List Placed) → All (λ p. p.cycle ≡ 0) placed → sum_by (taken_at 0 place) (issued placed) ≡ 0 → NoneOn place placed
+none-taken : (place : ℕ) (placed : List Placed) → All (λ p. p.cycle ≡ 0) placed
+    → sum_by (taken_at 0 place) (issued placed) ≡ 0 → NoneOn place placed
 none-taken place [] here none = tt
 none-taken place (p ∷ placed) here none = (
-  (λ same. (let own : 1 ≤ times_at place (taken_by p.insn p.unit) = subst (λ (k : ℕ). 1 ≤ times_at k (taken_by p.insn p.unit)) same (own-unit p.insn p.unit) in
+  (λ same. (let own : 1 ≤ times_at place (taken_by p.insn p.unit) = subst
+      (λ (k : ℕ). 1 ≤ times_at k (taken_by p.insn p.unit)) same (own-unit p.insn p.unit) in
       absurd (omega (
         arith,
         own,
@@ -123,7 +131,8 @@ none-taken place (p ∷ placed) here none = (
       (omega (arith, none, sum_by-cons (taken_at 0 place) (Some (issue_of p)) (issued placed))),
 )
 
-pub none_on_unit : (p : Placed) (placed : List Placed) → p.cycle ≡ 0 → All (λ q. q.cycle ≡ 0) placed → AreEnough 0 (issued (p ∷ placed))
+pub none_on_unit : (p : Placed) (placed : List Placed) → p.cycle ≡ 0 → All (λ q. q.cycle ≡ 0) placed
+    → AreEnough 0 (issued (p ∷ placed))
     → NoneOn (index_of p.unit) placed
 none_on_unit p placed begun here enough =
     let place : ℕ = index_of p.unit in
@@ -154,19 +163,24 @@ insert-first : (p q : Placed) (placed : List Placed) → nat_lt (index_of p.unit
 insert-first p q placed first = rw first refl
 
 insert-next : (p q : Placed) (placed : List Placed) → nat_lt (index_of p.unit) (index_of q.unit) ≡ false
-    → insert (q ∷ placed) (position_or_len (stands_behind p) (q ∷ placed)) p ≡ q ∷ insert placed (position_or_len (stands_behind p) placed) p
+    → insert (q ∷ placed) (position_or_len (stands_behind p) (q ∷ placed)) p ≡ q ∷ insert placed
+    (position_or_len (stands_behind p) placed) p
 insert-next p q placed past =
-    let after : 1 + position_or_len (stands_behind p) placed ≡ suc (position_or_len (stands_behind p) placed) = omega arith in
+    let after : 1 + position_or_len (stands_behind p) placed ≡ suc (position_or_len (stands_behind p) placed) = omega
+    arith in
     rw past (ap (λ (k : ℕ). insert (q ∷ placed) k p) after)
 
-put-behind : (p q : Placed) (placed : List Placed) → index_of q.unit < index_of p.unit → IsBelowFirst (index_of q.unit) placed
+put-behind : (p q : Placed) (placed : List Placed) → index_of q.unit < index_of p.unit
+    → IsBelowFirst (index_of q.unit) placed
     → IsBelowFirst (index_of q.unit) (insert placed (position_or_len (stands_behind p) placed) p)
 put-behind p q [] less below = less
 put-behind p q (r ∷ placed) less below = elim (cases_lt (index_of p.unit) (index_of r.unit)) [
   | inl first ↦
-      subst (IsBelowFirst (index_of q.unit)) (sym (insert-first p r placed (lt-ltb (index_of p.unit) (index_of r.unit) first))) less
+      subst (IsBelowFirst (index_of q.unit))
+      (sym (insert-first p r placed (lt-ltb (index_of p.unit) (index_of r.unit) first))) less
   | inr past ↦
-      subst (IsBelowFirst (index_of q.unit)) (sym (insert-next p r placed (not-below (index_of p.unit) (index_of r.unit) past))) below
+      subst (IsBelowFirst (index_of q.unit))
+      (sym (insert-next p r placed (not-below (index_of p.unit) (index_of r.unit) past))) below
 ]
 
 by-order : (a b : ℕ) → b ≤ a → (b ≡ a → ⊥) → b < a
@@ -179,7 +193,8 @@ pub rises_with : (p : Placed) (placed : List Placed) → Rises placed → NoneOn
     → Rises (insert placed (position_or_len (stands_behind p) placed) p)
 rises_with p [] rises none = (tt, tt)
 rises_with p (q ∷ placed) rises none = elim (cases_lt (index_of p.unit) (index_of q.unit)) [
-  | inl first ↦ subst Rises (sym (insert-first p q placed (lt-ltb (index_of p.unit) (index_of q.unit) first))) (first, rises)
+  | inl first ↦ subst Rises (sym (insert-first p q placed (lt-ltb (index_of p.unit) (index_of q.unit) first)))
+      (first, rises)
   | inr past ↦
       let less : index_of q.unit < index_of p.unit = by-order (index_of p.unit) (index_of q.unit) past none.0 in
       subst Rises (sym (insert-next p q placed (not-below (index_of p.unit) (index_of q.unit) past)))
@@ -201,7 +216,8 @@ rises_strictly (p ∷ q ∷ placed) rises zero low = rises.0
 rises_strictly (p ∷ q ∷ placed) rises (suc k) low =
     let after : suc k ≡ k + 1 = omega arith in
     let less = rises_strictly (q ∷ placed) rises.1 k (omega (arith, low)) in
-    let one = ap (slice_index (indexes (p ∷ q ∷ placed))) after ∙ next-place (index_of p.unit) (indexes (q ∷ placed)) k in
+    let one = ap (slice_index (indexes (p ∷ q ∷ placed))) after
+    ∙ next-place (index_of p.unit) (indexes (q ∷ placed)) k in
     let other = next-place (index_of p.unit) (indexes (q ∷ placed)) (suc k) in
     let same = ap (slice_index (indexes (q ∷ placed))) after in
     omega (arith, less, one, other, same)
@@ -213,5 +229,11 @@ strictly_rises (p ∷ q ∷ placed) rises = (
   rises 0 (omega arith),
   strictly_rises (q ∷ placed) (λ k low.
       (let less = rises (k + 1) (omega (arith, low)) in
-      omega (arith, less, next-place (index_of p.unit) (indexes (q ∷ placed)) k, next-place (index_of p.unit) (indexes (q ∷ placed)) (k + 1)))),
+      omega (
+        arith,
+        less,
+        next-place (index_of p.unit) (indexes (q ∷ placed)) k,
+        next-place (index_of p.unit)
+            (indexes (q ∷ placed)) (k + 1),
+      ))),
 )

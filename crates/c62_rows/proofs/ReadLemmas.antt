@@ -7,7 +7,9 @@ use Rattle.c62_rows.specs.Reading.{Reading, no_reading, all_rows, RefusesLine}
 use Rattle.c62_rows.specs.Text.{LeadsTo, RefusesAmong, IsReading, Refuses}
 use Rattle.c62_rows.specs.Sound.{IsSound, IsSmall}
 use Rattle.c62_rows.specs.Read.{IsReady, AddsShortLine}
-use Rattle.c62_rows.proofs.SoundLemmas.{none_sound, none_small, line_sound, line_small, ready_if}
+use Rattle.c62_rows.proofs.SoundLemmas.{none_sound, line_sound}
+use Rattle.c62_rows.proofs.SmallLemmas.{none_small, line_small, ready_if}
+use Rattle.c62_adopt_cut.specs.declared.text.TheConstants.{MOST_BYTES}
 
 -- the lines above were read, and what is left leads to the same as the whole
 pub record IsReadSoFar (reading : Reading) (number : ℕ) (rest text : List ℕ) : Type 0 where
@@ -41,37 +43,52 @@ one_more old new number bytes rest after text far first shorter adds =
       counted = omega (arith, far.counted, shorter);
       sound = line_sound number bytes old new far.sound adds.adds;
       small = line_small far.lines number bytes old new far.small adds;
-      leads = λ last l. far.leads last (subst (λ (lines : List (List ℕ)). LeadsTo number old lines last) (sym first) (new, adds.adds, l));
+      leads = λ last l. far.leads last
+          (subst (λ (lines : List (List ℕ)). LeadsTo number old lines last) (sym first) (new, adds.adds, l));
       refuses = λ line cause r. far.refuses line cause
-          (subst (λ (lines : List (List ℕ)). RefusesAmong number old lines line cause) (sym first) (inr (new, adds.adds, r)));
+          (subst (λ (lines : List (List ℕ)). RefusesAmong number old lines line cause) (sym first)
+          (inr (new, adds.adds, r)));
     }
 
-pub refused_at : (reading : Reading) (number : ℕ) (bytes rest after text : List ℕ) (cause : RowsCause) → length text ≤ 8388608
-    → IsReadSoFar reading number rest text → lines_of rest ≡ bytes ∷ lines_of after → RefusesLine number bytes reading cause
+pub refused_at : (reading : Reading) (number : ℕ) (bytes rest after text : List ℕ) (cause : RowsCause)
+    → length text ≤ MOST_BYTES
+    → IsReadSoFar reading number rest text → lines_of rest ≡ bytes ∷ lines_of after
+    → RefusesLine number bytes reading cause
     → Refuses text (At number cause)
 refused_at reading number bytes rest after text cause short far first refuses =
     inr (inl (record {
       short = short;
       among = far.refuses number cause
-          (subst (λ (lines : List (List ℕ)). RefusesAmong number reading lines number cause) (sym first) (inl (refl, refuses)));
+          (subst (λ (lines : List (List ℕ)). RefusesAmong number reading lines number cause) (sym first)
+          (inl (refl, refuses)));
     }))
 
-pub all_read : (reading : Reading) (number : ℕ) (rest text : List ℕ) → length text ≤ 8388608 → IsReadSoFar reading number rest text
+pub all_read : (reading : Reading) (number : ℕ) (rest text : List ℕ) → length text ≤ MOST_BYTES
+    → IsReadSoFar reading number rest text
     → lines_of rest ≡ [] → IsReading text reading
 all_read reading number rest text short far none =
-    record { short = short; leads = far.leads reading (subst (λ (lines : List (List ℕ)). LeadsTo number reading lines reading) (sym none) refl) }
+    record {
+      short = short;
+      leads = far.leads reading
+          (subst (λ (lines : List (List ℕ)). LeadsTo number reading lines reading) (sym none) refl);
+    }
 
-pub ready_so_far : (reading : Reading) (number : ℕ) (rest text : List ℕ) → length text ≤ 8388608 → IsReadSoFar reading number rest text → IsReady reading
+pub ready_so_far : (reading : Reading) (number : ℕ) (rest text : List ℕ) → length text ≤ MOST_BYTES
+    → IsReadSoFar reading number rest text → IsReady reading
 ready_so_far reading number rest text short far =
-    ready_if far.lines reading far.sound (record { rows = omega (arith, far.small.rows); idle = far.small.idle }) (omega (arith, far.counted, short))
+    ready_if far.lines reading far.sound (record { rows = omega (arith, far.small.rows); idle = far.small.idle })
+    (omega (arith, far.counted, short))
 
-pub few_so_far : (reading : Reading) (number : ℕ) (rest text : List ℕ) → length text ≤ 8388608 → IsReadSoFar reading number rest text
-    → length (all_rows reading) ≤ 8388608
+pub few_so_far : (reading : Reading) (number : ℕ) (rest text : List ℕ) → length text ≤ MOST_BYTES
+    → IsReadSoFar reading number rest text
+    → length (all_rows reading) ≤ MOST_BYTES
 few_so_far reading number rest text short far = omega (arith, far.counted, far.small.rows, short)
 
-pub number_so_far : (reading : Reading) (number : ℕ) (rest text : List ℕ) → length text ≤ 8388608 → IsReadSoFar reading number rest text
-    → number ≤ 8388609
+pub number_so_far : (reading : Reading) (number : ℕ) (rest text : List ℕ) → length text ≤ MOST_BYTES
+    → IsReadSoFar reading number rest text
+    → number ≤ (MOST_BYTES + 1)
 number_so_far reading number rest text short far = omega (arith, far.counted, far.numbered, short)
 
-pub sound_so_far : (reading : Reading) (number : ℕ) (rest text : List ℕ) → IsReadSoFar reading number rest text → IsSound reading
+pub sound_so_far : (reading : Reading) (number : ℕ) (rest text : List ℕ) → IsReadSoFar reading number rest text
+    → IsSound reading
 sound_so_far reading number rest text far = far.sound

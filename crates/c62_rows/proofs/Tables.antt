@@ -1,5 +1,6 @@
 -- Labels in tables.
-use Rattle.std.proofs.Common.{arith, ◌≡◌, ℕ, Bool, true, false, List, [], ◌∷◌, ◌++◌, length, Option, Some, None, is_some, refl, sym, ap, ◌∙◌}
+use Rattle.std.proofs.Common.{arith, ◌≡◌, ℕ, Bool, true, false, List, [], ◌∷◌, ◌++◌, length, Option, Some, None}
+use Rattle.std.proofs.Common.{is_some, refl, sym, ap, ◌∙◌}
 use Rattle.std.specs.List.{position, position_or_len}
 use Rattle.std.specs.Map.{keys_of, lookup}
 use Rattle.std.specs.Str.{bytes_eq}
@@ -22,21 +23,27 @@ no_place_is p xs none = grind (arith, nat_tests, none, prefix_len-le-length (λ 
 
 module _ (name : List ℕ) (entries : List (List ℕ × ℕ)) where
   -- a new label goes last
-  pub inserted : (value : ℕ) → is_some (lookup (bytes_eq name) entries) ≡ false → insert_entry bytes_eq entries name value ≡ entries ++ (name, value) ∷ []
+  pub inserted : (value : ℕ) → is_some (lookup (bytes_eq name) entries) ≡ false
+      → insert_entry bytes_eq entries name value ≡ entries ++ (name, value) ∷ []
   inserted value new =
-      insert_entry-absent bytes_eq name value entries (absent_from_lookup (bytes_eq name) entries (none_if (lookup (bytes_eq name) entries) new))
+      insert_entry-absent bytes_eq name value entries
+      (absent_from_lookup (bytes_eq name) entries (none_if (lookup (bytes_eq name) entries) new))
 
   -- one that is there has its place
-  pub place_found : (i : ℕ) → position (bytes_eq name) (keys_of entries) ≡ Some i → position_or_len (bytes_eq name) (keys_of entries) ≡ i
+  pub place_found : (i : ℕ) → position (bytes_eq name) (keys_of entries) ≡ Some i
+      → position_or_len (bytes_eq name) (keys_of entries) ≡ i
   place_found i is = place_is (bytes_eq name) (keys_of entries) i is
 
-  pub is_there : (i : ℕ) → position (bytes_eq name) (keys_of entries) ≡ Some i → is_some (lookup (bytes_eq name) entries) ≡ true
+  pub is_there : (i : ℕ) → position (bytes_eq name) (keys_of entries) ≡ Some i
+      → is_some (lookup (bytes_eq name) entries) ≡ true
   is_there i is = sym (some_index (bytes_eq name) entries) ∙ ap is_some is
 
   -- and one that isn't gets the next
   pub is_new : position (bytes_eq name) (keys_of entries) ≡ None → is_some (lookup (bytes_eq name) entries) ≡ false
   is_new none = sym (some_index (bytes_eq name) entries) ∙ ap is_some none
 
-  pub place_next : is_some (lookup (bytes_eq name) entries) ≡ false → position_or_len (bytes_eq name) (keys_of entries) ≡ length entries
+  pub place_next : is_some (lookup (bytes_eq name) entries) ≡ false
+      → position_or_len (bytes_eq name) (keys_of entries) ≡ length entries
   place_next new =
-      or_len-absent (bytes_eq name) entries (absent_from_lookup (bytes_eq name) entries (none_if (lookup (bytes_eq name) entries) new))
+      or_len-absent (bytes_eq name) entries
+      (absent_from_lookup (bytes_eq name) entries (none_if (lookup (bytes_eq name) entries) new))

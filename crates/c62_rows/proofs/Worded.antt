@@ -1,5 +1,6 @@
 -- Rows with the words of labels.
-use Rattle.std.proofs.Common.{arith, ◌≡◌, ◌≢◌, ◌⊎◌, inl, inr, ℕ, suc, ◌+◌, ◌<◌, ◌≤◌, List, [], ◌∷◌, length, map, get_or, set, Option, Some, None, refl, sym, ap, ◌∙◌, subst}
+use Rattle.std.proofs.Common.{arith, ◌≡◌, ◌≢◌, ◌⊎◌, inl, inr, ℕ, suc, ◌+◌, ◌<◌, ◌≤◌, List, [], ◌∷◌, length, map, get_or}
+use Rattle.std.proofs.Common.{set, Option, Some, None, refl, sym, ap, ◌∙◌, subst}
 use Rattle.std.specs.Prelude.{nat_eq, sum_by, count_by, All, ◌==◌, if◌then◌else◌}
 use Rattle.std.specs.Map.{lookup}
 use Rattle.std.specs.List.Sorted.{IsStrictlyIncreasing}
@@ -36,29 +37,38 @@ pub record AreDone {X : Type 0} (R : X → X → Type 0) (old now : List X) (cou
 pub none_done : {X : Type 0} (R : X → X → Type 0) (old : List X) → AreDone R old old 0
 none_done R old = record { same = refl; before = λ k d low. absurd (omega (arith, low)); behind = λ k d le. refl }
 
-pub one_done : {X : Type 0} (R : X → X → Type 0) (old now : List X) (i : ℕ) (y : X) → AreDone R old now i → i < length now
+pub one_done : {X : Type 0} (R : X → X → Type 0) (old now : List X) (i : ℕ) (y : X) → AreDone R old now i
+    → i < length now
     → (e : X) → R (get_or now i e) y → AreDone R old (set now i y) (i + 1)
 one_done {X} R old now i y far low e here = record {
   same = length-set now i y ∙ far.same;
   before = λ k d less. before k d less (cases_eq k i);
-  behind = λ k d le. get_or-set_other now i k y d (λ e. absurd (omega (arith, le, e))) ∙ far.behind k d (omega (arith, le));
+  behind = λ k d le. get_or-set_other now i k y d (λ e. absurd (omega (arith, le, e)))
+      ∙ far.behind k d (omega (arith, le));
 }
   where
     before : (k : ℕ) (d : X) → k < i + 1 → (k ≡ i) ⊎ (k ≢ i) → R (get_or old k d) (get_or (set now i y) k d)
     before k d less (inl same) =
-        subst (λ (z : X). R (get_or old k d) z) (sym (ap (λ (j : ℕ). get_or (set now i y) j d) same ∙ get_or-set_same now i y d low))
-        (subst (λ (z : X). R z y) (get_or_default now i e d low ∙ ap (λ (j : ℕ). get_or now j d) (sym same) ∙ far.behind k d (omega (arith, same))) here)
+        subst (λ (z : X). R (get_or old k d) z) (sym (ap (λ (j : ℕ). get_or (set now i y) j d) same
+        ∙ get_or-set_same now i y d low))
+        (subst (λ (z : X). R z y) (get_or_default now i e d low ∙ ap (λ (j : ℕ). get_or now j d) (sym same)
+        ∙ far.behind k d (omega (arith, same))) here)
     before k d less (inr other) =
-        subst (λ (z : X). R (get_or old k d) z) (sym (get_or-set_other now i k y d other)) (far.before k d (omega (arith, less, other)))
+        subst (λ (z : X). R (get_or old k d) z) (sym (get_or-set_other now i k y d other))
+        (far.before k d (omega (arith, less, other)))
 
-pub all_worded : (words : List (ℕ × Name)) (labels : List (Name × ℕ)) (old new : List Placed) (count : ℕ) → AreDone (IsWorded words labels) old new count
+pub all_worded : (words : List (ℕ × Name)) (labels : List (Name × ℕ)) (old new : List Placed) (count : ℕ)
+    → AreDone (IsWorded words labels) old new count
     → length old ≤ count → AreInsnsWorded words labels old new
-all_worded words labels old new count done all = each old new done.same (λ k d low. done.before k d (omega (arith, low, all)))
+all_worded words labels old new count done all = each old new done.same
+    (λ k d low. done.before k d (omega (arith, low, all)))
   where
-    each : (old new : List Placed) → length new ≡ length old → ((k : ℕ) (d : Placed) → k < length old → IsWorded words labels (get_or old k d) (get_or new k d))
+    each : (old new : List Placed) → length new ≡ length old
+        → ((k : ℕ) (d : Placed) → k < length old → IsWorded words labels (get_or old k d) (get_or new k d))
         → AreInsnsWorded words labels old new
     each [] [] same at = tt
-    each (p ∷ old) (q ∷ new) same at = (at 0 p (omega arith), each old new (omega (arith, same)) (λ k d low. at (suc k) d (omega (arith, low))))
+    each (p ∷ old) (q ∷ new) same at =
+        (at 0 p (omega arith), each old new (omega (arith, same)) (λ k d low. at (suc k) d (omega (arith, low))))
     each [] (q ∷ new) same at = absurd (omega (arith, same))
     each (p ∷ old) [] same at = absurd (omega (arith, same))
 
@@ -67,14 +77,17 @@ abbrev pub IsReadWorded : List (ℕ × Name) → List (Name × ℕ) → RowRead 
 IsReadWorded words labels row other = IsRowWorded words labels (row_read row) (row_read other)
 
 pub all_rows_worded : (words : List (ℕ × Name)) (labels : List (Name × ℕ)) (old new : List RowRead) (count : ℕ)
-    → AreDone (IsReadWorded words labels) old new count → length old ≤ count → AreWorded words labels (map row_read old) (map row_read new)
-all_rows_worded words labels old new count done all = each old new done.same (λ k d low. done.before k d (omega (arith, low, all)))
+    → AreDone (IsReadWorded words labels) old new count → length old ≤ count
+    → AreWorded words labels (map row_read old) (map row_read new)
+all_rows_worded words labels old new count done all = each old new done.same
+    (λ k d low. done.before k d (omega (arith, low, all)))
   where
     each : (old new : List RowRead) → length new ≡ length old
         → ((k : ℕ) (d : RowRead) → k < length old → IsReadWorded words labels (get_or old k d) (get_or new k d))
         → AreWorded words labels (map row_read old) (map row_read new)
     each [] [] same at = tt
-    each (p ∷ old) (q ∷ new) same at = (at 0 p (omega arith), each old new (omega (arith, same)) (λ k d low. at (suc k) d (omega (arith, low))))
+    each (p ∷ old) (q ∷ new) same at =
+        (at 0 p (omega arith), each old new (omega (arith, same)) (λ k d low. at (suc k) d (omega (arith, low))))
     each [] (q ∷ new) same at = absurd (omega (arith, same))
     each (p ∷ old) [] same at = absurd (omega (arith, same))
 
@@ -88,13 +101,15 @@ all_unworded : (labels : List (Name × ℕ)) (rows : List Row) → AreWorded [] 
 all_unworded labels [] = tt
 all_unworded labels (row ∷ rows) = (record { insns = unworded labels row.insns; idle = refl }, all_unworded labels rows)
 
-pub rows_unworded : (words : List (ℕ × Name)) (labels : List (Name × ℕ)) (rows : List Row) → length words ≡ 0 → AreWorded words labels rows rows
+pub rows_unworded : (words : List (ℕ × Name)) (labels : List (Name × ℕ)) (rows : List Row) → length words ≡ 0
+    → AreWorded words labels rows rows
 rows_unworded [] labels rows none = all_unworded labels rows
 rows_unworded (word ∷ words) labels rows none = absurd (omega (arith, none))
 
 -- ---- a row with words is one
 
-same_unit : (words : List (ℕ × Name)) (labels : List (Name × ℕ)) (p q : Placed) → IsWorded words labels p q → unit_of q.insn ≡ unit_of p.insn
+same_unit : (words : List (ℕ × Name)) (labels : List (Name × ℕ)) (p q : Placed) → IsWorded words labels p q
+    → unit_of q.insn ≡ unit_of p.insn
 same_unit words labels p q is = by (lookup (nat_eq p.line) words) refl
   where
     by : (word : Option Name) → lookup (nat_eq p.line) words ≡ word → unit_of q.insn ≡ unit_of p.insn
@@ -108,15 +123,20 @@ same_resources words labels p q is = by (lookup (nat_eq p.line) words) refl
   where
     by : (word : Option Name) → lookup (nat_eq p.line) words ≡ word → taken_by q.insn p.unit ≡ taken_by p.insn p.unit
     by None e =
-        let same : parts_of q.insn ≡ parts_of p.insn = is.parts ∙ ap (λ (w : Option Name). with_word w labels (parts_of p.insn)) e in
+        let same : parts_of q.insn ≡ parts_of p.insn = is.parts
+        ∙ ap (λ (w : Option Name). with_word w labels (parts_of p.insn)) e in
         ap (λ (insn : Insn). taken_by insn p.unit) (same_insn q.insn p.insn same)
     by (Some name) e =
-        let same : parts_of q.insn ≡ with_half (word_of name labels) (parts_of p.insn) = is.parts ∙ ap (λ (w : Option Name). with_word w labels (parts_of p.insn)) e in
-        same_taken (word_of name labels) p.insn q.insn p.unit (ap (λ (parts : Parts). parts.op) same) (ap (λ (parts : Parts). parts.operands) same)
+        let same : parts_of q.insn ≡ with_half (word_of name labels) (parts_of p.insn) = is.parts
+        ∙ ap (λ (w : Option Name). with_word w labels (parts_of p.insn)) e in
+        same_taken (word_of name labels) p.insn q.insn p.unit (ap (λ (parts : Parts). parts.op) same)
+        (ap (λ (parts : Parts). parts.operands) same)
 
-same_uses : (words : List (ℕ × Name)) (labels : List (Name × ℕ)) (p q : Placed) (r : Resource) → IsWorded words labels p q
+same_uses : (words : List (ℕ × Name)) (labels : List (Name × ℕ)) (p q : Placed) (r : Resource)
+    → IsWorded words labels p q
     → uses_in 0 r (Some (issue_of q)) ≡ uses_in 0 r (Some (issue_of p))
-same_uses words labels p q r is i = if is.cycle i == 0 then count_by (λ taken. same_resource taken r) (resources i) else 0
+same_uses words labels p q r is i = if is.cycle i == 0 then count_by (λ taken. same_resource taken r) (resources i) else
+    0
   where
     resources : taken_by q.insn q.unit ≡ taken_by p.insn p.unit
     resources = ap (taken_by q.insn) is.unit ∙ same_resources words labels p q is
@@ -153,12 +173,14 @@ module _ (words : List (ℕ × Name)) (labels : List (Name × ℕ)) where
   units_stand [] [] is stand = stand
   units_stand (p ∷ old) (q ∷ new) is stand =
       All-cons (λ (p : Placed). unit_of p.insn ≡ Some p.unit) q new
-      (same_unit words labels p q is.0 ∙ All-head (λ (p : Placed). unit_of p.insn ≡ Some p.unit) p old stand ∙ ap Some (sym is.0.unit))
+      (same_unit words labels p q is.0 ∙ All-head (λ (p : Placed). unit_of p.insn ≡ Some p.unit) p old stand
+      ∙ ap Some (sym is.0.unit))
       (units_stand old new is.1 (All-tail (λ (p : Placed). unit_of p.insn ≡ Some p.unit) p old stand))
   units_stand [] (q ∷ new) is stand = absurd is
   units_stand (p ∷ old) [] is stand = absurd is
 
-  cycles_zero : (old new : List Placed) → AreInsnsWorded words labels old new → All (λ p. p.cycle ≡ 0) old → All (λ p. p.cycle ≡ 0) new
+  cycles_zero : (old new : List Placed) → AreInsnsWorded words labels old new → All (λ p. p.cycle ≡ 0) old
+      → All (λ p. p.cycle ≡ 0) new
   cycles_zero [] [] is zeros = zeros
   cycles_zero (p ∷ old) (q ∷ new) is zeros =
       All-cons (λ (p : Placed). p.cycle ≡ 0) q new
@@ -179,7 +201,8 @@ module _ (words : List (ℕ × Name)) (labels : List (Name × ℕ)) where
   pub rows_worded : (rows others : List Row) → AreWorded words labels rows others → All IsRow rows → All IsRow others
   rows_worded [] [] is rows = rows
   rows_worded (row ∷ rows) (other ∷ others) is each =
-      All-cons IsRow other others (row_worded row other is.0 (All-head IsRow row rows each)) (rows_worded rows others is.1 (All-tail IsRow row rows each))
+      All-cons IsRow other others (row_worded row other is.0 (All-head IsRow row rows each))
+      (rows_worded rows others is.1 (All-tail IsRow row rows each))
   rows_worded [] (other ∷ others) is each = absurd is
   rows_worded (row ∷ rows) [] is each = absurd is
 

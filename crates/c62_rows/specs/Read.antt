@@ -13,6 +13,7 @@ use Rattle.c62_rows.specs.declared.fault.RowsCause.TheVariants.{Line as OfLine}
 use Rattle.c62_rows.specs.Rows.{row_read}
 use Rattle.c62_rows.specs.Word.{Said}
 use Rattle.c62_rows.specs.Reading.{Reading, insns_above, hindrance, at_line, AddsInsn, Breaks, AddsSays, SaysBreach, AddsLine, RefusesLine}
+use Rattle.c62_rows.specs.declared.reader.TheConstants.{MOST_TARGETS}
 
 abbrev pub reading_of : Reader → Reading
 reading_of reader = record {
@@ -31,7 +32,7 @@ said_read said = record { line = line_written said.line; word = said.word }
 pub record IsReady (reading : Reading) : Type 0 where
   pub idle : IfSome reading.current (λ row. row.idle < 2 ^ 31)
   pub cycles : All (λ p. p.cycle ≡ 0) (insns_above reading)
-  pub targets : length reading.targets ≤ 256
+  pub targets : length reading.targets ≤ MOST_TARGETS
 
 -- the instruction is added, or this stands against it
 abbrev pub TellsOfInsn : Numbered → Reader → Reader → Option RowsCause → Type 0

@@ -21,6 +21,7 @@ use Rattle.c62_rows.specs.declared.fault.RowsCause.{RowsCause}
 use Rattle.c62_rows.specs.declared.fault.RowsCause.TheVariants.{Line as OfLine, TooManyTargets}
 use Rattle.c62_rows.specs.Rows.{with_insn, with_idle, MayJoin, IsBreach}
 use Rattle.c62_rows.specs.Word.{Said, row_says}
+use Rattle.c62_rows.specs.declared.reader.TheConstants.{MOST_TARGETS}
 
 -- The rows that are over, and the one that a line with bars goes on with; each label with the row that begins below it; each label
 -- that branches or words name, in the order in which they do, with the first line of one; and the label of each line that takes the
@@ -149,7 +150,7 @@ is_given (Some label) reading = is_some (lookup (bytes_eq label) reading.labels)
 
 -- it is one label more than may be named
 abbrev pub is_beyond : Name → Reading → Bool
-is_beyond name reading = not (is_target name reading) && nat_le 256 (length reading.targets)
+is_beyond name reading = not (is_target name reading) && nat_le MOST_TARGETS (length reading.targets)
 
 -- the word of an instruction, or a branch, names one label more
 abbrev pub is_word_more : Option Name → Reading → Bool

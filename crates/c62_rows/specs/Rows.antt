@@ -14,6 +14,8 @@ use Rattle.c62_rows.specs.declared.rows.Row.{Row as RowRead}
 use Rattle.c62_rows.specs.declared.rows.Rows.{Rows as RowsRead}
 use Rattle.c62_rows.specs.declared.fault.RowsCause.{RowsCause}
 use Rattle.c62_rows.specs.declared.fault.RowsCause.TheVariants.{Rule, TwoBranches}
+use Rattle.c62_rows.specs.declared.reader.TheConstants.{MOST_TARGETS}
+use Rattle.c62_adopt_cut.specs.declared.text.TheConstants.{MOST_BYTES}
 
 -- ---- rows as the code has them
 
@@ -36,8 +38,8 @@ pub record IsRow (row : Row) : Type 0 where
 -- so it is of each row, of which there are no more than bytes; and branches name 256 labels at most
 pub record AreRows (rows : RowsRead) : Type 0 where
   pub each : All IsRow (text_of rows).rows
-  pub few : length rows.rows.items ≤ 8388608
-  pub aims : length rows.aims.items ≤ 256
+  pub few : length rows.rows.items ≤ MOST_BYTES
+  pub aims : length rows.aims.items ≤ MOST_TARGETS
 
 -- ---- an instruction more
 

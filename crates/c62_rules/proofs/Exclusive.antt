@@ -1,19 +1,18 @@
--- Two of which at most one runs, and that writes of one register land together only where the bounds let them.
-use Rattle.std.proofs.Common.{◌≡◌, ◌≢◌, ℕ, zero, suc, ◌+◌, ◌-◌, ◌<◌, ◌≤◌, ◌-ℤ◌, pos, Bool, true, false, not, List, [], ◌∷◌, Option, Some, None, refl, sym, ◌∙◌, ap, subst, ◌⊎◌, inl, inr, ⊎_elim, arith}
-use Rattle.std.specs.Prelude.{◌==◌, ◌↔◌, ◌&&◌, ◌||◌, Contains, slice_get, IsTrue, if◌then◌else◌}
+-- Two of which at most one runs.
+use Rattle.std.proofs.Common.{◌≡◌, ◌≢◌, ℕ, zero, suc, ◌+◌, ◌-◌, ◌<◌, ◌≤◌, Bool, true, false, not, List, []}
+use Rattle.std.proofs.Common.{◌∷◌, Option, Some, None, refl, sym, ◌∙◌, ap, subst, inl, inr, ⊎_elim, arith}
+use Rattle.std.specs.Prelude.{◌==◌, ◌&&◌, ◌||◌, Contains, slice_get, if◌then◌else◌}
 use Rattle.std.specs.List.{list_any}
-use Rattle.std.proofs.lemmas.Int.{ints}
-use Rattle.std.proofs.lemmas.Bool.{cases_Bool, cases_lt, cases_eq, cases_order, and_parts, or_cases, or_parts, or_right, false_from_ne_true, false≢true}
-use Rattle.std.proofs.lemmas.Option.{same_Some}
+use Rattle.std.proofs.lemmas.Bool.{cases_lt, and_parts, or_cases, or_parts}
+use Rattle.std.proofs.lemmas.Bool.{false_from_ne_true, false≢true}
 use Rattle.c62_op.specs.declared.register.Reg.{Reg}
 use Rattle.c62_op.specs.declared.register.Cond.{Cond as Condition}
 use Rattle.c62_op.specs.Takes.{same_reg}
 use Rattle.c62_op.proofs.Registers.{same_reg-is, same_reg-refl}
 use Rattle.c62_insn.specs.declared.insn.Insn.{Insn}
-use Rattle.c62_insn.specs.Insn.{cond_of, operand_reads, register_writes, is_condition_on, reads_register}
-use Rattle.c62_rules.specs.PacketRules.{Issue, Issues, IsIssued, LandsIn, MayLandTogether, HasOneLanding}
-use Rattle.c62_rules.specs.Exclusive.{writes_in, is_written_by, IsUnwritten, are_opposite, condition_in, exclusive_by, are_exclusive, IsExclusive, ExactlyOneHolds, OppositeIsEither, ExclusiveIsTold}
-use Rattle.c62_rules.specs.Dependence.{KeepsBounds, ReadAfterWrite, WriteAfterRead, WriteAfterWrite}
+use Rattle.c62_insn.specs.Insn.{cond_of, register_writes}
+use Rattle.c62_rules.specs.Exclusive.{writes_in, is_written_by, IsUnwritten, are_opposite, condition_in, exclusive_by}
+use Rattle.c62_rules.specs.Exclusive.{are_exclusive, IsExclusive, ExactlyOneHolds, OppositeIsEither, ExclusiveIsTold}
 
 -- ---- exclusive instructions
 
@@ -35,16 +34,20 @@ both_true {b = b} e f = ap (λ (t : Bool). t && b) e ∙ f
 all_three : {a b c : Bool} → a ≡ true → b ≡ true → c ≡ true → ((a && b) && c) ≡ true
 all_three e f g = both_true (both_true e f) g
 
-some_write : (reg : Reg) (delay : ℕ) (writes : List (Reg × ℕ)) → Contains writes (reg, delay) → list_any (λ (write : Reg × ℕ). same_reg write.0 reg) writes ≡ false → ⊥
+some_write : (reg : Reg) (delay : ℕ) (writes : List (Reg × ℕ)) → Contains writes (reg, delay)
+    → list_any (λ (write : Reg × ℕ). same_reg write.0 reg) writes ≡ false → ⊥
 some_write reg delay [] (k, l, e) h = absurd (omega (arith, l))
 some_write reg delay (w ∷ writes) (zero, l, e) h =
-    let first : same_reg w.0 reg ≡ false = (or_parts (same_reg w.0 reg) (list_any (λ (write : Reg × ℕ). same_reg write.0 reg) writes) h).0 in
+    let first : same_reg w.0 reg ≡ false =
+    (or_parts (same_reg w.0 reg) (list_any (λ (write : Reg × ℕ). same_reg write.0 reg) writes) h).0 in
     let same : w.0 ≡ reg = ap (λ (x : Reg × ℕ). x.0) e in
     false≢true (sym (subst (λ (r : Reg). same_reg r reg ≡ false) same first) ∙ same_reg-refl reg)
 some_write reg delay (w ∷ writes) (suc k, l, e) h =
-    some_write reg delay writes (k, omega (arith, l), e) (or_parts (same_reg w.0 reg) (list_any (λ (write : Reg × ℕ). same_reg write.0 reg) writes) h).1
+    some_write reg delay writes (k, omega (arith, l), e)
+    (or_parts (same_reg w.0 reg) (list_any (λ (write : Reg × ℕ). same_reg write.0 reg) writes) h).1
 
-pub unwritten_by : (block : List Insn) (i count : ℕ) (reg : Reg) → is_written_by block i count reg ≡ false → (k delay : ℕ) (insn : Insn) → i ≤ k → k < i + count
+pub unwritten_by : (block : List Insn) (i count : ℕ) (reg : Reg) → is_written_by block i count reg ≡ false
+    → (k delay : ℕ) (insn : Insn) → i ≤ k → k < i + count
     → slice_get block k ≡ Some insn → Contains (register_writes insn) (reg, delay) → ⊥
 unwritten_by block i zero reg h k delay insn low high at writes = absurd (omega (arith, low, high))
 unwritten_by block i (suc count) reg h k delay insn low high at writes =
@@ -53,27 +56,35 @@ unwritten_by block i (suc count) reg h k delay insn low high at writes =
     (λ lt. unwritten_by block i count reg parts.0 k delay insn low lt at writes)
     (λ ge.
     let last : i + count ≡ k = omega (arith, ge, high) in
-    let here : writes_in reg (slice_get block k) ≡ false = subst (λ (n : ℕ). writes_in reg (slice_get block n) ≡ false) last parts.1 in
+    let here : writes_in reg (slice_get block k) ≡ false = subst (λ (n : ℕ). writes_in reg (slice_get block n) ≡ false)
+    last parts.1 in
     some_write reg delay (register_writes insn) writes (subst (λ (o : Option Insn). writes_in reg o ≡ false) at here))
     (cases_lt k (i + count))
 
 -- a write that the test finds
-a_write : (reg : Reg) (writes : List (Reg × ℕ)) → list_any (λ (write : Reg × ℕ). same_reg write.0 reg) writes ≡ true → (delay : ℕ) × Contains writes (reg, delay)
+a_write : (reg : Reg) (writes : List (Reg × ℕ)) → list_any (λ (write : Reg × ℕ). same_reg write.0 reg) writes ≡ true
+    → (delay : ℕ) × Contains writes (reg, delay)
 a_write reg [] h = absurd (false≢true h)
-a_write reg (w ∷ writes) h = elim (or_cases (same_reg w.0 reg) (list_any (λ (write : Reg × ℕ). same_reg write.0 reg) writes) h) [
-  | inl first ↦ (let same : w.0 ≡ reg = same_reg-is w.0 reg first in (w.1, (0, omega arith, ap (λ (r : Reg). (r, w.1)) same)))
-  | inr later ↦ (let found = a_write reg writes later in (found.0, (suc found.1.0, omega (arith, found.1.1), found.1.2)))
-]
+a_write reg (w ∷ writes) h = elim
+    (or_cases (same_reg w.0 reg) (list_any (λ (write : Reg × ℕ). same_reg write.0 reg) writes) h) [
+      | inl first ↦ (let same : w.0 ≡ reg = same_reg-is w.0 reg first in
+          (w.1, (0, omega arith, ap (λ (r : Reg). (r, w.1)) same)))
+      | inr later ↦ (let found = a_write reg writes later in
+          (found.0, (suc found.1.0, omega (arith, found.1.1), found.1.2)))
+    ]
 
-no_write : (reg : Reg) (writes : List (Reg × ℕ)) → ((delay : ℕ) → Contains writes (reg, delay) → ⊥) → list_any (λ (write : Reg × ℕ). same_reg write.0 reg) writes ≡ false
+no_write : (reg : Reg) (writes : List (Reg × ℕ)) → ((delay : ℕ) → Contains writes (reg, delay) → ⊥)
+    → list_any (λ (write : Reg × ℕ). same_reg write.0 reg) writes ≡ false
 no_write reg writes none = false_from_ne_true (list_any (λ (write : Reg × ℕ). same_reg write.0 reg) writes)
     (λ h. let found = a_write reg writes h in none found.0 found.1)
 
 -- and the other way round
-pub none_written : (block : List Insn) (i count : ℕ) (reg : Reg) → IsUnwritten block i (i + count) reg → is_written_by block i count reg ≡ false
+pub none_written : (block : List Insn) (i count : ℕ) (reg : Reg) → IsUnwritten block i (i + count) reg
+    → is_written_by block i count reg ≡ false
 none_written block i zero reg free = refl
 none_written block i (suc count) reg free =
-    or_none (none_written block i count reg (λ k delay insn low high at. free k delay insn low (omega (arith, high)) at))
+    or_none (none_written block i count reg
+    (λ k delay insn low high at. free k delay insn low (omega (arith, high)) at))
     (by_insn (slice_get block (i + count)) refl)
   where
     or_none : {a b : Bool} → a ≡ false → b ≡ false → (a || b) ≡ false
@@ -81,25 +92,30 @@ none_written block i (suc count) reg free =
 
     by_insn : (o : Option Insn) → slice_get block (i + count) ≡ o → writes_in reg o ≡ false
     by_insn None e = refl
-    by_insn (Some insn) e = no_write reg (register_writes insn) (λ delay writes. free (i + count) delay insn (omega arith) (omega arith) e writes)
+    by_insn (Some insn) e = no_write reg (register_writes insn)
+        (λ delay writes. free (i + count) delay insn (omega arith) (omega arith) e writes)
 
 pub none_of : (b : Bool) → not b ≡ true → b ≡ false
 none_of true h = absurd (false≢true h)
 none_of false h = refl
 
-pub exclusive-is : (block : List Insn) (i j : ℕ) (p q : Insn) → i < j → slice_get block i ≡ Some p → slice_get block j ≡ Some q → are_exclusive block i j ≡ true
+pub exclusive-is : (block : List Insn) (i j : ℕ) (p q : Insn) → i < j → slice_get block i ≡ Some p
+    → slice_get block j ≡ Some q → are_exclusive block i j ≡ true
     → IsExclusive block i j p q
 exclusive-is block i j p q before at_i at_j h =
     by_conditions (cond_of p) (cond_of q) refl refl
     (subst (λ (o : Option Insn). exclusive_by block i j (cond_of p) (condition_in o) ≡ true) at_j
-    (subst (λ (o : Option Insn). exclusive_by block i j (condition_in o) (condition_in (slice_get block j)) ≡ true) at_i h))
+    (subst (λ (o : Option Insn). exclusive_by block i j (condition_in o) (condition_in (slice_get block j)) ≡ true) at_i
+    h))
   where
-    by_conditions : (c d : Option Condition) → cond_of p ≡ c → cond_of q ≡ d → exclusive_by block i j c d ≡ true → IsExclusive block i j p q
+    by_conditions : (c d : Option Condition) → cond_of p ≡ c → cond_of q ≡ d → exclusive_by block i j c d ≡ true
+        → IsExclusive block i j p q
     by_conditions None d e f h = absurd (false≢true h)
     by_conditions (Some one) None e f h = absurd (false≢true h)
     by_conditions (Some one) (Some other) e f h =
         let parts = and_parts (are_opposite one other) (not (is_written_by block i (j - i) one.reg)) h in
-        let tests = and_parts (same_reg one.reg other.reg) (if one.negated then not other.negated else other.negated) parts.0 in
+        let tests = and_parts (same_reg one.reg other.reg) (if one.negated then not other.negated else other.negated)
+        parts.0 in
         record {
           one = one;
           other = other;
@@ -108,7 +124,8 @@ exclusive-is block i j p q before at_i at_j h =
           same = same_reg-is one.reg other.reg tests.0;
           opposite = not_opposite one.negated other.negated tests.1;
           unwritten = λ k delay insn low high at writes.
-              unwritten_by block i (j - i) one.reg (none_of (is_written_by block i (j - i) one.reg) parts.1) k delay insn low (omega (arith, high, before)) at writes;
+              unwritten_by block i (j - i) one.reg (none_of (is_written_by block i (j - i) one.reg) parts.1) k delay
+              insn low (omega (arith, high, before)) at writes;
         }
 
 -- what are_exclusive tells
@@ -117,13 +134,16 @@ exclusive-told block i j p q before at_i at_j = (exclusive-is block i j p q befo
   where
     from : IsExclusive block i j p q → are_exclusive block i j ≡ true
     from x =
-        let same : same_reg x.one.reg x.other.reg ≡ true = subst (λ (r : Reg). same_reg x.one.reg r ≡ true) x.same (same_reg-refl x.one.reg) in
+        let same : same_reg x.one.reg x.other.reg ≡ true = subst (λ (r : Reg). same_reg x.one.reg r ≡ true) x.same
+        (same_reg-refl x.one.reg) in
         let count : j ≡ i + (j - i) = omega (arith, before) in
         let free : is_written_by block i (j - i) x.one.reg ≡ false
-        = none_written block i (j - i) x.one.reg (subst (λ (n : ℕ). IsUnwritten block i n x.one.reg) count x.unwritten) in
+        = none_written block i (j - i) x.one.reg (subst (λ (n : ℕ). IsUnwritten block i n x.one.reg) count x.unwritten)
+        in
         let told : exclusive_by block i j (Some x.one) (Some x.other) ≡ true
         = all_three same (opposite_from x.one.negated x.other.negated x.opposite) (ap not free) in
-        subst (λ (o : Option Insn). exclusive_by block i j (condition_in o) (condition_in (slice_get block j)) ≡ true) (sym at_i)
+        subst (λ (o : Option Insn). exclusive_by block i j (condition_in o) (condition_in (slice_get block j)) ≡ true)
+        (sym at_i)
         (subst (λ (o : Option Insn). exclusive_by block i j (cond_of p) (condition_in o) ≡ true) (sym at_j)
         (subst (λ (c : Option Condition). exclusive_by block i j c (cond_of q) ≡ true) (sym x.is_one)
         (subst (λ (d : Option Condition). exclusive_by block i j (Some x.one) d ≡ true) (sym x.is_other) told)))
@@ -142,10 +162,12 @@ opposite-either one other = (to, from)
 
     to : are_opposite one other ≡ true → ExactlyOneHolds one other
     to h =
-        let tests = and_parts (same_reg one.reg other.reg) (if one.negated then not other.negated else other.negated) h in
+        let tests = and_parts (same_reg one.reg other.reg) (if one.negated then not other.negated else other.negated) h
+        in
         record {
           same = same_reg-is one.reg other.reg tests.0;
-          either = λ value. holds one.negated other.negated (value == 0) (not_opposite one.negated other.negated tests.1);
+          either = λ value. holds one.negated other.negated (value == 0)
+              (not_opposite one.negated other.negated tests.1);
         }
 
     differ : (a b : Bool) → (if a then true else false) ≡ not (if b then true else false) → a ≢ b
@@ -156,104 +178,8 @@ opposite-either one other = (to, from)
 
     from : ExactlyOneHolds one other → are_opposite one other ≡ true
     from x =
-        let same : same_reg one.reg other.reg ≡ true = subst (λ (r : Reg). same_reg one.reg r ≡ true) x.same (same_reg-refl one.reg) in
+        let same : same_reg one.reg other.reg ≡ true = subst (λ (r : Reg). same_reg one.reg r ≡ true) x.same
+        (same_reg-refl one.reg) in
         let tests : (if one.negated then not other.negated else other.negated) ≡ true
         = opposite_from one.negated other.negated (differ one.negated other.negated (x.either 0)) in
         both_true same tests
-
--- ---- the fifth packet rule
-
-pub may-swapped : (issues : Issues) (p q : Issue) → MayLandTogether issues p q → MayLandTogether issues q p
-may-swapped issues p q may = record {
-  one = may.other;
-  other = may.one;
-  is_one = may.is_other;
-  is_other = may.is_one;
-  same = sym may.same;
-  opposite = λ e. may.opposite (sym e);
-  stays = λ k r t at lands.
-      let both = may.stays k r t at (subst (λ (reg : Reg). LandsIn r reg t) (sym may.same) lands) in (both.1, both.0);
-}
-
-reads_condition : (insn : Insn) (test : Condition) (reg : Reg) → cond_of insn ≡ Some test → test.reg ≡ reg → IsTrue (reads_register insn reg)
-reads_condition insn test reg is same =
-    or_right (list_any (λ (read : Reg). same_reg read reg) (operand_reads insn)) (is_condition_on reg (cond_of insn))
-    (ap (is_condition_on reg) is ∙ ap (λ (r : Reg). same_reg r reg) same ∙ same_reg-refl reg)
-
-module _ (block : List Insn) (issues : Issues) (kept : KeepsBounds block issues) where
-  -- a write lands before a later reader is issued
-  lands_before : (k i : ℕ) (r p : Issue) (reg : Reg) (t : ℕ) → k < i → IsIssued issues k r → IsIssued issues i p → LandsIn r reg t → IsTrue (reads_register p.insn reg) → t < p.cycle
-  lands_before k i r p reg t before at_k at_i (delay, writes, time) reads =
-      let bound = kept.keeps k i (pos (delay + 1)) r p
-      (record { first = r.insn; second = p.insn; is_first = kept.insns k r at_k; is_second = kept.insns i p at_i; before = before; applies = ReadAfterWrite reg delay writes reads refl })
-      at_k at_i in
-      omega (arith, ints, bound, time)
-
-  -- and not before an earlier one is
-  lands_after : (i k : ℕ) (p r : Issue) (reg : Reg) (t : ℕ) → i < k → IsIssued issues i p → IsIssued issues k r → LandsIn r reg t → IsTrue (reads_register p.insn reg) → p.cycle ≤ t
-  lands_after i k p r reg t before at_i at_k (delay, writes, time) reads =
-      let bound = kept.keeps i k (pos 0 -ℤ pos delay) p r
-      (record { first = p.insn; second = r.insn; is_first = kept.insns i p at_i; is_second = kept.insns k r at_k; before = before; applies = WriteAfterRead reg delay writes reads refl })
-      at_i at_k in
-      omega (arith, ints, bound, time)
-
-  excused : (i j : ℕ) (p q : Issue) → i < j → IsIssued issues i p → IsIssued issues j q → IsExclusive block i j p.insn q.insn → MayLandTogether issues p q
-  excused i j p q before at_i at_j x = record {
-    one = x.one;
-    other = x.other;
-    is_one = x.is_one;
-    is_other = x.is_other;
-    same = x.same;
-    opposite = x.opposite;
-    stays = λ k r t at_k lands. ⊎_elim {C = (p.cycle ≤ t) ↔ (q.cycle ≤ t)}
-        (λ lt.
-        let one : t < p.cycle = lands_before k i r p x.one.reg t lt at_k at_i lands first in
-        let two : t < q.cycle = lands_before k j r q x.one.reg t (omega (arith, lt, before)) at_k at_j lands second in
-        ((λ le. absurd (omega (arith, le, one))), (λ le. absurd (omega (arith, le, two)))))
-        (λ ge. ⊎_elim {C = (p.cycle ≤ t) ↔ (q.cycle ≤ t)}
-        (λ lt. absurd (x.unwritten k lands.0 r.insn ge lt (kept.insns k r at_k) lands.1))
-        (λ late.
-        let one : p.cycle ≤ t = lands_after i k p r x.one.reg t (omega (arith, late, before)) at_i at_k lands first in
-        let two : q.cycle ≤ t = behind k r t at_k lands late in
-        ((λ le. two), (λ le. one)))
-        (cases_lt k j))
-        (cases_lt k i);
-  }
-    where
-      first : IsTrue (reads_register p.insn x.one.reg)
-      first = reads_condition p.insn x.one x.one.reg x.is_one refl
-
-      second : IsTrue (reads_register q.insn x.one.reg)
-      second = reads_condition q.insn x.other x.one.reg x.is_other (sym x.same)
-
-      -- also where q itself writes the register
-      behind : (k : ℕ) (r : Issue) (t : ℕ) → IsIssued issues k r → LandsIn r x.one.reg t → j ≤ k → q.cycle ≤ t
-      behind k r t at_k lands late = ⊎_elim {C = q.cycle ≤ t}
-          (λ e.
-          let there : IsIssued issues k q = subst (λ (n : ℕ). IsIssued issues n q) e at_j in
-          let same : q ≡ r = same_Some q r (sym there ∙ at_k) in
-          let cycle : q.cycle ≡ r.cycle = ap (λ (z : Issue). z.cycle) same in
-          omega (arith, cycle, lands.2))
-          (λ ne. lands_after j k q r x.one.reg t (omega (arith, ne, late)) at_j at_k lands second)
-          (cases_eq j k)
-
-  in_order : (i j : ℕ) (p q : Issue) (reg : Reg) (cycle : ℕ) → i < j → IsIssued issues i p → IsIssued issues j q → LandsIn p reg cycle → LandsIn q reg cycle
-      → MayLandTogether issues p q
-  in_order i j p q reg cycle before at_i at_j mine theirs = ⊎_elim {C = MayLandTogether issues p q}
-      (λ yes. excused i j p q before at_i at_j (exclusive-is block i j p.insn q.insn before (kept.insns i p at_i) (kept.insns j q at_j) yes))
-      (λ no.
-      let bound = kept.keeps i j (pos (mine.0 + 1) -ℤ pos theirs.0) p q
-      (record { first = p.insn; second = q.insn; is_first = kept.insns i p at_i; is_second = kept.insns j q at_j; before = before; applies = WriteAfterWrite reg mine.0 theirs.0 mine.1 theirs.1 no refl })
-      at_i at_j in
-      absurd (omega (arith, ints, bound, mine.2, theirs.2)))
-      (cases_Bool (are_exclusive block i j))
-
-  -- what keeps the bounds keeps the fifth rule
-  pub one_landing : HasOneLanding issues
-  one_landing i j p q reg cycle at_i at_j mine theirs = ⊎_elim {C = (i ≡ j) ⊎ MayLandTogether issues p q}
-      (λ e. inl e)
-      (λ o. inr (⊎_elim {C = MayLandTogether issues p q}
-      (λ lt. in_order i j p q reg cycle lt at_i at_j mine theirs)
-      (λ gt. may-swapped issues q p (in_order j i q p reg cycle gt at_j at_i theirs mine))
-      o))
-      (cases_order i j)

@@ -1,5 +1,6 @@
 -- The length of a block asks only which instructions are issued.
-use Rattle.std.proofs.Common.{arith, ◌≡◌, ℕ, ◌+◌, ◌≤◌, List, [], ◌∷◌, Option, Some, None, refl, sym, ap, ◌∙◌, Bool, true, false, cond}
+use Rattle.std.proofs.Common.{arith, ◌≡◌, ℕ, ◌+◌, ◌≤◌, List, [], ◌∷◌, Option, Some, None, refl, sym, ap, ◌∙◌, Bool}
+use Rattle.std.proofs.Common.{true, false, cond}
 use Rattle.std.specs.Prelude.{sum_by, count_by, IsPermutation, All, find}
 use Rattle.std.specs.Option.{option_map_or}
 use Rattle.std.proofs.lemmas.List.Sums.{sum_by-cons}
@@ -18,7 +19,8 @@ each-lands : (issues : List Issue) → All (λ p. landing_end p ≤ last_landing
 each-lands [] = All-nil (λ p. landing_end p ≤ 0)
 each-lands (p ∷ issues) =
     All-cons (λ q. landing_end q ≤ last_landing_end (p ∷ issues)) p issues (omega arith)
-    (All-weaker (λ q. landing_end q ≤ last_landing_end issues) (λ q. landing_end q ≤ last_landing_end (p ∷ issues)) (λ q h. omega (arith, h)) issues (each-lands issues))
+    (All-weaker (λ q. landing_end q ≤ last_landing_end issues) (λ q. landing_end q ≤ last_landing_end (p ∷ issues))
+    (λ q h. omega (arith, h)) issues (each-lands issues))
 
 -- and the least such cycle
 last-least : (issues : List Issue) (n : ℕ) → All (λ p. landing_end p ≤ n) issues → last_landing_end issues ≤ n
@@ -28,11 +30,14 @@ last-least (p ∷ issues) n h =
     let rest : last_landing_end issues ≤ n = last-least issues n (All-tail (λ q. landing_end q ≤ n) p issues h) in
     omega (arith, first, rest)
 
-last-below : (issues others : List Issue) → IsPermutation issues others → last_landing_end others ≤ last_landing_end issues
+last-below : (issues others : List Issue) → IsPermutation issues others
+    → last_landing_end others ≤ last_landing_end issues
 last-below issues others same =
-    last-least others (last_landing_end issues) (All-permutation (λ p. landing_end p ≤ last_landing_end issues) issues others same (each-lands issues))
+    last-least others (last_landing_end issues)
+    (All-permutation (λ p. landing_end p ≤ last_landing_end issues) issues others same (each-lands issues))
 
-pub last-same : (issues others : List Issue) → IsPermutation issues others → last_landing_end issues ≡ last_landing_end others
+pub last-same : (issues others : List Issue) → IsPermutation issues others
+    → last_landing_end issues ≡ last_landing_end others
 last-same issues others same =
     let below = last-below issues others same in
     let above = last-below others issues (IsPermutation-sym issues others same) in
@@ -55,7 +60,8 @@ unfolding branch_mark
 no-marks [] h = refl
 no-marks (p ∷ issues) h = go (no-marks issues) (branches p) refl
   where
-    go : (count_by branches issues ≡ 0 → sum_by branch_mark issues ≡ 0) → (b : Bool) → branches p ≡ b → sum_by branch_mark (p ∷ issues) ≡ 0
+    go : (count_by branches issues ≡ 0 → sum_by branch_mark issues ≡ 0) → (b : Bool) → branches p ≡ b
+        → sum_by branch_mark (p ∷ issues) ≡ 0
     go later true e =
         let one : cond (branches p) 1 0 ≡ 1 = ap (λ (t : Bool). cond {A = ℕ} t 1 0) e in
         let many = sum_by-cons (λ (q : Issue). cond (branches q) 1 0) p issues in
@@ -74,7 +80,8 @@ unfolding branch_mark mark_of
 found-mark [] few = refl
 found-mark (p ∷ issues) few = go (found-mark issues) (branches p) refl
   where
-    go : (HasFewBranches issues → mark_of (find branches issues) ≡ sum_by branch_mark issues) → (b : Bool) → branches p ≡ b
+    go : (HasFewBranches issues → mark_of (find branches issues) ≡ sum_by branch_mark issues) → (b : Bool)
+        → branches p ≡ b
         → mark_of (find branches (p ∷ issues)) ≡ sum_by branch_mark (p ∷ issues)
     go later true e =
         let one : cond (branches p) 1 0 ≡ 1 = ap (λ (t : Bool). cond {A = ℕ} t 1 0) e in
@@ -82,13 +89,15 @@ found-mark (p ∷ issues) few = go (found-mark issues) (branches p) refl
         let many = sum_by-cons (λ (q : Issue). cond (branches q) 1 0) p issues in
         let rest : sum_by branch_mark issues ≡ 0 = no-marks issues (omega (arith, one, many, few)) in
         let whole = sum_by-cons branch_mark p issues in
-        let found : mark_of (find branches (p ∷ issues)) ≡ p.cycle + 7 = ap (λ (t : Bool). mark_of (cond {A = Option Issue} t (Some p) (find branches issues))) e in
+        let found : mark_of (find branches (p ∷ issues)) ≡ p.cycle + 7 = ap
+        (λ (t : Bool). mark_of (cond {A = Option Issue} t (Some p) (find branches issues))) e in
         omega (arith, own, rest, whole, found)
     go later false e =
         let none : cond (branches p) 1 0 ≡ 0 = ap (λ (t : Bool). cond {A = ℕ} t 1 0) e in
         let own : branch_mark p ≡ 0 = ap (λ (t : Bool). cond {A = ℕ} t (p.cycle + 7) 0) e in
         let many = sum_by-cons (λ (q : Issue). cond (branches q) 1 0) p issues in
-        let rest : mark_of (find branches issues) ≡ sum_by branch_mark issues = later (omega (arith, none, many, few)) in
+        let rest : mark_of (find branches issues) ≡ sum_by branch_mark issues = later (omega (arith, none, many, few))
+        in
         let whole = sum_by-cons branch_mark p issues in
         let found : mark_of (find branches (p ∷ issues)) ≡ mark_of (find branches issues) =
         ap (λ (t : Bool). mark_of (cond {A = Option Issue} t (Some p) (find branches issues))) e in
@@ -107,9 +116,11 @@ same-end None (Some q) m n marks e = absurd (omega (arith, marks))
 same-end (Some p) None m n marks e = absurd (omega (arith, marks))
 same-end (Some p) (Some q) m n marks e = omega (arith, marks)
 
-pub any-order-length : (issues others : List Issue) → IsPermutation issues others → HasFewBranches issues → length_of others ≡ length_of issues
+pub any-order-length : (issues others : List Issue) → IsPermutation issues others → HasFewBranches issues
+    → length_of others ≡ length_of issues
 any-order-length issues others same few =
     let sums = sum_by-IsPermutation branch_mark issues others same in
     let marks : mark_of (find branches issues) ≡ mark_of (find branches others) =
     found-mark issues few ∙ sym sums ∙ sym (found-mark others (few-same issues others same few)) in
-    same-end (find branches issues) (find branches others) (last_landing_end issues) (last_landing_end others) marks (last-same issues others same)
+    same-end (find branches issues) (find branches others) (last_landing_end issues) (last_landing_end others) marks
+    (last-same issues others same)

@@ -1,5 +1,6 @@
 -- Part of what is issued, and the same under other numbers.
-use Rattle.std.proofs.Common.{arith, ◌≡◌, ◌≢◌, ℕ, zero, suc, ◌+◌, ◌<◌, ◌≤◌, [], ◌∷◌, length, map, get_or, set, Option, Some, None, refl, sym, ap, ◌∙◌, inl, inr, ◌⊎◌}
+use Rattle.std.proofs.Common.{arith, ◌≡◌, ◌≢◌, ℕ, zero, suc, ◌+◌, ◌<◌, ◌≤◌, [], ◌∷◌, length, map, get_or, set, Option}
+use Rattle.std.proofs.Common.{Some, None, refl, sym, ap, ◌∙◌, inl, inr, ◌⊎◌}
 use Rattle.std.specs.Prelude.{sum_by, IsPermutation, if◌then◌else◌, ◌==◌}
 use Rattle.std.specs.List.{swap}
 use Rattle.std.proofs.lemmas.List.{get_or_past, get_or-set_same, get_or-set_other, length-set}
@@ -21,7 +22,8 @@ pub part-trans : (a b c : Issues) → IsPart a b → IsPart b c → IsPart a c
 part-trans a b c first second = record {
   number = λ i. second.number (first.number i);
   issued = λ i p h. second.issued (first.number i) p (first.issued i p h);
-  apart = λ i j p q h k e. first.apart i j p q h k (second.apart (first.number i) (first.number j) p q (first.issued i p h) (first.issued j q k) e);
+  apart = λ i j p q h k e. first.apart i j p q h k
+      (second.apart (first.number i) (first.number j) p q (first.issued i p h) (first.issued j q k) e);
 }
 
 -- the first number stays, and the others move as they did
@@ -42,7 +44,8 @@ part-cons o issues others part = record { number = onward part.number; issued = 
     is_issued zero p h = h
     is_issued (suc i) p h = part.issued i p h
 
-    are_apart : (i j : ℕ) (p q : Issue) → IsIssued (o ∷ issues) i p → IsIssued (o ∷ issues) j q → onward part.number i ≡ onward part.number j → i ≡ j
+    are_apart : (i j : ℕ) (p q : Issue) → IsIssued (o ∷ issues) i p → IsIssued (o ∷ issues) j q
+        → onward part.number i ≡ onward part.number j → i ≡ j
     are_apart zero zero p q h k e = refl
     are_apart zero (suc j) p q h k e = absurd (omega (arith, e))
     are_apart (suc i) zero p q h k e = absurd (omega (arith, e))
@@ -57,7 +60,8 @@ part-skipped issues others part = record { number = backward part.number; issued
     is_issued zero p h = absurd (none-some p h)
     is_issued (suc i) p h = part.issued i p h
 
-    are_apart : (i j : ℕ) (p q : Issue) → IsIssued (None ∷ issues) i p → IsIssued (None ∷ issues) j q → backward part.number i ≡ backward part.number j → i ≡ j
+    are_apart : (i j : ℕ) (p q : Issue) → IsIssued (None ∷ issues) i p → IsIssued (None ∷ issues) j q
+        → backward part.number i ≡ backward part.number j → i ≡ j
     are_apart zero j p q h k e = absurd (none-some p h)
     are_apart (suc i) zero p q h k e = absurd (none-some q k)
     are_apart (suc i) (suc j) p q h k e = ap suc (part.apart i j p q h k e)
@@ -90,10 +94,12 @@ issued-within issues i p h = elim (cases_lt i (length issues)) [
 ]
 
 -- the tail of a part, where the first one's number is left out
-part-rest : (p : Issue) (issues others : Issues) (part : IsPart (Some p ∷ issues) others) → IsPart issues (set others (part.number 0) None)
+part-rest : (p : Issue) (issues others : Issues) (part : IsPart (Some p ∷ issues) others)
+    → IsPart issues (set others (part.number 0) None)
 part-rest p issues others part = record {
   number = λ i. part.number (suc i);
-  issued = λ i q h. get_or-set_other others (part.number 0) (part.number (suc i)) None None (other i q h) ∙ part.issued (suc i) q h;
+  issued = λ i q h. get_or-set_other others (part.number 0) (part.number (suc i)) None None (other i q h)
+      ∙ part.issued (suc i) q h;
   apart = λ i j q r h k e. (let same : suc i ≡ suc j = part.apart (suc i) (suc j) q r h k e in omega (arith, same));
 }
   where
@@ -101,7 +107,8 @@ part-rest p issues others part = record {
     other i q h e = let same : suc i ≡ 0 = part.apart (suc i) 0 q p h refl e in omega (arith, same)
 
 -- a sum over what is issued is no greater for a part
-pub part-sum : (f : Option Issue → ℕ) → f None ≡ 0 → (issues others : Issues) → IsPart issues others → sum_by f issues ≤ sum_by f others
+pub part-sum : (f : Option Issue → ℕ) → f None ≡ 0 → (issues others : Issues) → IsPart issues others
+    → sum_by f issues ≤ sum_by f others
 part-sum f none [] others part = omega arith
 part-sum f none (None ∷ issues) others part =
     let rest : IsPart issues others = record {
@@ -114,15 +121,18 @@ part-sum f none (None ∷ issues) others part =
     omega (arith, less, first, none)
 part-sum f none (Some p ∷ issues) others part =
     let here : get_or others (part.number 0) None ≡ Some p = part.issued 0 p refl in
-    let less : sum_by f issues ≤ sum_by f (set others (part.number 0) None) = part-sum f none issues (set others (part.number 0) None) (part-rest p issues others part) in
-    let gone : sum_by f (set others (part.number 0) None) + f (get_or others (part.number 0) None) ≡ sum_by f others + f None =
+    let less : sum_by f issues ≤ sum_by f (set others (part.number 0) None) = part-sum f none issues
+    (set others (part.number 0) None) (part-rest p issues others part) in
+    let gone : sum_by f (set others (part.number 0) None) + f (get_or others (part.number 0) None) ≡ sum_by f others + f
+    None =
     sum_by-set f others (part.number 0) None None (issued-within others (part.number 0) p here) in
     let own : f (get_or others (part.number 0) None) ≡ f (Some p) = ap f here in
     let first : sum_by f (Some p ∷ issues) ≡ f (Some p) + sum_by f issues = sum_by-cons f (Some p) issues in
     omega (arith, less, gone, own, first, none)
 
 -- two that may land together among the others may do so in a part
-pub part-excused : (issues others : Issues) (part : IsPart issues others) (p q : Issue) → MayLandTogether others p q → MayLandTogether issues p q
+pub part-excused : (issues others : Issues) (part : IsPart issues others) (p q : Issue) → MayLandTogether others p q
+    → MayLandTogether issues p q
 part-excused issues others part p q may = record {
   one = may.one;
   other = may.other;
@@ -137,7 +147,8 @@ pub part-keeps : (issues others : Issues) → IsPart issues others → KeepsPack
 part-keeps issues others part keeps = record {
   enough = λ cycle r. omega (arith, part-sum (uses_in cycle r) refl issues others part, keeps.enough cycle r);
   landing = λ i j p q reg cycle h k first second.
-      elim (keeps.landing (part.number i) (part.number j) p q reg cycle (part.issued i p h) (part.issued j q k) first second) [
+      elim (keeps.landing (part.number i) (part.number j) p q reg cycle (part.issued i p h) (part.issued j q k) first
+      second) [
         | inl same ↦ inl (part.apart i j p q h k same)
         | inr may ↦ inr (part-excused issues others part p q may)
       ];
@@ -156,7 +167,8 @@ exchange-cases : (i j k : ℕ) → IsExchange i j k (exchanged i j k)
 unfolding exchanged
 exchange-cases i j k = record { cases = found }
   where
-    found : ((k ≡ j) × (exchanged i j k ≡ i)) ⊎ (((k ≢ j) × (k ≡ i) × (exchanged i j k ≡ j)) ⊎ ((k ≢ j) × (k ≢ i) × (exchanged i j k ≡ k)))
+    found : ((k ≡ j) × (exchanged i j k ≡ i))
+        ⊎ (((k ≢ j) × (k ≡ i) × (exchanged i j k ≡ j)) ⊎ ((k ≢ j) × (k ≢ i) × (exchanged i j k ≡ k)))
     found = elim (cases_eq k j) [
       | inl second ↦ inl (second, rw (eq-eqb k j second) refl)
       | inr other ↦ elim (cases_eq k i) [
@@ -197,7 +209,8 @@ pub part-swapped : (issues : Issues) (i j : ℕ) → i < length issues → j < l
 part-swapped issues i j low below = record {
   number = exchanged i j;
   issued = is_issued;
-  apart = λ k m p q h g e. exchange-apart i j k m (exchanged i j k) (exchanged i j m) (exchange-cases i j k) (exchange-cases i j m) e;
+  apart = λ k m p q h g e. exchange-apart i j k m (exchanged i j k) (exchanged i j m) (exchange-cases i j k)
+      (exchange-cases i j m) e;
 }
   where
     inner : Issues
@@ -209,34 +222,41 @@ part-swapped issues i j low below = record {
     whole : set inner j (get_or issues i None) ≡ swap issues i j
     whole = swap_is issues i j None low below
 
-    found : (k to : ℕ) → IsExchange i j k to → get_or (set inner j (get_or issues i None)) k None ≡ get_or issues to None
+    found : (k to : ℕ) → IsExchange i j k to
+        → get_or (set inner j (get_or issues i None)) k None ≡ get_or issues to None
     found k to exchange = elim exchange.cases [
-      | inl x ↦ ap (λ (n : ℕ). get_or (set inner j (get_or issues i None)) n None) x.0 ∙ get_or-set_same inner j (get_or issues i None) None second
+      | inl x ↦ ap (λ (n : ℕ). get_or (set inner j (get_or issues i None)) n None) x.0
+          ∙ get_or-set_same inner j (get_or issues i None) None second
           ∙ ap (λ (n : ℕ). get_or issues n None) (sym x.1)
       | inr rest ↦ elim rest [
         | inl x ↦ get_or-set_other inner j k (get_or issues i None) None x.0 ∙ ap (λ (n : ℕ). get_or inner n None) x.1
             ∙ get_or-set_same issues i (get_or issues j None) None low ∙ ap (λ (n : ℕ). get_or issues n None) (sym x.2)
-        | inr x ↦ get_or-set_other inner j k (get_or issues i None) None x.0 ∙ get_or-set_other issues i k (get_or issues j None) None x.1
+        | inr x ↦ get_or-set_other inner j k (get_or issues i None) None x.0
+            ∙ get_or-set_other issues i k (get_or issues j None) None x.1
             ∙ ap (λ (n : ℕ). get_or issues n None) (sym x.2)
       ]
     ]
 
     is_issued : (k : ℕ) (p : Issue) → IsIssued (swap issues i j) k p → IsIssued issues (exchanged i j k) p
-    is_issued k p h = sym (found k (exchanged i j k) (exchange-cases i j k)) ∙ ap (λ (xs : Issues). get_or xs k None) whole ∙ h
+    is_issued k p h = sym (found k (exchanged i j k) (exchange-cases i j k))
+        ∙ ap (λ (xs : Issues). get_or xs k None) whole ∙ h
 
 -- a list in another order
 pub part-permuted : (issues others : Issues) → IsPermutation issues others → IsPart others issues
 part-permuted issues others =
-    IsPermutation-keeps issues (λ xs. IsPart xs issues) (part-refl issues) (λ xs i j low below part. part-trans (swap xs i j) xs issues (part-swapped xs i j low below) part) others
+    IsPermutation-keeps issues (λ xs. IsPart xs issues) (part-refl issues)
+    (λ xs i j low below part. part-trans (swap xs i j) xs issues (part-swapped xs i j low below) part) others
 
 pub any-order-part : (issues others : Issues) → IsPermutation (issued issues) (issued others) → IsPart others issues
 any-order-part issues others same =
     part-trans others (map Some (issued others)) issues (part-issued others)
     (part-trans (map Some (issued others)) (map Some (issued issues)) issues
-    (part-permuted (map Some (issued issues)) (map Some (issued others)) (IsPermutation-map Some (issued issues) (issued others) same))
+    (part-permuted (map Some (issued issues)) (map Some (issued others))
+    (IsPermutation-map Some (issued issues) (issued others) same))
     (issued-part issues))
 
-pub any-order-keeps : (issues others : Issues) → IsPermutation (issued issues) (issued others) → KeepsPacketRules issues → KeepsPacketRules others
+pub any-order-keeps : (issues others : Issues) → IsPermutation (issued issues) (issued others) → KeepsPacketRules issues
+    → KeepsPacketRules others
 any-order-keeps issues others same = part-keeps others issues (any-order-part issues others same)
 
 -- one issue less

@@ -1,14 +1,15 @@
 -- The places of resources: each has its own, in the order of the rules.
-use Rattle.std.proofs.Common.{arith, ◌≡◌, ◌≢◌, ℕ, ◌+◌, ◌<◌, ◌≤◌, Bool, true, false, refl, sym, ap, ◌∙◌, inl, inr}
-use Rattle.std.specs.Prelude.{◌==◌, IsTrue}
-use Rattle.std.proofs.lemmas.Bool.{cases_eq, cases_lt, eq-eqb, ne_eqb, false_from_ne_true}
+use Rattle.std.proofs.Common.{arith, ◌≡◌, ℕ, ◌<◌, ◌≤◌, true, refl, sym, ap, ◌∙◌, inl, inr}
+use Rattle.std.specs.Prelude.{◌==◌}
+use Rattle.std.proofs.lemmas.Bool.{cases_eq, eq-eqb, ne_eqb, false_from_ne_true}
 use Rattle.std.proofs.lemmas.Bool.Decides.{nat_tests}
 use Rattle.c62_op.specs.declared.register.Side.{Side}
 use Rattle.c62_op.specs.declared.register.Side.TheVariants.{A, B}
 use Rattle.c62_op.specs.declared.register.Reg.{Reg}
 use Rattle.c62_op.specs.Register.{first_of, register_index}
 use Rattle.c62_op.specs.Takes.{same_reg}
-use Rattle.c62_op.proofs.Registers.{same_reg-is, same_reg-refl, same_side-is, same_side-refl, same_unit-is, same_unit-refl}
+use Rattle.c62_op.proofs.Registers.{same_reg-is, same_reg-refl, same_side-is, same_side-refl, same_unit-is}
+use Rattle.c62_op.proofs.Registers.{same_unit-refl}
 use Rattle.c62_op.proofs.UnitOrder.{same_index, index_of-below}
 use Rattle.c62_rules.specs.declared.resource.CycleRule.{CycleRule}
 use Rattle.c62_rules.specs.declared.resource.CycleRule.TheVariants.{P1, P2, P3, P4}
@@ -27,10 +28,14 @@ pub register-below : (reg : Reg) → register_index reg < 32
 register-below reg = omega (arith, first-of reg.side)
 
 by_side : (a b : Reg) (s t : Side) → a.side ≡ s → b.side ≡ t → register_index a ≡ register_index b → same_reg a b ≡ true
-by_side a b A A is is_too e = (let number : a.number ≡ b.number = omega (arith, rw (is, is_too) at e) in rw (is, is_too, number) (grind (arith, nat_tests)))
+by_side a b A A is is_too e =
+    (let number : a.number ≡ b.number = omega (arith, rw (is, is_too) at e) in rw (is, is_too, number)
+    (grind (arith, nat_tests)))
 by_side a b A B is is_too e = absurd (omega (arith, rw (is, is_too) at e, a.in_range))
 by_side a b B A is is_too e = absurd (omega (arith, rw (is, is_too) at e, b.in_range))
-by_side a b B B is is_too e = (let number : a.number ≡ b.number = omega (arith, rw (is, is_too) at e) in rw (is, is_too, number) (grind (arith, nat_tests)))
+by_side a b B B is is_too e =
+    (let number : a.number ≡ b.number = omega (arith, rw (is, is_too) at e) in rw (is, is_too, number)
+    (grind (arith, nat_tests)))
 
 -- ---- each has its own place
 
@@ -80,14 +85,16 @@ pub own-place : (x r : Resource) → place_of x ≡ place_of r → x ≡ r
 own-place (OnUnit u) (OnUnit v) e = ap OnUnit (same_index u v (omega (arith, e)))
 own-place (CrossPath u) (CrossPath v) e = ap CrossPath (same-side u v (omega (arith, e)))
 own-place (DataPath u) (DataPath v) e = ap DataPath (same-side u v (omega (arith, e)))
-own-place (ReadsOf u) (ReadsOf v) e = ap ReadsOf (same_reg-is u v (by_side u v u.side v.side refl refl (omega (arith, e))))
+own-place (ReadsOf u) (ReadsOf v) e = ap ReadsOf
+    (same_reg-is u v (by_side u v u.side v.side refl refl (omega (arith, e))))
 own-place x r e = absurd (omega (arith, place-below x, place-below r, e))
 
 -- the test of places is the test of resources
 pub same-place : (x r : Resource) → (place_of x == place_of r) ≡ same_resource x r
 same-place x r = elim (cases_eq (place_of x) (place_of r)) [
   | inl e ↦ eq-eqb (place_of x) (place_of r) e ∙ sym (rw (own-place x r e) (same-refl r))
-  | inr ne ↦ ne_eqb (place_of x) (place_of r) ne ∙ sym (false_from_ne_true (same_resource x r) (λ h. ne (ap place_of (same-is x r h))))
+  | inr ne ↦ ne_eqb (place_of x) (place_of r) ne
+      ∙ sym (false_from_ne_true (same_resource x r) (λ h. ne (ap place_of (same-is x r h))))
 ]
 
 -- ---- what stands at a place

@@ -1,8 +1,8 @@
--- The bytes of an access with a constant offset, and that of two disjoint ones none is the same.
-use Rattle.std.proofs.Common.{◌≡◌, ℕ, ◌+◌, ◌-◌, ◌*◌, ◌%◌, ◌^◌, ◌<◌, ◌≤◌, ℤ, pos, negsuc, ◌≤ℤ◌, Bool, true, false, not, List, [], ◌∷◌, ◌++◌, map, Option, Some, None, refl, sym, ◌∙◌, ap, subst, ◌⊎◌, inl, inr, ⊎_elim, arith}
-use Rattle.std.specs.Prelude.{◌&&◌, ◌||◌, nat_le, slice_get, slice_index, unsigned_abs, if◌then◌else◌}
-use Rattle.std.specs.Prelude.{int_le}
-use Rattle.std.proofs.lemmas.Bool.{cases_lt, and_parts, or_cases, or_left, or_right, leb-true, le-leb, false≢true}
+-- Where the bytes of an access lie, and when two have none in common.
+use Rattle.std.proofs.Common.{◌≡◌, ℕ, ◌+◌, ◌-◌, ◌*◌, ◌%◌, ◌^◌, ◌<◌, ◌≤◌, ℤ, pos, negsuc, ◌≤ℤ◌, Bool, true, false, List}
+use Rattle.std.proofs.Common.{[], ◌∷◌, ◌++◌, map, Some, refl, sym, ◌∙◌, ap, subst, ◌⊎◌, inl, inr, ⊎_elim, arith}
+use Rattle.std.specs.Prelude.{◌&&◌, ◌||◌, nat_le, slice_index, unsigned_abs, if◌then◌else◌, int_le}
+use Rattle.std.proofs.lemmas.Bool.{cases_lt, and_parts, or_cases, leb-true, false≢true}
 use Rattle.std.proofs.lemmas.Int.{ints}
 use Rattle.std.proofs.lemmas.Option.{none-some, same_Some}
 use Rattle.c62_op.specs.declared.register.Reg.{Reg}
@@ -11,10 +11,12 @@ use Rattle.c62_op.specs.declared.register.Unit.{Unit as FunctionalUnit}
 use Rattle.c62_op.specs.declared.operands.Op.{Op}
 use Rattle.c62_op.specs.declared.operands.Op.TheVariants.{Ldb, Ldbu, Ldh, Ldhu, Ldw, Stb, Sth, Stw}
 use Rattle.c62_op.specs.declared.operands.AddressForm.{AddressForm}
-use Rattle.c62_op.specs.declared.operands.AddressForm.TheVariants.{Plus, Minus, PreIncrement, PreDecrement, PostIncrement, PostDecrement}
+use Rattle.c62_op.specs.declared.operands.AddressForm.TheVariants.{Plus, Minus, PreIncrement, PreDecrement}
+use Rattle.c62_op.specs.declared.operands.AddressForm.TheVariants.{PostIncrement, PostDecrement}
 use Rattle.c62_op.specs.declared.operands.Offset.TheVariants.{Constant as ByConstant, Register as ByRegister}
 use Rattle.c62_op.specs.declared.operands.Operands.{Operands}
-use Rattle.c62_op.specs.declared.operands.Operands.TheVariants.{Three, ConstantFirst, ConstantSecond, Two, Field, Constant, Access, Block, Register}
+use Rattle.c62_op.specs.declared.operands.Operands.TheVariants.{Three, ConstantFirst, ConstantSecond, Two, Field}
+use Rattle.c62_op.specs.declared.operands.Operands.TheVariants.{Constant, Access, Block, Register}
 use Rattle.c62_op.specs.Word.{word}
 use Rattle.c62_op.specs.Takes.{same_reg, same_letter, takes, in_range}
 use Rattle.c62_op.specs.Table.{ucst5}
@@ -25,61 +27,11 @@ use Rattle.c62_insn.specs.declared.insn.Insn.{Insn}
 use Rattle.c62_insn.specs.declared.effect.Access.{Access as MemoryAccess}
 use Rattle.c62_insn.specs.Insn.{op_of, operands_of, operand_reads}
 use Rattle.c62_insn.specs.Effect.{access_of}
-use Rattle.c62_rules.specs.Exclusive.{is_written_by, IsUnwritten}
-use Rattle.c62_rules.specs.Disjoint.{Range, begin_of, range_of, range_in, are_apart, disjoint_by, are_disjoint, HasSmallOffset, LiesAtItsRange, ApartShareNothing, IsIn, MeetInAByte, IsDisjoint, DisjointIsTold}
+use Rattle.c62_rules.specs.Disjoint.{Range, begin_of, range_of, HasSmallOffset, LiesAtItsRange, ApartShareNothing, IsIn}
+use Rattle.c62_rules.specs.Disjoint.{MeetInAByte}
 use Rattle.c62_insn.proofs.InsnLemmas.{has_unit}
-use Rattle.c62_rules.proofs.Exclusive.{none_of, none_written, unwritten_by, both_true}
-
--- ---- disjoint accesses
-
-pub disjoint-is : (block : List Insn) (i j : ℕ) (p q : Insn) → i < j → slice_get block i ≡ Some p → slice_get block j ≡ Some q → are_disjoint block i j ≡ true
-    → IsDisjoint block i j p q
-disjoint-is block i j p q before at_i at_j h =
-    by_ranges (range_of (op_of p) (operands_of p)) (range_of (op_of q) (operands_of q)) refl refl
-    (subst (λ (o : Option Insn). disjoint_by block i j (range_of (op_of p) (operands_of p)) (range_in o) ≡ true) at_j
-    (subst (λ (o : Option Insn). disjoint_by block i j (range_in o) (range_in (slice_get block j)) ≡ true) at_i h))
-  where
-    by_ranges : (a b : Option Range) → range_of (op_of p) (operands_of p) ≡ a → range_of (op_of q) (operands_of q) ≡ b → disjoint_by block i j a b ≡ true
-        → IsDisjoint block i j p q
-    by_ranges None b e f h = absurd (false≢true h)
-    by_ranges (Some one) None e f h = absurd (false≢true h)
-    by_ranges (Some one) (Some other) e f h =
-        let parts = and_parts (are_apart one other) (not (is_written_by block i (j - i) one.base)) h in
-        let tests = and_parts (same_reg one.base other.base) (nat_le (one.begin + one.size) other.begin || nat_le (other.begin + other.size) one.begin) parts.0 in
-        record {
-          one = one;
-          other = other;
-          is_one = e;
-          is_other = f;
-          same = same_reg-is one.base other.base tests.0;
-          apart = ⊎_elim {C = (one.begin + one.size ≤ other.begin) ⊎ (other.begin + other.size ≤ one.begin)}
-              (λ l. inl (leb-true (one.begin + one.size) other.begin l)) (λ r. inr (leb-true (other.begin + other.size) one.begin r))
-              (or_cases (nat_le (one.begin + one.size) other.begin) (nat_le (other.begin + other.size) one.begin) tests.1);
-          unwritten = λ k delay insn low high at writes.
-              unwritten_by block i (j - i) one.base (none_of (is_written_by block i (j - i) one.base) parts.1) k delay insn low (omega (arith, high, before)) at writes;
-        }
-
--- one side of two ranges, as the test has it
-side_true : (b c m n : ℕ) → (b + m ≤ c) ⊎ (c + n ≤ b) → (nat_le (b + m) c || nat_le (c + n) b) ≡ true
-side_true b c m n (inl le) = or_left (nat_le (b + m) c) (nat_le (c + n) b) (le-leb (b + m) c le)
-side_true b c m n (inr le) = or_right (nat_le (b + m) c) (nat_le (c + n) b) (le-leb (c + n) b le)
-
--- what are_disjoint tells
-pub disjoint-told : (block : List Insn) (i j : ℕ) (p q : Insn) → DisjointIsTold block i j p q
-disjoint-told block i j p q before at_i at_j = (disjoint-is block i j p q before at_i at_j, from)
-  where
-    from : IsDisjoint block i j p q → are_disjoint block i j ≡ true
-    from x =
-        let same : same_reg x.one.base x.other.base ≡ true = subst (λ (r : Reg). same_reg x.one.base r ≡ true) x.same (same_reg-refl x.one.base) in
-        let apart : are_apart x.one x.other ≡ true = both_true same (side_true x.one.begin x.other.begin x.one.size x.other.size x.apart) in
-        let count : j ≡ i + (j - i) = omega (arith, before) in
-        let free : is_written_by block i (j - i) x.one.base ≡ false
-        = none_written block i (j - i) x.one.base (subst (λ (n : ℕ). IsUnwritten block i n x.one.base) count x.unwritten) in
-        let told : disjoint_by block i j (Some x.one) (Some x.other) ≡ true = both_true apart (ap not free) in
-        subst (λ (o : Option Insn). disjoint_by block i j (range_in o) (range_in (slice_get block j)) ≡ true) (sym at_i)
-        (subst (λ (o : Option Insn). disjoint_by block i j (range_in (Some p)) (range_in o) ≡ true) (sym at_j)
-        (subst (λ (r : Option Range). disjoint_by block i j r (range_in (Some q)) ≡ true) (sym x.is_one)
-        (subst (λ (r : Option Range). disjoint_by block i j (Some x.one) r ≡ true) (sym x.is_other) told)))
+use Rattle.c62_rules.proofs.Exclusive.{both_true}
+use Rattle.c62_rules.proofs.DisjointAccesses.{side_true}
 
 -- ---- where the bytes lie
 
@@ -99,7 +51,8 @@ fits_five k a b h =
     (λ e. absurd (false≢true e))
     (or_cases (in_range ucst5 k && a && b) false h)
 
-offset_fits : (op : Op) (reg base : Reg) (form : AddressForm) (k : ℤ) (unit : FunctionalUnit) → takes op (Access reg base form (ByConstant k)) unit ≡ true → in_range ucst5 k ≡ true
+offset_fits : (op : Op) (reg base : Reg) (form : AddressForm) (k : ℤ) (unit : FunctionalUnit)
+    → takes op (Access reg base form (ByConstant k)) unit ≡ true → in_range ucst5 k ≡ true
 offset_fits Ldb reg base form k unit h = fits_five k (same_letter D unit.letter) _ h
 offset_fits Ldbu reg base form k unit h = fits_five k (same_letter D unit.letter) _ h
 offset_fits Ldh reg base form k unit h = fits_five k (same_letter D unit.letter) _ h
@@ -115,17 +68,23 @@ small (pos n) h = (refl, leb-true n 31 (and_parts (int_le (pos 0) (pos n)) (int_
 small (negsuc n) h = cc
 
 -- the offset in bytes
-distance : (n size : ℕ) → (size ≡ 1) ⊎ ((size ≡ 2) ⊎ (size ≡ 4)) → n ≤ 31 → ((word (pos n) * size) % 2 ^ 32 ≡ n * size) × (n * size ≤ 124)
-distance n size (inl e) le = subst (λ (s : ℕ). ((word (pos n) * s) % 2 ^ 32 ≡ n * s) × (n * s ≤ 124)) (sym e) (omega (arith, le), omega (arith, le))
-distance n size (inr (inl e)) le = subst (λ (s : ℕ). ((word (pos n) * s) % 2 ^ 32 ≡ n * s) × (n * s ≤ 124)) (sym e) (omega (arith, le), omega (arith, le))
-distance n size (inr (inr e)) le = subst (λ (s : ℕ). ((word (pos n) * s) % 2 ^ 32 ≡ n * s) × (n * s ≤ 124)) (sym e) (omega (arith, le), omega (arith, le))
+distance : (n size : ℕ) → (size ≡ 1) ⊎ ((size ≡ 2) ⊎ (size ≡ 4)) → n ≤ 31 → ((word (pos n) * size) % 2 ^ 32 ≡ n * size)
+    × (n * size ≤ 124)
+distance n size (inl e) le = subst (λ (s : ℕ). ((word (pos n) * s) % 2 ^ 32 ≡ n * s)
+    × (n * s ≤ 124)) (sym e) (omega (arith, le), omega (arith, le))
+distance n size (inr (inl e)) le = subst (λ (s : ℕ). ((word (pos n) * s) % 2 ^ 32 ≡ n * s)
+    × (n * s ≤ 124)) (sym e) (omega (arith, le), omega (arith, le))
+distance n size (inr (inr e)) le = subst (λ (s : ℕ). ((word (pos n) * s) % 2 ^ 32 ≡ n * s)
+    × (n * s ≤ 124)) (sym e) (omega (arith, le), omega (arith, le))
 
 -- an offset of an instruction moves an address by 124 bytes at most
-pub reaches : (insn : Insn) (reg base : Reg) (form : AddressForm) (k : ℤ) → operands_of insn ≡ Access reg base form (ByConstant k)
+pub reaches : (insn : Insn) (reg base : Reg) (form : AddressForm) (k : ℤ)
+    → operands_of insn ≡ Access reg base form (ByConstant k)
     → (unsigned_abs k * size_of (op_of insn) ≤ 124) × (size_of (op_of insn) ≤ 4)
 reaches insn reg base form k e =
     let unit = has_unit insn in
-    let taken : takes (op_of insn) (Access reg base form (ByConstant k)) unit.0 ≡ true = subst (λ (o : Operands). takes (op_of insn) o unit.0 ≡ true) e unit.1 in
+    let taken : takes (op_of insn) (Access reg base form (ByConstant k)) unit.0 ≡ true = subst
+    (λ (o : Operands). takes (op_of insn) o unit.0 ≡ true) e unit.1 in
     let fits = small k (offset_fits (op_of insn) reg base form k unit.0 taken) in
     ((distance (unsigned_abs k) (size_of (op_of insn)) (sizes (op_of insn)) fits.1).1, few (sizes (op_of insn)))
   where
@@ -144,10 +103,12 @@ lies PreDecrement x d le low = omega (arith, le, low)
 lies PostIncrement x d le low = omega (arith, le, low)
 lies PostDecrement x d le low = omega (arith, le, low)
 
-base_read : (op : Op) (reg base : Reg) (form : AddressForm) (k : ℤ) (words : Reg → ℕ) → slice_index (map words (reads_of op (Access reg base form (ByConstant k)))) (base_index op) ≡ words base
+base_read : (op : Op) (reg base : Reg) (form : AddressForm) (k : ℤ) (words : Reg → ℕ)
+    → slice_index (map words (reads_of op (Access reg base form (ByConstant k)))) (base_index op) ≡ words base
 base_read op reg base form k words = by_store (is_store op)
   where
-    by_store : (s : Bool) → slice_index (map words ((if s then reg ∷ [] else []) ++ base ∷ [])) (if s then 1 else 0) ≡ words base
+    by_store : (s : Bool)
+        → slice_index (map words ((if s then reg ∷ [] else []) ++ base ∷ [])) (if s then 1 else 0) ≡ words base
     by_store true = refl
     by_store false = refl
 
@@ -157,11 +118,15 @@ pub record Covers (x : ℕ) (range : Range) (access : MemoryAccess) : Type 0 whe
   pub at : access.address ≤ 65536 → access.address ≡ (x + (2 ^ 32 - 124) + range.begin) % 2 ^ 32
   pub few : range.begin + range.size ≤ 252
 
-pub covers : (insn : Insn) (words : Reg → ℕ) (range : Range) (access : MemoryAccess) → range_of (op_of insn) (operands_of insn) ≡ Some range
-    → access_of (op_of insn) (operands_of insn) (map words (operand_reads insn)) ≡ Some access → Covers (words range.base) range access
-covers insn words range access is_range is_access = by_operands (op_of insn) (operands_of insn) (has_unit insn).0 (has_unit insn).1 is_range is_access
+pub covers : (insn : Insn) (words : Reg → ℕ) (range : Range) (access : MemoryAccess)
+    → range_of (op_of insn) (operands_of insn) ≡ Some range
+    → access_of (op_of insn) (operands_of insn) (map words (operand_reads insn)) ≡ Some access
+    → Covers (words range.base) range access
+covers insn words range access is_range is_access = by_operands (op_of insn) (operands_of insn) (has_unit insn).0
+    (has_unit insn).1 is_range is_access
   where
-    begins : (form : AddressForm) (d size : ℕ) → d ≤ 124 → (size ≡ 1) ⊎ ((size ≡ 2) ⊎ (size ≡ 4)) → begin_of form d + size ≤ 252
+    begins : (form : AddressForm) (d size : ℕ) → d ≤ 124 → (size ≡ 1) ⊎ ((size ≡ 2) ⊎ (size ≡ 4))
+        → begin_of form d + size ≤ 252
     begins Plus d size le (inl e) = omega (arith, le, e)
     begins Plus d size le (inr (inl e)) = omega (arith, le, e)
     begins Plus d size le (inr (inr e)) = omega (arith, le, e)
@@ -178,8 +143,10 @@ covers insn words range access is_range is_access = by_operands (op_of insn) (op
     begins _ d size le (inr (inl e)) = omega (arith, le, e)
     begins _ d size le (inr (inr e)) = omega (arith, le, e)
 
-    by_operands : (op : Op) (operands : Operands) (unit : FunctionalUnit) → takes op operands unit ≡ true → range_of op operands ≡ Some range
-        → access_of op operands (map words (reads_of op operands)) ≡ Some access → Covers (words range.base) range access
+    by_operands : (op : Op) (operands : Operands) (unit : FunctionalUnit) → takes op operands unit ≡ true
+        → range_of op operands ≡ Some range
+        → access_of op operands (map words (reads_of op operands)) ≡ Some access
+        → Covers (words range.base) range access
     by_operands op (Access reg base form (ByConstant k)) unit taken r a =
         let n : ℕ = unsigned_abs k in
         let fits = small k (offset_fits op reg base form k unit taken) in
@@ -188,11 +155,16 @@ covers insn words range access is_range is_access = by_operands (op_of insn) (op
         let x : slice_index reads (base_index op) ≡ words base = base_read op reg base form k words in
         let moves : base_after op form (ByConstant k) reads ≡ moved form (words base) (n * size_of op)
         = ap (λ (v : ℕ). moved form v ((word k * size_of op) % 2 ^ 32)) x
-        ∙ ap (λ (z : ℤ). moved form (words base) ((word z * size_of op) % 2 ^ 32)) fits.0 ∙ ap (λ (v : ℕ). moved form (words base) v) d.0 in
-        let address : address_of form (slice_index reads (base_index op)) (base_after op form (ByConstant k) reads) ≡ address_of form (words base) (moved form (words base) (n * size_of op))
-        = ap (λ (v : ℕ). address_of form v (base_after op form (ByConstant k) reads)) x ∙ ap (λ (v : ℕ). address_of form (words base) v) moves in
-        let range_is : record { base = base; begin = begin_of form (n * size_of op); size = size_of op } ≡ range = same_Some _ range r in
-        let made : Covers (words base) (record { base = base; begin = begin_of form (n * size_of op); size = size_of op }) access = record {
+        ∙ ap (λ (z : ℤ). moved form (words base) ((word z * size_of op) % 2 ^ 32)) fits.0
+        ∙ ap (λ (v : ℕ). moved form (words base) v) d.0 in
+        let address : address_of form (slice_index reads (base_index op)) (base_after op form (ByConstant k) reads) ≡
+        address_of form (words base) (moved form (words base) (n * size_of op))
+        = ap (λ (v : ℕ). address_of form v (base_after op form (ByConstant k) reads)) x
+        ∙ ap (λ (v : ℕ). address_of form (words base) v) moves in
+        let range_is : record { base = base; begin = begin_of form (n * size_of op); size = size_of op } ≡ range =
+        same_Some _ range r in
+        let made : Covers (words base)
+        (record { base = base; begin = begin_of form (n * size_of op); size = size_of op }) access = record {
           size = ap (λ (m : MemoryAccess). m.size) (sym (same_Some _ access a));
           at = λ low.
               let is : access.address ≡ address_of form (words base) (moved form (words base) (n * size_of op))
@@ -213,16 +185,19 @@ covers insn words range access is_range is_access = by_operands (op_of insn) (op
 
 -- two ranges of one base that do not meet have no byte of memory in common
 no_byte : (x b c m n s t a : ℕ) → b + m ≤ 252 → c + n ≤ 252 → (b + m ≤ c) ⊎ (c + n ≤ b)
-    → s ≡ (x + (2 ^ 32 - 124) + b) % 2 ^ 32 → t ≡ (x + (2 ^ 32 - 124) + c) % 2 ^ 32 → s ≤ a → a < s + m → t ≤ a → a < t + n → ⊥
+    → s ≡ (x + (2 ^ 32 - 124) + b) % 2 ^ 32 → t ≡ (x + (2 ^ 32 - 124) + c) % 2 ^ 32 → s ≤ a → a < s + m → t ≤ a
+    → a < t + n → ⊥
 no_byte x b c m n s t a one other (inl apart) at_s at_t low high low' high' = omega arith
 no_byte x b c m n s t a one other (inr apart) at_s at_t low high low' high' = omega arith
 
 -- bytes of memory that two disjoint accesses cover, where the base is the same before both, are not one
-pub apart_bytes : (x : ℕ) (one other : Range) (p q : MemoryAccess) (a : ℕ) → (one.begin + one.size ≤ other.begin) ⊎ (other.begin + other.size ≤ one.begin)
+pub apart_bytes : (x : ℕ) (one other : Range) (p q : MemoryAccess) (a : ℕ) → (one.begin + one.size ≤ other.begin)
+    ⊎ (other.begin + other.size ≤ one.begin)
     → Covers x one p → Covers x other q → p.address + p.size ≤ 65536 → q.address + q.size ≤ 65536
     → p.address ≤ a → a < p.address + p.size → q.address ≤ a → a < q.address + q.size → ⊥
 apart_bytes x one other p q a apart c d fits fits' low high low' high' =
-    no_byte x one.begin other.begin one.size other.size p.address q.address a c.few d.few apart (c.at (omega (arith, fits))) (d.at (omega (arith, fits')))
+    no_byte x one.begin other.begin one.size other.size p.address q.address a c.few d.few apart
+    (c.at (omega (arith, fits))) (d.at (omega (arith, fits')))
     low (omega (arith, high, c.size)) low' (omega (arith, high', d.size))
 
 -- ---- the laws
@@ -230,22 +205,30 @@ apart_bytes x one other p q a apart c d fits fits' low high low' high' =
 pub small-offset : (insn : Insn) → HasSmallOffset insn
 small-offset insn reg base form k e =
     let unit = has_unit insn in
-    let taken : takes (op_of insn) (Access reg base form (ByConstant k)) unit.0 ≡ true = subst (λ (o : Operands). takes (op_of insn) o unit.0 ≡ true) e unit.1 in
-    let fits = small k (offset_fits (op_of insn) reg base form k unit.0 taken) in
-    (subst (λ (z : ℤ). pos 0 ≤ℤ z) (sym fits.0) (omega (arith, ints)), subst (λ (z : ℤ). z ≤ℤ pos 31) (sym fits.0) (omega (arith, ints, fits.1)))
+    let taken : takes (op_of insn) (Access reg base form (ByConstant k)) unit.0 ≡ true = subst
+    (λ (o : Operands). takes (op_of insn) o unit.0 ≡ true) e unit.1 in
+    let fits = small k (offset_fits (op_of insn) reg base form k unit.0 taken) in (
+      subst (λ (z : ℤ). pos 0 ≤ℤ z) (sym fits.0) (omega (arith, ints)),
+      subst (λ (z : ℤ). z ≤ℤ pos 31) (sym fits.0)
+          (omega (arith, ints, fits.1)),
+    )
 
 pub lies-at-range : (insn : Insn) → LiesAtItsRange insn
 lies-at-range insn words range access is_range is_access fits =
     let c = covers insn words range access is_range is_access in (c.at (omega (arith, fits)), c.size)
 
 pub apart-share-nothing : (p q : Insn) → ApartShareNothing p q
-apart-share-nothing p q one other words others first second at is_one is_other apart same is_first is_second fits fits' mine theirs =
-    let tests = and_parts (same_reg one.base other.base) (nat_le (one.begin + one.size) other.begin || nat_le (other.begin + other.size) one.begin) apart in
+apart-share-nothing p q one other words others first second at is_one is_other apart same is_first is_second fits fits'
+    mine theirs =
+    let tests = and_parts (same_reg one.base other.base)
+    (nat_le (one.begin + one.size) other.begin || nat_le (other.begin + other.size) one.begin) apart in
     let sides : (one.begin + one.size ≤ other.begin) ⊎ (other.begin + other.size ≤ one.begin)
     = ⊎_elim {C = (one.begin + one.size ≤ other.begin) ⊎ (other.begin + other.size ≤ one.begin)}
-    (λ l. inl (leb-true (one.begin + one.size) other.begin l)) (λ r. inr (leb-true (other.begin + other.size) one.begin r))
+    (λ l. inl (leb-true (one.begin + one.size) other.begin l))
+    (λ r. inr (leb-true (other.begin + other.size) one.begin r))
     (or_cases (nat_le (one.begin + one.size) other.begin) (nat_le (other.begin + other.size) one.begin) tests.1) in
-    let word : others other.base ≡ words one.base = ap others (sym (same_reg-is one.base other.base tests.0)) ∙ sym same in
+    let word : others other.base ≡ words one.base = ap others (sym (same_reg-is one.base other.base tests.0))
+    ∙ sym same in
     let c = covers p words one first is_one is_first in
     let d = subst (λ (v : ℕ). Covers v other second) word (covers q others other second is_other is_second) in
     apart_bytes (words one.base) one other first second at sides c d fits fits' mine.0 mine.1 theirs.0 theirs.1
@@ -260,10 +243,12 @@ meet-in-a-byte a b same some other apart = by_order (cases_lt a.begin b.begin)
     refused sides = false≢true (sym apart ∙ both_true base (side_true a.begin b.begin a.size b.size sides))
 
     later : b.begin < a.begin + a.size
-    later = ⊎_elim {C = b.begin < a.begin + a.size} (λ lt. lt) (λ ge. absurd (refused (inl ge))) (cases_lt b.begin (a.begin + a.size))
+    later = ⊎_elim {C = b.begin < a.begin + a.size} (λ lt. lt) (λ ge. absurd (refused (inl ge)))
+        (cases_lt b.begin (a.begin + a.size))
 
     sooner : a.begin < b.begin + b.size
-    sooner = ⊎_elim {C = a.begin < b.begin + b.size} (λ lt. lt) (λ ge. absurd (refused (inr ge))) (cases_lt a.begin (b.begin + b.size))
+    sooner = ⊎_elim {C = a.begin < b.begin + b.size} (λ lt. lt) (λ ge. absurd (refused (inr ge)))
+        (cases_lt a.begin (b.begin + b.size))
 
     by_order : (a.begin < b.begin) ⊎ (b.begin ≤ a.begin) → (at : ℕ) × IsIn a at × IsIn b at
     by_order (inl lt) = (b.begin, (omega (arith, lt), later), (omega arith, omega (arith, other)))

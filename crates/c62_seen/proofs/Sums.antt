@@ -4,7 +4,8 @@ use Rattle.std.specs.List.{flat_map}
 use Rattle.c62_seen.specs.Digest.{with_number, with_numbers}
 use Rattle.c62_seen.specs.Common.{of_below}
 
-pub with_all : (sum : ℕ) (first second : List ℕ) → with_numbers sum (first ++ second) ≡ with_numbers (with_numbers sum first) second
+pub with_all : (sum : ℕ) (first second : List ℕ)
+    → with_numbers sum (first ++ second) ≡ with_numbers (with_numbers sum first) second
 unfolding with_numbers
 with_all sum [] second = refl
 with_all sum (number ∷ first) second = with_all (with_number sum number) first second
@@ -17,7 +18,8 @@ with_value shown value rest (first ∷ others) sum here =
 with_value shown value rest [] sum here = grind arith
 
 -- nothing is left to be added
-pub whole : {T : Type 0} (shown : T → List ℕ) (rest : List T) (sum all : ℕ) → rest ≡ [] → with_numbers sum (flat_map shown rest) ≡ all → sum ≡ all
+pub whole : {T : Type 0} (shown : T → List ℕ) (rest : List T) (sum all : ℕ) → rest ≡ []
+    → with_numbers sum (flat_map shown rest) ≡ all → sum ≡ all
 unfolding with_numbers
 whole shown [] sum all none here = here
 whole shown (value ∷ rest) sum all none here = grind arith

@@ -8,7 +8,8 @@ use Rattle.c62_serial.specs.State.{Machine, word_in, byte_in}
 use Rattle.c62_serial.specs.Effect.{act_of, runs}
 use Rattle.c62_serial.specs.Serial.{act_by}
 
-pub act_of-action : (insn : Insn) (machine : Machine) (registers : List ℕ) (action : Action) → registers ≡ machine.registers
+pub act_of-action : (insn : Insn) (machine : Machine) (registers : List ℕ) (action : Action)
+    → registers ≡ machine.registers
     → runs (word_in machine) insn ≡ true → IsAction (op_of insn) (operands_of insn) (word_at registers) action
     → act_of insn (word_in machine) (byte_in machine) ≡ act_by (op_of insn) action (byte_in machine)
 act_of-action insn machine registers action e running told =

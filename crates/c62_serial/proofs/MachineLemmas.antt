@@ -1,5 +1,6 @@
 -- What an act leaves of a machine, register by register and byte by byte; machines that hold the same are one.
-use Rattle.std.proofs.Common.{◌≡◌, ◌≢◌, ◌⊎◌, ℕ, ◌+◌, ◌-◌, ◌<◌, ◌≤◌, Bool, true, false, List, [], ◌∷◌, length, Option, Some, None, refl, inl, inr, ◌∙◌, sym, ap, subst, get_or, arith}
+use Rattle.std.proofs.Common.{◌≡◌, ◌≢◌, ◌⊎◌, ℕ, ◌+◌, ◌-◌, ◌<◌, ◌≤◌, Bool, true, false, List, [], ◌∷◌, length, Option}
+use Rattle.std.proofs.Common.{Some, None, refl, inl, inr, ◌∙◌, sym, ap, subst, get_or, arith}
 use Rattle.std.specs.Prelude.{◌↔◌, fold, Contains, unwrap_or, nat_lt, nat_le, if◌then◌else◌}
 use Rattle.std.specs.Option.{option_or}
 use Rattle.std.specs.List.Sorted.{IsStrictlyIncreasing}
@@ -25,27 +26,32 @@ use Rattle.c62_serial.proofs.FaultLemmas.{joined_rises, joined_holds, same_risin
 
 -- ---- a run keeps a machine sound
 
-length-after_writes : (writes : List ((Reg × ℕ) × ℕ)) (registers : List ℕ) → length (fold after_write registers writes) ≡ length registers
+length-after_writes : (writes : List ((Reg × ℕ) × ℕ)) (registers : List ℕ)
+    → length (fold after_write registers writes) ≡ length registers
 length-after_writes [] registers = refl
 length-after_writes (write ∷ writes) registers =
     length-after_writes writes (after_write registers write) ∙ length-set registers (index_of write.0.0) write.1
 
-length-written : (address size value : ℕ) (memory : List ℕ) → length memory ≡ 65536 → length (written address size value memory) ≡ length memory
+length-written : (address size value : ℕ) (memory : List ℕ) → length memory ≡ 65536
+    → length (written address size value memory) ≡ length memory
 length-written address size value memory l = either (is_good address size) refl
   where
     either : (b : Bool) → is_good address size ≡ b → length (written address size value memory) ≡ length memory
     either true good = (stores memory address size value l good).size_stays
     either false bad = rw bad refl
 
-length-after_store : (memory : List ℕ) (value : Option ℕ) (address size : ℕ) → length memory ≡ 65536 → length (after_store memory value address size) ≡ length memory
+length-after_store : (memory : List ℕ) (value : Option ℕ) (address size : ℕ) → length memory ≡ 65536
+    → length (after_store memory value address size) ≡ length memory
 length-after_store memory None address size l = refl
 length-after_store memory (Some value) address size l = length-written address size value memory l
 
-length-after_access : (memory : List ℕ) (access : Option MemoryAccess) → length memory ≡ 65536 → length (after_access memory access) ≡ length memory
+length-after_access : (memory : List ℕ) (access : Option MemoryAccess) → length memory ≡ 65536
+    → length (after_access memory access) ≡ length memory
 length-after_access memory None l = refl
 length-after_access memory (Some access) l = length-after_store memory access.value access.address access.size l
 
-rises-after_fault : (lines : List ℕ) (line : ℕ) (fault : Bool) → IsStrictlyIncreasing lines → IsStrictlyIncreasing (after_fault lines line fault)
+rises-after_fault : (lines : List ℕ) (line : ℕ) (fault : Bool) → IsStrictlyIncreasing lines
+    → IsStrictlyIncreasing (after_fault lines line fault)
 rises-after_fault lines line true rising = joined_rises line lines rising
 rises-after_fault lines line false rising = rising
 
@@ -58,7 +64,8 @@ sound_act line act machine sound = record {
 
 sound_from : (insns : List SerialInsn) (ran : Ran) → IsSound ran.machine → IsSound (fold after_insn ran insns).machine
 sound_from [] ran sound = sound
-sound_from (entry ∷ insns) ran sound = sound_from insns (after_insn ran entry) (sound_act entry.line (act_in ran.machine entry) ran.machine sound)
+sound_from (entry ∷ insns) ran sound = sound_from insns (after_insn ran entry)
+    (sound_act entry.line (act_in ran.machine entry) ran.machine sound)
 
 pub sound_run : (insns : List SerialInsn) (machine : Machine) → IsSound machine → IsSound (serial insns machine).machine
 sound_run insns machine sound = sound_from insns (record { machine = machine; exit = Next }) sound
@@ -78,54 +85,66 @@ same_machine one other sound sound' same = made registers memory faults
     registers = same_number_lists one.registers other.registers (sound.registers ∙ sym sound'.registers) register
 
     memory : one.memory ≡ other.memory
-    memory = same_number_lists one.memory other.memory (sound.memory ∙ sym sound'.memory) (λ k h. same.bytes k (rw (← sound.memory) h))
+    memory = same_number_lists one.memory other.memory (sound.memory
+        ∙ sym sound'.memory) (λ k h. same.bytes k (rw (← sound.memory) h))
 
     faults : one.faults ≡ other.faults
     faults = same_rising one.faults other.faults sound.rising sound'.rising same.faults
 
     made : one.registers ≡ other.registers → one.memory ≡ other.memory → one.faults ≡ other.faults → one ≡ other
     made e f g =
-        ap (λ (xs : List ℕ). record one { registers = xs }) e ∙ ap (λ (xs : List ℕ). record other { memory = xs; faults = one.faults }) f
+        ap (λ (xs : List ℕ). record one { registers = xs }) e
+        ∙ ap (λ (xs : List ℕ). record other { memory = xs; faults = one.faults }) f
         ∙ ap (λ (xs : List ℕ). record other { faults = xs }) g
 
 -- ---- an act, register by register and byte by byte
 
-in_turn : (one other : Option ℕ) (word : ℕ) → unwrap_or (option_or one other) word ≡ unwrap_or one (unwrap_or other word)
+in_turn : (one other : Option ℕ) (word : ℕ)
+    → unwrap_or (option_or one other) word ≡ unwrap_or one (unwrap_or other word)
 in_turn None other word = refl
 in_turn (Some value) other word = refl
 
 after_one : (reg : Reg) (write : (Reg × ℕ) × ℕ) (registers : List ℕ) → length registers ≡ 32
-    → get_or (after_write registers write) (index_of reg) 0 ≡ unwrap_or (if same_reg write.0.0 reg then Some write.1 else None) (get_or registers (index_of reg) 0)
+    → get_or (after_write registers write) (index_of reg) 0 ≡ unwrap_or
+    (if same_reg write.0.0 reg then Some write.1 else None) (get_or registers (index_of reg) 0)
 after_one reg write registers l = either (same_reg write.0.0 reg) refl
   where
     Left : Bool → Type 0
-    Left b = get_or (after_write registers write) (index_of reg) 0 ≡ unwrap_or (if b then Some write.1 else None) (get_or registers (index_of reg) 0)
+    Left b = get_or (after_write registers write) (index_of reg) 0 ≡ unwrap_or (if b then Some write.1 else None)
+        (get_or registers (index_of reg) 0)
 
     other : same_reg write.0.0 reg ≡ false → reg ≢ write.0.0
-    other e f = false≢true (sym e ∙ (let P : Reg → Type 0 = λ r. same_reg r reg ≡ true in subst P f (same_reg-refl reg)))
+    other e f = false≢true (sym e
+        ∙ (let P : Reg → Type 0 = λ r. same_reg r reg ≡ true in subst P f (same_reg-refl reg)))
 
     either : (b : Bool) → same_reg write.0.0 reg ≡ b → Left (same_reg write.0.0 reg)
     either true e =
         let f : write.0.0 ≡ reg = same_reg-is write.0.0 reg e in
         rw e (rw (← f) (get_or-set_same registers (index_of write.0.0) write.1 0 (rw l (index_within write.0.0))))
-    either false e = rw e (get_or-set_other registers (index_of write.0.0) (index_of reg) write.1 0 (apart reg write.0.0 (other e)))
+    either false e = rw e
+        (get_or-set_other registers (index_of write.0.0) (index_of reg) write.1 0 (apart reg write.0.0 (other e)))
 
 last_word : (reg : Reg) (writes : List ((Reg × ℕ) × ℕ)) (registers : List ℕ) → length registers ≡ 32
-    → get_or (fold after_write registers writes) (index_of reg) 0 ≡ unwrap_or (last_written reg writes) (get_or registers (index_of reg) 0)
+    → get_or (fold after_write registers writes) (index_of reg) 0 ≡ unwrap_or (last_written reg writes)
+    (get_or registers (index_of reg) 0)
 last_word reg [] registers l = refl
 last_word reg (write ∷ writes) registers l =
     last_word reg writes (after_write registers write) (length-set registers (index_of write.0.0) write.1 ∙ l)
     ∙ ap (λ (word : ℕ). unwrap_or (last_written reg writes) word) (after_one reg write registers l)
-    ∙ sym (in_turn (last_written reg writes) (if same_reg write.0.0 reg then Some write.1 else None) (get_or registers (index_of reg) 0))
+    ∙ sym (in_turn (last_written reg writes) (if same_reg write.0.0 reg then Some write.1 else None)
+    (get_or registers (index_of reg) 0))
 
 byte_written : (address start size value : ℕ) (memory : List ℕ) → length memory ≡ 65536
-    → get_or (written start size value memory) address 0 ≡ unwrap_or (stored_by start size (Some value) address) (get_or memory address 0)
+    → get_or (written start size value memory) address 0 ≡ unwrap_or (stored_by start size (Some value) address)
+    (get_or memory address 0)
 byte_written address start size value memory l = either (is_good start size) refl
   where
     Left : Type 0
-    Left = get_or (written start size value memory) address 0 ≡ unwrap_or (stored_by start size (Some value) address) (get_or memory address 0)
+    Left = get_or (written start size value memory) address 0 ≡ unwrap_or (stored_by start size (Some value) address)
+        (get_or memory address 0)
 
-    by_side : is_good start size ≡ true → (address < start) ⊎ (start ≤ address) → (address < start + size) ⊎ (start + size ≤ address) → Left
+    by_side : is_good start size ≡ true → (address < start) ⊎ (start ≤ address) → (address < start + size)
+        ⊎ (start + size ≤ address) → Left
     by_side good (inl below) _ =
         let e : nat_le start address ≡ false = grind (arith, nat_tests) in
         let f = (stores memory start size value l good).outside address (inl below) in
@@ -147,7 +166,8 @@ byte_written address start size value memory l = either (is_good start size) ref
     either false bad = rw bad refl
 
 byte_stored : (address start size : ℕ) (value : Option ℕ) (memory : List ℕ) → length memory ≡ 65536
-    → get_or (after_store memory value start size) address 0 ≡ unwrap_or (stored_by start size value address) (get_or memory address 0)
+    → get_or (after_store memory value start size) address 0 ≡ unwrap_or (stored_by start size value address)
+    (get_or memory address 0)
 byte_stored address start size None memory l = refl
 byte_stored address start size (Some value) memory l = byte_written address start size value memory l
 
@@ -158,7 +178,8 @@ byte_after address (Some access) memory l = byte_stored address access.address a
 
 faulted_after : (lines : List ℕ) (line : ℕ) (fault : Bool) (other : ℕ)
     → Contains (after_fault lines line fault) other ↔ (((fault ≡ true) × (other ≡ line)) ⊎ Contains lines other)
-faulted_after lines line true other = (λ c. elim ((joined_holds lines line other).0 c) [ inl e ↦ inl (refl, e) | inr r ↦ inr r ], back)
+faulted_after lines line true other =
+    (λ c. elim ((joined_holds lines line other).0 c) [ inl e ↦ inl (refl, e) | inr r ↦ inr r ], back)
   where
     back : ((true ≡ true) × (other ≡ line)) ⊎ Contains lines other → Contains (after_fault lines line true) other
     back (inl e) = (joined_holds lines line other).1 (inl e.1)

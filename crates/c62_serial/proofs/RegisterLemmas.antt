@@ -21,5 +21,6 @@ index_within reg = within_file reg.side reg.number reg.in_range
 pub register_at : (index : ℕ) → index < 32 → (reg : Reg) × (index_of reg ≡ index)
 register_at index h = elim (cases_lt index 16) [
   | inl l ↦ (record { side = A; number = index; in_range = l }, omega arith)
-  | inr l ↦ (let m : index - 16 < 16 = omega arith in (record { side = B; number = index - 16; in_range = m }, omega arith))
+  | inr l ↦ (let m : index - 16 < 16 = omega arith in
+      (record { side = B; number = index - 16; in_range = m }, omega arith))
 ]

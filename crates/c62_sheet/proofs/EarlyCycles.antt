@@ -1,6 +1,8 @@
 -- The first cycle in which all bounds are kept, as far as a walk has come.
-use Rattle.c62_sheet.proofs.Common.{refl, arith, ◌≡◌, ℕ, max, ◌+◌, ◌<◌, ◌≤◌, List, length, get_or, Some, ints, get_or_default, Insn, Link, short_is}
-use Rattle.c62_sheet.proofs.Common.{Spot, Spots, IsAt, IsEarly, IsDirectEarly, All-get_or, direct_needs, direct_needs_are, IsDirect, Contains, IsShort, latency}
+use Rattle.c62_sheet.proofs.Common.{refl, arith, ◌≡◌, ℕ, max, ◌+◌, ◌<◌, ◌≤◌, List, length, get_or, Some, ints}
+use Rattle.c62_sheet.proofs.Common.{get_or_default, Insn, Link, short_is}
+use Rattle.c62_sheet.proofs.Common.{Spot, Spots, IsAt, IsEarly, IsDirectEarly, All-get_or, direct_needs}
+use Rattle.c62_sheet.proofs.Common.{direct_needs_are, IsDirect, Contains, IsShort, latency}
 use Rattle.c62_sheet.proofs.Common.{ℤ, pos, ◌+ℤ◌, cases_lt, inl, inr}
 use Rattle.std.specs.Prelude.{◌≤ℤ◌}
 use Rattle.c62_sheet.specs.Early.{IsAfterLink, IsBoundBy, IsFirstBehind}
@@ -11,7 +13,8 @@ pub record IsEarlyBelow (set : Spots) (links : List Link) (n cycle : ℕ) : Type
   pub after : (k : ℕ) (d : Link) → k < n → IsAfterLink set (get_or links k d) cycle
   pub least : (other : ℕ) → ((k : ℕ) (d : Link) → k < n → IsAfterLink set (get_or links k d) other) → cycle ≤ other
 
-pub early-more : {set : Spots} {links : List Link} {n cycle m : ℕ} (d : Link) → n < length links → IsEarlyBelow set links n cycle
+pub early-more : {set : Spots} {links : List Link} {n cycle m : ℕ} (d : Link) → n < length links
+    → IsEarlyBelow set links n cycle
     → IsBoundBy set (get_or links n d) m → IsEarlyBelow set links (n + 1) (max cycle m)
 early-more {set} {links} {n} {cycle} {m} d in_links early bound = record {
   after = λ k e lt s at. grind (arith, ints, early.after k e, bound.after s, get_or_default links n e d);
@@ -23,13 +26,17 @@ early-more {set} {links} {n} {cycle} {m} d in_links early bound = record {
 
 -- the direct dependences of an instruction, of which each goes to an earlier number and is short
 module _ (block : List Insn) (i : ℕ) (links : List Link) (is : links ≡ direct_needs block i) where
-  need_at : (k : ℕ) (d : Link) → k < length links → IsDirect block (get_or links k d).number i (get_or links k d).latency
-  need_at k d lt = All-get_or (λ (x : Link). IsDirect block x.number i x.latency) links k d lt (rw is (direct_needs_are block i).all)
+  need_at : (k : ℕ) (d : Link) → k < length links
+      → IsDirect block (get_or links k d).number i (get_or links k d).latency
+  need_at k d lt = All-get_or (λ (x : Link). IsDirect block x.number i x.latency) links k d lt
+      (rw is (direct_needs_are block i).all)
 
-  pub need_short : (k : ℕ) (d : Link) → k < length links → IsShort block (get_or links k d).number i (get_or links k d).latency
+  pub need_short : (k : ℕ) (d : Link) → k < length links
+      → IsShort block (get_or links k d).number i (get_or links k d).latency
   need_short k d lt = short_is block (get_or links k d).number i (get_or links k d).latency (need_at k d lt).is
 
-  pub early_of : (set : Spots) (n cycle : ℕ) → length links ≤ n → n ≤ length links → IsEarlyBelow set links n cycle → IsDirectEarly block set i cycle
+  pub early_of : (set : Spots) (n cycle : ℕ) → length links ≤ n → n ≤ length links → IsEarlyBelow set links n cycle
+      → IsDirectEarly block set i cycle
   early_of set n cycle all few e = record {
     after = λ h l s d at.
         let link : Link = record { number = h; latency = l } in
@@ -45,14 +52,18 @@ module _ (block : List Insn) (i : ℕ) (links : List Link) (is : links ≡ direc
 
 -- the least cycle in which the latencies from the numbers below n are over
 pub record IsEarlyFrom (block : List Insn) (set : Spots) (i n cycle : ℕ) : Type 0 where
-  pub after : (h : ℕ) (cycles : ℤ) (s : Spot) → h < n → latency block h i ≡ Some cycles → IsAt set h s → (pos s.cycle +ℤ cycles) ≤ℤ pos cycle
-  pub least : (other : ℕ) → ((h : ℕ) (cycles : ℤ) (s : Spot) → h < n → latency block h i ≡ Some cycles → IsAt set h s → (pos s.cycle +ℤ cycles) ≤ℤ pos other)
+  pub after : (h : ℕ) (cycles : ℤ) (s : Spot) → h < n → latency block h i ≡ Some cycles → IsAt set h s
+      → (pos s.cycle +ℤ cycles) ≤ℤ pos cycle
+  pub least : (other : ℕ)
+      → ((h : ℕ) (cycles : ℤ) (s : Spot) → h < n → latency block h i ≡ Some cycles → IsAt set h s
+      → (pos s.cycle +ℤ cycles) ≤ℤ pos other)
       → cycle ≤ other
 
 within_max : (c : ℕ) (l : ℤ) (a m : ℕ) → (pos c +ℤ l) ≤ℤ pos a → a ≤ m → (pos c +ℤ l) ≤ℤ pos m
 within_max c l a m low le = omega (arith, ints, low, le)
 
-pub early_from-more : (block : List Insn) (set : Spots) (i n cycle m : ℕ) → IsEarlyFrom block set i n cycle → IsFirstBehind set n (latency block n i) m
+pub early_from-more : (block : List Insn) (set : Spots) (i n cycle m : ℕ) → IsEarlyFrom block set i n cycle
+    → IsFirstBehind set n (latency block n i) m
     → IsEarlyFrom block set i (n + 1) (max cycle m)
 early_from-more block set i n cycle m early bound = record {
   after = λ h l s lt e at. elim (cases_lt h n) [
@@ -67,7 +78,8 @@ early_from-more block set i n cycle m early bound = record {
       omega arith;
 }
 
-pub early_from-all : (block : List Insn) (set : Spots) (i n cycle : ℕ) → i ≤ n → IsEarlyFrom block set i n cycle → IsEarly block set i cycle
+pub early_from-all : (block : List Insn) (set : Spots) (i n cycle : ℕ) → i ≤ n → IsEarlyFrom block set i n cycle
+    → IsEarly block set i cycle
 early_from-all block set i n cycle all early = record {
   after = λ h bound s w at.
       let l = latency_from block h i (latency block h i) refl (bound, w) in

@@ -11,7 +11,11 @@ lawful_empty block = record {
   units = λ i s at. absurd (none i s at);
   within = λ i s at. absurd (none i s at);
   rules = record {
-    enough = λ cycle r. omega (arith, none-used-in cycle r (issues block (nothing_placed (length block))) (λ k q is e. none_issued k q is));
+    enough = λ cycle r. omega (
+      arith,
+      none-used-in cycle r (issues block (nothing_placed (length block)))
+          (λ k q is e. none_issued k q is),
+    );
     landing = λ i j p q reg cycle is. absurd (none_issued i p is);
   };
   founded = λ i j t dep at. absurd (none j t at);
@@ -25,4 +29,5 @@ lawful_empty block = record {
     none i s at = none-some s (sym (nothing_at (length block) i) ∙ at)
 
     none_issued : (k : ℕ) (q : Issue) → get_or (issues block (nothing_placed (length block))) k None ≡ Some q → ⊥
-    none_issued k q is = (let w = issued-placement block (nothing_placed (length block)) k q sized is in none k w.spot w.is_at)
+    none_issued k q is = (let w = issued-placement block (nothing_placed (length block)) k q sized is in none k w.spot
+        w.is_at)

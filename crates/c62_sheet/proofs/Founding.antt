@@ -1,12 +1,14 @@
 -- What direct dependences tell on a lawful set: all dependences are implied by chains of them.
-use Rattle.c62_sheet.proofs.Common.{arith, ints, refl, subst, ◌≡◌, ◌≢◌, ℕ, ◌<◌, ℤ, pos, ◌+ℤ◌, List, Option, Some, None, Insn}
-use Rattle.c62_sheet.proofs.Common.{Bounds, Depends, IsGreatestBound, IsLatency, latency, short_is, Spot, Spots, spot_at, IsAt, IsSome}
+use Rattle.c62_sheet.proofs.Common.{arith, ints, refl, subst, ◌≡◌, ◌≢◌, ℕ, ◌<◌, ℤ, pos, ◌+ℤ◌, List, Option, Some, None}
+use Rattle.c62_sheet.proofs.Common.{Insn}
+use Rattle.c62_sheet.proofs.Common.{Bounds, Depends, IsGreatestBound, IsLatency, latency, short_is, Spot, Spots}
+use Rattle.c62_sheet.proofs.Common.{spot_at, IsAt, IsSome}
 use Rattle.c62_sheet.proofs.Common.{IsLawful, IsReady, IsLast, IsAfter, IsEarly}
 use Rattle.std.specs.Prelude.{◌≤ℤ◌}
 use Rattle.c62_depend.specs.Direct.{IsDirect, DependsDirectly, Chain}
 use Rattle.c62_depend.specs.Direct.Chain.{single, longer}
 use Rattle.c62_depend.proofs.Latencies.{latency-is}
-use Rattle.c62_depend.proofs.Relays.{direct_ones_bind}
+use Rattle.c62_depend.proofs.AllRelays.{direct_ones_bind}
 use Rattle.c62_sheet.specs.Early.{IsAfterDirect, IsDirectEarly}
 use Rattle.c62_sheet.specs.Laws.{DirectOnesTellEarly}
 use Rattle.c62_sheet.proofs.Optional.{value_of_some, none_not_some}
@@ -20,7 +22,8 @@ latency_from block h i None e dep = absurd (subst (IsLatency block h i) e (laten
 latency_from block h i (Some l) e dep = (l, e, subst (IsLatency block h i) e (latency-is block h i))
 
 pub latency_bounds : (block : List Insn) (i j : ℕ) (l : ℤ) → latency block i j ≡ Some l → Bounds block i j l
-latency_bounds block i j l e = (let g : IsGreatestBound block i j l = subst (IsLatency block i j) e (latency-is block i j) in g.applies)
+latency_bounds block i j l e =
+    (let g : IsGreatestBound block i j l = subst (IsLatency block i j) e (latency-is block i j) in g.applies)
 
 -- a direct dependence is one, by its latency
 pub bounds_direct : (block : List Insn) (i j : ℕ) (l : ℤ) → IsDirect block i j l → Bounds block i j l
@@ -30,7 +33,8 @@ pub depends_direct : (block : List Insn) (i j : ℕ) → DependsDirectly block i
 depends_direct block i j w = (w.0, bounds_direct block i j w.0 w.1)
 
 -- a chain leads along each dependence, with a sum of at least each of its bounds
-pub chain_over : (block : List Insn) (i j : ℕ) (bound : ℤ) → Bounds block i j bound → (sum : ℤ) × Chain block i j sum × (bound ≤ℤ sum)
+pub chain_over : (block : List Insn) (i j : ℕ) (bound : ℤ) → Bounds block i j bound → (sum : ℤ) × Chain block i j sum
+    × (bound ≤ℤ sum)
 chain_over block i j bound w =
     let l = latency_from block i j (latency block i j) refl (bound, w) in
     let c = direct_ones_bind block i j l.0 l.1 in
@@ -61,16 +65,20 @@ module _ (block : List Insn) (set : Spots) (lawful : IsLawful block set) where
       chain_placed h m sum c (lawful.founded m k t.0 (depends_direct block m k (cycles, d)) t.1)
 
   -- and stands its sum later
-  pub chain_kept : (h k : ℕ) (sum : ℤ) → Chain block h k sum → (s t : Spot) → IsAt set h s → IsAt set k t → (pos s.cycle +ℤ sum) ≤ℤ pos t.cycle
-  chain_kept h k _ (single _ cycles d) s t at_h at_k = lawful.delays h k cycles s t (bounds_direct block h k cycles d) at_h at_k
+  pub chain_kept : (h k : ℕ) (sum : ℤ) → Chain block h k sum → (s t : Spot) → IsAt set h s → IsAt set k t
+      → (pos s.cycle +ℤ sum) ≤ℤ pos t.cycle
+  chain_kept h k _ (single _ cycles d) s t at_h at_k = lawful.delays h k cycles s t (bounds_direct block h k cycles d)
+      at_h at_k
   chain_kept h k _ (longer m _ sum cycles c d) s t at_h at_k =
       let u = value_of_some (spot_at set m) (lawful.founded m k t (depends_direct block m k (cycles, d)) at_k) in
       let first : (pos s.cycle +ℤ sum) ≤ℤ pos u.0.cycle = chain_kept h m sum c s u.0 at_h u.1 in
-      let second : (pos u.0.cycle +ℤ cycles) ≤ℤ pos t.cycle = lawful.delays m k cycles u.0 t (bounds_direct block m k cycles d) u.1 at_k in
+      let second : (pos u.0.cycle +ℤ cycles) ≤ℤ pos t.cycle = lawful.delays m k cycles u.0 t
+      (bounds_direct block m k cycles d) u.1 at_k in
       omega (arith, ints, first, second)
 
   -- no chain leads from what no placed number depends on directly to a placed one
-  no_chain : (i k : ℕ) (sum : ℤ) → ((j : ℕ) → DependsDirectly block i j → spot_at set j ≡ None) → Chain block i k sum → IsSome (spot_at set k) → ⊥
+  no_chain : (i k : ℕ) (sum : ℤ) → ((j : ℕ) → DependsDirectly block i j → spot_at set j ≡ None) → Chain block i k sum
+      → IsSome (spot_at set k) → ⊥
   no_chain i k _ none (single _ cycles d) some = none_not_some (spot_at set k) (none k (cycles, d)) some
   no_chain i k _ none (longer m _ sum cycles c d) some =
       let t = value_of_some (spot_at set k) some in
@@ -81,18 +89,23 @@ module _ (block : List Insn) (set : Spots) (lawful : IsLawful block set) where
       let c = chain_over block i j dep.0 dep.1 in
       none_of (spot_at set j) (λ some. no_chain i j c.0 none c.1 some)
 
-  -- what depends on number i, which nothing placed depends on, and has all that it depends on directly placed, depends on i
+  -- what depends on number i, which nothing placed depends on, and has all that it depends on directly placed, depends
+  -- on i
   -- directly
-  pub not_behind_last : (i k : ℕ) → IsLast block set i → ((m : ℕ) → DependsDirectly block m k → IsSome (spot_at set m)) → (DependsDirectly block i k → ⊥)
+  pub not_behind_last : (i k : ℕ) → IsLast block set i → ((m : ℕ) → DependsDirectly block m k → IsSome (spot_at set m))
+      → (DependsDirectly block i k → ⊥)
       → Depends block i k → ⊥
   not_behind_last i k last placed out dep = (let c = chain_over block i k dep.0 dep.1 in by_chain c.0 c.1)
     where
       by_chain : (sum : ℤ) → Chain block i k sum → ⊥
       by_chain _ (single _ cycles d) = out (cycles, d)
-      by_chain _ (longer m _ sum cycles c d) = no_chain i m sum (λ j w. last j (depends_direct block i j w)) c (placed m (cycles, d))
+      by_chain _ (longer m _ sum cycles c d) = no_chain i m sum (λ j w. last j (depends_direct block i j w)) c
+          (placed m (cycles, d))
 
-  -- what depends on number i, which isn't placed, and has all others that it depends on directly placed, depends on i directly
-  pub not_through : (i k : ℕ) → spot_at set i ≡ None → ((m : ℕ) → DependsDirectly block m k → m ≢ i → IsSome (spot_at set m)) → (DependsDirectly block i k → ⊥)
+  -- what depends on number i, which isn't placed, and has all others that it depends on directly placed, depends on i
+  -- directly
+  pub not_through : (i k : ℕ) → spot_at set i ≡ None
+      → ((m : ℕ) → DependsDirectly block m k → m ≢ i → IsSome (spot_at set m)) → (DependsDirectly block i k → ⊥)
       → Depends block i k → ⊥
   not_through i k free placed out dep = (let c = chain_over block i k dep.0 dep.1 in by_chain c.0 c.1)
     where
@@ -130,7 +143,8 @@ module _ (block : List Insn) (set : Spots) (lawful : IsLawful block set) where
     pub early_is : (cycle : ℕ) → IsDirectEarly block set i cycle → IsEarly block set i cycle
     early_is cycle early = record {
       after = after_all cycle early.after;
-      least = λ other after. early.least other (λ h cycles s d at. after h cycles s (bounds_direct block h i cycles d) at);
+      least = λ other after. early.least other
+          (λ h cycles s d at. after h cycles s (bounds_direct block h i cycles d) at);
     }
 
     pub is_early : (cycle : ℕ) → IsEarly block set i cycle → IsDirectEarly block set i cycle

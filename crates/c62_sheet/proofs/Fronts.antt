@@ -1,5 +1,6 @@
 -- The first placements of a set, one after the other.
-use Rattle.c62_sheet.proofs.Common.{◌≡◌, ℕ, zero, suc, length, [], ◌∷◌, None, refl, sym, ap, ◌∙◌, slice_set, Spots, spot_at, nothing_placed}
+use Rattle.c62_sheet.proofs.Common.{◌≡◌, ℕ, zero, suc, length, [], ◌∷◌, None, refl, sym, ap, ◌∙◌, slice_set, Spots}
+use Rattle.c62_sheet.proofs.Common.{spot_at, nothing_placed}
 use Rattle.c62_sheet.proofs.RowsOf.{nothing_out}
 
 -- the set of what is placed of the numbers below i

@@ -1,5 +1,6 @@
 -- All that is lawfully placed has landed when its length ends, each instruction by its own delay.
-use Rattle.std.proofs.Common.{arith, ◌≡◌, ℕ, zero, suc, ◌+◌, ◌<◌, ◌≤◌, List, [], ◌∷◌, ◌++◌, length, Option, Some, None, refl, sym, ap, ◌∙◌, inl, inr, Bool, true, false, cond}
+use Rattle.std.proofs.Common.{arith, ◌≡◌, ℕ, zero, suc, ◌+◌, ◌<◌, ◌≤◌, List, [], ◌∷◌, ◌++◌, length, Option, Some, None}
+use Rattle.std.proofs.Common.{refl, sym, ap, ◌∙◌, inl, inr, Bool, true, false, cond}
 use Rattle.std.specs.Prelude.{slice_get, find, IsTrue, pos, ◌-ℤ◌}
 use Rattle.std.specs.Option.{option_map_or}
 use Rattle.std.proofs.lemmas.Bool.{cases_eq, cases_Bool}
@@ -12,7 +13,8 @@ use Rattle.c62_op.specs.declared.operands.Op.TheVariants.{B as Branch, Stb, Sth,
 use Rattle.c62_op.specs.declared.operands.AddressForm.{AddressForm}
 use Rattle.c62_op.specs.declared.operands.Offset.{Offset}
 use Rattle.c62_op.specs.declared.operands.Operands.{Operands}
-use Rattle.c62_op.specs.declared.operands.Operands.TheVariants.{Three, ConstantFirst, ConstantSecond, Two, Field, Constant, Access, Block, Register}
+use Rattle.c62_op.specs.declared.operands.Operands.TheVariants.{Three, ConstantFirst, ConstantSecond, Two, Field}
+use Rattle.c62_op.specs.declared.operands.Operands.TheVariants.{Constant, Access, Block, Register}
 use Rattle.c62_op.specs.Takes.{takes}
 use Rattle.c62_insn.specs.declared.insn.Insn.{Insn}
 use Rattle.c62_op.specs.Shape.{delay_of, is_branch, is_load, changes_base, writes_of}
@@ -33,7 +35,8 @@ delay_most : (op : Op) → delay_of op ≤ 5
 delay_most op = grind arith
 
 -- an access that loads nothing has no delay
-no_load : (op : Op) (reg base : Reg) (form : AddressForm) (offset : Offset) (u : FunctionalUnit) → takes op (Access reg base form offset) u ≡ true
+no_load : (op : Op) (reg base : Reg) (form : AddressForm) (offset : Offset) (u : FunctionalUnit)
+    → takes op (Access reg base form offset) u ≡ true
     → is_load op ≡ false → delay_of op ≡ 0
 no_load Stb reg base form offset u h e = refl
 no_load Sth reg base form offset u h e = refl
@@ -63,8 +66,10 @@ written_last op (Constant k d) u h e = omega arith
 written_last op (Access reg base form offset) u h e =
     elim (cases_Bool (is_load op)) [
       | inl loads ↦
-          let own : delay_of op ≤ greatest_delay (cond (is_load op) ((reg, delay_of op) ∷ []) []) = rw loads (omega arith) in
-          let behind = greatest_behind (cond (changes_base form) ((base, 0) ∷ []) []) (cond (is_load op) ((reg, delay_of op) ∷ []) []) in
+          let own : delay_of op ≤ greatest_delay (cond (is_load op) ((reg, delay_of op) ∷ []) []) = rw loads
+          (omega arith) in
+          let behind = greatest_behind (cond (changes_base form) ((base, 0) ∷ []) [])
+          (cond (is_load op) ((reg, delay_of op) ∷ []) []) in
           omega (arith, own, behind)
       | inr none ↦ omega (arith, no_load op reg base form offset u h none)
     ]
@@ -72,7 +77,8 @@ written_last op (Block number) u h e = absurd (cc (to_branch op number u h, e))
 written_last op (Register target) u h e = absurd (cc (to_register op target u h, e))
 
 -- what is no branch writes with its delay, or has none
-pub lands_with_delay : (insn : Insn) → is_branch (op_of insn) ≡ false → delay_of (op_of insn) ≤ greatest_delay (register_writes insn)
+pub lands_with_delay : (insn : Insn) → is_branch (op_of insn) ≡ false
+    → delay_of (op_of insn) ≤ greatest_delay (register_writes insn)
 lands_with_delay insn e = let found = has_unit insn in written_last (op_of insn) (operands_of insn) found.0 found.1 e
 
 -- ---- what is issued
@@ -80,7 +86,8 @@ lands_with_delay insn e = let found = has_unit insn in written_last (op_of insn)
 abbrev pub branches : Issue → Bool
 branches p = is_branch (op_of p.insn)
 
-lands_last : (issues : Issues) (k : ℕ) (p : Issue) → IsIssued issues k p → landing_end p ≤ last_landing_end (issued issues)
+lands_last : (issues : Issues) (k : ℕ) (p : Issue) → IsIssued issues k p
+    → landing_end p ≤ last_landing_end (issued issues)
 lands_last [] k p is = absurd (none-some p is)
 lands_last (None ∷ issues) zero p is = absurd (none-some p is)
 lands_last (None ∷ issues) (suc k) p is = lands_last issues k p is
@@ -94,7 +101,8 @@ pub record IsBranchAt (issues : Issues) (b : Issue) : Type 0 where
   pub at : IsIssued issues number b
   pub branching : IsTrue (branches b)
 
-later_branch : (first : Option Issue) (issues : Issues) (b : Issue) → IsBranchAt issues b → IsBranchAt (first ∷ issues) b
+later_branch : (first : Option Issue) (issues : Issues) (b : Issue) → IsBranchAt issues b
+    → IsBranchAt (first ∷ issues) b
 later_branch first issues b w = record { number = suc w.number; at = w.at; branching = w.branching }
 
 pub found_branch : (issues : Issues) (b : Issue) → find branches (issued issues) ≡ Some b → IsBranchAt issues b
@@ -102,16 +110,21 @@ found_branch [] b found = absurd (none-some b found)
 found_branch (None ∷ issues) b found = later_branch None issues b (found_branch issues b found)
 found_branch (Some q ∷ issues) b found = go (λ rest. found_branch issues b rest) (branches q) refl
   where
-    go : (find branches (issued issues) ≡ Some b → IsBranchAt issues b) → (t : Bool) → branches q ≡ t → IsBranchAt (Some q ∷ issues) b
+    go : (find branches (issued issues) ≡ Some b → IsBranchAt issues b) → (t : Bool) → branches q ≡ t
+        → IsBranchAt (Some q ∷ issues) b
     go later true e =
-        let same : q ≡ b = same_Some q b (sym (ap (λ (t : Bool). cond {A = Option Issue} t (Some q) (find branches (issued issues))) e) ∙ found) in
+        let same : q ≡ b = same_Some q b
+        (sym (ap (λ (t : Bool). cond {A = Option Issue} t (Some q) (find branches (issued issues))) e)
+        ∙ found) in
         record { number = 0; at = ap (λ (r : Issue). Some r) same; branching = sym (ap branches same) ∙ e }
     go later false e =
-        let rest : find branches (issued issues) ≡ Some b = sym (ap (λ (t : Bool). cond {A = Option Issue} t (Some q) (find branches (issued issues))) e) ∙ found in
+        let rest : find branches (issued issues) ≡ Some b = sym
+        (ap (λ (t : Bool). cond {A = Option Issue} t (Some q) (find branches (issued issues))) e) ∙ found in
         later_branch (Some q) issues b (later rest)
 
 -- where none is found, what is issued is none
-no_branch : (issues : Issues) (k : ℕ) (p : Issue) → find branches (issued issues) ≡ None → IsIssued issues k p → branches p ≡ false
+no_branch : (issues : Issues) (k : ℕ) (p : Issue) → find branches (issued issues) ≡ None → IsIssued issues k p
+    → branches p ≡ false
 no_branch [] k p none is = absurd (none-some p is)
 no_branch (None ∷ issues) zero p none is = absurd (none-some p is)
 no_branch (None ∷ issues) (suc k) p none is = no_branch issues k p none is
@@ -120,17 +133,21 @@ no_branch (Some q ∷ issues) k p none is = go (λ k rest at. no_branch issues k
     go : ((k : ℕ) → find branches (issued issues) ≡ None → IsIssued issues k p → branches p ≡ false)
         → (t : Bool) → branches q ≡ t → (k : ℕ) → IsIssued (Some q ∷ issues) k p → branches p ≡ false
     go later true e k is =
-        absurd (none-some q (sym none ∙ ap (λ (t : Bool). cond {A = Option Issue} t (Some q) (find branches (issued issues))) e))
+        absurd (none-some q (sym none
+        ∙ ap (λ (t : Bool). cond {A = Option Issue} t (Some q) (find branches (issued issues))) e))
     go later false e zero is = sym (ap branches (same_Some q p is)) ∙ e
     go later false e (suc k) is =
-        later k (sym (ap (λ (t : Bool). cond {A = Option Issue} t (Some q) (find branches (issued issues))) e) ∙ none) is
+        later k (sym (ap (λ (t : Bool). cond {A = Option Issue} t (Some q) (find branches (issued issues))) e)
+        ∙ none) is
 
 -- ---- what is placed
 
 module _ (block : List Insn) (set : Spots) (plan : IsPlan block) (lawful : IsLawful block set) where
   -- what stands before the branch has landed when that takes effect
-  before_branch : (i k : ℕ) (insn branch : Insn) (s t : Spot) → i < k → slice_get block i ≡ Some insn → slice_get block k ≡ Some branch
-      → IsTrue (is_branch (op_of branch)) → IsAt set i s → IsAt set k t → s.cycle + delay_of (op_of insn) + 1 ≤ t.cycle + 6
+  before_branch : (i k : ℕ) (insn branch : Insn) (s t : Spot) → i < k → slice_get block i ≡ Some insn
+      → slice_get block k ≡ Some branch
+      → IsTrue (is_branch (op_of branch)) → IsAt set i s → IsAt set k t
+      → s.cycle + delay_of (op_of insn) + 1 ≤ t.cycle + 6
   before_branch i k insn branch s t lt at_i at_k branching is_i is_k =
       let bounds : Bounds block i k (pos (delay_of (op_of insn)) -ℤ pos 5) = record {
         first = insn;
@@ -143,14 +160,17 @@ module _ (block : List Insn) (set : Spots) (plan : IsPlan block) (lawful : IsLaw
       let kept = lawful.delays i k (pos (delay_of (op_of insn)) -ℤ pos 5) s t bounds is_i is_k in
       omega (arith, ints, kept)
 
-  lands_by : (b : Issue) (w : IsBranchAt (issues block set) b) (i : ℕ) (insn : Insn) (s : Spot) → slice_get block i ≡ Some insn → IsAt set i s
+  lands_by : (b : Issue) (w : IsBranchAt (issues block set) b) (i : ℕ) (insn : Insn) (s : Spot)
+      → slice_get block i ≡ Some insn → IsAt set i s
       → s.cycle + delay_of (op_of insn) + 1 ≤ b.cycle + 6
   lands_by b w i insn s at is =
       let q = issued-placement block set w.number b lawful.sized w.at in
       let cycle : b.cycle ≡ q.spot.cycle = ap (λ (p : Issue). p.cycle) q.is_issue in
-      let branching : IsTrue (is_branch (op_of q.insn)) = sym (ap (λ (p : Issue). branches p) q.is_issue) ∙ w.branching in
+      let branching : IsTrue (is_branch (op_of q.insn)) = sym (ap (λ (p : Issue). branches p) q.is_issue)
+      ∙ w.branching in
       let last = plan.branch w.number q.insn q.is_insn branching in
-      let inside : i < length block = elim ((slice_get_cases block i).1) [ inl v ↦ v.1 | inr v ↦ absurd (none-some insn (sym v.1 ∙ at)) ] in
+      let inside : i < length block = elim ((slice_get_cases block i).1)
+      [ inl v ↦ v.1 | inr v ↦ absurd (none-some insn (sym v.1 ∙ at)) ] in
       elim (cases_eq i w.number) [
         | inl e ↦
             (let same : s ≡ q.spot = same_Some s q.spot (sym is ∙ (ap (λ (k : ℕ). spot_at set k) e ∙ q.is_at)) in
@@ -158,12 +178,15 @@ module _ (block : List Insn) (set : Spots) (plan : IsPlan block) (lawful : IsLaw
             let short = delay_most (op_of insn) in
             omega (arith, c, cycle, short))
         | inr ne ↦
-            (let h = before_branch i w.number insn q.insn s q.spot (omega (arith, ne, inside, last)) at q.is_insn branching is q.is_at in
+            (let h = before_branch i w.number insn q.insn s q.spot (omega (arith, ne, inside, last)) at q.is_insn
+            branching is q.is_at in
             omega (arith, h, cycle))
       ]
 
-  by_found : (found : Option Issue) → find branches (issued (issues block set)) ≡ found → (i : ℕ) (insn : Insn) (s : Spot) → slice_get block i ≡ Some insn → IsAt set i s
-      → s.cycle + delay_of (op_of insn) + 1 ≤ option_map_or (λ (b : Issue). b.cycle + 6) found (last_landing_end (issued (issues block set)))
+  by_found : (found : Option Issue) → find branches (issued (issues block set)) ≡ found
+      → (i : ℕ) (insn : Insn) (s : Spot) → slice_get block i ≡ Some insn → IsAt set i s
+      → s.cycle + delay_of (op_of insn) + 1 ≤ option_map_or (λ (b : Issue). b.cycle + 6) found
+      (last_landing_end (issued (issues block set)))
   by_found None e i insn s at is =
       let at_i = placement-issued block set i insn s lawful.sized at is in
       let landed = lands_last (issues block set) i (issue_at insn s) at_i in
@@ -172,5 +195,6 @@ module _ (block : List Insn) (set : Spots) (plan : IsPlan block) (lawful : IsLaw
   by_found (Some b) e i insn s at is = lands_by b (found_branch (issues block set) b e) i insn s at is
 
   -- the delay of each instruction ends within the length
-  pub delay_ends : (i : ℕ) (insn : Insn) (s : Spot) → slice_get block i ≡ Some insn → IsAt set i s → s.cycle + delay_of (op_of insn) + 1 ≤ set_length block set
+  pub delay_ends : (i : ℕ) (insn : Insn) (s : Spot) → slice_get block i ≡ Some insn → IsAt set i s
+      → s.cycle + delay_of (op_of insn) + 1 ≤ set_length block set
   delay_ends i insn s at is = by_found (find branches (issued (issues block set))) refl i insn s at is

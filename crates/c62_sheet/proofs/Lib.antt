@@ -6,11 +6,14 @@ pub mod Used
 pub mod Placing
 pub mod Founding
 pub mod Missing
+pub mod CountWalks
 pub mod EarlyCycles
 pub mod Followers
 pub mod ReadyOrder
 pub mod Counting
 pub mod ReadySets
+pub mod ReadyWalks
+pub mod ReadyPicks
 pub mod Turns
 pub mod Asking
 pub mod RowsOf

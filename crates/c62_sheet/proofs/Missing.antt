@@ -1,18 +1,26 @@
 -- Counts of missing numbers, and how they change along the dependences.
-use Rattle.c62_sheet.proofs.Common.{pos, [], arith, ◌≡◌, ℕ, zero, suc, ◌+◌, ◌<◌, ◌≤◌, Bool, true, List, ◌∷◌, length, get_or, Option, Some, None}
-use Rattle.c62_sheet.proofs.Common.{refl, sym, ap, ◌∙◌, inl, inr, ◌⊎◌, length-set, take, get_or-set_same, get_or-set_other, Contains, count_by}
-use Rattle.c62_sheet.proofs.Common.{is_some, IsSome, slice_index, slice_set, cases_lt, nat_tests, get_or_past, get_or_default, sum_by_more, Insn}
-use Rattle.c62_sheet.proofs.Common.{Link, short_is, Spot, Spots, spot_at, placed, withdrawn, IsAt, LacksSome, IsReady, IsLast, IsLawful, lacking}
-use Rattle.c62_sheet.proofs.Common.{times, direct_latency, direct_latency_is, direct_needs_are, needs_pieces, followers_pieces, DependsDirectly, IsDirect}
-use Rattle.c62_sheet.proofs.Common.{direct_needs, direct_followers, All-get_or, common_steps, cases_Bool, cond, ℤ, leb, ltb, ◌==◌, ◌&&◌, eqb, eqb-true}
-use Rattle.c62_sheet.proofs.Common.{eq-eqb, sum_by-cons, sum_by-append, sum_by-take-le, get_or-le-sum_by, count_by-le-length, linked, All-contains}
-use Rattle.c62_sheet.proofs.Common.{direct_followers_are, is_missing, IsIndex, AreLower, AreHigher}
-use Rattle.c62_depend.specs.Plan.{IsShort}
+use Rattle.c62_sheet.proofs.Common.{pos, [], arith, ◌≡◌, ℕ, zero, suc, ◌+◌, ◌<◌, ◌≤◌, Bool, true, List, ◌∷◌, length}
+use Rattle.c62_sheet.proofs.Common.{Option, Some, None}
+use Rattle.c62_sheet.proofs.Common.{refl, sym, ap, ◌∙◌, inl, inr, ◌⊎◌, length-set}
+use Rattle.c62_sheet.proofs.Common.{Contains, count_by}
+use Rattle.c62_sheet.proofs.Common.{IsSome, slice_index, cases_lt, nat_tests, get_or_past}
+use Rattle.c62_sheet.proofs.Common.{Insn}
+use Rattle.c62_sheet.proofs.Common.{Link, short_is, Spot, Spots, spot_at, placed, withdrawn, IsAt, LacksSome, IsReady}
+use Rattle.c62_sheet.proofs.Common.{IsLawful, lacking}
+use Rattle.c62_sheet.proofs.Common.{times, direct_latency, direct_latency_is, direct_needs_are, needs_pieces}
+use Rattle.c62_sheet.proofs.Common.{followers_pieces, DependsDirectly, IsDirect}
+use Rattle.c62_sheet.proofs.Common.{direct_needs, direct_followers, common_steps, cases_Bool, cond, ℤ, leb}
+use Rattle.c62_sheet.proofs.Common.{ltb, ◌==◌, ◌&&◌, eqb, eqb-true}
+use Rattle.c62_sheet.proofs.Common.{eq-eqb, sum_by-cons, sum_by-append, get_or-le-sum_by}
+use Rattle.c62_sheet.proofs.Common.{count_by-le-length, linked, All-contains}
+use Rattle.c62_sheet.proofs.Common.{is_missing, IsIndex, AreLower, AreHigher}
 use Rattle.std.specs.List.{flat_map, range_with_len}
 use Rattle.c62_sheet.specs.Laws.{DirectOnesTellReady}
-use Rattle.c62_sheet.proofs.Founding.{depends_direct, all_placed, last_directly}
+use Rattle.c62_sheet.proofs.Founding.{depends_direct, all_placed}
 use Rattle.c62_sheet.proofs.Optional.{value_of_some, is_none-is, none_not_some}
-use Rattle.c62_sheet.proofs.Sets.{any_spot, spot_at-placed_same, spot_at-placed_other, spot_at-withdrawn_same, placed-withdrawn}
+use Rattle.c62_sheet.proofs.Sets.{any_spot, spot_at-placed_same, spot_at-placed_other, spot_at-withdrawn_same}
+use Rattle.c62_sheet.proofs.Sets.{placed-withdrawn}
+use Rattle.c62_read.specs.declared.limits.TheConstants.{MOST_INSTRUCTIONS}
 
 -- a dependence, where one is asked for that is not used
 abbrev pub any_link : Link
@@ -39,7 +47,8 @@ times-pieces o j a (suc n) =
     grind (arith, nat_tests, sum_by-append, times-linked a j (o a), times-pieces o j (a + 1) n)
 
 -- a direct dependence goes only to a later number of the block
-share-none : (block : List Insn) (i j : ℕ) (o : Option ℤ) → direct_latency block i j ≡ o → (j ≤ i) ⊎ (length block ≤ j) → share o ≡ 0
+share-none : (block : List Insn) (i j : ℕ) (o : Option ℤ) → direct_latency block i j ≡ o → (j ≤ i) ⊎ (length block ≤ j)
+    → share o ≡ 0
 share-none block i j None e out = refl
 share-none block i j (Some l) e out = grind (arith, short_is block i j l (direct_latency_is block i j l e).is)
 
@@ -49,13 +58,17 @@ times-below o j n none = grind (arith, nat_tests, times-pieces o j 0 n, none)
 pub times-needs : (block : List Insn) (i j : ℕ) → times i (direct_needs block j) ≡ share (direct_latency block i j)
 unfolding pieces
 times-needs block i j =
-    ap (times i) (needs_pieces block j) ∙ times-below (λ h. direct_latency block h j) i j (λ out. share-none block i j (direct_latency block i j) refl (inl out))
+    ap (times i) (needs_pieces block j)
+    ∙ times-below (λ h. direct_latency block h j) i j
+    (λ out. share-none block i j (direct_latency block i j) refl (inl out))
 
-pub times-followers : (block : List Insn) (i j : ℕ) → times j (direct_followers block i) ≡ share (direct_latency block i j)
+pub times-followers : (block : List Insn) (i j : ℕ)
+    → times j (direct_followers block i) ≡ share (direct_latency block i j)
 unfolding pieces
 times-followers block i j =
     ap (times j) (followers_pieces block i)
-    ∙ times-below (direct_latency block i) j (length block) (λ out. share-none block i j (direct_latency block i j) refl (inr out))
+    ∙ times-below (direct_latency block i) j (length block)
+    (λ out. share-none block i j (direct_latency block i j) refl (inr out))
 
 pub times-past : (block : List Insn) (i j : ℕ) → length block ≤ j → times j (direct_followers block i) ≡ 0
 times-past block i j past = times-followers block i j ∙ share-none block i j (direct_latency block i j) refl (inr past)
@@ -66,17 +79,31 @@ count_missing : (set : Spots) (i : ℕ) (s : Spot) (links : List Link) → i < l
     → count_by (is_missing (placed set i s)) links + times i links ≡ count_by (is_missing set) links
 count_missing set i s [] lt free = refl
 count_missing set i s (link ∷ links) lt free =
-    grind (arith, nat_tests, common_steps, count_missing set i s links lt free, spot_at-placed_same set i s, spot_at-placed_other set i link.number s)
+    grind (
+      arith,
+      nat_tests,
+      common_steps,
+      count_missing set i s links lt free,
+      spot_at-placed_same set i s,
+      spot_at-placed_other set i link.number s,
+    )
 
 pub lacking-placed : (block : List Insn) (set : Spots) (i j : ℕ) (s : Spot) → i < length set → spot_at set i ≡ None
     → lacking block (placed set i s) j + times j (direct_followers block i) ≡ lacking block set j
 lacking-placed block set i j s lt free =
-    omega (arith, count_missing set i s (direct_needs block j) lt free, times-needs block i j, times-followers block i j)
+    omega (
+      arith,
+      count_missing set i s (direct_needs block j) lt free,
+      times-needs block i j,
+      times-followers block i
+          j,
+    )
 
 pub lacking-withdrawn : (block : List Insn) (set : Spots) (i j : ℕ) (s : Spot) → i < length set → IsAt set i s
     → lacking block (withdrawn set i) j ≡ lacking block set j + times j (direct_followers block i)
 lacking-withdrawn block set i j s lt is =
-    let step = lacking-placed block (withdrawn set i) i j s (omega (arith, lt, length-set set i None)) (spot_at-withdrawn_same set i lt) in
+    let step = lacking-placed block (withdrawn set i) i j s (omega (arith, lt, length-set set i None))
+    (spot_at-withdrawn_same set i lt) in
     omega (arith, step, ap (λ (x : Spots). lacking block x j) (placed-withdrawn set i s is))
 
 -- at most one dependence a number
@@ -88,7 +115,8 @@ pub needs-few : (block : List Insn) (j : ℕ) → length (direct_needs block j) 
 needs-few block j = rw (needs_pieces block j) (few_links (λ i. direct_latency block i j) 0 j)
 
 -- while nothing is placed, all are missing
-pub count_all : (set : Spots) (links : List Link) → ((k : ℕ) → spot_at set k ≡ None) → count_by (is_missing set) links ≡ length links
+pub count_all : (set : Spots) (links : List Link) → ((k : ℕ) → spot_at set k ≡ None)
+    → count_by (is_missing set) links ≡ length links
 count_all set [] none = refl
 count_all set (link ∷ links) none = grind (arith, common_steps, count_all set links none, none link.number)
 
@@ -104,23 +132,27 @@ count_some p (x ∷ xs) some =
           (rest.0, (suc rest.1.0, omega (arith, rest.1.1), rest.1.2), rest.2)
     ]
 
-pub founded_directly : (block : List Insn) (set : Spots) (i : ℕ) → lacking block set i ≡ 0 → (h : ℕ) → DependsDirectly block h i → IsSome (spot_at set h)
+pub founded_directly : (block : List Insn) (set : Spots) (i : ℕ) → lacking block set i ≡ 0 → (h : ℕ)
+    → DependsDirectly block h i → IsSome (spot_at set h)
 founded_directly block set i none h l =
     let there = (direct_needs_are block i).each (record { number = h; latency = l.0 }) l.1 in
-    let few = get_or-le-sum_by (λ y. cond (is_missing set y) 1 0) (direct_needs block i) there.0 (record { number = h; latency = l.0 }) there.1 in
+    let few = get_or-le-sum_by (λ y. cond (is_missing set y) 1 0) (direct_needs block i) there.0
+    (record { number = h; latency = l.0 }) there.1 in
     grind (arith, nat_tests, few, none, there.2)
 
 pub lacks_from_some : (block : List Insn) (set : Spots) (i : ℕ) → 0 < lacking block set i → LacksSome block set i
 lacks_from_some block set i some =
     let w = count_some (is_missing set) (direct_needs block i) some in
-    let is = All-contains (λ (x : Link). IsDirect block x.number i x.latency) (direct_needs block i) w.0 (direct_needs_are block i).all w.1 in
+    let is = All-contains (λ (x : Link). IsDirect block x.number i x.latency) (direct_needs block i) w.0
+    (direct_needs_are block i).all w.1 in
     (w.0.number, depends_direct block w.0.number i (w.0.latency, is), is_none-is (spot_at set w.0.number) w.2)
 
 pub direct_ones_tell_ready : (block : List Insn) (set : Spots) → DirectOnesTellReady block set
 direct_ones_tell_ready block set i lawful free = (
   λ none. record { free = free; founded = all_placed block set lawful i (founded_directly block set i none) },
   λ ready. elim (cases_lt 0 (lacking block set i)) [
-    | inl some ↦ (let w = lacks_from_some block set i some in absurd (none_not_some (spot_at set w.0) w.2 (ready.founded w.0 w.1)))
+    | inl some ↦ (let w = lacks_from_some block set i some in absurd
+        (none_not_some (spot_at set w.0) w.2 (ready.founded w.0 w.1)))
     | inr le ↦ omega (arith, le)
   ],
 )
@@ -128,41 +160,59 @@ direct_ones_tell_ready block set i lawful free = (
 -- ---- the index
 
 module _ (block : List Insn) (set : Spots) (old : List ℕ) (i : ℕ) (index : IsIndex block set old) where
-  pub counted_enough : (j : ℕ) → length set ≡ length block → i < length block → spot_at set i ≡ None → times j (direct_followers block i) ≤ slice_index old j
+  pub counted_enough : (j : ℕ) → length set ≡ length block → i < length block → spot_at set i ≡ None
+      → times j (direct_followers block i) ≤ slice_index old j
   counted_enough j sized lt free =
       elim (cases_lt j (length block)) [
-        | inl within ↦ omega (arith, index.each j within, lacking-placed block set i j any_spot (omega (arith, sized, lt)) free)
+        | inl within ↦ omega (
+          arith,
+          index.each j within,
+          lacking-placed block set i j any_spot
+              (omega (arith, sized, lt)) free,
+        )
         | inr past ↦ omega (arith, times-past block i j past)
       ]
 
-  pub counted_room : (j : ℕ) → length block ≤ 256 → slice_index old j + times j (direct_followers block i) < 65536
+  pub counted_room : (j : ℕ) → length block ≤ MOST_INSTRUCTIONS
+      → slice_index old j + times j (direct_followers block i) < 65536
   counted_room j few =
       elim (cases_lt j (length block)) [
         | inl within ↦
-            let most : lacking block set j ≤ j = omega (arith, count_by-le-length (is_missing set) (direct_needs block j), needs-few block j) in
+            let most : lacking block set j ≤ j = omega
+            (arith, count_by-le-length (is_missing set) (direct_needs block j), needs-few block j) in
             let one : times j (direct_followers block i) ≤ 1 = grind (arith, times-followers block i j) in
             omega (arith, index.each j within)
         | inr past ↦ omega (arith, times-past block i j past, get_or_past old j 0 (omega (arith, index.sized, past)))
       ]
 
-  pub index-placed : (new : List ℕ) (s : Spot) → length set ≡ length block → i < length block → spot_at set i ≡ None → length new ≡ length old
+  pub index-placed : (new : List ℕ) (s : Spot) → length set ≡ length block → i < length block → spot_at set i ≡ None
+      → length new ≡ length old
       → AreLower (direct_followers block i) old new → IsIndex block (placed set i s) new
   index-placed new s sized lt free same lowered = record {
     sized = same ∙ index.sized;
-    each = λ j within. omega (arith, lowered j, index.each j within, lacking-placed block set i j s (omega (arith, sized, lt)) free);
+    each = λ j within. omega
+        (arith, lowered j, index.each j within, lacking-placed block set i j s (omega (arith, sized, lt)) free);
   }
 
-  pub index-withdrawn : (new : List ℕ) → length set ≡ length block → i < length block → IsSome (spot_at set i) → length new ≡ length old
+  pub index-withdrawn : (new : List ℕ) → length set ≡ length block → i < length block → IsSome (spot_at set i)
+      → length new ≡ length old
       → AreHigher (direct_followers block i) old new → IsIndex block (withdrawn set i) new
   index-withdrawn new sized lt taken same raised = record {
     sized = same ∙ index.sized;
     each = λ j within.
         let s = value_of_some (spot_at set i) taken in
-        omega (arith, raised j, index.each j within, lacking-withdrawn block set i j s.0 (omega (arith, sized, lt)) s.1);
+        omega (
+          arith,
+          raised j,
+          index.each j within,
+          lacking-withdrawn block set i j s.0 (omega (arith, sized, lt))
+              s.1,
+        );
   }
 
 -- what a count above 0 tells, and what 0 does
-module _ (block : List Insn) (set : Spots) (missing : List ℕ) (i n : ℕ) (index : IsIndex block set missing) (lt : i < length block)
+module _ (block : List Insn) (set : Spots) (missing : List ℕ) (i n : ℕ) (index : IsIndex block set missing)
+    (lt : i < length block)
     (same : n ≡ i) where
   count_is : slice_index missing n ≡ lacking block set i
   count_is = ap (slice_index missing) same ∙ index.each i lt
@@ -178,74 +228,16 @@ module _ (block : List Insn) (set : Spots) (missing : List ℕ) (i n : ℕ) (ind
 
   -- a number that is not placed is ready exactly where its count is 0
   pub ready_is : IsLawful block set → spot_at set i ≡ None
-      → (eqb (slice_index missing n) 0 ≡ true → IsReady block set i) × (IsReady block set i → eqb (slice_index missing n) 0 ≡ true)
+      → (eqb (slice_index missing n) 0 ≡ true → IsReady block set i)
+      × (IsReady block set i → eqb (slice_index missing n) 0 ≡ true)
   ready_is lawful free = (
     λ e. record {
       free = free;
-      founded = all_placed block set lawful i (founded_directly block set i (sym count_is ∙ eqb-true (slice_index missing n) 0 e));
+      founded = all_placed block set lawful i (founded_directly block set i (sym count_is
+          ∙ eqb-true (slice_index missing n) 0 e));
     },
     λ ready. elim (cases_lt 0 (slice_index missing n)) [
       | inl some ↦ (let w = lacks_at some in absurd (none_not_some (spot_at set w.0) w.2 (ready.founded w.0 w.1)))
       | inr le ↦ eq-eqb (slice_index missing n) 0 (omega (arith, le))
     ],
   )
-
--- ---- walks along the dependences that change the counts
-
-module _ (links : List Link) (old now : List ℕ) (k : ℕ) (d : Link) (lt : k < length links) where
-  -- one more of the followers stands at the end of the walk
-  pub times-more : (j : ℕ) → times j (take (k + 1) links) ≡ times j (take k links) + cond ((get_or links k d).number == j) 1 0
-  times-more j = sum_by_more (λ (link : Link). cond (link.number == j) 1 0) links k d lt
-
-  pub times-part : (j : ℕ) → times j (take (k + 1) links) ≤ times j links
-  times-part j = sum_by-take-le (λ (link : Link). cond (link.number == j) 1 0) links (k + 1)
-
-  pub lowered_some : ((j : ℕ) → times j links ≤ slice_index old j) → ((j : ℕ) → slice_index now j + times j (take k links) ≡ slice_index old j)
-      → 1 ≤ slice_index now (get_or links k d).number
-  lowered_some enough so_far =
-      let j : ℕ = (get_or links k d).number in
-      grind (arith, nat_tests, so_far j, enough j, times-more j, times-part j)
-
-  pub raised_room : ((j : ℕ) → slice_index old j + times j links < 65536) → ((j : ℕ) → slice_index old j + times j (take k links) ≡ slice_index now j)
-      → slice_index now (get_or links k d).number + 1 < 65536
-  raised_room room so_far =
-      let j : ℕ = (get_or links k d).number in
-      grind (arith, nat_tests, so_far j, room j, times-more j, times-part j)
-
-  pub raised_more : (n : ℕ) → n ≡ (get_or links k d).number → n < length now
-      → ((j : ℕ) → slice_index old j + times j (take k links) ≡ slice_index now j)
-      → (j : ℕ) → slice_index old j + times j (take (k + 1) links) ≡ slice_index (slice_set now n (slice_index now n + 1)) j
-  raised_more n at within so_far j =
-      let here = get_or-set_same now n (slice_index now n + 1) 0 within in
-      grind (arith, nat_tests, so_far j, times-more j, here, get_or-set_other now n j (slice_index now n + 1) 0)
-
--- ---- what depends on a number
-
-module _ (block : List Insn) (i : ℕ) (links : List Link) (is : links ≡ direct_followers block i) where
-  pub follower_is : (k : ℕ) (d : Link) → k < length links → IsDirect block i (get_or links k d).number (get_or links k d).latency
-  follower_is k d lt =
-      All-get_or (λ (x : Link). IsDirect block i x.number x.latency) links k d lt
-      (rw is (direct_followers_are block i).all)
-
-  pub follower_short : (k : ℕ) (d : Link) → k < length links → IsShort block i (get_or links k d).number (get_or links k d).latency
-  follower_short k d lt = short_is block i (get_or links k d).number (get_or links k d).latency (follower_is k d lt).is
-
-  pub follower_at : (k : ℕ) (d : Link) → k < length links → (get_or links k d).number < length block
-  follower_at k d lt = (follower_short k d lt).within
-
-  -- a placed follower
-  pub not_last : (set : Spots) (k n : ℕ) (d : Link) (o : Option Spot) → k < length links → length set ≡ length block → n ≡ (get_or links k d).number
-      → true ≡ is_some (get_or set n o) → IsLast block set i → ⊥
-  not_last set k n d o lt sized at some last =
-      let link : Link = get_or links k d in
-      let none = last link.number (depends_direct block i link.number (link.latency, follower_is k d lt)) in
-      let there = get_or_default set link.number o None (omega (arith, follower_at k d lt, sized)) in
-      grind (arith, none, there)
-
-  pub last_from : (set : Spots) (n : ℕ) → IsLawful block set → length links ≤ n
-      → ((k : ℕ) (d : Link) → k < n → spot_at set (get_or links k d).number ≡ None) → IsLast block set i
-  last_from set n lawful all none = last_directly block set lawful i (λ j l.
-      let link : Link = record { number = j; latency = l.0 } in
-      let there : Contains links link = rw is ((direct_followers_are block i).each link l.1) in
-      let free = none there.0 link (omega (arith, there.1, all)) in
-      rw there.2 at free)

@@ -1,5 +1,6 @@
 -- Values that may be absent.
-use Rattle.c62_sheet.proofs.Common.{◌≡◌, true, false, Option, Some, None, refl, sym, ◌∙◌, IsSome, is_none, false≢true, none-some, arith}
+use Rattle.c62_sheet.proofs.Common.{◌≡◌, true, false, Option, Some, None, refl, sym, ◌∙◌, IsSome, is_none, false≢true}
+use Rattle.c62_sheet.proofs.Common.{none-some, arith}
 
 pub value_of_some : {A : Type 0} (o : Option A) → IsSome o → (x : A) × (o ≡ Some x)
 value_of_some None h = absurd (false≢true h)

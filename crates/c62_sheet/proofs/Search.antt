@@ -14,6 +14,8 @@ same_spot : (s t : Spot) → s.cycle ≡ t.cycle → index_of s.unit ≡ index_o
 same_spot s t e places = ap (λ (c : ℕ). spot_on c s.unit) e ∙ ap (spot_on t.cycle) (same_index s.unit t.unit places)
 
 -- there is one least spot
-pub least_unique : (block : List Insn) (set : Spots) (i : ℕ) (s t : Spot) → IsLeast block set i s → IsLeast block set i t → s ≡ t
+pub least_unique : (block : List Insn) (set : Spots) (i : ℕ) (s t : Spot) → IsLeast block set i s
+    → IsLeast block set i t → s ≡ t
 least_unique block set i s t a b =
-    same_spot s t (grind (arith, a.first t b.lawful, b.first s a.lawful)) (grind (arith, a.first t b.lawful, b.first s a.lawful))
+    same_spot s t (grind (arith, a.first t b.lawful, b.first s a.lawful))
+    (grind (arith, a.first t b.lawful, b.first s a.lawful))

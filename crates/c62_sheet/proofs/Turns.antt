@@ -1,7 +1,10 @@
 -- The rules in the order in which they are asked.
-use Rattle.c62_sheet.proofs.Common.{arith, ◌≡◌, ℕ, ◌+◌, ◌*◌, ◌<◌, ◌≤◌, pos, List, length, Some, None, true, refl, sym, ◌∙◌, slice_get, false≢true}
-use Rattle.c62_sheet.proofs.Common.{ints, Insn, Depends, stands_on, Spot, Rule, Delay, Spots, spot_at, IsLawful, IsAfter, IsEarly, LacksSome, Breaks}
-use Rattle.c62_sheet.proofs.Common.{turn_of, IsOpen, KeepsAll, BreaksFirst, Missing, Placed, WrongUnit, Limit, InCycle, CycleRule, ◌+ℤ◌, by_lt_z, IsTold, ap, inl, inr, cases_lt, placed, issues}
+use Rattle.c62_sheet.proofs.Common.{arith, ◌≡◌, ℕ, ◌+◌, ◌*◌, ◌<◌, ◌≤◌, pos, List, length, Some, None, true, refl, sym}
+use Rattle.c62_sheet.proofs.Common.{◌∙◌, slice_get, false≢true}
+use Rattle.c62_sheet.proofs.Common.{ints, Insn, Depends, stands_on, Spot, Rule, Delay, Spots, spot_at, IsLawful}
+use Rattle.c62_sheet.proofs.Common.{IsAfter, IsEarly, LacksSome, Breaks}
+use Rattle.c62_sheet.proofs.Common.{turn_of, IsOpen, KeepsAll, BreaksFirst, Missing, Placed, WrongUnit, Limit, InCycle}
+use Rattle.c62_sheet.proofs.Common.{CycleRule, ◌+ℤ◌, by_lt_z, IsTold, ap, inl, inr, cases_lt, placed, issues}
 use Rattle.c62_sheet.proofs.Common.{IsRefused}
 use Rattle.c62_rules.specs.Resource.{rule_of, capacity_of}
 use Rattle.c62_rules.specs.Capacity.{used}
@@ -23,7 +26,8 @@ module _ {block : List Insn} {set : Spots} {i : ℕ} {s : Spot} where
   pub clear_none : (n : ℕ) → IsClear block set i s n n
   clear_none n = record { kept = λ rule low high b. absurd (omega (arith, low, high)) }
 
-  pub clear_more : {m n : ℕ} (rule : Rule) → turn_of rule ≡ n → IsClear block set i s m n → (Breaks block set i s rule → ⊥)
+  pub clear_more : {m n : ℕ} (rule : Rule) → turn_of rule ≡ n → IsClear block set i s m n
+      → (Breaks block set i s rule → ⊥)
       → IsClear block set i s m (n + 1)
   clear_more rule turn clear not = record { kept = λ r low high b. grind (arith, same_turn r rule, clear.kept r, not) }
 
@@ -35,7 +39,8 @@ module _ {block : List Insn} {set : Spots} {i : ℕ} {s : Spot} where
       kept rule low high b = clear.kept rule low (omega arith) b
 
 -- what the first three rules ask
-pub clear_three : (block : List Insn) (set : Spots) (i : ℕ) (s : Spot) → spot_at set i ≡ None → stands_on block i s.unit ≡ true
+pub clear_three : (block : List Insn) (set : Spots) (i : ℕ) (s : Spot) → spot_at set i ≡ None
+    → stands_on block i s.unit ≡ true
     → s.cycle < 5 * length block → IsClear block set i s 0 3
 clear_three block set i s free stands below = record { kept = kept }
   where
@@ -46,14 +51,17 @@ clear_three block set i s free stands below = record { kept = kept }
     kept _ low high b = absurd (omega (arith, high))
 
 -- and two more of what the number depends on
-pub clear_five : (block : List Insn) (set : Spots) (i : ℕ) (s : Spot) (early : ℕ) → spot_at set i ≡ None → stands_on block i s.unit ≡ true
-    → s.cycle < 5 * length block → (LacksSome block set i → ⊥) → IsEarly block set i early → early ≤ s.cycle → IsClear block set i s 0 5
+pub clear_five : (block : List Insn) (set : Spots) (i : ℕ) (s : Spot) (early : ℕ) → spot_at set i ≡ None
+    → stands_on block i s.unit ≡ true
+    → s.cycle < 5 * length block → (LacksSome block set i → ⊥) → IsEarly block set i early → early ≤ s.cycle
+    → IsClear block set i s 0 5
 clear_five block set i s early free stands below founded first le =
     clear_more Delay refl (clear_more Missing refl (clear_three block set i s free stands below) founded)
     (λ b. b (λ h bound t w at. let bounded = first.after h bound t w at in omega (arith, ints)))
 
 -- what is asked first, in the words of a set to which the triple may be added
-module _ (block : List Insn) (set : Spots) (i : ℕ) (s : Spot) (lawful : IsLawful block set) (in_block : i < length block) where
+module _ (block : List Insn) (set : Spots) (i : ℕ) (s : Spot) (lawful : IsLawful block set)
+    (in_block : i < length block) where
   abbrev insn : Insn
   insn = (insn_at block i in_block).0
 
@@ -75,7 +83,8 @@ module _ (block : List Insn) (set : Spots) (i : ℕ) (s : Spot) (lawful : IsLawf
   -- where no rule is broken, the triple may be added
   clear_enough : IsClear block set i s 0 21 → KeepsAll block set i s
   clear_enough clear r = elim (cases_lt (capacity_of r) (used r s.cycle (issues block (placed set i s)))) [
-    | inl over ↦ absurd (clear.kept (InCycle (rule_of r)) (omega arith) (omega (arith, rank-few (rule_of r))) (record { resource = r; of_rule = refl; over = over }))
+    | inl over ↦ absurd (clear.kept (InCycle (rule_of r)) (omega arith) (omega (arith, rank-few (rule_of r)))
+        (record { resource = r; of_rule = refl; over = over }))
     | inr few ↦ few
   ]
 
@@ -88,7 +97,8 @@ module _ (block : List Insn) (set : Spots) (i : ℕ) (s : Spot) (lawful : IsLawf
       some_from_not_none (spot_at set h) (λ e. clear.kept Missing (omega arith) (omega arith) (h, dep, e)) in
       let after : IsAfter block set i s.cycle = λ h bound t w at.
       by_lt_z (pos s.cycle) (pos t.cycle +ℤ bound)
-      (λ before. absurd (clear.kept Delay (omega arith) (omega arith) (λ all. let kept = all h bound t w at in omega (arith, ints)))) (λ le. le) in
+      (λ before. absurd (clear.kept Delay (omega arith) (omega arith)
+      (λ all. let kept = all h bound t w at in omega (arith, ints)))) (λ le. le) in
       record {
         free = free;
         lawful = lawful_from_fits block set i s insn lawful at in_block free founded after within
@@ -107,6 +117,8 @@ module _ (block : List Insn) (set : Spots) (i : ℕ) (s : Spot) (lawful : IsLawf
       → IsRefused block set i s (record { rule = InCycle rule; cycle = s.cycle })
   refused_packet rule clear first = refused_by (InCycle rule) s.cycle (record { kept = kept }) first.broken refl
     where
-      kept : (earlier : Rule) → 0 ≤ turn_of earlier → turn_of earlier < turn_of (InCycle rule) → Breaks block set i s earlier → ⊥
-      kept (InCycle other) low high b = let few = first.first other (omega (arith, high)) b.resource b.of_rule in omega (arith, few, b.over)
+      kept : (earlier : Rule) → 0 ≤ turn_of earlier → turn_of earlier < turn_of (InCycle rule)
+          → Breaks block set i s earlier → ⊥
+      kept (InCycle other) low high b = let few = first.first other (omega (arith, high)) b.resource b.of_rule in omega
+          (arith, few, b.over)
       kept earlier low high b = clear.kept earlier low (omega arith) b

@@ -1,5 +1,6 @@
 -- Which of the placed numbers makes way: the search, and that there is one answer.
-use Rattle.std.proofs.Common.{◌≡◌, ℕ, ◌+◌, ◌*◌, ◌<◌, ◌≤◌, List, length, Option, Some, None, inl, inr, sym, refl, ◌∙◌, subst, arith}
+use Rattle.std.proofs.Common.{◌≡◌, ℕ, ◌+◌, ◌*◌, ◌<◌, ◌≤◌, List, length, Option, Some, None, inl, inr, sym, refl, ◌∙◌}
+use Rattle.std.proofs.Common.{subst, arith}
 use Rattle.std.specs.Prelude.{MatchOption}
 use Rattle.std.proofs.lemmas.Bool.{cases_eq, cases_lt}
 use Rattle.std.proofs.lemmas.List.{get_or_past}
@@ -15,7 +16,8 @@ use Rattle.c62_sheet.specs.Least.{IsEarly}
 use Rattle.c62_sheet.specs.Victim.{IsInTheWay, MakesWayBefore, IsVictim, HasNoVictim, IsFirstOf, IsFirstBefore}
 
 -- a placed number is one of the block
-pub at_in : (block : List Insn) (set : Spots) (k : ℕ) (t : Spot) → length set ≡ length block → IsAt set k t → k < length block
+pub at_in : (block : List Insn) (set : Spots) (k : ℕ) (t : Spot) → length set ≡ length block → IsAt set k t
+    → k < length block
 at_in block set k t sized at = elim (cases_lt k (length block)) [
   | inl lt ↦ lt
   | inr le ↦ absurd (none-some t (sym (get_or_past set k None (rw sized le)) ∙ at))
@@ -38,20 +40,23 @@ way_other block b q out = elim (cases_lt (height block q) (height block b)) [
   ]
 ]
 
-way_past : (block : List Insn) (q b k : ℕ) → MakesWayBefore block q b → MakesWayBefore block b k → MakesWayBefore block q k
+way_past : (block : List Insn) (q b k : ℕ) → MakesWayBefore block q b → MakesWayBefore block b k
+    → MakesWayBefore block q k
 way_past block q b k (inl x) (inl y) = inl (omega (arith, x, y))
 way_past block q b k (inl x) (inr y) = inl (omega (arith, x, y.0))
 way_past block q b k (inr x) (inl y) = inl (omega (arith, x.0, y))
 way_past block q b k (inr x) (inr y) = inr (x.0 ∙ y.0, omega (arith, x.1, y.1))
 
-at_spot : (set : Spots) (k cycle : ℕ) (unit : FunctionalUnit) (s : Spot) → IsAt set k s → s.cycle ≡ cycle → s.unit ≡ unit
+at_spot : (set : Spots) (k cycle : ℕ) (unit : FunctionalUnit) (s : Spot) → IsAt set k s → s.cycle ≡ cycle
+    → s.unit ≡ unit
     → IsAt set k (record { cycle = cycle; unit = unit })
 at_spot set k cycle unit s at c u =
     subst (λ (x : FunctionalUnit). IsAt set k (record { cycle = cycle; unit = x })) u
     (subst (λ (x : ℕ). IsAt set k (record { cycle = x; unit = s.unit })) c at)
 
 -- number q stands on this unit, if one does
-module _ (block : List Insn) (set : Spots) (i cycle q : ℕ) (unit : FunctionalUnit) (stands : (k : ℕ) → IsAt set k (record { cycle = cycle; unit = unit }) → q ≡ k) where
+module _ (block : List Insn) (set : Spots) (i cycle q : ℕ) (unit : FunctionalUnit) (stands : (k : ℕ)
+    → IsAt set k (record { cycle = cycle; unit = unit }) → q ≡ k) where
   who : (k : ℕ) (way : IsInTheWay block set i cycle k) → index_of way.spot.unit ≡ index_of unit → q ≡ k
   who k way e = stands k (at_spot set k cycle unit way.spot way.placed way.stands (same_index way.spot.unit unit e))
 
@@ -79,7 +84,8 @@ module _ (block : List Insn) (set : Spots) (i cycle q : ℕ) (unit : FunctionalU
     ];
   }
 
-  pub first_keep : (b : ℕ) → IsFirstOf block set i cycle (index_of unit) b → MakesWayBefore block b q → IsFirstBefore block set i cycle (index_of unit + 1) (Some b)
+  pub first_keep : (b : ℕ) → IsFirstOf block set i cycle (index_of unit) b → MakesWayBefore block b q
+      → IsFirstBefore block set i cycle (index_of unit + 1) (Some b)
   first_keep b first before = record {
     in_the_way = first.in_the_way;
     first = λ k way lt. elim (cases_eq (index_of way.spot.unit) (index_of unit)) [
@@ -88,7 +94,8 @@ module _ (block : List Insn) (set : Spots) (i cycle q : ℕ) (unit : FunctionalU
     ];
   }
 
-  pub first_swap : (b : ℕ) → IsFirstOf block set i cycle (index_of unit) b → (MakesWayBefore block b q → ⊥) → IsInTheWay block set i cycle q
+  pub first_swap : (b : ℕ) → IsFirstOf block set i cycle (index_of unit) b → (MakesWayBefore block b q → ⊥)
+      → IsInTheWay block set i cycle q
       → IsFirstBefore block set i cycle (index_of unit + 1) (Some q)
   first_swap b first out here = record {
     in_the_way = here;
@@ -102,7 +109,8 @@ pub one_early : (block : List Insn) (set : Spots) (i c d : ℕ) → IsEarly bloc
 one_early block set i c d a b = (let up = a.least d b.after in let down = b.least c a.after in omega arith)
 
 -- no cycle behind the limit has a victim
-pub none_behind : (block : List Insn) (set : Spots) (i cycle : ℕ) → IsLawful block set → IsEarly block set i cycle → 5 * length block ≤ cycle
+pub none_behind : (block : List Insn) (set : Spots) (i cycle : ℕ) → IsLawful block set → IsEarly block set i cycle
+    → 5 * length block ≤ cycle
     → HasNoVictim block set i
 none_behind block set i cycle lawful early far = λ c q is_early way.
     let same : c ≡ cycle = one_early block set i c cycle is_early early in

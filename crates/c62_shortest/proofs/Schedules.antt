@@ -25,13 +25,15 @@ all_placed [] i lt = absurd (omega (arith, lt))
 all_placed (s ∷ spots) zero lt = refl
 all_placed (s ∷ spots) (suc i) lt = all_placed spots i (omega (arith, lt))
 
-complete_of : (block : List Insn) (spots : List Spot) → IsLawfulOnEitherSide block (map Some spots) → IsComplete block (map Some spots)
+complete_of : (block : List Insn) (spots : List Spot) → IsLawfulOnEitherSide block (map Some spots)
+    → IsComplete block (map Some spots)
 complete_of block spots lawful i lt =
     let sized = lawful.sized in
     all_placed spots i (omega (arith, lt, as_long spots, sized))
 
 pub of_spots : (block : Serial) (spots : Vec Spot Global) (packets : Packed)
-    → IsLawfulOnEitherSide (insns_of block) (map Some spots.items) → ArePackets block (map Some spots.items) packets → AreSerial block.insns packets.placed → IsBlockPacked block packets
+    → IsLawfulOnEitherSide (insns_of block) (map Some spots.items) → ArePackets block (map Some spots.items) packets
+    → AreSerial block.insns packets.placed → IsBlockPacked block packets
     → IsScheduleOf block (record { spots = spots; packets = packets })
 of_spots block spots packets lawful are serial keeps = record {
   lawful = lawful;
@@ -41,9 +43,12 @@ of_spots block spots packets lawful are serial keeps = record {
   keeps = keeps;
 }
 
-pub of_board : (block : Serial) (set : Spots) (spots : Vec Spot Global) (packets : Packed) → map Some spots.items ≡ set → IsLawful (insns_of block) set
+pub of_board : (block : Serial) (set : Spots) (spots : Vec Spot Global) (packets : Packed) → map Some spots.items ≡ set
+    → IsLawful (insns_of block) set
     → ArePackets block set packets → AreSerial block.insns packets.placed → IsBlockPacked block packets
     → IsScheduleOf block (record { spots = spots; packets = packets })
 of_board block set spots packets is lawful are serial keeps =
-    of_spots block spots packets (on_own_side (insns_of block) (map Some spots.items) (subst (λ (set : Spots). IsLawful (insns_of block) set) (sym is) lawful))
+    of_spots block spots packets
+    (on_own_side (insns_of block) (map Some spots.items)
+    (subst (λ (set : Spots). IsLawful (insns_of block) set) (sym is) lawful))
     (subst (λ (set : Spots). ArePackets block set packets) (sym is) are) serial keeps

@@ -29,7 +29,9 @@ named first text part begins = record {
 }
 
 -- the rows of a block that has instructions
-rows_begin : (widths : Widths) (shown : Shown) → BeginsWith (block_rows widths shown) (size (length shown.packets.placed) shown.packets.cycles (option_map least_of shown.limits))
+rows_begin : (widths : Widths) (shown : Shown)
+    → BeginsWith (block_rows widths shown)
+    (size (length shown.packets.placed) shown.packets.cycles (option_map least_of shown.limits))
 unfolding block_rows
 rows_begin widths shown =
     let head = size (length shown.packets.placed) shown.packets.cycles (option_map least_of shown.limits) in
@@ -40,12 +42,14 @@ rows_begin widths shown =
     (more_below ((head ++ limits) ++ drawn) head whys
     (more_below (head ++ limits) head drawn (more_below head head limits (all_of head))))
 
-told_begin : (widths : Widths) (shown : Shown) (placed : List Placed) → BeginsWith (rows_of widths shown placed) (size_of shown placed)
+told_begin : (widths : Widths) (shown : Shown) (placed : List Placed)
+    → BeginsWith (rows_of widths shown placed) (size_of shown placed)
 told_begin widths shown [] = all_of (rows_of widths shown [])
 told_begin widths shown (p ∷ placed) = rows_begin widths shown
 
 pub headed : (widths : Widths) (number : ℕ) (shown : Shown) → IsHeaded widths number shown
 unfolding block_text head_text
 headed widths number shown =
-    named (name number shown.packets.label) (rows_of widths shown shown.packets.placed) (size_of shown shown.packets.placed)
+    named (name number shown.packets.label) (rows_of widths shown shown.packets.placed)
+    (size_of shown shown.packets.placed)
     (told_begin widths shown shown.packets.placed)

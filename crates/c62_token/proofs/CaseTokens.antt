@@ -1,10 +1,15 @@
--- The tokens of a line in small letters, but for an `X` behind a 0, are its tokens so, and are the same numbers, registers and marks.
-use Rattle.c62_token.proofs.Common.{◌≡◌, ℕ, ◌+◌, ◌*◌, Bool, true, false, not, cond, eqb, ltb, ◌&&◌, ◌||◌, List, [], ◌∷◌, length, refl, ◌∙◌}
-use Rattle.c62_token.proofs.Common.{arith, map, digit_value, to_ascii_lowercase, is_ascii_digit, list_all, nat_tests, begins, is_sign}
-use Rattle.c62_token.proofs.Common.{is_word_byte, is_double, joins, spells, grow, is_blank, is_solid, tokens, Word, kinds_of, ◌<◌, ◌≤◌}
+-- The tokens of a line in small letters, but for an `X` behind a 0, are its tokens so, and are the same numbers,
+-- registers and marks.
+use Rattle.c62_token.proofs.Common.{◌≡◌, ℕ, ◌+◌, ◌*◌, Bool, true, false, not, cond, eqb, ltb, ◌&&◌, ◌||◌, List, [], ◌∷◌}
+use Rattle.c62_token.proofs.Common.{length, refl, ◌∙◌}
+use Rattle.c62_token.proofs.Common.{arith, map, digit_value, to_ascii_lowercase, is_ascii_digit, list_all, nat_tests}
+use Rattle.c62_token.proofs.Common.{begins, is_sign}
+use Rattle.c62_token.proofs.Common.{is_word_byte, is_double, joins, spells, grow, is_blank, is_solid, tokens, Word}
+use Rattle.c62_token.proofs.Common.{kinds_of, ◌<◌, ◌≤◌}
 use Rattle.std.specs.Str.Parse.{digits_value_after}
 use Rattle.std.proofs.lemmas.Bool.{agree_below, agree_below_at}
-use Rattle.c62_token.specs.Number.{decimal_of, file_of, hexadecimal_of, is_label, magnitude_of, number_of, register_of, signed_of}
+use Rattle.c62_token.specs.Number.{decimal_of, file_of, hexadecimal_of, is_label, magnitude_of, number_of, register_of}
+use Rattle.c62_token.specs.Number.{signed_of}
 use Rattle.c62_token.specs.Kind.{kind_of, mark_of as written_mark, single_mark}
 use Rattle.c62_token.proofs.TokenLemmas.{by_test, on_test}
 
@@ -15,20 +20,29 @@ unfoldable pub low_byte : Bool → ℕ → ℕ
 low_byte zero b = cond (zero && eqb b 88) b (to_ascii_lowercase b)
 
 -- what is the same for each capital and its small letter
-pub byte_low : {A : Type 0} (f : ℕ → A) → ((b : ℕ) → 65 ≤ b → b < 91 → f (b + 32) ≡ f b) → (zero : Bool) (b : ℕ) → f (low_byte zero b) ≡ f b
+pub byte_low : {A : Type 0} (f : ℕ → A) → ((b : ℕ) → 65 ≤ b → b < 91 → f (b + 32) ≡ f b) → (zero : Bool) (b : ℕ)
+    → f (low_byte zero b) ≡ f b
 unfolding low_byte
 byte_low f small zero b = grind (arith, nat_tests, small b)
 
 -- a test that answers the same for each capital and its small letter
 pub test_low : (test : ℕ → Bool) → agree_below (λ c. test (to_ascii_lowercase c)) test 91 ≡ true → (zero : Bool) (b : ℕ)
     → test (low_byte zero b) ≡ test b
-test_low test all = byte_low test (λ b high less. grind (arith, nat_tests, agree_below_at (λ c. test (to_ascii_lowercase c)) test 91 b all less))
+test_low test all = byte_low test
+    (λ b high less. grind (arith, nat_tests, agree_below_at (λ c. test (to_ascii_lowercase c)) test 91 b all less))
 
 value_low : (zero : Bool) (b : ℕ) → digit_value (low_byte zero b) ≡ digit_value b
 value_low = byte_low digit_value (λ b high less. grind (arith, nat_tests))
 
 joins_low : (y z : Bool) (b c : ℕ) → joins (low_byte y b) (low_byte z c) ≡ joins b c
-joins_low y z b c = grind (arith, test_low is_word_byte refl, test_low is_sign refl, test_low is_ascii_digit refl, test_low (λ x. eqb x 46) refl)
+joins_low y z b c = grind (
+  arith,
+  test_low is_word_byte refl,
+  test_low is_sign refl,
+  test_low is_ascii_digit refl,
+  test_low
+      (λ x. eqb x 46) refl,
+)
 
 double_low : (y z : Bool) (b c : ℕ) → is_double (low_byte y b) (low_byte z c) ≡ is_double b c
 unfolding low_byte
@@ -46,7 +60,8 @@ low w = lowered false w
 
 pub small_low : (zero : Bool) (w : List ℕ) → map to_ascii_lowercase (lowered zero w) ≡ map to_ascii_lowercase w
 small_low zero [] = refl
-small_low zero (b ∷ w) = rw (byte_low to_ascii_lowercase (λ b high less. grind (arith, nat_tests)) zero b, small_low (eqb b 48) w) refl
+small_low zero (b ∷ w) = rw
+    (byte_low to_ascii_lowercase (λ b high less. grind (arith, nat_tests)) zero b, small_low (eqb b 48) w) refl
 
 pub spells_low : (name w : List ℕ) → spells name (low w) ≡ spells name w
 spells_low name w = rw (small_low false w)
@@ -55,7 +70,8 @@ pub length_low : (zero : Bool) (w : List ℕ) → length (lowered zero w) ≡ le
 length_low zero [] = refl
 length_low zero (b ∷ w) = rw (length_low (eqb b 48) w) refl
 
-pub all_low : (test : ℕ → Bool) → agree_below (λ c. test (to_ascii_lowercase c)) test 91 ≡ true → (zero : Bool) (w : List ℕ)
+pub all_low : (test : ℕ → Bool) → agree_below (λ c. test (to_ascii_lowercase c)) test 91 ≡ true
+    → (zero : Bool) (w : List ℕ)
     → list_all test (lowered zero w) ≡ list_all test w
 all_low test all zero [] = refl
 all_low test all zero (b ∷ w) = rw (test_low test all zero b, all_low test all (eqb b 48) w) refl
@@ -68,23 +84,34 @@ begins_low test all w = grind (arith, test_low test all)
 
 register_low : (w : List ℕ) → register_of (low w) ≡ register_of w
 unfolding register_of file_of low_byte
-register_low (l ∷ t ∷ d ∷ []) = rw (byte_low file_of (λ b high less. grind (arith, nat_tests)) false l) (grind (arith, nat_tests))
+register_low (l ∷ t ∷ d ∷ []) = rw (byte_low file_of (λ b high less. grind (arith, nat_tests)) false l)
+    (grind (arith, nat_tests))
 register_low w = grind (arith, nat_tests)
 
 -- ---- numbers
 
-after_low : (radix n : ℕ) (zero : Bool) (w : List ℕ) → digits_value_after radix n (lowered zero w) ≡ digits_value_after radix n w
+after_low : (radix n : ℕ) (zero : Bool) (w : List ℕ)
+    → digits_value_after radix n (lowered zero w) ≡ digits_value_after radix n w
 after_low radix n zero [] = refl
-after_low radix n zero (b ∷ w) = rw (after_low radix (n * radix + digit_value (low_byte zero b)) (eqb b 48) w, value_low zero b) refl
+after_low radix n zero (b ∷ w) = rw
+    (after_low radix (n * radix + digit_value (low_byte zero b)) (eqb b 48) w, value_low zero b) refl
 
 hexadecimal_low : (zero : Bool) (w : List ℕ) → hexadecimal_of (lowered zero w) ≡ hexadecimal_of w
 unfolding hexadecimal_of
-hexadecimal_low zero w = grind (arith, length_low, all_low (λ d. ltb (digit_value d) 16) refl zero w, after_low 16 0 zero w)
+hexadecimal_low zero w = grind
+    (arith, length_low, all_low (λ d. ltb (digit_value d) 16) refl zero w, after_low 16 0 zero w)
 
 decimal_low : (zero : Bool) (w : List ℕ) → decimal_of (lowered zero w) ≡ decimal_of w
 unfolding decimal_of
 decimal_low zero w =
-    grind (arith, length_low, after_low 10 0 zero w, all_low (λ d. ltb (digit_value d) 10) refl zero w, test_low (λ x. ltb 48 x) refl)
+    grind (
+      arith,
+      length_low,
+      after_low 10 0 zero w,
+      all_low (λ d. ltb (digit_value d) 10) refl zero w,
+      test_low
+          (λ x. ltb 48 x) refl,
+    )
 
 number_low : (w : List ℕ) → number_of (low w) ≡ number_of w
 unfolding number_of signed_of magnitude_of low_byte
@@ -109,7 +136,8 @@ first_low zero (w ∷ ws) = lowered zero w ∷ lows ws
 first_plain : (ws : List Word) → first_low false ws ≡ lows ws
 first_plain ws = grind arith
 
-grown : (zero : Bool) (b : ℕ) (ws : List Word) → grow (low_byte zero b) (first_low (eqb b 48) ws) ≡ first_low zero (grow b ws)
+grown : (zero : Bool) (b : ℕ) (ws : List Word)
+    → grow (low_byte zero b) (first_low (eqb b 48) ws) ≡ first_low zero (grow b ws)
 grown zero b ws = grind arith
 
 -- an `X` is a byte of a word
@@ -118,16 +146,26 @@ unfolding low_byte
 in_word zero b = grind (arith, nat_tests)
 
 -- the tokens of a line, or of a word that goes on behind a 0
-tokens_lowered : (zero : Bool) (line : List ℕ) → tokens (lowered zero line) ≡ first_low (zero && begins is_word_byte line) (tokens line)
+tokens_lowered : (zero : Bool) (line : List ℕ)
+    → tokens (lowered zero line) ≡ first_low (zero && begins is_word_byte line) (tokens line)
 tokens_lowered zero [] = refl
-tokens_lowered zero (b ∷ []) = rw (test_low is_solid refl zero b, in_word zero b, on_test (first_low (zero && is_word_byte b))) refl
+tokens_lowered zero (b ∷ []) = rw
+    (test_low is_solid refl zero b, in_word zero b, on_test (first_low (zero && is_word_byte b))) refl
 tokens_lowered zero (b ∷ c ∷ rest) =
     rw (in_word zero b)
-    (simp (test_low (λ x. eqb x 59) refl, test_low is_blank refl, double_low, joins_low, on_test (first_low (zero && is_word_byte b)))
+    (simp (
+      test_low (λ x. eqb x 59) refl,
+      test_low is_blank refl,
+      double_low,
+      joins_low,
+      on_test
+          (first_low (zero && is_word_byte b)),
+    )
     (rw (tokens_lowered (eqb b 48) (c ∷ rest), tokens_lowered (eqb c 48) rest)
     (by_test (eqb b 59) (λ comment. refl) (λ text. by_test (is_blank b) (λ blank. grind (arith, nat_tests))
     (λ dark. by_test (is_double b c) (λ double. grind (arith, nat_tests, first_plain))
-    (λ single. by_test (joins b c) (λ joined. grind (arith, nat_tests, grown)) (λ alone. grind (arith, nat_tests, first_plain))))))))
+    (λ single. by_test (joins b c) (λ joined. grind (arith, nat_tests, grown))
+    (λ alone. grind (arith, nat_tests, first_plain))))))))
 
 pub tokens_low : (line : List ℕ) → tokens (low line) ≡ lows (tokens line)
 tokens_low line = tokens_lowered false line ∙ first_plain (tokens line)

@@ -3,7 +3,8 @@ use Rattle.c62_token.proofs.Common.{◌≡◌, Bool, true, false, Some, refl, ap
 use Rattle.c62_op.proofs.Registers.{same_reg-is, same_reg-refl}
 use Rattle.c62_token.specs.Number.{numbered, numbered_if}
 
-numbered_if-known : (reg : Reg) (b : Bool) (e : ltb reg.number 16 ≡ b) → b ≡ true → numbered_if reg.side reg.number b e ≡ Some reg
+numbered_if-known : (reg : Reg) (b : Bool) (e : ltb reg.number 16 ≡ b) → b ≡ true
+    → numbered_if reg.side reg.number b e ≡ Some reg
 numbered_if-known reg true e known = ap (λ (r : Reg). Some r) (same_reg-is _ reg (same_reg-refl reg))
 numbered_if-known reg false e known = absurd cc
 

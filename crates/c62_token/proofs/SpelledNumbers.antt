@@ -1,18 +1,23 @@
 -- Numbers and registers read back.
-use Rattle.c62_token.proofs.Common.{option_map, ◌≡◌, ℕ, zero, suc, ◌^◌, ◌<◌, ◌≤◌, Bool, true, false, eqb, ltb, leb, ◌&&◌, ◌||◌, List, [], ◌∷◌, ◌++◌}
-use Rattle.c62_token.proofs.Common.{get_or, drop, rules, length, Option, Some, None, ap, arith, ℤ, pos, negsuc, int_le, codes, refl, digit_value}
-use Rattle.c62_token.proofs.Common.{is_ascii_digit, decimal, list_all, digits_value, and_parts, lt-ltb, le-leb, leb-true, or_left, nat_tests, Side, A}
+use Rattle.c62_token.proofs.Common.{option_map, ◌≡◌, ℕ, zero, suc, ◌^◌, ◌<◌, ◌≤◌, Bool, true, false, eqb, ltb, leb}
+use Rattle.c62_token.proofs.Common.{◌&&◌, ◌||◌, List, [], ◌∷◌, ◌++◌}
+use Rattle.c62_token.proofs.Common.{get_or, drop, rules, length, Option, Some, None, ap, arith, ℤ, pos, negsuc, int_le}
+use Rattle.c62_token.proofs.Common.{codes, refl, digit_value}
+use Rattle.c62_token.proofs.Common.{is_ascii_digit, decimal, list_all, digits_value, and_parts, lt-ltb, le-leb}
+use Rattle.c62_token.proofs.Common.{leb-true, or_left, nat_tests, Side, A}
 use Rattle.c62_token.proofs.Common.{B, Reg, file_letter, register_name, is_word_byte, Number}
 use Rattle.std.specs.Prelude.{◌≤ℤ◌}
 use Rattle.std.specs.Fmt.{digits, signed_decimal}
 use Rattle.std.specs.List.{starts_with}
 use Rattle.std.proofs.lemmas.Bool.{agree_below_at}
-use Rattle.std.proofs.lemmas.Fmt.{decimal_nonempty, digits_decimal, digits_value-decimal, first_decimal, length-decimal-le}
+use Rattle.std.proofs.lemmas.Fmt.{decimal_nonempty, digits_decimal, digits_value-decimal, first_decimal}
+use Rattle.std.proofs.lemmas.Fmt.{length-decimal-le}
 use Rattle.std.proofs.lemmas.Str.Parse.{IsNumeralModel, numerals_by_value}
 use Rattle.c62_op.specs.Takes.{same_side}
 use Rattle.c62_op.proofs.Registers.{same_reg-is}
 use Rattle.c62_token.specs.declared.kind.Kind.TheVariants.{Register}
-use Rattle.c62_token.specs.Number.{decimal_of, file_of, magnitude_of, negative, number_of, numbered, register_of, signed_of}
+use Rattle.c62_token.specs.Number.{decimal_of, file_of, magnitude_of, negative, number_of, numbered, register_of}
+use Rattle.c62_token.specs.Number.{signed_of}
 use Rattle.c62_token.specs.Kind.{kind_of, mark_of, single_mark}
 use Rattle.c62_token.proofs.SpelledTokens.{all_weaker, IsPiece, IsToken, word_end, word_piece, word_token, led_token}
 
@@ -38,10 +43,12 @@ magnitude_back : (ds : List ℕ) → list_all is_ascii_digit ds ≡ true → 0 <
 unfolding magnitude_of decimal_of
 magnitude_back [] digits some short first = absurd (omega arith)
 magnitude_back (d ∷ ds) digits some short first =
-    let valued = all_weaker is_ascii_digit (λ (b : ℕ). ltb (digit_value b) 10) (d ∷ ds) (λ b here. grind (arith, nat_tests)) digits in
+    let valued = all_weaker is_ascii_digit (λ (b : ℕ). ltb (digit_value b) 10) (d ∷ ds)
+    (λ b here. grind (arith, nat_tests)) digits in
     rw (no_hexadecimal d ds digits, le-leb (length ds) 9 (omega arith), first, valued) refl
   where
-    no_hexadecimal : (d : ℕ) (ds : List ℕ) → list_all is_ascii_digit (d ∷ ds) ≡ true → starts_with eqb (d ∷ ds) (codes "0x") ≡ false
+    no_hexadecimal : (d : ℕ) (ds : List ℕ) → list_all is_ascii_digit (d ∷ ds) ≡ true
+        → starts_with eqb (d ∷ ds) (codes "0x") ≡ false
     no_hexadecimal d [] digits = grind (arith, nat_tests)
     no_hexadecimal d (c ∷ ds) digits = grind (arith, nat_tests)
 
@@ -50,7 +57,8 @@ written n small =
     let digits = digits_decimal own n (omega arith) in
     let some = decimal_nonempty n (omega arith) in
     let short = length-decimal-le 10 n (omega arith) small (omega arith) in
-    let read = rw (digits_value-decimal own n (omega arith)) at (magnitude_back (decimal n) digits some short (leads n small)) in
+    let read = rw (digits_value-decimal own n (omega arith)) at
+    (magnitude_back (decimal n) digits some short (leads n small)) in
     record { digits = digits; some = some; short = short; read = read }
 
 -- ---- what is neither a register nor a mark
@@ -89,7 +97,11 @@ number_is : (k : ℤ) (b : ℕ) (w : List ℕ) → IsToken (b ∷ w) → mark_of
     → number_of (b ∷ w) ≡ Some k → IsNumber k (b ∷ w)
 unfolding kind_of
 number_is k b w token mark first short read =
-    record { read = read; piece = word_piece (b ∷ w) (Number k) 11 token (rw (mark, no_register b w first, read) refl) (omega arith) }
+    record {
+      read = read;
+      piece = word_piece (b ∷ w) (Number k) 11 token (rw (mark, no_register b w first, read) refl)
+          (omega arith);
+    }
 
 unsigned : (n : ℕ) (ds : List ℕ) → IsWritten n ds → fits (pos n) ≡ true → IsNumber (pos n) ds
 unfolding number_of signed_of
@@ -98,7 +110,8 @@ unsigned n (d ∷ ds) w inside =
     let digit = (and_parts (is_ascii_digit d) (list_all is_ascii_digit ds) w.digits).0 in
     let words = all_weaker is_ascii_digit is_word_byte (d ∷ ds) (λ b here. grind (arith, nat_tests)) w.digits in
     let plain : signed_of (d ∷ ds) ≡ option_map pos (magnitude_of (d ∷ ds)) = grind (arith, nat_tests) in
-    number_is (pos n) d ds (word_token (d ∷ ds) w.some words) (word_no_mark (d ∷ ds) words) (grind (arith, nat_tests)) (omega (arith, w.short))
+    number_is (pos n) d ds (word_token (d ∷ ds) w.some words) (word_no_mark (d ∷ ds) words) (grind (arith, nat_tests))
+    (omega (arith, w.short))
     (rw (plain, w.read, inside) refl)
 
 signed : (n : ℕ) (ds : List ℕ) → IsWritten (suc n) ds → fits (negsuc n) ≡ true → IsNumber (negsuc n) (45 ∷ ds)
@@ -107,15 +120,19 @@ signed n [] w inside = absurd (omega (arith, w.some))
 signed n (d ∷ ds) w inside =
     let digit = (and_parts (is_ascii_digit d) (list_all is_ascii_digit ds) w.digits).0 in
     let words = all_weaker is_ascii_digit is_word_byte (d ∷ ds) (λ b here. grind (arith, nat_tests)) w.digits in
-    number_is (negsuc n) 45 (d ∷ ds) (led_token 45 d ds refl (grind (arith, nat_tests)) refl words) (negative_no_mark d ds digit) refl w.short
+    number_is (negsuc n) 45 (d ∷ ds) (led_token 45 d ds refl (grind (arith, nat_tests)) refl words)
+    (negative_no_mark d ds digit) refl w.short
     (rw (w.read, inside) refl)
 
 spelled : (k : ℤ) → fits k ≡ true → IsNumber k (signed_decimal k)
-spelled (pos n) inside = let small = leb-true n 4294967295 inside in unsigned n _ (written n (omega (arith, small))) inside
+spelled (pos n) inside = let small = leb-true n 4294967295 inside in unsigned n _ (written n (omega (arith, small)))
+    inside
 spelled (negsuc n) inside =
-    let small = leb-true n 2147483647 (and_parts (leb n 2147483647) true inside).0 in signed n _ (written (suc n) (omega (arith, small))) inside
+    let small = leb-true n 2147483647 (and_parts (leb n 2147483647) true inside).0 in signed n _
+    (written (suc n) (omega (arith, small))) inside
 
-pub number_piece : (k : ℤ) → fits k ≡ true → IsPiece word_end (signed_decimal k) (signed_decimal k ∷ []) (Number k ∷ []) 11
+pub number_piece : (k : ℤ) → fits k ≡ true
+    → IsPiece word_end (signed_decimal k) (signed_decimal k ∷ []) (Number k ∷ []) 11
 number_piece k inside = (spelled k inside).piece
 
 pub number_back : (k : ℤ) → negative 2147483648 ≤ℤ k → k ≤ℤ pos 4294967295 → number_of (signed_decimal k) ≡ Some k
@@ -138,12 +155,15 @@ names w side n = is_found (register_of w) side n && list_all is_word_byte w && l
 
 all_name : (side : Side) (n : ℕ) → n < 16 → names (file_letter side ++ decimal n) side n ≡ true
 unfolding digits register_of file_of numbered
-all_name A n small = agree_below_at (λ (k : ℕ). names (file_letter A ++ decimal k) A k) (λ (k : ℕ). true) 16 n refl small
-all_name B n small = agree_below_at (λ (k : ℕ). names (file_letter B ++ decimal k) B k) (λ (k : ℕ). true) 16 n refl small
+all_name A n small = agree_below_at (λ (k : ℕ). names (file_letter A ++ decimal k) A k) (λ (k : ℕ). true) 16 n refl
+    small
+all_name B n small = agree_below_at (λ (k : ℕ). names (file_letter B ++ decimal k) B k) (λ (k : ℕ). true) 16 n refl
+    small
 
 pub register_back : (reg : Reg) → register_of (register_name reg) ≡ Some reg
 register_back reg =
-    let named = all_name reg.side reg.number reg.in_range in found_is (register_of (register_name reg)) reg (grind (arith, nat_tests))
+    let named = all_name reg.side reg.number reg.in_range in found_is (register_of (register_name reg)) reg
+    (grind (arith, nat_tests))
 
 pub register_kind : (reg : Reg) → kind_of (register_name reg) ≡ Register reg
 unfolding kind_of

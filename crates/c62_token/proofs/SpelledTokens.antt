@@ -1,7 +1,10 @@
 -- The tokens of what is spelled.
-use Rattle.c62_token.proofs.Common.{◌≡◌, ℕ, ◌+◌, ◌<◌, ◌≤◌, Bool, true, false, not, eqb, ◌&&◌, List, [], ◌∷◌, ◌++◌, length, refl, sym, ap, ◌∙◌}
-use Rattle.c62_token.proofs.Common.{append-nil, append_assoc, arith, length-append, codes, list_all, and_from, and_parts, nat_tests, map-append}
-use Rattle.c62_token.proofs.Common.{list_all-append, grow, begins, is_allowed, is_blank, is_solid, is_sign, is_word_byte, joins, tokens, Kind, Comma}
+use Rattle.c62_token.proofs.Common.{◌≡◌, ℕ, ◌+◌, ◌<◌, ◌≤◌, Bool, true, false, not, eqb, ◌&&◌, List, [], ◌∷◌, ◌++◌}
+use Rattle.c62_token.proofs.Common.{length, refl, sym, ap, ◌∙◌}
+use Rattle.c62_token.proofs.Common.{append-nil, append_assoc, arith, length-append, codes, list_all, and_from}
+use Rattle.c62_token.proofs.Common.{and_parts, nat_tests, map-append}
+use Rattle.c62_token.proofs.Common.{list_all-append, grow, begins, is_allowed, is_blank, is_solid, is_sign}
+use Rattle.c62_token.proofs.Common.{is_word_byte, joins, tokens, Kind, Comma}
 use Rattle.c62_token.proofs.Common.{Word, kinds_of}
 use Rattle.c62_token.specs.Kind.{kind_of, mark_of, single_mark}
 use Rattle.c62_token.proofs.TokenLemmas.{tokens_alone, tokens_joined, tokens_last, tokens_blank, tokens_word}
@@ -10,7 +13,8 @@ use Rattle.c62_token.proofs.TokenLemmas.{tokens_alone, tokens_joined, tokens_las
 abbrev pub is_text : ℕ → Bool
 is_text b = is_allowed b && not (eqb b 58) && not (eqb b 59)
 
-pub all_weaker : (p q : ℕ → Bool) (bytes : List ℕ) → ((b : ℕ) → p b ≡ true → q b ≡ true) → list_all p bytes ≡ true → list_all q bytes ≡ true
+pub all_weaker : (p q : ℕ → Bool) (bytes : List ℕ) → ((b : ℕ) → p b ≡ true → q b ≡ true) → list_all p bytes ≡ true
+    → list_all q bytes ≡ true
 all_weaker p q [] weaker all = refl
 all_weaker p q (b ∷ bytes) weaker all = grind (arith, weaker, all_weaker p q bytes)
 
@@ -29,14 +33,17 @@ text_word (b ∷ w) words = grind (arith, nat_tests, text_word w)
 -- a mnemonic, a register, a label or a number without a sign
 pub word_token : (w : List ℕ) → 0 < length w → list_all is_word_byte w ≡ true → IsToken w
 word_token [] some words = absurd (omega arith)
-word_token (b ∷ w) some words = record { splits = λ rest ends. tokens_word (b ∷ w) rest words ends; plain = text_word (b ∷ w) words }
+word_token (b ∷ w) some words = record
+    { splits = λ rest ends. tokens_word (b ∷ w) rest words ends; plain = text_word (b ∷ w) words }
 
 -- a number with its sign, or a unit
-pub led_token : (b c : ℕ) (w : List ℕ) → is_solid b ≡ true → joins b c ≡ true → is_text b ≡ true → list_all is_word_byte (c ∷ w) ≡ true
+pub led_token : (b c : ℕ) (w : List ℕ) → is_solid b ≡ true → joins b c ≡ true → is_text b ≡ true
+    → list_all is_word_byte (c ∷ w) ≡ true
     → IsToken (b ∷ c ∷ w)
 led_token b c w solid joined text words =
     record {
-      splits = λ rest ends. tokens_joined b c (w ++ rest) solid joined ∙ ap (grow b) (tokens_word (c ∷ w) rest words ends);
+      splits = λ rest ends. tokens_joined b c (w ++ rest) solid joined
+          ∙ ap (grow b) (tokens_word (c ∷ w) rest words ends);
       plain = and_from (is_text b) (list_all is_text (c ∷ w)) text (text_word (c ∷ w) words);
     }
 
@@ -46,7 +53,8 @@ is_mark b = is_solid b && not (is_word_byte b) && not (is_sign b) && not (eqb b 
 
 pub mark_alone : (b : ℕ) (rest : List ℕ) → is_mark b ≡ true → tokens (b ∷ rest) ≡ (b ∷ []) ∷ tokens rest
 mark_alone b [] mark = tokens_last b (grind (arith, nat_tests))
-mark_alone b (c ∷ rest) mark = tokens_alone b c rest (grind (arith, nat_tests)) (grind (arith, nat_tests)) (grind (arith, nat_tests))
+mark_alone b (c ∷ rest) mark = tokens_alone b c rest (grind (arith, nat_tests)) (grind (arith, nat_tests))
+    (grind (arith, nat_tests))
 
 -- blanks in front
 pub tokens_behind : (blanks line : List ℕ) → list_all is_blank blanks ≡ true → tokens (blanks ++ line) ≡ tokens line
@@ -57,8 +65,10 @@ tokens_behind (b ∷ blanks) line blank =
 
 -- ---- pieces of a line
 
--- A text with its tokens, with their kinds, and with the most bytes that it has. What follows it may be asked to end it.
-pub record IsPiece (Ends : List ℕ → Type 0) (text : List ℕ) (words : List Word) (kinds : List Kind) (most : ℕ) : Type 0 where
+-- A text with its tokens, with their kinds, and with the most bytes that it has. What follows it may be asked to end
+-- it.
+pub record IsPiece (Ends : List ℕ
+    → Type 0) (text : List ℕ) (words : List Word) (kinds : List Kind) (most : ℕ) : Type 0 where
   pub splits : (rest : List ℕ) → Ends rest → tokens (text ++ rest) ≡ words ++ tokens rest
   pub plain : list_all is_text text ≡ true
   pub told : kinds_of words ≡ kinds
@@ -78,21 +88,40 @@ word_piece w kind most token is short =
 pub mark_piece : (b : ℕ) (kind : Kind) → is_mark b ≡ true → is_text b ≡ true → kind_of (b ∷ []) ≡ kind
     → IsPiece any_end (b ∷ []) ((b ∷ []) ∷ []) (kind ∷ []) 1
 mark_piece b kind mark text is =
-    record { splits = λ rest end. mark_alone b rest mark; plain = rw text refl; told = ap (λ (k : Kind). k ∷ []) is; short = omega arith }
+    record {
+      splits = λ rest end. mark_alone b rest mark;
+      plain = rw text refl;
+      told = ap (λ (k : Kind). k ∷ []) is;
+      short = omega arith;
+    }
 
 pub blank_piece : IsPiece any_end (codes " ") [] [] 1
-blank_piece = record { splits = λ rest end. tokens_blank 32 rest refl refl; plain = refl; told = refl; short = omega arith }
+blank_piece = record {
+  splits = λ rest end. tokens_blank 32 rest refl refl;
+  plain = refl;
+  told = refl;
+  short = omega
+      arith;
+}
 
 pub no_piece : (Ends : List ℕ → Type 0) (most : ℕ) → IsPiece Ends [] [] [] most
 no_piece Ends most = record { splits = λ rest end. refl; plain = refl; told = refl; short = omega arith }
 
-pub weaker : {E F : List ℕ → Type 0} {a : List ℕ} {ws : List Word} {ks : List Kind} {m : ℕ} (n : ℕ) → IsPiece E a ws ks m
+pub weaker : {E F : List ℕ → Type 0} {a : List ℕ} {ws : List Word} {ks : List Kind} {m : ℕ} (n : ℕ)
+    → IsPiece E a ws ks m
     → ((rest : List ℕ) → F rest → E rest) → m ≤ n → IsPiece F a ws ks n
 weaker n piece ends few =
-    record { splits = λ rest end. piece.splits rest (ends rest end); plain = piece.plain; told = piece.told; short = omega (arith, piece.short) }
+    record {
+      splits = λ rest end. piece.splits rest (ends rest end);
+      plain = piece.plain;
+      told = piece.told;
+      short =
+          omega (arith, piece.short);
+    }
 
 -- two pieces, where the second ends the first
-pub both : {E F : List ℕ → Type 0} {a b : List ℕ} {ws vs : List Word} {ks ls : List Kind} {m n : ℕ} → IsPiece E a ws ks m
+pub both : {E F : List ℕ → Type 0} {a b : List ℕ} {ws vs : List Word} {ks ls : List Kind} {m n : ℕ}
+    → IsPiece E a ws ks m
     → IsPiece F b vs ls n → ((rest : List ℕ) → F rest → E (b ++ rest))
     → IsPiece F (a ++ b) (ws ++ vs) (ks ++ ls) (m + n)
 both {a = a} {b = b} {ws = ws} {vs = vs} {ks = ks} first second ends =
@@ -106,7 +135,8 @@ both {a = a} {b = b} {ws = ws} {vs = vs} {ks = ks} first second ends =
     }
 
 -- two operands with a comma between
-pub more : {a b : List ℕ} {ws vs : List Word} {ks ls : List Kind} {m n : ℕ} → IsPiece word_end a ws ks m → IsPiece word_end b vs ls n
+pub more : {a b : List ℕ} {ws vs : List Word} {ks ls : List Kind} {m n : ℕ} → IsPiece word_end a ws ks m
+    → IsPiece word_end b vs ls n
     → IsPiece word_end (a ++ codes "," ++ b) (ws ++ (codes "," ∷ []) ++ vs) (ks ++ (Comma ∷ []) ++ ls) (m + 1 + n)
 unfolding kind_of mark_of single_mark
 more first others = both (both first (mark_piece 44 Comma refl refl refl) (λ rest end. refl)) others (λ rest end. tt)

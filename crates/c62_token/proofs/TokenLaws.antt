@@ -1,12 +1,15 @@
 -- Each token is the longest that fits.
-use Rattle.c62_token.proofs.Common.{◌≡◌, ℕ, zero, suc, ◌+◌, ◌<◌, ◌≤◌, Bool, true, false, ◌&&◌, ◌||◌, List, [], ◌∷◌, length, take, drop, eqb, leb}
+use Rattle.c62_token.proofs.Common.{◌≡◌, ℕ, zero, suc, ◌+◌, ◌<◌, ◌≤◌, Bool, true, false, ◌&&◌, ◌||◌, List, [], ◌∷◌}
+use Rattle.c62_token.proofs.Common.{length, take, drop, eqb, leb}
 use Rattle.c62_token.proofs.Common.{refl}
-use Rattle.c62_token.proofs.Common.{arith, inl, inr, cases_Bool, is_ascii_digit, list_all, nat_tests, begins, is_solid, is_word_byte, is_double}
+use Rattle.c62_token.proofs.Common.{arith, inl, inr, cases_Bool, is_ascii_digit, list_all, nat_tests, begins, is_solid}
+use Rattle.c62_token.proofs.Common.{is_word_byte, is_double}
 use Rattle.c62_token.proofs.Common.{tokens, ◌++◌, joins, is_sign, ◌∙◌}
 use Rattle.std.specs.List.{prefix_len}
 use Rattle.std.proofs.lemmas.List.Sums.{prefix_len-le-length}
 use Rattle.c62_token.specs.Laws.{HasLongestTokens, IsLongestToken, goes_on, is_pair, may_be_token}
-use Rattle.c62_token.proofs.TokenLemmas.{solid_parts, joined_no_double, joined_token, joined_word, tokens_alone, tokens_blank, tokens_last}
+use Rattle.c62_token.proofs.TokenLemmas.{solid_parts, joined_no_double, joined_token, joined_word, tokens_alone}
+use Rattle.c62_token.proofs.TokenLemmas.{tokens_blank, tokens_last}
 use Rattle.c62_token.proofs.TokenLemmas.{tokens_comment}
 
 -- ---- the bytes of a word that stand first
@@ -34,7 +37,8 @@ pair_is b c = grind (arith, nat_tests)
 joins_is : (b c : ℕ) → joins b c ≡ (is_word_byte c && (is_word_byte b || eqb b 46 || is_sign b && is_ascii_digit c))
 joins_is b c = elim (cases_Bool (is_word_byte c)) [
   | inl word ↦ rw word (grind (arith, nat_tests))
-  | inr other ↦ let digit : is_ascii_digit c ≡ false = grind (arith, nat_tests) in rw (other, digit) (grind (arith, nat_tests))
+  | inr other ↦ let digit : is_ascii_digit c ≡ false = grind (arith, nat_tests) in rw (other, digit)
+      (grind (arith, nat_tests))
 ]
 
 swapped : (one other rest : Bool) → ((one && rest) && other) ≡ ((one && other) && rest)
@@ -42,7 +46,8 @@ swapped one other rest = grind (arith, nat_tests)
 
 goes_is : (b c : ℕ) (rest : List ℕ) → goes_on b (c ∷ rest) ≡ (joins b c && list_all is_word_byte rest)
 goes_is b c rest = rw (joins_is b c)
-    (swapped (is_word_byte c) (is_word_byte b || eqb b 46 || is_sign b && is_ascii_digit c) (list_all is_word_byte rest))
+    (swapped (is_word_byte c) (is_word_byte b || eqb b 46 || is_sign b && is_ascii_digit c)
+    (list_all is_word_byte rest))
 
 double_alone : (b c : ℕ) → is_double b c ≡ true → joins b c ≡ false
 double_alone b c double = grind (arith, nat_tests)
@@ -83,11 +88,13 @@ module _ (b c : ℕ) (rest : List ℕ) (solid : is_solid b ≡ true) where
   word_first joined =
       let single = joined_no_double b c joined in
       let within = prefix_len-le-length is_word_byte rest in
-      let words : list_all is_word_byte (take (word_len rest) rest) ≡ true = are_word (word_len rest) rest within ∙ grind (arith, nat_tests) in
+      let words : list_all is_word_byte (take (word_len rest) rest) ≡ true = are_word (word_len rest) rest within
+      ∙ grind (arith, nat_tests) in
       record {
         within = omega (arith, within);
         fits = fits_so (word_len rest) b c rest within ∙ rw (single, joined) (grind (arith, nat_tests));
-        longest = none_longer (suc (suc (word_len rest))) (omega arith) (λ n less. rw (single, joined) (grind (arith, nat_tests)));
+        longest = none_longer (suc (suc (word_len rest))) (omega arith)
+            (λ n less. rw (single, joined) (grind (arith, nat_tests)));
         first = rw next at (joined_token (b ∷ c ∷ rest) (suc (word_len rest)) (omega arith) solid joined
             (rw (joined_word b c joined, words) refl) (word_ends rest));
       }
@@ -102,8 +109,16 @@ module _ (b c : ℕ) (rest : List ℕ) (solid : is_solid b ≡ true) where
 
 longest_first : (line : List ℕ) → begins is_solid line ≡ true → (count : ℕ) × IsLongestToken line count
 longest_first [] solid = absurd cc
-longest_first (b ∷ []) solid =
-    (1, record { within = omega arith; fits = solid; longest = λ more less most. absurd (omega arith); first = tokens_last b solid })
+longest_first (b ∷ []) solid = (
+  1,
+  record {
+    within = omega arith;
+    fits = solid;
+    longest = λ more less most. absurd (omega arith);
+    first =
+        tokens_last b solid;
+  },
+)
 longest_first (b ∷ c ∷ rest) solid = elim (cases_Bool (is_double b c)) [
   | inl double ↦ (2, pair_first b c rest solid double)
   | inr single ↦ elim (cases_Bool (joins b c)) [
@@ -113,10 +128,12 @@ longest_first (b ∷ c ∷ rest) solid = elim (cases_Bool (is_double b c)) [
 ]
 
 pub longest_tokens : (line : List ℕ) → HasLongestTokens line
-longest_tokens line = record { token = longest_first line; blank = λ b blank. tokens_blank b line (grind (arith, nat_tests)) blank }
+longest_tokens line = record
+    { token = longest_first line; blank = λ b blank. tokens_blank b line (grind (arith, nat_tests)) blank }
 
 -- ---- behind a semicolon
 
 pub tokens_before_comment : (line rest : List ℕ) → tokens (line ++ 59 ∷ rest) ≡ tokens line
-tokens_before_comment (b ∷ c ∷ line) rest = rw (tokens_before_comment (c ∷ line) rest, tokens_before_comment line rest) refl
+tokens_before_comment (b ∷ c ∷ line) rest = rw (tokens_before_comment (c ∷ line) rest, tokens_before_comment line rest)
+    refl
 tokens_before_comment line rest = grind (arith, nat_tests, tokens_comment 59 rest)

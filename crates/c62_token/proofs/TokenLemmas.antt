@@ -1,7 +1,10 @@
 -- How the bytes of a token come together, and that the tokens of a line are its bytes.
-use Rattle.c62_token.proofs.Common.{◌≡◌, ℕ, zero, suc, ◌+◌, ◌<◌, ◌≤◌, Bool, true, false, cond, eqb, ◌&&◌, List, [], ◌∷◌, ◌++◌, length, get_or, take}
-use Rattle.c62_token.proofs.Common.{drop, refl, sym, ap, ◌∙◌, arith, list_all, take-append-drop, and_parts, nat_tests, grow, put_back, begins}
-use Rattle.c62_token.proofs.Common.{is_blank, is_solid, is_word_byte, is_double, joins, tokens, not, inl, inr, filter, flat_map, cases_Bool}
+use Rattle.c62_token.proofs.Common.{◌≡◌, ℕ, zero, suc, ◌+◌, ◌<◌, ◌≤◌, Bool, true, false, cond, eqb, ◌&&◌, List, [], ◌∷◌}
+use Rattle.c62_token.proofs.Common.{◌++◌, length, get_or, take}
+use Rattle.c62_token.proofs.Common.{drop, refl, sym, ap, ◌∙◌, arith, list_all, take-append-drop, and_parts, nat_tests}
+use Rattle.c62_token.proofs.Common.{grow, put_back, begins}
+use Rattle.c62_token.proofs.Common.{is_blank, is_solid, is_word_byte, is_double, joins, tokens, not, inl, inr, filter}
+use Rattle.c62_token.proofs.Common.{flat_map, cases_Bool}
 use Rattle.std.proofs.lemmas.Bool.{not-true}
 use Rattle.std.specs.Prelude.{take_while}
 use Rattle.std.proofs.lemmas.List.Sums.{take_while-cons}
@@ -34,7 +37,8 @@ joined_word b c joined = grind (arith, nat_tests)
 pub solid_parts : (b : ℕ) → is_solid b ≡ true → (eqb b 59 ≡ false) × (is_blank b ≡ false)
 solid_parts b solid = let both = and_parts _ _ solid in (not-true _ both.0, not-true _ both.1)
 
-pub tokens_joined : (b c : ℕ) (rest : List ℕ) → is_solid b ≡ true → joins b c ≡ true → tokens (b ∷ c ∷ rest) ≡ grow b (tokens (c ∷ rest))
+pub tokens_joined : (b c : ℕ) (rest : List ℕ) → is_solid b ≡ true → joins b c ≡ true
+    → tokens (b ∷ c ∷ rest) ≡ grow b (tokens (c ∷ rest))
 tokens_joined b c rest solid joined =
     let parts = solid_parts b solid in
     rw (parts.0, parts.1, joined_no_double b c joined, joined) refl
@@ -66,7 +70,8 @@ tokens_word (b ∷ c ∷ w) rest words ends =
     tokens_joined b c (w ++ rest) (word_solid b first.0) joined ∙ ap (grow b) (tokens_word (c ∷ w) rest first.1 ends)
 
 -- a first byte that joins a word
-pub joined_token : (bytes : List ℕ) (n : ℕ) → 2 ≤ length bytes → begins is_solid bytes ≡ true → joins (get_or bytes 0 0) (get_or bytes 1 0) ≡ true
+pub joined_token : (bytes : List ℕ) (n : ℕ) → 2 ≤ length bytes → begins is_solid bytes ≡ true
+    → joins (get_or bytes 0 0) (get_or bytes 1 0) ≡ true
     → list_all is_word_byte (take n (drop 1 bytes)) ≡ true → begins is_word_byte (drop n (drop 1 bytes)) ≡ false
     → tokens bytes ≡ take (1 + n) bytes ∷ tokens (drop (1 + n) bytes)
 joined_token [] n long solid joined words ends = absurd (omega arith)
@@ -81,7 +86,8 @@ joined_token (b ∷ c ∷ more) (suc n) long solid joined words ends =
 
 -- the tokens of what begins with a token, which is cut off
 pub led_by_token : (bytes : List ℕ) (n : ℕ) → n ≤ length bytes → (0 < length bytes → 0 < n)
-    → (0 < length bytes → tokens bytes ≡ take n bytes ∷ tokens (drop n bytes)) → led_by (take n bytes) (tokens (drop n bytes)) ≡ tokens bytes
+    → (0 < length bytes → tokens bytes ≡ take n bytes ∷ tokens (drop n bytes))
+    → led_by (take n bytes) (tokens (drop n bytes)) ≡ tokens bytes
 led_by_token [] n within some token = let none : n ≡ 0 = omega arith in rw none refl
 led_by_token (b ∷ bytes) zero within some token = absurd (omega (arith, some (omega arith)))
 led_by_token (b ∷ bytes) (suc n) within some token = sym (token (omega arith))
@@ -94,13 +100,15 @@ joined_bytes words = flat_map (λ t. t) words
 abbrev kept : List ℕ → List ℕ
 kept line = filter (λ b. not (is_blank b)) (take_while (λ b. not (eqb b 59)) line)
 
-kept_more : (b : ℕ) (rest : List ℕ) → kept (b ∷ rest) ≡ cond (eqb b 59) [] (cond (is_blank b) (kept rest) (b ∷ kept rest))
+kept_more : (b : ℕ) (rest : List ℕ)
+    → kept (b ∷ rest) ≡ cond (eqb b 59) [] (cond (is_blank b) (kept rest) (b ∷ kept rest))
 kept_more b rest = rw (take_while-cons (λ (x : ℕ). not (eqb x 59)) b rest) (grind (arith, nat_tests))
 
 grown : (b : ℕ) (words : List (List ℕ)) → joined_bytes (grow b words) ≡ b ∷ joined_bytes words
 grown b words = grind arith
 
-pub tokens_are_bytes : (line : List ℕ) → flat_map (λ t. t) (tokens line) ≡ filter (λ b. not (is_blank b)) (take_while (λ b. not (eqb b 59)) line)
+pub tokens_are_bytes : (line : List ℕ)
+    → flat_map (λ t. t) (tokens line) ≡ filter (λ b. not (is_blank b)) (take_while (λ b. not (eqb b 59)) line)
 tokens_are_bytes [] = refl
 tokens_are_bytes (b ∷ []) = rw (kept_more b []) (grind (arith, nat_tests))
 tokens_are_bytes (b ∷ c ∷ rest) =

@@ -1,6 +1,9 @@
 //! In what order a list places instructions.
 
-ghost use Rattle.std.specs.Prelude.{◌<◌, length};
+ghost use Rattle.std.specs.Prelude.{◌≡◌, ◌<◌, ◌+◌, ◌*◌, length, IfOk};
+ghost use Rattle.c62_depend.specs.Plan.{insns_of};
+ghost use Rattle.c62_tries.specs.declared.order.Way.TheVariants.{Forward as FromFirst, Backward as FromLast};
+ghost use Rattle.c62_tries.specs.Order.{HasHighestFirst, HasEarliestFirst, IsUrgencyBy};
 
 use c62_depend::{Link, Plan};
 use std::alloc::{AllocError, Global};
@@ -26,7 +29,9 @@ pub struct Order {
 }
 
 /// How urgent an instruction is: by this measure, and of several by their ranks.
-fn urgency(measure: u16, rank: u8) -> u32 {
+fn urgency(measure: u16, rank: u8) -> u32
+    ensures { result ≡ measure * 256 + rank }
+{
     u32::from(measure) * 256 + u32::from(rank)
 }
 
@@ -57,13 +62,26 @@ fn depths(alloc: Global, plan: &Plan) -> Result<Vec<Option<u16>>, AllocError> {
     Ok(depths)
 }
 
+/// How urgent an instruction is that stands in this cycle.
+fn urgency_by(way: Way, cycle: u16, number: u8) -> u32
+    ensures { IsUrgencyBy way cycle result }
+{
+    match way {
+        Way::Forward => urgency(u16::MAX - cycle, u8::MAX - number),
+        Way::Backward => urgency(cycle, number),
+    }
+}
+
 impl Order {
     /// From the first cycle on: what has the greatest height, and of several the lowest number.
     ///
     /// # Errors
     ///
     /// Where memory ran out.
-    pub fn by_height(alloc: Global, plan: &Plan) -> Result<Order, AllocError> {
+    pub fn by_height(alloc: Global, plan: &Plan) -> Result<Order, AllocError>
+        ensures way { IfOk result (λ order. order.way ≡ FromFirst) }
+        ensures first { IfOk result (λ order. HasHighestFirst (insns_of plan.now) order.urgency.items) }
+    {
         let mut all = Vec::with_capacity(alloc, usize::from(plan.len()))?;
         for i in 0..plan.len() {
             all.push(urgency(plan.height(i), u8::MAX - i as u8))?;
@@ -80,7 +98,9 @@ impl Order {
     /// # Errors
     ///
     /// Where memory ran out.
-    pub fn by_depth(alloc: Global, plan: &Plan) -> Result<Order, AllocError> {
+    pub fn by_depth(alloc: Global, plan: &Plan) -> Result<Order, AllocError>
+        ensures { IfOk result (λ order. order.way ≡ FromLast) }
+    {
         let depths = depths(alloc, plan)?;
         let mut all = Vec::with_capacity(alloc, usize::from(plan.len()))?;
         for i in 0..plan.len() {
@@ -99,14 +119,14 @@ impl Order {
     /// # Errors
     ///
     /// Where memory ran out.
-    pub fn by_cycle(alloc: Global, cycles: &[u16], way: Way) -> Result<Order, AllocError> {
+    pub fn by_cycle(alloc: Global, cycles: &[u16], way: Way) -> Result<Order, AllocError>
+        ensures way { IfOk result (λ order. order.way ≡ way) }
+        ensures first { IfOk result (λ order. HasEarliestFirst way cycles.now order.urgency.items) }
+    {
         let mut all = Vec::with_capacity(alloc, cycles.len())?;
         let mut number = 0u8;
         for cycle in cycles {
-            all.push(match way {
-                Way::Forward => urgency(u16::MAX - *cycle, u8::MAX - number),
-                Way::Backward => urgency(*cycle, number),
-            })?;
+            all.push(urgency_by(way, *cycle, number))?;
             number = number.wrapping_add(1);
         }
         Ok(Order {

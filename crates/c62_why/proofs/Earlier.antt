@@ -17,7 +17,8 @@ module _ (r : Resource) (one : Placed) (later : 0 < one.cycle) where
   none = grind (arith, nat_tests, later)
 
   pub used_moved : (before behind : List Placed)
-      → used r (one.cycle - 1) (issued (moved before one behind)) ≡ used r (one.cycle - 1) (issued (before ++ one ∷ behind)) + uses r one.insn one.unit
+      → used r (one.cycle - 1) (issued (moved before one behind)) ≡ used r (one.cycle - 1)
+      (issued (before ++ one ∷ behind)) + uses r one.insn one.unit
   used_moved [] behind =
       omega (
         arith,
@@ -34,9 +35,15 @@ module _ (r : Resource) (one : Placed) (later : 0 < one.cycle) where
         used_moved before behind,
       )
 
-pub lacking_breaks : (before behind : List Placed) (one : Placed) (r : Resource) (taken : Taken) → LackingBreaks before one behind r taken
+pub lacking_breaks : (before behind : List Placed) (one : Placed) (r : Resource) (taken : Taken)
+    → LackingBreaks before one behind r taken
 lacking_breaks before behind one r taken later lacking =
-    record { resource = r; of_rule = refl; over = let over = lacking.over in omega (arith, over, used_moved r one later before behind) }
+    record {
+      resource = r;
+      of_rule = refl;
+      over = let over = lacking.over in omega
+          (arith, over, used_moved r one later before behind);
+    }
 
 pub enough_kept : (before behind : List Placed) (one : Placed) (r : Resource) → EnoughIsKept before one behind r
 enough_kept before behind one r later enough = omega (arith, enough, used_moved r one later before behind)

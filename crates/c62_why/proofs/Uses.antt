@@ -1,5 +1,6 @@
 -- What instructions take of a resource.
-use Rattle.std.proofs.Common.{arith, ◌≡◌, ℕ, ◌+◌, ◌<◌, ◌≤◌, ◌==◌, Bool, List, [], ◌∷◌, ◌++◌, length, Option, Some, None, refl, sym, ap, cond, inl, inr, ◌∙◌, get_or, drop, suc, add-one, drop-cons}
+use Rattle.std.proofs.Common.{arith, ◌≡◌, ℕ, ◌+◌, ◌<◌, ◌≤◌, ◌==◌, Bool, List, [], ◌∷◌, ◌++◌, length, Option, Some, None}
+use Rattle.std.proofs.Common.{refl, sym, ap, cond, inl, inr, ◌∙◌, get_or, drop, suc, add-one, drop-cons}
 use Rattle.std.specs.Prelude.{count_by, find, if◌then◌else◌}
 use Rattle.std.proofs.lemmas.Bool.{cases_eq}
 use Rattle.std.proofs.lemmas.Bool.Decides.{nat_tests}
@@ -32,20 +33,25 @@ times_same r (x ∷ taken) =
       times_same r taken,
     )
 
-pub times_are_uses : (r : Resource) (insn : Insn) (unit : FunctionalUnit) → times (place_of r) (taken_by insn unit) ≡ uses r insn unit
+pub times_are_uses : (r : Resource) (insn : Insn) (unit : FunctionalUnit)
+    → times (place_of r) (taken_by insn unit) ≡ uses r insn unit
 times_are_uses r insn unit = times_same r (taken_by insn unit)
 
 -- one more instruction
-pub used_cons : (r : Resource) (cycle : ℕ) (p : Placed) (placed : List Placed) → used r cycle (issued (p ∷ placed)) ≡ uses_at r cycle p + used r cycle (issued placed)
+pub used_cons : (r : Resource) (cycle : ℕ) (p : Placed) (placed : List Placed)
+    → used r cycle (issued (p ∷ placed)) ≡ uses_at r cycle p + used r cycle (issued placed)
 used_cons r cycle p placed = sum_by-cons (uses_in cycle r) (Some (issue_of p)) (issued placed)
 
 -- of the rest of the instructions one less
-pub used_next : (r : Resource) (cycle : ℕ) (placed : List Placed) (i : ℕ) (p : Placed) (sum : ℕ) → i < length placed → p ≡ get_or placed i p
+pub used_next : (r : Resource) (cycle : ℕ) (placed : List Placed) (i : ℕ) (p : Placed) (sum : ℕ) → i < length placed
+    → p ≡ get_or placed i p
     → sum + used r cycle (issued (drop i placed)) ≡ used r cycle (issued placed)
     → sum + uses_at r cycle p + used r cycle (issued (drop (i + 1) placed)) ≡ used r cycle (issued placed)
 used_next r cycle placed i p sum within at so =
-    let cut : drop i placed ≡ p ∷ drop (i + 1) placed = rw add-one (drop-cons placed i p within ∙ ap (λ q. q ∷ drop (suc i) placed) (sym at)) in
-    let parts : used r cycle (issued (drop i placed)) ≡ uses_at r cycle p + used r cycle (issued (drop (i + 1) placed)) =
+    let cut : drop i placed ≡ p ∷ drop (i + 1) placed = rw add-one (drop-cons placed i p within
+    ∙ ap (λ q. q ∷ drop (suc i) placed) (sym at)) in
+    let parts : used r cycle (issued (drop i placed)) ≡ uses_at r cycle p + used r cycle (issued (drop (i + 1) placed))
+    =
     ap (λ rest. used r cycle (issued rest)) cut ∙ used_cons r cycle p (drop (i + 1) placed) in
     omega (arith, so, parts)
 
@@ -57,10 +63,12 @@ used_all r cycle placed i sum end so =
     omega (arith, so, nothing)
 
 -- where nothing takes of it, none of it is used
-pub unused : (r : Resource) (cycle : ℕ) (placed : List Placed) → find (holds r cycle) placed ≡ None → used r cycle (issued placed) ≡ 0
+pub unused : (r : Resource) (cycle : ℕ) (placed : List Placed) → find (holds r cycle) placed ≡ None
+    → used r cycle (issued placed) ≡ 0
 unused r cycle [] none = refl
 unused r cycle (p ∷ placed) none = elim (cases_eq (uses_at r cycle p) 0) [
-  | inl nothing ↦ (let rest : find (holds r cycle) placed ≡ None = grind (arith, nat_tests, none) in omega (arith, used_cons r cycle p placed, nothing, unused r cycle placed rest))
+  | inl nothing ↦ (let rest : find (holds r cycle) placed ≡ None = grind (arith, nat_tests, none) in omega
+      (arith, used_cons r cycle p placed, nothing, unused r cycle placed rest))
   | inr some ↦ absurd (grind (arith, nat_tests, none, some))
 ]
 

@@ -24,7 +24,8 @@ use Rattle.c62_work.specs.Turns.{GoesOn}
 abbrev pub rank : BoardState → ℕ
 rank b = b.budget * (length (insns_of b.plan) + 1) + unplaced b.spots
 
-pub step_rank : (old new : BoardState) (of : Side) (taken : Turn) → length old.spots ≡ length (insns_of old.plan) → IsStep old of taken new → GoesOn taken
+pub step_rank : (old new : BoardState) (of : Side) (taken : Turn) → length old.spots ≡ length (insns_of old.plan)
+    → IsStep old of taken new → GoesOn taken
     → (rank new < rank old) ⊎ ((taken ≡ Idle) × (new ≡ old))
 step_rank old new of Idle sized step goes = inr (refl, step.1)
 step_rank old new of Done sized step goes = absurd goes
@@ -33,20 +34,26 @@ step_rank old new of Memory sized step goes = absurd goes
 step_rank old new of (Placed i s) sized step goes =
     let is = step.turn_is in
     let within : i < length old.spots = (let w = is.0.pick.competes.within in omega (arith, sized, w)) in
-    let spots : new.spots ≡ placed old.spots i s = step.adds.spots ∙ ap (λ (es : List Entry). replayed old.spots es) is.1 in
+    let spots : new.spots ≡ placed old.spots i s = step.adds.spots
+    ∙ ap (λ (es : List Entry). replayed old.spots es) is.1 in
     let less : unplaced new.spots + 1 ≡ unplaced old.spots =
     ap (λ (set : Spots). unplaced set + 1) spots ∙ unplaced-placed old.spots i s within is.0.pick.competes.ready.free in
-    let many : length (insns_of new.plan) ≡ length (insns_of old.plan) = ap (λ (p : Serial). length (insns_of p)) step.adds.plan in
+    let many : length (insns_of new.plan) ≡ length (insns_of old.plan) = ap (λ (p : Serial). length (insns_of p))
+    step.adds.plan in
     let most : new.budget * (length (insns_of new.plan) + 1) ≡ old.budget * (length (insns_of old.plan) + 1) =
     ap (λ (b : ℕ). b * (length (insns_of new.plan) + 1)) is.2 ∙ ap (λ (n : ℕ). old.budget * (n + 1)) many in
     inl (omega (arith, less, most))
 step_rank old new of (Ejected q i s) sized step goes =
     let is = step.turn_is in
-    let many : length (insns_of new.plan) ≡ length (insns_of old.plan) = ap (λ (p : Serial). length (insns_of p)) step.adds.plan in
-    let most : old.budget * (length (insns_of old.plan) + 1) ≡ new.budget * (length (insns_of old.plan) + 1) + (length (insns_of old.plan) + 1) =
+    let many : length (insns_of new.plan) ≡ length (insns_of old.plan) = ap (λ (p : Serial). length (insns_of p))
+    step.adds.plan in
+    let most : old.budget * (length (insns_of old.plan) + 1) ≡ new.budget * (length (insns_of old.plan) + 1) +
+    (length (insns_of old.plan) + 1) =
     ap (λ (b : ℕ). b * (length (insns_of old.plan) + 1)) is.1 ∙ one_more new.budget (length (insns_of old.plan) + 1) in
-    let now : new.budget * (length (insns_of new.plan) + 1) ≡ new.budget * (length (insns_of old.plan) + 1) = ap (λ (n : ℕ). new.budget * (n + 1)) many in
-    let long : length new.spots ≡ length old.spots = ap (length {A = Option Spot}) step.adds.spots ∙ length-replayed old.spots step.entries in
+    let now : new.budget * (length (insns_of new.plan) + 1) ≡ new.budget * (length (insns_of old.plan) + 1) = ap
+    (λ (n : ℕ). new.budget * (n + 1)) many in
+    let long : length new.spots ≡ length old.spots = ap (length {A = Option Spot}) step.adds.spots
+    ∙ length-replayed old.spots step.entries in
     let few = unplaced-le new.spots in
     inl (omega (arith, most, now, long, few, sized))
   where
@@ -55,7 +62,8 @@ step_rank old new of (Ejected q i s) sized step goes =
 
 -- ---- somebody has something to do
 
-pub not_both_idle : (block : List Insn) (set : Spots) → (IsComplete block set → ⊥) → HasNoPick block set A → HasNoPick block set B → ⊥
+pub not_both_idle : (block : List Insn) (set : Spots) → (IsComplete block set → ⊥) → HasNoPick block set A
+    → HasNoPick block set B → ⊥
 not_both_idle block set left a b =
     let w = some_ready block set left in
     none w.0 w.1.0 w.1.1

@@ -1,5 +1,6 @@
 -- Turns one after another.
-use Rattle.std.proofs.Common.{◌≡◌, ◌<◌, ◌⊎◌, List, [], ◌++◌, length, Option, inl, inr, refl, sym, ap, ◌∙◌, subst, arith, append_assoc, length-append}
+use Rattle.std.proofs.Common.{◌≡◌, ◌<◌, ◌⊎◌, List, [], ◌++◌, length, Option, inl, inr, refl, sym, ap, ◌∙◌, subst, arith}
+use Rattle.std.proofs.Common.{append_assoc, length-append}
 use Rattle.std.proofs.lemmas.List.{append-nil}
 use Rattle.c62_op.specs.declared.register.Side.{Side}
 use Rattle.c62_op.specs.declared.register.Side.TheVariants.{A, B}
@@ -29,10 +30,17 @@ pub taken_none : (board : BoardState) → HasTaken board A board
 taken_none board = record {
   entries = [];
   reached = start;
-  adds = record { plan = refl; spots = refl; journal = sym (append-nil board.journal); budget = refl; room = omega arith };
+  adds = record {
+    plan = refl;
+    spots = refl;
+    journal = sym (append-nil board.journal);
+    budget = refl;
+    room = omega arith;
+  };
 }
 
-took : (now new : BoardState) (side : Side) (taken : Turn) → IsStep now side taken new → GoesOn taken → TakesTurn now side taken new
+took : (now new : BoardState) (side : Side) (taken : Turn) → IsStep now side taken new → GoesOn taken
+    → TakesTurn now side taken new
 took now new side (Placed i s) step goes = step
 took now new side (Ejected q i s) step goes = step
 took now new side Idle step goes = step.0
@@ -40,7 +48,8 @@ took now new side Done step goes = absurd goes
 took now new side (NoRoom i) step goes = absurd goes
 took now new side Memory step goes = absurd goes
 
-stopped : (now new : BoardState) (side : Side) (taken : Turn) → IsStep now side taken new → (GoesOn taken → ⊥) → new ≡ now
+stopped : (now new : BoardState) (side : Side) (taken : Turn) → IsStep now side taken new → (GoesOn taken → ⊥)
+    → new ≡ now
 stopped now new side (Placed i s) step ends = absurd (ends tt)
 stopped now new side (Ejected q i s) step ends = absurd (ends tt)
 stopped now new side Idle step ends = absurd (ends tt)
@@ -48,25 +57,31 @@ stopped now new side Done step ends = step.1
 stopped now new side (NoRoom i) step ends = step.1
 stopped now new side Memory step ends = step.1
 
-pub taken_more : (old now new : BoardState) (side : Side) (taken : Turn) → HasTaken old side now → IsStep now side taken new → GoesOn taken
+pub taken_more : (old now new : BoardState) (side : Side) (taken : Turn) → HasTaken old side now
+    → IsStep now side taken new → GoesOn taken
     → HasTaken old (other_side side) new
 taken_more old now new side taken so_far step goes =
     let more = took now new side taken step goes in
-    let is : IsTurn (insns_of old.plan) (replayed old.spots so_far.entries) now.budget side taken more.entries new.budget =
+    let is : IsTurn (insns_of old.plan) (replayed old.spots so_far.entries) now.budget side taken more.entries
+    new.budget =
     rw (← so_far.adds.plan, ← so_far.adds.spots) more.turn_is in
     record {
       entries = so_far.entries ++ more.entries;
       reached = turn side so_far.entries now.budget taken more.entries new.budget so_far.reached is goes;
       adds = record {
         plan = more.adds.plan ∙ so_far.adds.plan;
-        spots = more.adds.spots ∙ ap (λ (set : Spots). replayed set more.entries) so_far.adds.spots ∙ sym (replayed-append old.spots so_far.entries more.entries);
-        journal = more.adds.journal ∙ ap (λ (es : List Entry). es ++ more.entries) so_far.adds.journal ∙ append_assoc old.journal so_far.entries more.entries;
+        spots = more.adds.spots ∙ ap (λ (set : Spots). replayed set more.entries) so_far.adds.spots
+            ∙ sym (replayed-append old.spots so_far.entries more.entries);
+        journal = more.adds.journal ∙ ap (λ (es : List Entry). es ++ more.entries) so_far.adds.journal
+            ∙ append_assoc old.journal so_far.entries more.entries;
         budget = refl;
-        room = (let first = so_far.adds.room in let second = more.adds.room in omega (arith, length-append so_far.entries more.entries));
+        room = (let first = so_far.adds.room in let second = more.adds.room in omega
+            (arith, length-append so_far.entries more.entries));
       };
     }
 
-pub taken_last : (old now new : BoardState) (side : Side) (taken : Turn) → HasTaken old side now → IsStep now side taken new → (GoesOn taken → ⊥)
+pub taken_last : (old now new : BoardState) (side : Side) (taken : Turn) → HasTaken old side now
+    → IsStep now side taken new → (GoesOn taken → ⊥)
     → TakesTurns old taken new
 taken_last old now new side taken so_far step ends =
     let same : new ≡ now = stopped now new side taken step ends in
@@ -80,17 +95,21 @@ taken_last old now new side taken so_far step ends =
       ends = ends;
     })
 
-stays_sized : (now new : BoardState) (side : Side) (taken : Turn) → length now.spots ≡ length (insns_of now.plan) → IsStep now side taken new → GoesOn taken
+stays_sized : (now new : BoardState) (side : Side) (taken : Turn) → length now.spots ≡ length (insns_of now.plan)
+    → IsStep now side taken new → GoesOn taken
     → length new.spots ≡ length (insns_of new.plan)
 stays_sized now new side taken sized step goes =
     let more = took now new side taken step goes in
-    ap (length {A = Option Spot}) more.adds.spots ∙ length-replayed now.spots more.entries ∙ sized ∙ sym (ap (λ (p : Serial). length (insns_of p)) more.adds.plan)
+    ap (length {A = Option Spot}) more.adds.spots ∙ length-replayed now.spots more.entries ∙ sized
+    ∙ sym (ap (λ (p : Serial). length (insns_of p)) more.adds.plan)
 
 -- two steps leave less to do
-pub both_less : (old mid new : BoardState) (first second : Turn) → IsSound old → IsStep old A first mid → GoesOn first → IsStep mid B second new → GoesOn second
+pub both_less : (old mid new : BoardState) (first second : Turn) → IsSound old → IsStep old A first mid → GoesOn first
+    → IsStep mid B second new → GoesOn second
     → rank new < rank old
 both_less old mid new first second sound step goes next goes_on =
-    by_cases (step_rank old mid A first sound.lawful.sized step goes) (step_rank mid new B second (stays_sized old mid A first sound.lawful.sized step goes) next goes_on)
+    by_cases (step_rank old mid A first sound.lawful.sized step goes)
+    (step_rank mid new B second (stays_sized old mid A first sound.lawful.sized step goes) next goes_on)
   where
     idle : (first ≡ Idle) × (mid ≡ old) → (second ≡ Idle) × (new ≡ mid) → ⊥
     idle a b =
@@ -101,7 +120,8 @@ both_less old mid new first second sound step goes next goes_on =
         let none = subst (λ (m : BoardState). HasNoPick (insns_of m.plan) m.spots B) a.1 later.1 in
         not_both_idle (insns_of old.plan) old.spots is.0 is.1 none
 
-    by_cases : (rank mid < rank old) ⊎ ((first ≡ Idle) × (mid ≡ old)) → (rank new < rank mid) ⊎ ((second ≡ Idle) × (new ≡ mid)) → rank new < rank old
+    by_cases : (rank mid < rank old) ⊎ ((first ≡ Idle) × (mid ≡ old)) → (rank new < rank mid)
+        ⊎ ((second ≡ Idle) × (new ≡ mid)) → rank new < rank old
     by_cases (inl x) (inl y) = omega (arith, x, y)
     by_cases (inl x) (inr y) = (let same : rank new ≡ rank mid = ap rank y.1 in omega (arith, x, same))
     by_cases (inr x) (inl y) = (let same : rank mid ≡ rank old = ap rank x.1 in omega (arith, y, same))

@@ -6,6 +6,7 @@ use Rattle.c62_adopt_cut.proofs.flight.landed.Given as goal
 
 abbrev pub invariant-loop-issue : goal.invariant-loop-issue
 invariant-loop-issue l = record {
-  so_far : max l.last (landed l.start (map issue_of (drop l.issue-index l.issues))) ≡ landed l.start (map issue_of l.issues);
+  so_far : max l.last (landed l.start (map issue_of (drop l.issue-index l.issues))) ≡ landed l.start
+      (map issue_of l.issues);
   small : l.last < 2 ^ 34;
 }

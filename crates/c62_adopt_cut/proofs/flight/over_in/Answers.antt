@@ -8,7 +8,8 @@ use Rattle.c62_adopt_cut.proofs.flight.over_in.Goals as goal
 
 pub returns-in-Some : goal.returns-in-Some
 returns-in-Some c =
-    let found : Some c.in-Some.branch.now ≡ find (λ (issue : IssueRead). branches (issue_of issue)) c.args.draft.now.issues.items =
+    let found : Some c.in-Some.branch.now ≡ find (λ (issue : IssueRead). branches (issue_of issue))
+    c.args.draft.now.issues.items =
     rw c.deref.ensures.value at (rw c.in-Some.is at c.first_branch.ensures) in
     let over = over_at c.args.next c.args.draft.now c.in-Some.branch.now found in
     let behind = c.cycle_behind.ensures.cycle in

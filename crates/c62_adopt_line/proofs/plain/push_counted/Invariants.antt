@@ -5,7 +5,8 @@ use Rattle.c62_adopt_line.proofs.plain.push_counted.Given as goal
 
 abbrev pub invariant-loop-behind : goal.invariant-loop-behind
 invariant-loop-behind l =
-    l.text.items ++ spaced (in_accesses l.size (words_left l.left)) ≡ l.initial.text.items ++ spaced (in_accesses l.size (words_left l.operands))
+    l.text.items ++ spaced (in_accesses l.size (words_left l.left)) ≡ l.initial.text.items ++ spaced
+    (in_accesses l.size (words_left l.operands))
 
 abbrev pub decreases-loop-behind : goal.decreases-loop-behind
 decreases-loop-behind l = length (words_left l.left)

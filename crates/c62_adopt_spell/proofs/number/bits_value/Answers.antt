@@ -21,7 +21,8 @@ loop-d-preserved c =
     let next = digits_value_more 2 c.args.digits.now c.loop-d.d-index c.loop-d-test.true in
     record {
       so_far = rw (c.from-in-loop-d.ensures, next, ← c.loop-d.invariant.so_far, given.1, c.from.ensures) refl;
-      bound = rw (c.from-in-loop-d.ensures, pow-add 2 c.loop-d.d-index 1) (omega (arith, given.0, given.1, c.loop-d.invariant.bound));
+      bound = rw (c.from-in-loop-d.ensures, pow-add 2 c.loop-d.d-index 1)
+          (omega (arith, given.0, given.1, c.loop-d.invariant.bound));
     }
 
 pub returns-clause-bound : goal.returns-clause-bound

@@ -6,7 +6,8 @@ use Rattle.c62_adopt_spell.proofs.statement.push_conditioned.Given as goal
 
 abbrev pub invariant-loop-word : goal.invariant-loop-word
 invariant-loop-word l =
-    l.text.items ++ spaced (fronted l.names l.before (words_left l.left)) ≡ l.initial.text.items ++ spaced (fronted l.names true (tokens l.bytes))
+    l.text.items ++ spaced (fronted l.names l.before (words_left l.left)) ≡ l.initial.text.items ++ spaced
+    (fronted l.names true (tokens l.bytes))
 
 abbrev pub decreases-loop-word : goal.decreases-loop-word
 decreases-loop-word l = length (words_left l.left)

@@ -7,7 +7,8 @@ use Rattle.c62_adopt_spell.proofs.sum.push_sums.Given as goal
 
 abbrev pub invariant-loop-word : goal.invariant-loop-word
 invariant-loop-word l =
-    l.text.items ++ spaced (summed l.names l.sum (words_left l.left)) ≡ l.initial.text.items ++ spaced (summed l.names Nothing (tokens l.bytes))
+    l.text.items ++ spaced (summed l.names l.sum (words_left l.left)) ≡ l.initial.text.items ++ spaced
+    (summed l.names Nothing (tokens l.bytes))
 
 abbrev pub decreases-loop-word : goal.decreases-loop-word
 decreases-loop-word l = length (words_left l.left)

@@ -23,9 +23,12 @@ loop-k-preserved c =
     let e = get_or es c.loop-k.k first_of_all in
     let inv = c.loop-k.invariant in
     let p = c.loop-k.sheet in
-    let may : Permits (insns_of c.args.sheet.now.plan) p.spots e = rw (← inv.plan) (c.if-not-apply.ensures.legal.0 refl) in
+    let may : Permits (insns_of c.args.sheet.now.plan) p.spots e = rw (← inv.plan) (c.if-not-apply.ensures.legal.0 refl)
+    in
     record {
-      legal = rw more (legal_more (insns_of c.args.sheet.now.plan) c.args.sheet.now.spots p.spots (take c.loop-k.k es) e inv.spots inv.legal may);
+      legal = rw more (legal_more (insns_of c.args.sheet.now.plan) c.args.sheet.now.spots p.spots (take c.loop-k.k es) e
+          inv.spots inv.legal may);
       plan = ap (λ (p : Placements). p.plan) c.if-not-apply.ensures.done ∙ inv.plan;
-      spots = rw (more, c.if-not-apply.ensures.done) (sym (replayed_more c.args.sheet.now.spots p.spots (take c.loop-k.k es) e inv.spots));
+      spots = rw (more, c.if-not-apply.ensures.done)
+          (sym (replayed_more c.args.sheet.now.spots p.spots (take c.loop-k.k es) e inv.spots));
     }

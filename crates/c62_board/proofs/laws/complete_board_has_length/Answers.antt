@@ -8,7 +8,8 @@ use Rattle.c62_board.proofs.laws.complete_board_has_length.Goals as goal
 pub returns-clause-lands : goal.returns-clause-lands
 returns-clause-lands c =
     let sound = c.plan.ensures.sound in
-    λ insn at. lands_within (insns_of c.args.board.now.plan) c.args.board.now.spots sound.plan sound.lawful c.args.i insn c.in-Some.spot at (sym c.in-Some.ensures)
+    λ insn at. lands_within (insns_of c.args.board.now.plan) c.args.board.now.spots sound.plan sound.lawful c.args.i
+    insn c.in-Some.spot at (sym c.in-Some.ensures)
 
 pub returns-clause-short : goal.returns-clause-short
 returns-clause-short c =

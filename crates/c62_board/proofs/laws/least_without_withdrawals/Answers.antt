@@ -8,4 +8,6 @@ unreachable-requires c =
     c.in_default.ensures (record { cycle = 5 * length c.args.board.now.journal; unit = room.unit }) room.fits
 
 pub returns-clause-soon : goal.returns-clause-soon
-returns-clause-soon c = (room_left c.args.board.now c.args.i c.plan.ensures.sound c.requires.only_places c.requires.ready).least c.in-Some.spot c.in-Some.ensures
+returns-clause-soon c =
+    (room_left c.args.board.now c.args.i c.plan.ensures.sound c.requires.only_places c.requires.ready).least
+    c.in-Some.spot c.in-Some.ensures

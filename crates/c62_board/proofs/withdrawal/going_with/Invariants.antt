@@ -1,5 +1,5 @@
 use Rattle.c62_depend.specs.Plan.{insns_of}
-use Rattle.c62_board.proofs.Withdrawals.{AreNarrowed}
+use Rattle.c62_board.proofs.LeftSpots.{AreNarrowed}
 use Rattle.c62_board.proofs.withdrawal.going_with.Given as goal
 
 abbrev pub invariant-loop-j : goal.invariant-loop-j

@@ -11,13 +11,20 @@ loop-j-preserved-in-Ok-1 c =
     let j = c.loop-j.j - 1 in
     let inv = c.loop-j.invariant in
     let at : c.loop-j.j ≡ suc j = omega (arith, c.loop-j-test.true) in
-    let more : withdrawals c.args.marks.now c.args.who c.loop-j.j ≡ Withdraw j c.args.who ∷ withdrawals c.args.marks.now c.args.who j =
+    let more : withdrawals c.args.marks.now c.args.who c.loop-j.j ≡ Withdraw j c.args.who ∷ withdrawals c.args.marks.now
+    c.args.who j =
     withdrawals_one c.args.marks.now c.args.who j c.loop-j.j at c.if-marks-j.true in
     record {
       rest = rw c.in-Ok.ensures.items
           (append_assoc c.loop-j.journal.items (Withdraw j c.args.who ∷ []) (withdrawals c.args.marks.now c.args.who j)
           ∙ ap (λ (es : List Entry). c.loop-j.journal.items ++ es) (sym more) ∙ inv.rest);
-      room = omega (arith, inv.room, marked_one c.args.marks.now j c.loop-j.j at c.if-marks-j.true, c.in-Ok.ensures.len, c.in-Ok.ensures.capacity);
+      room = omega (
+        arith,
+        inv.room,
+        marked_one c.args.marks.now j c.loop-j.j at c.if-marks-j.true,
+        c.in-Ok.ensures.len,
+        c.in-Ok.ensures.capacity,
+      );
       grown = omega (arith, inv.grown, c.in-Ok.ensures.capacity);
       low = omega (arith, inv.low);
     }

@@ -12,5 +12,6 @@ returns c =
       is_side = refl;
       is_tail = c.height-tail.ensures;
       counted = rw (c.count.ensures.count, c.height-tail.ensures)
-          (counts_confined block c.args.kind c.args.side (height block c.args.last) (length block) c.args.heights.now c.requires.heights);
+          (counts_confined block c.args.kind c.args.side (height block c.args.last) (length block) c.args.heights.now
+          c.requires.heights);
     }

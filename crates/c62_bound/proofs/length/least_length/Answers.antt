@@ -4,5 +4,6 @@ use Rattle.c62_bound.proofs.length.least_length.Goals as goal
 
 pub returns-in-Some : goal.returns-in-Some
 returns-in-Some c =
-    let least = least_with (insns_of c.args.plan.now) c.path_length.result c.in-Some.need c.path_length.ensures c.in-Some.ensures in
+    let least = least_with (insns_of c.args.plan.now) c.path_length.result c.in-Some.need c.path_length.ensures
+    c.in-Some.ensures in
     rw (c.max.ensures, c.from-path.ensures, c.cycles.ensures) least

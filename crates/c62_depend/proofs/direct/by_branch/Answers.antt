@@ -7,7 +7,8 @@ use Rattle.c62_depend.proofs.direct.by_branch.Goals as goal
 
 pub returns-then-not-uses-j : goal.returns-then-not-uses-j
 returns-then-not-uses-j c =
-    unawaited c.args.uses.now c.args.j c.index-uses-j.result c.new-direct.result c.requires.within c.index-uses-j.is (ap (λ (u : Uses). u.branches) c.index-uses-j.is ∙ c.if-not-uses-j.true)
+    unawaited c.args.uses.now c.args.j c.index-uses-j.result c.new-direct.result c.requires.within c.index-uses-j.is
+    (ap (λ (u : Uses). u.branches) c.index-uses-j.is ∙ c.if-not-uses-j.true)
     c.new-direct.ensures
 
 pub bounds-followers-i : goal.bounds-followers-i
@@ -20,18 +21,23 @@ land_behind-requires-clause-linked c = (
   c.args.j,
   omega (arith, c.requires.within),
   c.as_slice.ensures
-      ∙ list_is (λ i. direct_before (insns_in c.args.uses.now) i c.args.j) _ c.loop-i.i c.args.followers.now c.index-followers-i.result c.requires.linked
+      ∙ list_is (λ i. direct_before (insns_in c.args.uses.now) i c.args.j) _ c.loop-i.i c.args.followers.now
+      c.index-followers-i.result c.requires.linked
       (omega (arith, c.requires.within, c.loop-i-test.true)) c.index-followers-i.is,
 )
 
 pub loop-i-preserved : goal.loop-i-preserved
 loop-i-preserved c =
     let listed = c.as_slice.ensures
-    ∙ list_is (λ i. direct_before (insns_in c.args.uses.now) i c.args.j) _ c.loop-i.i c.args.followers.now c.index-followers-i.result c.requires.linked
+    ∙ list_is (λ i. direct_before (insns_in c.args.uses.now) i c.args.j) _ c.loop-i.i c.args.followers.now
+    c.index-followers-i.result c.requires.linked
     (omega (arith, c.requires.within, c.loop-i-test.true)) c.index-followers-i.is in
-    below_next _ c.loop-i.i c.loop-i.i c.args.j c.loop-i.direct c.with_if-direct.result (not c.land_behind.result) refl c.loop-i-test.true
-    (awaits_it c.args.uses.now c.args.j c.loop-i.i c.index-uses-j.result c.land_behind.result c.as_slice.result.now c.requires.within c.index-uses-j.is
-    (ap (λ (u : Uses). u.branches) c.index-uses-j.is ∙ c.if-not-uses-j.false) listed c.land_behind.ensures) c.loop-i.invariant c.with_if-direct.ensures
+    below_next _ c.loop-i.i c.loop-i.i c.args.j c.loop-i.direct c.with_if-direct.result (not c.land_behind.result) refl
+    c.loop-i-test.true
+    (awaits_it c.args.uses.now c.args.j c.loop-i.i c.index-uses-j.result c.land_behind.result c.as_slice.result.now
+    c.requires.within c.index-uses-j.is
+    (ap (λ (u : Uses). u.branches) c.index-uses-j.is ∙ c.if-not-uses-j.false) listed c.land_behind.ensures)
+    c.loop-i.invariant c.with_if-direct.ensures
 
 pub returns : goal.returns
 returns c = below_end _ c.loop-i.i c.args.j c.loop-i.direct (omega (arith, c.loop-i-test.false)) c.loop-i.invariant

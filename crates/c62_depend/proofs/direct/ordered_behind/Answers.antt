@@ -13,4 +13,5 @@ loop-k-preserved c =
     c.in-Some.ensures c.joined-joined.ensures c.loop-k.invariant
 
 pub returns : goal.returns
-returns c = joined_all c.args.orders.now c.args.found c.loop-k.at c.loop-k.joined c.in_default.ensures c.loop-k.invariant
+returns c = joined_all c.args.orders.now c.args.found c.loop-k.at c.loop-k.joined c.in_default.ensures
+    c.loop-k.invariant

@@ -9,6 +9,8 @@ returns c =
     let j = c.args.j in
     let u = c.index-uses-i.result in
     let v = c.index-uses-j.result in
-    latency_at c.args.uses.now i j u v (as_bound c.by_all.result) c.requires.before c.requires.within c.index-uses-i.is c.index-uses-j.is
-    (c.by_all.ensures ∙ ap (λ (b : Bool). latency_of b c.are_disjoint-disjoint.result u.insn v.insn) c.are_exclusive-exclusive.ensures
+    latency_at c.args.uses.now i j u v (as_bound c.by_all.result) c.requires.before c.requires.within c.index-uses-i.is
+    c.index-uses-j.is
+    (c.by_all.ensures ∙ ap (λ (b : Bool). latency_of b c.are_disjoint-disjoint.result u.insn v.insn)
+    c.are_exclusive-exclusive.ensures
     ∙ ap (λ (b : Bool). latency_of (are_exclusive block i j) b u.insn v.insn) c.are_disjoint-disjoint.ensures)

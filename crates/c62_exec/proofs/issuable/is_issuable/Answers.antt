@@ -9,6 +9,8 @@ pub returns : goal.returns
 returns c = λ t.
     let size : c.len.result ≡ length c.args.rows.now.rows.items = c.len.ensures ∙ c.args.rows.now.rows.ok.0 in
     let small : c.len.result < 4294967296 = ltb-true c.len.result 4294967296 t in
-    let same : length c.deref-row-items.result.now ≡ length c.args.rows.now.rows.items = ap length c.deref-row-items.ensures.value in
+    let same : length c.deref-row-items.result.now ≡ length c.args.rows.now.rows.items = ap length
+    c.deref-row-items.ensures.value in
     issuable c.args.rows.now (omega arith)
-    (λ k d l. subst (λ items. IsFine (get_or items k d)) c.deref-row-items.ensures.value (c.loop-row.invariant k d (omega arith)))
+    (λ k d l. subst (λ items. IsFine (get_or items k d)) c.deref-row-items.ensures.value
+    (c.loop-row.invariant k d (omega arith)))

@@ -8,7 +8,8 @@ use Rattle.c62_exec.proofs.run.fly_rows.Given as goal
 
 abbrev pub invariant-loop-row : goal.invariant-loop-row
 invariant-loop-row l = record {
-  counted : IsCounted (text_of l.rows) l.first l.limit l.fn.state.machine (At l.row) l.cycle (on_way l.underway.pipe l.underway.turns l.state.machine) l.tally;
+  counted : IsCounted (text_of l.rows) l.first l.limit l.fn.state.machine (At l.row) l.cycle
+      (on_way l.underway.pipe l.underway.turns l.state.machine) l.tally;
   size : length l.tally.counts.items ≡ length l.fn.tally.counts.items;
   capacity : length l.fn.state.machine.faults + 8 * (length l.rows.rows.items + 1) ≤ line_capacity l.state;
   row : l.row ≤ 2 ^ 32 + l.cycle;

@@ -4,5 +4,6 @@ use Rattle.c62_explain_packets.proofs.help.push_one.Goals as goal
 
 pub returns : goal.returns
 returns c =
-    adds_one_on c.push_hint.result c.args.number (map (λ word. word.now) c.args.words.now) c.args.out.now.items c.push_hint.new.out.items
+    adds_one_on c.push_hint.result c.args.number (map (λ word. word.now) c.args.words.now) c.args.out.now.items
+    c.push_hint.new.out.items
     c.push_hint.ensures

@@ -7,4 +7,5 @@ returns-in-Ok c = Read refl c.in-Ok.field-0 c.in-Ok.ensures.read c.new.ensures.i
 
 pub returns : goal.returns
 returns c =
-    Unread refl c.in-Err.fault c.in_default.not-Memory c.in-Err.ensures.read c.in_ok-found.found c.in_ok-found.ensures c.in_ok-lines_of.ensures
+    Unread refl c.in-Err.fault c.in_default.not-Memory c.in-Err.ensures.read c.in_ok-found.found c.in_ok-found.ensures
+    c.in_ok-lines_of.ensures

@@ -6,5 +6,6 @@ use Rattle.c62_explain_packets.proofs.sharing.lines_sharing.Given as goal
 
 abbrev pub invariant-loop-other : goal.invariant-loop-other
 invariant-loop-other l =
-    l.lines.items ++ map (λ (other : Issue). other.line) (filter (shares l.resource l.issue) (drop l.other-index l.issues))
+    l.lines.items ++ map (λ (other : Issue). other.line)
+    (filter (shares l.resource l.issue) (drop l.other-index l.issues))
     ≡ map (λ (other : Issue). other.line) (filter (shares l.resource l.issue) l.issues)

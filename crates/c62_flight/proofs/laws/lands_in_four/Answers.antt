@@ -1,4 +1,4 @@
-use Rattle.c62_flight.proofs.Joined.{lands_in_four}
+use Rattle.c62_flight.proofs.LaterPaths.{lands_in_four}
 use Rattle.c62_flight.proofs.laws.lands_in_four.Goals as goal
 
 pub returns : goal.returns

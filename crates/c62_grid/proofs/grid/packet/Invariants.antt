@@ -4,4 +4,5 @@ use Rattle.c62_grid.specs.Grid.{issued_at}
 use Rattle.c62_grid.proofs.grid.packet.Given as goal
 
 abbrev pub invariant-loop-each : goal.invariant-loop-each
-invariant-loop-each l = l.issued.items ++ flat_map (issued_at l.cycle) (drop l.each-index l.placed) ≡ flat_map (issued_at l.cycle) l.placed
+invariant-loop-each l = l.issued.items ++ flat_map (issued_at l.cycle) (drop l.each-index l.placed) ≡ flat_map
+    (issued_at l.cycle) l.placed

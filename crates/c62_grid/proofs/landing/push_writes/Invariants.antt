@@ -5,4 +5,5 @@ use Rattle.c62_grid.proofs.landing.push_writes.Given as goal
 
 abbrev pub invariant-loop-reg : goal.invariant-loop-reg
 invariant-loop-reg l =
-    l.landings.items ++ flat_map (delayed l.cycle) (drop l.reg-index l.writes) ≡ l.fn.landings.items ++ flat_map (delayed l.cycle) l.writes
+    l.landings.items ++ flat_map (delayed l.cycle) (drop l.reg-index l.writes) ≡ l.fn.landings.items ++ flat_map
+    (delayed l.cycle) l.writes

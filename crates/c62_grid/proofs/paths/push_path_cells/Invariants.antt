@@ -6,5 +6,6 @@ use Rattle.c62_grid.proofs.paths.push_path_cells.Given as goal
 
 abbrev pub invariant-loop-path : goal.invariant-loop-path
 invariant-loop-path l =
-    string_bytes l.row ++ flat_map (λ path. path_cell l.widths (find (takes path) l.issued)) (drop l.path-index all_paths)
+    string_bytes l.row ++ flat_map (λ path. path_cell l.widths (find (takes path) l.issued))
+    (drop l.path-index all_paths)
     ≡ string_bytes l.fn.row ++ path_cells l.widths l.issued

@@ -6,4 +6,5 @@ use Rattle.c62_grid.proofs.paths.push_path_names.Given as goal
 
 abbrev pub invariant-loop-path : goal.invariant-loop-path
 invariant-loop-path l =
-    string_bytes l.row ++ flat_map (λ path. path_word l.widths (path_name path)) (drop l.path-index all_paths) ≡ string_bytes l.fn.row ++ path_names l.widths
+    string_bytes l.row ++ flat_map (λ path. path_word l.widths (path_name path)) (drop l.path-index all_paths) ≡
+    string_bytes l.fn.row ++ path_names l.widths

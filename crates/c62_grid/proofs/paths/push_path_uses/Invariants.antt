@@ -6,4 +6,5 @@ use Rattle.c62_grid.proofs.paths.push_path_uses.Given as goal
 
 abbrev pub invariant-loop-path : goal.invariant-loop-path
 invariant-loop-path l =
-    string_bytes l.row ++ flat_map (path_use l.widths l.cycles l.placed) (drop l.path-index all_paths) ≡ string_bytes l.fn.row ++ path_uses l.widths l.cycles l.placed
+    string_bytes l.row ++ flat_map (path_use l.widths l.cycles l.placed) (drop l.path-index all_paths) ≡ string_bytes
+    l.fn.row ++ path_uses l.widths l.cycles l.placed

@@ -6,4 +6,5 @@ use Rattle.c62_op.proofs.FormLemmas.{uncrossed_on_d}
 use Rattle.c62_insn.proofs.laws.crosses_not_to_d.Goals as goal
 
 pub returns : goal.returns
-returns c = λ insn unit is taken. uncrossed_on_d insn.op insn.operands unit taken (ap (λ (letter : Letter). same_letter letter D) is)
+returns c = λ insn unit is taken. uncrossed_on_d insn.op insn.operands unit taken
+    (ap (λ (letter : Letter). same_letter letter D) is)

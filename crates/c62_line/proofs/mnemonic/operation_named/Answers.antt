@@ -13,5 +13,6 @@ returns-in-Some c = sym (named_in_capitals c.of_length.result.now c.args.name.no
 pub returns-in-None : goal.returns-in-None
 returns-in-None c =
     c.named_among.ensures
-    ∙ named_by c.beginning_with.result.now c.args.name.now c.to_ascii_lowercase.result (omega (arith, c.in-len1-up.len_at_least))
+    ∙ named_by c.beginning_with.result.now c.args.name.now c.to_ascii_lowercase.result
+    (omega (arith, c.in-len1-up.len_at_least))
     c.to_ascii_lowercase.ensures.value c.beginning_with.ensures

@@ -11,5 +11,7 @@ returns-then-text-gt-MOST_BYTES c =
 
 pub returns : goal.returns
 returns c =
-    let same : c.deref.result.now ≡ labels_of (lines_of c.args.text.now) = c.deref.ensures.value ∙ c.in_ok-labels.ensures in
-    rw (faults_are c.args.text.now c.deref.result.now (omega (arith, c.if-text-gt-MOST_BYTES.false)) same) at c.line_faults.ensures
+    let same : c.deref.result.now ≡ labels_of (lines_of c.args.text.now) = c.deref.ensures.value
+    ∙ c.in_ok-labels.ensures in
+    rw (faults_are c.args.text.now c.deref.result.now (omega (arith, c.if-text-gt-MOST_BYTES.false)) same) at
+    c.line_faults.ensures

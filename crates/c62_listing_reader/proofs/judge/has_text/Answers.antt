@@ -1,7 +1,7 @@
 use Rattle.std.proofs.Common.{sym, ap, ◌∙◌}
 use Rattle.c62_line.specs.Line.{said_of}
 use Rattle.c62_listing_reader.specs.Reading.{read_as}
-use Rattle.c62_listing_reader.proofs.ToldLemmas.{line_allowed}
+use Rattle.c62_listing_reader.proofs.ToldLines.{line_allowed}
 use Rattle.c62_listing_reader.proofs.judge.has_text.Goals as goal
 
 pub returns-in-Ok : goal.returns-in-Ok

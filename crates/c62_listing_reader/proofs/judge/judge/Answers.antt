@@ -30,6 +30,8 @@ returns-clause-judged c =
     let drafts = drafts_of c.args.blocks.now in
     let line = content (line_cut c.args.cut.now) in
     let allowed : list_all is_allowed line ≡ true = rw c.content-line.ensures at (sym c.if-not-has_text.ensures) in
-    let short = rw c.content-line.ensures at (le-ltb MOST_LINE (length c.content-line.result.now) c.if-line-gt-MOST_LINE.false) in
+    let short = rw c.content-line.ensures at
+    (le-ltb MOST_LINE (length c.content-line.result.now) c.if-line-gt-MOST_LINE.false) in
     let placed = sym c.is_misplaced.ensures ∙ c.if-is_misplaced.false in
-    rw (rest_decides names drafts c.args.above c.args.cut.now c.args.front c.requires.front allowed short placed) c.with_rest.ensures.judged
+    rw (rest_decides names drafts c.args.above c.args.cut.now c.args.front c.requires.front allowed short placed)
+    c.with_rest.ensures.judged

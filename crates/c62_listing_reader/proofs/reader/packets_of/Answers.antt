@@ -19,14 +19,16 @@ loop-block-init c =
 pub packet_block-requires : goal.packet_block-requires
 packet_block-requires c =
     let here = rw c.in-Some.ensures.items at c.loop-block.invariant.walk in
-    left-fine (map draft_open c.args.blocks.items) c.loop-block.packets c.pop.new.self.items c.in-Some.block c.loop-block.number here
+    left-fine (map draft_open c.args.blocks.items) c.loop-block.packets c.pop.new.self.items c.in-Some.block
+    c.loop-block.number here
 
 pub returns-in-Err : goal.returns-in-Err
 returns-in-Err c =
     let all = map draft_open c.args.blocks.items in
     let here = rw c.in-Some.ensures.items at c.loop-block.invariant.walk in
     c.fault_of_block.ensures all
-    (left-faulty all c.loop-block.packets c.pop.new.self.items c.in-Some.block c.loop-block.number c.in-Err.fault here c.in-Err.ensures)
+    (left-faulty all c.loop-block.packets c.pop.new.self.items c.in-Some.block c.loop-block.number c.in-Err.fault here
+    c.in-Err.ensures)
 
 pub loop-block-preserved : goal.loop-block-preserved
 loop-block-preserved c =
@@ -37,7 +39,9 @@ loop-block-preserved c =
     let more = ap length c.in_ok-put.ensures ∙ length-append packets (packed ∷ []) in
     let less = ap length c.in-Some.ensures.items ∙ length-append left (c.in-Some.block ∷ []) in
     record {
-      walk = rw c.in_ok-put.ensures (left-next (map draft_open c.args.blocks.items) packets packed left c.in-Some.block c.loop-block.number here
+      walk = rw c.in_ok-put.ensures
+          (left-next (map draft_open c.args.blocks.items) packets packed left c.in-Some.block c.loop-block.number
+          here
           c.in-Ok.ensures.0 c.in-Ok.ensures.1);
       count = omega (arith, more, c.loop-block.invariant.count);
       few = omega (arith, less, c.loop-block.invariant.few);

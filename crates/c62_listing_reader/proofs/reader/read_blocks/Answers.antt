@@ -17,7 +17,8 @@ returns-in-Err c =
     let aim = aim_by names in
     let lines = lines_in c.loop-cut.rest.now in
     let drafts = drafts_of c.loop-cut.blocks in
-    c.fault_of_line.ensures (read_lines labels aim 1 no_drafts Start (lines_in c.args.names.now.text.now)) (elim c.in-Err.ensures.judged [
+    c.fault_of_line.ensures (read_lines labels aim 1 no_drafts Start (lines_in c.args.names.now.text.now))
+    (elim c.in-Err.ensures.judged [
       | inl memory ↦ inl memory
       | inr says ↦ inr (sym c.loop-cut.invariant.lines
           ∙ stops labels aim c.loop-cut.number (line_cut c.in-Some.cut)
@@ -51,7 +52,8 @@ loop-cut-preserved c =
       lines = rw (c.in_ok-add.ensures, c.above_next-above.ensures)
           (goes_on labels aim number line below
           (lines_in c.loop-cut.rest.now) drafts above said c.in-Some.ensures.found judged ∙ c.loop-cut.invariant.lines);
-      going = rw (c.in_ok-add.ensures, c.above_next-above.ensures) (go labels aim number said drafts above line below c.loop-cut.invariant.going is);
+      going = rw (c.in_ok-add.ensures, c.above_next-above.ensures)
+          (go labels aim number said drafts above line below c.loop-cut.invariant.going is);
       bound = omega (arith, c.in-Some.ensures.shorter, c.loop-cut.invariant.bound);
     }
 

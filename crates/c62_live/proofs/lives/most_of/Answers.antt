@@ -7,7 +7,11 @@ use Rattle.c62_live.proofs.Counted.{IsMostOfLast, all_earlier, count_is, none_li
 use Rattle.c62_live.proofs.lives.most_of.Goals as goal
 
 pub loop-left-init : goal.loop-left-init
-loop-left-init c = (c.in_ok-tracked.ensures ∙ none_live c.args.placed.now c.args.regs.now c.args.cycles, inl (refl, refl))
+loop-left-init c = (
+  c.in_ok-tracked.ensures
+      ∙ none_live c.args.placed.now c.args.regs.now c.args.cycles,
+  inl (refl, refl),
+)
 
 pub loop-left-preserved : goal.loop-left-preserved
 loop-left-preserved c =
@@ -18,9 +22,12 @@ loop-left-preserved c =
     let cycle = cycles - 1 - at.left in
     let inside : at.left < cycles = c.loop-left-test.true in
     let is : cycle ≡ cycles - suc at.left = omega (arith, inside) in
-    let before : c.deref.result.now ≡ map (tracked_before placed cycles at.left) regs = c.deref.ensures.value ∙ at.invariant.0 in
+    let before : c.deref.result.now ≡ map (tracked_before placed cycles at.left) regs = c.deref.ensures.value
+    ∙ at.invariant.0 in
     let now : c.in_ok-tracked-2.tracked.items ≡ map (tracked_before placed cycles (suc at.left)) regs =
-    c.in_ok-tracked-2.ensures ∙ (ap (λ (xs : List Tracked). map (earlier placed cycle) xs) before ∙ all_earlier placed regs cycles at.left cycle is) in
+    c.in_ok-tracked-2.ensures
+    ∙ (ap (λ (xs : List Tracked). map (earlier placed cycle) xs) before
+    ∙ all_earlier placed regs cycles at.left cycle is) in
     let counted : c.count_live.result ≡ live_count placed regs cycles cycle =
     c.count_live.ensures
     ∙ (ap (λ (xs : List Tracked). count_by (λ each. each.live) xs) (c.deref-in-loop-left.ensures.value ∙ now)
@@ -29,7 +36,8 @@ loop-left-preserved c =
       subst (λ (n : ℕ). c.in_ok-tracked-2.tracked.items ≡ map (tracked_before placed cycles n) regs) next now,
       subst (λ (n : ℕ). IsMostOfLast (live_count placed regs cycles) cycles n c.better-most.result) next
           (subst (IsMostOfLast (live_count placed regs cycles) cycles (suc at.left)) (sym c.better-most.ensures)
-          (one_more (live_count placed regs cycles) cycles at.left cycle c.count_live.result at.most inside is counted at.invariant.1)),
+          (one_more (live_count placed regs cycles) cycles at.left cycle c.count_live.result at.most inside is counted
+          at.invariant.1)),
     )
 
 pub returns : goal.returns
@@ -37,4 +45,5 @@ returns c =
     let at = c.loop-left in
     let ends = c.loop-left-test.false in
     let most = at.auto in
-    whole (live_count c.args.placed.now c.args.regs.now c.args.cycles) c.args.cycles at.left at.most (omega (arith, ends, most)) at.invariant.1
+    whole (live_count c.args.placed.now c.args.regs.now c.args.cycles) c.args.cycles at.left at.most
+    (omega (arith, ends, most)) at.invariant.1

@@ -1,4 +1,4 @@
-use Rattle.c62_meaning.proofs.Cuts.{runs_later}
+use Rattle.c62_meaning.proofs.JoinedRuns.{runs_later}
 use Rattle.c62_meaning.proofs.laws.runs_later.Goals as goal
 
 pub returns : goal.returns

@@ -1,4 +1,4 @@
-use Rattle.c62_meaning.proofs.Cuts.{settles}
+use Rattle.c62_meaning.proofs.JoinedRuns.{settles}
 use Rattle.c62_meaning.proofs.laws.runs_settle.Goals as goal
 
 pub returns : goal.returns

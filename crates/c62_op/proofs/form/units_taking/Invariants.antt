@@ -8,4 +8,6 @@ use Rattle.c62_op.proofs.form.units_taking.Given as goal
 
 abbrev pub invariant-loop-form : goal.invariant-loop-form
 invariant-loop-form l =
-    (unit : FunctionalUnit) → (bit_at l.units (index_of unit) == 1) ≡ list_any (λ form. takes_by form l.operands unit) (take l.form-index l.form-items)
+    (unit : FunctionalUnit)
+    → (bit_at l.units (index_of unit) == 1) ≡ list_any (λ form. takes_by form l.operands unit)
+    (take l.form-index l.form-items)

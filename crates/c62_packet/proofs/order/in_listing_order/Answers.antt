@@ -5,4 +5,5 @@ use Rattle.c62_packet.proofs.order.in_listing_order.Goals as goal
 
 pub returns-clause-order : goal.returns-clause-order
 returns-clause-order c =
-    IsNonDecreasingBy-from_sort_by_key listing_position c.sort_unstable_by_key.new.self.items c.sort_unstable_by_key.ensures.sorted (λ a r q k. search rules)
+    IsNonDecreasingBy-from_sort_by_key listing_position c.sort_unstable_by_key.new.self.items
+    c.sort_unstable_by_key.ensures.sorted (λ a r q k. search rules)

@@ -1,5 +1,5 @@
 use Rattle.std.proofs.Common.{sym, rules}
-use Rattle.c62_packet.proofs.RuleLemmas.{lands-early}
+use Rattle.c62_packet.proofs.PlacedLists.{lands-early}
 use Rattle.c62_packet.proofs.rules.lands.Goals as goal
 
 pub returns-then-from-cycle : goal.returns-then-from-cycle

@@ -3,4 +3,6 @@ use Rattle.c62_pair.proofs.uses.reads.Given as goal
 
 abbrev pub invariant-loop-reg : goal.invariant-loop-reg
 invariant-loop-reg l =
-    (reg : Reg) → reg_in l.set reg ≡ (list_any (λ read. same_reg read reg) (take l.reg-index l.reg-items) || is_condition_on reg (cond_of l.insn))
+    (reg : Reg) → reg_in l.set reg ≡
+    (list_any (λ read. same_reg read reg) (take l.reg-index l.reg-items) || is_condition_on reg
+    (cond_of l.insn))

@@ -12,10 +12,12 @@ loop-place-preserved c =
     record {
       in_range = omega (arith, kept.in_range, first.0, length-drop c.loop-place.start c.args.line.now);
       few = omega (arith, kept.few);
-      there = rw passed at (token_next c.args.line.now c.args.before c.loop-place.start c.in-Some.place kept.in_range first _ kept.there);
+      there = rw passed at (token_next c.args.line.now c.args.before c.loop-place.start c.in-Some.place kept.in_range
+          first _ kept.there);
     }
 
 pub returns : goal.returns
 returns c =
     let kept = c.loop-place.invariant in
-    token_none _ _ (c.args.before - c.loop-place.left) _ (omega arith) kept.in_range (rw take_rest at c.in_default.ensures) kept.there
+    token_none _ _ (c.args.before - c.loop-place.left) _ (omega arith) kept.in_range
+    (rw take_rest at c.in_default.ensures) kept.there

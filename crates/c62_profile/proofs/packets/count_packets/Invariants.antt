@@ -7,7 +7,8 @@ use Rattle.c62_profile.proofs.packets.count_packets.Given as goal
 
 abbrev pub invariant-loop-number : goal.invariant-loop-number
 invariant-loop-number l =
-    Turn (length l.packets) (packet_blocks l.packets) (cycles_each l.packets) l.fn.state.machine l.state.machine (position_at (length l.packets) l.number) l.tally.blocks l.tally.taken l.tally.visits.items l.limit
+    Turn (length l.packets) (packet_blocks l.packets) (cycles_each l.packets) l.fn.state.machine l.state.machine
+    (position_at (length l.packets) l.number) l.tally.blocks l.tally.taken l.tally.visits.items l.limit
 
 abbrev pub decreases-loop-number : goal.decreases-loop-number
 decreases-loop-number l = l.limit - l.tally.blocks

@@ -6,4 +6,5 @@ use Rattle.c62_profile.proofs.packets.packet_table.Given as goal
 
 abbrev pub invariant-loop-number : goal.invariant-loop-number
 invariant-loop-number l =
-    l.out.items ≡ (l.fn.out.items ++ codes "block runs cycles sum share\n") ++ flat_map (packet_row l.packets l.tally) (range_with_len 0 l.number)
+    l.out.items ≡ (l.fn.out.items ++ codes "block runs cycles sum share\n") ++ flat_map (packet_row l.packets l.tally)
+    (range_with_len 0 l.number)

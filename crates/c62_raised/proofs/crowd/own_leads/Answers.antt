@@ -9,6 +9,7 @@ loop-j-preserved c =
     let known = c.loop-j.invariant in
     record {
       long = search rules;
-      are = own_more (insns_of c.args.plan.now) c.args.room (lead_in c.args.leads.now) c.loop-j.own.items c.push.new.self.items c.own_lead.result c.loop-j.j
+      are = own_more (insns_of c.args.plan.now) c.args.room (lead_in c.args.leads.now) c.loop-j.own.items
+          c.push.new.self.items c.own_lead.result c.loop-j.j
           c.push.ensures.items known.long known.are (rw c.from.ensures at c.own_lead.ensures);
     }

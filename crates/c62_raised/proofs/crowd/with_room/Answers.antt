@@ -13,8 +13,11 @@ loop-last-preserved c =
     let up = with.least in
     record {
       least = (let below = known.least in omega (arith, up, below));
-      covers = more_covered block c.args.room (lead_in c.args.leads.now) own.result.items c.args.heights.now own.ensures.long own.ensures.are c.loop-last.last
+      covers = more_covered block c.args.room (lead_in c.args.leads.now) own.result.items c.args.heights.now
+          own.ensures.long own.ensures.are c.loop-last.last
           c.loop-last.most c.with_crowd-most.result with known.covers;
-      attained = λ delay reached. still_reached block c.args.room (lead_in c.args.leads.now) own.result.items c.args.heights.now own.ensures.long
-          own.ensures.are c.loop-last.last delay c.loop-last.most c.with_crowd-most.result with (known.attained delay reached);
+      attained = λ delay reached. still_reached block c.args.room (lead_in c.args.leads.now) own.result.items
+          c.args.heights.now own.ensures.long
+          own.ensures.are c.loop-last.last delay c.loop-last.most c.with_crowd-most.result with
+          (known.attained delay reached);
     }

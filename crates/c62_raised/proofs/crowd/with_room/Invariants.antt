@@ -10,7 +10,8 @@ use Rattle.c62_raised.proofs.crowd.with_room.Given as goal
 abbrev pub invariant-loop-last : goal.invariant-loop-last
 invariant-loop-last l = record {
   least : l.fn.least ≤ l.most;
-  covers : (k : ℕ) (crowd : CrowdOf) → k < l.last → IsCrowdOf (insns_of l.plan) (slice_index l.heights) (lead_in l.leads) l.room k crowd
+  covers : (k : ℕ) (crowd : CrowdOf) → k < l.last
+      → IsCrowdOf (insns_of l.plan) (slice_index l.heights) (lead_in l.leads) l.room k crowd
       → cycles_of crowd ≤ l.most;
   attained : (delay : ℕ) → IsReached (insns_of l.plan) (slice_index l.heights) (lead_in l.leads) delay l.fn.least
       → IsReached (insns_of l.plan) (slice_index l.heights) (lead_in l.leads) delay l.most;

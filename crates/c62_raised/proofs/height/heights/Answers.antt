@@ -13,18 +13,20 @@ use Rattle.c62_raised.specs.Steps.{AreSmall}
 use Rattle.c62_raised.proofs.Heights.{no_height, raised_low, one_more_raised, one_more_low}
 use Rattle.c62_raised.proofs.Loops.{small_longest}
 use Rattle.c62_raised.proofs.height.heights.Goals as goal
+use Rattle.c62_read.specs.declared.limits.TheConstants.{MOST_INSTRUCTIONS}
 
 pub loop-i-init : goal.loop-i-init
 loop-i-init c = record {
   long = refl;
   raised = λ k high within. absurd (omega (arith, high, within, c.len-i.ensures.len, many_insns c.args.plan.now.insns));
-  low = λ j. omega (arith, no_height 256 j);
+  low = λ j. omega (arith, no_height MOST_INSTRUCTIONS j);
 }
 
 pub raised-requires-clause-small : goal.raised-requires-clause-small
 raised-requires-clause-small c =
     rw c.as_slice.ensures.value
-    (small_longest (insns_of c.args.plan.now) (c.loop-i.i - 1) c.leads-leads.result.items c.len-i.ensures.sound.few c.leads-leads.ensures.are)
+    (small_longest (insns_of c.args.plan.now) (c.loop-i.i - 1) c.leads-leads.result.items c.len-i.ensures.sound.few
+    c.leads-leads.ensures.are)
 
 pub loop-i-preserved : goal.loop-i-preserved
 loop-i-preserved c =
@@ -43,13 +45,17 @@ loop-i-preserved c =
     let delays : c.delay-delay.result ≡ delay_at block i = c.delay-delay.ensures ∙ sym (ap delay_in c.insn.ensures) in
     let is : IsRaised block (slice_index old) (lead_in leads) (delay_at block i) h =
     rw delays at (rw c.as_slice.ensures.value at c.raised.ensures.is) in
-    let short : delay_at block i ≤ 255 = (let own : delay_at block i ≡ delay_of (op_of c.insn.result) = ap delay_in c.insn.ensures in
+    let short : delay_at block i ≤ 255 =
+    (let own : delay_at block i ≡ delay_of (op_of c.insn.result) = ap delay_in c.insn.ensures in
     omega (arith, own, delay_of-small (op_of c.insn.result))) in
-    let up = raised_low block (slice_index old) (lead_in leads) (delay_at block i) h (1536 * (length block - c.loop-i.i)) few
+    let up = raised_low block (slice_index old) (lead_in leads) (delay_at block i) h
+    (1536 * (length block - c.loop-i.i)) few
     short small known.low is.attained in
     rw c.from.ensures (record {
       long = omega (arith, length-set old i h, known.long);
-      raised = one_more_raised block i old h inside (lead_in leads) c.leads-leads.ensures.are is (λ k low within. known.raised k (omega (arith, low, some)) within);
-      low = one_more_low block i old h inside (1536 * (length block - c.loop-i.i)) (1536 * (length block - i)) known.low (omega (arith, up, some, top))
+      raised = one_more_raised block i old h inside (lead_in leads) c.leads-leads.ensures.are is
+          (λ k low within. known.raised k (omega (arith, low, some)) within);
+      low = one_more_low block i old h inside (1536 * (length block - c.loop-i.i)) (1536 * (length block - i)) known.low
+          (omega (arith, up, some, top))
           (omega (arith, some, top));
     })

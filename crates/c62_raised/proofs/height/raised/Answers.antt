@@ -9,6 +9,7 @@ use Rattle.c62_raised.specs.Chain.{lead_in}
 use Rattle.c62_raised.proofs.Heights.{raised_low}
 use Rattle.c62_raised.proofs.Places.{room_at, one_more_room}
 use Rattle.c62_raised.proofs.height.raised.Goals as goal
+use Rattle.c62_read.specs.declared.limits.TheConstants.{MOST_INSTRUCTIONS}
 
 pub with_ones-most-requires : goal.with_ones-most-requires
 with_ones-most-requires c = c.requires.few
@@ -22,22 +23,25 @@ loop-room-preserved c =
     record {
       own = (let own = known.own in omega (arith, own, up));
       ones = λ j before e. (let one = known.ones j before e in omega (arith, one, up));
-      crowds = one_more_room (insns_of c.args.plan.now) (slice_index c.args.heights.now) (lead_in c.args.leads.now) k c.loop-room.most c.with_room-most.result
+      crowds = one_more_room (insns_of c.args.plan.now) (slice_index c.args.heights.now) (lead_in c.args.leads.now) k
+          c.loop-room.most c.with_room-most.result
           (get_or ROOMS k (Of OnL A)) (room_at k (Of OnL A) c.loop-room-test.true) up with.covers known.crowds;
       attained = with.attained c.args.delay known.attained;
     }
 
 pub returns-clause-low : goal.returns-clause-low
 returns-clause-low c =
-    let few : length (insns_of c.args.plan.now) ≤ 256 = omega (arith, c.requires.few, c.requires.long) in
+    let few : length (insns_of c.args.plan.now) ≤ MOST_INSTRUCTIONS = omega (arith, c.requires.few, c.requires.long) in
     let short : c.args.delay ≤ 255 = omega (arith, c.ranges.delay.fits) in
-    raised_low (insns_of c.args.plan.now) (slice_index c.args.heights.now) (lead_in c.args.leads.now) c.args.delay c.loop-room.most 1000000 few short
+    raised_low (insns_of c.args.plan.now) (slice_index c.args.heights.now) (lead_in c.args.leads.now) c.args.delay
+    c.loop-room.most 1000000 few short
     c.requires.small c.requires.low c.loop-room.invariant.attained
 
 pub overflow_cast-result : goal.overflow_cast-result
 overflow_cast-result c =
-    let few : length (insns_of c.args.plan.now) ≤ 256 = omega (arith, c.requires.few, c.requires.long) in
+    let few : length (insns_of c.args.plan.now) ≤ MOST_INSTRUCTIONS = omega (arith, c.requires.few, c.requires.long) in
     let short : c.args.delay ≤ 255 = omega (arith, c.ranges.delay.fits) in
-    let low = raised_low (insns_of c.args.plan.now) (slice_index c.args.heights.now) (lead_in c.args.leads.now) c.args.delay c.loop-room.most 1000000 few short
+    let low = raised_low (insns_of c.args.plan.now) (slice_index c.args.heights.now) (lead_in c.args.leads.now)
+    c.args.delay c.loop-room.most 1000000 few short
     c.requires.small c.requires.low c.loop-room.invariant.attained in
     omega (arith, low)

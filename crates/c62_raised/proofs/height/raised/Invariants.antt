@@ -13,6 +13,7 @@ abbrev pub invariant-loop-room : goal.invariant-loop-room
 invariant-loop-room l = record {
   own : l.delay ≤ l.most;
   ones : (j : ℕ) (before : ℤ) → lead_in l.leads j ≡ Some before → raised before (slice_index l.heights j) ≤ l.most;
-  crowds : (room : Room) → room_index room < l.room-index → CoversCrowds (insns_of l.plan) (slice_index l.heights) (lead_in l.leads) room l.most;
+  crowds : (room : Room) → room_index room < l.room-index
+      → CoversCrowds (insns_of l.plan) (slice_index l.heights) (lead_in l.leads) room l.most;
   attained : IsReached (insns_of l.plan) (slice_index l.heights) (lead_in l.leads) l.delay l.most;
 }

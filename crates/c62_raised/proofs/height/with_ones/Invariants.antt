@@ -7,6 +7,9 @@ use Rattle.c62_raised.proofs.height.with_ones.Given as goal
 abbrev pub invariant-loop-j : goal.invariant-loop-j
 invariant-loop-j l = record {
   own : l.delay ≤ l.most;
-  ones : (k : ℕ) (before : ℤ) → k < l.j → lead_in l.leads k ≡ Some before → raised before (slice_index l.heights k) ≤ l.most;
-  attained : (l.most ≡ l.delay) ⊎ ((k : ℕ) × (before : ℤ) × (lead_in l.leads k ≡ Some before) × (l.most ≡ raised before (slice_index l.heights k)));
+  ones : (k : ℕ) (before : ℤ) → k < l.j → lead_in l.leads k ≡ Some before
+      → raised before (slice_index l.heights k) ≤ l.most;
+  attained : (l.most ≡ l.delay)
+      ⊎ ((k : ℕ) × (before : ℤ) × (lead_in l.leads k ≡ Some before)
+      × (l.most ≡ raised before (slice_index l.heights k)));
 }

@@ -5,4 +5,5 @@ use Rattle.c62_raised.specs.Steps.{through}
 use Rattle.c62_raised.proofs.lead.lead.Given as goal
 
 abbrev pub invariant-loop-link : goal.invariant-loop-link
-invariant-loop-link l = fold (λ most link. greater most (through l.leads l.i link)) l.most (drop l.link-index l.link-items) ≡ greatest_by (through l.leads l.i) l.link-items
+invariant-loop-link l = fold (λ most link. greater most (through l.leads l.i link)) l.most
+    (drop l.link-index l.link-items) ≡ greatest_by (through l.leads l.i) l.link-items

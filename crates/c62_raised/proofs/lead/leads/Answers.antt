@@ -7,4 +7,5 @@ use Rattle.c62_raised.proofs.lead.leads.Goals as goal
 pub returns-clause-are : goal.returns-clause-are
 returns-clause-are c =
     all_longest (insns_of c.args.plan.now) c.args.i c.loop-j.j c.loop-j.leads.items c.loop-j.invariant.long
-    (omega (arith, c.loop-j-test.false, c.len-j-end.ensures.len, many_insns c.args.plan.now.insns)) c.loop-j.invariant.are
+    (omega (arith, c.loop-j-test.false, c.len-j-end.ensures.len, many_insns c.args.plan.now.insns))
+    c.loop-j.invariant.are

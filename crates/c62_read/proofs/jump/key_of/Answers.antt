@@ -5,4 +5,5 @@ use Rattle.c62_read.proofs.jump.key_of.Goals as goal
 
 pub returns : goal.returns
 unfolding key_of
-returns c = sym (sym c.loop-byte.invariant ∙ ap (key_from c.loop-byte.key) (drop_all c.loop-byte.byte-index c.args.label.now c.loop-byte-test.false))
+returns c = sym (sym c.loop-byte.invariant
+    ∙ ap (key_from c.loop-byte.key) (drop_all c.loop-byte.byte-index c.args.label.now c.loop-byte-test.false))

@@ -1,4 +1,5 @@
-use Rattle.c62_read.proofs.Common.{◌≡◌, ◌+◌, ◌++◌, ◌≤◌, length, map, lines_of, labels_of, all_drafts, asked_of, drafts_of, first_line, missed}
+use Rattle.c62_read.proofs.Common.{◌≡◌, ◌+◌, ◌++◌, ◌≤◌, length, map, lines_of, labels_of, all_drafts, asked_of}
+use Rattle.c62_read.proofs.Common.{drafts_of, first_line, missed}
 use Rattle.c62_read.proofs.Common.{own_labels, unless_missed}
 use Rattle.c62_read.specs.Walk.{add_lines}
 use Rattle.c62_read.specs.Reading.{text_read}

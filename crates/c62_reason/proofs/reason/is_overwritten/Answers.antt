@@ -16,8 +16,10 @@ returns-then-is_behind c =
       λ _. (
         c.write-item.result,
         subst (λ (ws : List (Reg × ℕ)). Contains ws c.write-item.result) items
-            (is_there (IsBehind c.args.cycles c.args.earlier) c.as_slice-write-items.result.now at.write-index c.write-item.result c.loop-write-test.true c.write-item.is),
-        subst (λ (z : ℤ). IsBehind z c.args.earlier c.write-item.result) (to_z-of_z w32 c.args.cycles fits) (c.is_behind.ensures.0 c.if-is_behind.true),
+            (is_there (IsBehind c.args.cycles c.args.earlier) c.as_slice-write-items.result.now at.write-index
+            c.write-item.result c.loop-write-test.true c.write-item.is),
+        subst (λ (z : ℤ). IsBehind z c.args.earlier c.write-item.result) (to_z-of_z w32 c.args.cycles fits)
+            (c.is_behind.ensures.0 c.if-is_behind.true),
       ),
       λ _. yes,
     )

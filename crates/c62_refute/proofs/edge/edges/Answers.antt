@@ -14,6 +14,7 @@ pub loop-link-preserved : goal.loop-link-preserved
 loop-link-preserved c =
     let block = insns_of c.args.plan.now in
     let links = c.followers-link-items.result.now in
-    let at = link_at block c.loop-from.from links c.loop-link.link-index any_link c.followers-link-items.ensures c.loop-link-test.true in
+    let at = link_at block c.loop-from.from links c.loop-link.link-index any_link c.followers-link-items.ensures
+    c.loop-link-test.true in
     subst (λ (edges : List Distance). All (IsEdge block) edges) (sym c.in_ok-push.ensures.items)
     (All-push (IsEdge block) c.loop-link.edges.items _ c.loop-link.invariant at.is)

@@ -15,18 +15,23 @@ loop-preserved t c =
     let left = c.in-Some.left.items in
     let i = c.in-Some-narrowest.i in
     let kept : IsKept block old left = rw c.in-Some.is at c.in_ok-left.ensures in
-    let low : i < length left = omega (arith, c.in-Some-narrowest.ensures, ap (length {A = Cycles}) c.deref-in-loop.ensures.value) in
+    let low : i < length left = omega
+    (arith, c.in-Some-narrowest.ensures, ap (length {A = Cycles}) c.deref-in-loop.ensures.value) in
     let out = c.without_end.result in
     let next : c.in_ok-rest.rest.items ≡ slice_set left i out
     = c.in_ok-rest.ensures ∙ ap (λ ws. slice_set ws i out) c.deref-in-loop-3.ensures.value in
     let fixed : c.in_ok-fixed.fixed.items ≡ slice_set left i c.end.result
     = c.in_ok-fixed.ensures ∙ ap (λ ws. slice_set ws i c.end.result) c.deref-in-loop-2.ensures.value in
-    let none_fixed : HoldNone block (slice_set left i c.end.result) = subst (HoldNone block) fixed (c.in_ok-found.ensures c.in-Refuted.is) in
+    let none_fixed : HoldNone block (slice_set left i c.end.result) = subst (HoldNone block) fixed
+    (c.in_ok-found.ensures c.in-Refuted.is) in
     let without : KeepAll block left (slice_set left i out)
-    = keep_without block left i c.index-window.result.now c.end.result out (slice_get-get_or left i c.index-window.result.now low ∙ ap Some (sym c.index-window.ensures)) c.end.ensures c.without_end.ensures none_fixed in
+    = keep_without block left i c.index-window.result.now c.end.result out
+    (slice_get-get_or left i c.index-window.result.now low
+    ∙ ap Some (sym c.index-window.ensures)) c.end.ensures c.without_end.ensures none_fixed in
     rw next (record {
       sized = length-set left i out ∙ kept.sized;
-      none = λ none. c.loop.invariant.none (none_before block old left kept.keeps (none_before block left (slice_set left i out) without none));
+      none = λ none. c.loop.invariant.none
+          (none_before block old left kept.keeps (none_before block left (slice_set left i out) without none));
     })
 
 pub returns-in_default : goal.returns-in_default

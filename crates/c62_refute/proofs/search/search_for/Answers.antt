@@ -8,7 +8,9 @@ use Rattle.c62_refute.proofs.search.search_for.Goals as goal
 
 pub returns : goal.returns
 returns c =
-    IfOk-weaker c.search_in.result (λ found. found ≡ Refuted → HoldNone (insns_of c.args.plan.now) c.in_ok-windows.windows.items)
+    IfOk-weaker c.search_in.result (λ found. found ≡ Refuted
+    → HoldNone (insns_of c.args.plan.now) c.in_ok-windows.windows.items)
     (λ found. found ≡ Refuted → IsRefuted (insns_of c.args.plan.now) c.args.most)
-    (λ found none is. none_refuted (insns_of c.args.plan.now) c.args.most c.in_ok-windows.windows.items c.in_ok-windows.ensures.all (none is))
+    (λ found none is. none_refuted (insns_of c.args.plan.now) c.args.most c.in_ok-windows.windows.items
+    c.in_ok-windows.ensures.all (none is))
     c.search_in.ensures

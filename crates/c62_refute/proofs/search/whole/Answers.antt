@@ -15,6 +15,7 @@ loop-i-preserved c =
     record {
       sized = ap (length {A = Cycles}) pushed ∙ (length-append old (new ∷ []) ∙ ap (λ (n : ℕ). n + 1) known.sized);
       hold = subst (HoldAll (insns_of c.args.plan.now) c.args.most) (sym pushed)
-          (hold_one (insns_of c.args.plan.now) c.args.most old c.insn.result new known.hold (rw known.sized c.insn.ensures)
+          (hold_one (insns_of c.args.plan.now) c.args.most old c.insn.result new known.hold
+          (rw known.sized c.insn.ensures)
           (rw c.delay.ensures at c.within.ensures));
     }

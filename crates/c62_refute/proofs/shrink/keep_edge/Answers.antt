@@ -36,8 +36,11 @@ returns-clause-keeps c =
     let edge = c.args.edge in
     let before = edge_before block edge c.requires.edge in
     let within = edge_within block edge c.requires.edge in
-    let sized : length c.args.windows.now ≡ length block = omega (arith, c.requires.sized, many_insns c.args.plan.now.insns) in
+    let sized : length c.args.windows.now ≡ length block = omega
+    (arith, c.requires.sized, many_insns c.args.plan.now.insns) in
     rw (c.from-from.ensures, c.from-to.ensures)
     (keep_edge_by block c.args.windows.now edge _ _ c.before-2.result c.behind.result c.requires.edge sized
-    (window_at c.args.windows.now edge.from (omega (arith, before, within, sized))) (window_at c.args.windows.now edge.link.number (omega (arith, within, sized)))
-    (rw (c.from-from.ensures, c.from-to.ensures) at c.before-2.ensures) (rw (c.from-from.ensures, c.from-to.ensures) at c.behind.ensures))
+    (window_at c.args.windows.now edge.from (omega (arith, before, within, sized)))
+    (window_at c.args.windows.now edge.link.number (omega (arith, within, sized)))
+    (rw (c.from-from.ensures, c.from-to.ensures) at c.before-2.ensures)
+    (rw (c.from-from.ensures, c.from-to.ensures) at c.behind.ensures))

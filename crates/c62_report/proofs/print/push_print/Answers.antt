@@ -10,8 +10,10 @@ loop-left-preserved c =
     rw (
       c.from-address.ensures,
       c.in_ok-push_line.ensures,
-      append_assoc c.loop-left.out.items (print_line c.args.state.now.machine c.args.size c.args.signed c.loop-left.address)
-          (print_lines c.args.state.now.machine c.args.size c.args.signed (c.loop-left.left - 1) ((c.loop-left.address + c.args.size) % 2 ^ 32)),
+      append_assoc c.loop-left.out.items
+          (print_line c.args.state.now.machine c.args.size c.args.signed c.loop-left.address)
+          (print_lines c.args.state.now.machine c.args.size c.args.signed (c.loop-left.left - 1)
+          ((c.loop-left.address + c.args.size) % 2 ^ 32)),
     )
     (ap (λ xs. c.loop-left.out.items ++ xs)
     (sym (first_line c.args.state.now.machine c.args.size c.args.signed c.loop-left.left c.loop-left.address some))

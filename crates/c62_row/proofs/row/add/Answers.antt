@@ -17,5 +17,6 @@ returns c = λ place low.
     one-more-at c.args.words.now (place_of c.args.resource) w c.one_more.result place
     (omega (arith, c.from-at.ensures, c.place-place.ensures.within))
     (omega (arith, c.from-at.ensures, c.place-place.ensures.place))
-    (λ j few. subst (λ (p : ℕ). count_at c.one_more.result j ≡ count_at (slice_index c.args.words.now w) j + (if p % 16 == j then 1 else 0))
+    (λ j few. subst (λ (p : ℕ). count_at c.one_more.result j ≡ count_at (slice_index c.args.words.now w) j +
+    (if p % 16 == j then 1 else 0))
     c.place-place.ensures.place (c.one_more.ensures j few))

@@ -8,5 +8,6 @@ use Rattle.c62_rows.proofs.half.with_word.Goals as goal
 pub returns-in-Some : goal.returns-in-Some
 returns-in-Some c =
     let fits : FitsSigned w64 c.word_of.result = search rules in
-    c.with_half.ensures ∙ ap (λ (k : ℤ). with_half k (parts_of c.args.insn)) (to_z-of_z w64 c.word_of.result fits ∙ c.word_of.ensures)
+    c.with_half.ensures ∙ ap (λ (k : ℤ). with_half k (parts_of c.args.insn)) (to_z-of_z w64 c.word_of.result fits
+    ∙ c.word_of.ensures)
     ∙ ap (λ w. with_word (option_copied w) c.args.labels.now.entries (parts_of c.args.insn)) (sym c.in-Some.is)

@@ -4,6 +4,7 @@ use Rattle.c62_rows.proofs.text.aims_of.Given as goal
 
 abbrev pub invariant-loop-target : goal.invariant-loop-target
 invariant-loop-target l = record {
-  so_far : l.aims.items ++ aims_among l.target-iterator l.labels.entries ≡ aims_among l.targets.entries l.labels.entries;
+  so_far : l.aims.items ++ aims_among l.target-iterator l.labels.entries ≡ aims_among l.targets.entries
+      l.labels.entries;
   none_lost : lost_among l.target-iterator l.labels.entries ≡ lost_among l.targets.entries l.labels.entries;
 }

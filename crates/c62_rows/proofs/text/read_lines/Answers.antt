@@ -5,16 +5,19 @@ use Rattle.c62_rows.proofs.text.read_lines.Goals as goal
 pub returns-in-Some-2 : goal.returns-in-Some-2
 returns-in-Some-2 c =
     let refuses = rw c.in-Some-2.is at c.in_ok-cause.ensures in
-    refused_at (reading_of c.loop-line.reader) c.loop-line.number c.in-Some.line.now c.loop-line.rest.now c.in-Some.after.now c.args.text.now
+    refused_at (reading_of c.loop-line.reader) c.loop-line.number c.in-Some.line.now c.loop-line.rest.now
+    c.in-Some.after.now c.args.text.now
     c.in-Some-2.cause c.requires c.loop-line.invariant c.in-Some.ensures.found refuses
 
 pub loop-line-preserved : goal.loop-line-preserved
 loop-line-preserved c =
     let adds = rw c.in_default-2.is at c.in_ok-cause.ensures in
-    one_more (reading_of c.loop-line.reader) (reading_of c.add_line.new.self) c.loop-line.number c.in-Some.line.now c.loop-line.rest.now
+    one_more (reading_of c.loop-line.reader) (reading_of c.add_line.new.self) c.loop-line.number c.in-Some.line.now
+    c.loop-line.rest.now
     c.in-Some.after.now c.args.text.now c.loop-line.invariant c.in-Some.ensures.found c.in-Some.ensures.shorter adds
 
 pub returns : goal.returns
 returns c =
-    c.finished.ensures c.args.text.now (all_read (reading_of c.loop-line.reader) c.loop-line.number c.loop-line.rest.now c.args.text.now c.requires
+    c.finished.ensures c.args.text.now
+    (all_read (reading_of c.loop-line.reader) c.loop-line.number c.loop-line.rest.now c.args.text.now c.requires
     c.loop-line.invariant c.in_default.ensures.found)

@@ -1,4 +1,4 @@
-use Rattle.c62_rules.proofs.Ranges.{disjoint-told}
+use Rattle.c62_rules.proofs.DisjointAccesses.{disjoint-told}
 use Rattle.c62_rules.proofs.laws.disjoint_is_told.Goals as goal
 
 pub returns : goal.returns

@@ -11,10 +11,12 @@ loop-i-init c = none_below (of_placing c.args.board.now.spots) c.args.digest.now
 pub loop-i-preserved : goal.loop-i-preserved
 loop-i-preserved c =
     c.add.ensures ∙ ap (λ spot. with_numbers c.loop-i.digest.sum (of_option of_spot spot)) c.spot_of.ensures
-    ∙ more_below (of_placing c.args.board.now.spots) c.loop-i.i c.loop-i.digest.sum c.args.digest.now.sum c.loop-i.invariant
+    ∙ more_below (of_placing c.args.board.now.spots) c.loop-i.i c.loop-i.digest.sum c.args.digest.now.sum
+    c.loop-i.invariant
 
 pub returns : goal.returns
 unfolding of_placings
 returns c =
     let all : c.loop-i.i ≡ length c.args.board.now.plan.insns = grind arith in
-    subst (λ n. c.loop-i.digest.sum ≡ with_numbers c.args.digest.now.sum (of_below (of_placing c.args.board.now.spots) n)) all c.loop-i.invariant
+    subst (λ n. c.loop-i.digest.sum ≡ with_numbers c.args.digest.now.sum
+    (of_below (of_placing c.args.board.now.spots) n)) all c.loop-i.invariant

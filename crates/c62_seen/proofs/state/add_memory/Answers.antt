@@ -13,12 +13,15 @@ loop-address-init c = none_below (λ address. of_number (byte_in c.args.state.no
 pub loop-address-preserved : goal.loop-address-preserved
 loop-address-preserved c =
     c.add.ensures ∙ ap (λ byte. with_numbers c.loop-address.digest.sum (of_number byte)) c.byte.ensures
-    ∙ more_below (λ address. of_number (byte_in c.args.state.now.machine address)) c.loop-address.address c.loop-address.digest.sum c.args.digest.now.sum
+    ∙ more_below (λ address. of_number (byte_in c.args.state.now.machine address)) c.loop-address.address
+    c.loop-address.digest.sum c.args.digest.now.sum
     c.loop-address.invariant
 
 pub returns : goal.returns
 unfolding of_memory
 returns c =
-    let all : c.loop-address.address ≡ MEMORY_BYTES = omega (arith, c.loop-address-test.false, c.loop-address.auto.address-end) in
-    subst (λ n. c.loop-address.digest.sum ≡ with_numbers c.args.digest.now.sum (of_below (λ address. of_number (byte_in c.args.state.now.machine address)) n))
+    let all : c.loop-address.address ≡ MEMORY_BYTES = omega
+    (arith, c.loop-address-test.false, c.loop-address.auto.address-end) in
+    subst (λ n. c.loop-address.digest.sum ≡ with_numbers c.args.digest.now.sum
+    (of_below (λ address. of_number (byte_in c.args.state.now.machine address)) n))
     all c.loop-address.invariant

@@ -6,4 +6,5 @@ use Rattle.c62_seen.proofs.state.add_memory.Given as goal
 
 -- the bytes so far are added
 abbrev pub invariant-loop-address : goal.invariant-loop-address
-invariant-loop-address l = l.digest.sum ≡ with_numbers l.fn.digest.sum (of_below (λ address. of_number (byte_in l.state.machine address)) l.address)
+invariant-loop-address l = l.digest.sum ≡ with_numbers l.fn.digest.sum
+    (of_below (λ address. of_number (byte_in l.state.machine address)) l.address)

@@ -13,17 +13,23 @@ abbrev SameMachine : Ran → Ran → Type 0
 SameMachine a b = a.machine ≡ b.machine
 
 one_more : (a b : Ran) (entry : SerialInsn) → SameMachine a b → SameMachine (after_insn a entry) (after_insn b entry)
-one_more a b entry e = ap (λ (machine : Machine). (after_insn (record { machine = machine; exit = Next }) entry).machine) e
+one_more a b entry e = ap
+    (λ (machine : Machine). (after_insn (record { machine = machine; exit = Next }) entry).machine) e
 
 -- the machine does not depend on the exit so far
-from_any : (ran : Ran) (insns : List SerialInsn) → (fold after_insn ran insns).machine ≡ (serial insns ran.machine).machine
-from_any ran insns = fold_along after_insn after_insn SameMachine one_more ran (record { machine = ran.machine; exit = Next }) insns refl
+from_any : (ran : Ran) (insns : List SerialInsn)
+    → (fold after_insn ran insns).machine ≡ (serial insns ran.machine).machine
+from_any ran insns = fold_along after_insn after_insn SameMachine one_more ran
+    (record { machine = ran.machine; exit = Next }) insns refl
 
-from_next : (ran : Ran) (insns : List SerialInsn) → ran.exit ≡ Next → fold after_insn ran insns ≡ serial insns ran.machine
+from_next : (ran : Ran) (insns : List SerialInsn) → ran.exit ≡ Next
+    → fold after_insn ran insns ≡ serial insns ran.machine
 from_next ran insns e = ap (λ (exit : Exit). fold after_insn (record { machine = ran.machine; exit = exit }) insns) e
 
 pub returns : goal.returns
 returns c = λ first rest machine. record {
-  on = ap (λ (ran : Ran). ran.machine) (fold-append after_insn (record { machine = machine; exit = Next }) first rest) ∙ from_any (serial first machine) rest;
-  unless_left = λ e. fold-append after_insn (record { machine = machine; exit = Next }) first rest ∙ from_next (serial first machine) rest e;
+  on = ap (λ (ran : Ran). ran.machine) (fold-append after_insn (record { machine = machine; exit = Next }) first rest)
+      ∙ from_any (serial first machine) rest;
+  unless_left = λ e. fold-append after_insn (record { machine = machine; exit = Next }) first rest
+      ∙ from_next (serial first machine) rest e;
 }

@@ -22,9 +22,12 @@ pub loop-k-preserved : goal.loop-k-preserved
 loop-k-preserved c =
     let few = c.len-n.ensures.sound.few in
     let many = many_insns c.args.plan.now.insns in
-    let is : c.is_any_marked.result ≡ list_any (is_linked c.loop-k.marks) (direct_followers (insns_of c.args.plan.now) (c.loop-k.k - 1)) =
-    c.is_any_marked.ensures ∙ ap (λ (links : List Link). list_any (is_linked c.loop-k.marks) links) c.followers.ensures in
-    rw is (leading_more (insns_of c.args.plan.now) c.args.i (c.loop-k.k - 1) c.loop-k.k c.loop-k.marks (omega (arith, c.loop-k-test.true))
+    let is : c.is_any_marked.result ≡ list_any (is_linked c.loop-k.marks)
+    (direct_followers (insns_of c.args.plan.now) (c.loop-k.k - 1)) =
+    c.is_any_marked.ensures
+    ∙ ap (λ (links : List Link). list_any (is_linked c.loop-k.marks) links) c.followers.ensures in
+    rw is (leading_more (insns_of c.args.plan.now) c.args.i (c.loop-k.k - 1) c.loop-k.k c.loop-k.marks
+    (omega (arith, c.loop-k-test.true))
     (omega (arith, c.loop-k.auto.k)) (omega (arith, c.requires)) c.loop-k.invariant)
 
 pub returns : goal.returns

@@ -9,4 +9,5 @@ overflow_cast-result c =
     omega (arith, few, long, c.len.ensures.sound.few)
 
 pub returns : goal.returns
-returns c = rw c.of.ensures (ready_count (insns_of c.args.plan.now) c.args.spots.now c.args.lists.now c.args.of c.requires.ready)
+returns c = rw c.of.ensures
+    (ready_count (insns_of c.args.plan.now) c.args.spots.now c.args.lists.now c.args.of c.requires.ready)

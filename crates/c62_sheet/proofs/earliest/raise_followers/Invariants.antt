@@ -4,4 +4,5 @@ use Rattle.c62_sheet.proofs.earliest.raise_followers.Given as goal
 
 abbrev pub invariant-loop-link : goal.invariant-loop-link
 invariant-loop-link l =
-    AreWalked (insns_of l.plan) (IsDirectEarly (insns_of l.plan) l.spots) (IsDirectEarly (insns_of l.plan) (placed l.spots l.i l.spot)) (take l.link-index l.followers) l.earliest
+    AreWalked (insns_of l.plan) (IsDirectEarly (insns_of l.plan) l.spots)
+    (IsDirectEarly (insns_of l.plan) (placed l.spots l.i l.spot)) (take l.link-index l.followers) l.earliest

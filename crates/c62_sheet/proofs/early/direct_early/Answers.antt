@@ -9,10 +9,12 @@ bound_by-requires-clause-within c =
     omega (arith, short.before, short.within, c.requires.lawful.sized)
 
 pub bound_by-requires-clause-above : goal.bound_by-requires-clause-above
-bound_by-requires-clause-above c = (need_short _ _ _ c.needs-needs.ensures c.loop-link.link-index any_link (omega arith)).least
+bound_by-requires-clause-above c =
+    (need_short _ _ _ c.needs-needs.ensures c.loop-link.link-index any_link (omega arith)).least
 
 pub bound_by-requires-clause-below : goal.bound_by-requires-clause-below
-bound_by-requires-clause-below c = (need_short _ _ _ c.needs-needs.ensures c.loop-link.link-index any_link (omega arith)).most
+bound_by-requires-clause-below c =
+    (need_short _ _ _ c.needs-needs.ensures c.loop-link.link-index any_link (omega arith)).most
 
 pub loop-link-preserved : goal.loop-link-preserved
 loop-link-preserved c =

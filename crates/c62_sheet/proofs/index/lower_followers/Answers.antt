@@ -1,5 +1,6 @@
 use Rattle.c62_sheet.proofs.Common.{arith}
-use Rattle.c62_sheet.proofs.Missing.{any_link, follower_at, lowered_some}
+use Rattle.c62_sheet.proofs.Missing.{any_link}
+use Rattle.c62_sheet.proofs.CountWalks.{follower_at, lowered_some}
 use Rattle.c62_sheet.proofs.index.lower_followers.Goals as goal
 
 pub bounds-missing-from : goal.bounds-missing-from

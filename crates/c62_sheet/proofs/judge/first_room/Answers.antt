@@ -8,7 +8,8 @@ returns-then-fits c = record {
   passed = c.loop-cycle.invariant.1;
   behind = λ less. c.loop-cycle.invariant.0;
   room = λ row less.
-      room_at c.args.rows.now c.from.result c.loop-cycle.cycle c.index-rows-from.result c.args.uses.now c.index-rows-from.is c.from.ensures
+      room_at c.args.rows.now c.from.result c.loop-cycle.cycle c.index-rows-from.result c.args.uses.now
+      c.index-rows-from.is c.from.ensures
       (omega (arith, c.loop-cycle-test.true, c.requires)) (c.fits.ensures.0 c.if-fits.true) row;
 }
 
@@ -21,7 +22,8 @@ loop-cycle-preserved c = (
         false≢true
         (sym c.if-fits.false
         ∙ c.fits.ensures.1
-        (room_from c.args.rows.now c.from.result c.loop-cycle.cycle c.index-rows-from.result c.args.uses.now c.index-rows-from.is c.from.ensures
+        (room_from c.args.rows.now c.from.result c.loop-cycle.cycle c.index-rows-from.result c.args.uses.now
+        c.index-rows-from.is c.from.ensures
         (omega (arith, c.loop-cycle-test.true, c.requires)) row (rw e at room)))
   ],
 )
@@ -29,7 +31,8 @@ loop-cycle-preserved c = (
 pub returns : goal.returns
 returns c = record {
   within = omega arith;
-  passed = λ cycle row late low room. c.loop-cycle.invariant.1 cycle row late (omega (arith, low, c.loop-cycle-test.false)) room;
+  passed = λ cycle row late low room. c.loop-cycle.invariant.1 cycle row late
+      (omega (arith, low, c.loop-cycle-test.false)) room;
   behind = λ less. absurd (omega (arith, less));
   room = λ row less. absurd (omega (arith, less));
 }

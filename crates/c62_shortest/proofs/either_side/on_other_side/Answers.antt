@@ -16,8 +16,11 @@ plan_of-requires c =
     let at : slice_get own c.from.result ≡ Some c.index-own-from.result =
     slice_get_read own (length own) c.from.result c.index-own-from.result refl within c.index-own-from.is in
     still_block own (slice_set c.in_ok-insns.insns.items c.from-2.result c.in-Some-with_unit.branch)
-    (with_branch c.in_ok-insns.insns.items own c.from.result c.from-2.result c.index-own-from.result c.in-Some-with_unit.branch c.in_ok-insns.ensures.items
-    (omega arith) at c.in-Some-with_unit.ensures) (subst (λ (xs : List SerialInsn). IsTrue (is_block xs)) (sym c.insns-own.ensures.same) c.insns-own.ensures.sound)
+    (with_branch c.in_ok-insns.insns.items own c.from.result c.from-2.result c.index-own-from.result
+    c.in-Some-with_unit.branch c.in_ok-insns.ensures.items
+    (omega arith) at c.in-Some-with_unit.ensures)
+    (subst (λ (xs : List SerialInsn). IsTrue (is_block xs)) (sym c.insns-own.ensures.same)
+    c.insns-own.ensures.sound)
 
 pub returns : goal.returns
 returns c =
@@ -28,5 +31,6 @@ returns c =
     slice_get_read own (length own) c.from.result c.index-own-from.result refl within c.index-own-from.is in
     subst (λ (xs : List SerialInsn). AreWithUnits (unnumbered xs) (unnumbered c.in_ok-plan_of.field-0.insns)) same
     (subst (λ (xs : List SerialInsn). AreWithUnits (unnumbered own) (unnumbered xs)) (sym c.in_ok-plan_of.ensures)
-    (with_branch c.in_ok-insns.insns.items own c.from.result c.from-2.result c.index-own-from.result c.in-Some-with_unit.branch c.in_ok-insns.ensures.items
+    (with_branch c.in_ok-insns.insns.items own c.from.result c.from-2.result c.index-own-from.result
+    c.in-Some-with_unit.branch c.in_ok-insns.ensures.items
     (omega arith) at c.in-Some-with_unit.ensures))

@@ -4,4 +4,5 @@ use Rattle.c62_show.specs.Summary.{heads_from, summary}
 use Rattle.c62_show.proofs.alone.summary.Given as goal
 
 abbrev pub invariant-loop-each : goal.invariant-loop-each
-invariant-loop-each l = (string_bytes l.out ++ heads_from l.number (drop l.each-index l.shown) ≡ summary l.shown) × (l.number ≡ l.each-index)
+invariant-loop-each l = (string_bytes l.out ++ heads_from l.number (drop l.each-index l.shown) ≡ summary l.shown)
+    × (l.number ≡ l.each-index)

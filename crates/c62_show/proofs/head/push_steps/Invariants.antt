@@ -6,4 +6,5 @@ use Rattle.c62_show.proofs.head.push_steps.Given as goal
 
 abbrev pub invariant-loop-step : goal.invariant-loop-step
 invariant-loop-step l =
-    string_bytes l.out ++ flat_map step_words (drop l.step-index l.steps) ≡ string_bytes l.fn.out ++ flat_map step_words l.steps
+    string_bytes l.out ++ flat_map step_words (drop l.step-index l.steps) ≡ string_bytes l.fn.out ++ flat_map step_words
+    l.steps

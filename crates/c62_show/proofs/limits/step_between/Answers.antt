@@ -22,7 +22,8 @@ reason_for-requires-clause-within c =
     omega (arith, order.1, many_insns c.args.plan.now.insns)
 
 pub unreachable-requires : goal.unreachable-requires
-unreachable-requires c = none-some c.requires.cycles (sym c.in-None.is ∙ (c.latency.ensures.latency ∙ c.requires.depends))
+unreachable-requires c = none-some c.requires.cycles (sym c.in-None.is
+    ∙ (c.latency.ensures.latency ∙ c.requires.depends))
 
 pub returns : goal.returns
 returns c =

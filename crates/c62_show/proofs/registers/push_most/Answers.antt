@@ -15,9 +15,15 @@ returns c =
     let cycle : List ℕ = decimal c.args.cycle in
     let begin : List ℕ = string_bytes c.args.out.now in
     let counted : string_bytes c.push_number.new.out ≡ begin ++ most = c.in_ok-push_number.ensures in
-    let named : string_bytes c.push_str.new.self ≡ string_bytes c.push_number.new.out ++ words = c.in_ok-push_str.ensures.bytes in
-    let placed : string_bytes c.push_number-2.new.out ≡ string_bytes c.push_str.new.self ++ cycle = c.in_ok-push_number-2.ensures in
-    let ended : string_bytes c.push_str-2.new.self ≡ string_bytes c.push_number-2.new.out ++ codes "; unused" = c.in_ok-push_str-2.ensures.bytes in
-    let two = added begin (string_bytes c.push_number.new.out) (string_bytes c.push_str.new.self) most words counted named in
-    let three = added begin (string_bytes c.push_str.new.self) (string_bytes c.push_number-2.new.out) (most ++ words) cycle two placed in
-    added begin (string_bytes c.push_number-2.new.out) (string_bytes c.push_str-2.new.self) (most ++ words ++ cycle) (codes "; unused") three ended
+    let named : string_bytes c.push_str.new.self ≡ string_bytes c.push_number.new.out ++ words =
+    c.in_ok-push_str.ensures.bytes in
+    let placed : string_bytes c.push_number-2.new.out ≡ string_bytes c.push_str.new.self ++ cycle =
+    c.in_ok-push_number-2.ensures in
+    let ended : string_bytes c.push_str-2.new.self ≡ string_bytes c.push_number-2.new.out ++ codes "; unused" =
+    c.in_ok-push_str-2.ensures.bytes in
+    let two = added begin (string_bytes c.push_number.new.out) (string_bytes c.push_str.new.self) most words counted
+    named in
+    let three = added begin (string_bytes c.push_str.new.self) (string_bytes c.push_number-2.new.out) (most ++ words)
+    cycle two placed in
+    added begin (string_bytes c.push_number-2.new.out) (string_bytes c.push_str-2.new.self) (most ++ words ++ cycle)
+    (codes "; unused") three ended

@@ -12,12 +12,15 @@ loop-block-preserved c =
     let long = ap (λ (blocks : List Packed). length blocks) same in
     let place = c.loop-block.block-index in
     let block = c.block-item.result in
-    one_more (IsStanding c.args.details) c.args.packets.now place block c.loop-block.shown.items c.push.new.self.items c.in_ok-shown_block.field-0
-    (omega (arith, c.loop-block-test.true, long)) (c.block-item.is ∙ ap (λ (blocks : List Packed). get_or blocks place block) same)
+    one_more (IsStanding c.args.details) c.args.packets.now place block c.loop-block.shown.items c.push.new.self.items
+    c.in_ok-shown_block.field-0
+    (omega (arith, c.loop-block-test.true, long)) (c.block-item.is
+    ∙ ap (λ (blocks : List Packed). get_or blocks place block) same)
     c.in_ok-push.ensures.items c.loop-block.invariant c.in_ok-shown_block.ensures
 
 pub returns : goal.returns
 returns c =
     let long = ap (λ (blocks : List Packed). length blocks) c.blocks-block-items.ensures.same in
     subst (λ (blocks : List Packed). AllZip (IsStanding c.args.details) blocks c.loop-block.shown.items)
-    (take_all c.loop-block.block-index c.args.packets.now (omega (arith, c.loop-block-test.false, long))) c.loop-block.invariant
+    (take_all c.loop-block.block-index c.args.packets.now (omega (arith, c.loop-block-test.false, long)))
+    c.loop-block.invariant

@@ -8,7 +8,8 @@ use Rattle.c62_standing.proofs.standing.shown_of.Goals as goal
 pub returns : goal.returns
 returns c =
     let limits : Limits = c.in_ok-limits.limits in
-    let shown : Shown = record { limits = Some limits; packets = c.args.packets; whys = c.in_ok-whys.whys; lives = c.in_ok-lives.lives } in
+    let shown : Shown = record
+    { limits = Some limits; packets = c.args.packets; whys = c.in_ok-whys.whys; lives = c.in_ok-lives.lives } in
     record {
       packets = refl;
       told = record {
@@ -16,9 +17,11 @@ returns c =
         placed = c.args.one.now.placed.items;
         unpacked = c.requires;
         known = c.in_ok-limits.ensures;
-        whys = subst (λ (cycles : ℕ). TellsWhys c.args.details.why c.args.one.now.plan cycles c.args.one.now.placed.items c.in_ok-whys.whys.items)
+        whys = subst (λ (cycles : ℕ). TellsWhys c.args.details.why c.args.one.now.plan cycles
+            c.args.one.now.placed.items c.in_ok-whys.whys.items)
             c.length.ensures.same c.in_ok-whys.ensures;
-        bounded = none_shorter c.args.one.now.plan shown limits refl c.length.ensures.sound c.in_ok-limits.ensures.are c.len-all.ensures.sound;
+        bounded = none_shorter c.args.one.now.plan shown limits refl c.length.ensures.sound c.in_ok-limits.ensures.are
+            c.len-all.ensures.sound;
       };
       lives = c.in_ok-lives.ensures;
     }

@@ -24,7 +24,14 @@ loop-d-preserved c =
     let most = mul-le-mul_left c.loop-d.value c.requires.high in
     let next = digits_value_more c.args.radix c.args.digits.now c.loop-d.d-index c.loop-d-test.true in
     record {
-      so_far = rw (c.from-in-loop-d.ensures, c.from-in-loop-d-2.ensures, next, ← c.loop-d.invariant.so_far, given.1, c.from.ensures) refl;
+      so_far = rw (
+        c.from-in-loop-d.ensures,
+        c.from-in-loop-d-2.ensures,
+        next,
+        ← c.loop-d.invariant.so_far,
+        given.1,
+        c.from.ensures,
+      ) refl;
       bound = rw (c.from-in-loop-d.ensures, c.from-in-loop-d-2.ensures, pow-add 16 c.loop-d.d-index 1)
           (omega (arith, given.0, given.1, most, c.loop-d.invariant.bound));
     }

@@ -20,5 +20,6 @@ pub returns-clause-colon : goal.returns-clause-colon
 returns-clause-colon c =
     let line = c.args.line.now in
     let last = take_rest line (length line - 16) in
-    let any = any_over (λ b. eqb b 58) (length line - 16) c.loop-start.start line (omega (arith, c.loop-start-test.false)) in
+    let any = any_over (λ b. eqb b 58) (length line - 16) c.loop-start.start line
+    (omega (arith, c.loop-start-test.false)) in
     cc

@@ -1,4 +1,5 @@
-use Rattle.c62_token.proofs.Common.{◌≡◌, ℕ, ◌<◌, Bool, true, false, not, map, cond, eqb, get_or, refl, ap, ◌∙◌, arith, nat_tests, is_word_byte}
+use Rattle.c62_token.proofs.Common.{◌≡◌, ℕ, ◌<◌, Bool, true, false, not, map, cond, eqb, get_or, refl, ap, ◌∙◌, arith}
+use Rattle.c62_token.proofs.Common.{nat_tests, is_word_byte}
 use Rattle.std.proofs.lemmas.List.FromFn.{get_or-map-range_with_len}
 use Rattle.std.specs.List.{range_with_len}
 use Rattle.c62_token.specs.declared.token.TheConstants.{WORD_BYTES}
@@ -20,7 +21,8 @@ marked b false is = refl
 
 read : (b : ℕ) → b < 256 → not (eqb (get_or WORD_BYTES b 0) 44) ≡ is_word_byte b
 read b h =
-    ap (λ (n : ℕ). not (eqb n 44)) (ap (λ t. get_or t b 0) table_is ∙ get_or-map-range_with_len mark 0 256 b b 0 h (omega arith))
+    ap (λ (n : ℕ). not (eqb n 44)) (ap (λ t. get_or t b 0) table_is
+    ∙ get_or-map-range_with_len mark 0 256 b b 0 h (omega arith))
     ∙ marked b (is_word_byte b) refl
 
 pub returns : goal.returns

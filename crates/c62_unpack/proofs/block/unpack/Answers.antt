@@ -11,6 +11,8 @@ returns c =
     let made = c.in_ok-plan.ensures ∙ c.new.ensures in
     is_unpacked c.args.packets.now c.in_ok-plan.plan c.in_ok-placed.placed.items c.in_ok-verdict.verdict
     (ap (λ (b : Serial). b.label) made ∙ (c.copied.ensures ∙ c.label.ensures))
-    (ap (λ (b : Serial). b.insns) made ∙ (c.in_ok-entries.ensures ∙ ap (λ (xs : List Placed). map entry_of xs) c.deref.ensures.value))
-    (subst (λ (xs : List Placed). IsPermutation xs c.in_ok-placed.placed.items) c.placed.ensures.same c.in_ok-placed.ensures)
-    c.in_ok-verdict.ensures (sym c.is_same.ensures ∙ c.if-not-is_same.false)
+    (ap (λ (b : Serial). b.insns) made
+    ∙ (c.in_ok-entries.ensures ∙ ap (λ (xs : List Placed). map entry_of xs) c.deref.ensures.value))
+    (subst (λ (xs : List Placed). IsPermutation xs c.in_ok-placed.placed.items) c.placed.ensures.same
+    c.in_ok-placed.ensures)
+    c.in_ok-verdict.ensures (sym c.is_same.ensures.value ∙ c.if-not-is_same.false)

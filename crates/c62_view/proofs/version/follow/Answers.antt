@@ -19,6 +19,8 @@ loop-k-preserved c =
     let new = c.apply.new.self in
     let inv = c.loop-k.invariant in
     record {
-      plan = same_plan c.apply.result old new (get_or es c.loop-k.k first_of_all) c.apply.ensures.done c.apply.ensures.refused ∙ inv.plan;
-      spots = follows c.apply.result c.args.sheet.now.plan c.args.sheet.now.spots old new es c.loop-k.k first_of_all c.loop-k-test.true inv.plan inv.spots c.apply.ensures.done c.apply.ensures.legal;
+      plan = same_plan c.apply.result old new (get_or es c.loop-k.k first_of_all) c.apply.ensures.done
+          c.apply.ensures.refused ∙ inv.plan;
+      spots = follows c.apply.result c.args.sheet.now.plan c.args.sheet.now.spots old new es c.loop-k.k first_of_all
+          c.loop-k-test.true inv.plan inv.spots c.apply.ensures.done c.apply.ensures.legal;
     }

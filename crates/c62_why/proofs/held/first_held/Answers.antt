@@ -7,7 +7,8 @@ pub returns-in-Some : goal.returns-in-Some
 returns-in-Some c = record { first = c.loop-i.i; behind = c.in-Some.ensures; before = c.loop-i.invariant }
 
 pub loop-i-preserved : goal.loop-i-preserved
-loop-i-preserved c = free_next (insns_of c.args.plan.now) c.args.placed.now c.args.j c.loop-i.i c.loop-i.invariant c.in_default.ensures
+loop-i-preserved c = free_next (insns_of c.args.plan.now) c.args.placed.now c.args.j c.loop-i.i c.loop-i.invariant
+    c.in_default.ensures
 
 pub returns : goal.returns
 returns c =

@@ -13,13 +13,15 @@ pub loop-each-preserved : goal.loop-each-preserved
 loop-each-preserved c =
     let sum = c.loop-each.invariant.few in
     let one = c.uses_at-sum.ensures.few in
-    let next = used_next c.args.resource c.args.cycle c.args.placed.now c.loop-each.each-index c.each-item.result c.loop-each.sum c.loop-each-test.true c.each-item.is
+    let next = used_next c.args.resource c.args.cycle c.args.placed.now c.loop-each.each-index c.each-item.result
+    c.loop-each.sum c.loop-each-test.true c.each-item.is
     c.loop-each.invariant.rest in
     record { rest = rw c.uses_at-sum.ensures.uses next; few = omega (arith, sum, one) }
 
 pub returns-clause-used : goal.returns-clause-used
 returns-clause-used c =
-    used_all c.args.resource c.args.cycle c.args.placed.now c.loop-each.each-index c.loop-each.sum (omega (arith, c.loop-each-test.false)) c.loop-each.invariant.rest
+    used_all c.args.resource c.args.cycle c.args.placed.now c.loop-each.each-index c.loop-each.sum
+    (omega (arith, c.loop-each-test.false)) c.loop-each.invariant.rest
 
 pub returns-clause-few : goal.returns-clause-few
 returns-clause-few c =

@@ -5,7 +5,8 @@ use Rattle.c62_why.proofs.why.why_of.Goals as goal
 pub returns : goal.returns
 returns c = record {
   one = c.index-placed-from.result;
-  is_one = read_at c.args.placed.now c.from.result c.args.j c.index-placed-from.result c.from.ensures (omega (arith, c.requires.within, c.requires.placed))
+  is_one = read_at c.args.placed.now c.from.result c.args.j c.index-placed-from.result c.from.ensures
+      (omega (arith, c.requires.within, c.requires.placed))
       c.index-placed-from.is;
   line = refl;
   cycle = refl;

@@ -10,23 +10,29 @@ loop-first-init c = taken_none c.args.board.now
 
 pub returns-then-not-goes_on : goal.returns-then-not-goes_on
 returns-then-not-goes_on c =
-    taken_last c.args.board.now c.loop-first.board c.step-first.new.self A c.step-first.result c.loop-first.invariant c.step-first.ensures
+    taken_last c.args.board.now c.loop-first.board c.step-first.new.self A c.step-first.result c.loop-first.invariant
+    c.step-first.ensures
     (λ (goes : GoesOn c.step-first.result). false≢true (sym c.if-not-goes_on.true ∙ c.goes_on.ensures.1 goes))
 
 pub returns-then-not-goes_on-2 : goal.returns-then-not-goes_on-2
 returns-then-not-goes_on-2 c =
     taken_last c.args.board.now c.step-first.new.self c.step-second.new.self B c.step-second.result
-    (taken_more c.args.board.now c.loop-first.board c.step-first.new.self A c.step-first.result c.loop-first.invariant c.step-first.ensures (c.goes_on.ensures.0 c.if-not-goes_on.false))
+    (taken_more c.args.board.now c.loop-first.board c.step-first.new.self A c.step-first.result c.loop-first.invariant
+    c.step-first.ensures (c.goes_on.ensures.0 c.if-not-goes_on.false))
     c.step-second.ensures
-    (λ (goes : GoesOn c.step-second.result). false≢true (sym c.if-not-goes_on-2.true ∙ c.goes_on-in-loop-first.ensures.1 goes))
+    (λ (goes : GoesOn c.step-second.result). false≢true (sym c.if-not-goes_on-2.true
+    ∙ c.goes_on-in-loop-first.ensures.1 goes))
 
 pub loop-first-smaller : goal.loop-first-smaller
 loop-first-smaller c =
-    both_less c.loop-first.board c.step-first.new.self c.step-second.new.self c.step-first.result c.step-second.result c.plan.ensures.sound
-    c.step-first.ensures (c.goes_on.ensures.0 c.if-not-goes_on.false) c.step-second.ensures (c.goes_on-in-loop-first.ensures.0 c.if-not-goes_on-2.false)
+    both_less c.loop-first.board c.step-first.new.self c.step-second.new.self c.step-first.result c.step-second.result
+    c.plan.ensures.sound
+    c.step-first.ensures (c.goes_on.ensures.0 c.if-not-goes_on.false) c.step-second.ensures
+    (c.goes_on-in-loop-first.ensures.0 c.if-not-goes_on-2.false)
 
 pub loop-first-preserved : goal.loop-first-preserved
 loop-first-preserved c =
     taken_more c.args.board.now c.step-first.new.self c.step-second.new.self B c.step-second.result
-    (taken_more c.args.board.now c.loop-first.board c.step-first.new.self A c.step-first.result c.loop-first.invariant c.step-first.ensures (c.goes_on.ensures.0 c.if-not-goes_on.false))
+    (taken_more c.args.board.now c.loop-first.board c.step-first.new.self A c.step-first.result c.loop-first.invariant
+    c.step-first.ensures (c.goes_on.ensures.0 c.if-not-goes_on.false))
     c.step-second.ensures (c.goes_on-in-loop-first.ensures.0 c.if-not-goes_on-2.false)

@@ -19,15 +19,20 @@ returns c = elim c.if-not-branch.branch [
       let left = c.fill.new.board in
       let cleared = w.clear.new.self in
       let last = w.fill-then-not-branch.new.board in
-      let cannot : CannotFill first = if_false (FillsOut first left) (CannotFill first) c.in_ok-fill.field-0 w.if-not-branch.true c.in_ok-fill.ensures.filled in
+      let cannot : CannotFill first = if_false (FillsOut first left) (CannotFill first) c.in_ok-fill.field-0
+      w.if-not-branch.true c.in_ok-fill.ensures.filled in
       let empty : IsCleared left cleared = w.clear.ensures in
-      let found : w.in_ok-fill-2.field-0 ≡ true = w.in_ok-fill-2.ensures.from_nothing (empty.empty.spots ∙ sym (ap nothing_of empty.empty.plan_is)) in
-      let out : FillsOut cleared last = if_true (FillsOut cleared last) (CannotFill cleared) w.in_ok-fill-2.field-0 found w.in_ok-fill-2.ensures.filled in
+      let found : w.in_ok-fill-2.field-0 ≡ true = w.in_ok-fill-2.ensures.from_nothing (empty.empty.spots
+      ∙ sym (ap nothing_of empty.empty.plan_is)) in
+      let out : FillsOut cleared last = if_true (FillsOut cleared last) (CannotFill cleared) w.in_ok-fill-2.field-0
+      found w.in_ok-fill-2.ensures.filled in
       rw w.board-is
-      (finished_anew c.args.board c.args.plan.now first c.in_ok-board.ensures left cleared last cannot c.fill.ensures.plan c.fill.ensures.budget empty out)
+      (finished_anew c.args.board c.args.plan.now first c.in_ok-board.ensures left cleared last cannot
+      c.fill.ensures.plan c.fill.ensures.budget empty out)
   | else-not-branch w ↦
       let first = c.in_ok-board.board in
       let left = c.fill.new.board in
-      let out : FillsOut first left = if_true (FillsOut first left) (CannotFill first) c.in_ok-fill.field-0 w.if-not-branch.false c.in_ok-fill.ensures.filled in
+      let out : FillsOut first left = if_true (FillsOut first left) (CannotFill first) c.in_ok-fill.field-0
+      w.if-not-branch.false c.in_ok-fill.ensures.filled in
       rw w.board-is (finished_kept c.args.board c.args.plan.now first c.in_ok-board.ensures left out)
 ]

@@ -10,6 +10,7 @@ returns g c =
     let given_is : c.in_ok-given.given ≡ c.args.plan = c.in_ok-given.ensures in
     record {
       plan_is = c.in_ok-board.ensures.plan_is ∙ given_is;
-      complete = subst (λ (plan : Serial). IsComplete (insns_of plan) board.spots) given_is c.in_ok-board.ensures.complete;
+      complete = subst (λ (plan : Serial). IsComplete (insns_of plan) board.spots) given_is
+          c.in_ok-board.ensures.complete;
       sound = c.plan-2.ensures.sound;
     }

@@ -7,5 +7,6 @@ use Rattle.c62_adopt_cut.proofs.draft.Drafts.is_done.Goals as goal
 
 pub returns : goal.returns
 returns c =
-    c.is_given.ensures ∙ ap (list_any (λ (draft : DraftRead). label_is c.args.label.now draft.label)) c.deref.ensures.value
+    c.is_given.ensures ∙ ap (list_any (λ (draft : DraftRead). label_is c.args.label.now draft.label))
+    c.deref.ensures.value
     ∙ sym (any_draft c.args.label.now c.args.self.now.done.items)

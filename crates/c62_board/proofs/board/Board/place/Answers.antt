@@ -4,4 +4,5 @@ use Rattle.c62_board.proofs.Journals.{gains_adds}
 use Rattle.c62_board.proofs.board.Board.place.Goals as goal
 
 pub returns-clause-placed : goal.returns-clause-placed
-returns-clause-placed c = gains_adds c.args.self.now c.make_room.new.self c.put.new.self 1 (Place c.args.i c.in-Some.spot c.args.who ∷ []) c.in-Ok.ensures.room c.put.ensures
+returns-clause-placed c = gains_adds c.args.self.now c.make_room.new.self c.put.new.self 1
+    (Place c.args.i c.in-Some.spot c.args.who ∷ []) c.in-Ok.ensures.room c.put.ensures

@@ -13,7 +13,8 @@ invariant_of-self c =
     let b = c.self.inside in
     let ready : IsReadyNow (state_of b) c.args.i = rw (← c.self.view_is) at c.requires.ready in
     let least : IsLeastNow (state_of b) c.args.i c.args.spot = rw (← c.self.view_is) at c.requires.least in
-    let may : PermitsPlace (insns_of b.sheet.plan) b.sheet.spots c.args.i c.args.spot = record { within = ready.within; ready = ready.ready; least = least } in
+    let may : PermitsPlace (insns_of b.sheet.plan) b.sheet.spots c.args.i c.args.spot = record
+    { within = ready.within; ready = ready.ready; least = least } in
     sound_after (state_of b) _ (Place c.args.i c.args.spot c.args.who ∷ []) c.self.invariant
     (may, tt)
     (record {

@@ -13,12 +13,23 @@ use Rattle.c62_board.proofs.board.Board.withdraw_marked.Goals as goal
 -- what was taken out was added to the journal
 adds : (c : goal.After-take_out_marked)
     → Adds (state_of c.self.inside) c.take_out_marked.ensures.entries
-    (state_of (record { sheet = c.take_out_marked.new.sheet; journal = c.take_out_marked.new.journal; budget = c.self.inside.budget }))
+    (state_of (record {
+      sheet = c.take_out_marked.new.sheet;
+      journal = c.take_out_marked.new.journal;
+      budget =
+          c.self.inside.budget;
+    }))
 adds c =
     let b = c.self.inside in
     let t = c.take_out_marked.ensures in
     let len : vec_len c.take_out_marked.new.journal ≡ vec_len b.journal + length t.entries =
-    omega (arith, ap (length {A = Entry}) t.journal_is, length-append b.journal.items t.entries, c.take_out_marked.new.journal.ok.0, b.journal.ok.0) in
+    omega (
+      arith,
+      ap (length {A = Entry}) t.journal_is,
+      length-append b.journal.items t.entries,
+      c.take_out_marked.new.journal.ok.0,
+      b.journal.ok.0,
+    ) in
     record {
       plan = t.plan;
       spots = t.spots;
@@ -28,8 +39,14 @@ adds c =
     }
 
 stays_sound : (c : goal.After-take_out_marked)
-    → IsSound (state_of (record { sheet = c.take_out_marked.new.sheet; journal = c.take_out_marked.new.journal; budget = c.self.inside.budget }))
-stays_sound c = sound_after (state_of c.self.inside) _ c.take_out_marked.ensures.entries c.self.invariant c.take_out_marked.ensures.legal (adds c)
+    → IsSound (state_of (record {
+      sheet = c.take_out_marked.new.sheet;
+      journal = c.take_out_marked.new.journal;
+      budget =
+          c.self.inside.budget;
+    }))
+stays_sound c = sound_after (state_of c.self.inside) _ c.take_out_marked.ensures.entries c.self.invariant
+    c.take_out_marked.ensures.legal (adds c)
 
 pub invariant_of-self : goal.invariant_of-self
 invariant_of-self c = stays_sound c
@@ -43,8 +60,10 @@ returns-clause-withdrawn c =
     let t = c.take_out_marked.ensures in
     let block = insns_of b.sheet.plan in
     let all = many_insns b.sheet.plan.insns in
-    let marked : Marks block (GoesWith block b.sheet.spots c.args.i) c.args.marks.now = rw (← c.self.view_is) at c.requires.marked in
-    let long = withdrawn_many block b.sheet.spots c.args.i c.args.who (length block) c.args.marks.now t.entries (omega arith) marked t.withdraws in
+    let marked : Marks block (GoesWith block b.sheet.spots c.args.i) c.args.marks.now = rw (← c.self.view_is) at
+    c.requires.marked in
+    let long = withdrawn_many block b.sheet.spots c.args.i c.args.who (length block) c.args.marks.now t.entries
+    (omega arith) marked t.withdraws in
     rw (← c.self.view_is)
     (record {
       entries = t.entries;

@@ -1,4 +1,5 @@
-use Rattle.c62_depend.proofs.Common.{arith, ◌≡◌, ◌<◌, ◌+◌, ◌*◌, ◌^◌, ◌%◌, length, refl, sym, slice_index, trailing_zeros}
+use Rattle.c62_depend.proofs.Common.{arith, ◌≡◌, ◌<◌, ◌+◌, ◌*◌, ◌^◌, ◌%◌, length, refl, sym, slice_index}
+use Rattle.c62_depend.proofs.Common.{trailing_zeros}
 use Rattle.std.proofs.Common.{rules, ◌/◌, w64}
 use Rattle.c62_depend.proofs.NumberSets.{lowest_from, place_within, next_is, none_to, none_further, none_behind}
 use Rattle.c62_depend.proofs.number_set.NumberSet.next.Goals as goal
@@ -24,9 +25,11 @@ loop-at-preserved c =
     let behind = c.loop-at.invariant.behind in
     record {
       behind = omega arith;
-      none = none_further c.args.self.words c.args.from c.loop-at.at c.loop-at.invariant.none (omega (arith, c.if-rest-ne0.false));
+      none = none_further c.args.self.words c.args.from c.loop-at.at c.loop-at.invariant.none
+          (omega (arith, c.if-rest-ne0.false));
     }
 
 pub returns : goal.returns
 returns c =
-    none_behind c.args.self.words c.args.from c.loop-at.at (search rules) c.loop-at.invariant.none (omega (arith, c.loop-at-test.false))
+    none_behind c.args.self.words c.args.from c.loop-at.at (search rules) c.loop-at.invariant.none
+    (omega (arith, c.loop-at-test.false))

@@ -15,5 +15,6 @@ returns c =
     let within : c.args.i < length c.self.inside.block.insns = rw c.self.view_is c.requires in
     let many = many_insns c.self.inside.block.insns in
     c.as_slice.ensures
-    ∙ list_is _ _ c.args.i c.self.inside.tables.followers.items c.index.result.now c.self.invariant.followers (omega arith) c.index.ensures
+    ∙ list_is _ _ c.args.i c.self.inside.tables.followers.items c.index.result.now c.self.invariant.followers
+    (omega arith) c.index.ensures
     ∙ ap (λ (b : Serial). direct_followers (insns_of b) c.args.i) c.self.view_is

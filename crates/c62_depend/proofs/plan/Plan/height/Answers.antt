@@ -13,5 +13,6 @@ pub returns : goal.returns
 returns c =
     let within : c.args.i < length c.self.inside.block.insns = rw c.self.view_is c.requires in
     let many = many_insns c.self.inside.block.insns in
-    list_at _ _ c.args.i c.self.inside.tables.heights.items c.index.result.now c.self.invariant.heights (omega arith) c.index.ensures
+    list_at _ _ c.args.i c.self.inside.tables.heights.items c.index.result.now c.self.invariant.heights (omega arith)
+    c.index.ensures
     ∙ ap (λ (b : Serial). height (insns_of b) c.args.i) c.self.view_is

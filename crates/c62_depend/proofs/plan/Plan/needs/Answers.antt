@@ -15,5 +15,6 @@ returns c =
     let within : c.args.j < length c.self.inside.block.insns = rw c.self.view_is c.requires in
     let many = many_insns c.self.inside.block.insns in
     c.as_slice.ensures
-    ∙ list_is _ _ c.args.j c.self.inside.tables.needs.items c.index.result.now c.self.invariant.needs (omega arith) c.index.ensures
+    ∙ list_is _ _ c.args.j c.self.inside.tables.needs.items c.index.result.now c.self.invariant.needs (omega arith)
+    c.index.ensures
     ∙ ap (λ (b : Serial). direct_needs (insns_of b) c.args.j) c.self.view_is

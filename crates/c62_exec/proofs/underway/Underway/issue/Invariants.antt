@@ -6,7 +6,8 @@ use Rattle.c62_exec.proofs.underway.Underway.issue.Given as goal
 
 abbrev pub invariant-loop-rest : goal.invariant-loop-rest
 invariant-loop-rest l = record {
-  issued : issue_all l.cycle (issuing l.self.pipe l.state.machine l.taken) l.rest ≡ issue_all l.cycle (issuing l.fn.self.pipe l.fn.state.machine Nothing) l.insns;
+  issued : issue_all l.cycle (issuing l.self.pipe l.state.machine l.taken) l.rest ≡ issue_all l.cycle
+      (issuing l.fn.self.pipe l.fn.state.machine Nothing) l.insns;
   fit : Fit l.cycle l.rest l.self.pipe l.state.machine;
   room : length l.rest ≤ l.state.room;
   turns : l.self.turns ≡ l.fn.self.turns;

@@ -10,6 +10,8 @@ pub loop-unit-preserved : goal.loop-unit-preserved
 loop-unit-preserved c =
     let at = c.loop-unit in
     let grid = c.args.self.now in
-    let found = ap (λ (standing : Option Placed). string_bytes at.row ++ cell grid.widths grid.path.now standing) c.standing.ensures in
-    one_element (λ unit. cell grid.widths grid.path.now (find (is_on unit) c.args.issued.now)) all_units at.unit-index _ (string_bytes at.row)
+    let found = ap (λ (standing : Option Placed). string_bytes at.row ++ cell grid.widths grid.path.now standing)
+    c.standing.ensures in
+    one_element (λ unit. cell grid.widths grid.path.now (find (is_on unit) c.args.issued.now)) all_units at.unit-index _
+    (string_bytes at.row)
     (string_bytes c.push_cell.new.row) _ c.loop-unit-test.true at.invariant (c.in_ok-push_cell.ensures ∙ found)

@@ -7,5 +7,6 @@ use Rattle.c62_grid.proofs.grid.Grid.push_cells.Given as goal
 
 abbrev pub invariant-loop-unit : goal.invariant-loop-unit
 invariant-loop-unit l =
-    string_bytes l.row ++ flat_map (λ unit. cell l.self.widths l.self.path.now (find (is_on unit) l.issued)) (drop l.unit-index all_units)
+    string_bytes l.row ++ flat_map (λ unit. cell l.self.widths l.self.path.now (find (is_on unit) l.issued))
+    (drop l.unit-index all_units)
     ≡ string_bytes l.fn.row ++ cells l.self.widths l.self.path.now l.issued

@@ -7,5 +7,6 @@ pub loop-cycle-preserved : goal.loop-cycle-preserved
 loop-cycle-preserved c =
     let at = c.loop-cycle in
     let grid = c.args.self.now in
-    one_more (row_at grid.widths grid.path.now grid.cycles grid.placed.now) at.cycle grid.cycles (string_bytes at.out) (string_bytes c.push_row.new.out) _
+    one_more (row_at grid.widths grid.path.now grid.cycles grid.placed.now) at.cycle grid.cycles (string_bytes at.out)
+    (string_bytes c.push_row.new.out) _
     c.loop-cycle-test.true at.invariant c.in_ok-push_row.ensures

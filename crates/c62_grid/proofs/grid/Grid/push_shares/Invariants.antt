@@ -7,5 +7,6 @@ use Rattle.c62_grid.proofs.grid.Grid.push_shares.Given as goal
 
 abbrev pub invariant-loop-unit : goal.invariant-loop-unit
 invariant-loop-unit l =
-    string_bytes l.row ++ flat_map (use_cell l.self.widths l.self.cycles l.self.placed.now) (drop l.unit-index all_units)
+    string_bytes l.row ++ flat_map (use_cell l.self.widths l.self.cycles l.self.placed.now)
+    (drop l.unit-index all_units)
     ≡ string_bytes l.fn.row ++ use_cells l.self.widths l.self.cycles l.self.placed.now

@@ -7,4 +7,5 @@ use Rattle.c62_read.specs.declared.limits.TheConstants.{MOST_BLOCKS}
 pub invariant_of-self : goal.invariant_of-self
 invariant_of-self c =
     let few : length c.self.inside.blocks.items < MOST_BLOCKS = rw c.self.view_is c.requires in
-    pushed-blocks (is_ok c.push.result) c.self.inside.blocks.items c.push.new.self.items c.args.block few c.self.invariant c.length.ensures.sound c.push.ensures.items
+    pushed-blocks (is_ok c.push.result) c.self.inside.blocks.items c.push.new.self.items c.args.block few
+    c.self.invariant c.length.ensures.sound c.push.ensures.items

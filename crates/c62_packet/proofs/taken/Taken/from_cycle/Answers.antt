@@ -3,4 +3,5 @@ use Rattle.c62_packet.proofs.TakenLemmas.{taken-earlier}
 use Rattle.c62_packet.proofs.taken.Taken.from_cycle.Goals as goal
 
 pub returns-clause-taken : goal.returns-clause-taken
-returns-clause-taken c = λ rest. taken-earlier c.args.self.now _ rest (omega (arith, c.requires, c.if-cycle-self.false)) c.new.ensures c.from_earlier.ensures
+returns-clause-taken c = λ rest. taken-earlier c.args.self.now _ rest (omega (arith, c.requires, c.if-cycle-self.false))
+    c.new.ensures c.from_earlier.ensures

@@ -12,31 +12,48 @@ use Rattle.c62_pipe.proofs.pipe.Pipe.issue.Goals as goal
 
 pub schedule-requires-clause-room : goal.schedule-requires-clause-room
 schedule-requires-clause-room c =
-    let running : runs (word_in c.args.state.now.machine) c.args.placed.now.insn ≡ true = rw c.registers.ensures at (sym c.in_ok-reg.ensures.runs) in
-    let did = act_of-action c.args.placed.now.insn c.args.state.now.machine c.registers.result.now (Write c.in-Write.reg c.in-Write.word) c.registers.ensures running
+    let running : runs (word_in c.args.state.now.machine) c.args.placed.now.insn ≡ true = rw c.registers.ensures at
+    (sym c.in_ok-reg.ensures.runs) in
+    let did = act_of-action c.args.placed.now.insn c.args.state.now.machine c.registers.result.now
+    (Write c.in-Write.reg c.in-Write.word) c.registers.ensures running
     (rw c.in-Write.is at c.in_ok-reg.ensures.action) in
-    let fits : FitsSlots (with_writes c.args.cycle c.args.placed.now.line (((c.in-Write.reg, delay_of (op_of c.args.placed.now.insn)), c.in-Write.word) ∷ []) c.args.self.now.slots)
-    = subst (λ (act : Act). FitsSlots (with_writes c.args.cycle c.args.placed.now.line act.writes c.args.self.now.slots)) did c.requires.fits in
-    let same : c.args.self.now.slots ≡ c.self.inside.ring = sym (ap (λ (flight : Flight). flight.slots) c.self.view_is) in
-    rw c.delay.ensures (room_for c.args.cycle c.args.placed.now.line ((c.in-Write.reg, delay_of (op_of c.args.placed.now.insn)), c.in-Write.word) [] c.self.inside.ring (rw same at fits))
+    let fits : FitsSlots (with_writes c.args.cycle c.args.placed.now.line
+    (((c.in-Write.reg, delay_of (op_of c.args.placed.now.insn)), c.in-Write.word) ∷ []) c.args.self.now.slots)
+    = subst (λ (act : Act). FitsSlots
+    (with_writes c.args.cycle c.args.placed.now.line act.writes c.args.self.now.slots)) did c.requires.fits in
+    let same : c.args.self.now.slots ≡ c.self.inside.ring = sym (ap (λ (flight : Flight). flight.slots) c.self.view_is)
+    in
+    rw c.delay.ensures (room_for c.args.cycle c.args.placed.now.line
+    ((c.in-Write.reg, delay_of (op_of c.args.placed.now.insn)), c.in-Write.word) [] c.self.inside.ring
+    (rw same at fits))
 
 pub transfer-requires-clause-fits : goal.transfer-requires-clause-fits
 transfer-requires-clause-fits c =
-    let running : runs (word_in c.args.state.now.machine) c.args.placed.now.insn ≡ true = rw c.registers.ensures at (sym c.in_ok-reg.ensures.runs) in
-    let did = act_of-action c.args.placed.now.insn c.args.state.now.machine c.registers.result.now (Transfers c.in-Transfer.transfer) c.registers.ensures running
+    let running : runs (word_in c.args.state.now.machine) c.args.placed.now.insn ≡ true = rw c.registers.ensures at
+    (sym c.in_ok-reg.ensures.runs) in
+    let did = act_of-action c.args.placed.now.insn c.args.state.now.machine c.registers.result.now
+    (Transfers c.in-Transfer.transfer) c.registers.ensures running
     (rw c.in-Transfer.is at c.in_ok-reg.ensures.action) in
-    subst (λ (act : Act). FitsSlots (with_writes c.args.cycle c.args.placed.now.line act.writes c.args.self.now.slots)) did c.requires.fits
+    subst (λ (act : Act). FitsSlots (with_writes c.args.cycle c.args.placed.now.line act.writes c.args.self.now.slots))
+    did c.requires.fits
 
 pub returns-in-Transfer-clause-machine : goal.returns-in-Transfer-clause-machine
 returns-in-Transfer-clause-machine c =
-    let running : runs (word_in c.args.state.now.machine) c.args.placed.now.insn ≡ true = rw c.registers.ensures at (sym c.in_ok-reg.ensures.runs) in
-    let did = act_of-action c.args.placed.now.insn c.args.state.now.machine c.registers.result.now (Transfers c.in-Transfer.transfer) c.registers.ensures running
+    let running : runs (word_in c.args.state.now.machine) c.args.placed.now.insn ≡ true = rw c.registers.ensures at
+    (sym c.in_ok-reg.ensures.runs) in
+    let did = act_of-action c.args.placed.now.insn c.args.state.now.machine c.registers.result.now
+    (Transfers c.in-Transfer.transfer) c.registers.ensures running
     (rw c.in-Transfer.is at c.in_ok-reg.ensures.action) in
-    c.transfer.ensures.machine ∙ ap (λ (act : Act). with_fault_if c.args.placed.now.line (is_fault act.access) c.args.state.now.machine) (sym did)
+    c.transfer.ensures.machine
+    ∙ ap (λ (act : Act). with_fault_if c.args.placed.now.line (is_fault act.access) c.args.state.now.machine)
+    (sym did)
 
 pub returns-in-Transfer-clause-flight : goal.returns-in-Transfer-clause-flight
 returns-in-Transfer-clause-flight c =
-    let running : runs (word_in c.args.state.now.machine) c.args.placed.now.insn ≡ true = rw c.registers.ensures at (sym c.in_ok-reg.ensures.runs) in
-    let did = act_of-action c.args.placed.now.insn c.args.state.now.machine c.registers.result.now (Transfers c.in-Transfer.transfer) c.registers.ensures running
+    let running : runs (word_in c.args.state.now.machine) c.args.placed.now.insn ≡ true = rw c.registers.ensures at
+    (sym c.in_ok-reg.ensures.runs) in
+    let did = act_of-action c.args.placed.now.insn c.args.state.now.machine c.registers.result.now
+    (Transfers c.in-Transfer.transfer) c.registers.ensures running
     (rw c.in-Transfer.is at c.in_ok-reg.ensures.action) in
-    c.transfer.ensures.flight ∙ ap (λ (act : Act). issued c.args.cycle c.args.placed.now.line act c.args.self.now) (sym did)
+    c.transfer.ensures.flight
+    ∙ ap (λ (act : Act). issued c.args.cycle c.args.placed.now.line act c.args.self.now) (sym did)

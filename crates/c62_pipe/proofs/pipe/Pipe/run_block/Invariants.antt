@@ -23,7 +23,8 @@ decreases-loop-cycle l = l.start - l.cycle
 -- up to the end of the block
 abbrev pub invariant-loop-cycle-2 : goal.invariant-loop-cycle-2
 invariant-loop-cycle-2 l = record {
-  running : Running l.block.placed l.fn.state.machine l.cycle (length l.block.placed) l.self l.state.machine l.exit l.state.room;
+  running : Running l.block.placed l.fn.state.machine l.cycle (length l.block.placed) l.self l.state.machine l.exit
+      l.state.room;
   within : l.cycle ≤ l.length;
   stored : (l.self.stores ≡ []) ⊎ (l.cycle < l.length);
 }

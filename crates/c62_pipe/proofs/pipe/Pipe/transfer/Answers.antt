@@ -21,41 +21,62 @@ pairs op base loads word = zip (base_writes base ++ load_writes op loads) (base_
 abbrev with_base : ℕ → ℕ → Option (Reg × ℕ) → List Slot → List Slot
 with_base cycle line base slots = with_writes cycle line (zip (base_writes base) (base_values base)) slots
 
-room_for_base : (cycle line : ℕ) (op : Op) (base : Option (Reg × ℕ)) (reg : Reg) (value : ℕ) (loads : Option Reg) (word : Option ℕ) (slots : List Slot) → base ≡ Some (reg, value)
+room_for_base : (cycle line : ℕ) (op : Op) (base : Option (Reg × ℕ)) (reg : Reg) (value : ℕ) (loads : Option Reg)
+    (word : Option ℕ) (slots : List Slot) → base ≡ Some (reg, value)
     → FitsSlots (with_writes cycle line (pairs op base loads word) slots) → length (due slots (cycle + 0)) < 40
 room_for_base cycle line op base reg value loads word slots e fits =
-    room_for cycle line ((reg, 0), value) (zip (load_writes op loads) (option_to_list word)) slots (subst (λ b. FitsSlots (with_writes cycle line (pairs op b loads word) slots)) e fits)
+    room_for cycle line ((reg, 0), value) (zip (load_writes op loads) (option_to_list word)) slots
+    (subst (λ b. FitsSlots (with_writes cycle line (pairs op b loads word) slots)) e fits)
 
-room_for_load : (cycle line : ℕ) (op : Op) (base : Option (Reg × ℕ)) (loads : Option Reg) (word : Option ℕ) (reg : Reg) (value : ℕ) (slots : List Slot) → loads ≡ Some reg → word ≡ Some value
-    → FitsSlots (with_writes cycle line (pairs op base loads word) slots) → length (due (with_base cycle line base slots) (cycle + delay_of op)) < 40
+room_for_load : (cycle line : ℕ) (op : Op) (base : Option (Reg × ℕ)) (loads : Option Reg) (word : Option ℕ) (reg : Reg)
+    (value : ℕ) (slots : List Slot) → loads ≡ Some reg → word ≡ Some value
+    → FitsSlots (with_writes cycle line (pairs op base loads word) slots)
+    → length (due (with_base cycle line base slots) (cycle + delay_of op)) < 40
 room_for_load cycle line op base loads word reg value slots e f fits =
-    of_base base (subst (λ l. FitsSlots (with_writes cycle line (pairs op base l (Some value)) slots)) e (subst (λ w. FitsSlots (with_writes cycle line (pairs op base loads w) slots)) f fits))
+    of_base base (subst (λ l. FitsSlots (with_writes cycle line (pairs op base l (Some value)) slots)) e
+    (subst (λ w. FitsSlots (with_writes cycle line (pairs op base loads w) slots)) f fits))
   where
-    of_base : (base : Option (Reg × ℕ)) → FitsSlots (with_writes cycle line (pairs op base (Some reg) (Some value)) slots) → length (due (with_base cycle line base slots) (cycle + delay_of op)) < 40
+    of_base : (base : Option (Reg × ℕ))
+        → FitsSlots (with_writes cycle line (pairs op base (Some reg) (Some value)) slots)
+        → length (due (with_base cycle line base slots) (cycle + delay_of op)) < 40
     of_base None h = room_for cycle line ((reg, delay_of op), value) [] slots h
-    of_base (Some b) h = room_for cycle line ((reg, delay_of op), value) [] (with_write cycle line slots ((b.0, 0), b.1)) h
+    of_base (Some b) h = room_for cycle line ((reg, delay_of op), value) []
+        (with_write cycle line slots ((b.0, 0), b.1)) h
 
 pub schedule-requires-clause-room : goal.schedule-requires-clause-room
 schedule-requires-clause-room c =
-    let same : c.args.self.now.slots ≡ c.self.inside.ring = sym (ap (λ (flight : Flight). flight.slots) c.self.view_is ∙ ap (λ (flight : Flight). flight.slots) c.access-loaded.ensures.flight) in
+    let same : c.args.self.now.slots ≡ c.self.inside.ring = sym (ap (λ (flight : Flight). flight.slots) c.self.view_is
+    ∙ ap (λ (flight : Flight). flight.slots) c.access-loaded.ensures.flight) in
     subst (λ slots. length (due slots (c.args.cycle + 0)) < 40) same
-    (room_for_base c.args.cycle c.args.placed.now.line (op_of c.args.placed.now.insn) c.args.transfer.base c.in-Some.base c.in-Some.word c.args.transfer.loads
-    (loaded (byte_in c.args.state.now.machine) (op_of c.args.placed.now.insn) (Some c.args.transfer.access)) c.args.self.now.slots c.in-Some.is c.requires.fits)
+    (room_for_base c.args.cycle c.args.placed.now.line (op_of c.args.placed.now.insn) c.args.transfer.base
+    c.in-Some.base c.in-Some.word c.args.transfer.loads
+    (loaded (byte_in c.args.state.now.machine) (op_of c.args.placed.now.insn) (Some c.args.transfer.access))
+    c.args.self.now.slots c.in-Some.is c.requires.fits)
 
-ring : (c : goal.After-delay) → c.match-transfer.self-inside.ring ≡ with_base c.args.cycle c.args.placed.now.line c.args.transfer.base c.args.self.now.slots
+ring : (c : goal.After-delay)
+    → c.match-transfer.self-inside.ring ≡ with_base c.args.cycle c.args.placed.now.line c.args.transfer.base
+    c.args.self.now.slots
 ring c =
-    let same : c.self.inside.ring ≡ c.args.self.now.slots = ap (λ (flight : Flight). flight.slots) c.self.view_is ∙ ap (λ (flight : Flight). flight.slots) c.access-loaded.ensures.flight in
+    let same : c.self.inside.ring ≡ c.args.self.now.slots = ap (λ (flight : Flight). flight.slots) c.self.view_is
+    ∙ ap (λ (flight : Flight). flight.slots) c.access-loaded.ensures.flight in
     elim c.match-transfer.branch [
       | in-Some w ↦
-          ap (λ inside. inside.ring) w.self-inside-is ∙ w.schedule.ensures ∙ ap (λ slots. with_write c.args.cycle c.args.placed.now.line slots ((w.in-Some.base, 0), w.in-Some.word)) same
+          ap (λ inside. inside.ring) w.self-inside-is ∙ w.schedule.ensures
+          ∙ ap (λ slots. with_write c.args.cycle c.args.placed.now.line slots
+          ((w.in-Some.base, 0), w.in-Some.word)) same
           ∙ ap (λ base. with_base c.args.cycle c.args.placed.now.line base c.args.self.now.slots) (sym w.in-Some.is)
-      | in_default w ↦ ap (λ inside. inside.ring) w.self-inside-is ∙ same ∙ ap (λ base. with_base c.args.cycle c.args.placed.now.line base c.args.self.now.slots) (sym w.in_default.is)
+      | in_default w ↦ ap (λ inside. inside.ring) w.self-inside-is ∙ same
+          ∙ ap (λ base. with_base c.args.cycle c.args.placed.now.line base c.args.self.now.slots)
+          (sym w.in_default.is)
     ]
 
 pub schedule-requires-2-clause-room : goal.schedule-requires-2-clause-room
 schedule-requires-2-clause-room c =
-    let fit : length (due (with_base c.args.cycle c.args.placed.now.line c.args.transfer.base c.args.self.now.slots) (c.args.cycle + delay_of (op_of c.args.placed.now.insn))) < 40
-    = room_for_load c.args.cycle c.args.placed.now.line (op_of c.args.placed.now.insn) c.args.transfer.base c.args.transfer.loads
-    (loaded (byte_in c.args.state.now.machine) (op_of c.args.placed.now.insn) (Some c.args.transfer.access)) c.in-Some-loads.reg c.in-Some-loaded.word c.args.self.now.slots c.in-Some-loads.is
+    let fit : length (due (with_base c.args.cycle c.args.placed.now.line c.args.transfer.base c.args.self.now.slots)
+    (c.args.cycle + delay_of (op_of c.args.placed.now.insn))) < 40
+    = room_for_load c.args.cycle c.args.placed.now.line (op_of c.args.placed.now.insn) c.args.transfer.base
+    c.args.transfer.loads
+    (loaded (byte_in c.args.state.now.machine) (op_of c.args.placed.now.insn) (Some c.args.transfer.access))
+    c.in-Some-loads.reg c.in-Some-loaded.word c.args.self.now.slots c.in-Some-loads.is
     (sym c.access-loaded.ensures.loaded ∙ c.in-Some-loaded.is) c.requires.fits in
     rw (ring c, c.delay.ensures) fit

@@ -1,6 +1,5 @@
-use Rattle.std.proofs.Common.{arith, ◌≡◌, ◌+◌, min}
-use Rattle.c62_row.specs.Row.{row_at, uses_at}
-use Rattle.c62_row.proofs.Words.{no-carry, by-words, at-first, at-second, at-third}
+use Rattle.std.proofs.Common.{arith}
+use Rattle.c62_row.proofs.Words.{no-carry}
 use Rattle.c62_row.proofs.row.Row.add.Goals as goal
 
 pub sum-requires : goal.sum-requires

@@ -16,7 +16,8 @@ returns c =
     let row = c.args.self.now in
     let uses = c.args.uses.now in (
       (λ h. (let clear = c.are_clear.ensures.0 h in
-          fits-of row uses c.sum.result c.sum-2.result c.sum-3.result c.sum.ensures c.sum-2.ensures c.sum-3.ensures clear.0 clear.1 clear.2)),
+          fits-of row uses c.sum.result c.sum-2.result c.sum-3.result c.sum.ensures c.sum-2.ensures c.sum-3.ensures
+          clear.0 clear.1 clear.2)),
       (λ fits. c.are_clear.ensures.1 (
         word-clear 0 row uses c.sum.result (omega arith) c.sum.ensures fits,
         word-clear 1 row uses c.sum-2.result (omega arith) c.sum-2.ensures fits,

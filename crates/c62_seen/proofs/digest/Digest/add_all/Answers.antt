@@ -12,9 +12,11 @@ loop-value-init g c = grind arith
 
 pub loop-value-preserved : goal.loop-value-preserved
 loop-value-preserved g c =
-    let here : drop c.loop-value.value-index c.args.values.now ≡ c.value-item.result ∷ drop (c.loop-value.value-index + 1) c.args.values.now =
+    let here : drop c.loop-value.value-index c.args.values.now ≡ c.value-item.result ∷ drop
+    (c.loop-value.value-index + 1) c.args.values.now =
     grind (arith, drop_more) in
-    let more = with_value g.T.Seen.shown c.value-item.result (drop (c.loop-value.value-index + 1) c.args.values.now) (drop c.loop-value.value-index c.args.values.now) c.loop-value.self.sum here in
+    let more = with_value g.T.Seen.shown c.value-item.result (drop (c.loop-value.value-index + 1) c.args.values.now)
+    (drop c.loop-value.value-index c.args.values.now) c.loop-value.self.sum here in
     grind arith
 
 pub returns : goal.returns

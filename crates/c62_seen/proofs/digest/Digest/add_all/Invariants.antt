@@ -7,4 +7,5 @@ use Rattle.c62_seen.proofs.digest.Digest.add_all.Given as goal
 -- with what is left, the sum is that of all
 abbrev pub invariant-loop-value : goal.invariant-loop-value
 invariant-loop-value g l =
-    with_numbers l.self.sum (flat_map g.T.Seen.shown (drop l.value-index l.values)) ≡ with_numbers l.fn.self.sum (of_list g.T.Seen.shown l.values)
+    with_numbers l.self.sum (flat_map g.T.Seen.shown (drop l.value-index l.values)) ≡ with_numbers l.fn.self.sum
+    (of_list g.T.Seen.shown l.values)

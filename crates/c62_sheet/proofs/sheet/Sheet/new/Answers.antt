@@ -21,7 +21,9 @@ invariant_of-result c =
       known = c.len.ensures.sound;
       lawful = rw is (lawful_empty (insns_of c.args.plan));
       index = rw is c.in-Ok-all_missing.ensures;
-      early = rw (is, zeros) (early-nothings (insns_of c.args.plan) c.from-2.result (omega (arith, c.from-2.ensures, c.len-2.ensures.len, many_insns)));
+      early = rw (is, zeros)
+          (early-nothings (insns_of c.args.plan) c.from-2.result
+          (omega (arith, c.from-2.ensures, c.len-2.ensures.len, many_insns)));
       ready = rw c.deref.ensures.value at c.add_all.ensures;
       standing = rw is c.in-Ok-none_standing.ensures;
       rows = rw is c.in-Ok-all_rows.ensures;

@@ -1,4 +1,5 @@
-use Rattle.c62_token.proofs.Common.{length, arith, sym, ap, ◌∙◌, length-append, length-map, eqb-true, tokens, words_left, kinds_of}
+use Rattle.c62_token.proofs.Common.{length, arith, sym, ap, ◌∙◌, length-append, length-map, eqb-true, tokens}
+use Rattle.c62_token.proofs.Common.{words_left, kinds_of}
 use Rattle.c62_token.specs.Kind.{kind_of}
 use Rattle.c62_token.proofs.token.Tokens.add_kinds.Goals as goal
 
