@@ -54,7 +54,7 @@ same_blocks [] (b ∷ others) e = absurd cc
 same_blocks (a ∷ program) [] e = absurd cc
 same_blocks (a ∷ program) (b ∷ others) e = grind (arith, same_block a b, same_blocks program others)
 
-one_program : (text : List ℕ) (program others : List Serial) → SaysProgram text program → SaysProgram text others
+pub one_program : (text : List ℕ) (program others : List Serial) → SaysProgram text program → SaysProgram text others
     → program ≡ others
 one_program text program others one other =
     let both : ◌≡◌ {A = Result (List BlockParts) Refusal} (Ok (map block_parts program)) (Ok (map block_parts others)) =

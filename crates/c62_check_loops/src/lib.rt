@@ -11,6 +11,7 @@ mod told;
 mod verdict;
 
 pub use granted::first_loopless;
+pub use promised::promise_of;
 pub use told::{LoopsChecked, check_loops};
 
 #[cfg(test)]

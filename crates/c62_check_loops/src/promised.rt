@@ -8,7 +8,7 @@ use c62_pair::RegSet;
 
 /// The promise that accesses from two of these registers never touch one byte in two iterations.
 #[tactic(auto, using(crate::proofs::Granting::among_next))]
-pub(crate) fn promise_of(regs: &[Reg]) -> Promise
+pub fn promise_of(regs: &[Reg]) -> Promise
     ensures { IsPromiseOf regs.now result }
 {
     let mut bases = RegSet::new();
