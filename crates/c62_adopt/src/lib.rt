@@ -9,6 +9,3 @@ mod listed;
 
 pub use adopting::{Adopted, adopt, read_code};
 pub use fault::AdoptFault;
-
-#[cfg(test)]
-mod tests;

@@ -14,6 +14,3 @@ pub use fault::{CodeCause, CodeFault};
 pub use role::{Role, read_role};
 pub use statement::label_in_front;
 pub use way::Way;
-
-#[cfg(test)]
-mod tests;

@@ -13,6 +13,3 @@ pub use draft::{Draft, Issue};
 pub use fault::{TextCause, TextFault};
 pub use flight::{cycles_lacking, first_in_flight};
 pub use text::{Cut, MOST_BYTES, read_cut};
-
-#[cfg(test)]
-mod tests;

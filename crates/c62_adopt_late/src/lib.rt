@@ -6,6 +6,3 @@ mod late;
 pub mod laws;
 
 pub use late::{Late, first_late};
-
-#[cfg(test)]
-mod tests;

@@ -10,6 +10,3 @@ mod plain;
 pub use directive::{lays_nothing, names_section};
 pub use fault::LineFault;
 pub use line::{Written, behind_bars, behind_colon, from_solid, label_of, read_line};
-
-#[cfg(test)]
-mod tests;

@@ -13,6 +13,3 @@ mod sum;
 mod text;
 
 pub use text::spelled_text;
-
-#[cfg(test)]
-mod tests;

@@ -208,6 +208,3 @@ pub fn packet_run(alloc: Global, packets: &Packets, start: &Start) -> Result<Rep
         outcome: Outcome::of_run(start.course.strict, is_limit(chain.stop), state.faults()),
     })
 }
-
-#[cfg(test)]
-mod tests;

@@ -11,6 +11,3 @@ pub use board::Board;
 pub use c62_sheet::{Counts, Entry, Rule, Sheet, Spot, Unlawful, Who};
 pub use fault::{CommitFault, PlaceFault, ReplayFault, WithdrawFault};
 pub use turn::{Proposal, Turn, who_of};
-
-#[cfg(test)]
-mod tests;

@@ -11,6 +11,3 @@ pub use greatest::{bound, waits_for};
 pub use length::least_length;
 pub use need::{KINDS, Kind, Need};
 pub use path::{critical_path, path_length};
-
-#[cfg(test)]
-mod tests;

@@ -12,6 +12,3 @@ pub use checked::{Checked, check};
 pub use early::Early;
 pub use lines::{push_verdict, push_words};
 pub use verdict::{Verdict, check_block};
-
-#[cfg(test)]
-mod tests;

@@ -14,14 +14,3 @@ mod verdict;
 pub use lines::push_loop;
 pub use region::{counter_of, ends_with_branch};
 pub use verdict::{LoopVerdict, check_loop};
-
-#[cfg(test)]
-mod refused_tests;
-#[cfg(test)]
-mod setter_tests;
-#[cfg(test)]
-mod several_tests;
-#[cfg(test)]
-mod tests;
-#[cfg(test)]
-mod turn_tests;

@@ -13,6 +13,3 @@ mod verdict;
 pub use granted::first_loopless;
 pub use promised::promise_of;
 pub use told::{LoopsChecked, check_loops};
-
-#[cfg(test)]
-mod tests;

@@ -12,6 +12,3 @@ mod verdict;
 pub use lines::push_rest;
 pub use starts::{is_row, start_at, starts_of};
 pub use verdict::{RestVerdict, check_rest};
-
-#[cfg(test)]
-mod tests;

@@ -18,6 +18,3 @@ pub use flight::{FlightCourse, FlightStart};
 pub use laws::{prints_are_of_memory, takes_limits};
 pub use promise::{BadPromise, PromiseError, Promises, Trips, read_trips};
 pub use setting::{Dump, Print, Setting, Size, equals_sign, first_part, place_in};
-
-#[cfg(test)]
-mod tests;

@@ -19,6 +19,3 @@ mod tables;
 pub use limits::ISSUE_CYCLES;
 pub use links::{Link, Links};
 pub use plan::Plan;
-
-#[cfg(test)]
-mod tests;

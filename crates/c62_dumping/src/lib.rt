@@ -8,6 +8,3 @@ mod laws;
 pub use counts::counts_asked;
 pub use cutting::{files_of, parted};
 pub use laws::dumps_are_parted;
-
-#[cfg(test)]
-mod tests;

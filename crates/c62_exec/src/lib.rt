@@ -12,6 +12,3 @@ mod underway;
 pub use issuable::is_issuable;
 pub use run::{Flown, fly, fly_counted};
 pub use tally::Count;
-
-#[cfg(test)]
-mod tests;

@@ -15,6 +15,3 @@ pub use lines::{MOST_FAULTS, explain, line_at, lint};
 pub use picture::{push_blanks, push_picture, push_position};
 pub use sentence::sentence as sentence_of;
 pub use topic::page;
-
-#[cfg(test)]
-mod tests;

@@ -13,6 +13,3 @@ pub use finding::{Finding, What, of_adopt, of_listing, of_rows};
 pub use linted::{Linted, lint_listing, lint_packets};
 pub use sharing::lines_sharing;
 pub use told::explain;
-
-#[cfg(test)]
-mod tests;

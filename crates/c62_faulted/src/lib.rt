@@ -9,6 +9,3 @@ mod sentence;
 pub use fault::{Cause, Fault};
 pub use run::faults_of;
 pub use sentence::push_faults;
-
-#[cfg(test)]
-mod tests;

@@ -122,6 +122,3 @@ pub(crate) fn act(registers: &[u32; 32], op: Op, operands: &Operands) -> Action
         Operands::Register(reg) => Action::Branch(Target::Register(word(registers, reg))),
     }
 }
-
-#[cfg(test)]
-mod tests;

@@ -17,6 +17,3 @@ pub use graph::Graph;
 pub use modulo::Modulo;
 pub use search::{Fixed, schedule_of, straight_schedule};
 pub use task::Task;
-
-#[cfg(test)]
-mod tests;

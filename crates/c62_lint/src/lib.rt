@@ -6,6 +6,3 @@ mod laws;
 
 pub use faults::faults_of;
 pub use laws::first_is_the_refusal;
-
-#[cfg(test)]
-mod tests;

@@ -6,6 +6,3 @@ mod writer;
 
 pub use spelling::push_spelling;
 pub use writer::{label_text, list};
-
-#[cfg(test)]
-mod tests;

@@ -13,6 +13,3 @@ mod text;
 
 pub use fault::ListFault;
 pub use reader::{MOST_BYTES, read_listing};
-
-#[cfg(test)]
-mod tests;

@@ -7,6 +7,3 @@ mod lives;
 mod uses;
 
 pub use lives::{Lives, SideLives, lives_of};
-
-#[cfg(test)]
-mod tests;

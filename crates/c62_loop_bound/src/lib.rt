@@ -14,6 +14,3 @@ mod work;
 pub use dependence::Dependence;
 pub use least::least_interval;
 pub use share::Share;
-
-#[cfg(test)]
-mod tests;

@@ -25,6 +25,3 @@ pub use early::Early;
 pub use parts::{Control, Pipelined, Region, Schedule, Stage};
 pub use promise::Promise;
 pub use refusal::{Refusal, refusal_of};
-
-#[cfg(test)]
-mod tests;

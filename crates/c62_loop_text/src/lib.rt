@@ -4,6 +4,3 @@
 mod writer;
 
 pub use writer::push_loop;
-
-#[cfg(test)]
-mod tests;

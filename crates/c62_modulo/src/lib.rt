@@ -10,6 +10,3 @@ mod straight;
 mod timed;
 
 pub use made::{Made, Shortness, Terms, pipelined};
-
-#[cfg(test)]
-mod tests;

@@ -8,6 +8,3 @@ mod packets;
 
 pub use fault::AtFault;
 pub use packets::{packets_at, packets_of, packets_on_either_side, placed_at, placed_of};
-
-#[cfg(test)]
-mod tests;

@@ -20,6 +20,3 @@ pub use order::in_listing_order;
 pub use packets::Packets;
 pub use placed::Placed;
 pub use rules::first_broken;
-
-#[cfg(test)]
-mod tests;

@@ -10,6 +10,3 @@ mod slot;
 pub use chain::run_chain;
 pub use pipe::Pipe;
 pub use slot::Due;
-
-#[cfg(test)]
-mod tests;

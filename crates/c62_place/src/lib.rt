@@ -9,6 +9,3 @@ mod token;
 pub use place::{Place, place_of, token_at};
 pub use shape::{Form, operands_end, takes_form};
 pub use sort::Sort;
-
-#[cfg(test)]
-mod tests;

@@ -6,6 +6,3 @@ mod printing;
 
 pub use dumping::push_dumps;
 pub use printing::push_prints;
-
-#[cfg(test)]
-mod tests;

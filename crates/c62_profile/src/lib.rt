@@ -12,6 +12,3 @@ pub use flights::flight_table;
 pub use packets::{packet_table, run_packets};
 pub use serial::{run_serial, serial_table};
 pub use tally::Tally;
-
-#[cfg(test)]
-mod tests;

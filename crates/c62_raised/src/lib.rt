@@ -11,6 +11,3 @@ mod room;
 pub use crowd::Crowd;
 pub use length::raised_length;
 pub use room::{ROOMS, Room};
-
-#[cfg(test)]
-mod tests;

@@ -11,6 +11,3 @@ mod taken;
 
 pub use fault::ReachFault;
 pub use taken::reached_text;
-
-#[cfg(test)]
-mod tests;

@@ -25,6 +25,3 @@ pub use laws::{
 };
 pub use limits::{MOST_BLOCKS, MOST_BYTES, MOST_INSTRUCTIONS};
 pub use program::{BlockReader, TextReader, first_line, label_is, read_program, without_return};
-
-#[cfg(test)]
-mod tests;

@@ -11,6 +11,3 @@ mod window;
 
 pub use search::{Search, search_for};
 pub use window::Window;
-
-#[cfg(test)]
-mod tests;

@@ -8,6 +8,3 @@ mod report;
 pub use flight::flight_report;
 pub use print::push_print;
 pub use report::{packet_report, serial_report};
-
-#[cfg(test)]
-mod tests;

@@ -5,6 +5,3 @@ pub mod laws;
 mod row;
 
 pub use row::{Row, Uses};
-
-#[cfg(test)]
-mod tests;

@@ -15,6 +15,3 @@ pub use key::Key;
 pub use rows::{Row, Rows};
 pub use text::{Begun, RowsText, read_from, read_rows};
 pub use word::{Said, read_said, undotted};
-
-#[cfg(test)]
-mod tests;

@@ -11,6 +11,3 @@ mod state;
 pub use chain::{Chain, End, run_program};
 pub use serial::{Exit, run_block};
 pub use state::{MEMORY_BYTES, State};
-
-#[cfg(test)]
-mod tests;

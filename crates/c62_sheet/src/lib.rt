@@ -20,6 +20,3 @@ pub use chain::{Chained, led_from};
 pub use entry::{Counts, Entry, Rule, Spot, Unlawful, Who};
 pub use sheet::Sheet;
 pub use whole::{are_lawful, least_in};
-
-#[cfg(test)]
-mod tests;

@@ -11,6 +11,3 @@ mod searched;
 pub use found::shortest;
 pub use schedule::Schedule;
 pub use searched::Shortest;
-
-#[cfg(test)]
-mod tests;

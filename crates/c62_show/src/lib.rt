@@ -13,6 +13,3 @@ pub use alone::summary;
 pub use limits::{Limits, Step, limits_of, limits_with};
 pub use registers::lives_told;
 pub use shown::{Shown, picture};
-
-#[cfg(test)]
-mod tests;

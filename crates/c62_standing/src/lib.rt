@@ -5,6 +5,3 @@
 mod standing;
 
 pub use standing::{Details, shown_as_they_stand};
-
-#[cfg(test)]
-mod tests;

@@ -13,6 +13,3 @@ pub use linted::lint_text;
 pub use settings::setting_taught;
 pub use teaching::{Names, taught};
 pub use words::{Kind, Linting, is_explained, is_lint, linting_of, plain_words};
-
-#[cfg(test)]
-mod tests;

@@ -10,6 +10,3 @@ mod spots;
 pub use list::listed;
 pub use order::{Order, Way};
 pub use spots::spots_in;
-
-#[cfg(test)]
-mod tests;

@@ -5,6 +5,3 @@ mod block;
 mod order;
 
 pub use block::{Unpacked, copied, unpack};
-
-#[cfg(test)]
-mod tests;

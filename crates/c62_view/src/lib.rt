@@ -10,6 +10,3 @@ mod viewer;
 pub use c62_board::{CommitFault, Proposal};
 pub use desk::{Desk, DeskFault, desk_of};
 pub use viewer::{Told, Viewer};
-
-#[cfg(test)]
-mod tests;

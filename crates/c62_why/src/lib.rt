@@ -9,6 +9,3 @@ mod why;
 pub use held::Held;
 pub use taken::Taken;
 pub use why::{Cause, Why, whys_of};
-
-#[cfg(test)]
-mod tests;

@@ -1,0 +1,14 @@
+//! The tests of the board, and of what packs and shows.
+
+#![tactic(auto)]
+
+#[cfg(test)]
+mod board;
+#[cfg(test)]
+mod pack;
+#[cfg(test)]
+mod shortest;
+#[cfg(test)]
+mod show;
+#[cfg(test)]
+mod view;

@@ -1,0 +1,8 @@
+//! The tests of instructions.
+
+#![tactic(auto)]
+
+#[cfg(test)]
+mod action;
+#[cfg(test)]
+mod insn;

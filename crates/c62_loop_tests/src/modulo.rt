@@ -1,0 +1,205 @@
+//! Loops, and the cycles and stages of their packets.
+
+use c62_insn::Reg;
+use c62_loop_match::{Promise, Region};
+use c62_modulo::{Made, Shortness, Terms, pipelined};
+use c62_pair::RegSet;
+use c62_read::{Block, Program, SerialInsn, number, read_program};
+use std::alloc::{AllocError, Global};
+use std::process::Abort;
+use std::test::Fail;
+
+/// A loop, and what is found of it.
+struct Row {
+    text: &'static str,
+    counter: &'static str,
+    /// The registers of the promise.
+    apart: &'static str,
+    /// The trips that are granted.
+    trips: u32,
+    /// The cycles of a trip, the stages, and whether no trip is shorter, where packets are found.
+    found: Option<(u16, u8, Shortness)>,
+}
+
+/// The promise of registers that these words name.
+fn promise_of(words: &str) -> Promise {
+    let mut bases = RegSet::new();
+    for word in words.split(' ') {
+        if let Some(reg) = number::register(word.as_bytes()) {
+            bases = bases.with(reg);
+        }
+    }
+    Promise { bases }
+}
+
+/// The instructions of the block of this number, and none where there is none.
+fn insns_at(alloc: Global, blocks: &[Block], number: usize) -> Result<Vec<SerialInsn>, AllocError> {
+    match blocks.get(number) {
+        Some(block) => Vec::from_slice(alloc, block.insns()),
+        None => Ok(Vec::new(alloc)),
+    }
+}
+
+/// The loop of the first block with a label, and the blocks around it.
+fn region_of(alloc: Global, blocks: &[Block], counter: Reg) -> Result<Region, AllocError> {
+    let number = blocks
+        .iter()
+        .position(|block| block.label().is_some())
+        .unwrap_or(0);
+    Ok(Region {
+        before: if number == 0 {
+            Vec::new(alloc)
+        } else {
+            insns_at(alloc, blocks, number - 1)?
+        },
+        body: insns_at(alloc, blocks, number)?,
+        behind: insns_at(alloc, blocks, number.saturating_add(1))?,
+        counter,
+        number: u8::try_from(number).unwrap_or(0),
+    })
+}
+
+fn made_of(alloc: Global, row: &Row) -> Result<Option<Made>, AllocError> {
+    let Ok(program) = read_program(alloc, row.text.as_bytes()) else {
+        return Ok(None);
+    };
+    let Some(counter) = number::register(row.counter.as_bytes()) else {
+        return Ok(None);
+    };
+    let region = region_of(alloc, program.blocks(), counter)?;
+    let terms = Terms {
+        promise: promise_of(row.apart),
+        trips: row.trips,
+        longest: 10,
+    };
+    pipelined(alloc, &region, terms)
+}
+
+const SUM: &str = "L: LDW *A4++,A2\nADD A2,A3,A3\nSUB A1,1,A1\n[A1] B L\n";
+
+const DOT: &str =
+    " ZERO A7\n ZERO B7\nL: LDW *A4++,A2\n LDW *B4++,B2\n MPY A2,B2,A6\n MPYH B2,A2,B6\n ADD A6,A7,A7\n ADD B6,B7,B7\n SUB A1,1,A1\n [A1] B L\n ADD A7,B7,A4\n";
+
+const SCALE: &str = "L: LDW *A4++,A2\n MPY A2,B6,B3\n STW B3,*B4++\n SUB A1,1,A1\n [A1] B L\n";
+
+/// A remainder, a bit a trip, under a counter of the other side.
+const BIT: &str = "L: CMPLT A6,0,A2\n ADD A6,A6,A6\n [A2] XOR A6,A7,A6\n SUB B0,1,B0\n [B0] B L\n";
+
+/// A sum of 64 words.
+const SET: &str = " MVK 64,A1\n ZERO A3\nL: LDW *A4++,A2\nADD A2,A3,A3\nSUB A1,1,A1\n[A1] B L\n";
+
+/// One of as many words as are in memory.
+const LOADED: &str = " LDW *A6,A1\nL: LDW *A4++,A2\nADD A2,A3,A3\nSUB A1,1,A1\n[A1] B L\n";
+
+/// A loop that counts by two.
+const BY_TWO: &str = "L: LDW *A4++,A2\n ADD A2,A3,A3\n SUB A1,2,A1\n [A1] B L\n";
+
+const ROWS: [Row; 12] = [
+    Row {
+        text: SUM,
+        counter: "A1",
+        apart: "",
+        trips: 100,
+        found: Some((1, 6, Shortness::Shortest)),
+    },
+    // Fewer trips are granted than it has stages.
+    Row {
+        text: SUM,
+        counter: "A1",
+        apart: "",
+        trips: 5,
+        found: Some((2, 3, Shortness::Over(1))),
+    },
+    Row {
+        text: SUM,
+        counter: "A1",
+        apart: "",
+        trips: 2,
+        found: Some((3, 2, Shortness::Over(1))),
+    },
+    Row {
+        text: SUM,
+        counter: "A1",
+        apart: "",
+        trips: 1,
+        found: Some((6, 1, Shortness::Over(1))),
+    },
+    Row {
+        text: SUM,
+        counter: "A1",
+        apart: "",
+        trips: 0,
+        found: None,
+    },
+    Row {
+        text: DOT,
+        counter: "A1",
+        apart: "",
+        trips: 100,
+        found: Some((1, 8, Shortness::Shortest)),
+    },
+    // A store may meet the loads behind it, but where that is promised not to be.
+    Row {
+        text: SCALE,
+        counter: "A1",
+        apart: "",
+        trips: 100,
+        found: Some((8, 1, Shortness::Shortest)),
+    },
+    Row {
+        text: SCALE,
+        counter: "A1",
+        apart: "A4 B4",
+        trips: 100,
+        found: Some((1, 8, Shortness::Shortest)),
+    },
+    Row {
+        text: BIT,
+        counter: "B0",
+        apart: "",
+        trips: 1,
+        found: Some((2, 1, Shortness::Shortest)),
+    },
+    // The counter is set above the label.
+    Row {
+        text: SET,
+        counter: "A1",
+        apart: "",
+        trips: 100,
+        found: Some((1, 6, Shortness::Shortest)),
+    },
+    Row {
+        text: LOADED,
+        counter: "A1",
+        apart: "",
+        trips: 100,
+        found: Some((1, 6, Shortness::Shortest)),
+    },
+    Row {
+        text: BY_TWO,
+        counter: "A1",
+        apart: "",
+        trips: 100,
+        found: None,
+    },
+];
+
+#[test]
+fn loops_are_pipelined(rt: HostRuntime) -> Result<(), Fail> {
+    for row in &ROWS {
+        let found = match made_of(rt.alloc(), row)? {
+            Some(made) => Some((made.interval, made.most, made.shortness())),
+            None => None,
+        };
+        let expected = match row.found {
+            Some((cycles, stages, shortness)) => Some((
+                cycles,
+                stages.saturating_sub(1),
+                shortness,
+            )),
+            None => None,
+        };
+        assert_eq!(rt; found, expected, "{}", row.text);
+    }
+    Ok(())
+}

@@ -1,0 +1,431 @@
+//! Worked blocks: what is refused, least spots, and changes of a sheet.
+
+use c62_depend::Plan;
+use c62_insn::{Letter, Side, Unit};
+use c62_read::read_program;
+use c62_sheet::{Counts, Entry, Sheet, Spot, Who, are_lawful};
+use std::alloc::Global;
+use std::process::Abort;
+use std::test::Fail;
+
+const L1: Unit = Unit {
+    letter: Letter::L,
+    side: Side::A,
+};
+
+const S1: Unit = Unit {
+    letter: Letter::S,
+    side: Side::A,
+};
+
+const M1: Unit = Unit {
+    letter: Letter::M,
+    side: Side::A,
+};
+
+const D1: Unit = Unit {
+    letter: Letter::D,
+    side: Side::A,
+};
+
+const L2: Unit = Unit {
+    letter: Letter::L,
+    side: Side::B,
+};
+
+const S2: Unit = Unit {
+    letter: Letter::S,
+    side: Side::B,
+};
+
+const D2: Unit = Unit {
+    letter: Letter::D,
+    side: Side::B,
+};
+
+const THREE_READERS: &str = "MPY A1,A1,A4\nADD A1,A1,A5\nSUB A1,A2,A3";
+
+const TWO_CROSSING: &str = "ADD A1,B1,A2\nSUB A3,B3,A4";
+
+const ONE_PATH: &str = "LDW *A4,A5\nLDW *B4,A6";
+
+const TWO_WRITERS: &str = "LDW *A4,A5\nMVK 1,A5";
+
+const LATE_SUM: &str = "LDW *A4,A5\nMVK 1,A6\nADD A5,A6,A7";
+
+const EARLY_SUM: &str = "LDW *A4,A5\nADD A1,A1,A2\nADD A5,A5,A6";
+
+const CROSSING_LATER: &str = "MVK 3,A1\nADD A1,B1,A2\nSUB A1,B3,A4";
+
+const FIVE_READS: &str = "ADD A4,A4,A1\nADD A4,A4,A2\nLDW *B4,A6\nLDW *A4,A5";
+
+const TWO_CROSSING_TO_B: &str = "ADD B1,A1,B2\nSUB B3,A3,B4";
+
+const ONE_PATH_TO_B: &str = "LDW *A4,B5\nLDW *B4,B6";
+
+const SIX: &str =
+    "LDW *B4,B5\nADD B2,A2,B3\nADD A1,B1,A3\nADD A3,A3,A4\nMPY A5,B1,A2\nMPY A2,A2,A6";
+
+/// A block, how many of its instructions are placed in their order, the instruction and the spot that are asked, and the
+/// answer.
+const CHECKS: [(&str, u16, u16, u16, Unit, &str); 24] = [
+    (THREE_READERS, 2, 2, 0, S1, "P4 in cycle 0"),
+    (THREE_READERS, 2, 2, 0, L1, "P1 in cycle 0"),
+    (THREE_READERS, 2, 2, 1, S1, "lawful"),
+    (TWO_CROSSING, 1, 1, 0, S1, "P2 in cycle 0"),
+    (ONE_PATH, 1, 1, 0, D2, "P3 in cycle 0"),
+    (TWO_WRITERS, 0, 1, 3, S1, "Missing in cycle 3"),
+    (TWO_WRITERS, 1, 1, 3, S1, "Delay in cycle 5"),
+    (TWO_WRITERS, 1, 1, 10, S1, "Limit in cycle 10"),
+    (TWO_WRITERS, 1, 1, 65535, S1, "Limit in cycle 65535"),
+    (TWO_WRITERS, 1, 1, 0, L1, "Unit in cycle 0"),
+    (TWO_WRITERS, 1, 1, 5, S2, "Unit in cycle 5"),
+    (TWO_WRITERS, 1, 1, 9, S1, "lawful"),
+    (TWO_WRITERS, 1, 0, 9, D1, "Placed in cycle 9"),
+    (TWO_WRITERS, 1, 0, 9, S2, "Placed in cycle 9"),
+    (TWO_WRITERS, 1, 0, 10, D1, "Placed in cycle 10"),
+    (TWO_WRITERS, 1, 1, 10, L1, "Unit in cycle 10"),
+    (TWO_WRITERS, 0, 1, 10, S1, "Limit in cycle 10"),
+    (LATE_SUM, 1, 2, 2, L1, "Missing in cycle 2"),
+    (EARLY_SUM, 2, 2, 0, L1, "Delay in cycle 5"),
+    (TWO_CROSSING, 1, 1, 0, L1, "P1 in cycle 0"),
+    (CROSSING_LATER, 2, 2, 1, L1, "P1 in cycle 1"),
+    (FIVE_READS, 3, 3, 0, D1, "P3 in cycle 0"),
+    (TWO_CROSSING_TO_B, 1, 1, 0, S2, "P2 in cycle 0"),
+    (ONE_PATH_TO_B, 1, 1, 0, D2, "P3 in cycle 0"),
+];
+
+/// A block, where its instructions stand once they were placed in their order, and the length.
+const IN_ORDER: [(&str, &str, u16); 15] = [
+    ("MVK 5,A1\nMVK 7,A2\nADD A1,A2,A3", "0.S1 1.S1 2.L1 ", 3),
+    ("MVK 3,A1\nADD A5,A1,A2\nLDW *A4,A5", "0.S1 1.L1 0.D1 ", 5),
+    (TWO_WRITERS, "0.D1 5.S1 ", 6),
+    (THREE_READERS, "0.M1 0.L1 1.L1 ", 2),
+    (TWO_CROSSING, "0.L1 1.L1 ", 2),
+    (ONE_PATH, "0.D1 1.D2 ", 6),
+    ("LDW *A4,A5\nLDW *B4,B6", "0.D1 0.D2 ", 5),
+    (
+        "L1:\nMVK 0,A0\nMVK 1,A1\nMVK 2,A2\nMVK 3,A3\nMVK 4,A4\nMVK 5,A5\nMVK 6,A6\nMVK 7,A7\nB L1",
+        "0.S1 1.S1 2.S1 3.S1 4.S1 5.S1 6.S1 7.S1 2.S2 ",
+        8,
+    ),
+    ("L1: MPY A1,A2,A3\nB L1", "0.M1 0.S2 ", 6),
+    (SIX, "0.D2 0.L2 0.L1 1.L1 1.M1 3.M1 ", 5),
+    ("[A1] ADD A3,A4,A2\n[!A1] SUB A3,A4,A2", "0.L1 0.S1 ", 1),
+    ("[A1] LDW *A4,A5\n[!A1] MVK 1,A5", "0.D1 0.S1 ", 5),
+    (
+        "[A1] MVK 1,A5\nSUB A1,1,A1\n[!A1] MVK 2,A5",
+        "0.S1 0.L1 1.S1 ",
+        2,
+    ),
+    ("[A1] ADD A5,A3,A5\n[!A1] MVK 2,A5", "0.L1 0.S1 ", 1),
+    (
+        "MPY A1,A2,A3\nSTW A3,*A4\nLDW *+A4[1],A5\nADD A5,A5,A6",
+        "0.M1 2.D1 0.D1 5.L1 ",
+        6,
+    ),
+];
+
+/// Legal changes of the block of six, one after another: two are withdrawn, and stand later then.
+const CHANGES: [Entry; 10] = [
+    Entry::Place(2, Spot { cycle: 0, unit: L1 }, Who::A),
+    Entry::Place(0, Spot { cycle: 0, unit: D2 }, Who::B),
+    Entry::Place(3, Spot { cycle: 1, unit: L1 }, Who::A),
+    Entry::Place(1, Spot { cycle: 0, unit: L2 }, Who::B),
+    Entry::Withdraw(3, Who::A),
+    Entry::Withdraw(2, Who::A),
+    Entry::Place(4, Spot { cycle: 0, unit: M1 }, Who::A),
+    Entry::Place(2, Spot { cycle: 1, unit: L1 }, Who::A),
+    Entry::Place(5, Spot { cycle: 2, unit: M1 }, Who::A),
+    Entry::Place(3, Spot { cycle: 2, unit: L1 }, Who::A),
+];
+
+/// After each of these changes: the picks of sides A and B, and the early cycles of the instructions 3 and 5.
+const AFTER: [(Option<u16>, Option<u16>, u16, u16); 10] = [
+    (Some(3), Some(0), 1, 0),
+    (Some(3), Some(1), 1, 0),
+    (None, Some(1), 1, 0),
+    (Some(4), None, 1, 0),
+    (Some(4), None, 1, 0),
+    (Some(4), None, 0, 0),
+    (Some(2), None, 0, 2),
+    (Some(5), None, 2, 2),
+    (Some(3), None, 2, 2),
+    (None, None, 2, 2),
+];
+
+/// Changes that are not legal after the first four of these.
+const REFUSED: [Entry; 8] = [
+    Entry::Withdraw(2, Who::A),
+    Entry::Withdraw(4, Who::A),
+    Entry::Withdraw(65535, Who::A),
+    Entry::Place(65535, Spot { cycle: 0, unit: M1 }, Who::A),
+    Entry::Place(5, Spot { cycle: 9, unit: M1 }, Who::A),
+    Entry::Place(2, Spot { cycle: 0, unit: L1 }, Who::A),
+    Entry::Place(4, Spot { cycle: 2, unit: M1 }, Who::A),
+    Entry::Place(4, Spot { cycle: 0, unit: M1 }, Who::A),
+];
+
+/// Spots for the three instructions of one block in their order, and whether they are a lawful whole.
+const WHOLES: [(&[Spot], bool); 6] = [
+    (
+        &[
+            Spot { cycle: 1, unit: S1 },
+            Spot { cycle: 0, unit: S1 },
+            Spot { cycle: 3, unit: L1 },
+        ],
+        true,
+    ),
+    (
+        &[
+            Spot { cycle: 1, unit: S1 },
+            Spot { cycle: 0, unit: S1 },
+            Spot { cycle: 1, unit: L1 },
+        ],
+        false,
+    ),
+    (
+        &[
+            Spot { cycle: 0, unit: S1 },
+            Spot { cycle: 0, unit: S1 },
+            Spot { cycle: 3, unit: L1 },
+        ],
+        false,
+    ),
+    (
+        &[
+            Spot { cycle: 1, unit: S1 },
+            Spot { cycle: 0, unit: S2 },
+            Spot { cycle: 3, unit: L1 },
+        ],
+        false,
+    ),
+    (
+        &[
+            Spot { cycle: 1, unit: S1 },
+            Spot { cycle: 0, unit: S1 },
+            Spot {
+                cycle: 15,
+                unit: L1,
+            },
+        ],
+        false,
+    ),
+    (
+        &[Spot { cycle: 1, unit: S1 }, Spot { cycle: 0, unit: S1 }],
+        false,
+    ),
+];
+
+/// An empty sheet of the only block of a text.
+fn sheet_of(rt: &impl Abort, alloc: Global, text: &str) -> Result<Sheet, Fail> {
+    let mut blocks = read_program(alloc, text.as_bytes())?.into_blocks();
+    assert_eq!(rt; blocks.len(), 1, "{text}");
+    let block = blocks.pop().expect(rt, "a block");
+    let plan = match Plan::new(alloc, block) {
+        Ok(plan) => plan,
+        Err((_, error)) => return Err(error.into()),
+    };
+    match Sheet::new(alloc, plan) {
+        Ok(sheet) => Ok(sheet),
+        Err((_, error)) => Err(error.into()),
+    }
+}
+
+/// Places an instruction at its least spot.
+fn place(rt: &impl Abort, sheet: &mut Sheet, i: u16) {
+    assert!(rt; i < sheet.plan().len());
+    assert!(rt; sheet.ready(i));
+    let spot = sheet.least(i).expect(rt, "a least spot");
+    assert!(rt; sheet.apply(&Entry::Place(i, spot, Who::Tail)));
+}
+
+fn name(unit: Unit) -> &'static str {
+    match (unit.letter, unit.side) {
+        (Letter::L, Side::A) => "L1",
+        (Letter::S, Side::A) => "S1",
+        (Letter::M, Side::A) => "M1",
+        (Letter::D, Side::A) => "D1",
+        (Letter::L, Side::B) => "L2",
+        (Letter::S, Side::B) => "S2",
+        (Letter::M, Side::B) => "M2",
+        (Letter::D, Side::B) => "D2",
+    }
+}
+
+fn spots(alloc: Global, sheet: &Sheet) -> Result<String, Fail> {
+    let mut all = String::new(alloc);
+    for i in 0..sheet.plan().len() {
+        if let Some(spot) = sheet.spot_of(i) {
+            all.push_str(&format!(in alloc; "{}.{} ", spot.cycle, name(spot.unit))?)?;
+        }
+    }
+    Ok(all)
+}
+
+#[test]
+fn refused_spots(rt: HostRuntime) -> Result<(), Fail> {
+    for (text, count, i, cycle, unit, want) in &CHECKS {
+        let mut sheet = sheet_of(&rt, rt.alloc(), text)?;
+        for k in 0..*count {
+            place(&rt, &mut sheet, k);
+        }
+        assert!(rt; *i < sheet.plan().len());
+        let spot = Spot {
+            cycle: *cycle,
+            unit: *unit,
+        };
+        let answer = match sheet.check(*i, spot) {
+            Ok(()) => format!(in rt.alloc(); "lawful")?,
+            Err(fault) => format!(in rt.alloc(); "{fault}")?,
+        };
+        assert_eq!(rt; answer.as_str(), *want, "{text}");
+    }
+    Ok(())
+}
+
+#[test]
+fn least_spots_in_order(rt: HostRuntime) -> Result<(), Fail> {
+    for (text, want, length) in &IN_ORDER {
+        let mut sheet = sheet_of(&rt, rt.alloc(), text)?;
+        assert_eq!(rt; sheet.length(), 0);
+        for k in 0..sheet.plan().len() {
+            assert!(rt; !sheet.complete());
+            place(&rt, &mut sheet, k);
+        }
+        assert!(rt; sheet.complete());
+        assert_eq!(rt; spots(rt.alloc(), &sheet)?.as_str(), *want, "{text}");
+        assert_eq!(rt; sheet.length(), *length, "{text}");
+    }
+    Ok(())
+}
+
+#[test]
+fn changes_and_counts(rt: HostRuntime) -> Result<(), Fail> {
+    let mut sheet = sheet_of(&rt, rt.alloc(), SIX)?;
+    let none = Counts {
+        placed_a: 0,
+        placed_b: 0,
+        ready_a: 1,
+        ready_b: 2,
+    };
+    assert_eq!(rt; sheet.counts(), none);
+    assert_eq!(rt; sheet.pick(Side::A), Some(2));
+    assert_eq!(rt; sheet.pick(Side::B), Some(0));
+    for entry in &CHANGES[..4] {
+        assert!(rt; sheet.apply(entry));
+    }
+    let four = Counts {
+        placed_a: 2,
+        placed_b: 2,
+        ready_a: 1,
+        ready_b: 0,
+    };
+    for entry in &REFUSED {
+        assert!(rt; !sheet.apply(entry));
+        assert_eq!(rt; sheet.counts(), four);
+    }
+    assert_eq!(rt; sheet.pick(Side::A), Some(4));
+    assert_eq!(rt; sheet.pick(Side::B), None);
+    for entry in &CHANGES[4..] {
+        assert!(rt; sheet.apply(entry));
+    }
+    assert_eq!(rt;
+        spots(rt.alloc(), &sheet)?.as_str(),
+        "0.D2 0.L2 1.L1 2.L1 0.M1 2.M1 "
+    );
+    assert!(rt; sheet.complete());
+    assert_eq!(rt; sheet.length(), 5);
+    sheet.clear();
+    assert_eq!(rt; sheet.counts(), none);
+    assert_eq!(rt; sheet.into_plan().len(), 6);
+    Ok(())
+}
+
+/// Each change is made on a copy, so that a copy keeps what it needs for changes.
+#[test]
+fn picks_and_early_cycles(rt: HostRuntime) -> Result<(), Fail> {
+    let mut sheet = sheet_of(&rt, rt.alloc(), SIX)?;
+    for k in 0..10 {
+        sheet = sheet.copy(rt.alloc())?;
+        assert!(rt; sheet.apply(&CHANGES[k]));
+        assert_eq!(rt; sheet.plan().len(), 6);
+        let seen = (
+            sheet.pick(Side::A),
+            sheet.pick(Side::B),
+            sheet.early(3),
+            sheet.early(5),
+        );
+        assert_eq!(rt; seen, AFTER[k], "change {k}");
+    }
+    Ok(())
+}
+
+/// What was placed and withdrawn again leaves nothing in any cycle.
+#[test]
+fn withdrawn_as_new(rt: HostRuntime) -> Result<(), Fail> {
+    let mut sheet = sheet_of(&rt, rt.alloc(), SIX)?;
+    let fresh = sheet_of(&rt, rt.alloc(), SIX)?;
+    for entry in &CHANGES {
+        assert!(rt; sheet.apply(entry));
+    }
+    for last in 0..6 {
+        assert!(rt; sheet.apply(&Entry::Withdraw(5 - last, Who::A)));
+    }
+    for i in 0..6 {
+        assert!(rt; i < sheet.plan().len() && i < fresh.plan().len());
+        for cycle in 0..30 {
+            for unit in Unit::ALL {
+                let spot = Spot { cycle, unit };
+                assert_eq!(rt;
+                    sheet.check(i, spot),
+                    fresh.check(i, spot),
+                    "{i} at {cycle}"
+                );
+            }
+        }
+    }
+    Ok(())
+}
+
+#[test]
+fn one_stands_in_the_way(rt: HostRuntime) -> Result<(), Fail> {
+    let mut sheet = sheet_of(&rt, rt.alloc(), SIX)?;
+    for entry in &CHANGES[..4] {
+        assert!(rt; sheet.apply(entry));
+    }
+    assert_eq!(rt; sheet.plan().len(), 6);
+    assert!(rt; sheet.ready(4) && !sheet.ready(5) && sheet.is_last(3) && !sheet.is_last(2));
+    let early = sheet.early(4);
+    assert_eq!(rt; early, 0);
+    for q in 0..6 {
+        assert_eq!(rt; sheet.fits_without(4, early, q), q == 2);
+    }
+    Ok(())
+}
+
+#[test]
+fn wholes_made_elsewhere(rt: HostRuntime) -> Result<(), Fail> {
+    let sheet = sheet_of(&rt, rt.alloc(), IN_ORDER[0].0)?;
+    for (spots, want) in &WHOLES {
+        assert_eq!(rt; are_lawful(sheet.plan(), spots), *want, "{spots:?}");
+    }
+    Ok(())
+}
+
+#[test]
+fn a_full_block(rt: HostRuntime) -> Result<(), Fail> {
+    let mut text = String::new(rt.alloc());
+    for _ in 0..256 {
+        text.push_str("MVK 1,A1\n")?;
+    }
+    let mut sheet = sheet_of(&rt, rt.alloc(), &text)?;
+    for i in 0..sheet.plan().len() {
+        place(&rt, &mut sheet, i);
+        assert!(rt; i < sheet.plan().len());
+        assert_eq!(rt; sheet.spot_of(i), Some(Spot { cycle: i, unit: S1 }));
+    }
+    assert!(rt; sheet.complete());
+    assert_eq!(rt; sheet.length(), 256);
+    Ok(())
+}
