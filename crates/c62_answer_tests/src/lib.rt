@@ -5,4 +5,10 @@
 #[cfg(test)]
 mod answer;
 #[cfg(test)]
+mod streams;
+#[cfg(test)]
 mod teach;
+#[cfg(test)]
+mod workers;
+#[cfg(test)]
+mod written;

@@ -2,17 +2,8 @@
 //! with everything in flight.
 #![tactic(auto)]
 
-mod dumping;
-mod joined;
-mod page;
-mod program;
-mod teaching;
-mod topic;
-mod trouble;
-mod written;
-
 use c62_files::Disk;
-use program::run_program;
+use c62_program::run_program;
 use std::process::ExitCode;
 use std::{env, io};
 
@@ -42,24 +33,3 @@ fn main(rt: HostRuntime) -> ExitCode {
         &mut rt.stderr(),
     ))
 }
-
-#[cfg(test)]
-mod adopt_tests;
-#[cfg(test)]
-mod check_tests;
-#[cfg(test)]
-mod exec_tests;
-#[cfg(test)]
-mod file_tests;
-#[cfg(test)]
-mod show_tests;
-#[cfg(test)]
-mod stream_tests;
-#[cfg(test)]
-mod teach_tests;
-#[cfg(test)]
-mod tests;
-#[cfg(test)]
-mod worker_tests;
-#[cfg(test)]
-mod written_tests;

@@ -1,0 +1,125 @@
+-- What a call does, from what each step of it did.
+use Rattle.std.proofs.Common.{◌≡◌, ℕ, ◌≤◌, Bool, true, false, List, [], ◌∷◌, length, Option, Some, None, refl, sym}
+use Rattle.std.proofs.Common.{subst, inl, inr, arith}
+use Rattle.std.specs.Prelude.{map}
+use Rattle.std.specs.Borrow.{Bor}
+use Rattle.std.proofs.KnownBytes.{Keeps-refl}
+use Rattle.clap.specs.Words.{Text}
+use Rattle.c62_answer.specs.Run.{Streams, streams}
+use Rattle.c62_files.specs.Call.{From, text_source}
+use Rattle.c62_files.specs.Expand.{Expands, Holding}
+use Rattle.c62_files.specs.Words.{text_piece}
+use Rattle.c62_files.specs.declared.call.Call.{Call}
+use Rattle.c62_program.specs.declared.trouble.Trouble.{Trouble}
+use Rattle.c62_program.specs.declared.trouble.Trouble.TheVariants.{NoCall, NoLoad, Unread, Unwritten, LooseDump, Input}
+use Rattle.c62_program.specs.declared.trouble.Trouble.TheVariants.{Memory}
+use Rattle.c62_program.specs.Trouble.{HasCallTrouble, IsCountTrouble, IsTroubleWithCall, IsTroubleWithRun}
+use Rattle.c62_program.specs.Trouble.{IsTroubleWithSource, IsTroubleWriting, Loose, Running, is_early}
+use Rattle.c62_program.specs.Program.{AreCountsFor, RunsCall, RunsDumping, RunsNaming, RunsTarget, RunsTo, RunsWords}
+use Rattle.c62_program.specs.Program.{is_made}
+use Rattle.c62_files.specs.Writing.{IsReplaced}
+use Rattle.c62_teach.specs.Words.{plain_words}
+use Rattle.c62_program.proofs.Failing.{memory_with}
+
+pub not_both : (b : Bool) → b ≡ false → b ≡ true → ⊥
+not_both b is_false is_true = cc
+
+-- ---- an answer that goes to a file
+
+pub made_none : (holds : Holding) (words : List Text) (source : From) (target : Text)
+    (input left errors told : Option (List ℕ)) (answer : List ℕ) (status : ℕ)
+    → is_made words status ≡ false
+    → RunsWords holds words source (streams input (Some []) errors) (streams left (Some answer) told) status
+    → RunsTo holds holds words source target (streams input None errors) (streams left None told) status
+made_none holds words source target input left errors told answer status is_false run = record {
+  answer = answer;
+  runs = run;
+  made = λ is_true. absurd (not_both (is_made words status) is_false is_true);
+  kept = λ e. refl;
+}
+
+pub made_one : (before after : Holding) (words : List Text) (source : From) (target : Text)
+    (input left errors told : Option (List ℕ)) (answer : List ℕ) (status : ℕ)
+    → is_made words status ≡ true → IsReplaced before target answer after
+    → RunsWords before words source (streams input (Some []) errors) (streams left (Some answer) told) status
+    → RunsTo before after words source target (streams input None errors) (streams left None told) status
+made_one before after words source target input left errors told answer status is_true holds run = record {
+  answer = answer;
+  runs = run;
+  made = λ e. holds;
+  kept = λ is_false. absurd (not_both (is_made words status) is_false is_true);
+}
+
+pub is_late : (name : Text) (trouble : Trouble) → IsTroubleWriting name trouble → is_early trouble ≡ true → ⊥
+is_late name (NoCall error) with is = with
+is_late name (NoLoad number misfit) with is = with
+is_late name (Unread unread error) with is = with
+is_late name (Unwritten unwritten error) with is = cc
+is_late name LooseDump with is = with
+is_late name Input with is = with
+is_late name Memory with is = cc
+
+-- ---- where an answer goes
+
+pub target_to : (before after : Holding) (words : List Text) (source : From) (target : Bor Text)
+    (input left output errors told : Option (List ℕ)) (status : ℕ)
+    → RunsTo before after words source target.now (streams input None errors) (streams left None told) status
+    → RunsTarget before after words source (Some target) (streams input output errors) (streams left output told) status
+target_to before after words source target input left output errors told status run =
+    (record { answer = run.answer; runs = run.runs; made = run.made; kept = run.kept }, Keeps-refl output)
+
+-- ---- a call
+
+-- no file is named that memory goes to
+pub called_plain : (before after : Holding) (call : Call) (words : List Text) (old new : Streams) (status : ℕ)
+    → Expands before (map text_piece call.words.items) words
+    → call.dumps.items ≡ [] → RunsTarget before after words (text_source call.source) call.target old new status
+    → RunsCall before after call old new status
+called_plain before after call words old new status are none run = record {
+  words = words;
+  expanded = are;
+  runs = subst (λ (names : List (Bor Text)). RunsNaming names before after words call old new status) (sym none) run;
+}
+
+-- some are
+named_runs : (names : List (Bor Text)) (before after : Holding) (words : List Text) (call : Call) (counts : List ℕ)
+    (old new : Streams) (status : ℕ) → 1 ≤ length names
+    → AreCountsFor (length names) (plain_words words) counts → RunsDumping before after words call counts old new status
+    → RunsNaming names before after words call old new status
+named_runs [] before after words call counts old new status many counted run = absurd (omega (arith, many))
+named_runs (name ∷ names) before after words call counts old new status many counted run = (counts, counted, run)
+
+pub called_dumping : (before after : Holding) (call : Call) (words : List Text) (counts : List ℕ) (old new : Streams)
+    (status : ℕ)
+    → Expands before (map text_piece call.words.items) words → 1 ≤ length call.dumps.items
+    → AreCountsFor (length call.dumps.items) (plain_words words) counts
+    → RunsDumping before after words call counts old new status → RunsCall before after call old new status
+called_dumping before after call words counts old new status are many counted run = record {
+  words = words;
+  expanded = are;
+  runs = named_runs call.dumps.items before after words call counts old new status many counted run;
+}
+
+-- ---- trouble
+
+pub run_memory : (source : From) (target : Option (Bor Text)) (trouble : Trouble) → trouble ≡ Memory
+    → IsTroubleWithRun source target trouble
+run_memory source None trouble is = memory_with source trouble is
+run_memory source (Some target) trouble is = inl (memory_with source trouble is)
+
+pub source_run : (source : From) (target : Option (Bor Text)) (trouble : Trouble) → IsTroubleWithSource source trouble
+    → IsTroubleWithRun source target trouble
+source_run source None trouble with = with
+source_run source (Some target) trouble with = inl with
+
+pub count_trouble : (holds : Holding) (call : Call) (words : List Text) (trouble : Trouble)
+    → Expands holds (map text_piece call.words.items) words
+    → IsCountTrouble (length call.dumps.items) (plain_words words) trouble → HasCallTrouble holds call trouble
+count_trouble holds call words LooseDump are loose = Loose words are loose refl
+count_trouble holds call words Memory are any = Running
+    (inl (run_memory (text_source call.source) call.target Memory refl))
+count_trouble holds call words _ are none = absurd none
+
+pub run_trouble : (holds : Holding) (call : Call) (trouble : Trouble)
+    → IsTroubleWithRun (text_source call.source) call.target trouble → HasCallTrouble holds call trouble
+run_trouble holds call trouble with = Running (inl with)

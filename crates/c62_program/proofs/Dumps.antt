@@ -1,0 +1,162 @@
+-- What a run does that writes memory to files, from what each step of it did.
+use Rattle.std.proofs.Common.{◌≡◌, ◌≢◌, ◌∙◌, ℕ, Bool, true, false, List, [], ◌∷◌, length, Option, Some, None, Result}
+use Rattle.std.proofs.Common.{Ok, Err, drop, refl, sym, ap, subst, inl, inr}
+use Rattle.std.specs.Prelude.{OnErr}
+use Rattle.std.specs.Option.{IsSomeAnd}
+use Rattle.std.specs.Borrow.{Bor}
+use Rattle.std.specs.Io.KnownBytes.{Keeps}
+use Rattle.std.proofs.KnownBytes.{Keeps-refl}
+use Rattle.clap.specs.Words.{Text}
+use Rattle.c62_answer.specs.Run.{Streams, streams}
+use Rattle.c62_command.specs.CommandLine.{Ask, asked}
+use Rattle.c62_dumping.specs.Counts.{counts_asked}
+use Rattle.c62_dumping.specs.Cut.{dumped_in, files_of, report_in}
+use Rattle.c62_files.specs.Call.{text_source}
+use Rattle.c62_files.specs.Words.{texts}
+use Rattle.c62_files.specs.Writing.{AreBegun, AreWritten, Holding, IsNameIn}
+use Rattle.c62_files.specs.declared.call.Call.{Call}
+use Rattle.c62_files.proofs.WrittenFiles.{written_begun}
+use Rattle.c62_program.specs.declared.trouble.Trouble.{Trouble}
+use Rattle.c62_program.specs.declared.trouble.Trouble.TheVariants.{NoCall, NoLoad, Unread, Unwritten, LooseDump, Input}
+use Rattle.c62_program.specs.declared.trouble.Trouble.TheVariants.{Memory}
+use Rattle.c62_program.specs.Trouble.{IsAmong, IsLoose, IsTroubleDumping, IsTroubleWithCall, IsTroubleWithRun}
+use Rattle.c62_program.specs.Trouble.{IsTroubleWriting, IsTroubleWritingTo, is_early}
+use Rattle.c62_program.specs.Program.{AreCounts, AreCountsFor, AsksFor, HasBegun, IsDelivered, IsDumped, IsUndone}
+use Rattle.c62_program.specs.Program.{RunsDumping, RunsWords, is_made}
+use Rattle.c62_program.proofs.Calling.{is_late, not_both}
+
+pub on_err : {T E P : Type 0} (r : Result T E) → P → OnErr r P
+on_err (Ok value) p = tt
+on_err (Err error) p = p
+
+-- ---- counts
+
+pub counted_none : (names : ℕ) (words : List Text) (found : Option (List ℕ)) → AreCounts words found → found ≡ None
+    → AreCountsFor names words []
+counted_none names words found are none = inl (subst (AreCounts words) none are, refl)
+
+pub counted_some : (names : ℕ) (words : List Text) (counts : List ℕ) (found : Option (List ℕ)) → AreCounts words found
+    → found ≡ Some counts
+    → length counts ≡ names → AreCountsFor names words counts
+counted_some names words counts found are some same = inr (same, subst (AreCounts words) some are)
+
+loose_ask : (names : ℕ) (counts : List ℕ) (ask : Option Ask) → IsSomeAnd ask (λ a. counts ≡ counts_asked a)
+    → length counts ≢ names
+    → IsSomeAnd ask (λ a. length (counts_asked a) ≢ names)
+loose_ask names counts None asks other = asks
+loose_ask names counts (Some ask) asks other = λ same. other (ap length asks ∙ same)
+
+pub is_loose : (names : ℕ) (words : List Text) (counts : List ℕ) (found : Option (List ℕ)) → AreCounts words found
+    → found ≡ Some counts
+    → length counts ≢ names → IsLoose names words
+is_loose names words counts found are some other = loose_ask names counts (asked words)
+    (subst (AreCounts words) some are) other
+
+-- ---- trouble
+
+-- the files have no other names
+named_among : (name : Text) (names : List Text) (counts bytes : List ℕ) → IsNameIn name (files_of names counts bytes)
+    → IsAmong name names
+unfolding files_of
+named_among name [] counts bytes with = with
+named_among name (other ∷ names) [] bytes with = absurd with
+named_among name (other ∷ names) (count ∷ counts) bytes (inl same) = inl same
+named_among name (other ∷ names) (count ∷ counts) bytes (inr with) = inr
+    (named_among name names counts (drop count bytes) with)
+
+trouble_among : (name : Text) (names : List Text) (trouble : Trouble) → IsAmong name names
+    → IsTroubleWriting name trouble → IsTroubleDumping names trouble
+trouble_among name names (NoCall error) among with = with
+trouble_among name names (NoLoad number misfit) among with = with
+trouble_among name names (Unread unread error) among with = with
+trouble_among name names (Unwritten unwritten error) among with = subst (λ n. IsAmong n names) (sym with) among
+trouble_among name names LooseDump among with = with
+trouble_among name names Input among with = with
+trouble_among name names Memory among with = tt
+
+pub dump_trouble : (name : Text) (names : List Text) (counts bytes : List ℕ) (files : List (Text × List ℕ))
+    (trouble : Trouble) → files ≡ files_of names counts bytes
+    → IsNameIn name files → IsTroubleWriting name trouble → IsTroubleDumping names trouble
+dump_trouble name names counts bytes files trouble are among with =
+    trouble_among name names trouble (named_among name names counts bytes (subst (IsNameIn name) are among)) with
+
+pub memory_dumping : (names : List Text) (trouble : Trouble) → trouble ≡ Memory → IsTroubleDumping names trouble
+memory_dumping names trouble is = rw is tt
+
+pub dump_late : (names : List Text) (trouble : Trouble) → IsTroubleDumping names trouble → is_early trouble ≡ true → ⊥
+dump_late names (NoCall error) with is = with
+dump_late names (NoLoad number misfit) with is = with
+dump_late names (Unread unread error) with is = with
+dump_late names (Unwritten unwritten error) with is = cc
+dump_late names LooseDump with is = with
+dump_late names Input with is = with
+dump_late names Memory with is = cc
+
+pub deliver_late : (target : Option (Bor Text)) (trouble : Trouble) → IsTroubleWritingTo target trouble
+    → is_early trouble ≡ true → ⊥
+deliver_late None trouble with is = with
+deliver_late (Some target) trouble with is = is_late target.now trouble with is
+
+with_run : (call : Call) (trouble : Trouble) (target : Option (Bor Text)) → IsTroubleWritingTo target trouble
+    → IsTroubleWithRun (text_source call.source) target trouble
+with_run call trouble None with = absurd with
+with_run call trouble (Some target) with = inr with
+
+pub deliver_trouble : (call : Call) (trouble : Trouble) → IsTroubleWritingTo call.target trouble
+    → IsTroubleWithCall call trouble
+deliver_trouble call trouble with = inl (with_run call trouble call.target with)
+
+-- ---- files
+
+pub has_begun : (before after : Holding) (names : List Text) (counts bytes : List ℕ)
+    → AreBegun before (files_of names counts bytes) after → HasBegun before after names
+has_begun before after names counts bytes begun = (counts, bytes, begun)
+
+pub has_written : (before between after : Holding) (names : List Text) (counts bytes : List ℕ)
+    → AreWritten before (files_of names counts bytes) between
+    → after ≡ between → HasBegun before after names
+has_written before between after names counts bytes written kept =
+    rw kept (counts, bytes, written_begun before between (files_of names counts bytes) written)
+
+-- ---- runs
+
+pub dumped_none : (holds : Holding) (words : List Text) (call : Call) (counts answer : List ℕ)
+    (input left output errors told : Option (List ℕ)) (done : ℕ)
+    → is_made words done ≡ false
+    → RunsWords holds words (text_source call.source) (streams input (Some []) errors)
+    (streams left (Some answer) told) done
+    → RunsDumping holds holds words call counts (streams input output errors) (streams left output told) done
+dumped_none holds words call counts answer input left output errors told done is_false run = record {
+  answer = answer;
+  done = done;
+  told = told;
+  runs = run;
+  made = λ is_true. absurd (not_both (is_made words done) is_false is_true);
+  none = λ e. record { kept = refl; ends = refl; unwritten = Keeps-refl output; silent = Keeps-refl told };
+}
+
+pub dumped_all : (before between after : Holding) (words : List Text) (call : Call)
+    (counts answer report memory : List ℕ)
+    (input left output written errors told said : Option (List ℕ)) (done status : ℕ) → is_made words done ≡ true
+    → RunsWords before words (text_source call.source) (streams input (Some []) errors)
+    (streams left (Some answer) told) done
+    → report ≡ report_in counts answer → memory ≡ dumped_in counts answer
+    → AreWritten before (files_of (texts call.dumps.items) counts memory) between
+    → IsDelivered between after call.target report done output written told said status
+    → RunsDumping before after words call counts (streams input output errors) (streams left written said) status
+dumped_all before between after words call counts answer report memory input left output written errors told said done
+    status is_true run reports remembers files delivered =
+    record {
+      answer = answer;
+      done = done;
+      told = told;
+      runs = run;
+      made = λ e. record {
+        between = between;
+        written = subst (λ bytes. AreWritten before (files_of (texts call.dumps.items) counts bytes) between) remembers
+            files;
+        delivered = subst (λ bytes. IsDelivered between after call.target bytes done output written told said status)
+            reports delivered;
+      };
+      none = λ is_false. absurd (not_both (is_made words done) is_false is_true);
+    }

@@ -1,0 +1,212 @@
+-- What the program does to files and streams (docs/COMMANDS.md, "Files").
+use Rattle.std.specs.Prelude.{◌≡◌, ◌≢◌, ◌⊎◌, ℕ, ◌+◌, ◌==◌, ◌&&◌, ◌||◌, nat_le, Bool, true, false, List, [], ◌∷◌, length, map, take, codes, Option, Some, None, IfSome, if◌then◌else◌}
+use Rattle.std.specs.Option.{IsSomeAnd}
+use Rattle.std.specs.Io.KnownBytes.{Keeps}
+use Rattle.std.specs.Borrow.{Bor}
+use Rattle.clap.specs.Words.{Text}
+use Rattle.c62_answer.specs.Message.{Tells}
+use Rattle.c62_answer.specs.Run.{Streams, IsRun, streams}
+use Rattle.c62_answer.specs.declared.parting.TheConstants.{MOST_BYTES}
+use Rattle.c62_command.specs.Blamed.{setting_at}
+use Rattle.c62_command.specs.CommandLine.{IsRefusal, ask_of, asked}
+use Rattle.c62_command.specs.declared.command.CommandError.{CommandError}
+use Rattle.c62_command.specs.declared.command.CommandError.TheVariants.{Memory, Setting}
+use Rattle.c62_dumping.specs.Counts.{counts_asked}
+use Rattle.c62_dumping.specs.Cut.{dumped_in, files_of, report_in}
+use Rattle.c62_files.specs.Words.{dumps, text_piece, texts}
+use Rattle.c62_files.specs.Expand.{Expands, Holding}
+use Rattle.c62_files.specs.Writing.{AreBegun, AreWritten, IsReplaced}
+use Rattle.c62_files.specs.Call.{From, IsCall, IsMistake, Standard, File, Parts, is_standard, text_source}
+use Rattle.c62_files.specs.declared.call.Call.{Call}
+use Rattle.c62_teach.specs.declared.words.Linting.{Linting}
+use Rattle.c62_teach.specs.Words.{is_explained, is_lint, linting_of, plain_words}
+use Rattle.c62_teach.specs.Linted.{IsLinted}
+use Rattle.c62_teach.specs.Setting.{setting_taught}
+use Rattle.c62_program.specs.Joined.{IsJoined}
+use Rattle.c62_program.specs.Teaching.{Explains, IsLintRun, IsTopicRun, RunsMore, is_topic, name_asked, text_name}
+use Rattle.c62_program.specs.Written.{IsWritten}
+use Rattle.c62_program.specs.declared.page.TheConstants.{LINT}
+use Rattle.c62_program.specs.declared.teaching.Asked.{Asked}
+use Rattle.c62_program.specs.declared.teaching.Asked.TheVariants.{Known, Unknown}
+use Rattle.c62_program.specs.Page.{page_asked, page_text}
+use Rattle.c62_program.specs.Trouble.{HasTrouble, IsSaid, status_of}
+use Rattle.c62_program.specs.declared.page.Page.{Page as Told}
+use Rattle.c62_program.specs.declared.trouble.Trouble.{Trouble}
+use Rattle.c62_program.specs.declared.trouble.Trouble.TheVariants.{NoCall}
+
+-- what a name stands for, where that is known: standard input or a file
+abbrev pub held : Holding → (input : Option (List ℕ)) → Text → Option (List ℕ)
+held holds input name = if is_standard name then input else holds name
+
+-- the bytes are those that a name stands for, as far as one byte past the limit of all texts
+abbrev pub IsHeld : Holding → (input : Option (List ℕ)) → Text → List ℕ → Type 0
+IsHeld holds input name bytes = IfSome (held holds input name) (λ all. bytes ≡ take (MOST_BYTES + 1) all)
+
+-- Both parts of a check, the text first, and the stream that they make.
+pub record AreParts (holds : Holding) (input : Option (List ℕ)) (text listing : Text) (bytes : List ℕ) : Type 0 where
+  pub first : List ℕ
+  pub first_held : IsHeld holds input text first
+  -- what standard input gives then
+  pub left : Option (List ℕ)
+  pub unread : is_standard text ≡ false → left ≡ input
+  pub second : List ℕ
+  pub second_held : IsHeld holds left listing second
+  pub joined : IsJoined first second bytes
+
+-- the bytes are those of a source
+abbrev pub IsGiven : Holding → (input : Option (List ℕ)) → From → List ℕ → Type 0
+IsGiven holds input Standard bytes = IsHeld holds input (codes "-") bytes
+IsGiven holds input (File name) bytes = IsHeld holds input name bytes
+IsGiven holds input (Parts text listing) bytes = AreParts holds input text listing bytes
+
+-- the words ask for nothing
+pub record IsRefused (words : List Text) : Type 0 where
+  pub error : CommandError
+  pub known : error ≢ Memory
+  pub refused : IsRefusal error words
+
+-- A run of the words of a command on what its source gives. All that is promised of a run on a stream is so of one on a stream of the
+-- bytes that were read. Files are read only for words that ask for something.
+pub data RunsFrom (holds : Holding) (words : List Text) (source : From) (old new : Streams) (status : ℕ) : Type 0 where
+  OnInput : source ≡ Standard → IsRun words old new status → RunsFrom holds words source old new status
+  OnNothing : IsRefused words → IsRun words old new status → RunsFrom holds words source old new status
+  OnBytes : (bytes : List ℕ) (left : Option (List ℕ)) → IsGiven holds old.input source bytes
+      → IsRun words (streams (Some bytes) old.output old.errors) (streams left new.output new.errors) status
+      → RunsFrom holds words source old new status
+
+-- A run of `lint`: its words are refused before anything is read, or the faults of what its source gives are told.
+pub data RunsLint (holds : Holding) (words : List Text) (source : From) (old new : Streams) (status : ℕ) : Type 0 where
+  Refused : linting_of words ≡ None → status ≡ 2 → Tells old.errors new.errors LINT.now → Keeps old.output new.output → Keeps old.input new.input
+      → RunsLint holds words source old new status
+  Lints : (linting : Linting) → linting_of words ≡ Some linting → (bytes : List ℕ) → IsGiven holds old.input source bytes
+      → (lines : List ℕ) (faulty : Bool) → IsLinted linting (text_name source) bytes lines faulty
+      → IsLintRun lines faulty old.output new.output old.errors new.errors status → RunsLint holds words source old new status
+
+-- what explains why words ask for nothing: of a setting that is none the reason, and of promises and other words nothing
+abbrev pub refusal_taught : List Text → CommandError → List ℕ
+refusal_taught words (Setting k) = setting_taught (setting_at words k)
+refusal_taught words error = []
+
+-- the words ask for nothing, and this explains why
+pub record IsRefusedFor (words : List Text) (more : List ℕ) : Type 0 where
+  pub error : CommandError
+  pub known : error ≢ Memory
+  pub refused : IsRefusal error words
+  pub taught : more ≡ refusal_taught words error
+
+-- what words ask for, or why they ask for nothing
+abbrev pub IsAsked : List Text → Asked → Type 0
+IsAsked words (Known request) = asked words ≡ Some (ask_of request)
+IsAsked words (Unknown more) = IsRefusedFor words more.items
+
+-- A run of words with `--explain`: what is promised of a run without that is so of it. Behind what that tells of a text or of words that are
+-- refused stands what explains why.
+pub data RunsExplained (holds : Holding) (words : List Text) (source : From) (old new : Streams) (status : ℕ) : Type 0 where
+  OnNothing : (more : List ℕ) → IsRefusedFor (plain_words words) more → RunsMore 2 (plain_words words) more old new status
+      → RunsExplained holds words source old new status
+  OnBytes : (bytes : List ℕ) (left : Option (List ℕ)) → IsGiven holds old.input source bytes
+      → (more : List ℕ) → Explains (plain_words words) source bytes more
+      → RunsMore 1 (plain_words words) more (streams (Some bytes) old.output old.errors) (streams left new.output new.errors) status
+      → RunsExplained holds words source old new status
+
+-- What words do on what their source gives: they ask for `lint`, or for a command with or without explanations.
+pub data RunsWords (holds : Holding) (words : List Text) (source : From) (old new : Streams) (status : ℕ) : Type 0 where
+  Lint : is_lint words ≡ true → RunsLint holds words source old new status → RunsWords holds words source old new status
+  Explained : is_explained words ≡ true → RunsExplained holds words source old new status → RunsWords holds words source old new status
+  Plain : is_lint words ≡ false → is_explained words ≡ false → RunsFrom holds words source old new status
+      → RunsWords holds words source old new status
+
+-- An answer was made: all of it was written. That of `lint` is what it finds.
+abbrev pub is_made : List Text → ℕ → Bool
+is_made words status = status == 0 || nat_le 5 status || is_lint words && status == 1
+
+-- A run whose answer goes to a file. That holds the answer then, where one was made, and else what it held. Other files are as they were.
+pub record RunsTo (before after : Holding) (words : List Text) (source : From) (target : Text) (old new : Streams) (status : ℕ) : Type 0 where
+  pub answer : List ℕ
+  pub runs : RunsWords before words source (streams old.input (Some []) old.errors) (streams new.input (Some answer) new.errors) status
+  pub made : is_made words status ≡ true → IsReplaced before target answer after
+  pub kept : is_made words status ≡ false → after ≡ before
+
+-- what a run does to the output, or to the file that its answer goes to; then nothing is written to the output
+abbrev pub RunsTarget : (before after : Holding) → List Text → From → Option (Bor Text) → (old new : Streams) → ℕ → Type 0
+RunsTarget before after words source None old new status = RunsWords before words source old new status
+RunsTarget before after words source (Some target) old new status =
+    RunsTo before after words source target.now old new status × Keeps old.output new.output
+
+-- ---- memory that goes to files
+
+-- what the words ask for writes so many bytes to each file
+abbrev pub AsksFor : List Text → (counts : List ℕ) → Type 0
+AsksFor words counts = IsSomeAnd (asked words) (λ ask. counts ≡ counts_asked ask)
+
+-- so it is, or the words ask for nothing
+abbrev pub AreCounts : List Text → Option (List ℕ) → Type 0
+AreCounts words None = IsRefused words
+AreCounts words (Some counts) = AsksFor words counts
+
+-- so many files are named, and that is how many bytes go to each; words that ask for nothing have none
+abbrev pub AreCountsFor : (names : ℕ) → List Text → (counts : List ℕ) → Type 0
+AreCountsFor names words counts = (IsRefused words × (counts ≡ [])) ⊎ ((length counts ≡ names) × AsksFor words counts)
+
+-- the report goes to the output, or to the file of this name
+abbrev pub IsDelivered : (before after : Holding) → (target : Option (Bor Text)) → (report : List ℕ) → (done : ℕ) → (old new errors told : Option (List ℕ))
+    → (status : ℕ) → Type 0
+IsDelivered before after None report done old new errors told status = (after ≡ before) × IsWritten report done old new errors told status
+IsDelivered before after (Some target) report done old new errors told status =
+    IsReplaced before target.now report after × (status ≡ done) × Keeps old new × Keeps errors told
+
+-- Memory is written to its files, in the order of the words, and then the report to where it goes.
+pub record IsDumped (before after : Holding) (call : Call) (counts answer : List ℕ) (done : ℕ) (old new : Streams) (status : ℕ) : Type 0 where
+  pub between : Holding
+  pub written : AreWritten before (files_of (texts call.dumps.items) counts (dumped_in counts answer)) between
+  pub delivered : IsDelivered between after call.target (report_in counts answer) done old.output new.output old.errors new.errors status
+
+-- nothing is written
+pub record IsUndone (before after : Holding) (done : ℕ) (old new : Streams) (status : ℕ) : Type 0 where
+  pub kept : after ≡ before
+  pub ends : status ≡ done
+  pub unwritten : Keeps old.output new.output
+  pub silent : Keeps old.errors new.errors
+
+-- A run whose answer ends with so many bytes for each of these files. They and the report are written where there is an answer.
+pub record RunsDumping (before after : Holding) (words : List Text) (call : Call) (counts : List ℕ) (old new : Streams) (status : ℕ) : Type 0 where
+  pub answer : List ℕ
+  pub done : ℕ
+  -- what the error stream holds then
+  pub told : Option (List ℕ)
+  pub runs : RunsWords before words (text_source call.source) (streams old.input (Some []) old.errors) (streams new.input (Some answer) told) done
+  pub made : is_made words done ≡ true → IsDumped before after call counts answer done (streams old.input old.output told) new status
+  pub none : is_made words done ≡ false → IsUndone before after done (streams old.input old.output told) new status
+
+-- what a run does whose words write memory to files of these names, if to any
+abbrev pub RunsNaming : List (Bor Text) → (before after : Holding) → List Text → Call → (old new : Streams) → (status : ℕ) → Type 0
+RunsNaming [] before after words call old new status = RunsTarget before after words (text_source call.source) call.target old new status
+RunsNaming (name ∷ names) before after words call old new status =
+    (counts : List ℕ) × AreCountsFor (length (name ∷ names)) (plain_words words) counts × RunsDumping before after words call counts old new status
+
+-- what a call does, on its words with those of its files of settings in their places
+pub record RunsCall (before after : Holding) (call : Call) (old new : Streams) (status : ℕ) : Type 0 where
+  pub words : List Text
+  pub expanded : Expands before (map text_piece call.words.items) words
+  pub runs : RunsNaming call.dumps.items before after words call old new status
+
+-- files are as they were, but that memory may have been written to the first few of these
+abbrev pub HasBegun : (before after : Holding) → (names : List Text) → Type 0
+HasBegun before after names = (counts : List ℕ) × (bytes : List ℕ) × AreBegun before (files_of names counts bytes) after
+
+-- There is trouble with words or files. Nothing is written, and no file changes but those that memory goes to.
+pub record IsFailure (before after : Holding) (words : List Text) (old new : Streams) (status : ℕ) : Type 0 where
+  pub trouble : Trouble
+  pub why : HasTrouble before words trouble
+  pub ends : status ≡ status_of trouble
+  pub said : IsSaid trouble old.errors new.errors
+  pub unwritten : Keeps old.output new.output
+  pub kept : HasBegun before after (dumps words)
+
+-- What the program does: it prints a page, explains a name, or does what a call asks for, or there is trouble.
+pub data IsProgramRun (before after : Holding) (words : List Text) (old new : Streams) (status : ℕ) : Type 0 where
+  Page : (page : Told) → page_asked words ≡ Some page → IsWritten (page_text page) 0 old.output new.output old.errors new.errors status → IsProgramRun before after words old new status
+  Topic : page_asked words ≡ None → is_topic words ≡ true → IsTopicRun (name_asked words) old.output new.output old.errors new.errors status → IsProgramRun before after words old new status
+  Runs : (call : Call) → page_asked words ≡ None → is_topic words ≡ false → IsCall words call → RunsCall before after call old new status
+      → IsProgramRun before after words old new status
+  Fails : page_asked words ≡ None → is_topic words ≡ false → IsFailure before after words old new status → IsProgramRun before after words old new status

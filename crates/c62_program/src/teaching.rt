@@ -1,0 +1,198 @@
+//! Runs `lint`, and commands with `--explain`.
+
+ghost use Rattle.std.specs.Prelude.{◌≡◌, ℕ, List, Option, Some, IfOk, IfErr, map, string_bytes};
+ghost use Rattle.std.specs.Io.KnownBytes.{Keeps};
+ghost use Rattle.c62_answer.specs.Run.{streams};
+ghost use Rattle.c62_files.specs.Call.{text_source};
+ghost use Rattle.c62_program.specs.Program.{IsAsked, RunsExplained, RunsLint};
+ghost use Rattle.c62_program.specs.Trouble.{IsTroubleWithSource};
+ghost use Rattle.c62_program.specs.Teaching.{IsLintRun, IsMoreTold, RunsMore, listing_name, status_by, text_name};
+
+use crate::page::LINT;
+use crate::program::given;
+use crate::trouble::Trouble;
+use crate::written::status_behind;
+use c62_answer::{run_tool, write_whole};
+use c62_command::{CommandError, Request, command_of};
+use c62_files::{Folder, Source};
+use c62_teach::{Linted, Names, lint_text, linting_of, plain_words, setting_taught, taught};
+use std::alloc::{AllocError, Global};
+use std::io::{Read, Write};
+use std::sync::Wait;
+use std::thread::Threads;
+
+/// What the texts of a source are called in what is told of them: standard input is `-`.
+fn names_of<'a>(source: Source<'a>) -> Names<'a>
+    ensures text { result.text.now ≡ text_name (text_source source.entry) }
+    ensures listing { result.listing.now ≡ listing_name (text_source source.entry) }
+{
+    match source {
+        Source::Standard => Names {
+            text: "-",
+            listing: "-",
+        },
+        Source::File(name) => Names {
+            text: name,
+            listing: name,
+        },
+        Source::Parts(text, listing) => Names { text, listing },
+    }
+}
+
+/// The status of `lint` where there is a fault, or none.
+fn status_by(faulty: bool) -> u8
+    ensures { result ≡ status_by faulty }
+{
+    if faulty { 1 } else { 0 }
+}
+
+/// Writes what `lint` finds, and answers its status.
+#[tactic(auto, using(crate::proofs::Writing::is_written))]
+fn print_lines<W: Write, E: Write>(linted: &Linted, output: &mut W, errors: &mut E) -> u8
+    ensures { IsLintRun linted.now.lines.items linted.now.faulty (W.contents output.old) (W.contents output.new)
+        (E.contents errors.old) (E.contents errors.new) result }
+{
+    let written = write_whole(output, &linted.lines);
+    status_behind(written, status_by(linted.faulty), errors)
+}
+
+/// Runs `lint` on what its source gives.
+#[tactic(auto, using(crate::proofs::Taught::lint_refused, crate::proofs::Taught::lint_found))]
+pub fn run_lint<'a, H: AllocGlobal, F: Folder, R: Read, W: Write, E: Write>(
+    rt: &H,
+    folder: &F,
+    words: &[String],
+    source: Source<'a>,
+    input: &mut R,
+    output: &mut W,
+    errors: &mut E,
+) -> Result<u8, Trouble<'a>>
+    ensures ok { let old = streams (R.remaining input.old) (W.contents output.old) (E.contents errors.old) in
+        let new = streams (R.remaining input.new) (W.contents output.new) (E.contents errors.new) in
+        IfOk result (RunsLint (F.holds folder.now) (map string_bytes words.now) (text_source source.entry) old new) }
+    ensures err { IfErr result (λ _. Keeps (W.contents output.old) (W.contents output.new)) }
+    ensures silent { IfErr result (λ _. Keeps (E.contents errors.old) (E.contents errors.new)) }
+    ensures why { IfErr result (IsTroubleWithSource (text_source source.entry)) }
+{
+    let Some(linting) = linting_of(words) else {
+        let _ = write_whole(errors, LINT.as_bytes());
+        return Ok(2);
+    };
+    let bytes = given(rt.alloc(), folder, source, input)?;
+    let found = lint_text(
+        rt.alloc(),
+        linting,
+        names_of(source).text.as_bytes(),
+        &bytes,
+    )?;
+    Ok(print_lines(&found, output, errors))
+}
+
+/// What words ask for, or what explains why they ask for nothing.
+#[derive(Drop)]
+enum Asked {
+    Known(Request),
+    Unknown(Vec<u8>),
+}
+
+/// What words ask for; where they ask for nothing, they are refused.
+#[tactic(auto, using(crate::proofs::Taught::refused_setting, crate::proofs::Taught::refused_promise, crate::proofs::Taught::refused_words))]
+fn asked_of(alloc: Global, words: &[&str]) -> Result<Asked, AllocError>
+    ensures { IfOk result (IsAsked (map (λ word. word.now) words.now)) }
+{
+    match command_of(alloc, words) {
+        Ok(request) => Ok(Asked::Known(request)),
+        Err(CommandError::Memory) => Err(AllocError),
+        Err(CommandError::Setting(number)) => Ok(Asked::Unknown(setting_taught(
+            alloc, words, number,
+        )?)),
+        Err(CommandError::Promise(_)) => Ok(Asked::Unknown(Vec::new(alloc))),
+        Err(CommandError::Words(_)) => Ok(Asked::Unknown(Vec::new(alloc))),
+    }
+}
+
+/// Tells more where the status is this one.
+#[tactic(auto, using(crate::proofs::Taught::more_told, crate::proofs::Taught::nothing_told))]
+fn tell_more<E: Write>(errors: &mut E, more: &[u8], wanted: u8, status: u8)
+    ensures { IsMoreTold wanted more.now (E.contents errors.old) (E.contents errors.new) status }
+{
+    if status == wanted {
+        let _ = write_whole(errors, more);
+    }
+}
+
+/// Runs a command whose words ask for nothing, and tells more of why.
+#[tactic(auto, using(crate::proofs::Taught::ran_more))]
+fn run_nothing<H: AllocGlobal + Threads + Wait + Sync, R: Read, W: Write, E: Write>(
+    rt: &H,
+    words: &[&str],
+    more: &[u8],
+    input: &mut R,
+    output: &mut W,
+    errors: &mut E,
+) -> u8
+    ensures { let old = streams (R.remaining input.old) (W.contents output.old) (E.contents errors.old) in
+        let new = streams (R.remaining input.new) (W.contents output.new) (E.contents errors.new) in
+        RunsMore 2 (map (λ word. word.now) words.now) more.now old new result }
+{
+    let status = run_tool(rt, words, input, output, errors);
+    tell_more(errors, more, 2, status);
+    status
+}
+
+/// Runs a command on these bytes, and tells more of their fault where it refuses them.
+#[tactic(auto, using(crate::proofs::Taught::ran_more))]
+fn run_on<H: AllocGlobal + Threads + Wait + Sync, W: Write, E: Write>(
+    rt: &H,
+    words: &[&str],
+    bytes: &[u8],
+    more: &[u8],
+    output: &mut W,
+    errors: &mut E,
+) -> u8
+    ensures { (left : Option (List ℕ)) × RunsMore 1 (map (λ word. word.now) words.now) more.now
+        (streams (Some bytes.now) (W.contents output.old) (E.contents errors.old))
+        (streams left (W.contents output.new) (E.contents errors.new)) result }
+{
+    let mut text = bytes;
+    let status = run_tool(rt, words, &mut text, output, errors);
+    tell_more(errors, more, 1, status);
+    status
+}
+
+/// Runs a command on what its source gives. Where it refuses that, it tells more of the fault. Files are read only where the words ask for
+/// something.
+#[tactic(auto, using(crate::proofs::Taught::nothing_explained, crate::proofs::Taught::bytes_explained))]
+pub fn run_explained<
+    'a,
+    H: AllocGlobal + Threads + Wait + Sync,
+    F: Folder,
+    R: Read,
+    W: Write,
+    E: Write,
+>(
+    rt: &H,
+    folder: &F,
+    words: &[String],
+    source: Source<'a>,
+    input: &mut R,
+    output: &mut W,
+    errors: &mut E,
+) -> Result<u8, Trouble<'a>>
+    ensures ok { let old = streams (R.remaining input.old) (W.contents output.old) (E.contents errors.old) in
+        let new = streams (R.remaining input.new) (W.contents output.new) (E.contents errors.new) in
+        IfOk result (RunsExplained (F.holds folder.now) (map string_bytes words.now) (text_source source.entry) old new) }
+    ensures err { IfErr result (λ _. Keeps (W.contents output.old) (W.contents output.new)) }
+    ensures silent { IfErr result (λ _. Keeps (E.contents errors.old) (E.contents errors.new)) }
+    ensures why { IfErr result (IsTroubleWithSource (text_source source.entry)) }
+{
+    let plain = plain_words(rt.alloc(), words)?;
+    match asked_of(rt.alloc(), &plain)? {
+        Asked::Unknown(more) => Ok(run_nothing(rt, &plain, &more, input, output, errors)),
+        Asked::Known(request) => {
+            let bytes = given(rt.alloc(), folder, source, input)?;
+            let more = taught(rt.alloc(), &request, names_of(source), &bytes)?;
+            Ok(run_on(rt, &plain, &bytes, &more, output, errors))
+        }
+    }
+}

@@ -1,0 +1,8 @@
+//! The tests of files by name, and of what is told of faults.
+
+#![tactic(auto)]
+
+#[cfg(test)]
+mod files;
+#[cfg(test)]
+mod teaching;

@@ -1,0 +1,254 @@
+//! Runs of `lint`, of `explain`, and of commands with `--explain`.
+
+ghost use Rattle.std.specs.Prelude.{None};
+
+use c62_files::{FileError, Folder};
+use c62_program::{EXPLAIN, LINT, run_program};
+use std::alloc::Global;
+use std::io;
+use std::process::Abort;
+use std::test::Fail;
+
+/// A folder with one file, `k.s`, that has these bytes, and the bytes that were written last.
+#[derive(Drop)]
+struct OneFile {
+    bytes: &'static [u8],
+    written: Vec<u8>,
+}
+
+impl Folder for OneFile {
+    ghost holds = { λ _ _. None };
+
+    fn read(&self, alloc: Global, name: &str, _limit: usize) -> Result<Vec<u8>, FileError> {
+        if name != "k.s" {
+            return Err(FileError::Failed(io::Error::from(io::ErrorKind::NotFound)));
+        }
+        let mut bytes = Vec::new(alloc);
+        bytes.extend_from_slice(self.bytes)?;
+        Ok(bytes)
+    }
+
+    fn replace(&mut self, alloc: Global, _name: &str, bytes: &[u8]) -> Result<(), FileError> {
+        let mut written = Vec::new(alloc);
+        written.extend_from_slice(bytes)?;
+        self.written = written;
+        Ok(())
+    }
+}
+
+const UNKNOWN: &str = "-:1:2: error: UnknownMnemonic: a mnemonic is wanted here\n";
+
+const TWICE: &str = "  add .l1 a1,a2,a3\n||  sub .l1 a4,a5,a6\n";
+
+/// Words, standard input, and the output, what is told and the status.
+const RUNS: [(&[&str], &str, &str, &str, u8); 34] = [
+    (&["lint"], "MVK 1,A1\n", "", "", 0),
+    (&["lint"], " FOO\n", UNKNOWN, "", 1),
+    (&["lint", "--most", "1"], " FOO\n BAR\n", UNKNOWN, "", 1),
+    (&["lint", "--as", "serial", "-"], " FOO\n", UNKNOWN, "", 1),
+    (&["lint", "--most", "0"], " FOO\n", "", LINT, 2),
+    (&["lint", "--most", "1001"], " FOO\n", "", LINT, 2),
+    (&["lint", "--as", "text"], " FOO\n", "", LINT, 2),
+    (&["lint", "--most"], " FOO\n", "", LINT, 2),
+    (&["lint", "--help"], "", "", LINT, 2),
+    (
+        &["lint", "--as", "listing", "--most", "3"],
+        "   mvk .S1 1,A1\n",
+        "-:1:4: error: Shape: a listing spells this line in another way, or has none such here\n",
+        "",
+        1,
+    ),
+    (
+        &["lint", "--as", "packets"],
+        " ldw .d1 *a4,a5\n add .l1 a5,a6,a7\n nop 4\n",
+        "-:2:10: warning: line 2 reads A5, which line 1 loads: it lands 4 cycles later\n",
+        "",
+        0,
+    ),
+    (
+        &["pack", "--explain"],
+        " FOO\n",
+        "",
+        "line 1: UnknownMnemonic\n --> -:1:2\n1 |  FOO\n  |  ^^^ a mnemonic is wanted here\n",
+        1,
+    ),
+    (
+        &["serial", "--explain", "A2=3"],
+        "MVK 5,A1",
+        "blocks 1\nexit end\nA1 00000005\nA2 00000003\n",
+        "",
+        0,
+    ),
+    (
+        &["show", "--explain", "k.s"],
+        "",
+        "",
+        "line 2: UnknownMnemonic\n --> k.s:2:1\n2 | MYP\n  | ^^^ a mnemonic is wanted here\n  = help: the nearest mnemonic is MPY\n",
+        1,
+    ),
+    (
+        &["run", "A1=zz", "--explain"],
+        " FOO\n",
+        "",
+        "setting 1: bad\nA1=zz: zz is no number: decimal, or 0x and hexadecimal digits, in 32 bits\n",
+        2,
+    ),
+    (
+        &["run", "--blocks", "3", "A1=1", "@6=1", "--explain"],
+        "",
+        "",
+        "setting 2: bad\n@6=1: words of memory have addresses from 0 to 65532 that are multiples of 4\n",
+        2,
+    ),
+    (
+        &["run", "--eject=1", "--explain", "@4:h=1", "@64:h=1,zz,yy"],
+        "",
+        "",
+        "setting 2: bad\n@64:h=1,zz,yy: zz is no number: decimal, or 0x and hexadecimal digits, in 32 bits\n",
+        2,
+    ),
+    (
+        &["sim", "--explain", "@1:h=1"],
+        "",
+        "",
+        "setting 1: bad\n@1:h=1: halves of memory have addresses from 0 to 65534 that are multiples of 2\n",
+        2,
+    ),
+    (
+        &["sim", "--explain", "@65535:b=1,2"],
+        "",
+        "",
+        "setting 1: bad\n@65535:b=1,2: bytes of memory have addresses from 0 to 65535\n",
+        2,
+    ),
+    (
+        &["exec", "--from", "A1", "--explain", "@64:w=zz"],
+        "",
+        "",
+        "setting 1: bad\n@64:w=zz: 64:w is no address: 0 to 65535, with :h behind it for halves or :b for bytes\n",
+        2,
+    ),
+    (
+        &["serial", "--explain", "--", "-A1"],
+        "",
+        "",
+        "setting 1: bad\n-A1: a setting is REG=NUMBER, or @ADDRESS=NUMBER,.. with :h or :b behind the address for halves or bytes\n",
+        2,
+    ),
+    (
+        &["serial", "--explain", "A16=1"],
+        "",
+        "",
+        "setting 1: bad\nA16=1: A16 is no register: A0 to A15 and B0 to B15, or @ and an address\n",
+        2,
+    ),
+    (
+        &["serial", "--explain", "--print", "8+3:h"],
+        "",
+        "",
+        "setting 1: bad\nprint=8+3:h: ADDRESS+LENGTH is printed, whole words within memory; with :h, :b, :d, :hd or :bd behind it halves, bytes or decimals\n",
+        2,
+    ),
+    (
+        &["pack", "--explain"],
+        "   MVK .S1 5,A1\n|| MVK .S2 5,B1\n",
+        "",
+        "line 2: ParallelBar\n --> -:2:1\n2 | || MVK .S2 5,B1\n  | ^^ serial text has no parallel bars\n  = help: `adopt` reads packets, and `sim` a listing\n  = help: this is a listing: `sim` runs it\n",
+        1,
+    ),
+    (
+        &["sim", "--explain"],
+        " MVK 5,A1\n",
+        "",
+        "line 1: Shape\n --> -:1:2\n1 |  MVK 5,A1\n  |  ^^^ a listing spells this line in another way, or has none such here\n  = help: `adopt` reads other spellings, and writes the listing\n  = help: this is serial text: `run` packs and runs it\n",
+        1,
+    ),
+    (
+        &["adopt", "--explain"],
+        TWICE,
+        "",
+        "line 2: P1\n --> -:2:9\n2 | ||  sub .l1 a4,a5,a6\n  |         ^^^ another instruction of the cycle is on this unit\n  = help: line 1 takes .L1: add .l1 a1,a2,a3\n",
+        1,
+    ),
+    (
+        &["exec", "--explain"],
+        TWICE,
+        "",
+        "line 2: P1\n --> -:2:9\n2 | ||  sub .l1 a4,a5,a6\n  |         ^^^ another instruction of the cycle is on this unit\n  = help: line 1 takes .L1: add .l1 a1,a2,a3\n",
+        1,
+    ),
+    (
+        &["check", "--explain"],
+        "FOO\n---\n",
+        "",
+        "text line 1: UnknownMnemonic\n --> -:1:1\n1 | FOO\n  | ^^^ a mnemonic is wanted here\n",
+        1,
+    ),
+    (
+        &["explain", "p2"],
+        "",
+        "P2: two instructions of one cycle use one cross path\nexample: ADD .L1X A1,B1,A2 and SUB .S1X A3,B3,A4\nsee docs/MACHINE.md\n",
+        "",
+        0,
+    ),
+    (
+        &["explain", "NoListing"],
+        "",
+        "NoListing: what is to be checked has no line `---`, and so no listing\nsee docs/CHECK.md\n",
+        "",
+        0,
+    ),
+    (
+        &["explain", "P6"],
+        "",
+        "",
+        "error: P6 is no fault and no rule: docs/FAULTS.md has them\n",
+        2,
+    ),
+    (&["explain"], "", "", EXPLAIN, 2),
+    (&["help", "lint"], "", LINT, "", 0),
+    (&["help", "explain"], "", EXPLAIN, "", 0),
+];
+
+#[test]
+fn faults_are_told(rt: HostRuntime) -> Result<(), Fail> {
+    for (words, input, output, errors, status) in &RUNS {
+        let mut folder = OneFile {
+            bytes: b"MVK 1,A1\nMYP\n",
+            written: Vec::new(rt.alloc()),
+        };
+        let mut reader = input.as_bytes();
+        let mut answer = Vec::new(rt.alloc());
+        let mut told = Vec::new(rt.alloc());
+        let ended = run_program(&rt, &mut folder, words, &mut reader, &mut answer, &mut told);
+        assert_eq!(&rt; told.as_slice(), errors.as_bytes());
+        assert_eq!(&rt; answer.as_slice(), output.as_bytes());
+        assert_eq!(&rt; ended, *status);
+    }
+    Ok(())
+}
+
+#[test]
+fn what_lint_finds_goes_to_a_file(rt: HostRuntime) -> Result<(), Fail> {
+    let mut folder = OneFile {
+        bytes: b" FOO\n",
+        written: Vec::new(rt.alloc()),
+    };
+    let mut reader: &[u8] = b"";
+    let mut answer = Vec::new(rt.alloc());
+    let mut told = Vec::new(rt.alloc());
+    let words = ["lint", "k.s", "-o", "faults"];
+    let ended = run_program(
+        &rt,
+        &mut folder,
+        &words,
+        &mut reader,
+        &mut answer,
+        &mut told,
+    );
+    assert_eq!(&rt; ended, 1);
+    assert!(&rt; told.is_empty() && answer.is_empty());
+    let line: &[u8] = b"k.s:1:2: error: UnknownMnemonic: a mnemonic is wanted here\n";
+    assert_eq!(&rt; folder.written.as_slice(), line);
+    Ok(())
+}
